@@ -1,0 +1,190 @@
+use crate::access::{AccessLen, Chunk};
+use crate::errno::Errno;
+use crate::flags::{AtFlags, GetFlags, Status};
+use crate::owner::{Cred, Perm};
+
+/// An identifier of a segment, as shmget(2) answers it. No segment has a negative one.
+pub type ShmId = i32;
+
+/// A process as it was declared: born with its ids, or a child that is not born yet.
+#[derive(Clone, Copy, Debug, PartialEq, Eq)]
+pub struct Process {
+    pub pid: u32,
+    pub born: Option<Cred>,
+}
+
+/// A call of a process: the shared memory calls (shmget(2), shmop(2), shmctl(2)), accesses to attached
+/// memory, process events, and taking a swap area away. Of a mode only the low nine bits count.
+#[derive(Debug, Drop, PartialEq)]
+pub enum Call {
+    Shmget {
+        key: u32,
+        size: u64,
+        mode: u16,
+        flags: GetFlags,
+    },
+    Shmat {
+        id: ShmId,
+        addr: u64,
+        flags: AtFlags,
+    },
+    Shmdt {
+        addr: u64,
+    },
+    Stat {
+        id: ShmId,
+    },
+    Set {
+        id: ShmId,
+        uid: u32,
+        gid: u32,
+        mode: u16,
+    },
+    Rmid {
+        id: ShmId,
+    },
+    Lock {
+        id: ShmId,
+    },
+    Unlock {
+        id: ShmId,
+    },
+    Load {
+        addr: u64,
+        len: AccessLen,
+    },
+    Store {
+        addr: u64,
+        chunk: Chunk,
+    },
+    Xadd {
+        addr: u64,
+        add: u64,
+    },
+    Fork {
+        child: u32,
+    },
+    Exec,
+    Exit,
+    Swapoff {
+        area: u32,
+    },
+}
+
+/// What `stat` shows of a segment (shmctl(2), IPC_STAT). A time is the place of a call in the history,
+/// counted from 1; 0 means never.
+#[derive(Clone, Copy, Debug, PartialEq, Eq)]
+pub struct ShmidDs {
+    pub key: u32,
+    pub perm: Perm,
+    pub status: Status,
+    pub size: u64,
+    pub cpid: u32,
+    pub lpid: u32,
+    pub nattch: u32,
+    pub atime: u64,
+    pub dtime: u64,
+    pub ctime: u64,
+}
+
+/// The answer to a call: `Id` of shmget, `Addr` of shmat, `Bytes` of a load, `Number` of an xadd, which
+/// is the old number, `Stat`, `Done` of all else, or a refusal.
+#[derive(Debug, Drop, PartialEq)]
+pub enum Reply {
+    Id(ShmId),
+    Addr(u64),
+    Bytes(Chunk),
+    Number(u64),
+    Stat(ShmidDs),
+    Done,
+    Refused(Errno),
+}
+
+/// A call with its process and its reply.
+#[derive(Debug, Drop, PartialEq)]
+pub struct Event {
+    pub pid: u32,
+    pub call: Call,
+    pub reply: Reply,
+}
+
+/// One step of a run: a call of a process, or a flush round that writes at most so many pages.
+#[derive(Debug, Drop, PartialEq)]
+pub enum Step {
+    Call(u32, Call),
+    Flush(u64),
+}
+
+impl Call {
+    ghost use Rattle.std.specs.Prelude.{◌≡◌};
+
+    /// The same call again. It takes no memory.
+    pub fn copied(&self) -> Call
+        ensures { result ≡ self.now }
+    {
+        match self {
+            Call::Shmget {
+                key,
+                size,
+                mode,
+                flags,
+            } => Call::Shmget {
+                key: *key,
+                size: *size,
+                mode: *mode,
+                flags: *flags,
+            },
+            Call::Shmat { id, addr, flags } => Call::Shmat {
+                id: *id,
+                addr: *addr,
+                flags: *flags,
+            },
+            Call::Shmdt { addr } => Call::Shmdt { addr: *addr },
+            Call::Stat { id } => Call::Stat { id: *id },
+            Call::Set { id, uid, gid, mode } => Call::Set {
+                id: *id,
+                uid: *uid,
+                gid: *gid,
+                mode: *mode,
+            },
+            Call::Rmid { id } => Call::Rmid { id: *id },
+            Call::Lock { id } => Call::Lock { id: *id },
+            Call::Unlock { id } => Call::Unlock { id: *id },
+            Call::Load { addr, len } => Call::Load {
+                addr: *addr,
+                len: *len,
+            },
+            Call::Store { addr, chunk } => Call::Store {
+                addr: *addr,
+                chunk: chunk.copied(),
+            },
+            Call::Xadd { addr, add } => Call::Xadd {
+                addr: *addr,
+                add: *add,
+            },
+            Call::Fork { child } => Call::Fork { child: *child },
+            Call::Exec => Call::Exec,
+            Call::Exit => Call::Exit,
+            Call::Swapoff { area } => Call::Swapoff { area: *area },
+        }
+    }
+}
+
+impl Reply {
+    ghost use Rattle.std.specs.Prelude.{◌≡◌};
+
+    /// The same reply again. It takes no memory.
+    pub fn copied(&self) -> Reply
+        ensures { result ≡ self.now }
+    {
+        match self {
+            Reply::Id(id) => Reply::Id(*id),
+            Reply::Addr(addr) => Reply::Addr(*addr),
+            Reply::Bytes(chunk) => Reply::Bytes(chunk.copied()),
+            Reply::Number(number) => Reply::Number(*number),
+            Reply::Stat(shown) => Reply::Stat(*shown),
+            Reply::Done => Reply::Done,
+            Reply::Refused(errno) => Reply::Refused(*errno),
+        }
+    }
+}

@@ -1,0 +1,71 @@
+ghost use Rattle.std.specs.Prelude.{◌≡◌, Some};
+ghost use Rattle.shm_base.specs.Codes.{code_of, name_of};
+
+use std::fmt;
+
+/// Why a call was refused, by the names and numbers of errno(3). The two signals stand for a fault of an
+/// access, which is a reply here (this project's profile).
+#[derive(Clone, Copy, Debug, PartialEq, Eq)]
+pub enum Errno {
+    Eperm,
+    Enoent,
+    Esrch,
+    Eio,
+    Eagain,
+    Enomem,
+    Eacces,
+    Eexist,
+    Einval,
+    Emfile,
+    Enospc,
+    Eidrm,
+    Sigbus,
+    Sigsegv,
+}
+
+impl Errno {
+    /// The error's number.
+    pub fn code(self) -> u32
+        ensures { result ≡ code_of self }
+    {
+        match self {
+            Errno::Eperm => 1,
+            Errno::Enoent => 2,
+            Errno::Esrch => 3,
+            Errno::Eio => 5,
+            Errno::Eagain => 11,
+            Errno::Enomem => 12,
+            Errno::Eacces => 13,
+            Errno::Eexist => 17,
+            Errno::Einval => 22,
+            Errno::Emfile => 24,
+            Errno::Enospc => 28,
+            Errno::Eidrm => 43,
+            Errno::Sigbus => 1007,
+            Errno::Sigsegv => 1011,
+        }
+    }
+}
+
+impl fmt::Display for Errno {
+    ghost output = { λ e. Some (name_of e) };
+
+    fn fmt<W: fmt::Write>(&self, f: &mut fmt::Formatter<W>) -> fmt::Result {
+        match self {
+            Errno::Eperm => write!(f, "EPERM"),
+            Errno::Enoent => write!(f, "ENOENT"),
+            Errno::Esrch => write!(f, "ESRCH"),
+            Errno::Eio => write!(f, "EIO"),
+            Errno::Eagain => write!(f, "EAGAIN"),
+            Errno::Enomem => write!(f, "ENOMEM"),
+            Errno::Eacces => write!(f, "EACCES"),
+            Errno::Eexist => write!(f, "EEXIST"),
+            Errno::Einval => write!(f, "EINVAL"),
+            Errno::Emfile => write!(f, "EMFILE"),
+            Errno::Enospc => write!(f, "ENOSPC"),
+            Errno::Eidrm => write!(f, "EIDRM"),
+            Errno::Sigbus => write!(f, "SIGBUS"),
+            Errno::Sigsegv => write!(f, "SIGSEGV"),
+        }
+    }
+}

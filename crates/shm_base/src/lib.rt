@@ -1,0 +1,23 @@
+//! What every layer of the shared memory facility speaks of: identities, limits, flags, errors,
+//! calls and replies. Its `specs/` define the flat machine, in which a segment is one list of bytes
+//! and a call is one step.
+#![tactic(auto)]
+
+mod access;
+mod call;
+mod errno;
+mod flags;
+mod limits;
+mod memory;
+mod owner;
+mod paging;
+mod rows;
+
+pub use access::{AccessLen, Chunk};
+pub use call::{Call, Event, Process, Reply, ShmId, ShmidDs, Step};
+pub use errno::Errno;
+pub use flags::{AtFlags, GetFlags, Status};
+pub use limits::{BadLimits, Limits};
+pub use memory::HostMemory;
+pub use owner::{Cred, Perm, Want, grants};
+pub use paging::{FlushReport, FrameNo, PAGE_SIZE, PageRef, Slot, Span, Tally, pages_of};

@@ -1,0 +1,113 @@
+ghost use Rattle.std.specs.Prelude.{◌≡◌, ◌+◌, ◌≤◌, ◌<◌};
+
+use std::marker::Model;
+use thiserror::Error;
+
+/// The first limit that is out of its range: 1 SHMMAX, 2 SHMMNI, 3 SHMALL, 4 frames, 5 MEMLOCK.
+#[derive(Clone, Copy, Debug, PartialEq, Eq, Error)]
+#[error("bad limits {0}")]
+pub struct BadLimits(pub u8);
+
+/// The limits of a machine, within their ranges (this project's profile): SHMMAX is the most bytes of a
+/// segment, 1 to 2^24; SHMMNI the most segments, 1 to 4096; SHMALL the most pages of all segments, 1 to
+/// 65536; the number of frames, 2 to 4096; MEMLOCK the most pages of locked segments, at least 2 less
+/// than the frames.
+#[derive(Clone, Copy, Debug, PartialEq, Eq)]
+pub struct Limits {
+    shmmax: u64,
+    shmmni: u64,
+    shmall: u64,
+    frames: u64,
+    memlock: u64,
+}
+
+impl Model for Limits {
+    ghost use Rattle.shm_base.specs.Bounds.{Bounds, AreBounds};
+
+    ghost Value = { Bounds };
+
+    ghost view = { λ l. record { shmmax = l.shmmax; shmmni = l.shmmni; shmall = l.shmall; frames = l.frames; memlock = l.memlock } };
+
+    ghost inverse = { λ b. record { shmmax = b.shmmax; shmmni = b.shmmni; shmall = b.shmall; frames = b.frames; memlock = b.memlock } };
+
+    ghost invariant = { λ l. AreBounds (record { shmmax = l.shmmax; shmmni = l.shmmni; shmall = l.shmall; frames = l.frames; memlock = l.memlock }) };
+}
+
+impl Limits {
+    ghost use Rattle.std.specs.Prelude.{Ok, Err};
+    ghost use Rattle.shm_base.specs.Bounds.{limits_of};
+
+    /// The limits, or which is the first that is out of range, in the order of the arguments.
+    pub fn new(
+        shmmax: u64,
+        shmmni: u64,
+        shmall: u64,
+        frames: u64,
+        memlock: u64,
+    ) -> Result<Limits, BadLimits>
+        ensures { result ≡ limits_of shmmax shmmni shmall frames memlock }
+    {
+        if shmmax < 1 || shmmax > 16777216 {
+            return Err(BadLimits(1));
+        }
+        if shmmni < 1 || shmmni > 4096 {
+            return Err(BadLimits(2));
+        }
+        if shmall < 1 || shmall > 65536 {
+            return Err(BadLimits(3));
+        }
+        if frames < 2 || frames > 4096 {
+            return Err(BadLimits(4));
+        }
+        if memlock > frames - 2 {
+            return Err(BadLimits(5));
+        }
+        Ok(Limits {
+            shmmax,
+            shmmni,
+            shmall,
+            frames,
+            memlock,
+        })
+    }
+
+    /// The most bytes of a segment.
+    pub fn shmmax(&self) -> u64
+        ensures value { result ≡ self.now.shmmax }
+        ensures range { result ≤ 16777216 }
+    {
+        self.shmmax
+    }
+
+    /// The most segments.
+    pub fn shmmni(&self) -> u64
+        ensures value { result ≡ self.now.shmmni }
+        ensures range { result ≤ 4096 }
+    {
+        self.shmmni
+    }
+
+    /// The most pages of all segments.
+    pub fn shmall(&self) -> u64
+        ensures value { result ≡ self.now.shmall }
+        ensures range { result ≤ 65536 }
+    {
+        self.shmall
+    }
+
+    /// The number of frames.
+    pub fn frames(&self) -> u64
+        ensures value { result ≡ self.now.frames }
+        ensures range { (2 ≤ result) × (result ≤ 4096) }
+    {
+        self.frames
+    }
+
+    /// The most pages of locked segments.
+    pub fn memlock(&self) -> u64
+        ensures value { result ≡ self.now.memlock }
+        ensures range { result ≤ 4096 }
+    {
+        self.memlock
+    }
+}

@@ -1,0 +1,51 @@
+ghost use Rattle.std.specs.Prelude.{◌≡◌};
+ghost use Rattle.shm_base.specs.Permission as flat;
+
+/// The effective ids of a process.
+#[derive(Clone, Copy, Debug, PartialEq, Eq)]
+pub struct Cred {
+    pub uid: u32,
+    pub gid: u32,
+}
+
+/// Who owns a segment, who made it, and the nine mode bits.
+#[derive(Clone, Copy, Debug, PartialEq, Eq)]
+pub struct Perm {
+    pub uid: u32,
+    pub gid: u32,
+    pub cuid: u32,
+    pub cgid: u32,
+    pub mode: u16,
+}
+
+/// What an access asks for.
+#[derive(Clone, Copy, Debug, PartialEq, Eq)]
+pub struct Want {
+    pub read: bool,
+    pub write: bool,
+}
+
+fn triple(cred: &Cred, perm: &Perm) -> u16
+    ensures { result ≡ flat.triple cred.now perm.now }
+{
+    if cred.uid == perm.uid || cred.uid == perm.cuid {
+        perm.mode / 64 % 8
+    } else if cred.gid == perm.gid || cred.gid == perm.cgid {
+        perm.mode / 8 % 8
+    } else {
+        perm.mode % 8
+    }
+}
+
+/// Whether the permissions allow what is wanted (sysvipc(7)). Owner bits apply where the user is owner or
+/// creator, else group bits where the group is theirs, else the other bits; execute bits are never
+/// tested, and user 0 passes every test (this project's profile).
+pub fn grants(cred: &Cred, perm: &Perm, want: Want) -> bool
+    ensures { result ≡ flat.grants cred.now perm.now want }
+{
+    if cred.uid == 0 {
+        return true;
+    }
+    let bits = triple(cred, perm);
+    (!want.read || bits / 4 % 2 == 1) && (!want.write || bits / 2 % 2 == 1)
+}

@@ -1,0 +1,67 @@
+//! Pages, frames and slots, and what is counted of them.
+ghost use Rattle.std.specs.Prelude.{◌≡◌, ◌≤◌, ◌^◌, ◌<◌};
+ghost use Rattle.shm_base.specs.State as flat;
+
+/// The bytes of a page. SHMLBA, the unit of attach addresses, is the same.
+pub const PAGE_SIZE: u64 = 4096;
+
+/// The number of a frame, from 0.
+pub type FrameNo = u32;
+
+/// A page of a segment. The segment goes by its identifier, the page by its number from 0.
+#[derive(Clone, Copy, Debug, PartialEq, Eq)]
+pub struct PageRef {
+    pub seg: u32,
+    pub page: u32,
+}
+
+/// A slot of a swap area. Areas and slots count from 0.
+#[derive(Clone, Copy, Debug, PartialEq, Eq)]
+pub struct Slot {
+    pub area: u32,
+    pub slot: u32,
+}
+
+/// A stretch of bytes within one page of a segment: `len` bytes from byte `at` of the segment on. The
+/// frame is that of the page where it is resident.
+#[derive(Clone, Copy, Debug, PartialEq, Eq)]
+pub struct Span {
+    pub seg: u32,
+    pub at: u64,
+    pub len: u64,
+    pub frame: Option<FrameNo>,
+}
+
+/// What a flush round did: pages written, and writes that failed.
+#[derive(Clone, Copy, Debug, PartialEq, Eq)]
+pub struct FlushReport {
+    pub written: u64,
+    pub failed: u64,
+}
+
+/// The counts of a machine. `reserved` and `locked` are pages of all and of the locked segments, `slots`
+/// those of the areas that are there. `ins` and `outs` are successful pager reads for faults and pager
+/// writes for evictions and flushes; they stay at their last value, as `failures` does.
+#[derive(Clone, Copy, Debug, PartialEq, Eq)]
+pub struct Tally {
+    pub events: u64,
+    pub segments: u64,
+    pub reserved: u64,
+    pub locked: u64,
+    pub frames: u64,
+    pub resident: u64,
+    pub dirty: u64,
+    pub slots: u64,
+    pub used: u64,
+    pub ins: u64,
+    pub outs: u64,
+    pub failures: u64,
+}
+
+/// How many pages hold so many bytes.
+pub fn pages_of(size: u64) -> u64
+    ensures value { result ≡ flat.pages_of size }
+    ensures small { result ≤ 2 ^ 52 }
+{
+    size.div_ceil(PAGE_SIZE)
+}
