@@ -1,0 +1,244 @@
+-- The pieces that a range meets stand side by side. Taking it out leaves a part of the first of them below, and one of the last above.
+use Rattle.std.proofs.Common.{◌≡◌, ◌⊎◌, inl, inr, ℕ, zero, suc, ◌+◌, ◌-◌, ◌<◌, ◌≤◌, true, false, nat_lt, List, [], ◌∷◌, ◌++◌, length, get_or, take, drop, refl, ap, ◌∙◌, arith, ◌≢◌, append_assoc, append-nil, length-append, length-take, length-drop}
+use Rattle.std.specs.Prelude.{slice_range}
+use Rattle.std.specs.List.{splice}
+use Rattle.std.proofs.lemmas.Bool.{lt-ltb, le-ltb, cases_lt, cases_eq, and_right}
+use Rattle.std.proofs.lemmas.List.{get_or_default}
+use Rattle.shm_base.specs.Access.{end_of}
+use Rattle.shm_base.specs.Space.{meets, occupied}
+use Rattle.shm_areas.specs.declared.piece.Piece.{Piece}
+use Rattle.shm_areas.specs.Arranged.{bare, bare_all, Arranged}
+use Rattle.shm_areas.specs.Edit.{kept_below, kept_above, kept_cut}
+use Rattle.shm_areas.specs.Met.{met, IsRun}
+use Rattle.shm_areas.proofs.Placing.{low_bound}
+
+-- one piece
+
+meets_it : (from to : ℕ) (p : Piece) → p.base < to → from < end_of (bare p) → meets from to (bare p) ≡ true
+meets_it from to p before after = rw (lt-ltb p.base to before, lt-ltb from (end_of (bare p)) after) refl
+
+is_above : (from to : ℕ) (p : Piece) → to ≤ p.base → meets from to (bare p) ≡ false
+is_above from to p le = rw (le-ltb p.base to le) refl
+
+is_below : (from to : ℕ) (p : Piece) → end_of (bare p) ≤ from → meets from to (bare p) ≡ false
+is_below from to p le = and_right (nat_lt p.base to) (nat_lt from (end_of (bare p))) (le-ltb from (end_of (bare p)) le)
+
+-- the run without its first piece
+
+next_run : (from to : ℕ) (p : Piece) (ps : List Piece) (first last : ℕ) → IsRun from to (p ∷ ps) (suc first) (suc last) → IsRun from to ps first last
+next_run from to p ps first last r =
+    let order = r.order in
+    let bound = r.bound in
+    record {
+      order = omega arith;
+      bound = omega arith;
+      before = λ k d l. r.before (suc k) d (omega arith);
+      after = λ k d g l. r.after (suc k) d (omega arith) (omega arith);
+      below = λ k d l. r.below (suc k) d (omega arith);
+      above = λ k d g l. r.above (suc k) d (omega arith) (omega arith);
+    }
+
+inner_run : (from to : ℕ) (p : Piece) (ps : List Piece) (last : ℕ) → IsRun from to (p ∷ ps) 0 (suc last) → IsRun from to ps 0 last
+inner_run from to p ps last r =
+    let bound = r.bound in
+    record {
+      order = omega arith;
+      bound = omega arith;
+      before = λ k d l. absurd (omega arith);
+      after = λ k d g l. r.after (suc k) d (omega arith) (omega arith);
+      below = λ k d l. r.below (suc k) d (omega arith);
+      above = λ k d g l. r.above (suc k) d (omega arith) (omega arith);
+    }
+
+past_run : (from to : ℕ) (p : Piece) (ps : List Piece) → IsRun from to (p ∷ ps) 0 0 → IsRun from to ps 0 0
+past_run from to p ps r =
+    record {
+      order = omega arith;
+      bound = omega arith;
+      before = λ k d l. absurd (omega arith);
+      after = λ k d g l. r.after (suc k) d (omega arith) (omega arith);
+      below = λ k d l. absurd (omega arith);
+      above = λ k d g l. r.above (suc k) d (omega arith) (omega arith);
+    }
+
+-- THE PIECES THAT ARE MET
+
+take_met : (from to : ℕ) (ps : List Piece) (last : ℕ) → IsRun from to ps 0 last → take last ps ≡ met from to ps
+take_met from to [] zero r = refl
+take_met from to [] (suc last) r = absurd (omega (arith, r.bound))
+take_met from to (p ∷ ps) zero r =
+    rw (is_above from to p (r.above 0 p (omega arith) (omega arith))) (take_met from to ps zero (past_run from to p ps r))
+take_met from to (p ∷ ps) (suc last) r =
+    rw (meets_it from to p (r.below 0 p (omega arith)) (r.after 0 p (omega arith) (omega arith)))
+    (ap (λ (xs : List Piece). p ∷ xs) (take_met from to ps last (inner_run from to p ps last r)))
+
+pub slice-met : (from to : ℕ) (ps : List Piece) (first last : ℕ) → IsRun from to ps first last → slice_range ps first last ≡ met from to ps
+slice-met from to ps zero last r = let whole : last - 0 ≡ last = omega arith in rw whole (take_met from to ps last r)
+slice-met from to ps (suc first) zero r = absurd (omega (arith, r.order))
+slice-met from to [] (suc first) (suc last) r = absurd (omega (arith, r.bound))
+slice-met from to (p ∷ ps) (suc first) (suc last) r =
+    let shifted : suc last - suc first ≡ last - first = omega arith in
+    rw (shifted, is_below from to p (r.before 0 p (omega arith))) (slice-met from to ps first last (next_run from to p ps first last r))
+
+pub occupied-run : (from to : ℕ) (ps : List Piece) (first last : ℕ) → IsRun from to ps first last → nat_lt first last ≡ occupied (bare_all ps) from to
+occupied-run from to [] zero zero r = refl
+occupied-run from to [] first (suc last) r = absurd (omega (arith, r.bound))
+occupied-run from to ps (suc first) zero r = absurd (omega (arith, r.order))
+occupied-run from to (p ∷ ps) zero zero r =
+    rw (is_above from to p (r.above 0 p (omega arith) (omega arith))) (occupied-run from to ps zero zero (past_run from to p ps r))
+occupied-run from to (p ∷ ps) zero (suc last) r =
+    rw (meets_it from to p (r.below 0 p (omega arith)) (r.after 0 p (omega arith) (omega arith))) (lt-ltb 0 (suc last) (omega arith))
+occupied-run from to (p ∷ ps) (suc first) (suc last) r =
+    rw (is_below from to p (r.before 0 p (omega arith))) (shift (cases_lt first last) ∙ occupied-run from to ps first last (next_run from to p ps first last r))
+  where
+    shift : (first < last) ⊎ (last ≤ first) → nat_lt (suc first) (suc last) ≡ nat_lt first last
+    shift (inl l) = rw (lt-ltb first last l) (lt-ltb (suc first) (suc last) (omega arith))
+    shift (inr g) = rw (le-ltb first last g) (le-ltb (suc first) (suc last) (omega arith))
+
+-- WHAT IS LEFT
+
+-- nothing is met, nothing is cut
+pub cut-none : (from to fresh : ℕ) (ps : List Piece) (first : ℕ) → IsRun from to ps first first → kept_cut from to fresh ps ≡ ps
+cut-none from to fresh [] first r = refl
+cut-none from to fresh (p ∷ ps) zero r =
+    rw (is_above from to p (r.above 0 p (omega arith) (omega arith))) (ap (λ (xs : List Piece). p ∷ xs) (cut-none from to fresh ps zero (past_run from to p ps r)))
+cut-none from to fresh (p ∷ ps) (suc first) r =
+    rw (is_below from to p (r.before 0 p (omega arith))) (ap (λ (xs : List Piece). p ∷ xs) (cut-none from to fresh ps first (next_run from to p ps first first r)))
+
+-- nothing stays below of a piece that begins in the range, and nothing above of one that ends in it
+below-none : (from : ℕ) (p : Piece) → from ≤ p.base → kept_below from p ≡ []
+below-none from p le = rw (le-ltb p.base from le) refl
+
+above-none : (from to fresh : ℕ) (p : Piece) → end_of (bare p) ≤ to → kept_above from to fresh p ≡ []
+above-none from to fresh p le = rw (le-ltb to (end_of (bare p)) le) refl
+
+-- a piece with another of the run behind it ends in the range
+ends_in : (from to last low : ℕ) (p : Piece) (ps : List Piece) → Arranged low (bare_all (p ∷ ps)) → IsRun from to (p ∷ ps) 0 (suc (suc last)) → end_of (bare p) ≤ to
+ends_in from to last low p ps ar r =
+    let bound = r.bound in
+    let next : end_of (bare p) ≤ (get_or ps 0 p).base = low_bound (end_of (bare p)) ps 0 p ar.1.1 (omega arith) in
+    let begins : (get_or ps 0 p).base < to = r.below 1 p (omega arith) in
+    omega (arith, next, begins)
+
+-- all pieces of the run begin in the range
+cut-begun : (from to fresh last low : ℕ) (ps : List Piece) (d : Piece) → Arranged low (bare_all ps) → from ≤ low → IsRun from to ps 0 (suc last)
+    → kept_cut from to fresh ps ≡ kept_above from to fresh (get_or ps last d) ++ drop (suc last) ps
+cut-begun from to fresh last low [] d ar le r = absurd (omega (arith, r.bound))
+cut-begun from to fresh zero low (p ∷ ps) d ar le r =
+    let first : low ≤ p.base = ar.0 in
+    rw (meets_it from to p (r.below 0 p (omega arith)) (r.after 0 p (omega arith) (omega arith)), below-none from p (omega (arith, le, first)))
+    (ap (λ (xs : List Piece). kept_above from to fresh p ++ xs) (cut-none from to fresh ps zero (inner_run from to p ps zero r)))
+cut-begun from to fresh (suc last) low (p ∷ ps) d ar le r =
+    let first : low ≤ p.base = ar.0 in
+    let after : from < end_of (bare p) = r.after 0 p (omega arith) (omega arith) in
+    rw (
+      meets_it from to p (r.below 0 p (omega arith)) after,
+      below-none from p (omega (arith, le, first)),
+      above-none from to fresh p (ends_in from to last low p ps ar r),
+    )
+    (cut-begun from to fresh last (end_of (bare p)) ps d ar.1.1 (omega (arith, after)) (inner_run from to p ps (suc last) r))
+
+pub cut-run : (from to fresh first last low : ℕ) (ps : List Piece) (d : Piece) → Arranged low (bare_all ps) → IsRun from to ps first (suc last) → first < suc last
+    → splice ps first (suc last) (kept_below from (get_or ps first d) ++ kept_above from to fresh (get_or ps last d)) ≡ kept_cut from to fresh ps
+cut-run from to fresh first last low [] d ar r lt = absurd (omega (arith, r.bound))
+cut-run from to fresh zero zero low (p ∷ ps) d ar r lt =
+    let none = cut-none from to fresh ps zero (inner_run from to p ps zero r) in
+    rw (meets_it from to p (r.below 0 p (omega arith)) (r.after 0 p (omega arith) (omega arith)), none) refl
+cut-run from to fresh zero (suc last) low (p ∷ ps) d ar r lt =
+    let after : from < end_of (bare p) = r.after 0 p (omega arith) (omega arith) in
+    let rest = cut-begun from to fresh last (end_of (bare p)) ps d ar.1.1 (omega (arith, after)) (inner_run from to p ps (suc last) r) in
+    rw (
+      meets_it from to p (r.below 0 p (omega arith)) after,
+      above-none from to fresh p (ends_in from to last low p ps ar r),
+      rest,
+      append-nil (kept_below from p),
+      append_assoc (kept_below from p) (kept_above from to fresh (get_or ps last d)) (drop (suc last) ps),
+    )
+    refl
+cut-run from to fresh (suc first) zero low (p ∷ ps) d ar r lt = absurd (omega (arith, lt))
+cut-run from to fresh (suc first) (suc last) low (p ∷ ps) d ar r lt =
+    rw (is_below from to p (r.before 0 p (omega arith)))
+    (ap (λ (xs : List Piece). p ∷ xs) (cut-run from to fresh first last (end_of (bare p)) ps d ar.1.1 (next_run from to p ps first (suc last) r) (omega (arith, lt))))
+
+-- THE SEARCH FOR THE RUN
+
+-- a piece ends before the later ones begin
+pub ends_before : (low : ℕ) (ps : List Piece) (k j : ℕ) (d e : Piece) → Arranged low (bare_all ps) → k < j → j < length ps
+    → end_of (bare (get_or ps k d)) ≤ (get_or ps j e).base
+ends_before low [] k j d e ar lt within = absurd (omega arith)
+ends_before low (p ∷ ps) k zero d e ar lt within = absurd (omega arith)
+ends_before low (p ∷ ps) zero (suc j) d e ar lt within = low_bound (end_of (bare p)) ps j e ar.1.1 (omega arith)
+ends_before low (p ∷ ps) (suc k) (suc j) d e ar lt within = ends_before (end_of (bare p)) ps k j d e ar.1.1 (omega arith) (omega arith)
+
+-- how many pieces begin at or below an address
+pub record IsCount (addr : ℕ) (ps : List Piece) (count : ℕ) : Type 0 where
+  pub bound : count ≤ length ps
+  pub below : (k : ℕ) (d : Piece) → k < count → (get_or ps k d).base ≤ addr
+  pub above : (k : ℕ) (d : Piece) → count ≤ k → k < length ps → addr < (get_or ps k d).base
+
+-- the last piece that begins at or below the range reaches into it
+pub run_from : (low from to count last : ℕ) (ps : List Piece) (e : Piece) → Arranged low (bare_all ps) → from < to → IsCount from ps count → IsCount (to - 1) ps last
+    → 0 < count → from < end_of (bare (get_or ps (count - 1) e)) → IsRun from to ps (count - 1) last
+run_from low from to count last ps e ar lt c l some reaches =
+    let bound = c.bound in
+    record {
+      order = order (cases_lt last (count - 1));
+      bound = l.bound;
+      before = λ k d h.
+          let next : end_of (bare (get_or ps k d)) ≤ (get_or ps (count - 1) e).base = ends_before low ps k (count - 1) d e ar h (omega arith) in
+          let begins : (get_or ps (count - 1) e).base ≤ from = c.below (count - 1) e (omega arith) in
+          omega (arith, next, begins);
+      after = λ k d g h. after k d g h (cases_lt k count);
+      below = λ k d h. let begins : (get_or ps k d).base ≤ to - 1 = l.below k d h in omega (arith, begins, lt);
+      above = λ k d g h. let begins : to - 1 < (get_or ps k d).base = l.above k d g h in omega (arith, begins);
+    }
+  where
+    order : (last < count - 1) ⊎ (count - 1 ≤ last) → count - 1 ≤ last
+    order (inr g) = g
+    order (inl h) =
+        let high : to - 1 < (get_or ps (count - 1) e).base = l.above (count - 1) e (omega arith) (omega (arith, c.bound, some)) in
+        let begins : (get_or ps (count - 1) e).base ≤ from = c.below (count - 1) e (omega (arith, some)) in
+        absurd (omega (arith, high, begins, lt))
+
+    after : (k : ℕ) (d : Piece) → count - 1 ≤ k → k < length ps → (k < count) ⊎ (count ≤ k) → from < end_of (bare (get_or ps k d))
+    after k d g h (inl below) =
+        let same : k ≡ count - 1 = omega arith in
+        let at : get_or ps k d ≡ get_or ps (count - 1) e = get_or_default ps k d e h ∙ ap (λ n. get_or ps n e) same in
+        rw at reaches
+    after k d g h (inr past) = let begins : from < (get_or ps k d).base = c.above k d past h in omega (arith, begins)
+
+-- or it does not, or there is none
+pub run_behind : (low from to count last : ℕ) (ps : List Piece) (e : Piece) → Arranged low (bare_all ps) → from < to → IsCount from ps count → IsCount (to - 1) ps last
+    → (count ≡ 0) ⊎ (end_of (bare (get_or ps (count - 1) e)) ≤ from) → IsRun from to ps count last
+run_behind low from to count last ps e ar lt c l over =
+    record {
+      order = order (cases_lt last count);
+      bound = l.bound;
+      before = λ k d h. before k d h over (cases_eq k (count - 1));
+      after = λ k d g h. let begins : from < (get_or ps k d).base = c.above k d g h in omega (arith, begins);
+      below = λ k d h. let begins : (get_or ps k d).base ≤ to - 1 = l.below k d h in omega (arith, begins, lt);
+      above = λ k d g h. let begins : to - 1 < (get_or ps k d).base = l.above k d g h in omega (arith, begins);
+    }
+  where
+    order : (last < count) ⊎ (count ≤ last) → count ≤ last
+    order (inr g) = g
+    order (inl h) =
+        let high : to - 1 < (get_or ps last e).base = l.above last e (omega arith) (omega (arith, c.bound)) in
+        let begins : (get_or ps last e).base ≤ from = c.below last e h in
+        absurd (omega (arith, high, begins, lt))
+
+    before : (k : ℕ) (d : Piece) → k < count → (count ≡ 0) ⊎ (end_of (bare (get_or ps (count - 1) e)) ≤ from) → (k ≡ count - 1) ⊎ (k ≢ count - 1) → end_of (bare (get_or ps k d)) ≤ from
+    before k d h (inl none) which = absurd (omega arith)
+    before k d h (inr ended) (inl same) =
+        let at : get_or ps k d ≡ get_or ps (count - 1) e = get_or_default ps k d e (omega (arith, c.bound)) ∙ ap (λ n. get_or ps n e) same in
+        rw at ended
+    before k d h (inr ended) (inr other) =
+        let next : end_of (bare (get_or ps k d)) ≤ (get_or ps (count - 1) e).base = ends_before low ps k (count - 1) d e ar (omega arith) (omega (arith, c.bound)) in
+        let begins : (get_or ps (count - 1) e).base ≤ from = c.below (count - 1) e (omega arith) in
+        omega (arith, next, begins)
+
+-- HOW MANY ARE LEFT
+
+pub length-splice : (ps xs : List Piece) (first last : ℕ) → first ≤ last → last ≤ length ps → length (splice ps first last xs) ≡ first + (length xs + (length ps - last))
+length-splice ps xs first last order bound =
+    simp (length-append, length-take, length-drop) (omega arith)

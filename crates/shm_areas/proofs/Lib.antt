@@ -1,0 +1,5 @@
+pub mod Placing
+pub mod Gaps
+pub mod Edits
+pub mod Cuts
+pub mod Origins

@@ -1,0 +1,16 @@
+use Rattle.std.proofs.Common.{leb, leb-true, arith, rules}
+use Rattle.std.proofs.lemmas.Bool.{leb-false}
+use Rattle.std.proofs.lemmas.List.Sorted.{IsPartitionPoint-from_clause, IsPartitionedBy-leb}
+use Rattle.shm_base.specs.Space.{lowest_address}
+use Rattle.shm_areas.proofs.Placing.{rising}
+use Rattle.shm_areas.proofs.search.count_to.Goals as goal
+
+pub returns : goal.returns
+returns c =
+    let parted = IsPartitionedBy-leb (λ p. p.base) _ c.args.addr (rising lowest_address c.args.pieces.now c.requires) in
+    let point = IsPartitionPoint-from_clause (λ p. leb p.base c.args.addr) _ _ c.partition_point.ensures.partitioned parted (λ a r q k. search rules) in
+    record {
+      bound = c.partition_point.ensures.bound;
+      below = λ k d h. leb-true _ _ (point.0 k d (omega arith) h);
+      above = λ k d g h. leb-false _ _ (point.1 k d g h);
+    }

@@ -1,0 +1,34 @@
+-- What the stored pieces of a process show, and how they lie.
+use Rattle.std.specs.Prelude.{◌≡◌, ℕ, ◌+◌, ◌%◌, ◌≤◌, ◌<◌, List, [], ◌∷◌, map, find, Option, ⊤}
+use Rattle.shm_base.specs.State as flat
+use Rattle.shm_base.specs.Access.{end_of, covers}
+use Rattle.shm_base.specs.Space.{last_address}
+use Rattle.shm_areas.specs.declared.piece.Piece.{Piece}
+
+-- a piece without its key
+abbrev pub bare : Piece → flat.Piece
+bare p = record { base = p.base; seg = p.seg; first_page = p.first_page; pages = p.pages; writable = p.writable }
+
+abbrev pub bare_all : List Piece → List flat.Piece
+bare_all ps = map bare ps
+
+-- whole pages of the address range, of a segment of at most 4096 pages
+pub record IsFit (p : flat.Piece) : Type 0 where
+  pub aligned : p.base % 4096 ≡ 0
+  pub some : 1 ≤ p.pages
+  pub few : p.first_page + p.pages ≤ 4096
+  pub within : end_of p ≤ last_address
+
+-- fit pieces by rising base, the first not below an address, that never overlap
+abbrev pub Arranged : ℕ → List flat.Piece → Type 0
+Arranged low [] = ⊤
+Arranged low (p ∷ ps) = (low ≤ p.base) × (IsFit p × Arranged (end_of p) ps)
+
+-- the piece that an address lies in
+abbrev pub covering : ℕ → List flat.Piece → Option flat.Piece
+covering a ps = find (λ p. covers p a) ps
+
+pub record IsCovering (a : ℕ) (p : Piece) : Type 0 where
+  pub fit : IsFit (bare p)
+  pub from : p.base ≤ a
+  pub to : a < end_of (bare p)

@@ -1,0 +1,55 @@
+-- What an attach, a cut and a detach leave of the stored pieces, with their keys.
+use Rattle.std.specs.Prelude.{◌≡◌, ◌≤◌, length, option_to_list, ℕ, ◌+◌, ◌-◌, ◌/◌, Bool, not, nat_lt, if◌then◌else◌, List, [], ◌∷◌, ◌++◌, filter}
+use Rattle.std.specs.List.{flat_map, splice}
+use Rattle.shm_base.specs.Access.{end_of}
+use Rattle.shm_base.specs.Space.{meets, is_named}
+use Rattle.shm_areas.specs.declared.piece.Piece.{Piece}
+use Rattle.shm_areas.specs.declared.cut.Cut.{Cut}
+use Rattle.shm_areas.specs.Arranged.{bare}
+
+-- the pieces with one more, by rising base
+abbrev pub kept_inserted : Piece → List Piece → List Piece
+kept_inserted p [] = p ∷ []
+kept_inserted p (q ∷ qs) = if nat_lt p.base q.base then p ∷ q ∷ qs else q ∷ kept_inserted p qs
+
+-- the part below an address keeps the key
+abbrev pub kept_below : ℕ → Piece → List Piece
+kept_below from p = if nat_lt p.base from then record p { pages = (from - p.base) / 4096 } ∷ [] else []
+
+-- the part above an address keeps the key where nothing stays below, and else has the fresh one
+abbrev pub kept_above : ℕ → ℕ → ℕ → Piece → List Piece
+kept_above from to fresh p =
+    if nat_lt to (end_of (bare p))
+    then
+    record {
+      base = to;
+      seg = p.seg;
+      first_page = p.first_page + (to - p.base) / 4096;
+      pages = (end_of (bare p) - to) / 4096;
+      writable = p.writable;
+      key = if nat_lt p.base from then fresh else p.key;
+    } ∷ []
+    else []
+
+abbrev pub kept_parts : ℕ → ℕ → ℕ → Piece → List Piece
+kept_parts from to fresh p = if meets from to (bare p) then kept_below from p ++ kept_above from to fresh p else p ∷ []
+
+-- the pieces with the range taken out
+abbrev pub kept_cut : ℕ → ℕ → ℕ → List Piece → List Piece
+kept_cut from to fresh ps = flat_map (kept_parts from to fresh) ps
+
+abbrev pub kept_named : ℕ → ℕ → Piece → Bool
+kept_named addr seg p = is_named addr seg (bare p)
+
+abbrev pub kept_without : ℕ → ℕ → List Piece → List Piece
+kept_without addr seg ps = filter (λ p. not (kept_named addr seg p)) ps
+
+-- the pieces once those of a cut's run have given way to its parts
+abbrev pub left_by : List Piece → Cut → List Piece
+left_by ps c = splice ps c.first c.last (option_to_list c.below ++ option_to_list c.above)
+
+-- a cut leaves these pieces
+pub record IsCut (ps : List Piece) (c : Cut) (left : List Piece) : Type 0 where
+  pub order : c.first ≤ c.last
+  pub bound : c.last ≤ length ps
+  pub leaves : left_by ps c ≡ left

@@ -1,0 +1,5 @@
+pub mod Arranged
+pub mod Gap
+pub mod Edit
+pub mod Fixed
+pub mod Met

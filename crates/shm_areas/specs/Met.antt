@@ -1,0 +1,19 @@
+-- The pieces that a range meets.
+use Rattle.std.specs.Prelude.{ℕ, ◌<◌, ◌≤◌, List, length, filter, get_or}
+use Rattle.shm_base.specs.Access.{end_of}
+use Rattle.shm_base.specs.Space.{meets}
+use Rattle.shm_areas.specs.declared.piece.Piece.{Piece}
+use Rattle.shm_areas.specs.Arranged.{bare}
+
+-- the pieces with a page in the range
+abbrev pub met : ℕ → ℕ → List Piece → List Piece
+met from to ps = filter (λ (p : Piece). meets from to (bare p)) ps
+
+-- they are those from one place up to another
+pub record IsRun (from to : ℕ) (ps : List Piece) (first last : ℕ) : Type 0 where
+  pub order : first ≤ last
+  pub bound : last ≤ length ps
+  pub before : (k : ℕ) (d : Piece) → k < first → end_of (bare (get_or ps k d)) ≤ from
+  pub after : (k : ℕ) (d : Piece) → first ≤ k → k < length ps → from < end_of (bare (get_or ps k d))
+  pub below : (k : ℕ) (d : Piece) → k < last → (get_or ps k d).base < to
+  pub above : (k : ℕ) (d : Piece) → last ≤ k → k < length ps → to ≤ (get_or ps k d).base

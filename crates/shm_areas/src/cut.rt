@@ -1,0 +1,121 @@
+//! Taking a range out of pieces in order: at most one part stays below it, and one above.
+ghost use Rattle.std.specs.Prelude.{◌≡◌, ◌+◌, ◌<◌, ◌≤◌, ◌++◌, length, vec_capacity, option_to_list};
+ghost use Rattle.std.specs.List.{splice};
+ghost use Rattle.shm_base.specs.Access as access;
+ghost use Rattle.shm_base.specs.Space as flat;
+ghost use Rattle.shm_areas.specs.Arranged.{bare, bare_all, Arranged, IsFit};
+ghost use Rattle.shm_areas.specs.Edit.{kept_below, kept_above, kept_cut, IsCut, left_by};
+
+use crate::piece::Piece;
+use crate::search::run_in;
+
+/// What a range that is taken out does: the pieces from the first place up to the last go, and the
+/// parts of them that reach beyond the range stand there.
+#[derive(Clone, Copy)]
+pub(crate) struct Cut {
+    pub(crate) first: usize,
+    pub(crate) last: usize,
+    pub(crate) below: Option<Piece>,
+    pub(crate) above: Option<Piece>,
+}
+
+/// What is left of a piece below a range.
+fn part_below(piece: &Piece, from: u64) -> Option<Piece>
+    requires fit { IsFit (bare piece.now) }
+    requires ends { from < access.end_of (bare piece.now) }
+    ensures { option_to_list result ≡ kept_below from piece.now }
+{
+    if piece.base >= from {
+        return None;
+    }
+    Some(Piece {
+        pages: ((from - piece.base) / 4096) as u32,
+        ..*piece
+    })
+}
+
+/// What is left of a piece above a range. The key is a fresh one where a part below stays too.
+fn part_above(piece: &Piece, from: u64, to: u64, fresh: usize) -> Option<Piece>
+    requires fit { IsFit (bare piece.now) }
+    requires begins { piece.now.base < to }
+    ensures { option_to_list result ≡ kept_above from to fresh piece.now }
+{
+    let end = piece.end();
+    if end <= to {
+        return None;
+    }
+    Some(Piece {
+        base: to,
+        first_page: piece.first_page + ((to - piece.base) / 4096) as u32,
+        pages: ((end - to) / 4096) as u32,
+        key: if piece.base < from { fresh } else { piece.key },
+        ..*piece
+    })
+}
+
+/// What taking a range out does.
+pub(crate) fn cut_of(pieces: &[Piece], from: u64, to: u64, fresh: usize) -> Cut
+    requires arranged { Arranged flat.lowest_address (bare_all pieces.now) }
+    requires order { from < to }
+    ensures { IsCut pieces.now result (kept_cut from to fresh pieces.now) }
+{
+    let run = run_in(pieces, from, to);
+    if run.first == run.last {
+        return Cut {
+            first: run.first,
+            last: run.last,
+            below: None,
+            above: None,
+        };
+    }
+    Cut {
+        first: run.first,
+        last: run.last,
+        below: part_below(&pieces[run.first], from),
+        above: part_above(&pieces[run.last - 1], from, to, fresh),
+    }
+}
+
+fn count_of(part: Option<Piece>) -> usize
+    ensures { result ≡ length (option_to_list part) }
+{
+    match part {
+        Some(_) => 1,
+        None => 0,
+    }
+}
+
+/// How many pieces there are once the range is taken out.
+pub(crate) fn count_left(pieces: &[Piece], cut: Cut) -> usize
+    requires order { cut.first ≤ cut.last }
+    requires bound { cut.last ≤ length pieces.now }
+    requires few { length pieces.now ≤ 256 }
+    ensures { result ≡ length (left_by pieces.now cut) }
+{
+    cut.first + count_of(cut.below) + count_of(cut.above) + (pieces.len() - cut.last)
+}
+
+fn insert_part(pieces: &mut Vec<Piece>, at: usize, part: Option<Piece>)
+    requires within { at ≤ length pieces.old.items }
+    requires room { length pieces.old.items + length (option_to_list part) ≤ vec_capacity pieces.old }
+    ensures items { pieces.new.items ≡ splice pieces.old.items at at (option_to_list part) }
+    ensures capacity { vec_capacity pieces.old ≤ vec_capacity pieces.new }
+{
+    if let Some(piece) = part {
+        let put = pieces.insert(at, piece);
+        prove!(put.is_ok());
+    }
+}
+
+/// Takes the range out.
+pub(crate) fn replace(pieces: &mut Vec<Piece>, cut: Cut)
+    requires order { cut.first ≤ cut.last }
+    requires bound { cut.last ≤ length pieces.old.items }
+    requires room { length (left_by pieces.old.items cut) ≤ vec_capacity pieces.old }
+    ensures items { pieces.new.items ≡ left_by pieces.old.items cut }
+    ensures capacity { vec_capacity pieces.old ≤ vec_capacity pieces.new }
+{
+    pieces.drain(cut.first..cut.last);
+    insert_part(pieces, cut.first, cut.above);
+    insert_part(pieces, cut.first, cut.below);
+}

@@ -1,0 +1,62 @@
+use std::marker::Model;
+
+/// An attached run of pages of a segment. Its translations lie under the key.
+#[derive(Clone, Copy, Debug, PartialEq, Eq)]
+pub struct Piece {
+    pub base: u64,
+    pub seg: u32,
+    pub first_page: u32,
+    pub pages: u32,
+    pub writable: bool,
+    pub key: usize,
+}
+
+/// A byte of a segment.
+#[derive(Clone, Copy, Debug, PartialEq, Eq)]
+pub struct Place {
+    pub seg: u32,
+    pub at: u64,
+    pub writable: bool,
+}
+
+impl Model for Place {
+    ghost use Rattle.shm_base.specs.Access.{Place as Flat};
+
+    ghost Value = { Flat };
+
+    ghost view = { λ p. record { seg = p.seg; at = p.at; writable = p.writable } };
+
+    ghost inverse = { λ p. record { seg = p.seg; at = p.at; writable = p.writable } };
+}
+
+impl Piece {
+    ghost use Rattle.std.specs.Prelude.{◌≡◌, ◌<◌, ◌^◌};
+    ghost use Rattle.shm_base.specs.Access as flat;
+    ghost use Rattle.std.specs.Prelude.{length, true};
+    ghost use Rattle.shm_base.specs.Space.{has_origin, meets, parts};
+    ghost use Rattle.shm_areas.specs.Arranged.{bare, IsFit};
+
+    /// Where the piece ends.
+    pub fn end(&self) -> u64
+        requires { IsFit (bare self.now) }
+        ensures { result ≡ flat.end_of (bare self.now) }
+    {
+        self.base + 4096 * self.pages as u64
+    }
+
+    /// How many parts of a piece with a page in a range lie outside it.
+    pub fn parts_outside(&self, from: u64, to: u64) -> u32
+        requires fit { IsFit (bare self.now) }
+        requires meets { meets from to (bare self.now) ≡ true }
+        ensures { result ≡ length (parts from to (bare self.now)) }
+    {
+        (self.base < from) as u32 + (to < self.end()) as u32
+    }
+
+    /// Whether the piece's segment would begin at the address.
+    pub fn has_origin(&self, addr: u64) -> bool
+        ensures { result ≡ has_origin addr (bare self.now) }
+    {
+        self.base as u128 == addr as u128 + 4096 * self.first_page as u128
+    }
+}

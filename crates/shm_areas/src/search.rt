@@ -1,0 +1,94 @@
+//! Where an address or a range lies among pieces in order. Each search is binary.
+ghost use Rattle.std.specs.Prelude.{◌≡◌, ◌+◌, ◌*◌, ◌<◌, ◌≤◌, ℕ, length, IfSome, option_map, slice_index_or};
+ghost use Rattle.shm_base.specs.Space as flat;
+ghost use Rattle.shm_areas.specs.Arranged.{bare, bare_all, Arranged, IsCovering, covering};
+ghost use Rattle.shm_areas.specs.Gap.{gap_from};
+ghost use Rattle.shm_areas.specs.Met.{IsRun};
+ghost use Rattle.shm_areas.specs.declared.piece.Piece.{Piece as Stored};
+
+use crate::piece::Piece;
+
+/// Pieces side by side: the place of the first, and the place behind the last.
+#[derive(Clone, Copy)]
+pub(crate) struct Run {
+    pub(crate) first: usize,
+    pub(crate) last: usize,
+}
+
+/// How many pieces begin at or below an address.
+pub(crate) fn count_to(pieces: &[Piece], addr: u64) -> usize
+    requires { Arranged flat.lowest_address (bare_all pieces.now) }
+    ensures bound { result ≤ length pieces.now }
+    ensures below { (k : ℕ) (d : Stored) → k < result → (slice_index_or pieces.now k d).base ≤ addr }
+    ensures above { (k : ℕ) (d : Stored) → result ≤ k → k < length pieces.now → addr < (slice_index_or pieces.now k d).base }
+{
+    pieces.partition_point(|p| p.base <= addr)
+}
+
+/// How many pieces begin below an address.
+pub(crate) fn count_below(pieces: &[Piece], addr: u64) -> usize
+    requires { Arranged flat.lowest_address (bare_all pieces.now) }
+    ensures bound { result ≤ length pieces.now }
+    ensures below { (k : ℕ) (d : Stored) → k < result → (slice_index_or pieces.now k d).base < addr }
+{
+    if addr == 0 {
+        return 0;
+    }
+    count_to(pieces, addr - 1)
+}
+
+/// The piece that an address lies in.
+pub(crate) fn piece_in(pieces: &[Piece], addr: u64) -> Option<Piece>
+    requires { Arranged flat.lowest_address (bare_all pieces.now) }
+    ensures value { option_map bare result ≡ covering addr (bare_all pieces.now) }
+    ensures within { IfSome result (λ p. IsCovering addr p) }
+{
+    let count = count_to(pieces, addr);
+    if count == 0 {
+        return None;
+    }
+    let piece = pieces[count - 1];
+    if addr < piece.end() {
+        Some(piece)
+    } else {
+        None
+    }
+}
+
+/// The pieces with a page in a range.
+pub(crate) fn run_in(pieces: &[Piece], from: u64, to: u64) -> Run
+    requires arranged { Arranged flat.lowest_address (bare_all pieces.now) }
+    requires order { from < to }
+    ensures { IsRun from to pieces.now result.first result.last }
+{
+    let count = count_to(pieces, from);
+    let last = count_to(pieces, to - 1);
+    if count > 0 && from < pieces[count - 1].end() {
+        return Run {
+            first: count - 1,
+            last,
+        };
+    }
+    Run { first: count, last }
+}
+
+/// The least gap for so many pages at or above 0x40000000, walking up the pieces.
+pub(crate) fn least_gap(pieces: &[Piece], pages: u32) -> Option<u64>
+    requires pages { (1 ≤ pages) × (pages ≤ 4096) }
+    requires arranged { Arranged flat.lowest_address (bare_all pieces.now) }
+    ensures { result ≡ gap_from pages flat.first_chosen (bare_all pieces.now) }
+{
+    let size = 4096 * pages as u64;
+    let mut base = 0x40000000;
+    for piece in pieces {
+        if base + size <= piece.base {
+            return Some(base);
+        }
+        base = base.max(piece.end());
+    }
+    if base + size <= 0x7ffffffff000 {
+        Some(base)
+    } else {
+        None
+    }
+}

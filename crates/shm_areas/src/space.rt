@@ -1,0 +1,210 @@
+//! A sorted list of pieces that never overlap.
+ghost use Rattle.std.specs.Prelude.{◌≡◌, ℕ, ◌+◌, ◌*◌, ◌%◌, ◌<◌, ◌≤◌, false, IfOk, length, IfSome, Some, option_map};
+ghost use Rattle.shm_base.specs.Access as access;
+ghost use Rattle.shm_base.specs.Space as flat;
+ghost use Rattle.shm_areas.specs.Arranged.{bare, bare_all, Arranged, IsFit, IsCovering, covering};
+ghost use Rattle.shm_areas.specs.Edit.{kept_inserted, kept_cut, kept_without};
+ghost use Rattle.shm_areas.specs.Fixed.{fixed};
+ghost use Rattle.shm_areas.specs.Gap.{HasNoGap, IsLeastGap};
+ghost use Rattle.shm_areas.specs.Met.{met};
+
+use crate::cut::{count_left, cut_of, replace};
+use crate::piece::{Piece, Place};
+use crate::search::{count_below, count_to, least_gap, piece_in, run_in};
+use bitflags::Flags;
+use shm_base::{AtFlags, Errno, HostMemory};
+use std::alloc::Global;
+use std::marker::Model;
+
+/// The pieces of a process by rising base. There is room for 256, the most that a process may have,
+/// from the beginning, so that no change takes memory.
+#[derive(Drop)]
+pub struct Space {
+    pieces: Vec<Piece>,
+}
+
+impl Model for Space {
+    ghost use Rattle.std.specs.Prelude.{List, ◌≤◌, length, vec_capacity};
+    ghost use Rattle.shm_base.specs.Space.{lowest_address};
+    ghost use Rattle.shm_areas.specs.declared.piece.Piece.{Piece as Stored};
+    ghost use Rattle.shm_areas.specs.Arranged.{bare_all, Arranged};
+
+    ghost Value = { List Stored };
+
+    ghost view = { λ s. s.pieces.items };
+
+    ghost invariant = { λ s. Arranged lowest_address (bare_all s.pieces.items) × (length s.pieces.items ≤ 256) × (256 ≤ vec_capacity s.pieces) };
+}
+
+impl Space {
+    ghost use Rattle.std.specs.Prelude.{[], ◌∷◌, ◌++◌, MatchOption};
+
+    /// No pieces. It takes the room for 256.
+    pub fn new(alloc: Global) -> Result<Space, HostMemory>
+        ensures { IfOk result (λ s. s ≡ []) }
+    {
+        let pieces = Vec::with_capacity(alloc, 256)?;
+        Ok(Space { pieces })
+    }
+
+    /// The pieces by rising base.
+    pub fn pieces(&self) -> &[Piece]
+        ensures value { result.now ≡ self.now }
+        ensures arranged { Arranged flat.lowest_address (bare_all self.now) }
+        ensures count { length self.now ≤ 256 }
+    {
+        self.pieces.as_slice()
+    }
+
+    /// The piece that an address lies in. Every address of it lies in it alone.
+    pub fn piece_at(&self, addr: u64) -> Option<Piece>
+        ensures value { option_map bare result ≡ covering addr (bare_all self.now) }
+        ensures within { IfSome result (λ p. IsCovering addr p) }
+        ensures whole { IfSome result (λ p. (b : ℕ) → p.base ≤ b → b < access.end_of (bare p) → covering b (bare_all self.now) ≡ Some (bare p)) }
+    {
+        piece_in(&self.pieces, addr)
+    }
+
+    /// The byte that an address denotes.
+    #[tactic(auto, using(crate::proofs::Placing::place_covering))]
+    pub fn place(&self, addr: u64) -> Option<Place>
+        ensures { result ≡ access.place (bare_all self.now) addr }
+    {
+        let Some(piece) = self.piece_at(addr) else {
+            return None;
+        };
+        Some(Place {
+            seg: piece.seg,
+            at: 4096 * piece.first_page as u64 + (addr - piece.base),
+            writable: piece.writable,
+        })
+    }
+
+    /// The least page-aligned gap for so many pages at or above 0x40000000 (this profile; shmop(2)
+    /// leaves the choice to the system).
+    #[tactic(auto, using(crate::proofs::Gaps::free_below))]
+    pub fn choose(&self, pages: u32) -> Option<u64>
+        requires { (1 ≤ pages) × (pages ≤ 4096) }
+        ensures value { result ≡ flat.choose (bare_all self.now) pages }
+        ensures least { MatchOption result (HasNoGap (bare_all self.now) pages) (λ base. IsLeastGap (bare_all self.now) pages base) }
+    {
+        least_gap(&self.pieces, pages)
+    }
+
+    /// Where a mapping at an address that the caller gives would begin: the address rounded down to a
+    /// multiple of 4096 (SHM_RND). Einval where the range does not lie within the addresses, 0x10000 up
+    /// to 0x7ffffffff000, and where a piece lies there that is not to be replaced (SHM_REMAP).
+    pub fn check_fixed(&self, addr: u64, pages: u32, flags: AtFlags) -> Result<u64, Errno>
+        requires { (1 ≤ pages) × (pages ≤ 4096) }
+        ensures { result ≡ fixed (bare_all self.now) addr pages flags }
+    {
+        let base = addr - addr % 4096;
+        if base < 0x10000 || base > 0x7ffffffff000 {
+            return Err(Errno::Einval);
+        }
+        let end = base + 4096 * pages as u64;
+        if end > 0x7ffffffff000 {
+            return Err(Errno::Einval);
+        }
+        if !flags.contains(AtFlags::REMAP) && self.is_occupied(base, end) {
+            return Err(Errno::Einval);
+        }
+        Ok(base)
+    }
+
+    /// The pieces with a page in a range.
+    pub fn met(&self, from: u64, to: u64) -> &[Piece]
+        requires order { from < to }
+        ensures value { result.now ≡ met from to self.now }
+        ensures arranged { Arranged flat.lowest_address (bare_all result.now) }
+        ensures count { length result.now ≤ 256 }
+    {
+        let run = run_in(&self.pieces, from, to);
+        &self.pieces[run.first..run.last]
+    }
+
+    /// Whether a piece has a page in a range.
+    pub fn is_occupied(&self, from: u64, to: u64) -> bool
+        requires order { from < to }
+        ensures { result ≡ flat.occupied (bare_all self.now) from to }
+    {
+        let run = run_in(&self.pieces, from, to);
+        run.first < run.last
+    }
+
+    /// How many pieces there would be once a range is taken out.
+    pub fn count_outside(&self, from: u64, to: u64) -> usize
+        requires order { from < to }
+        ensures { result ≡ length (flat.cut from to (bare_all self.now)) }
+    {
+        count_left(&self.pieces, cut_of(&self.pieces, from, to, 0))
+    }
+
+    /// Puts a piece where no other piece lies.
+    pub fn insert(&mut self, piece: Piece)
+        requires room { length self.old < 256 }
+        requires low { flat.lowest_address ≤ piece.base }
+        requires fit { IsFit (bare piece) }
+        requires free { flat.occupied (bare_all self.old) piece.base (access.end_of (bare piece)) ≡ false }
+        ensures kept { self.new ≡ kept_inserted piece self.old }
+        ensures flat { bare_all self.new ≡ flat.inserted (bare piece) (bare_all self.old) }
+    {
+        let at = count_to(&self.pieces, piece.base);
+        if self.pieces.insert(at, piece).is_err() {
+            unreachable!();
+        }
+    }
+
+    /// Takes a range out: pieces in it go, and of pieces that reach beyond it the parts outside stay, each
+    /// a piece with its own first page. Where one piece is cut in two the upper part gets the fresh key.
+    pub fn cut(&mut self, from: u64, to: u64, fresh: usize)
+        requires from { from % 4096 ≡ 0 }
+        requires to { to % 4096 ≡ 0 }
+        requires order { from < to }
+        requires few { length (flat.cut from to (bare_all self.old)) ≤ 256 }
+        ensures kept { self.new ≡ kept_cut from to fresh self.old }
+        ensures flat { bare_all self.new ≡ flat.cut from to (bare_all self.old) }
+    {
+        let cut = cut_of(&self.pieces, from, to, fresh);
+        replace(&mut self.pieces, cut);
+    }
+
+    /// The lowest piece whose segment would begin at the address.
+    pub fn origin_of(&self, addr: u64) -> Option<Piece>
+        ensures { option_map bare result ≡ flat.origin_of addr (bare_all self.now) }
+    {
+        let start = count_below(&self.pieces, addr);
+        for piece in &self.pieces[start..] {
+            if piece.has_origin(addr) {
+                return Some(*piece);
+            }
+        }
+        None
+    }
+
+    /// Takes out the pieces of a segment that would begin at the address.
+    pub fn take_at(&mut self, addr: u64, seg: u32)
+        ensures kept { self.new ≡ kept_without addr seg self.old }
+        ensures flat { bare_all self.new ≡ flat.without_named addr seg (bare_all self.old) }
+    {
+        self.pieces
+            .retain(|p| !(p.has_origin(addr) && p.seg == seg));
+    }
+
+    /// Takes all pieces out.
+    pub fn clear(&mut self)
+        ensures { self.new ≡ [] }
+    {
+        self.pieces.clear();
+    }
+
+    /// Puts a piece behind all others.
+    pub fn push(&mut self, piece: Piece)
+        requires room { length self.old < 256 }
+        requires behind { Arranged flat.lowest_address (bare_all (self.old ++ piece ∷ [])) }
+        ensures { self.new ≡ self.old ++ piece ∷ [] }
+    {
+        let pushed = self.pieces.push(piece);
+        prove!(pushed.is_ok());
+    }
+}

@@ -1,0 +1,153 @@
+ghost use Rattle.std.specs.Prelude.{◌≡◌, IfOk, All};
+ghost use Rattle.shm_history.specs.WorldState.{IsFirstStep};
+ghost use Rattle.shm_life.specs.SystemState.{IsFirst};
+
+use super::*;
+use bitflags::Flags;
+use shm_base::{
+    AccessLen, AtFlags, Call, Chunk, Cred, Errno, GetFlags, Limits, Process, Reply, Step,
+};
+use shm_pager::RamPager;
+use std::alloc::Global;
+use std::process::Abort;
+use std::test::Fail;
+
+fn world(rt: &HostRuntime, shmmax: u64) -> Result<World<RamPager>, Fail> {
+    let limits = Limits::new(shmmax, 16, 64, 4, 1)
+        .ok()
+        .ok_or("the limits hold")?;
+    let first = Process {
+        pid: 1,
+        born: Some(Cred { uid: 100, gid: 100 }),
+    };
+    let alloc = rt.alloc();
+    let pagers = vec![in alloc; RamPager::new(alloc, 64)?]?;
+    let system = System::start(alloc, limits, pagers, &[first])
+        .ok()
+        .ok_or("it starts")?;
+    Ok(World::new(rt.alloc(), system))
+}
+
+fn shmget(size: u64) -> Call
+    ensures { IsFirst result }
+{
+    Call::Shmget {
+        key: 0,
+        size,
+        mode: 0o600,
+        flags: GetFlags::empty(),
+    }
+}
+
+fn shmat(id: i32) -> Call
+    ensures { IsFirst result }
+{
+    Call::Shmat {
+        id,
+        addr: 0,
+        flags: AtFlags::empty(),
+    }
+}
+
+fn load(addr: u64, len: u64) -> Result<Call, Fail>
+    ensures { IfOk result (λ call. IsFirst call) }
+{
+    let len = AccessLen::new(len).ok_or("1 to 64")?;
+    Ok(Call::Load { addr, len })
+}
+
+fn store(addr: u64, bytes: &[u8]) -> Result<Call, Fail>
+    ensures { IfOk result (λ call. IsFirst call) }
+{
+    let chunk = Chunk::new(bytes).ok_or("1 to 64 bytes")?;
+    Ok(Call::Store { addr, chunk })
+}
+
+fn bytes(bytes: &[u8]) -> Result<Reply, Fail> {
+    Ok(Reply::Bytes(Chunk::new(bytes).ok_or("1 to 64 bytes")?))
+}
+
+// The reply to a call. Where memory was wanting the history stays, and the call is made once more.
+fn reply(rt: &impl Abort, world: &mut World<RamPager>, call: &Call) -> Result<Reply, Fail>
+    requires { IsFirst call.now }
+{
+    let before = world.history().len();
+    if let Ok(reply) = world.call(1, call) {
+        return Ok(reply);
+    }
+    assert_eq!(rt; world.history().len(), before);
+    Ok(world.call(1, call).ok().ok_or("memory comes back")?)
+}
+
+#[test]
+fn across_a_page(rt: HostRuntime) -> Result<(), Fail> {
+    let mut world = world(&rt, 65536)?;
+    assert!(rt; reply(&rt, &mut world, &shmget(8192))? == Reply::Id(0));
+    assert!(rt; reply(&rt, &mut world, &shmat(0))? == Reply::Addr(0x40000000));
+    assert!(rt; reply(&rt, &mut world, &store(0x40000ffe, &[1, 2, 3, 4])?)? == Reply::Done);
+    assert!(rt; reply(&rt, &mut world, &load(0x40000ffd, 6)?)? == bytes(&[0, 1, 2, 3, 4, 0])?);
+    assert!(rt; reply(&rt, &mut world, &shmget(4096))? == Reply::Id(1));
+    assert!(rt; reply(&rt, &mut world, &Call::Exit)? == Reply::Done);
+    assert!(rt; reply(&rt, &mut world, &Call::Exit)? == Reply::Refused(Errno::Esrch));
+    assert_eq!(rt; world.history().len(), 7);
+    Ok(())
+}
+
+#[test]
+fn one_page_twice(rt: HostRuntime) -> Result<(), Fail> {
+    let mut world = world(&rt, 65536)?;
+    assert!(rt; world.call(1, &shmget(4096)) == Ok(Reply::Id(0)));
+    assert!(rt; world.call(1, &shmat(0)) == Ok(Reply::Addr(0x40000000)));
+    assert!(rt; world.call(1, &shmat(0)) == Ok(Reply::Addr(0x40001000)));
+    assert!(rt; world.call(1, &store(0x40000ffe, &[1, 2, 3, 4])?) == Ok(Reply::Done));
+    assert!(rt; world.call(1, &load(0x40000000, 2)?) == Ok(bytes(&[3, 4])?));
+    assert!(rt; world.call(1, &load(0x40001ffe, 2)?) == Ok(bytes(&[1, 2])?));
+    Ok(())
+}
+
+#[test]
+fn sizes(rt: HostRuntime) -> Result<(), Fail> {
+    let mut world = world(&rt, 8192)?;
+    let wanted = [
+        (8193, Reply::Refused(Errno::Einval)),
+        (0, Reply::Refused(Errno::Einval)),
+        (8192, Reply::Id(0)),
+    ];
+    for (size, reply) in wanted {
+        assert!(rt; world.call(1, &shmget(size)) == Ok(reply), "at {size}");
+    }
+    Ok(())
+}
+
+fn steps(alloc: Global, sizes: &[u64]) -> Result<Vec<Step>, Fail>
+    ensures { IfOk result (λ v. All IsFirstStep v.items) }
+{
+    let mut steps = Vec::new(alloc);
+    for size in sizes {
+        steps.push(Step::Call(1, shmget(*size)))?;
+    }
+    Ok(steps)
+}
+
+#[test]
+fn steps_with_room(rt: HostRuntime) -> Result<(), Fail> {
+    let mut world = world(&rt, 8192)?;
+    assert!(rt; world.reserve(3).is_ok());
+    assert!(rt; world.room() >= 3);
+    assert!(rt;
+        world
+            .run_steps(&steps(rt.alloc(), &[8193, 0, 8192])?)
+            .is_ok()
+    );
+    let replies = [
+        Reply::Refused(Errno::Einval),
+        Reply::Refused(Errno::Einval),
+        Reply::Id(0),
+    ];
+    assert_eq!(rt; world.history().len(), 3);
+    for (event, reply) in world.history().iter().zip(&replies) {
+        assert!(rt; event.reply == *reply);
+    }
+    assert_eq!(rt; world.opening().areas.len(), 1);
+    Ok(())
+}

@@ -1,0 +1,144 @@
+//! A system with the history of its calls.
+//!
+//! The rule that the type keeps: the history is legal on the flat machine from the opening, and leads
+//! to the machine that the system shows. A call and its reply are recorded together or not at all.
+ghost use Rattle.std.specs.Prelude.{◌≡◌, ℕ, ◌+◌, ◌-◌, ◌^◌, ◌<◌, ◌≤◌, List, [], ◌∷◌, ◌++◌, length, drop, vec_len, vec_capacity, IfOk, OnOk, OnErr, IsOk, All};
+ghost use Rattle.shm_base.specs.State.{start_of};
+ghost use Rattle.shm_base.specs.History.{IsHistory, IsMove};
+ghost use mathlib.Core.List.{IsPrefix};
+ghost use Rattle.shm_life.specs.SystemState.{IsFirst, TakesNoMemory};
+ghost use Rattle.shm_history.specs.WorldState.{event, IsFirstStep, calls_of, step_calls};
+
+use shm_base::{Call, Event, HostMemory, Reply, Step};
+use shm_life::{Opening, System};
+use shm_pager::Pager;
+use std::alloc::Global;
+use std::marker::Model;
+
+/// A system with its history, which is legal.
+#[derive(Drop)]
+pub struct World<P: Pager> {
+    system: System<P>,
+    history: Vec<Event>,
+}
+
+impl<P: Pager> Model for World<P> {
+    ghost use Rattle.std.specs.Prelude.{◌≡◌, ◌-◌, length, vec_capacity, vec_len};
+    ghost use Rattle.shm_base.specs.History.{IsHistory};
+    ghost use Rattle.shm_history.specs.WorldState.{WorldState};
+
+    ghost Value = { WorldState };
+
+    ghost view = { λ w. record {
+      opening = w.system.opening;
+      events = w.history.items;
+      machine = w.system.machine;
+      room = vec_capacity w.history - vec_len w.history;
+    } };
+
+    ghost invariant = { λ w. (w.system.calls ≡ length w.history.items) × IsHistory w.system.opening w.history.items w.system.machine };
+}
+
+// Makes room for one more event, where there is none.
+fn make_room(history: &mut Vec<Event>) -> Result<(), HostMemory>
+    ensures items { history.new.items ≡ history.old.items }
+    ensures room { OnOk result (vec_len history.new < vec_capacity history.new) }
+    ensures grows { vec_capacity history.old ≤ vec_capacity history.new }
+    ensures no_memory { vec_len history.old < vec_capacity history.old → IsOk result }
+{
+    if history.len() == history.capacity() {
+        history.reserve(1)?;
+    }
+    Ok(())
+}
+
+impl<P: Pager> World<P> {
+    /// A world with no history yet.
+    pub fn new(alloc: Global, system: System<P>) -> World<P>
+        requires { system.calls ≡ 0 }
+        ensures opening { result.opening ≡ system.opening }
+        ensures events { result.events ≡ [] }
+        ensures machine { result.machine ≡ system.machine }
+    {
+        World {
+            system,
+            history: Vec::new(alloc),
+        }
+    }
+
+    pub fn opening(&self) -> &Opening
+        ensures { result.now ≡ self.now.opening }
+    {
+        self.system.opening()
+    }
+
+    /// The calls so far with their replies. They are legal, and lead to the machine.
+    pub fn history(&self) -> &[Event]
+        ensures events { result.now ≡ self.now.events }
+        ensures legal { IsHistory self.now.opening self.now.events self.now.machine }
+    {
+        self.history.as_slice()
+    }
+
+    /// How many calls can be recorded before memory is asked for.
+    pub fn room(&self) -> usize
+        ensures { result ≡ self.now.room }
+    {
+        self.history.capacity() - self.history.len()
+    }
+
+    /// Makes room for so many calls.
+    pub fn reserve(&mut self, count: usize) -> Result<(), HostMemory>
+        ensures ok { OnOk result (count ≤ self.new.room) }
+        ensures grows { self.old.room ≤ self.new.room }
+        ensures rest { self.new ≡ record self.old { room = self.new.room } }
+    {
+        self.history.reserve(count)?;
+        Ok(())
+    }
+
+    /// One call, which is recorded with its reply. Want of memory changes nothing but the room, and
+    /// nothing is recorded; with room left, the calls that take no memory always get their reply.
+    pub fn call(&mut self, pid: u32, call: &Call) -> Result<Reply, HostMemory>
+        requires first { IsFirst call.now }
+        ensures recorded { IfOk result (λ r. self.new.events ≡ self.old.events ++ event pid call.now r ∷ []) }
+        ensures move_of { IfOk result (λ r. IsMove self.old.machine (length self.old.events + 1) (event pid call.now r) self.new.machine) }
+        ensures opening { self.new.opening ≡ self.old.opening }
+        ensures err { OnErr result (self.new ≡ record self.old { room = self.new.room }) }
+        ensures no_memory { TakesNoMemory call.now → 0 < self.old.room → IsOk result }
+        ensures room { self.old.room ≤ self.new.room + 1 }
+        ensures room_kept { OnErr result (self.old.room ≤ self.new.room) }
+    {
+        make_room(&mut self.history)?;
+        let copy = call.copied();
+        let reply = self.system.call(pid, call)?;
+        let answer = reply.copied();
+        self.history
+            .push(Event {
+                pid,
+                call: copy,
+                reply,
+            })
+            .unwrap();
+        Ok(answer)
+    }
+
+    /// Runs the steps in order. It stops at the first want of memory, and the steps before it stand.
+    pub fn run_steps(&mut self, steps: &[Step]) -> Result<(), HostMemory>
+        requires { All IsFirstStep steps.now }
+        ensures ran { OnOk result (calls_of self.new.events ≡ calls_of self.old.events ++ step_calls steps.now) }
+        ensures part { IsPrefix (calls_of self.new.events) (calls_of self.old.events ++ step_calls steps.now) }
+        ensures kept { self.new.events ≡ self.old.events ++ drop (length self.old.events) self.new.events }
+        ensures opening { self.new.opening ≡ self.old.opening }
+    {
+        for step in steps {
+            match step {
+                Step::Call(pid, call) => {
+                    let _reply = self.call(*pid, call)?;
+                }
+                Step::Flush(_) => {}
+            }
+        }
+        Ok(())
+    }
+}

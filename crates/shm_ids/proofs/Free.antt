@@ -1,0 +1,67 @@
+-- The least free index.
+use Rattle.std.proofs.Common.{rules, ◌≡◌, ◌⊎◌, ℕ, zero, suc, ◌+◌, ◌<◌, ◌≤◌, true, false, List, [], ◌∷◌, length, drop, Some, if◌then◌else◌, refl, sym, ap, ◌∙◌, inl, inr, arith, true≢false}
+use Rattle.std.proofs.lemmas.List.{drop_more}
+use Rattle.std.proofs.lemmas.Bool.{cases_lt, cases_Bool}
+use Rattle.shm_ids.specs.declared.table.Entry.{Entry}
+use Rattle.shm_ids.specs.Table.{unused, entry_at, is_free, free_from, free_index}
+use Rattle.shm_ids.specs.Sound.{UsedBelow}
+use Rattle.shm_ids.proofs.Entries.{at_past}
+
+module _ {T : Type 0} where
+  -- an index below which none is free lies in the table
+  pub used_within : (t : List (Entry T)) (first : ℕ) → UsedBelow first t → first ≤ length t
+  used_within t first used = by (cases_lt (length t) first)
+    where
+      by : length t < first ⊎ first ≤ length t → first ≤ length t
+      by (inl l) = absurd (true≢false (sym (ap is_free (at_past t (length t) (omega arith))) ∙ used (length t) l))
+      by (inr l) = l
+
+  -- so the search may begin there
+  pub skip : (t : List (Entry T)) (first : ℕ) → UsedBelow first t → free_index t ≡ free_from first (drop first t)
+  skip t zero used = refl
+  skip t (suc n) used =
+      let within = used_within t (suc n) used in
+      let step : drop n t ≡ entry_at t n ∷ drop (n + 1) t = drop_more t n unused (omega arith) in
+      let busy = used n (omega arith) in
+      let one : n + 1 ≡ suc n = omega arith in
+      skip t n (λ i l. used i (omega arith)) ∙ ap (free_from n) step
+      ∙ ap (λ b. if b then Some n else free_from (n + 1) (drop (n + 1) t)) busy
+      ∙ ap (λ m. free_from m (drop m t)) one
+
+  -- what a search from n on finds in a list
+  pub record FreeAt (n j : ℕ) (t : List (Entry T)) : Type 0 where
+    pub place : ℕ
+    pub at : n + place ≡ j
+    pub within : place ≤ length t
+    pub free : is_free (entry_at t place) ≡ true
+    pub small : place ≡ length t → j < 32768
+    pub used : UsedBelow place t
+
+  pub free_found : (n j : ℕ) (t : List (Entry T)) → free_from n t ≡ Some j → FreeAt n j t
+  free_found n j [] h = by (cases_lt n 32768)
+    where
+      by : n < 32768 ⊎ 32768 ≤ n → FreeAt n j []
+      by (inl l) =
+          let e : n ≡ j = search rules in
+          record { place = 0; at = omega arith; within = omega arith; free = refl; small = λ _. omega arith; used = λ i l. absurd (omega arith) }
+      by (inr l) = absurd (search rules)
+  free_found n j (e ∷ es) h = by (cases_Bool (is_free e)) (free_found (n + 1) j es)
+    where
+      by : (is_free e ≡ true) ⊎ (is_free e ≡ false) → (free_from (n + 1) es ≡ Some j → FreeAt (n + 1) j es) → FreeAt n j (e ∷ es)
+      by (inl y) more =
+          let i : n ≡ j = search (rules, y) in
+          record { place = 0; at = omega arith; within = omega arith; free = y; small = λ (z : 0 ≡ suc (length es)). absurd (omega arith); used = λ i l. absurd (omega arith) }
+      by (inr busy) more =
+          let rest = more (ap (λ b. if b then Some n else free_from (n + 1) es) (sym busy) ∙ h) in
+          record {
+            place = suc rest.place;
+            at = omega (arith, rest.at);
+            within = omega (arith, rest.within);
+            free = rest.free;
+            small = λ (z : suc rest.place ≡ suc (length es)). rest.small (omega arith);
+            used = elim [ zero ↦ λ _. busy | suc k ↦ λ l. rest.used k (omega arith) ];
+          }
+
+  -- the least free index lies in the table or at its end
+  pub free_index-within : (t : List (Entry T)) (i : ℕ) → free_index t ≡ Some i → i ≤ length t
+  free_index-within t i h = let f = free_found 0 i t h in omega (arith, f.at, f.within)

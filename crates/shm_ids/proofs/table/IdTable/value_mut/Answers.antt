@@ -1,0 +1,12 @@
+use Rattle.std.proofs.Common.{◌∙◌, sym}
+use Rattle.std.proofs.lemmas.List.{get_or_read}
+use Rattle.shm_ids.specs.Table.{unused}
+use Rattle.shm_ids.proofs.Steps.{Sound-value}
+use Rattle.shm_ids.proofs.Counts.{row_count-with_value}
+use Rattle.shm_ids.proofs.table.IdTable.value_mut.Goals as goal
+
+pub invariant_of-self-lent : goal.invariant_of-self-lent
+invariant_of-self-lent g c w =
+    let within = rw (← c.self.view_is) at c.requires.within in
+    rw (get_or_read _ _ _ within c.index_mut.ensures.value unused)
+    (Sound-value _ _ _ w _ c.self.invariant.0 within, c.self.invariant.1 ∙ sym (row_count-with_value _ _ w within))

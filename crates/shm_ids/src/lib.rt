@@ -1,0 +1,11 @@
+//! Identifiers of shared memory segments, and the keys under which they are found: a table that
+//! gives each row an identifier that was never given before.
+#![tactic(auto)]
+
+mod rows;
+mod table;
+#[cfg(test)]
+mod tests;
+
+pub use rows::Rows;
+pub use table::{Entry, IdTable, InsertRefused, LookRefused, Row};

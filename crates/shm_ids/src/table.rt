@@ -1,0 +1,397 @@
+//! A table from identifiers to rows of a key and a value.
+//!
+//! An identifier is `index + 32768 * sequence`: the index is below 32768, and the sequence, below
+//! 65536, is the number of rows destroyed earlier at that index. So no identifier comes twice, and
+//! an index wears out with its 65536th destruction. (This profile; Linux, ipc/util.c, lets sequences
+//! come again.)
+//!
+//! An identifier is not stored: it is the place of an entry and the count of what was destroyed
+//! there. The entries are the indexes that were ever used, and the table grows by one at its end.
+//! It keeps a bound below which no index is free, the number of its rows, and the index of each live
+//! key other than 0, in the order in which the keys came.
+ghost use Rattle.std.specs.Prelude.{◌≡◌, ◌⊎◌, ℕ, ◌+◌, ◌*◌, ◌<◌, ◌≤◌, ◌==◌, pos, [], ◌∷◌, length, drop, set, Option, Some, None, option_map, IfOk, IfErr, OnOk, OnErr, IsOk, Ok, Err, IfSome, MatchOption, IsSome};
+ghost use Rattle.std.specs.Borrow.{Lends, sem};
+
+use crate::rows::Rows;
+use indexmap::IndexMap;
+use shm_base::ShmId;
+use std::alloc::{AllocError, Global};
+use std::marker::Model;
+use thiserror::Error;
+
+/// Why an insert was refused: no index is free, or the host refused memory.
+#[derive(Clone, Copy, Debug, PartialEq, Eq, Error)]
+pub enum InsertRefused {
+    #[error("every identifier is in use or worn out")]
+    IdFull,
+    #[error("out of memory")]
+    HostMemory,
+}
+
+/// Why nothing stands under an identifier: its row was destroyed (shmctl(2) has EIDRM), or it was never
+/// issued (EINVAL).
+#[derive(Clone, Copy, Debug, PartialEq, Eq, Error)]
+pub enum LookRefused {
+    #[error("the identifier was removed")]
+    Removed,
+    #[error("the identifier was never issued")]
+    Invalid,
+}
+
+/// A key and the value under it. The key is 0 where the row cannot be found by one.
+#[derive(Drop)]
+pub struct Row<T> {
+    pub key: u32,
+    pub value: T,
+}
+
+/// What stands at one index: how many rows were destroyed there, and the row that holds it.
+#[derive(Drop)]
+pub struct Entry<T> {
+    pub destroyed: u32,
+    pub row: Option<Row<T>>,
+}
+
+/// Rows under identifiers. It is seen as the list of its entries.
+#[derive(Drop)]
+pub struct IdTable<T> {
+    entries: Vec<Entry<T>>,
+    // No index below this one is free.
+    first_free: usize,
+    // How many entries have a row.
+    rows: usize,
+    // The index of each live key but 0, in order of creation.
+    keys: IndexMap<u32, u32>,
+}
+
+impl<T> Model for IdTable<T> {
+    ghost use Rattle.std.specs.Prelude.{List};
+    ghost use Rattle.shm_ids.specs.declared.table.Entry.{Entry};
+
+    ghost Value = { List (Entry T) };
+
+    ghost use Rattle.std.specs.Prelude.{◌≡◌};
+    ghost use Rattle.shm_ids.specs.Sound.{Sound};
+    ghost use Rattle.shm_ids.specs.Table.{row_count};
+
+    ghost view = { λ t. t.entries.items };
+
+    ghost invariant = { λ t. Sound t.entries.items t.first_free t.keys × (t.rows ≡ row_count t.entries.items) };
+}
+
+ghost use Rattle.std.specs.Prelude.{◌≢◌, vec_capacity, nat_eq, nat_lt, ◌&&◌, not, if◌then◌else◌};
+ghost use Rattle.indexmap.specs.IndexMap.{get, spare, IsUnchanged};
+ghost use Rattle.shm_ids.specs.Table.{free_index, free_from, find_key, look, id_at, identifier, index_of, inserted, with_row, with_key, without_row, entry_at, key_at, look_row};
+
+// The least free index from `first` on.
+fn free_from<T>(entries: &Vec<Entry<T>>, first: usize) -> Option<usize>
+    requires { first ≤ length entries.now.items }
+    ensures { result ≡ free_from first (drop first entries.now.items) }
+{
+    for i in first..entries.len() {
+        let entry = &entries[i];
+        if entry.row.is_none() && entry.destroyed < 65536 {
+            return Some(i);
+        }
+    }
+    let len = entries.len();
+    if len < 32768 { Some(len) } else { None }
+}
+
+pub(crate) fn id_of(index: usize, sequence: u32) -> ShmId
+    requires index { index < 32768 }
+    requires sequence { sequence < 65536 }
+    ensures { result ≡ pos (identifier index sequence) }
+{
+    (index as u32 + 32768 * sequence) as i32
+}
+
+// Makes room for a row at `index`.
+fn room_at<T>(entries: &mut Vec<Entry<T>>, index: usize) -> Result<(), AllocError>
+    ensures items { entries.new.items ≡ entries.old.items }
+    ensures room { OnOk result (index ≡ length entries.old.items → length entries.old.items < vec_capacity entries.new) }
+{
+    if index == entries.len() {
+        return entries.reserve(1);
+    }
+    Ok(())
+}
+
+// Makes room for a key.
+fn room_for(keys: &mut IndexMap<u32, u32>, key: u32) -> Result<(), AllocError>
+    ensures keys { (q : ℕ) → get nat_eq keys.new q ≡ get nat_eq keys.old q }
+    ensures room { OnOk result (key ≢ 0 → 0 < spare keys.new) }
+{
+    if key != 0 {
+        return keys.reserve(1);
+    }
+    Ok(())
+}
+
+// Puts a row at a free index.
+fn put_row<T: Drop>(entries: &mut Vec<Entry<T>>, index: usize, key: u32, value: T) -> ShmId
+    requires within { (index ≤ length entries.old.items) × (index < 32768) }
+    requires room { index ≡ length entries.old.items → length entries.old.items < vec_capacity entries.old }
+    requires wear { (entry_at entries.old.items index).destroyed < 65536 }
+    ensures items { entries.new.items ≡ with_row entries.old.items index key value }
+    ensures id { result ≡ id_at entries.old.items index }
+{
+    let row = Some(Row { key, value });
+    if index == entries.len() {
+        let pushed = entries.push(Entry { destroyed: 0, row });
+        prove!(pushed.is_ok());
+        return id_of(index, 0);
+    }
+    let entry = &mut entries[index];
+    entry.row = row;
+    id_of(index, entry.destroyed)
+}
+
+// Notes the index of a key, but not of 0.
+fn put_key(keys: &mut IndexMap<u32, u32>, key: u32, index: usize)
+    requires room { key ≢ 0 → 0 < spare keys.old }
+    requires small { index < 32768 }
+    ensures { (q : ℕ) → get nat_eq keys.new q ≡ (if not (nat_eq key 0) && nat_eq key q then Some index else get nat_eq keys.old q) }
+{
+    if key != 0 {
+        let put = keys.insert(key, index as u32);
+        prove!(put.is_ok());
+    }
+}
+
+// Forgets a key, but not 0.
+fn drop_key(keys: &mut IndexMap<u32, u32>, key: u32)
+    ensures { (q : ℕ) → get nat_eq keys.new q ≡ (if not (nat_eq key 0) && nat_eq key q then None else get nat_eq keys.old q) }
+{
+    if key != 0 {
+        keys.shift_remove(&key);
+    }
+}
+
+// The index in an identifier.
+fn index_in(id: ShmId) -> usize
+    ensures { result ≡ index_of id }
+{
+    if id < 0 { 0 } else { id as usize % 32768 }
+}
+
+// Sets the key at an index to 0, and returns the one that was there.
+fn clear_key<T>(entries: &mut Vec<Entry<T>>, index: usize) -> u32
+    requires { index < length entries.old.items }
+    ensures items { entries.new.items ≡ with_key entries.old.items index 0 }
+    ensures key { result ≡ key_at entries.old.items index }
+{
+    let entry = &mut entries[index];
+    match &mut entry.row {
+        Some(row) => {
+            let key = row.key;
+            row.key = 0;
+            key
+        }
+        None => 0,
+    }
+}
+
+// Takes the row out of an index, and counts it.
+fn take_row<T>(entries: &mut Vec<Entry<T>>, index: usize) -> Row<T>
+    requires within { index < length entries.old.items }
+    requires row { IsSome (entry_at entries.old.items index).row }
+    requires wear { (entry_at entries.old.items index).destroyed < 65536 }
+    ensures items { entries.new.items ≡ without_row entries.old.items index }
+    ensures row { (entry_at entries.old.items index).row ≡ Some result }
+{
+    let entry = &mut entries[index];
+    entry.destroyed += 1;
+    entry.row.take().unwrap()
+}
+
+impl<T> Row<T> {
+    ghost use Rattle.shm_ids.specs.Lends.{lends_row};
+
+    fn value_mut(&mut self) -> &mut T
+        ensures* lends { sem 𝓛 (lends_row T.row self.entry result) }
+        ensures value { result.now ≡ self.old.value }
+    {
+        &mut self.value
+    }
+}
+
+impl<T> Entry<T> {
+    ghost use Rattle.shm_ids.specs.Table.{look_entry};
+    ghost use Rattle.shm_ids.specs.Lends.{lends_entry};
+
+    fn value_mut(&mut self) -> &mut T
+        requires { IsSome self.old.row }
+        ensures* lends { sem 𝓛 (lends_entry T.row self.entry result) }
+        ensures value { look_row self.old.row ≡ Ok result.now }
+    {
+        match &mut self.row {
+            Some(row) => row.value_mut(),
+            None => unreachable!(),
+        }
+    }
+
+    fn look(&self, sequence: u32) -> Result<&T, LookRefused>
+        ensures ok { IfOk result (λ v. look_entry sequence self.now ≡ Ok v.now) }
+        ensures err { IfErr result (λ e. look_entry sequence self.now ≡ Err e) }
+    {
+        if sequence < self.destroyed {
+            return Err(LookRefused::Removed);
+        }
+        match &self.row {
+            Some(row) if sequence == self.destroyed => Ok(&row.value),
+            _ => Err(LookRefused::Invalid),
+        }
+    }
+}
+
+impl<T: Drop> IdTable<T> {
+    ghost use Rattle.shm_ids.specs.TableLends.{lends_at, lends_look};
+    ghost use Rattle.shm_ids.specs.Rows.{rows_from, row_listed};
+    ghost use Rattle.shm_ids.specs.Table.{row_count};
+
+    /// An empty table, which allocates nothing until the first insert.
+    pub fn new(alloc: Global) -> IdTable<T>
+        ensures { result ≡ [] }
+    {
+        IdTable {
+            entries: Vec::new(alloc),
+            first_free: 0,
+            rows: 0,
+            keys: IndexMap::new(alloc),
+        }
+    }
+
+    /// How many rows are live.
+    pub fn row_count(&self) -> u64
+        ensures { result ≡ row_count self.now }
+    {
+        self.rows as u64
+    }
+
+    /// Puts a row under a fresh identifier: that of the least index that no row holds and that is not
+    /// worn out. A key of 0 is none. A refusal hands the value back and changes nothing: `IdFull` where
+    /// no index is free, then `HostMemory` where a growth was refused.
+    pub fn insert(&mut self, key: u32, value: T) -> Result<ShmId, (T, InsertRefused)>
+        requires absent { find_key self.old key ≡ None }
+        ensures ok { IfOk result (λ id. inserted self.old key value ≡ Some (id, self.new)) }
+        ensures index { IfOk result (λ id. free_index self.old ≡ Some (index_of id)) }
+        ensures fresh { IfOk result (λ id. look self.old id ≡ Err LookRefused.Invalid) }
+        ensures few { OnOk result (length self.new ≤ 32768) }
+        ensures kept { IfErr result (λ e. (e.0 ≡ value) × (self.new ≡ self.old)) }
+        ensures full { IfErr result (λ e. e.1 ≡ InsertRefused.IdFull → free_index self.old ≡ None) }
+        ensures memory { IfErr result (λ e. e.1 ≡ InsertRefused.HostMemory → IsSome (free_index self.old)) }
+    {
+        let Some(index) = free_from(&self.entries, self.first_free) else {
+            return Err((value, InsertRefused::IdFull));
+        };
+        if room_at(&mut self.entries, index).is_err() || room_for(&mut self.keys, key).is_err() {
+            return Err((value, InsertRefused::HostMemory));
+        }
+        put_key(&mut self.keys, key, index);
+        let id = put_row(&mut self.entries, index, key, value);
+        self.first_free = index + 1;
+        self.rows += 1;
+        Ok(id)
+    }
+
+    /// The identifier of the live row with a key; none is found under 0.
+    pub fn find_key(&self, key: u32) -> Option<ShmId>
+        ensures value { result ≡ option_map (id_at self.now) (find_key self.now key) }
+        ensures zero { key ≡ 0 → result ≡ None }
+        ensures index { IfSome result (λ id. find_key self.now key ≡ Some (index_of id)) }
+        ensures live { IfSome result (λ id. IsOk (look self.now id)) }
+    {
+        let index = *self.keys.get(&key)? as usize;
+        Some(id_of(index, self.entries[index].destroyed))
+    }
+
+    /// The rows by rising index: identifier, key and value.
+    pub fn rows(&self) -> Rows<'_, T>
+        ensures { result ≡ rows_from 0 self.now }
+    {
+        Rows {
+            entries: &self.entries,
+            index: 0,
+        }
+    }
+
+    /// The row at an index: identifier, key and value.
+    pub fn row_at(&self, index: usize) -> Option<(ShmId, u32, &T)>
+        ensures { option_map (λ r. (r.0, (r.1, r.2.now))) result ≡ row_listed index (entry_at self.now index) }
+    {
+        let entry = self.entries.get(index)?;
+        let row = entry.row.as_ref()?;
+        Some((id_of(index, entry.destroyed), row.key, &row.value))
+    }
+
+    /// The value under an identifier: `Removed` where its row was destroyed, `Invalid` where the
+    /// identifier was never issued.
+    pub fn look(&self, id: ShmId) -> Result<&T, LookRefused>
+        ensures ok { IfOk result (λ v. look self.now id ≡ Ok v.now) }
+        ensures err { IfErr result (λ e. look self.now id ≡ Err e) }
+    {
+        if id < 0 {
+            return Err(LookRefused::Invalid);
+        }
+        match self.entries.get(id as usize % 32768) {
+            Some(entry) => entry.look(id as u32 / 32768),
+            None => Err(LookRefused::Invalid),
+        }
+    }
+
+    /// The key of a live row, 0 where it has none.
+    pub fn key_of(&self, id: ShmId) -> u32
+        requires live { IsOk (look self.now id) }
+        ensures { result ≡ key_at self.now (index_of id) }
+    {
+        match &self.entries[index_in(id)].row {
+            Some(row) => row.key,
+            None => unreachable!(),
+        }
+    }
+
+    fn value_mut(&mut self, index: usize) -> &mut T
+        requires within { index < length self.old }
+        requires row { IsSome (entry_at self.old index).row }
+        ensures* lends { sem 𝓛 (lends_at T.row self.entry index result) }
+        ensures value { look_row (entry_at self.old index).row ≡ Ok result.now }
+    {
+        self.entries[index].value_mut()
+    }
+
+    /// As `look`, for writing. A write changes that row's value alone.
+    pub fn look_mut(&mut self, id: ShmId) -> Result<&mut T, LookRefused>
+        ensures* lends { sem 𝓛 (lends_look T.row self.entry id result) }
+        ensures ok { IfOk result (λ v. look self.old id ≡ Ok v.now) }
+        ensures err { IfErr result (λ e. look self.old id ≡ Err e) }
+    {
+        if let Err(refused) = self.look(id) {
+            return Err(refused);
+        }
+        Ok(self.value_mut(index_in(id)))
+    }
+
+    /// Makes a live row's key 0, so that it is found no more.
+    pub fn hide_key(&mut self, id: ShmId)
+        requires live { IsOk (look self.old id) }
+        ensures { self.new ≡ with_key self.old (index_of id) 0 }
+    {
+        let key = clear_key(&mut self.entries, index_in(id));
+        drop_key(&mut self.keys, key);
+    }
+
+    /// Destroys a live row and hands its value out. Its identifier never comes again. Takes no memory.
+    pub fn destroy(&mut self, id: ShmId) -> T
+        requires live { IsOk (look self.old id) }
+        ensures value { look self.old id ≡ Ok result }
+        ensures after { self.new ≡ without_row self.old (index_of id) }
+    {
+        let index = index_in(id);
+        let row = take_row(&mut self.entries, index);
+        drop_key(&mut self.keys, row.key);
+        self.first_free = self.first_free.min(index);
+        self.rows -= 1;
+        row.value
+    }
+}

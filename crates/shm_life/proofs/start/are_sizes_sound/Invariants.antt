@@ -1,0 +1,7 @@
+use Rattle.std.proofs.Common.{◌≡◌, map, drop, length}
+use Rattle.shm_life.specs.Start.{are_sizes}
+use Rattle.shm_life.proofs.start.are_sizes_sound.Given as goal
+
+-- what is left decides
+abbrev pub invariant-loop-pager : goal.invariant-loop-pager
+invariant-loop-pager g l = are_sizes (map (λ p. length (g.P.Pager.content p)) l.pagers) ≡ are_sizes (map (λ p. length (g.P.Pager.content p)) (drop l.pager-index l.pagers))

@@ -1,0 +1,39 @@
+-- When a system starts: the first error that holds of its areas and processes.
+use Rattle.std.specs.Prelude.{ℕ, ◌≡◌, Bool, true, not, ◌&&◌, ◌==◌, nat_lt, ◌⊎◌, if◌then◌else◌, List, [], ◌∷◌, length, Option, Some, None}
+use Rattle.std.specs.List.{list_all, list_any}
+use Rattle.shm_base.specs.Bounds.{within}
+use Rattle.shm_base.specs.declared.call.Process.{Process}
+use Rattle.shm_life.specs.declared.start.StartError.{StartError}
+use Rattle.shm_life.specs.declared.start.StartError.TheVariants.{Areas, AreaSize, Processes, Pid, HostMemory}
+
+-- each area has 1 to 65536 slots
+abbrev pub are_sizes : List ℕ → Bool
+are_sizes areas = list_all (within 1 65536) areas
+
+abbrev pub has_pid : ℕ → List Process → Bool
+has_pid pid ps = list_any (λ (p : Process). p.pid == pid) ps
+
+-- each pid is in its range, and none stands twice
+abbrev pub are_pids : List Process → Bool
+are_pids [] = true
+are_pids (p ∷ ps) = within 1 2147483647 p.pid && not (has_pid p.pid ps) && are_pids ps
+
+-- the first error, want of memory aside
+abbrev pub start_error : List ℕ → List Process → Option StartError
+start_error areas processes =
+    if not (within 1 8 (length areas)) then Some Areas else
+    if not (are_sizes areas) then Some AreaSize else
+    if nat_lt 64 (length processes) then Some Processes else
+    if not (are_pids processes) then Some Pid else
+    None
+
+-- a refusal is the first error, or want of memory where no error holds
+abbrev pub IsFirstError : StartError → Option StartError → Type 0
+IsFirstError e first = (first ≡ Some e) ⊎ ((e ≡ HostMemory) × (first ≡ None))
+
+abbrev pub number_of : StartError → ℕ
+number_of Areas = 1
+number_of AreaSize = 2
+number_of Processes = 3
+number_of Pid = 4
+number_of HostMemory = 5

@@ -1,0 +1,91 @@
+//! What a system starts from, and why a start is refused.
+ghost use Rattle.std.specs.Prelude.{◌≡◌, length, map};
+ghost use Rattle.shm_life.specs.Start.{start_error, are_sizes, has_pid, are_pids, number_of};
+
+use shm_base::Process;
+use shm_pager::Pager;
+use thiserror::Error;
+
+/// Why a system did not start: the first of these that holds, in this order (this project's profile).
+/// `Areas`: there are not 1 to 8 swap areas. `AreaSize`: an area has not 1 to 65536 slots. `Processes`:
+/// there are more than 64 processes. `Pid`: a pid is 0, above 2147483647, or stands twice. `HostMemory`:
+/// the host refused memory.
+#[derive(Clone, Copy, Debug, PartialEq, Eq, Error)]
+pub enum StartError {
+    #[error("not 1 to 8 swap areas")]
+    Areas,
+    #[error("a swap area without 1 to 65536 slots")]
+    AreaSize,
+    #[error("more than 64 processes")]
+    Processes,
+    #[error("a pid out of range, or twice")]
+    Pid,
+    #[error("out of memory")]
+    HostMemory,
+}
+
+impl StartError {
+    /// The number by which the error goes in a message, from 1.
+    pub fn number(self) -> u8
+        ensures { result ≡ number_of self }
+    {
+        match self {
+            StartError::Areas => 1,
+            StartError::AreaSize => 2,
+            StartError::Processes => 3,
+            StartError::Pid => 4,
+            StartError::HostMemory => 5,
+        }
+    }
+}
+
+fn are_sizes_sound<P: Pager>(pagers: &[P]) -> bool
+    ensures { result ≡ are_sizes (map (λ p. length (P.content p)) pagers.now) }
+{
+    for pager in pagers {
+        let slots = pager.slots();
+        if slots < 1 || slots > 65536 {
+            return false;
+        }
+    }
+    true
+}
+
+fn has_pid(processes: &[Process], pid: u32) -> bool
+    ensures { result ≡ has_pid pid processes.now }
+{
+    processes.iter().any(|process| process.pid == pid)
+}
+
+fn are_pids_sound(processes: &[Process]) -> bool
+    ensures { result ≡ are_pids processes.now }
+{
+    for (index, process) in processes.iter().enumerate() {
+        if process.pid < 1
+            || process.pid > 2147483647
+            || has_pid(&processes[index + 1..], process.pid)
+        {
+            return false;
+        }
+    }
+    true
+}
+
+/// The first start error that holds, want of memory aside. It takes no memory.
+pub(crate) fn first_error<P: Pager>(pagers: &[P], processes: &[Process]) -> Option<StartError>
+    ensures { result ≡ start_error (map (λ p. length (P.content p)) pagers.now) processes.now }
+{
+    if pagers.is_empty() || pagers.len() > 8 {
+        return Some(StartError::Areas);
+    }
+    if !are_sizes_sound(pagers) {
+        return Some(StartError::AreaSize);
+    }
+    if processes.len() > 64 {
+        return Some(StartError::Processes);
+    }
+    if !are_pids_sound(processes) {
+        return Some(StartError::Pid);
+    }
+    None
+}

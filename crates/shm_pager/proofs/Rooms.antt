@@ -1,0 +1,52 @@
+-- Pages of zeros, and places that have no room for them.
+use Rattle.std.proofs.Common.{rules, ◌≡◌, ◌≢◌, ◌==◌, ◌↔◌, ◌<◌, ◌⊎◌, ℕ, zero, suc, true, List, [], ◌∷◌, length, take, replicate, map, get_or, set, Option, Some, None, refl, ap, sym, ◌∙◌, inl, inr, arith, get_or-set_same, get_or-set_other}
+use Rattle.std.specs.List.{list_all}
+use Rattle.std.proofs.lemmas.List.{map-set, take_all, length-map}
+use Rattle.std.proofs.lemmas.Bool.{cases_eq}
+use Rattle.shm_pager.specs.Pages.{zero_page}
+use Rattle.shm_pager.specs.Sparse.{Room, page_behind, NoZeros}
+
+zeros-from_all : (xs : List ℕ) → list_all (λ b. b == 0) xs ≡ true → xs ≡ replicate (length xs) 0
+zeros-from_all [] h = refl
+zeros-from_all (zero ∷ xs) h = ap (λ ys. 0 ∷ ys) (zeros-from_all xs h)
+zeros-from_all (suc x ∷ xs) h = absurd (search rules)
+
+all-from_zeros : (n : ℕ) → list_all (λ b. b == 0) (replicate n 0) ≡ true
+all-from_zeros zero = refl
+all-from_zeros (suc n) = all-from_zeros n
+
+-- a page is the page of zeros where each of its bytes is
+pub zero_page-from_all : (page : List ℕ) → length page ≡ 4096 → (list_all (λ b. b == 0) page ≡ true) ↔ (page ≡ zero_page)
+unfolding zero_page
+zero_page-from_all page whole = (
+  λ h. zeros-from_all page h ∙ ap (λ n. replicate n 0) whole,
+  λ e. ap (list_all (λ b. b == 0)) e ∙ all-from_zeros 4096,
+)
+
+pub pages-set : (places : List (Option Room)) (i : ℕ) (o : Option Room) → map page_behind (set places i o) ≡ set (map page_behind places) i (page_behind o)
+pages-set places i o = map-set page_behind places i o
+
+pub pages-replicate : (n : ℕ) → map page_behind (replicate n None) ≡ replicate n zero_page
+pages-replicate zero = refl
+pages-replicate (suc n) = ap (λ xs. zero_page ∷ xs) (pages-replicate n)
+
+-- all rooms given back
+pub pages-wiped : (before after : List (Option Room)) (n : ℕ) → length after ≡ length before → n ≡ length before → take n after ≡ replicate n None
+    → map page_behind after ≡ replicate (length (map page_behind before)) zero_page
+pages-wiped before after n same all e =
+    let whole : after ≡ replicate n None = sym (take_all n after (omega arith)) ∙ e in
+    ap (map page_behind) whole ∙ pages-replicate n ∙ ap (λ k. replicate k zero_page) (all ∙ sym (length-map before page_behind))
+
+-- a room whose page is not zeros
+pub NoZeros-set : (places : List (Option Room)) (i : ℕ) (room : Room) → i < length places → NoZeros places → (room.value ≡ zero_page → ⊥) → NoZeros (set places i (Some room))
+NoZeros-set places i room within before other slot found at zeros = by (cases_eq slot i)
+  where
+    by : (slot ≡ i) ⊎ (slot ≢ i) → ⊥
+    by (inl e) =
+        let here : get_or (set places i (Some room)) i None ≡ Some room = get_or-set_same places i (Some room) None within in
+        let at_i : get_or (set places i (Some room)) i None ≡ Some found = ap (λ k. get_or (set places i (Some room)) k None) (sym e) ∙ at in
+        let same : room ≡ found = (cc) in
+        other (ap (λ (r : Room). r.value) same ∙ zeros)
+    by (inr n) = before slot found (sym (get_or-set_other places i slot (Some room) None n) ∙ at) zeros
+
+pub ruleset rooms = (pages-set, pages-replicate, NoZeros-set)

@@ -1,0 +1,4 @@
+pub mod Pages
+pub mod Sparse
+pub mod Fuse
+pub mod Mirror

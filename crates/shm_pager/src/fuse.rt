@@ -1,0 +1,176 @@
+//! A pager that fails where it is told to.
+ghost use Rattle.std.specs.Prelude.{◌≡◌, ◌<◌, List, [], length, set, get_or, replicate, true, false, not, ◌&&◌, if◌then◌else◌, is_ok, IfOk};
+ghost use Rattle.shm_pager.specs.Pages.{zero_page, last_count, seen, served, SlotUnknown, CountsErr, TriesWrite, TriesRead};
+ghost use Rattle.shm_pager.specs.Fuse.{new_fuse, next_count, is_listed, read_is_bad, write_is_bad, scorched_page};
+
+use crate::pager::{Pager, PagerFault, try_read, try_write};
+use std::marker::Model;
+
+// What a failing write leaves in the slot.
+const SCORCH: u8 = 0xa5;
+
+/// A pager round another that fails the reads and writes at the listed places. Each call of `read` takes
+/// the next place in the one list, each call of `write` in the other, from 1 on; a place stays at
+/// `u64::MAX`. Failures of the inner pager are passed on. An inner pager whose own count stands at
+/// `u64::MAX` is not read and written; such a call fails.
+pub struct FusePager<P: Pager> {
+    inner: P,
+    bad_reads: Vec<u64>,
+    bad_writes: Vec<u64>,
+    reads: u64,
+    writes: u64,
+    failed: u64,
+}
+
+impl<P: Pager> Model for FusePager<P> {
+    ghost use Rattle.shm_pager.specs.Pages.{seen};
+    ghost use Rattle.shm_pager.specs.Fuse.{FuseView};
+
+    ghost Value = { FuseView };
+
+    ghost view = { λ f. record {
+      inner = seen P.content P.failed f.inner;
+      bad_reads = f.bad_reads.items;
+      bad_writes = f.bad_writes.items;
+      reads = f.reads;
+      writes = f.writes;
+      failed = f.failed;
+    } };
+}
+
+// Takes the next place of a list, and says whether it is listed.
+fn take_place(listed: &Vec<u64>, place: &mut u64) -> bool
+    ensures place { place.new ≡ next_count place.old }
+    ensures listed { result ≡ is_listed listed.now.items (next_count place.old) }
+{
+    *place = place.saturating_add(1);
+    listed.contains(place)
+}
+
+impl<P: Pager> FusePager<P> {
+    /// A pager whose listed calls fail.
+    pub fn new(inner: P, bad_reads: Vec<u64>, bad_writes: Vec<u64>) -> FusePager<P>
+        ensures { let view = seen P.content P.failed in
+            result ≡ new_fuse (view inner) bad_reads.items bad_writes.items 0 }
+    {
+        FusePager::new_at(inner, bad_reads, bad_writes, 0)
+    }
+
+    /// A pager whose listed calls fail, and which has counted so many failures already.
+    pub fn new_at(
+        inner: P,
+        bad_reads: Vec<u64>,
+        bad_writes: Vec<u64>,
+        failures: u64,
+    ) -> FusePager<P>
+        ensures { let view = seen P.content P.failed in
+            result ≡ new_fuse (view inner) bad_reads.items bad_writes.items failures }
+    {
+        FusePager {
+            inner,
+            bad_reads,
+            bad_writes,
+            reads: 0,
+            writes: 0,
+            failed: failures,
+        }
+    }
+}
+
+impl<P: Pager> Pager for FusePager<P> {
+    ghost content = { λ f. f.inner.pages };
+
+    ghost failed = { λ f. f.failed };
+
+    fn slots(&self) -> u32 {
+        self.inner.slots()
+    }
+
+    fn failures(&self) -> u64 {
+        self.failed
+    }
+
+    /// A listed write first puts a page of the byte 0xa5 into the slot.
+    fn write(&mut self, slot: u32, page: &[u8; 4096]) -> Result<(), PagerFault>
+        requires there { slot < length self.old.inner.pages }
+        requires countable { self.old.failed < last_count }
+        ensures others { SlotUnknown slot self.old.inner.pages self.new.inner.pages }
+        ensures page { IfOk result (λ _. self.new.inner.pages ≡ set self.old.inner.pages slot page.now) }
+        ensures failed { CountsErr result self.old.failed self.new.failed }
+        ensures cause { is_ok result
+            ≡ (not (write_is_bad self.old) && served self.old.inner self.new.inner) }
+        ensures inner { let given = (if write_is_bad self.old then scorched_page else page.now) in
+            TriesWrite slot given self.old.inner self.new.inner }
+        ensures rest { self.new ≡ record self.old {
+          inner = self.new.inner;
+          writes = next_count self.old.writes;
+          failed = self.new.failed;
+        } }
+    {
+        let bad = take_place(&self.bad_writes, &mut self.writes);
+        let page = if bad { &[SCORCH; 4096] } else { page };
+        let written = try_write(&mut self.inner, slot, page).is_ok();
+        if written && !bad {
+            return Ok(());
+        }
+        self.failed += 1;
+        Err(PagerFault)
+    }
+
+    /// A listed read does not ask the inner pager.
+    fn read(&mut self, slot: u32, page: &mut [u8; 4096]) -> Result<(), PagerFault>
+        requires there { slot < length self.old.inner.pages }
+        requires countable { self.old.failed < last_count }
+        ensures content { self.new.inner.pages ≡ self.old.inner.pages }
+        ensures page { IfOk result (λ _. get_or self.old.inner.pages slot [] ≡ page.new) }
+        ensures failed { CountsErr result self.old.failed self.new.failed }
+        ensures cause { is_ok result
+            ≡ (not (read_is_bad self.old) && served self.old.inner self.new.inner) }
+        ensures inner { read_is_bad self.old ≡ false → TriesRead self.old.inner self.new.inner }
+        ensures unasked { read_is_bad self.old ≡ true → self.new.inner ≡ self.old.inner }
+        ensures rest { self.new ≡ record self.old {
+          inner = self.new.inner;
+          reads = next_count self.old.reads;
+          failed = self.new.failed;
+        } }
+    {
+        let bad = take_place(&self.bad_reads, &mut self.reads);
+        if !bad && try_read(&mut self.inner, slot, page).is_ok() {
+            return Ok(());
+        }
+        self.failed += 1;
+        Err(PagerFault)
+    }
+
+    fn discard(&mut self, slot: u32)
+        requires { slot < length self.old.inner.pages }
+        ensures content { SlotUnknown slot self.old.inner.pages self.new.inner.pages }
+        ensures rest { self.new ≡ record self.old {
+          inner = record self.old.inner { pages = self.new.inner.pages };
+        } }
+    {
+        self.inner.discard(slot);
+    }
+
+    fn wipe(&mut self)
+        ensures { self.new ≡ record self.old {
+          inner = record self.old.inner { pages = replicate (length self.old.inner.pages) zero_page };
+        } }
+    {
+        self.inner.wipe();
+    }
+}
+
+impl<P: Pager> Drop for FusePager<P> {
+    fn drop(mut self) {
+        self.wipe();
+        let FusePager {
+            inner: _,
+            bad_reads: _,
+            bad_writes: _,
+            reads: _,
+            writes: _,
+            failed: _,
+        } = self;
+    }
+}

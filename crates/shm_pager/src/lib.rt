@@ -1,0 +1,17 @@
+//! Pagers: stores of pages by slot, any of whose reads and writes may fail. Behind one trait stand
+//! pages in memory, sparse pages, a pager that fails where it is told to, and two pagers kept alike.
+#![tactic(auto)]
+
+mod fuse;
+mod mirror;
+mod pager;
+mod ram;
+mod sparse;
+#[cfg(test)]
+mod tests;
+
+pub use fuse::FusePager;
+pub use mirror::{MirrorCause, MirrorPager, MirrorRefused};
+pub use pager::{AnyPager, Pager, PagerFault, try_read, try_write, zeros};
+pub use ram::RamPager;
+pub use sparse::SparsePager;

@@ -1,0 +1,230 @@
+//! Two pagers kept alike.
+ghost use Rattle.std.specs.Prelude.{◌≡◌, ◌≢◌, ◌<◌, ◌==◌, List, [], length, set, get_or, replicate, true, false, ◌||◌, if◌then◌else◌, is_ok, IfOk, IfErr, IsErr};
+ghost use Rattle.shm_pager.specs.Pages.{zero_page, last_count, seen, served, SlotUnknown, CountsErr, TriesWrite, TriesRead};
+ghost use Rattle.shm_pager.specs.Mirror.{MirrorView, mirror_of, left_alone, both_sides, no_side, pages_shown, left_asked, left_serves, right_asked, right_serves};
+
+use crate::pager::{Pager, PagerFault, try_read, try_write};
+use std::alloc::{AllocError, Global};
+use std::marker::Model;
+use thiserror::Error;
+
+/// Which sides are good for a slot: those that hold its page.
+#[derive(Clone, Copy, Debug, PartialEq, Eq)]
+pub struct Good {
+    pub left: bool,
+    pub right: bool,
+}
+
+/// Why a mirror was refused.
+#[derive(Clone, Copy, Debug, PartialEq, Eq, Error)]
+pub enum MirrorCause {
+    #[error("the two sides differ in size")]
+    Unequal,
+    #[error("out of memory")]
+    HostMemory,
+}
+
+/// A mirror was refused; both sides come back.
+#[derive(Debug, Drop)]
+pub struct MirrorRefused<L, R> {
+    pub left: L,
+    pub right: R,
+    pub cause: MirrorCause,
+}
+
+/// Two pagers of one size. A write goes to both sides and succeeds where one of them took it; just
+/// those that took it are good for the slot then. A read asks the good sides, left first, until one
+/// serves. The mirror counts its own failures alone, and neither reads nor writes a side whose count
+/// stands at `u64::MAX`. A slot that was discarded has no good side, and a read of it fails.
+pub struct MirrorPager<L: Pager, R: Pager> {
+    left: L,
+    right: R,
+    good: Vec<Good>,
+    failed: u64,
+}
+
+impl<L: Pager, R: Pager> Model for MirrorPager<L, R> {
+    ghost use Rattle.shm_pager.specs.Pages.{seen};
+    ghost use Rattle.shm_pager.specs.Mirror.{MirrorView, IsMirror, mirror_of};
+
+    ghost Value = { MirrorView };
+
+    ghost view = { λ m.
+        mirror_of (seen L.content L.failed m.left) (seen R.content R.failed m.right) m.good.items m.failed };
+
+    ghost invariant = { λ m. IsMirror
+        (mirror_of (seen L.content L.failed m.left) (seen R.content R.failed m.right) m.good.items m.failed) };
+}
+
+// Both sides good for each slot.
+fn mark_both(good: &mut Vec<Good>)
+    ensures { good.new.items ≡ replicate (length good.old.items) both_sides }
+{
+    for mark in good.iter_mut() {
+        *mark = Good {
+            left: true,
+            right: true,
+        };
+    }
+}
+
+// The left side alone good for each slot.
+fn left_good(alloc: Global, slots: u32) -> Result<Vec<Good>, AllocError>
+    ensures { IfOk result (λ good. good.items ≡ replicate slots left_alone) }
+{
+    let mut good = Vec::with_capacity(alloc, slots as usize)?;
+    for _i in 0..slots {
+        good.push(Good {
+            left: true,
+            right: false,
+        })?;
+    }
+    Ok(good)
+}
+
+impl<L: Pager, R: Pager> MirrorPager<L, R> {
+    /// A mirror that shows what the left side holds. Refused as `Unequal` just where the sizes differ.
+    pub fn new(alloc: Global, left: L, right: R) -> Result<MirrorPager<L, R>, MirrorRefused<L, R>>
+        ensures ok { IfOk result (λ m.
+            let slots = length (L.content left) in
+            m ≡ mirror_of (seen L.content L.failed left) (seen R.content R.failed right) (replicate slots left_alone) 0) }
+        ensures unequal { length (L.content left) ≢ length (R.content right) → IsErr result }
+        ensures refused { IfErr result (λ e.
+            let equal = length (L.content left) == length (R.content right) in
+            let cause = (if equal then MirrorCause.HostMemory else MirrorCause.Unequal) in
+            e ≡ record { left = left; right = right; cause = cause }) }
+    {
+        let slots = left.slots();
+        if slots != right.slots() {
+            return Err(MirrorRefused {
+                left,
+                right,
+                cause: MirrorCause::Unequal,
+            });
+        }
+        let Ok(good) = left_good(alloc, slots) else {
+            return Err(MirrorRefused {
+                left,
+                right,
+                cause: MirrorCause::HostMemory,
+            });
+        };
+        Ok(MirrorPager {
+            left,
+            right,
+            good,
+            failed: 0,
+        })
+    }
+}
+
+#[tactic(auto, using(crate::proofs::Merged::merging))]
+impl<L: Pager, R: Pager> Pager for MirrorPager<L, R> {
+    ghost content = { pages_shown };
+
+    ghost failed = { λ m. m.failed };
+
+    fn slots(&self) -> u32 {
+        self.left.slots()
+    }
+
+    fn failures(&self) -> u64 {
+        self.failed
+    }
+
+    fn write(&mut self, slot: u32, page: &[u8; 4096]) -> Result<(), PagerFault>
+        requires there { slot < length (pages_shown self.old) }
+        requires countable { self.old.failed < last_count }
+        ensures others { SlotUnknown slot (pages_shown self.old) (pages_shown self.new) }
+        ensures page { IfOk result (λ _. pages_shown self.new ≡ set (pages_shown self.old) slot page.now) }
+        ensures failed { CountsErr result self.old.failed self.new.failed }
+        ensures cause { is_ok result
+            ≡ (served self.old.left self.new.left || served self.old.right self.new.right) }
+        ensures left { TriesWrite slot page.now self.old.left self.new.left }
+        ensures right { TriesWrite slot page.now self.old.right self.new.right }
+        ensures good { let left = served self.old.left self.new.left in
+            let right = served self.old.right self.new.right in
+            self.new.good ≡ set self.old.good slot (record { left = left; right = right }) }
+    {
+        let left = try_write(&mut self.left, slot, page).is_ok();
+        let right = try_write(&mut self.right, slot, page).is_ok();
+        self.good[slot as usize] = Good { left, right };
+        if left || right {
+            return Ok(());
+        }
+        self.failed += 1;
+        Err(PagerFault)
+    }
+
+    /// A side that is not good for the slot is not asked, nor is the right side where the left serves.
+    fn read(&mut self, slot: u32, page: &mut [u8; 4096]) -> Result<(), PagerFault>
+        requires there { slot < length (pages_shown self.old) }
+        requires countable { self.old.failed < last_count }
+        ensures content { pages_shown self.new ≡ pages_shown self.old }
+        ensures page { IfOk result (λ _. get_or (pages_shown self.old) slot [] ≡ page.new) }
+        ensures failed { CountsErr result self.old.failed self.new.failed }
+        ensures cause { is_ok result
+            ≡ (left_serves slot self.old self.new || right_serves slot self.old self.new) }
+        ensures left { left_asked slot self.old ≡ true → TriesRead self.old.left self.new.left }
+        ensures left_unasked { left_asked slot self.old ≡ false → self.new.left ≡ self.old.left }
+        ensures right { right_asked slot self.old self.new ≡ true → TriesRead self.old.right self.new.right }
+        ensures right_unasked { right_asked slot self.old self.new ≡ false → self.new.right ≡ self.old.right }
+        ensures good { self.new.good ≡ self.old.good }
+    {
+        let good = self.good[slot as usize];
+        if good.left && try_read(&mut self.left, slot, page).is_ok() {
+            return Ok(());
+        }
+        if good.right && try_read(&mut self.right, slot, page).is_ok() {
+            return Ok(());
+        }
+        self.failed += 1;
+        Err(PagerFault)
+    }
+
+    fn discard(&mut self, slot: u32)
+        requires { slot < length (pages_shown self.old) }
+        ensures content { SlotUnknown slot (pages_shown self.old) (pages_shown self.new) }
+        ensures left { SlotUnknown slot self.old.left.pages self.new.left.pages }
+        ensures right { SlotUnknown slot self.old.right.pages self.new.right.pages }
+        ensures rest { self.new ≡ record self.old {
+          left = record self.old.left { pages = self.new.left.pages };
+          right = record self.old.right { pages = self.new.right.pages };
+          good = set self.old.good slot no_side;
+        } }
+    {
+        self.left.discard(slot);
+        self.right.discard(slot);
+        self.good[slot as usize] = Good {
+            left: false,
+            right: false,
+        };
+    }
+
+    /// Both sides are good for each slot then.
+    fn wipe(&mut self)
+        ensures content { pages_shown self.new ≡ replicate (length (pages_shown self.old)) zero_page }
+        ensures left { self.new.left
+            ≡ record self.old.left { pages = replicate (length self.old.left.pages) zero_page } }
+        ensures right { self.new.right
+            ≡ record self.old.right { pages = replicate (length self.old.right.pages) zero_page } }
+        ensures good { self.new.good ≡ replicate (length self.old.good) both_sides }
+        ensures failed { self.new.failed ≡ self.old.failed }
+    {
+        self.left.wipe();
+        self.right.wipe();
+        mark_both(&mut self.good);
+    }
+}
+
+impl<L: Pager, R: Pager> Drop for MirrorPager<L, R> {
+    fn drop(mut self) {
+        self.wipe();
+        let MirrorPager {
+            left: _,
+            right: _,
+            good: _,
+            failed: _,
+        } = self;
+    }
+}

@@ -1,0 +1,89 @@
+//! Pages in memory.
+ghost use Rattle.std.specs.Prelude.{◌≡◌, ◌<◌, [], length, set, get_or, replicate, IsOk, IfOk};
+ghost use Rattle.shm_pager.specs.Pages.{zero_page};
+
+use crate::pager::{Pager, PagerFault, zeros};
+use std::alloc::{AllocError, Global};
+use std::marker::Model;
+
+/// Pages in one allocation, made with the pager. None of its calls fails.
+pub struct RamPager {
+    pages: Vec<[u8; 4096]>,
+}
+
+impl Model for RamPager {
+    ghost use Rattle.std.specs.Prelude.{ℕ, ◌<◌, ◌^◌, List, length};
+
+    ghost Value = { List (List ℕ) };
+
+    ghost view = { λ p. p.pages.items };
+
+    ghost invariant = { λ p. length p.pages.items < 2 ^ 32 };
+}
+
+impl RamPager {
+    /// A pager with zeros in each slot.
+    pub fn new(alloc: Global, slots: u32) -> Result<RamPager, AllocError>
+        ensures { IfOk result (λ p. p ≡ replicate slots zero_page) }
+    {
+        let mut pages = Vec::with_capacity(alloc, slots as usize)?;
+        for _i in 0..slots {
+            pages.push(zeros())?;
+        }
+        Ok(RamPager { pages })
+    }
+}
+
+impl Pager for RamPager {
+    ghost content = { λ p. p };
+
+    ghost failed = { λ _. 0 };
+
+    fn slots(&self) -> u32 {
+        self.pages.len() as u32
+    }
+
+    fn failures(&self) -> u64 {
+        0
+    }
+
+    fn write(&mut self, slot: u32, page: &[u8; 4096]) -> Result<(), PagerFault>
+        requires { slot < length self.old }
+        ensures taken { IsOk result }
+        ensures content { self.new ≡ set self.old slot page.now }
+    {
+        self.pages[slot as usize] = *page;
+        Ok(())
+    }
+
+    fn read(&mut self, slot: u32, page: &mut [u8; 4096]) -> Result<(), PagerFault>
+        requires { slot < length self.old }
+        ensures served { IsOk result }
+        ensures content { self.new ≡ self.old }
+        ensures page { get_or self.old slot [] ≡ page.new }
+    {
+        *page = self.pages[slot as usize];
+        Ok(())
+    }
+
+    fn discard(&mut self, slot: u32)
+        requires { slot < length self.old }
+        ensures { self.new ≡ set self.old slot zero_page }
+    {
+        self.pages[slot as usize] = zeros();
+    }
+
+    fn wipe(&mut self) {
+        let blank = zeros();
+        for page in self.pages.iter_mut() {
+            *page = blank;
+        }
+    }
+}
+
+impl Drop for RamPager {
+    fn drop(mut self) {
+        self.wipe();
+        let RamPager { pages: _ } = self;
+    }
+}

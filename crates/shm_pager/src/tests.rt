@@ -1,0 +1,291 @@
+//! Worked rows on the kinds of pagers, with their expected outcomes; and that each drop runs once, and
+//! wipes.
+use crate::{
+    AnyPager, FusePager, MirrorCause, MirrorPager, Pager, PagerFault, RamPager, SparsePager,
+    try_read, try_write, zeros,
+};
+use std::alloc::{AllocError, Global};
+use std::process::Abort;
+use std::sync::Arc;
+use std::sync::atomic::{AtomicU64, Ordering};
+use std::test::Fail;
+
+const P: [u8; 4096] = [0x50; 4096];
+
+const Q: [u8; 4096] = [0x51; 4096];
+
+fn write<X: Pager>(
+    rt: &impl Abort,
+    pager: &mut X,
+    slot: u32,
+    page: [u8; 4096],
+) -> Result<(), PagerFault> {
+    assert!(rt; slot < pager.slots());
+    try_write(pager, slot, &page)
+}
+
+fn read<X: Pager>(rt: &impl Abort, pager: &mut X, slot: u32) -> Result<[u8; 4096], PagerFault> {
+    assert!(rt; slot < pager.slots());
+    let mut page = zeros();
+    try_read(pager, slot, &mut page)?;
+    Ok(page)
+}
+
+fn discard<X: Pager>(rt: &impl Abort, pager: &mut X, slot: u32) {
+    assert!(rt; slot < pager.slots());
+    pager.discard(slot);
+}
+
+fn places(alloc: Global, listed: &[u64]) -> Result<Vec<u64>, AllocError> {
+    listed.to_vec(alloc)
+}
+
+#[test]
+fn a_fuse_scorches_the_slot(rt: HostRuntime) -> Result<(), Fail> {
+    let alloc = rt.alloc();
+    let mut fuse = FusePager::new(
+        RamPager::new(alloc, 2)?,
+        places(alloc, &[])?,
+        places(alloc, &[1])?,
+    );
+    assert_eq!(rt; write(&rt, &mut fuse, 0, P), Err(PagerFault));
+    assert_eq!(rt; fuse.failures(), 1);
+    assert_eq!(rt; read(&rt, &mut fuse, 0), Ok([0xa5; 4096]));
+    assert_eq!(rt; write(&rt, &mut fuse, 0, P), Ok(()));
+    assert_eq!(rt; read(&rt, &mut fuse, 0), Ok(P));
+    Ok(())
+}
+
+#[test]
+fn a_mirror_reads_the_side_that_took_the_page(rt: HostRuntime) -> Result<(), Fail> {
+    let alloc = rt.alloc();
+    let left = FusePager::new(
+        RamPager::new(alloc, 1)?,
+        places(alloc, &[])?,
+        places(alloc, &[2])?,
+    );
+    let mut mirror = MirrorPager::new(alloc, left, RamPager::new(alloc, 1)?).map_err(|e| e.cause)?;
+    assert_eq!(rt; write(&rt, &mut mirror, 0, P), Ok(()));
+    assert_eq!(rt; write(&rt, &mut mirror, 0, Q), Ok(()));
+    assert_eq!(rt; read(&rt, &mut mirror, 0), Ok(Q));
+    assert_eq!(rt; mirror.failures(), 0);
+    Ok(())
+}
+
+#[test]
+fn a_mirror_fails_where_its_one_good_side_does(rt: HostRuntime) -> Result<(), Fail> {
+    let alloc = rt.alloc();
+    let left = FusePager::new(
+        RamPager::new(alloc, 1)?,
+        places(alloc, &[])?,
+        places(alloc, &[1])?,
+    );
+    let right = FusePager::new(
+        RamPager::new(alloc, 1)?,
+        places(alloc, &[1])?,
+        places(alloc, &[])?,
+    );
+    let mut mirror = MirrorPager::new(alloc, left, right).map_err(|e| e.cause)?;
+    assert_eq!(rt; write(&rt, &mut mirror, 0, P), Ok(()));
+    assert_eq!(rt; read(&rt, &mut mirror, 0), Err(PagerFault));
+    assert_eq!(rt; mirror.failures(), 1);
+    assert_eq!(rt; read(&rt, &mut mirror, 0), Ok(P));
+    Ok(())
+}
+
+#[test]
+fn a_sparse_pager_reads_back(rt: HostRuntime) -> Result<(), Fail> {
+    let mut sparse = SparsePager::new(rt.alloc(), 1)?;
+    assert_eq!(rt; read(&rt, &mut sparse, 0), Ok([0; 4096]));
+    assert_eq!(rt; write(&rt, &mut sparse, 0, P), Ok(()));
+    assert_eq!(rt; read(&rt, &mut sparse, 0), Ok(P));
+    assert_eq!(rt; sparse.failures(), 0);
+    Ok(())
+}
+
+#[test]
+fn a_mirror_of_unequal_sides_is_refused(rt: HostRuntime) -> Result<(), Fail> {
+    let alloc = rt.alloc();
+    let refused = MirrorPager::new(alloc, RamPager::new(alloc, 1)?, RamPager::new(alloc, 2)?)
+        .map(|_| ())
+        .expect_err(&rt, "the sizes differ");
+    assert_eq!(rt; refused.cause, MirrorCause::Unequal);
+    assert_eq!(rt; (refused.left.slots(), refused.right.slots()), (1, 2));
+    Ok(())
+}
+
+// A spent pager is not asked, by a fuse or by a mirror, but it is discarded and wiped.
+#[test]
+fn a_spent_pager_is_not_asked(rt: HostRuntime) -> Result<(), Fail> {
+    let alloc = rt.alloc();
+    let spent = FusePager::new_at(
+        RamPager::new(alloc, 1)?,
+        places(alloc, &[])?,
+        places(alloc, &[])?,
+        u64::MAX,
+    );
+    let mut fuse = FusePager::new(spent, places(alloc, &[])?, places(alloc, &[1])?);
+    assert_eq!(rt; write(&rt, &mut fuse, 0, P), Err(PagerFault));
+    assert_eq!(rt; read(&rt, &mut fuse, 0), Err(PagerFault));
+    assert_eq!(rt; fuse.failures(), 2);
+
+    let mut mirror = MirrorPager::new(alloc, fuse, RamPager::new(alloc, 1)?).map_err(|e| e.cause)?;
+    assert_eq!(rt; write(&rt, &mut mirror, 0, P), Ok(()));
+    assert_eq!(rt; read(&rt, &mut mirror, 0), Ok(P));
+    discard(&rt, &mut mirror, 0);
+    assert_eq!(rt; read(&rt, &mut mirror, 0), Err(PagerFault));
+    mirror.wipe();
+    assert_eq!(rt; read(&rt, &mut mirror, 0), Ok([0; 4096]));
+    assert_eq!(rt; mirror.failures(), 1);
+    Ok(())
+}
+
+// What every kind does, through its trait alone: it takes pages, gives them back and is wiped.
+fn runs<X: Pager>(rt: &impl Abort, mut pager: X) {
+    assert_eq!(rt; pager.slots(), 2);
+    assert_eq!(rt; write(rt, &mut pager, 0, P), Ok(()));
+    assert_eq!(rt; write(rt, &mut pager, 1, Q), Ok(()));
+    discard(rt, &mut pager, 0);
+    assert_eq!(rt; read(rt, &mut pager, 1), Ok(Q));
+    assert_eq!(rt; write(rt, &mut pager, 1, [0; 4096]), Ok(()));
+    assert_eq!(rt; read(rt, &mut pager, 1), Ok([0; 4096]));
+    assert_eq!(rt; write(rt, &mut pager, 1, P), Ok(()));
+    pager.wipe();
+    assert_eq!(rt; read(rt, &mut pager, 0), Ok([0; 4096]));
+    assert_eq!(rt; read(rt, &mut pager, 1), Ok([0; 4096]));
+    assert_eq!(rt; pager.failures(), 0);
+}
+
+#[test]
+fn each_kind_runs(rt: HostRuntime) -> Result<(), Fail> {
+    let alloc = rt.alloc();
+    runs(&rt, RamPager::new(alloc, 2)?);
+    runs(&rt, SparsePager::new(alloc, 2)?);
+    runs(
+        &rt,
+        FusePager::new(
+            SparsePager::new(alloc, 2)?,
+            places(alloc, &[])?,
+            places(alloc, &[])?,
+        ),
+    );
+    let mirror = MirrorPager::new(alloc, RamPager::new(alloc, 2)?, SparsePager::new(alloc, 2)?);
+    runs(&rt, mirror.map_err(|e| e.cause)?);
+    let boxed: AnyPager = Box::new(alloc, RamPager::new(alloc, 2)?)?;
+    runs(&rt, boxed);
+    Ok(())
+}
+
+// Pages in memory that tell outside how often they were wiped and dropped.
+struct CountingPager {
+    inner: RamPager,
+    wipes: Arc<AtomicU64>,
+    drops: Arc<AtomicU64>,
+}
+
+impl Pager for CountingPager {
+    ghost content = { λ p. p.inner };
+
+    ghost failed = { λ _. 0 };
+
+    fn slots(&self) -> u32 {
+        self.inner.slots()
+    }
+
+    fn failures(&self) -> u64 {
+        0
+    }
+
+    fn write(&mut self, slot: u32, page: &[u8; 4096]) -> Result<(), PagerFault> {
+        self.inner.write(slot, page)
+    }
+
+    fn read(&mut self, slot: u32, page: &mut [u8; 4096]) -> Result<(), PagerFault> {
+        self.inner.read(slot, page)
+    }
+
+    fn discard(&mut self, slot: u32) {
+        self.inner.discard(slot);
+    }
+
+    fn wipe(&mut self) {
+        self.wipes.fetch_add(1, Ordering::SeqCst);
+        self.inner.wipe();
+    }
+}
+
+impl Drop for CountingPager {
+    fn drop(self) {
+        self.drops.fetch_add(1, Ordering::SeqCst);
+        let CountingPager {
+            inner: _,
+            wipes: _,
+            drops: _,
+        } = self;
+    }
+}
+
+// Makes such pagers, and has their counts.
+#[derive(Drop)]
+struct Counter {
+    alloc: Global,
+    wipes: Arc<AtomicU64>,
+    drops: Arc<AtomicU64>,
+}
+
+impl Counter {
+    fn new(alloc: Global) -> Result<Counter, AllocError> {
+        Ok(Counter {
+            alloc,
+            wipes: Arc::new(alloc, AtomicU64::new(0))?,
+            drops: Arc::new(alloc, AtomicU64::new(0))?,
+        })
+    }
+
+    fn pager(&self, slots: u32) -> Result<CountingPager, AllocError> {
+        Ok(CountingPager {
+            inner: RamPager::new(self.alloc, slots)?,
+            wipes: Arc::try_clone(&self.wipes)?,
+            drops: Arc::try_clone(&self.drops)?,
+        })
+    }
+
+    // Wipes and drops so far.
+    fn counts(&self) -> (u64, u64) {
+        (
+            self.wipes.load(Ordering::SeqCst),
+            self.drops.load(Ordering::SeqCst),
+        )
+    }
+}
+
+fn drop_in_a_fuse<X: Pager>(alloc: Global, inner: X) -> Result<(), AllocError> {
+    drop(FusePager::new(inner, places(alloc, &[])?, places(alloc, &[])?));
+    Ok(())
+}
+
+#[test]
+fn each_drop_runs_once_and_wipes(rt: HostRuntime) -> Result<(), Fail> {
+    let alloc = rt.alloc();
+
+    let counter = Counter::new(alloc)?;
+    drop_in_a_fuse(alloc, counter.pager(1)?)?;
+    assert_eq!(rt; counter.counts(), (1, 1), "a fuse");
+
+    let counter = Counter::new(alloc)?;
+    let boxed: AnyPager = Box::new(alloc, counter.pager(1)?)?;
+    drop_in_a_fuse(alloc, boxed)?;
+    assert_eq!(rt; counter.counts(), (1, 1), "a box in a fuse");
+
+    // A mirror that finds no memory hands both sides back, so that each is dropped once all the same.
+    let counter = Counter::new(alloc)?;
+    let mirror = MirrorPager::new(alloc, counter.pager(1)?, counter.pager(1)?);
+    let wipes = if mirror.is_ok() { 2 } else { 0 };
+    drop(mirror);
+    assert_eq!(rt; counter.counts(), (wipes, 2), "a mirror");
+
+    let counter = Counter::new(alloc)?;
+    drop(MirrorPager::new(alloc, counter.pager(1)?, counter.pager(2)?));
+    assert_eq!(rt; counter.counts(), (0, 2), "the sides of a refused mirror");
+    Ok(())
+}

@@ -1,0 +1,60 @@
+use Rattle.std.proofs.Common.{rules, arith, ◌≡◌, ◌≤◌, ◌<◌, ◌+◌, ◌∙◌, ap, sym, subst, ℕ, List, [], ◌∷◌, ◌++◌, length, Some, None, refl}
+use Rattle.shm_text.specs.Reading.{SeenView, with_item, items_of, nothing, script_by, processes_in, lines_in}
+use Rattle.shm_text.specs.Words.{lines_of}
+use Rattle.shm_text.proofs.Cut.{length-lines_of-le}
+use Rattle.shm_text.proofs.ItemSteps.{Goes, goes_on, goes_wrong, goes_to_end, starts, counts_on, limits_go_on, processes_in-append, lines_in-append, said_wrong, said_by}
+use Rattle.shm_text.proofs.reading.read_lines.Goals as goal
+
+pub loop-line-init : goal.loop-line-init
+loop-line-init c = record {
+  so_far = (
+    [],
+    (
+      subst (λ (s : SeenView). Goes (items_of 1 nothing (lines_of c.args.bytes.now)) 1 s c.of-lines.result []) (sym c.new-seen.ensures) (starts {n = 1} {seen = nothing} (lines_of c.args.bytes.now) c.of-lines.result c.of-lines.ensures),
+      sym (ap (λ (s : SeenView). s.limits) c.new-seen.ensures),
+      c.new-processes.ensures.items,
+      c.new-kept.ensures.items,
+    ),
+  );
+  count = omega (arith, length-lines_of-le c.args.bytes.now, ap length c.of-lines.ensures);
+  commands = omega (arith, ap (λ (s : SeenView). s.commands) c.new-seen.ensures);
+}
+
+pub returns-in-Err-clause-fault : goal.returns-in-Err-clause-fault
+returns-in-Err-clause-fault c =
+    let (front, known) = c.loop-line.invariant.so_far in
+    said_wrong _ _ (goes_wrong c.in-Some.line.now c.next.new.self c.in-Err.kind known.0 (search rules) (cc))
+
+pub loop-line-preserved : goal.loop-line-preserved
+loop-line-preserved c =
+    let (front, known) = c.loop-line.invariant.so_far in
+    let left : c.loop-line.lines ≡ c.in-Some.line.now ∷ c.next.new.self = search rules in
+    let more = with_item c.in-Ok.item [] in
+    let processes : c.keep.new.processes.items ≡ c.loop-line.processes.items ++ processes_in more = search rules in
+    let lines : c.keep.new.kept.items ≡ c.loop-line.kept.items ++ lines_in more = search rules in
+    record {
+      so_far = (
+        front ++ more,
+        (
+          goes_on c.in-Some.line.now c.next.new.self c.in-Ok.item _ known.0 left (cc) c.take.ensures,
+          limits_go_on front c.loop-line.seen c.take.new.self c.in-Ok.item known.1 c.take.ensures,
+          processes ∙ ap (λ l. l ++ processes_in more) known.2 ∙ sym (processes_in-append front more),
+          lines ∙ ap (λ l. l ++ lines_in more) known.3 ∙ sym (lines_in-append front more),
+        ),
+      );
+      count = omega (arith, c.loop-line.invariant.count, ap length left);
+      commands = omega (arith, c.loop-line.invariant.commands, counts_on c.loop-line.seen c.in-Ok.item, ap (λ (s : SeenView). s.commands) c.take.ensures);
+    }
+
+pub returns-in-Some-limits-clause-read : goal.returns-in-Some-limits-clause-read
+returns-in-Some-limits-clause-read c =
+    let (front, known) = c.loop-line.invariant.so_far in
+    let there : c.loop-line.seen.limits ≡ Some c.in-Some-limits.limits = search rules in
+    said_by _ front (Some c.in-Some-limits.limits) (goes_to_end known.0 (search rules)) (known.1 ∙ there)
+    ∙ rw (known.2, known.3) refl
+
+pub returns-in-None-clause-fault : goal.returns-in-None-clause-fault
+returns-in-None-clause-fault c =
+    let (front, known) = c.loop-line.invariant.so_far in
+    let none : c.loop-line.seen.limits ≡ None = search rules in
+    said_by _ front None (goes_to_end known.0 (search rules)) (known.1 ∙ none)

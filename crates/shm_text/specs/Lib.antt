@@ -1,0 +1,9 @@
+pub mod Number
+pub mod Words
+pub mod Form
+pub mod Script
+pub mod Operand
+pub mod Fault
+pub mod Reading
+pub mod Variables
+pub mod Text

@@ -1,0 +1,88 @@
+-- The operands of a line: what a word says, or that it can't be read, and then its range.
+use Rattle.std.specs.Prelude.{ℕ, ◌+◌, ◌-◌, ◌*◌, ◌^◌, Bool, ◌==◌, ◌&&◌, nat_le, List, length, drop, Option, Some, None, Result, Ok, Err, slice_index, codes, if◌then◌else◌}
+use Rattle.std.specs.Str.{bytes_eq}
+use Rattle.std.specs.Option.{ok_or}
+use Rattle.hex.specs.Hex.{decode_of}
+use Rattle.hex.specs.declared.error.FromHexError.{FromHexError}
+use Rattle.shm_base.specs.Bounds.{within}
+use Rattle.shm_text.specs.declared.fault.FaultKind.{FaultKind}
+use Rattle.shm_text.specs.declared.fault.FaultKind.TheVariants.{BadLine, BadNumber}
+use Rattle.shm_text.specs.declared.number.Number.{Number}
+use Rattle.shm_text.specs.declared.number.Number.TheVariants.{Fits, TooLarge}
+use Rattle.shm_text.specs.declared.script.LineId.{LineId}
+use Rattle.shm_text.specs.declared.script.LineId.TheVariants as ids
+use Rattle.shm_text.specs.declared.script.LineAddr.{LineAddr}
+use Rattle.shm_text.specs.declared.script.LineAddr.TheVariants as addrs
+use Rattle.shm_text.specs.declared.operand.IdWord.{IdWord}
+use Rattle.shm_text.specs.declared.operand.IdWord.TheVariants as id_words
+use Rattle.shm_text.specs.declared.operand.AddrWord.{AddrWord}
+use Rattle.shm_text.specs.declared.operand.AddrWord.TheVariants as addr_words
+use Rattle.shm_text.specs.Number.{number_of}
+
+infixl 10 ◌>>=◌
+abbrev pub ◌>>=◌ : {E A B : Type 0} → Result A E → (A → Result B E) → Result B E
+(Ok x) >>= f = f x
+(Err e) >>= f = Err e
+
+-- a word that has to be a number
+abbrev pub wanted : List ℕ → Result Number FaultKind
+wanted w = ok_or (number_of w) BadLine
+
+-- a number within its range
+abbrev pub ranged : ℕ → ℕ → Number → Result ℕ FaultKind
+ranged low high (Fits n) = if nat_le low n && nat_le n high then Ok n else Err BadNumber
+ranged low high TooLarge = Err BadNumber
+
+-- a number of 64 bits
+abbrev pub any : Number → Result ℕ FaultKind
+any n = ranged 0 (2 ^ 64 - 1) n
+
+-- the variable of a word's first letter
+abbrev pub letter_of : List ℕ → Option ℕ
+letter_of w = if within 97 122 (slice_index w 0) then Some (slice_index w 0) else None
+
+-- an identifier: one letter, or a number
+abbrev pub id_by : List ℕ → Option ℕ → Result IdWord FaultKind
+id_by w (Some v) = if length w == 1 then Ok (id_words.Letter v) else Err BadLine
+id_by w None = wanted w >>= λ n. Ok (id_words.Literal n)
+
+abbrev pub id_word : List ℕ → Result IdWord FaultKind
+id_word w = id_by w (letter_of w)
+
+abbrev pub ranged_id : IdWord → Result LineId FaultKind
+ranged_id (id_words.Literal n) = ranged 0 2147483647 n >>= λ n. Ok (ids.Number n)
+ranged_id (id_words.Letter v) = Ok (ids.Var v)
+
+-- an address: `null`, one letter, a letter and a number behind `+`, or a number
+abbrev pub addr_by : List ℕ → Option ℕ → Result AddrWord FaultKind
+addr_by w (Some v) =
+    if length w == 1 then Ok (addr_words.Letter v) else
+    if slice_index w 1 == 43 then (wanted (drop 2 w) >>= λ n. Ok (addr_words.LetterPlus v n)) else
+    Err BadLine
+addr_by w None = wanted w >>= λ n. Ok (addr_words.Literal n)
+
+abbrev pub addr_word : List ℕ → Result AddrWord FaultKind
+addr_word w = if bytes_eq w (codes "null") then Ok (addr_words.Literal (Fits 0)) else addr_by w (letter_of w)
+
+abbrev pub ranged_addr : AddrWord → Result LineAddr FaultKind
+ranged_addr (addr_words.Literal n) = any n >>= λ n. Ok (addrs.Number n)
+ranged_addr (addr_words.Letter v) = Ok (addrs.Var v)
+ranged_addr (addr_words.LetterPlus v n) = any n >>= λ n. Ok (addrs.Sum v n)
+
+-- three octal digits
+abbrev pub is_mode : List ℕ → Bool
+is_mode w = (length w == 3) && within 48 55 (slice_index w 0) && within 48 55 (slice_index w 1) && within 48 55 (slice_index w 2)
+
+abbrev pub mode_from : List ℕ → ℕ
+mode_from w = 64 * (slice_index w 0 - 48) + 8 * (slice_index w 1 - 48) + (slice_index w 2 - 48)
+
+abbrev pub mode_word : List ℕ → Result ℕ FaultKind
+mode_word w = if is_mode w then Ok (mode_from w) else Err BadLine
+
+-- 1 to 64 bytes in hexadecimal digits
+abbrev pub chunk_by : Result (List ℕ) FromHexError → Result (List ℕ) FaultKind
+chunk_by (Ok bytes) = Ok bytes
+chunk_by (Err e) = Err BadLine
+
+abbrev pub chunk_word : List ℕ → Result (List ℕ) FaultKind
+chunk_word w = if within 2 128 (length w) then chunk_by (decode_of w) else Err BadLine

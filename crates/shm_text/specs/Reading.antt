@@ -1,0 +1,284 @@
+-- What the lines of a script say, and the first fault.
+use Rattle.std.specs.Prelude.{ℕ, ◌+◌, ◌-◌, ◌^◌, Bool, true, false, ◌==◌, ◌&&◌, ◌||◌, not, List, [], ◌∷◌, ◌++◌, length, map, Option, Some, None, Result, Ok, Err, IsOk, ◌≡◌, nat_le, nat_lt, ◌<◌, is_some, slice_index, codes, if◌then◌else◌}
+use Rattle.std.specs.List.{list_all, list_any}
+use Rattle.std.specs.Str.{bytes_eq}
+use Rattle.shm_base.specs.Bounds.{Bounds, limits_of}
+use Rattle.shm_base.specs.declared.limits.BadLimits.{BadLimits as BadBounds}
+use Rattle.shm_base.specs.declared.owner.Cred.{Cred}
+use Rattle.shm_base.specs.declared.call.Process.{Process as Declared}
+use Rattle.shm_text.specs.declared.fault.FaultKind.{FaultKind}
+use Rattle.shm_text.specs.declared.fault.FaultKind.TheVariants.{TooLong, BadByte, NoLimits, BadLine, BadNumber, BadLimits, UnknownProcess, Twice, TooMany}
+use Rattle.shm_text.specs.declared.fault.ScriptFault.{ScriptFault}
+use Rattle.shm_text.specs.declared.fault.ReadRefused.{ReadRefused}
+use Rattle.shm_text.specs.declared.fault.ReadRefused.TheVariants as refused
+use Rattle.shm_text.specs.declared.script.LineCall.{LineCall}
+use Rattle.shm_text.specs.declared.script.LineCall.TheVariants.{Shmget, Shmat, Load, Store, Exit}
+use Rattle.shm_text.specs.declared.script.Line.{Line}
+use Rattle.shm_text.specs.declared.script.Line.TheVariants as lines
+use Rattle.shm_text.specs.declared.script.Item.{Item}
+use Rattle.shm_text.specs.declared.script.Item.TheVariants as items
+use Rattle.shm_text.specs.declared.script.LineAddr.TheVariants as addrs
+use Rattle.shm_text.specs.Script.{ScriptView}
+use Rattle.shm_text.specs.Form.{CommandView}
+use Rattle.shm_text.specs.declared.number.Number.{Number}
+use Rattle.shm_text.specs.Operand.{◌>>=◌, wanted, ranged, any, letter_of, id_word, ranged_id, addr_word, ranged_addr, mode_word, chunk_word}
+use Rattle.shm_text.specs.Words.{is_allowed, words_of, lines_of, word_at}
+
+-- what the lines above a line said
+pub record SeenView : Type 0 where
+  pub limits : Option Bounds
+  pub pids : List ℕ
+  pub commands : ℕ
+
+-- whether the word at a place is this one
+abbrev pub has : List (List ℕ) → ℕ → List ℕ → Bool
+has ws i text = bytes_eq (word_at ws i) text
+
+-- a word that has to be this one
+abbrev pub demanded : List (List ℕ) → ℕ → List ℕ → Result (Unit {0}) FaultKind
+demanded ws i text = if has ws i text then Ok tt else Err BadLine
+
+-- LIMITS AND PROCESSES
+
+abbrev pub limits_by : Result Bounds BadBounds → Result Item FaultKind
+limits_by (Ok b) = Ok (items.Limits b)
+limits_by (Err e) = Err (BadLimits e.0)
+
+unfoldable pub limits_item : List (List ℕ) → Result Item FaultKind
+limits_item ws = if length ws == 6 then (do
+  shmmax ← wanted (word_at ws 1)
+  shmmni ← wanted (word_at ws 2)
+  shmall ← wanted (word_at ws 3)
+  frames ← wanted (word_at ws 4)
+  memlock ← wanted (word_at ws 5)
+  shmmax ← any shmmax
+  shmmni ← any shmmni
+  shmall ← any shmall
+  frames ← any frames
+  memlock ← any memlock
+  limits_by (limits_of shmmax shmmni shmall frames memlock)) else Err BadLine
+
+abbrev pub is_declared : SeenView → ℕ → Bool
+is_declared seen pid = list_any (λ p. p == pid) seen.pids
+
+-- a process that is not declared above, and is not the 65th
+abbrev pub declared : SeenView → Declared → Result Item FaultKind
+declared seen p =
+    if is_declared seen p.pid then Err Twice else
+    if nat_le 64 (length seen.pids) then Err TooMany else
+    Ok (items.Process p)
+
+unfoldable pub process_item : SeenView → List (List ℕ) → Result Item FaultKind
+process_item seen ws = if length ws == 4 then (do
+  pid ← wanted (word_at ws 1)
+  uid ← wanted (word_at ws 2)
+  gid ← wanted (word_at ws 3)
+  pid ← ranged 1 2147483647 pid
+  uid ← ranged 0 4294967295 uid
+  gid ← ranged 0 4294967295 gid
+  declared seen (record { pid = pid; born = Some (record { uid = uid; gid = gid }) })) else Err BadLine
+
+unfoldable pub child_item : SeenView → List (List ℕ) → Result Item FaultKind
+child_item seen ws = if length ws == 2 then (do
+  pid ← wanted (word_at ws 1)
+  pid ← ranged 1 2147483647 pid
+  declared seen (record { pid = pid; born = None })) else Err BadLine
+
+-- a line with these first words declares a process, and stands above the commands
+unfoldable pub declaration : SeenView → List (List ℕ) → Result Item FaultKind
+declaration seen ws =
+    if not (seen.commands == 0) then Err BadLine else
+    if has ws 0 (codes "process") then process_item seen ws else
+    child_item seen ws
+
+-- CALLS: a call's word stands at i. Each of these is served; any other word is a bad line
+
+unfoldable pub shmget_call : List (List ℕ) → ℕ → Result LineCall FaultKind
+shmget_call ws i = do
+  key ← demanded ws (i + 1) (codes "private")
+  size ← wanted (word_at ws (i + 2))
+  mode ← mode_word (word_at ws (i + 3))
+  size ← any size
+  Ok (Shmget 0 size mode (record { 0 = 0 }))
+
+unfoldable pub shmat_call : List (List ℕ) → ℕ → Result LineCall FaultKind
+shmat_call ws i = do
+  id ← id_word (word_at ws (i + 1))
+  addr ← demanded ws (i + 2) (codes "null")
+  flags ← demanded ws (i + 3) (codes "-")
+  id ← ranged_id id
+  Ok (Shmat id (addrs.Number 0) (record { 0 = 0 }))
+
+unfoldable pub load_call : List (List ℕ) → Result LineCall FaultKind
+load_call ws = do
+  addr ← addr_word (word_at ws 2)
+  len ← wanted (word_at ws 3)
+  addr ← ranged_addr addr
+  len ← ranged 1 64 len
+  Ok (Load addr len)
+
+unfoldable pub store_call : List (List ℕ) → Result LineCall FaultKind
+store_call ws = do
+  addr ← addr_word (word_at ws 2)
+  bytes ← chunk_word (word_at ws 3)
+  addr ← ranged_addr addr
+  Ok (Store addr bytes)
+
+-- a call whose answer a variable may take
+unfoldable pub answer_call : List (List ℕ) → ℕ → Result LineCall FaultKind
+answer_call ws i =
+    if length ws == i + 4 && has ws i (codes "shmget") then shmget_call ws i else
+    if length ws == i + 4 && has ws i (codes "shmat") then shmat_call ws i else
+    Err BadLine
+
+unfoldable pub plain_call : List (List ℕ) → Result LineCall FaultKind
+plain_call ws =
+    if length ws == 4 && has ws 1 (codes "load") then load_call ws else
+    if length ws == 4 && has ws 1 (codes "store") then store_call ws else
+    if length ws == 2 && has ws 1 (codes "exit") then Ok Exit else
+    answer_call ws 1
+
+-- COMMANDS
+
+abbrev pub command_of : ℕ → Option ℕ → LineCall → Item
+command_of pid var call = items.Line (lines.Command (record { pid = pid; var = var; call = call }))
+
+-- the variable that takes the answer: one letter, before `=`
+abbrev pub taker : List (List ℕ) → Option ℕ
+taker ws = if (length (word_at ws 1) == 1) && has ws 2 (codes "=") then letter_of (word_at ws 1) else None
+
+abbrev pub call_words : List (List ℕ) → Bool → Result LineCall FaultKind
+call_words ws false = plain_call ws
+call_words ws true = answer_call ws 3
+
+-- a pid that was declared above
+abbrev pub known : SeenView → ℕ → Result (Unit {0}) FaultKind
+known seen pid = if is_declared seen pid then Ok tt else Err UnknownProcess
+
+abbrev pub declared_pid : SeenView → Number → Result ℕ FaultKind
+declared_pid seen pid = do
+  pid ← ranged 1 2147483647 pid
+  there ← known seen pid
+  Ok pid
+
+abbrev pub command : SeenView → Number → Option ℕ → List (List ℕ) → Result Item FaultKind
+command seen pid var ws = do
+  call ← call_words ws (is_some var)
+  pid ← declared_pid seen pid
+  Ok (command_of pid var call)
+
+-- `0` is no pid
+unfoldable pub command_item : SeenView → List (List ℕ) → Result Item FaultKind
+command_item seen ws = if has ws 0 (codes "0") then Err BadLine else (do
+  pid ← wanted (word_at ws 0)
+  command seen pid (taker ws) ws)
+
+-- LINES
+
+-- a line behind the limits
+unfoldable pub body_item : SeenView → List (List ℕ) → Result Item FaultKind
+body_item seen ws =
+    if has ws 0 (codes "process") || has ws 0 (codes "child") then declaration seen ws else
+    command_item seen ws >>= λ item. if nat_lt seen.commands 100000 then Ok item else Err TooMany
+
+-- no words, or a first word that begins with #
+abbrev pub is_skipped : List (List ℕ) → Bool
+is_skipped ws = (length ws == 0) || (slice_index (word_at ws 0) 0 == 35)
+
+unfoldable pub words_item : SeenView → List (List ℕ) → Result Item FaultKind
+words_item seen ws =
+    if is_some seen.limits then body_item seen ws else
+    if has ws 0 (codes "limits") then limits_item ws else
+    Err NoLimits
+
+-- what a line says, with what the lines above it said
+unfoldable pub line_item : SeenView → List ℕ → Result (Option Item) FaultKind
+line_item seen line =
+    if list_all is_allowed line
+    then (if is_skipped (words_of line) then Ok None else (words_item seen (words_of line) >>= λ item. Ok (Some item)))
+    else Err BadByte
+
+abbrev pub seen_with : SeenView → Item → SeenView
+seen_with seen (items.Limits b) = record seen { limits = Some b }
+seen_with seen (items.Process p) = record seen { pids = seen.pids ++ p.pid ∷ [] }
+seen_with seen (items.Line l) = record seen { commands = seen.commands + 1 }
+
+abbrev pub seen_next : SeenView → Option Item → SeenView
+seen_next seen None = seen
+seen_next seen (Some item) = seen_with seen item
+
+abbrev pub nothing : SeenView
+nothing = record { limits = None; pids = []; commands = 0 }
+
+-- THE SCRIPT
+
+abbrev pub at_line : {A : Type 0} → ℕ → Result A FaultKind → Result A ScriptFault
+at_line n (Ok x) = Ok x
+at_line n (Err kind) = Err (record { line = n; kind = kind })
+
+abbrev pub with_item : Option Item → List Item → List Item
+with_item None items = items
+with_item (Some item) items = item ∷ items
+
+-- what lines from the n-th on say, or the first fault
+unfoldable pub items_of : ℕ → SeenView → List (List ℕ) → Result (List Item) ScriptFault
+items_of n seen [] = Ok []
+items_of n seen (line ∷ more) = do
+  item ← at_line n (line_item seen line)
+  items ← items_of (n + 1) (seen_next seen item) more
+  Ok (with_item item items)
+
+-- the limits among the items, and these where there are none
+abbrev pub limits_after : Option Bounds → List Item → Option Bounds
+limits_after b [] = b
+limits_after b (items.Limits c ∷ rest) = limits_after (Some c) rest
+limits_after b (items.Process p ∷ rest) = limits_after b rest
+limits_after b (items.Line l ∷ rest) = limits_after b rest
+
+-- the declared processes, in file order
+abbrev pub processes_in : List Item → List Declared
+processes_in [] = []
+processes_in (items.Limits b ∷ rest) = processes_in rest
+processes_in (items.Process p ∷ rest) = p ∷ processes_in rest
+processes_in (items.Line l ∷ rest) = processes_in rest
+
+-- the command and flush lines, in file order
+abbrev pub lines_in : List Item → List Line
+lines_in [] = []
+lines_in (items.Limits b ∷ rest) = lines_in rest
+lines_in (items.Process p ∷ rest) = lines_in rest
+lines_in (items.Line l ∷ rest) = l ∷ lines_in rest
+
+-- with no limits line at all the fault is at line 1
+abbrev pub script_by : Option Bounds → List Item → Result ScriptView ScriptFault
+script_by None items = Err (record { line = 1; kind = NoLimits })
+script_by (Some b) items = Ok (record { limits = b; processes = processes_in items; lines = lines_in items })
+
+abbrev pub script_from : List Item → Result ScriptView ScriptFault
+script_from items = script_by (limits_after None items) items
+
+-- what the lines of a text say
+abbrev pub said : List (List ℕ) → Result ScriptView ScriptFault
+said text_lines = items_of 1 nothing text_lines >>= script_from
+
+-- what a script says, or its first fault
+unfoldable pub script_of : List ℕ → Result ScriptView ScriptFault
+script_of bytes = if nat_lt 1048576 (length bytes) then Err (record { line = 0; kind = TooLong }) else said (lines_of bytes)
+
+-- a refusal is the script's fault, or want of memory where it has none
+abbrev pub IsFaultOf : ReadRefused → Result ScriptView ScriptFault → Type 0
+IsFaultOf refused.HostMemory read = IsOk read
+IsFaultOf (refused.Fault fault) read = read ≡ Err fault
+
+-- there is room for one more pid where an item declares one
+abbrev pub HasPlace : SeenView → Item → Type 0
+HasPlace seen (items.Process p) = length seen.pids < 64
+HasPlace seen _ = Unit {0}
+
+abbrev pub HasPlaceFor : SeenView → Option Item → Type 0
+HasPlaceFor seen None = Unit {0}
+HasPlaceFor seen (Some item) = HasPlace seen item
+
+abbrev pub IsLimits : Item → Type 0
+IsLimits (items.Limits b) = Unit {0}
+IsLimits _ = ⊥

@@ -1,0 +1,78 @@
+-- The variables of a process, and what a line's call is with them.
+use Rattle.std.specs.Prelude.{ℕ, ◌+◌, ◌-◌, ◌%◌, ◌^◌, ℤ, pos, negsuc, Bool, nat_le, if◌then◌else◌, List, Option, Some, None, get_or, set, replicate}
+use Rattle.shm_base.specs.declared.call.Call.{Call}
+use Rattle.shm_base.specs.declared.call.Call.TheVariants as calls
+use Rattle.shm_base.specs.declared.call.Reply.{Reply}
+use Rattle.shm_base.specs.declared.call.Reply.TheVariants.{Id, Addr, Number}
+use Rattle.shm_text.specs.declared.script.LineId.{LineId}
+use Rattle.shm_text.specs.declared.script.LineId.TheVariants as ids
+use Rattle.shm_text.specs.declared.script.LineAddr.{LineAddr}
+use Rattle.shm_text.specs.declared.script.LineAddr.TheVariants as addrs
+use Rattle.shm_text.specs.declared.script.LineCall.{LineCall}
+use Rattle.shm_text.specs.declared.script.LineCall.TheVariants.{Shmget, Shmat, Shmdt, Stat, Set, Rmid, Lock, Unlock, Load, Store, Xadd, Fork, Exec, Exit, Swapoff}
+
+-- a variable is a number, or -1, which is none
+abbrev pub no_values : List (Option ℕ)
+no_values = replicate 26 (Some 0)
+
+abbrev pub value_at : List (Option ℕ) → ℕ → Option ℕ
+value_at values letter = get_or values (letter - 97) (Some 0)
+
+-- an identifier outside 0 to 2147483647 is -1, which was never issued
+abbrev pub id_from : Option ℕ → ℤ
+id_from None = negsuc 0
+id_from (Some n) = if nat_le n 2147483647 then pos n else negsuc 0
+
+abbrev pub id_of : List (Option ℕ) → LineId → ℤ
+id_of values (ids.Number n) = pos n
+id_of values (ids.Var v) = id_from (value_at values v)
+
+-- -1 is the last address
+abbrev pub addr_from : Option ℕ → ℕ
+addr_from None = 2 ^ 64 - 1
+addr_from (Some n) = n
+
+-- a sum is taken modulo 2^64
+abbrev pub addr_of : List (Option ℕ) → LineAddr → ℕ
+addr_of values (addrs.Number n) = n
+addr_of values (addrs.Var v) = addr_from (value_at values v)
+addr_of values (addrs.Sum v n) = (addr_from (value_at values v) + n) % 2 ^ 64
+
+-- the call that a line makes
+abbrev pub call_of : List (Option ℕ) → LineCall → Call
+call_of values (Shmget key size mode flags) = calls.Shmget key size mode flags
+call_of values (Shmat id addr flags) = calls.Shmat (id_of values id) (addr_of values addr) flags
+call_of values (Shmdt addr) = calls.Shmdt (addr_of values addr)
+call_of values (Stat id) = calls.Stat (id_of values id)
+call_of values (Set id uid gid mode) = calls.Set (id_of values id) uid gid mode
+call_of values (Rmid id) = calls.Rmid (id_of values id)
+call_of values (Lock id) = calls.Lock (id_of values id)
+call_of values (Unlock id) = calls.Unlock (id_of values id)
+call_of values (Load addr len) = calls.Load (addr_of values addr) len
+call_of values (Store addr bytes) = calls.Store (addr_of values addr) bytes
+call_of values (Xadd addr add) = calls.Xadd (addr_of values addr) add
+call_of values (Fork child) = calls.Fork child
+call_of values Exec = calls.Exec
+call_of values Exit = calls.Exit
+call_of values (Swapoff area) = calls.Swapoff area
+
+abbrev pub id_number : ℤ → Option ℕ
+id_number (pos n) = Some n
+id_number (negsuc n) = None
+
+-- the number that a variable takes from a reply
+abbrev pub number_in : Reply → Option ℕ
+number_in (Id id) = id_number id
+number_in (Addr addr) = Some addr
+number_in (Number n) = Some n
+number_in _ = None
+
+-- want of memory gives no reply
+abbrev pub answer_in : Option Reply → Option ℕ
+answer_in None = None
+answer_in (Some r) = number_in r
+
+-- the variables once a line with this variable, or none, was answered
+abbrev pub values_after : List (Option ℕ) → Option ℕ → Option Reply → List (Option ℕ)
+values_after values None reply = values
+values_after values (Some v) reply = set values (v - 97) (answer_in reply)

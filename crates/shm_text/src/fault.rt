@@ -1,0 +1,57 @@
+//! Why a script was refused.
+ghost use Rattle.std.specs.Prelude.{◌≡◌, Some};
+ghost use Rattle.shm_text.specs.Fault.{kind_text};
+
+use std::fmt;
+
+/// What is wrong with a line, in the order in which a line is looked at. `TooLong`: the script has more
+/// than 1,048,576 bytes. `BadByte`: a byte that is no tab and not 0x20 to 0x7e. `NoLimits`: the first line
+/// with words has another first word than `limits`. `BadLine`: the words have no form of the language.
+/// `BadNumber`: a number is out of its range. `BadLimits`: the limits are refused, by the number of the
+/// first that is out of range. `UnknownProcess`: a pid is not declared above. `Twice`: a pid is declared
+/// above. `TooMany`: the 65th process, or the 100,001st command line.
+#[derive(Clone, Copy, Debug, PartialEq, Eq)]
+pub enum FaultKind {
+    TooLong,
+    BadByte,
+    NoLimits,
+    BadLine,
+    BadNumber,
+    BadLimits(u8),
+    UnknownProcess,
+    Twice,
+    TooMany,
+}
+
+impl fmt::Display for FaultKind {
+    ghost output = { λ k. Some (kind_text k) };
+
+    fn fmt<W: fmt::Write>(&self, f: &mut fmt::Formatter<W>) -> fmt::Result {
+        match self {
+            FaultKind::TooLong => write!(f, "script too long"),
+            FaultKind::BadByte => write!(f, "bad byte"),
+            FaultKind::NoLimits => write!(f, "no limits line"),
+            FaultKind::BadLine => write!(f, "bad line"),
+            FaultKind::BadNumber => write!(f, "bad number"),
+            FaultKind::BadLimits(number) => write!(f, "bad limits {number}"),
+            FaultKind::UnknownProcess => write!(f, "unknown process"),
+            FaultKind::Twice => write!(f, "process declared twice"),
+            FaultKind::TooMany => write!(f, "too many lines"),
+        }
+    }
+}
+
+/// The first fault of a script: its line, counted from 1, and what is wrong with it. Line 0 is the script
+/// as a whole.
+#[derive(Clone, Copy, Debug, PartialEq, Eq)]
+pub struct ScriptFault {
+    pub line: u32,
+    pub kind: FaultKind,
+}
+
+/// Why no script was read: its fault, or want of memory where it has none.
+#[derive(Debug, Drop)]
+pub enum ReadRefused {
+    HostMemory,
+    Fault(ScriptFault),
+}

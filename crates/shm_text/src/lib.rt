@@ -1,0 +1,22 @@
+//! The script language: reading a script, its variables, and the text of events and replies.
+#![tactic(auto)]
+
+mod event;
+mod fault;
+mod forms;
+mod lines;
+mod number;
+mod operand;
+mod reading;
+mod script;
+#[cfg(test)]
+mod tests;
+mod variables;
+mod words;
+
+pub use event::{call_text, event_text, reply_text};
+pub use fault::{FaultKind, ReadRefused, ScriptFault};
+pub use number::read_decimal;
+pub use reading::read_script;
+pub use script::{Command, FlushLine, Line, LineAddr, LineCall, LineId, Script, Variable};
+pub use variables::Vars;

@@ -1,0 +1,174 @@
+//! The operands of a line: a word each. What can't be read at all is a bad line; ranges are tested
+//! afterwards, so that a bad line comes before a bad number.
+ghost use Rattle.std.specs.Prelude.{◌≡◌, ◌≤◌, ◌<◌, ◌^◌, ℕ, length, slice_index, drop, Ok, IfOk, Some};
+ghost use Rattle.shm_text.specs.Operand.{wanted, ranged, any, letter_of, addr_by, id_word, id_by, addr_word, ranged_id, ranged_addr, is_mode, mode_word, mode_from, chunk_word};
+ghost use Rattle.shm_text.specs.Form.{is_id};
+ghost use Rattle.std.specs.Prelude.{true};
+
+use crate::fault::FaultKind;
+use crate::number::{Number, read_number};
+use crate::script::{LineAddr, LineId, Variable};
+use shm_base::Chunk;
+
+/// An identifier before its range is tested.
+#[derive(Clone, Copy)]
+pub(crate) enum IdWord {
+    Literal(Number),
+    Letter(Variable),
+}
+
+/// An address before its range is tested.
+#[derive(Clone, Copy)]
+pub(crate) enum AddrWord {
+    Literal(Number),
+    Letter(Variable),
+    LetterPlus(Variable, Number),
+}
+
+/// A word that has to be a number.
+pub(crate) fn wanted(word: &[u8]) -> Result<Number, FaultKind>
+    ensures { result ≡ wanted word.now }
+{
+    read_number(word).ok_or(FaultKind::BadLine)
+}
+
+/// A number within its range.
+pub(crate) fn ranged(number: Number, low: u32, high: u32) -> Result<u32, FaultKind>
+    ensures value { result ≡ ranged low high number }
+    ensures range { IfOk result (λ n. (low ≤ n) × (n ≤ high)) }
+{
+    match number {
+        Number::Fits(n) if (low as u64) <= n && n <= (high as u64) => Ok(n as u32),
+        _ => Err(FaultKind::BadNumber),
+    }
+}
+
+/// A number of 64 bits.
+pub(crate) fn any(number: Number) -> Result<u64, FaultKind>
+    ensures { result ≡ any number }
+{
+    match number {
+        Number::Fits(n) => Ok(n),
+        Number::TooLarge => Err(FaultKind::BadNumber),
+    }
+}
+
+/// The variable of a word's first letter.
+pub(crate) fn first_letter(word: &[u8]) -> Option<Variable>
+    ensures { result ≡ letter_of word.now }
+{
+    Variable::new(*word.first()?)
+}
+
+/// A word that has to be an identifier.
+pub(crate) fn id_word(word: &[u8]) -> Result<IdWord, FaultKind>
+    ensures { result ≡ id_word word.now }
+{
+    match first_letter(word) {
+        Some(var) if word.len() == 1 => Ok(IdWord::Letter(var)),
+        Some(_) => Err(FaultKind::BadLine),
+        None => {
+            let number = wanted(word)?;
+            Ok(IdWord::Literal(number))
+        }
+    }
+}
+
+pub(crate) fn ranged_id(word: IdWord) -> Result<LineId, FaultKind>
+    ensures value { result ≡ ranged_id word }
+    ensures form { IfOk result (λ id. is_id id ≡ true) }
+{
+    match word {
+        IdWord::Literal(number) => {
+            let number = ranged(number, 0, 2147483647)?;
+            Ok(LineId::Number(number))
+        }
+        IdWord::Letter(var) => Ok(LineId::Var(var)),
+    }
+}
+
+// The rest of a word behind its first two bytes.
+fn behind_sign(word: &[u8]) -> &[u8]
+    requires { 2 ≤ length word.now }
+    ensures { result.now ≡ drop 2 word.now }
+{
+    &word[2..]
+}
+
+// A word that begins with a letter and has to be an address.
+fn letter_addr(var: Variable, word: &[u8]) -> Result<AddrWord, FaultKind>
+    requires { 0 < length word.now }
+    ensures { result ≡ addr_by word.now (Some var) }
+{
+    if word.len() == 1 {
+        return Ok(AddrWord::Letter(var));
+    }
+    if word[1] != b'+' {
+        return Err(FaultKind::BadLine);
+    }
+    let number = wanted(behind_sign(word))?;
+    Ok(AddrWord::LetterPlus(var, number))
+}
+
+/// A word that has to be an address.
+pub(crate) fn addr_word(word: &[u8]) -> Result<AddrWord, FaultKind>
+    ensures { result ≡ addr_word word.now }
+{
+    if word == b"null".as_slice() {
+        return Ok(AddrWord::Literal(Number::Fits(0)));
+    }
+    match first_letter(word) {
+        Some(var) => letter_addr(var, word),
+        None => {
+            let number = wanted(word)?;
+            Ok(AddrWord::Literal(number))
+        }
+    }
+}
+
+pub(crate) fn ranged_addr(word: AddrWord) -> Result<LineAddr, FaultKind>
+    ensures { result ≡ ranged_addr word }
+{
+    match word {
+        AddrWord::Literal(number) => {
+            let number = any(number)?;
+            Ok(LineAddr::Number(number))
+        }
+        AddrWord::Letter(var) => Ok(LineAddr::Var(var)),
+        AddrWord::LetterPlus(var, number) => {
+            let number = any(number)?;
+            Ok(LineAddr::Sum(var, number))
+        }
+    }
+}
+
+/// Three octal digits.
+pub(crate) fn mode_word(word: &[u8]) -> Result<u16, FaultKind>
+    ensures value { result ≡ mode_word word.now }
+    ensures range { IfOk result (λ m. m < 512) }
+{
+    match word {
+        [high @ b'0'..=b'7', middle @ b'0'..=b'7', low @ b'0'..=b'7'] => {
+            Ok((*high - b'0') as u16 * 64 + (*middle - b'0') as u16 * 8 + (*low - b'0') as u16)
+        }
+        _ => Err(FaultKind::BadLine),
+    }
+}
+
+/// 1 to 64 bytes in hexadecimal digits of either case.
+pub(crate) fn chunk_word(word: &[u8]) -> Result<Chunk, FaultKind>
+    ensures { result ≡ chunk_word word.now }
+{
+    if word.len() < 2 || word.len() > 128 {
+        return Err(FaultKind::BadLine);
+    }
+    let mut room = [0u8; 64];
+    let bytes = &mut room[..word.len() / 2];
+    if hex::decode_to_slice(word, bytes).is_err() {
+        return Err(FaultKind::BadLine);
+    }
+    match Chunk::new(bytes) {
+        Some(chunk) => Ok(chunk),
+        None => unreachable!(),
+    }
+}

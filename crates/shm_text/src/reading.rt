@@ -1,0 +1,182 @@
+//! Reads a script, line by line from the top.
+ghost use Rattle.std.specs.Prelude.{◌≡◌, ◌<◌, ◌≤◌, ◌++◌, [], IfOk, OnOk, IsOk, IfErr, Ok, Err, length, MatchOption, nat_le, is_some};
+ghost use Rattle.shm_text.specs.Reading.{said, script_of, nothing, seen_next, with_item, processes_in, lines_in, is_declared, IsFaultOf, HasPlaceFor};
+ghost use Rattle.shm_text.specs.Words.{lines_of};
+
+use crate::fault::{FaultKind, ReadRefused, ScriptFault};
+use crate::forms::line_item;
+use crate::lines::Lines;
+use crate::script::{Item, Line, Script};
+use arrayvec::ArrayVec;
+use shm_base::{Limits, Process};
+use std::alloc::{AllocError, Global};
+use std::marker::Model;
+
+/// What the lines above a line said: whether there were limits, the declared pids, and how many command
+/// and flush lines there were.
+#[derive(Drop)]
+pub(crate) struct Seen {
+    limits: Option<Limits>,
+    pids: ArrayVec<u32, 64>,
+    commands: u32,
+}
+
+impl Model for Seen {
+    ghost use Rattle.shm_text.specs.Reading.{SeenView};
+
+    ghost Value = { SeenView };
+
+    ghost view = { λ s. record { limits = s.limits; pids = s.pids.items; commands = s.commands } };
+}
+
+impl Seen {
+    fn new() -> Seen
+        ensures { result ≡ nothing }
+    {
+        Seen {
+            limits: None,
+            pids: ArrayVec::new(),
+            commands: 0,
+        }
+    }
+
+    pub(crate) fn has_limits(&self) -> bool
+        ensures { result ≡ is_some self.now.limits }
+    {
+        self.limits.is_some()
+    }
+
+    pub(crate) fn commands(&self) -> u32
+        ensures { result ≡ self.now.commands }
+    {
+        self.commands
+    }
+
+    pub(crate) fn is_declared(&self, pid: u32) -> bool
+        ensures { result ≡ is_declared self.now pid }
+    {
+        self.pids.as_slice().iter().any(|declared| *declared == pid)
+    }
+
+    /// Whether no more processes may be declared.
+    pub(crate) fn is_full(&self) -> bool
+        ensures { result ≡ nat_le 64 (length self.now.pids) }
+    {
+        self.pids.len() >= 64
+    }
+
+    /// Takes what a line said.
+    fn take(&mut self, item: &Option<Item>)
+        requires commands { self.old.commands < 4294967295 }
+        requires place { HasPlaceFor self.old item.now }
+        ensures { self.new ≡ seen_next self.old item.now }
+    {
+        match item {
+            Some(Item::Limits(limits)) => self.limits = Some(*limits),
+            Some(Item::Process(process)) => self.pids.push(process.pid),
+            Some(Item::Line(_)) => self.commands += 1,
+            None => {}
+        }
+    }
+}
+
+/// The longest script.
+const LONGEST: usize = 1_048_576;
+
+/// What a script says, or its first fault. Want of memory is answered only where the script has no fault.
+/// A script has at most 1,048,576 bytes.
+#[tactic(auto, unfolding(crate::specs::Reading::script_of))]
+pub fn read_script(alloc: Global, bytes: &[u8]) -> Result<Script, ReadRefused>
+    ensures read { IfOk result (λ script. script_of bytes.now ≡ Ok script) }
+    ensures fault { IfErr result (λ e. IsFaultOf e (script_of bytes.now)) }
+{
+    if bytes.len() > LONGEST {
+        return Err(ReadRefused::Fault(ScriptFault {
+            line: 0,
+            kind: FaultKind::TooLong,
+        }));
+    }
+    if let Some(fault) = first_fault(bytes) {
+        return Err(ReadRefused::Fault(fault));
+    }
+    read_lines(alloc, bytes)
+}
+
+/// Without a limits line the fault is at line 1.
+const NO_LIMITS: ScriptFault = ScriptFault {
+    line: 1,
+    kind: FaultKind::NoLimits,
+};
+
+/// The first fault of a text's lines. Takes no memory.
+fn first_fault(bytes: &[u8]) -> Option<ScriptFault>
+    requires { length bytes.now ≤ LONGEST }
+    ensures { MatchOption result (IsOk (said (lines_of bytes.now))) (λ f. said (lines_of bytes.now) ≡ Err f) }
+{
+    let mut seen = Seen::new();
+    let mut lines = Lines::of(bytes);
+    let mut number = 1u32;
+    while let Some(line) = lines.next() {
+        match line_item(&seen, line) {
+            Ok(item) => seen.take(&item),
+            Err(kind) => return Some(ScriptFault { line: number, kind }),
+        }
+        number += 1;
+    }
+    if seen.has_limits() {
+        None
+    } else {
+        Some(NO_LIMITS)
+    }
+}
+
+// Puts what a line said behind what the lines above it said.
+fn keep(
+    processes: &mut Vec<Process>,
+    kept: &mut Vec<Line>,
+    item: Option<Item>,
+) -> Result<(), AllocError>
+    ensures processes { OnOk result (processes.new.items ≡ processes.old.items ++ processes_in (with_item item [])) }
+    ensures lines { OnOk result (kept.new.items ≡ kept.old.items ++ lines_in (with_item item [])) }
+{
+    match item {
+        Some(Item::Process(process)) => processes.push(process)?,
+        Some(Item::Line(line)) => kept.push(line)?,
+        Some(Item::Limits(_)) | None => {}
+    }
+    Ok(())
+}
+
+/// What the lines of a text without fault say.
+fn read_lines(alloc: Global, bytes: &[u8]) -> Result<Script, ReadRefused>
+    requires room { length bytes.now ≤ LONGEST }
+    requires sound { IsOk (said (lines_of bytes.now)) }
+    ensures read { IfOk result (λ script. said (lines_of bytes.now) ≡ Ok script) }
+    ensures fault { IfErr result (λ e. IsFaultOf e (said (lines_of bytes.now))) }
+{
+    let mut seen = Seen::new();
+    let mut processes = Vec::new(alloc);
+    let mut kept = Vec::new(alloc);
+    let mut lines = Lines::of(bytes);
+    let mut number = 1u32;
+    while let Some(line) = lines.next() {
+        match line_item(&seen, line) {
+            Ok(item) => {
+                seen.take(&item);
+                if keep(&mut processes, &mut kept, item).is_err() {
+                    return Err(ReadRefused::HostMemory);
+                }
+            }
+            Err(kind) => return Err(ReadRefused::Fault(ScriptFault { line: number, kind })),
+        }
+        number += 1;
+    }
+    match seen.limits {
+        Some(limits) => Ok(Script {
+            limits,
+            processes,
+            lines: kept,
+        }),
+        None => Err(ReadRefused::Fault(NO_LIMITS)),
+    }
+}

@@ -1,0 +1,239 @@
+//! What a script says, by its types.
+ghost use Rattle.std.specs.Prelude.{◌≡◌, ◌≤◌, ◌↔◌, IsSome, IfSome};
+
+use shm_base::{AccessLen, AtFlags, Chunk, GetFlags, Limits, Process};
+use std::marker::Model;
+
+/// A variable of a process: one letter, a to z. It is seen as its letter's byte.
+#[derive(Clone, Copy, Debug, PartialEq, Eq)]
+pub struct Variable {
+    letter: u8,
+}
+
+impl Model for Variable {
+    ghost use Rattle.std.specs.Prelude.{ℕ, ◌≤◌};
+
+    ghost Value = { ℕ };
+
+    ghost view = { λ v. v.letter };
+
+    ghost inverse = { λ n. record { letter = n } };
+
+    ghost invariant = { λ v. (97 ≤ v.letter) × (v.letter ≤ 122) };
+}
+
+impl Variable {
+    /// The variable of a letter, or none where the byte is not a to z.
+    pub fn new(letter: u8) -> Option<Variable>
+        ensures which { IsSome result ↔ (97 ≤ letter) × (letter ≤ 122) }
+        ensures value { IfSome result (λ v. v ≡ letter) }
+    {
+        if letter < b'a' || letter > b'z' {
+            return None;
+        }
+        Some(Variable { letter })
+    }
+
+    /// The letter's byte.
+    pub fn letter(self) -> u8
+        ensures value { result ≡ self }
+        ensures range { (97 ≤ result) × (result ≤ 122) }
+    {
+        self.letter
+    }
+}
+
+/// An identifier as a script has it: a number, or a variable.
+#[derive(Clone, Copy, Debug, PartialEq, Eq)]
+pub enum LineId {
+    Number(u32),
+    Var(Variable),
+}
+
+/// An address as a script has it: a number, where `null` is 0, a variable, or a variable and what is
+/// added to it.
+#[derive(Clone, Copy, Debug, PartialEq, Eq)]
+pub enum LineAddr {
+    Number(u64),
+    Var(Variable),
+    Sum(Variable, u64),
+}
+
+/// A call as a script has it: identifiers and addresses may be variables.
+#[derive(Debug, Drop, PartialEq)]
+pub enum LineCall {
+    Shmget {
+        key: u32,
+        size: u64,
+        mode: u16,
+        flags: GetFlags,
+    },
+    Shmat {
+        id: LineId,
+        addr: LineAddr,
+        flags: AtFlags,
+    },
+    Shmdt {
+        addr: LineAddr,
+    },
+    Stat {
+        id: LineId,
+    },
+    Set {
+        id: LineId,
+        uid: u32,
+        gid: u32,
+        mode: u16,
+    },
+    Rmid {
+        id: LineId,
+    },
+    Lock {
+        id: LineId,
+    },
+    Unlock {
+        id: LineId,
+    },
+    Load {
+        addr: LineAddr,
+        len: AccessLen,
+    },
+    Store {
+        addr: LineAddr,
+        chunk: Chunk,
+    },
+    Xadd {
+        addr: LineAddr,
+        add: u64,
+    },
+    Fork {
+        child: u32,
+    },
+    Exec,
+    Exit,
+    Swapoff {
+        area: u32,
+    },
+}
+
+/// A command line: the process, the variable that takes the answer, and the call. It has a form of the
+/// script's language, with the ranges there.
+#[derive(Debug, Drop, PartialEq)]
+pub struct Command {
+    pub(crate) pid: u32,
+    pub(crate) var: Option<Variable>,
+    pub(crate) call: LineCall,
+}
+
+impl Model for Command {
+    ghost use Rattle.std.specs.Prelude.{◌≡◌, true};
+    ghost use Rattle.shm_text.specs.Form.{CommandView, has_form};
+
+    ghost Value = { CommandView };
+
+    ghost view = { λ c. record { pid = c.pid; var = c.var; call = c.call } };
+
+    ghost inverse = { λ c. record { pid = c.pid; var = c.var; call = c.call } };
+
+    ghost invariant = { λ c. has_form c.pid c.var c.call ≡ true };
+}
+
+impl Command {
+    ghost use Rattle.std.specs.Prelude.{true};
+    ghost use Rattle.shm_text.specs.Form.{is_pid, is_call};
+
+    /// The process.
+    pub fn pid(&self) -> u32
+        ensures value { result ≡ self.now.pid }
+        ensures range { (1 ≤ result) × (result ≤ 2147483647) }
+    {
+        self.pid
+    }
+
+    /// The variable that takes the answer.
+    pub fn var(&self) -> Option<Variable>
+        ensures { result ≡ self.now.var }
+    {
+        self.var
+    }
+
+    /// The call.
+    pub fn call(&self) -> &LineCall
+        ensures value { result.now ≡ self.now.call }
+        ensures form { is_call result.now ≡ true }
+    {
+        &self.call
+    }
+}
+
+/// A line that asks for a flush round of so many pages at most, 1 to 4096.
+#[derive(Clone, Copy, Debug, PartialEq, Eq)]
+pub struct FlushLine {
+    pages: u32,
+}
+
+impl Model for FlushLine {
+    ghost use Rattle.std.specs.Prelude.{ℕ, ◌≤◌};
+
+    ghost Value = { ℕ };
+
+    ghost view = { λ f. f.pages };
+
+    ghost inverse = { λ n. record { pages = n } };
+
+    ghost invariant = { λ f. (1 ≤ f.pages) × (f.pages ≤ 4096) };
+}
+
+impl FlushLine {
+    /// A round of so many pages, or none outside 1 to 4096.
+    pub fn new(pages: u64) -> Option<FlushLine>
+        ensures which { IsSome result ↔ (1 ≤ pages) × (pages ≤ 4096) }
+        ensures value { IfSome result (λ f. f ≡ pages) }
+    {
+        if pages < 1 || pages > 4096 {
+            return None;
+        }
+        Some(FlushLine {
+            pages: pages as u32,
+        })
+    }
+
+    /// How many pages at most.
+    pub fn pages(self) -> u32
+        ensures value { result ≡ self }
+        ensures range { (1 ≤ result) × (result ≤ 4096) }
+    {
+        self.pages
+    }
+}
+
+/// A command line or a flush line.
+#[derive(Debug, Drop, PartialEq)]
+pub enum Line {
+    Command(Command),
+    Flush(FlushLine),
+}
+
+/// A script: the limits, the declared processes, and the other lines in file order.
+#[derive(Debug, Drop)]
+pub struct Script {
+    pub limits: Limits,
+    pub processes: Vec<Process>,
+    pub lines: Vec<Line>,
+}
+
+impl Model for Script {
+    ghost use Rattle.shm_text.specs.Script.{ScriptView};
+
+    ghost Value = { ScriptView };
+
+    ghost view = { λ s. record { limits = s.limits; processes = s.processes.items; lines = s.lines.items } };
+}
+
+/// What one line says, where it says something.
+#[derive(Debug, Drop)]
+pub(crate) enum Item {
+    Limits(Limits),
+    Process(Process),
+    Line(Line),
+}

@@ -1,0 +1,158 @@
+//! The variables of a process.
+ghost use Rattle.std.specs.Prelude.{◌≡◌, ◌-◌, ◌^◌, ◌<◌, ◌≤◌, List, Option, ℕ, ◌%◌, ◌+◌};
+ghost use Rattle.std.specs.Option.{option_copied};
+ghost use Rattle.shm_life.specs.SystemState.{IsFirst};
+ghost use Rattle.std.specs.Prelude.{true};
+ghost use Rattle.shm_text.specs.Form.{is_id};
+ghost use Rattle.shm_text.specs.Variables.{no_values, value_at, id_of, id_from, addr_of, addr_from, call_of, number_in, values_after};
+
+use crate::script::{Command, LineAddr, LineCall, LineId, Variable};
+use shm_base::{Call, Reply, ShmId};
+use std::marker::Model;
+
+/// The 26 variables of one process. Each is a number, or -1, which stands for a refusal or want of memory;
+/// as an identifier -1 was never issued, and as an address it is the last one. All begin as 0.
+pub struct Vars {
+    values: [Option<u64>; 26],
+}
+
+impl Model for Vars {
+    ghost use Rattle.std.specs.Prelude.{List, Option, ℕ};
+
+    ghost Value = { List (Option ℕ) };
+
+    ghost view = { λ v. v.values };
+}
+
+impl Drop for Vars {
+    fn drop(self) {
+        let Vars { values: _ } = self;
+    }
+}
+
+fn number_of(reply: &Reply) -> Option<u64>
+    ensures { result ≡ number_in reply.now }
+{
+    match reply {
+        Reply::Id(id) => u64::try_from(*id).ok(),
+        Reply::Addr(addr) => Some(*addr),
+        Reply::Number(number) => Some(*number),
+        Reply::Bytes(_) | Reply::Stat(_) | Reply::Done | Reply::Refused(_) => None,
+    }
+}
+
+fn id_in(value: Option<u64>) -> ShmId
+    ensures { result ≡ id_from value }
+{
+    match value {
+        Some(number) if number <= 2147483647 => number as i32,
+        _ => -1,
+    }
+}
+
+fn addr_in(value: Option<u64>) -> u64
+    ensures { result ≡ addr_from value }
+{
+    value.unwrap_or(u64::MAX)
+}
+
+impl Vars {
+    /// The variables of a process that begins.
+    pub fn new() -> Vars
+        ensures { result ≡ no_values }
+    {
+        Vars {
+            values: [Some(0); 26],
+        }
+    }
+
+    fn value(&self, var: Variable) -> Option<u64>
+        ensures { result ≡ value_at self.now var }
+    {
+        self.values[(var.letter() - b'a') as usize]
+    }
+
+    fn id(&self, id: LineId) -> ShmId
+        requires { is_id id ≡ true }
+        ensures { result ≡ id_of self.now id }
+    {
+        match id {
+            LineId::Number(number) => number as i32,
+            LineId::Var(var) => id_in(self.value(var)),
+        }
+    }
+
+    fn addr(&self, addr: LineAddr) -> u64
+        ensures { result ≡ addr_of self.now addr }
+    {
+        match addr {
+            LineAddr::Number(number) => number,
+            LineAddr::Var(var) => addr_in(self.value(var)),
+            LineAddr::Sum(var, number) => addr_in(self.value(var)).wrapping_add(number),
+        }
+    }
+
+    /// The call that a command line makes now.
+    pub fn call(&self, command: &Command) -> Call
+        ensures value { result ≡ call_of self.now command.now.call }
+        ensures served { IsFirst result }
+    {
+        match command.call() {
+            LineCall::Shmget {
+                key,
+                size,
+                mode,
+                flags,
+            } => Call::Shmget {
+                key: *key,
+                size: *size,
+                mode: *mode,
+                flags: *flags,
+            },
+            LineCall::Shmat { id, addr, flags } => Call::Shmat {
+                id: self.id(*id),
+                addr: self.addr(*addr),
+                flags: *flags,
+            },
+            LineCall::Shmdt { addr } => Call::Shmdt {
+                addr: self.addr(*addr),
+            },
+            LineCall::Stat { id } => Call::Stat { id: self.id(*id) },
+            LineCall::Set { id, uid, gid, mode } => Call::Set {
+                id: self.id(*id),
+                uid: *uid,
+                gid: *gid,
+                mode: *mode,
+            },
+            LineCall::Rmid { id } => Call::Rmid { id: self.id(*id) },
+            LineCall::Lock { id } => Call::Lock { id: self.id(*id) },
+            LineCall::Unlock { id } => Call::Unlock { id: self.id(*id) },
+            LineCall::Load { addr, len } => Call::Load {
+                addr: self.addr(*addr),
+                len: *len,
+            },
+            LineCall::Store { addr, chunk } => Call::Store {
+                addr: self.addr(*addr),
+                chunk: chunk.copied(),
+            },
+            LineCall::Xadd { addr, add } => Call::Xadd {
+                addr: self.addr(*addr),
+                add: *add,
+            },
+            LineCall::Fork { child } => Call::Fork { child: *child },
+            LineCall::Exec => Call::Exec,
+            LineCall::Exit => Call::Exit,
+            LineCall::Swapoff { area } => Call::Swapoff { area: *area },
+        }
+    }
+
+    /// Takes the answer of a command line, where the line has a variable: the reply's identifier, address
+    /// or number, or -1 for a refusal and, with no reply, for want of memory.
+    pub fn took(&mut self, command: &Command, reply: Option<&Reply>)
+        ensures { self.new ≡ values_after self.old command.now.var (option_copied reply.entry) }
+    {
+        if let Some(var) = command.var() {
+            self.values[(var.letter() - b'a') as usize] = reply.and_then(number_of);
+        }
+    }
+}

@@ -1,0 +1,10 @@
+use Rattle.std.proofs.Common.{◌≡◌, ◌≤◌, ◌+◌, ◌++◌, drop}
+use Rattle.shm_text.specs.Text.{events_text}
+use Rattle.shmsim.proofs.serial.history_text.Given as goal
+
+-- the lines so far, and then those of what is left
+abbrev pub invariant-loop-event : goal.invariant-loop-event
+invariant-loop-event l = record {
+  printed : l.text.items ++ events_text l.place (drop l.event-index l.history) ≡ events_text 1 l.history;
+  count : l.place ≡ l.event-index + 1;
+}

@@ -1,0 +1,21 @@
+-- The texts of the faults, and the exit statuses.
+use Rattle.std.specs.Prelude.{ℕ, List, ◌++◌, codes}
+use Rattle.std.specs.Fmt.{decimal}
+use Rattle.shm_text.specs.Fault.{kind_text}
+use Rattle.shmsim.specs.declared.serial.RunFault.{RunFault}
+use Rattle.shmsim.specs.declared.serial.RunFault.TheVariants.{Script, StartRefused, ReadFailed, WriteFailed, HostMemory}
+
+abbrev pub fault_text : RunFault → List ℕ
+fault_text (Script f) = codes "line " ++ (decimal f.line ++ (codes ": " ++ kind_text f.kind))
+fault_text (StartRefused n) = codes "start refused " ++ decimal n
+fault_text ReadFailed = codes "read failed"
+fault_text WriteFailed = codes "write failed"
+fault_text HostMemory = codes "out of memory"
+
+-- 1 is a script fault, 3 a fault of the run, 4 want of memory
+abbrev pub status_of : RunFault → ℕ
+status_of (Script f) = 1
+status_of (StartRefused n) = 3
+status_of ReadFailed = 3
+status_of WriteFailed = 3
+status_of HostMemory = 4

@@ -1,0 +1,5 @@
+pub mod Values
+pub mod Output
+pub mod Options
+pub mod Faults
+pub mod Stop

@@ -1,0 +1,13 @@
+-- Why the program stops: its text and its exit status.
+use Rattle.std.specs.Prelude.{ℕ, List, codes}
+use Rattle.shmsim.specs.Faults.{fault_text, status_of}
+use Rattle.shmsim.specs.declared.command.Stop.{Stop}
+use Rattle.shmsim.specs.declared.command.Stop.TheVariants.{Usage, Fault}
+
+abbrev pub stop_text : Stop → List ℕ
+stop_text Usage = codes "usage: shmsim serial|threads SWAP..."
+stop_text (Fault fault) = fault_text fault
+
+abbrev pub stop_status : Stop → ℕ
+stop_status Usage = 2
+stop_status (Fault fault) = status_of fault

@@ -1,0 +1,99 @@
+//! The command line, and why the program stops.
+ghost use Rattle.std.specs.Prelude.{◌≡◌, Some};
+ghost use Rattle.shmsim.specs.Stop.{stop_text, stop_status};
+
+use crate::options::{SwapWord, read_swap};
+use crate::serial::RunFault;
+use clap::error::ErrorKind;
+use clap::{Arg, ArgAction, Command, Error};
+use shm_pager::{MirrorRefused, Pager};
+use std::alloc::{AllocError, AllocFailed, Global};
+use std::rt::Env;
+use std::{env, fmt};
+
+/// Why the program stops: wrong words on the command line, or a fault of the run.
+#[derive(Clone, Copy, Debug, PartialEq, Eq)]
+pub(crate) enum Stop {
+    Usage,
+    Fault(RunFault),
+}
+
+impl Stop {
+    /// The exit status: 2 for usage, else that of the fault.
+    pub(crate) fn status(self) -> u8
+        ensures { result ≡ stop_status self }
+    {
+        match self {
+            Stop::Usage => 2,
+            Stop::Fault(fault) => fault.status(),
+        }
+    }
+}
+
+impl fmt::Display for Stop {
+    ghost output = { λ s. Some (stop_text s) };
+
+    fn fmt<W: fmt::Write>(&self, f: &mut fmt::Formatter<W>) -> fmt::Result {
+        match self {
+            Stop::Usage => write!(f, "usage: shmsim serial|threads SWAP..."),
+            Stop::Fault(fault) => write!(f, "{fault}"),
+        }
+    }
+}
+
+impl From<AllocError> for Stop {
+    fn from(_e: AllocError) -> Stop {
+        Stop::Fault(RunFault::HostMemory)
+    }
+}
+
+impl<T: Drop> From<AllocFailed<T>> for Stop {
+    fn from(_e: AllocFailed<T>) -> Stop {
+        Stop::Fault(RunFault::HostMemory)
+    }
+}
+
+// The two sides have one size, so memory was wanting.
+impl<L: Pager, R: Pager> From<MirrorRefused<L, R>> for Stop {
+    fn from(_e: MirrorRefused<L, R>) -> Stop {
+        Stop::Fault(RunFault::HostMemory)
+    }
+}
+
+impl From<Error> for Stop {
+    fn from(e: Error) -> Stop {
+        match e.kind() {
+            ErrorKind::OutOfMemory => Stop::Fault(RunFault::HostMemory),
+            _ => Stop::Usage,
+        }
+    }
+}
+
+/// The swap areas that the command line names, behind the word `serial`.
+pub(crate) fn read_command<R: Env + AllocGlobal>(
+    rt: &R,
+    alloc: Global,
+) -> Result<Vec<SwapWord>, Stop> {
+    let Ok(args) = env::args(rt) else {
+        return Err(Stop::Usage);
+    };
+    let words: Vec<String> = args.collect(alloc)?;
+    let mode = Arg::new(alloc, "mode").required(true);
+    let swap = Arg::new(alloc, "swap")
+        .required(true)
+        .num_args(1..=8)
+        .action(ArgAction::Append);
+    let command = Command::new(alloc, "shmsim").arg(mode)?.arg(swap)?;
+    let matches = command.try_get_matches_from(words.as_slice())?;
+    if matches.get_str("mode") != Some("serial") {
+        return Err(Stop::Usage);
+    }
+    let mut swaps = Vec::new(alloc);
+    for word in matches.get_strs("swap").unwrap_or(&[]) {
+        match read_swap(word.as_bytes()) {
+            Some(swap) => swaps.push(swap)?,
+            None => return Err(Stop::Usage),
+        }
+    }
+    Ok(swaps)
+}
