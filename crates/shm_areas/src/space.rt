@@ -116,7 +116,7 @@ impl Space {
     pub fn met(&self, from: u64, to: u64) -> &[Piece]
         requires order { from < to }
         ensures value { result.now ≡ met from to self.now }
-        ensures arranged { Arranged flat.lowest_address (bare_all result.now) }
+        ensures arranged { Arranged flat.lowest_address (bare_all self.now) }
         ensures count { length result.now ≤ 256 }
     {
         let run = run_in(&self.pieces, from, to);

@@ -95,7 +95,8 @@ impl<P: Pager> Pager for FusePager<P> {
         requires there { slot < length self.old.inner.pages }
         requires countable { self.old.failed < last_count }
         ensures others { SlotUnknown slot self.old.inner.pages self.new.inner.pages }
-        ensures page { IfOk result (λ _. self.new.inner.pages ≡ set self.old.inner.pages slot page.now) }
+        ensures page { IfOk result (λ _.
+            self.new.inner.pages ≡ set self.old.inner.pages slot page.now) }
         ensures failed { CountsErr result self.old.failed self.new.failed }
         ensures cause { is_ok result
             ≡ (not (write_is_bad self.old) && served self.old.inner self.new.inner) }

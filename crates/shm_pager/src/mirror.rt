@@ -49,11 +49,13 @@ impl<L: Pager, R: Pager> Model for MirrorPager<L, R> {
 
     ghost Value = { MirrorView };
 
-    ghost view = { λ m.
-        mirror_of (seen L.content L.failed m.left) (seen R.content R.failed m.right) m.good.items m.failed };
+    ghost view = { λ m. mirror_of
+        (seen L.content L.failed m.left) (seen R.content R.failed m.right)
+        m.good.items m.failed };
 
-    ghost invariant = { λ m. IsMirror
-        (mirror_of (seen L.content L.failed m.left) (seen R.content R.failed m.right) m.good.items m.failed) };
+    ghost invariant = { λ m. IsMirror (mirror_of
+        (seen L.content L.failed m.left) (seen R.content R.failed m.right)
+        m.good.items m.failed) };
 }
 
 // Both sides good for each slot.
@@ -86,8 +88,8 @@ impl<L: Pager, R: Pager> MirrorPager<L, R> {
     /// A mirror that shows what the left side holds. Refused as `Unequal` just where the sizes differ.
     pub fn new(alloc: Global, left: L, right: R) -> Result<MirrorPager<L, R>, MirrorRefused<L, R>>
         ensures ok { IfOk result (λ m.
-            let slots = length (L.content left) in
-            m ≡ mirror_of (seen L.content L.failed left) (seen R.content R.failed right) (replicate slots left_alone) 0) }
+            let good = replicate (length (L.content left)) left_alone in
+            m ≡ mirror_of (seen L.content L.failed left) (seen R.content R.failed right) good 0) }
         ensures unequal { length (L.content left) ≢ length (R.content right) → IsErr result }
         ensures refused { IfErr result (λ e.
             let equal = length (L.content left) == length (R.content right) in
@@ -136,7 +138,8 @@ impl<L: Pager, R: Pager> Pager for MirrorPager<L, R> {
         requires there { slot < length (pages_shown self.old) }
         requires countable { self.old.failed < last_count }
         ensures others { SlotUnknown slot (pages_shown self.old) (pages_shown self.new) }
-        ensures page { IfOk result (λ _. pages_shown self.new ≡ set (pages_shown self.old) slot page.now) }
+        ensures page { IfOk result (λ _.
+            pages_shown self.new ≡ set (pages_shown self.old) slot page.now) }
         ensures failed { CountsErr result self.old.failed self.new.failed }
         ensures cause { is_ok result
             ≡ (served self.old.left self.new.left || served self.old.right self.new.right) }
@@ -167,8 +170,10 @@ impl<L: Pager, R: Pager> Pager for MirrorPager<L, R> {
             ≡ (left_serves slot self.old self.new || right_serves slot self.old self.new) }
         ensures left { left_asked slot self.old ≡ true → TriesRead self.old.left self.new.left }
         ensures left_unasked { left_asked slot self.old ≡ false → self.new.left ≡ self.old.left }
-        ensures right { right_asked slot self.old self.new ≡ true → TriesRead self.old.right self.new.right }
-        ensures right_unasked { right_asked slot self.old self.new ≡ false → self.new.right ≡ self.old.right }
+        ensures right { right_asked slot self.old self.new ≡ true
+            → TriesRead self.old.right self.new.right }
+        ensures right_unasked { right_asked slot self.old self.new ≡ false
+            → self.new.right ≡ self.old.right }
         ensures good { self.new.good ≡ self.old.good }
     {
         let good = self.good[slot as usize];

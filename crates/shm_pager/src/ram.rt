@@ -66,6 +66,7 @@ impl Pager for RamPager {
         Ok(())
     }
 
+    /// The slot holds zeros then.
     fn discard(&mut self, slot: u32)
         requires { slot < length self.old }
         ensures { self.new ≡ set self.old slot zero_page }

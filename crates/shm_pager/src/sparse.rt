@@ -64,10 +64,13 @@ impl Pager for SparsePager {
         self.failed
     }
 
+    /// Fails only where a page that is not zeros is to replace zeros, and finds no room. The slot keeps
+    /// its zeros then.
     fn write(&mut self, slot: u32, page: &[u8; 4096]) -> Result<(), PagerFault>
         requires there { slot < length self.old.pages }
         requires countable { self.old.failed < last_count }
-        ensures ok { IfOk result (λ _. self.new ≡ record self.old { pages = set self.old.pages slot page.now }) }
+        ensures ok { IfOk result (λ _.
+            self.new ≡ record self.old { pages = set self.old.pages slot page.now }) }
         ensures err { OnErr result (self.new ≡ record self.old { failed = self.old.failed + 1 }) }
         ensures cause { OnErr result
             ((get_or self.old.pages slot [] ≡ zero_page) × (page.now ≢ zero_page)) }
@@ -106,6 +109,7 @@ impl Pager for SparsePager {
         Ok(())
     }
 
+    /// The slot holds zeros then, and takes no room.
     fn discard(&mut self, slot: u32)
         requires { slot < length self.old.pages }
         ensures { self.new ≡ record self.old { pages = set self.old.pages slot zero_page } }

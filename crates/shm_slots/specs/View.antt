@@ -1,8 +1,13 @@
-use Rattle.std.specs.Prelude.{ℕ, ◌≡◌, ◌<◌, ◌+◌, ◌-◌, ◌^◌, ◌⊎◌, List, [], ◌∷◌, Bool, true, false, Option, Some, None, set, get_or, replicate, length, is_some, EachIndex, sum_by, eqb, not, All}
-use Rattle.shm_slots.specs.declared.PageRef.{PageRef}
-use Rattle.shm_pager.specs.Pages.{SlotUnknown}
+-- What contracts see of swap areas, and what the calls change of them.
+use Rattle.std.specs.Prelude.{ℕ, ◌≡◌, ◌≢◌, ◌<◌, ◌≤◌, ◌+◌, ◌-◌, ◌⊎◌, ◌==◌, ◌&&◌, Bool, true, false, not, if◌then◌else◌, List, [], Option, Some, None, set, get_or, map, replicate, length, is_some, sum_by, MatchOption}
+use Rattle.std.specs.List.{list_any}
+use Rattle.shm_base.specs.declared.paging.PageRef.{PageRef}
+use Rattle.shm_base.specs.declared.paging.Slot.{Slot}
+use Rattle.shm_pager.specs.Pages.{PagerView, SlotUnknown, last_count}
+use Rattle.shm_slots.specs.Owners.{used_count}
 
--- what contracts see of a swap area
+-- a swap area: whether it is there, the page and the owner of each slot, and its pager's count of
+-- failures as it was handed in and as it stands
 pub record AreaView : Type 0 where
   pub here : Bool
   pub pages : List (List ℕ)
@@ -24,16 +29,21 @@ count_of failed last (Some p) = failed p
 abbrev pub no_area : AreaView
 no_area = record { here = false; pages = []; owners = []; start = 0; failed = 0 }
 
-abbrev pub last_count : ℕ
-last_count = 2 ^ 64 - 1
+-- an area's pager
+abbrev pub pager_of : AreaView → PagerView
+pager_of a = record { pages = a.pages; failed = a.failed }
 
 -- what the area's count has risen by
 abbrev pub rise : AreaView → ℕ
 rise a = a.failed - a.start
 
--- one more failure, or no call since the count stands at its end
+-- the area's count stands at its last value
+abbrev pub is_spent : AreaView → Bool
+is_spent a = a.failed == last_count
+
+-- one more failure, or none since the area was spent; then nothing changed
 abbrev pub CountedFault : AreaView → AreaView → Type 0
-CountedFault before after = (after.failed ≡ before.failed + 1) ⊎ (before.failed ≡ last_count)
+CountedFault before after = (after.failed ≡ before.failed + 1) ⊎ ((before.failed ≡ last_count) × (after ≡ before))
 
 -- a read that failed: the count alone may differ
 abbrev pub ReadFault : AreaView → AreaView → Type 0
@@ -57,21 +67,23 @@ abbrev pub off : AreaView → AreaView
 off a = record { here = false; pages = []; owners = []; start = a.start; failed = a.failed }
 
 -- an area as its pager is handed in
-abbrev pub fresh : List (List ℕ) → ℕ → AreaView
-fresh pages failed = record { here = true; pages = pages; owners = replicate (length pages) None; start = failed; failed = failed }
+abbrev pub fresh : PagerView → AreaView
+fresh p = record { here = true; pages = p.pages; owners = replicate (length p.pages) None; start = p.failed; failed = p.failed }
 
+-- the areas, and whether none of them was ever spent
 pub record SwapView : Type 0 where
   pub areas : List AreaView
   pub never_spent : Bool
+
+-- the areas as they are handed in
+abbrev pub new_swap : List AreaView → SwapView
+new_swap areas = record { areas = areas; never_spent = not (list_any is_spent areas) }
 
 abbrev pub area_at : SwapView → ℕ → AreaView
 area_at s i = get_or s.areas i no_area
 
 abbrev pub with_area : SwapView → ℕ → AreaView → SwapView
 with_area s i a = record s { areas = set s.areas i a }
-
-abbrev pub rises : List AreaView → ℕ
-rises areas = sum_by rise areas
 
 -- the slot is there
 abbrev pub HasSlot : SwapView → ℕ → ℕ → Type 0
@@ -85,20 +97,44 @@ owner_of s area slot = get_or (area_at s area).owners slot None
 abbrev pub page_in : SwapView → ℕ → ℕ → List ℕ
 page_in s area slot = get_or (area_at s area).pages slot []
 
--- every slot of the areas below i is owned
-abbrev pub AllOwnedBelow : SwapView → ℕ → Type 0
-AllOwnedBelow s i =
-    (area : ℕ) → area < i → (slot : ℕ) → slot < length (area_at s area).owners → owner_of s area slot ≡ None → ⊥
+-- the owner of one slot set
+abbrev pub with_slot_owner : SwapView → Slot → Option PageRef → SwapView
+with_slot_owner s k owner = with_area s k.area (with_owner (area_at s k.area) k.slot owner)
 
--- the slot is the least free one of the lowest-numbered area that has one
-abbrev pub IsFirstFree : SwapView → ℕ → ℕ → Type 0
-IsFirstFree s area slot =
-    HasSlot s area slot × (owner_of s area slot ≡ None) × AllOwnedBelow s area × ((k : ℕ) → k < slot → owner_of s area k ≡ None → ⊥)
+-- the page in one slot set
+abbrev pub with_slot_page : SwapView → Slot → List ℕ → SwapView
+with_slot_page s k page = with_area s k.area (with_page (area_at s k.area) k.slot page)
 
--- one area changed, and perhaps the flag, which never comes back
+-- one slot freed, which may hold any page
+abbrev pub without_slot : SwapView → Slot → List ℕ → SwapView
+without_slot s k page = with_area s k.area (with_page (with_owner (area_at s k.area) k.slot None) k.slot page)
+
+-- every slot of the areas below i, but for one that may be left out, is owned
+abbrev pub AllOwned : SwapView → Option ℕ → ℕ → Type 0
+AllOwned s left_out i =
+    (area : ℕ) → area < i → left_out ≢ Some area → (slot : ℕ) → slot < length (area_at s area).owners → is_some (owner_of s area slot) ≡ true
+
+-- the slot is the least free one of the lowest-numbered area that has one, but for one area that may be left out
+pub record IsFirstFree (s : SwapView) (left_out : Option ℕ) (k : Slot) : Type 0 where
+  pub there : HasSlot s k.area k.slot
+  pub outside : left_out ≢ Some k.area
+  pub free : owner_of s k.area k.slot ≡ None
+  pub lowest : AllOwned s left_out k.area
+  pub least : (slot : ℕ) → slot < k.slot → is_some (owner_of s k.area slot) ≡ true
+
+-- the answer of a search for a free slot: the first one, or none where all are owned
+abbrev pub FoundFree : SwapView → Option ℕ → Option Slot → Type 0
+FoundFree s left_out found = MatchOption found (AllOwned s left_out (length s.areas)) (IsFirstFree s left_out)
+
+-- the slot that was found got an owner
+abbrev pub Takes : PageRef → SwapView → Option Slot → SwapView → Type 0
+Takes owner before found after =
+    MatchOption found (after ≡ before) (λ k. after ≡ with_slot_owner before k (Some owner))
+
+-- one area changed, and the flag fell where it is spent
 abbrev pub OneArea : ℕ → SwapView → SwapView → Type 0
 OneArea area before after =
-    (after.areas ≡ set before.areas area (area_at after area)) × (after.never_spent ≡ true → before.never_spent ≡ true)
+    after ≡ record { areas = set before.areas area (area_at after area); never_spent = before.never_spent && not (is_spent (area_at after area)) }
 
 -- the slots, what they hold and who owns them are as before
 pub record SameSlots (before after : SwapView) : Type 0 where
@@ -106,6 +142,47 @@ pub record SameSlots (before after : SwapView) : Type 0 where
   pub pages : (area : ℕ) → (area_at after area).pages ≡ (area_at before area).pages
   pub owners : (area : ℕ) → (area_at after area).owners ≡ (area_at before area).owners
 
+-- an area's slots, none where it is gone
+abbrev pub size_of : AreaView → Option ℕ
+size_of a = if a.here then Some (length a.pages) else None
+
+abbrev pub sizes : SwapView → List (Option ℕ)
+sizes s = map size_of s.areas
+
+abbrev pub slots_in : Option ℕ → ℕ
+slots_in None = 0
+slots_in (Some n) = n
+
+-- the slots of the areas that are there
+abbrev pub slots : SwapView → ℕ
+slots s = sum_by slots_in (sizes s)
+
+-- how many slots of an area are owned
+abbrev pub used_in : AreaView → ℕ
+used_in a = used_count a.owners
+
+-- how many slots are owned
+abbrev pub used_slots : SwapView → ℕ
+used_slots s = sum_by used_in s.areas
+
 -- no area of a swap that was never spent is spent
 abbrev pub NoneSpent : SwapView → Type 0
 NoneSpent s = s.never_spent ≡ true → (area : ℕ) → area < length s.areas → (area_at s area).failed < last_count
+
+-- how many slots an area may have
+abbrev pub IsAreaSize : ℕ → Type 0
+IsAreaSize n = (1 ≤ n) × (n ≤ 65536)
+
+-- what is true of every area
+pub record IsArea (a : AreaView) : Type 0 where
+  pub small : length a.pages ≤ 65536
+  pub owned : length a.owners ≡ length a.pages
+  pub gone : a.here ≡ false → a.pages ≡ []
+  pub begun : a.start ≤ a.failed
+  pub countable : a.failed ≤ last_count
+
+-- what is true of every swap
+pub record IsSwap (s : SwapView) : Type 0 where
+  pub few : length s.areas ≤ 8
+  pub each : (area : ℕ) → IsArea (area_at s area)
+  pub unspent : NoneSpent s

@@ -1,44 +1,58 @@
-ghost use Rattle.std.specs.Prelude.{◌≡◌, ℕ, ◌+◌, ◌-◌, ◌<◌, ◌≤◌, ◌^◌, ◌⊎◌, List, length, set, get_or, replicate, MatchResult, MatchOption, IsOk, IfOk, IfErr, OnOk, true, false, None, Some, EachIndex, IfSome, []};
-ghost use Rattle.shm_pager.specs.Pages.{SlotUnknown};
+//! One swap area: its pager while that is there, and who owns each slot.
+ghost use Rattle.std.specs.Prelude.{◌≡◌, ◌<◌, ◌≤◌, [], length, get_or, Some, None, IfOk, IfErr};
+ghost use Rattle.shm_pager.specs.Pages.{seen, SlotUnknown};
+ghost use Rattle.shm_slots.specs.Owners.{IsLeastFree, FoundLeast};
 
-use crate::PageRef;
-use shm_pager::{Pager, PagerFault};
+use crate::owners::Owners;
+use shm_base::PageRef;
+use shm_pager::{Pager, PagerFault, try_read, try_write};
 use std::alloc::{AllocError, Global};
 use std::marker::Model;
 
+/// A swap area. It keeps what its pager's count stood at when it was handed in, and, once the pager is
+/// gone, what it stood at then.
 #[derive(Drop)]
-/// One swap area: its pager while it is there, and who owns each slot.
 pub struct Area<P: Pager> {
     pager: Option<P>,
-    owners: Vec<Option<PageRef>>,
+    owners: Owners,
     start: u64,
     last: u64,
 }
 
 impl<P: Pager> Model for Area<P> {
-    ghost use Rattle.std.specs.Prelude.{◌≡◌, ◌≤◌, ◌^◌, ◌<◌, length, true};
     ghost use Rattle.std.specs.Prelude.{is_some};
-    ghost use Rattle.shm_slots.specs.View.{AreaView, pages_of, count_of};
+    ghost use Rattle.shm_slots.specs.View.{AreaView, pages_of, count_of, IsArea};
 
     ghost Value = { AreaView };
 
-    ghost view = { λ a. record { here = is_some a.pager; pages = pages_of P.content a.pager; owners = a.owners.items; start = a.start; failed = count_of P.failed a.last a.pager } };
+    ghost view = { λ a. record {
+      here = is_some a.pager;
+      pages = pages_of P.content a.pager;
+      owners = a.owners;
+      start = a.start;
+      failed = count_of P.failed a.last a.pager;
+    } };
 
-    ghost invariant = { λ a. (length a.owners.items ≡ length (pages_of P.content a.pager)) × (length (pages_of P.content a.pager) < 2 ^ 32) × (a.start ≤ count_of P.failed a.last a.pager) × (count_of P.failed a.last a.pager < 2 ^ 64) };
+    ghost invariant = { λ a. IsArea (record {
+      here = is_some a.pager;
+      pages = pages_of P.content a.pager;
+      owners = a.owners;
+      start = a.start;
+      failed = count_of P.failed a.last a.pager;
+    }) };
 }
 
 impl<P: Pager> Area<P> {
-    ghost use Rattle.shm_slots.specs.View.{AreaView, with_page, with_owner, ReadFault, WriteFault, rise, off, fresh};
+    ghost use Rattle.shm_slots.specs.View.{with_page, with_owner, ReadFault, WriteFault, is_spent, rise, off, fresh, size_of, used_in, IsArea};
 
+    /// An area with no slot owned.
     pub fn new(alloc: Global, pager: P) -> Result<Area<P>, AllocError>
-        ensures { IfOk result (λ a. a ≡ fresh (P.content pager) (P.failed pager)) }
+        requires { length (P.content pager) ≤ 65536 }
+        ensures made { IfOk result (λ a. a ≡ fresh (seen P.content P.failed pager)) }
+        ensures sound { IfOk result IsArea }
     {
         let start = pager.failures();
-        let slots = pager.slots();
-        let mut owners = Vec::with_capacity(alloc, slots as usize)?;
-        for _i in 0..slots {
-            owners.push(None)?;
-        }
+        let owners = Owners::new(alloc, pager.slots())?;
         Ok(Area {
             pager: Some(pager),
             owners,
@@ -47,7 +61,7 @@ impl<P: Pager> Area<P> {
         })
     }
 
-    /// What the pager's count stands at.
+    /// What the pager's count stands at, or stood at last.
     pub fn count(&self) -> u64
         ensures { result ≡ self.now.failed }
     {
@@ -57,78 +71,109 @@ impl<P: Pager> Area<P> {
         }
     }
 
+    /// Whether the count stands at its last value.
+    pub fn is_spent(&self) -> bool
+        ensures { result ≡ is_spent self.now }
+    {
+        self.count() == u64::MAX
+    }
+
+    /// What the pager's count has risen by.
     pub fn rise(&self) -> u64
         ensures { result ≡ rise self.now }
     {
         self.count() - self.start
     }
 
-    pub fn is_here(&self) -> bool
-        ensures { result ≡ self.now.here }
+    /// How many slots there are, if the area is there.
+    pub fn size(&self) -> Option<u32>
+        ensures { result ≡ size_of self.now }
     {
-        self.pager.is_some()
+        Some(self.pager.as_ref()?.slots())
     }
 
+    /// How many slots are owned.
+    pub fn used(&self) -> u32
+        ensures { result ≡ used_in self.now }
+    {
+        self.owners.used()
+    }
+
+    /// Who owns a slot.
+    pub fn owner(&self, slot: u32) -> Option<PageRef>
+        requires { slot < length self.now.owners }
+        ensures { result ≡ get_or self.now.owners slot None }
+    {
+        self.owners.get(slot)
+    }
+
+    /// The least slot that nobody owns.
+    pub fn least_free(&self) -> Option<u32>
+        ensures { FoundLeast self.now.owners result }
+    {
+        self.owners.least_free()
+    }
+
+    /// Gives the least free slot an owner.
+    pub fn take(&mut self, slot: u32, owner: PageRef)
+        requires { IsLeastFree self.old.owners slot }
+        ensures taken { self.new ≡ with_owner self.old slot (Some owner) }
+        ensures sound { IsArea self.new }
+    {
+        self.owners.take(slot, owner);
+    }
+
+    /// Frees a slot, and tells the pager that nobody needs what it holds.
+    pub fn give(&mut self, slot: u32)
+        requires { slot < length self.old.pages }
+        ensures pages { SlotUnknown slot self.old.pages self.new.pages }
+        ensures rest { self.new ≡ record (with_owner self.old slot None) { pages = self.new.pages } }
+        ensures sound { IsArea self.new }
+    {
+        if let Some(pager) = &mut self.pager {
+            pager.discard(slot);
+        }
+        self.owners.give(slot);
+    }
+
+    /// Puts a page into a slot.
     pub fn write(&mut self, slot: u32, page: &[u8; 4096]) -> Result<(), PagerFault>
         requires { slot < length self.old.pages }
         ensures ok { IfOk result (λ _. self.new ≡ with_page self.old slot page.now) }
         ensures err { IfErr result (λ _. WriteFault slot self.old self.new) }
+        ensures rest { self.new ≡ record self.old { pages = self.new.pages; failed = self.new.failed } }
+        ensures counts { self.old.failed ≤ self.new.failed }
+        ensures sound { IsArea self.new }
     {
-        let Some(pager) = &mut self.pager else {
-            unreachable!()
-        };
-        if pager.failures() == u64::MAX {
-            return Err(PagerFault);
+        match &mut self.pager {
+            Some(pager) => try_write(pager, slot, page),
+            None => unreachable!(),
         }
-        pager.write(slot, page)
     }
 
+    /// Reads the page in a slot.
     pub fn read(&mut self, slot: u32, page: &mut [u8; 4096]) -> Result<(), PagerFault>
         requires { slot < length self.old.pages }
-        ensures ok { IfOk result (λ _. (self.new ≡ self.old) × (get_or self.old.pages slot [] ≡ page.new)) }
+        ensures ok { IfOk result (λ _. self.new ≡ self.old) }
+        ensures page { IfOk result (λ _. get_or self.old.pages slot [] ≡ page.new) }
         ensures err { IfErr result (λ _. ReadFault self.old self.new) }
+        ensures rest { self.new ≡ record self.old { failed = self.new.failed } }
+        ensures counts { self.old.failed ≤ self.new.failed }
+        ensures sound { IsArea self.new }
     {
-        let Some(pager) = &mut self.pager else {
-            unreachable!()
-        };
-        if pager.failures() == u64::MAX {
-            return Err(PagerFault);
+        match &mut self.pager {
+            Some(pager) => try_read(pager, slot, page),
+            None => unreachable!(),
         }
-        pager.read(slot, page)
     }
 
+    /// Drops the pager. The count stays as it stood.
     pub fn turn_off(&mut self)
-        requires { EachIndex self.old.owners (λ k. get_or self.old.owners k None ≡ None) }
-        ensures { self.new ≡ off self.old }
+        ensures gone { self.new ≡ off self.old }
+        ensures sound { IsArea self.new }
     {
         self.last = self.count();
-        self.owners.clear();
         self.pager = None;
-    }
-
-    /// The least slot that nobody owns.
-    pub fn free_slot(&self) -> Option<u32>
-        ensures { MatchOption result (EachIndex self.now.owners (λ k. get_or self.now.owners k None ≡ None → ⊥)) (λ s. (s < length self.now.pages) × (get_or self.now.owners s None ≡ None) × ((k : ℕ) → k < s → get_or self.now.owners k None ≡ None → ⊥)) }
-    {
-        for (i, owner) in self.owners.iter().enumerate() {
-            if owner.is_none() {
-                return Some(i as u32);
-            }
-        }
-        None
-    }
-
-    pub fn owner(&self, slot: u32) -> Option<PageRef>
-        requires { slot < length self.now.pages }
-        ensures { result ≡ get_or self.now.owners slot None }
-    {
-        self.owners[slot as usize]
-    }
-
-    pub fn set_owner(&mut self, slot: u32, owner: Option<PageRef>)
-        requires { slot < length self.old.pages }
-        ensures { self.new ≡ with_owner self.old slot owner }
-    {
-        self.owners[slot as usize] = owner;
+        self.owners.clear();
     }
 }

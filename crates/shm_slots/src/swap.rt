@@ -1,12 +1,17 @@
-ghost use Rattle.std.specs.Prelude.{◌≡◌, ℕ, ◌+◌, ◌-◌, ◌<◌, ◌≤◌, ◌^◌, ◌⊎◌, List, length, set, get_or, replicate, MatchResult, MatchOption, IsOk, IfOk, IfErr, OnOk, true, false, None, Some, EachIndex, IfSome, [], map, min, sum_by};
+//! All swap areas. A slot has one owner or none. Areas and slots are named by their numbers, which do
+//! not shift where an area goes.
+ghost use Rattle.std.specs.Prelude.{◌≡◌, ◌+◌, ◌<◌, ◌≤◌, ◌&&◌, [], length, get_or, set, map, min, true, not, Some, None, All, IfOk, IfErr, OnErr, IfNone, MatchOption, EachIndex};
+ghost use Rattle.std.specs.List.{list_any};
+ghost use Rattle.shm_pager.specs.Pages.{seen, last_count, SlotUnknown};
+ghost use Rattle.shm_slots.specs.View.{AreaView, is_spent};
 
 use crate::area::Area;
-use crate::{PageRef, Slot};
+use shm_base::{HostMemory, PageRef, Slot};
 use shm_pager::{Pager, PagerFault};
-use std::alloc::{AllocError, Global};
+use std::alloc::Global;
 use std::marker::Model;
 
-/// All swap areas.
+/// Up to eight swap areas, each of up to 65536 slots.
 #[derive(Drop)]
 pub struct Swap<P: Pager> {
     areas: Vec<Area<P>>,
@@ -14,47 +19,80 @@ pub struct Swap<P: Pager> {
 }
 
 impl<P: Pager> Model for Swap<P> {
-    ghost use Rattle.std.specs.Prelude.{◌≡◌, ◌≤◌, ◌^◌, ◌<◌, length, true};
-    ghost use Rattle.shm_slots.specs.View.{SwapView, NoneSpent};
+    ghost use Rattle.shm_slots.specs.View.{SwapView, IsSwap};
 
     ghost Value = { SwapView };
 
-    ghost view = { λ a. record { areas = a.areas.items; never_spent = a.never_spent } };
+    ghost view = { λ s. record { areas = s.areas.items; never_spent = s.never_spent } };
 
-    ghost invariant = { λ a. (length a.areas.items ≤ 8) × NoneSpent (record { areas = a.areas.items; never_spent = a.never_spent }) };
+    ghost invariant = { λ s. IsSwap (record { areas = s.areas.items; never_spent = s.never_spent }) };
 }
 
-ghost use Rattle.shm_slots.specs.View.{no_area, last_count};
-
-fn none_spent<P: Pager>(areas: &[Area<P>]) -> bool
-    ensures { result ≡ true → (i : ℕ) → i < length areas.now → (get_or areas.now i no_area).failed < last_count }
+// Whether no area was ever spent, this one as it is now included.
+fn stays_unspent<P: Pager>(never_spent: bool, area: &Area<P>) -> bool
+    ensures { result ≡ (never_spent && not (is_spent area.now)) }
 {
-    for i in 0..areas.len() {
-        if areas[i].count() == u64::MAX {
-            return false;
-        }
-    }
-    true
+    never_spent && !area.is_spent()
 }
 
+#[tactic(auto, using(crate::proofs::Counts::counting_slots))]
 impl<P: Pager> Swap<P> {
-    ghost use Rattle.shm_slots.specs.View.{SwapView, AreaView, with_page, with_owner, with_area, area_at, HasSlot, owner_of, page_in, AllOwnedBelow, IsFirstFree, OneArea, SameSlots, NoneSpent, ReadFault, WriteFault, rise, rises, off, fresh};
+    ghost use Rattle.shm_slots.specs.View.{SwapView, new_swap, fresh, area_at, with_area, off, HasSlot, owner_of, page_in, with_slot_page, without_slot, FoundFree, Takes, OneArea, SameSlots, ReadFault, WriteFault, size_of, sizes, slots, used_in, used_slots, IsAreaSize, IsSwap};
+    ghost use Rattle.shm_slots.specs.Cause.{total, had_cause, GoesOn, IsSteady};
 
-    pub fn new(alloc: Global, pagers: Vec<P>) -> Result<Swap<P>, AllocError>
-        requires { length pagers.items ≤ 8 }
-        ensures { IfOk result (λ s. s.areas ≡ map (λ p. fresh (P.content p) (P.failed p)) pagers.items) }
+    /// Swap over these pagers, which become the areas 0, 1 and so on. No slot is owned. A pager that is
+    /// spent when it is handed in counts as an area that was spent.
+    pub fn new(alloc: Global, pagers: Vec<P>) -> Result<Swap<P>, HostMemory>
+        requires areas { (1 ≤ length pagers.items) × (length pagers.items ≤ 8) }
+        requires sizes { All (λ p. IsAreaSize (length (P.content p))) pagers.items }
+        ensures { IfOk result (λ s.
+            s ≡ new_swap (map (λ p. fresh (seen P.content P.failed p)) pagers.items)) }
     {
         let mut areas = Vec::with_capacity(alloc, pagers.len())?;
+        let mut never_spent = true;
         for pager in pagers {
             let area = Area::new(alloc, pager)?;
+            never_spent = stays_unspent(never_spent, &area);
             areas.push(area)?;
         }
-        let never_spent = none_spent(&areas);
         Ok(Swap { areas, never_spent })
     }
 
+    /// The slots of the areas that are there.
+    pub fn capacity(&self) -> u64
+        ensures { result ≡ slots self.now }
+    {
+        let mut total: u64 = 0;
+        for area in &self.areas {
+            total += u64::from(area.size().unwrap_or(0));
+        }
+        total
+    }
+
+    /// How many slots are owned.
+    pub fn used(&self) -> u64
+        ensures { result ≡ used_slots self.now }
+    {
+        let mut total: u64 = 0;
+        for area in &self.areas {
+            total += u64::from(area.used());
+        }
+        total
+    }
+
+    /// How many slots an area has, if it is there.
+    pub fn size(&self, area: u32) -> Option<u32>
+        ensures { result ≡ size_of (area_at self.now area) }
+    {
+        self.areas.get(area as usize)?.size()
+    }
+
+    #[tactic(auto, unfolding(crate::specs::Cause::total))]
+    /// How many failures the pagers have counted since they were handed in, those gone included. The
+    /// sum stays at `u64::MAX`.
     pub fn failures(&self) -> u64
-        ensures { result ≡ min (rises self.now.areas) (2 ^ 64 - 1) }
+        ensures value { result ≡ min (total self.now) last_count }
+        ensures sound { IsSwap self.now }
     {
         let mut total: u64 = 0;
         for area in &self.areas {
@@ -63,13 +101,15 @@ impl<P: Pager> Swap<P> {
         total
     }
 
+    /// Whether no area, those gone included, was ever spent: its pager's count at `u64::MAX`.
     pub fn never_spent(&self) -> bool
         ensures value { result ≡ self.now.never_spent }
-        ensures sound { NoneSpent self.now }
+        ensures sound { IsSwap self.now }
     {
         self.never_spent
     }
 
+    /// Who owns a slot.
     pub fn owner(&self, slot: Slot) -> Option<PageRef>
         requires { HasSlot self.now slot.area slot.slot }
         ensures { result ≡ owner_of self.now slot.area slot.slot }
@@ -77,72 +117,117 @@ impl<P: Pager> Swap<P> {
         self.areas[slot.area as usize].owner(slot.slot)
     }
 
-    /// The least free slot of the lowest-numbered area that has one.
-    fn free_slot(&self) -> Option<Slot>
-        ensures { MatchOption result (AllOwnedBelow self.now (length self.now.areas)) (λ s. IsFirstFree self.now s.area s.slot) }
+    /// Gives the least free slot of the lowest-numbered area that has one an owner. None only where all
+    /// slots are owned.
+    pub fn take_slot(&mut self, owner: PageRef) -> Option<Slot>
+        ensures found { FoundFree self.old None result }
+        ensures taken { Takes owner self.old result self.new }
+        ensures full { IfNone result (used_slots self.old ≡ slots self.old) }
+        ensures steady { IsSteady self.old self.new }
+        ensures sound { IsSwap self.new }
+    {
+        self.take_free(owner, None)
+    }
+
+    /// As [`Swap::take_slot`], among the other areas than this one.
+    pub fn take_outside(&mut self, owner: PageRef, area: u32) -> Option<Slot>
+        ensures found { FoundFree self.old (Some area) result }
+        ensures taken { Takes owner self.old result self.new }
+        ensures full { let without = area_at self.old area in
+            IfNone result
+            (used_slots self.old + length without.pages ≡ slots self.old + used_in without) }
+        ensures steady { IsSteady self.old self.new }
+        ensures sound { IsSwap self.new }
+    {
+        self.take_free(owner, Some(area))
+    }
+
+    fn take_free(&mut self, owner: PageRef, left_out: Option<u32>) -> Option<Slot>
+        ensures found { FoundFree self.old left_out result }
+        ensures taken { Takes owner self.old result self.new }
+        ensures steady { IsSteady self.old self.new }
+        ensures sound { IsSwap self.new }
+    {
+        let slot = self.first_free(left_out)?;
+        self.areas[slot.area as usize].take(slot.slot, owner);
+        Some(slot)
+    }
+
+    // The least free slot of the lowest-numbered area that has one, but for one area.
+    fn first_free(&self, left_out: Option<u32>) -> Option<Slot>
+        ensures { FoundFree self.now left_out result }
     {
         for i in 0..self.areas.len() {
-            if let Some(slot) = self.areas[i].free_slot() {
-                return Some(Slot {
-                    area: i as u32,
-                    slot,
-                });
+            let area = i as u32;
+            if left_out == Some(area) {
+                continue;
+            }
+            if let Some(slot) = self.areas[i].least_free() {
+                return Some(Slot { area, slot });
             }
         }
         None
     }
 
-    pub fn take_slot(&mut self, owner: PageRef) -> Option<Slot>
-        ensures full { MatchOption result (AllOwnedBelow self.old (length self.old.areas)) (λ s. IsFirstFree self.old s.area s.slot) }
-        ensures taken { MatchOption result (self.new ≡ self.old) (λ s. self.new ≡ with_area self.old s.area (with_owner (area_at self.old s.area) s.slot (Some owner))) }
-    {
-        let slot = self.free_slot()?;
-        self.areas[slot.area as usize].set_owner(slot.slot, Some(owner));
-        Some(slot)
-    }
-
+    /// Puts a page into a slot. After an error nobody knows what the slot holds.
     pub fn write_slot(&mut self, slot: Slot, page: &[u8; 4096]) -> Result<(), PagerFault>
         requires { HasSlot self.old slot.area slot.slot }
-        ensures ok { IfOk result (λ _. self.new ≡ with_area self.old slot.area (with_page (area_at self.old slot.area) slot.slot page.now)) }
-        ensures err { IfErr result (λ _. WriteFault slot.slot (area_at self.old slot.area) (area_at self.new slot.area)) }
+        ensures ok { IfOk result (λ _. self.new ≡ with_slot_page self.old slot page.now) }
+        ensures err { IfErr result (λ _.
+            WriteFault slot.slot (area_at self.old slot.area) (area_at self.new slot.area)) }
+        ensures cause { OnErr result (had_cause self.old self.new ≡ true) }
         ensures others { OneArea slot.area self.old self.new }
-        ensures sound { NoneSpent self.old × NoneSpent self.new }
+        ensures goes_on { GoesOn self.old self.new }
+        ensures sizes { sizes self.new ≡ sizes self.old }
+        ensures sound { IsSwap self.new }
     {
         let area = &mut self.areas[slot.area as usize];
         let result = area.write(slot.slot, page);
-        if area.count() == u64::MAX {
-            self.never_spent = false;
-        }
+        self.never_spent = stays_unspent(self.never_spent, area);
         result
     }
 
+    /// Reads the page in a slot. After an error nobody knows what the buffer holds.
     pub fn read_slot(&mut self, slot: Slot, page: &mut [u8; 4096]) -> Result<(), PagerFault>
         requires { HasSlot self.old slot.area slot.slot }
-        ensures ok { IfOk result (λ _. (self.new ≡ self.old) × (page_in self.old slot.area slot.slot ≡ page.new)) }
-        ensures err { IfErr result (λ _. ReadFault (area_at self.old slot.area) (area_at self.new slot.area)) }
+        ensures ok { IfOk result (λ _. self.new ≡ self.old) }
+        ensures page { IfOk result (λ _. page_in self.old slot.area slot.slot ≡ page.new) }
+        ensures err { IfErr result (λ _.
+            ReadFault (area_at self.old slot.area) (area_at self.new slot.area)) }
+        ensures cause { OnErr result (had_cause self.old self.new ≡ true) }
         ensures kept { SameSlots self.old self.new }
         ensures others { OneArea slot.area self.old self.new }
-        ensures sound { NoneSpent self.old × NoneSpent self.new }
+        ensures goes_on { GoesOn self.old self.new }
+        ensures sizes { sizes self.new ≡ sizes self.old }
+        ensures sound { IsSwap self.new }
     {
         let area = &mut self.areas[slot.area as usize];
         let result = area.read(slot.slot, page);
-        if area.count() == u64::MAX {
-            self.never_spent = false;
-        }
+        self.never_spent = stays_unspent(self.never_spent, area);
         result
     }
 
+    /// Frees a slot. Its pager is told that nobody needs what the slot holds, so that nobody knows
+    /// afterwards what that is.
     pub fn give_slot(&mut self, slot: Slot)
         requires { HasSlot self.old slot.area slot.slot }
-        ensures { self.new ≡ with_area self.old slot.area (with_owner (area_at self.old slot.area) slot.slot None) }
+        ensures given { self.new ≡ without_slot self.old slot (page_in self.new slot.area slot.slot) }
+        ensures steady { IsSteady self.old self.new }
+        ensures sound { IsSwap self.new }
     {
-        self.areas[slot.area as usize].set_owner(slot.slot, None);
+        self.areas[slot.area as usize].give(slot.slot);
     }
 
+    /// Drops an area's pager. The area keeps its number and what its pager has counted.
     pub fn turn_off(&mut self, area: u32)
         requires there { area < length self.old.areas }
-        requires free { EachIndex (area_at self.old area).owners (λ k. owner_of self.old area k ≡ None) }
-        ensures { self.new ≡ with_area self.old area (off (area_at self.old area)) }
+        requires free { let owners = (area_at self.old area).owners in
+            EachIndex owners (λ slot. owner_of self.old area slot ≡ None) }
+        ensures gone { self.new ≡ with_area self.old area (off (area_at self.old area)) }
+        ensures goes_on { GoesOn self.old self.new }
+        ensures failures { total self.new ≡ total self.old }
+        ensures sizes { sizes self.new ≡ set (sizes self.old) area None }
+        ensures sound { IsSwap self.new }
     {
         self.areas[area as usize].turn_off();
     }

@@ -15,11 +15,6 @@ returns-clause-value c =
     rw (same, slice-met c.args.from c.args.to c.deref.result.now c.run_in-run.result.first c.run_in-run.result.last c.run_in-run.ensures)
     (ap (met c.args.from c.args.to) own)
 
-pub returns-clause-arranged : goal.returns-clause-arranged
-returns-clause-arranged c =
-    let before : Arranged lowest_address (bare_all c.args.self.now) = rw (← c.self.view_is) c.self.invariant.0 in
-    rw (returns-clause-value c) (arranged_filter (λ (p : Piece). meets c.args.from c.args.to (bare p)) lowest_address c.args.self.now before)
-
 pub returns-clause-count : goal.returns-clause-count
 returns-clause-count c =
     let test = λ (p : Piece). meets c.args.from c.args.to (bare p) in

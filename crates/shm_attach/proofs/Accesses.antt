@@ -1,0 +1,153 @@
+-- An access within one page asks for a run of one piece; one over two pages asks for the places of both.
+use Rattle.std.proofs.Common.{◌≡◌, inl, inr, ℕ, zero, suc, ◌+◌, ◌-◌, ◌*◌, ◌%◌, ◌<◌, ◌≤◌, Bool, true, false, not, ◌&&◌, List, [], ◌∷◌, ◌++◌, map, Option, Some, None, option_map, refl, ap, sym, subst, ◌∙◌, arith}
+use Rattle.std.specs.Prelude.{All}
+use Rattle.std.proofs.lemmas.Bool.{cases_Bool}
+use Rattle.std.proofs.lemmas.Option.{none-some}
+use Rattle.std.proofs.lemmas.List.{map-append}
+use Rattle.shm_base.specs.State.{Piece}
+use Rattle.shm_base.specs.Access.{Place, place, places, place_by, joined, covers, all_writable, only_writable, writable_places}
+use Rattle.shm_areas.specs.Arranged.{covering}
+use Rattle.shm_areas.proofs.Placing.{place_covering}
+use Rattle.shm_attach.specs.Spans.{run, unmarked, wanted_in}
+
+-- TWO PARTS OF AN ACCESS
+
+abbrev pub both : Option (List Place) → Option (List Place) → Option (List Place)
+both None rest = None
+both (Some xs) None = None
+both (Some xs) (Some ys) = Some (xs ++ ys)
+
+both-nil : (o : Option (List Place)) → both (Some []) o ≡ o
+both-nil None = refl
+both-nil (Some ys) = refl
+
+joined-both : (p : Option Place) (x y : Option (List Place)) → joined p (both x y) ≡ both (joined p x) y
+joined-both None x y = refl
+joined-both (Some p) None y = refl
+joined-both (Some p) (Some xs) None = refl
+joined-both (Some p) (Some xs) (Some ys) = refl
+
+places-sum : (ps : List Piece) (a n m : ℕ) → places ps a (n + m) ≡ both (places ps a n) (places ps (a + n) m)
+places-sum ps a zero m =
+    let here : a + 0 ≡ a = omega arith in
+    let all : 0 + m ≡ m = omega arith in
+    rw (here, all) (sym (both-nil (places ps a m)))
+places-sum ps a (suc n) m =
+    let next : a + suc n ≡ (a + 1) + n = omega arith in
+    let more : suc n + m ≡ suc (n + m) = omega arith in
+    rw (next, more) (ap (joined (place ps a)) (places-sum ps (a + 1) n m) ∙ joined-both (place ps a) (places ps (a + 1) n) (places ps ((a + 1) + n) m))
+
+all_writable-append : (xs ys : List Place) → all_writable (xs ++ ys) ≡ (all_writable xs && all_writable ys)
+all_writable-append [] ys = refl
+all_writable-append (x ∷ xs) ys =
+    elim (cases_Bool x.writable) [
+      | inl h ↦ rw h (all_writable-append xs ys)
+      | inr h ↦ rw h refl
+    ]
+
+only_writable-both : (x y : Option (List Place)) → only_writable (both x y) ≡ both (only_writable x) (only_writable y)
+only_writable-both None y = refl
+only_writable-both (Some xs) None = elim (cases_Bool (all_writable xs)) [ inl h ↦ rw h refl | inr h ↦ rw h refl ]
+only_writable-both (Some xs) (Some ys) =
+    elim (cases_Bool (all_writable xs)) [
+      | inl h ↦ elim (cases_Bool (all_writable ys)) [ inl k ↦ rw (all_writable-append xs ys, h, k) refl | inr k ↦ rw (all_writable-append xs ys, h, k) refl ]
+      | inr h ↦ rw (all_writable-append xs ys, h) refl
+    ]
+
+map-both : (x y : Option (List Place)) → option_map (map unmarked) (both x y) ≡ both (option_map (map unmarked) x) (option_map (map unmarked) y)
+map-both None y = refl
+map-both (Some xs) None = refl
+map-both (Some xs) (Some ys) = ap (λ (zs : List Place). Some zs) (map-append unmarked xs ys)
+
+pub wanted_in-sum : (w : Bool) (ps : List Piece) (a n m : ℕ) → wanted_in w ps a (n + m) ≡ both (wanted_in w ps a n) (wanted_in w ps (a + n) m)
+wanted_in-sum false ps a n m = ap (option_map (map unmarked)) (places-sum ps a n m) ∙ map-both (places ps a n) (places ps (a + n) m)
+wanted_in-sum true ps a n m =
+    ap (λ o. option_map (map unmarked) (only_writable o)) (places-sum ps a n m)
+    ∙ ap (option_map (map unmarked)) (only_writable-both (places ps a n) (places ps (a + n) m))
+    ∙ map-both (writable_places ps a n) (writable_places ps (a + n) m)
+
+pub wanted_in-first : (w : Bool) (ps : List Piece) (a n m len : ℕ) → n + m ≡ len → wanted_in w ps a n ≡ None → wanted_in w ps a len ≡ None
+wanted_in-first w ps a n m len sum none = rw (← sum) (wanted_in-sum w ps a n m ∙ ap (λ o. both o (wanted_in w ps (a + n) m)) none)
+
+pub wanted_in-second : (w : Bool) (ps : List Piece) (a n m len : ℕ) (xs : List Place) → n + m ≡ len → wanted_in w ps a n ≡ Some xs → wanted_in w ps (a + n) m ≡ None
+    → wanted_in w ps a len ≡ None
+wanted_in-second w ps a n m len xs sum some none = rw (← sum) (wanted_in-sum w ps a n m ∙ rw (some, none) refl)
+
+pub wanted_in-both : (w : Bool) (ps : List Piece) (a n m len : ℕ) (xs ys : List Place) → n + m ≡ len → wanted_in w ps a n ≡ Some xs → wanted_in w ps (a + n) m ≡ Some ys
+    → wanted_in w ps a len ≡ Some (xs ++ ys)
+wanted_in-both w ps a n m len xs ys sum some more = rw (← sum) (wanted_in-sum w ps a n m ∙ rw (some, more) refl)
+
+-- ONE PIECE
+
+-- where each address of a range lies in the piece, it denotes a run
+pub places-run : (ps : List Piece) (p : Piece) (a n : ℕ) → p.base ≤ a → ((b : ℕ) → a ≤ b → b < a + n → covering b ps ≡ Some p)
+    → places ps a n ≡ Some (run p.seg (4096 * p.first_page + (a - p.base)) n p.writable)
+places-run ps p a zero le all = refl
+places-run ps p a (suc n) le all =
+    let here : place ps a ≡ Some (place_by p a) = place_covering a ps ∙ ap (option_map (λ (q : Piece). place_by q a)) (all a (omega arith) (omega arith)) in
+    let next : 4096 * p.first_page + ((a + 1) - p.base) ≡ 4096 * p.first_page + (a - p.base) + 1 = omega (arith, le) in
+    let rest = places-run ps p (a + 1) n (omega (arith, le)) (λ b g l. all b (omega (arith, g)) (omega (arith, l))) in
+    let after : places ps (a + 1) n ≡ Some (run p.seg (4096 * p.first_page + (a - p.base) + 1) n p.writable) = rw next at rest in
+    rw (here, after) refl
+
+unmarked-run : (seg at n : ℕ) (w : Bool) → map unmarked (run seg at n w) ≡ run seg at n false
+unmarked-run seg at zero w = refl
+unmarked-run seg at (suc n) w = ap (λ (ps : List Place). record { seg = seg; at = at; writable = false } ∷ ps) (unmarked-run seg (at + 1) n w)
+
+all_writable-run : (seg at n : ℕ) → all_writable (run seg at n true) ≡ true
+all_writable-run seg at zero = refl
+all_writable-run seg at (suc n) = all_writable-run seg (at + 1) n
+
+pub wanted_in-run : (w : Bool) (ps : List Piece) (p : Piece) (a n : ℕ) → (w ≡ true → p.writable ≡ true) → p.base ≤ a
+    → ((b : ℕ) → a ≤ b → b < a + n → covering b ps ≡ Some p)
+    → wanted_in w ps a n ≡ Some (run p.seg (4096 * p.first_page + (a - p.base)) n false)
+wanted_in-run false ps p a n may le all =
+    ap (option_map (map unmarked)) (places-run ps p a n le all) ∙ ap (λ (xs : List Place). Some xs) (unmarked-run p.seg (4096 * p.first_page + (a - p.base)) n p.writable)
+wanted_in-run true ps p a n may le all =
+    let at = 4096 * p.first_page + (a - p.base) in
+    let whole : places ps a n ≡ Some (run p.seg at n true) = rw (may refl) at (places-run ps p a n le all) in
+    rw (whole, all_writable-run p.seg at n) (ap (λ (xs : List Place). Some xs) (unmarked-run p.seg at n true))
+
+-- an address without a piece
+pub wanted_in-none : (w : Bool) (ps : List Piece) (a n : ℕ) → 1 ≤ n → covering a ps ≡ None → wanted_in w ps a n ≡ None
+wanted_in-none w ps a zero some none = absurd (omega arith)
+wanted_in-none false ps a (suc n) some none =
+    let here : place ps a ≡ None = place_covering a ps ∙ ap (option_map (λ (q : Piece). place_by q a)) none in
+    rw here refl
+wanted_in-none true ps a (suc n) some none =
+    let here : place ps a ≡ None = place_covering a ps ∙ ap (option_map (λ (q : Piece). place_by q a)) none in
+    rw here refl
+
+-- a write through a piece that is read-only
+pub wanted_in-readonly : (ps : List Piece) (p : Piece) (a n : ℕ) → 1 ≤ n → covering a ps ≡ Some p → p.writable ≡ false → wanted_in true ps a n ≡ None
+wanted_in-readonly ps p a zero some found only = absurd (omega arith)
+wanted_in-readonly ps p a (suc n) some found only =
+    let here : place ps a ≡ Some (place_by p a) = place_covering a ps ∙ ap (option_map (λ (q : Piece). place_by q a)) found in
+    rw here (rest (places ps (a + 1) n))
+  where
+    rest : (o : Option (List Place)) → option_map (map unmarked) (only_writable (joined (Some (place_by p a)) o)) ≡ None
+    rest None = refl
+    rest (Some xs) = rw only refl
+
+-- THE PIECE OF AN ADDRESS
+
+-- what holds of all pieces holds of the one that an address lies in
+pub covering-passes : (P : Piece → Type 0) (a : ℕ) (ps : List Piece) (p : Piece) → All P ps → covering a ps ≡ Some p → P p
+covering-passes P a [] p all found = absurd (none-some p found)
+covering-passes P a (q ∷ ps) p all found =
+    elim (cases_Bool (covers q a)) [
+      | inl h ↦ let same : q ≡ p = cc (rw h at found) in subst P same (all 0 q (omega arith))
+      | inr h ↦ covering-passes P a ps p (λ k d l. all (suc k) d (omega arith)) (rw h at found)
+    ]
+
+-- the addresses of a page lie on one side of a whole page's boundary
+pub in_page : (base pages a b n : ℕ) → base % 4096 ≡ 0 → base ≤ a → a < base + 4096 * pages → a % 4096 + n ≤ 4096 → b < a + n → b < base + 4096 * pages
+in_page base pages a b n aligned from to page lt = omega (arith, aligned, from, to, page, lt)
+
+pub from_not : (b : Bool) → not b ≡ true → b ≡ false
+from_not true h = sym h
+from_not false h = refl
+
+pub from_not_false : (b : Bool) → not b ≡ false → b ≡ true
+from_not_false true h = refl
+from_not_false false h = sym h

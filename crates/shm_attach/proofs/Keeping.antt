@@ -1,0 +1,291 @@
+-- The counts stay exact, and no process gets too many pieces.
+use Rattle.std.proofs.Common.{◌≡◌, ◌≢◌, ◌⊎◌, inl, inr, ℕ, zero, suc, ◌+◌, ◌-◌, ◌*◌, ◌/◌, ◌<◌, ◌≤◌, false, ◌==◌, nat_lt, List, [], ◌∷◌, ◌++◌, length, get_or, set, map, take, eq-eqb, refl, ap, sym, ◌∙◌, arith, length-set}
+use Rattle.std.proofs.lemmas.Bool.{cases_eq, cases_lt, cases_Bool, le-ltb, lt-ltb, and_right, or_parts}
+use Rattle.std.proofs.lemmas.Option.{slice_get-get_or}
+use Rattle.std.proofs.lemmas.List.{get_or-set_same, get_or-set_other, set-set, take_more}
+use Rattle.std.proofs.lemmas.List.Sums.{sum_by-cons, sum_by-set, count_by-le-length}
+use Rattle.shm_base.specs.State.{Piece, Life, Unborn, Runner}
+use Rattle.shm_base.specs.Access.{end_of}
+use Rattle.shm_base.specs.Space.{lowest_address, last_address, cut_segments, without_named, is_named, meets, occupied, cut, parts, part_below, part_above, pieces_of}
+use Rattle.shm_base.specs.Segments.{attach_count}
+use Rattle.shm_areas.specs.Arranged.{bare, bare_all, Arranged}
+use Rattle.shm_areas.specs.declared.piece.Piece.{Piece as Stored}
+use Rattle.shm_areas.proofs.Edits.{lower}
+use Rattle.shm_attach.specs.declared.counts.Counts.{Counts}
+use Rattle.shm_attach.specs.Views.{counted, one_if, with_own, with_pieces_at, with_other_life, with_life_at}
+use Rattle.shm_attach.specs.Spaces.{pieces_at, life_at}
+use Rattle.shm_attach.specs.Exact.{IsExact}
+use Rattle.shm_attach.proofs.Processes.{nobody, attach_count-changed, one_more, pieces_of-append}
+
+-- THE PROCESS THAT CHANGES
+
+pub with_pieces_at-within : (rs : List Runner) (i : ℕ) (f : List Piece → List Piece) → i < length rs
+    → with_pieces_at rs i f ≡ set rs i (record (get_or rs i nobody) { pieces = f (get_or rs i nobody).pieces })
+with_pieces_at-within rs i f lt = ap (with_own rs i f) (slice_get-get_or rs i nobody lt)
+
+pub with_life_at-within : (rs : List Runner) (i : ℕ) (l : Life) → i < length rs → with_life_at rs i l ≡ set rs i (record (get_or rs i nobody) { life = l })
+with_life_at-within rs i l lt = ap (with_other_life rs i l) (slice_get-get_or rs i nobody lt)
+
+pub pieces_at-get_or : (rs : List Runner) (i : ℕ) → pieces_at rs i ≡ (get_or rs i nobody).pieces
+pieces_at-get_or [] i = refl
+pieces_at-get_or (r ∷ rs) zero = refl
+pieces_at-get_or (r ∷ rs) (suc i) = pieces_at-get_or rs i
+
+pub life_at-get_or : (rs : List Runner) (i : ℕ) → life_at rs i ≡ (get_or rs i nobody).life
+life_at-get_or [] i = refl
+life_at-get_or (r ∷ rs) zero = refl
+life_at-get_or (r ∷ rs) (suc i) = life_at-get_or rs i
+
+pub pieces_at-set : (rs : List Runner) (i : ℕ) (r : Runner) → i < length rs → pieces_at (set rs i r) i ≡ r.pieces
+pieces_at-set rs i r lt = pieces_at-get_or (set rs i r) i ∙ ap (λ (x : Runner). x.pieces) (get_or-set_same rs i r nobody lt)
+
+pub pieces_at-set_other : (rs : List Runner) (i j : ℕ) (r : Runner) → j ≢ i → pieces_at (set rs i r) j ≡ pieces_at rs j
+pieces_at-set_other rs i j r other =
+    pieces_at-get_or (set rs i r) j ∙ ap (λ (x : Runner). x.pieces) (get_or-set_other rs i j r nobody other) ∙ sym (pieces_at-get_or rs j)
+
+pub life_at-set : (rs : List Runner) (i : ℕ) (r : Runner) → i < length rs → life_at (set rs i r) i ≡ r.life
+life_at-set rs i r lt = life_at-get_or (set rs i r) i ∙ ap (λ (x : Runner). x.life) (get_or-set_same rs i r nobody lt)
+
+pub life_at-set_other : (rs : List Runner) (i j : ℕ) (r : Runner) → j ≢ i → life_at (set rs i r) j ≡ life_at rs j
+life_at-set_other rs i j r other =
+    life_at-get_or (set rs i r) j ∙ ap (λ (x : Runner). x.life) (get_or-set_other rs i j r nobody other) ∙ sym (life_at-get_or rs j)
+
+pub length-with_pieces_at : (rs : List Runner) (i : ℕ) (f : List Piece → List Piece) → i < length rs → length (with_pieces_at rs i f) ≡ length rs
+length-with_pieces_at rs i f lt = ap length (with_pieces_at-within rs i f lt) ∙ length-set rs i _
+
+pub pieces_at-changed : (rs : List Runner) (i : ℕ) (f : List Piece → List Piece) → i < length rs → pieces_at (with_pieces_at rs i f) i ≡ f (pieces_at rs i)
+pieces_at-changed rs i f lt =
+    ap (λ (xs : List Runner). pieces_at xs i) (with_pieces_at-within rs i f lt)
+    ∙ pieces_at-set rs i (record (get_or rs i nobody) { pieces = f (get_or rs i nobody).pieces }) lt
+    ∙ ap f (sym (pieces_at-get_or rs i))
+
+pub pieces_at-other : (rs : List Runner) (i j : ℕ) (f : List Piece → List Piece) → i < length rs → j ≢ i → pieces_at (with_pieces_at rs i f) j ≡ pieces_at rs j
+pieces_at-other rs i j f lt other =
+    ap (λ (xs : List Runner). pieces_at xs j) (with_pieces_at-within rs i f lt)
+    ∙ pieces_at-set_other rs i j (record (get_or rs i nobody) { pieces = f (get_or rs i nobody).pieces }) other
+
+-- two changes are one
+pub with_pieces_at-twice : (rs : List Runner) (i : ℕ) (f g : List Piece → List Piece) → i < length rs
+    → with_pieces_at (with_pieces_at rs i f) i g ≡ with_pieces_at rs i (λ ps. g (f ps))
+with_pieces_at-twice rs i f g lt =
+    let r = get_or rs i nobody in
+    let once : Runner = record r { pieces = f r.pieces } in
+    let long = length-with_pieces_at rs i f lt in
+    let changed = with_pieces_at-within rs i f lt in
+    let there : get_or (with_pieces_at rs i f) i nobody ≡ once = ap (λ (xs : List Runner). get_or xs i nobody) changed ∙ get_or-set_same rs i once nobody lt in
+    with_pieces_at-within (with_pieces_at rs i f) i g (omega (arith, long))
+    ∙ ap (λ (x : Runner). set (with_pieces_at rs i f) i (record x { pieces = g x.pieces })) there
+    ∙ ap (λ (xs : List Runner). set xs i (record once { pieces = g once.pieces })) changed
+    ∙ set-set rs i once (record once { pieces = g once.pieces })
+    ∙ sym (with_pieces_at-within rs i (λ ps. g (f ps)) lt)
+
+-- other pieces and then another state are another process
+pub with_life_at-pieces : (rs : List Runner) (i : ℕ) (f : List Piece → List Piece) (l : Life) → i < length rs
+    → with_life_at (with_pieces_at rs i f) i l ≡ set rs i (record { pid = (get_or rs i nobody).pid; life = l; pieces = f (get_or rs i nobody).pieces })
+with_life_at-pieces rs i f l lt =
+    let r = get_or rs i nobody in
+    let once : Runner = record r { pieces = f r.pieces } in
+    let long = length-with_pieces_at rs i f lt in
+    let changed = with_pieces_at-within rs i f lt in
+    let there : get_or (with_pieces_at rs i f) i nobody ≡ once = ap (λ (xs : List Runner). get_or xs i nobody) changed ∙ get_or-set_same rs i once nobody lt in
+    with_life_at-within (with_pieces_at rs i f) i l (omega (arith, long))
+    ∙ ap (λ (x : Runner). set (with_pieces_at rs i f) i (record x { life = l })) there
+    ∙ ap (λ (xs : List Runner). set xs i (record once { life = l })) changed
+    ∙ set-set rs i once (record once { life = l })
+
+-- THE COUNTS
+
+-- one process is replaced by another, and the counts follow
+pub IsExact-set : (rs : List Runner) (i : ℕ) (r : Runner) (c d : Counts) → IsExact rs c → i < length rs → length r.pieces ≤ 256
+    → Arranged lowest_address r.pieces → (r.life ≡ Unborn → r.pieces ≡ [])
+    → ((id : ℕ) → counted d id + pieces_of id (pieces_at rs i) ≡ counted c id + pieces_of id r.pieces)
+    → IsExact (set rs i r) d
+IsExact-set rs i r c d exact lt few order asleep counts =
+    record {
+      counts = λ id.
+          let moved = sum_by-set (λ (x : Runner). pieces_of id x.pieces) rs i r nobody lt in
+          omega (arith, counts id, exact.counts id, moved, ap (pieces_of id) (pieces_at-get_or rs i));
+      processes = rw (length-set rs i r) exact.processes;
+      pieces = λ j. short j (cases_eq j i);
+      unborn = λ j none. empty j none (cases_eq j i);
+      arranged = λ j. in_order j (cases_eq j i);
+    }
+  where
+    short : (j : ℕ) → (j ≡ i) ⊎ (j ≢ i) → length (pieces_at (set rs i r) j) ≤ 256
+    short j (inl same) = rw (same, pieces_at-set rs i r lt) few
+    short j (inr other) = rw (pieces_at-set_other rs i j r other) (exact.pieces j)
+
+    in_order : (j : ℕ) → (j ≡ i) ⊎ (j ≢ i) → Arranged lowest_address (pieces_at (set rs i r) j)
+    in_order j (inl same) = rw (same, pieces_at-set rs i r lt) order
+    in_order j (inr other) = rw (pieces_at-set_other rs i j r other) (exact.arranged j)
+
+    empty : (j : ℕ) → life_at (set rs i r) j ≡ Unborn → (j ≡ i) ⊎ (j ≢ i) → pieces_at (set rs i r) j ≡ []
+    empty j none (inl same) =
+        rw (same, pieces_at-set rs i r lt) (asleep (sym (life_at-set rs i r lt) ∙ ap (life_at (set rs i r)) (sym same) ∙ none))
+    empty j none (inr other) = rw (pieces_at-set_other rs i j r other) (exact.unborn j (sym (life_at-set_other rs i j r other) ∙ none))
+
+pub IsExact-changed : (rs : List Runner) (i : ℕ) (f : List Piece → List Piece) (c d : Counts) → IsExact rs c → i < length rs → length (f (pieces_at rs i)) ≤ 256
+    → Arranged lowest_address (f (pieces_at rs i)) → (life_at rs i ≡ Unborn → f (pieces_at rs i) ≡ [])
+    → ((id : ℕ) → counted d id + pieces_of id (pieces_at rs i) ≡ counted c id + pieces_of id (f (pieces_at rs i)))
+    → IsExact (with_pieces_at rs i f) d
+IsExact-changed rs i f c d exact lt few order asleep counts =
+    let r = get_or rs i nobody in
+    let same : f (pieces_at rs i) ≡ f r.pieces = ap f (pieces_at-get_or rs i) in
+    rw (with_pieces_at-within rs i f lt)
+    (IsExact-set rs i (record r { pieces = f r.pieces }) c d exact lt (rw same at few) (rw same at order)
+    (λ none. sym same ∙ asleep (life_at-get_or rs i ∙ none)) (λ id. rw same at (counts id)))
+
+pub IsExact-life : (rs : List Runner) (i : ℕ) (l : Life) (c : Counts) → IsExact rs c → i < length rs → l ≢ Unborn → IsExact (with_life_at rs i l) c
+IsExact-life rs i l c exact lt awake =
+    let r = get_or rs i nobody in
+    let same : pieces_at rs i ≡ r.pieces = pieces_at-get_or rs i in
+    rw (with_life_at-within rs i l lt)
+    (IsExact-set rs i (record r { life = l }) c c exact lt (rw same at (exact.pieces i)) (rw same at (exact.arranged i)) (λ none. absurd (awake none))
+    (λ id. ap (λ ps. counted c id + pieces_of id ps) same))
+
+-- a segment has at most 256 pieces for each process
+pub attach_count-few : (id : ℕ) (rs : List Runner) → ((i : ℕ) → length (pieces_at rs i) ≤ 256) → attach_count rs id ≤ 256 * length rs
+attach_count-few id [] few = omega arith
+attach_count-few id (r ∷ rs) few =
+    let first : length r.pieces ≤ 256 = few 0 in
+    let own = count_by-le-length (λ (p : Piece). p.seg == id) r.pieces in
+    let rest = attach_count-few id rs (λ i. few (suc i)) in
+    let all = sum_by-cons (λ (x : Runner). pieces_of id x.pieces) r rs in
+    omega (arith, first, own, rest, all)
+
+pub small_counts : (rs : List Runner) (c : Counts) → IsExact rs c → (id : ℕ) → counted c id ≤ 16384
+small_counts rs c exact id = omega (arith, exact.counts id, attach_count-few id rs exact.pieces, exact.processes)
+
+pub own_counted : (rs : List Runner) (c : Counts) (i : ℕ) → IsExact rs c → i < length rs → (id : ℕ) → pieces_of id (pieces_at rs i) ≤ counted c id
+own_counted rs c i exact lt id = omega (arith, exact.counts id, attach_count-changed id i (λ ps. []) rs lt)
+
+-- WHAT IS FREE AFTER A CUT
+
+pub occupied-append : (xs ys : List Piece) (from to : ℕ) → occupied xs from to ≡ false → occupied ys from to ≡ false → occupied (xs ++ ys) from to ≡ false
+occupied-append [] ys from to none more = more
+occupied-append (x ∷ xs) ys from to none more =
+    let both = or_parts (meets from to x) (occupied xs from to) none in
+    rw both.0 (occupied-append xs ys from to both.1 more)
+
+free_below : (from to : ℕ) (p : Piece) → occupied (part_below from p) from to ≡ false
+free_below from to p =
+    elim (cases_lt p.base from) [
+      | inl before ↦
+          let ends : p.base + 4096 * ((from - p.base) / 4096) ≤ from = omega (arith, before) in
+          rw (lt-ltb p.base from before, and_right (nat_lt p.base to) (nat_lt from (p.base + 4096 * ((from - p.base) / 4096))) (le-ltb from (p.base + 4096 * ((from - p.base) / 4096)) ends)) refl
+      | inr after ↦ rw (le-ltb p.base from after) refl
+    ]
+
+free_above : (from to : ℕ) (p : Piece) → occupied (part_above to p) from to ≡ false
+free_above from to p =
+    elim (cases_lt to (end_of p)) [
+      | inl beyond ↦ rw (lt-ltb to (end_of p) beyond, le-ltb to to (omega arith)) refl
+      | inr over ↦ rw (le-ltb to (end_of p) over) refl
+    ]
+
+free_parts : (from to : ℕ) (p : Piece) → occupied (parts from to p) from to ≡ false
+free_parts from to p =
+    elim (cases_Bool (meets from to p)) [
+      | inl m ↦ rw m (occupied-append (part_below from p) (part_above to p) from to (free_below from to p) (free_above from to p))
+      | inr m ↦ rw (m, m) refl
+    ]
+
+pub occupied-cut : (from to : ℕ) (ps : List Piece) → occupied (cut from to ps) from to ≡ false
+occupied-cut from to [] = refl
+occupied-cut from to (p ∷ ps) = occupied-append (parts from to p) (cut from to ps) from to (free_parts from to p) (occupied-cut from to ps)
+
+-- ALL PIECES, AND THOSE OF ONE ATTACH
+
+-- the addresses hold every piece
+pub cut-all : (low : ℕ) (ps : List Piece) → lowest_address ≤ low → Arranged low ps → cut lowest_address last_address ps ≡ []
+cut-all low [] le ar = refl
+cut-all low (p ∷ ps) le ar =
+    let first : low ≤ p.base = ar.0 in
+    let some : 1 ≤ p.pages = ar.1.0.some in
+    let within : end_of p ≤ last_address = ar.1.0.within in
+    rw (
+      lt-ltb p.base last_address (omega (arith, some, within)),
+      lt-ltb lowest_address (end_of p) (omega (arith, first, le, some)),
+      le-ltb p.base lowest_address (omega (arith, first, le)),
+      le-ltb last_address (end_of p) within,
+    )
+    (cut-all (end_of p) ps (omega (arith, first, le)) ar.1.1)
+
+pub cut_segments-all : (low : ℕ) (ps : List Piece) → lowest_address ≤ low → Arranged low ps → cut_segments lowest_address last_address ps ≡ map (λ (p : Piece). p.seg) ps
+cut_segments-all low [] le ar = refl
+cut_segments-all low (p ∷ ps) le ar =
+    let first : low ≤ p.base = ar.0 in
+    let some : 1 ≤ p.pages = ar.1.0.some in
+    let within : end_of p ≤ last_address = ar.1.0.within in
+    rw (lt-ltb p.base last_address (omega (arith, some, within)), lt-ltb lowest_address (end_of p) (omega (arith, first, le, some)))
+    (ap (λ (ids : List ℕ). p.seg ∷ ids) (cut_segments-all (end_of p) ps (omega (arith, first, le)) ar.1.1))
+
+pub arranged-without : (addr seg low : ℕ) (ps : List Piece) → Arranged low ps → Arranged low (without_named addr seg ps)
+arranged-without addr seg low [] ar = ar
+arranged-without addr seg low (p ∷ ps) ar =
+    let rest = arranged-without addr seg (end_of p) ps ar.1.1 in
+    let first : low ≤ p.base = ar.0 in
+    elim (cases_Bool (is_named addr seg p)) [
+      | inl h ↦ rw h (lower low (end_of p) (without_named addr seg ps) (omega (arith, first)) rest)
+      | inr h ↦ rw h (ar.0, (ar.1.0, rest))
+    ]
+
+-- A COPY OF PIECES
+
+pub arranged-take : (n low : ℕ) (ps : List Piece) → Arranged low ps → Arranged low (take n ps)
+arranged-take zero low ps ar = tt
+arranged-take (suc n) low [] ar = ar
+arranged-take (suc n) low (p ∷ ps) ar = (ar.0, (ar.1.0, arranged-take n (end_of p) ps ar.1.1))
+
+pub pieces_of-there : (k : ℕ) (ps : List Piece) (d : Piece) → k < length ps → 1 ≤ pieces_of (get_or ps k d).seg ps
+pieces_of-there k [] d l = absurd (omega arith)
+pieces_of-there zero (p ∷ ps) d l =
+    let same : one_if p.seg p.seg ≡ 1 = rw (eq-eqb p.seg p.seg refl) refl in
+    let own : pieces_of p.seg (p ∷ ps) ≡ pieces_of p.seg ps + 1 = one_more p.seg p ps ∙ ap (λ n. pieces_of p.seg ps + n) same in
+    let some : 1 ≤ pieces_of p.seg (p ∷ ps) = omega (arith, own) in
+    some
+pieces_of-there (suc k) (p ∷ ps) d l =
+    let rest = pieces_of-there k ps d (omega arith) in
+    omega (arith, rest, one_more (get_or ps k d).seg p ps)
+
+pub pieces_of-take : (id k : ℕ) (ps : List Piece) (d : Piece) → k < length ps → pieces_of id (take (k + 1) ps) ≡ pieces_of id (take k ps) + one_if id (get_or ps k d).seg
+pieces_of-take id k ps d l =
+    ap (pieces_of id) (take_more ps k d l) ∙ pieces_of-append id (take k ps) (get_or ps k d ∷ []) ∙ omega (arith, one_more id (get_or ps k d) [])
+
+pub bare-get_or : (ps : List Stored) (k : ℕ) (d : Stored) (e : Piece) → k < length ps → bare (get_or ps k d) ≡ get_or (bare_all ps) k e
+bare-get_or [] k d e l = absurd (omega arith)
+bare-get_or (p ∷ ps) zero d e l = refl
+bare-get_or (p ∷ ps) (suc k) d e l = bare-get_or ps k d e (omega arith)
+
+pub pieces_of-few : (id : ℕ) (ps : List Piece) → pieces_of id ps ≤ length ps
+pieces_of-few id ps = count_by-le-length (λ (p : Piece). p.seg == id) ps
+
+set-get_or : (rs : List Runner) (i : ℕ) → i < length rs → set rs i (get_or rs i nobody) ≡ rs
+set-get_or [] i lt = refl
+set-get_or (r ∷ rs) zero lt = refl
+set-get_or (r ∷ rs) (suc i) lt = ap (λ (xs : List Runner). r ∷ xs) (set-get_or rs i (omega arith))
+
+-- the same pieces in place of those that are there
+pub with_pieces_at-same : (rs : List Runner) (i : ℕ) (f : List Piece → List Piece) → i < length rs → f (pieces_at rs i) ≡ pieces_at rs i → rs ≡ with_pieces_at rs i f
+with_pieces_at-same rs i f lt same =
+    let r = get_or rs i nobody in
+    let own : f r.pieces ≡ r.pieces = sym (ap f (pieces_at-get_or rs i)) ∙ same ∙ pieces_at-get_or rs i in
+    sym (with_pieces_at-within rs i f lt ∙ ap (λ ps. set rs i (record r { pieces = ps })) own ∙ set-get_or rs i lt)
+
+-- a process gets the first pieces of another, one after another
+module _ (rs L : List Runner) (parent child k : ℕ) (lt : child < length rs) (apart : parent ≢ child)
+    (so_far : L ≡ with_pieces_at rs child (λ (_ : List Piece). take k (pieces_at rs parent))) where
+  pub copied_parent : pieces_at L parent ≡ pieces_at rs parent
+  copied_parent = ap (λ (xs : List Runner). pieces_at xs parent) so_far ∙ pieces_at-other rs child parent (λ (_ : List Piece). take k (pieces_at rs parent)) lt apart
+
+  pub copied_child : pieces_at L child ≡ take k (pieces_at rs parent)
+  copied_child = ap (λ (xs : List Runner). pieces_at xs child) so_far ∙ pieces_at-changed rs child (λ (_ : List Piece). take k (pieces_at rs parent)) lt
+
+  pub copied_next : (q d : Piece) → k < length (pieces_at rs parent) → q ≡ get_or (pieces_at rs parent) k d
+      → with_pieces_at L child (λ (ps : List Piece). ps ++ q ∷ []) ≡ with_pieces_at rs child (λ (_ : List Piece). take (k + 1) (pieces_at rs parent))
+  copied_next q d within is =
+      let more : take k (pieces_at rs parent) ++ q ∷ [] ≡ take (k + 1) (pieces_at rs parent) =
+      ap (λ x. take k (pieces_at rs parent) ++ x ∷ []) is ∙ sym (take_more (pieces_at rs parent) k d within) in
+      ap (λ (xs : List Runner). with_pieces_at xs child (λ (ps : List Piece). ps ++ q ∷ [])) so_far
+      ∙ with_pieces_at-twice rs child (λ (_ : List Piece). take k (pieces_at rs parent)) (λ (ps : List Piece). ps ++ q ∷ []) lt
+      ∙ ap (λ (xs : List Piece). with_pieces_at rs child (λ (_ : List Piece). xs)) more

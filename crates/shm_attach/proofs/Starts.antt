@@ -1,0 +1,72 @@
+-- The processes as they are declared.
+use Rattle.std.proofs.Common.{◌≡◌, ◌≢◌, ℕ, zero, suc, ◌+◌, ◌<◌, ◌≤◌, nat_eq, List, [], ◌∷◌, ◌++◌, length, map, get_or, take, refl, ap, sym, ◌∙◌, arith, ne_eqb, length-take}
+use Rattle.std.proofs.lemmas.List.{length-map, get_or-take, take_more, map-append}
+use Rattle.std.proofs.lemmas.List.Sums.{sum_by-cons}
+use Rattle.indexmap.specs.IndexMap.{insert_entry}
+use Rattle.shm_base.specs.State as flat
+use Rattle.shm_base.specs.State.{runner_at_start}
+use Rattle.shm_base.specs.Space.{pieces_of}
+use Rattle.shm_base.specs.Segments.{attach_count}
+use Rattle.shm_base.specs.declared.call.Process.{Process}
+use Rattle.shm_attach.specs.declared.counts.Counts.{Counts}
+use Rattle.shm_attach.specs.declared.process.Runner.{Runner}
+use Rattle.shm_attach.specs.Views.{counted, runner_view, runners_view}
+use Rattle.shm_attach.specs.Spaces.{pieces_at}
+use Rattle.shm_attach.specs.Exact.{IsExact}
+use Rattle.shm_attach.proofs.Callers.{nobody}
+
+-- a process under a new pid stands behind the others
+pub view-insert_entry : (es : List (ℕ × Runner)) (k : ℕ) (r : Runner) → ((j : ℕ) → j < length es → (get_or es j nobody).0 ≢ k)
+    → runners_view (insert_entry nat_eq es k r) ≡ runners_view es ++ runner_view (k, r) ∷ []
+view-insert_entry [] k r others = refl
+view-insert_entry (e ∷ es) k r others =
+    rw (ne_eqb k e.0 (λ same. others 0 (omega arith) (sym same)))
+    (ap (λ (rs : List flat.Runner). runner_view e ∷ rs) (view-insert_entry es k r (λ j l. others (suc j) (omega arith))))
+
+abbrev tail_of : List flat.Runner → List flat.Runner
+tail_of [] = []
+tail_of (r ∷ rs) = rs
+
+abbrev pid_first : List flat.Runner → ℕ
+pid_first [] = 0
+pid_first (r ∷ rs) = r.pid
+
+pub key-declared : (es : List (ℕ × Runner)) (qs : List Process) (j : ℕ) (d : Process) → runners_view es ≡ map runner_at_start qs → j < length es
+    → (get_or es j nobody).0 ≡ (get_or qs j d).pid
+key-declared [] qs j d same l = absurd (omega arith)
+key-declared (e ∷ es) [] j d same l = absurd (cc same)
+key-declared (e ∷ es) (q ∷ qs) zero d same l = ap pid_first same
+key-declared (e ∷ es) (q ∷ qs) (suc j) d same l = key-declared es qs j d (ap tail_of same) (omega arith)
+
+-- one more process
+pub view-more : (es : List (ℕ × Runner)) (ps : List Process) (i : ℕ) (d : Process) (r : Runner) → runners_view es ≡ map runner_at_start (take i ps) → i < length ps
+    → ((a b : ℕ) (e : Process) → a < b → b < length ps → (get_or ps a e).pid ≢ (get_or ps b e).pid)
+    → runner_view ((get_or ps i d).pid, r) ≡ runner_at_start (get_or ps i d)
+    → runners_view (insert_entry nat_eq es (get_or ps i d).pid r) ≡ map runner_at_start (take (i + 1) ps)
+view-more es ps i d r same lt apart new =
+    let shown : length (map runner_at_start (take i ps)) ≡ length es = sym (ap length same) ∙ length-map es runner_view in
+    let long : length es ≡ i = omega (arith, shown, length-map (take i ps) runner_at_start, length-take i ps, lt) in
+    view-insert_entry es (get_or ps i d).pid r
+    (λ j l own.
+    let within : j < i = omega (arith, l, long) in
+    apart j i d within lt (sym (ap (λ (p : Process). p.pid) (get_or-take i ps j d within)) ∙ sym (key-declared es (take i ps) j d same l) ∙ own))
+    ∙ rw (same, new, take_more ps i d lt) (sym (map-append runner_at_start (take i ps) (get_or ps i d ∷ [])))
+
+attach_count-start : (id : ℕ) (ps : List Process) → attach_count (map runner_at_start ps) id ≡ 0
+attach_count-start id [] = refl
+attach_count-start id (p ∷ ps) = sum_by-cons (λ (r : flat.Runner). pieces_of id r.pieces) (runner_at_start p) (map runner_at_start ps) ∙ omega (arith, attach_count-start id ps)
+
+pieces_at-start : (ps : List Process) (i : ℕ) → pieces_at (map runner_at_start ps) i ≡ []
+pieces_at-start [] i = refl
+pieces_at-start (p ∷ ps) zero = refl
+pieces_at-start (p ∷ ps) (suc i) = pieces_at-start ps i
+
+pub IsExact-start : (ps : List Process) (c : Counts) → length ps ≤ 64 → ((id : ℕ) → counted c id ≡ 0) → IsExact (map runner_at_start ps) c
+IsExact-start ps c few none =
+    record {
+      counts = λ id. none id ∙ sym (attach_count-start id ps);
+      processes = omega (arith, length-map ps runner_at_start, few);
+      pieces = λ i. rw (pieces_at-start ps i) (omega arith);
+      unborn = λ i none. pieces_at-start ps i;
+      arranged = λ i. rw (pieces_at-start ps i) tt;
+    }

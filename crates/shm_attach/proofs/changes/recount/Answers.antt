@@ -1,0 +1,30 @@
+use Rattle.std.proofs.Common.{◌≡◌, ℕ, ◌+◌, ◌≤◌, ◌∷◌, ◌∙◌, ap, sym, get_or, drop, arith}
+use Rattle.shm_base.specs.Space.{lowest_address, pieces_of, cut}
+use Rattle.shm_areas.specs.Arranged.{bare, bare_all}
+use Rattle.shm_areas.proofs.Placing.{nothing, fit_at}
+use Rattle.shm_attach.specs.Views.{one_if, some_if}
+use Rattle.shm_attach.proofs.Processes.{one_more, pieces_of-cut_cons, few_parts, drop-bare, some_if-le}
+use Rattle.shm_attach.proofs.changes.recount.Goals as goal
+
+pub parts_outside-requires-clause-fit : goal.parts_outside-requires-clause-fit
+parts_outside-requires-clause-fit c = fit_at lowest_address c.args.met.now c.loop-piece.piece-index nothing c.requires.fit (omega arith)
+
+pub loop-piece-preserved : goal.loop-piece-preserved
+loop-piece-preserved c =
+    let i = c.loop-piece.piece-index in
+    let met = c.args.met.now in
+    let from = c.args.from in
+    let to = c.args.to in
+    let p = bare (get_or met i nothing) in
+    let rest = bare_all (drop (i + 1) met) in
+    let next : bare_all (drop i met) ≡ p ∷ rest = drop-bare met i nothing c.loop-piece-test.true in
+    let came : c.parts_outside.result ≤ 2 = rw c.parts_outside.ensures (few_parts from to p) in
+    let here : (id : ℕ) → pieces_of id (bare_all (drop i met)) ≡ pieces_of id rest + one_if id p.seg = λ id. ap (pieces_of id) next ∙ one_more id p rest in
+    let cuts : (id : ℕ) → pieces_of id (cut from to (bare_all (drop i met))) ≡ some_if id p.seg c.parts_outside.result + pieces_of id (cut from to rest) =
+    λ id. ap (λ ps. pieces_of id (cut from to ps)) next ∙ pieces_of-cut_cons id from to p rest ∙ ap (λ n. some_if id p.seg n + pieces_of id (cut from to rest)) (sym c.parts_outside.ensures) in
+    let kept = c.loop-piece.invariant in
+    record {
+      left = λ id. omega (arith, kept.left id, kept.some id, here id, cuts id, c.raise.ensures id, c.take.ensures id);
+      some = λ id. omega (arith, kept.some id, here id, c.raise.ensures id, c.take.ensures id);
+      small = λ id. omega (arith, kept.small id, some_if-le id p.seg c.parts_outside.result, came, c.raise.ensures id, c.take.ensures id);
+    }

@@ -1,0 +1,7 @@
+pub mod Views
+pub mod Spaces
+pub mod Exact
+pub mod Place
+pub mod Spans
+pub mod Attach
+pub mod Fork

@@ -1,0 +1,32 @@
+-- What contracts see of the processes.
+use Rattle.std.specs.Prelude.{◌≡◌, ℕ, List, [], Option, Some, None, slice_get}
+use Rattle.shm_base.specs.State.{Piece, Life, Unborn, Runner}
+use Rattle.shm_base.specs.Step.{Caller as FlatCaller, caller_from}
+use Rattle.shm_attach.specs.declared.process.Caller.{Caller}
+
+pub record SpacesView : Type 0 where
+  pub runners : List Runner
+
+abbrev pub pieces_in : Option Runner → List Piece
+pieces_in None = []
+pieces_in (Some r) = r.pieces
+
+-- the pieces of the process at a place
+abbrev pub pieces_at : List Runner → ℕ → List Piece
+pieces_at rs i = pieces_in (slice_get rs i)
+
+abbrev pub life_in : Option Runner → Life
+life_in None = Unborn
+life_in (Some r) = r.life
+
+-- the state of the process at a place
+abbrev pub life_at : List Runner → ℕ → Life
+life_at rs i = life_in (slice_get rs i)
+
+-- a caller as the flat machine has it, among these processes
+abbrev pub seen : Caller → List Runner → FlatCaller
+seen c rs = record { index = c.index; pid = c.pid; cred = c.cred; pieces = pieces_at rs c.index }
+
+-- the caller is a live process of these
+abbrev pub IsCaller : Caller → List Runner → Type 0
+IsCaller c rs = caller_from 0 c.pid rs ≡ Some (seen c rs)

@@ -1,0 +1,50 @@
+-- What the stored processes show of the flat machine.
+use Rattle.std.specs.Prelude.{ℕ, List, map, Option, Some, None, if◌then◌else◌, ◌==◌, nat_eq, slice_get, slice_set}
+use Rattle.std.specs.HashMap.{get}
+use Rattle.shm_attach.specs.declared.counts.Counts.{Counts}
+use Rattle.shm_base.specs.State as flat
+use Rattle.shm_areas.specs.Arranged.{bare_all}
+use Rattle.shm_attach.specs.declared.process.Life.{Life}
+use Rattle.shm_attach.specs.declared.process.Life.TheVariants.{Unborn, Live, Ended}
+use Rattle.shm_attach.specs.declared.process.Runner.{Runner}
+
+abbrev pub life_view : Life → flat.Life
+life_view Unborn = flat.Unborn
+life_view (Live cred) = flat.Live cred
+life_view Ended = flat.Ended
+
+abbrev pub runner_view : ℕ × Runner → flat.Runner
+runner_view e = record { pid = e.0; life = life_view e.1.life; pieces = bare_all e.1.space }
+
+abbrev pub runners_view : List (ℕ × Runner) → List flat.Runner
+runners_view es = map runner_view es
+
+-- one more or one less for one segment
+abbrev pub one_if : ℕ → ℕ → ℕ
+one_if id seg = if seg == id then 1 else 0
+
+abbrev pub number : Option ℕ → ℕ
+number None = 0
+number (Some n) = n
+
+abbrev pub counted : Counts → ℕ → ℕ
+counted c id = number (get nat_eq c.by_segment id)
+
+abbrev pub with_own : List flat.Runner → ℕ → (List flat.Piece → List flat.Piece) → Option flat.Runner → List flat.Runner
+with_own rs i f None = rs
+with_own rs i f (Some r) = slice_set rs i (record r { pieces = f r.pieces })
+
+-- the processes with other pieces for one of them
+abbrev pub with_pieces_at : List flat.Runner → ℕ → (List flat.Piece → List flat.Piece) → List flat.Runner
+with_pieces_at rs i f = with_own rs i f (slice_get rs i)
+
+abbrev pub some_if : ℕ → ℕ → ℕ → ℕ
+some_if id seg n = if seg == id then n else 0
+
+abbrev pub with_other_life : List flat.Runner → ℕ → flat.Life → Option flat.Runner → List flat.Runner
+with_other_life rs i l None = rs
+with_other_life rs i l (Some r) = slice_set rs i (record r { life = l })
+
+-- the processes with another state of one of them
+abbrev pub with_life_at : List flat.Runner → ℕ → flat.Life → List flat.Runner
+with_life_at rs i l = with_other_life rs i l (slice_get rs i)

@@ -1,0 +1,72 @@
+//! A child is born with its parent's credentials and pieces.
+ghost use Rattle.std.specs.Prelude.{◌≡◌, ◌≢◌, ℕ, ◌+◌, ◌<◌, ◌≤◌, [], length, Ok, Err, IfErr, OnOk, OnErr};
+ghost use Rattle.shm_base.specs.Space.{lowest_address, pieces_of};
+ghost use Rattle.shm_base.specs.Step.{unborn_from};
+ghost use Rattle.shm_areas.specs.Arranged.{Arranged};
+ghost use Rattle.shm_attach.specs.Views.{counted, with_pieces_at, runners_view};
+ghost use Rattle.shm_attach.specs.Spaces.{pieces_at, seen, IsCaller};
+ghost use Rattle.shm_attach.specs.Fork.{forked_by};
+
+use crate::changes::{piece_at, push_at, set_life_at, space_at};
+use crate::counts::Counts;
+use crate::process::{Caller, Life, Runner};
+use crate::spaces::Spaces;
+use indexmap::IndexMap;
+use shm_base::Errno;
+
+/// The place of a child that is not born yet.
+fn unborn_at(processes: &IndexMap<u32, Runner>, child: u32) -> Option<usize>
+    ensures { result ≡ unborn_from 0 child (runners_view processes.now.entries) }
+{
+    let (index, _, runner) = processes.get_full(&child)?;
+    match runner.life {
+        Life::Unborn => Some(index),
+        _ => None,
+    }
+}
+
+/// Gives the pieces of one process to another that has none, and counts them.
+fn copy_pieces(
+    processes: &mut IndexMap<u32, Runner>,
+    counts: &mut Counts,
+    parent: usize,
+    child: usize,
+)
+    requires parent { parent < length processes.old.entries }
+    requires child { child < length processes.old.entries }
+    requires apart { parent ≢ child }
+    requires none { pieces_at (runners_view processes.old.entries) child ≡ [] }
+    requires few { length (pieces_at (runners_view processes.old.entries) parent) ≤ 256 }
+    requires order { Arranged lowest_address (pieces_at (runners_view processes.old.entries) parent) }
+    requires counted { (id : ℕ) → pieces_of id (pieces_at (runners_view processes.old.entries) parent) ≤ counted counts.old id }
+    requires small { (id : ℕ) → counted counts.old id ≤ 65536 }
+    ensures runners { runners_view processes.new.entries ≡ with_pieces_at (runners_view processes.old.entries) child (λ _. pieces_at (runners_view processes.old.entries) parent) }
+    ensures count { length processes.new.entries ≡ length processes.old.entries }
+    ensures counts { (id : ℕ) → counted counts.new id ≡ counted counts.old id + pieces_of id (pieces_at (runners_view processes.old.entries) parent) }
+{
+    let count = space_at(processes, parent).pieces().len();
+    for k in 0..count {
+        let piece = piece_at(processes, parent, k);
+        counts.raise(piece.seg, 1);
+        push_at(processes, child, piece);
+    }
+}
+
+impl Spaces {
+    /// A child that was declared and is not born yet becomes live, with the credentials and the pieces of the
+    /// caller (fork(2); shmop(2): a child inherits the attached segments). Eagain where the named process is no such
+    /// child. It takes no memory.
+    pub fn fork(&mut self, caller: &Caller, child: u32) -> Result<(), Errno>
+        requires { IsCaller caller.now self.old.runners }
+        ensures born { OnOk result (forked_by self.old.runners (seen caller.now self.old.runners) child ≡ Ok self.new.runners) }
+        ensures refused { IfErr result (λ e. forked_by self.old.runners (seen caller.now self.old.runners) child ≡ Err e) }
+        ensures kept { OnErr result (self.new ≡ self.old) }
+    {
+        let Some(index) = unborn_at(&self.processes, child) else {
+            return Err(Errno::Eagain);
+        };
+        copy_pieces(&mut self.processes, &mut self.counts, caller.index, index);
+        set_life_at(&mut self.processes, index, Life::Live(caller.cred));
+        Ok(())
+    }
+}

@@ -1,0 +1,26 @@
+//! A process with its address space.
+use shm_areas::Space;
+use shm_base::Cred;
+
+/// A process is declared, born with its credentials or later as a child, and ends once.
+#[derive(Clone, Copy)]
+pub(crate) enum Life {
+    Unborn,
+    Live(Cred),
+    Ended,
+}
+
+#[derive(Drop)]
+pub(crate) struct Runner {
+    pub(crate) life: Life,
+    pub(crate) space: Space,
+}
+
+/// A live process: its place among the processes, from 0 in the order in which they were declared, and
+/// its credentials. It serves until the process ends.
+#[derive(Clone, Copy, Debug, PartialEq, Eq)]
+pub struct Caller {
+    pub index: usize,
+    pub pid: u32,
+    pub cred: Cred,
+}

@@ -1,0 +1,112 @@
+//! The pieces of all processes.
+ghost use Rattle.std.specs.Prelude.{◌≡◌, ◌≢◌, ℕ, ◌<◌, ◌≤◌, length, map, is_some, slice_index_or, None, Some, IfSome, IfNone, IfOk, OnErr, Bool, true, false, All, AllPairs, sum_by};
+ghost use Rattle.shm_base.specs.State.{life_at_start, runner_at_start};
+ghost use Rattle.shm_base.specs.Segments.{attach_count};
+ghost use Rattle.shm_base.specs.Step.{caller_from};
+ghost use Rattle.shm_base.specs.declared.call.Process.{Process as Declared};
+ghost use Rattle.shm_base.specs.declared.paging.Span.{Span as Stretch};
+ghost use Rattle.shm_attach.specs.Views.{life_view};
+ghost use Rattle.shm_attach.specs.Spaces.{IsCaller};
+ghost use Rattle.shm_attach.specs.Spans.{span_places, wanted, pieces_by, PassPages, InPage, page_of};
+
+use crate::changes::space_at;
+use crate::counts::Counts;
+use crate::process::{Caller, Life, Runner};
+use crate::spans::{Segv, Spans, spans_in};
+use indexmap::IndexMap;
+use shm_areas::Space;
+use shm_base::{HostMemory, Process};
+use std::alloc::Global;
+use std::marker::Model;
+
+/// The processes in the order in which they were declared, each with its pieces, and the attach count of
+/// each segment.
+#[derive(Drop)]
+pub struct Spaces {
+    pub(crate) processes: IndexMap<u32, Runner>,
+    pub(crate) counts: Counts,
+}
+
+impl Model for Spaces {
+    ghost use Rattle.shm_attach.specs.Views.{runners_view};
+    ghost use Rattle.shm_attach.specs.Spaces.{SpacesView};
+    ghost use Rattle.shm_attach.specs.Exact.{IsExact};
+
+    ghost Value = { SpacesView };
+
+    ghost view = { λ s. record { runners = runners_view s.processes.entries } };
+
+    ghost invariant = { λ s. IsExact (runners_view s.processes.entries) s.counts };
+}
+
+fn born(process: &Process) -> Life
+    ensures { life_view result ≡ life_at_start process.now.born }
+{
+    match process.born {
+        Some(cred) => Life::Live(cred),
+        None => Life::Unborn,
+    }
+}
+
+impl Spaces {
+    /// The processes as they are declared, none with a piece. It takes their room.
+    pub fn new(alloc: Global, processes: &[Process]) -> Result<Spaces, HostMemory>
+        requires few { length processes.now ≤ 64 }
+        requires apart { AllPairs (λ (p q : Declared). p.pid ≢ q.pid) processes.now }
+        ensures { IfOk result (λ s. s.runners ≡ map runner_at_start processes.now) }
+    {
+        let mut by_pid = IndexMap::new(alloc);
+        for process in processes {
+            let space = Space::new(alloc)?;
+            let life = born(process);
+            by_pid.insert(process.pid, Runner { life, space })?;
+        }
+        Ok(Spaces {
+            processes: by_pid,
+            counts: Counts::new(alloc),
+        })
+    }
+
+    /// The live process with a pid.
+    pub fn caller(&self, pid: u32) -> Option<Caller>
+        ensures pid { IfSome result (λ c. c.pid ≡ pid) }
+        ensures live { IfSome result (λ c. IsCaller c self.now.runners) }
+        ensures none { IfNone result (caller_from 0 pid self.now.runners ≡ None) }
+    {
+        let (index, _, runner) = self.processes.get_full(&pid)?;
+        match runner.life {
+            Life::Live(cred) => Some(Caller { index, pid, cred }),
+            _ => None,
+        }
+    }
+
+    /// Whether the process with a pid is live.
+    pub fn is_live(&self, pid: u32) -> bool
+        ensures { result ≡ is_some (caller_from 0 pid self.now.runners) }
+    {
+        self.caller(pid).is_some()
+    }
+
+    /// How many pieces of all processes name the segment (shm_nattch): a number that is read.
+    pub fn count(&self, seg: u32) -> u32
+        ensures { result ≡ attach_count self.now.runners seg }
+    {
+        self.counts.get(seg)
+    }
+
+    /// The spans of an access of a process to so many addresses. Segv where the process is not live, where
+    /// an address has no piece, and for a write where one lies in a piece that is read-only.
+    pub fn spans(&self, pid: u32, addr: u64, len: u64, write: bool) -> Result<Spans, Segv>
+        requires size { (1 ≤ len) × (len ≤ 64) }
+        ensures places { IfOk result (λ s. wanted write pid addr len self.now.runners ≡ Some (span_places false s)) }
+        ensures none { OnErr result (wanted write pid addr len self.now.runners ≡ None) }
+        ensures within { IfOk result (λ s. All InPage s) }
+        ensures sum { IfOk result (λ s. sum_by (λ (p : Stretch). p.len) s ≡ len) }
+        ensures pages { IfOk result (λ s. (test : ℕ → ℕ → Bool) → PassPages test (pieces_by pid self.now.runners) → All (λ (p : Stretch). test p.seg (page_of p) ≡ true) s) }
+    {
+        let Some(caller) = self.caller(pid) else {
+            return Err(Segv);
+        };
+        spans_in(space_at(&self.processes, caller.index), addr, len, write)
+    }
+}

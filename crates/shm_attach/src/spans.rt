@@ -1,0 +1,105 @@
+//! The spans of an access.
+ghost use Rattle.std.specs.Prelude.{◌≡◌, ◌+◌, ◌-◌, ◌*◌, ◌/◌, ◌%◌, ◌<◌, ◌≤◌, ◌^◌, ℕ, Bool, true, false, length, [], ◌∷◌, None, Some, IfSome, IfNone, IfOk, OnErr, All, sum_by};
+ghost use Rattle.shm_base.specs.declared.paging.Span.{Span as Stretch};
+ghost use Rattle.shm_areas.specs.Arranged.{bare_all};
+ghost use Rattle.shm_attach.specs.Spans.{run, span_places, wanted_in, PassPages, InPage, page_of};
+
+use shm_areas::Space;
+use shm_base::{PAGE_SIZE, Span};
+use std::marker::Model;
+use thiserror::Error;
+
+/// An address without a piece, or a write through a piece that is read-only (SIGSEGV).
+#[derive(Clone, Copy, Debug, PartialEq, Eq, Error)]
+#[error("address not mapped, or not writable")]
+pub struct Segv;
+
+/// The spans of an access, one or two, in address order. Each lies within one page of its segment.
+#[derive(Debug, Drop)]
+pub struct Spans {
+    spans: [Span; 2],
+    count: usize,
+}
+
+impl Model for Spans {
+    ghost use Rattle.std.specs.Prelude.{◌≡◌, ◌≤◌, List, length, take};
+    ghost use Rattle.shm_base.specs.declared.paging.Span.{Span};
+
+    ghost Value = { List Span };
+
+    ghost view = { λ s. take s.count s.spans };
+
+    ghost invariant = { λ s. (1 ≤ s.count) × (s.count ≤ 2) };
+}
+
+impl Spans {
+    fn one(first: Span) -> Spans
+        ensures { result ≡ first ∷ [] }
+    {
+        Spans {
+            spans: [first, first],
+            count: 1,
+        }
+    }
+
+    fn two(first: Span, second: Span) -> Spans
+        ensures { result ≡ first ∷ second ∷ [] }
+    {
+        Spans {
+            spans: [first, second],
+            count: 2,
+        }
+    }
+
+    pub fn as_slice(&self) -> &[Span]
+        ensures value { result.now ≡ self.now }
+        ensures few { (1 ≤ length result.now) × (length result.now ≤ 2) }
+    {
+        &self.spans[..self.count]
+    }
+}
+
+/// The span of an access to addresses of one page.
+fn span_in(space: &Space, addr: u64, len: u64, write: bool) -> Option<Span>
+    requires some { 1 ≤ len }
+    requires page { addr % 4096 + len ≤ 4096 }
+    ensures places { IfSome result (λ s. wanted_in write (bare_all space.now) addr len ≡ Some (run s.seg s.at s.len false)) }
+    ensures none { IfNone result (wanted_in write (bare_all space.now) addr len ≡ None) }
+    ensures within { IfSome result InPage }
+    ensures size { IfSome result (λ s. s.len ≡ len) }
+    ensures low { IfSome result (λ _. addr < 2 ^ 48) }
+    ensures pages { IfSome result (λ s. (test : ℕ → ℕ → Bool) → PassPages test (bare_all space.now) → test s.seg (page_of s) ≡ true) }
+{
+    let piece = space.piece_at(addr)?;
+    if write && !piece.writable {
+        return None;
+    }
+    Some(Span {
+        seg: piece.seg,
+        at: PAGE_SIZE * piece.first_page as u64 + (addr - piece.base),
+        len,
+        frame: None,
+    })
+}
+
+/// The spans of an access to addresses of a process. An access of at most 64 bytes has at most two pages.
+pub(crate) fn spans_in(space: &Space, addr: u64, len: u64, write: bool) -> Result<Spans, Segv>
+    requires size { (1 ≤ len) × (len ≤ 64) }
+    ensures places { IfOk result (λ s. wanted_in write (bare_all space.now) addr len ≡ Some (span_places false s)) }
+    ensures none { OnErr result (wanted_in write (bare_all space.now) addr len ≡ None) }
+    ensures within { IfOk result (λ s. All InPage s) }
+    ensures sum { IfOk result (λ s. sum_by (λ (p : Stretch). p.len) s ≡ len) }
+    ensures pages { IfOk result (λ s. (test : ℕ → ℕ → Bool) → PassPages test (bare_all space.now) → All (λ (p : Stretch). test p.seg (page_of p) ≡ true) s) }
+{
+    let room = PAGE_SIZE - addr % PAGE_SIZE;
+    let Some(first) = span_in(space, addr, len.min(room), write) else {
+        return Err(Segv);
+    };
+    if len <= room {
+        return Ok(Spans::one(first));
+    }
+    let Some(second) = span_in(space, addr + room, len - room, write) else {
+        return Err(Segv);
+    };
+    Ok(Spans::two(first, second))
+}

@@ -1,0 +1,163 @@
+ghost use Rattle.std.specs.Prelude.{◌≡◌, ◌≤◌};
+
+use crate::Spaces;
+use bitflags::Flags;
+use shm_base::{AtFlags, Cred, Errno, HostMemory, Process, Span};
+use std::alloc::Global;
+
+/// Process 1 of user 100, and child 2.
+fn family(alloc: Global) -> Result<Spaces, HostMemory> {
+    let cred = Cred { uid: 100, gid: 100 };
+    let parent = Process {
+        pid: 1,
+        born: Some(cred),
+    };
+    let child = Process { pid: 2, born: None };
+    Spaces::new(alloc, &[parent, child])
+}
+
+/// An attach of a process that should be live: where the piece begins, or the refusal.
+fn attach(
+    spaces: &mut Spaces,
+    pid: u32,
+    seg: u32,
+    pages: u32,
+    addr: u64,
+    flags: AtFlags,
+) -> Option<Result<u64, Errno>>
+    requires { (1 ≤ pages) × (pages ≤ 4096) }
+{
+    let caller = spaces.caller(pid)?;
+    let answer = spaces.attach(&caller, seg, pages, addr, flags).ok()?;
+    Some(answer.map(|attached| attached.base))
+}
+
+fn detach(spaces: &mut Spaces, pid: u32, addr: u64) -> Option<Result<u32, Errno>> {
+    let caller = spaces.caller(pid)?;
+    Some(spaces.detach(&caller, addr))
+}
+
+fn fork(spaces: &mut Spaces, pid: u32, child: u32) -> Option<Result<(), Errno>> {
+    let caller = spaces.caller(pid)?;
+    Some(spaces.fork(&caller, child))
+}
+
+fn span(seg: u32, at: u64, len: u64) -> Span {
+    Span {
+        seg,
+        at,
+        len,
+        frame: None,
+    }
+}
+
+/// Whether an access has just these spans.
+fn has_spans(spaces: &Spaces, addr: u64, len: u64, write: bool, want: &[Span]) -> bool
+    requires { (1 ≤ len) × (len ≤ 64) }
+{
+    match spaces.spans(1, addr, len, write) {
+        Ok(spans) => spans.as_slice() == want,
+        Err(_) => want.is_empty(),
+    }
+}
+
+#[test]
+fn an_access_over_two_pieces_has_two_spans(rt: HostRuntime) -> Result<(), HostMemory> {
+    let mut spaces = family(rt.alloc())?;
+    let none = AtFlags::empty();
+    assert!(rt; attach(&mut spaces, 1, 0, 1, 0, none) == Some(Ok(0x40000000)));
+    assert!(rt; attach(&mut spaces, 1, 0, 1, 0, AtFlags::RDONLY) == Some(Ok(0x40001000)));
+    let both = [span(0, 4094, 2), span(0, 0, 2)];
+    assert!(rt; has_spans(&spaces, 0x40000ffe, 4, false, both.as_slice()));
+    assert!(rt; has_spans(&spaces, 0x40000ffe, 4, true, [].as_slice()));
+    assert!(rt; has_spans(&spaces, 0x40000ffe, 2, true, [span(0, 4094, 2)].as_slice()));
+    assert!(rt; has_spans(&spaces, 0x40001fff, 2, false, [].as_slice()));
+    assert!(rt; has_spans(&spaces, u64::MAX, 64, false, [].as_slice()));
+    assert!(rt; spaces.count(0) == 2);
+    Ok(())
+}
+
+#[test]
+fn a_process_has_at_most_256_pieces(rt: HostRuntime) -> Result<(), HostMemory> {
+    let mut spaces = family(rt.alloc())?;
+    let none = AtFlags::empty();
+    for k in 0..256u64 {
+        assert!(rt; attach(&mut spaces, 1, 0, 1, 0, none) == Some(Ok(0x40000000 + 4096 * k)));
+    }
+    assert!(rt; attach(&mut spaces, 1, 0, 1, 0, none) == Some(Err(Errno::Emfile)));
+    assert!(rt; spaces.count(0) == 256);
+    Ok(())
+}
+
+/// A page in the middle of three pages is replaced, beside so many pieces of one page.
+fn crowded(alloc: Global, pieces: u64) -> Option<Result<u64, Errno>> {
+    let mut spaces = family(alloc).ok()?;
+    attach(&mut spaces, 1, 0, 3, 0, AtFlags::empty())?.ok()?;
+    for _ in 0..pieces {
+        attach(&mut spaces, 1, 1, 1, 0, AtFlags::empty())?.ok()?;
+    }
+    attach(&mut spaces, 1, 1, 1, 0x40001000, AtFlags::REMAP)
+}
+
+#[test]
+fn a_cut_counts_its_parts(rt: HostRuntime) {
+    assert!(rt; crowded(rt.alloc(), 254) == Some(Err(Errno::Emfile)));
+    assert!(rt; crowded(rt.alloc(), 253) == Some(Ok(0x40001000)));
+}
+
+#[test]
+fn parts_of_one_attach_go_together(rt: HostRuntime) -> Result<(), HostMemory> {
+    let mut spaces = family(rt.alloc())?;
+    assert!(rt; attach(&mut spaces, 1, 0, 3, 0, AtFlags::empty()) == Some(Ok(0x40000000)));
+    assert!(rt;
+        attach(&mut spaces, 1, 1, 1, 0x40001000, AtFlags::empty()) == Some(Err(Errno::Einval))
+    );
+    assert!(rt; attach(&mut spaces, 1, 1, 1, 0x40001fff, AtFlags::REMAP) == Some(Ok(0x40001000)));
+    assert!(rt; spaces.count(0) == 2);
+    assert!(rt; has_spans(&spaces, 0x40002000, 1, true, [span(0, 8192, 1)].as_slice()));
+    assert!(rt; detach(&mut spaces, 1, 0x40000000) == Some(Ok(0)));
+    assert!(rt; spaces.count(0) == 0);
+    assert!(rt; has_spans(&spaces, 0x40001000, 1, true, [span(1, 0, 1)].as_slice()));
+    assert!(rt; detach(&mut spaces, 1, 0x40001000) == Some(Ok(1)));
+    assert!(rt; detach(&mut spaces, 1, 0x40001000) == Some(Err(Errno::Einval)));
+    Ok(())
+}
+
+#[test]
+fn the_lowest_piece_names_the_segment(rt: HostRuntime) -> Result<(), HostMemory> {
+    let mut spaces = family(rt.alloc())?;
+    assert!(rt; attach(&mut spaces, 1, 0, 2, 0, AtFlags::empty()) == Some(Ok(0x40000000)));
+    assert!(rt; attach(&mut spaces, 1, 1, 1, 0x40000000, AtFlags::REMAP) == Some(Ok(0x40000000)));
+    assert!(rt; detach(&mut spaces, 1, 0x40000000) == Some(Ok(1)));
+    assert!(rt; (spaces.count(0), spaces.count(1)) == (1, 0));
+    assert!(rt; detach(&mut spaces, 1, 0x40000000) == Some(Ok(0)));
+    assert!(rt; spaces.count(0) == 0);
+    Ok(())
+}
+
+#[test]
+fn a_child_has_its_parents_pieces(rt: HostRuntime) -> Result<(), HostMemory> {
+    let mut spaces = family(rt.alloc())?;
+    assert!(rt; attach(&mut spaces, 1, 0, 1, 0, AtFlags::empty()) == Some(Ok(0x40000000)));
+    assert!(rt; !spaces.is_live(2));
+    assert!(rt; fork(&mut spaces, 1, 2) == Some(Ok(())));
+    assert!(rt; spaces.count(0) == 2);
+    let child = spaces.caller(2);
+    assert!(rt; child.is_some_and(|c| c.cred.uid == 100));
+    if let Some(child) = child {
+        let lost = spaces.exec(&child);
+        assert!(rt; lost.as_slice() == [0].as_slice());
+    }
+    assert!(rt; spaces.count(0) == 1);
+    assert!(rt; fork(&mut spaces, 1, 2) == Some(Err(Errno::Eagain)));
+    assert!(rt; fork(&mut spaces, 1, 1) == Some(Err(Errno::Eagain)));
+    assert!(rt; fork(&mut spaces, 1, 3) == Some(Err(Errno::Eagain)));
+    if let Some(parent) = spaces.caller(1) {
+        let lost = spaces.exit(&parent);
+        assert!(rt; lost.as_slice() == [0].as_slice());
+    }
+    assert!(rt; spaces.count(0) == 0);
+    assert!(rt; !spaces.is_live(1));
+    assert!(rt; detach(&mut spaces, 1, 0x40000000).is_none());
+    Ok(())
+}

@@ -1,0 +1,6 @@
+pub mod Ring
+pub mod Firsts
+pub mod Bits
+pub mod Rule
+pub mod Turning
+pub mod Eligible

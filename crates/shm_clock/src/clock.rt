@@ -1,0 +1,122 @@
+//! Second chance replacement, as a hand that turns over the frames.
+//!
+//! The hand passes eligible frames whose referenced bit is set and clears that bit. It stops at the
+//! first eligible frame whose bit is clear: that one is the victim. Where all bits were set, the victim
+//! is the first eligible frame, whose bit is clear by then. Frames that are not eligible keep their
+//! bits. What becomes of the victim's page is the caller's part.
+ghost use Rattle.std.specs.Prelude.{◌≡◌, ◌≢◌, ◌+◌, ◌-◌, ◌*◌, ◌<◌, ◌≤◌, ◌^◌, [], Bool, length};
+ghost use Rattle.shm_base.specs.declared.paging.PageRef.{PageRef};
+ghost use Rattle.shm_clock.specs.Clock.{ring_at, may_go, listed, victim_of, unset_all, passed_by, next, IsClockVictim};
+
+use shm_base::{FrameNo, PageRef};
+use shm_frames::{Frames, Looks};
+
+// The frame so many steps on from the hand, round a ring of so many.
+fn frame_after(hand: FrameNo, step: u32, count: u32) -> FrameNo
+    requires hand { hand < count }
+    requires step { step < count }
+    ensures number { result ≡ ring_at hand count step }
+    ensures there { result < count }
+{
+    if step < count - hand {
+        hand + step
+    } else {
+        step - (count - hand)
+    }
+}
+
+// Whether a frame's page may leave it.
+fn may_go<E: Fn(PageRef) -> bool>(
+    frames: &Frames,
+    frame: FrameNo,
+    eligible: &E,
+    pinned: Option<FrameNo>,
+) -> bool
+    ghost passes: { PageRef → Bool }
+    requires there { frame < length frames.now }
+    requires callable { E.IsAlwaysCallable eligible.now }
+    requires answers { (page : PageRef) (answer : Bool) → E.post eligible.now page answer → answer ≡ passes page }
+    ensures { result ≡ may_go passes pinned frames.now frame }
+{
+    let held = match pinned {
+        Some(other) => other == frame,
+        None => false,
+    };
+    let passed = match frames.owner(frame) {
+        Some(page) => eligible(page),
+        None => false,
+    };
+    passed && !held
+}
+
+// The victim, found by one turn of the hand at most, which clears the bits that it passes.
+fn turn<E: Fn(PageRef) -> bool>(
+    frames: &mut Frames,
+    hand: FrameNo,
+    eligible: &E,
+    pinned: Option<FrameNo>,
+    looks: &mut Looks,
+) -> FrameNo
+    ghost passes: { PageRef → Bool }
+    requires hand { hand < length frames.old }
+    requires callable { E.IsAlwaysCallable eligible.now }
+    requires answers { (page : PageRef) (answer : Bool) → E.post eligible.now page answer → answer ≡ passes page }
+    requires one { listed passes pinned frames.old hand ≢ [] }
+    requires countable { looks.old + length frames.old < 2 ^ 64 }
+    ensures victim { result ≡ victim_of frames.old (listed passes pinned frames.old hand) }
+    ensures bits { frames.new ≡ unset_all frames.old (passed_by frames.old (listed passes pinned frames.old hand)) }
+    ensures there { result < length frames.old }
+    ensures looks { looks.new ≤ looks.old + length frames.old }
+{
+    let count = frames.count();
+    let mut first = None;
+    for step in 0..count {
+        let frame = frame_after(hand, step, count);
+        if may_go(frames, frame, eligible, pinned) {
+            if !frames.referenced(frame, looks) {
+                return frame;
+            }
+            frames.set_referenced(frame, false);
+            first = Some(first.unwrap_or(frame));
+        }
+    }
+    match first {
+        Some(frame) => frame,
+        None => unreachable!(),
+    }
+}
+
+/// The frame whose page has to go. `eligible` says of a page whether it may; the pinned frame stays.
+/// The hand then stands at the number after the victim, and at 0 after the last.
+///
+/// There has to be an eligible frame other than the pinned one. Each frame's referenced bit is looked
+/// at once at most.
+pub fn victim<E: Fn(PageRef) -> bool>(
+    frames: &mut Frames,
+    hand: &mut FrameNo,
+    eligible: &E,
+    pinned: Option<FrameNo>,
+    looks: &mut Looks,
+) -> FrameNo
+    ghost passes: { PageRef → Bool }
+    requires hand { hand.old < length frames.old }
+    requires callable { E.IsAlwaysCallable eligible.now }
+    requires answers { (page : PageRef) (answer : Bool) → E.post eligible.now page answer → answer ≡ passes page }
+    requires one { listed passes pinned frames.old hand.old ≢ [] }
+    requires countable { looks.old + length frames.old < 2 ^ 64 }
+
+    // The rule as a list of frames: who is taken, which bits become clear, and where the hand stands.
+    ensures victim { result ≡ victim_of frames.old (listed passes pinned frames.old hand.old) }
+    ensures bits { frames.new ≡ unset_all frames.old (passed_by frames.old (listed passes pinned frames.old hand.old)) }
+    ensures hand { hand.new ≡ next (length frames.old) result }
+
+    // The same, frame by frame.
+    ensures clock { IsClockVictim (may_go passes pinned frames.old) hand.old frames.old result frames.new }
+
+    ensures looks { looks.new ≤ looks.old + length frames.old }
+{
+    let count = frames.count();
+    let frame = turn(frames, *hand, eligible, pinned, looks);
+    *hand = if frame + 1 < count { frame + 1 } else { 0 };
+    frame
+}

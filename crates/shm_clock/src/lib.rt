@@ -1,0 +1,8 @@
+//! The clock: which page has to leave its frame when a frame is wanted and none is free.
+#![tactic(auto)]
+
+mod clock;
+#[cfg(test)]
+mod tests;
+
+pub use clock::victim;

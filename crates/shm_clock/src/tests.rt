@@ -1,0 +1,161 @@
+ghost use Rattle.std.specs.Prelude.{◌≡◌, ◌+◌, ◌<◌, ◌≤◌, ◌^◌, length, IfSome, true, ◌≢◌, []};
+ghost use Rattle.shm_clock.specs.Clock.{may_go, listed};
+ghost use Rattle.shm_clock.specs.Unlocked.{is_unlocked};
+
+use super::victim;
+use shm_base::{FrameNo, HostMemory, PageRef};
+use shm_frames::{Frames, Looks};
+use std::alloc::Global;
+use std::test::Fail;
+
+fn may_go(frames: &Frames, frame: FrameNo, locked: u32, pinned: Option<FrameNo>) -> bool
+    requires { frame < length frames.now }
+    ensures { result ≡ may_go (is_unlocked locked) pinned frames.now frame }
+{
+    let held = match pinned {
+        Some(other) => other == frame,
+        None => false,
+    };
+    let unlocked = match frames.owner(frame) {
+        Some(page) => page.seg != locked,
+        None => false,
+    };
+    unlocked && !held
+}
+
+// Whether a frame, other than the pinned one, has a segment that is not the locked one.
+fn some_unlocked(frames: &Frames, hand: FrameNo, locked: u32, pinned: Option<FrameNo>) -> bool
+    requires { hand < length frames.now }
+    ensures { result ≡ true → listed (is_unlocked locked) pinned frames.now hand ≢ [] }
+{
+    for frame in 0..frames.count() {
+        if may_go(frames, frame, locked, pinned) {
+            return true;
+        }
+    }
+    false
+}
+
+// The victim among the frames whose segment is not the locked one, or none where there is none.
+fn unlocked_victim(
+    frames: &mut Frames,
+    hand: &mut FrameNo,
+    locked: u32,
+    pinned: Option<FrameNo>,
+    looks: &mut Looks,
+) -> Option<FrameNo>
+    requires hand { hand.old < length frames.old }
+    requires countable { looks.old + length frames.old < 2 ^ 64 }
+    ensures unlocked { IfSome result (λ frame. may_go (is_unlocked locked) pinned frames.old frame ≡ true) }
+{
+    if !some_unlocked(frames, *hand, locked, pinned) {
+        return None;
+    }
+    let unlocked = move |page: PageRef| page.seg != locked;
+    Some(victim(frames, hand, &unlocked, pinned, looks))
+}
+
+// Frames in order, each with a page of a segment and a bit.
+fn frames_with(alloc: Global, pages: &[(u32, bool)]) -> Result<Frames, HostMemory>
+    requires { length pages.now ≤ 8 }
+{
+    let mut frames = Frames::new(alloc, pages.len() as u32)?;
+    for (seg, referenced) in pages {
+        if let Some(frame) = frames.free_frame() {
+            frames.fill(frame, PageRef { seg: *seg, page: 0 });
+            frames.set_referenced(frame, *referenced);
+        }
+    }
+    Ok(frames)
+}
+
+// Frames by their segments and bits, a hand and a pinned frame; segment 9 is locked. Then who goes, the
+// bits and the hand afterwards, and the looks.
+#[derive(Drop)]
+struct Turn<'a> {
+    pages: &'a [(u32, bool)],
+    hand: FrameNo,
+    pinned: Option<FrameNo>,
+    victim: Option<FrameNo>,
+    bits: &'a [bool],
+    stands: FrameNo,
+    looks: u64,
+}
+
+#[test]
+fn turns_of_the_hand(rt: HostRuntime) -> Result<(), Fail> {
+    let turns = [
+        Turn {
+            pages: &[(1, false), (2, false)],
+            hand: 0,
+            pinned: None,
+            victim: Some(0),
+            bits: &[false, false],
+            stands: 1,
+            looks: 1,
+        },
+        Turn {
+            pages: &[(1, true), (2, false), (3, true)],
+            hand: 0,
+            pinned: None,
+            victim: Some(1),
+            bits: &[false, false, true],
+            stands: 2,
+            looks: 2,
+        },
+        Turn {
+            pages: &[(1, true), (2, true), (3, false), (4, true)],
+            hand: 3,
+            pinned: None,
+            victim: Some(2),
+            bits: &[false, false, false, false],
+            stands: 3,
+            looks: 4,
+        },
+        Turn {
+            pages: &[(1, true), (2, true), (3, true)],
+            hand: 2,
+            pinned: None,
+            victim: Some(2),
+            bits: &[false, false, false],
+            stands: 0,
+            looks: 3,
+        },
+        Turn {
+            pages: &[(9, true), (1, true), (2, true), (3, true)],
+            hand: 3,
+            pinned: Some(3),
+            victim: Some(1),
+            bits: &[true, false, false, true],
+            stands: 2,
+            looks: 2,
+        },
+        Turn {
+            pages: &[(9, false), (1, false)],
+            hand: 0,
+            pinned: Some(1),
+            victim: None,
+            bits: &[false, false],
+            stands: 0,
+            looks: 0,
+        },
+    ];
+    for turn in &turns {
+        assert!(rt; turn.pages.len() <= 8);
+        let mut frames = frames_with(rt.alloc(), turn.pages)?;
+        let mut hand = turn.hand;
+        assert!(rt; hand < frames.count());
+        let mut looks = Looks::new();
+        let victim = unlocked_victim(&mut frames, &mut hand, 9, turn.pinned, &mut looks);
+        assert!(rt; victim == turn.victim);
+        assert_eq!(rt; hand, turn.stands);
+        assert_eq!(rt; looks.count(), turn.looks);
+        assert_eq!(rt; frames.count() as usize, turn.bits.len());
+        for (frame, bit) in turn.bits.iter().enumerate() {
+            assert!(rt; frame < 8);
+            assert!(rt; (frame as u32) < frames.count());
+            assert_eq!(rt; frames.referenced(frame as u32, &mut Looks::new()), *bit);
+        }
+    }
+    Ok(())
+}

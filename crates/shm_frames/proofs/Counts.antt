@@ -1,0 +1,179 @@
+-- What is counted of the table.
+use Rattle.std.proofs.Common.{◌≡◌, ◌≢◌, ◌⊎◌, inl, inr, ℕ, zero, suc, ◌+◌, ◌-◌, ◌<◌, ◌≤◌, Bool, true, false, cond, List, [], ◌∷◌, length, get_or, set, replicate, ◌^◌, Option, None, Some, is_none, is_some, refl, sym, ap, ◌∙◌, add-one, arith, rules, length-set}
+use Rattle.std.specs.Prelude.{count_by}
+use Rattle.std.specs.Int.{from_bool}
+use Rattle.std.proofs.lemmas.List.{get_or-set_same, get_or-set_other, get_or-replicate, get_or_past, length-replicate}
+use Rattle.std.proofs.lemmas.Bool.{cases_eq, cases_lt}
+use Rattle.std.proofs.lemmas.List.Folds.{sum_by-replicate}
+use Rattle.std.proofs.lemmas.List.Sums.{sum_by-cons, sum_by-set, count_by-le-length}
+use Rattle.shm_base.specs.declared.paging.PageRef.{PageRef}
+use Rattle.shm_frames.specs.declared.frames.Entry.{Entry}
+use Rattle.shm_frames.specs.Table.{free_entry, entry_at, has_owner, has_no_owner, has_changed, UsedBelow, IsKept}
+
+-- where one test passes only if the other does, it passes no more often
+count_by-le : {X : Type 0} (p q : X → Bool) (d : X) (xs : List X) → ((i : ℕ) → i < length xs → p (get_or xs i d) ≡ true → q (get_or xs i d) ≡ true) → count_by p xs ≤ count_by q xs
+count_by-le p q d [] both = omega arith
+count_by-le p q d (x ∷ xs) both =
+    let rest : count_by p xs ≤ count_by q xs = count_by-le p q d xs (λ i l h. both (suc i) (omega arith) h) in
+    let here : p x ≡ true → q x ≡ true = both 0 (omega arith) in
+    rw (sum_by-cons (λ y. cond (p y) 1 0) x xs, sum_by-cons (λ y. cond (q y) 1 0) x xs) (by (p x) (q x) here rest)
+  where
+    by : (a b : Bool) → (a ≡ true → b ≡ true) → count_by p xs ≤ count_by q xs → cond a 1 0 + count_by p xs ≤ cond b 1 0 + count_by q xs
+    by true true h le = omega arith
+    by true false h le = absurd (search (rules, h refl))
+    by false b h le = elim b as (λ v. 0 + count_by p xs ≤ cond v 1 0 + count_by q xs) [ true ↦ omega arith | false ↦ omega arith ]
+
+changed-owned : (x : Entry) → (x.owner ≡ None → x ≡ free_entry) → has_changed x ≡ true → has_owner x ≡ true
+changed-owned x clear changed = by x.owner refl
+  where
+    by : (o : Option PageRef) → x.owner ≡ o → is_some o ≡ true
+    by None e = let f : x ≡ free_entry = clear e in absurd (cc)
+    by (Some r) e = refl
+
+-- a dirty frame is owned
+pub dirty-le-resident : (table : List Entry) (first owned changed : ℕ) → IsKept table first owned changed → changed ≤ owned
+dirty-le-resident table first owned changed k =
+    rw (k.resident, k.dirty) (count_by-le has_changed has_owner free_entry table (λ i l h. changed-owned (entry_at table i) (k.clear i) h))
+
+pub resident-le : (table : List Entry) (first owned changed : ℕ) → IsKept table first owned changed → owned ≤ length table
+resident-le table first owned changed k = rw k.resident (count_by-le-length has_owner table)
+
+worth : (b : Bool) → cond b 1 0 ≡ from_bool b
+worth true = refl
+worth false = refl
+
+-- what is kept after an edit of one entry, of which `was` is what stood there
+module _ {table : List Entry} {first owned changed i : ℕ} {was : Entry} (k : IsKept table first owned changed) (there : i < length table) (at : was ≡ entry_at table i) where
+  --X : List Entry) (first owned changed i : ℕ) (was : Entry) (k : IsKept table first owned changed) (there : i < length table) (at : was ≡ entry_at table i) where
+  owned-set : (x : Entry) → count_by has_owner (set table i x) + from_bool (has_owner was) ≡ owned + from_bool (has_owner x)
+  owned-set x = rw (← worth (has_owner was), ← worth (has_owner x), at, k.resident) (sum_by-set (λ y. cond (has_owner y) 1 0) table i x free_entry there)
+
+  changed-set : (x : Entry) → count_by has_changed (set table i x) + from_bool was.dirty ≡ changed + from_bool x.dirty
+  changed-set x = rw (← worth was.dirty, ← worth x.dirty, at, k.dirty) (sum_by-set (λ y. cond (has_changed y) 1 0) table i x free_entry there)
+
+  -- it was counted where it was owned, and where it was dirty
+  pub owned-there : from_bool (has_owner was) ≤ owned
+  owned-there = let e : count_by has_owner (set table i free_entry) + from_bool (has_owner was) ≡ owned + 0 = owned-set free_entry in omega arith
+
+  pub changed-there : from_bool was.dirty ≤ changed
+  changed-there = let e : count_by has_changed (set table i free_entry) + from_bool was.dirty ≡ changed + 0 = changed-set free_entry in omega arith
+
+  -- there is room for one more where it was not counted
+  pub owned-more : was.owner ≡ None → owned + 1 ≤ length table
+  owned-more free =
+      let x : Entry = record was { owner = Some (record { seg = 0; page = 0 }) } in
+      let e : count_by has_owner (set table i x) + from_bool (has_owner was) ≡ owned + 1 = owned-set x in
+      let f : count_by has_owner (set table i x) + 0 ≡ owned + 1 = rw free at e in
+      omega (arith, count_by-le-length has_owner (set table i x), length-set table i x)
+
+  pub changed-more : (now : Bool) → changed - from_bool was.dirty + from_bool now ≤ length table
+  changed-more now =
+      let x : Entry = record was { dirty = now } in
+      let e : count_by has_changed (set table i x) + from_bool was.dirty ≡ changed + from_bool now = changed-set x in
+      omega (arith, changed-there, count_by-le-length has_changed (set table i x), length-set table i x)
+
+  clear-set : (x : Entry) → (x.owner ≡ None → x ≡ free_entry) → (j : ℕ) → (entry_at (set table i x) j).owner ≡ None → entry_at (set table i x) j ≡ free_entry
+  clear-set x clear j = by (cases_eq j i)
+    where
+      by : (j ≡ i) ⊎ (j ≢ i) → (entry_at (set table i x) j).owner ≡ None → entry_at (set table i x) j ≡ free_entry
+      by (inl e) = rw (e, get_or-set_same table i x free_entry there) clear
+      by (inr n) = rw (get_or-set_other table i j x free_entry n) (k.clear j)
+
+  used-set : (x : Entry) (n : ℕ) → has_no_owner x ≡ false → ((j : ℕ) → j < n → j ≢ i → has_no_owner (entry_at table j) ≡ false) → UsedBelow (set table i x) n
+  used-set x n busy others j lt = by (cases_eq j i)
+    where
+      by : (j ≡ i) ⊎ (j ≢ i) → has_no_owner (entry_at (set table i x) j) ≡ false
+      by (inl e) = rw (e, get_or-set_same table i x free_entry there) busy
+      by (inr n) = rw (get_or-set_other table i j x free_entry n) (others j lt n)
+
+  -- the bits of an owned frame change
+  pub kept-bits : (x : Entry) (changed' : ℕ) → is_some was.owner ≡ true → x.owner ≡ was.owner → changed' + from_bool was.dirty ≡ changed + from_bool x.dirty → IsKept (set table i x) first owned changed'
+  kept-bits x changed' some same by =
+      let busy : is_some x.owner ≡ true = rw same some in
+      record {
+        few = rw (length-set table i x) k.few;
+        bound = rw (length-set table i x) k.bound;
+        used = used-set x first (by-some x.owner busy) (λ j lt n. k.used j lt);
+        resident = let e = owned-set x in (let f : is_some x.owner ≡ is_some was.owner = ap is_some same in omega (arith, rw f at e));
+        dirty = let e = changed-set x in omega (arith, e);
+        clear = clear-set x (λ none. absurd (search (rules, rw none at busy)));
+      }
+    where
+      by-some : (o : Option PageRef) → is_some o ≡ true → is_none o ≡ false
+      by-some None h = absurd (search (rules, h))
+      by-some (Some r) h = refl
+
+  -- a free frame is given to a page
+  pub kept-fill : (r : PageRef) (later : ℕ) → was.owner ≡ None → later ≤ length table → ((j : ℕ) → j < later → j ≢ i → has_no_owner (entry_at table j) ≡ false) → IsKept (set table i (record was { owner = Some r })) later (owned + 1) changed
+  kept-fill r later free bound used =
+      let x : Entry = record was { owner = Some r } in
+      let e : count_by has_owner (set table i x) + from_bool (has_owner was) ≡ owned + 1 = owned-set x in
+      let f : count_by has_owner (set table i x) + 0 ≡ owned + 1 = rw free at e in
+      record {
+        few = rw (length-set table i x) k.few;
+        bound = rw (length-set table i x) bound;
+        used = used-set x later refl used;
+        resident = omega arith;
+        dirty = let g = changed-set x in omega (arith, g);
+        clear = clear-set x (λ none. absurd (search (rules, none)));
+      }
+
+  -- a frame is made free
+  pub kept-empty : (later : ℕ) → later ≤ first → later ≤ i → IsKept (set table i free_entry) later (owned - from_bool (has_owner was)) (changed - from_bool was.dirty)
+  kept-empty later below past =
+      record {
+        few = rw (length-set table i free_entry) k.few;
+        bound = rw (length-set table i free_entry) (omega (arith, k.bound));
+        used = λ j lt. rw (get_or-set_other table i j free_entry free_entry (λ e. absurd (omega arith))) (k.used j (omega arith));
+        resident = let e : count_by has_owner (set table i free_entry) + from_bool (has_owner was) ≡ owned + 0 = owned-set free_entry in omega arith;
+        dirty = let e : count_by has_changed (set table i free_entry) + from_bool was.dirty ≡ changed + 0 = changed-set free_entry in omega arith;
+        clear = clear-set free_entry (λ none. refl);
+      }
+
+-- so many entries that are free, and as many pages
+pub record AreNew (table : List Entry) (pages : List (List ℕ)) (n : ℕ) : Type 0 where
+  pub entries : table ≡ replicate n free_entry
+  pub beside : length pages ≡ n
+
+free-entries : (n i : ℕ) → entry_at (replicate n free_entry) i ≡ free_entry
+free-entries n i = by (cases_lt i n)
+  where
+    by : (i < n) ⊎ (n ≤ i) → entry_at (replicate n free_entry) i ≡ free_entry
+    by (inl l) = get_or-replicate n i free_entry free_entry l
+    by (inr g) = get_or_past (replicate n free_entry) i free_entry (omega (arith, length-replicate n free_entry))
+
+-- a table of free entries
+pub new-entry : (table : List Entry) (n i : ℕ) → table ≡ replicate n free_entry → entry_at table i ≡ free_entry
+new-entry table n i e = rw e (free-entries n i)
+
+pub kept-new : (table : List Entry) (n : ℕ) → table ≡ replicate n free_entry → n < 2 ^ 32 → IsKept table 0 0 0
+kept-new table n e few =
+    rw e
+    (record {
+      few = rw (length-replicate n free_entry) few;
+      bound = omega arith;
+      used = λ i l. absurd (omega arith);
+      resident = let s = sum_by-replicate (λ y. cond (has_owner y) 1 0) n free_entry in omega (arith, s);
+      dirty = let s = sum_by-replicate (λ y. cond (has_changed y) 1 0) n free_entry in omega (arith, s);
+      clear = λ i none. free-entries n i;
+    })
+
+all-counted : {X : Type 0} (p : X → Bool) (d : X) (xs : List X) → count_by p xs ≡ length xs → (i : ℕ) → i < length xs → p (get_or xs i d) ≡ true
+all-counted p d [] e i l = absurd (omega arith)
+all-counted p d (x ∷ xs) e i l =
+    let few : count_by p xs ≤ length xs = count_by-le-length p xs in
+    let sum : cond (p x) 1 0 + count_by p xs ≡ length xs + 1 = sym (sum_by-cons (λ y. cond (p y) 1 0) x xs) ∙ rw add-one e in
+    by i l (p x) refl few sum (all-counted p d xs)
+  where
+    by : (j : ℕ) → j < suc (length xs) → (b : Bool) → p x ≡ b → count_by p xs ≤ length xs → cond b 1 0 + count_by p xs ≡ length xs + 1 → (count_by p xs ≡ length xs → (k : ℕ) → k < length xs → p (get_or xs k d) ≡ true) → p (get_or (x ∷ xs) j d) ≡ true
+    by zero lt true h few sum rest = h
+    by (suc j) lt true h few sum rest = rest (omega arith) j (omega arith)
+    by j lt false h few sum rest = absurd (omega arith)
+
+-- where as many are owned as there are, none is free
+pub none-free : (table : List Entry) (first owned changed : ℕ) → IsKept table first owned changed → owned ≡ length table → UsedBelow table (length table)
+none-free table first owned changed k e i l = rw (all-counted has_owner free_entry table (sym k.resident ∙ e) i l) refl
+
+-- where the next search begins
+pub kept-later : (table : List Entry) (first owned changed later : ℕ) → IsKept table first owned changed → later ≤ length table → UsedBelow table later → IsKept table later owned changed
+kept-later table first owned changed later k bound used = record { few = k.few; bound = bound; used = used; resident = k.resident; dirty = k.dirty; clear = k.clear }

@@ -1,0 +1,52 @@
+-- Frames, as callers see them.
+use Rattle.std.specs.Prelude.{◌≡◌, ℕ, ◌<◌, Bool, false, Option, None, is_none, is_some, List, [], length, get_or, count_by}
+use Rattle.shm_base.specs.declared.paging.PageRef.{PageRef}
+
+-- a frame: whose it is, its bytes, and its two bits
+pub record Frame : Type 0 where
+  pub owner : Option PageRef
+  pub bytes : List ℕ
+  pub referenced : Bool
+  pub dirty : Bool
+
+-- what is said to stand where there is no frame: a free one of no bytes
+abbrev pub no_frame : Frame
+no_frame = record { owner = None; bytes = []; referenced = false; dirty = false }
+
+abbrev pub frame_at : List Frame → ℕ → Frame
+frame_at frames i = get_or frames i no_frame
+
+abbrev pub is_free : Frame → Bool
+is_free f = is_none f.owner
+
+abbrev pub is_owned : Frame → Bool
+is_owned f = is_some f.owner
+
+abbrev pub is_dirty : Frame → Bool
+is_dirty f = f.dirty
+
+-- how many frames are owned
+abbrev pub resident_of : List Frame → ℕ
+resident_of frames = count_by is_owned frames
+
+-- how many frames are dirty
+abbrev pub dirty_of : List Frame → ℕ
+dirty_of frames = count_by is_dirty frames
+
+-- the frame is nobody's, and its bits are clear
+abbrev pub IsBlank : List Frame → ℕ → Type 0
+IsBlank frames i = frame_at frames i ≡ record no_frame { bytes = (frame_at frames i).bytes }
+
+-- frames that nobody owns have clear bits
+abbrev pub FreeAreClear : List Frame → Type 0
+FreeAreClear frames = (i : ℕ) → (frame_at frames i).owner ≡ None → IsBlank frames i
+
+-- each frame below is owned
+abbrev pub OwnedBelow : List Frame → ℕ → Type 0
+OwnedBelow frames n = (i : ℕ) → i < n → is_free (frame_at frames i) ≡ false
+
+-- the frame is free, and none below it is
+pub record IsLeastFree (frames : List Frame) (i : ℕ) : Type 0 where
+  pub there : i < length frames
+  pub free : (frame_at frames i).owner ≡ None
+  pub least : OwnedBelow frames i

@@ -1,0 +1,13 @@
+//! Frames: the room for the pages of a machine that are in memory. A frame is free or owned by one
+//! page, and has a referenced and a dirty bit.
+//!
+//! All room is taken when the frames are made; no later call takes memory.
+#![tactic(auto)]
+
+mod frames;
+mod looks;
+#[cfg(test)]
+mod tests;
+
+pub use frames::Frames;
+pub use looks::Looks;

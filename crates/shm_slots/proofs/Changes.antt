@@ -1,0 +1,194 @@
+-- One area of a swap changed.
+use Rattle.std.proofs.Common.{rules, ◌≡◌, ◌≢◌, ◌⊎◌, ℕ, zero, suc, ◌<◌, ◌≤◌, Bool, true, false, not, ◌&&◌, ◌||◌, List, [], ◌∷◌, ◌++◌, Option, None, length, get_or, set, map, sum, sum_by, refl, sym, ap, ◌∙◌, inl, inr, arith, length-set, get_or-set_same, get_or-set_other}
+use Rattle.std.specs.List.{list_any}
+use Rattle.std.proofs.lemmas.List.{set_past, get_or_default, map-set}
+use Rattle.std.proofs.lemmas.List.Folds.{list_any_at}
+use Rattle.std.proofs.lemmas.List.Sums.{sum_by-set, sum-map}
+use Rattle.std.proofs.lemmas.Bool.{cases_eq, cases_lt, eq-eqb}
+use Rattle.std.proofs.lemmas.Grind.{common_steps}
+use Rattle.std.proofs.lemmas.Bool.Decides.{eqb_tells}
+use Rattle.shm_base.specs.declared.paging.PageRef.{PageRef}
+use Rattle.shm_pager.specs.Pages.{last_count}
+use Rattle.shm_slots.specs.View.{AreaView, SwapView, area_at, no_area, rise, is_spent, size_of, sizes, with_owner, off, CountedFault, IsArea, IsSwap, SameSlots}
+use Rattle.shm_slots.specs.Cause.{some_spent, total, had_cause, GoesOn, IsSteady}
+
+-- the areas with one of them changed
+abbrev pub changed : SwapView → ℕ → AreaView → Bool → SwapView
+changed s i a flag = record { areas = set s.areas i a; never_spent = flag }
+
+both_true : (x y : Bool) → (x && y) ≡ true → (x ≡ true) × (y ≡ true)
+both_true false y h = absurd (search rules)
+both_true true y h = (refl, h)
+
+unspent_area : (a : AreaView) → IsArea a → not (is_spent a) ≡ true → a.failed < last_count
+unspent_area a area flag = elim (eqb_tells a.failed last_count) [
+  | inl w ↦ absurd (let h = ap not w.0 in search rules)
+  | inr w ↦ omega (arith, area.countable, w.1)
+]
+
+-- one more area
+pub areas-push : (xs : List AreaView) (a : AreaView) → ((k : ℕ) → IsArea (get_or xs k no_area)) → IsArea a → (k : ℕ) → IsArea (get_or (xs ++ a ∷ []) k no_area)
+areas-push [] a each area zero = area
+areas-push [] a each area (suc k) = each k
+areas-push (x ∷ xs) a each area zero = each 0
+areas-push (x ∷ xs) a each area (suc k) = areas-push xs a (λ i. each (suc i)) area k
+
+-- the flag with one more area
+pub flag-push : (xs : List AreaView) (a : AreaView) → not (list_any is_spent (xs ++ a ∷ [])) ≡ (not (list_any is_spent xs) && not (is_spent a))
+flag-push [] a = by (is_spent a)
+  where
+    by : (b : Bool) → not (b || false) ≡ not b
+    by true = refl
+    by false = refl
+flag-push (x ∷ xs) a = by (is_spent x) (flag-push xs a)
+  where
+    by : (b : Bool) → not (list_any is_spent (xs ++ a ∷ [])) ≡ (not (list_any is_spent xs) && not (is_spent a))
+        → not (b || list_any is_spent (xs ++ a ∷ [])) ≡ (not (b || list_any is_spent xs) && not (is_spent a))
+    by true e = refl
+    by false e = e
+
+-- a swap as it is made
+pub IsSwap-new : (xs : List AreaView) (flag : Bool) → length xs ≤ 8 → ((k : ℕ) → IsArea (get_or xs k no_area)) → flag ≡ not (list_any is_spent xs) → IsSwap (record { areas = xs; never_spent = flag })
+IsSwap-new xs flag few each is = record {
+  few = few;
+  each = each;
+  unspent = λ up k l. elim (eqb_tells (get_or xs k no_area).failed last_count) [
+    | inl w ↦ absurd (let some = ap not (list_any_at is_spent xs k no_area l w.0) in search (rules, sym up ∙ is ∙ some))
+    | inr w ↦ omega (arith, (each k).countable, w.1)
+  ];
+}
+
+-- a function of each area, where that of the changed one stays
+map-changed : {B : Type 0} (f : AreaView → B) (xs : List AreaView) (i : ℕ) (was a : AreaView) → was ≡ get_or xs i was → f a ≡ f was → map f (set xs i a) ≡ map f xs
+map-changed f [] i was a found same = refl
+map-changed f (x ∷ xs) zero was a found same = ap (λ y. y ∷ map f xs) (same ∙ ap f found)
+map-changed f (x ∷ xs) (suc i) was a found same = ap (λ ys. f x ∷ ys) (map-changed f xs i was a found same)
+
+size_of-kept : (was a : AreaView) → IsArea was → IsArea a → a.here ≡ was.here → length a.owners ≡ length was.owners → size_of a ≡ size_of was
+size_of-kept was a old new here owners =
+    let pages : length a.pages ≡ length was.pages = omega (arith, old.owned, new.owned, owners) in
+    rw (here, pages) refl
+
+-- what a call on the area at i leaves of a swap, where it found the area `was` and left it as `a`
+module _ (s : SwapView) (i : ℕ) (was a : AreaView) (found : was ≡ get_or s.areas i was) where
+  -- the area that stood there, where the index is one of an area
+  at_i : i < length s.areas → was ≡ area_at s i
+  at_i within = found ∙ get_or_default s.areas i was no_area within
+
+  -- a fact of the old and the new areas, in order of their numbers
+  each_changed : (R : AreaView → AreaView → Type 0) (flag : Bool) (k : ℕ) → ((b : AreaView) → R b b) → R was a → R (area_at s k) (area_at (changed s i a flag) k)
+  each_changed R flag k same here = by (cases_eq k i) (cases_lt i (length s.areas))
+    where
+      by : (k ≡ i) ⊎ (k ≢ i) → (i < length s.areas) ⊎ (length s.areas ≤ i) → R (area_at s k) (area_at (changed s i a flag) k)
+      by (inl e) (inl within) = rw (e, get_or-set_same s.areas i a no_area within, ← at_i within) here
+      by (inl e) (inr past) = rw (set_past s.areas i a past) (same (area_at s k))
+      by (inr n) _ = rw (get_or-set_other s.areas i k a no_area n) (same (area_at s k))
+
+  areas_changed : IsSwap s → IsArea a → (flag : Bool) (k : ℕ) → IsArea (area_at (changed s i a flag) k)
+  areas_changed swap area flag k = each_changed (λ b c. IsArea b → IsArea c) flag k (λ b h. h) (λ _. area) (swap.each k)
+
+  GoesOn-changed : (flag : Bool) → a.start ≡ was.start → was.failed ≤ a.failed → (flag ≡ true → s.never_spent ≡ true) → GoesOn s (changed s i a flag)
+  GoesOn-changed flag start counts falls = record {
+    areas = length-set s.areas i a;
+    starts = λ k. each_changed (λ b c. c.start ≡ b.start) flag k (λ b. refl) start;
+    counts = λ k. each_changed (λ b c. b.failed ≤ c.failed) flag k (λ b. omega arith) counts;
+    flag = falls;
+  }
+
+  sizes-changed : IsSwap s → IsArea a → a.here ≡ was.here → length a.owners ≡ length was.owners → map size_of (set s.areas i a) ≡ sizes s
+  sizes-changed swap area here owners = by (cases_lt i (length s.areas))
+    where
+      by : (i < length s.areas) ⊎ (length s.areas ≤ i) → map size_of (set s.areas i a) ≡ sizes s
+      by (inl within) = map-changed size_of s.areas i was a found (size_of-kept was a (rw (at_i within) (swap.each i)) area here owners)
+      by (inr past) = ap (map size_of) (set_past s.areas i a past)
+
+  -- the count stayed, as did the flag
+  IsSwap-kept : IsSwap s → IsArea a → a.failed ≡ was.failed → IsSwap (changed s i a s.never_spent)
+  IsSwap-kept swap area same = record {
+    few = omega (arith, swap.few, length-set s.areas i a);
+    each = areas_changed swap area s.never_spent;
+    unspent = λ flag k l.
+        let within : k < length s.areas = omega (arith, length-set s.areas i a) in
+        each_changed (λ b c. b.failed < last_count → c.failed < last_count) s.never_spent k (λ b h. h) (λ h. rw same h) (swap.unspent flag k within);
+  }
+
+  GoesOn-kept : a.start ≡ was.start → a.failed ≡ was.failed → GoesOn s (changed s i a s.never_spent)
+  GoesOn-kept start failed = GoesOn-changed s.never_spent start (omega (arith, failed)) (λ flag. flag)
+
+  total-kept : a.start ≡ was.start → a.failed ≡ was.failed → (flag : Bool) → total (changed s i a flag) ≡ total s
+  unfolding total
+  total-kept start failed flag =
+      let same : rise a ≡ rise was = omega (arith, start, failed) in
+      sym (sum-map rise (set s.areas i a)) ∙ ap sum (map-changed rise s.areas i was a found same) ∙ sum-map rise s.areas
+
+  -- a slot's owner was set, and its page perhaps changed
+  module _ (slot : ℕ) (owner : Option PageRef) (pages : List (List ℕ)) (is : a ≡ record (with_owner was slot owner) { pages = pages }) where
+    pub IsSwap-owner : IsSwap s → IsArea a → IsSwap (changed s i a s.never_spent)
+    IsSwap-owner swap area = IsSwap-kept swap area (ap (λ (b : AreaView). b.failed) is)
+
+    pub IsSteady-owner : IsSwap s → IsArea a → IsSteady s (changed s i a s.never_spent)
+    IsSteady-owner swap area =
+        let start = ap (λ (b : AreaView). b.start) is in
+        let failed = ap (λ (b : AreaView). b.failed) is in
+        let owners = ap (λ (b : AreaView). length b.owners) is ∙ length-set was.owners slot owner in
+        record {
+          goes_on = GoesOn-kept start failed;
+          failures = total-kept start failed s.never_spent;
+          same_sizes = sizes-changed swap area (ap (λ (b : AreaView). b.here) is) owners;
+        }
+
+  -- the pager was asked: the flag falls where the area is spent
+  pub IsSwap-asked : IsSwap s → IsArea a → IsSwap (changed s i a (s.never_spent && not (is_spent a)))
+  IsSwap-asked swap area = record {
+    few = omega (arith, swap.few, length-set s.areas i a);
+    each = areas_changed swap area (s.never_spent && not (is_spent a));
+    unspent = λ flag k l.
+        let within : k < length s.areas = omega (arith, length-set s.areas i a) in
+        let flags = both_true s.never_spent (not (is_spent a)) flag in
+        each_changed (λ b c. b.failed < last_count → c.failed < last_count) (s.never_spent && not (is_spent a)) k (λ b h. h) (λ _. unspent_area a area flags.1) (swap.unspent flags.0 k within);
+  }
+
+  module _ (pages : List (List ℕ)) (failed : ℕ) (is : a ≡ record was { pages = pages; failed = failed }) where
+    start_asked : a.start ≡ was.start
+    start_asked = ap (λ (b : AreaView). b.start) is
+
+    pub GoesOn-asked : was.failed ≤ a.failed → GoesOn s (changed s i a (s.never_spent && not (is_spent a)))
+    GoesOn-asked counts = GoesOn-changed (s.never_spent && not (is_spent a)) start_asked counts (λ flag. (both_true s.never_spent (not (is_spent a)) flag).0)
+
+    pub sizes-asked : IsSwap s → IsArea a → map size_of (set s.areas i a) ≡ sizes s
+    sizes-asked swap area = sizes-changed swap area (ap (λ (b : AreaView). b.here) is) (ap (λ (b : AreaView). length b.owners) is)
+
+    -- a fault of the area is a cause
+    pub had_cause-asked : (flag : Bool) → i < length s.areas → IsSwap s → CountedFault was a → had_cause s (changed s i a flag) ≡ true
+    unfolding total some_spent
+    had_cause-asked flag within swap (inl counted) =
+        let same = at_i within in
+        let more : sum_by rise s.areas < sum_by rise (set s.areas i a) = omega (arith, sum_by-set rise s.areas i a no_area within, (swap.each i).begun, start_asked, counted, ap (λ (b : AreaView). b.start) same, ap (λ (b : AreaView). b.failed) same) in
+        grind (arith, common_steps, more)
+    had_cause-asked flag within swap (inr spent) =
+        let same = at_i within in
+        let last : (area_at s i).failed ≡ last_count = sym (ap (λ (b : AreaView). b.failed) same) ∙ spent.0 in
+        let some : list_any is_spent s.areas ≡ true = list_any_at is_spent s.areas i no_area within (eq-eqb (area_at s i).failed last_count last) in
+        grind (arith, common_steps, some)
+
+  -- the count alone changed: the slots stayed
+  pub SameSlots-asked : a ≡ record was { failed = a.failed } → SameSlots s (changed s i a (s.never_spent && not (is_spent a)))
+  SameSlots-asked is = record {
+    areas = length-set s.areas i a;
+    pages = λ k. each_changed (λ b c. c.pages ≡ b.pages) (s.never_spent && not (is_spent a)) k (λ b. refl) (ap (λ (b : AreaView). b.pages) is);
+    owners = λ k. each_changed (λ b c. c.owners ≡ b.owners) (s.never_spent && not (is_spent a)) k (λ b. refl) (ap (λ (b : AreaView). b.owners) is);
+  }
+
+  -- the pager went
+  module _ (is : a ≡ off was) where
+    pub IsSwap-off : IsSwap s → IsArea a → IsSwap (changed s i a s.never_spent)
+    IsSwap-off swap area = IsSwap-kept swap area (ap (λ (b : AreaView). b.failed) is)
+
+    pub GoesOn-off : GoesOn s (changed s i a s.never_spent)
+    GoesOn-off = GoesOn-kept (ap (λ (b : AreaView). b.start) is) (ap (λ (b : AreaView). b.failed) is)
+
+    pub total-off : (flag : Bool) → total (changed s i a flag) ≡ total s
+    total-off flag = total-kept (ap (λ (b : AreaView). b.start) is) (ap (λ (b : AreaView). b.failed) is) flag
+
+    pub sizes-off : map size_of (set s.areas i a) ≡ set (sizes s) i None
+    sizes-off = map-set size_of s.areas i a ∙ ap (λ (b : AreaView). set (sizes s) i (size_of b)) is

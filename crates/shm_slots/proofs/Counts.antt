@@ -1,0 +1,59 @@
+-- Slots counted: where all are owned, as many are used as there are.
+use Rattle.std.proofs.Common.{◌≡◌, ◌≢◌, ℕ, zero, suc, ◌+◌, ◌<◌, true, false, List, [], ◌∷◌, length, get_or, map, Option, Some, None, refl, sym, ◌∙◌, arith, sum_by}
+use Rattle.std.proofs.lemmas.List.Sums.{sum_by-cons}
+use Rattle.shm_base.specs.declared.paging.Slot.{Slot}
+use Rattle.shm_slots.specs.Owners.{UsedBelow, IsLeastFree}
+use Rattle.shm_slots.specs.View.{AreaView, SwapView, area_at, no_area, size_of, slots_in, slots, used_in, used_slots, AllOwned, IsFirstFree, IsArea, IsSwap}
+use Rattle.shm_slots.proofs.Least.{count-full}
+
+slots_in-size_of : (a : AreaView) → IsArea a → slots_in (size_of a) ≡ length a.pages
+slots_in-size_of a area = by a.here refl
+  where
+    by : (b : _) → a.here ≡ b → slots_in (size_of a) ≡ length a.pages
+    by true here = rw here refl
+    by false here = rw (here, area.gone here) refl
+
+used_in-full : (a : AreaView) → IsArea a → UsedBelow (length a.owners) a.owners → used_in a ≡ slots_in (size_of a)
+used_in-full a area used = count-full a.owners used ∙ area.owned ∙ sym (slots_in-size_of a area)
+
+-- all areas full
+used-full : (xs : List AreaView) → ((k : ℕ) → IsArea (get_or xs k no_area))
+    → ((k : ℕ) → k < length xs → UsedBelow (length (get_or xs k no_area).owners) (get_or xs k no_area).owners)
+    → sum_by used_in xs ≡ sum_by slots_in (map size_of xs)
+used-full [] each used = refl
+used-full (x ∷ xs) each used =
+    let first = used_in-full x (each 0) (used 0 (omega arith)) in
+    let rest = used-full xs (λ k. each (suc k)) (λ k l. used (suc k) (omega arith)) in
+    omega (arith, first, rest, sum_by-cons used_in x xs, sum_by-cons slots_in (size_of x) (map size_of xs))
+
+-- all areas full but for one
+used-full_but : (xs : List AreaView) (out : ℕ) → ((k : ℕ) → IsArea (get_or xs k no_area))
+    → ((k : ℕ) → k < length xs → k ≢ out → UsedBelow (length (get_or xs k no_area).owners) (get_or xs k no_area).owners)
+    → sum_by used_in xs + length (get_or xs out no_area).pages ≡ sum_by slots_in (map size_of xs) + used_in (get_or xs out no_area)
+used-full_but [] out each used = refl
+used-full_but (x ∷ xs) zero each used =
+    let first = slots_in-size_of x (each 0) in
+    let rest = used-full xs (λ k. each (suc k)) (λ k l. used (suc k) (omega arith) (omega arith)) in
+    omega (arith, first, rest, sum_by-cons used_in x xs, sum_by-cons slots_in (size_of x) (map size_of xs))
+used-full_but (x ∷ xs) (suc out) each used =
+    let first = used_in-full x (each 0) (used 0 (omega arith) (omega arith)) in
+    let rest = used-full_but xs out (λ k. each (suc k)) (λ k l n. used (suc k) (omega arith) (omega arith)) in
+    omega (arith, first, rest, sum_by-cons used_in x xs, sum_by-cons slots_in (size_of x) (map size_of xs))
+
+-- where all slots are owned, as many are used as there are
+pub used_slots-full : (s : SwapView) → IsSwap s → AllOwned s None (length s.areas) → used_slots s ≡ slots s
+used_slots-full s swap all = used-full s.areas swap.each (λ k l. all k l (λ e. cc))
+
+-- where all slots are owned but those of one area, as many are used outside it as there are
+pub used_slots-full_but : (s : SwapView) (out : ℕ) → IsSwap s → AllOwned s (Some out) (length s.areas) → used_slots s + length (area_at s out).pages ≡ slots s + used_in (area_at s out)
+used_slots-full_but s out swap all = used-full_but s.areas out swap.each (λ k l n. all k l (λ e. n (cc)))
+
+-- the first free slot is the least free one of its area
+pub IsLeastFree-first : (s : SwapView) (out : Option ℕ) (k : Slot) → IsSwap s → IsFirstFree s out k → IsLeastFree (area_at s k.area).owners k.slot
+IsLeastFree-first s out k swap first = record {
+  within = omega (arith, first.there.1, (swap.each k.area).owned);
+  free = first.free;
+  least = first.least;
+}
+
+pub ruleset counting_slots = (used_slots-full, used_slots-full_but, IsLeastFree-first)

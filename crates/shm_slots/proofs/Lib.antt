@@ -1,0 +1,4 @@
+pub mod Least
+pub mod Changes
+pub mod Causes
+pub mod Counts

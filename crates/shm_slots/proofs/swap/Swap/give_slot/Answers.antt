@@ -1,0 +1,14 @@
+use Rattle.shm_slots.proofs.Changes.{IsSwap-owner, IsSteady-owner}
+use Rattle.shm_slots.proofs.swap.Swap.give_slot.Goals as goal
+
+pub invariant_of-self : goal.invariant_of-self
+invariant_of-self g c =
+    IsSwap-owner _ _ _ _ c.index_mut.ensures.value _ _ _ c.give.ensures.rest c.self.invariant c.give.ensures.sound
+
+pub returns-clause-steady : goal.returns-clause-steady
+returns-clause-steady g c =
+    rw (← c.self.view_is) (IsSteady-owner _ _ _ _ c.index_mut.ensures.value _ _ _ c.give.ensures.rest c.self.invariant c.give.ensures.sound)
+
+pub returns-clause-sound : goal.returns-clause-sound
+returns-clause-sound g c =
+    IsSwap-owner _ _ _ _ c.index_mut.ensures.value _ _ _ c.give.ensures.rest c.self.invariant c.give.ensures.sound

@@ -1,0 +1,30 @@
+use Rattle.std.proofs.Common.{◌<◌, length, ap, arith}
+use Rattle.std.proofs.lemmas.Result.{IfErr-weaker}
+use Rattle.shm_slots.specs.View.{SwapView}
+use Rattle.shm_slots.proofs.Changes.{IsSwap-asked, GoesOn-asked, sizes-asked, had_cause-asked, SameSlots-asked}
+use Rattle.shm_slots.proofs.swap.Swap.read_slot.Goals as goal
+
+pub invariant_of-self : goal.invariant_of-self
+invariant_of-self g c =
+    rw c.stays_unspent-self-inside.ensures (IsSwap-asked _ _ _ _ c.index_mut-area.ensures.value c.self.invariant c.read-result.ensures.sound)
+
+pub returns-clause-sound : goal.returns-clause-sound
+returns-clause-sound g c =
+    rw c.stays_unspent-self-inside.ensures (IsSwap-asked _ _ _ _ c.index_mut-area.ensures.value c.self.invariant c.read-result.ensures.sound)
+
+pub returns-clause-goes_on : goal.returns-clause-goes_on
+returns-clause-goes_on g c =
+    rw (← c.self.view_is, c.stays_unspent-self-inside.ensures) (GoesOn-asked _ _ _ _ c.index_mut-area.ensures.value _ _ c.read-result.ensures.rest c.read-result.ensures.counts)
+
+pub returns-clause-sizes : goal.returns-clause-sizes
+returns-clause-sizes g c =
+    rw (← c.self.view_is) (sizes-asked _ _ _ _ c.index_mut-area.ensures.value _ _ c.read-result.ensures.rest c.self.invariant c.read-result.ensures.sound)
+
+pub returns-clause-kept : goal.returns-clause-kept
+returns-clause-kept g c =
+    rw (← c.self.view_is, c.stays_unspent-self-inside.ensures) (SameSlots-asked _ _ _ _ c.index_mut-area.ensures.value c.read-result.ensures.rest)
+
+pub returns-clause-cause : goal.returns-clause-cause
+returns-clause-cause g c =
+    let within : c.args.slot.area < length c.self.inside.areas.items = omega (arith, c.requires.0, ap (λ (s : SwapView). length s.areas) c.self.view_is) in
+    rw (← c.self.view_is) (IfErr-weaker c.read-result.result _ _ (λ _ fault. had_cause-asked _ _ _ _ c.index_mut-area.ensures.value _ _ c.read-result.ensures.rest _ within c.self.invariant fault.1) c.read-result.ensures.err)

@@ -1,0 +1,293 @@
+//! Slots taken, given back and turned off; failures counted; pagers told and dropped.
+ghost use Rattle.std.specs.Prelude.{◌≡◌, length, IsTrue};
+ghost use Rattle.shm_slots.specs.View.{HasSlot, IsAreaSize};
+
+use crate::Swap;
+use shm_base::{HostMemory, PageRef, Slot};
+use shm_pager::{AnyPager, FusePager, Pager, PagerFault, RamPager};
+use std::alloc::{AllocError, Global};
+use std::process::Abort;
+use std::sync::Arc;
+use std::sync::atomic::{AtomicU64, Ordering};
+use std::test::Fail;
+
+const P: [u8; 4096] = [0x50; 4096];
+
+// Some page's name.
+fn page(page: u32) -> PageRef {
+    PageRef { seg: 9, page }
+}
+
+fn is_area<X: Pager>(pager: &X) -> bool
+    ensures { IsTrue result → IsAreaSize (length (X.content pager.now)) }
+{
+    1 <= pager.slots() && pager.slots() <= 65536
+}
+
+fn swap_of<X: Pager>(
+    rt: &impl Abort,
+    alloc: Global,
+    pagers: Vec<X>,
+) -> Result<Swap<X>, HostMemory> {
+    assert!(rt; 1 <= pagers.len() && pagers.len() <= 8);
+    assert!(rt; pagers.iter().all(|pager| is_area(pager)));
+    Swap::new(alloc, pagers)
+}
+
+// A slot that the swap has.
+fn slot_in<X: Pager>(rt: &impl Abort, swap: &Swap<X>, area: u32, slot: u32) -> Slot
+    ensures there { HasSlot swap.now area slot }
+    ensures value { result ≡ record { area = area; slot = slot } }
+{
+    let size = swap.size(area).unwrap_or(0);
+    assert!(rt; slot < size);
+    Slot { area, slot }
+}
+
+fn owner<X: Pager>(rt: &impl Abort, swap: &Swap<X>, area: u32, slot: u32) -> Option<PageRef> {
+    swap.owner(slot_in(rt, swap, area, slot))
+}
+
+fn write<X: Pager>(
+    rt: &impl Abort,
+    swap: &mut Swap<X>,
+    area: u32,
+    slot: u32,
+) -> Result<(), PagerFault> {
+    let slot = slot_in(rt, swap, area, slot);
+    swap.write_slot(slot, &P)
+}
+
+fn read<X: Pager>(
+    rt: &impl Abort,
+    swap: &mut Swap<X>,
+    area: u32,
+    slot: u32,
+) -> Result<[u8; 4096], PagerFault> {
+    let slot = slot_in(rt, swap, area, slot);
+    let mut page = [0; 4096];
+    swap.read_slot(slot, &mut page)?;
+    Ok(page)
+}
+
+fn give<X: Pager>(rt: &impl Abort, swap: &mut Swap<X>, area: u32, slot: u32) {
+    let slot = slot_in(rt, swap, area, slot);
+    swap.give_slot(slot);
+}
+
+// Turns an area off, once each of its slots is seen to be free.
+fn turn_off<X: Pager>(rt: &impl Abort, swap: &mut Swap<X>, area: u32) {
+    let size = swap.size(area).unwrap_or(0);
+    assert!(rt; size > 0);
+    for slot in 0..size {
+        let slot = slot_in(rt, swap, area, slot);
+        assert_eq!(rt; swap.owner(slot), None);
+    }
+    assert!(rt; swap.never_spent());
+    swap.turn_off(area);
+}
+
+fn rams(alloc: Global, sizes: &[u32]) -> Result<Vec<RamPager>, AllocError> {
+    let mut pagers = Vec::with_capacity(alloc, sizes.len())?;
+    for &slots in sizes {
+        pagers.push(RamPager::new(alloc, slots)?)?;
+    }
+    Ok(pagers)
+}
+
+#[test]
+fn the_least_free_slot_is_taken(rt: HostRuntime) -> Result<(), Fail> {
+    let alloc = rt.alloc();
+    let mut swap = swap_of(&rt, alloc, rams(alloc, &[2, 1])?)?;
+    assert_eq!(rt; (swap.capacity(), swap.used()), (3, 0));
+    for (number, area, slot) in [(0, 0, 0), (1, 0, 1), (2, 1, 0)] {
+        assert_eq!(rt;
+            swap.take_slot(page(number)),
+            Some(Slot { area, slot }),
+            "page {number}"
+        );
+        assert_eq!(rt;
+            owner(&rt, &swap, area, slot),
+            Some(page(number)),
+            "page {number}"
+        );
+    }
+    assert_eq!(rt; swap.take_slot(page(3)), None);
+    assert_eq!(rt; (swap.capacity(), swap.used()), (3, 3));
+
+    give(&rt, &mut swap, 0, 1);
+    assert_eq!(rt; owner(&rt, &swap, 0, 1), None);
+    assert_eq!(rt; swap.used(), 2);
+    assert_eq!(rt; swap.take_outside(page(4), 0), None);
+    assert_eq!(rt;
+        swap.take_outside(page(4), 1),
+        Some(Slot { area: 0, slot: 1 })
+    );
+
+    give(&rt, &mut swap, 1, 0);
+    give(&rt, &mut swap, 0, 0);
+    assert_eq!(rt;
+        swap.take_outside(page(5), 0),
+        Some(Slot { area: 1, slot: 0 })
+    );
+    assert_eq!(rt; swap.take_slot(page(6)), Some(Slot { area: 0, slot: 0 }));
+    Ok(())
+}
+
+#[test]
+fn numbers_stay_where_an_area_goes(rt: HostRuntime) -> Result<(), Fail> {
+    let alloc = rt.alloc();
+    let mut swap = swap_of(&rt, alloc, rams(alloc, &[2, 3])?)?;
+    turn_off(&rt, &mut swap, 0);
+    assert_eq!(rt;
+        (swap.size(0), swap.size(1), swap.size(7)),
+        (None, Some(3), None)
+    );
+    assert_eq!(rt; swap.capacity(), 3);
+    assert_eq!(rt; swap.take_outside(page(0), 1), None);
+    assert_eq!(rt; swap.take_slot(page(0)), Some(Slot { area: 1, slot: 0 }));
+    Ok(())
+}
+
+fn fuse(
+    alloc: Global,
+    bad_writes: &[u64],
+    failures: u64,
+) -> Result<FusePager<RamPager>, AllocError> {
+    Ok(FusePager::new_at(
+        RamPager::new(alloc, 1)?,
+        Vec::new(alloc),
+        bad_writes.to_vec(alloc)?,
+        failures,
+    ))
+}
+
+#[test]
+fn a_spent_area_is_not_asked(rt: HostRuntime) -> Result<(), Fail> {
+    let alloc = rt.alloc();
+    let mut pagers = Vec::new(alloc);
+    pagers.push(fuse(alloc, &[1], u64::MAX - 1)?)?;
+    pagers.push(fuse(alloc, &[2], 5)?)?;
+    let mut swap = swap_of(&rt, alloc, pagers)?;
+    assert_eq!(rt; (swap.failures(), swap.never_spent()), (0, true));
+    assert_eq!(rt; write(&rt, &mut swap, 0, 0), Err(PagerFault));
+    assert_eq!(rt; (swap.failures(), swap.never_spent()), (1, false));
+    assert_eq!(rt; write(&rt, &mut swap, 0, 0), Err(PagerFault));
+    assert_eq!(rt; read(&rt, &mut swap, 0, 0), Err(PagerFault));
+    assert_eq!(rt; swap.failures(), 1);
+
+    assert_eq!(rt; write(&rt, &mut swap, 1, 0), Ok(()));
+    assert_eq!(rt; read(&rt, &mut swap, 1, 0), Ok(P));
+    assert_eq!(rt; write(&rt, &mut swap, 1, 0), Err(PagerFault));
+    assert_eq!(rt; swap.failures(), 2);
+    Ok(())
+}
+
+#[test]
+fn a_pager_may_be_handed_in_spent(rt: HostRuntime) -> Result<(), Fail> {
+    let alloc = rt.alloc();
+    let mut pagers = Vec::new(alloc);
+    pagers.push(fuse(alloc, &[], 0)?)?;
+    pagers.push(fuse(alloc, &[], u64::MAX)?)?;
+    let swap = swap_of(&rt, alloc, pagers)?;
+    assert_eq!(rt; (swap.failures(), swap.never_spent()), (0, false));
+    Ok(())
+}
+
+// A page goes to a slot and comes back, whatever the pagers are.
+fn keeps_a_page<X: Pager>(
+    rt: &impl Abort,
+    alloc: Global,
+    pagers: Vec<X>,
+) -> Result<(), HostMemory> {
+    let mut swap = swap_of(rt, alloc, pagers)?;
+    assert_eq!(rt; swap.take_slot(page(0)), Some(Slot { area: 0, slot: 0 }));
+    assert_eq!(rt; write(rt, &mut swap, 0, 0), Ok(()));
+    assert_eq!(rt; read(rt, &mut swap, 0, 0), Ok(P));
+    Ok(())
+}
+
+// Pages in memory that tell outside how often a slot was discarded and how often they were dropped.
+struct CountingPager {
+    inner: RamPager,
+    discards: Arc<AtomicU64>,
+    drops: Arc<AtomicU64>,
+}
+
+impl Pager for CountingPager {
+    ghost content = { λ p. p.inner };
+
+    ghost failed = { λ _. 0 };
+
+    fn slots(&self) -> u32 {
+        self.inner.slots()
+    }
+
+    fn failures(&self) -> u64 {
+        0
+    }
+
+    fn write(&mut self, slot: u32, page: &[u8; 4096]) -> Result<(), PagerFault> {
+        self.inner.write(slot, page)
+    }
+
+    fn read(&mut self, slot: u32, page: &mut [u8; 4096]) -> Result<(), PagerFault> {
+        self.inner.read(slot, page)
+    }
+
+    fn discard(&mut self, slot: u32) {
+        self.discards.fetch_add(1, Ordering::SeqCst);
+        self.inner.discard(slot);
+    }
+
+    fn wipe(&mut self) {
+        self.inner.wipe();
+    }
+}
+
+impl Drop for CountingPager {
+    fn drop(self) {
+        self.drops.fetch_add(1, Ordering::SeqCst);
+        let CountingPager {
+            inner: _,
+            discards: _,
+            drops: _,
+        } = self;
+    }
+}
+
+#[test]
+fn pagers_are_told_and_dropped_once(rt: HostRuntime) -> Result<(), Fail> {
+    let alloc = rt.alloc();
+    let discards = Arc::new(alloc, AtomicU64::new(0))?;
+    let drops = Arc::new(alloc, AtomicU64::new(0))?;
+    let mut pagers = Vec::with_capacity(alloc, 2)?;
+    for _i in 0..2 {
+        pagers.push(CountingPager {
+            inner: RamPager::new(alloc, 1)?,
+            discards: Arc::try_clone(&discards)?,
+            drops: Arc::try_clone(&drops)?,
+        })?;
+    }
+    let mut swap = swap_of(&rt, alloc, pagers)?;
+    assert_eq!(rt; swap.take_slot(page(0)), Some(Slot { area: 0, slot: 0 }));
+    assert_eq!(rt; discards.load(Ordering::SeqCst), 0);
+    give(&rt, &mut swap, 0, 0);
+    assert_eq!(rt; discards.load(Ordering::SeqCst), 1);
+
+    turn_off(&rt, &mut swap, 0);
+    assert_eq!(rt; drops.load(Ordering::SeqCst), 1);
+    drop(swap);
+    assert_eq!(rt; drops.load(Ordering::SeqCst), 2);
+    Ok(())
+}
+
+#[test]
+fn boxed_pagers_keep_a_page(rt: HostRuntime) -> Result<(), Fail> {
+    let alloc = rt.alloc();
+    let mut pagers: Vec<AnyPager> = Vec::with_capacity(alloc, 2)?;
+    pagers.push(Box::new(alloc, fuse(alloc, &[], 0)?)?)?;
+    pagers.push(Box::new(alloc, RamPager::new(alloc, 1)?)?)?;
+    keeps_a_page(&rt, alloc, pagers)?;
+    Ok(())
+}
