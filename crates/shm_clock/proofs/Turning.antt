@@ -1,13 +1,13 @@
 -- The hand on its way round the ring.
-use Rattle.std.proofs.Common.{◌≡◌, ℕ, ◌+◌, ◌<◌, ◌≤◌, List, [], take, filter, length, get_or, Option, Some, None, unwrap_or, Bool, true, false, not, ◌&&◌, refl, sym, ap, ◌∙◌, arith, length-set}
+use Rattle.std.proofs.Common.{◌≡◌, ℕ, ◌+◌, ◌<◌, ◌≤◌, List, [], ◌∷◌, take, filter, length, get_or, Option, Some, None, unwrap_or, Bool, true, false, not, ◌&&◌, refl, sym, ap, ◌∙◌, arith, length-set, length-append}
 use Rattle.std.specs.Prelude.{IfSome}
 use Rattle.std.proofs.lemmas.Bool.{le-ltb}
 use Rattle.std.proofs.lemmas.List.{take_all}
 use Rattle.shm_base.specs.declared.paging.PageRef.{PageRef}
 use Rattle.shm_frames.specs.Frame.{Frame, frame_at}
-use Rattle.shm_clock.specs.Clock.{ring, ring_at, distance, may_go, is_referenced, unset, unset_all, listed}
+use Rattle.shm_clock.specs.Clock.{ring, ring_at, distance, may_go, is_referenced, unset, unset_all, listed, looked_at}
 use Rattle.shm_clock.proofs.Ring.{length-ring, distance-ring_at, ring_at-lt}
-use Rattle.shm_clock.proofs.Firsts.{EachPasses, EachPasses-push, first_of, first_of-push, first_of-none, filter_more-true, filter_more-false, stops, ends}
+use Rattle.shm_clock.proofs.Firsts.{EachPasses, EachPasses-push, first_of, first_of-push, first_of-none, first_of-passes, filter_more-true, filter_more-false, stops, ends}
 use Rattle.shm_clock.proofs.Bits.{is_among, unset_all-at, unset_all-push, may_go-unset_all, among_is}
 use Rattle.shm_clock.proofs.Rule.{IsRule}
 
@@ -18,6 +18,7 @@ pub record IsOnWay (passes : PageRef → Bool) (pinned : Option ℕ) (hand : ℕ
   pub first_is : first ≡ first_of (filter (may_go passes pinned before) (take steps (ring hand (length before))))
   pub small : IfSome first (λ i. i < length before)
   pub counted : looks ≤ looked + steps
+  pub looks_are : looks ≡ looked + length (filter (may_go passes pinned before) (take steps (ring hand (length before))))
   pub size : length now ≡ length before
 
 unwrap_or-small : (o : Option ℕ) (i n : ℕ) → IfSome o (λ v. v < n) → i < n → unwrap_or o i < n
@@ -64,6 +65,14 @@ module _ (passes : PageRef → Bool) (pinned : Option ℕ) (hand : ℕ) (before 
         let s = stops p (is_referenced before) xs step within hit way.set unset in
         record { victim_is = at ∙ sym s.victim_is; after_is = way.bits ∙ ap (unset_all before) (sym s.before_is) }
 
+    pub stop_counted : may_go passes pinned now i ≡ true → is_referenced now i ≡ false → looks + 1 ≡ looked + looked_at before (filter p xs) i
+    stop_counted may clear =
+        let hit : p (get_or xs step 0) ≡ true = rw (← at) (may-same ∙ may) in
+        let unset : is_referenced before (get_or xs step 0) ≡ false = rw (← at) (sym bit-same ∙ clear) in
+        let was : is_referenced before i ≡ false = sym bit-same ∙ clear in
+        let s = stops p (is_referenced before) xs step within hit way.set unset in
+        rw (s.before_is, was) (omega (arith, way.looks_are))
+
     pub goes_on : may_go passes pinned now i ≡ true → is_referenced now i ≡ true → IsOnWay passes pinned hand before looked (step + 1) (unset now i) (Some (unwrap_or first i)) (looks + 1)
     goes_on may bit =
         let hit : p (get_or xs step 0) ≡ true = rw (← at) (may-same ∙ may) in
@@ -75,6 +84,7 @@ module _ (passes : PageRef → Bool) (pinned : Option ℕ) (hand : ℕ) (before 
           first_is = rw (more, first_of-push (filter p (take step xs)) (get_or xs step 0), ← way.first_is, ← at) refl;
           small = unwrap_or-small first i (length before) way.small (rw at (ring_at-lt hand (length before) step on lt));
           counted = omega (arith, way.counted);
+          looks_are = rw more (omega (arith, way.looks_are, length-append (filter p (take step xs)) (get_or xs step 0 ∷ [])));
           size = length-set now i (record (frame_at now i) { referenced = false }) ∙ way.size;
         }
 
@@ -88,6 +98,7 @@ module _ (passes : PageRef → Bool) (pinned : Option ℕ) (hand : ℕ) (before 
           first_is = rw more way.first_is;
           small = way.small;
           counted = omega (arith, way.counted);
+          looks_are = rw more way.looks_are;
           size = way.size;
         }
 
@@ -99,6 +110,12 @@ module _ (passes : PageRef → Bool) (pinned : Option ℕ) (hand : ℕ) (before 
     comes_round v some =
         let s = ends p (is_referenced before) xs step v past way.set (sym way.first_is ∙ some) in
         record { victim_is = sym s.victim_is; after_is = way.bits ∙ ap (unset_all before) (sym s.before_is) }
+
+    pub round_counted : (v : ℕ) → first ≡ Some v → looks ≡ looked + looked_at before (filter p xs) v
+    round_counted v some =
+        let s = ends p (is_referenced before) xs step v past way.set (sym way.first_is ∙ some) in
+        let was : is_referenced before v ≡ true = first_of-passes (is_referenced before) (filter p (take step xs)) v way.set (sym way.first_is ∙ some) in
+        rw (s.before_is, was) (omega (arith, way.looks_are))
 
     pub none_met : first ≡ None → listed passes pinned before hand ≡ []
     none_met none = ap (filter p) (sym (take_all step xs past)) ∙ first_of-none (filter p (take step xs)) (sym way.first_is ∙ none)

@@ -41,6 +41,10 @@ victim_of frames list = unwrap_or (find (is_clear frames) list) (slice_index lis
 abbrev pub passed_by : List Frame → List ℕ → List ℕ
 passed_by frames list = take_while (is_referenced frames) list
 
+-- how many bits are looked at: those of the frames passed, and the victim's where it is clear
+abbrev pub looked_at : List Frame → List ℕ → ℕ → ℕ
+looked_at frames list victim = length (passed_by frames list) + (if is_referenced frames victim then 0 else 1)
+
 -- the referenced bit of one frame becomes clear
 abbrev pub unset : List Frame → ℕ → List Frame
 unset frames i = set frames i (record (frame_at frames i) { referenced = false })

@@ -6,7 +6,7 @@
 //! bits. What becomes of the victim's page is the caller's part.
 ghost use Rattle.std.specs.Prelude.{◌≡◌, ◌≢◌, ◌+◌, ◌-◌, ◌*◌, ◌<◌, ◌≤◌, ◌^◌, [], Bool, length};
 ghost use Rattle.shm_base.specs.declared.paging.PageRef.{PageRef};
-ghost use Rattle.shm_clock.specs.Clock.{ring_at, may_go, listed, victim_of, unset_all, passed_by, next, IsClockVictim};
+ghost use Rattle.shm_clock.specs.Clock.{ring_at, may_go, listed, victim_of, unset_all, passed_by, looked_at, next, IsClockVictim};
 
 use shm_base::{FrameNo, PageRef};
 use shm_frames::{Frames, Looks};
@@ -67,6 +67,7 @@ fn turn<E: Fn(PageRef) -> bool>(
     ensures bits { frames.new ≡ unset_all frames.old (passed_by frames.old (listed passes pinned frames.old hand)) }
     ensures there { result < length frames.old }
     ensures looks { looks.new ≤ looks.old + length frames.old }
+    ensures counted { looks.new ≡ looks.old + looked_at frames.old (listed passes pinned frames.old hand) result }
 {
     let count = frames.count();
     let mut first = None;
@@ -90,7 +91,7 @@ fn turn<E: Fn(PageRef) -> bool>(
 /// The hand then stands at the number after the victim, and at 0 after the last.
 ///
 /// There has to be an eligible frame other than the pinned one. Each frame's referenced bit is looked
-/// at once at most.
+/// at once at most: those of the frames that are passed, and the victim's where it is clear.
 pub fn victim<E: Fn(PageRef) -> bool>(
     frames: &mut Frames,
     hand: &mut FrameNo,
@@ -114,6 +115,7 @@ pub fn victim<E: Fn(PageRef) -> bool>(
     ensures clock { IsClockVictim (may_go passes pinned frames.old) hand.old frames.old result frames.new }
 
     ensures looks { looks.new ≤ looks.old + length frames.old }
+    ensures counted { looks.new ≡ looks.old + looked_at frames.old (listed passes pinned frames.old hand.old) result }
 {
     let count = frames.count();
     let frame = turn(frames, *hand, eligible, pinned, looks);

@@ -176,9 +176,11 @@ fn each_kind_runs(rt: HostRuntime) -> Result<(), Fail> {
     Ok(())
 }
 
-// Pages in memory that tell outside how often they were wiped and dropped.
+// Pages in memory that tell outside how often a slot was discarded, and how often they were wiped and
+// dropped.
 struct CountingPager {
     inner: RamPager,
+    discards: Arc<AtomicU64>,
     wipes: Arc<AtomicU64>,
     drops: Arc<AtomicU64>,
 }
@@ -205,6 +207,7 @@ impl Pager for CountingPager {
     }
 
     fn discard(&mut self, slot: u32) {
+        self.discards.fetch_add(1, Ordering::SeqCst);
         self.inner.discard(slot);
     }
 
@@ -219,6 +222,7 @@ impl Drop for CountingPager {
         self.drops.fetch_add(1, Ordering::SeqCst);
         let CountingPager {
             inner: _,
+            discards: _,
             wipes: _,
             drops: _,
         } = self;
@@ -229,6 +233,7 @@ impl Drop for CountingPager {
 #[derive(Drop)]
 struct Counter {
     alloc: Global,
+    discards: Arc<AtomicU64>,
     wipes: Arc<AtomicU64>,
     drops: Arc<AtomicU64>,
 }
@@ -237,6 +242,7 @@ impl Counter {
     fn new(alloc: Global) -> Result<Counter, AllocError> {
         Ok(Counter {
             alloc,
+            discards: Arc::new(alloc, AtomicU64::new(0))?,
             wipes: Arc::new(alloc, AtomicU64::new(0))?,
             drops: Arc::new(alloc, AtomicU64::new(0))?,
         })
@@ -245,9 +251,14 @@ impl Counter {
     fn pager(&self, slots: u32) -> Result<CountingPager, AllocError> {
         Ok(CountingPager {
             inner: RamPager::new(self.alloc, slots)?,
+            discards: Arc::try_clone(&self.discards)?,
             wipes: Arc::try_clone(&self.wipes)?,
             drops: Arc::try_clone(&self.drops)?,
         })
+    }
+
+    fn discards(&self) -> u64 {
+        self.discards.load(Ordering::SeqCst)
     }
 
     // Wipes and drops so far.
@@ -287,5 +298,26 @@ fn each_drop_runs_once_and_wipes(rt: HostRuntime) -> Result<(), Fail> {
     let counter = Counter::new(alloc)?;
     drop(MirrorPager::new(alloc, counter.pager(1)?, counter.pager(2)?));
     assert_eq!(rt; counter.counts(), (0, 2), "the sides of a refused mirror");
+    Ok(())
+}
+
+// No clause can say it, since nobody knows what a discarded slot holds.
+#[test]
+fn a_discard_reaches_the_pagers_behind(rt: HostRuntime) -> Result<(), Fail> {
+    let alloc = rt.alloc();
+    let counter = Counter::new(alloc)?;
+
+    let mut fuse = FusePager::new(counter.pager(1)?, places(alloc, &[])?, places(alloc, &[])?);
+    discard(&rt, &mut fuse, 0);
+    assert_eq!(rt; counter.discards(), 1, "a fuse");
+
+    let mut boxed: AnyPager = Box::new(alloc, counter.pager(1)?)?;
+    discard(&rt, &mut boxed, 0);
+    assert_eq!(rt; counter.discards(), 2, "a box");
+
+    let mirror = MirrorPager::new(alloc, counter.pager(1)?, counter.pager(1)?);
+    let mut mirror = mirror.map_err(|e| e.cause)?;
+    discard(&rt, &mut mirror, 0);
+    assert_eq!(rt; counter.discards(), 4, "both sides of a mirror");
     Ok(())
 }
