@@ -1,5 +1,5 @@
 //! Where an address or a range lies among pieces in order. Each search is binary.
-ghost use Rattle.std.specs.Prelude.{◌≡◌, ◌+◌, ◌*◌, ◌<◌, ◌≤◌, ℕ, length, IfSome, option_map, slice_index_or};
+ghost use Rattle.std.specs.Prelude.{◌≡◌, ◌+◌, ◌*◌, ◌<◌, ◌≤◌, ℕ, Bool, true, All, length, IfSome, option_map, slice_index_or};
 ghost use Rattle.shm_base.specs.Space as flat;
 ghost use Rattle.shm_areas.specs.Arranged.{bare, bare_all, Arranged, IsCovering, covering};
 ghost use Rattle.shm_areas.specs.Gap.{gap_from};
@@ -42,6 +42,7 @@ pub(crate) fn piece_in(pieces: &[Piece], addr: u64) -> Option<Piece>
     requires { Arranged flat.lowest_address (bare_all pieces.now) }
     ensures value { option_map bare result ≡ covering addr (bare_all pieces.now) }
     ensures within { IfSome result (λ p. IsCovering addr p) }
+    ensures among { (test : Stored → Bool) → All (λ (p : Stored). test p ≡ true) pieces.now → IfSome result (λ p. test p ≡ true) }
 {
     let count = count_to(pieces, addr);
     if count == 0 {

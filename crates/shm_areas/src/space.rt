@@ -1,5 +1,5 @@
 //! A sorted list of pieces that never overlap.
-ghost use Rattle.std.specs.Prelude.{◌≡◌, ℕ, ◌+◌, ◌*◌, ◌%◌, ◌<◌, ◌≤◌, false, IfOk, length, IfSome, Some, option_map};
+ghost use Rattle.std.specs.Prelude.{◌≡◌, ℕ, ◌+◌, ◌*◌, ◌%◌, ◌<◌, ◌≤◌, Bool, true, false, All, IfOk, length, IfSome, Some, option_map};
 ghost use Rattle.shm_base.specs.Access as access;
 ghost use Rattle.shm_base.specs.Space as flat;
 ghost use Rattle.shm_areas.specs.Arranged.{bare, bare_all, Arranged, IsFit, IsCovering, covering};
@@ -7,6 +7,7 @@ ghost use Rattle.shm_areas.specs.Edit.{kept_inserted, kept_cut, kept_without};
 ghost use Rattle.shm_areas.specs.Fixed.{fixed};
 ghost use Rattle.shm_areas.specs.Gap.{HasNoGap, IsLeastGap};
 ghost use Rattle.shm_areas.specs.Met.{met};
+ghost use Rattle.shm_areas.specs.declared.piece.Piece.{Piece as Stored};
 
 use crate::cut::{count_left, cut_of, replace};
 use crate::piece::{Piece, Place};
@@ -56,11 +57,12 @@ impl Space {
         self.pieces.as_slice()
     }
 
-    /// The piece that an address lies in. Every address of it lies in it alone.
+    /// The piece that an address lies in, as it is stored. Every address of it lies in it alone.
     pub fn piece_at(&self, addr: u64) -> Option<Piece>
         ensures value { option_map bare result ≡ covering addr (bare_all self.now) }
         ensures within { IfSome result (λ p. IsCovering addr p) }
         ensures whole { IfSome result (λ p. (b : ℕ) → p.base ≤ b → b < access.end_of (bare p) → covering b (bare_all self.now) ≡ Some (bare p)) }
+        ensures among { (test : Stored → Bool) → All (λ (p : Stored). test p ≡ true) self.now → IfSome result (λ p. test p ≡ true) }
     {
         piece_in(&self.pieces, addr)
     }

@@ -1,7 +1,10 @@
+pub mod Ties
 pub mod Processes
 pub mod Accesses
 pub mod Callers
 pub mod Keeping
 pub mod Bases
+pub mod Shapes
+pub mod Translations
 pub mod Starts
 pub mod FlatSteps

@@ -13,6 +13,10 @@ use Rattle.shm_attach.specs.declared.process.Runner.{Runner}
 use Rattle.shm_attach.specs.Views.{counted, runner_view, runners_view}
 use Rattle.shm_attach.specs.Spaces.{pieces_at}
 use Rattle.shm_attach.specs.Exact.{IsExact}
+use Rattle.slab.specs.Slab.{Slab}
+use Rattle.shm_areas.specs.declared.piece.Piece.{Piece as Stored}
+use Rattle.shm_areas.specs.Arranged.{bare_all}
+use Rattle.shm_attach.specs.Tables.{Entry, Shape, shaped, total, has}
 use Rattle.shm_attach.proofs.Callers.{nobody}
 
 -- a process under a new pid stands behind the others
@@ -70,3 +74,23 @@ IsExact-start ps c few none =
       unborn = λ i none. pieces_at-start ps i;
       arranged = λ i. rw (pieces_at-start ps i) tt;
     }
+
+abbrev pieces_first : List flat.Runner → List flat.Piece
+pieces_first [] = []
+pieces_first (r ∷ rs) = r.pieces
+
+total-start : (s : Shape) (es : List (ℕ × Runner)) (ps : List Process) → runners_view es ≡ map runner_at_start ps → total s es ≡ 0
+total-start s [] ps same = refl
+total-start s (e ∷ es) [] same = absurd (cc same)
+total-start s (e ∷ es) (p ∷ ps) same =
+    let rest = total-start s es ps (ap tail_of same) in
+    let none : bare_all e.1.space ≡ [] = ap pieces_first same in
+    omega (arith, rest, no_pieces e.1.space none)
+  where
+    no_pieces : (qs : List Stored) → bare_all qs ≡ [] → shaped s qs ≡ 0
+    no_pieces [] none = refl
+    no_pieces (q ∷ qs) none = absurd (cc none)
+
+-- no piece has a table yet
+pub no_shapes : (s : Shape) (es : List (ℕ × Runner)) (ps : List Process) (t : Slab Entry) → runners_view es ≡ map runner_at_start ps → t.slots ≡ [] → has t s ≡ total s es
+no_shapes s es ps t same empty = rw empty (sym (total-start s es ps same))

@@ -1,5 +1,5 @@
 -- What attaching pages of a segment answers, and what it leaves of the processes: the flat machine's shmat, behind the permission test.
-use Rattle.std.specs.Prelude.{◌≡◌, ◌≤◌, ℕ, ◌+◌, ◌*◌, ◌%◌, ◌==◌, nat_lt, not, if◌then◌else◌, List, length, Option, Some, None, Result, Ok, Err}
+use Rattle.std.specs.Prelude.{◌≡◌, ◌≤◌, ℕ, ◌+◌, ◌*◌, ◌%◌, ◌==◌, Bool, nat_lt, not, if◌then◌else◌, List, length, Option, Some, None, Result, Ok, Err}
 use Rattle.shm_base.specs.declared.errno.Errno.{Errno}
 use Rattle.shm_base.specs.declared.errno.Errno.TheVariants.{Enomem, Emfile}
 use Rattle.shm_base.specs.declared.flags.AtFlags.{AtFlags}
@@ -7,6 +7,7 @@ use Rattle.shm_base.specs.State.{Piece, Runner}
 use Rattle.shm_base.specs.Space.{lowest_address, last_address, choose, inserted, cut, cut_segments}
 use Rattle.shm_base.specs.Step.{Caller, is_rdonly, with_pieces}
 use Rattle.shm_areas.specs.Fixed.{fixed}
+use Rattle.shm_attach.specs.Tables.{Entry}
 
 abbrev pub chosen : Option ℕ → Result ℕ Errno
 chosen None = Err Enomem
@@ -30,6 +31,10 @@ pub record IsRange (pages base : ℕ) : Type 0 where
 -- the new piece
 abbrev pub piece_for : ℕ → ℕ → AtFlags → ℕ → Piece
 piece_for seg pages flags base = record { base = base; seg = seg; first_page = 0; pages = pages; writable = not (is_rdonly flags) }
+
+-- the piece of these pages of a segment, all from its first on
+abbrev pub new_piece : ℕ → ℕ → Bool → Entry → Piece
+new_piece base pages writable e = record { base = base; seg = e.seg; first_page = 0; pages = pages; writable = writable }
 
 -- where the new piece begins, the segments that lost pages to it, and the processes with it
 pub record Attachment : Type 0 where

@@ -1,11 +1,23 @@
--- What contracts see of the processes.
-use Rattle.std.specs.Prelude.{◌≡◌, ℕ, List, [], Option, Some, None, slice_get}
+-- What contracts see of the processes with their pieces, and of where each piece's pages are thought to be.
+use Rattle.std.specs.Prelude.{◌≡◌, ℕ, List, [], Option, Some, None, slice_get, All}
 use Rattle.shm_base.specs.State.{Piece, Life, Unborn, Runner}
 use Rattle.shm_base.specs.Step.{Caller as FlatCaller, caller_from}
+use Rattle.shm_fault.specs.Store.{StoreView, frame_of}
 use Rattle.shm_attach.specs.declared.process.Caller.{Caller}
+
+-- one page of one piece, and the frame that the piece keeps for it
+pub record Translation : Type 0 where
+  pub seg : ℕ
+  pub page : ℕ
+  pub frame : Option ℕ
 
 pub record SpacesView : Type 0 where
   pub runners : List Runner
+  pub translations : List Translation
+
+-- each translation is what the residency says
+abbrev pub AreTrue : List Translation → StoreView → Type 0
+AreTrue ts m = All (λ (t : Translation). t.frame ≡ frame_of m t.seg t.page) ts
 
 abbrev pub pieces_in : Option Runner → List Piece
 pieces_in None = []

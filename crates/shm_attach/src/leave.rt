@@ -3,7 +3,8 @@ ghost use Rattle.std.specs.Prelude.{◌≡◌, [], Some, None, IfOk, IfErr, opti
 ghost use Rattle.shm_base.specs.State.{Piece as FlatPiece};
 ghost use Rattle.shm_base.specs.Space.{origin_of, without_named};
 ghost use Rattle.shm_base.specs.Step.{with_pieces, with_end, segments_of};
-ghost use Rattle.shm_attach.specs.Spaces.{pieces_at, seen, IsCaller};
+ghost use Rattle.shm_fault.specs.Store.{StoreView};
+ghost use Rattle.shm_attach.specs.Spaces.{pieces_at, seen, IsCaller, AreTrue};
 
 use crate::changes::{set_life_at, space_at, take_at, take_range};
 use crate::lost::Lost;
@@ -26,11 +27,18 @@ impl Spaces {
         ensures gone { IfOk result (λ seg. self.new.runners ≡ with_pieces self.old.runners (seen caller.now self.old.runners) (without_named addr seg (pieces_at self.old.runners caller.now.index))) }
         ensures none { IfErr result (λ e. (e ≡ Errno.Einval) × (origin_of addr (pieces_at self.old.runners caller.now.index) ≡ None)) }
         ensures kept { IfErr result (λ _. self.new ≡ self.old) }
+        ensures translated { (m : StoreView) → AreTrue self.old.translations m → AreTrue self.new.translations m }
     {
         let Some(origin) = space_at(&self.processes, caller.index).origin_of(addr) else {
             return Err(Errno::Einval);
         };
-        let gone = take_at(&mut self.processes, caller.index, addr, origin.seg);
+        let gone = take_at(
+            &mut self.processes,
+            &mut self.tables,
+            caller.index,
+            addr,
+            origin.seg,
+        );
         self.counts.take(origin.seg, gone);
         Ok(origin.seg)
     }
@@ -41,13 +49,16 @@ impl Spaces {
         requires { IsCaller caller.now self.old.runners }
         ensures lost { result ≡ segments_of (seen caller.now self.old.runners) }
         ensures runners { self.new.runners ≡ with_pieces self.old.runners (seen caller.now self.old.runners) [] }
+        ensures translated { (m : StoreView) → AreTrue self.old.translations m → AreTrue self.new.translations m }
     {
         take_range(
             &mut self.processes,
             &mut self.counts,
+            &mut self.tables,
             caller.index,
             LOWEST,
             END,
+            0,
         )
     }
 
@@ -56,6 +67,7 @@ impl Spaces {
         requires { IsCaller caller.now self.old.runners }
         ensures lost { result ≡ segments_of (seen caller.now self.old.runners) }
         ensures runners { self.new.runners ≡ with_end self.old.runners (seen caller.now self.old.runners) }
+        ensures translated { (m : StoreView) → AreTrue self.old.translations m → AreTrue self.new.translations m }
     {
         let lost = self.exec(caller);
         set_life_at(&mut self.processes, caller.index, Life::Ended);

@@ -1,4 +1,5 @@
-//! The pieces of all processes, how many pieces each segment has, and the spans of an access.
+//! The pieces of all processes, how many pieces each segment has, in which frame each page of a piece is,
+//! and the spans of an access.
 #![tactic(auto)]
 
 mod attach;
@@ -10,6 +11,8 @@ mod lost;
 mod process;
 mod spaces;
 mod spans;
+mod table;
+mod tables;
 #[cfg(test)]
 mod tests;
 

@@ -1,42 +1,48 @@
 //! The pieces of all processes.
-ghost use Rattle.std.specs.Prelude.{◌≡◌, ◌≢◌, ℕ, ◌<◌, ◌≤◌, length, map, is_some, slice_index_or, None, Some, IfSome, IfNone, IfOk, OnErr, Bool, true, false, All, AllPairs, sum_by};
+ghost use Rattle.std.specs.Prelude.{◌≡◌, ◌≢◌, ℕ, ◌<◌, ◌≤◌, length, map, [], is_some, slice_index_or, None, Some, IfSome, IfNone, IfOk, OnErr, Bool, true, false, All, AllPairs, sum_by};
 ghost use Rattle.shm_base.specs.State.{life_at_start, runner_at_start};
 ghost use Rattle.shm_base.specs.Segments.{attach_count};
 ghost use Rattle.shm_base.specs.Step.{caller_from};
 ghost use Rattle.shm_base.specs.declared.call.Process.{Process as Declared};
 ghost use Rattle.shm_base.specs.declared.paging.Span.{Span as Stretch};
 ghost use Rattle.shm_attach.specs.Views.{life_view};
-ghost use Rattle.shm_attach.specs.Spaces.{IsCaller};
+ghost use Rattle.shm_fault.specs.Store.{StoreView, frame_of};
+ghost use Rattle.shm_fault.specs.Steps.{Moves};
+ghost use Rattle.shm_attach.specs.Spaces.{IsCaller, Translation, AreTrue};
 ghost use Rattle.shm_attach.specs.Spans.{span_places, wanted, pieces_by, PassPages, InPage, page_of};
 
 use crate::changes::space_at;
 use crate::counts::Counts;
 use crate::process::{Caller, Life, Runner};
 use crate::spans::{Segv, Spans, spans_in};
+use crate::tables::Tables;
 use indexmap::IndexMap;
 use shm_areas::Space;
 use shm_base::{HostMemory, Process};
+use shm_fault::Move;
 use std::alloc::Global;
 use std::marker::Model;
 
-/// The processes in the order in which they were declared, each with its pieces, and the attach count of
-/// each segment.
+/// The processes in the order in which they were declared, each with its pieces, the attach count of each
+/// segment, and the translations: for each page of each piece the frame that it is in, or none.
 #[derive(Drop)]
 pub struct Spaces {
     pub(crate) processes: IndexMap<u32, Runner>,
     pub(crate) counts: Counts,
+    pub(crate) tables: Tables,
 }
 
 impl Model for Spaces {
     ghost use Rattle.shm_attach.specs.Views.{runners_view};
     ghost use Rattle.shm_attach.specs.Spaces.{SpacesView};
     ghost use Rattle.shm_attach.specs.Exact.{IsExact};
+    ghost use Rattle.shm_attach.specs.Tables.{translations_of, IsTied};
 
     ghost Value = { SpacesView };
 
-    ghost view = { λ s. record { runners = runners_view s.processes.entries } };
+    ghost view = { λ s. record { runners = runners_view s.processes.entries; translations = translations_of s.tables.slab } };
 
-    ghost invariant = { λ s. IsExact (runners_view s.processes.entries) s.counts };
+    ghost invariant = { λ s. IsExact (runners_view s.processes.entries) s.counts × IsTied s.processes.entries s.tables.slab };
 }
 
 fn born(process: &Process) -> Life
@@ -53,7 +59,8 @@ impl Spaces {
     pub fn new(alloc: Global, processes: &[Process]) -> Result<Spaces, HostMemory>
         requires few { length processes.now ≤ 64 }
         requires apart { AllPairs (λ (p q : Declared). p.pid ≢ q.pid) processes.now }
-        ensures { IfOk result (λ s. s.runners ≡ map runner_at_start processes.now) }
+        ensures runners { IfOk result (λ s. s.runners ≡ map runner_at_start processes.now) }
+        ensures translations { IfOk result (λ s. s.translations ≡ []) }
     {
         let mut by_pid = IndexMap::new(alloc);
         for process in processes {
@@ -64,6 +71,7 @@ impl Spaces {
         Ok(Spaces {
             processes: by_pid,
             counts: Counts::new(alloc),
+            tables: Tables::new(alloc),
         })
     }
 
@@ -89,12 +97,14 @@ impl Spaces {
 
     /// How many pieces of all processes name the segment (shm_nattch): a number that is read.
     pub fn count(&self, seg: u32) -> u32
-        ensures { result ≡ attach_count self.now.runners seg }
+        ensures value { result ≡ attach_count self.now.runners seg }
+        ensures unnamed { result ≡ 0 → All (λ (t : Translation). t.seg ≢ seg) self.now.translations }
     {
         self.counts.get(seg)
     }
 
-    /// The spans of an access of a process to so many addresses. Segv where the process is not live, where
+    /// The spans of an access of a process to so many addresses, each with the frame that its piece keeps for
+    /// the page. Segv where the process is not live, where
     /// an address has no piece, and for a write where one lies in a piece that is read-only.
     pub fn spans(&self, pid: u32, addr: u64, len: u64, write: bool) -> Result<Spans, Segv>
         requires size { (1 ≤ len) × (len ≤ 64) }
@@ -103,10 +113,20 @@ impl Spaces {
         ensures within { IfOk result (λ s. All InPage s) }
         ensures sum { IfOk result (λ s. sum_by (λ (p : Stretch). p.len) s ≡ len) }
         ensures pages { IfOk result (λ s. (test : ℕ → ℕ → Bool) → PassPages test (pieces_by pid self.now.runners) → All (λ (p : Stretch). test p.seg (page_of p) ≡ true) s) }
+        ensures frames { IfOk result (λ s. (m : StoreView) → AreTrue self.now.translations m → All (λ (p : Stretch). p.frame ≡ frame_of m p.seg (page_of p)) s) }
     {
         let Some(caller) = self.caller(pid) else {
             return Err(Segv);
         };
-        spans_in(space_at(&self.processes, caller.index), addr, len, write)
+        let space = space_at(&self.processes, caller.index);
+        spans_in(space, &self.tables, addr, len, write)
+    }
+
+    /// Notes which pages moved, one after another, in every piece. It takes no memory.
+    pub fn note(&mut self, moved: &[Move])
+        ensures runners { self.new.runners ≡ self.old.runners }
+        ensures translated { (m n : StoreView) → AreTrue self.old.translations m → Moves moved.now m n → AreTrue self.new.translations n }
+    {
+        self.tables.note(moved);
     }
 }

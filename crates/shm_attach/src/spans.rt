@@ -1,9 +1,11 @@
 //! The spans of an access.
-ghost use Rattle.std.specs.Prelude.{◌≡◌, ◌+◌, ◌-◌, ◌*◌, ◌/◌, ◌%◌, ◌<◌, ◌≤◌, ◌^◌, ℕ, Bool, true, false, length, [], ◌∷◌, None, Some, IfSome, IfNone, IfOk, OnErr, All, sum_by};
+ghost use Rattle.std.specs.Prelude.{◌≡◌, ◌+◌, ◌-◌, ◌*◌, ◌/◌, ◌%◌, ◌<◌, ◌≤◌, ◌^◌, ℕ, Bool, Option, true, false, length, [], ◌∷◌, None, Some, IfSome, IfNone, IfOk, OnErr, All, sum_by};
 ghost use Rattle.shm_base.specs.declared.paging.Span.{Span as Stretch};
 ghost use Rattle.shm_areas.specs.Arranged.{bare_all};
+ghost use Rattle.shm_attach.specs.Tables.{Shape, shaped, has, AllTrue};
 ghost use Rattle.shm_attach.specs.Spans.{run, span_places, wanted_in, PassPages, InPage, page_of};
 
+use crate::tables::Tables;
 use shm_areas::Space;
 use shm_base::{PAGE_SIZE, Span};
 use std::marker::Model;
@@ -60,8 +62,9 @@ impl Spans {
 }
 
 /// The span of an access to addresses of one page.
-fn span_in(space: &Space, addr: u64, len: u64, write: bool) -> Option<Span>
+fn span_in(space: &Space, tables: &Tables, addr: u64, len: u64, write: bool) -> Option<Span>
     requires some { 1 ≤ len }
+    requires tied { (s : Shape) → shaped s space.now ≤ has tables.now.slab s }
     requires page { addr % 4096 + len ≤ 4096 }
     ensures places { IfSome result (λ s. wanted_in write (bare_all space.now) addr len ≡ Some (run s.seg s.at s.len false)) }
     ensures none { IfNone result (wanted_in write (bare_all space.now) addr len ≡ None) }
@@ -69,36 +72,46 @@ fn span_in(space: &Space, addr: u64, len: u64, write: bool) -> Option<Span>
     ensures size { IfSome result (λ s. s.len ≡ len) }
     ensures low { IfSome result (λ _. addr < 2 ^ 48) }
     ensures pages { IfSome result (λ s. (test : ℕ → ℕ → Bool) → PassPages test (bare_all space.now) → test s.seg (page_of s) ≡ true) }
+    ensures frames { IfSome result (λ s. (at : ℕ → ℕ → Option ℕ) → AllTrue at tables.now.slab → s.frame ≡ at s.seg (page_of s)) }
 {
     let piece = space.piece_at(addr)?;
     if write && !piece.writable {
         return None;
     }
+    let past = addr - piece.base;
     Some(Span {
         seg: piece.seg,
-        at: PAGE_SIZE * piece.first_page as u64 + (addr - piece.base),
+        at: PAGE_SIZE * piece.first_page as u64 + past,
         len,
-        frame: None,
+        frame: tables.frame(piece.key, (past / PAGE_SIZE) as usize),
     })
 }
 
 /// The spans of an access to addresses of a process. An access of at most 64 bytes has at most two pages.
-pub(crate) fn spans_in(space: &Space, addr: u64, len: u64, write: bool) -> Result<Spans, Segv>
+pub(crate) fn spans_in(
+    space: &Space,
+    tables: &Tables,
+    addr: u64,
+    len: u64,
+    write: bool,
+) -> Result<Spans, Segv>
     requires size { (1 ≤ len) × (len ≤ 64) }
+    requires tied { (s : Shape) → shaped s space.now ≤ has tables.now.slab s }
     ensures places { IfOk result (λ s. wanted_in write (bare_all space.now) addr len ≡ Some (span_places false s)) }
     ensures none { OnErr result (wanted_in write (bare_all space.now) addr len ≡ None) }
     ensures within { IfOk result (λ s. All InPage s) }
     ensures sum { IfOk result (λ s. sum_by (λ (p : Stretch). p.len) s ≡ len) }
     ensures pages { IfOk result (λ s. (test : ℕ → ℕ → Bool) → PassPages test (bare_all space.now) → All (λ (p : Stretch). test p.seg (page_of p) ≡ true) s) }
+    ensures frames { IfOk result (λ s. (at : ℕ → ℕ → Option ℕ) → AllTrue at tables.now.slab → All (λ (p : Stretch). p.frame ≡ at p.seg (page_of p)) s) }
 {
     let room = PAGE_SIZE - addr % PAGE_SIZE;
-    let Some(first) = span_in(space, addr, len.min(room), write) else {
+    let Some(first) = span_in(space, tables, addr, len.min(room), write) else {
         return Err(Segv);
     };
     if len <= room {
         return Ok(Spans::one(first));
     }
-    let Some(second) = span_in(space, addr + room, len - room, write) else {
+    let Some(second) = span_in(space, tables, addr + room, len - room, write) else {
         return Err(Segv);
     };
     Ok(Spans::two(first, second))

@@ -2,7 +2,10 @@ ghost use Rattle.std.specs.Prelude.{◌≡◌, ◌≤◌};
 
 use crate::Spaces;
 use bitflags::Flags;
-use shm_base::{AtFlags, Cred, Errno, HostMemory, Process, Span};
+use shm_base::{AtFlags, Cred, Errno, FrameNo, HostMemory, PageRef, Process, Span};
+use shm_fault::{Move, PageStore};
+use shm_pager::RamPager;
+use shm_slots::Swap;
 use std::alloc::Global;
 
 /// Process 1 of user 100, and child 2.
@@ -16,9 +19,18 @@ fn family(alloc: Global) -> Result<Spaces, HostMemory> {
     Spaces::new(alloc, &[parent, child])
 }
 
+/// A store that holds no segment, over one area of one slot: no page is resident.
+fn bare_store(alloc: Global) -> Result<PageStore<RamPager>, HostMemory> {
+    let mut pagers = Vec::with_capacity(alloc, 1)?;
+    pagers.push(RamPager::new(alloc, 1)?)?;
+    let swap = Swap::new(alloc, pagers)?;
+    PageStore::new(alloc, 2, swap)
+}
+
 /// An attach of a process that should be live: where the piece begins, or the refusal.
 fn attach(
     spaces: &mut Spaces,
+    store: &PageStore<RamPager>,
     pid: u32,
     seg: u32,
     pages: u32,
@@ -28,7 +40,7 @@ fn attach(
     requires { (1 ≤ pages) × (pages ≤ 4096) }
 {
     let caller = spaces.caller(pid)?;
-    let answer = spaces.attach(&caller, seg, pages, addr, flags).ok()?;
+    let answer = spaces.attach(&caller, seg, pages, addr, flags, store).ok()?;
     Some(answer.map(|attached| attached.base))
 }
 
@@ -39,7 +51,7 @@ fn detach(spaces: &mut Spaces, pid: u32, addr: u64) -> Option<Result<u32, Errno>
 
 fn fork(spaces: &mut Spaces, pid: u32, child: u32) -> Option<Result<(), Errno>> {
     let caller = spaces.caller(pid)?;
-    Some(spaces.fork(&caller, child))
+    spaces.fork(&caller, child).ok()
 }
 
 fn span(seg: u32, at: u64, len: u64) -> Span {
@@ -49,6 +61,12 @@ fn span(seg: u32, at: u64, len: u64) -> Span {
         len,
         frame: None,
     }
+}
+
+/// The frame that a process has for the page at an address.
+fn frame_at(spaces: &Spaces, pid: u32, addr: u64) -> Option<FrameNo> {
+    let spans = spaces.spans(pid, addr, 1, false).ok()?;
+    spans.as_slice()[0].frame
 }
 
 /// Whether an access has just these spans.
@@ -63,10 +81,11 @@ fn has_spans(spaces: &Spaces, addr: u64, len: u64, write: bool, want: &[Span]) -
 
 #[test]
 fn an_access_over_two_pieces_has_two_spans(rt: HostRuntime) -> Result<(), HostMemory> {
+    let store = bare_store(rt.alloc())?;
     let mut spaces = family(rt.alloc())?;
     let none = AtFlags::empty();
-    assert!(rt; attach(&mut spaces, 1, 0, 1, 0, none) == Some(Ok(0x40000000)));
-    assert!(rt; attach(&mut spaces, 1, 0, 1, 0, AtFlags::RDONLY) == Some(Ok(0x40001000)));
+    assert!(rt; attach(&mut spaces, &store, 1, 0, 1, 0, none) == Some(Ok(0x40000000)));
+    assert!(rt; attach(&mut spaces, &store, 1, 0, 1, 0, AtFlags::RDONLY) == Some(Ok(0x40001000)));
     let both = [span(0, 4094, 2), span(0, 0, 2)];
     assert!(rt; has_spans(&spaces, 0x40000ffe, 4, false, both.as_slice()));
     assert!(rt; has_spans(&spaces, 0x40000ffe, 4, true, [].as_slice()));
@@ -79,24 +98,28 @@ fn an_access_over_two_pieces_has_two_spans(rt: HostRuntime) -> Result<(), HostMe
 
 #[test]
 fn a_process_has_at_most_256_pieces(rt: HostRuntime) -> Result<(), HostMemory> {
+    let store = bare_store(rt.alloc())?;
     let mut spaces = family(rt.alloc())?;
     let none = AtFlags::empty();
     for k in 0..256u64 {
-        assert!(rt; attach(&mut spaces, 1, 0, 1, 0, none) == Some(Ok(0x40000000 + 4096 * k)));
+        assert!(rt;
+            attach(&mut spaces, &store, 1, 0, 1, 0, none) == Some(Ok(0x40000000 + 4096 * k))
+        );
     }
-    assert!(rt; attach(&mut spaces, 1, 0, 1, 0, none) == Some(Err(Errno::Emfile)));
+    assert!(rt; attach(&mut spaces, &store, 1, 0, 1, 0, none) == Some(Err(Errno::Emfile)));
     assert!(rt; spaces.count(0) == 256);
     Ok(())
 }
 
 /// A page in the middle of three pages is replaced, beside so many pieces of one page.
 fn crowded(alloc: Global, pieces: u64) -> Option<Result<u64, Errno>> {
+    let store = bare_store(alloc).ok()?;
     let mut spaces = family(alloc).ok()?;
-    attach(&mut spaces, 1, 0, 3, 0, AtFlags::empty())?.ok()?;
+    attach(&mut spaces, &store, 1, 0, 3, 0, AtFlags::empty())?.ok()?;
     for _ in 0..pieces {
-        attach(&mut spaces, 1, 1, 1, 0, AtFlags::empty())?.ok()?;
+        attach(&mut spaces, &store, 1, 1, 1, 0, AtFlags::empty())?.ok()?;
     }
-    attach(&mut spaces, 1, 1, 1, 0x40001000, AtFlags::REMAP)
+    attach(&mut spaces, &store, 1, 1, 1, 0x40001000, AtFlags::REMAP)
 }
 
 #[test]
@@ -107,12 +130,16 @@ fn a_cut_counts_its_parts(rt: HostRuntime) {
 
 #[test]
 fn parts_of_one_attach_go_together(rt: HostRuntime) -> Result<(), HostMemory> {
+    let store = bare_store(rt.alloc())?;
     let mut spaces = family(rt.alloc())?;
-    assert!(rt; attach(&mut spaces, 1, 0, 3, 0, AtFlags::empty()) == Some(Ok(0x40000000)));
+    assert!(rt; attach(&mut spaces, &store, 1, 0, 3, 0, AtFlags::empty()) == Some(Ok(0x40000000)));
     assert!(rt;
-        attach(&mut spaces, 1, 1, 1, 0x40001000, AtFlags::empty()) == Some(Err(Errno::Einval))
+        attach(&mut spaces, &store, 1, 1, 1, 0x40001000, AtFlags::empty())
+            == Some(Err(Errno::Einval))
     );
-    assert!(rt; attach(&mut spaces, 1, 1, 1, 0x40001fff, AtFlags::REMAP) == Some(Ok(0x40001000)));
+    assert!(rt;
+        attach(&mut spaces, &store, 1, 1, 1, 0x40001fff, AtFlags::REMAP) == Some(Ok(0x40001000))
+    );
     assert!(rt; spaces.count(0) == 2);
     assert!(rt; has_spans(&spaces, 0x40002000, 1, true, [span(0, 8192, 1)].as_slice()));
     assert!(rt; detach(&mut spaces, 1, 0x40000000) == Some(Ok(0)));
@@ -125,9 +152,12 @@ fn parts_of_one_attach_go_together(rt: HostRuntime) -> Result<(), HostMemory> {
 
 #[test]
 fn the_lowest_piece_names_the_segment(rt: HostRuntime) -> Result<(), HostMemory> {
+    let store = bare_store(rt.alloc())?;
     let mut spaces = family(rt.alloc())?;
-    assert!(rt; attach(&mut spaces, 1, 0, 2, 0, AtFlags::empty()) == Some(Ok(0x40000000)));
-    assert!(rt; attach(&mut spaces, 1, 1, 1, 0x40000000, AtFlags::REMAP) == Some(Ok(0x40000000)));
+    assert!(rt; attach(&mut spaces, &store, 1, 0, 2, 0, AtFlags::empty()) == Some(Ok(0x40000000)));
+    assert!(rt;
+        attach(&mut spaces, &store, 1, 1, 1, 0x40000000, AtFlags::REMAP) == Some(Ok(0x40000000))
+    );
     assert!(rt; detach(&mut spaces, 1, 0x40000000) == Some(Ok(1)));
     assert!(rt; (spaces.count(0), spaces.count(1)) == (1, 0));
     assert!(rt; detach(&mut spaces, 1, 0x40000000) == Some(Ok(0)));
@@ -137,8 +167,9 @@ fn the_lowest_piece_names_the_segment(rt: HostRuntime) -> Result<(), HostMemory>
 
 #[test]
 fn a_child_has_its_parents_pieces(rt: HostRuntime) -> Result<(), HostMemory> {
+    let store = bare_store(rt.alloc())?;
     let mut spaces = family(rt.alloc())?;
-    assert!(rt; attach(&mut spaces, 1, 0, 1, 0, AtFlags::empty()) == Some(Ok(0x40000000)));
+    assert!(rt; attach(&mut spaces, &store, 1, 0, 1, 0, AtFlags::empty()) == Some(Ok(0x40000000)));
     assert!(rt; !spaces.is_live(2));
     assert!(rt; fork(&mut spaces, 1, 2) == Some(Ok(())));
     assert!(rt; spaces.count(0) == 2);
@@ -159,5 +190,51 @@ fn a_child_has_its_parents_pieces(rt: HostRuntime) -> Result<(), HostMemory> {
     assert!(rt; spaces.count(0) == 0);
     assert!(rt; !spaces.is_live(1));
     assert!(rt; detach(&mut spaces, 1, 0x40000000).is_none());
+    Ok(())
+}
+
+#[test]
+fn moves_reach_each_piece_and_each_process(rt: HostRuntime) -> Result<(), HostMemory> {
+    let store = bare_store(rt.alloc())?;
+    let mut spaces = family(rt.alloc())?;
+    assert!(rt; attach(&mut spaces, &store, 1, 0, 3, 0, AtFlags::empty()) == Some(Ok(0x40000000)));
+    assert!(rt; fork(&mut spaces, 1, 2) == Some(Ok(())));
+    assert!(rt; frame_at(&spaces, 2, 0x40002000).is_none());
+    let last = PageRef { seg: 0, page: 2 };
+    spaces.note(&[
+        Move::Came(PageRef { seg: 0, page: 0 }, 5),
+        Move::Came(last, 6),
+    ]);
+    assert!(rt; frame_at(&spaces, 1, 0x40002000) == Some(6));
+    assert!(rt; frame_at(&spaces, 2, 0x40002000) == Some(6));
+    assert!(rt; frame_at(&spaces, 2, 0x40001000).is_none());
+    spaces.note(&[Move::Gone(last), Move::Came(PageRef { seg: 1, page: 2 }, 6)]);
+    assert!(rt; frame_at(&spaces, 1, 0x40002fff).is_none());
+    assert!(rt; frame_at(&spaces, 2, 0x40002fff).is_none());
+    assert!(rt; frame_at(&spaces, 2, 0x40000000) == Some(5));
+    Ok(())
+}
+
+#[test]
+fn parts_keep_their_translations(rt: HostRuntime) -> Result<(), HostMemory> {
+    let store = bare_store(rt.alloc())?;
+    let mut spaces = family(rt.alloc())?;
+    assert!(rt; attach(&mut spaces, &store, 1, 0, 4, 0, AtFlags::empty()) == Some(Ok(0x40000000)));
+    for page in 0..4 {
+        spaces.note(&[Move::Came(PageRef { seg: 0, page }, 10 + page)]);
+    }
+    assert!(rt;
+        attach(&mut spaces, &store, 1, 1, 1, 0x40001000, AtFlags::REMAP) == Some(Ok(0x40001000))
+    );
+    assert!(rt; frame_at(&spaces, 1, 0x40000000) == Some(10));
+    assert!(rt; frame_at(&spaces, 1, 0x40001000).is_none());
+    assert!(rt; frame_at(&spaces, 1, 0x40002000) == Some(12));
+    assert!(rt;
+        attach(&mut spaces, &store, 1, 1, 1, 0x40002000, AtFlags::REMAP) == Some(Ok(0x40002000))
+    );
+    assert!(rt; frame_at(&spaces, 1, 0x40003000) == Some(13));
+    spaces.note(&[Move::Gone(PageRef { seg: 0, page: 3 })]);
+    assert!(rt; frame_at(&spaces, 1, 0x40003000).is_none());
+    assert!(rt; frame_at(&spaces, 1, 0x40000000) == Some(10));
     Ok(())
 }

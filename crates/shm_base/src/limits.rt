@@ -107,6 +107,7 @@ impl Limits {
     pub fn memlock(&self) -> u64
         ensures value { result ≡ self.now.memlock }
         ensures range { result ≤ 4096 }
+        ensures room { result + 2 ≤ self.now.frames }
     {
         self.memlock
     }

@@ -1,27 +1,37 @@
--- What contracts see of a world: its opening, its history, and the flat machine at its end.
-use Rattle.std.specs.Prelude.{◌≡◌, ℕ, List, [], ◌∷◌, map}
+-- What contracts see of a world: its opening, its history, the flat machine at its end, and its memory.
+use Rattle.std.specs.Prelude.{◌≡◌, ◌≤◌, ◌-◌, ◌^◌, ℕ, true, List, [], ◌∷◌, length, map, min, count_by}
 use Rattle.std.specs.List.{flat_map}
 use Rattle.shm_base.specs.declared.call.Step.{Step}
 use Rattle.shm_base.specs.declared.call.Step.TheVariants as steps
 use Rattle.shm_base.specs.declared.call.Step.TheVariants.{Flush}
-use Rattle.shm_life.specs.SystemState.{IsFirst}
 use Rattle.shm_base.specs.declared.call.Call.{Call}
 use Rattle.shm_base.specs.declared.call.Reply.{Reply}
 use Rattle.shm_base.specs.declared.call.Event.{Event}
+use Rattle.shm_base.specs.History.{is_failure}
 use Rattle.shm_base.specs.State.{Opening, Machine}
+use Rattle.shm_base.specs.Segments.{segment_count, reserved, locked}
+use Rattle.shm_base.specs.declared.paging.Tally.{Tally}
+use Rattle.shm_slots.specs.View.{SwapView, slots}
+use Rattle.shm_slots.specs.Cause.{total}
+use Rattle.shm_fault.specs.Store.{StoreView, resident, dirty, used}
 
 pub record WorldState : Type 0 where
   pub opening : Opening
   pub events : List Event
   pub machine : Machine
+  pub memory : StoreView
   pub room : ℕ
 
 abbrev pub event : ℕ → Call → Reply → Event
 event pid call reply = record { pid = pid; call = call; reply = reply }
 
-abbrev pub IsFirstStep : Step → Type 0
-IsFirstStep (steps.Call pid call) = IsFirst call
-IsFirstStep (Flush n) = Unit {0}
+-- how many calls were answered by the name of a pager's failure
+abbrev pub failures_in : List Event → ℕ
+failures_in events = count_by (λ (e : Event). is_failure e.call e.reply) events
+
+-- where no area was ever spent they are at most the failures that were counted
+unfoldable pub AreCounted : List Event → SwapView → Type 0
+AreCounted events swap = swap.never_spent ≡ true → failures_in events ≤ total swap
 
 -- the pids and calls of the events
 abbrev pub calls_of : List Event → List (ℕ × Call)
@@ -34,3 +44,21 @@ calls_in (Flush n) = []
 
 abbrev pub step_calls : List Step → List (ℕ × Call)
 step_calls steps = flat_map calls_in steps
+
+-- the counts of a world
+abbrev pub tally_of : WorldState → Tally
+tally_of w =
+    record {
+      events = length w.events;
+      segments = segment_count w.machine.table;
+      reserved = reserved w.machine.table;
+      locked = locked w.machine.table;
+      frames = w.machine.limits.frames;
+      resident = resident w.memory;
+      dirty = dirty w.memory;
+      slots = slots w.memory.swap;
+      used = used w.memory;
+      ins = w.memory.ins;
+      outs = w.memory.outs;
+      failures = min (total w.memory.swap) (2 ^ 64 - 1);
+    }

@@ -1,7 +1,3 @@
-ghost use Rattle.std.specs.Prelude.{◌≡◌, IfOk, All};
-ghost use Rattle.shm_history.specs.WorldState.{IsFirstStep};
-ghost use Rattle.shm_life.specs.SystemState.{IsFirst};
-
 use super::*;
 use bitflags::Flags;
 use shm_base::{
@@ -28,9 +24,7 @@ fn world(rt: &HostRuntime, shmmax: u64) -> Result<World<RamPager>, Fail> {
     Ok(World::new(rt.alloc(), system))
 }
 
-fn shmget(size: u64) -> Call
-    ensures { IsFirst result }
-{
+fn shmget(size: u64) -> Call {
     Call::Shmget {
         key: 0,
         size,
@@ -39,9 +33,7 @@ fn shmget(size: u64) -> Call
     }
 }
 
-fn shmat(id: i32) -> Call
-    ensures { IsFirst result }
-{
+fn shmat(id: i32) -> Call {
     Call::Shmat {
         id,
         addr: 0,
@@ -49,16 +41,12 @@ fn shmat(id: i32) -> Call
     }
 }
 
-fn load(addr: u64, len: u64) -> Result<Call, Fail>
-    ensures { IfOk result (λ call. IsFirst call) }
-{
+fn load(addr: u64, len: u64) -> Result<Call, Fail> {
     let len = AccessLen::new(len).ok_or("1 to 64")?;
     Ok(Call::Load { addr, len })
 }
 
-fn store(addr: u64, bytes: &[u8]) -> Result<Call, Fail>
-    ensures { IfOk result (λ call. IsFirst call) }
-{
+fn store(addr: u64, bytes: &[u8]) -> Result<Call, Fail> {
     let chunk = Chunk::new(bytes).ok_or("1 to 64 bytes")?;
     Ok(Call::Store { addr, chunk })
 }
@@ -68,9 +56,7 @@ fn bytes(bytes: &[u8]) -> Result<Reply, Fail> {
 }
 
 // The reply to a call. Where memory was wanting the history stays, and the call is made once more.
-fn reply(rt: &impl Abort, world: &mut World<RamPager>, call: &Call) -> Result<Reply, Fail>
-    requires { IsFirst call.now }
-{
+fn reply(rt: &impl Abort, world: &mut World<RamPager>, call: &Call) -> Result<Reply, Fail> {
     let before = world.history().len();
     if let Ok(reply) = world.call(1, call) {
         return Ok(reply);
@@ -119,9 +105,7 @@ fn sizes(rt: HostRuntime) -> Result<(), Fail> {
     Ok(())
 }
 
-fn steps(alloc: Global, sizes: &[u64]) -> Result<Vec<Step>, Fail>
-    ensures { IfOk result (λ v. All IsFirstStep v.items) }
-{
+fn steps(alloc: Global, sizes: &[u64]) -> Result<Vec<Step>, Fail> {
     let mut steps = Vec::new(alloc);
     for size in sizes {
         steps.push(Step::Call(1, shmget(*size)))?;

@@ -2,14 +2,18 @@
 //!
 //! The rule that the type keeps: the history is legal on the flat machine from the opening, and leads
 //! to the machine that the system shows. A call and its reply are recorded together or not at all.
-ghost use Rattle.std.specs.Prelude.{◌≡◌, ℕ, ◌+◌, ◌-◌, ◌^◌, ◌<◌, ◌≤◌, List, [], ◌∷◌, ◌++◌, length, drop, vec_len, vec_capacity, IfOk, OnOk, OnErr, IsOk, All};
+ghost use Rattle.std.specs.Prelude.{◌≡◌, ℕ, ◌+◌, ◌-◌, ◌^◌, ◌<◌, ◌≤◌, List, [], ◌∷◌, ◌++◌, length, drop, vec_len, vec_capacity, IfOk, OnOk, OnErr, IsOk, true};
 ghost use Rattle.shm_base.specs.State.{start_of};
-ghost use Rattle.shm_base.specs.History.{IsHistory, IsMove};
+ghost use Rattle.shm_base.specs.History.{IsHistory, IsMove, is_failure};
 ghost use mathlib.Core.List.{IsPrefix};
-ghost use Rattle.shm_life.specs.SystemState.{IsFirst, TakesNoMemory};
-ghost use Rattle.shm_history.specs.WorldState.{event, IsFirstStep, calls_of, step_calls};
+ghost use Rattle.shm_slots.specs.Cause.{had_cause};
+ghost use Rattle.shm_fault.specs.Flushing.{IsFlushed};
+ghost use Rattle.shm_life.specs.MachineView.{IsExactly, KeepsOn};
+ghost use Rattle.shm_life.specs.SystemState.{TakesNoMemory};
+ghost use Rattle.shm_life.specs.Listed.{segment_at};
+ghost use Rattle.shm_history.specs.WorldState.{event, tally_of, AreCounted, calls_of, step_calls};
 
-use shm_base::{Call, Event, HostMemory, Reply, Step};
+use shm_base::{Call, Event, FlushReport, HostMemory, Reply, ShmId, ShmidDs, Step, Tally};
 use shm_life::{Opening, System};
 use shm_pager::Pager;
 use std::alloc::Global;
@@ -25,7 +29,8 @@ pub struct World<P: Pager> {
 impl<P: Pager> Model for World<P> {
     ghost use Rattle.std.specs.Prelude.{◌≡◌, ◌-◌, length, vec_capacity, vec_len};
     ghost use Rattle.shm_base.specs.History.{IsHistory};
-    ghost use Rattle.shm_history.specs.WorldState.{WorldState};
+    ghost use Rattle.shm_life.specs.Listed.{segment_at};
+    ghost use Rattle.shm_history.specs.WorldState.{WorldState, AreCounted};
 
     ghost Value = { WorldState };
 
@@ -33,10 +38,11 @@ impl<P: Pager> Model for World<P> {
       opening = w.system.opening;
       events = w.history.items;
       machine = w.system.machine;
+      memory = w.system.memory;
       room = vec_capacity w.history - vec_len w.history;
     } };
 
-    ghost invariant = { λ w. (w.system.calls ≡ length w.history.items) × IsHistory w.system.opening w.history.items w.system.machine };
+    ghost invariant = { λ w. (w.system.calls ≡ length w.history.items) × IsHistory w.system.opening w.history.items w.system.machine × AreCounted w.history.items w.system.memory.swap };
 }
 
 // Makes room for one more event, where there is none.
@@ -53,12 +59,14 @@ fn make_room(history: &mut Vec<Event>) -> Result<(), HostMemory>
 }
 
 impl<P: Pager> World<P> {
+    #[tactic(auto, using(crate::proofs::Counted::counted_none))]
     /// A world with no history yet.
     pub fn new(alloc: Global, system: System<P>) -> World<P>
         requires { system.calls ≡ 0 }
         ensures opening { result.opening ≡ system.opening }
         ensures events { result.events ≡ [] }
         ensures machine { result.machine ≡ system.machine }
+        ensures memory { result.memory ≡ system.memory }
     {
         World {
             system,
@@ -72,12 +80,32 @@ impl<P: Pager> World<P> {
         self.system.opening()
     }
 
-    /// The calls so far with their replies. They are legal, and lead to the machine.
+    /// The calls so far with their replies. They are legal, and lead to the machine, which the memory
+    /// shows exactly. Those that name a pager's failure are at most the failures that were counted, where
+    /// no area was ever spent.
     pub fn history(&self) -> &[Event]
         ensures events { result.now ≡ self.now.events }
         ensures legal { IsHistory self.now.opening self.now.events self.now.machine }
+        ensures counted { AreCounted self.now.events self.now.memory.swap }
+        ensures exact { IsExactly self.now.machine self.now.memory }
     {
+        self.system.is_exact();
         self.history.as_slice()
+    }
+
+    /// How many indexes of the table were ever used: none of a segment is as large.
+    pub fn indexes(&self) -> u32
+        ensures { result ≡ length self.now.machine.table }
+    {
+        self.system.indexes()
+    }
+
+    /// The segment at an index of the table as stat shows it, with no permission test. None only where no
+    /// segment holds the index.
+    pub fn segment(&self, index: u32) -> Option<(ShmId, ShmidDs)>
+        ensures { result ≡ segment_at self.now.machine index }
+    {
+        self.system.segment(index)
     }
 
     /// How many calls can be recorded before memory is asked for.
@@ -100,9 +128,10 @@ impl<P: Pager> World<P> {
     /// One call, which is recorded with its reply. Want of memory changes nothing but the room, and
     /// nothing is recorded; with room left, the calls that take no memory always get their reply.
     pub fn call(&mut self, pid: u32, call: &Call) -> Result<Reply, HostMemory>
-        requires first { IsFirst call.now }
         ensures recorded { IfOk result (λ r. self.new.events ≡ self.old.events ++ event pid call.now r ∷ []) }
         ensures move_of { IfOk result (λ r. IsMove self.old.machine (length self.old.events + 1) (event pid call.now r) self.new.machine) }
+        ensures cause { IfOk result (λ r. is_failure call.now r ≡ true → had_cause self.old.memory.swap self.new.memory.swap ≡ true) }
+        ensures keeps { KeepsOn self.old.memory self.new.memory }
         ensures opening { self.new.opening ≡ self.old.opening }
         ensures err { OnErr result (self.new ≡ record self.old { room = self.new.room }) }
         ensures no_memory { TakesNoMemory call.now → 0 < self.old.room → IsOk result }
@@ -110,6 +139,8 @@ impl<P: Pager> World<P> {
         ensures room_kept { OnErr result (self.old.room ≤ self.new.room) }
     {
         make_room(&mut self.history)?;
+        // What is told here is true before the call.
+        self.system.is_exact();
         let copy = call.copied();
         let reply = self.system.call(pid, call)?;
         let answer = reply.copied();
@@ -123,9 +154,25 @@ impl<P: Pager> World<P> {
         Ok(answer)
     }
 
+    /// A flush round: the first `pages` dirty frames of segments that are not locked are written out to
+    /// their slots. It is no event, and nothing but the memory changes.
+    pub fn flush(&mut self, pages: u64) -> FlushReport
+        ensures rest { self.new ≡ record self.old { memory = self.new.memory } }
+        ensures flushed { IsFlushed self.old.memory self.new.memory pages result }
+        ensures keeps { KeepsOn self.old.memory self.new.memory }
+    {
+        self.system.flush(pages)
+    }
+
+    /// The counts of the machine as they are, and of what its pagers did.
+    pub fn tally(&self) -> Tally
+        ensures { result ≡ tally_of self.now }
+    {
+        self.system.tally()
+    }
+
     /// Runs the steps in order. It stops at the first want of memory, and the steps before it stand.
     pub fn run_steps(&mut self, steps: &[Step]) -> Result<(), HostMemory>
-        requires { All IsFirstStep steps.now }
         ensures ran { OnOk result (calls_of self.new.events ≡ calls_of self.old.events ++ step_calls steps.now) }
         ensures part { IsPrefix (calls_of self.new.events) (calls_of self.old.events ++ step_calls steps.now) }
         ensures kept { self.new.events ≡ self.old.events ++ drop (length self.old.events) self.new.events }
@@ -136,7 +183,9 @@ impl<P: Pager> World<P> {
                 Step::Call(pid, call) => {
                     let _reply = self.call(*pid, call)?;
                 }
-                Step::Flush(_) => {}
+                Step::Flush(pages) => {
+                    let _report = self.flush(*pages);
+                }
             }
         }
         Ok(())

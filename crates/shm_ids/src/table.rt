@@ -168,6 +168,16 @@ fn drop_key(keys: &mut IndexMap<u32, u32>, key: u32)
     }
 }
 
+// How many rows were destroyed at an index.
+fn sequence_at<T>(entries: &Vec<Entry<T>>, index: usize) -> u32
+    ensures { result ≡ (entry_at entries.now.items index).destroyed }
+{
+    match entries.get(index) {
+        Some(entry) => entry.destroyed,
+        None => 0,
+    }
+}
+
 // The index in an identifier.
 fn index_in(id: ShmId) -> usize
     ensures { result ≡ index_of id }
@@ -267,6 +277,26 @@ impl<T: Drop> IdTable<T> {
         ensures { result ≡ row_count self.now }
     {
         self.rows as u64
+    }
+
+    /// How many indexes were ever used. None of 32768 and more is.
+    pub fn indexes(&self) -> u32
+        ensures value { result ≡ length self.now }
+        ensures few { result ≤ 32768 }
+    {
+        self.entries.len() as u32
+    }
+
+    /// The identifier that the next row gets: that of the least index that no row holds and that is not worn
+    /// out. None where there is no such index.
+    pub fn next_id(&self) -> Option<ShmId>
+        ensures value { result ≡ option_map (id_at self.now) (free_index self.now) }
+        ensures index { IfSome result (λ id. free_index self.now ≡ Some (index_of id)) }
+    {
+        let Some(index) = free_from(&self.entries, self.first_free) else {
+            return None;
+        };
+        Some(id_of(index, sequence_at(&self.entries, index)))
     }
 
     /// Puts a row under a fresh identifier: that of the least index that no row holds and that is not

@@ -1,3 +1,13 @@
-pub mod Places
-pub mod Cuts
-pub mod Attaching
+pub mod Swapping
+pub mod Running
+pub mod Resident
+pub mod Orphans
+pub mod Pieces
+pub mod Leaving
+pub mod Sweeping
+pub mod Settled
+pub mod Opens
+pub mod Created
+pub mod Changed
+pub mod Going
+pub mod Shmat

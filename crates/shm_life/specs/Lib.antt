@@ -1,8 +1,11 @@
-pub mod Views
-pub mod CallerView
-pub mod Found
-pub mod Sweep
+pub mod Tied
+pub mod Kept
+pub mod Orphans
+pub mod Listed
+pub mod Address
+pub mod Made
 pub mod Start
 pub mod SystemState
-pub mod Creation
-pub mod LookView
+pub mod Views
+pub mod MachineView
+pub mod Counts

@@ -1,122 +1,114 @@
-//! Loads and stores, byte by byte.
-ghost use Rattle.std.specs.Prelude.{◌≡◌, ◌+◌, ◌<◌, ◌≤◌, length, option_map, slice_get, IfSome};
-ghost use Rattle.shm_base.specs.Access.{place, places, writable_places, all_writable, byte_at, with_byte, loaded, stored};
-ghost use Rattle.shm_base.specs.Segments.{detach_all, swept};
-ghost use Rattle.shm_life.specs.Found.{items_of, seg_of};
+//! Loads, stores and additions.
+ghost use Rattle.std.specs.Prelude.{◌≡◌, ◌≤◌, true, false, is_ok, length, MatchResult};
+ghost use Rattle.shm_base.specs.Access.{places, writable_places};
+ghost use Rattle.shm_base.specs.History.{is_failure};
+ghost use Rattle.shm_base.specs.Step as flat;
+ghost use Rattle.shm_base.specs.declared.call.Call.TheVariants as call;
+ghost use Rattle.shm_attach.specs.Spaces.{seen, AreTrue};
+ghost use Rattle.shm_fault.specs.Store.{StoreView};
+ghost use Rattle.shm_fault.specs.Steps.{Moves};
+ghost use Rattle.shm_life.specs.MachineView.{IsFailed, KeepsOn};
+ghost use Rattle.shm_life.specs.Tied.{IsCallerOf};
 
-use crate::runner::{Piece, Runner, is_attached};
-use crate::segment::Entry;
-use arrayvec::ArrayVec;
-use std::marker::Model;
+use crate::machine::Machine;
+use shm_attach::{Caller, Spaces};
+use shm_base::{AccessLen, Chunk, Errno, Reply};
+use shm_fault::{PagerFailed, Touched};
+use shm_pager::Pager;
 
-/// A byte of a segment.
-#[derive(Clone, Copy, Default)]
-pub struct Place {
-    pub seg: u32,
-    pub at: u64,
-    pub writable: bool,
-}
-
-impl Model for Place {
-    ghost use Rattle.shm_base.specs.Access.{Place as Flat};
-
-    ghost Value = { Flat };
-
-    ghost view = { λ p. record { seg = p.seg; at = p.at; writable = p.writable } };
-
-    ghost inverse = { λ p. record { seg = p.seg; at = p.at; writable = p.writable } };
-}
-
-/// The byte that an address denotes.
-pub fn place_of(pieces: &[Piece], addr: u128) -> Option<Place>
-    ensures { result ≡ place pieces.now addr }
+/// Notes in the translations which pages an access moved, and tells whether it was done. Where a pager
+/// failed pages may have moved before.
+fn note(spaces: &mut Spaces, access: Result<Touched, PagerFailed>) -> bool
+    ensures done { result ≡ is_ok access }
+    ensures runners { spaces.new.runners ≡ spaces.old.runners }
+    ensures translated { (m n : StoreView) → AreTrue spaces.old.translations m → MatchResult access (λ t. Moves t.moved.items m n × (length t.moved.items ≤ 4)) (λ e. Moves e.moved.items m n × (length e.moved.items ≤ 4)) → AreTrue spaces.new.translations n }
 {
-    for piece in pieces {
-        let base = piece.base as u128;
-        if base <= addr && addr < base + 4096 * piece.pages as u128 {
-            return Some(Place {
-                seg: piece.seg,
-                at: (4096 * piece.first_page as u128 + (addr - base)) as u64,
-                writable: piece.writable,
-            });
+    match access {
+        Ok(touched) => {
+            spaces.note(touched.moved.as_slice());
+            true
+        }
+        Err(failed) => {
+            spaces.note(failed.moved.as_slice());
+            false
         }
     }
-    None
 }
 
-/// The bytes that the addresses from `addr` on denote, if all have one.
-pub fn places_of(pieces: &[Piece], addr: u64, len: usize) -> Option<ArrayVec<Place, 64>>
-    requires { len ≤ 64 }
-    ensures places { option_map items_of result ≡ places pieces.now addr len }
-    ensures count { IfSome result (λ v. length v.items ≡ len) }
-{
-    let mut found = ArrayVec::new();
-    for offset in 0..len {
-        let place = place_of(pieces, addr as u128 + offset as u128)?;
-        found.push(place);
+impl<P: Pager> Machine<P> {
+    #[tactic(auto, using(crate::proofs::Running::keeps_refl))]
+    /// Reads bytes; Sigsegv where an address has no piece, Sigbus where a pager failed.
+    pub(crate) fn load(&mut self, caller: &Caller, addr: u64, len: AccessLen) -> Reply
+        requires { IsCallerOf self.old.flat caller.now }
+        ensures step { is_failure (call.Load addr len) result ≡ false → flat.load self.old.flat (places (seen caller.now self.old.flat.runners).pieces addr len) ≡ record { reply = result; state = self.new.flat } }
+        ensures failed { is_failure (call.Load addr len) result ≡ true → IsFailed (flat.load self.old.flat (places (seen caller.now self.old.flat.runners).pieces addr len)) self.old self.new }
+        ensures keeps { KeepsOn self.old.memory self.new.memory }
+    {
+        let Ok(spans) = self.spaces.spans(caller.pid, addr, len.get() as u64, false) else {
+            return Reply::Refused(Errno::Sigsegv);
+        };
+        let mut bytes = [0; 64];
+        let out = &mut bytes[..len.get()];
+        let read = self.segments.read(spans.as_slice(), out);
+        if !note(&mut self.spaces, read) {
+            return Reply::Refused(Errno::Sigbus);
+        }
+        match Chunk::new(out) {
+            Some(chunk) => Reply::Bytes(chunk),
+            None => unreachable!(),
+        }
     }
-    Some(found)
-}
 
-fn are_writable(places: &[Place]) -> bool
-    ensures { result ≡ all_writable places.now }
-{
-    places.iter().all(|place: &Place| place.writable)
-}
-
-/// The same, if all may be written.
-pub fn writable_places_of(pieces: &[Piece], addr: u64, len: usize) -> Option<ArrayVec<Place, 64>>
-    requires { len ≤ 64 }
-    ensures places { option_map items_of result ≡ writable_places pieces.now addr len }
-    ensures count { IfSome result (λ v. length v.items ≡ len) }
-{
-    let found = places_of(pieces, addr, len)?;
-    if are_writable(found.as_slice()) {
-        Some(found)
-    } else {
-        None
+    #[tactic(auto, using(crate::proofs::Running::keeps_refl))]
+    /// Replaces bytes; Sigsegv where an address has no piece, or one that is read-only, Sigbus where a pager
+    /// failed, and then no byte has changed.
+    pub(crate) fn store(&mut self, caller: &Caller, addr: u64, chunk: &Chunk) -> Reply
+        requires { IsCallerOf self.old.flat caller.now }
+        ensures step { is_failure (call.Store addr chunk.now) result ≡ false → flat.store self.old.flat chunk.now (writable_places (seen caller.now self.old.flat.runners).pieces addr (length chunk.now)) ≡ record { reply = result; state = self.new.flat } }
+        ensures failed { is_failure (call.Store addr chunk.now) result ≡ true → IsFailed (flat.store self.old.flat chunk.now (writable_places (seen caller.now self.old.flat.runners).pieces addr (length chunk.now))) self.old self.new }
+        ensures keeps { KeepsOn self.old.memory self.new.memory }
+    {
+        let bytes = chunk.as_slice();
+        let Ok(spans) = self
+            .spaces
+            .spans(caller.pid, addr, bytes.len() as u64, true)
+        else {
+            return Reply::Refused(Errno::Sigsegv);
+        };
+        let written = self.segments.write(spans.as_slice(), bytes);
+        if !note(&mut self.spaces, written) {
+            return Reply::Refused(Errno::Sigbus);
+        }
+        Reply::Done
     }
-}
 
-fn byte_of(table: &[Entry], place: Place) -> u8
-    ensures { result ≡ byte_at table.now place }
-{
-    match table.get((place.seg % 32768) as usize) {
-        Some(entry) => entry.byte(place.at),
-        None => 0,
-    }
-}
-
-/// The bytes at the places.
-pub fn load(table: &[Entry], places: &[Place]) -> ArrayVec<u8, 64>
-    requires { length places.now ≤ 64 }
-    ensures { result.items ≡ loaded table.now places.now }
-{
-    let mut bytes = ArrayVec::new();
-    for place in places {
-        bytes.push(byte_of(table, *place));
-    }
-    bytes
-}
-
-fn set_byte(table: &mut Vec<Entry>, place: Place, byte: u8)
-    ensures table { table.new.items ≡ with_byte table.old.items place byte }
-    ensures count { length table.new.items ≡ length table.old.items }
-{
-    let index = (place.seg % 32768) as usize;
-    if index < table.len() {
-        let entry = &mut table[index];
-        entry.set_byte(place.at, byte);
-    }
-}
-
-/// Replaces the bytes at the places.
-pub fn store(table: &mut Vec<Entry>, places: &[Place], bytes: &[u8])
-    requires { length places.now ≡ length bytes.now }
-    ensures table { table.new.items ≡ stored table.old.items places.now bytes.now }
-    ensures count { length table.new.items ≡ length table.old.items }
-{
-    for index in 0..places.len() {
-        set_byte(table, places[index], bytes[index]);
+    #[tactic(auto, using(crate::proofs::Running::keeps_refl))]
+    /// Adds to eight little-endian bytes modulo 2^64, and answers the number that stood there. It is refused
+    /// as a store is.
+    pub(crate) fn xadd(&mut self, caller: &Caller, addr: u64, add: u64) -> Reply
+        requires { IsCallerOf self.old.flat caller.now }
+        ensures step { is_failure (call.Xadd addr add) result ≡ false → flat.xadd self.old.flat add (writable_places (seen caller.now self.old.flat.runners).pieces addr 8) ≡ record { reply = result; state = self.new.flat } }
+        ensures failed { is_failure (call.Xadd addr add) result ≡ true → IsFailed (flat.xadd self.old.flat add (writable_places (seen caller.now self.old.flat.runners).pieces addr 8)) self.old self.new }
+        ensures keeps { KeepsOn self.old.memory self.new.memory }
+    {
+        let Ok(spans) = self.spaces.spans(caller.pid, addr, 8, true) else {
+            return Reply::Refused(Errno::Sigsegv);
+        };
+        let mut bytes = [0; 8];
+        let read = self.segments.read(spans.as_slice(), &mut bytes);
+        if !note(&mut self.spaces, read) {
+            return Reply::Refused(Errno::Sigbus);
+        }
+        let number = u64::from_le_bytes(bytes);
+        let sum = number.wrapping_add(add).to_le_bytes();
+        // The pages are resident now, perhaps in other frames, so that the write needs no pager.
+        let Ok(spans) = self.spaces.spans(caller.pid, addr, 8, true) else {
+            unreachable!()
+        };
+        let written = self.segments.write(spans.as_slice(), &sum);
+        if !note(&mut self.spaces, written) {
+            unreachable!()
+        }
+        Reply::Number(number)
     }
 }

@@ -2,13 +2,15 @@
 #![tactic(auto)]
 
 mod access;
+mod attach;
+mod control;
+mod detach;
+mod get;
 mod machine;
-mod runner;
-mod segment;
-mod space;
+mod paging;
 mod start;
+mod swapoff;
 mod system;
-mod table;
 #[cfg(test)]
 mod tests;
 

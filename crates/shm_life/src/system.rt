@@ -1,16 +1,22 @@
 //! A machine with its swap areas, how it began, and how many calls it answered.
-ghost use Rattle.std.specs.Prelude.{◌≡◌, ℕ, ◌+◌, ◌-◌, ◌^◌, ◌<◌, ◌≤◌, List, length, map, IfOk, IfErr, OnOk, OnErr, IsOk, None};
+ghost use Rattle.std.specs.Prelude.{◌≡◌, true, ◌+◌, ◌-◌, ◌^◌, ◌<◌, length, map, IfOk, IfErr, OnOk, OnErr, IsOk, None};
 ghost use Rattle.shm_base.specs.State as flat;
-ghost use Rattle.shm_life.specs.Views.{life_view, some};
 ghost use Rattle.shm_life.specs.Start.{start_error, IsFirstError};
-ghost use Rattle.shm_base.specs.Step.{step};
-ghost use Rattle.shm_life.specs.SystemState.{IsFirst, TakesNoMemory};
+ghost use Rattle.shm_base.specs.History.{IsMove, is_failure};
+ghost use Rattle.shm_slots.specs.Cause.{had_cause};
+ghost use Rattle.shm_fault.specs.Flushing.{IsFlushed};
+ghost use Rattle.shm_life.specs.MachineView.{KeepsOn, IsExactly};
+ghost use Rattle.shm_life.specs.SystemState.{TakesNoMemory};
+ghost use Rattle.shm_life.specs.Counts.{Counts};
+ghost use Rattle.shm_life.specs.Listed.{segment_at};
 
 use crate::machine::Machine;
-use crate::runner::{Life, Runner};
 use crate::start::{StartError, first_error};
-use shm_base::{Call, HostMemory, Limits, Process, Reply};
+use shm_attach::Spaces;
+use shm_base::{Call, FlushReport, HostMemory, Limits, Process, Reply, ShmId, ShmidDs, Tally};
 use shm_pager::Pager;
+use shm_segments::Segments;
+use shm_slots::Swap;
 use std::alloc::{AllocError, Global};
 use std::marker::Model;
 
@@ -36,9 +42,7 @@ impl Model for Opening {
 pub struct System<P: Pager> {
     opening: Opening,
     calls: u64,
-    machine: Machine,
-    // Pages are not moved out yet: the areas are kept for their slots, and dropped with the system.
-    pagers: Vec<P>,
+    machine: Machine<P>,
 }
 
 impl<P: Pager> Model for System<P> {
@@ -48,32 +52,9 @@ impl<P: Pager> Model for System<P> {
 
     ghost Value = { SystemState };
 
-    ghost view = { λ s. record { opening = s.opening; calls = s.calls; machine = s.machine } };
+    ghost view = { λ s. record { opening = s.opening; calls = s.calls; machine = s.machine.flat; memory = s.machine.memory } };
 
-    ghost invariant = { λ s. s.calls ≡ 0 → s.machine ≡ start_of s.opening };
-}
-
-fn life_of(process: &Process) -> Life
-    ensures { life_view result ≡ flat.life_at_start process.now.born }
-{
-    match process.born {
-        Some(cred) => Life::Live(cred),
-        None => Life::Unborn,
-    }
-}
-
-fn runners_of(alloc: Global, processes: &[Process]) -> Result<Vec<Runner>, AllocError>
-    ensures { IfOk result (λ v. v.items ≡ map flat.runner_at_start processes.now) }
-{
-    let mut runners = Vec::new(alloc);
-    for process in processes {
-        runners.push(Runner {
-            pid: process.pid,
-            life: life_of(process),
-            pieces: Vec::new(alloc),
-        })?;
-    }
-    Ok(runners)
+    ghost invariant = { λ s. s.calls ≡ 0 → s.machine.flat ≡ start_of s.opening };
 }
 
 // The slot counts of the areas.
@@ -85,16 +66,6 @@ fn sizes_of<P: Pager>(alloc: Global, pagers: &[P]) -> Result<Vec<u32>, AllocErro
         sizes.push(pager.slots())?;
     }
     Ok(sizes)
-}
-
-fn areas_of(alloc: Global, areas: &[u32]) -> Result<Vec<Option<u32>>, AllocError>
-    ensures { IfOk result (λ v. v.items ≡ map some areas.now) }
-{
-    let mut found = Vec::new(alloc);
-    for area in areas {
-        found.push(Some(*area))?;
-    }
-    Ok(found)
 }
 
 impl<P: Pager> System<P> {
@@ -127,29 +98,28 @@ impl<P: Pager> System<P> {
         limits: Limits,
         pagers: Vec<P>,
         processes: &[Process],
-    ) -> Result<System<P>, AllocError>
+    ) -> Result<System<P>, HostMemory>
+        requires none { start_error (map (λ p. length (P.content p)) pagers.items) processes.now ≡ None }
         ensures opening { IfOk result (λ s. s.opening ≡ record { limits = limits; areas = map (λ p. length (P.content p)) pagers.items; processes = processes.now }) }
         ensures calls { IfOk result (λ s. s.calls ≡ 0) }
         ensures machine { IfOk result (λ s. s.machine ≡ flat.start_of s.opening) }
     {
-        let areas = sizes_of(alloc, &pagers)?;
-        let machine = Machine {
-            alloc,
-            limits,
-            areas: areas_of(alloc, &areas)?,
-            table: Vec::new(alloc),
-            runners: runners_of(alloc, processes)?,
-        };
+        // What is read has a proof know its range.
+        let (_, _) = (limits.shmall(), limits.memlock());
         let opening = Opening {
             limits,
-            areas,
+            areas: sizes_of(alloc, &pagers)?,
             processes: Vec::from_slice(alloc, processes)?,
+        };
+        let machine = Machine {
+            limits,
+            segments: Segments::new(alloc, limits.frames() as u32, Swap::new(alloc, pagers)?)?,
+            spaces: Spaces::new(alloc, processes)?,
         };
         Ok(System {
             opening,
             calls: 0,
             machine,
-            pagers,
         })
     }
 
@@ -167,14 +137,17 @@ impl<P: Pager> System<P> {
         &self.opening
     }
 
+    #[tactic(auto, using(crate::proofs::Running::keeps_refl))]
     /// One call of a process, at the time that is its place among the calls. Want of memory changes
-    /// nothing and is not counted.
+    /// nothing and is not counted. Where a pager fails the reply says so in place of the flat machine's,
+    /// and nothing else changes.
     pub fn call(&mut self, pid: u32, call: &Call) -> Result<Reply, HostMemory>
         requires room { self.old.calls < 2 ^ 64 - 1 }
-        requires first { IsFirst call.now }
-        ensures step { IfOk result (λ r. step self.old.machine (self.old.calls + 1) pid call.now ≡ record { reply = r; state = self.new.machine }) }
+        ensures move_of { IfOk result (λ r. IsMove self.old.machine (self.old.calls + 1) (record { pid = pid; call = call.now; reply = r }) self.new.machine) }
+        ensures cause { IfOk result (λ r. is_failure call.now r ≡ true → had_cause self.old.memory.swap self.new.memory.swap ≡ true) }
         ensures counted { OnOk result (self.new.calls ≡ self.old.calls + 1) }
         ensures opening { self.new.opening ≡ self.old.opening }
+        ensures keeps { KeepsOn self.old.memory self.new.memory }
         ensures err { OnErr result (self.new ≡ self.old) }
         ensures no_memory { TakesNoMemory call.now → IsOk result }
     {
@@ -182,5 +155,44 @@ impl<P: Pager> System<P> {
         let reply = self.machine.call(time, pid, call)?;
         self.calls = time;
         Ok(reply)
+    }
+
+    /// Writes the first `n` dirty frames of segments that are not locked out to their slots. The flat
+    /// machine knows nothing of it.
+    pub fn flush(&mut self, n: u64) -> FlushReport
+        ensures rest { self.new ≡ record self.old { memory = self.new.memory } }
+        ensures flushed { IsFlushed self.old.memory self.new.memory n result }
+        ensures keeps { KeepsOn self.old.memory self.new.memory }
+    {
+        self.machine.flush(n)
+    }
+
+    /// The counts of the machine as they are, and of what its pagers did.
+    pub fn tally(&self) -> Tally
+        ensures { Counts self.now.calls self.now.machine self.now.memory result }
+    {
+        self.machine.tally(self.calls)
+    }
+
+    /// Nothing is done: what is told is true at every time.
+    pub fn is_exact(&self)
+        ensures { IsExactly self.now.machine self.now.memory }
+    {
+        self.machine.is_exact();
+    }
+
+    /// How many indexes of the table were ever used.
+    pub fn indexes(&self) -> u32
+        ensures { result ≡ length self.now.machine.table }
+    {
+        self.machine.indexes()
+    }
+
+    /// The segment at an index of the table as stat shows it, with no permission test. None only where no
+    /// segment holds the index.
+    pub fn segment(&self, index: u32) -> Option<(ShmId, ShmidDs)>
+        ensures { result ≡ segment_at self.now.machine index }
+    {
+        self.machine.segment(index)
     }
 }

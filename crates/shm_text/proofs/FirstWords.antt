@@ -1,11 +1,18 @@
 -- The first words of a line decide what it says.
-use Rattle.std.proofs.Common.{arith, ◌≡◌, ◌≤◌, ◌<◌, ◌+◌, refl, ℕ, List, [], ◌∷◌, take, length, eqb, get_or, Bool, true, false}
-use Rattle.std.specs.Prelude.{is_some}
+use Rattle.std.proofs.Common.{arith, ◌≡◌, ◌≤◌, ◌<◌, ◌+◌, refl, ℕ, List, take, length, eqb, Bool, true, false}
+use Rattle.std.specs.Prelude.{is_some, Result, Ok, Err}
+use Rattle.std.specs.Option.{ok_or}
 use Rattle.std.proofs.lemmas.Bool.Decides.{nat_tests}
 use Rattle.std.proofs.lemmas.List.{length-take}
 use Rattle.std.proofs.lemmas.Grind.{common_steps}
 use Rattle.shm_text.specs.Words.{word_at}
-use Rattle.shm_text.specs.Reading.{SeenView, limits_item, process_item, child_item, declaration, shmget_call, shmat_call, load_call, store_call, answer_call, plain_call, call_words, taker, command_item, body_item, words_item, is_skipped}
+use Rattle.shm_text.specs.declared.fault.FaultKind.{FaultKind}
+use Rattle.shm_text.specs.declared.fault.FaultKind.TheVariants.{BadLine}
+use Rattle.shm_text.specs.declared.calls.Verb.{Verb}
+use Rattle.shm_text.specs.declared.calls.Verb.TheVariants as verbs
+use Rattle.shm_text.specs.Operand.{◌>>=◌}
+use Rattle.shm_text.specs.Calls.{verb_of, operands, shmget_call, shmat_call, xadd_call, load_call, store_call, set_call, fork_call, swapoff_call, call_by, call_with, call_words}
+use Rattle.shm_text.specs.Reading.{SeenView, limits_item, process_item, child_item, declaration, taker, flush_item, command_item, body_item, words_item, is_skipped}
 
 pub short : (ws : List (List ℕ)) (k : ℕ) → k < 8 → eqb (length (take 8 ws)) k ≡ eqb (length ws) k
 short ws k h = rw length-take (grind (arith, nat_tests))
@@ -37,51 +44,82 @@ declaration-take seen ws =
       early ws 3 (omega arith),
     ) refl
 
-answer_call_1-take : (ws : List (List ℕ)) → answer_call (take 8 ws) 1 ≡ answer_call ws 1
-unfolding answer_call shmget_call shmat_call
-answer_call_1-take ws =
-    rw (
-      short ws 5 (omega arith),
-      early ws 1 (omega arith),
-      early ws 2 (omega arith),
-      early ws 3 (omega arith),
-      early ws 4 (omega arith),
-    ) refl
+-- the operands of a call stand among the first words
+call_by-take : (verb : Verb) (ws : List (List ℕ)) (i : ℕ) → i ≤ 4 → call_by verb (take 8 ws) i ≡ call_by verb ws i
+unfolding shmget_call shmat_call xadd_call load_call store_call set_call fork_call swapoff_call
+call_by-take verbs.Shmget ws i h = rw (early ws i (omega arith), early ws (i + 1) (omega arith), early ws (i + 2) (omega arith)) refl
+call_by-take verbs.Shmat ws i h = rw (early ws i (omega arith), early ws (i + 1) (omega arith), early ws (i + 2) (omega arith)) refl
+call_by-take verbs.Xadd ws i h = rw (early ws i (omega arith), early ws (i + 1) (omega arith)) refl
+call_by-take verbs.Shmdt ws i h = rw (early ws i (omega arith)) refl
+call_by-take verbs.Load ws i h = rw (early ws i (omega arith), early ws (i + 1) (omega arith)) refl
+call_by-take verbs.Store ws i h = rw (early ws i (omega arith), early ws (i + 1) (omega arith)) refl
+call_by-take verbs.Stat ws i h = rw (early ws i (omega arith)) refl
+call_by-take verbs.Set ws i h = rw (early ws i (omega arith), early ws (i + 1) (omega arith), early ws (i + 2) (omega arith), early ws (i + 3) (omega arith)) refl
+call_by-take verbs.Rmid ws i h = rw (early ws i (omega arith)) refl
+call_by-take verbs.Lock ws i h = rw (early ws i (omega arith)) refl
+call_by-take verbs.Unlock ws i h = rw (early ws i (omega arith)) refl
+call_by-take verbs.Fork ws i h = rw (early ws i (omega arith)) refl
+call_by-take verbs.Exec ws i h = refl
+call_by-take verbs.Exit ws i h = refl
+call_by-take verbs.Swapoff ws i h = rw (early ws i (omega arith)) refl
 
-answer_call_3-take : (ws : List (List ℕ)) → answer_call (take 8 ws) 3 ≡ answer_call ws 3
-unfolding answer_call shmget_call shmat_call
-answer_call_3-take ws =
-    rw (
-      short ws 7 (omega arith),
-      early ws 3 (omega arith),
-      early ws 4 (omega arith),
-      early ws 5 (omega arith),
-      early ws 6 (omega arith),
-    ) refl
+few_operands : (verb : Verb) → operands verb ≤ 4
+few_operands verbs.Shmget = omega arith
+few_operands verbs.Shmat = omega arith
+few_operands verbs.Xadd = omega arith
+few_operands verbs.Shmdt = omega arith
+few_operands verbs.Load = omega arith
+few_operands verbs.Store = omega arith
+few_operands verbs.Stat = omega arith
+few_operands verbs.Set = omega arith
+few_operands verbs.Rmid = omega arith
+few_operands verbs.Lock = omega arith
+few_operands verbs.Unlock = omega arith
+few_operands verbs.Fork = omega arith
+few_operands verbs.Exec = omega arith
+few_operands verbs.Exit = omega arith
+few_operands verbs.Swapoff = omega arith
 
-plain_call-take : (ws : List (List ℕ)) → plain_call (take 8 ws) ≡ plain_call ws
-unfolding plain_call load_call store_call
-plain_call-take ws =
-    rw (
-      answer_call_1-take ws,
-      short ws 4 (omega arith),
-      short ws 2 (omega arith),
-      early ws 1 (omega arith),
-      early ws 2 (omega arith),
-      early ws 3 (omega arith),
-    ) refl
+call_plain-take : (ws : List (List ℕ)) (found : Result Verb FaultKind) → (found >>= call_with (take 8 ws) false) ≡ (found >>= call_with ws false)
+call_plain-take ws (Err kind) = refl
+call_plain-take ws (Ok verb) = rw (short ws (1 + 1 + operands verb) (omega (arith, few_operands verb)), call_by-take verb ws 2 (omega arith)) refl
+
+-- a call that a variable takes has fewer operands
+call_taken-take : (ws : List (List ℕ)) (found : Result Verb FaultKind) → (found >>= call_with (take 8 ws) true) ≡ (found >>= call_with ws true)
+call_taken-take ws (Err kind) = refl
+call_taken-take ws (Ok verbs.Shmget) = rw (short ws 7 (omega arith), call_by-take verbs.Shmget ws 4 (omega arith)) refl
+call_taken-take ws (Ok verbs.Shmat) = rw (short ws 7 (omega arith), call_by-take verbs.Shmat ws 4 (omega arith)) refl
+call_taken-take ws (Ok verbs.Xadd) = rw (short ws 6 (omega arith), call_by-take verbs.Xadd ws 4 (omega arith)) refl
+call_taken-take ws (Ok verbs.Shmdt) = refl
+call_taken-take ws (Ok verbs.Load) = refl
+call_taken-take ws (Ok verbs.Store) = refl
+call_taken-take ws (Ok verbs.Stat) = refl
+call_taken-take ws (Ok verbs.Set) = refl
+call_taken-take ws (Ok verbs.Rmid) = refl
+call_taken-take ws (Ok verbs.Lock) = refl
+call_taken-take ws (Ok verbs.Unlock) = refl
+call_taken-take ws (Ok verbs.Fork) = refl
+call_taken-take ws (Ok verbs.Exec) = refl
+call_taken-take ws (Ok verbs.Exit) = refl
+call_taken-take ws (Ok verbs.Swapoff) = refl
 
 call_words-take : (ws : List (List ℕ)) (taken : Bool) → call_words (take 8 ws) taken ≡ call_words ws taken
-call_words-take ws false = plain_call-take ws
-call_words-take ws true = answer_call_3-take ws
+unfolding call_words
+call_words-take ws false = rw (early ws 1 (omega arith)) (call_plain-take ws (ok_or (verb_of (word_at ws 1)) BadLine))
+call_words-take ws true = rw (early ws 3 (omega arith)) (call_taken-take ws (ok_or (verb_of (word_at ws 3)) BadLine))
 
 taker-take : (ws : List (List ℕ)) → taker (take 8 ws) ≡ taker ws
 taker-take ws = rw (early ws 1 (omega arith), early ws 2 (omega arith)) refl
+
+flush_item-take : (ws : List (List ℕ)) → flush_item (take 8 ws) ≡ flush_item ws
+unfolding flush_item
+flush_item-take ws = rw (short ws 3 (omega arith), early ws 1 (omega arith), early ws 2 (omega arith)) refl
 
 command_item-take : (seen : SeenView) (ws : List (List ℕ)) → command_item seen (take 8 ws) ≡ command_item seen ws
 unfolding command_item
 command_item-take seen ws =
     rw (
+      flush_item-take ws,
       taker-take ws,
       call_words-take ws (is_some (taker ws)),
       early ws 0 (omega arith),

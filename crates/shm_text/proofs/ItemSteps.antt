@@ -1,5 +1,5 @@
 -- Reading line by line, from left to right.
-use Rattle.std.proofs.Common.{arith, rules, ◌≡◌, ◌≤◌, ◌<◌, ◌+◌, ◌++◌, ◌∙◌, ap, sym, refl, ℕ, List, [], ◌∷◌, true, false, Option, Some, None, Result, Ok, Err, Bool, cond, length, append_assoc, append-nil, length-append}
+use Rattle.std.proofs.Common.{arith, rules, ◌≡◌, ◌≤◌, ◌+◌, ◌++◌, ◌∙◌, ap, sym, refl, ℕ, List, [], ◌∷◌, true, false, Option, Some, None, Result, Ok, Err, Bool, cond, length, append_assoc, append-nil, length-append}
 use Rattle.std.specs.Prelude.{nat_lt, is_some, IsOk}
 use borrow.Author.Tests.{ltb-true, ltb-false, lt-ltb}
 use Rattle.shm_text.specs.declared.fault.FaultKind.{FaultKind}

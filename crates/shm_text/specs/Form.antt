@@ -1,15 +1,12 @@
 -- The forms of a script's lines: which values a command line may hold.
-use Rattle.std.specs.Prelude.{ℕ, Bool, true, false, not, ◌&&◌, ◌==◌, nat_le, nat_lt, is_some, List, Option, Some, None}
-use Rattle.shm_base.specs.Bounds.{Bounds, within}
-use Rattle.shm_base.specs.declared.call.Process.{Process}
+use Rattle.std.specs.Prelude.{ℕ, Bool, true, false, ◌&&◌, ◌==◌, nat_le, nat_lt, bit_and, is_some, Option}
+use Rattle.shm_base.specs.Bounds.{within}
 use Rattle.shm_base.specs.declared.flags.GetFlags.{GetFlags}
 use Rattle.shm_base.specs.declared.flags.AtFlags.{AtFlags}
 use Rattle.shm_text.specs.declared.script.LineId.{LineId}
 use Rattle.shm_text.specs.declared.script.LineId.TheVariants as ids
-use Rattle.shm_text.specs.declared.script.LineAddr.{LineAddr}
-use Rattle.shm_text.specs.declared.script.LineAddr.TheVariants as addrs
 use Rattle.shm_text.specs.declared.script.LineCall.{LineCall}
-use Rattle.shm_text.specs.declared.script.LineCall.TheVariants.{Shmget, Shmat, Load, Store, Exit}
+use Rattle.shm_text.specs.declared.script.LineCall.TheVariants.{Shmget, Shmat, Shmdt, Stat, Set, Rmid, Lock, Unlock, Load, Store, Xadd, Fork, Exec, Exit, Swapoff}
 
 -- a command line
 pub record CommandView : Type 0 where
@@ -26,24 +23,37 @@ abbrev pub is_id : LineId → Bool
 is_id (ids.Number n) = nat_le n 2147483647
 is_id (ids.Var v) = true
 
-abbrev pub is_null : LineAddr → Bool
-is_null (addrs.Number n) = n == 0
-is_null (addrs.Var v) = false
-is_null (addrs.Sum v n) = false
+-- no other flags than those of shmget
+abbrev pub is_get_flags : GetFlags → Bool
+is_get_flags flags = bit_and flags.0 1536 == flags.0
 
--- the calls that are served, with what their words may hold
+-- no other flags than those of shmat
+abbrev pub is_at_flags : AtFlags → Bool
+is_at_flags flags = bit_and flags.0 28672 == flags.0
+
+-- what the words of each call may hold
 abbrev pub is_call : LineCall → Bool
-is_call (Shmget key size mode flags) = (key == 0) && nat_lt mode 512 && (flags.0 == 0)
-is_call (Shmat id addr flags) = is_id id && is_null addr && (flags.0 == 0)
+is_call (Shmget key size mode flags) = nat_lt mode 512 && is_get_flags flags
+is_call (Shmat id addr flags) = is_id id && is_at_flags flags
+is_call (Shmdt addr) = true
+is_call (Stat id) = is_id id
+is_call (Set id uid gid mode) = is_id id && nat_lt mode 512
+is_call (Rmid id) = is_id id
+is_call (Lock id) = is_id id
+is_call (Unlock id) = is_id id
 is_call (Load addr len) = true
 is_call (Store addr bytes) = true
+is_call (Xadd addr add) = true
+is_call (Fork child) = is_pid child
+is_call Exec = true
 is_call Exit = true
-is_call _ = false
+is_call (Swapoff area) = nat_le area 7
 
 -- the calls whose answer a variable may take
 abbrev pub has_answer : LineCall → Bool
 has_answer (Shmget key size mode flags) = true
 has_answer (Shmat id addr flags) = true
+has_answer (Xadd addr add) = true
 has_answer _ = false
 
 -- a variable stands before a call that has an answer

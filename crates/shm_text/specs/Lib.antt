@@ -4,6 +4,6 @@ pub mod Form
 pub mod Script
 pub mod Operand
 pub mod Fault
+pub mod Calls
 pub mod Reading
 pub mod Variables
-pub mod Text

@@ -1,10 +1,13 @@
 -- The operands of a line: what a word says, or that it can't be read, and then its range.
-use Rattle.std.specs.Prelude.{ℕ, ◌+◌, ◌-◌, ◌*◌, ◌^◌, Bool, ◌==◌, ◌&&◌, nat_le, List, length, drop, Option, Some, None, Result, Ok, Err, slice_index, codes, if◌then◌else◌}
+use Rattle.std.specs.Prelude.{ℕ, ◌+◌, ◌-◌, ◌*◌, ◌^◌, Bool, ◌==◌, ◌&&◌, ◌||◌, nat_le, List, length, drop, count_by, Option, Some, None, Result, Ok, Err, slice_index, codes, if◌then◌else◌}
+use Rattle.std.specs.List.{slice_split}
 use Rattle.std.specs.Str.{bytes_eq}
 use Rattle.std.specs.Option.{ok_or}
 use Rattle.hex.specs.Hex.{decode_of}
 use Rattle.hex.specs.declared.error.FromHexError.{FromHexError}
 use Rattle.shm_base.specs.Bounds.{within}
+use Rattle.shm_base.specs.declared.flags.GetFlags.{GetFlags}
+use Rattle.shm_base.specs.declared.flags.AtFlags.{AtFlags}
 use Rattle.shm_text.specs.declared.fault.FaultKind.{FaultKind}
 use Rattle.shm_text.specs.declared.fault.FaultKind.TheVariants.{BadLine, BadNumber}
 use Rattle.shm_text.specs.declared.number.Number.{Number}
@@ -36,6 +39,10 @@ ranged low high TooLarge = Err BadNumber
 -- a number of 64 bits
 abbrev pub any : Number → Result ℕ FaultKind
 any n = ranged 0 (2 ^ 64 - 1) n
+
+-- a key: `private`, which is 0, or a number
+abbrev pub key_word : List ℕ → Result Number FaultKind
+key_word w = if bytes_eq w (codes "private") then Ok (Fits 0) else wanted w
 
 -- the variable of a word's first letter
 abbrev pub letter_of : List ℕ → Option ℕ
@@ -78,6 +85,36 @@ mode_from w = 64 * (slice_index w 0 - 48) + 8 * (slice_index w 1 - 48) + (slice_
 
 abbrev pub mode_word : List ℕ → Result ℕ FaultKind
 mode_word w = if is_mode w then Ok (mode_from w) else Err BadLine
+
+-- what stands behind a mode: each flag of shmget at most once, in either order
+abbrev pub get_flags_word : List ℕ → Result GetFlags FaultKind
+get_flags_word w =
+    if length w == 0 then Ok (record { 0 = 0 }) else
+    if bytes_eq w (codes ",creat") then Ok (record { 0 = 512 }) else
+    if bytes_eq w (codes ",excl") then Ok (record { 0 = 1024 }) else
+    if bytes_eq w (codes ",creat,excl") || bytes_eq w (codes ",excl,creat") then Ok (record { 0 = 1536 }) else
+    Err BadLine
+
+-- the names of a list with commas
+abbrev pub names_of : List ℕ → List (List ℕ)
+names_of w = slice_split (λ b. b == 44) w
+
+-- how often a name stands in such a list
+abbrev pub times : List ℕ → List ℕ → ℕ
+times w name = count_by (λ n. bytes_eq n name) (names_of w)
+
+-- a list of so many of each name and of no other, with each at most once
+abbrev pub flags_by : ℕ → ℕ → ℕ → ℕ → Result AtFlags FaultKind
+flags_by rdonly rnd remap all =
+    if nat_le rdonly 1 && nat_le rnd 1 && nat_le remap 1 && (rdonly + rnd + remap == all)
+    then Ok (record { 0 = 4096 * rdonly + 8192 * rnd + 16384 * remap })
+    else Err BadLine
+
+-- the flags of shmat: `-`, or a list of names
+abbrev pub at_flags_word : List ℕ → Result AtFlags FaultKind
+at_flags_word w =
+    if bytes_eq w (codes "-") then Ok (record { 0 = 0 }) else
+    flags_by (times w (codes "rdonly")) (times w (codes "rnd")) (times w (codes "remap")) (length (names_of w))
 
 -- 1 to 64 bytes in hexadecimal digits
 abbrev pub chunk_by : Result (List ℕ) FromHexError → Result (List ℕ) FaultKind

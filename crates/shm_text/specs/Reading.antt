@@ -1,27 +1,25 @@
 -- What the lines of a script say, and the first fault.
-use Rattle.std.specs.Prelude.{ℕ, ◌+◌, ◌-◌, ◌^◌, Bool, true, false, ◌==◌, ◌&&◌, ◌||◌, not, List, [], ◌∷◌, ◌++◌, length, map, Option, Some, None, Result, Ok, Err, IsOk, ◌≡◌, nat_le, nat_lt, ◌<◌, is_some, slice_index, codes, if◌then◌else◌}
+use Rattle.std.specs.Prelude.{ℕ, ◌+◌, Bool, ◌==◌, ◌&&◌, ◌||◌, not, List, [], ◌∷◌, ◌++◌, length, Option, Some, None, Result, Ok, Err, IsOk, ◌≡◌, nat_le, nat_lt, ◌<◌, is_some, slice_index, codes, if◌then◌else◌}
 use Rattle.std.specs.List.{list_all, list_any}
 use Rattle.std.specs.Str.{bytes_eq}
 use Rattle.shm_base.specs.Bounds.{Bounds, limits_of}
 use Rattle.shm_base.specs.declared.limits.BadLimits.{BadLimits as BadBounds}
-use Rattle.shm_base.specs.declared.owner.Cred.{Cred}
 use Rattle.shm_base.specs.declared.call.Process.{Process as Declared}
 use Rattle.shm_text.specs.declared.fault.FaultKind.{FaultKind}
-use Rattle.shm_text.specs.declared.fault.FaultKind.TheVariants.{TooLong, BadByte, NoLimits, BadLine, BadNumber, BadLimits, UnknownProcess, Twice, TooMany}
+use Rattle.shm_text.specs.declared.fault.FaultKind.TheVariants.{TooLong, BadByte, NoLimits, BadLine, BadLimits, UnknownProcess, Twice, TooMany}
 use Rattle.shm_text.specs.declared.fault.ScriptFault.{ScriptFault}
 use Rattle.shm_text.specs.declared.fault.ReadRefused.{ReadRefused}
 use Rattle.shm_text.specs.declared.fault.ReadRefused.TheVariants as refused
 use Rattle.shm_text.specs.declared.script.LineCall.{LineCall}
-use Rattle.shm_text.specs.declared.script.LineCall.TheVariants.{Shmget, Shmat, Load, Store, Exit}
+use Rattle.shm_text.specs.declared.script.LineCall.TheVariants.{Fork}
 use Rattle.shm_text.specs.declared.script.Line.{Line}
 use Rattle.shm_text.specs.declared.script.Line.TheVariants as lines
 use Rattle.shm_text.specs.declared.script.Item.{Item}
 use Rattle.shm_text.specs.declared.script.Item.TheVariants as items
-use Rattle.shm_text.specs.declared.script.LineAddr.TheVariants as addrs
 use Rattle.shm_text.specs.Script.{ScriptView}
-use Rattle.shm_text.specs.Form.{CommandView}
 use Rattle.shm_text.specs.declared.number.Number.{Number}
-use Rattle.shm_text.specs.Operand.{◌>>=◌, wanted, ranged, any, letter_of, id_word, ranged_id, addr_word, ranged_addr, mode_word, chunk_word}
+use Rattle.shm_text.specs.Calls.{call_words}
+use Rattle.shm_text.specs.Operand.{◌>>=◌, wanted, ranged, any, letter_of}
 use Rattle.shm_text.specs.Words.{is_allowed, words_of, lines_of, word_at}
 
 -- what the lines above a line said
@@ -33,10 +31,6 @@ pub record SeenView : Type 0 where
 -- whether the word at a place is this one
 abbrev pub has : List (List ℕ) → ℕ → List ℕ → Bool
 has ws i text = bytes_eq (word_at ws i) text
-
--- a word that has to be this one
-abbrev pub demanded : List (List ℕ) → ℕ → List ℕ → Result (Unit {0}) FaultKind
-demanded ws i text = if has ws i text then Ok tt else Err BadLine
 
 -- LIMITS AND PROCESSES
 
@@ -91,53 +85,6 @@ declaration seen ws =
     if has ws 0 (codes "process") then process_item seen ws else
     child_item seen ws
 
--- CALLS: a call's word stands at i. Each of these is served; any other word is a bad line
-
-unfoldable pub shmget_call : List (List ℕ) → ℕ → Result LineCall FaultKind
-shmget_call ws i = do
-  key ← demanded ws (i + 1) (codes "private")
-  size ← wanted (word_at ws (i + 2))
-  mode ← mode_word (word_at ws (i + 3))
-  size ← any size
-  Ok (Shmget 0 size mode (record { 0 = 0 }))
-
-unfoldable pub shmat_call : List (List ℕ) → ℕ → Result LineCall FaultKind
-shmat_call ws i = do
-  id ← id_word (word_at ws (i + 1))
-  addr ← demanded ws (i + 2) (codes "null")
-  flags ← demanded ws (i + 3) (codes "-")
-  id ← ranged_id id
-  Ok (Shmat id (addrs.Number 0) (record { 0 = 0 }))
-
-unfoldable pub load_call : List (List ℕ) → Result LineCall FaultKind
-load_call ws = do
-  addr ← addr_word (word_at ws 2)
-  len ← wanted (word_at ws 3)
-  addr ← ranged_addr addr
-  len ← ranged 1 64 len
-  Ok (Load addr len)
-
-unfoldable pub store_call : List (List ℕ) → Result LineCall FaultKind
-store_call ws = do
-  addr ← addr_word (word_at ws 2)
-  bytes ← chunk_word (word_at ws 3)
-  addr ← ranged_addr addr
-  Ok (Store addr bytes)
-
--- a call whose answer a variable may take
-unfoldable pub answer_call : List (List ℕ) → ℕ → Result LineCall FaultKind
-answer_call ws i =
-    if length ws == i + 4 && has ws i (codes "shmget") then shmget_call ws i else
-    if length ws == i + 4 && has ws i (codes "shmat") then shmat_call ws i else
-    Err BadLine
-
-unfoldable pub plain_call : List (List ℕ) → Result LineCall FaultKind
-plain_call ws =
-    if length ws == 4 && has ws 1 (codes "load") then load_call ws else
-    if length ws == 4 && has ws 1 (codes "store") then store_call ws else
-    if length ws == 2 && has ws 1 (codes "exit") then Ok Exit else
-    answer_call ws 1
-
 -- COMMANDS
 
 abbrev pub command_of : ℕ → Option ℕ → LineCall → Item
@@ -147,29 +94,38 @@ command_of pid var call = items.Line (lines.Command (record { pid = pid; var = v
 abbrev pub taker : List (List ℕ) → Option ℕ
 taker ws = if (length (word_at ws 1) == 1) && has ws 2 (codes "=") then letter_of (word_at ws 1) else None
 
-abbrev pub call_words : List (List ℕ) → Bool → Result LineCall FaultKind
-call_words ws false = plain_call ws
-call_words ws true = answer_call ws 3
-
 -- a pid that was declared above
 abbrev pub known : SeenView → ℕ → Result (Unit {0}) FaultKind
 known seen pid = if is_declared seen pid then Ok tt else Err UnknownProcess
 
-abbrev pub declared_pid : SeenView → Number → Result ℕ FaultKind
-declared_pid seen pid = do
+-- the child of a fork was declared above
+abbrev pub known_child : SeenView → LineCall → Result (Unit {0}) FaultKind
+known_child seen (Fork child) = known seen child
+known_child seen _ = Ok tt
+
+abbrev pub declared_pid : SeenView → Number → LineCall → Result ℕ FaultKind
+declared_pid seen pid call = do
   pid ← ranged 1 2147483647 pid
   there ← known seen pid
+  child ← known_child seen call
   Ok pid
 
 abbrev pub command : SeenView → Number → Option ℕ → List (List ℕ) → Result Item FaultKind
 command seen pid var ws = do
   call ← call_words ws (is_some var)
-  pid ← declared_pid seen pid
+  pid ← declared_pid seen pid call
   Ok (command_of pid var call)
 
--- `0` is no pid
+-- a flush round of so many pages at most
+unfoldable pub flush_item : List (List ℕ) → Result Item FaultKind
+flush_item ws = if (length ws == 3) && has ws 1 (codes "flush") then (do
+  pages ← wanted (word_at ws 2)
+  pages ← ranged 1 4096 pages
+  Ok (items.Line (lines.Flush pages))) else Err BadLine
+
+-- the word `0` is no pid, and stands before `flush` alone
 unfoldable pub command_item : SeenView → List (List ℕ) → Result Item FaultKind
-command_item seen ws = if has ws 0 (codes "0") then Err BadLine else (do
+command_item seen ws = if has ws 0 (codes "0") then flush_item ws else (do
   pid ← wanted (word_at ws 0)
   command seen pid (taker ws) ws)
 
@@ -278,6 +234,10 @@ HasPlace seen _ = Unit {0}
 abbrev pub HasPlaceFor : SeenView → Option Item → Type 0
 HasPlaceFor seen None = Unit {0}
 HasPlaceFor seen (Some item) = HasPlace seen item
+
+abbrev pub IsLine : Item → Type 0
+IsLine (items.Line l) = Unit {0}
+IsLine _ = ⊥
 
 abbrev pub IsLimits : Item → Type 0
 IsLimits (items.Limits b) = Unit {0}

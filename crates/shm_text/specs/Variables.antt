@@ -1,5 +1,5 @@
 -- The variables of a process, and what a line's call is with them.
-use Rattle.std.specs.Prelude.{ℕ, ◌+◌, ◌-◌, ◌%◌, ◌^◌, ℤ, pos, negsuc, Bool, nat_le, if◌then◌else◌, List, Option, Some, None, get_or, set, replicate}
+use Rattle.std.specs.Prelude.{ℕ, ◌+◌, ◌-◌, ◌%◌, ◌^◌, ℤ, pos, negsuc, nat_le, if◌then◌else◌, List, Option, Some, None, get_or, set, replicate}
 use Rattle.shm_base.specs.declared.call.Call.{Call}
 use Rattle.shm_base.specs.declared.call.Call.TheVariants as calls
 use Rattle.shm_base.specs.declared.call.Reply.{Reply}

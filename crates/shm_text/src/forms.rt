@@ -1,38 +1,19 @@
 //! The forms of lines.
-ghost use Rattle.std.specs.Prelude.{◌≡◌, ◌<◌, ◌≤◌, ◌+◌, length, true, false, IfOk};
-ghost use Rattle.shm_text.specs.Words.{word_at};
-ghost use Rattle.shm_text.specs.Form.{is_pid, is_call, has_answer, is_answer_taken};
-ghost use Rattle.shm_text.specs.Reading.{demanded, limits_item, process_item, child_item, declared, declaration, shmget_call, shmat_call, load_call, store_call, answer_call, plain_call, taker, call_words, known, declared_pid, command, command_item, body_item, words_item, line_item, is_skipped, HasPlace, HasPlaceFor, IsLimits};
+ghost use Rattle.std.specs.Prelude.{◌≡◌, ◌<◌, ◌≤◌, length, true, false, IfOk};
+ghost use Rattle.shm_text.specs.Form.{is_pid};
+ghost use Rattle.shm_text.specs.Reading.{limits_item, process_item, child_item, declared, declaration, taker, known, known_child, declared_pid, command, flush_item, command_item, body_item, words_item, line_item, is_skipped, HasPlace, HasPlaceFor, IsLimits, IsLine};
 
+use crate::calls::{LAST_PID, call_words};
 use crate::fault::FaultKind;
 use crate::number::Number;
-use crate::operand::{
-    addr_word, any, chunk_word, first_letter, id_word, mode_word, ranged, ranged_addr, ranged_id,
-    wanted,
-};
+use crate::operand::{any, first_letter, ranged, wanted};
 use crate::reading::Seen;
-use crate::script::{Command, Item, Line, LineAddr, LineCall, Variable};
+use crate::script::{Command, FlushLine, Item, Line, LineCall, Variable};
 use crate::words::{Words, all_allowed};
-use bitflags::Flags;
-use shm_base::{AccessLen, AtFlags, Cred, GetFlags, Limits, Process};
-
-/// The largest pid.
-const LAST_PID: u32 = 2_147_483_647;
+use shm_base::{Cred, Limits, Process};
 
 /// The most command lines of a script.
 const MOST_COMMANDS: u32 = 100_000;
-
-// A word that has to be this one.
-fn demand(words: &Words<'_>, index: usize, word: &[u8]) -> Result<(), FaultKind>
-    requires { index < length words.now }
-    ensures { result ≡ demanded words.now index word.now }
-{
-    if words.is(index, word) {
-        Ok(())
-    } else {
-        Err(FaultKind::BadLine)
-    }
-}
 
 #[tactic(auto, unfolding(crate::specs::Reading::limits_item))]
 fn limits_item(words: &Words<'_>) -> Result<Item, FaultKind>
@@ -118,113 +99,6 @@ fn declaration(seen: &Seen, words: &Words<'_>) -> Result<Item, FaultKind>
     }
 }
 
-#[tactic(auto, unfolding(crate::specs::Reading::shmget_call))]
-fn shmget_call(words: &Words<'_>, index: usize) -> Result<LineCall, FaultKind>
-    requires small { index ≤ 3 }
-    requires words { index + 4 ≡ length words.now }
-    ensures value { result ≡ shmget_call words.now index }
-    ensures form { IfOk result (λ c. is_call c ≡ true) }
-    ensures answer { IfOk result (λ c. has_answer c ≡ true) }
-{
-    demand(words, index + 1, b"private")?;
-    let size = wanted(words.at(index + 2))?;
-    let mode = mode_word(words.at(index + 3))?;
-    let size = any(size)?;
-    Ok(LineCall::Shmget {
-        key: 0,
-        size,
-        mode,
-        flags: GetFlags::empty(),
-    })
-}
-
-#[tactic(auto, unfolding(crate::specs::Reading::shmat_call))]
-fn shmat_call(words: &Words<'_>, index: usize) -> Result<LineCall, FaultKind>
-    requires small { index ≤ 3 }
-    requires words { index + 4 ≡ length words.now }
-    ensures value { result ≡ shmat_call words.now index }
-    ensures form { IfOk result (λ c. is_call c ≡ true) }
-    ensures answer { IfOk result (λ c. has_answer c ≡ true) }
-{
-    let id = id_word(words.at(index + 1))?;
-    demand(words, index + 2, b"null")?;
-    demand(words, index + 3, b"-")?;
-    let id = ranged_id(id)?;
-    Ok(LineCall::Shmat {
-        id,
-        addr: LineAddr::Number(0),
-        flags: AtFlags::empty(),
-    })
-}
-
-// The number of bytes of an access.
-fn access_len(len: u32) -> AccessLen
-    requires { (1 ≤ len) × (len ≤ 64) }
-    ensures { result ≡ len }
-{
-    AccessLen::new(len as u64).unwrap()
-}
-
-#[tactic(auto, unfolding(crate::specs::Reading::load_call))]
-fn load_call(words: &Words<'_>) -> Result<LineCall, FaultKind>
-    requires { length words.now ≡ 4 }
-    ensures value { result ≡ load_call words.now }
-    ensures form { IfOk result (λ c. is_call c ≡ true) }
-{
-    let addr = addr_word(words.at(2))?;
-    let len = wanted(words.at(3))?;
-    let addr = ranged_addr(addr)?;
-    let len = ranged(len, 1, 64)?;
-    Ok(LineCall::Load {
-        addr,
-        len: access_len(len),
-    })
-}
-
-#[tactic(auto, unfolding(crate::specs::Reading::store_call))]
-fn store_call(words: &Words<'_>) -> Result<LineCall, FaultKind>
-    requires { length words.now ≡ 4 }
-    ensures value { result ≡ store_call words.now }
-    ensures form { IfOk result (λ c. is_call c ≡ true) }
-{
-    let addr = addr_word(words.at(2))?;
-    let chunk = chunk_word(words.at(3))?;
-    let addr = ranged_addr(addr)?;
-    Ok(LineCall::Store { addr, chunk })
-}
-
-#[tactic(auto, unfolding(crate::specs::Reading::answer_call))]
-fn answer_call(words: &Words<'_>, index: usize) -> Result<LineCall, FaultKind>
-    requires { index ≤ 3 }
-    ensures value { result ≡ answer_call words.now index }
-    ensures form { IfOk result (λ c. is_call c ≡ true) }
-    ensures answer { IfOk result (λ c. has_answer c ≡ true) }
-{
-    if words.len() == index + 4 && words.is(index, b"shmget") {
-        shmget_call(words, index)
-    } else if words.len() == index + 4 && words.is(index, b"shmat") {
-        shmat_call(words, index)
-    } else {
-        Err(FaultKind::BadLine)
-    }
-}
-
-#[tactic(auto, unfolding(crate::specs::Reading::plain_call))]
-fn plain_call(words: &Words<'_>) -> Result<LineCall, FaultKind>
-    ensures value { result ≡ plain_call words.now }
-    ensures form { IfOk result (λ c. is_call c ≡ true) }
-{
-    if words.len() == 4 && words.is(1, b"load") {
-        load_call(words)
-    } else if words.len() == 4 && words.is(1, b"store") {
-        store_call(words)
-    } else if words.len() == 2 && words.is(1, b"exit") {
-        Ok(LineCall::Exit)
-    } else {
-        answer_call(words, 1)
-    }
-}
-
 // The variable that takes the answer.
 fn taker(words: &Words<'_>) -> Option<Variable>
     ensures { result ≡ taker words.now }
@@ -233,19 +107,6 @@ fn taker(words: &Words<'_>) -> Option<Variable>
         first_letter(words.at(1))
     } else {
         None
-    }
-}
-
-// The call of a line, behind a variable and `=` or not.
-fn call_words(words: &Words<'_>, taken: bool) -> Result<LineCall, FaultKind>
-    ensures value { result ≡ call_words words.now taken }
-    ensures form { IfOk result (λ c. is_call c ≡ true) }
-    ensures answer { IfOk result (λ c. is_answer_taken taken c ≡ true) }
-{
-    if taken {
-        answer_call(words, 3)
-    } else {
-        plain_call(words)
     }
 }
 
@@ -259,13 +120,24 @@ fn known(seen: &Seen, pid: u32) -> Result<(), FaultKind>
     }
 }
 
-// A pid that was declared above.
-fn declared_pid(seen: &Seen, pid: Number) -> Result<u32, FaultKind>
-    ensures value { result ≡ declared_pid seen.now pid }
+// The child of a fork has to be declared above too.
+fn known_child(seen: &Seen, call: &LineCall) -> Result<(), FaultKind>
+    ensures { result ≡ known_child seen.now call.now }
+{
+    match call {
+        LineCall::Fork { child } => known(seen, *child),
+        _ => Ok(()),
+    }
+}
+
+// The pid of a line, whose processes have to be declared above.
+fn declared_pid(seen: &Seen, pid: Number, call: &LineCall) -> Result<u32, FaultKind>
+    ensures value { result ≡ declared_pid seen.now pid call.now }
     ensures range { IfOk result (λ p. is_pid p ≡ true) }
 {
     let pid = ranged(pid, 1, LAST_PID)?;
     known(seen, pid)?;
+    known_child(seen, call)?;
     Ok(pid)
 }
 
@@ -280,10 +152,31 @@ fn command(
     ensures place { IfOk result (λ item. HasPlace seen.now item) }
 {
     let call = call_words(words, var.is_some())?;
-    match declared_pid(seen, pid) {
+    match declared_pid(seen, pid, &call) {
         Ok(pid) => Ok(Item::Line(Line::Command(Command { pid, var, call }))),
         Err(kind) => Err(kind),
     }
+}
+
+fn flush_line(pages: u32) -> FlushLine
+    requires { (1 ≤ pages) × (pages ≤ 4096) }
+    ensures { result ≡ pages }
+{
+    FlushLine::new(pages as u64).unwrap()
+}
+
+// The line of a flush round.
+#[tactic(auto, unfolding(crate::specs::Reading::flush_item))]
+fn flush_item(words: &Words<'_>) -> Result<Item, FaultKind>
+    ensures value { result ≡ flush_item words.now }
+    ensures place { IfOk result IsLine }
+{
+    if words.len() != 3 || !words.is(1, b"flush") {
+        return Err(FaultKind::BadLine);
+    }
+    let pages = wanted(words.at(2))?;
+    let pages = ranged(pages, 1, 4096)?;
+    Ok(Item::Line(Line::Flush(flush_line(pages))))
 }
 
 #[tactic(auto, unfolding(crate::specs::Reading::command_item))]
@@ -293,7 +186,7 @@ fn command_item(seen: &Seen, words: &Words<'_>) -> Result<Item, FaultKind>
     ensures place { IfOk result (λ item. HasPlace seen.now item) }
 {
     if words.is(0, b"0") {
-        return Err(FaultKind::BadLine);
+        return flush_item(words);
     }
     let pid = wanted(words.at(0))?;
     command(seen, pid, taker(words), words)

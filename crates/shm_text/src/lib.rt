@@ -1,7 +1,7 @@
-//! The script language: reading a script, its variables, and the text of events and replies.
+//! The script language: reading a script, and the variables of its processes.
 #![tactic(auto)]
 
-mod event;
+mod calls;
 mod fault;
 mod forms;
 mod lines;
@@ -14,7 +14,6 @@ mod tests;
 mod variables;
 mod words;
 
-pub use event::{call_text, event_text, reply_text};
 pub use fault::{FaultKind, ReadRefused, ScriptFault};
 pub use number::read_decimal;
 pub use reading::read_script;

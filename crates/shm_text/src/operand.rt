@@ -1,14 +1,15 @@
 //! The operands of a line: a word each. What can't be read at all is a bad line; ranges are tested
 //! afterwards, so that a bad line comes before a bad number.
-ghost use Rattle.std.specs.Prelude.{◌≡◌, ◌≤◌, ◌<◌, ◌^◌, ℕ, length, slice_index, drop, Ok, IfOk, Some};
-ghost use Rattle.shm_text.specs.Operand.{wanted, ranged, any, letter_of, addr_by, id_word, id_by, addr_word, ranged_id, ranged_addr, is_mode, mode_word, mode_from, chunk_word};
-ghost use Rattle.shm_text.specs.Form.{is_id};
-ghost use Rattle.std.specs.Prelude.{true};
+ghost use Rattle.std.specs.Prelude.{◌≡◌, ◌≤◌, ◌<◌, ◌^◌, ◌==◌, ℕ, true, length, slice_index, drop, Ok, IfOk, Some};
+ghost use Rattle.std.specs.Str.{bytes_eq};
+ghost use Rattle.shm_text.specs.Operand.{wanted, ranged, any, key_word, letter_of, addr_by, id_word, id_by, addr_word, ranged_id, ranged_addr, is_mode, mode_word, mode_from, get_flags_word, names_of, times, flags_by, at_flags_word, chunk_word};
+ghost use Rattle.shm_text.specs.Form.{is_id, is_get_flags, is_at_flags};
 
 use crate::fault::FaultKind;
 use crate::number::{Number, read_number};
 use crate::script::{LineAddr, LineId, Variable};
-use shm_base::Chunk;
+use bitflags::Flags;
+use shm_base::{AtFlags, Chunk, GetFlags};
 
 /// An identifier before its range is tested.
 #[derive(Clone, Copy)]
@@ -51,6 +52,16 @@ pub(crate) fn any(number: Number) -> Result<u64, FaultKind>
         Number::Fits(n) => Ok(n),
         Number::TooLarge => Err(FaultKind::BadNumber),
     }
+}
+
+/// A word that has to be a key.
+pub(crate) fn key_word(word: &[u8]) -> Result<Number, FaultKind>
+    ensures { result ≡ key_word word.now }
+{
+    if word == b"private".as_slice() {
+        return Ok(Number::Fits(0));
+    }
+    wanted(word)
 }
 
 /// The variable of a word's first letter.
@@ -153,6 +164,66 @@ pub(crate) fn mode_word(word: &[u8]) -> Result<u16, FaultKind>
         }
         _ => Err(FaultKind::BadLine),
     }
+}
+
+/// What stands behind a mode: the flags of shmget, each at most once and behind a comma.
+#[tactic(auto, unfolding(bitflags::proofs::OnLiterals::bitflags_on_literals))]
+pub(crate) fn get_flags_word(word: &[u8]) -> Result<GetFlags, FaultKind>
+    ensures value { result ≡ get_flags_word word.now }
+    ensures form { IfOk result (λ flags. is_get_flags flags ≡ true) }
+{
+    if word.is_empty() {
+        Ok(GetFlags::empty())
+    } else if word == b",creat".as_slice() {
+        Ok(GetFlags::CREAT)
+    } else if word == b",excl".as_slice() {
+        Ok(GetFlags::EXCL)
+    } else if word == b",creat,excl".as_slice() || word == b",excl,creat".as_slice() {
+        Ok(GetFlags::all())
+    } else {
+        Err(FaultKind::BadLine)
+    }
+}
+
+// How many names a list with commas has.
+fn names(word: &[u8]) -> usize
+    ensures { result ≡ length (names_of word.now) }
+{
+    word.split(|b| *b == b',').count()
+}
+
+// How often a name stands in a list with commas.
+fn times(word: &[u8], name: &[u8]) -> usize
+    ensures { result ≡ times word.now name.now }
+{
+    word.split(|b| *b == b',').filter(|n| *n == name).count()
+}
+
+/// A word that has to be flags of shmat: `-`, or a list of names, each at most once.
+pub(crate) fn at_flags_word(word: &[u8]) -> Result<AtFlags, FaultKind>
+    ensures value { result ≡ at_flags_word word.now }
+    ensures form { IfOk result (λ flags. is_at_flags flags ≡ true) }
+{
+    if word == b"-".as_slice() {
+        return Ok(AtFlags::empty());
+    }
+    let rdonly = times(word, b"rdonly");
+    let rnd = times(word, b"rnd");
+    let remap = times(word, b"remap");
+    if rdonly > 1 || rnd > 1 || remap > 1 || rdonly + rnd + remap != names(word) {
+        return Err(FaultKind::BadLine);
+    }
+    let mut flags = AtFlags::empty();
+    if rdonly == 1 {
+        flags.insert(AtFlags::RDONLY);
+    }
+    if rnd == 1 {
+        flags.insert(AtFlags::RND);
+    }
+    if remap == 1 {
+        flags.insert(AtFlags::REMAP);
+    }
+    Ok(flags)
 }
 
 /// 1 to 64 bytes in hexadecimal digits of either case.

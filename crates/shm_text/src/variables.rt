@@ -1,7 +1,6 @@
 //! The variables of a process.
 ghost use Rattle.std.specs.Prelude.{◌≡◌, ◌-◌, ◌^◌, ◌<◌, ◌≤◌, List, Option, ℕ, ◌%◌, ◌+◌};
 ghost use Rattle.std.specs.Option.{option_copied};
-ghost use Rattle.shm_life.specs.SystemState.{IsFirst};
 ghost use Rattle.std.specs.Prelude.{true};
 ghost use Rattle.shm_text.specs.Form.{is_id};
 ghost use Rattle.shm_text.specs.Variables.{no_values, value_at, id_of, id_from, addr_of, addr_from, call_of, number_in, values_after};
@@ -94,8 +93,7 @@ impl Vars {
 
     /// The call that a command line makes now.
     pub fn call(&self, command: &Command) -> Call
-        ensures value { result ≡ call_of self.now command.now.call }
-        ensures served { IsFirst result }
+        ensures { result ≡ call_of self.now command.now.call }
     {
         match command.call() {
             LineCall::Shmget {

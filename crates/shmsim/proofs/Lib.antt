@@ -1,1 +1,2 @@
 pub mod Holders
+mod Causes

@@ -3,13 +3,16 @@ use Rattle.std.specs.Prelude.{ℕ, List, ◌++◌, codes}
 use Rattle.std.specs.Fmt.{decimal}
 use Rattle.shm_text.specs.Fault.{kind_text}
 use Rattle.shmsim.specs.declared.serial.RunFault.{RunFault}
-use Rattle.shmsim.specs.declared.serial.RunFault.TheVariants.{Script, StartRefused, ReadFailed, WriteFailed, HostMemory}
+use Rattle.shmsim.specs.declared.serial.RunFault.TheVariants.{Script, StartRefused, ReadFailed, WriteFailed, Gate, Mismatch, ThreadRefused, HostMemory}
 
 abbrev pub fault_text : RunFault → List ℕ
 fault_text (Script f) = codes "line " ++ (decimal f.line ++ (codes ": " ++ kind_text f.kind))
 fault_text (StartRefused n) = codes "start refused " ++ decimal n
 fault_text ReadFailed = codes "read failed"
 fault_text WriteFailed = codes "write failed"
+fault_text (Gate pid) = codes "gate expired " ++ decimal pid
+fault_text (Mismatch pid) = codes "history mismatch " ++ decimal pid
+fault_text ThreadRefused = codes "thread refused"
 fault_text HostMemory = codes "out of memory"
 
 -- 1 is a script fault, 3 a fault of the run, 4 want of memory
@@ -18,4 +21,7 @@ status_of (Script f) = 1
 status_of (StartRefused n) = 3
 status_of ReadFailed = 3
 status_of WriteFailed = 3
+status_of (Gate pid) = 3
+status_of (Mismatch pid) = 3
+status_of ThreadRefused = 3
 status_of HostMemory = 4

@@ -1,7 +1,7 @@
 -- What a run prints, and what its faults say of its input.
-use Rattle.std.specs.Prelude.{◌≡◌, ◌⊎◌, ℕ, ◌+◌, List, [], ◌∷◌, ◌++◌, map, Option, Some, None, Ok, Err}
+use Rattle.std.specs.Prelude.{◌≡◌, ◌⊎◌, ℕ, List, [], ◌∷◌, ◌++◌, map, Option, Some, None, Ok, Err}
 use Rattle.std.specs.Io.KnownBytes.{Appends, Keeps}
-use Rattle.shm_base.specs.State.{Opening, Machine}
+use Rattle.shm_base.specs.State.{Opening}
 use Rattle.shm_base.specs.History.{IsHistory}
 use Rattle.shm_base.specs.declared.call.Event.{Event}
 use Rattle.shm_life.specs.declared.start.StartError.{StartError}
@@ -9,7 +9,11 @@ use Rattle.shm_life.specs.declared.start.StartError.TheVariants as starts
 use Rattle.shm_life.specs.Start.{start_error, number_of}
 use Rattle.shm_text.specs.Script.{ScriptView}
 use Rattle.shm_text.specs.Reading.{script_of}
-use Rattle.shm_text.specs.Text.{events_text}
+use Rattle.shm_print.specs.Listing.{listing_of}
+use Rattle.shm_print.specs.Text.{events_text}
+use Rattle.shm_print.specs.Usage.{usage_text}
+use Rattle.shm_life.specs.MachineView.{IsExactly}
+use Rattle.shm_history.specs.WorldState.{WorldState, AreCounted, tally_of}
 use Rattle.shm_text.specs.Variables.{call_of}
 use Rattle.shm_text.specs.declared.script.Line.{Line}
 use Rattle.shm_text.specs.declared.script.Line.TheVariants.{Command, Flush}
@@ -17,7 +21,7 @@ use Rattle.shm_text.specs.declared.fault.ReadRefused.{ReadRefused}
 use Rattle.shm_text.specs.declared.fault.ReadRefused.TheVariants as refused
 use Rattle.shmsim.specs.Values.{HolderView, fresh_holder, values_of, answered}
 use Rattle.shmsim.specs.declared.serial.RunFault.{RunFault}
-use Rattle.shmsim.specs.declared.serial.RunFault.TheVariants.{Script, StartRefused, ReadFailed, WriteFailed, HostMemory}
+use Rattle.shmsim.specs.declared.serial.RunFault.TheVariants.{Script, StartRefused, ReadFailed, WriteFailed, Gate, Mismatch, ThreadRefused, HostMemory}
 
 -- the events are the calls of these lines in file order, each with the variables of its process
 abbrev pub Follows : List HolderView → List Line → List Event → Type 0
@@ -31,27 +35,41 @@ Follows hs (Command c ∷ ls) (e ∷ es) =
 abbrev pub opening_of : ScriptView → List ℕ → Opening
 opening_of script areas = record { limits = script.limits; areas = areas; processes = script.processes }
 
--- the text of a history that the script's lines made, legal from the script's opening over these areas
-pub record IsOutput (script : ScriptView) (areas : List ℕ) (text : List ℕ) : Type 0 where
-  pub events : List Event
-  pub machine : Machine
+-- what is printed of a world: the event lines, the listing, and the usage
+abbrev pub Prints : WorldState → List ℕ → Type 0
+Prints w text = text ≡ events_text 1 w.events ++ listing_of w.machine ++ usage_text (tally_of w)
+
+-- a world over these areas as a script opens it: its history is legal, its memory shows the machine at its
+-- end exactly, and the failures that it names were counted
+pub record IsWorldOf (script : ScriptView) (areas : List ℕ) (w : WorldState) : Type 0 where
   pub started : start_error areas script.processes ≡ None
-  pub legal : IsHistory (opening_of script areas) events machine
-  pub follows : Follows (map fresh_holder script.processes) script.lines events
-  pub printed : text ≡ events_text 1 events
+  pub opening : w.opening ≡ opening_of script areas
+  pub legal : IsHistory w.opening w.events w.machine
+  pub counted : AreCounted w.events w.memory.swap
+  pub exact : IsExactly w.machine w.memory
+
+-- the text of such a world whose history the script's lines made
+pub record IsOutput (script : ScriptView) (areas : List ℕ) (text : List ℕ) : Type 0 where
+  pub world : WorldState
+  pub is_world : IsWorldOf script areas world
+  pub follows : Follows (map fresh_holder script.processes) script.lines world.events
+  pub printed : Prints world text
 
 -- the input is a script, and what its run prints was written, and nothing else
 abbrev pub Shows : Option (List ℕ) → Option (List ℕ) → List ℕ → List ℕ → Type 0
 Shows old new areas input =
     (script : ScriptView) × (script_of input ≡ Ok script) × ((text : List ℕ) × IsOutput script areas text × Appends old new text)
 
--- a script fault is the input's, and a refused start is by the first start error
+-- a script fault is the input's, and a refused start is by the first start error; there are no threads
 abbrev pub IsCause : RunFault → List ℕ → List ℕ → Type 0
 IsCause (Script fault) areas input = script_of input ≡ Err fault
 IsCause (StartRefused n) areas input =
     (script : ScriptView) × (script_of input ≡ Ok script) × ((e : StartError) × (start_error areas script.processes ≡ Some e) × (number_of e ≡ n))
 IsCause ReadFailed areas input = Unit {0}
 IsCause WriteFailed areas input = Unit {0}
+IsCause (Gate pid) areas input = ⊥
+IsCause (Mismatch pid) areas input = ⊥
+IsCause ThreadRefused areas input = ⊥
 IsCause HostMemory areas input = Unit {0}
 
 -- nothing is written, but by a writer that failed
@@ -60,6 +78,9 @@ IsSilent WriteFailed old new = Unit {0}
 IsSilent (Script fault) old new = Keeps old new
 IsSilent (StartRefused n) old new = Keeps old new
 IsSilent ReadFailed old new = Keeps old new
+IsSilent (Gate pid) old new = Keeps old new
+IsSilent (Mismatch pid) old new = Keeps old new
+IsSilent ThreadRefused old new = Keeps old new
 IsSilent HostMemory old new = Keeps old new
 
 -- a refusal of the reader's, as a fault of the run

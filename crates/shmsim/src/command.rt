@@ -9,7 +9,7 @@ use clap::{Arg, ArgAction, Command, Error};
 use shm_pager::{MirrorRefused, Pager};
 use std::alloc::{AllocError, AllocFailed, Global};
 use std::rt::Env;
-use std::{env, fmt};
+use std::{env, fmt, io};
 
 /// Why the program stops: wrong words on the command line, or a fault of the run.
 #[derive(Clone, Copy, Debug, PartialEq, Eq)]
@@ -60,6 +60,16 @@ impl<L: Pager, R: Pager> From<MirrorRefused<L, R>> for Stop {
     }
 }
 
+// A word that is no text is a usage fault.
+impl From<io::Error> for Stop {
+    fn from(e: io::Error) -> Stop {
+        match e.kind() {
+            io::ErrorKind::OutOfMemory => Stop::Fault(RunFault::HostMemory),
+            _ => Stop::Usage,
+        }
+    }
+}
+
 impl From<Error> for Stop {
     fn from(e: Error) -> Stop {
         match e.kind() {
@@ -69,14 +79,19 @@ impl From<Error> for Stop {
     }
 }
 
-/// The swap areas that the command line names, behind the word `serial`.
+/// How a script is run: its lines in file order, or a thread for each process.
+#[derive(Clone, Copy, Debug, PartialEq, Eq)]
+pub(crate) enum Mode {
+    Serial,
+    Threads,
+}
+
+/// The mode and the swap areas that the command line names.
 pub(crate) fn read_command<R: Env + AllocGlobal>(
     rt: &R,
     alloc: Global,
-) -> Result<Vec<SwapWord>, Stop> {
-    let Ok(args) = env::args(rt) else {
-        return Err(Stop::Usage);
-    };
+) -> Result<(Mode, Vec<SwapWord>), Stop> {
+    let args = env::args(rt)?;
     let words: Vec<String> = args.collect(alloc)?;
     let mode = Arg::new(alloc, "mode").required(true);
     let swap = Arg::new(alloc, "swap")
@@ -85,9 +100,11 @@ pub(crate) fn read_command<R: Env + AllocGlobal>(
         .action(ArgAction::Append);
     let command = Command::new(alloc, "shmsim").arg(mode)?.arg(swap)?;
     let matches = command.try_get_matches_from(words.as_slice())?;
-    if matches.get_str("mode") != Some("serial") {
-        return Err(Stop::Usage);
-    }
+    let mode = match matches.get_str("mode") {
+        Some("serial") => Mode::Serial,
+        Some("threads") => Mode::Threads,
+        _ => return Err(Stop::Usage),
+    };
     let mut swaps = Vec::new(alloc);
     for word in matches.get_strs("swap").unwrap_or(&[]) {
         match read_swap(word.as_bytes()) {
@@ -95,5 +112,5 @@ pub(crate) fn read_command<R: Env + AllocGlobal>(
             None => return Err(Stop::Usage),
         }
     }
-    Ok(swaps)
+    Ok((mode, swaps))
 }

@@ -7,20 +7,26 @@ mod options;
 mod serial;
 #[cfg(test)]
 mod tests;
+mod threaded;
+#[cfg(test)]
+mod threaded_tests;
 mod values;
 
-use command::{Stop, read_command};
+use command::{Mode, Stop, read_command};
 use options::SwapWord;
 use serial::run_serial;
 use shm_pager::{AnyPager, FusePager, MirrorPager, RamPager, SparsePager};
 use std::io;
 use std::process::ExitCode;
 use std::rt::Env;
+use std::sync::Wait;
+use std::thread::Threads;
+use threaded::run_threaded;
 
 // Makes the pagers of the swap areas and runs the script over them.
-fn run<R: Env + Input + Print + AllocGlobal>(rt: &R) -> Result<(), Stop> {
+fn run<R: Env + Input + Print + AllocGlobal + Threads + Wait + Sync>(rt: &R) -> Result<(), Stop> {
     let alloc = rt.alloc();
-    let swaps = read_command(rt, alloc)?;
+    let (mode, swaps) = read_command(rt, alloc)?;
     let mut pagers: Vec<AnyPager> = Vec::new(alloc);
     for swap in &swaps {
         let pager: AnyPager = match *swap {
@@ -44,7 +50,12 @@ fn run<R: Env + Input + Print + AllocGlobal>(rt: &R) -> Result<(), Stop> {
         };
         pagers.push(pager)?;
     }
-    match run_serial(alloc, &mut rt.reader(), &mut io::writer(rt), pagers) {
+    let (mut reader, mut writer) = (rt.reader(), io::writer(rt));
+    let ended = match mode {
+        Mode::Serial => run_serial(alloc, &mut reader, &mut writer, pagers),
+        Mode::Threads => run_threaded(rt, alloc, &mut reader, &mut writer, pagers),
+    };
+    match ended {
         Ok(()) => Ok(()),
         Err(fault) => Err(Stop::Fault(fault)),
     }

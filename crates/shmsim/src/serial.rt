@@ -1,10 +1,10 @@
 //! A serial run: a script comes from a reader, its lines run in file order, and the texts of what was
 //! answered go to a writer.
-ghost use Rattle.std.specs.Prelude.{◌≡◌, ◌++◌, [], length, None, map, OnOk, IfErr, IfOk, IfSome};
+ghost use Rattle.std.specs.Prelude.{◌≡◌, [], length, None, map, OnOk, IfErr, IfOk, IfSome};
 ghost use Rattle.std.specs.Io.KnownBytes.{IsAtEnd};
-ghost use Rattle.shm_text.specs.Text.{events_text};
+ghost use Rattle.shm_print.specs.Text.{events_text};
 ghost use Rattle.shm_life.specs.Start.{start_error};
-ghost use Rattle.shmsim.specs.Output.{Shows, IsCause, IsSilent, IsOutput, IsStop, Follows, opening_of, refused_as, stopped_as};
+ghost use Rattle.shmsim.specs.Output.{Shows, IsCause, IsSilent, IsOutput, IsStop, Follows, Prints, opening_of, refused_as, stopped_as};
 ghost use Rattle.shmsim.specs.Values.{fresh_holder};
 
 use crate::ends::{ReadFault, read_input, write_output};
@@ -12,7 +12,8 @@ use crate::values::Values;
 use shm_base::{Event, HostMemory};
 use shm_history::{StartError, System, World};
 use shm_pager::Pager;
-use shm_text::{Line, ReadRefused, Script, ScriptFault, event_text, read_script};
+use shm_print::{event_text, listing, usage};
+use shm_text::{Line, ReadRefused, Script, ScriptFault, read_script};
 use std::alloc::{AllocError, Global};
 use std::fmt;
 use std::io::{Read, Write};
@@ -20,13 +21,18 @@ use std::io::{Read, Write};
 /// Why a run ended without its whole output. `Script`: the input is no script, by its first fault.
 /// `StartRefused`: the first start error that holds, by its number. `ReadFailed`: the reader failed, or was
 /// asked 2,097,152 times without an end. `WriteFailed`: the writer failed, was interrupted, or took no
-/// byte; an unknown beginning was written. `HostMemory`: the host refused memory.
+/// byte; an unknown beginning was written. `HostMemory`: the host refused memory. Of a run with threads
+/// also: `Gate`: the gate ended a worker, of which this is the least pid. `Mismatch`: a worker's calls and
+/// the history disagree, of which this is the least pid, or 0. `ThreadRefused`: the host refused a thread.
 #[derive(Clone, Copy, Debug, PartialEq, Eq)]
 pub enum RunFault {
     Script(ScriptFault),
     StartRefused(u8),
     ReadFailed,
     WriteFailed,
+    Gate { pid: u32 },
+    Mismatch { pid: u32 },
+    ThreadRefused,
     HostMemory,
 }
 
@@ -39,7 +45,12 @@ impl RunFault {
     {
         match self {
             RunFault::Script(_) => 1,
-            RunFault::StartRefused(_) | RunFault::ReadFailed | RunFault::WriteFailed => 3,
+            RunFault::StartRefused(_)
+            | RunFault::ReadFailed
+            | RunFault::WriteFailed
+            | RunFault::Gate { .. }
+            | RunFault::Mismatch { .. }
+            | RunFault::ThreadRefused => 3,
             RunFault::HostMemory => 4,
         }
     }
@@ -60,14 +71,17 @@ impl fmt::Display for RunFault {
             RunFault::StartRefused(number) => write!(f, "start refused {number}"),
             RunFault::ReadFailed => write!(f, "read failed"),
             RunFault::WriteFailed => write!(f, "write failed"),
+            RunFault::Gate { pid } => write!(f, "gate expired {pid}"),
+            RunFault::Mismatch { pid } => write!(f, "history mismatch {pid}"),
+            RunFault::ThreadRefused => write!(f, "thread refused"),
             RunFault::HostMemory => write!(f, "out of memory"),
         }
     }
 }
 
 /// Runs the script that the reader gives over swap areas behind these pagers, and writes an event line for
-/// each command line. Before the first byte is written the whole output is there, so at any fault but
-/// `WriteFailed` nothing is written. Faults are looked for in this order: reading, script, start, run,
+/// each command line, the listing of the segments, and the usage. Before the first byte is written the whole
+/// output is there, so at any fault but `WriteFailed` nothing is written. Faults are looked for in this order: reading, script, start, run,
 /// writing.
 pub fn run_serial<R: Read, W: Write, P: Pager>(
     alloc: Global,
@@ -99,7 +113,7 @@ pub fn run_serial<R: Read, W: Write, P: Pager>(
     }
 }
 
-fn refused(refusal: ReadRefused) -> RunFault
+pub(crate) fn refused(refusal: ReadRefused) -> RunFault
     ensures { result ≡ refused_as refusal }
 {
     match refusal {
@@ -108,7 +122,7 @@ fn refused(refusal: ReadRefused) -> RunFault
     }
 }
 
-fn stopped(error: StartError) -> RunFault
+pub(crate) fn stopped(error: StartError) -> RunFault
     ensures { result ≡ stopped_as error }
 {
     match error {
@@ -131,10 +145,15 @@ fn run_lines<P: Pager>(
     let mut values = Values::new(alloc, &script.processes)?;
     world.reserve(script.lines.len())?;
     for line in &script.lines {
-        if let Line::Command(command) = line {
-            let call = values.call(command);
-            let reply = world.call(command.pid(), &call)?;
-            values.took(command, &reply);
+        match line {
+            Line::Command(command) => {
+                let call = values.call(command);
+                let reply = world.call(command.pid(), &call)?;
+                values.took(command, &reply);
+            }
+            Line::Flush(round) => {
+                let _report = world.flush(u64::from(round.pages()));
+            }
         }
     }
     Ok(())
@@ -154,8 +173,8 @@ fn history_text(alloc: Global, history: &[Event]) -> Result<Vec<u8>, AllocError>
     Ok(text)
 }
 
-// A world as a script opens it.
-fn open_world<P: Pager>(
+/// A world as a script opens it.
+pub(crate) fn open_world<P: Pager>(
     alloc: Global,
     script: &Script,
     pagers: Vec<P>,
@@ -171,6 +190,18 @@ fn open_world<P: Pager>(
     }
 }
 
+/// What is printed of a world: its event lines, the listing of its segments, and its usage.
+pub(crate) fn world_text<P: Pager>(alloc: Global, world: &World<P>) -> Result<Vec<u8>, AllocError>
+    ensures { IfOk result (λ text. Prints world.now text.items) }
+{
+    let mut text = history_text(alloc, world.history())?;
+    let listed = listing(alloc, world)?;
+    text.extend_from_slice(listed.as_bytes())?;
+    let counts = usage(alloc, world)?;
+    text.extend_from_slice(counts.as_bytes())?;
+    Ok(text)
+}
+
 // Runs a script, and gives what it prints.
 fn output<P: Pager>(alloc: Global, script: &Script, pagers: Vec<P>) -> Result<Vec<u8>, StartError>
     ensures ok { IfOk result (λ text. IsOutput script.now (map (λ p. length (P.content p)) pagers.items) text.items) }
@@ -180,10 +211,11 @@ fn output<P: Pager>(alloc: Global, script: &Script, pagers: Vec<P>) -> Result<Ve
         Ok(world) => world,
         Err(error) => return Err(error),
     };
-    if run_lines(alloc, &mut world, script).is_err() {
+    let Ok(()) = run_lines(alloc, &mut world, script) else {
         return Err(StartError::HostMemory);
-    }
-    match history_text(alloc, world.history()) {
+    };
+    let _legal = world.history();
+    match world_text(alloc, &world) {
         Ok(text) => Ok(text),
         Err(_) => Err(StartError::HostMemory),
     }

@@ -9,12 +9,12 @@ use std::test::Fail;
 const SCRIPT: &[u8] =
     b"limits 65536 16 64 4 1\nprocess 1 100 100\n1 s = shmget private 8192 600\n1 a = shmat s null -\n1 store a+4094 01020304\n1 load a+4093 6\n";
 
-const OUTPUT: &[u8] =
-    b"1 1 shmget 0x00000000 8192 600 = 0\n2 1 shmat 0 null - = 0x40000000\n3 1 store 0x40000ffe 01020304 = ok\n4 1 load 0x40000ffd 6 = 000102030400\n";
+pub(crate) const OUTPUT: &[u8] =
+    b"1 1 shmget 0x00000000 8192 600 = 0\n2 1 shmat 0 null - = 0x40000000\n3 1 store 0x40000ffe 01020304 = ok\n4 1 load 0x40000ffd 6 = 000102030400\nkey        shmid      owner      perms      bytes      nattch     status\n0x00000000 0          100        600        8192       1          -\nusage events 4 segments 1 reserved 2 locked 0\nusage frames 2/4 dirty 2 slots 0/64\nusage in 0 out 0 failures 0\n";
 
 /// Gives so many bytes at each ask, and fails at one of them, from 1 on.
 #[derive(Drop)]
-struct Source {
+pub(crate) struct Source {
     rest: &'static [u8],
     most: usize,
     asks: u32,
@@ -22,7 +22,7 @@ struct Source {
     kind: ErrorKind,
 }
 
-fn reader(most: usize, fails: u32) -> Source {
+pub(crate) fn reader(most: usize, fails: u32) -> Source {
     Source {
         rest: SCRIPT,
         most,
@@ -62,15 +62,15 @@ impl Read for Restless {
 
 /// Takes so many bytes at each write, and fails at one of them, from 1 on.
 #[derive(Drop)]
-struct Sink {
-    taken: Vec<u8>,
+pub(crate) struct Sink {
+    pub(crate) taken: Vec<u8>,
     most: usize,
     writes: u32,
     fails: u32,
     kind: ErrorKind,
 }
 
-fn writer(alloc: Global, most: usize, fails: u32, kind: ErrorKind) -> Sink {
+pub(crate) fn writer(alloc: Global, most: usize, fails: u32, kind: ErrorKind) -> Sink {
     Sink {
         taken: Vec::new(alloc),
         most,

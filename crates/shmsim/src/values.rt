@@ -1,7 +1,6 @@
 //! The variables of all processes of a script.
 ghost use Rattle.std.specs.Prelude.{◌≡◌, map, IfOk, Some};
 ghost use Rattle.shm_text.specs.Variables.{call_of};
-ghost use Rattle.shm_life.specs.SystemState.{IsFirst};
 ghost use Rattle.shmsim.specs.Values.{fresh_holder, values_of, answered};
 
 use shm_base::{Call, Process, Reply};
@@ -56,8 +55,7 @@ impl Values {
 
     /// The call that a command line makes now.
     pub(crate) fn call(&self, command: &Command) -> Call
-        ensures value { result ≡ call_of (values_of self.now command.now.pid) command.now.call }
-        ensures served { IsFirst result }
+        ensures { result ≡ call_of (values_of self.now command.now.pid) command.now.call }
     {
         let pid = command.pid();
         for holder in &self.holders {

@@ -34,3 +34,6 @@ returns-else-addr-end-clause-value c =
     let found = covering_last c.args.addr lowest_address (c.count_to-count.result - 1) c.args.pieces.now nothing c.requires (omega arith)
     (λ k d l. c.count_to-count.ensures.below k d (omega arith)) (λ k d g l. c.count_to-count.ensures.above k d (omega arith) l) in
     sym (rw (le-ltb _ _ outside) at found)
+
+pub returns-then-addr-end-clause-among : goal.returns-then-addr-end-clause-among
+returns-then-addr-end-clause-among c = λ test all. all (c.count_to-count.result - 1) nothing (omega arith)

@@ -1,10 +1,12 @@
-use Rattle.std.proofs.Common.{◌≡◌, ◌<◌, ◌++◌, ◌∷◌, [], length, Some, slice_get, refl, List, ◌∙◌, ap}
+use Rattle.std.proofs.Common.{◌≡◌, ◌+◌, ◌<◌, arith, ◌++◌, ◌∷◌, [], length, Some, slice_get, refl, List, ◌∙◌, ap}
 use Rattle.std.proofs.lemmas.List.{length-map, map-append}
 use Rattle.shm_base.specs.State as flat
 use Rattle.shm_base.specs.Space.{lowest_address}
 use Rattle.shm_areas.specs.declared.piece.Piece.{Piece}
 use Rattle.shm_areas.specs.Arranged.{bare, bare_all, Arranged}
 use Rattle.shm_attach.proofs.Processes.{values_of, pieces_at-stored, runners_set, length_set}
+use Rattle.shm_attach.specs.Tables.{one, shape_of, shaped}
+use Rattle.shm_attach.proofs.Shapes.{total-set, shaped-append, stored_at-other}
 use Rattle.shm_attach.proofs.changes.push_at.Goals as goal
 
 pub push-requires-clause-room : goal.push-requires-clause-room
@@ -32,3 +34,16 @@ returns-clause-runners c =
 
 pub returns-clause-count : goal.returns-clause-count
 returns-clause-count c = length_set c.args.processes.now.entries c.args.index (record { life = c.in-Some.runner.now.life; space = c.push.new.self })
+
+pub returns-clause-shapes : goal.returns-clause-shapes
+returns-clause-shapes c = λ s.
+    let w = c.in-Some.runner.now in
+    let at : Some w ≡ slice_get (values_of c.args.processes.now.entries) c.args.index = rw c.in-Some.is at c.get_index_mut.ensures.value in
+    let all = total-set s c.args.processes.now.entries c.args.index w (record { life = w.life; space = c.push.new.self }) at in
+    let more : shaped s c.push.new.self ≡ shaped s w.space + (one s (shape_of c.args.piece) + 0) =
+    ap (shaped s) c.push.ensures ∙ shaped-append s w.space (c.args.piece ∷ []) in
+    omega (arith, all, more)
+
+pub returns-clause-others : goal.returns-clause-others
+returns-clause-others c = λ j other.
+    stored_at-other c.args.processes.now.entries c.args.index j (record { life = c.in-Some.runner.now.life; space = c.push.new.self }) other

@@ -1,8 +1,12 @@
-use Rattle.std.proofs.Common.{◌≡◌, ℕ, ◌+◌, ◌-◌, ◌*◌, ◌/◌, ◌<◌, ◌∙◌, true, sym, arith}
-use Rattle.std.proofs.lemmas.Bool.{true≢false}
+use Rattle.std.proofs.Common.{◌≡◌, ℕ, ◌+◌, ◌-◌, ◌*◌, ◌/◌, ◌<◌, ◌≤◌, ◌∙◌, true, nat_lt, get_or, ap, sym, arith}
+use Rattle.std.proofs.lemmas.Bool.{true≢false, lt-ltb, ltb-true}
 use Rattle.shm_base.specs.State.{Piece}
 use Rattle.shm_areas.specs.Arranged.{bare, bare_all, IsCovering}
 use Rattle.shm_attach.proofs.Accesses.{wanted_in-run, wanted_in-none, wanted_in-readonly, covering-passes, in_page, from_not, from_not_false}
+use Rattle.shm_areas.specs.declared.piece.Piece.{Piece as Stored}
+use Rattle.shm_attach.specs.Tables.{shape_of, shaped, has}
+use Rattle.shm_attach.proofs.Ties.{frame-true}
+use Rattle.shm_attach.proofs.Shapes.{shaped-there}
 use Rattle.shm_attach.proofs.spans.span_in.Goals as goal
 use Rattle.shm_attach.proofs.spans.span_in.Goals.{else-write-via-then-write+else-not-piece, else-write-via-else-write}
 
@@ -39,3 +43,17 @@ returns-clause-pages c = λ test all.
     rw page
     (covering-passes (λ (q : Piece). (j : ℕ) → j < q.pages → test q.seg (q.first_page + j) ≡ true) c.args.addr (bare_all c.args.space.now) p all
     (sym c.in_ok-piece.ensures.value) ((c.args.addr - p.base) / 4096) inside)
+
+pub returns-clause-frames : goal.returns-clause-frames
+returns-clause-frames c = λ at all.
+    let p = c.in_ok-piece.piece in
+    let t = c.args.tables.now.slab in
+    let ps = c.args.space.now in
+    let past = c.args.addr - p.base in
+    let within : IsCovering c.args.addr p = c.in_ok-piece.ensures.within in
+    let listed : nat_lt 0 (shaped (shape_of p) ps) ≡ true =
+    c.in_ok-piece.ensures.among (λ (q : Stored). nat_lt 0 (shaped (shape_of q) ps)) (λ k d lt. lt-ltb 0 (shaped (shape_of (get_or ps k d)) ps) (shaped-there ps k d lt)) in
+    let some : 1 ≤ has t (shape_of p) = omega (arith, ltb-true 0 (shaped (shape_of p) ps) listed, c.requires.tied (shape_of p)) in
+    let few : past / 4096 < p.pages = omega (arith, within.from, within.to) in
+    let page : (4096 * p.first_page + past) / 4096 ≡ p.first_page + past / 4096 = omega arith in
+    c.frame.ensures ∙ frame-true at t (shape_of p) (past / 4096) some all few ∙ ap (at p.seg) (sym page)

@@ -1,4 +1,4 @@
-use Rattle.std.proofs.Common.{rules, arith, ◌≡◌, ◌≤◌, ◌<◌, ◌+◌, ◌∙◌, ap, sym, subst, ℕ, List, [], ◌∷◌, ◌++◌, length}
+use Rattle.std.proofs.Common.{rules, arith, ◌≡◌, ◌∙◌, ap, sym, subst, [], ◌∷◌, ◌++◌, length}
 use Rattle.shm_text.specs.Reading.{SeenView, with_item, items_of, nothing}
 use Rattle.shm_text.specs.Words.{lines_of}
 use Rattle.shm_text.proofs.Cut.{length-lines_of-le}

@@ -1,5 +1,5 @@
-use Rattle.std.proofs.Common.{◌≡◌, ◌≤◌, ◌+◌, ◌++◌, drop}
-use Rattle.shm_text.specs.Text.{events_text}
+use Rattle.std.proofs.Common.{◌≡◌, ◌+◌, ◌++◌, drop}
+use Rattle.shm_print.specs.Text.{events_text}
 use Rattle.shmsim.proofs.serial.history_text.Given as goal
 
 -- the lines so far, and then those of what is left

@@ -1,4 +1,4 @@
-use Rattle.std.proofs.Common.{rules, arith, ◌≡◌, ap, sym, subst, List, [], ◌++◌, append-nil, drop, map}
+use Rattle.std.proofs.Common.{arith, ◌≡◌, sym, subst, List, [], append-nil, drop, map}
 use Rattle.shm_base.specs.declared.call.Event.{Event}
 use Rattle.shm_text.specs.declared.script.Line.{Line}
 use Rattle.std.proofs.lemmas.Grind.{common_steps}

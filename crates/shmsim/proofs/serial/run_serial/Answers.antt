@@ -1,16 +1,15 @@
-use Rattle.std.proofs.Common.{rules, arith, ◌≡◌, ◌≤◌, ◌⊎◌, ◌∙◌, ap, sym, refl, inl, inr, ℕ, List, [], ◌++◌, length, map, Ok, Err, Option, Some, None, append-nil}
+use Rattle.std.proofs.Common.{◌≡◌, ◌≤◌, ◌∙◌, ap, sym, refl, inl, inr, ℕ, List, ◌++◌, length, map, Ok, Option, Some, None, append-nil}
 use Rattle.std.specs.Prelude.{IfSome}
 use Rattle.std.specs.Io.KnownBytes.{Appends, Consumes, IsAtEnd}
 use Rattle.shm_life.specs.declared.start.StartError.{StartError}
 use Rattle.shm_life.specs.declared.start.StartError.TheVariants as starts
 use Rattle.shm_life.specs.Start.{start_error}
-use Rattle.shm_text.specs.declared.fault.ScriptFault.{ScriptFault}
 use Rattle.shm_text.specs.Script.{ScriptView}
 use Rattle.shm_text.specs.Reading.{script_of, IsFaultOf}
 use Rattle.shm_text.specs.declared.fault.ReadRefused.{ReadRefused}
 use Rattle.shm_text.specs.declared.fault.ReadRefused.TheVariants as refused
 use Rattle.shm_text.proofs.ItemSteps.{short_script, same_fault}
-use Rattle.shmsim.specs.Output.{Shows, IsOutput, IsStop, IsCause, refused_as, stopped_as}
+use Rattle.shmsim.specs.Output.{Shows, IsStop, IsCause, refused_as, stopped_as}
 use Rattle.shmsim.proofs.serial.run_serial.Goals as goal
 
 -- a fault of what was read is the fault of the input

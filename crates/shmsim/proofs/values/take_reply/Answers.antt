@@ -1,4 +1,4 @@
-use Rattle.std.proofs.Common.{rules, arith, ◌≡◌, ◌<◌, ◌∙◌, ap, sym, ℕ, List, Option, Some, set, get_or, length}
+use Rattle.std.proofs.Common.{rules, ◌≡◌, ◌<◌, ◌∙◌, ap, sym, ℕ, List, Option, Some, set, get_or, length}
 use Rattle.shmsim.specs.Values.{HolderView, values_of, with_values}
 use Rattle.shm_text.specs.Variables.{values_after}
 use Rattle.shmsim.proofs.Holders.{values_at, set_at}

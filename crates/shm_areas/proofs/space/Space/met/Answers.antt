@@ -1,11 +1,10 @@
 use Rattle.std.proofs.Common.{◌≡◌, ◌≤◌, ap, length, arith}
 use Rattle.std.proofs.lemmas.List.Sums.{length-filter, count_by-le-length}
-use Rattle.shm_base.specs.Space.{lowest_address, meets}
+use Rattle.shm_base.specs.Space.{meets}
 use Rattle.shm_areas.specs.declared.piece.Piece.{Piece}
-use Rattle.shm_areas.specs.Arranged.{bare, bare_all, Arranged}
+use Rattle.shm_areas.specs.Arranged.{bare}
 use Rattle.shm_areas.specs.Met.{met}
 use Rattle.shm_areas.proofs.Cuts.{slice-met}
-use Rattle.shm_areas.proofs.Edits.{arranged_filter}
 use Rattle.shm_areas.proofs.space.Space.met.Goals as goal
 
 pub returns-clause-value : goal.returns-clause-value

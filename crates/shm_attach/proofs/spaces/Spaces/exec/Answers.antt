@@ -7,6 +7,11 @@ use Rattle.shm_attach.specs.Views.{runner_view, runners_view, with_pieces_at}
 use Rattle.shm_attach.specs.Spaces.{SpacesView, pieces_at, seen, IsCaller}
 use Rattle.shm_attach.proofs.Callers.{caller_within, with_pieces-at}
 use Rattle.shm_attach.proofs.Keeping.{small_counts, own_counted, IsExact-changed, cut-all, cut_segments-all}
+use Rattle.shm_areas.specs.Arranged.{bare_all, Arranged}
+use Rattle.shm_attach.specs.Exact.{IsExact}
+use Rattle.shm_attach.specs.Tables.{stored_at}
+use Rattle.shm_attach.proofs.Shapes.{tied-own, pieces_at-bare, upper-none}
+use Rattle.shm_attach.proofs.Translations.{keeps}
 use Rattle.shm_attach.proofs.spaces.Spaces.exec.Goals as goal
 
 pub take_range-requires-clause-there : goal.take_range-requires-clause-there
@@ -16,18 +21,21 @@ pub take_range-requires-clause-few : goal.take_range-requires-clause-few
 take_range-requires-clause-few c =
     let i = c.args.caller.now.index in
     let ps = pieces_at (runners_view c.self.inside.processes.entries) i in
-    let none : cut lowest_address last_address ps ≡ [] = cut-all lowest_address ps (omega arith) (c.self.invariant.arranged i) in
+    let none : cut lowest_address last_address ps ≡ [] = cut-all lowest_address ps (omega arith) (c.self.invariant.0.arranged i) in
     omega (arith, ap length none)
 
 pub take_range-requires-clause-counted : goal.take_range-requires-clause-counted
 take_range-requires-clause-counted c = λ id.
     let rs = runners_view c.self.inside.processes.entries in
     let within = caller_within c.args.caller.now c.self.inside.processes.entries (rw (← c.self.view_is) at c.requires) in
-    own_counted rs c.self.inside.counts c.args.caller.now.index c.self.invariant (omega (arith, within, length-map c.self.inside.processes.entries runner_view)) id
+    own_counted rs c.self.inside.counts c.args.caller.now.index c.self.invariant.0 (omega (arith, within, length-map c.self.inside.processes.entries runner_view)) id
 
 pub take_range-requires-clause-small : goal.take_range-requires-clause-small
 take_range-requires-clause-small c = λ id.
-    omega (arith, small_counts (runners_view c.self.inside.processes.entries) c.self.inside.counts c.self.invariant id)
+    omega (arith, small_counts (runners_view c.self.inside.processes.entries) c.self.inside.counts c.self.invariant.0 id)
+
+pub take_range-requires-clause-tied : goal.take_range-requires-clause-tied
+take_range-requires-clause-tied c = tied-own c.self.inside.processes.entries c.self.inside.tables.slab c.args.caller.now.index c.self.invariant.1
 
 pub invariant_of-self : goal.invariant_of-self
 invariant_of-self c =
@@ -35,17 +43,21 @@ invariant_of-self c =
     let i = c.args.caller.now.index in
     let ps = pieces_at rs i in
     let within = caller_within c.args.caller.now c.self.inside.processes.entries (rw (← c.self.view_is) at c.requires) in
-    let none : cut lowest_address last_address ps ≡ [] = cut-all lowest_address ps (omega arith) (c.self.invariant.arranged i) in
+    let none : cut lowest_address last_address ps ≡ [] = cut-all lowest_address ps (omega arith) (c.self.invariant.0.arranged i) in
+    let exact : IsExact (runners_view c.take_range.new.processes.entries) c.take_range.new.counts =
     rw c.take_range.ensures.runners
-    (IsExact-changed rs i (cut lowest_address last_address) c.self.inside.counts c.take_range.new.counts c.self.invariant
-    (omega (arith, within, length-map c.self.inside.processes.entries runner_view)) (omega (arith, ap length none)) (rw none tt) (λ _. none) c.take_range.ensures.counts)
+    (IsExact-changed rs i (cut lowest_address last_address) c.self.inside.counts c.take_range.new.counts c.self.invariant.0
+    (omega (arith, within, length-map c.self.inside.processes.entries runner_view)) (omega (arith, ap length none)) (rw none tt) (λ _. none) c.take_range.ensures.counts) in
+    let es = c.self.inside.processes.entries in
+    let order : Arranged lowest_address (bare_all (stored_at es i)) = rw (← pieces_at-bare es i) (c.self.invariant.0.arranged i) in
+    (exact, λ s. omega (arith, c.take_range.ensures.tied s, c.self.invariant.1 s, upper-none s lowest_address last_address 0 lowest_address (stored_at es i) order (omega arith)))
 
 pub returns-clause-lost : goal.returns-clause-lost
 returns-clause-lost c =
     let rs = runners_view c.self.inside.processes.entries in
     let i = c.args.caller.now.index in
     let view : rs ≡ c.args.self.now.runners = ap (λ (v : SpacesView). v.runners) c.self.view_is in
-    let all = cut_segments-all lowest_address (pieces_at rs i) (omega arith) (c.self.invariant.arranged i) in
+    let all = cut_segments-all lowest_address (pieces_at rs i) (omega arith) (c.self.invariant.0.arranged i) in
     c.take_range.ensures.lost ∙ all ∙ ap (λ (xs : List flat.Runner). segments_of (seen c.args.caller.now xs)) view
 
 pub returns-clause-runners : goal.returns-clause-runners
@@ -54,7 +66,11 @@ returns-clause-runners c =
     let i = c.args.caller.now.index in
     let view : rs ≡ c.args.self.now.runners = ap (λ (v : SpacesView). v.runners) c.self.view_is in
     let is : IsCaller c.args.caller.now rs = rw (← c.self.view_is) at c.requires in
-    let none : cut lowest_address last_address (pieces_at rs i) ≡ [] = cut-all lowest_address (pieces_at rs i) (omega arith) (c.self.invariant.arranged i) in
+    let none : cut lowest_address last_address (pieces_at rs i) ≡ [] = cut-all lowest_address (pieces_at rs i) (omega arith) (c.self.invariant.0.arranged i) in
     let own : with_pieces rs (seen c.args.caller.now rs) [] ≡ with_pieces_at rs i (cut lowest_address last_address) =
     ap (with_pieces rs (seen c.args.caller.now rs)) (sym none) ∙ with_pieces-at c.args.caller.now rs (cut lowest_address last_address) is in
     c.take_range.ensures.runners ∙ sym own ∙ ap (λ (xs : List flat.Runner). with_pieces xs (seen c.args.caller.now xs) []) view
+
+pub returns-clause-translated : goal.returns-clause-translated
+returns-clause-translated c =
+    keeps c.args.self.now.translations c.self.inside.tables.slab c.take_range.new.tables.slab (ap (λ (v : SpacesView). v.translations) c.self.view_is) c.take_range.ensures.translated

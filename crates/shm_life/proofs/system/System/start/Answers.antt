@@ -1,4 +1,4 @@
-use Rattle.std.proofs.Common.{◌≡◌, ◌∙◌, sym, inl, inr, refl}
+use Rattle.std.proofs.Common.{◌∙◌, sym, inl, inr, refl}
 use Rattle.shm_life.proofs.system.System.start.Goals as goal
 
 pub returns-in-Some-clause-err : goal.returns-in-Some-clause-err

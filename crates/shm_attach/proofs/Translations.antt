@@ -1,0 +1,137 @@
+-- The translations of all pieces are true where each entry is.
+use Rattle.std.proofs.Common.{◌≡◌, ◌≢◌, ◌⊎◌, inl, inr, ◌==◌, true, false, ℕ, zero, suc, ◌+◌, ◌<◌, ◌≤◌, List, [], ◌∷◌, ◌++◌, length, get_or, Option, Some, None, refl, sym, subst, arith}
+use Rattle.std.specs.Prelude.{All, ⊤}
+use Rattle.std.specs.List.{flat_map}
+use Rattle.std.proofs.lemmas.List.Elements.{All-append, All-nil, All-cons, All-head, All-tail}
+use Rattle.std.proofs.lemmas.Bool.{cases_Bool, eqb-false}
+use Rattle.std.proofs.lemmas.List.Sums.{sum_by-cons}
+use Rattle.slab.specs.Slab.{Slab, get}
+use Rattle.shm_base.specs.State as flat
+use Rattle.shm_base.specs.Space.{pieces_of}
+use Rattle.shm_base.specs.Segments.{attach_count}
+use Rattle.shm_areas.specs.declared.piece.Piece.{Piece}
+use Rattle.shm_areas.specs.Arranged.{bare, bare_all}
+use Rattle.shm_attach.specs.declared.process.Runner.{Runner}
+use Rattle.shm_attach.specs.Views.{one_if, runner_view, runners_view}
+use Rattle.shm_fault.specs.Store.{StoreView, frame_of}
+use Rattle.shm_attach.specs.Spaces.{Translation, AreTrue}
+use Rattle.shm_attach.specs.Tables.{Entry, Shape, translations_from, translations_in, translations_of, TrueSlot, AllTrue, IsTied, shape_of, shape_at, one, shaped, total, has}
+use Rattle.shm_attach.proofs.Processes.{one_more}
+use Rattle.shm_attach.proofs.Ties.{one-self, one-le, one-seg}
+
+abbrev Holds : (ℕ → ℕ → Option ℕ) → Translation → Type 0
+Holds at t = t.frame ≡ at t.seg t.page
+
+All-left : {X : Type 0} (P : X → Type 0) (xs ys : List X) → All P (xs ++ ys) → All P xs
+All-left P [] ys all = All-nil P
+All-left P (x ∷ xs) ys all = All-cons P x xs (All-head P x (xs ++ ys) all) (All-left P xs ys (All-tail P x (xs ++ ys) all))
+
+All-right : {X : Type 0} (P : X → Type 0) (xs ys : List X) → All P (xs ++ ys) → All P ys
+All-right P [] ys all = all
+All-right P (x ∷ xs) ys all = All-right P xs ys (All-tail P x (xs ++ ys) all)
+
+-- ONE ENTRY
+
+frames-of : (at : ℕ → ℕ → Option ℕ) (seg first : ℕ) (fs : List (Option ℕ)) → All (Holds at) (translations_from seg first fs)
+    → (j : ℕ) → j < length fs → get_or fs j None ≡ at seg (first + j)
+frames-of at seg first [] all j lt = absurd (omega arith)
+frames-of at seg first (f ∷ fs) all zero lt =
+    let here : first + 0 ≡ first = omega arith in
+    rw here (All-head (Holds at) (record { seg = seg; page = first; frame = f }) (translations_from seg (first + 1) fs) all)
+frames-of at seg first (f ∷ fs) all (suc j) lt =
+    let next : first + suc j ≡ (first + 1) + j = omega arith in
+    rw next (frames-of at seg (first + 1) fs (All-tail (Holds at) (record { seg = seg; page = first; frame = f }) (translations_from seg (first + 1) fs) all) j (omega (arith, lt)))
+
+of-frames : (at : ℕ → ℕ → Option ℕ) (seg first : ℕ) (fs : List (Option ℕ)) → ((j : ℕ) → j < length fs → get_or fs j None ≡ at seg (first + j))
+    → All (Holds at) (translations_from seg first fs)
+of-frames at seg first [] each = All-nil (Holds at)
+of-frames at seg first (f ∷ fs) each =
+    let here : first + 0 ≡ first = omega arith in
+    let head : f ≡ at seg first = rw here at (each 0 (omega arith)) in
+    All-cons (Holds at) (record { seg = seg; page = first; frame = f }) (translations_from seg (first + 1) fs) head
+    (of-frames at seg (first + 1) fs (λ j lt. let next : (first + 1) + j ≡ first + suc j = omega arith in rw next (each (suc j) (omega (arith, lt)))))
+
+-- ALL ENTRIES
+
+slots-of : (at : ℕ → ℕ → Option ℕ) (os : List (Option Entry)) → All (Holds at) (flat_map translations_in os) → (k : ℕ) → TrueSlot at (get_or os k None)
+slots-of at [] all k = tt
+slots-of at (None ∷ os) all zero = tt
+slots-of at (Some e ∷ os) all zero = frames-of at e.seg e.first_page e.frames (All-left (Holds at) (translations_from e.seg e.first_page e.frames) (flat_map translations_in os) all)
+slots-of at (o ∷ os) all (suc k) = slots-of at os (All-right (Holds at) (translations_in o) (flat_map translations_in os) all) k
+
+of-slots : (at : ℕ → ℕ → Option ℕ) (os : List (Option Entry)) → ((k : ℕ) → TrueSlot at (get_or os k None)) → All (Holds at) (flat_map translations_in os)
+of-slots at [] each = All-nil (Holds at)
+of-slots at (o ∷ os) each = All-append (Holds at) (translations_in o) (flat_map translations_in os) (first o (each 0)) (of-slots at os (λ k. each (suc k)))
+  where
+    first : (o : Option Entry) → TrueSlot at o → All (Holds at) (translations_in o)
+    first None tr = All-nil (Holds at)
+    first (Some e) tr = of-frames at e.seg e.first_page e.frames tr
+
+pub all-true : (at : ℕ → ℕ → Option ℕ) (t : Slab Entry) → All (λ (x : Translation). x.frame ≡ at x.seg x.page) (translations_of t) → AllTrue at t
+all-true at t all = slots-of at t.slots all
+
+pub true-all : (at : ℕ → ℕ → Option ℕ) (t : Slab Entry) → AllTrue at t → All (λ (x : Translation). x.frame ≡ at x.seg x.page) (translations_of t)
+true-all at t all = of-slots at t.slots all
+
+-- translations stay true where each entry does
+pub keeps : (ts : List Translation) (t u : Slab Entry) → translations_of t ≡ ts → ((at : ℕ → ℕ → Option ℕ) → AllTrue at t → AllTrue at u)
+    → (m : StoreView) → AreTrue ts m → AreTrue (translations_of u) m
+keeps ts t u is step m old = true-all (frame_of m) u (step (frame_of m) (all-true (frame_of m) t (subst (λ (xs : List Translation). AreTrue xs m) (sym is) old)))
+
+-- A SEGMENT THAT NO PIECE NAMES
+
+abbrev Apart : ℕ → Translation → Type 0
+Apart seg t = t.seg ≢ seg
+
+frames-apart : (seg own first : ℕ) (fs : List (Option ℕ)) → own ≢ seg → All (Apart seg) (translations_from own first fs)
+frames-apart seg own first [] other = All-nil (Apart seg)
+frames-apart seg own first (f ∷ fs) other =
+    All-cons (Apart seg) (record { seg = own; page = first; frame = f }) (translations_from own (first + 1) fs) other (frames-apart seg own (first + 1) fs other)
+
+abbrev pub SlotApart : ℕ → Option Entry → Type 0
+SlotApart seg None = ⊤
+SlotApart seg (Some e) = e.seg ≢ seg
+
+slots-apart : (seg : ℕ) (os : List (Option Entry)) → ((k : ℕ) → SlotApart seg (get_or os k None)) → All (Apart seg) (flat_map translations_in os)
+slots-apart seg [] each = All-nil (Apart seg)
+slots-apart seg (o ∷ os) each = All-append (Apart seg) (translations_in o) (flat_map translations_in os) (first o (each 0)) (slots-apart seg os (λ k. each (suc k)))
+  where
+    first : (o : Option Entry) → SlotApart seg o → All (Apart seg) (translations_in o)
+    first None tr = All-nil (Apart seg)
+    first (Some e) tr = frames-apart seg e.seg e.first_page e.frames tr
+
+pub apart-all : (seg : ℕ) (t : Slab Entry) → ((k : ℕ) → SlotApart seg (get t k)) → All (λ (x : Translation). x.seg ≢ seg) (translations_of t)
+apart-all seg t each = slots-apart seg t.slots each
+
+shaped-le : (s : Shape) (ps : List Piece) → shaped s ps ≤ pieces_of s.seg (bare_all ps)
+shaped-le s [] = omega arith
+shaped-le s (p ∷ ps) =
+    let rest = shaped-le s ps in
+    let more = one_more s.seg (bare p) (bare_all ps) in
+    omega (arith, rest, more, first (cases_Bool (p.seg == s.seg)))
+  where
+    first : (p.seg == s.seg ≡ true) ⊎ (p.seg == s.seg ≡ false) → one s (shape_of p) ≤ one_if s.seg p.seg
+    first (inl same) = rw same (one-le s (shape_of p))
+    first (inr other) =
+        let none : one s (shape_of p) ≡ 0 = omega (arith, one-seg s (shape_of p) (λ same. eqb-false p.seg s.seg other (sym same))) in
+        rw (other, none) (omega arith)
+
+total-le : (s : Shape) (es : List (ℕ × Runner)) → total s es ≤ attach_count (runners_view es) s.seg
+total-le s [] = omega arith
+total-le s (e ∷ es) =
+    let all = sum_by-cons (λ (x : flat.Runner). pieces_of s.seg x.pieces) (runner_view e) (runners_view es) in
+    omega (arith, shaped-le s e.1.space, total-le s es, all)
+
+pub unnamed : (seg : ℕ) (es : List (ℕ × Runner)) (t : Slab Entry) → IsTied es t → attach_count (runners_view es) seg ≡ 0
+    → All (λ (x : Translation). x.seg ≢ seg) (translations_of t)
+unnamed seg es t tied none = apart-all seg t (λ k. by k (get t k) refl)
+  where
+    by : (k : ℕ) (o : Option Entry) → get t k ≡ o → SlotApart seg (get t k)
+    by k None at = rw at tt
+    by k (Some e) at =
+        let s = shape_at k e in
+        let here : has t s ≡ 1 = rw at (one-self s) in
+        let other : e.seg ≢ seg = λ same.
+        let counted : attach_count (runners_view es) e.seg ≡ 0 = rw same none in
+        absurd (omega (arith, here, tied s, total-le s es, counted)) in
+        rw at other

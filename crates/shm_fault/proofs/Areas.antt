@@ -1,0 +1,397 @@
+-- Pages that leave a swap area, and the area that goes.
+use Rattle.std.proofs.Common.{◌≡◌, ◌≢◌, ℕ, zero, suc, ◌<◌, ◌≤◌, ◌+◌, Bool, true, false, cond, List, [], ◌∷◌, length, get_or, set, sum_by, Option, Some, None, is_some, refl, sym, ap, ◌∙◌, inl, inr, arith, length-set, get_or-set_same, get_or-set_other}
+use Rattle.std.proofs.lemmas.Bool.{cases_eq, cases_lt}
+use Rattle.std.proofs.lemmas.List.{get_or_past, length-map}
+use Rattle.std.proofs.Math.ListN.{get_or-map}
+use Rattle.std.proofs.lemmas.List.Sums.{sum_by-set, sum_by-cons}
+use Rattle.shm_base.specs.declared.paging.PageRef.{PageRef}
+use Rattle.shm_base.specs.declared.paging.Slot.{Slot}
+use Rattle.shm_plain.specs.Held.{pages_held}
+use Rattle.shm_slots.specs.Owners.{used_count}
+use Rattle.shm_slots.specs.View.{AreaView, SwapView, no_area, area_at, with_area, off, HasSlot, IsSwap, IsFirstFree, SameSlots, OneArea, WriteFault, owner_of, page_in, size_of, sizes, slots, slots_in, used_in, used_slots, with_slot_owner, with_slot_page, without_slot}
+use Rattle.shm_slots.specs.Cause.{GoesOn, IsSteady, had_cause}
+use Rattle.shm_frames.specs.Frame.{Frame, no_frame, frame_at}
+use Rattle.shm_fault.specs.declared.segments.PageRec.{PageRec}
+use Rattle.shm_fault.specs.Segs.{rec_by, HasPage, with_rec}
+use Rattle.shm_fault.specs.Store.{StoreView, held, stored, bytes_by, page_bytes}
+use Rattle.shm_fault.specs.Sound.{IsTied, Tied, IsSound}
+use Rattle.shm_fault.specs.Goes.{Goes, Still}
+use Rattle.shm_fault.specs.Moving.{SameOwned, IsRelocated, IsCleared}
+use Rattle.shm_fault.proofs.Pages.{outlines-with, rec-with, rec-with_other, other, other_ne, cases_ref, has-frame, has-slot}
+use Rattle.shm_fault.proofs.Slots.{OnlySlot, OnlySlot-trans, OnlySlot-owner, OnlySlot-page, OnlySlot-given, OnlySlot-fault, page-written, owner-written, owner-set, owner-given, cases_slot}
+use Rattle.shm_fault.proofs.Ties.{Alike-refl, Touches, IsOwn, IsOwn-some, set_alike, set_owners, set_free}
+use Rattle.shm_fault.proofs.Bytes.{bytes_at, held-same}
+use Rattle.shm_fault.proofs.Tally.{used-slots}
+use Rattle.shm_fault.proofs.Whole.{pages_held-is}
+use Rattle.shm_fault.proofs.Failures.{spent-cause, cause-before, cause-more}
+use Rattle.shm_fault.proofs.Sound.{IsSound-from, sound-touched, goes-touched, Goes-refl, Goes-trans}
+use Rattle.shm_fault.proofs.Changes.{Keeps, keeps-one, some_same, bytes_by-some}
+use Rattle.shm_fault.proofs.Drops.{GivenSlots, given-slots}
+
+-- sizes and what follows from them
+pub size-at : (s : SwapView) (area : ℕ) → get_or (sizes s) area None ≡ size_of (area_at s area)
+size-at s area = get_or-map size_of s.areas area no_area
+
+pub pages-same : (s t : SwapView) (area : ℕ) → sizes t ≡ sizes s → (area_at s area).here ≡ true → ((area_at t area).here ≡ true) × (length (area_at t area).pages ≡ length (area_at s area).pages)
+pages-same s t area same here =
+    let e : size_of (area_at t area) ≡ Some (length (area_at s area).pages) = sym (size-at t area) ∙ ap (λ l. get_or l area None) same ∙ size-at s area ∙ rw here refl in
+    by (area_at t area).here refl e
+  where
+    by : (b : Bool) → (area_at t area).here ≡ b → size_of (area_at t area) ≡ Some (length (area_at s area).pages) → ((area_at t area).here ≡ true) × (length (area_at t area).pages ≡ length (area_at s area).pages)
+    by true h e = let k : Some (length (area_at t area).pages) ≡ Some (length (area_at s area).pages) = rw h at e in (h, cc)
+    by false h e = let k : None ≡ Some (length (area_at s area).pages) = rw h at e in cc
+
+pub here-lt : (s : SwapView) (area : ℕ) → (area_at s area).here ≡ true → area < length s.areas
+here-lt s area here = elim (cases_lt area (length s.areas)) [
+  | inl lt ↦ lt
+  | inr past ↦ absurd (let none : (area_at s area).here ≡ false = rw (get_or_past s.areas area no_area past) refl in cc)
+]
+
+-- a free slot is found where the other areas have one for each page
+one_if : Bool → ℕ
+one_if b = cond b 1 0
+
+count-one : (os : List (Option PageRef)) (i : ℕ) (r : PageRef) → get_or os i None ≡ Some r → 1 ≤ used_count os
+unfolding one_if
+count-one [] i r e = let h : None ≡ Some r = e in cc
+count-one (o ∷ os) zero r e =
+    let one : one_if (is_some o) ≡ 1 = rw e refl in
+    omega (arith, one, sum_by-cons (λ (p : Option PageRef). cond (is_some p) 1 0) o os)
+count-one (o ∷ os) (suc i) r e =
+    let rest = count-one os i r e in
+    omega (arith, rest, sum_by-cons (λ (p : Option PageRef). cond (is_some p) 1 0) o os)
+
+pub has-room : (s : StoreView) → IsSound s → (k : Slot) (r : PageRef) → owner_of s.swap k.area k.slot ≡ Some r → pages_held (held s) + length (area_at s.swap k.area).pages ≤ slots s.swap
+    → used_slots s.swap + length (area_at s.swap k.area).pages < slots s.swap + used_in (area_at s.swap k.area)
+has-room s sound k r own room =
+    let all = pages_held-is s sound in
+    let few = sound.few_used in
+    let same = used-slots s sound.apart sound.tied in
+    let one = count-one (area_at s.swap k.area).owners k.slot r own in
+    omega (arith, all, few, same, one, room)
+
+pub slot-there : (s : StoreView) → IsSound s → (k : Slot) (r : PageRef) → owner_of s.swap k.area k.slot ≡ Some r → (rec_by s.segs r).slot ≡ Some k
+slot-there s sound k r own = (sound.tied.pages r (sound.tied.slot_owners k r own)).owner_stored k own
+
+-- a slot was given back
+pub cleared-given : (k : Slot) (s : SwapView) (page : List ℕ) → IsSwap s → HasSlot s k.area k.slot → IsCleared k s (without_slot s k page)
+cleared-given k s page swap has =
+    let only : OnlySlot k s (without_slot s k page) = OnlySlot-given k s page in
+    let gone = owner-given k s page has.0 (omega (arith, has.1, (swap.each k.area).owned)) in
+    record {
+      free = gone;
+      rest = λ slot e.
+          let j : Slot = record { area = k.area; slot = slot } in
+          elim (cases_slot j k) [
+            | inl q ↦ let same : slot ≡ k.slot = ap (λ (x : Slot). x.slot) q in rw same gone
+            | inr n ↦ only.owners j n ∙ e
+          ];
+    }
+
+-- a page was written to another slot, and its old one given back
+pub relocated : (page : PageRef) (from to : Slot) (s : SwapView) (bytes last : List ℕ) → IsSwap s → IsSwap (with_slot_page (with_slot_owner s to (Some page)) to bytes) → HasSlot s from.area from.slot → IsFirstFree s (Some from.area) to
+    → page_in s from.area from.slot ≡ bytes → IsRelocated page from to s (without_slot (with_slot_page (with_slot_owner s to (Some page)) to bytes) from last)
+relocated page from to s bytes last swap sound has first is =
+    let t : SwapView = with_slot_owner s to (Some page) in
+    let u : SwapView = with_slot_page t to bytes in
+    let v : SwapView = without_slot u from last in
+    let taken : OnlySlot to s t = OnlySlot-owner to s (Some page) in
+    let written : OnlySlot to t u = OnlySlot-page to t bytes in
+    let given : OnlySlot from u v = OnlySlot-given from u last in
+    let both : OnlySlot to s u = OnlySlot-trans to s t u taken written in
+    let there : HasSlot t to.area to.slot = taken.has to first.there in
+    let at : HasSlot u from.area from.slot = both.has from has in
+    let ne : to ≢ from = λ e. first.outside (ap (λ (x : Slot). Some x.area) (sym e)) in
+    record {
+      first = first;
+      has = λ k h. given.has k (both.has k h);
+      owner = given.owners to ne ∙ owner-written to t bytes there ∙ owner-set to s (Some page) first.there.0 (omega (arith, first.there.1, (swap.each to.area).owned));
+      bytes = given.pages to ne ∙ page-written to t bytes there ∙ sym is;
+      gone = owner-given from u last at.0 (omega (arith, at.1, (sound.each from.area).owned));
+      owners = λ k f n. given.owners k f ∙ both.owners k n;
+      pages = λ k f n. given.pages k f ∙ both.pages k n;
+    }
+
+-- the write failed, and the new slot was given back
+pub relocated-not : (page : PageRef) (from to : Slot) (s u : SwapView) (last : List ℕ) → IsSwap s → IsSwap u → IsFirstFree s (Some from.area) to
+    → OneArea to.area (with_slot_owner s to (Some page)) u → WriteFault to.slot (area_at (with_slot_owner s to (Some page)) to.area) (area_at u to.area) → SameOwned s (without_slot u to last)
+relocated-not page from to s u last swap sound first one fault =
+    let t : SwapView = with_slot_owner s to (Some page) in
+    let v : SwapView = without_slot u to last in
+    let only : OnlySlot to s v = OnlySlot-trans to s t v (OnlySlot-owner to s (Some page)) (OnlySlot-trans to t u v (OnlySlot-fault to t u one fault) (OnlySlot-given to u last)) in
+    let at : HasSlot u to.area to.slot = (OnlySlot-fault to t u one fault).has to ((OnlySlot-owner to s (Some page)).has to first.there) in
+    let gone = owner-given to u last at.0 (omega (arith, at.1, (sound.each to.area).owned)) in
+    record {
+      has = only.has;
+      owners = λ k. elim (cases_slot k to) [ inl q ↦ rw q (gone ∙ sym first.free) | inr n ↦ only.owners k n ];
+      pages = λ k q e. only.pages k (λ same. let h : owner_of s to.area to.slot ≡ Some q = rw same at e in let f = first.free in cc);
+    }
+
+pub SameOwned-same : (s t : SwapView) → SameSlots s t → SameOwned s t
+SameOwned-same s t same = record {
+  has = λ k h. (rw same.areas h.0, rw (same.pages k.area) h.1);
+  owners = λ k. ap (λ os. get_or os k.slot None) (same.owners k.area);
+  pages = λ k q e. ap (λ ps. get_or ps k.slot []) (same.pages k.area);
+}
+
+-- a cause in the middle of steps that count no failure
+pub cause-within : (s t u v : SwapView) → IsSwap s → IsSteady s t → GoesOn t u → IsSteady u v → had_cause t u ≡ true → had_cause s v ≡ true
+cause-within s t u v swap a g b e = cause-more s u v b.goes_on (cause-before s t u (spent-cause s t swap a.goes_on) a.goes_on g e)
+
+pub cleared-relocated : (page : PageRef) (from to : Slot) (s t : SwapView) → IsRelocated page from to s t → IsCleared from s t
+cleared-relocated page from to s t is = record {
+  free = is.gone;
+  rest = λ slot e.
+      let j : Slot = record { area = from.area; slot = slot } in
+      elim (cases_slot j from) [
+        | inl q ↦ let same : slot ≡ from.slot = ap (λ (x : Slot). x.slot) q in rw same is.gone
+        | inr n ↦ is.owners j n (λ q. is.first.outside (ap (λ (x : Slot). Some x.area) q)) ∙ e
+      ];
+}
+
+-- no page's frame changed
+pub still-with : (s : StoreView) (r : PageRef) (p : PageRec) → HasPage s.segs r → p.frame ≡ (rec_by s.segs r).frame → (q : PageRef) → (rec_by (with_rec s.segs r p) q).frame ≡ (rec_by s.segs q).frame
+still-with s r p has same q = elim (cases_ref r q) [
+  | inl e ↦ rw e (ap (λ (x : PageRec). x.frame) (rec-with s.segs r p has) ∙ same)
+  | inr off ↦ ap (λ (x : PageRec). x.frame) (rec-with_other s.segs r q p off)
+]
+
+-- a resident page gives its slot back
+module _ (s : StoreView) (sound : IsSound s) (r : PageRef) (f : ℕ) (k : Slot) (u : SwapView) (place : rec_by s.segs r ≡ record { frame = Some f; slot = Some k }) (given : u ≡ without_slot s.swap k (page_in u k.area k.slot)) where
+  at_frame : (rec_by s.segs r).frame ≡ Some f
+  at_frame = ap (λ (p : PageRec). p.frame) place
+
+  at_slot : (rec_by s.segs r).slot ≡ Some k
+  at_slot = ap (λ (p : PageRec). p.slot) place
+
+  pub keeps-back : IsSwap u → IsSteady s.swap u
+      → Keeps s (record s { segs = with_rec s.segs r (record { frame = Some f; slot = None }); frames = set s.frames f (record (frame_at s.frames f) { dirty = true }); swap = u })
+  keeps-back is steady =
+      let has : HasPage s.segs r = has-frame s.segs r f at_frame in
+      let tie-s : IsTied s r = sound.tied.pages r has in
+      let own = tie-s.frame_owned f at_frame in
+      let p : PageRec = record { frame = Some f; slot = None } in
+      let x : Frame = record (frame_at s.frames f) { dirty = true } in
+      let t : StoreView = record s { segs = with_rec s.segs r p; frames = set s.frames f x; swap = u } in
+      let at : rec_by t.segs r ≡ p = rec-with s.segs r p has in
+      let set_at : frame_at (set s.frames f x) f ≡ x = get_or-set_same s.frames f x no_frame own.0 in
+      let was : IsOwn r (frame_at s.frames f).owner = IsOwn-some r (frame_at s.frames f).owner own.1 in
+      let now : IsOwn r x.owner = IsOwn-some r x.owner own.1 in
+      let sl : GivenSlots s r u = given-slots s sound r has u (Some k) at_slot given in
+      let to : Touches (other r) s t = record {
+        shape = outlines-with s.segs r p;
+        recs = λ q e. rec-with_other s.segs r q p e;
+        size = length-set s.frames f x;
+        frames = set_alike r s.frames f x was now;
+        owners = set_owners r s.frames f x was now;
+        free = set_free r s.frames f x was now (λ none. let o = own.1 in cc) sound.tied.free;
+        has = sl.has;
+        slots = sl.slots;
+        slot_owners = sl.owners;
+      } in
+      let same : bytes_at t r ≡ bytes_at s r =
+      ap (page_bytes t.frames t.swap) at ∙ ap (λ (y : Frame). y.bytes) set_at ∙ sym (bytes_by-some s.frames s.swap (rec_by s.segs r).frame (rec_by s.segs r).slot f at_frame) in
+      let tie : IsTied t r = record {
+        frame_owned = λ g e.
+            let h : Some f ≡ Some g = rw at at e in
+            let q : g ≡ f = some_same f g (Some f) refl h in
+            (rw (q, length-set s.frames f x) own.0, rw (q, set_at) own.1);
+        owner_resident = λ g e. elim (cases_eq g f) [
+          | inl q ↦ rw (at, q) refl
+          | inr n ↦ absurd (n (some_same f g (rec_by s.segs r).frame at_frame (tie-s.owner_resident g (rw (get_or-set_other s.frames f g x no_frame n) at e))))
+        ];
+        slot_owned = λ j e. let h : None ≡ Some j = rw at at e in cc;
+        owner_stored = λ j e. absurd (sl.none j e);
+        clean = λ g e d.
+            let h : Some f ≡ Some g = rw at at e in
+            let q : g ≡ f = some_same f g (Some f) refl h in
+            let c : true ≡ false = rw (q, set_at) at d in cc;
+        whole = rw same tie-s.whole;
+      } in
+      keeps-one s t sound r has to is steady.same_sizes (rw (length-set s.frames f x) sound.hand) steady.goes_on tie same
+
+-- a page that is not resident gets another slot
+module _ (s : StoreView) (sound : IsSound s) (r : PageRef) (from to : Slot) (u : SwapView) (place : rec_by s.segs r ≡ record { frame = None; slot = Some from }) (is : IsRelocated r from to s.swap u) where
+  away : (rec_by s.segs r).frame ≡ None
+  away = ap (λ (p : PageRec). p.frame) place
+
+  was_in : (rec_by s.segs r).slot ≡ Some from
+  was_in = ap (λ (p : PageRec). p.slot) place
+
+  pub keeps-carried : IsSwap u → sizes u ≡ sizes s.swap → GoesOn s.swap u → Keeps s (record s { segs = with_rec s.segs r (record { frame = None; slot = Some to }); swap = u })
+  keeps-carried sw sized goes_on =
+      let has : HasPage s.segs r = has-slot s.segs r from was_in in
+      let tie-s : IsTied s r = sound.tied.pages r has in
+      let p : PageRec = record { frame = None; slot = Some to } in
+      let t : StoreView = record s { segs = with_rec s.segs r p; swap = u } in
+      let at : rec_by t.segs r ≡ p = rec-with s.segs r p has in
+      let own = (tie-s.slot_owned from was_in).1 in
+      let not_from : (k : Slot) (q : PageRef) → other r q ≡ true → owner_of s.swap k.area k.slot ≡ Some q → k ≢ from = λ k q off o e. other_ne r q off (some_same r q (owner_of s.swap from.area from.slot) own (rw e at o)) in
+      let not_to : (k : Slot) (q : PageRef) → owner_of s.swap k.area k.slot ≡ Some q → k ≢ to = λ k q o e. (let h : owner_of s.swap to.area to.slot ≡ Some q = rw e at o in let f = is.first.free in cc) in
+      let touched : Touches (other r) s t = record {
+        shape = outlines-with s.segs r p;
+        recs = λ q e. rec-with_other s.segs r q p e;
+        size = refl;
+        frames = λ g q e o. Alike-refl (frame_at s.frames g);
+        owners = λ g q e o. o;
+        free = sound.tied.free;
+        has = is.has;
+        slots = λ k q off o. (is.owners k (not_from k q off o) (not_to k q o) ∙ o, is.pages k (not_from k q off o) (not_to k q o));
+        slot_owners = λ k q off o. elim (cases_slot k to) [
+          | inl e ↦ absurd (other_ne r q off (some_same r q (owner_of u to.area to.slot) is.owner (rw e at o)))
+          | inr n ↦ elim (cases_slot k from) [
+            | inl e ↦ absurd (let h : owner_of u from.area from.slot ≡ Some q = rw e at o in let g = is.gone in cc)
+            | inr m ↦ sym (is.owners k m n) ∙ o
+          ]
+        ];
+      } in
+      let same : bytes_at t r ≡ bytes_at s r =
+      ap (page_bytes t.frames t.swap) at ∙ is.bytes ∙ sym (ap (page_bytes s.frames s.swap) place) in
+      let tie : IsTied t r = record {
+        frame_owned = λ g e. let h : None ≡ Some g = rw at at e in cc;
+        owner_resident = λ g e. absurd (let h : (rec_by s.segs r).frame ≡ Some g = tie-s.owner_resident g e in let a = away in cc);
+        slot_owned = λ j e.
+            let h : Some to ≡ Some j = rw at at e in
+            let q : j ≡ to = some_same to j (Some to) refl h in
+            (rw q (is.has to is.first.there), rw q is.owner);
+        owner_stored = λ j e. elim (cases_slot j to) [
+          | inl q ↦ rw (at, q) refl
+          | inr n ↦ elim (cases_slot j from) [
+            | inl q ↦ absurd (let h : owner_of u from.area from.slot ≡ Some r = rw q at e in let g = is.gone in cc)
+            | inr m ↦ absurd (m (some_same from j (rec_by s.segs r).slot was_in (tie-s.owner_stored j (sym (is.owners j m n) ∙ e))))
+          ]
+        ];
+        clean = λ g e d. let h : None ≡ Some g = rw at at e in cc;
+        whole = rw same tie-s.whole;
+      } in
+      keeps-one s t sound r has touched sw sized sound.hand goes_on tie same
+
+-- no page moves, and no owned slot changes
+module _ (s : StoreView) (sound : IsSound s) (u : SwapView) (owned : SameOwned s.swap u) where
+  each_page : PageRef → Bool
+  each_page q = true
+
+  pub keeps-owned : IsSwap u → sizes u ≡ sizes s.swap → GoesOn s.swap u → Keeps s (record s { swap = u })
+  unfolding each_page
+  keeps-owned is same goes_on =
+      let t : StoreView = record s { swap = u } in
+      let to : Touches each_page s t = record {
+        shape = refl;
+        recs = λ q e. refl;
+        size = refl;
+        frames = λ g q e o. Alike-refl (frame_at s.frames g);
+        owners = λ g q e o. o;
+        free = sound.tied.free;
+        has = owned.has;
+        slots = λ k q e o. (owned.owners k ∙ o, owned.pages k q o);
+        slot_owners = λ k q e o. sym (owned.owners k) ∙ o;
+      } in
+      record {
+        sound = sound-touched each_page s t sound to is same sound.hand (λ q n h. cc) (λ g q n h. cc) (λ k q n h. cc);
+        goes = goes-touched each_page s t sound to is same sound.hand (λ q n h. cc) (λ g q n h. cc) (λ k q n h. cc) goes_on (λ q n h. cc);
+      }
+
+-- an area none of whose slots is owned goes
+module _ (s : StoreView) (sound : IsSound s) (area : ℕ) (here : (area_at s.swap area).here ≡ true) (free : (j : ℕ) → owner_of s.swap area j ≡ None) where
+  abbrev pub without_area : StoreView
+  without_area = record s { swap = with_area s.swap area (off (area_at s.swap area)) }
+
+  area-other : (k : Slot) → k.area ≢ area → area_at (with_area s.swap area (off (area_at s.swap area))) k.area ≡ area_at s.swap k.area
+  area-other k n = get_or-set_other s.swap.areas area k.area (off (area_at s.swap area)) no_area n
+
+  area-off : area_at (with_area s.swap area (off (area_at s.swap area))) area ≡ off (area_at s.swap area)
+  area-off = get_or-set_same s.swap.areas area (off (area_at s.swap area)) no_area (here-lt s.swap area here)
+
+  owned-outside : (k : Slot) (q : PageRef) → owner_of s.swap k.area k.slot ≡ Some q → k.area ≢ area
+  owned-outside k q o e = let h : owner_of s.swap area k.slot ≡ Some q = rw e at o in let f = free k.slot in cc
+
+  owned-after : (k : Slot) (q : PageRef) → owner_of without_area.swap k.area k.slot ≡ Some q → owner_of s.swap k.area k.slot ≡ Some q
+  owned-after k q o = elim (cases_eq k.area area) [
+    | inl e ↦ absurd (let h : None ≡ Some q = rw (e, area-off) at o in cc)
+    | inr n ↦ rw (area-other k n) at o
+  ]
+
+  stored-off : (r : PageRef) → IsTied s r → (o : Option Slot) → (rec_by s.segs r).slot ≡ o → stored without_area.swap o ≡ stored s.swap o
+  stored-off r tie None e = refl
+  stored-off r tie (Some k) e = ap (λ (a : AreaView). get_or a.pages k.slot []) (area-other k (owned-outside k r (tie.slot_owned k e).1))
+
+  bytes-off : (r : PageRef) → IsTied s r → (o : Option ℕ) → bytes_by s.frames without_area.swap o (rec_by s.segs r).slot ≡ bytes_by s.frames s.swap o (rec_by s.segs r).slot
+  bytes-off r tie None = stored-off r tie (rec_by s.segs r).slot refl
+  bytes-off r tie (Some f) = refl
+
+  tied-off : Tied without_area
+  tied-off = record {
+    pages = λ r has.
+        let tie = sound.tied.pages r has in
+        record {
+          frame_owned = tie.frame_owned;
+          owner_resident = tie.owner_resident;
+          slot_owned = λ k e.
+              let own = tie.slot_owned k e in
+              let n = owned-outside k r own.1 in
+              ((rw (length-set s.swap.areas area (off (area_at s.swap area))) own.0.0, rw (area-other k n) own.0.1), rw (area-other k n) own.1);
+          owner_stored = λ k e. tie.owner_stored k (owned-after k r e);
+          clean = λ f e d. tie.clean f e d ∙ sym (stored-off r tie (rec_by s.segs r).slot refl);
+          whole = rw (bytes-off r tie (rec_by s.segs r).frame) tie.whole;
+        };
+    owners = sound.tied.owners;
+    slot_owners = λ k r e. sound.tied.slot_owners k r (owned-after k r e);
+    free = sound.tied.free;
+  }
+
+  pub held-off : held without_area ≡ held s
+  held-off = held-same s without_area sound.apart sound.apart refl (λ r has. bytes-off r (sound.tied.pages r has) (rec_by s.segs r).frame)
+
+  pub sound-off : IsSwap (with_area s.swap area (off (area_at s.swap area))) → sizes (with_area s.swap area (off (area_at s.swap area))) ≡ set (sizes s.swap) area None
+      → pages_held (held s) + length (area_at s.swap area).pages ≤ slots s.swap → IsSound without_area
+  sound-off is same room =
+      let lt : area < length (sizes s.swap) = rw (length-map s.swap.areas size_of) (here-lt s.swap area here) in
+      let sum = sum_by-set slots_in (sizes s.swap) area None None lt in
+      let size : slots_in (get_or (sizes s.swap) area None) ≡ length (area_at s.swap area).pages = rw (size-at s.swap area, here) refl in
+      let after : slots without_area.swap ≡ sum_by slots_in (set (sizes s.swap) area None) = ap (λ l. sum_by slots_in l) same in
+      let all = pages_held-is s sound in
+      IsSound-from without_area tied-off sound.apart sound.frames is sound.hand
+      (omega (arith, sum, size, after, all, room))
+      sound.locked
+
+-- the first slots of an area are free, and all else is as it was
+pub record IsCleaned (area n : ℕ) (s t : StoreView) : Type 0 where
+  pub sound : IsSound t
+  pub goes : Goes s t
+  pub still : Still s t
+  pub free : (slot : ℕ) → slot < n → owner_of t.swap area slot ≡ None
+
+pub cleaned-none : (area : ℕ) (s : StoreView) → IsSound s → IsCleaned area 0 s s
+cleaned-none area s sound = record { sound = sound; goes = Goes-refl s; still = λ q. refl; free = λ slot lt. absurd (omega arith) }
+
+pub cleaned-more : (area n : ℕ) (s t u : StoreView) → IsCleaned area n s t → IsSound u → Goes t u → Still t u → IsCleared (record { area = area; slot = n }) t.swap u.swap → IsCleaned area (n + 1) s u
+cleaned-more area n s t u d sound goes still cleared = record {
+  sound = sound;
+  goes = Goes-trans s t u d.goes goes;
+  still = λ q. still q ∙ d.still q;
+  free = λ slot lt. elim (cases_eq slot n) [
+    | inl e ↦ rw e cleared.free
+    | inr ne ↦ cleared.rest slot (d.free slot (omega arith))
+  ];
+}
+
+-- all slots are free once those that the area has are
+pub cleaned-all : (area n : ℕ) (s t : StoreView) → IsCleaned area n s t → length (area_at t.swap area).pages ≤ n → (slot : ℕ) → owner_of t.swap area slot ≡ None
+cleaned-all area n s t d le slot = elim (cases_lt slot n) [
+  | inl lt ↦ d.free slot lt
+  | inr past ↦ get_or_past (area_at t.swap area).owners slot None (omega (arith, past, le, (d.sound.swap.each area).owned))
+]
+
+module _ (area n : ℕ) (s t : StoreView) (d : IsCleaned area n s t) (here : (area_at s.swap area).here ≡ true) where
+  pub cleaned-here : ((area_at t.swap area).here ≡ true) × (length (area_at t.swap area).pages ≡ length (area_at s.swap area).pages)
+  cleaned-here = pages-same s.swap t.swap area d.goes.same_sizes here
+
+  pub cleaned-there : n < length (area_at s.swap area).pages → HasSlot t.swap area n
+  cleaned-there lt = let same = cleaned-here.1 in (here-lt t.swap area cleaned-here.0, omega (arith, lt, same))
+
+  pub cleaned-room : pages_held (held s) + length (area_at s.swap area).pages ≤ slots s.swap → pages_held (held t) + length (area_at t.swap area).pages ≤ slots t.swap
+  cleaned-room room =
+      let same = cleaned-here.1 in
+      let all : pages_held (held t) ≡ pages_held (held s) = ap pages_held d.goes.bytes in
+      let sum : slots t.swap ≡ slots s.swap = ap (λ l. sum_by slots_in l) d.goes.same_sizes in
+      omega (arith, room, same, all, sum)

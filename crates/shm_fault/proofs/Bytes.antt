@@ -1,0 +1,161 @@
+-- The bytes of segments, from those of their pages.
+use Rattle.std.proofs.Common.{◌≡◌, ◌≢◌, ℕ, zero, suc, ◌<◌, ◌≤◌, ◌+◌, ◌-◌, ◌*◌, List, [], ◌∷◌, ◌++◌, map, length, take, drop, None, refl, sym, ap, ◌∙◌, inl, inr, arith, append_assoc, length-append, length-take, length-drop}
+use Rattle.std.specs.List.{flat_map}
+use Rattle.std.proofs.lemmas.Bool.{cases_eq, eq-eqb, ne_eqb}
+use Rattle.std.proofs.lemmas.List.{take-append-le, drop-append-le}
+use Rattle.shm_base.specs.declared.paging.PageRef.{PageRef}
+use Rattle.shm_plain.specs.Held.{Held, paste}
+use Rattle.shm_slots.specs.View.{SwapView}
+use Rattle.shm_frames.specs.Frame.{Frame}
+use Rattle.shm_fault.specs.declared.segments.PageRec.{PageRec}
+use Rattle.shm_fault.specs.Segs.{SegRec, rec_at, find_seg, AreApart, rec_by, HasPage}
+use Rattle.shm_fault.specs.Store.{StoreView, page_bytes, held_by, held}
+use Rattle.shm_fault.specs.Goes.{Outline, outline, outlines}
+
+-- the bytes of so many pages of a segment, from page i on, joined
+unfoldable pub joined : (PageRef → List ℕ) → ℕ → ℕ → ℕ → List ℕ
+joined b id i zero = []
+joined b id i (suc n) = b (record { seg = id; page = i }) ++ joined b id (suc i) n
+
+abbrev pub held_one : (PageRef → List ℕ) → Outline → Held
+held_one b o = record { id = o.id; locked = o.locked; bytes = joined b o.id 0 o.count }
+
+-- the segments of these outlines, with the bytes that a function gives each page
+abbrev pub held_of : (PageRef → List ℕ) → List Outline → List Held
+held_of b os = map (held_one b) os
+
+-- the bytes of a page
+abbrev pub bytes_at : StoreView → PageRef → List ℕ
+bytes_at s r = page_bytes s.frames s.swap (rec_by s.segs r)
+
+pub joined-ext : (b c : PageRef → List ℕ) (id i n : ℕ) → ((j : ℕ) → j < n → b (record { seg = id; page = i + j }) ≡ c (record { seg = id; page = i + j })) → joined b id i n ≡ joined c id i n
+unfolding joined
+joined-ext b c id i zero same = refl
+joined-ext b c id i (suc n) same =
+    let z : i + 0 ≡ i = omega arith in
+    let here : b (record { seg = id; page = i }) ≡ c (record { seg = id; page = i }) = rw z at (same 0 (omega arith)) in
+    let rest = joined-ext b c id (suc i) n (λ j l. let s : i + suc j ≡ suc i + j = omega arith in rw s at (same (suc j) (omega arith))) in
+    cc
+
+-- pages that have the same bytes make the same segments
+pub held_of-ext : (b c : PageRef → List ℕ) (gs : List SegRec) → AreApart gs → ((r : PageRef) → HasPage gs r → b r ≡ c r) → held_of b (outlines gs) ≡ held_of c (outlines gs)
+held_of-ext b c [] apart same = refl
+held_of-ext b c (g ∷ gs) apart same =
+    let here : joined b g.id 0 (length g.pages) ≡ joined c g.id 0 (length g.pages) = joined-ext b c g.id 0 (length g.pages) (λ j l.
+    let z : 0 + j ≡ j = omega arith in
+    rw z (same (record { seg = g.id; page = j }) (rw (eq-eqb g.id g.id refl) l))) in
+    let rest : held_of b (outlines gs) ≡ held_of c (outlines gs) = held_of-ext b c gs apart.1 (λ r has. elim (cases_eq g.id r.seg) [
+      | inl e ↦ absurd (let none : find_seg gs r.seg ≡ None = rw e at apart.0 in let no_count : r.page < 0 = rw none at has in omega arith)
+      | inr n ↦ same r (rw (ne_eqb g.id r.seg n) has)
+    ]) in
+    let one : held_one b (outline g) ≡ held_one c (outline g) = ap (λ bs. record { id = g.id; locked = g.locked; bytes = bs }) here in
+    cc
+
+joined-pages : (frames : List Frame) (swap : SwapView) (id i : ℕ) (ps : List PageRec) (b : PageRef → List ℕ) → ((j : ℕ) → j < length ps → b (record { seg = id; page = i + j }) ≡ page_bytes frames swap (rec_at ps j))
+    → flat_map (page_bytes frames swap) ps ≡ joined b id i (length ps)
+unfolding joined
+joined-pages frames swap id i [] b is = refl
+joined-pages frames swap id i (p ∷ ps) b is =
+    let z : i + 0 ≡ i = omega arith in
+    let here : b (record { seg = id; page = i }) ≡ page_bytes frames swap p = rw z at (is 0 (omega arith)) in
+    let rest = joined-pages frames swap id (suc i) ps b (λ j l. let s : i + suc j ≡ suc i + j = omega arith in rw s at (is (suc j) (omega arith))) in
+    rw (here, rest) refl
+
+-- the held segments, by the bytes of their pages
+held-list : (frames : List Frame) (swap : SwapView) (gs : List SegRec) (b : PageRef → List ℕ) → AreApart gs → ((r : PageRef) → HasPage gs r → b r ≡ page_bytes frames swap (rec_by gs r)) → map (held_by frames swap) gs ≡ held_of b (outlines gs)
+held-list frames swap [] b apart is = refl
+held-list frames swap (g ∷ gs) b apart is =
+    let here : flat_map (page_bytes frames swap) g.pages ≡ joined b g.id 0 (length g.pages) = joined-pages frames swap g.id 0 g.pages b (λ j l.
+    let z : 0 + j ≡ j = omega arith in
+    let e = is (record { seg = g.id; page = j }) (rw (eq-eqb g.id g.id refl) l) in
+    rw z (rw (eq-eqb g.id g.id refl) at e)) in
+    let rest : map (held_by frames swap) gs ≡ held_of b (outlines gs) = held-list frames swap gs b apart.1 (λ r has. elim (cases_eq g.id r.seg) [
+      | inl e ↦ absurd (let none : find_seg gs r.seg ≡ None = rw e at apart.0 in let no_count : r.page < 0 = rw none at has in omega arith)
+      | inr n ↦ rw (ne_eqb g.id r.seg n) at (is r (rw (ne_eqb g.id r.seg n) has))
+    ]) in
+    let one : held_by frames swap g ≡ held_one b (outline g) = ap (λ bs. record { id = g.id; locked = g.locked; bytes = bs }) here in
+    cc
+
+pub held-is : (s : StoreView) → AreApart s.segs → held s ≡ held_of (bytes_at s) (outlines s.segs)
+unfolding held
+held-is s apart = held-list s.frames s.swap s.segs (bytes_at s) apart (λ r has. refl)
+
+-- no page's bytes changed
+pub held-same : (s t : StoreView) → AreApart s.segs → AreApart t.segs → outlines t.segs ≡ outlines s.segs → ((r : PageRef) → HasPage s.segs r → bytes_at t r ≡ bytes_at s r) → held t ≡ held s
+held-same s t apart after shape same =
+    held-is t after ∙ ap (held_of (bytes_at t)) shape ∙ held_of-ext (bytes_at t) (bytes_at s) s.segs apart same ∙ sym (held-is s apart)
+
+take-past : (x y : List ℕ) (n m : ℕ) → length x ≡ n → take (n + m) (x ++ y) ≡ x ++ take m y
+take-past [] y n m e = let z : n + m ≡ m = omega arith in rw z refl
+take-past (a ∷ x) y zero m e = absurd (omega arith)
+take-past (a ∷ x) y (suc n) m e = let s : suc n + m ≡ suc (n + m) = omega arith in rw s (ap (λ l. a ∷ l) (take-past x y n m (omega arith)))
+
+drop-past : (x y : List ℕ) (n m : ℕ) → length x ≡ n → drop (n + m) (x ++ y) ≡ drop m y
+drop-past [] y n m e = let z : n + m ≡ m = omega arith in rw z refl
+drop-past (a ∷ x) y zero m e = absurd (omega arith)
+drop-past (a ∷ x) y (suc n) m e = let s : suc n + m ≡ suc (n + m) = omega arith in rw s (drop-past x y n m (omega arith))
+
+paste-front : (x y new : List ℕ) (off : ℕ) → off + length new ≤ length x → paste (x ++ y) off new ≡ paste x off new ++ y
+paste-front x y new off le =
+    let a : take off (x ++ y) ≡ take off x = take-append-le off x y (omega arith) in
+    let b : drop (off + length new) (x ++ y) ≡ drop (off + length new) x ++ y = drop-append-le (off + length new) x y le in
+    rw (a, b) (sym (append_assoc (take off x ++ new) (drop (off + length new) x) y))
+
+paste-back : (x y new : List ℕ) (n m : ℕ) → length x ≡ n → paste (x ++ y) (n + m) new ≡ x ++ paste y m new
+paste-back x y new n m e =
+    let s : n + m + length new ≡ n + (m + length new) = omega arith in
+    rw (s, take-past x y n m e, drop-past x y n (m + length new) e)
+    (ap (λ l. l ++ drop (m + length new) y) (append_assoc x (take m y) new) ∙ append_assoc x (take m y ++ new) (drop (m + length new) y))
+
+-- a stretch of one page pasted, or read, in the bytes of all
+module _ (b : PageRef → List ℕ) (r : PageRef) (n : ℕ) (whole : (j : ℕ) → j < n → length (b (record { seg = r.seg; page = j })) ≡ 4096) where
+  pub joined-paste : (c : PageRef → List ℕ) (new : List ℕ) (off i k : ℕ) → i + k ≡ n → i ≤ r.page → r.page < n → off + length new ≤ 4096
+      → c r ≡ paste (b r) off new → ((j : ℕ) → j ≢ r.page → c (record { seg = r.seg; page = j }) ≡ b (record { seg = r.seg; page = j }))
+      → joined c r.seg i k ≡ paste (joined b r.seg i k) (4096 * (r.page - i) + off) new
+  unfolding joined
+  joined-paste c new off i zero e le lt fits here others = absurd (omega arith)
+  joined-paste c new off i (suc k) e le lt fits here others = elim (cases_eq i r.page) [
+    | inl at ↦
+        let z : 4096 * (r.page - i) + off ≡ off = omega arith in
+        let w : length (b (record { seg = r.seg; page = i })) ≡ 4096 = whole i (omega arith) in
+        let first : c (record { seg = r.seg; page = i }) ≡ paste (b (record { seg = r.seg; page = i })) off new = rw at here in
+        let rest : joined c r.seg (suc i) k ≡ joined b r.seg (suc i) k = joined-ext c b r.seg (suc i) k (λ j l. others (suc i + j) (omega arith)) in
+        rw (z, first, rest) (sym (paste-front (b (record { seg = r.seg; page = i })) (joined b r.seg (suc i) k) new off (omega arith)))
+    | inr n' ↦
+        let s : 4096 * (r.page - i) + off ≡ 4096 + (4096 * (r.page - suc i) + off) = omega arith in
+        let w : length (b (record { seg = r.seg; page = i })) ≡ 4096 = whole i (omega arith) in
+        let rest = joined-paste c new off (suc i) k (omega arith) (omega arith) lt fits here others in
+        rw (s, others i n', rest) (sym (paste-back (b (record { seg = r.seg; page = i })) (joined b r.seg (suc i) k) new 4096 (4096 * (r.page - suc i) + off) w))
+  ]
+
+  pub joined-read : (len off i k : ℕ) → i + k ≡ n → i ≤ r.page → r.page < n → off + len ≤ 4096
+      → take len (drop (4096 * (r.page - i) + off) (joined b r.seg i k)) ≡ take len (drop off (b r))
+  unfolding joined
+  joined-read len off i zero e le lt fits = absurd (omega arith)
+  joined-read len off i (suc k) e le lt fits = elim (cases_eq i r.page) [
+    | inl at ↦
+        let z : 4096 * (r.page - i) + off ≡ off = omega arith in
+        let x = b (record { seg = r.seg; page = i }) in
+        let w : length x ≡ 4096 = whole i (omega arith) in
+        let d : drop off (x ++ joined b r.seg (suc i) k) ≡ drop off x ++ joined b r.seg (suc i) k = drop-append-le off x (joined b r.seg (suc i) k) (omega arith) in
+        let t : take len (drop off x ++ joined b r.seg (suc i) k) ≡ take len (drop off x) = take-append-le len (drop off x) (joined b r.seg (suc i) k) (omega (arith, length-drop off x)) in
+        rw (z, d, t, at) refl
+    | inr n' ↦
+        let s : 4096 * (r.page - i) + off ≡ 4096 + (4096 * (r.page - suc i) + off) = omega arith in
+        let x = b (record { seg = r.seg; page = i }) in
+        let w : length x ≡ 4096 = whole i (omega arith) in
+        let rest = joined-read len off (suc i) k (omega arith) (omega arith) lt fits in
+        rw (s, drop-past x (joined b r.seg (suc i) k) 4096 (4096 * (r.page - suc i) + off) w) rest
+  ]
+
+  pub length-joined : (i k : ℕ) → i + k ≡ n → length (joined b r.seg i k) ≡ 4096 * k
+  unfolding joined
+  length-joined i zero e = refl
+  length-joined i (suc k) e =
+      let w = whole i (omega arith) in
+      let rest = length-joined (suc i) k (omega arith) in
+      omega (arith, w, rest, length-append (b (record { seg = r.seg; page = i })) (joined b r.seg (suc i) k))
+
+pub length-paste : (xs : List ℕ) (at : ℕ) (new : List ℕ) → at + length new ≤ length xs → length (paste xs at new) ≡ length xs
+length-paste xs at new le =
+    omega (arith, length-append (take at xs ++ new) (drop (at + length new) xs), length-append (take at xs) new, length-take at xs, length-drop (at + length new) xs)

@@ -1,0 +1,414 @@
+-- Each step of a page from one place to another, and what it keeps.
+use Rattle.std.proofs.Common.{◌≡◌, ◌≢◌, ◌⊎◌, ℕ, ◌<◌, ◌≤◌, Bool, true, false, List, [], length, get_or, set, Option, Some, None, refl, sym, ap, ◌∙◌, inl, inr, arith, length-set, get_or-set_same, get_or-set_other, set-set}
+use Rattle.std.specs.Prelude.{IsSome}
+use Rattle.std.proofs.lemmas.Bool.{cases_eq, cases_lt}
+use Rattle.std.proofs.lemmas.List.{set_past}
+use Rattle.shm_base.specs.declared.paging.PageRef.{PageRef}
+use Rattle.shm_base.specs.declared.paging.Slot.{Slot}
+use Rattle.shm_slots.specs.View.{SwapView, IsSwap, sizes, owner_of, page_in, HasSlot, SameSlots, with_slot_owner}
+use Rattle.shm_slots.specs.Cause.{GoesOn}
+use Rattle.shm_frames.specs.Frame.{Frame, no_frame, frame_at}
+use Rattle.shm_fault.specs.declared.segments.PageRec.{PageRec}
+use Rattle.shm_fault.specs.Segs.{rec_by, count_by_id, HasPage, with_rec}
+use Rattle.shm_fault.specs.Store.{StoreView, stored, bytes_by, page_bytes}
+use Rattle.shm_fault.specs.Sound.{IsTied, IsSound}
+use Rattle.shm_fault.specs.Goes.{Alike, Goes}
+use Rattle.shm_fault.proofs.Pages.{outlines-with, rec-with, rec-with_other, other, other-false, other-true, has-frame, rec-past}
+use Rattle.shm_fault.proofs.Slots.{OnlySlot, OnlySlot-owner, owner-set, cases_slot}
+use Rattle.shm_fault.proofs.Ties.{Alike-refl, Touches, IsOwn, IsOwn-none, IsOwn-some, set_alike, set_owners, set_free, only_slots, only_owners, bytes_touched}
+use Rattle.shm_fault.proofs.Bytes.{bytes_at}
+use Rattle.shm_fault.proofs.Sound.{sound-touched, goes-touched, GoesOn-refl}
+
+-- the page of a frame that has one
+pub record Own (o : Option PageRef) : Type 0 where
+  pub page : PageRef
+  pub is : o ≡ Some page
+
+pub own : (o : Option PageRef) → IsSome o → Own o
+own None e = cc
+own (Some r) e = record { page = r; is = refl }
+
+-- sound, and all bytes kept
+pub record Keeps (s t : StoreView) : Type 0 where
+  pub sound : IsSound t
+  pub goes : Goes s t
+
+pub bytes_by-some : (frames : List Frame) (u : SwapView) (o : Option ℕ) (k : Option Slot) (f : ℕ) → o ≡ Some f → bytes_by frames u o k ≡ (frame_at frames f).bytes
+bytes_by-some frames u o k f e = rw e refl
+
+pub bytes_by-none : (frames : List Frame) (u : SwapView) (o : Option ℕ) (k : Option Slot) → o ≡ None → bytes_by frames u o k ≡ stored u k
+bytes_by-none frames u o k e = rw e refl
+
+pub some_same : {X : Type 0} (x y : X) (o : Option X) → o ≡ Some x → o ≡ Some y → y ≡ x
+some_same x y o a b = cc
+
+-- one page is touched
+module _ (s t : StoreView) (sound : IsSound s) (r : PageRef) (has : HasPage s.segs r) (to : Touches (other r) s t) (swap : IsSwap t.swap) (same : sizes t.swap ≡ sizes s.swap) (hand : t.hand < length t.frames) (goes_on : GoesOn s.swap t.swap) (tie : IsTied t r) where
+  here : (q : PageRef) → other r q ≡ false → HasPage s.segs q → IsTied t q
+  here q on h = let e = other-false r q on in rw e tie
+
+  own_frame : (f : ℕ) (q : PageRef) → other r q ≡ false → (frame_at t.frames f).owner ≡ Some q → HasPage s.segs q
+  own_frame f q on h = let e = other-false r q on in rw e has
+
+  own_slot : (k : Slot) (q : PageRef) → other r q ≡ false → owner_of t.swap k.area k.slot ≡ Some q → HasPage s.segs q
+  own_slot k q on h = let e = other-false r q on in rw e has
+
+  pub sound-one : IsSound t
+  sound-one = sound-touched (other r) s t sound to swap same hand here own_frame own_slot
+
+  pub keeps-one : bytes_at t r ≡ bytes_at s r → Keeps s t
+  keeps-one bytes = record {
+    sound = sound-one;
+    goes = goes-touched (other r) s t sound to swap same hand here own_frame own_slot goes_on (λ q on h. let e = other-false r q on in rw e bytes);
+  }
+
+-- no page is touched: frames are alike, and slots as they were
+module _ (s : StoreView) (sound : IsSound s) (frames : List Frame) (hand : ℕ) (swap : SwapView) (ins outs : ℕ) (size : length frames ≡ length s.frames) (alike : (f : ℕ) → Alike (frame_at s.frames f) (frame_at frames f)) (kept : SameSlots s.swap swap) where
+  after-alike : StoreView
+  after-alike = record { segs = s.segs; frames = frames; hand = hand; swap = swap; ins = ins; outs = outs }
+
+  any : PageRef → Bool
+  any q = true
+
+  to-alike : Touches any s (record { segs = s.segs; frames = frames; hand = hand; swap = swap; ins = ins; outs = outs })
+  to-alike = record {
+    shape = refl;
+    recs = λ q e. refl;
+    size = size;
+    frames = λ f q e o. alike f;
+    owners = λ f q e o. sym (alike f).owner ∙ o;
+    free = λ f e. (alike f).dirty ∙ sound.tied.free f (sym (alike f).owner ∙ e);
+    has = λ k h. (rw kept.areas h.0, rw (kept.pages k.area) h.1);
+    slots = λ k q e o. (ap (λ os. get_or os k.slot None) (kept.owners k.area) ∙ o, ap (λ ps. get_or ps k.slot []) (kept.pages k.area));
+    slot_owners = λ k q e o. sym (ap (λ os. get_or os k.slot None) (kept.owners k.area)) ∙ o;
+  }
+
+  pub keeps-alike : IsSwap swap → sizes swap ≡ sizes s.swap → hand < length frames → GoesOn s.swap swap → Keeps s (record { segs = s.segs; frames = frames; hand = hand; swap = swap; ins = ins; outs = outs })
+  unfolding any
+  keeps-alike is same on goes_on =
+      let t : StoreView = record { segs = s.segs; frames = frames; hand = hand; swap = swap; ins = ins; outs = outs } in
+      record {
+        sound = sound-touched any s t sound to-alike is same on (λ q n h. cc) (λ f q n h. cc) (λ k q n h. cc);
+        goes = goes-touched any s t sound to-alike is same on (λ q n h. cc) (λ f q n h. cc) (λ k q n h. cc) goes_on (λ q n h. cc);
+      }
+
+pub SameSlots-refl : (s : SwapView) → SameSlots s s
+SameSlots-refl s = record { areas = refl; pages = λ a. refl; owners = λ a. refl }
+
+-- a resident page's frame was written to its slot, or the try failed
+module _ (s : StoreView) (sound : IsSound s) (r : PageRef) (f : ℕ) (k : Slot) (x : Frame) (u : SwapView) (ins outs : ℕ)
+    (owned : (frame_at s.frames f).owner ≡ Some r) (slot : (rec_by s.segs r).slot ≡ Some k)
+    (x_owner : x.owner ≡ Some r) (x_bytes : x.bytes ≡ (frame_at s.frames f).bytes)
+    (only : OnlySlot k s.swap u) (owner : owner_of u k.area k.slot ≡ owner_of s.swap k.area k.slot)
+    (clean : x.dirty ≡ false → x.bytes ≡ page_in u k.area k.slot) where
+  has-wb : HasPage s.segs r
+  has-wb = sound.tied.owners f r owned
+
+  tie-wb : IsTied s r
+  tie-wb = sound.tied.pages r has-wb
+
+  at-wb : (rec_by s.segs r).frame ≡ Some f
+  at-wb = tie-wb.owner_resident f owned
+
+  lt-wb : f < length s.frames
+  lt-wb = (tie-wb.frame_owned f at-wb).0
+
+  set-wb : frame_at (set s.frames f x) f ≡ x
+  set-wb = get_or-set_same s.frames f x no_frame lt-wb
+
+  own-wb : owner_of s.swap k.area k.slot ≡ Some r
+  own-wb = (tie-wb.slot_owned k slot).1
+
+  pub keeps-write : IsSwap u → sizes u ≡ sizes s.swap → GoesOn s.swap u → Keeps s (record { segs = s.segs; frames = set s.frames f x; hand = s.hand; swap = u; ins = ins; outs = outs })
+  keeps-write is same goes_on =
+      let t : StoreView = record { segs = s.segs; frames = set s.frames f x; hand = s.hand; swap = u; ins = ins; outs = outs } in
+      let was : IsOwn r (frame_at s.frames f).owner = IsOwn-some r (frame_at s.frames f).owner owned in
+      let now : IsOwn r x.owner = IsOwn-some r x.owner x_owner in
+      let slot_was : IsOwn r (owner_of s.swap k.area k.slot) = IsOwn-some r (owner_of s.swap k.area k.slot) own-wb in
+      let slot_now : IsOwn r (owner_of u k.area k.slot) = IsOwn-some r (owner_of u k.area k.slot) (owner ∙ own-wb) in
+      let to : Touches (other r) s t = record {
+        shape = refl;
+        recs = λ q e. refl;
+        size = length-set s.frames f x;
+        frames = set_alike r s.frames f x was now;
+        owners = set_owners r s.frames f x was now;
+        free = set_free r s.frames f x was now (λ none. cc) sound.tied.free;
+        has = only.has;
+        slots = only_slots r k s.swap u only slot_was slot_now;
+        slot_owners = only_owners r k s.swap u only slot_was slot_now;
+      } in
+      let bytes : page_bytes t.frames t.swap (rec_by s.segs r) ≡ page_bytes s.frames s.swap (rec_by s.segs r) =
+      bytes_by-some t.frames t.swap (rec_by s.segs r).frame (rec_by s.segs r).slot f at-wb ∙ ap (λ (y : Frame). y.bytes) set-wb ∙ x_bytes ∙ sym (bytes_by-some s.frames s.swap (rec_by s.segs r).frame (rec_by s.segs r).slot f at-wb) in
+      let tie : IsTied t r = record {
+        frame_owned = λ g e. let q : g ≡ f = some_same f g (rec_by s.segs r).frame at-wb e in (rw (q, length-set s.frames f x) lt-wb, rw (q, set-wb) x_owner);
+        owner_resident = λ g e. elim (cases_eq g f) [
+          | inl q ↦ rw q at-wb
+          | inr n ↦ tie-wb.owner_resident g (rw (get_or-set_other s.frames f g x no_frame n) at e)
+        ];
+        slot_owned = λ j e. let q : j ≡ k = some_same k j (rec_by s.segs r).slot slot e in (only.has j (tie-wb.slot_owned j e).0, rw q (owner ∙ own-wb));
+        owner_stored = λ j e. by j e;
+        clean = λ g e d.
+            let q : g ≡ f = some_same f g (rec_by s.segs r).frame at-wb e in
+            let c : x.dirty ≡ false = rw (q, set-wb) at d in
+            rw (q, set-wb, slot) (clean c);
+        whole = rw bytes tie-wb.whole;
+      } in
+      keeps-one s t sound r has-wb to is same (rw (length-set s.frames f x) sound.hand) goes_on tie bytes
+    where
+      by : (j : Slot) → owner_of u j.area j.slot ≡ Some r → (rec_by s.segs r).slot ≡ Some j
+      by j e = elim (cases_slot j k) [
+        | inl q ↦ rw q slot
+        | inr n ↦ tie-wb.owner_stored j (sym (only.owners j n) ∙ e)
+      ]
+
+-- a page in a dirty frame gets a slot
+module _ (s : StoreView) (sound : IsSound s) (r : PageRef) (f : ℕ) (k : Slot)
+    (owned : (frame_at s.frames f).owner ≡ Some r) (dirty : (frame_at s.frames f).dirty ≡ true) (none : (rec_by s.segs r).slot ≡ None)
+    (there : HasSlot s.swap k.area k.slot) (free : owner_of s.swap k.area k.slot ≡ None) where
+  has-ts : HasPage s.segs r
+  has-ts = sound.tied.owners f r owned
+
+  tie-ts : IsTied s r
+  tie-ts = sound.tied.pages r has-ts
+
+  pub keeps-take : IsSwap (with_slot_owner s.swap k (Some r)) → sizes (with_slot_owner s.swap k (Some r)) ≡ sizes s.swap → GoesOn s.swap (with_slot_owner s.swap k (Some r))
+      → Keeps s (record s { segs = with_rec s.segs r (record { frame = (rec_by s.segs r).frame; slot = Some k }); swap = with_slot_owner s.swap k (Some r) })
+  keeps-take is same goes_on =
+      let p : PageRec = record { frame = (rec_by s.segs r).frame; slot = Some k } in
+      let u : SwapView = with_slot_owner s.swap k (Some r) in
+      let t : StoreView = record s { segs = with_rec s.segs r p; swap = u } in
+      let at : rec_by t.segs r ≡ p = rec-with s.segs r p has-ts in
+      let at_frame : (rec_by s.segs r).frame ≡ Some f = tie-ts.owner_resident f owned in
+      let only : OnlySlot k s.swap u = OnlySlot-owner k s.swap (Some r) in
+      let own : owner_of u k.area k.slot ≡ Some r = owner-set k s.swap (Some r) there.0 (omega (arith, there.1, (sound.swap.each k.area).owned)) in
+      let slot_was : IsOwn r (owner_of s.swap k.area k.slot) = IsOwn-none r (owner_of s.swap k.area k.slot) free in
+      let slot_now : IsOwn r (owner_of u k.area k.slot) = IsOwn-some r (owner_of u k.area k.slot) own in
+      let to : Touches (other r) s t = record {
+        shape = outlines-with s.segs r p;
+        recs = λ q e. rec-with_other s.segs r q p e;
+        size = refl;
+        frames = λ g q e o. Alike-refl (frame_at s.frames g);
+        owners = λ g q e o. o;
+        free = sound.tied.free;
+        has = only.has;
+        slots = only_slots r k s.swap u only slot_was slot_now;
+        slot_owners = only_owners r k s.swap u only slot_was slot_now;
+      } in
+      let bytes : bytes_at t r ≡ bytes_at s r =
+      ap (page_bytes t.frames t.swap) at ∙ bytes_by-some s.frames u (rec_by s.segs r).frame (Some k) f at_frame ∙ sym (bytes_by-some s.frames s.swap (rec_by s.segs r).frame (rec_by s.segs r).slot f at_frame) in
+      let tie : IsTied t r = record {
+        frame_owned = λ g e. tie-ts.frame_owned g (rw at at e);
+        owner_resident = λ g e. rw at (tie-ts.owner_resident g e);
+        slot_owned = λ j e.
+            let h : Some k ≡ Some j = rw at at e in
+            let q : j ≡ k = some_same k j (Some k) refl h in
+            (rw q (only.has k there), rw q own);
+        owner_stored = λ j e. elim (cases_slot j k) [
+          | inl q ↦ rw (at, q) refl
+          | inr n ↦ absurd (let h : (rec_by s.segs r).slot ≡ Some j = tie-ts.owner_stored j (sym (only.owners j n) ∙ e) in cc)
+        ];
+        clean = λ g e d.
+            let q : g ≡ f = some_same f g (rec_by s.segs r).frame at_frame (rw at at e) in
+            absurd (let h : (frame_at s.frames f).dirty ≡ false = rw q at d in cc);
+        whole = rw bytes tie-ts.whole;
+      } in
+      keeps-one s t sound r has-ts to is same sound.hand goes_on tie bytes
+
+-- a page in a clean frame leaves it
+module _ (s : StoreView) (sound : IsSound s) (r : PageRef) (f : ℕ) (bytes : List ℕ) (owned : (frame_at s.frames f).owner ≡ Some r) (clean : (frame_at s.frames f).dirty ≡ false) where
+  pub keeps-leave : Keeps s (record s { segs = with_rec s.segs r (record { frame = None; slot = (rec_by s.segs r).slot }); frames = set s.frames f (record no_frame { bytes = bytes }) })
+  keeps-leave =
+      let has : HasPage s.segs r = sound.tied.owners f r owned in
+      let tie-s : IsTied s r = sound.tied.pages r has in
+      let p : PageRec = record { frame = None; slot = (rec_by s.segs r).slot } in
+      let x : Frame = record no_frame { bytes = bytes } in
+      let t : StoreView = record s { segs = with_rec s.segs r p; frames = set s.frames f x } in
+      let at : rec_by t.segs r ≡ p = rec-with s.segs r p has in
+      let at_frame : (rec_by s.segs r).frame ≡ Some f = tie-s.owner_resident f owned in
+      let lt : f < length s.frames = (tie-s.frame_owned f at_frame).0 in
+      let was : IsOwn r (frame_at s.frames f).owner = IsOwn-some r (frame_at s.frames f).owner owned in
+      let now : IsOwn r x.owner = IsOwn-none r x.owner refl in
+      let to : Touches (other r) s t = record {
+        shape = outlines-with s.segs r p;
+        recs = λ q e. rec-with_other s.segs r q p e;
+        size = length-set s.frames f x;
+        frames = set_alike r s.frames f x was now;
+        owners = set_owners r s.frames f x was now;
+        free = set_free r s.frames f x was now (λ none. refl) sound.tied.free;
+        has = λ k h. h;
+        slots = λ k q e o. (o, refl);
+        slot_owners = λ k q e o. o;
+      } in
+      let same : bytes_at t r ≡ bytes_at s r =
+      ap (page_bytes t.frames t.swap) at ∙ sym (tie-s.clean f at_frame clean) ∙ sym (bytes_by-some s.frames s.swap (rec_by s.segs r).frame (rec_by s.segs r).slot f at_frame) in
+      let tie : IsTied t r = record {
+        frame_owned = λ g e. let h : None ≡ Some g = rw at at e in cc;
+        owner_resident = λ g e. elim (cases_eq g f) [
+          | inl q ↦ absurd (let h : None ≡ Some r = rw (q, get_or-set_same s.frames f x no_frame lt) at e in cc)
+          | inr n ↦ absurd (n (some_same f g (rec_by s.segs r).frame at_frame (tie-s.owner_resident g (rw (get_or-set_other s.frames f g x no_frame n) at e))))
+        ];
+        slot_owned = λ j e. tie-s.slot_owned j (rw at at e);
+        owner_stored = λ j e. rw at (tie-s.owner_stored j e);
+        clean = λ g e d. let h : None ≡ Some g = rw at at e in cc;
+        whole = rw same tie-s.whole;
+      } in
+      keeps-one s t sound r has to sound.swap refl (rw (length-set s.frames f x) sound.hand) (GoesOn-refl s.swap) tie same
+
+-- a page comes into a free frame that has its bytes
+module _ (s : StoreView) (sound : IsSound s) (r : PageRef) (f : ℕ) (has : HasPage s.segs r) (lt : f < length s.frames) (free : (frame_at s.frames f).owner ≡ None) (away : (rec_by s.segs r).frame ≡ None)
+    (bytes : (frame_at s.frames f).bytes ≡ stored s.swap (rec_by s.segs r).slot) where
+  pub keeps-settle : Keeps s (record s { segs = with_rec s.segs r (record { frame = Some f; slot = (rec_by s.segs r).slot }); frames = set s.frames f (record (frame_at s.frames f) { owner = Some r; referenced = true }) })
+  keeps-settle =
+      let tie-s : IsTied s r = sound.tied.pages r has in
+      let p : PageRec = record { frame = Some f; slot = (rec_by s.segs r).slot } in
+      let x : Frame = record (frame_at s.frames f) { owner = Some r; referenced = true } in
+      let t : StoreView = record s { segs = with_rec s.segs r p; frames = set s.frames f x } in
+      let at : rec_by t.segs r ≡ p = rec-with s.segs r p has in
+      let set_at : frame_at (set s.frames f x) f ≡ x = get_or-set_same s.frames f x no_frame lt in
+      let was : IsOwn r (frame_at s.frames f).owner = IsOwn-none r (frame_at s.frames f).owner free in
+      let now : IsOwn r x.owner = IsOwn-some r x.owner refl in
+      let to : Touches (other r) s t = record {
+        shape = outlines-with s.segs r p;
+        recs = λ q e. rec-with_other s.segs r q p e;
+        size = length-set s.frames f x;
+        frames = set_alike r s.frames f x was now;
+        owners = set_owners r s.frames f x was now;
+        free = set_free r s.frames f x was now (λ none. cc) sound.tied.free;
+        has = λ k h. h;
+        slots = λ k q e o. (o, refl);
+        slot_owners = λ k q e o. o;
+      } in
+      let same : bytes_at t r ≡ bytes_at s r =
+      ap (page_bytes t.frames t.swap) at ∙ ap (λ (y : Frame). y.bytes) set_at ∙ bytes ∙ sym (bytes_by-none s.frames s.swap (rec_by s.segs r).frame (rec_by s.segs r).slot away) in
+      let tie : IsTied t r = record {
+        frame_owned = λ g e.
+            let h : Some f ≡ Some g = rw at at e in
+            let q : g ≡ f = some_same f g (Some f) refl h in
+            (rw (q, length-set s.frames f x) lt, rw (q, set_at) refl);
+        owner_resident = λ g e. elim (cases_eq g f) [
+          | inl q ↦ rw (at, q) refl
+          | inr n ↦ absurd (let h : (rec_by s.segs r).frame ≡ Some g = tie-s.owner_resident g (rw (get_or-set_other s.frames f g x no_frame n) at e) in cc)
+        ];
+        slot_owned = λ j e. tie-s.slot_owned j (rw at at e);
+        owner_stored = λ j e. rw at (tie-s.owner_stored j e);
+        clean = λ g e d.
+            let h : Some f ≡ Some g = rw at at e in
+            let q : g ≡ f = some_same f g (Some f) refl h in
+            rw (q, set_at, at) bytes;
+        whole = rw same tie-s.whole;
+      } in
+      keeps-one s t sound r has to sound.swap refl (rw (length-set s.frames f x) sound.hand) (GoesOn-refl s.swap) tie same
+
+-- a free frame gets other bytes
+module _ (s : StoreView) (sound : IsSound s) (f : ℕ) (bytes : List ℕ) (free : (frame_at s.frames f).owner ≡ None) (u : SwapView) (ins : ℕ) (kept : SameSlots s.swap u) where
+  every : PageRef → Bool
+  every q = true
+
+  pub keeps-load : IsSwap u → sizes u ≡ sizes s.swap → GoesOn s.swap u → Keeps s (record { segs = s.segs; frames = set s.frames f (record (frame_at s.frames f) { bytes = bytes }); hand = s.hand; swap = u; ins = ins; outs = s.outs })
+  unfolding every
+  keeps-load is same goes_on =
+      let x : Frame = record (frame_at s.frames f) { bytes = bytes } in
+      let t : StoreView = record { segs = s.segs; frames = set s.frames f x; hand = s.hand; swap = u; ins = ins; outs = s.outs } in
+      let to : Touches every s t = record {
+        shape = refl;
+        recs = λ q e. refl;
+        size = length-set s.frames f x;
+        frames = λ g q e o. elim (cases_eq g f) [
+          | inl same ↦ absurd (let h : (frame_at s.frames f).owner ≡ Some q = rw same at o in cc)
+          | inr n ↦ rw (get_or-set_other s.frames f g x no_frame n) (Alike-refl (frame_at s.frames g))
+        ];
+        owners = λ g q e o. owners g q o (cases_eq g f) (cases_lt f (length s.frames));
+        free = λ g e. frees g e (cases_eq g f) (cases_lt f (length s.frames));
+        has = λ k h. (rw kept.areas h.0, rw (kept.pages k.area) h.1);
+        slots = λ k q e o. (ap (λ os. get_or os k.slot None) (kept.owners k.area) ∙ o, ap (λ ps. get_or ps k.slot []) (kept.pages k.area));
+        slot_owners = λ k q e o. sym (ap (λ os. get_or os k.slot None) (kept.owners k.area)) ∙ o;
+      } in
+      record {
+        sound = sound-touched every s t sound to is same (rw (length-set s.frames f x) sound.hand) (λ q n h. cc) (λ g q n h. cc) (λ k q n h. cc);
+        goes = goes-touched every s t sound to is same (rw (length-set s.frames f x) sound.hand) (λ q n h. cc) (λ g q n h. cc) (λ k q n h. cc) goes_on (λ q n h. cc);
+      }
+    where
+      owners : (g : ℕ) (q : PageRef) → (frame_at (set s.frames f (record (frame_at s.frames f) { bytes = bytes })) g).owner ≡ Some q → (g ≡ f) ⊎ (g ≢ f) → (f < length s.frames) ⊎ (length s.frames ≤ f) → (frame_at s.frames g).owner ≡ Some q
+      owners g q o (inr n) c = rw (get_or-set_other s.frames f g (record (frame_at s.frames f) { bytes = bytes }) no_frame n) at o
+      owners g q o (inl same) (inr past) = rw (set_past s.frames f (record (frame_at s.frames f) { bytes = bytes }) past) at o
+      owners g q o (inl same) (inl lt) = rw same (rw (same, get_or-set_same s.frames f (record (frame_at s.frames f) { bytes = bytes }) no_frame lt) at o)
+
+      frees : (g : ℕ) → (frame_at (set s.frames f (record (frame_at s.frames f) { bytes = bytes })) g).owner ≡ None → (g ≡ f) ⊎ (g ≢ f) → (f < length s.frames) ⊎ (length s.frames ≤ f) → (frame_at (set s.frames f (record (frame_at s.frames f) { bytes = bytes })) g).dirty ≡ false
+      frees g o (inr n) c = rw (get_or-set_other s.frames f g (record (frame_at s.frames f) { bytes = bytes }) no_frame n) (sound.tied.free g (rw (get_or-set_other s.frames f g (record (frame_at s.frames f) { bytes = bytes }) no_frame n) at o))
+      frees g o (inl same) (inr past) = rw (set_past s.frames f (record (frame_at s.frames f) { bytes = bytes }) past) (sound.tied.free g (rw (set_past s.frames f (record (frame_at s.frames f) { bytes = bytes }) past) at o))
+      frees g o (inl same) (inl lt) = rw (same, get_or-set_same s.frames f (record (frame_at s.frames f) { bytes = bytes }) no_frame lt) (sound.tied.free f free)
+
+-- a frame set twice
+pub set-twice : (frames : List Frame) (f : ℕ) (x : Frame) (h : Frame → Frame) {a b : List Frame} → f < length frames → a ≡ set frames f x → b ≡ set a f (h (frame_at a f)) → b ≡ set frames f (h x)
+set-twice frames f x h {a} {b} lt first second =
+    let at : frame_at a f ≡ x = ap (λ (fs : List Frame). frame_at fs f) first ∙ get_or-set_same frames f x no_frame lt in
+    second ∙ ap (λ (y : Frame). set a f (h y)) at ∙ ap (λ (fs : List Frame). set fs f (h x)) first ∙ set-set frames f x (h x)
+
+-- a resident page's bytes change
+module _ (s : StoreView) (sound : IsSound s) (r : PageRef) (f : ℕ) (x : Frame) (at_frame : (rec_by s.segs r).frame ≡ Some f) (x_owner : x.owner ≡ (frame_at s.frames f).owner) (x_dirty : x.dirty ≡ true) (whole : length x.bytes ≡ 4096) where
+  has-st : HasPage s.segs r
+  has-st = has-frame s.segs r f at_frame
+
+  tie-st : IsTied s r
+  tie-st = sound.tied.pages r has-st
+
+  lt-st : f < length s.frames
+  lt-st = (tie-st.frame_owned f at_frame).0
+
+  own-st : (frame_at s.frames f).owner ≡ Some r
+  own-st = (tie-st.frame_owned f at_frame).1
+
+  to-st : Touches (other r) s (record s { frames = set s.frames f x })
+  to-st =
+      let was : IsOwn r (frame_at s.frames f).owner = IsOwn-some r (frame_at s.frames f).owner own-st in
+      let now : IsOwn r x.owner = IsOwn-some r x.owner (x_owner ∙ own-st) in
+      record {
+        shape = refl;
+        recs = λ q e. refl;
+        size = length-set s.frames f x;
+        frames = set_alike r s.frames f x was now;
+        owners = set_owners r s.frames f x was now;
+        free = set_free r s.frames f x was now (λ none. cc (none, x_owner, own-st)) sound.tied.free;
+        has = λ k h. h;
+        slots = λ k q e o. (o, refl);
+        slot_owners = λ k q e o. o;
+      }
+
+  set-st : frame_at (set s.frames f x) f ≡ x
+  set-st = get_or-set_same s.frames f x no_frame lt-st
+
+  pub bytes-stored : page_bytes (set s.frames f x) s.swap (rec_by s.segs r) ≡ x.bytes
+  bytes-stored = bytes_by-some (set s.frames f x) s.swap (rec_by s.segs r).frame (rec_by s.segs r).slot f at_frame ∙ ap (λ (y : Frame). y.bytes) set-st
+
+  pub bytes-was : page_bytes s.frames s.swap (rec_by s.segs r) ≡ (frame_at s.frames f).bytes
+  bytes-was = bytes_by-some s.frames s.swap (rec_by s.segs r).frame (rec_by s.segs r).slot f at_frame
+
+  bytes-there : (q : PageRef) → HasPage s.segs q → other r q ≡ true → page_bytes (set s.frames f x) s.swap (rec_by s.segs q) ≡ page_bytes s.frames s.swap (rec_by s.segs q)
+  bytes-there q there off = bytes_touched (other r) s (record s { frames = set s.frames f x }) to-st q off (sound.tied.pages q there)
+
+  pub bytes-others : (q : PageRef) → q ≢ r → page_bytes (set s.frames f x) s.swap (rec_by s.segs q) ≡ page_bytes s.frames s.swap (rec_by s.segs q)
+  bytes-others q n = elim (cases_lt q.page (count_by_id s.segs q.seg)) [
+    | inl there ↦ bytes-there q there (other-true r q n)
+    | inr past ↦ rw (rec-past s.segs q past) refl
+  ]
+
+  pub sound-stored : IsSound (record s { frames = set s.frames f x })
+  sound-stored =
+      let t : StoreView = record s { frames = set s.frames f x } in
+      let tie : IsTied t r = record {
+        frame_owned = λ g e. let q : g ≡ f = some_same f g (rec_by s.segs r).frame at_frame e in (rw (q, length-set s.frames f x) lt-st, rw (q, set-st) (x_owner ∙ own-st));
+        owner_resident = λ g e. elim (cases_eq g f) [
+          | inl q ↦ rw q at_frame
+          | inr n ↦ tie-st.owner_resident g (rw (get_or-set_other s.frames f g x no_frame n) at e)
+        ];
+        slot_owned = tie-st.slot_owned;
+        owner_stored = tie-st.owner_stored;
+        clean = λ g e d.
+            let q : g ≡ f = some_same f g (rec_by s.segs r).frame at_frame e in
+            absurd (let h : x.dirty ≡ false = rw (q, set-st) at d in cc);
+        whole = rw bytes-stored whole;
+      } in
+      sound-one s t sound r has-st to-st sound.swap refl (rw (length-set s.frames f x) sound.hand) (GoesOn-refl s.swap) tie
+
+pub resident-bytes : (s : StoreView) (r : PageRef) (f : ℕ) → (rec_by s.segs r).frame ≡ Some f → page_bytes s.frames s.swap (rec_by s.segs r) ≡ (frame_at s.frames f).bytes
+resident-bytes s r f at = bytes_by-some s.frames s.swap (rec_by s.segs r).frame (rec_by s.segs r).slot f at

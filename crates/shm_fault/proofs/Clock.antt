@@ -1,0 +1,63 @@
+-- What the clock needs, and what it leaves of the frames.
+use Rattle.std.proofs.Common.{◌≡◌, ℕ, suc, ◌<◌, ◌≤◌, ◌+◌, Bool, true, false, not, cond, List, [], ◌∷◌, length, Option, Some, None, is_none, is_some, refl, ap, inl, inr, arith}
+use Rattle.std.specs.Prelude.{count_by}
+use Rattle.std.proofs.lemmas.Bool.{cases_lt, lt-ltb, le-ltb}
+use Rattle.std.proofs.lemmas.List.{get_or_past}
+use Rattle.std.proofs.lemmas.List.Sums.{sum_by-cons}
+use Rattle.shm_base.specs.declared.paging.PageRef.{PageRef}
+use Rattle.shm_frames.specs.Frame.{Frame, no_frame, frame_at, is_owned, OwnedBelow}
+use Rattle.shm_clock.specs.Clock.{IsClockVictim, next}
+use Rattle.shm_clock.proofs.Eligible.{page_may_go}
+use Rattle.shm_fault.specs.Segs.{locked_by}
+use Rattle.shm_fault.specs.Store.{StoreView}
+use Rattle.shm_fault.specs.Sound.{IsSound}
+use Rattle.shm_fault.specs.Goes.{unlocked, Alike}
+use Rattle.shm_fault.proofs.Ties.{Alike-refl}
+use Rattle.shm_fault.proofs.Tally.{resident-frames, unlocked_resident, passes_by}
+
+pub clock-alike : (may : ℕ → Bool) (hand : ℕ) (before : List Frame) (victim : ℕ) (after : List Frame) → IsClockVictim may hand before victim after → (f : ℕ) → Alike (frame_at before f) (frame_at after f)
+clock-alike may hand before victim after is f = elim (cases_lt f (length before)) [
+  | inl lt ↦ rw (is.bits f lt) (record { owner = refl; bytes = refl; dirty = refl })
+  | inr past ↦ rw (get_or_past before f no_frame past, get_or_past after f no_frame (rw is.size past)) (Alike-refl no_frame)
+]
+
+pub next-lt : (before after : List Frame) (victim : ℕ) {hand : ℕ} → length after ≡ length before → victim < length before → hand ≡ next (length before) victim → hand < length after
+next-lt before after victim {hand} size there is = elim (cases_lt (victim + 1) (length before)) [
+  | inl lt ↦ rw (is, lt-ltb (victim + 1) (length before) lt, size) lt
+  | inr past ↦ rw (is, le-ltb (victim + 1) (length before) past, size) (omega arith)
+]
+
+abbrev bit : Bool → ℕ
+bit b = cond b 1 0
+
+all-owned : (frames : List Frame) → OwnedBelow frames (length frames) → count_by is_owned frames ≡ length frames
+all-owned [] full = refl
+all-owned (x ∷ xs) full =
+    let here : is_none x.owner ≡ false = full 0 (omega arith) in
+    let some : is_some x.owner ≡ true = by x.owner here in
+    let one : bit (is_some x.owner) ≡ 1 = ap bit some in
+    let rest = all-owned xs (λ i l. full (suc i) (omega arith)) in
+    omega (arith, one, rest, sum_by-cons (λ (y : Frame). cond (is_owned y) 1 0) x xs)
+  where
+    by : (o : Option PageRef) → is_none o ≡ false → is_some o ≡ true
+    by None e = cc
+    by (Some r) e = refl
+
+same-test : (s : StoreView) (x : Frame) (o : Option PageRef) → x.owner ≡ o → passes_by (λ r y. not (locked_by s.segs r.seg)) x ≡ page_may_go (unlocked s.segs) x
+same-test s x None e = rw e refl
+same-test s x (Some r) e = rw e refl
+
+same-tests : (s : StoreView) (xs : List Frame) → count_by (passes_by (λ r x. not (locked_by s.segs r.seg))) xs ≡ count_by (page_may_go (unlocked s.segs)) xs
+same-tests s [] = refl
+same-tests s (x ∷ xs) =
+    let rest = same-tests s xs in
+    let one : bit (passes_by (λ r y. not (locked_by s.segs r.seg)) x) ≡ bit (page_may_go (unlocked s.segs) x) = ap bit (same-test s x x.owner refl) in
+    omega (arith, one, rest, sum_by-cons (λ (y : Frame). cond (passes_by (λ r z. not (locked_by s.segs r.seg)) y) 1 0) x xs, sum_by-cons (λ (y : Frame). cond (page_may_go (unlocked s.segs) y) 1 0) x xs)
+
+-- where no frame is free, two at least have pages of segments that are not locked
+pub two_unlocked : (s : StoreView) → IsSound s → OwnedBelow s.frames (length s.frames) → 2 ≤ count_by (page_may_go (unlocked s.segs)) s.frames
+two_unlocked s sound full =
+    let all = all-owned s.frames full in
+    let resident = resident-frames s sound.apart sound.tied in
+    let le = unlocked_resident s sound.apart sound.tied in
+    omega (arith, all, resident, le, same-tests s s.frames, sound.locked)

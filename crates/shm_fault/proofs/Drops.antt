@@ -1,0 +1,352 @@
+-- A page that leaves its frame and its slot for good.
+use Rattle.std.proofs.Common.{◌≡◌, ◌≢◌, ℕ, zero, suc, ◌<◌, ◌≤◌, ◌+◌, true, false, List, [], ◌∷◌, length, set, map, sum_by, Option, Some, None, refl, sym, ap, ◌∙◌, inl, inr, arith, length-set, get_or-set_same, get_or-set_other}
+use Rattle.std.proofs.lemmas.Bool.{cases_eq, cases_lt, eq-eqb, ne_eqb}
+use Rattle.std.proofs.lemmas.Option.{none-some}
+use Rattle.std.proofs.lemmas.List.{length-replicate}
+use Rattle.shm_base.specs.declared.paging.PageRef.{PageRef}
+use Rattle.shm_base.specs.declared.paging.Slot.{Slot}
+use Rattle.shm_plain.specs.Held.{without}
+use Rattle.shm_pager.specs.Pages.{zero_page}
+use Rattle.shm_slots.specs.View.{SwapView, HasSlot, owner_of, page_in, without_slot, IsSwap}
+use Rattle.shm_slots.specs.Cause.{IsSteady}
+use Rattle.shm_frames.specs.Frame.{Frame, no_frame, frame_at}
+use Rattle.shm_fault.specs.declared.segments.PageRec.{PageRec}
+use Rattle.shm_fault.specs.Segs.{SegRec, AreApart, rec_at, but, no_page, find_seg, rec_by, count_by_id, HasPage, with_rec, pages_of, locked_pages}
+use Rattle.shm_fault.specs.Store.{StoreView, held_by, held, disowned}
+use Rattle.shm_fault.specs.Sound.{IsTied, IsSound}
+use Rattle.shm_fault.specs.Goes.{outline, outlines, Alike}
+use Rattle.shm_fault.specs.Dropping.{emptied, Given, Dropped}
+use Rattle.shm_fault.proofs.Entries.{apart-filter}
+use Rattle.shm_fault.proofs.Sound.{IsSound-from, GoesOn-refl, GoesOn-trans}
+use Rattle.std.proofs.lemmas.List.Sums.{sum_by-cons}
+use Rattle.shm_fault.proofs.Pages.{outlines-with, rec-with, rec-with_other, rec-past, apart-same, other, other-true}
+use Rattle.shm_fault.proofs.Slots.{OnlySlot, OnlySlot-given, owner-given, cases_slot}
+use Rattle.shm_fault.proofs.Ties.{Alike-refl, Touches, IsOwn, IsOwn-none, IsOwn-some, set_alike, set_owners, set_free, only_slots, only_owners, bytes_touched}
+use Rattle.shm_fault.proofs.Bytes.{joined, held_one, held_of, bytes_at, held-is, joined-ext}
+use Rattle.shm_fault.proofs.Changes.{sound-one, some_same}
+
+-- a page that is where it is said to be
+set-same : (ps : List PageRec) (k : ℕ) → set ps k (rec_at ps k) ≡ ps
+set-same [] k = refl
+set-same (p ∷ ps) zero = refl
+set-same (p ∷ ps) (suc k) = ap (λ (l : List PageRec). p ∷ l) (set-same ps k)
+
+with-gone : (gs : List SegRec) (r : PageRef) (p : PageRec) → find_seg gs r.seg ≡ None → with_rec gs r p ≡ gs
+with-gone [] r p none = refl
+with-gone (g ∷ gs) r p none = elim (cases_eq g.id r.seg) [
+  | inl e ↦ (let z : Some g ≡ None = rw (eq-eqb g.id r.seg e) at none in absurd (none-some g (sym z)))
+  | inr m ↦ rw (ne_eqb g.id r.seg m) (ap (λ (l : List SegRec). g ∷ l) (with-gone gs r p (rw (ne_eqb g.id r.seg m) at none)))
+]
+
+with-is : (gs : List SegRec) (r : PageRef) (p : PageRec) → AreApart gs → rec_by gs r ≡ p → with_rec gs r p ≡ gs
+with-is [] r p apart is = refl
+with-is (g ∷ gs) r p apart is = elim (cases_eq g.id r.seg) [
+  | inl e ↦
+      (let own : rec_at g.pages r.page ≡ p = rw (eq-eqb g.id r.seg e) at is in
+      let pages : set g.pages r.page p ≡ g.pages = ap (set g.pages r.page) (sym own) ∙ set-same g.pages r.page in
+      rw (eq-eqb g.id r.seg e, pages) (ap (λ (l : List SegRec). g ∷ l) (with-gone gs r p (rw e at apart.0))))
+  | inr m ↦ rw (ne_eqb g.id r.seg m) (ap (λ (l : List SegRec). g ∷ l) (with-is gs r p apart.1 (rw (ne_eqb g.id r.seg m) at is)))
+]
+
+pub with-same : (gs : List SegRec) (r : PageRef) → AreApart gs → with_rec gs r (rec_by gs r) ≡ gs
+with-same gs r apart = with-is gs r (rec_by gs r) apart refl
+
+-- what becomes of the frames, of the page's own first
+record EmptiedFrames (s : StoreView) (r : PageRef) (frames : List Frame) : Type 0 where
+  size : length frames ≡ length s.frames
+  alike : (f : ℕ) (q : PageRef) → other r q ≡ true → (frame_at s.frames f).owner ≡ Some q → Alike (frame_at s.frames f) (frame_at frames f)
+  owners : (f : ℕ) (q : PageRef) → other r q ≡ true → (frame_at frames f).owner ≡ Some q → (frame_at s.frames f).owner ≡ Some q
+  free : (f : ℕ) → (frame_at frames f).owner ≡ None → (frame_at frames f).dirty ≡ false
+  none : (f : ℕ) → (frame_at frames f).owner ≡ Some r → ⊥
+  kept : (f : ℕ) → disowned r.seg (frame_at frames f).owner ≡ disowned r.seg (frame_at s.frames f).owner
+
+disowned-own : (r : PageRef) → disowned r.seg (Some r) ≡ None
+disowned-own r = rw (eq-eqb r.seg r.seg refl) refl
+
+emptied-frames : (s : StoreView) → IsSound s → (r : PageRef) → HasPage s.segs r → (o : Option ℕ) → (rec_by s.segs r).frame ≡ o → EmptiedFrames s r (emptied s.frames o)
+emptied-frames s sound r has None e = record {
+  size = refl;
+  alike = λ f q off h. Alike-refl (frame_at s.frames f);
+  owners = λ f q off h. h;
+  free = sound.tied.free;
+  none = λ f h. let k : (rec_by s.segs r).frame ≡ Some f = (sound.tied.pages r has).owner_resident f h in cc;
+  kept = λ f. refl;
+}
+emptied-frames s sound r has (Some g) e =
+    let tie = sound.tied.pages r has in
+    let own = tie.frame_owned g e in
+    let x : Frame = record no_frame { bytes = (frame_at s.frames g).bytes } in
+    let was : IsOwn r (frame_at s.frames g).owner = IsOwn-some r (frame_at s.frames g).owner own.1 in
+    let now : IsOwn r x.owner = IsOwn-none r x.owner refl in
+    let set_at : frame_at (set s.frames g x) g ≡ x = get_or-set_same s.frames g x no_frame own.0 in
+    record {
+      size = length-set s.frames g x;
+      alike = set_alike r s.frames g x was now;
+      owners = set_owners r s.frames g x was now;
+      free = set_free r s.frames g x was now (λ none. refl) sound.tied.free;
+      none = λ f h. elim (cases_eq f g) [
+        | inl q ↦ let k : None ≡ Some r = rw (q, set_at) at h in cc
+        | inr n ↦ n (some_same g f (rec_by s.segs r).frame e (tie.owner_resident f (rw (get_or-set_other s.frames g f x no_frame n) at h)))
+      ];
+      kept = λ f. elim (cases_eq f g) [
+        | inl q ↦ rw (q, set_at, own.1) (sym (disowned-own r))
+        | inr n ↦ ap (λ (y : Frame). disowned r.seg y.owner) (get_or-set_other s.frames g f x no_frame n)
+      ];
+    }
+
+pub record GivenSlots (s : StoreView) (r : PageRef) (u : SwapView) : Type 0 where
+  pub has : (k : Slot) → HasSlot s.swap k.area k.slot → HasSlot u k.area k.slot
+  pub slots : (k : Slot) (q : PageRef) → other r q ≡ true → owner_of s.swap k.area k.slot ≡ Some q → (owner_of u k.area k.slot ≡ Some q) × (page_in u k.area k.slot ≡ page_in s.swap k.area k.slot)
+  pub owners : (k : Slot) (q : PageRef) → other r q ≡ true → owner_of u k.area k.slot ≡ Some q → owner_of s.swap k.area k.slot ≡ Some q
+  pub none : (k : Slot) → owner_of u k.area k.slot ≡ Some r → ⊥
+  pub kept : (k : Slot) → disowned r.seg (owner_of u k.area k.slot) ≡ disowned r.seg (owner_of s.swap k.area k.slot)
+
+pub given-slots : (s : StoreView) → IsSound s → (r : PageRef) → HasPage s.segs r → (u : SwapView) → (o : Option Slot) → (rec_by s.segs r).slot ≡ o → Given s.swap o u → GivenSlots s r u
+given-slots s sound r has u None e given = rw given (record {
+  has = λ k h. h;
+  slots = λ k q off h. (h, refl);
+  owners = λ k q off h. h;
+  none = λ k h. let i : (rec_by s.segs r).slot ≡ Some k = (sound.tied.pages r has).owner_stored k h in cc;
+  kept = λ k. refl;
+})
+given-slots s sound r has u (Some j) e given =
+    let tie = sound.tied.pages r has in
+    let own = tie.slot_owned j e in
+    let page = page_in u j.area j.slot in
+    let v : SwapView = without_slot s.swap j page in
+    let only : OnlySlot j s.swap v = OnlySlot-given j s.swap page in
+    let now₀ : owner_of v j.area j.slot ≡ None = owner-given j s.swap page own.0.0 (omega (arith, own.0.1, (sound.swap.each j.area).owned)) in
+    let was : IsOwn r (owner_of s.swap j.area j.slot) = IsOwn-some r (owner_of s.swap j.area j.slot) own.1 in
+    let now : IsOwn r (owner_of v j.area j.slot) = IsOwn-none r (owner_of v j.area j.slot) now₀ in
+    let g : GivenSlots s r v = record {
+      has = only.has;
+      slots = only_slots r j s.swap v only was now;
+      owners = only_owners r j s.swap v only was now;
+      none = λ k h. elim (cases_slot k j) [
+        | inl q ↦ let i : owner_of v j.area j.slot ≡ Some r = rw q at h in cc
+        | inr n ↦ n (some_same j k (rec_by s.segs r).slot e (tie.owner_stored k (sym (only.owners k n) ∙ h)))
+      ];
+      kept = λ k. elim (cases_slot k j) [
+        | inl q ↦ rw (q, now₀, own.1) (sym (disowned-own r))
+        | inr n ↦ ap (disowned r.seg) (only.owners k n)
+      ];
+    } in
+    rw given g
+
+-- a page is nowhere from now on
+module _ (s : StoreView) (sound : IsSound s) (r : PageRef) (has : HasPage s.segs r) (u : SwapView) (given : Given s.swap (rec_by s.segs r).slot u) where
+  abbrev pub forgotten : StoreView
+  forgotten = record s { segs = with_rec s.segs r no_page; frames = emptied s.frames (rec_by s.segs r).frame; swap = u }
+
+  fr : EmptiedFrames s r (emptied s.frames (rec_by s.segs r).frame)
+  fr = emptied-frames s sound r has (rec_by s.segs r).frame refl
+
+  sl : GivenSlots s r u
+  sl = given-slots s sound r has u (rec_by s.segs r).slot refl given
+
+  to-forgotten : Touches (other r) s forgotten
+  to-forgotten = record {
+    shape = outlines-with s.segs r no_page;
+    recs = λ q e. rec-with_other s.segs r q no_page e;
+    size = fr.size;
+    frames = fr.alike;
+    owners = fr.owners;
+    free = fr.free;
+    has = sl.has;
+    slots = sl.slots;
+    slot_owners = sl.owners;
+  }
+
+  pub frames-forgotten : (f : ℕ) → disowned r.seg (frame_at (emptied s.frames (rec_by s.segs r).frame) f).owner ≡ disowned r.seg (frame_at s.frames f).owner
+  frames-forgotten = fr.kept
+
+  pub size-forgotten : length (emptied s.frames (rec_by s.segs r).frame) ≡ length s.frames
+  size-forgotten = fr.size
+
+  pub slots-forgotten : (k : Slot) → disowned r.seg (owner_of u k.area k.slot) ≡ disowned r.seg (owner_of s.swap k.area k.slot)
+  slots-forgotten = sl.kept
+
+  pub sound-forgotten : IsSwap u → IsSteady s.swap u → IsSound forgotten
+  unfolding zero_page
+  sound-forgotten is steady =
+      let at : rec_by (with_rec s.segs r no_page) r ≡ no_page = rec-with s.segs r no_page has in
+      let tie : IsTied forgotten r = record {
+        frame_owned = λ f e. let h : None ≡ Some f = rw at at e in cc;
+        owner_resident = λ f e. absurd (fr.none f e);
+        slot_owned = λ k e. let h : None ≡ Some k = rw at at e in cc;
+        owner_stored = λ k e. absurd (sl.none k e);
+        clean = λ f e d. let h : None ≡ Some f = rw at at e in cc;
+        whole = rw at (length-replicate {A = ℕ} 4096 0);
+      } in
+      sound-one s forgotten sound r has to-forgotten is steady.same_sizes (rw fr.size sound.hand) steady.goes_on tie
+
+  pub held-forgotten : without (held forgotten) r.seg ≡ without (held s) r.seg
+  held-forgotten =
+      let apart = apart-same s.segs (with_rec s.segs r no_page) (outlines-with s.segs r no_page) sound.apart in
+      ap (λ hs. without hs r.seg) (held-is forgotten apart ∙ ap (held_of (bytes_at forgotten)) (outlines-with s.segs r no_page))
+      ∙ without-ext (bytes_at forgotten) (bytes_at s) s.segs r.seg others
+      ∙ sym (ap (λ hs. without hs r.seg) (held-is s sound.apart))
+    where
+      others : (q : PageRef) → q.seg ≢ r.seg → bytes_at forgotten q ≡ bytes_at s q
+      others q n =
+          let off : other r q ≡ true = other-true r q (λ same. n (ap (λ (x : PageRef). x.seg) same)) in
+          elim (cases_lt q.page (count_by_id s.segs q.seg)) [
+            | inl there ↦ bytes_touched (other r) s forgotten to-forgotten q off (sound.tied.pages q there)
+            | inr past ↦ rw (rec-with_other s.segs r q no_page off, rec-past s.segs q past) refl
+          ]
+
+      without-ext : (b c : PageRef → List ℕ) (gs : List SegRec) (id : ℕ) → ((q : PageRef) → q.seg ≢ id → b q ≡ c q) → without (held_of b (outlines gs)) id ≡ without (held_of c (outlines gs)) id
+      without-ext b c [] id same = refl
+      without-ext b c (g ∷ gs) id same = elim (cases_eq g.id id) [
+        | inl e ↦ rw (eq-eqb g.id id e) (without-ext b c gs id same)
+        | inr n ↦
+            let here : joined b g.id 0 (length g.pages) ≡ joined c g.id 0 (length g.pages) = joined-ext b c g.id 0 (length g.pages) (λ j l. same (record { seg = g.id; page = 0 + j }) n) in
+            let rest = without-ext b c gs id same in
+            rw (ne_eqb g.id id n) (let h : held_one b (outline g) ≡ held_one c (outline g) = ap (λ bs. record { id = g.id; locked = g.locked; bytes = bs }) here in cc)
+      ]
+
+IsSteady-refl : (s : SwapView) → IsSteady s s
+IsSteady-refl s = record { goes_on = GoesOn-refl s; failures = refl; same_sizes = refl }
+
+IsSteady-trans : (s t u : SwapView) → IsSteady s t → IsSteady t u → IsSteady s u
+IsSteady-trans s t u a b = record { goes_on = GoesOn-trans s t u a.goes_on b.goes_on; failures = b.failures ∙ a.failures; same_sizes = b.same_sizes ∙ a.same_sizes }
+
+pub dropped-none : (seg : ℕ) (s : StoreView) → Dropped seg 0 s s
+dropped-none seg s = record {
+  shape = refl;
+  bytes = refl;
+  frames = λ f. refl;
+  slots = λ k. refl;
+  size = refl;
+  steady = IsSteady-refl s.swap;
+  still = λ q n. refl;
+  done = λ page lt. absurd (omega arith);
+  nothing = λ blank. refl;
+}
+
+-- one page more
+pub dropped-more : (seg n : ℕ) (s t u : StoreView) → Dropped seg n s t → HasPage t.segs (record { seg = seg; page = n }) → u.segs ≡ with_rec t.segs (record { seg = seg; page = n }) no_page
+    → without (held u) seg ≡ without (held t) seg → ((f : ℕ) → disowned seg (frame_at u.frames f).owner ≡ disowned seg (frame_at t.frames f).owner)
+    → ((k : Slot) → disowned seg (owner_of u.swap k.area k.slot) ≡ disowned seg (owner_of t.swap k.area k.slot)) → length u.frames ≡ length t.frames → IsSteady t.swap u.swap
+    → (rec_by t.segs (record { seg = seg; page = n }) ≡ no_page → u ≡ t) → Dropped seg (n + 1) s u
+dropped-more seg n s t u d has segs bytes frames slots size steady same =
+    let r : PageRef = record { seg = seg; page = n } in
+    let at : (q : PageRef) → rec_by u.segs q ≡ rec_by (with_rec t.segs r no_page) q = λ q. ap (λ (gs : List SegRec). rec_by gs q) segs in
+    record {
+      shape = ap outlines segs ∙ outlines-with t.segs r no_page ∙ d.shape;
+      bytes = bytes ∙ d.bytes;
+      frames = λ f. frames f ∙ d.frames f;
+      slots = λ k. slots k ∙ d.slots k;
+      size = size ∙ d.size;
+      steady = IsSteady-trans s.swap t.swap u.swap d.steady steady;
+      still = λ q ne. at q ∙ rec-with_other t.segs r q no_page (other-true r q (λ same. ne (ap (λ (x : PageRef). x.seg) same))) ∙ d.still q ne;
+      done = λ page lt. elim (cases_eq page n) [
+        | inl e ↦ rw e (at r ∙ rec-with t.segs r no_page has)
+        | inr ne ↦ at (record { seg = seg; page = page }) ∙ rec-with_other t.segs r (record { seg = seg; page = page }) no_page (other-true r (record { seg = seg; page = page }) (λ same. ne (ap (λ (x : PageRef). x.page) same))) ∙ d.done page (omega arith)
+      ];
+      nothing = λ blank. let is : t ≡ s = d.nothing blank in same (rw is (blank n)) ∙ is;
+    }
+
+-- a segment all of whose pages are nowhere is taken out
+find-but : (gs : List SegRec) (id k : ℕ) → k ≢ id → find_seg (but id gs) k ≡ find_seg gs k
+find-but [] id k n = refl
+find-but (g ∷ gs) id k n = elim (cases_eq g.id id) [
+  | inl e ↦ rw (eq-eqb g.id id e, ne_eqb g.id k (λ same. n (sym same ∙ e))) (find-but gs id k n)
+  | inr m ↦ elim (cases_eq g.id k) [
+    | inl e ↦ rw (ne_eqb g.id id m, eq-eqb g.id k e) refl
+    | inr o ↦ rw (ne_eqb g.id id m, ne_eqb g.id k o) (find-but gs id k n)
+  ]
+]
+
+find-out : (gs : List SegRec) (id : ℕ) → find_seg (but id gs) id ≡ None
+find-out [] id = refl
+find-out (g ∷ gs) id = elim (cases_eq g.id id) [
+  | inl e ↦ rw (eq-eqb g.id id e) (find-out gs id)
+  | inr m ↦ rw (ne_eqb g.id id m, ne_eqb g.id id m) (find-out gs id)
+]
+
+sum-but : (h : SegRec → ℕ) (gs : List SegRec) (id : ℕ) → sum_by h (but id gs) ≤ sum_by h gs
+sum-but h [] id = omega arith
+sum-but h (g ∷ gs) id =
+    let rest = sum-but h gs id in
+    let sum = sum_by-cons h g gs in
+    elim (cases_eq g.id id) [
+      | inl e ↦ rw (eq-eqb g.id id e) (omega (arith, rest, sum))
+      | inr m ↦ rw (ne_eqb g.id id m) (omega (arith, rest, sum, sum_by-cons h g (but id gs)))
+    ]
+
+held-but-list : (frames : List Frame) (swap : SwapView) (gs : List SegRec) (id : ℕ) → map (held_by frames swap) (but id gs) ≡ without (map (held_by frames swap) gs) id
+held-but-list frames swap [] id = refl
+held-but-list frames swap (g ∷ gs) id = elim (cases_eq g.id id) [
+  | inl e ↦ rw (eq-eqb g.id id e) (held-but-list frames swap gs id)
+  | inr m ↦ rw (ne_eqb g.id id m) (ap (λ hs. held_by frames swap g ∷ hs) (held-but-list frames swap gs id))
+]
+
+pub held-but : (t : StoreView) (id : ℕ) → held (record t { segs = but id t.segs }) ≡ without (held t) id
+unfolding held
+held-but t id = held-but-list t.frames t.swap t.segs id
+
+module _ (t : StoreView) (sound : IsSound t) (id : ℕ) (gone : (page : ℕ) → page < count_by_id t.segs id → rec_by t.segs (record { seg = id; page = page }) ≡ no_page) where
+  pub rec-but : (q : PageRef) → q.seg ≢ id → rec_by (but id t.segs) q ≡ rec_by t.segs q
+  rec-but q n = rw (find-but t.segs id q.seg n) refl
+
+  count-but : (q : PageRef) → q.seg ≢ id → count_by_id (but id t.segs) q.seg ≡ count_by_id t.segs q.seg
+  count-but q n = rw (find-but t.segs id q.seg n) refl
+
+  frame-other : (f : ℕ) (q : PageRef) → (frame_at t.frames f).owner ≡ Some q → q.seg ≢ id
+  frame-other f q e same =
+      let has = sound.tied.owners f q e in
+      let at = (sound.tied.pages q has).owner_resident f e in
+      let l : q ≡ record { seg = id; page = q.page } = (let m : record { seg = q.seg; page = q.page } ≡ record { seg = id; page = q.page } = rw same refl in m) in
+      let lt : q.page < count_by_id t.segs id = rw same at has in
+      let none : (rec_by t.segs q).frame ≡ None = ap (λ (x : PageRef). (rec_by t.segs x).frame) l ∙ ap (λ (p : PageRec). p.frame) (gone q.page lt) in
+      cc
+
+  slot-other : (k : Slot) (q : PageRef) → owner_of t.swap k.area k.slot ≡ Some q → q.seg ≢ id
+  slot-other k q e same =
+      let has = sound.tied.slot_owners k q e in
+      let at = (sound.tied.pages q has).owner_stored k e in
+      let l : q ≡ record { seg = id; page = q.page } = (let m : record { seg = q.seg; page = q.page } ≡ record { seg = id; page = q.page } = rw same refl in m) in
+      let lt : q.page < count_by_id t.segs id = rw same at has in
+      let none : (rec_by t.segs q).slot ≡ None = ap (λ (x : PageRef). (rec_by t.segs x).slot) l ∙ ap (λ (p : PageRec). p.slot) (gone q.page lt) in
+      cc
+
+  pub frames-but : (f : ℕ) → (frame_at t.frames f).owner ≡ disowned id (frame_at t.frames f).owner
+  frames-but f = by (frame_at t.frames f).owner refl
+    where
+      by : (o : Option PageRef) → (frame_at t.frames f).owner ≡ o → o ≡ disowned id o
+      by None e = refl
+      by (Some q) e = rw (ne_eqb q.seg id (frame-other f q e)) refl
+
+  pub slots-but : (k : Slot) → owner_of t.swap k.area k.slot ≡ disowned id (owner_of t.swap k.area k.slot)
+  slots-but k = by (owner_of t.swap k.area k.slot) refl
+    where
+      by : (o : Option PageRef) → owner_of t.swap k.area k.slot ≡ o → o ≡ disowned id o
+      by None e = refl
+      by (Some q) e = rw (ne_eqb q.seg id (slot-other k q e)) refl
+
+  pub sound-but : IsSound (record t { segs = but id t.segs })
+  sound-but =
+      let u : StoreView = record t { segs = but id t.segs } in
+      IsSound-from u
+      (record {
+        pages = λ q has. elim (cases_eq q.seg id) [
+          | inl e ↦ absurd (let none : find_seg (but id t.segs) q.seg ≡ None = rw e (find-out t.segs id) in let no_count : q.page < 0 = rw none at has in omega arith)
+          | inr n ↦
+              let tie = sound.tied.pages q (rw (count-but q n) at has) in
+              record {
+                frame_owned = λ f e. tie.frame_owned f (rw (rec-but q n) at e);
+                owner_resident = λ f e. rw (rec-but q n) (tie.owner_resident f e);
+                slot_owned = λ k e. tie.slot_owned k (rw (rec-but q n) at e);
+                owner_stored = λ k e. rw (rec-but q n) (tie.owner_stored k e);
+                clean = λ f e d. rw (rec-but q n) (tie.clean f (rw (rec-but q n) at e) d);
+                whole = rw (rec-but q n) tie.whole;
+              }
+        ];
+        owners = λ f q e. rw (count-but q (frame-other f q e)) (sound.tied.owners f q e);
+        slot_owners = λ k q e. rw (count-but q (slot-other k q e)) (sound.tied.slot_owners k q e);
+        free = sound.tied.free;
+      })
+      (apart-filter t.segs id sound.apart) sound.frames sound.swap sound.hand
+      (let sum = sum-but pages_of t.segs id in omega (arith, sum, sound.capacity))
+      (let sum = sum-but locked_pages t.segs id in omega (arith, sum, sound.locked))

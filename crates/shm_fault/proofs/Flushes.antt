@@ -1,0 +1,207 @@
+-- A flush, frame after frame.
+use Rattle.std.proofs.Common.{◌≡◌, ◌≢◌, ℕ, zero, suc, ◌<◌, ◌≤◌, ◌+◌, Bool, true, false, not, cond, ◌&&◌, List, [], ◌∷◌, ◌++◌, length, set, take, filter, Option, Some, None, refl, sym, ap, ◌∙◌, inl, inr, arith, append-nil, get_or-set_same, get_or-set_other}
+use Rattle.std.specs.Prelude.{IsSome, min, count_by, Contains}
+use Rattle.std.specs.List.{range_with_len}
+use Rattle.std.proofs.lemmas.Bool.{cases_eq, and_parts}
+use Rattle.std.proofs.lemmas.List.{length-take}
+use Rattle.std.proofs.lemmas.List.Elements.{filter-append, Contains-push, Contains-append_left}
+use Rattle.std.proofs.lemmas.List.Sums.{sum_by-cons}
+use Rattle.shm_base.specs.declared.paging.PageRef.{PageRef}
+use Rattle.shm_slots.specs.Cause.{total, some_spent}
+use Rattle.shm_frames.specs.Frame.{Frame, no_frame, frame_at}
+use Rattle.shm_fault.specs.Segs.{locked_by}
+use Rattle.shm_fault.specs.Store.{StoreView}
+use Rattle.shm_fault.specs.Sound.{IsSound}
+use Rattle.shm_fault.specs.Goes.{Goes, Still}
+use Rattle.shm_fault.specs.Flushing.{owner_unlocked, may_flush, dirty_list, dirty_after, IsFlushed}
+use Rattle.shm_fault.proofs.Sound.{Goes-refl, Goes-trans}
+use Rattle.shm_fault.proofs.Failures.{unspent-before}
+use Rattle.shm_fault.proofs.Bringing.{is_locked-held}
+
+-- those of the frames below i that may be flushed
+abbrev pub due : StoreView → ℕ → List ℕ
+due s i = filter (may_flush s) (range_with_len 0 i)
+
+abbrev AllBelow : ℕ → List ℕ → Type 0
+AllBelow i [] = Unit {0}
+AllBelow i (x ∷ xs) = (x < i) × AllBelow i xs
+
+-- the frames below i were looked at, and the first n of those that may be flushed were written
+pub record Flushed (n : ℕ) (s : StoreView) (i : ℕ) (t : StoreView) (written failed : ℕ) : Type 0 where
+  pub sound : IsSound t
+  pub goes : Goes s t
+  pub still : Still s t
+  pub sum : written + failed ≡ length (take n (due s i))
+  pub failures : count_by (dirty_after t) (take n (due s i)) ≡ failed
+  pub below : AllBelow i (take n (due s i))
+  pub ahead : (f : ℕ) → i ≤ f → frame_at t.frames f ≡ frame_at s.frames f
+  pub frames : (f : ℕ) → frame_at t.frames f ≡ record (frame_at s.frames f) { dirty = (frame_at t.frames f).dirty }
+  pub others : (f : ℕ) → (Contains (take n (due s i)) f → ⊥) → frame_at t.frames f ≡ frame_at s.frames f
+  pub counted : some_spent t.swap ≡ false → total t.swap ≡ total s.swap + failed
+
+AllBelow-more : (i : ℕ) (xs : List ℕ) → AllBelow i xs → AllBelow (i + 1) xs
+AllBelow-more i [] all = tt
+AllBelow-more i (x ∷ xs) all = (omega (arith, all.0), AllBelow-more i xs all.1)
+
+AllBelow-push : (i : ℕ) (xs : List ℕ) → AllBelow i xs → AllBelow (i + 1) (xs ++ i ∷ [])
+AllBelow-push i [] all = (omega arith, tt)
+AllBelow-push i (x ∷ xs) all = (omega (arith, all.0), AllBelow-push i xs all.1)
+
+count-below : (p q : ℕ → Bool) (i : ℕ) (xs : List ℕ) → AllBelow i xs → ((x : ℕ) → x < i → p x ≡ q x) → count_by p xs ≡ count_by q xs
+count-below p q i [] all same = refl
+count-below p q i (x ∷ xs) all same =
+    let rest = count-below p q i xs all.1 same in
+    let here : cond (p x) 1 0 ≡ cond (q x) 1 0 = ap one (same x all.0) in
+    omega (arith, here, rest, sum_by-cons (λ y. cond (p y) 1 0) x xs, sum_by-cons (λ y. cond (q y) 1 0) x xs)
+  where
+    one : Bool → ℕ
+    one b = cond b 1 0
+
+count-push : (p : ℕ → Bool) (xs : List ℕ) (x : ℕ) → count_by p (xs ++ x ∷ []) ≡ count_by p xs + cond (p x) 1 0
+count-push p [] x = omega (arith, sum_by-cons (λ y. cond (p y) 1 0) x [])
+count-push p (z ∷ xs) x =
+    let rest = count-push p xs x in
+    omega (arith, rest, sum_by-cons (λ y. cond (p y) 1 0) z xs, sum_by-cons (λ y. cond (p y) 1 0) z (xs ++ x ∷ []))
+
+length-push : (xs : List ℕ) (x : ℕ) → length (xs ++ x ∷ []) ≡ length xs + 1
+length-push [] x = refl
+length-push (z ∷ xs) x = let rest = length-push xs x in omega (arith, rest)
+
+take-more : (n : ℕ) (xs : List ℕ) (x : ℕ) → length (take n xs) < n → take n (xs ++ x ∷ []) ≡ take n xs ++ x ∷ []
+take-more zero xs x lt = absurd (omega arith)
+take-more (suc zero) [] x lt = refl
+take-more (suc (suc n)) [] x lt = refl
+take-more (suc n) (z ∷ xs) x lt = ap (λ l. z ∷ l) (take-more n xs x (omega arith))
+
+take-full : (n : ℕ) (xs ys : List ℕ) → n ≤ length (take n xs) → take n (xs ++ ys) ≡ take n xs
+take-full zero xs ys le = refl
+take-full (suc n) [] ys le = absurd (omega arith)
+take-full (suc n) (z ∷ xs) ys le = ap (λ l. z ∷ l) (take-full n xs ys (omega arith))
+
+range-more : (a n : ℕ) → range_with_len a (suc n) ≡ range_with_len a n ++ (a + n) ∷ []
+range-more a zero = let e : a + 0 ≡ a = omega arith in rw e refl
+range-more a (suc n) = let e : a + 1 + n ≡ a + suc n = omega arith in ap (λ l. a ∷ l) (rw e at (range-more (a + 1) n))
+
+due-more : (s : StoreView) (i : ℕ) → due s (i + 1) ≡ due s i ++ filter (may_flush s) (i ∷ [])
+due-more s i =
+    let more : i + 1 ≡ suc i = omega arith in
+    let last : 0 + i ≡ i = omega arith in
+    let range : range_with_len 0 (i + 1) ≡ range_with_len 0 i ++ i ∷ [] = rw more (rw last at (range-more 0 i)) in
+    ap (filter (may_flush s)) range ∙ filter-append (may_flush s) (range_with_len 0 i) (i ∷ [])
+
+due-yes : (s : StoreView) (i : ℕ) → may_flush s i ≡ true → due s (i + 1) ≡ due s i ++ i ∷ []
+due-yes s i e = due-more s i ∙ rw e refl
+
+due-no : (s : StoreView) (i : ℕ) → may_flush s i ≡ false → due s (i + 1) ≡ due s i
+due-no s i e = due-more s i ∙ rw e (append-nil (due s i))
+
+pub flushed-none : (n : ℕ) (s : StoreView) → IsSound s → Flushed n s 0 s 0 0
+flushed-none n s sound = let none : take n (due s 0) ≡ [] = by n in record {
+  sound = sound;
+  goes = Goes-refl s;
+  still = λ r. refl;
+  sum = rw none refl;
+  failures = rw none refl;
+  below = rw none tt;
+  ahead = λ f le. refl;
+  frames = λ f. refl;
+  others = λ f out. refl;
+  counted = λ e. omega arith;
+}
+  where
+    by : (m : ℕ) → take m (due s 0) ≡ []
+    by zero = refl
+    by (suc m) = refl
+
+-- the frame may be flushed as it might at first
+pub may-same : (n : ℕ) (s : StoreView) (i : ℕ) (t : StoreView) (written failed : ℕ) → Flushed n s i t written failed → may_flush t i ≡ may_flush s i
+may-same n s i t written failed d = rw (d.ahead i (omega arith)) (by (frame_at s.frames i).owner)
+  where
+    by : (o : Option PageRef) → ((frame_at s.frames i).dirty && owner_unlocked t o) ≡ ((frame_at s.frames i).dirty && owner_unlocked s o)
+    by None = refl
+    by (Some r) = rw d.goes.bytes refl
+
+pub record MayFlush (s : StoreView) (i : ℕ) : Type 0 where
+  pub dirty : (frame_at s.frames i).dirty ≡ true
+  pub owned : IsSome (frame_at s.frames i).owner
+
+pub may-parts : (s : StoreView) (i : ℕ) → may_flush s i ≡ true → MayFlush s i
+may-parts s i e =
+    let parts = and_parts (frame_at s.frames i).dirty (owner_unlocked s (frame_at s.frames i).owner) e in
+    record { dirty = parts.0; owned = by (frame_at s.frames i).owner parts.1 }
+  where
+    by : (o : Option PageRef) → owner_unlocked s o ≡ true → IsSome o
+    by None h = cc
+    by (Some r) h = refl
+
+module _ (n : ℕ) (s : StoreView) (i : ℕ) (t : StoreView) (written failed : ℕ) (d : Flushed n s i t written failed) where
+  skipped : take n (due s (i + 1)) ≡ take n (due s i) → Flushed n s (i + 1) t written failed
+  skipped same = record {
+    sound = d.sound;
+    goes = d.goes;
+    still = d.still;
+    sum = rw same d.sum;
+    failures = rw same d.failures;
+    below = rw same (AllBelow-more i (take n (due s i)) d.below);
+    ahead = λ f le. d.ahead f (omega arith);
+    frames = d.frames;
+    others = λ f out. d.others f (rw same at out);
+    counted = d.counted;
+  }
+
+  -- enough frames were written
+  pub flushed-enough : n ≤ written + failed → Flushed n s (i + 1) t written failed
+  flushed-enough le = skipped (ap (take n) (due-more s i) ∙ take-full n (due s i) (filter (may_flush s) (i ∷ [])) (omega (arith, le, d.sum)))
+
+  -- the frame stays as it is
+  pub flushed-not : may_flush t i ≡ false → Flushed n s (i + 1) t written failed
+  flushed-not e = skipped (ap (take n) (due-no s i (sym (may-same n s i t written failed d) ∙ e)))
+
+  -- the frame was written, or the try failed
+  pub flushed-more : (u : StoreView) (wrote fails : ℕ) → written + failed < n → may_flush t i ≡ true → i < length t.frames
+      → u.frames ≡ set t.frames i (record (frame_at t.frames i) { dirty = dirty_after u i }) → Goes t u → Still t u → IsSound u
+      → wrote + fails ≡ written + failed + 1 → fails ≡ failed + cond (dirty_after u i) 1 0
+      → (some_spent u.swap ≡ false → total u.swap ≡ total t.swap + cond (dirty_after u i) 1 0) → Flushed n s (i + 1) u wrote fails
+  flushed-more u wrote fails lt may there frames goes still sound sum more counted =
+      let l = take n (due s i) in
+      let is : take n (due s (i + 1)) ≡ l ++ i ∷ [] =
+      ap (take n) (due-yes s i (sym (may-same n s i t written failed d) ∙ may)) ∙ take-more n (due s i) i (omega (arith, lt, d.sum)) in
+      record {
+        sound = sound;
+        goes = Goes-trans s t u d.goes goes;
+        still = λ r. still r ∙ d.still r;
+        sum = rw is (omega (arith, sum, d.sum, length-push l i));
+        failures = rw is (
+            let a = count-push (dirty_after u) l i in
+            let b = count-below (dirty_after u) (dirty_after t) i l d.below (λ x low. ap (λ (y : Frame). y.dirty) (other x (λ e. absurd (omega (arith, e, low))))) in
+            omega (arith, a, b, more, d.failures)
+            );
+        below = rw is (AllBelow-push i l d.below);
+        ahead = λ f le. other f (λ e. absurd (omega (arith, e, le))) ∙ d.ahead f (omega arith);
+        frames = λ f. elim (cases_eq f i) [
+          | inl e ↦ rw e (at ∙ rw (d.ahead i (omega arith)) refl)
+          | inr ne ↦ rw (other f ne) (d.frames f)
+        ];
+        others = λ f out. other f (λ e. out (rw (is, e) (Contains-push l i))) ∙ d.others f (λ has. out (rw is (Contains-append_left l (i ∷ []) f has)));
+        counted = λ e. let a = counted e in let b = d.counted (unspent-before t.swap u.swap sound.swap goes.goes_on e) in omega (arith, a, b, more);
+      }
+    where
+      at : frame_at u.frames i ≡ record (frame_at t.frames i) { dirty = dirty_after u i }
+      at = ap (λ (fs : List Frame). frame_at fs i) frames ∙ get_or-set_same t.frames i (record (frame_at t.frames i) { dirty = dirty_after u i }) no_frame there
+
+      other : (f : ℕ) → f ≢ i → frame_at u.frames f ≡ frame_at t.frames f
+      other f ne = ap (λ (fs : List Frame). frame_at fs f) frames ∙ get_or-set_other t.frames i f (record (frame_at t.frames i) { dirty = dirty_after u i }) no_frame ne
+
+pub flushed-all : (n : ℕ) (s : StoreView) (i : ℕ) (t : StoreView) (written failed : ℕ) → i ≡ length s.frames → Flushed n s i t written failed → IsFlushed s t n (record { written = written; failed = failed })
+flushed-all n s i t written failed e d =
+    let same : due s i ≡ dirty_list s = ap (due s) e in
+    record {
+      sum = d.sum ∙ length-take n (due s i) ∙ ap (λ l. min n (length l)) same;
+      failed = rw same at d.failures;
+      frames = d.frames;
+      others = λ f out. d.others f (rw (← same) at out);
+      counted = d.counted;
+    }
+
+pub flushable : (s : StoreView) (i : ℕ) (r : PageRef) → (frame_at s.frames i).owner ≡ Some r → (frame_at s.frames i).dirty ≡ true → not (locked_by s.segs r.seg) ≡ may_flush s i
+flushable s i r owner dirty = rw (owner, dirty) (ap not (sym (is_locked-held s r.seg)))

@@ -1,0 +1,114 @@
+-- What calls of the swap leave of its slots.
+use Rattle.std.proofs.Common.{◌≡◌, ◌≢◌, ◌⊎◌, ℕ, ◌<◌, ◌≤◌, Bool, List, [], length, get_or, set, Option, None, refl, ap, ◌∙◌, inl, inr, arith, length-set, get_or-set_same, get_or-set_other}
+use Rattle.std.proofs.lemmas.Bool.{cases_eq, cases_lt}
+use Rattle.std.proofs.lemmas.List.{set_past}
+use Rattle.shm_base.specs.declared.paging.PageRef.{PageRef}
+use Rattle.shm_base.specs.declared.paging.Slot.{Slot}
+use Rattle.shm_slots.specs.View.{AreaView, SwapView, no_area, area_at, with_page, with_owner, HasSlot, owner_of, page_in, with_slot_page, with_slot_owner, without_slot, SameSlots, OneArea, WriteFault}
+
+-- one slot may have another page and another owner; nothing else changed
+pub record OnlySlot (k : Slot) (s t : SwapView) : Type 0 where
+  pub has : (j : Slot) → HasSlot s j.area j.slot → HasSlot t j.area j.slot
+  pub pages : (j : Slot) → j ≢ k → page_in t j.area j.slot ≡ page_in s j.area j.slot
+  pub owners : (j : Slot) → j ≢ k → owner_of t j.area j.slot ≡ owner_of s j.area j.slot
+
+pub OnlySlot-trans : (k : Slot) (s t u : SwapView) → OnlySlot k s t → OnlySlot k t u → OnlySlot k s u
+OnlySlot-trans k s t u a b = record {
+  has = λ j h. b.has j (a.has j h);
+  pages = λ j n. b.pages j n ∙ a.pages j n;
+  owners = λ j n. b.owners j n ∙ a.owners j n;
+}
+
+pub OnlySlot-same : (k : Slot) (s t : SwapView) → SameSlots s t → OnlySlot k s t
+OnlySlot-same k s t same = record {
+  has = λ j h. (rw same.areas h.0, rw (same.pages j.area) h.1);
+  pages = λ j n. ap (λ ps. get_or ps j.slot []) (same.pages j.area);
+  owners = λ j n. ap (λ os. get_or os j.slot None) (same.owners j.area);
+}
+
+-- the area of one slot was set, with that slot's page and owner alone changed
+area_only : (k : Slot) (s : SwapView) (a : AreaView) (flag : Bool) → length a.pages ≡ length (area_at s k.area).pages
+    → ((i : ℕ) → i ≢ k.slot → get_or a.pages i [] ≡ get_or (area_at s k.area).pages i [])
+    → ((i : ℕ) → i ≢ k.slot → get_or a.owners i None ≡ get_or (area_at s k.area).owners i None)
+    → OnlySlot k s (record { areas = set s.areas k.area a; never_spent = flag })
+area_only k s a flag len pages owners = record {
+  has = λ j h. (rw (length-set s.areas k.area a) h.0, has_at j h.0 h.1 (cases_eq j.area k.area));
+  pages = λ j n. pages_at j n (cases_eq j.area k.area) (cases_lt k.area (length s.areas));
+  owners = λ j n. owners_at j n (cases_eq j.area k.area) (cases_lt k.area (length s.areas));
+}
+  where
+    t : SwapView
+    t = record { areas = set s.areas k.area a; never_spent = flag }
+
+    apart : (j : Slot) → j ≢ k → j.area ≡ k.area → j.slot ≢ k.slot
+    apart j n areas slots = n (let l : record { area = j.area; slot = j.slot } ≡ record { area = k.area; slot = k.slot } = rw (areas, slots) refl in l)
+
+    has_at : (j : Slot) → j.area < length s.areas → j.slot < length (area_at s j.area).pages → (j.area ≡ k.area) ⊎ (j.area ≢ k.area) → j.slot < length (get_or (set s.areas k.area a) j.area no_area).pages
+    has_at j there lt (inl e) =
+        let within : k.area < length s.areas = omega arith in
+        let lt_k : j.slot < length (area_at s k.area).pages = rw e at lt in
+        rw (e, get_or-set_same s.areas k.area a no_area within, len) lt_k
+    has_at j there lt (inr n) = rw (get_or-set_other s.areas k.area j.area a no_area n) lt
+
+    pages_at : (j : Slot) → j ≢ k → (j.area ≡ k.area) ⊎ (j.area ≢ k.area) → (k.area < length s.areas) ⊎ (length s.areas ≤ k.area) → get_or (get_or (set s.areas k.area a) j.area no_area).pages j.slot [] ≡ page_in s j.area j.slot
+    pages_at j n (inr m) c = rw (get_or-set_other s.areas k.area j.area a no_area m) refl
+    pages_at j n (inl e) (inr past) = rw (set_past s.areas k.area a past) refl
+    pages_at j n (inl e) (inl lt) = rw (e, get_or-set_same s.areas k.area a no_area lt) (pages j.slot (apart j n e))
+
+    owners_at : (j : Slot) → j ≢ k → (j.area ≡ k.area) ⊎ (j.area ≢ k.area) → (k.area < length s.areas) ⊎ (length s.areas ≤ k.area) → get_or (get_or (set s.areas k.area a) j.area no_area).owners j.slot None ≡ owner_of s j.area j.slot
+    owners_at j n (inr m) c = rw (get_or-set_other s.areas k.area j.area a no_area m) refl
+    owners_at j n (inl e) (inr past) = rw (set_past s.areas k.area a past) refl
+    owners_at j n (inl e) (inl lt) = rw (e, get_or-set_same s.areas k.area a no_area lt) (owners j.slot (apart j n e))
+
+-- a slot written
+pub OnlySlot-page : (k : Slot) (s : SwapView) (page : List ℕ) → OnlySlot k s (with_slot_page s k page)
+OnlySlot-page k s page = area_only k s (with_page (area_at s k.area) k.slot page) s.never_spent (length-set (area_at s k.area).pages k.slot page) (λ i n. get_or-set_other (area_at s k.area).pages k.slot i page [] n) (λ i n. refl)
+
+-- a slot's owner set
+pub OnlySlot-owner : (k : Slot) (s : SwapView) (owner : Option PageRef) → OnlySlot k s (with_slot_owner s k owner)
+OnlySlot-owner k s owner = area_only k s (with_owner (area_at s k.area) k.slot owner) s.never_spent refl (λ i n. refl) (λ i n. get_or-set_other (area_at s k.area).owners k.slot i owner None n)
+
+-- a slot given back
+pub OnlySlot-given : (k : Slot) (s : SwapView) (page : List ℕ) → OnlySlot k s (without_slot s k page)
+OnlySlot-given k s page = area_only k s (with_page (with_owner (area_at s k.area) k.slot None) k.slot page) s.never_spent (length-set (area_at s k.area).pages k.slot page) (λ i n. get_or-set_other (area_at s k.area).pages k.slot i page [] n) (λ i n. get_or-set_other (area_at s k.area).owners k.slot i None None n)
+
+-- a write that failed
+pub OnlySlot-fault : (k : Slot) (s t : SwapView) → OneArea k.area s t → WriteFault k.slot (area_at s k.area) (area_at t k.area) → OnlySlot k s t
+OnlySlot-fault k s t one fault =
+    let a = area_at t k.area in
+    let was = area_at s k.area in
+    let unknown : a.pages ≡ set was.pages k.slot (get_or a.pages k.slot []) = fault.1 in
+    let owners : a.owners ≡ was.owners = ap (λ (b : AreaView). b.owners) fault.0 in
+    rw one (area_only k s a _ (ap length unknown ∙ length-set was.pages k.slot _) (λ i n. ap (λ ps. get_or ps i []) unknown ∙ get_or-set_other was.pages k.slot i _ [] n) (λ i n. ap (λ os. get_or os i None) owners))
+
+-- what the slot itself then is
+pub page-written : (k : Slot) (s : SwapView) (page : List ℕ) → HasSlot s k.area k.slot → page_in (with_slot_page s k page) k.area k.slot ≡ page
+page-written k s page h =
+    rw (get_or-set_same s.areas k.area (with_page (area_at s k.area) k.slot page) no_area h.0) (get_or-set_same (area_at s k.area).pages k.slot page [] h.1)
+
+pub owner-written : (k : Slot) (s : SwapView) (page : List ℕ) → HasSlot s k.area k.slot → owner_of (with_slot_page s k page) k.area k.slot ≡ owner_of s k.area k.slot
+owner-written k s page h =
+    rw (get_or-set_same s.areas k.area (with_page (area_at s k.area) k.slot page) no_area h.0) refl
+
+pub owner-fault : (k : Slot) (s t : SwapView) → OneArea k.area s t → WriteFault k.slot (area_at s k.area) (area_at t k.area) → owner_of t k.area k.slot ≡ owner_of s k.area k.slot
+owner-fault k s t one fault = ap (λ (b : AreaView). get_or b.owners k.slot None) fault.0
+
+pub owner-set : (k : Slot) (s : SwapView) (owner : Option PageRef) → k.area < length s.areas → k.slot < length (area_at s k.area).owners → owner_of (with_slot_owner s k owner) k.area k.slot ≡ owner
+owner-set k s owner area slot =
+    rw (get_or-set_same s.areas k.area (with_owner (area_at s k.area) k.slot owner) no_area area) (get_or-set_same (area_at s k.area).owners k.slot owner None slot)
+
+pub owner-given : (k : Slot) (s : SwapView) (page : List ℕ) → k.area < length s.areas → k.slot < length (area_at s k.area).owners → owner_of (without_slot s k page) k.area k.slot ≡ None
+owner-given k s page area slot =
+    rw (get_or-set_same s.areas k.area (with_page (with_owner (area_at s k.area) k.slot None) k.slot page) no_area area) (get_or-set_same (area_at s k.area).owners k.slot None None slot)
+
+-- slots by their names
+abbrev pub slot_ne : Slot → Slot → Type 0
+slot_ne j k = (j.area ≡ k.area → j.slot ≡ k.slot → ⊥)
+
+pub cases_slot : (j k : Slot) → (j ≡ k) ⊎ (j ≢ k)
+cases_slot j k = by (cases_eq j.area k.area) (cases_eq j.slot k.slot)
+  where
+    by : (j.area ≡ k.area) ⊎ (j.area ≢ k.area) → (j.slot ≡ k.slot) ⊎ (j.slot ≢ k.slot) → (j ≡ k) ⊎ (j ≢ k)
+    by (inl a) (inl b) = let l : record { area = j.area; slot = j.slot } ≡ record { area = k.area; slot = k.slot } = rw (a, b) refl in inl l
+    by (inr n) b = inr (λ e. n (ap (λ (x : Slot). x.area) e))
+    by (inl a) (inr n) = inr (λ e. n (ap (λ (x : Slot). x.slot) e))

@@ -1,0 +1,108 @@
+-- What is true of every store, kept by a change that touches few pages.
+use Rattle.std.proofs.Common.{◌≡◌, ℕ, ◌<◌, ◌≤◌, ◌+◌, Bool, true, false, cond, ltb, List, [], ◌∷◌, length, sum_by, Option, Some, None, is_some, refl, ap, ◌∙◌, inl, inr, arith}
+use Rattle.std.specs.Prelude.{count_by}
+use Rattle.std.proofs.lemmas.Bool.{cases_Bool, or_right}
+use Rattle.std.proofs.lemmas.List.Sums.{sum_by-cons, count_by-le-length}
+use Rattle.shm_base.specs.declared.paging.PageRef.{PageRef}
+use Rattle.shm_base.specs.declared.paging.Slot.{Slot}
+use Rattle.shm_slots.specs.View.{SwapView, IsSwap, slots, sizes, slots_in, owner_of}
+use Rattle.shm_slots.specs.Cause.{GoesOn, total, some_spent, had_cause}
+use Rattle.shm_frames.specs.Frame.{Frame, frame_at}
+use Rattle.shm_fault.specs.Segs.{SegRec, HasPage, AreApart, pages_of, locked_pages}
+use Rattle.shm_fault.specs.Store.{StoreView, has_frame, has_slot, dirty_in, is_dirty_page}
+use Rattle.shm_fault.specs.Sound.{IsTied, Tied, IsSound}
+use Rattle.shm_fault.specs.Goes.{outlines, Goes, Still, KeepsLocked}
+use Rattle.shm_fault.proofs.Pages.{apart-same, sum_pages-same, sum_locked-same, locked-same}
+use Rattle.shm_fault.proofs.Ties.{Touches, tied_touched, bytes_touched}
+use Rattle.shm_fault.proofs.Tally.{resident-frames}
+use Rattle.shm_fault.proofs.Bytes.{bytes_at, held-same}
+use Rattle.shm_fault.proofs.Failures.{spent-cause, cause-before}
+
+count-le : {X : Type 0} (p q : X → Bool) (xs : List X) → ((x : X) → p x ≡ true → q x ≡ true) → count_by p xs ≤ count_by q xs
+count-le p q [] both = omega arith
+count-le p q (x ∷ xs) both =
+    let rest = count-le p q xs both in
+    let here : cond (p x) 1 0 ≤ cond (q x) 1 0 = elim (cases_Bool (p x)) [ inl t ↦ rw (t, both x t) (omega arith) | inr f ↦ rw f (omega arith) ] in
+    omega (arith, here, rest, sum_by-cons (λ y. cond (p y) 1 0) x xs, sum_by-cons (λ y. cond (q y) 1 0) x xs)
+
+sum-le : {X : Type 0} (f h : X → ℕ) (xs : List X) → ((x : X) → f x ≤ h x) → sum_by f xs ≤ sum_by h xs
+sum-le f h [] le = omega arith
+sum-le f h (x ∷ xs) le = let rest = sum-le f h xs le in let here = le x in omega (arith, here, rest, sum_by-cons f x xs, sum_by-cons h x xs)
+
+-- the counts follow from the rest
+pub IsSound-from : (s : StoreView) → Tied s → AreApart s.segs → (2 ≤ length s.frames) × (length s.frames ≤ 4096) → IsSwap s.swap → s.hand < length s.frames
+    → sum_by pages_of s.segs ≤ slots s.swap → sum_by locked_pages s.segs + 2 ≤ length s.frames → IsSound s
+IsSound-from s tied apart frames swap hand capacity locked = record {
+  tied = tied;
+  apart = apart;
+  frames = frames;
+  swap = swap;
+  hand = hand;
+  capacity = capacity;
+  locked = locked;
+  few_resident = let e = resident-frames s apart tied in omega (arith, e, count_by-le-length (λ (x : Frame). is_some x.owner) s.frames);
+  few_dirty = sum-le (λ (g : SegRec). count_by (is_dirty_page s.frames) g.pages) (λ (g : SegRec). count_by has_frame g.pages) s.segs (λ g. count-le (is_dirty_page s.frames) has_frame g.pages (λ p. by p.frame));
+  few_used = sum-le (λ (g : SegRec). count_by has_slot g.pages) pages_of s.segs (λ g. count_by-le-length has_slot g.pages);
+}
+  where
+    by : (o : Option ℕ) → dirty_in s.frames o ≡ true → is_some o ≡ true
+    by None e = e
+    by (Some f) e = refl
+
+-- a change that touches few pages
+module _ (off : PageRef → Bool) (s t : StoreView) (sound : IsSound s) (to : Touches off s t) (swap : IsSwap t.swap) (same : sizes t.swap ≡ sizes s.swap) (hand : t.hand < length t.frames)
+    (here : (q : PageRef) → off q ≡ false → HasPage s.segs q → IsTied t q)
+    (own_frame : (f : ℕ) (q : PageRef) → off q ≡ false → (frame_at t.frames f).owner ≡ Some q → HasPage s.segs q)
+    (own_slot : (k : Slot) (q : PageRef) → off q ≡ false → owner_of t.swap k.area k.slot ≡ Some q → HasPage s.segs q) where
+  pub sound-touched : IsSound t
+  sound-touched = IsSound-from t
+      (tied_touched off s t to sound.tied here own_frame own_slot)
+      (apart-same s.segs t.segs to.shape sound.apart)
+      (rw to.size sound.frames)
+      swap hand
+      (let p = sum_pages-same s.segs t.segs to.shape in let z : slots t.swap ≡ slots s.swap = ap (λ l. sum_by slots_in l) same in omega (arith, p, z, sound.capacity))
+      (let p = sum_locked-same s.segs t.segs to.shape in omega (arith, p, to.size, sound.locked))
+
+  pub goes-touched : GoesOn s.swap t.swap → ((q : PageRef) → off q ≡ false → HasPage s.segs q → bytes_at t q ≡ bytes_at s q) → Goes s t
+  goes-touched goes_on bytes = record {
+    bytes = held-same s t sound.apart (apart-same s.segs t.segs to.shape sound.apart) to.shape (λ q has. elim (cases_Bool (off q)) [ inl is ↦ bytes_touched off s t to q is (sound.tied.pages q has) | inr on ↦ bytes q on has ]);
+    shape = to.shape;
+    size = to.size;
+    goes_on = goes_on;
+    same_sizes = same;
+    spent = spent-cause s.swap t.swap sound.swap goes_on;
+  }
+
+pub GoesOn-refl : (s : SwapView) → GoesOn s s
+GoesOn-refl s = record { areas = refl; starts = λ a. refl; counts = λ a. omega arith; flag = λ e. e }
+
+pub GoesOn-trans : (s t u : SwapView) → GoesOn s t → GoesOn t u → GoesOn s u
+GoesOn-trans s t u a b = record {
+  areas = b.areas ∙ a.areas;
+  starts = λ i. b.starts i ∙ a.starts i;
+  counts = λ i. let x = a.counts i in let y = b.counts i in omega (arith, x, y);
+  flag = λ e. a.flag (b.flag e);
+}
+
+pub Goes-refl : (s : StoreView) → Goes s s
+Goes-refl s = record { bytes = refl; shape = refl; size = refl; goes_on = GoesOn-refl s.swap; same_sizes = refl; spent = λ e. or_right (ltb (total s.swap) (total s.swap)) (some_spent s.swap) e }
+
+pub Goes-trans : (s t u : StoreView) → Goes s t → Goes t u → Goes s u
+Goes-trans s t u a b = record {
+  bytes = b.bytes ∙ a.bytes;
+  shape = b.shape ∙ a.shape;
+  size = b.size ∙ a.size;
+  goes_on = GoesOn-trans s.swap t.swap u.swap a.goes_on b.goes_on;
+  same_sizes = b.same_sizes ∙ a.same_sizes;
+  spent = λ e. cause-before s.swap t.swap u.swap a.spent a.goes_on b.goes_on (b.spent e);
+}
+
+-- a cause at a later step is one of the whole
+pub cause-after : (s t u : StoreView) → Goes s t → Goes t u → had_cause t.swap u.swap ≡ true → had_cause s.swap u.swap ≡ true
+cause-after s t u a b e = cause-before s.swap t.swap u.swap a.spent a.goes_on b.goes_on e
+
+pub KeepsLocked-still : (s t : StoreView) → Still s t → KeepsLocked s t
+KeepsLocked-still s t still r locked e = rw (still r) e
+
+pub KeepsLocked-trans : (s t u : StoreView) → outlines t.segs ≡ outlines s.segs → KeepsLocked s t → KeepsLocked t u → KeepsLocked s u
+KeepsLocked-trans s t u shape a b r locked e = b r (rw (locked-same s.segs t.segs r.seg shape) locked) (a r locked e)

@@ -1,0 +1,148 @@
+-- Stretches of pages, in the bytes of segments and in frames.
+use Rattle.std.proofs.Common.{◌≡◌, ◌≢◌, ℕ, suc, ◌<◌, ◌≤◌, ◌+◌, ◌-◌, ◌*◌, ◌/◌, ◌%◌, Bool, true, false, cond, List, [], ◌∷◌, map, length, get_or, take, drop, sum_by, Option, Some, None, is_some, refl, sym, ap, ◌∙◌, inl, inr, arith}
+use Rattle.std.specs.Prelude.{option_map}
+use Rattle.std.proofs.lemmas.Bool.{cases_eq, eq-eqb, ne_eqb}
+use Rattle.std.proofs.lemmas.List.Sums.{sum_by-cons}
+use Rattle.shm_base.specs.declared.paging.PageRef.{PageRef}
+use Rattle.shm_base.specs.declared.paging.Span.{Span}
+use Rattle.shm_plain.specs.Held.{find_held, bytes_of, is_held, FitsPage, span_bytes, paste, pasted}
+use Rattle.shm_slots.specs.View.{AreaView, IsArea, slots_in, size_of, no_area}
+use Rattle.shm_frames.specs.Frame.{frame_at}
+use Rattle.shm_fault.specs.Segs.{SegRec, find_seg, AreApart, count_by_id, HasPage, pages_of}
+use Rattle.shm_fault.specs.Store.{StoreView, page_of, held, ref_of}
+use Rattle.shm_fault.specs.Sound.{IsSound}
+use Rattle.shm_fault.specs.Goes.{outline, outlines, frame_by}
+use Rattle.shm_fault.proofs.Pages.{find-id}
+use Rattle.shm_fault.proofs.Bytes.{joined, held_one, held_of, bytes_at, held-is, joined-read, joined-paste, joined-ext, length-joined}
+
+find-held : (b : PageRef → List ℕ) (gs : List SegRec) (id : ℕ) → find_held (held_of b (outlines gs)) id ≡ option_map (λ (g : SegRec). held_one b (outline g)) (find_seg gs id)
+find-held b [] id = refl
+find-held b (g ∷ gs) id = elim (cases_eq g.id id) [
+  | inl e ↦ rw (eq-eqb g.id id e) refl
+  | inr n ↦ rw (ne_eqb g.id id n) (find-held b gs id)
+]
+
+module _ (s : StoreView) (sound : IsSound s) where
+  find-in : (id : ℕ) → find_held (held s) id ≡ option_map (λ (g : SegRec). held_one (bytes_at s) (outline g)) (find_seg s.segs id)
+  find-in id = ap (λ hs. find_held hs id) (held-is s sound.apart) ∙ find-held (bytes_at s) s.segs id
+
+  pub bytes-in : (id : ℕ) → bytes_of (held s) id ≡ joined (bytes_at s) id 0 (count_by_id s.segs id)
+  unfolding joined
+  bytes-in id = by (find_seg s.segs id) refl
+    where
+      by : (o : Option SegRec) → find_seg s.segs id ≡ o → bytes_of (held s) id ≡ joined (bytes_at s) id 0 (count_by_id s.segs id)
+      by None e = rw (find-in id, e) refl
+      by (Some g) e = let q = find-id s.segs id g e in rw (find-in id, e) (ap (λ n. joined (bytes_at s) n 0 (length g.pages)) q)
+
+  whole-in : (id : ℕ) (j : ℕ) → j < count_by_id s.segs id → length (bytes_at s (record { seg = id; page = j })) ≡ 4096
+  whole-in id j lt = (sound.tied.pages (record { seg = id; page = j }) lt).whole
+
+  pub length-in : (id : ℕ) → length (bytes_of (held s) id) ≡ 4096 * count_by_id s.segs id
+  length-in id = ap length (bytes-in id) ∙ length-joined (bytes_at s) (record { seg = id; page = 0 }) (count_by_id s.segs id) (whole-in id) 0 (count_by_id s.segs id) (omega arith)
+
+  pub held-in : (id : ℕ) → is_held (held s) id ≡ is_some (find_seg s.segs id)
+  held-in id = ap is_some (find-in id) ∙ by (find_seg s.segs id)
+    where
+      by : (o : Option SegRec) → is_some (option_map (λ (g : SegRec). held_one (bytes_at s) (outline g)) o) ≡ is_some o
+      by None = refl
+      by (Some g) = refl
+
+  -- the page of a stretch is there
+  pub fits-has : (p : Span) → FitsPage (held s) p → HasPage s.segs (ref_of p)
+  fits-has p fit =
+      let len = length-in p.seg in
+      omega (arith, len, fit.1, fit.2)
+
+  -- a stretch in a page that is there fits it
+  pub has-fits : (p : Span) → HasPage s.segs (ref_of p) → 0 < p.len → p.at % 4096 + p.len ≤ 4096 → FitsPage (held s) p
+  has-fits p has some fits =
+      let len = length-in p.seg in
+      (held-in p.seg ∙ by (find_seg s.segs p.seg) refl, omega (arith, len, has, fits), some, omega (arith, fits))
+    where
+      by : (o : Option SegRec) → find_seg s.segs p.seg ≡ o → is_some o ≡ true
+      by None e = absurd (let h : page_of p < 0 = rw e at has in omega arith)
+      by (Some g) e = refl
+
+  pub span-read : (p : Span) (f : ℕ) → FitsPage (held s) p → frame_by s (ref_of p) ≡ Some f → span_bytes (held s) p ≡ take p.len (drop (p.at % 4096) (frame_at s.frames f).bytes)
+  span-read p f fit at =
+      let has = fits-has p fit in
+      let split : 4096 * (p.at / 4096 - 0) + p.at % 4096 ≡ p.at = omega arith in
+      let read = joined-read (bytes_at s) (ref_of p) (count_by_id s.segs p.seg) (whole-in p.seg) p.len (p.at % 4096) 0 (count_by_id s.segs p.seg) (omega arith) (omega arith) has (omega (arith, fit.3)) in
+      let bytes : bytes_at s (ref_of p) ≡ (frame_at s.frames f).bytes = rw at refl in
+      rw (bytes-in p.seg) (rw split at read ∙ ap (λ l. take p.len (drop (p.at % 4096) l)) bytes)
+
+-- a stretch that fits a page still does where segments have the same pages
+pub fits-same : (s t : StoreView) → IsSound s → IsSound t → t.segs ≡ s.segs → (p : Span) → FitsPage (held s) p → FitsPage (held t) p
+fits-same s t before after segs p fit =
+    let there : is_held (held t) p.seg ≡ is_held (held s) p.seg = held-in t after p.seg ∙ ap (λ (gs : List SegRec). is_some (find_seg gs p.seg)) segs ∙ sym (held-in s before p.seg) in
+    let size : length (bytes_of (held t) p.seg) ≡ length (bytes_of (held s) p.seg) = length-in t after p.seg ∙ ap (λ (gs : List SegRec). 4096 * count_by_id gs p.seg) segs ∙ sym (length-in s before p.seg) in
+    (there ∙ fit.0, omega (arith, size, fit.1), fit.2, fit.3)
+
+-- one stretch written
+pasted-list : (b c : PageRef → List ℕ) (gs : List SegRec) (r : PageRef) (off : ℕ) (new : List ℕ) → AreApart gs → ((q : PageRef) → HasPage gs q → length (b q) ≡ 4096) → HasPage gs r → off + length new ≤ 4096
+    → c r ≡ paste (b r) off new → ((q : PageRef) → q ≢ r → c q ≡ b q) → held_of c (outlines gs) ≡ map (pasted r.seg (4096 * r.page + off) new) (held_of b (outlines gs))
+pasted-list b c [] r off new apart whole has fits here others = refl
+pasted-list b c (g ∷ gs) r off new apart whole has fits here others = elim (cases_eq g.id r.seg) [
+  | inl e ↦
+      let lt : r.page < length g.pages = rw (eq-eqb g.id r.seg e) at has in
+      let z : 4096 * (r.page - 0) + off ≡ 4096 * r.page + off = omega arith in
+      let one = joined-paste b r (length g.pages) (λ j l. whole (record { seg = r.seg; page = j }) (rw (eq-eqb g.id r.seg e) l)) c new off 0 (length g.pages) (omega arith) (omega arith) lt fits here (λ j n. others (record { seg = r.seg; page = j }) (λ same. n (ap (λ (q : PageRef). q.page) same))) in
+      let head : joined c g.id 0 (length g.pages) ≡ paste (joined b g.id 0 (length g.pages)) (4096 * r.page + off) new = rw (e, ← z) one in
+      let none : find_seg gs r.seg ≡ None = rw e at apart.0 in
+      let rest : held_of c (outlines gs) ≡ map (pasted r.seg (4096 * r.page + off) new) (held_of b (outlines gs)) = far gs r.seg (λ q ne. others q (λ same. ne (ap (λ (x : PageRef). x.seg) same))) none in
+      rw (eq-eqb g.id r.seg e) (let h : held_one c (outline g) ≡ record { id = g.id; locked = g.locked; bytes = paste (joined b g.id 0 (length g.pages)) (4096 * r.page + off) new } = ap (λ bs. record { id = g.id; locked = g.locked; bytes = bs }) head in cc)
+  | inr n ↦
+      let head : joined c g.id 0 (length g.pages) ≡ joined b g.id 0 (length g.pages) = joined-ext c b g.id 0 (length g.pages) (λ j l. others (record { seg = g.id; page = 0 + j }) (λ same. n (ap (λ (q : PageRef). q.seg) same))) in
+      let rest = pasted-list b c gs r off new apart.1 (λ q there. elim (cases_eq g.id q.seg) [
+        | inl f ↦ absurd (let none : find_seg gs q.seg ≡ None = rw f at apart.0 in let no_count : q.page < 0 = rw none at there in omega arith)
+        | inr m ↦ whole q (rw (ne_eqb g.id q.seg m) there)
+      ]) (rw (ne_eqb g.id r.seg n) at has) fits here others in
+      rw (ne_eqb g.id r.seg n) (let h : held_one c (outline g) ≡ held_one b (outline g) = ap (λ bs. record { id = g.id; locked = g.locked; bytes = bs }) head in cc)
+]
+  where
+    far : (hs : List SegRec) (id : ℕ) → ((q : PageRef) → q.seg ≢ id → c q ≡ b q) → find_seg hs id ≡ None → held_of c (outlines hs) ≡ map (pasted id (4096 * r.page + off) new) (held_of b (outlines hs))
+    far [] id same none = refl
+    far (h ∷ hs) id same none = elim (cases_eq h.id id) [
+      | inl e ↦ absurd (let f : find_seg (h ∷ hs) id ≡ Some h = rw (eq-eqb h.id id e) refl in cc)
+      | inr n ↦
+          let head : joined c h.id 0 (length h.pages) ≡ joined b h.id 0 (length h.pages) = joined-ext c b h.id 0 (length h.pages) (λ j l. same (record { seg = h.id; page = 0 + j }) n) in
+          let rest = far hs id same (rw (ne_eqb h.id id n) at none) in
+          rw (ne_eqb h.id id n) (let k : held_one c (outline h) ≡ held_one b (outline h) = ap (λ bs. record { id = h.id; locked = h.locked; bytes = bs }) head in cc)
+    ]
+
+-- one page got other bytes, those of a stretch
+pub held-pasted : (s t : StoreView) → IsSound s → AreApart t.segs → outlines t.segs ≡ outlines s.segs → (r : PageRef) (off : ℕ) (new : List ℕ) → HasPage s.segs r → off + length new ≤ 4096
+    → bytes_at t r ≡ paste (bytes_at s r) off new → ((q : PageRef) → q ≢ r → bytes_at t q ≡ bytes_at s q) → held t ≡ map (pasted r.seg (4096 * r.page + off) new) (held s)
+held-pasted s t sound apart shape r off new has fits here others =
+    held-is t apart ∙ ap (held_of (bytes_at t)) shape
+    ∙ pasted-list (bytes_at s) (bytes_at t) s.segs r off new sound.apart (λ q there. (sound.tied.pages q there).whole) has fits here others
+    ∙ ap (map (pasted r.seg (4096 * r.page + off) new)) (sym (held-is s sound.apart))
+
+-- no segment has 2^32 pages
+sum-slots : (areas : List AreaView) → ((i : ℕ) → IsArea (get_or areas i no_area)) → sum_by slots_in (map size_of areas) ≤ 65536 * length areas
+sum-slots [] each = omega arith
+sum-slots (a ∷ areas) each =
+    let rest = sum-slots areas (λ i. each (suc i)) in
+    let small : length a.pages ≤ 65536 = (each 0).small in
+    let here : slots_in (size_of a) ≤ 65536 = by a.here in
+    omega (arith, rest, here, sum_by-cons slots_in (size_of a) (map size_of areas))
+  where
+    by : (b : Bool) → slots_in (cond b (Some (length a.pages)) None) ≤ 65536
+    by true = (each 0).small
+    by false = omega arith
+
+count-le-sum : (gs : List SegRec) (id : ℕ) → count_by_id gs id ≤ sum_by pages_of gs
+count-le-sum [] id = omega arith
+count-le-sum (g ∷ gs) id =
+    let rest = count-le-sum gs id in
+    let sum = sum_by-cons pages_of g gs in
+    elim (cases_eq g.id id) [
+      | inl e ↦ rw (eq-eqb g.id id e) (omega (arith, sum))
+      | inr n ↦ rw (ne_eqb g.id id n) (omega (arith, sum, rest))
+    ]
+
+pub few_pages : (s : StoreView) → IsSound s → (id : ℕ) → count_by_id s.segs id ≤ 524288
+few_pages s sound id =
+    let a = count-le-sum s.segs id in
+    let b = sum-slots s.swap.areas sound.swap.each in
+    omega (arith, a, b, sound.capacity, sound.swap.few)

@@ -1,0 +1,211 @@
+-- Steps of a visit to a page, one after another.
+use Rattle.std.proofs.Common.{◌≡◌, ◌≢◌, ◌⊎◌, ℕ, suc, ◌<◌, ◌≤◌, true, false, not, cond, eqb, List, [], ◌∷◌, ◌++◌, length, set, Option, Some, None, refl, sym, ap, ◌∙◌, inl, inr, arith, get_or-set_same, get_or-set_other, set-set}
+use Rattle.std.proofs.lemmas.Bool.{cases_Bool, cases_eq, cases_lt, and_parts, eq-eqb, eqb-true, false≢true, not-true}
+use Rattle.shm_base.specs.declared.paging.PageRef.{PageRef}
+use Rattle.shm_frames.specs.Frame.{Frame, no_frame, frame_at}
+use Rattle.shm_clock.specs.Clock.{may_go, owner_passes, is_pinned}
+use Rattle.shm_fault.specs.declared.segments.PageRec.{PageRec}
+use Rattle.shm_fault.specs.Segs.{SegRec, rec_by, HasPage, with_rec, locked_by}
+use Rattle.shm_slots.specs.View.{SwapView}
+use Rattle.shm_fault.specs.Store.{StoreView, frame_of}
+use Rattle.shm_fault.specs.Sound.{IsSound}
+use Rattle.shm_fault.specs.Goes.{Goes, Still, StaysAway, Alike, Visits, MovesOn, unlocked, frame_by, same_ref}
+use Rattle.shm_fault.specs.declared.touched.Move.{Move}
+use Rattle.shm_fault.specs.declared.touched.Move.TheVariants.{Gone, Came}
+use Rattle.shm_fault.specs.Steps.{is_page, moved}
+use Rattle.shm_fault.proofs.Ties.{Alike-refl}
+use Rattle.std.proofs.lemmas.List.{set_past}
+use Rattle.shm_fault.proofs.Pages.{rec-with, rec-with_other, cases_ref, other, other_ne, other-true, has-frame}
+use Rattle.shm_fault.proofs.Sound.{Goes-refl, Goes-trans, KeepsLocked-trans}
+use Rattle.shm_fault.proofs.Changes.{some_same}
+
+pub Visits-trans : (r : PageRef) (pinned : Option ℕ) (s t u : StoreView) → Visits r pinned s t → Visits r pinned t u → Visits r pinned s u
+Visits-trans r pinned s t u a b = record {
+  goes = Goes-trans s t u a.goes b.goes;
+  kept = KeepsLocked-trans s t u a.goes.shape a.kept b.kept;
+  away = λ q n e. let x = a.away q n e in b.away q n (rw x e) ∙ x;
+  pin = λ p q is at. let x = a.pin p q is at in let y = b.pin p q is x.0 in (y.0, λ bit. y.1 (x.1 bit));
+}
+
+-- a frame of which the clock says that it may go
+module _ (gs : List SegRec) (pinned : Option ℕ) (frames : List Frame) (f : ℕ) (page : PageRef) (may : may_go (unlocked gs) pinned frames f ≡ true) (owner : (frame_at frames f).owner ≡ Some page) where
+  pub victim-unlocked : locked_by gs page.seg ≡ false
+  victim-unlocked = not-true (locked_by gs page.seg) (rw owner at (and_parts (owner_passes (unlocked gs) (frame_at frames f).owner) (not (is_pinned pinned f)) may).0)
+
+  pub victim-loose : (p : ℕ) → pinned ≡ Some p → p ≢ f
+  victim-loose p is same =
+      let n : not (is_pinned pinned f) ≡ true = (and_parts (owner_passes (unlocked gs) (frame_at frames f).owner) (not (is_pinned pinned f)) may).1 in
+      let q : is_pinned pinned f ≡ true = rw is (eq-eqb p f same) in
+      false≢true (sym (not-true (is_pinned pinned f) n) ∙ q)
+
+module _ (s t₁ t₂ t₃ : StoreView) (f : ℕ) (page : PageRef) (pinned : Option ℕ) (x y : Frame)
+    (segs₁ : t₁.segs ≡ s.segs) (still : Still t₁ t₂) (away : StaysAway t₁ t₂)
+    (was : (rec_by t₂.segs page).frame ≡ Some f)
+    (segs₃ : t₃.segs ≡ with_rec t₂.segs page (record (rec_by t₂.segs page) { frame = None })) where
+  there : HasPage t₂.segs page
+  there = has-frame t₂.segs page f was
+
+  first : (rec_by s.segs page).frame ≡ Some f
+  first = ap (λ (gs : List SegRec). (rec_by gs page).frame) (sym segs₁) ∙ sym (still page) ∙ was
+
+  pub evicted-gone : (q : PageRef) → frame_by t₃ q ≡ cond (same_ref page q) None (frame_by s q)
+  evicted-gone q = elim (cases_ref page q) [
+    | inl same ↦
+        let a : (rec_by t₃.segs page).frame ≡ None = ap (λ (gs : List SegRec). (rec_by gs page).frame) segs₃ ∙ ap (λ (p : PageRec). p.frame) (rec-with t₂.segs page (record (rec_by t₂.segs page) { frame = None }) there) in
+        let b : same_ref page page ≡ true = rw (eq-eqb page.seg page.seg refl, eq-eqb page.page page.page refl) refl in
+        rw (same, b) a
+    | inr off ↦
+        let n : same_ref page q ≡ false = elim (cases_Bool (same_ref page q)) [
+          | inl t ↦ absurd (let p = and_parts (eqb page.seg q.seg) (eqb page.page q.page) t in other_ne page q off (same_from page q p.0 p.1))
+          | inr n ↦ n
+        ] in
+        let a : (rec_by t₃.segs q).frame ≡ (rec_by t₂.segs q).frame = ap (λ (gs : List SegRec). (rec_by gs q).frame) segs₃ ∙ ap (λ (p : PageRec). p.frame) (rec-with_other t₂.segs page q (record (rec_by t₂.segs page) { frame = None }) off) in
+        rw n (a ∙ still q ∙ ap (λ (gs : List SegRec). (rec_by gs q).frame) segs₁)
+  ]
+    where
+      same_from : (a b : PageRef) → eqb a.seg b.seg ≡ true → eqb a.page b.page ≡ true → b ≡ a
+      same_from a b e g = let l : record { seg = b.seg; page = b.page } ≡ record { seg = a.seg; page = a.page } = rw (eqb-true a.seg b.seg e, eqb-true a.page b.page g) refl in l
+
+  other-rec : (q : PageRef) → q ≢ page → rec_by t₃.segs q ≡ rec_by t₂.segs q
+  other-rec q n = ap (λ (gs : List SegRec). rec_by gs q) segs₃ ∙ (rec-with_other t₂.segs page q (record (rec_by t₂.segs page) { frame = None }) (other-true page q n))
+
+  other-frame : (q : PageRef) → q ≢ page → (rec_by t₃.segs q).frame ≡ (rec_by s.segs q).frame
+  other-frame q n = ap (λ (p : PageRec). p.frame) (other-rec q n) ∙ still q ∙ ap (λ (gs : List SegRec). (rec_by gs q).frame) segs₁
+
+  module _ (g₁ : Goes s t₁) (g₂ : Goes t₁ t₂) (g₃ : Goes t₂ t₃) (pin : (p : ℕ) → pinned ≡ Some p → frame_at t₁.frames p ≡ frame_at s.frames p)
+      (frames₂ : t₂.frames ≡ set t₁.frames f x) (frames₃ : t₃.frames ≡ set t₂.frames f y)
+      (may : may_go (unlocked s.segs) pinned s.frames f ≡ true) (owner : (frame_at s.frames f).owner ≡ Some page) where
+    pub evicted-visits : (r : PageRef) → Visits r pinned s t₃
+    evicted-visits r = record {
+      goes = Goes-trans s t₁ t₃ g₁ (Goes-trans t₁ t₂ t₃ g₂ g₃);
+      kept = λ q locked e. elim (cases_ref page q) [
+        | inl same ↦ absurd (false≢true (sym (victim-unlocked s.segs pinned s.frames f page may owner) ∙ (rw same at locked)))
+        | inr off ↦ rw (other-frame q (other_ne page q off)) e
+      ];
+      away = λ q n e.
+          let ne : q ≢ page = λ same. let h : (rec_by s.segs page).frame ≡ None = rw same at e in cc (first, h) in
+          let e₁ : (rec_by t₁.segs q).frame ≡ None = ap (λ (gs : List SegRec). (rec_by gs q).frame) segs₁ ∙ e in
+          other-rec q ne ∙ away q e₁ ∙ ap (λ (gs : List SegRec). rec_by gs q) segs₁;
+      pin = λ p q is at.
+          let loose : p ≢ f = victim-loose s.segs pinned s.frames f page may owner p is in
+          let ne : q ≢ page = λ same. loose (some_same f p (rec_by s.segs page).frame first (rw same at at)) in
+          let same : frame_at t₃.frames p ≡ frame_at s.frames p =
+          ap (λ (fs : List Frame). frame_at fs p) frames₃ ∙ get_or-set_other t₂.frames f p y no_frame loose
+          ∙ ap (λ (fs : List Frame). frame_at fs p) frames₂ ∙ get_or-set_other t₁.frames f p x no_frame loose ∙ pin p is in
+          (other-frame q ne ∙ at, λ bit. ap (λ (z : Frame). z.referenced) same ∙ bit);
+    }
+
+-- bytes come into a free frame
+pub load-visits : (s : StoreView) → IsSound s → (f : ℕ) (bytes : List ℕ) → (frame_at s.frames f).owner ≡ None → (u : SwapView) (ins : ℕ)
+    → Goes s (record { segs = s.segs; frames = set s.frames f (record (frame_at s.frames f) { bytes = bytes }); hand = s.hand; swap = u; ins = ins; outs = s.outs })
+    → (r : PageRef) (pinned : Option ℕ) → Visits r pinned s (record { segs = s.segs; frames = set s.frames f (record (frame_at s.frames f) { bytes = bytes }); hand = s.hand; swap = u; ins = ins; outs = s.outs })
+load-visits s sound f bytes free u ins goes r pinned = record {
+  goes = goes;
+  kept = λ q locked e. e;
+  away = λ q n e. refl;
+  pin = λ p q is at.
+      let own = ((sound.tied.pages q (has-frame s.segs q p at)).frame_owned p at).1 in
+      let loose : p ≢ f = λ same. let h : (frame_at s.frames f).owner ≡ Some q = rw same at own in cc (free, h) in
+      (at, λ bit. ap (λ (z : Frame). z.referenced) (get_or-set_other s.frames f p (record (frame_at s.frames f) { bytes = bytes }) no_frame loose) ∙ bit);
+}
+
+-- a frame that is filled and referenced
+pub settled : (frames : List Frame) (f : ℕ) → f < length frames → (r : PageRef) {a b : List Frame} → a ≡ set frames f (record (frame_at frames f) { owner = Some r }) → b ≡ set a f (record (frame_at a f) { referenced = true })
+    → b ≡ set frames f (record (frame_at frames f) { owner = Some r; referenced = true })
+settled frames f lt r {a} {b} filled is =
+    let at : frame_at a f ≡ record (frame_at frames f) { owner = Some r } = ap (λ (fs : List Frame). frame_at fs f) filled ∙ get_or-set_same frames f (record (frame_at frames f) { owner = Some r }) no_frame lt in
+    is ∙ ap (λ (x : Frame). set a f (record x { referenced = true })) at ∙ ap (λ (fs : List Frame). set fs f (record (frame_at frames f) { owner = Some r; referenced = true })) filled
+    ∙ set-set frames f (record (frame_at frames f) { owner = Some r }) (record (frame_at frames f) { owner = Some r; referenced = true })
+
+pub same-self : (r : PageRef) → same_ref r r ≡ true
+same-self r = rw (eq-eqb r.seg r.seg refl, eq-eqb r.page r.page refl) refl
+
+same-other : (r q : PageRef) → other r q ≡ true → same_ref r q ≡ false
+same-other r q off = elim (cases_Bool (same_ref r q)) [
+  | inl t ↦ absurd (let p = and_parts (eqb r.seg q.seg) (eqb r.page q.page) t in
+      let l : record { seg = q.seg; page = q.page } ≡ record { seg = r.seg; page = r.page } = rw (eqb-true r.seg q.seg p.0, eqb-true r.page q.page p.1) refl in other_ne r q off l)
+  | inr n ↦ n
+]
+
+-- a page comes into a free frame
+module _ (s : StoreView) (page : PageRef) (f : ℕ) (has : HasPage s.segs page) where
+  pub settle-came : (q : PageRef) → (rec_by (with_rec s.segs page (record { frame = Some f; slot = (rec_by s.segs page).slot })) q).frame ≡ cond (same_ref page q) (Some f) (frame_by s q)
+  settle-came q = elim (cases_ref page q) [
+    | inl same ↦ rw (same, same-self page) (ap (λ (p : PageRec). p.frame) (rec-with s.segs page (record { frame = Some f; slot = (rec_by s.segs page).slot }) has))
+    | inr off ↦ rw (same-other page q off) (ap (λ (p : PageRec). p.frame) (rec-with_other s.segs page q (record { frame = Some f; slot = (rec_by s.segs page).slot }) off))
+  ]
+
+pub settle-visits : (s : StoreView) → IsSound s → (page : PageRef) (f : ℕ) → HasPage s.segs page → f < length s.frames → (frame_at s.frames f).owner ≡ None → (rec_by s.segs page).frame ≡ None
+    → Goes s (record s { segs = with_rec s.segs page (record { frame = Some f; slot = (rec_by s.segs page).slot }); frames = set s.frames f (record (frame_at s.frames f) { owner = Some page; referenced = true }) })
+    → (pinned : Option ℕ) → Visits page pinned s (record s { segs = with_rec s.segs page (record { frame = Some f; slot = (rec_by s.segs page).slot }); frames = set s.frames f (record (frame_at s.frames f) { owner = Some page; referenced = true }) })
+settle-visits s sound page f has lt free away goes pinned = record {
+  goes = goes;
+  kept = λ q locked e. elim (cases_ref page q) [
+    | inl same ↦ rw (same, rec-with s.segs page (record { frame = Some f; slot = (rec_by s.segs page).slot }) has) refl
+    | inr off ↦ rw (rec-with_other s.segs page q (record { frame = Some f; slot = (rec_by s.segs page).slot }) off) e
+  ];
+  away = λ q n e. rec-with_other s.segs page q (record { frame = Some f; slot = (rec_by s.segs page).slot }) (other-true page q n);
+  pin = λ p q is at.
+      let own = ((sound.tied.pages q (has-frame s.segs q p at)).frame_owned p at).1 in
+      let loose : p ≢ f = λ same. let h : (frame_at s.frames f).owner ≡ Some q = rw same at own in cc (free, h) in
+      let ne : q ≢ page = λ same. let h : (rec_by s.segs page).frame ≡ Some p = rw same at at in cc (away, h) in (
+        ap (λ (r : PageRec). r.frame) (rec-with_other s.segs page q (record { frame = Some f; slot = (rec_by s.segs page).slot }) (other-true page q ne)) ∙ at,
+        λ bit. ap (λ (z : Frame). z.referenced) (get_or-set_other s.frames f p (record (frame_at s.frames f) { owner = Some page; referenced = true }) no_frame loose) ∙ bit,
+      );
+}
+
+-- moves, one after another
+moved-append : (ms : List Move) (m : Move) (seg page : ℕ) (f : Option ℕ) → moved (ms ++ m ∷ []) seg page f ≡ moved (m ∷ []) seg page (moved ms seg page f)
+moved-append [] m seg page f = refl
+moved-append (Gone r ∷ ms) m seg page f = moved-append ms m seg page (cond (is_page r seg page) None f)
+moved-append (Came r k ∷ ms) m seg page f = moved-append ms m seg page (cond (is_page r seg page) (Some k) f)
+
+pub moves-still : (ms : List Move) (s t : StoreView) → Still s t → MovesOn ms ms s t
+unfolding frame_of
+moves-still ms s t still b led seg page = still (record { seg = seg; page = page }) ∙ led seg page
+
+pub moves-came : (ms : List Move) (s t : StoreView) (r : PageRef) (f : ℕ) → ((q : PageRef) → frame_by t q ≡ cond (same_ref r q) (Some f) (frame_by s q)) → MovesOn ms (ms ++ Came r f ∷ []) s t
+unfolding frame_of
+moves-came ms s t r f is b led seg page =
+    is (record { seg = seg; page = page }) ∙ ap (λ (o : Option ℕ). cond (same_ref r (record { seg = seg; page = page })) (Some f) o) (led seg page)
+    ∙ sym (moved-append ms (Came r f) seg page (frame_of b seg page))
+
+pub moves-gone : (ms : List Move) (s t : StoreView) (r : PageRef) → ((q : PageRef) → frame_by t q ≡ cond (same_ref r q) None (frame_by s q)) → MovesOn ms (ms ++ Gone r ∷ []) s t
+unfolding frame_of
+moves-gone ms s t r is b led seg page =
+    is (record { seg = seg; page = page }) ∙ ap (λ (o : Option ℕ). cond (same_ref r (record { seg = seg; page = page })) None o) (led seg page)
+    ∙ sym (moved-append ms (Gone r) seg page (frame_of b seg page))
+
+pub moves-trans : (ms ns os : List Move) (s t u : StoreView) → MovesOn ms ns s t → MovesOn ns os t u → MovesOn ms os s u
+moves-trans ms ns os s t u a c b led = c b (a b led)
+
+-- a step that visits no page
+pub visits-away : (pinned : Option ℕ) (s t : StoreView) → ((r : PageRef) → Visits r pinned s t) → StaysAway s t
+visits-away pinned s t all q e = (all (record { seg = q.seg; page = suc q.page })).away q (λ same. absurd (let h : q.page ≡ suc q.page = ap (λ (r : PageRef). r.page) same in omega arith)) e
+
+pub visits-any : (r : PageRef) (pinned : Option ℕ) (s : StoreView) → Visits r pinned s s
+visits-any r pinned s = record { goes = Goes-refl s; kept = λ q locked e. e; away = λ q n e. refl; pin = λ p q is at. (at, λ bit. bit) }
+
+-- a frame's referenced bit is set
+pub touch-visits : (s : StoreView) (f : ℕ) (r : PageRef) (pinned : Option ℕ) → f < length s.frames → Goes s (record s { frames = set s.frames f (record (frame_at s.frames f) { referenced = true }) })
+    → Visits r pinned s (record s { frames = set s.frames f (record (frame_at s.frames f) { referenced = true }) })
+touch-visits s f r pinned lt goes = record {
+  goes = goes;
+  kept = λ q locked e. e;
+  away = λ q n e. refl;
+  pin = λ p q is at. (
+    at,
+    λ bit. elim (cases_eq p f) [
+      | inl same ↦ rw same (ap (λ (z : Frame). z.referenced) (get_or-set_same s.frames f (record (frame_at s.frames f) { referenced = true }) no_frame lt))
+      | inr n ↦ ap (λ (z : Frame). z.referenced) (get_or-set_other s.frames f p (record (frame_at s.frames f) { referenced = true }) no_frame n) ∙ bit
+    ],
+  );
+}
+
+pub alike-set : (frames : List Frame) (f : ℕ) (x : Frame) → Alike (frame_at frames f) x → (g : ℕ) → Alike (frame_at frames g) (frame_at (set frames f x) g)
+alike-set frames f x like g = by (cases_eq g f) (cases_lt f (length frames))
+  where
+    by : (g ≡ f) ⊎ (g ≢ f) → (f < length frames) ⊎ (length frames ≤ f) → Alike (frame_at frames g) (frame_at (set frames f x) g)
+    by (inr n) c = rw (get_or-set_other frames f g x no_frame n) (Alike-refl (frame_at frames g))
+    by (inl same) (inr past) = rw (set_past frames f x past) (Alike-refl (frame_at frames g))
+    by (inl same) (inl lt) = rw (same, get_or-set_same frames f x no_frame lt) like

@@ -1,0 +1,17 @@
+use Rattle.std.proofs.Common.{◌≡◌, None, List, ◌++◌, ◌∷◌, [], ap}
+use Rattle.shm_fault.specs.declared.segments.PageRec.{PageRec}
+use Rattle.shm_fault.specs.Segs.{find_seg}
+use Rattle.shm_fault.specs.Entries.{segs_view}
+use Rattle.shm_fault.proofs.Entries.{insert-view, apart-append}
+use Rattle.shm_fault.proofs.segments.Segments.add.Goals as goal
+
+pub invariant_of-self-2 : goal.invariant_of-self-2
+invariant_of-self-2 c =
+    let none : find_seg (segs_view c.self.inside.by_id.entries) c.args.id ≡ None = rw (← c.self.view_is) at c.requires.new in
+    rw (c.in_ok-insert.ensures.entries, insert-view c.self.inside.by_id.entries c.args.id _ none) (apart-append _ _ c.self.invariant none)
+
+pub returns-clause-ok : goal.returns-clause-ok
+returns-clause-ok c =
+    let none : find_seg (segs_view c.self.inside.by_id.entries) c.args.id ≡ None = rw (← c.self.view_is) at c.requires.new in
+    rw (c.in_ok-insert.ensures.entries, insert-view c.self.inside.by_id.entries c.args.id _ none, ← c.self.view_is)
+    (ap (λ (ps : List PageRec). segs_view c.self.inside.by_id.entries ++ record { id = c.args.id; locked = _; pages = ps } ∷ []) c.in_ok-pages.ensures)

@@ -1,0 +1,46 @@
+use Rattle.std.proofs.Common.{◌≡◌, List, [], ◌∷◌, ◌++◌, Option, Some, None, refl, ap}
+use Rattle.std.specs.Prelude.{MatchOption}
+use Rattle.shm_base.specs.declared.paging.PageRef.{PageRef}
+use Rattle.shm_base.specs.declared.paging.Slot.{Slot}
+use Rattle.shm_slots.specs.View.{HasSlot}
+use Rattle.shm_fault.specs.declared.touched.Move.TheVariants.{Came}
+use Rattle.shm_fault.specs.Segs.{SegRec, rec_by, HasPage}
+use Rattle.shm_fault.specs.Store.{StoreView}
+use Rattle.shm_fault.proofs.Visits.{Visits-trans, moves-came, moves-still, moves-trans}
+use Rattle.shm_fault.proofs.store.PageStore.come_in.Goals as goal
+
+slot_there : (s : StoreView) (r : PageRef) → ((k : Slot) → (rec_by s.segs r).slot ≡ Some k → HasSlot s.swap k.area k.slot) → (o : Option Slot) → (rec_by s.segs r).slot ≡ o → MatchOption o (Unit {0}) (λ k. HasSlot s.swap k.area k.slot)
+slot_there s r has None e = tt
+slot_there s r has (Some k) e = has k e
+
+pub load-requires-clause-slot : goal.load-requires-clause-slot
+load-requires-clause-slot g c =
+    let i = c.self.inside in
+    let s : StoreView = record { segs = i.segs; frames = i.frames; hand = i.hand; swap = i.swap; ins = i.ins; outs = i.outs } in
+    let has : HasPage s.segs c.args.page = rw (← c.self.view_is) at c.requires.has in
+    let away : (rec_by s.segs c.args.page).frame ≡ None = rw (← c.self.view_is) at c.requires.away in
+    let tied = c.self.invariant.tied.pages c.args.page has in
+    rw (c.page-place.ensures, ← c.self.view_is) (slot_there s c.args.page (λ k e. (tied.slot_owned k e).0) (rec_by s.segs c.args.page).slot refl)
+
+pub settle-requires-clause-has : goal.settle-requires-clause-has
+settle-requires-clause-has g c = rw c.load.ensures.segs c.requires.has
+
+pub returns-in-Ok-clause-visits : goal.returns-in-Ok-clause-visits
+returns-in-Ok-clause-visits g c = λ pinned.
+    Visits-trans c.args.page pinned c.args.self.now c.load.new.self c.settle.new.self (c.load.ensures.visits c.args.page pinned) (c.settle.ensures.visits pinned)
+
+pub returns-in-Ok-clause-moves : goal.returns-in-Ok-clause-moves
+returns-in-Ok-clause-moves g c =
+    let ms = c.args.touched.now.moved.items in
+    let still = λ (r : PageRef). ap (λ (gs : List SegRec). (rec_by gs r).frame) c.load.ensures.segs in
+    rw c.push.ensures.items
+    (moves-trans ms ms (ms ++ Came c.args.page c.args.frame ∷ []) c.args.self.now c.load.new.self c.settle.new.self
+    (moves-still ms c.args.self.now c.load.new.self still)
+    (moves-came ms c.load.new.self c.settle.new.self c.args.page c.args.frame c.settle.ensures.came))
+
+pub returns-in-Err-clause-visits : goal.returns-in-Err-clause-visits
+returns-in-Err-clause-visits g c = λ pinned. c.load.ensures.visits c.args.page pinned
+
+pub returns-in-Err-clause-moves : goal.returns-in-Err-clause-moves
+returns-in-Err-clause-moves g c =
+    moves-still c.args.touched.now.moved.items c.args.self.now c.load.new.self (λ (r : PageRef). ap (λ (gs : List SegRec). (rec_by gs r).frame) c.load.ensures.segs)

@@ -1,0 +1,24 @@
+use Rattle.std.proofs.Common.{◌≡◌, Some, false, List, ap, sym, ◌∙◌, get_or-set_same}
+use Rattle.shm_frames.specs.Frame.{Frame, no_frame, frame_at}
+use Rattle.shm_fault.specs.Store.{StoreView}
+use Rattle.shm_fault.proofs.Visits.{evicted-gone, evicted-visits}
+use Rattle.shm_fault.proofs.store.PageStore.evict.Goals as goal
+
+pub returns-in-Ok-clause-gone : goal.returns-in-Ok-clause-gone
+returns-in-Ok-clause-gone g c =
+    let s = c.args.self.now in
+    let segs = ap (λ (v : StoreView). v.segs) c.turn-frame.ensures.rest in
+    evicted-gone s c.turn-frame.new.self c.clean.new.self c.leave-page.new.self c.turn-frame.result c.leave-page.result c.args.pinned no_frame no_frame
+    segs c.clean.ensures.still c.clean.ensures.away c.leave-page.ensures.was c.leave-page.ensures.segs
+
+pub returns-in-Ok-clause-visits : goal.returns-in-Ok-clause-visits
+returns-in-Ok-clause-visits g c =
+    let s = c.args.self.now in
+    let t₁ = c.turn-frame.new.self in
+    let f = c.turn-frame.result in
+    let segs = ap (λ (v : StoreView). v.segs) c.turn-frame.ensures.rest in
+    let set_at = get_or-set_same t₁.frames f (record (frame_at t₁.frames f) { dirty = false }) no_frame (rw c.turn-frame.ensures.goes.size c.turn-frame.ensures.there) in
+    let owner : (frame_at s.frames f).owner ≡ Some c.leave-page.result = sym (c.turn-frame.ensures.alike f).owner ∙ (sym (ap (λ (fs : List Frame). (frame_at fs f).owner) c.in-Ok.ensures.ok ∙ ap (λ (x : Frame). x.owner) set_at) ∙ c.leave-page.ensures.page) in
+    evicted-visits s t₁ c.clean.new.self c.leave-page.new.self f c.leave-page.result c.args.pinned (record (frame_at t₁.frames f) { dirty = false }) (record no_frame { bytes = (frame_at c.clean.new.self.frames f).bytes })
+    segs c.clean.ensures.still c.clean.ensures.away c.leave-page.ensures.was c.leave-page.ensures.segs
+    c.turn-frame.ensures.goes c.clean.ensures.goes c.leave-page.ensures.goes c.turn-frame.ensures.pin c.in-Ok.ensures.ok c.leave-page.ensures.frames c.turn-frame.ensures.may owner

@@ -1,0 +1,21 @@
+use Rattle.shm_fault.specs.Store.{StoreView}
+use Rattle.shm_fault.proofs.Visits.{moves-gone, moves-still}
+use Rattle.shm_fault.proofs.store.PageStore.take_frame.Goals as goal
+
+pub returns-in-Ok-clause-visits : goal.returns-in-Ok-clause-visits
+returns-in-Ok-clause-visits g c = λ r. rw (← c.self.view_is) (rw c.free_frame.ensures.same at (c.evict.ensures.visits r))
+
+pub returns-in-Err-clause-visits : goal.returns-in-Err-clause-visits
+returns-in-Err-clause-visits g c = λ r. rw (← c.self.view_is) (rw c.free_frame.ensures.same at (c.evict.ensures.visits r))
+
+pub returns-in-Ok-clause-moves : goal.returns-in-Ok-clause-moves
+returns-in-Ok-clause-moves g c =
+    let i = c.self.inside in
+    let s : StoreView = record { segs = i.segs; frames = i.frames; hand = i.hand; swap = i.swap; ins = i.ins; outs = i.outs } in
+    rw (c.push.ensures.items, ← c.self.view_is) (moves-gone c.args.touched.now.moved.items s c.evict.new.self c.in-Ok.evicted.page c.in-Ok.ensures.gone)
+
+pub returns-in-Err-clause-moves : goal.returns-in-Err-clause-moves
+returns-in-Err-clause-moves g c =
+    let i = c.self.inside in
+    let s : StoreView = record { segs = i.segs; frames = i.frames; hand = i.hand; swap = i.swap; ins = i.ins; outs = i.outs } in
+    rw (← c.self.view_is) (moves-still c.args.touched.now.moved.items s c.evict.new.self c.in-Err.ensures.err)

@@ -1,0 +1,42 @@
+-- A page that is taken out of its frame and its slot.
+use Rattle.std.specs.Prelude.{ℕ, ◌≡◌, ◌<◌, List, Option, Some, None, length, set, MatchOption}
+use Rattle.shm_base.specs.declared.paging.PageRef.{PageRef}
+use Rattle.shm_base.specs.declared.paging.Slot.{Slot}
+use Rattle.shm_plain.specs.Held.{without}
+use Rattle.shm_slots.specs.View.{SwapView, HasSlot, owner_of, page_in, without_slot}
+use Rattle.shm_slots.specs.Cause.{IsSteady}
+use Rattle.shm_frames.specs.Frame.{Frame, no_frame, frame_at}
+use Rattle.shm_fault.specs.Segs.{rec_by, no_page}
+use Rattle.shm_fault.specs.Store.{StoreView, held, disowned}
+use Rattle.shm_fault.specs.Goes.{outlines}
+
+-- the frames with one of them made free
+abbrev pub emptied : List Frame → Option ℕ → List Frame
+emptied frames None = frames
+emptied frames (Some f) = set frames f (record no_frame { bytes = (frame_at frames f).bytes })
+
+-- the slot was given back, where there is one
+abbrev pub Given : SwapView → Option Slot → SwapView → Type 0
+Given before slot after = MatchOption slot (after ≡ before) (λ k. after ≡ without_slot before k (page_in after k.area k.slot))
+
+abbrev pub FrameThere : List Frame → Option ℕ → Type 0
+FrameThere frames frame = (f : ℕ) → frame ≡ Some f → f < length frames
+
+abbrev pub SlotThere : SwapView → Option Slot → Type 0
+SlotThere swap slot = (k : Slot) → slot ≡ Some k → HasSlot swap k.area k.slot
+
+-- no page of the segment is anywhere
+abbrev pub IsBlank : ℕ → StoreView → Type 0
+IsBlank seg s = (page : ℕ) → rec_by s.segs (record { seg = seg; page = page }) ≡ no_page
+
+-- the first pages of a segment are nowhere, and all else is as it was
+pub record Dropped (seg n : ℕ) (s t : StoreView) : Type 0 where
+  pub shape : outlines t.segs ≡ outlines s.segs
+  pub bytes : without (held t) seg ≡ without (held s) seg
+  pub frames : (f : ℕ) → disowned seg (frame_at t.frames f).owner ≡ disowned seg (frame_at s.frames f).owner
+  pub slots : (k : Slot) → disowned seg (owner_of t.swap k.area k.slot) ≡ disowned seg (owner_of s.swap k.area k.slot)
+  pub size : length t.frames ≡ length s.frames
+  pub steady : IsSteady s.swap t.swap
+  pub still : (q : PageRef) → (q.seg ≡ seg → ⊥) → rec_by t.segs q ≡ rec_by s.segs q
+  pub done : (page : ℕ) → page < n → rec_by t.segs (record { seg = seg; page = page }) ≡ no_page
+  pub nothing : IsBlank seg s → t ≡ s

@@ -1,0 +1,35 @@
+-- What a flush round does.
+use Rattle.std.specs.Prelude.{ℕ, ◌≡◌, ◌+◌, Bool, false, not, ◌&&◌, List, Option, Some, None, length, filter, take, count_by, min, Contains}
+use Rattle.std.specs.List.{range_with_len}
+use Rattle.shm_base.specs.declared.paging.PageRef.{PageRef}
+use Rattle.shm_base.specs.declared.paging.FlushReport.{FlushReport}
+use Rattle.shm_plain.specs.Held.{is_locked}
+use Rattle.shm_slots.specs.Cause.{total, some_spent}
+use Rattle.shm_frames.specs.Frame.{frame_at}
+use Rattle.shm_fault.specs.Store.{StoreView, held}
+
+abbrev pub owner_unlocked : StoreView → Option PageRef → Bool
+owner_unlocked s None = false
+owner_unlocked s (Some r) = not (is_locked (held s) r.seg)
+
+-- the frame is dirty, and its segment is not locked
+abbrev pub may_flush : StoreView → ℕ → Bool
+may_flush s f = (frame_at s.frames f).dirty && owner_unlocked s (frame_at s.frames f).owner
+
+-- the dirty frames of segments that are not locked, by rising number
+abbrev pub dirty_list : StoreView → List ℕ
+dirty_list s = filter (may_flush s) (range_with_len 0 (length s.frames))
+
+-- the first n of them
+abbrev pub chosen : StoreView → ℕ → List ℕ
+chosen s n = take n (dirty_list s)
+
+abbrev pub dirty_after : StoreView → ℕ → Bool
+dirty_after s f = (frame_at s.frames f).dirty
+
+pub record IsFlushed (before after : StoreView) (n : ℕ) (report : FlushReport) : Type 0 where
+  pub sum : report.written + report.failed ≡ min n (length (dirty_list before))
+  pub failed : count_by (dirty_after after) (chosen before n) ≡ report.failed
+  pub frames : (f : ℕ) → frame_at after.frames f ≡ record (frame_at before.frames f) { dirty = (frame_at after.frames f).dirty }
+  pub others : (f : ℕ) → (Contains (chosen before n) f → ⊥) → frame_at after.frames f ≡ frame_at before.frames f
+  pub counted : some_spent after.swap ≡ false → total after.swap ≡ total before.swap + report.failed

@@ -1,0 +1,85 @@
+-- What each step of an access, of a flush and of a move to another area keeps.
+use Rattle.std.specs.Prelude.{ℕ, ◌≡◌, ◌≢◌, ◌==◌, ◌&&◌, Bool, true, not, Option, Some, None, length, List, map, is_some}
+use Rattle.shm_base.specs.declared.paging.PageRef.{PageRef}
+use Rattle.shm_slots.specs.View.{sizes}
+use Rattle.shm_slots.specs.Cause.{GoesOn, some_spent, had_cause}
+use Rattle.shm_frames.specs.Frame.{Frame, frame_at}
+use Rattle.shm_fault.specs.declared.touched.Move.{Move}
+use Rattle.shm_fault.specs.Steps.{Moves}
+use Rattle.shm_fault.specs.Segs.{SegRec, rec_by, locked_by}
+use Rattle.shm_fault.specs.Store.{StoreView, held}
+
+-- what of a segment does not change where its pages move
+pub record Outline : Type 0 where
+  pub id : ℕ
+  pub locked : Bool
+  pub count : ℕ
+
+abbrev pub outline : SegRec → Outline
+outline g = record { id = g.id; locked = g.locked; count = length g.pages }
+
+abbrev pub outlines : List SegRec → List Outline
+outlines gs = map outline gs
+
+-- no segment comes, goes or changes its lock, its size or a byte; areas and their sizes stay
+pub record Goes (s t : StoreView) : Type 0 where
+  pub bytes : held t ≡ held s
+  pub shape : outlines t.segs ≡ outlines s.segs
+  pub size : length t.frames ≡ length s.frames
+  pub goes_on : GoesOn s.swap t.swap
+  pub same_sizes : sizes t.swap ≡ sizes s.swap
+  -- an area that is spent by now was so before, or a failure was counted
+  pub spent : some_spent t.swap ≡ true → had_cause s.swap t.swap ≡ true
+
+-- the same owner, bytes and dirty bit
+pub record Alike (x y : Frame) : Type 0 where
+  pub owner : y.owner ≡ x.owner
+  pub bytes : y.bytes ≡ x.bytes
+  pub dirty : y.dirty ≡ x.dirty
+
+-- every page is where it was, as far as frames go
+abbrev pub Still : StoreView → StoreView → Type 0
+Still s t = (r : PageRef) → (rec_by t.segs r).frame ≡ (rec_by s.segs r).frame
+
+-- pages of locked segments stay resident
+abbrev pub KeepsLocked : StoreView → StoreView → Type 0
+KeepsLocked s t = (r : PageRef) → locked_by s.segs r.seg ≡ true → is_some (rec_by s.segs r).frame ≡ true → is_some (rec_by t.segs r).frame ≡ true
+
+-- the page's segment is not locked
+abbrev pub unlocked : List SegRec → PageRef → Bool
+unlocked gs r = not (locked_by gs r.seg)
+
+-- pages that are not resident are where they were
+abbrev pub StaysAway : StoreView → StoreView → Type 0
+StaysAway s t = (q : PageRef) → (rec_by s.segs q).frame ≡ None → rec_by t.segs q ≡ rec_by s.segs q
+
+-- the same of all pages but one
+abbrev pub OthersAway : PageRef → StoreView → StoreView → Type 0
+OthersAway r s t = (q : PageRef) → q ≢ r → (rec_by s.segs q).frame ≡ None → rec_by t.segs q ≡ rec_by s.segs q
+
+abbrev pub referenced_at : StoreView → ℕ → Bool
+referenced_at s f = (frame_at s.frames f).referenced
+
+-- the page in the pinned frame stays there, and so does its referenced bit where it is set
+abbrev pub KeepsPinned : Option ℕ → StoreView → StoreView → Type 0
+KeepsPinned pinned s t =
+    (p : ℕ) (q : PageRef) → pinned ≡ Some p → (rec_by s.segs q).frame ≡ Some p
+    → ((rec_by t.segs q).frame ≡ Some p) × (referenced_at s p ≡ true → referenced_at t p ≡ true)
+
+-- what a step of a visit to a page keeps
+pub record Visits (r : PageRef) (pinned : Option ℕ) (s t : StoreView) : Type 0 where
+  pub goes : Goes s t
+  pub kept : KeepsLocked s t
+  pub away : OthersAway r s t
+  pub pin : KeepsPinned pinned s t
+
+-- moves that led to the one residency, with those that led on to the other
+abbrev pub MovesOn : List Move → List Move → StoreView → StoreView → Type 0
+MovesOn ms more s t = (b : StoreView) → Moves ms b s → Moves more b t
+
+abbrev pub frame_by : StoreView → PageRef → Option ℕ
+frame_by s r = (rec_by s.segs r).frame
+
+-- two names of one page
+abbrev pub same_ref : PageRef → PageRef → Bool
+same_ref q r = (q.seg == r.seg) && (q.page == r.page)

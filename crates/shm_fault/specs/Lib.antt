@@ -1,0 +1,11 @@
+pub mod Segs
+pub mod Entries
+pub mod Store
+pub mod Sound
+pub mod Steps
+pub mod Flushing
+pub mod Goes
+pub mod Access
+pub mod Dropping
+pub mod Moving
+pub mod Trial

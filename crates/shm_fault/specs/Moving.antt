@@ -1,0 +1,27 @@
+-- A slot that its page leaves.
+use Rattle.std.specs.Prelude.{ℕ, ◌≡◌, ◌≢◌, Some, None}
+use Rattle.shm_base.specs.declared.paging.PageRef.{PageRef}
+use Rattle.shm_base.specs.declared.paging.Slot.{Slot}
+use Rattle.shm_slots.specs.View.{SwapView, HasSlot, owner_of, page_in, IsFirstFree}
+
+-- no slot has another owner, and each that is owned holds what it held
+pub record SameOwned (before after : SwapView) : Type 0 where
+  pub has : (k : Slot) → HasSlot before k.area k.slot → HasSlot after k.area k.slot
+  pub owners : (k : Slot) → owner_of after k.area k.slot ≡ owner_of before k.area k.slot
+  pub pages : (k : Slot) (q : PageRef) → owner_of before k.area k.slot ≡ Some q → page_in after k.area k.slot ≡ page_in before k.area k.slot
+
+-- a page has the least free slot of the lowest-numbered other area that had one, with what its old slot
+-- held, which is free
+pub record IsRelocated (page : PageRef) (from to : Slot) (before after : SwapView) : Type 0 where
+  pub first : IsFirstFree before (Some from.area) to
+  pub has : (k : Slot) → HasSlot before k.area k.slot → HasSlot after k.area k.slot
+  pub owner : owner_of after to.area to.slot ≡ Some page
+  pub bytes : page_in after to.area to.slot ≡ page_in before from.area from.slot
+  pub gone : owner_of after from.area from.slot ≡ None
+  pub owners : (k : Slot) → k ≢ from → k ≢ to → owner_of after k.area k.slot ≡ owner_of before k.area k.slot
+  pub pages : (k : Slot) → k ≢ from → k ≢ to → page_in after k.area k.slot ≡ page_in before k.area k.slot
+
+-- the slot is free, and those of its area that were free are so still
+pub record IsCleared (k : Slot) (before after : SwapView) : Type 0 where
+  pub free : owner_of after k.area k.slot ≡ None
+  pub rest : (slot : ℕ) → owner_of before k.area slot ≡ None → owner_of after k.area slot ≡ None

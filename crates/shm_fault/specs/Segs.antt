@@ -1,0 +1,78 @@
+-- Segments by identifier, and where each of their pages is.
+use Rattle.std.specs.Prelude.{ℕ, ◌≡◌, ◌==◌, ◌<◌, Bool, false, if◌then◌else◌, List, [], ◌∷◌, Option, Some, None, map, length, get_or, set, replicate, filter, not}
+use Rattle.shm_base.specs.declared.paging.PageRef.{PageRef}
+use Rattle.shm_fault.specs.declared.segments.PageRec.{PageRec}
+
+-- a segment: its identifier, whether it is locked, and where its pages are
+pub record SegRec : Type 0 where
+  pub id : ℕ
+  pub locked : Bool
+  pub pages : List PageRec
+
+-- a page that is nowhere: all its bytes are zero
+abbrev pub no_page : PageRec
+no_page = record { frame = None; slot = None }
+
+abbrev pub rec_at : List PageRec → ℕ → PageRec
+rec_at pages page = get_or pages page no_page
+
+abbrev pub find_seg : List SegRec → ℕ → Option SegRec
+find_seg [] id = None
+find_seg (g ∷ gs) id = if g.id == id then Some g else find_seg gs id
+
+-- no segment stands twice
+abbrev pub AreApart : List SegRec → Type 0
+AreApart [] = Unit {0}
+AreApart (g ∷ gs) = (find_seg gs g.id ≡ None) × AreApart gs
+
+abbrev pub rec_in : Option SegRec → ℕ → PageRec
+rec_in None page = no_page
+rec_in (Some g) page = rec_at g.pages page
+
+-- where a page is, nowhere if it is not there
+abbrev pub rec_by : List SegRec → PageRef → PageRec
+rec_by gs r = rec_in (find_seg gs r.seg) r.page
+
+abbrev pub count_in : Option SegRec → ℕ
+count_in None = 0
+count_in (Some g) = length g.pages
+
+-- how many pages a segment has
+abbrev pub count_by_id : List SegRec → ℕ → ℕ
+count_by_id gs id = count_in (find_seg gs id)
+
+-- the page is there
+abbrev pub HasPage : List SegRec → PageRef → Type 0
+HasPage gs r = r.page < count_by_id gs r.seg
+
+abbrev pub lock_in : Option SegRec → Bool
+lock_in None = false
+lock_in (Some g) = g.locked
+
+abbrev pub locked_by : List SegRec → ℕ → Bool
+locked_by gs id = lock_in (find_seg gs id)
+
+-- where one page is, set
+abbrev pub seg_with : PageRef → PageRec → SegRec → SegRec
+seg_with r p g = if g.id == r.seg then record g { pages = set g.pages r.page p } else g
+
+abbrev pub with_rec : List SegRec → PageRef → PageRec → List SegRec
+with_rec gs r p = map (seg_with r p) gs
+
+-- all segments but one
+abbrev pub but : ℕ → List SegRec → List SegRec
+but id gs = filter (λ (g : SegRec). not (g.id == id)) gs
+
+-- one segment's lock set
+abbrev pub with_seg_lock : ℕ → Bool → SegRec → SegRec
+with_seg_lock id locked g = if g.id == id then record g { locked = locked } else g
+
+-- a segment whose pages are nowhere
+abbrev pub new_seg : ℕ → ℕ → SegRec
+new_seg id pages = record { id = id; locked = false; pages = replicate pages no_page }
+
+abbrev pub pages_of : SegRec → ℕ
+pages_of g = length g.pages
+
+abbrev pub locked_pages : SegRec → ℕ
+locked_pages g = if g.locked then length g.pages else 0

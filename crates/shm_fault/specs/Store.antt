@@ -1,0 +1,116 @@
+-- What contracts see of the page store: where each page of each segment is, and what its bytes are.
+use Rattle.std.specs.Prelude.{ℕ, ◌≡◌, ◌+◌, ◌/◌, Bool, true, false, not, ◌==◌, ◌&&◌, if◌then◌else◌, List, [], ◌∷◌, Option, Some, None, map, is_some, sum_by, count_by}
+use Rattle.std.specs.List.{flat_map, list_any}
+use Rattle.shm_base.specs.declared.paging.PageRef.{PageRef}
+use Rattle.shm_base.specs.declared.paging.Slot.{Slot}
+use Rattle.shm_base.specs.declared.paging.Span.{Span}
+use Rattle.shm_plain.specs.Held.{Held}
+use Rattle.shm_pager.specs.Pages.{zero_page}
+use Rattle.shm_slots.specs.View.{SwapView, page_in}
+use Rattle.shm_frames.specs.Frame.{Frame, frame_at}
+use Rattle.shm_fault.specs.declared.segments.PageRec.{PageRec}
+use Rattle.shm_fault.specs.Segs.{SegRec, rec_by}
+
+pub record StoreView : Type 0 where
+  pub segs : List SegRec
+  pub frames : List Frame
+  pub hand : ℕ
+  pub swap : SwapView
+  pub ins : ℕ
+  pub outs : ℕ
+
+-- the bytes that a page has outside its frame: its slot's, zeros where it has none
+abbrev pub stored : SwapView → Option Slot → List ℕ
+stored swap None = zero_page
+stored swap (Some k) = page_in swap k.area k.slot
+
+-- the bytes of a page: its frame's where it is resident
+abbrev pub bytes_by : List Frame → SwapView → Option ℕ → Option Slot → List ℕ
+bytes_by frames swap None slot = stored swap slot
+bytes_by frames swap (Some f) slot = (frame_at frames f).bytes
+
+abbrev pub page_bytes : List Frame → SwapView → PageRec → List ℕ
+page_bytes frames swap p = bytes_by frames swap p.frame p.slot
+
+abbrev pub held_by : List Frame → SwapView → SegRec → Held
+held_by frames swap g = record { id = g.id; locked = g.locked; bytes = flat_map (page_bytes frames swap) g.pages }
+
+-- the segments with their bytes
+unfoldable pub held : StoreView → List Held
+held s = map (held_by s.frames s.swap) s.segs
+
+-- where a page is
+abbrev pub rec_of : StoreView → ℕ → ℕ → PageRec
+rec_of s seg page = rec_by s.segs (record { seg = seg; page = page })
+
+-- the residency: the frame of a page that is resident
+unfoldable pub frame_of : StoreView → ℕ → ℕ → Option ℕ
+frame_of s seg page = (rec_of s seg page).frame
+
+-- the page of a stretch
+abbrev pub page_of : Span → ℕ
+page_of p = p.at / 4096
+
+abbrev pub ref_of : Span → PageRef
+ref_of p = record { seg = p.seg; page = page_of p }
+
+abbrev pub IsResident : StoreView → Span → Type 0
+IsResident s p = is_some (frame_of s p.seg (page_of p)) ≡ true
+
+abbrev pub bit_of : List Frame → Option ℕ → Bool
+bit_of frames None = false
+bit_of frames (Some f) = (frame_at frames f).referenced
+
+-- the page of the stretch is resident with its referenced bit set
+abbrev pub IsReferenced : StoreView → Span → Type 0
+IsReferenced s p = bit_of s.frames (frame_of s p.seg (page_of p)) ≡ true
+
+abbrev pub has_frame : PageRec → Bool
+has_frame p = is_some p.frame
+
+abbrev pub has_slot : PageRec → Bool
+has_slot p = is_some p.slot
+
+abbrev pub dirty_in : List Frame → Option ℕ → Bool
+dirty_in frames None = false
+dirty_in frames (Some f) = (frame_at frames f).dirty
+
+abbrev pub is_dirty_page : List Frame → PageRec → Bool
+is_dirty_page frames p = dirty_in frames p.frame
+
+-- counts over the pages as they are
+abbrev pub resident : StoreView → ℕ
+resident s = sum_by (λ (g : SegRec). count_by has_frame g.pages) s.segs
+
+abbrev pub dirty : StoreView → ℕ
+dirty s = sum_by (λ (g : SegRec). count_by (is_dirty_page s.frames) g.pages) s.segs
+
+abbrev pub used : StoreView → ℕ
+used s = sum_by (λ (g : SegRec). count_by has_slot g.pages) s.segs
+
+abbrev pub is_swapped : PageRec → Bool
+is_swapped p = not (is_some p.frame) && is_some p.slot
+
+abbrev pub same_page : Span → Span → Bool
+same_page p q = (p.seg == q.seg) && (page_of p == page_of q)
+
+-- how many pages the stretches name; two may lie in one page
+abbrev pub pages_among : List Span → ℕ
+pages_among [] = 0
+pages_among (p ∷ ps) = (if list_any (same_page p) ps then 0 else 1) + pages_among ps
+
+-- how many of these pages are swapped
+abbrev pub swapped_among : StoreView → List Span → ℕ
+swapped_among s [] = 0
+swapped_among s (p ∷ ps) =
+    (if is_swapped (rec_of s p.seg (page_of p)) && not (list_any (same_page p) ps) then 1 else 0) + swapped_among s ps
+
+-- a store as it is made
+abbrev pub fresh_store : List Frame → SwapView → StoreView
+fresh_store frames swap =
+    record { segs = []; frames = frames; hand = 0; swap = swap; ins = 0; outs = 0 }
+
+-- the owner, none where it is a page of the segment
+abbrev pub disowned : ℕ → Option PageRef → Option PageRef
+disowned seg None = None
+disowned seg (Some r) = if r.seg == seg then None else Some r

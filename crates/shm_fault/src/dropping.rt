@@ -1,0 +1,85 @@
+//! Segments that go, with their frames and slots.
+ghost use Rattle.std.specs.Prelude.{◌≡◌, ◌≢◌, ℕ, ◌<◌, true, length, Some, None};
+ghost use Rattle.shm_base.specs.declared.paging.PageRef.{PageRef as Ref};
+ghost use Rattle.shm_base.specs.declared.paging.Slot.{Slot as Place};
+ghost use Rattle.shm_plain.specs.Held.{is_held, without};
+ghost use Rattle.shm_slots.specs.View.{owner_of, sizes, IsSwap};
+ghost use Rattle.shm_slots.specs.Cause.{GoesOn, IsSteady, total};
+ghost use Rattle.shm_frames.specs.Frame.{frame_at};
+ghost use Rattle.shm_fault.specs.Segs.{HasPage, with_rec, no_page, rec_by, but};
+ghost use Rattle.shm_fault.specs.Store.{held, frame_of, disowned};
+ghost use Rattle.shm_fault.specs.Sound.{IsSound};
+ghost use Rattle.shm_fault.specs.Dropping.{emptied, Given, FrameThere, SlotThere, IsBlank};
+
+use crate::segments::PageRec;
+use crate::store::PageStore;
+use shm_base::{FrameNo, PageRef, Slot};
+use shm_frames::Frames;
+use shm_pager::Pager;
+use shm_slots::Swap;
+
+// Makes a page's frame free, if it has one.
+fn empty_frame(frames: &mut Frames, frame: Option<FrameNo>)
+    requires { FrameThere frames.old frame }
+    ensures { frames.new ≡ emptied frames.old frame }
+{
+    if let Some(frame) = frame {
+        frames.empty(frame);
+    }
+}
+
+// Gives a page's slot back, if it has one.
+fn free_slot<P: Pager>(swap: &mut Swap<P>, slot: Option<Slot>)
+    requires { SlotThere swap.old slot }
+    ensures given { Given swap.old slot swap.new }
+    ensures steady { IsSteady swap.old swap.new }
+    ensures sound { IsSwap swap.new }
+{
+    match slot {
+        Some(slot) => swap.give_slot(slot),
+        None => {
+            // The count is asked for what comes with it: that a swap is sound.
+            let _ = swap.never_spent();
+        }
+    }
+}
+
+impl<P: Pager> PageStore<P> {
+    // Takes a page out of its frame and its slot. Its bytes are zeros then.
+    fn forget(&mut self, page: PageRef)
+        requires { HasPage self.old.segs page }
+        ensures segs { self.new.segs ≡ with_rec self.old.segs page no_page }
+        ensures held { without (held self.new) page.seg ≡ without (held self.old) page.seg }
+        ensures frames { (f : ℕ) → disowned page.seg (frame_at self.new.frames f).owner ≡ disowned page.seg (frame_at self.old.frames f).owner }
+        ensures slots { (k : Place) → disowned page.seg (owner_of self.new.swap k.area k.slot) ≡ disowned page.seg (owner_of self.old.swap k.area k.slot) }
+        ensures size { length self.new.frames ≡ length self.old.frames }
+        ensures steady { IsSteady self.old.swap self.new.swap }
+        ensures nowhere { rec_by self.old.segs page ≡ no_page → self.new ≡ self.old }
+    {
+        let place = self.segs.page(page);
+        empty_frame(&mut self.frames, place.frame);
+        free_slot(&mut self.swap, place.slot);
+        self.segs.set_page(page, PageRec::NOWHERE);
+    }
+
+    /// Takes a segment out, and its pages out of their frames and slots, which are free then. The other
+    /// segments' bytes stay, and where none of its pages was anywhere, so does all else. The segment is held.
+    pub fn drop_segment(&mut self, seg: u32)
+        requires there { is_held (held self.old) seg ≡ true }
+        ensures held { held self.new ≡ without (held self.old) seg }
+        ensures frames { (f : ℕ) → (frame_at self.new.frames f).owner ≡ disowned seg (frame_at self.old.frames f).owner }
+        ensures slots { (area slot : ℕ) → owner_of self.new.swap area slot ≡ disowned seg (owner_of self.old.swap area slot) }
+        ensures still { (s page : ℕ) → s ≢ seg → frame_of self.new s page ≡ frame_of self.old s page }
+        ensures counts { (total self.new.swap ≡ total self.old.swap) × GoesOn self.old.swap self.new.swap }
+        ensures sizes { sizes self.new.swap ≡ sizes self.old.swap }
+        ensures count { length self.new.frames ≡ length self.old.frames }
+        ensures blank { IsBlank seg self.old → self.new ≡ record self.old { segs = but seg self.old.segs } }
+        ensures sound { IsSound self.new }
+    {
+        let count = self.segs.count(seg) as u32;
+        for page in 0..count {
+            self.forget(PageRef { seg, page });
+        }
+        self.segs.remove(seg);
+    }
+}

@@ -1,0 +1,72 @@
+//! Dirty frames written out before their pages have to go.
+ghost use Rattle.std.specs.Prelude.{◌≡◌, ℕ, ◌+◌, ◌-◌, ◌<◌, ◌^◌, true, false, if◌then◌else◌, length, set, IsSome};
+ghost use Rattle.shm_slots.specs.View.{sizes};
+ghost use Rattle.shm_slots.specs.Cause.{GoesOn, total, some_spent};
+ghost use Rattle.shm_frames.specs.Frame.{frame_at};
+ghost use Rattle.shm_fault.specs.Store.{held, frame_of};
+ghost use Rattle.shm_fault.specs.Sound.{IsSound};
+ghost use Rattle.shm_fault.specs.Steps.{Kept};
+ghost use Rattle.shm_fault.specs.Goes.{Goes, Still};
+ghost use Rattle.shm_fault.specs.Flushing.{IsFlushed, may_flush, dirty_after};
+
+use crate::store::PageStore;
+use shm_base::{FlushReport, FrameNo};
+use shm_pager::Pager;
+
+impl<P: Pager> PageStore<P> {
+    // Whether a frame is dirty, and its segment is not locked.
+    fn is_flushable(&self, frame: FrameNo) -> bool
+        requires { frame < length self.now.frames }
+        ensures { result ≡ may_flush self.now frame }
+    {
+        match self.frames.owner(frame) {
+            Some(page) => self.frames.is_dirty(frame) && !self.segs.is_locked(page.seg),
+            None => false,
+        }
+    }
+
+    // Writes a dirty frame out, and counts how that ended.
+    fn flush_frame(&mut self, frame: FrameNo, report: &mut FlushReport)
+        requires there { frame < length self.old.frames }
+        requires owned { IsSome (frame_at self.old.frames frame).owner }
+        requires dirty { (frame_at self.old.frames frame).dirty ≡ true }
+        requires small { report.old.written + report.old.failed < 2 ^ 64 - 1 }
+        ensures frames { self.new.frames ≡ set self.old.frames frame (record (frame_at self.old.frames frame) { dirty = dirty_after self.new frame }) }
+        ensures still { Still self.old self.new }
+        ensures goes { Goes self.old self.new }
+        ensures sum { report.new.written + report.new.failed ≡ report.old.written + report.old.failed + 1 }
+        ensures failed { report.new.failed ≡ report.old.failed + (if dirty_after self.new frame then 1 else 0) }
+        ensures counted { some_spent self.new.swap ≡ false → total self.new.swap ≡ total self.old.swap + (if dirty_after self.new frame then 1 else 0) }
+        ensures sound { IsSound self.new }
+    {
+        match self.page_out(frame) {
+            Ok(()) => report.written += 1,
+            Err(_) => report.failed += 1,
+        }
+    }
+
+    /// Writes the first `n` dirty frames of segments that are not locked, by rising number, each to the
+    /// slot of its page, as where that page has to go. A frame whose write failed stays dirty; it is one
+    /// of the `n`.
+    pub fn flush(&mut self, n: u64) -> FlushReport
+        ensures flushed { IsFlushed self.old self.new n result }
+        ensures held { held self.new ≡ held self.old }
+        ensures still { (s page : ℕ) → frame_of self.new s page ≡ frame_of self.old s page }
+        ensures kept { Kept self.old self.new }
+        ensures counts { GoesOn self.old.swap self.new.swap }
+        ensures sizes { sizes self.new.swap ≡ sizes self.old.swap }
+        ensures count { length self.new.frames ≡ length self.old.frames }
+        ensures sound { IsSound self.new }
+    {
+        let mut report = FlushReport {
+            written: 0,
+            failed: 0,
+        };
+        for frame in 0..self.frames.count() {
+            if report.written + report.failed < n && self.is_flushable(frame) {
+                self.flush_frame(frame, &mut report);
+            }
+        }
+        report
+    }
+}

@@ -1,0 +1,24 @@
+//! The page store: segments as lists of bytes, over frames and swap.
+//!
+//! A page is in a frame, in a slot of a swap area, in both, or in neither; then its bytes are zeros. It
+//! keeps its slot until its segment goes or its area is turned off, and a frame is dirty where its bytes
+//! may differ from the slot's. No byte is lost, whatever had to leave its frame and whichever pager
+//! failed.
+#![tactic(auto)]
+
+mod access;
+mod dropping;
+mod flushing;
+mod moving;
+mod paging;
+#[cfg(test)]
+mod runs;
+mod segments;
+mod store;
+#[cfg(test)]
+mod tests;
+mod touched;
+
+pub use segments::PageRec;
+pub use store::PageStore;
+pub use touched::{Move, PageTally, PagerFailed, Touched};

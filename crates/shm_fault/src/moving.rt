@@ -1,0 +1,174 @@
+//! Swap areas that go, whose pages move to the other areas.
+ghost use Rattle.std.specs.Prelude.{◌≡◌, ℕ, ◌+◌, ◌<◌, ◌≤◌, true, [], length, set, Some, None, IfOk, IfErr, OnOk, OnErr};
+ghost use Rattle.shm_plain.specs.Held.{pages_held};
+ghost use Rattle.shm_slots.specs.View.{HasSlot, IsSwap, area_at, owner_of, page_in, sizes, slots, used_in, used_slots};
+ghost use Rattle.shm_slots.specs.Cause.{GoesOn, had_cause};
+ghost use Rattle.shm_fault.specs.Segs.{rec_by};
+ghost use Rattle.shm_fault.specs.Store.{held, frame_of};
+ghost use Rattle.shm_fault.specs.Sound.{IsSound};
+ghost use Rattle.shm_fault.specs.Steps.{Kept};
+ghost use Rattle.shm_fault.specs.Goes.{Goes, Still};
+ghost use Rattle.shm_fault.specs.Moving.{SameOwned, IsRelocated, IsCleared};
+
+use crate::segments::PageRec;
+use crate::store::PageStore;
+use crate::touched::PagerFailed;
+use arrayvec::ArrayVec;
+use shm_base::{FrameNo, PageRef, Slot};
+use shm_pager::{Pager, PagerFault, zeros};
+use shm_slots::Swap;
+
+// Writes a page to the least free slot of the lowest-numbered other area that has one, and gives its slot
+// back. Where the write fails it gives the new slot back.
+fn write_outside<P: Pager>(
+    swap: &mut Swap<P>,
+    page: PageRef,
+    from: Slot,
+    bytes: &[u8; 4096],
+) -> Result<Slot, PagerFault>
+    requires there { HasSlot swap.old from.area from.slot }
+    requires room { used_slots swap.old + length (area_at swap.old from.area).pages < slots swap.old + used_in (area_at swap.old from.area) }
+    requires bytes { page_in swap.old from.area from.slot ≡ bytes.now }
+    requires sound { IsSwap swap.old }
+    ensures ok { IfOk result (λ to. IsRelocated page from to swap.old swap.new) }
+    ensures err { OnErr result (SameOwned swap.old swap.new) }
+    ensures cause { OnErr result (had_cause swap.old swap.new ≡ true) }
+    ensures goes_on { GoesOn swap.old swap.new }
+    ensures sizes { sizes swap.new ≡ sizes swap.old }
+    ensures sound { IsSwap swap.new }
+{
+    let Some(to) = swap.take_outside(page, from.area) else {
+        unreachable!();
+    };
+    match swap.write_slot(to, bytes) {
+        Ok(()) => {
+            swap.give_slot(from);
+            Ok(to)
+        }
+        Err(fault) => {
+            swap.give_slot(to);
+            Err(fault)
+        }
+    }
+}
+
+// Moves the page in a slot to another area.
+fn relocate<P: Pager>(swap: &mut Swap<P>, page: PageRef, from: Slot) -> Result<Slot, PagerFault>
+    requires there { HasSlot swap.old from.area from.slot }
+    requires room { used_slots swap.old + length (area_at swap.old from.area).pages < slots swap.old + used_in (area_at swap.old from.area) }
+    requires sound { IsSwap swap.old }
+    ensures ok { IfOk result (λ to. IsRelocated page from to swap.old swap.new) }
+    ensures err { OnErr result (SameOwned swap.old swap.new) }
+    ensures cause { OnErr result (had_cause swap.old swap.new ≡ true) }
+    ensures goes_on { GoesOn swap.old swap.new }
+    ensures sizes { sizes swap.new ≡ sizes swap.old }
+    ensures sound { IsSwap swap.new }
+{
+    let mut bytes = zeros();
+    match swap.read_slot(from, &mut bytes) {
+        Ok(()) => write_outside(swap, page, from, &bytes),
+        Err(fault) => Err(fault),
+    }
+}
+
+impl<P: Pager> PageStore<P> {
+    // A resident page gives its slot back, and is dirty.
+    fn give_back(&mut self, page: PageRef, frame: FrameNo, slot: Slot)
+        requires place { rec_by self.old.segs page ≡ record { frame = Some frame; slot = Some slot } }
+        ensures goes { Goes self.old self.new }
+        ensures still { Still self.old self.new }
+        ensures cleared { IsCleared slot self.old.swap self.new.swap }
+        ensures sound { IsSound self.new }
+    {
+        self.swap.give_slot(slot);
+        self.frames.set_dirty(frame, true);
+        self.segs.set_page(
+            page,
+            PageRec {
+                frame: Some(frame),
+                slot: None,
+            },
+        );
+    }
+
+    // A page that is not resident moves to another area.
+    fn carry(&mut self, page: PageRef, slot: Slot) -> Result<(), PagerFault>
+        requires place { rec_by self.old.segs page ≡ record { frame = None; slot = Some slot } }
+        requires room { pages_held (held self.old) + length (area_at self.old.swap slot.area).pages ≤ slots self.old.swap }
+        ensures goes { Goes self.old self.new }
+        ensures still { Still self.old self.new }
+        ensures cleared { OnOk result (IsCleared slot self.old.swap self.new.swap) }
+        ensures cause { OnErr result (had_cause self.old.swap self.new.swap ≡ true) }
+        ensures sound { IsSound self.new }
+    {
+        match relocate(&mut self.swap, page, slot) {
+            Ok(to) => {
+                self.segs.set_page(
+                    page,
+                    PageRec {
+                        frame: None,
+                        slot: Some(to),
+                    },
+                );
+                Ok(())
+            }
+            Err(fault) => Err(fault),
+        }
+    }
+
+    // Makes a slot free, whose page goes elsewhere.
+    fn clear_slot(&mut self, slot: Slot) -> Result<(), PagerFault>
+        requires there { HasSlot self.old.swap slot.area slot.slot }
+        requires room { pages_held (held self.old) + length (area_at self.old.swap slot.area).pages ≤ slots self.old.swap }
+        ensures goes { Goes self.old self.new }
+        ensures still { Still self.old self.new }
+        ensures cleared { OnOk result (IsCleared slot self.old.swap self.new.swap) }
+        ensures cause { OnErr result (had_cause self.old.swap self.new.swap ≡ true) }
+        ensures sound { IsSound self.new }
+    {
+        let Some(page) = self.swap.owner(slot) else {
+            return Ok(());
+        };
+        match self.segs.page(page).frame {
+            Some(frame) => {
+                self.give_back(page, frame, slot);
+                Ok(())
+            }
+            None => self.carry(page, slot),
+        }
+    }
+
+    /// Takes a swap area away, after its pages, by rising slot number: a resident page gives its slot back
+    /// and is dirty; any other is read and written to the least free slot of the lowest-numbered other
+    /// area that has one. Neither counts as a page that came in or went out. Where a pager fails the area
+    /// stays, and so do the pages that have moved before. The area is there, and the others have a slot
+    /// for each page of each segment.
+    pub fn move_off(&mut self, area: u32) -> Result<(), PagerFailed>
+        requires there { (area_at self.old.swap area).here ≡ true }
+        requires room { pages_held (held self.old) + length (area_at self.old.swap area).pages ≤ slots self.old.swap }
+        ensures held { held self.new ≡ held self.old }
+        ensures gone { OnOk result (sizes self.new.swap ≡ set (sizes self.old.swap) area None) }
+        ensures sizes { OnErr result (sizes self.new.swap ≡ sizes self.old.swap) }
+        ensures count { length self.new.frames ≡ length self.old.frames }
+        ensures cause { OnErr result (had_cause self.old.swap self.new.swap ≡ true) }
+        ensures moved { IfErr result (λ e. e.moved.items ≡ []) }
+        ensures still { (s page : ℕ) → frame_of self.new s page ≡ frame_of self.old s page }
+        ensures kept { Kept self.old self.new }
+        ensures counts { GoesOn self.old.swap self.new.swap }
+        ensures sound { IsSound self.new }
+    {
+        let count = self.swap.size(area).unwrap_or(0);
+        for slot in 0..count {
+            match self.clear_slot(Slot { area, slot }) {
+                Ok(()) => {}
+                Err(_) => {
+                    return Err(PagerFailed {
+                        moved: ArrayVec::new(),
+                    });
+                }
+            }
+        }
+        self.swap.turn_off(area);
+        Ok(())
+    }
+}

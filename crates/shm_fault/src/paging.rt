@@ -1,0 +1,412 @@
+//! Pages that come into a frame and leave it. Each step here keeps all bytes of all segments.
+ghost use Rattle.std.specs.Prelude.{◌≡◌, ◌≢◌, ◌⊎◌, ℕ, ◌+◌, ◌<◌, ◌≤◌, ◌^◌, Bool, true, false, not, if◌then◌else◌, [], length, set, Option, Some, None, is_ok, is_some, IfOk, IfErr, OnOk, OnErr, IsOk, IsSome, MatchOption};
+ghost use Rattle.shm_base.specs.declared.paging.PageRef.{PageRef as Ref};
+ghost use Rattle.shm_slots.specs.View.{SameSlots, HasSlot, IsSwap, sizes};
+ghost use Rattle.shm_slots.specs.Cause.{had_cause, total, some_spent, GoesOn};
+ghost use Rattle.shm_frames.specs.Frame.{frame_at, no_frame, OwnedBelow};
+ghost use Rattle.shm_clock.specs.Clock.{may_go, listed, next, IsClockVictim};
+ghost use Rattle.shm_fault.specs.Segs.{rec_by, HasPage, with_rec};
+ghost use Rattle.shm_fault.specs.Store.{StoreView, stored, is_swapped};
+ghost use Rattle.shm_fault.specs.Sound.{IsSound};
+ghost use Rattle.shm_fault.specs.Goes.{Goes, Still, StaysAway, Alike, Visits, MovesOn, referenced_at, unlocked, frame_by, same_ref};
+
+use crate::segments::{PageRec, Segments};
+use crate::store::PageStore;
+use crate::touched::{Move, Touched};
+use shm_base::{FrameNo, PageRef, Slot};
+use shm_clock::victim;
+use shm_frames::{Frames, Looks};
+use shm_pager::{Pager, PagerFault, zeros};
+use shm_slots::Swap;
+
+// A frame that its page has left, and whether the page was written for that.
+#[derive(Clone, Copy)]
+struct Evicted {
+    frame: FrameNo,
+    page: PageRef,
+    written: bool,
+}
+
+// The frame whose page has to go, by the clock, among those of segments that are not locked.
+fn choose(
+    segs: &Segments,
+    frames: &mut Frames,
+    hand: &mut FrameNo,
+    pinned: Option<FrameNo>,
+) -> FrameNo
+    requires hand { hand.old < length frames.old }
+    requires few { length frames.old ≤ 4096 }
+    requires one { listed (unlocked segs.now) pinned frames.old hand.old ≢ [] }
+    ensures clock { IsClockVictim (may_go (unlocked segs.now) pinned frames.old) hand.old frames.old result frames.new }
+    ensures hand { hand.new ≡ next (length frames.old) result }
+{
+    let eligible = |page: PageRef| !segs.is_locked(page.seg);
+    victim(frames, hand, &eligible, pinned, &mut Looks::new())
+}
+
+// Puts a page's bytes into a frame: those in its slot, read straight there, or zeros.
+fn fill_from<P: Pager>(
+    frames: &mut Frames,
+    swap: &mut Swap<P>,
+    frame: FrameNo,
+    slot: Option<Slot>,
+) -> Result<(), PagerFault>
+    requires there { frame < length frames.old }
+    requires slot { MatchOption slot (Unit {0}) (λ k. HasSlot swap.old k.area k.slot) }
+    ensures frames { frames.new ≡ set frames.old frame (record (frame_at frames.old frame) { bytes = (frame_at frames.new frame).bytes }) }
+    ensures bytes { OnOk result ((frame_at frames.new frame).bytes ≡ stored swap.old slot) }
+    ensures swap { OnOk result (swap.new ≡ swap.old) }
+    ensures kept { SameSlots swap.old swap.new }
+    ensures cause { OnErr result (had_cause swap.old swap.new ≡ true) }
+    ensures goes_on { GoesOn swap.old swap.new }
+    ensures sizes { sizes swap.new ≡ sizes swap.old }
+    ensures sound { IsSwap swap.old → IsSwap swap.new }
+{
+    let page = frames.bytes_mut(frame);
+    match slot {
+        Some(slot) => swap.read_slot(slot, page),
+        None => {
+            *page = zeros();
+            Ok(())
+        }
+    }
+}
+
+impl<P: Pager> PageStore<P> {
+    // The slot of the page in a dirty frame. Where it has none it gets the least free one of the
+    // lowest-numbered area that has one.
+    fn slot_for(&mut self, frame: FrameNo) -> Slot
+        requires there { frame < length self.old.frames }
+        requires owned { IsSome (frame_at self.old.frames frame).owner }
+        requires dirty { (frame_at self.old.frames frame).dirty ≡ true }
+        ensures slot { (page : Ref) → (frame_at self.old.frames frame).owner ≡ Some page → (rec_by self.new.segs page).slot ≡ Some result }
+        ensures rest { self.new ≡ record self.old { segs = self.new.segs; swap = self.new.swap } }
+        ensures still { Still self.old self.new }
+        ensures away { StaysAway self.old self.new }
+        ensures goes { Goes self.old self.new }
+        ensures failures { total self.new.swap ≡ total self.old.swap }
+        ensures sound { IsSound self.new }
+    {
+        let Some(page) = self.frames.owner(frame) else {
+            unreachable!();
+        };
+        let place = self.segs.page(page);
+        if let Some(slot) = place.slot {
+            return slot;
+        }
+        let Some(slot) = self.swap.take_slot(page) else {
+            unreachable!();
+        };
+        self.segs.set_page(
+            page,
+            PageRec {
+                frame: place.frame,
+                slot: Some(slot),
+            },
+        );
+        slot
+    }
+
+    // Writes a frame to the slot of its page. Where that fails the frame stays dirty.
+    fn write_back(&mut self, frame: FrameNo, slot: Slot) -> Result<(), PagerFault>
+        requires there { frame < length self.old.frames }
+        requires owned { IsSome (frame_at self.old.frames frame).owner }
+        requires dirty { (frame_at self.old.frames frame).dirty ≡ true }
+        requires slot { (page : Ref) → (frame_at self.old.frames frame).owner ≡ Some page → (rec_by self.old.segs page).slot ≡ Some slot }
+        ensures frames { self.new.frames ≡ set self.old.frames frame (record (frame_at self.old.frames frame) { dirty = not (is_ok result) }) }
+        ensures rest { self.new ≡ record self.old { frames = self.new.frames; swap = self.new.swap; outs = self.new.outs } }
+        ensures goes { Goes self.old self.new }
+        ensures cause { OnErr result (had_cause self.old.swap self.new.swap ≡ true) }
+        ensures counted { some_spent self.new.swap ≡ false → total self.new.swap ≡ total self.old.swap + (if is_ok result then 0 else 1) }
+        ensures sound { IsSound self.new }
+    {
+        match self.swap.write_slot(slot, self.frames.bytes(frame)) {
+            Ok(()) => {
+                self.frames.set_dirty(frame, false);
+                self.outs = self.outs.saturating_add(1);
+                Ok(())
+            }
+            Err(fault) => Err(fault),
+        }
+    }
+
+    /// Writes a dirty frame to the slot of its page, or to the least free slot of the lowest-numbered
+    /// area that has one. Where the write fails the frame stays dirty, and the page keeps that slot.
+    pub(crate) fn page_out(&mut self, frame: FrameNo) -> Result<(), PagerFault>
+        requires there { frame < length self.old.frames }
+        requires owned { IsSome (frame_at self.old.frames frame).owner }
+        requires dirty { (frame_at self.old.frames frame).dirty ≡ true }
+        ensures frames { self.new.frames ≡ set self.old.frames frame (record (frame_at self.old.frames frame) { dirty = not (is_ok result) }) }
+        ensures still { Still self.old self.new }
+        ensures away { StaysAway self.old self.new }
+        ensures goes { Goes self.old self.new }
+        ensures cause { OnErr result (had_cause self.old.swap self.new.swap ≡ true) }
+        ensures counted { some_spent self.new.swap ≡ false → total self.new.swap ≡ total self.old.swap + (if is_ok result then 0 else 1) }
+        ensures sound { IsSound self.new }
+    {
+        let slot = self.slot_for(frame);
+        self.write_back(frame, slot)
+    }
+
+    // The page in a clean frame leaves it.
+    fn leave(&mut self, frame: FrameNo) -> PageRef
+        requires there { frame < length self.old.frames }
+        requires owned { IsSome (frame_at self.old.frames frame).owner }
+        requires clean { (frame_at self.old.frames frame).dirty ≡ false }
+        ensures page { (frame_at self.old.frames frame).owner ≡ Some result }
+        ensures was { (rec_by self.old.segs result).frame ≡ Some frame }
+        ensures frames { self.new.frames ≡ set self.old.frames frame (record no_frame { bytes = (frame_at self.old.frames frame).bytes }) }
+        ensures segs { self.new.segs ≡ with_rec self.old.segs result (record (rec_by self.old.segs result) { frame = None }) }
+        ensures rest { self.new ≡ record self.old { segs = self.new.segs; frames = self.new.frames } }
+        ensures goes { Goes self.old self.new }
+        ensures sound { IsSound self.new }
+    {
+        let Some(page) = self.frames.owner(frame) else {
+            unreachable!();
+        };
+        let place = self.segs.page(page);
+        self.frames.empty(frame);
+        self.segs.set_page(
+            page,
+            PageRec {
+                frame: None,
+                slot: place.slot,
+            },
+        );
+        page
+    }
+
+    // The frame whose page has to go where none is free. Referenced bits may become clear, but not that
+    // of the pinned frame.
+    fn turn(&mut self, pinned: Option<FrameNo>) -> FrameNo
+        requires full { OwnedBelow self.old.frames (length self.old.frames) }
+        ensures there { result < length self.old.frames }
+        ensures may { may_go (unlocked self.old.segs) pinned self.old.frames result ≡ true }
+        ensures alike { (f : ℕ) → Alike (frame_at self.old.frames f) (frame_at self.new.frames f) }
+        ensures pin { (p : ℕ) → pinned ≡ Some p → frame_at self.new.frames p ≡ frame_at self.old.frames p }
+        ensures rest { self.new ≡ record self.old { frames = self.new.frames; hand = self.new.hand } }
+        ensures goes { Goes self.old self.new }
+    {
+        choose(&self.segs, &mut self.frames, &mut self.hand, pinned)
+    }
+
+    // Writes a frame if it is dirty, and tells whether it did.
+    fn clean(&mut self, frame: FrameNo) -> Result<bool, PagerFault>
+        requires there { frame < length self.old.frames }
+        requires owned { IsSome (frame_at self.old.frames frame).owner }
+        ensures ok { OnOk result (self.new.frames ≡ set self.old.frames frame (record (frame_at self.old.frames frame) { dirty = false })) }
+        ensures err { OnErr result (self.new.frames ≡ self.old.frames) }
+        ensures still { Still self.old self.new }
+        ensures away { StaysAway self.old self.new }
+        ensures goes { Goes self.old self.new }
+        ensures cause { OnErr result (had_cause self.old.swap self.new.swap ≡ true) }
+    {
+        if !self.frames.is_dirty(frame) {
+            return Ok(false);
+        }
+        match self.page_out(frame) {
+            Ok(()) => Ok(true),
+            Err(fault) => Err(fault),
+        }
+    }
+
+    // Makes a frame free by having its page leave it. Where the page's write fails, the page stays.
+    fn evict(&mut self, pinned: Option<FrameNo>) -> Result<Evicted, PagerFault>
+        requires full { OwnedBelow self.old.frames (length self.old.frames) }
+        ensures visits { (r : Ref) → Visits r pinned self.old self.new }
+        ensures gone { IfOk result (λ e. (s : Ref) → frame_by self.new s ≡ (if same_ref e.page s then None else frame_by self.old s)) }
+        ensures free { IfOk result (λ e. (e.frame < length self.new.frames) × ((frame_at self.new.frames e.frame).owner ≡ None)) }
+        ensures err { OnErr result (Still self.old self.new) }
+        ensures cause { OnErr result (had_cause self.old.swap self.new.swap ≡ true) }
+    {
+        let frame = self.turn(pinned);
+        match self.clean(frame) {
+            Ok(written) => {
+                let page = self.leave(frame);
+                Ok(Evicted {
+                    frame,
+                    page,
+                    written,
+                })
+            }
+            Err(fault) => Err(fault),
+        }
+    }
+
+    // Puts a page's bytes into a free frame. Where the read fails the frame stays free.
+    fn load(&mut self, frame: FrameNo, slot: Option<Slot>) -> Result<(), PagerFault>
+        requires there { frame < length self.old.frames }
+        requires free { (frame_at self.old.frames frame).owner ≡ None }
+        requires slot { MatchOption slot (Unit {0}) (λ k. HasSlot self.old.swap k.area k.slot) }
+        ensures bytes { OnOk result ((frame_at self.new.frames frame).bytes ≡ stored self.old.swap slot) }
+        ensures swap { OnOk result (self.new.swap ≡ self.old.swap) }
+        ensures segs { self.new.segs ≡ self.old.segs }
+        ensures free { (frame_at self.new.frames frame).owner ≡ None }
+        ensures visits { (page : Ref) (pinned : Option ℕ) → Visits page pinned self.old self.new }
+        ensures cause { OnErr result (had_cause self.old.swap self.new.swap ≡ true) }
+    {
+        match fill_from(&mut self.frames, &mut self.swap, frame, slot) {
+            Ok(()) => {
+                self.ins = self.ins.saturating_add(u64::from(slot.is_some()));
+                Ok(())
+            }
+            Err(fault) => Err(fault),
+        }
+    }
+
+    // Gives a free frame that has a page's bytes to the page.
+    fn settle(&mut self, frame: FrameNo, page: PageRef)
+        requires there { frame < length self.old.frames }
+        requires free { (frame_at self.old.frames frame).owner ≡ None }
+        requires has { HasPage self.old.segs page }
+        requires away { frame_by self.old page ≡ None }
+        requires bytes { (frame_at self.old.frames frame).bytes ≡ stored self.old.swap (rec_by self.old.segs page).slot }
+        ensures came { (s : Ref) → frame_by self.new s ≡ (if same_ref page s then Some frame else frame_by self.old s) }
+        ensures bit { (frame_at self.new.frames frame).referenced ≡ true }
+        ensures swap { self.new.swap ≡ self.old.swap }
+        ensures visits { (pinned : Option ℕ) → Visits page pinned self.old self.new }
+    {
+        let place = self.segs.page(page);
+        self.frames.fill(frame, page);
+        self.frames.set_referenced(frame, true);
+        self.segs.set_page(
+            page,
+            PageRec {
+                frame: Some(frame),
+                slot: place.slot,
+            },
+        );
+    }
+
+    // Brings a page into a free frame. Where the read fails the page stays where it is.
+    fn come_in(
+        &mut self,
+        frame: FrameNo,
+        page: PageRef,
+        touched: &mut Touched,
+    ) -> Result<(), PagerFault>
+        requires there { frame < length self.old.frames }
+        requires free { (frame_at self.old.frames frame).owner ≡ None }
+        requires has { HasPage self.old.segs page }
+        requires away { frame_by self.old page ≡ None }
+        requires room { length touched.old.moved.items < 4 }
+        requires small { touched.old.ins < 2 ^ 32 }
+        ensures here { OnOk result (frame_by self.new page ≡ Some frame) }
+        ensures bit { OnOk result (referenced_at self.new frame ≡ true) }
+        ensures visits { (pinned : Option ℕ) → Visits page pinned self.old self.new }
+        ensures moves { MovesOn touched.old.moved.items touched.new.moved.items self.old self.new }
+        ensures few { length touched.new.moved.items ≤ length touched.old.moved.items + 1 }
+        ensures ins { OnOk result (touched.new.ins ≡ touched.old.ins + (if is_some (rec_by self.old.segs page).slot then 1 else 0)) }
+        ensures outs { touched.new.outs ≡ touched.old.outs }
+        ensures cause { OnErr result (had_cause self.old.swap self.new.swap ≡ true) }
+    {
+        let place = self.segs.page(page);
+        match self.load(frame, place.slot) {
+            Ok(()) => {
+                self.settle(frame, page);
+                touched.ins += u64::from(place.slot.is_some());
+                touched.moved.push(Move::Came(page, frame));
+                Ok(())
+            }
+            Err(fault) => Err(fault),
+        }
+    }
+
+    // A free frame: the one of least number, or the one of the page that has to go.
+    fn take_frame(
+        &mut self,
+        pinned: Option<FrameNo>,
+        touched: &mut Touched,
+    ) -> Result<FrameNo, PagerFault>
+        requires room { length touched.old.moved.items < 4 }
+        requires small { touched.old.outs < 2 ^ 32 }
+        ensures free { IfOk result (λ f. (f < length self.new.frames) × ((frame_at self.new.frames f).owner ≡ None)) }
+        ensures visits { (page : Ref) → Visits page pinned self.old self.new }
+        ensures moves { MovesOn touched.old.moved.items touched.new.moved.items self.old self.new }
+        ensures few { length touched.new.moved.items ≤ length touched.old.moved.items + 1 }
+        ensures ins { touched.new.ins ≡ touched.old.ins }
+        ensures outs { touched.new.outs ≤ touched.old.outs + 1 }
+        ensures cause { OnErr result (had_cause self.old.swap self.new.swap ≡ true) }
+    {
+        match self.frames.free_frame() {
+            Some(frame) => Ok(frame),
+            None => match self.evict(pinned) {
+                Ok(evicted) => {
+                    touched.outs += u64::from(evicted.written);
+                    touched.moved.push(Move::Gone(evicted.page));
+                    Ok(evicted.frame)
+                }
+                Err(fault) => Err(fault),
+            },
+        }
+    }
+
+    // Brings in a page that is not resident.
+    fn fault(
+        &mut self,
+        page: PageRef,
+        pinned: Option<FrameNo>,
+        touched: &mut Touched,
+    ) -> Result<FrameNo, PagerFault>
+        requires has { HasPage self.old.segs page }
+        requires away { frame_by self.old page ≡ None }
+        requires room { length touched.old.moved.items ≤ 2 }
+        requires small { (touched.old.ins < 2 ^ 32) × (touched.old.outs < 2 ^ 32) }
+        ensures here { IfOk result (λ f. (frame_by self.new page ≡ Some f) × (referenced_at self.new f ≡ true)) }
+        ensures visits { Visits page pinned self.old self.new }
+        ensures moves { MovesOn touched.old.moved.items touched.new.moved.items self.old self.new }
+        ensures few { length touched.new.moved.items ≤ length touched.old.moved.items + 2 }
+        ensures ins { OnOk result (touched.new.ins ≡ touched.old.ins + (if is_some (rec_by self.old.segs page).slot then 1 else 0)) }
+        ensures outs { touched.new.outs ≤ touched.old.outs + 1 }
+        ensures cause { OnErr result (had_cause self.old.swap self.new.swap ≡ true) }
+    {
+        match self.take_frame(pinned, touched) {
+            Ok(frame) => match self.come_in(frame, page, touched) {
+                Ok(()) => Ok(frame),
+                Err(fault) => Err(fault),
+            },
+            Err(fault) => Err(fault),
+        }
+    }
+
+    // Sets the referenced bit of a resident page's frame.
+    fn touch(&mut self, page: PageRef, frame: FrameNo)
+        requires here { frame_by self.old page ≡ Some frame }
+        ensures bit { referenced_at self.new frame ≡ true }
+        ensures visits { (pinned : Option ℕ) → Visits page pinned self.old self.new }
+        ensures rest { self.new ≡ record self.old { frames = self.new.frames } }
+    {
+        self.frames.set_referenced(frame, true);
+    }
+
+    /// Visits a page: it is resident afterwards, with its referenced bit set. `known` is its frame where it
+    /// is resident, and the pinned frame stays as it is.
+    pub(crate) fn visit(
+        &mut self,
+        page: PageRef,
+        known: Option<FrameNo>,
+        pinned: Option<FrameNo>,
+        touched: &mut Touched,
+    ) -> Result<FrameNo, PagerFault>
+        requires has { HasPage self.old.segs page }
+        requires known { known ≡ frame_by self.old page }
+        requires room { length touched.old.moved.items ≤ 2 }
+        requires small { (touched.old.ins < 2 ^ 32) × (touched.old.outs < 2 ^ 32) }
+        ensures here { IfOk result (λ f. (frame_by self.new page ≡ Some f) × (referenced_at self.new f ≡ true)) }
+        ensures visits { Visits page pinned self.old self.new }
+        ensures moves { MovesOn touched.old.moved.items touched.new.moved.items self.old self.new }
+        ensures few { length touched.new.moved.items ≤ length touched.old.moved.items + 2 }
+        ensures ins { OnOk result (touched.new.ins ≡ touched.old.ins + (if is_swapped (rec_by self.old.segs page) then 1 else 0)) }
+        ensures outs { touched.new.outs ≤ touched.old.outs + 1 }
+        ensures quiet { IsSome known → IsOk result × (touched.new ≡ touched.old) × (self.new.segs ≡ self.old.segs) × (self.new.swap ≡ self.old.swap) }
+        ensures cause { OnErr result (had_cause self.old.swap self.new.swap ≡ true) }
+    {
+        match known {
+            Some(frame) => {
+                self.touch(page, frame);
+                Ok(frame)
+            }
+            None => self.fault(page, pinned, touched),
+        }
+    }
+}

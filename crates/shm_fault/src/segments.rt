@@ -1,0 +1,182 @@
+//! The segments that the store holds, each with the place of every page.
+ghost use Rattle.std.specs.Prelude.{◌≡◌, ℕ, ◌<◌, [], ◌∷◌, ◌++◌, length, set, map, filter, not, ◌==◌, None, Some, IfSome, IfNone, IfOk, OnOk, OnErr, replicate};
+ghost use Rattle.shm_fault.specs.Segs.{SegRec, find_seg, rec_at, rec_by, count_by_id, locked_by, HasPage, with_rec, with_seg_lock, no_page, new_seg};
+ghost use Rattle.shm_fault.specs.Entries.{segs_view, key_at};
+
+use indexmap::IndexMap;
+use shm_base::{FrameNo, HostMemory, PageRef, Slot};
+use std::alloc::{AllocError, Global};
+use std::marker::Model;
+
+/// Where a page is: in a frame, in a slot, in both, or in neither; then its bytes are zeros. What the
+/// slot of a page in a dirty frame holds is nobody's concern.
+#[derive(Clone, Copy, Debug, PartialEq, Eq)]
+pub struct PageRec {
+    pub frame: Option<FrameNo>,
+    pub slot: Option<Slot>,
+}
+
+/// Whether a segment is locked, and where its pages are.
+#[derive(Drop)]
+pub(crate) struct Segment {
+    pub(crate) locked: bool,
+    pub(crate) pages: Vec<PageRec>,
+}
+
+/// The segments in the order in which they were added. Finding one by its identifier takes no longer
+/// where there are more of them.
+#[derive(Drop)]
+pub(crate) struct Segments {
+    alloc: Global,
+    by_id: IndexMap<u32, Segment>,
+}
+
+impl Model for Segments {
+    ghost use Rattle.std.specs.Prelude.{List};
+    ghost use Rattle.shm_fault.specs.Segs.{SegRec, AreApart};
+
+    ghost Value = { List SegRec };
+
+    ghost use Rattle.shm_fault.specs.Entries.{segs_view};
+
+    ghost view = { λ s. segs_view s.by_id.entries };
+
+    ghost invariant = { λ s. AreApart (segs_view s.by_id.entries) };
+}
+
+impl PageRec {
+    /// A page that is nowhere: all its bytes are zero.
+    pub(crate) const NOWHERE: PageRec = PageRec {
+        frame: None,
+        slot: None,
+    };
+}
+
+// So many pages that are nowhere.
+fn blank_pages(alloc: Global, count: u32) -> Result<Vec<PageRec>, AllocError>
+    ensures { IfOk result (λ pages. pages.items ≡ replicate count no_page) }
+{
+    let mut pages = Vec::with_capacity(alloc, count as usize)?;
+    for _page in 0..count {
+        pages.push(PageRec::NOWHERE)?;
+    }
+    Ok(pages)
+}
+
+// Where a page of a segment is.
+fn place_at(pages: &Vec<PageRec>, page: u32) -> PageRec
+    ensures { result ≡ rec_at pages.now.items page }
+{
+    pages
+        .get(page as usize)
+        .copied()
+        .unwrap_or(PageRec::NOWHERE)
+}
+
+// Notes where a page of a segment is.
+fn set_place(pages: &mut Vec<PageRec>, page: u32, place: PageRec)
+    requires { page < length pages.old.items }
+    ensures { pages.new.items ≡ set pages.old.items page place }
+{
+    pages[page as usize] = place;
+}
+
+// At which place a segment stands.
+fn index_of(by_id: &IndexMap<u32, Segment>, id: u32) -> Option<usize>
+    ensures some { IfSome result (λ i. key_at by_id.now.entries i ≡ Some id) }
+    ensures none { IfNone result (find_seg (segs_view by_id.now.entries) id ≡ None) }
+{
+    let (index, _, _) = by_id.get_full(&id)?;
+    Some(index)
+}
+
+impl Segments {
+    /// No segment.
+    pub(crate) fn new(alloc: Global) -> Segments
+        ensures { result ≡ [] }
+    {
+        Segments {
+            alloc,
+            by_id: IndexMap::new(alloc),
+        }
+    }
+
+    /// One more segment, not locked, whose pages are nowhere.
+    pub(crate) fn add(&mut self, id: u32, pages: u32) -> Result<(), HostMemory>
+        requires new { find_seg self.old id ≡ None }
+        ensures ok { OnOk result (self.new ≡ self.old ++ new_seg id pages ∷ []) }
+        ensures err { OnErr result (self.new ≡ self.old) }
+    {
+        let pages = blank_pages(self.alloc, pages)?;
+        let segment = Segment {
+            locked: false,
+            pages,
+        };
+        self.by_id.insert(id, segment)?;
+        Ok(())
+    }
+
+    /// Takes a segment out.
+    pub(crate) fn remove(&mut self, id: u32)
+        ensures { self.new ≡ filter (λ (g : SegRec). not (g.id == id)) self.old }
+    {
+        self.by_id.shift_remove(&id);
+    }
+
+    /// Where a page is.
+    pub(crate) fn page(&self, page: PageRef) -> PageRec
+        ensures { result ≡ rec_by self.now page }
+    {
+        match self.by_id.get(&page.seg) {
+            Some(segment) => place_at(&segment.pages, page.page),
+            None => PageRec::NOWHERE,
+        }
+    }
+
+    /// How many pages a segment has.
+    pub(crate) fn count(&self, id: u32) -> usize
+        ensures { result ≡ count_by_id self.now id }
+    {
+        match self.by_id.get(&id) {
+            Some(segment) => segment.pages.len(),
+            None => 0,
+        }
+    }
+
+    /// Whether a segment is locked.
+    pub(crate) fn is_locked(&self, id: u32) -> bool
+        ensures { result ≡ locked_by self.now id }
+    {
+        match self.by_id.get(&id) {
+            Some(segment) => segment.locked,
+            None => false,
+        }
+    }
+
+    /// Notes where a page is.
+    pub(crate) fn set_page(&mut self, page: PageRef, place: PageRec)
+        requires { HasPage self.old page }
+        ensures { self.new ≡ with_rec self.old page place }
+    {
+        let Some(index) = index_of(&self.by_id, page.seg) else {
+            return;
+        };
+        let Some(segment) = self.by_id.get_index_mut(index) else {
+            unreachable!();
+        };
+        set_place(&mut segment.pages, page.page, place);
+    }
+
+    /// Locks or unlocks a segment.
+    pub(crate) fn set_locked(&mut self, id: u32, locked: bool)
+        ensures { self.new ≡ map (with_seg_lock id locked) self.old }
+    {
+        let Some(index) = index_of(&self.by_id, id) else {
+            return;
+        };
+        let Some(segment) = self.by_id.get_index_mut(index) else {
+            unreachable!();
+        };
+        segment.locked = locked;
+    }
+}

@@ -1,0 +1,135 @@
+//! The store, made and looked at.
+ghost use Rattle.std.specs.Prelude.{◌≡◌, ℕ, [], ◌∷◌, ◌++◌, ◌+◌, ◌-◌, ◌≤◌, ◌^◌, true, false, length, map, min, None, IfOk, OnOk, OnErr};
+ghost use Rattle.shm_plain.specs.Held.{is_held, pages_held, pages_locked, with_zeros, with_lock};
+ghost use Rattle.shm_slots.specs.View.{slots, owner_of, size_of, area_at};
+ghost use Rattle.shm_slots.specs.Cause.{total};
+ghost use Rattle.shm_frames.specs.Frame.{IsBlank};
+ghost use Rattle.shm_fault.specs.Segs.{with_seg_lock, new_seg};
+ghost use Rattle.shm_fault.specs.Store.{fresh_store, held, frame_of, resident, dirty, used};
+ghost use Rattle.shm_fault.specs.Sound.{IsSound};
+
+use crate::segments::Segments;
+use crate::touched::PageTally;
+use shm_base::{FrameNo, HostMemory, PageRef};
+use shm_frames::Frames;
+use shm_pager::Pager;
+use shm_slots::Swap;
+use std::alloc::Global;
+use std::marker::Model;
+
+/// Pages of segments, over frames and swap.
+#[derive(Drop)]
+pub struct PageStore<P: Pager> {
+    pub(crate) segs: Segments,
+    pub(crate) frames: Frames,
+    // Where the clock's hand stands.
+    pub(crate) hand: FrameNo,
+    pub(crate) swap: Swap<P>,
+    // Pager reads for faults, and pager writes for evictions and flushes.
+    pub(crate) ins: u64,
+    pub(crate) outs: u64,
+}
+
+impl<P: Pager> Model for PageStore<P> {
+    ghost use Rattle.shm_fault.specs.Store.{StoreView};
+    ghost use Rattle.shm_fault.specs.Sound.{IsSound};
+
+    ghost Value = { StoreView };
+
+    ghost view = { λ s. record { segs = s.segs; frames = s.frames; hand = s.hand; swap = s.swap; ins = s.ins; outs = s.outs } };
+
+    ghost invariant = { λ s. IsSound (record { segs = s.segs; frames = s.frames; hand = s.hand; swap = s.swap; ins = s.ins; outs = s.outs }) };
+}
+
+impl<P: Pager> PageStore<P> {
+    /// A store that holds no segment, over so many frames and the swap, none of whose slots is owned. The
+    /// memory of the frames is taken here.
+    pub fn new(alloc: Global, frames: u32, swap: Swap<P>) -> Result<PageStore<P>, HostMemory>
+        requires frames { (2 ≤ frames) × (frames ≤ 4096) }
+        requires free { (area slot : ℕ) → owner_of swap area slot ≡ None }
+        ensures fresh { IfOk result (λ s. s ≡ fresh_store s.frames swap) }
+        ensures frames { IfOk result (λ s. (length s.frames ≡ frames) × ((f : ℕ) → IsBlank s.frames f)) }
+        ensures sound { IfOk result IsSound }
+    {
+        let frames = Frames::new(alloc, frames)?;
+        Ok(PageStore {
+            segs: Segments::new(alloc),
+            frames,
+            hand: 0,
+            swap,
+            ins: 0,
+            outs: 0,
+        })
+    }
+
+    /// The slots of the areas that are there.
+    pub fn capacity(&self) -> u64
+        ensures { result ≡ slots self.now.swap }
+    {
+        self.swap.capacity()
+    }
+
+    /// The slots of an area, if it is there.
+    pub fn area_size(&self, area: u32) -> Option<u32>
+        ensures { result ≡ size_of (area_at self.now.swap area) }
+    {
+        self.swap.size(area)
+    }
+
+    /// The frame that a page is in; none where it is not resident, or no such page is there.
+    pub fn frame(&self, seg: u32, page: u32) -> Option<FrameNo>
+        ensures { result ≡ frame_of self.now seg page }
+    {
+        self.segs.page(PageRef { seg, page }).frame
+    }
+
+    /// One more segment, of so many pages of zeros, which is not locked. All room that it will ever need is
+    /// taken here; want of memory is the one refusal, and changes nothing. All pages have to be at most the
+    /// slots.
+    pub fn add_segment(&mut self, seg: u32, pages: u32) -> Result<(), HostMemory>
+        requires new { is_held (held self.old) seg ≡ false }
+        requires room { pages_held (held self.old) + pages ≤ slots self.old.swap }
+        ensures held { OnOk result (held self.new ≡ with_zeros (held self.old) seg pages) }
+        ensures rest { OnOk result (self.new ≡ record self.old { segs = self.old.segs ++ new_seg seg pages ∷ [] }) }
+        ensures still { (s page : ℕ) → frame_of self.new s page ≡ frame_of self.old s page }
+        ensures err { OnErr result (self.new ≡ self.old) }
+        ensures sound { IsSound self.new }
+    {
+        self.segs.add(seg, pages)
+    }
+
+    /// Locks or unlocks a segment. No page moves: a page of a locked segment stays resident once it is.
+    /// The pages of locked segments and 2 are at most the frames.
+    pub fn set_locked(&mut self, seg: u32, locked: bool)
+        requires there { is_held (held self.old) seg ≡ true }
+        requires few { locked ≡ true → pages_locked (with_lock (held self.old) seg true) + 2 ≤ length self.old.frames }
+        ensures only { self.new ≡ record self.old { segs = map (with_seg_lock seg locked) self.old.segs } }
+        ensures held { held self.new ≡ with_lock (held self.old) seg locked }
+        ensures still { (s page : ℕ) → frame_of self.new s page ≡ frame_of self.old s page }
+        ensures sound { IsSound self.new }
+    {
+        self.segs.set_locked(seg, locked);
+    }
+
+    /// The counts of the pages as they are, of the slots, and of what the pagers did.
+    pub fn tally(&self) -> PageTally
+        ensures resident { result.resident ≡ resident self.now }
+        ensures dirty { result.dirty ≡ dirty self.now }
+        ensures slots { result.slots ≡ slots self.now.swap }
+        ensures used { result.used ≡ used self.now }
+        ensures ins { result.ins ≡ self.now.ins }
+        ensures outs { result.outs ≡ self.now.outs }
+        ensures failures { result.failures ≡ min (total self.now.swap) (2 ^ 64 - 1) }
+        ensures sound { IsSound self.now }
+    {
+        PageTally {
+            resident: self.frames.resident(),
+            dirty: self.frames.dirty(),
+            slots: self.swap.capacity(),
+            used: self.swap.used(),
+            ins: self.ins,
+            outs: self.outs,
+            failures: self.swap.failures(),
+        }
+    }
+}

@@ -1,0 +1,61 @@
+//! What an access counts and names.
+ghost use Rattle.std.specs.Prelude.{◌≡◌, []};
+
+use arrayvec::ArrayVec;
+use shm_base::{FrameNo, PageRef};
+
+/// A page left its frame, or came into one.
+#[derive(Clone, Copy, Debug, PartialEq, Eq)]
+pub enum Move {
+    Gone(PageRef),
+    Came(PageRef, FrameNo),
+}
+
+impl Default for Move {
+    fn default() -> Move {
+        Move::Gone(PageRef { seg: 0, page: 0 })
+    }
+}
+
+/// The pager reads and writes of an access that was done, and the pages that moved, in order.
+#[derive(Debug, Drop)]
+pub struct Touched {
+    pub ins: u64,
+    pub outs: u64,
+    pub moved: ArrayVec<Move, 4>,
+}
+
+/// A pager failed. Pages may have moved before; these are named, in order.
+#[derive(Debug, Drop)]
+pub struct PagerFailed {
+    pub moved: ArrayVec<Move, 4>,
+}
+
+/// The pages in frames, those of them that are dirty, the slots of the areas that are there, the slots
+/// that pages have, the pager reads for faults and the pager writes for evictions and flushes that were
+/// done, and the failures that the pagers counted. The last three stay at `u64::MAX`.
+#[derive(Clone, Copy, Debug, PartialEq, Eq)]
+pub struct PageTally {
+    pub resident: u64,
+    pub dirty: u64,
+    pub slots: u64,
+    pub used: u64,
+    pub ins: u64,
+    pub outs: u64,
+    pub failures: u64,
+}
+
+impl Touched {
+    // Nothing yet.
+    pub(crate) fn none() -> Touched
+        ensures moved { result.moved.items ≡ [] }
+        ensures ins { result.ins ≡ 0 }
+        ensures outs { result.outs ≡ 0 }
+    {
+        Touched {
+            ins: 0,
+            outs: 0,
+            moved: ArrayVec::new(),
+        }
+    }
+}

@@ -1,0 +1,210 @@
+-- What is kept where a segment is made.
+use Rattle.std.proofs.Common.{◌≡◌, ◌≢◌, ◌⊎◌, ℕ, zero, suc, pos, ℤ, ◌+◌, ◌*◌, ◌/◌, ◌%◌, ◌<◌, ◌≤◌, ◌==◌, ◌&&◌, nat_lt, Bool, true, false, is_none, is_some, if◌then◌else◌, List, [], ◌∷◌, ◌++◌, length, get_or, replicate, slice_get, slice_set, Option, Some, None, option_map, refl, sym, ap, ◌∙◌, inl, inr, arith, true≢false, eq-eqb, ne_eqb}
+use Rattle.std.proofs.lemmas.Bool.{cases_eq, cases_Bool, cases_lt, lt-ltb, le-ltb}
+use Rattle.std.proofs.lemmas.Option.{none-some}
+use Rattle.std.proofs.lemmas.List.{length-append, length-replicate}
+use Rattle.std.proofs.lemmas.List.Sums.{sum_by-append, sum_by-cons}
+use Rattle.shm_base.specs.Bounds.{Bounds}
+use Rattle.shm_base.specs.State.{Segment, Piece, Entry, Runner, pages_of, pages_in}
+use Rattle.shm_base.specs.Identifier.{identifier, free_from, free_index, destroyed_at, destroyed_in, with_segment}
+use Rattle.shm_base.specs.Segments.{pages_held, pages_locked, reserved, locked}
+use Rattle.shm_segments.specs.declared.head.Head.{Head}
+use Rattle.shm_segments.specs.Joined.{segment_of}
+use Rattle.shm_segments.specs.Table.{live, live_in, made, created}
+use Rattle.shm_segments.specs.Left.{is_left, orphan_in, orphan, id_at}
+use Rattle.shm_segments.proofs.Entries.{get-set_same, get-set_other, length-slice_set, sum-set}
+use Rattle.shm_life.specs.Tied.{PieceFits}
+use Rattle.shm_life.specs.Orphans.{is_among, OrphansAmong}
+use Rattle.shm_life.specs.Kept.{IsKept}
+use Rattle.shm_life.proofs.Pieces.{fit-table}
+
+-- WHAT STANDS AT A FREE INDEX
+
+record FreeAt (i : ℕ) (es : List Entry) (j : ℕ) : Type 0 where
+  k : ℕ
+  at : i + k ≡ j
+  within : k ≤ length es
+  small : i + length es ≤ 32768 → j < 32768
+  none : (e : Entry) → slice_get es k ≡ Some e → e.segment ≡ None
+
+is-none : (o : Option Segment) (b : Bool) → is_none o && b ≡ true → o ≡ None
+is-none None b h = refl
+is-none (Some s) b h = absurd (true≢false (sym h))
+
+free-at : (i : ℕ) (es : List Entry) (j : ℕ) → free_from i es ≡ Some j → FreeAt i es j
+free-at i [] j found =
+    elim (cases_lt i 32768) [
+      | inl l ↦
+          let is : i ≡ j = cc (rw (lt-ltb i 32768 l) at found) in
+          record { k = 0; at = omega (arith, is); within = omega arith; small = λ _. omega (arith, is, l); none = λ e z. absurd (none-some e z) }
+      | inr n ↦ absurd (none-some j (rw (le-ltb i 32768 n) at found))
+    ]
+free-at i (e ∷ es) j found =
+    elim (cases_Bool (is_none e.segment && nat_lt e.destroyed 65536)) [
+      | inl h ↦
+          let is : i ≡ j = cc (rw h at found) in
+          record {
+            k = 0;
+            at = omega (arith, is);
+            within = omega arith;
+            small = λ le. omega (arith, is, le);
+            none = λ x z. let same : e ≡ x = cc z in rw (← same) (is-none e.segment (nat_lt e.destroyed 65536) h);
+          }
+      | inr h ↦
+          let r = free-at (i + 1) es j (rw h at found) in
+          record { k = suc r.k; at = omega (arith, r.at); within = omega (arith, r.within); small = λ le. r.small (omega (arith, le)); none = r.none }
+    ]
+
+record IsFree (t : List Entry) (i : ℕ) : Type 0 where
+  within : i ≤ length t
+  small : length t ≤ 32768 → i < 32768
+  none : (e : Entry) → slice_get t i ≡ Some e → e.segment ≡ None
+
+is-free : (t : List Entry) (i : ℕ) → free_index t ≡ Some i → IsFree t i
+is-free t i found =
+    let r = free-at 0 t i found in
+    let same : r.k ≡ i = omega (arith, r.at) in
+    record { within = omega (arith, r.within, same); small = λ le. r.small (omega (arith, le)); none = λ e z. r.none e (rw same z) }
+
+-- THE TABLE WITH A SEGMENT MORE
+
+get-past : (t : List Entry) (i : ℕ) → length t ≤ i → slice_get t i ≡ None
+get-past [] i le = refl
+get-past (x ∷ xs) zero le = absurd (omega (arith, le))
+get-past (x ∷ xs) (suc i) le = get-past xs i (omega (arith, le))
+
+get-last : (t : List Entry) (e : Entry) → slice_get (t ++ e ∷ []) (length t) ≡ Some e
+get-last [] e = refl
+get-last (x ∷ xs) e = get-last xs e
+
+get-before : (t : List Entry) (e : Entry) (j : ℕ) → j ≢ length t → slice_get (t ++ e ∷ []) j ≡ slice_get t j
+get-before [] e zero n = absurd (n refl)
+get-before [] e (suc j) n = refl
+get-before (x ∷ xs) e zero n = refl
+get-before (x ∷ xs) e (suc j) n = get-before xs e j (λ z. n (ap suc z))
+
+-- what a segment put at a free index leaves
+record Added (t u : List Entry) (i : ℕ) (s : Segment) : Type 0 where
+  size : (length u ≡ length t) ⊎ (length u ≡ i + 1)
+  here : slice_get u i ≡ Some (record { destroyed = destroyed_at t i; segment = Some s })
+  others : (j : ℕ) → j ≢ i → slice_get u j ≡ slice_get t j
+  pages : reserved u ≡ reserved t + pages_in s
+  locks : locked u ≡ locked t + pages_locked (Some s)
+
+get-at : (t : List Entry) (i : ℕ) → i < length t → (e : Entry) × (slice_get t i ≡ Some e)
+get-at [] i lt = absurd (omega (arith, lt))
+get-at (x ∷ xs) zero lt = (x, refl)
+get-at (x ∷ xs) (suc i) lt = get-at xs i (omega (arith, lt))
+
+added : (t : List Entry) (i : ℕ) (s : Segment) → IsFree t i → Added t (with_segment t i s) i s
+added t i s free = by (cases_eq i (length t))
+  where
+    last : Entry
+    last = record { destroyed = 0; segment = Some s }
+
+    by : (i ≡ length t) ⊎ (i ≢ length t) → Added t (with_segment t i s) i s
+    by (inl e) =
+        let none : destroyed_at t i ≡ 0 = ap destroyed_in (get-past t i (omega (arith, e))) in
+        let is : with_segment t i s ≡ t ++ last ∷ [] = rw (eq-eqb i (length t) e) refl in
+        let held = sum_by-append (λ (x : Entry). pages_held x.segment) t (last ∷ []) in
+        let one = sum_by-cons (λ (x : Entry). pages_held x.segment) last [] in
+        let held_locks = sum_by-append (λ (x : Entry). pages_locked x.segment) t (last ∷ []) in
+        let one_lock = sum_by-cons (λ (x : Entry). pages_locked x.segment) last [] in
+        rw is
+        (record {
+          size = inr (length-append t (last ∷ []) ∙ omega (arith, e));
+          here = rw (none, e) (get-last t last);
+          others = λ j n. get-before t last j (λ z. n (z ∙ sym e));
+          pages = omega (arith, held, one);
+          locks = omega (arith, held_locks, one_lock);
+        })
+    by (inr n) =
+        let lt : i < length t = omega (arith, n, free.within) in
+        let x = get-at t i lt in
+        let empty : x.0.segment ≡ None = free.none x.0 x.1 in
+        let put : Entry = record { destroyed = destroyed_at t i; segment = Some s } in
+        let is : with_segment t i s ≡ slice_set t i put = rw (ne_eqb i (length t) n) refl in
+        let held = sum-set (λ (y : Entry). pages_held y.segment) t i put x.0 x.1 in
+        let held_locks = sum-set (λ (y : Entry). pages_locked y.segment) t i put x.0 x.1 in
+        let zero_pages : pages_held x.0.segment ≡ 0 = ap pages_held empty in
+        let zero_locks : pages_locked x.0.segment ≡ 0 = ap pages_locked empty in
+        rw is
+        (record {
+          size = inl (length-slice_set t i put);
+          here = get-set_same t i put x.0 x.1;
+          others = λ j m. get-set_other t i j put (λ z. m (sym z));
+          pages = omega (arith, held, zero_pages);
+          locks = omega (arith, held_locks, zero_locks);
+        })
+
+-- WHAT IS KEPT
+
+module _ (t u : List Entry) (i : ℕ) (s : Segment) (a : Added t u i s) (free : IsFree t i) where
+  -- what was live is live as before
+  live-added : (id : ℕ) → is_some (live t id) ≡ true → live u id ≡ live t id
+  live-added id lives = by (cases_eq (id % 32768) i)
+    where
+      none_in : (b : Bool) (o : Option Segment) → o ≡ None → is_some (if b then o else None) ≡ false
+      none_in true o z = ap is_some z
+      none_in false o z = refl
+
+      gone : (o : Option Entry) → slice_get t i ≡ o → is_some (live_in id o) ≡ false
+      gone None is = refl
+      gone (Some e) is = none_in (e.destroyed == id / 32768) e.segment (free.none e is)
+
+      by : (id % 32768 ≡ i) ⊎ (id % 32768 ≢ i) → live u id ≡ live t id
+      by (inl e) = absurd (true≢false (sym lives ∙ ap (λ k. is_some (live_in id (slice_get t k))) e ∙ gone (slice_get t i) refl))
+      by (inr n) = ap (live_in id) (a.others (id % 32768) n)
+
+  fits-added : (p : Piece) → PieceFits t p → PieceFits u p
+  fits-added p h = let same = live-added p.seg h.0 in (rw same h.0, λ j lt. rw same (h.1 j lt))
+
+  orphans-added : s.dest ≡ false → (rs : List Runner) → OrphansAmong [] rs t → OrphansAmong [] rs u
+  orphans-added dest rs none = λ j h. by j h (cases_eq j i)
+    where
+      unmarked : is_left rs (identifier i (destroyed_at t i)) (Some s) ≡ false
+      unmarked = rw dest refl
+
+      by : (j : ℕ) → orphan rs u j ≡ true → (j ≡ i) ⊎ (j ≢ i) → is_among [] (id_at u j) ≡ true
+      by j h (inl e) = absurd (true≢false (sym h ∙ ap (λ k. orphan_in k rs (slice_get u k)) e ∙ ap (orphan_in i rs) a.here ∙ unmarked))
+      by j h (inr n) = absurd (true≢false (sym (none j (sym (ap (orphan_in j rs) (a.others j n)) ∙ h))))
+
+  few-added : length t ≤ 32768 → length u ≤ 32768
+  few-added few = by a.size
+    where
+      by : (length u ≡ length t) ⊎ (length u ≡ i + 1) → length u ≤ 32768
+      by (inl e) = omega (arith, e, few)
+      by (inr e) = let small = free.small few in omega (arith, e, small)
+
+pages-zeros : (size : ℕ) → length {A = ℕ} (replicate (4096 * pages_of size) 0) / 4096 ≡ pages_of size
+pages-zeros size = let long : length {A = ℕ} (replicate (4096 * pages_of size) 0) ≡ 4096 * pages_of size = length-replicate (4096 * pages_of size) 0 in rw long (omega arith)
+
+-- a segment made
+pub created-kept : (limits : Bounds) (t u : List Entry) (rs : List Runner) (key : ℕ) (h : Head) (id : ℤ) → IsKept limits t rs → made t key h ≡ Some (id, u)
+    → reserved t + pages_of h.size ≤ limits.shmall → h.dest ≡ false → h.locked ≡ false → IsKept limits u rs
+created-kept limits t u rs key h id k is room dest loose = by (free_index t) refl is
+  where
+    s : Segment
+    s = segment_of (record { key = key; value = h }) (replicate (4096 * pages_of h.size) 0)
+
+    kept : (i : ℕ) → IsFree t i → (v : List Entry) → Added t v i s → IsKept limits v rs
+    kept i free v a =
+        let few = pages-zeros h.size in
+        let locks : pages_locked (Some s) ≡ 0 = rw loose refl in
+        record {
+          few = few-added t v i s a free k.few;
+          reserved = omega (arith, a.pages, few, room);
+          shmall = k.shmall;
+          locked = omega (arith, a.locks, locks, k.locked);
+          memlock = k.memlock;
+          pieces = fit-table t v rs (λ n d j e lt li fit. fits-added t v i s a free (get_or (get_or rs n d).pieces j e) fit) k.pieces;
+          no_orphans = orphans-added t v i s a free dest rs k.no_orphans;
+        }
+
+    by : (o : Option ℕ) → free_index t ≡ o → option_map {U = ℤ × List Entry} (λ i. (pos (identifier i (destroyed_at t i)), created t i key h)) o ≡ Some (id, u) → IsKept limits u rs
+    by None found z = absurd (none-some _ z)
+    by (Some i) found z =
+        let free = is-free t i found in
+        let pair : (pos (identifier i (destroyed_at t i)), created t i key h) ≡ (id, u) = cc z in
+        let same : created t i key h ≡ u = ap (λ (p : ℤ × List Entry). p.1) pair in
+        rw (← same) (kept i free (with_segment t i s) (added t i s free))

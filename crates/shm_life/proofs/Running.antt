@@ -1,0 +1,86 @@
+-- What calls keep of the memory.
+use Rattle.std.proofs.Common.{◌≡◌, ◌≢◌, ◌<◌, ◌+◌, ℕ, suc, true, false, List, ◌∷◌, length, drop, get_or, Option, Some, None, is_some, refl, sym, subst, ◌∙◌, arith, true≢false}
+use Rattle.std.proofs.Math.Seq.{drop-cons}
+use Rattle.std.specs.Prelude.{All, Result, Ok, Err, is_ok, is_err, OnOk, OnErr}
+use Rattle.shm_base.specs.State.{Entry, Runner}
+use Rattle.shm_base.specs.declared.paging.Span.{Span}
+use Rattle.shm_slots.specs.View.{sizes}
+use Rattle.shm_fault.specs.Store.{StoreView, frame_of, page_of, bit_of, IsResident, IsReferenced}
+use Rattle.shm_fault.proofs.Sound.{GoesOn-refl}
+use Rattle.shm_attach.specs.Spaces.{Translation, AreTrue}
+use Rattle.shm_segments.specs.View.{Runs}
+use Rattle.shm_life.specs.MachineView.{KeepsOn}
+use Rattle.shm_life.specs.Orphans.{OrphansAmong, Sweeps}
+
+pub keeps_refl : (m : StoreView) → KeepsOn m m
+keeps_refl m = record { kept = λ seg page a b e. e; goes_on = GoesOn-refl m.swap }
+
+pub keeps_runs : (a b : StoreView) → Runs a b → KeepsOn a b
+keeps_runs a b r = record { kept = r.kept; goes_on = r.goes_on }
+
+pub keeps_still : (a b : StoreView) → b.swap ≡ a.swap → ((s page : ℕ) → frame_of b s page ≡ frame_of a s page) → KeepsOn a b
+keeps_still a b swap still = record { kept = λ seg page before after e. rw (still seg page) e; goes_on = rw swap (GoesOn-refl a.swap) }
+
+-- translations stay true where no page moves
+pub true_still : (ts : List Translation) (a b : StoreView) → ((s page : ℕ) → frame_of b s page ≡ frame_of a s page) → AreTrue ts a → AreTrue ts b
+true_still ts a b still all = λ k d lt. all k d lt ∙ sym (still (get_or ts k d).seg (get_or ts k d).page)
+
+-- and where pages move of a segment that none of them names
+pub true_gone : (ts : List Translation) (seg : ℕ) (a b : StoreView) → All (λ (t : Translation). t.seg ≢ seg) ts → ((s page : ℕ) → s ≢ seg → frame_of b s page ≡ frame_of a s page) → AreTrue ts a → AreTrue ts b
+true_gone ts seg a b none still all = λ k d lt. all k d lt ∙ sym (still (get_or ts k d).seg (get_or ts k d).page (none k d lt))
+
+-- some segments of a list were looked at, and those left without pieces destroyed
+pub record SweptTo (rs : List Runner) (ts : List Translation) (table₀ table : List Entry) (m₀ m : StoreView) : Type 0 where
+  pub sweeps : Sweeps rs table₀ table
+  pub runs : Runs m₀ m
+  pub translated : AreTrue ts m₀ → AreTrue ts m
+  pub same_sizes : sizes m.swap ≡ sizes m₀.swap
+
+pub sweeps-trans : (rs : List Runner) (a b c : List Entry) → Sweeps rs a b → Sweeps rs b c → Sweeps rs a c
+sweeps-trans rs a b c p q = record {
+  swept = q.swept ∙ p.swept;
+  size = q.size ∙ p.size;
+  reserved = omega (arith, p.reserved, q.reserved);
+  locked = omega (arith, p.locked, q.locked);
+  pieces = λ fit. q.pieces (p.pieces fit);
+}
+
+pub sweeps-none : (rs : List Runner) (a : List Entry) → Sweeps rs a a
+sweeps-none rs a = record { swept = refl; size = refl; reserved = omega arith; locked = omega arith; pieces = λ fit. fit }
+
+-- the next of a list
+pub among-next : (rs : List Runner) (t u : List Entry) (lost : List ℕ) (i d : ℕ) → i < length lost → OrphansAmong (drop i lost) rs t
+    → ((rest : List ℕ) → OrphansAmong (get_or lost i d ∷ rest) rs t → OrphansAmong rest rs u) → OrphansAmong (drop (i + 1) lost) rs u
+among-next rs t u lost i d lt among fewer =
+    let next : suc i ≡ i + 1 = omega arith in
+    let all : OrphansAmong (get_or lost i d ∷ drop (suc i) lost) rs t = subst (λ ids. OrphansAmong ids rs t) (drop-cons lost i d lt) among in
+    fewer (drop (i + 1) lost) (subst (λ k. OrphansAmong (get_or lost i d ∷ drop k lost) rs t) next all)
+
+-- what is referenced is resident
+referenced-resident : (m : StoreView) (p : Span) → IsReferenced m p → IsResident m p
+referenced-resident m p bit = by (frame_of m p.seg (page_of p)) bit
+  where
+    by : (o : Option ℕ) → bit_of m.frames o ≡ true → is_some o ≡ true
+    by None e = e
+    by (Some f) e = refl
+
+pub all-resident : (m : StoreView) (ps : List Span) → All (IsReferenced m) ps → All (IsResident m) ps
+all-resident m ps all = λ k d lt. referenced-resident m (get_or ps k d) (all k d lt)
+
+-- WHAT IS KNOWN OF A RESULT THAT WAS ASKED WHETHER IT IS AN ERROR
+
+pub done_fact : {A E : Type 0} (r : Result A E) (P : Type 0) → is_ok r ≡ true → OnOk r P → P
+done_fact (Ok a) P is fact = fact
+done_fact (Err e) P is fact = absurd (true≢false (sym is))
+
+pub failed_fact : {A E : Type 0} (r : Result A E) (P : Type 0) → is_ok r ≡ false → OnErr r P → P
+failed_fact (Ok a) P none fact = absurd (true≢false none)
+failed_fact (Err e) P none fact = fact
+
+pub ok_fact : {A E : Type 0} (r : Result A E) (P : Type 0) → is_err r ≡ false → OnOk r P → P
+ok_fact (Ok a) P none fact = fact
+ok_fact (Err e) P none fact = absurd (true≢false none)
+
+pub err_fact : {A E : Type 0} (r : Result A E) (P : Type 0) → is_err r ≡ true → OnErr r P → P
+err_fact (Ok a) P is fact = absurd (true≢false (sym is))
+err_fact (Err e) P is fact = fact

@@ -1,0 +1,98 @@
+-- What is kept through calls that take pieces out, and through those that put pieces in.
+use Rattle.std.proofs.Common.{◌≡◌, ℕ, zero, suc, ◌+◌, ◌<◌, take, Bool, List, [], ◌∷◌, length, get_or, map, filter, slice_get, Option, Some, None, option_map, refl, sym, ap, ◌∙◌, inl, inr, arith}
+use Rattle.std.proofs.lemmas.List.Elements.{All-nil, All-map, All-filter}
+use Rattle.std.proofs.lemmas.Bool.{cases_Bool}
+use Rattle.std.proofs.lemmas.Option.{none-some}
+use Rattle.std.specs.Prelude.{All, find}
+use Rattle.shm_base.specs.Bounds.{Bounds}
+use Rattle.shm_base.specs.State.{Piece, Live, Entry, Runner}
+use Rattle.shm_base.specs.Space.{meets, cut_segments, has_origin, origin_of}
+use Rattle.shm_attach.specs.declared.process.Caller.{Caller}
+use Rattle.shm_attach.specs.Spaces.{IsCaller, pieces_at}
+use Rattle.shm_attach.proofs.Callers.{caller_there}
+use Rattle.shm_segments.specs.Table.{IsLive}
+use Rattle.shm_segments.specs.Left.{orphan, id_at}
+use Rattle.shm_base.specs.Segments.{change, detached, detach_all, locked}
+use Rattle.shm_segments.proofs.Same.{SamePages, SameTable, detach_all-same}
+use Rattle.shm_life.specs.Tied.{PieceFits, PiecesFit}
+use Rattle.shm_life.specs.Orphans.{is_among, OrphansAmong, Sweeps}
+use Rattle.shm_life.specs.Kept.{IsKept}
+use Rattle.shm_life.proofs.Leaving.{KeepsPieces, orphans-among}
+use Rattle.shm_life.proofs.Pieces.{RunnerFits, all-cons, all-head, all-tail, all-at, fit-same}
+
+orphans-same : (ids : List ℕ) (rs : List Runner) (t u : List Entry) → ((qs : List Runner) (i : ℕ) → orphan qs u i ≡ orphan qs t i) → ((i : ℕ) → id_at u i ≡ id_at t i) → OrphansAmong ids rs t → OrphansAmong ids rs u
+orphans-same ids rs t u left own among = λ i h. ap (is_among ids) (own i) ∙ among i (sym (left rs i) ∙ h)
+
+-- the segments that may go are among those that lost pieces
+pub settled-orphans : (limits : Bounds) (t v : List Entry) (rs after : List Runner) (lost : List ℕ) → IsKept limits t rs → KeepsPieces lost rs after → SameTable t v → OrphansAmong lost after v
+settled-orphans limits t v rs after lost k keeps same = orphans-same lost after t v same.left same.same.ids (orphans-among lost rs after t k.no_orphans keeps)
+
+-- once they are gone, all is as it was
+pub settled : (limits : Bounds) (t v u : List Entry) (rs after : List Runner) → IsKept limits t rs → PiecesFit t after → SamePages t v → locked v ≡ locked t → Sweeps after v u → OrphansAmong [] after u → IsKept limits u after
+settled limits t v u rs after k fit same locks sweeps none =
+    record {
+      few = omega (arith, k.few, sweeps.size, same.size);
+      reserved = omega (arith, k.reserved, sweeps.reserved, same.reserved);
+      shmall = k.shmall;
+      locked = omega (arith, k.locked, sweeps.locked, locks);
+      memlock = k.memlock;
+      pieces = sweeps.pieces (fit-same t v after same fit);
+      no_orphans = none;
+    }
+
+-- where no piece goes
+pub settled-table : (limits : Bounds) (t u : List Entry) (rs : List Runner) → IsKept limits t rs → SameTable t u → IsKept limits u rs
+settled-table limits t u rs k same =
+    record {
+      few = omega (arith, k.few, same.same.size);
+      reserved = omega (arith, k.reserved, same.same.reserved);
+      shmall = k.shmall;
+      locked = omega (arith, k.locked, same.locked);
+      memlock = k.memlock;
+      pieces = fit-same t u rs same.same k.pieces;
+      no_orphans = orphans-same [] rs t u same.left same.same.ids k.no_orphans;
+    }
+
+-- WHAT PIECES NAME IS LIVE
+
+pub lives-map : (table : List Entry) (ps : List Piece) → All (PieceFits table) ps → All (IsLive table) (map (λ (p : Piece). p.seg) ps)
+lives-map table ps fit = All-map (IsLive table) (λ (p : Piece). p.seg) ps (λ k d lt. (fit k d lt).0)
+
+pub lives-cut : (table : List Entry) (from to : ℕ) (ps : List Piece) → All (PieceFits table) ps → All (IsLive table) (cut_segments from to ps)
+lives-cut table from to ps fit = lives-map table (filter (meets from to) ps) (All-filter (meets from to) (PieceFits table) ps fit)
+
+found-all : (P : Piece → Type 0) (test : Piece → Bool) (ps : List Piece) (p : Piece) → All P ps → find test ps ≡ Some p → P p
+found-all P test [] p all is = absurd (none-some p is)
+found-all P test (q ∷ qs) p all is =
+    elim (cases_Bool (test q)) [
+      | inl h ↦ let same : q ≡ p = cc (rw h at is) in rw (← same) (all-head P q qs all)
+      | inr h ↦ found-all P test qs p (all-tail P q qs all) (rw h at is)
+    ]
+
+pub lives-origin : (table : List Entry) (addr seg : ℕ) (ps : List Piece) → All (PieceFits table) ps → option_map (λ (p : Piece). p.seg) (origin_of addr ps) ≡ Some seg → All (IsLive table) (seg ∷ [])
+lives-origin table addr seg ps fit is = by (origin_of addr ps) refl is
+  where
+    by : (o : Option Piece) → origin_of addr ps ≡ o → option_map (λ (p : Piece). p.seg) o ≡ Some seg → All (IsLive table) (seg ∷ [])
+    by None found z = absurd (none-some seg z)
+    by (Some p) found z =
+        let same : p.seg ≡ seg = cc z in
+        all-cons (IsLive table) seg [] (rw (← same) (found-all (PieceFits table) (has_origin addr) ps p fit found).0) (All-nil (IsLive table))
+
+-- the caller among the processes
+pub caller-runner : (c : Caller) (rs : List Runner) → IsCaller c rs → slice_get rs c.index ≡ Some (record { pid = c.pid; life = Live c.cred; pieces = pieces_at rs c.index })
+caller-runner c rs is = caller_there c rs is
+
+pub caller-fits : (table : List Entry) (c : Caller) (rs : List Runner) → IsCaller c rs → PiecesFit table rs → All (PieceFits table) (pieces_at rs c.index)
+caller-fits table c rs is fit = all-at (RunnerFits table) rs c.index (record { pid = c.pid; life = Live c.cred; pieces = pieces_at rs c.index }) fit (caller_there c rs is)
+
+-- one more segment that lost a piece
+pub detach_all-more : (n pid : ℕ) (t : List Entry) (ids : List ℕ) (i d : ℕ) → i < length ids → detach_all n pid t (take (i + 1) ids) ≡ change (detach_all n pid t (take i ids)) (get_or ids i d) (detached n pid)
+detach_all-more n pid t [] i d lt = absurd (omega (arith, lt))
+detach_all-more n pid t (x ∷ xs) zero d lt = refl
+detach_all-more n pid t (x ∷ xs) (suc i) d lt =
+    let next : suc i + 1 ≡ suc (i + 1) = omega arith in
+    rw next (detach_all-more n pid (change t x (detached n pid)) xs i d (omega (arith, lt)))
+
+-- what is live stays so
+pub live-detached : (n pid : ℕ) (t : List Entry) (ids : List ℕ) (id : ℕ) → IsLive t id → IsLive (detach_all n pid t ids) id
+live-detached n pid t ids id is = (detach_all-same n pid ids t).same.there id ∙ is

@@ -1,0 +1,20 @@
+use Rattle.std.proofs.Common.{List, take, sym, ap, ◌∙◌}
+use Rattle.std.specs.Prelude.{slice_index_or}
+use Rattle.shm_base.specs.State.{Entry}
+use Rattle.shm_base.specs.Segments.{change, detached}
+use Rattle.shm_segments.specs.View.{SegmentsView}
+use Rattle.shm_segments.proofs.Remembered.{view_of}
+use Rattle.shm_life.proofs.Settled.{detach_all-more, live-detached}
+use Rattle.shm_life.proofs.detach.note_detached.Goals as goal
+
+pub detached-requires : goal.detached-requires
+detached-requires g c =
+    let seg = slice_index_or c.args.lost.now c.loop-seg.seg-index 0 in
+    rw c.loop-seg.invariant
+    (live-detached c.args.time c.args.pid c.args.segments.now.table (take c.loop-seg.seg-index c.args.lost.now) seg (c.requires c.loop-seg.seg-index 0 c.loop-seg-test.true))
+
+pub loop-seg-preserved : goal.loop-seg-preserved
+loop-seg-preserved g c =
+    let seg = slice_index_or c.args.lost.now c.loop-seg.seg-index 0 in
+    c.detached.ensures ∙ ap (λ (v : SegmentsView). view_of (change v.table seg (detached c.args.time c.args.pid)) v.memory) c.loop-seg.invariant
+    ∙ ap (λ (t : List Entry). view_of t c.args.segments.now.memory) (sym (detach_all-more c.args.time c.args.pid c.args.segments.now.table c.args.lost.now c.loop-seg.seg-index 0 c.loop-seg-test.true))

@@ -1,0 +1,23 @@
+use Rattle.std.proofs.Common.{◌∙◌, ◌≡◌, ◌+◌, ◌≤◌, ap}
+use Rattle.shm_base.specs.State.{pages_of}
+use Rattle.shm_base.specs.Segments.{reserved}
+use Rattle.shm_life.proofs.Created.{created-kept}
+use Rattle.shm_life.proofs.Running.{true_still, keeps_runs}
+use Rattle.shm_life.proofs.machine.Machine.create.Goals as goal
+
+pub invariant_of-self-2 : goal.invariant_of-self-2
+invariant_of-self-2 g c =
+    let h = c.new_head-head.result in
+    let size : h.size ≡ c.args.size = ap (λ x. x.size) c.new_head-head.ensures in
+    let room : reserved c.self.inside.segments.table + pages_of h.size ≤ c.self.inside.limits.shmall =
+    rw (size, ← c.reserved.ensures, ← c.pages_of.ensures.value, ← c.shmall.ensures.value) c.if-reserved-shmall.false in
+    record {
+      kept = created-kept c.self.inside.limits c.self.inside.segments.table c.create.new.self.table c.self.inside.spaces.runners c.args.key h c.in_ok-id.id c.self.invariant.kept c.in_ok-id.ensures.ok
+          room (ap (λ x. x.dest) c.new_head-head.ensures) (ap (λ x. x.locked) c.new_head-head.ensures);
+      frames = c.in_ok-id.ensures.runs.frames ∙ c.self.invariant.frames;
+      room = c.self.invariant.room;
+      translated = true_still c.self.inside.spaces.translations c.self.inside.segments.memory c.create.new.self.memory c.create.ensures.still c.self.invariant.translated;
+    }
+
+pub returns-clause-keeps : goal.returns-clause-keeps
+returns-clause-keeps g c = rw (← c.self.view_is) (keeps_runs c.self.inside.segments.memory c.create.new.self.memory c.in_ok-id.ensures.runs)

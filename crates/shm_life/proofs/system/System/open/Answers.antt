@@ -1,0 +1,37 @@
+use Rattle.std.proofs.Common.{length, refl, ◌∙◌, arith}
+use Rattle.shm_life.proofs.Opens.{is_open, sizes-new, owners-new, fresh-kept}
+use Rattle.shm_life.proofs.system.System.open.Goals as goal
+
+pub new-requires-clause-areas : goal.new-requires-clause-areas
+new-requires-clause-areas g c = (is_open (λ p. length (g.P.Pager.content p)) c.args.pagers.items c.args.processes.now c.requires.none).areas
+
+pub new-requires-clause-sizes : goal.new-requires-clause-sizes
+new-requires-clause-sizes g c = (is_open (λ p. length (g.P.Pager.content p)) c.args.pagers.items c.args.processes.now c.requires.none).sizes
+
+pub new-requires-2-clause-free : goal.new-requires-2-clause-free
+new-requires-2-clause-free g c = λ area slot. rw c.in_ok-new.ensures (owners-new g.P.Pager.content g.P.Pager.failed c.args.pagers.items area slot)
+
+pub new-requires-3-clause-apart : goal.new-requires-3-clause-apart
+new-requires-3-clause-apart g c = (is_open (λ p. length (g.P.Pager.content p)) c.args.pagers.items c.args.processes.now c.requires.none).apart
+
+pub invariant_of-machine : goal.invariant_of-machine
+invariant_of-machine g c = record {
+  kept = rw (c.in_ok-new-2.ensures.table, c.in_ok-new-3.ensures.runners) (fresh-kept c.args.limits c.args.processes.now (rw c.shmall.ensures.value at c.shmall.ensures.range) (rw c.memlock.ensures.value at c.memlock.ensures.range));
+  frames = c.in_ok-new-2.ensures.frames ∙ c.frames.ensures.value;
+  room = rw c.memlock.ensures.value at c.memlock.ensures.room;
+  translated = rw c.in_ok-new-3.ensures.translations (λ k d lt. absurd (omega (arith, lt)));
+}
+
+pub invariant_of-result : goal.invariant_of-result
+invariant_of-result g c = λ _.
+    rw (c.in_ok-new-2.ensures.memory, c.in_ok-new-2.ensures.table, c.in_ok-new.ensures, sizes-new g.P.Pager.content g.P.Pager.failed c.args.pagers.items, c.in_ok-new-3.ensures.runners, c.in_ok-from_slice.ensures.items, c.in_ok-sizes_of.ensures, c.deref.ensures.value) refl
+
+pub returns-clause-opening : goal.returns-clause-opening
+returns-clause-opening g c = rw (c.in_ok-from_slice.ensures.items, c.in_ok-sizes_of.ensures, c.deref.ensures.value) refl
+
+pub returns-clause-machine : goal.returns-clause-machine
+returns-clause-machine g c =
+    rw (c.in_ok-new-2.ensures.memory, c.in_ok-new-2.ensures.table, c.in_ok-new.ensures, sizes-new g.P.Pager.content g.P.Pager.failed c.args.pagers.items, c.in_ok-new-3.ensures.runners, c.in_ok-from_slice.ensures.items, c.in_ok-sizes_of.ensures, c.deref.ensures.value) refl
+
+pub new-requires-3-clause-few : goal.new-requires-3-clause-few
+new-requires-3-clause-few g c = (is_open (λ p. length (g.P.Pager.content p)) c.args.pagers.items c.args.processes.now c.requires.none).few

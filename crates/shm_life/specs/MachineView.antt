@@ -1,0 +1,37 @@
+-- What contracts see of a machine: the flat machine, and the memory that its bytes lie in.
+use Rattle.std.specs.Prelude.{◌≡◌, ◌≤◌, true, false, length}
+use Rattle.shm_base.specs.State.{Machine}
+use Rattle.shm_base.specs.Step.{Outcome}
+use Rattle.shm_base.specs.History.{is_refusal}
+use Rattle.shm_base.specs.Segments as flat
+use Rattle.shm_slots.specs.View.{sizes}
+use Rattle.shm_slots.specs.Cause.{GoesOn, had_cause}
+use Rattle.shm_fault.specs.Store.{StoreView}
+use Rattle.shm_fault.specs.Steps.{Kept}
+use Rattle.shm_fault.specs.Sound.{IsSound}
+use Rattle.shm_segments.specs.View.{Shows}
+
+pub record MachineView : Type 0 where
+  pub flat : Machine
+  pub memory : StoreView
+
+-- what every call and every flush keeps of the memory: pages of locked segments stay resident, and counts
+-- of failures never fall
+pub record KeepsOn (before after : StoreView) : Type 0 where
+  pub kept : Kept before after
+  pub goes_on : GoesOn before.swap after.swap
+
+-- a pager failed where the flat machine refuses nothing, and its state stays
+pub record IsFailed (o : Outcome) (s t : MachineView) : Type 0 where
+  pub instead : is_refusal o.reply ≡ false
+  pub unchanged : t.flat ≡ s.flat
+  pub cause : had_cause s.memory.swap t.memory.swap ≡ true
+
+-- the memory shows the flat machine and is sound, and no count is out of its bound
+pub record IsExactly (m : Machine) (memory : StoreView) : Type 0 where
+  pub sound : IsSound memory
+  pub shows : Shows m.table memory
+  pub areas : m.areas ≡ sizes memory.swap
+  pub frames : length memory.frames ≡ m.limits.frames
+  pub reserved : flat.reserved m.table ≤ m.limits.shmall
+  pub locked : flat.locked m.table ≤ m.limits.memlock

@@ -1,0 +1,22 @@
+-- A new segment, and the status bits of one.
+use Rattle.std.specs.Prelude.{ℕ, ◌+◌, ◌%◌, Bool, false, if◌then◌else◌}
+use Rattle.shm_base.specs.declared.owner.Cred.{Cred}
+use Rattle.shm_base.specs.declared.flags.Status.{Status}
+use Rattle.shm_segments.specs.declared.head.Head.{Head}
+
+abbrev pub new_head : ℕ → ℕ → Cred → ℕ → ℕ → Head
+new_head n pid cred size mode =
+    record {
+      perm = record { uid = cred.uid; gid = cred.gid; cuid = cred.uid; cgid = cred.gid; mode = mode % 512 };
+      size = size;
+      cpid = pid;
+      lpid = 0;
+      dest = false;
+      locked = false;
+      atime = 0;
+      dtime = 0;
+      ctime = n;
+    }
+
+abbrev pub status_bits : Bool → Bool → Status
+status_bits dest locked = record { 0 = (if dest then 512 else 0) + (if locked then 1024 else 0) }

@@ -1,0 +1,182 @@
+//! shmctl: stat, set, rmid, lock and unlock.
+ghost use Rattle.std.specs.Prelude.{length, ◌≡◌, ℕ, ◌+◌, ◌&&◌, not, nat_lt, ◌%◌, IfOk, IfErr, IfSome, IfNone, None, Some};
+ghost use Rattle.shm_base.specs.Identifier as flat_ids;
+ghost use Rattle.shm_base.specs.Permission as permission;
+ghost use Rattle.shm_base.specs.Segments.{locked};
+ghost use Rattle.shm_base.specs.State.{Segment, pages_of};
+ghost use Rattle.shm_base.specs.Step as flat;
+ghost use Rattle.shm_attach.specs.Spaces.{seen};
+ghost use Rattle.shm_segments.specs.Table.{IsFound, seen as segment_seen};
+ghost use Rattle.shm_life.specs.MachineView.{KeepsOn};
+ghost use Rattle.shm_life.specs.Listed.{segment_at};
+ghost use Rattle.shm_life.specs.Made.{status_bits};
+
+use crate::detach::sweep;
+use crate::machine::Machine;
+use bitflags::Flags;
+use shm_attach::Caller;
+use shm_base::{Cred, Errno, Perm, Reply, ShmId, ShmidDs, Status, Want, grants};
+use shm_pager::Pager;
+use shm_segments::Found;
+
+/// Whether a process may set, remove, lock and unlock: it is the owner, the creator, or user 0.
+fn owns(cred: &Cred, perm: &Perm) -> bool
+    ensures { result ≡ permission.owns cred.now perm.now }
+{
+    cred.uid == 0 || cred.uid == perm.uid || cred.uid == perm.cuid
+}
+
+fn status_of(found: &Found) -> Status
+    ensures { result ≡ status_bits found.now.head.dest found.now.head.locked }
+{
+    match (found.head.dest, found.head.locked) {
+        (false, false) => Status::empty(),
+        (true, false) => Status::DEST,
+        (false, true) => Status::LOCKED,
+        (true, true) => Status::DEST.union(Status::LOCKED),
+    }
+}
+
+impl<P: Pager> Machine<P> {
+    /// A segment as stat shows it.
+    pub(crate) fn shown(&self, found: &Found) -> ShmidDs
+        requires { IsFound self.now.flat.table found.now }
+        ensures { result ≡ flat.shown self.now.flat found.now.seg (segment_seen self.now.flat.table found.now) }
+    {
+        ShmidDs {
+            key: found.key,
+            perm: found.head.perm,
+            status: status_of(found),
+            size: found.head.size,
+            cpid: found.head.cpid,
+            lpid: found.head.lpid,
+            nattch: self.spaces.count(found.seg),
+            atime: found.head.atime,
+            dtime: found.head.dtime,
+            ctime: found.head.ctime,
+        }
+    }
+
+    /// How many indexes were ever used.
+    pub(crate) fn indexes(&self) -> u32
+        ensures { result ≡ length self.now.flat.table }
+    {
+        self.segments.indexes()
+    }
+
+    /// The segment at an index, as stat shows it, with no permission test.
+    pub(crate) fn segment(&self, index: u32) -> Option<(ShmId, ShmidDs)>
+        ensures { result ≡ segment_at self.now.flat index }
+    {
+        let found = self.segments.at(index)?;
+        Some((found.id, self.shown(&found)))
+    }
+
+    /// Shows a segment (IPC_STAT): Einval or Eidrm for the identifier, Eacces without read permission.
+    pub(crate) fn stat(&self, caller: &Caller, id: ShmId) -> Reply
+        ensures { flat.stat self.now.flat (seen caller.now self.now.flat.runners) (flat_ids.look self.now.flat.table id) ≡ record { reply = result; state = self.now.flat } }
+    {
+        let found = match self.segments.look(id) {
+            Ok(found) => found,
+            Err(errno) => return Reply::Refused(errno),
+        };
+        let want = Want {
+            read: true,
+            write: false,
+        };
+        if !grants(&caller.cred, &found.head.perm, want) {
+            return Reply::Refused(Errno::Eacces);
+        }
+        Reply::Stat(self.shown(&found))
+    }
+
+    // The segment that a caller controls: Einval or Eidrm for the identifier, Eperm where it is another's.
+    fn controlled(&self, caller: &Caller, id: ShmId) -> Result<Found, Errno>
+        ensures found { IfOk result (IsFound self.now.flat.table) }
+        ensures ok { IfOk result (λ f. (act : ℕ → Segment → flat.Outcome) → flat.controls self.now.flat (seen caller.now self.now.flat.runners) act (flat_ids.look self.now.flat.table id) ≡ act (f.seg % 32768) (segment_seen self.now.flat.table f)) }
+        ensures err { IfErr result (λ e. (act : ℕ → Segment → flat.Outcome) → flat.controls self.now.flat (seen caller.now self.now.flat.runners) act (flat_ids.look self.now.flat.table id) ≡ flat.refuses self.now.flat e) }
+    {
+        let found = self.segments.look(id)?;
+        if !owns(&caller.cred, &found.head.perm) {
+            return Err(Errno::Eperm);
+        }
+        Ok(found)
+    }
+
+    #[tactic(auto, using(crate::proofs::Running::keeps_refl))]
+    /// Gives a segment another owner and other permission bits (IPC_SET).
+    pub(crate) fn set(
+        &mut self,
+        time: u64,
+        caller: &Caller,
+        id: ShmId,
+        uid: u32,
+        gid: u32,
+        mode: u16,
+    ) -> Reply
+        ensures step { flat.controls self.old.flat (seen caller.now self.old.flat.runners) (flat.sets self.old.flat time uid gid mode) (flat_ids.look self.old.flat.table id) ≡ record { reply = result; state = self.new.flat } }
+        ensures keeps { KeepsOn self.old.memory self.new.memory }
+    {
+        let found = match self.controlled(caller, id) {
+            Ok(found) => found,
+            Err(errno) => return Reply::Refused(errno),
+        };
+        self.segments.set_owner(found.seg, time, uid, gid, mode);
+        Reply::Done
+    }
+
+    #[tactic(auto, using(crate::proofs::Running::keeps_refl))]
+    /// Destroys a segment without pieces, and marks one that has some (IPC_RMID).
+    pub(crate) fn rmid(&mut self, caller: &Caller, id: ShmId) -> Reply
+        ensures step { flat.controls self.old.flat (seen caller.now self.old.flat.runners) (flat.removes self.old.flat) (flat_ids.look self.old.flat.table id) ≡ record { reply = result; state = self.new.flat } }
+        ensures keeps { KeepsOn self.old.memory self.new.memory }
+    {
+        let found = match self.controlled(caller, id) {
+            Ok(found) => found,
+            Err(errno) => return Reply::Refused(errno),
+        };
+        self.segments.mark(found.seg);
+        sweep(&mut self.segments, &self.spaces, &[found.seg]);
+        Reply::Done
+    }
+
+    // Whether a segment is not locked and its pages are too many beside those that are.
+    fn exceeds_memlock(&self, found: &Found) -> bool
+        requires { IsFound self.now.flat.table found.now }
+        ensures { result ≡ (not found.now.head.locked && nat_lt self.now.flat.limits.memlock (locked self.now.flat.table + pages_of found.now.head.size)) }
+    {
+        let wanted = self.segments.locked() + u64::from(found.pages());
+        !found.head.locked && wanted > self.limits.memlock()
+    }
+
+    #[tactic(auto, using(crate::proofs::Running::keeps_refl))]
+    /// Locks a segment's pages (SHM_LOCK): Enomem where those of all locked segments would exceed MEMLOCK.
+    pub(crate) fn lock(&mut self, caller: &Caller, id: ShmId) -> Reply
+        ensures step { flat.controls self.old.flat (seen caller.now self.old.flat.runners) (flat.locks self.old.flat) (flat_ids.look self.old.flat.table id) ≡ record { reply = result; state = self.new.flat } }
+        ensures keeps { KeepsOn self.old.memory self.new.memory }
+    {
+        let found = match self.controlled(caller, id) {
+            Ok(found) => found,
+            Err(errno) => return Reply::Refused(errno),
+        };
+        if self.exceeds_memlock(&found) {
+            return Reply::Refused(Errno::Enomem);
+        }
+        self.segments.set_locked(found.seg, true);
+        Reply::Done
+    }
+
+    #[tactic(auto, using(crate::proofs::Running::keeps_refl))]
+    /// Unlocks a segment's pages (SHM_UNLOCK).
+    pub(crate) fn unlock(&mut self, caller: &Caller, id: ShmId) -> Reply
+        ensures step { flat.controls self.old.flat (seen caller.now self.old.flat.runners) (flat.unlocks self.old.flat) (flat_ids.look self.old.flat.table id) ≡ record { reply = result; state = self.new.flat } }
+        ensures keeps { KeepsOn self.old.memory self.new.memory }
+    {
+        let found = match self.controlled(caller, id) {
+            Ok(found) => found,
+            Err(errno) => return Reply::Refused(errno),
+        };
+        self.segments.set_locked(found.seg, false);
+        Reply::Done
+    }
+}

@@ -1,0 +1,64 @@
+//! What pieces that went leave behind: times and pids, and segments that go with their last piece.
+ghost use Rattle.std.specs.Prelude.{◌≡◌, ◌≢◌, true, ◌≤◌, ◌==◌, ◌&&◌, ℕ, List, [], ◌∷◌, length, All};
+ghost use Rattle.shm_base.specs.State.{Entry, Runner};
+ghost use Rattle.shm_base.specs.Segments.{attach_count, detach_all, swept};
+ghost use Rattle.shm_attach.specs.Spaces.{Translation, AreTrue};
+ghost use Rattle.shm_slots.specs.View.{sizes};
+ghost use Rattle.shm_segments.specs.Table.{IsLive};
+ghost use Rattle.shm_segments.specs.View.{Runs};
+ghost use Rattle.shm_life.specs.Orphans.{OrphansAmong, Sweeps};
+
+use shm_attach::Spaces;
+use shm_pager::Pager;
+use shm_segments::{Found, Segments};
+
+/// Sets the time and the pid of a detach in each of these segments.
+pub(crate) fn note_detached<P: Pager>(segments: &mut Segments<P>, lost: &[u32], time: u64, pid: u32)
+    requires { All (IsLive segments.old.table) lost.now }
+    ensures { segments.new ≡ record segments.old { table = detach_all time pid segments.old.table lost.now } }
+{
+    for seg in lost {
+        segments.detached(*seg, time, pid);
+    }
+}
+
+// Whether a segment is marked and no piece names it.
+fn is_left(spaces: &Spaces, found: &Found) -> bool
+    ensures value { result ≡ (found.now.head.dest && (attach_count spaces.now.runners found.now.seg == 0)) }
+    ensures unnamed { result ≡ true → All (λ (t : Translation). t.seg ≢ found.now.seg) spaces.now.translations }
+{
+    found.head.dest && spaces.count(found.seg) == 0
+}
+
+// Destroys a segment if it is marked and no piece names it.
+fn sweep_one<P: Pager>(segments: &mut Segments<P>, spaces: &Spaces, seg: u32)
+    requires { length segments.old.table ≤ 32768 }
+    ensures sweeps { Sweeps spaces.now.runners segments.old.table segments.new.table }
+    ensures fewer { (rest : List ℕ) → OrphansAmong (seg ∷ rest) spaces.now.runners segments.old.table → OrphansAmong rest spaces.now.runners segments.new.table }
+    ensures runs { Runs segments.old.memory segments.new.memory }
+    ensures sizes { sizes segments.new.memory.swap ≡ sizes segments.old.memory.swap }
+    ensures translated { AreTrue spaces.now.translations segments.old.memory → AreTrue spaces.now.translations segments.new.memory }
+{
+    let Some(found) = segments.find(seg) else {
+        return;
+    };
+    if is_left(spaces, &found) {
+        segments.destroy(seg);
+    }
+}
+
+/// Destroys those of these segments that are marked and that no piece names. No other segment is such.
+pub(crate) fn sweep<P: Pager>(segments: &mut Segments<P>, spaces: &Spaces, lost: &[u32])
+    requires few { length segments.old.table ≤ 32768 }
+    requires orphans { OrphansAmong lost.now spaces.now.runners segments.old.table }
+    ensures swept { segments.new.table ≡ swept spaces.now.runners segments.old.table }
+    ensures sweeps { Sweeps spaces.now.runners segments.old.table segments.new.table }
+    ensures none { OrphansAmong [] spaces.now.runners segments.new.table }
+    ensures runs { Runs segments.old.memory segments.new.memory }
+    ensures sizes { sizes segments.new.memory.swap ≡ sizes segments.old.memory.swap }
+    ensures translated { AreTrue spaces.now.translations segments.old.memory → AreTrue spaces.now.translations segments.new.memory }
+{
+    for seg in lost {
+        sweep_one(segments, spaces, *seg);
+    }
+}

@@ -1,0 +1,89 @@
+-- Segments as lists of bytes, and what loads and stores over stretches of pages do to them.
+use Rattle.std.specs.Prelude.{ℕ, ◌≡◌, ◌<◌, ◌≤◌, ◌+◌, ◌*◌, ◌/◌, Bool, true, false, ◌==◌, not, if◌then◌else◌, List, [], ◌∷◌, ◌++◌, Option, Some, None, length, map, filter, take, drop, replicate, is_some, sum_by}
+use Rattle.std.specs.List.{flat_map}
+use Rattle.shm_base.specs.declared.paging.Span.{Span}
+
+-- a segment that the store holds
+pub record Held : Type 0 where
+  pub id : ℕ
+  pub locked : Bool
+  pub bytes : List ℕ
+
+abbrev pub find_held : List Held → ℕ → Option Held
+find_held [] id = None
+find_held (g ∷ gs) id = if g.id == id then Some g else find_held gs id
+
+abbrev pub bytes_in : Option Held → List ℕ
+bytes_in None = []
+bytes_in (Some g) = g.bytes
+
+-- the bytes of a segment, none where it is not held
+abbrev pub bytes_of : List Held → ℕ → List ℕ
+bytes_of hs id = bytes_in (find_held hs id)
+
+abbrev pub is_held : List Held → ℕ → Bool
+is_held hs id = is_some (find_held hs id)
+
+abbrev pub lock_in : Option Held → Bool
+lock_in None = false
+lock_in (Some g) = g.locked
+
+-- whether a segment is held and locked
+abbrev pub is_locked : List Held → ℕ → Bool
+is_locked hs id = lock_in (find_held hs id)
+
+abbrev pub pages_in : Held → ℕ
+pages_in g = length g.bytes / 4096
+
+-- the pages of all segments
+abbrev pub pages_held : List Held → ℕ
+pages_held hs = sum_by pages_in hs
+
+abbrev pub pages_if_locked : Held → ℕ
+pages_if_locked g = if g.locked then pages_in g else 0
+
+-- the pages of the locked segments
+abbrev pub pages_locked : List Held → ℕ
+pages_locked hs = sum_by pages_if_locked hs
+
+-- one more segment, of zeros
+abbrev pub with_zeros : List Held → ℕ → ℕ → List Held
+with_zeros hs id pages = hs ++ record { id = id; locked = false; bytes = replicate (4096 * pages) 0 } ∷ []
+
+-- all segments but one
+abbrev pub without : List Held → ℕ → List Held
+without hs id = filter (λ (g : Held). not (g.id == id)) hs
+
+abbrev pub relocked : ℕ → Bool → Held → Held
+relocked id locked g = if g.id == id then record g { locked = locked } else g
+
+-- one segment's lock set
+abbrev pub with_lock : List Held → ℕ → Bool → List Held
+with_lock hs id locked = map (relocked id locked) hs
+
+-- a stretch lies in one page of a segment that is held
+abbrev pub FitsPage : List Held → Span → Type 0
+FitsPage hs p =
+    (is_held hs p.seg ≡ true)
+    × (p.at + p.len ≤ length (bytes_of hs p.seg))
+    × (0 < p.len)
+    × (p.at + p.len ≤ 4096 * (p.at / 4096) + 4096)
+
+abbrev pub span_bytes : List Held → Span → List ℕ
+span_bytes hs p = take p.len (drop p.at (bytes_of hs p.seg))
+
+-- the bytes of the stretches, joined
+abbrev pub read_from : List Held → List Span → List ℕ
+read_from hs ps = flat_map (span_bytes hs) ps
+
+-- bytes with some of them replaced, from `at` on
+abbrev pub paste : List ℕ → ℕ → List ℕ → List ℕ
+paste bytes at new = take at bytes ++ new ++ drop (at + length new) bytes
+
+abbrev pub pasted : ℕ → ℕ → List ℕ → Held → Held
+pasted id at new g = if g.id == id then record g { bytes = paste g.bytes at new } else g
+
+-- the segments with the bytes of the stretches replaced, in order
+abbrev pub written : List Held → List Span → List ℕ → List Held
+written hs [] new = hs
+written hs (p ∷ ps) new = written (map (pasted p.seg p.at (take p.len new)) hs) ps (drop p.len new)

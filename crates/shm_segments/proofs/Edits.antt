@@ -1,0 +1,196 @@
+-- Rows that change, as the flat machine's table shows them.
+use Rattle.std.proofs.Common.{◌≡◌, ◌≢◌, ℕ, ◌*◌, ◌%◌, ◌==◌, if◌then◌else◌, Bool, pos, List, [], ◌∷◌, set, Some, None, option_map, Ok, refl, sym, ap, ◌∙◌, arith, inl, inr, eq-eqb, ne_eqb, length-set}
+use Rattle.std.proofs.lemmas.Bool.{cases_eq}
+use Rattle.std.proofs.lemmas.Bool.Decides.{eqb_tells}
+use Rattle.shm_base.specs.State.{Segment, Runner, pages_of}
+use Rattle.shm_base.specs.Segments.{change}
+use Rattle.shm_ids.specs.declared.table.Entry.{Entry}
+use Rattle.shm_ids.specs.declared.table.Row.{Row}
+use Rattle.shm_ids.specs.Table.{identifier, entry_at, key_at, look, look_row, row_with_value, row_with_key, with_value, with_key}
+use Rattle.shm_ids.proofs.Entries.{at_set, at_set_other, with_key-with_value}
+use Rattle.shm_ids.proofs.Look.{look-id_at, live_row}
+use Rattle.shm_ids.proofs.Flat.{change-flat}
+use Rattle.shm_plain.specs.Held.{Held, find_held, with_lock}
+use Rattle.shm_plain.proofs.Found.{bytes_of-lock}
+use Rattle.shm_segments.specs.declared.head.Head.{Head}
+use Rattle.shm_segments.specs.Joined.{whole, joined, live, pages_in_row, pages_there, Shape, shape_held, shape_row, Agree, PiecesFit}
+use Rattle.shm_segments.proofs.Joins.{live-at, joined-same}
+use Rattle.shm_segments.proofs.Pieces.{fit-more}
+
+-- LOOKED UP
+
+-- what is found under an identifier is live
+pub look-live : (rows : List (Entry Head)) (id : ℕ) (v : Head) → look rows (pos id) ≡ Ok v → live rows id ≡ Some (record { key = key_at rows (id % 32768); value = v })
+look-live rows id v looked =
+    let l = live_row rows id v looked in
+    rw (eq-eqb (identifier (id % 32768) (entry_at rows (id % 32768)).destroyed) id l.own) l.there
+
+pub live-look : (rows : List (Entry Head)) (id : ℕ) (r : Row Head) → live rows id ≡ Some r → look rows (pos id) ≡ Ok r.value
+live-look rows id r there =
+    let l = live-at rows id r there in
+    ap (λ n. look rows (pos n)) (sym l.own) ∙ look-id_at rows (id % 32768) (omega arith) ∙ ap look_row l.there
+
+-- A ROW CHANGED
+
+-- the table with another row under an identifier
+abbrev pub with_other : List (Entry Head) → ℕ → Row Head → List (Entry Head)
+with_other rows id s = set rows (id % 32768) (record (entry_at rows (id % 32768)) { row = Some s })
+
+-- another value, another key, or both, are another row
+pub other-value : (rows : List (Entry Head)) (id : ℕ) (r : Row Head) (v : Head) → live rows id ≡ Some r → with_value rows (id % 32768) v ≡ with_other rows id (record r { value = v })
+other-value rows id r v there =
+    ap (λ o. set rows (id % 32768) (record (entry_at rows (id % 32768)) { row = row_with_value v o })) (live-at rows id r there).there
+
+pub other-key : (rows : List (Entry Head)) (id : ℕ) (r : Row Head) (key : ℕ) → live rows id ≡ Some r → with_key rows (id % 32768) key ≡ with_other rows id (record r { key = key })
+other-key rows id r key there =
+    ap (λ o. set rows (id % 32768) (record (entry_at rows (id % 32768)) { row = row_with_key key o })) (live-at rows id r there).there
+
+pub other-both : (rows : List (Entry Head)) (id : ℕ) (r : Row Head) (key : ℕ) (v : Head) → live rows id ≡ Some r
+    → with_key (with_value rows (id % 32768) v) (id % 32768) key ≡ with_other rows id (record { key = key; value = v })
+other-both rows id r key v there =
+    let l = live-at rows id r there in
+    with_key-with_value rows (id % 32768) key r v l.within l.there
+
+-- the table shows f where f of the old segment is the new one
+pub joined-other : (hs : List Held) (rows : List (Entry Head)) (id : ℕ) (r s : Row Head) (f : Segment → Segment) → live rows id ≡ Some r
+    → f (whole hs id r) ≡ whole hs id s → joined hs (with_other rows id s) ≡ change (joined hs rows) id f
+joined-other hs rows id r s f there same =
+    let l = live-at rows id r there in
+    sym (change-flat (whole hs) rows id f r s l.within l.there (rw l.own same))
+
+-- what is live then
+pub live-other_same : (rows : List (Entry Head)) (id : ℕ) (r s : Row Head) → live rows id ≡ Some r → live (with_other rows id s) id ≡ Some s
+live-other_same rows id r s there =
+    let l = live-at rows id r there in
+    let e : Entry Head = entry_at rows (id % 32768) in
+    rw (at_set rows (id % 32768) (record e { row = Some s }) l.within, eq-eqb (identifier (id % 32768) e.destroyed) id l.own) refl
+
+pub live-other : (rows : List (Entry Head)) (id at : ℕ) (r s : Row Head) → live rows id ≡ Some r → at ≢ id → live (with_other rows id s) at ≡ live rows at
+live-other rows id at r s there apart =
+    let l = live-at rows id r there in
+    let e : Entry Head = entry_at rows (id % 32768) in
+    let x : Entry Head = record e { row = Some s } in
+    elim (cases_eq (at % 32768) (id % 32768)) [
+      | inl here ↦
+          (let other : identifier (id % 32768) e.destroyed ≢ at = λ is. apart (sym is ∙ l.own) in
+          rw (here, at_set rows (id % 32768) x l.within, ne_eqb (identifier (id % 32768) e.destroyed) at other) refl)
+      | inr away ↦
+          ap (λ (y : Entry Head). if identifier (at % 32768) y.destroyed == at then y.row else None) (at_set_other rows (id % 32768) (at % 32768) x away)
+    ]
+
+-- a row of the same lock and pages
+pub agree-other : (hs : List Held) (rows : List (Entry Head)) (id : ℕ) (r s : Row Head) → Agree hs rows → live rows id ≡ Some r → shape_row s ≡ shape_row r → Agree hs (with_other rows id s)
+agree-other hs rows id r s agree there same =
+    record {
+      few = omega (arith, agree.few, length-set rows (id % 32768) (record (entry_at rows (id % 32768)) { row = Some s }));
+      same = λ at. agree.same at ∙ shown at;
+    }
+  where
+    shown : (at : ℕ) → option_map shape_row (live rows at) ≡ option_map shape_row (live (with_other rows id s) at)
+    shown at = elim (cases_eq at id) [
+      | inl is ↦ rw is (ap (option_map shape_row) there ∙ ap Some (sym same) ∙ ap (option_map shape_row) (sym (live-other_same rows id r s there)))
+      | inr apart ↦ ap (option_map shape_row) (sym (live-other rows id at r s there apart))
+    ]
+
+-- no segment has other pages
+pub pages-other : (rows : List (Entry Head)) (id at : ℕ) (r s : Row Head) → live rows id ≡ Some r → pages_of s.value.size ≡ pages_of r.value.size → pages_there (with_other rows id s) at ≡ pages_there rows at
+pages-other rows id at r s there same = elim (cases_eq at id) [
+  | inl is ↦ rw is (ap pages_in_row (live-other_same rows id r s there) ∙ same ∙ sym (ap pages_in_row there))
+  | inr apart ↦ ap pages_in_row (live-other rows id at r s there apart)
+]
+
+pub fit-other : (rows : List (Entry Head)) (rs : List Runner) (id : ℕ) (r s : Row Head) → live rows id ≡ Some r → pages_of s.value.size ≡ pages_of r.value.size → PiecesFit rows rs → PiecesFit (with_other rows id s) rs
+fit-other rows rs id r s there same fit = fit-more rows (with_other rows id s) rs (λ at. omega (arith, pages-other rows id at r s there same)) fit
+
+-- A HEAD OR A KEY CHANGED
+
+pub joined-with_value : (hs : List Held) (rows : List (Entry Head)) (id : ℕ) (r : Row Head) (v : Head) (f : Segment → Segment) → live rows id ≡ Some r
+    → f (whole hs id r) ≡ whole hs id (record r { value = v }) → joined hs (with_value rows (id % 32768) v) ≡ change (joined hs rows) id f
+joined-with_value hs rows id r v f there same = ap (joined hs) (other-value rows id r v there) ∙ joined-other hs rows id r (record r { value = v }) f there same
+
+pub joined-with_key : (hs : List Held) (rows : List (Entry Head)) (id : ℕ) (r : Row Head) (key : ℕ) (f : Segment → Segment) → live rows id ≡ Some r
+    → f (whole hs id r) ≡ whole hs id (record r { key = key }) → joined hs (with_key rows (id % 32768) key) ≡ change (joined hs rows) id f
+joined-with_key hs rows id r key f there same = ap (joined hs) (other-key rows id r key there) ∙ joined-other hs rows id r (record r { key = key }) f there same
+
+pub joined-with_both : (hs : List Held) (rows : List (Entry Head)) (id : ℕ) (r : Row Head) (key : ℕ) (v : Head) (f : Segment → Segment) → live rows id ≡ Some r
+    → f (whole hs id r) ≡ whole hs id (record { key = key; value = v }) → joined hs (with_key (with_value rows (id % 32768) v) (id % 32768) key) ≡ change (joined hs rows) id f
+joined-with_both hs rows id r key v f there same = ap (joined hs) (other-both rows id r key v there) ∙ joined-other hs rows id r (record { key = key; value = v }) f there same
+
+pub agree-with_value : (hs : List Held) (rows : List (Entry Head)) (id : ℕ) (r : Row Head) (v : Head) → Agree hs rows → live rows id ≡ Some r → v.size ≡ r.value.size → v.locked ≡ r.value.locked
+    → Agree hs (with_value rows (id % 32768) v)
+agree-with_value hs rows id r v agree there size lock =
+    rw (other-value rows id r v there) (agree-other hs rows id r (record r { value = v }) agree there cc)
+
+pub agree-with_key : (hs : List Held) (rows : List (Entry Head)) (id : ℕ) (r : Row Head) (key : ℕ) → Agree hs rows → live rows id ≡ Some r → Agree hs (with_key rows (id % 32768) key)
+agree-with_key hs rows id r key agree there = rw (other-key rows id r key there) (agree-other hs rows id r (record r { key = key }) agree there refl)
+
+pub agree-with_both : (hs : List Held) (rows : List (Entry Head)) (id : ℕ) (r : Row Head) (key : ℕ) (v : Head) → Agree hs rows → live rows id ≡ Some r → v.size ≡ r.value.size → v.locked ≡ r.value.locked
+    → Agree hs (with_key (with_value rows (id % 32768) v) (id % 32768) key)
+agree-with_both hs rows id r key v agree there size lock =
+    rw (other-both rows id r key v there) (agree-other hs rows id r (record { key = key; value = v }) agree there cc)
+
+pub fit-with_value : (rows : List (Entry Head)) (rs : List Runner) (id : ℕ) (r : Row Head) (v : Head) → live rows id ≡ Some r → v.size ≡ r.value.size → PiecesFit rows rs → PiecesFit (with_value rows (id % 32768) v) rs
+fit-with_value rows rs id r v there size fit = rw (other-value rows id r v there) (fit-other rows rs id r (record r { value = v }) there (ap pages_of size) fit)
+
+pub fit-with_key : (rows : List (Entry Head)) (rs : List Runner) (id : ℕ) (r : Row Head) (key : ℕ) → live rows id ≡ Some r → PiecesFit rows rs → PiecesFit (with_key rows (id % 32768) key) rs
+fit-with_key rows rs id r key there fit = rw (other-key rows id r key there) (fit-other rows rs id r (record r { key = key }) there refl fit)
+
+pub fit-with_both : (rows : List (Entry Head)) (rs : List Runner) (id : ℕ) (r : Row Head) (key : ℕ) (v : Head) → live rows id ≡ Some r → v.size ≡ r.value.size → PiecesFit rows rs
+    → PiecesFit (with_key (with_value rows (id % 32768) v) (id % 32768) key) rs
+fit-with_both rows rs id r key v there size fit = rw (other-both rows id r key v there) (fit-other rows rs id r (record { key = key; value = v }) there (ap pages_of size) fit)
+
+-- A LOCK SET
+
+-- the table shows the row's lock and not the store's
+pub joined-lock : (hs : List Held) (rows : List (Entry Head)) (id : ℕ) (b : Bool) → joined (with_lock hs id b) rows ≡ joined hs rows
+joined-lock hs rows id b = joined-same hs (with_lock hs id b) rows (λ at. bytes_of-lock hs id b at)
+
+abbrev relock : Bool → Shape → Shape
+relock b s = record s { locked = b }
+
+shape-lock_same : (hs : List Held) (id : ℕ) (b : Bool) → option_map shape_held (find_held (with_lock hs id b) id) ≡ option_map (relock b) (option_map shape_held (find_held hs id))
+shape-lock_same [] id b = refl
+shape-lock_same (g ∷ gs) id b = elim (eqb_tells g.id id) [
+  | inl w ↦ rw (w.0, w.0) refl
+  | inr w ↦ rw (w.0, w.0) (shape-lock_same gs id b)
+]
+
+shape-lock_other : (hs : List Held) (id : ℕ) (b : Bool) (at : ℕ) → at ≢ id → option_map shape_held (find_held (with_lock hs id b) at) ≡ option_map shape_held (find_held hs at)
+shape-lock_other [] id b at apart = refl
+shape-lock_other (g ∷ gs) id b at apart = elim (eqb_tells g.id at) [
+  | inl w ↦ elim (eqb_tells g.id id) [ inl v ↦ absurd (apart (sym w.1 ∙ v.1)) | inr v ↦ rw (v.0, w.0) refl ]
+  | inr w ↦ elim (eqb_tells g.id id) [
+    | inl v ↦ rw (v.0, w.0) (shape-lock_other gs id b at apart)
+    | inr v ↦ rw (v.0, w.0) (shape-lock_other gs id b at apart)
+  ]
+]
+
+-- a row locked or unlocked, and so what is held
+pub agree-lock : (hs : List Held) (rows : List (Entry Head)) (id : ℕ) (r : Row Head) (v : Head) → Agree hs rows → live rows id ≡ Some r → v.size ≡ r.value.size
+    → Agree (with_lock hs id v.locked) (with_value rows (id % 32768) v)
+agree-lock hs rows id r v agree there size =
+    rw (other-value rows id r v there)
+    (record {
+      few = omega (arith, agree.few, length-set rows (id % 32768) (record (entry_at rows (id % 32768)) { row = Some s }));
+      same = shown;
+    })
+  where
+    s : Row Head
+    s = record r { value = v }
+
+    relocked_row : relock v.locked (shape_row r) ≡ shape_row s
+    relocked_row = ap (λ n. record { locked = v.locked; size = 4096 * pages_of n }) (sym size)
+
+    shown : (at : ℕ) → option_map shape_held (find_held (with_lock hs id v.locked) at) ≡ option_map shape_row (live (with_other rows id s) at)
+    shown at = elim (cases_eq at id) [
+      | inl is ↦
+          rw is
+          (shape-lock_same hs id v.locked ∙ ap (option_map (relock v.locked)) (agree.same id ∙ ap (option_map shape_row) there)
+          ∙ ap Some relocked_row ∙ ap (option_map shape_row) (sym (live-other_same rows id r s there)))
+      | inr apart ↦
+          shape-lock_other hs id v.locked at apart ∙ agree.same at ∙ ap (option_map shape_row) (sym (live-other rows id at r s there apart))
+    ]
+
+pub joined-locked : (hs : List Held) (rows : List (Entry Head)) (id : ℕ) (r : Row Head) (v : Head) (f : Segment → Segment) → live rows id ≡ Some r
+    → f (whole hs id r) ≡ whole hs id (record r { value = v }) → joined (with_lock hs id v.locked) (with_value rows (id % 32768) v) ≡ change (joined hs rows) id f
+joined-locked hs rows id r v f there same = joined-lock hs (with_value rows (id % 32768) v) id v.locked ∙ joined-with_value hs rows id r v f there same

@@ -1,0 +1,150 @@
+-- A row that the table has is a segment that was found.
+use Rattle.std.proofs.Common.{◌≡◌, ◌≢◌, ◌⊎◌, ℕ, pos, ◌/◌, ◌%◌, ◌<◌, ◌≤◌, List, length, slice_get, Option, Some, None, ℤ, ◌==◌, Bool, true, false, is_some, if◌then◌else◌, option_map, eq-eqb, ne_eqb, refl, sym, ap, subst, ◌∙◌, inl, inr, arith}
+use Rattle.std.proofs.lemmas.Bool.{cases_lt, cases_eq}
+use Rattle.std.proofs.lemmas.Option.{none-some}
+use Rattle.shm_base.specs.State.{Segment, Entry as FlatEntry}
+use Rattle.shm_base.specs.Access.{bytes_at, bytes_at_entry}
+use Rattle.shm_ids.specs.declared.table.Entry.{Entry}
+use Rattle.shm_ids.specs.declared.table.Row.{Row}
+use Rattle.shm_ids.specs.Table.{entry_at, identifier}
+use Rattle.shm_ids.specs.Flat.{flat_entry, flat_row}
+use Rattle.shm_ids.specs.Rows.{row_shown, row_listed}
+use Rattle.shm_ids.proofs.Entries.{at_past}
+use Rattle.shm_ids.proofs.Flat.{at-table, past-flat}
+use Rattle.shm_plain.specs.Held.{Held, bytes_of}
+use Rattle.shm_segments.specs.declared.head.Head.{Head}
+use Rattle.shm_segments.specs.declared.head.Found.{Found}
+use Rattle.shm_segments.specs.Joined.{segment_of, whole, joined, live, Agree}
+use Rattle.shm_segments.proofs.Joins.{at-live, held-as}
+use Rattle.shm_segments.specs.Kept.{SizesFit}
+use Rattle.shm_segments.specs.Table.{IsFound, seen}
+use Rattle.shm_segments.specs.Table as table
+
+pub index-of : (i d : ℕ) → i < 32768 → identifier i d % 32768 ≡ i
+index-of i d lt = omega (arith, lt)
+
+pub sequence-of : (i d : ℕ) → i < 32768 → identifier i d / 32768 ≡ d
+sequence-of i d lt = omega (arith, lt)
+
+-- a row stands within the table
+pub row-within : (rows : List (Entry Head)) (i : ℕ) (r : Row Head) → (entry_at rows i).row ≡ Some r → i < length rows
+row-within rows i r is = by (cases_lt i (length rows))
+  where
+    by : (i < length rows) ⊎ (length rows ≤ i) → i < length rows
+    by (inl l) = l
+    by (inr past) = absurd (none-some r (sym (ap (λ (e : Entry Head). e.row) (at_past rows i past)) ∙ is))
+
+-- what the flat table has at its index
+pub at-row : (hs : List Held) (rows : List (Entry Head)) (i : ℕ) (r : Row Head) → (entry_at rows i).row ≡ Some r
+    → slice_get (joined hs rows) i ≡ Some (record { destroyed = (entry_at rows i).destroyed; segment = Some (whole hs (identifier i (entry_at rows i).destroyed) r) })
+at-row hs rows i r is =
+    at-table (whole hs) i rows (row-within rows i r is)
+    ∙ ap (λ (o : Option (Row Head)). Some (record { destroyed = (entry_at rows i).destroyed; segment = flat_row (whole hs) (identifier i (entry_at rows i).destroyed) o })) is
+
+pub found_at : (hs : List Held) (rows : List (Entry Head)) (i : ℕ) (r : Row Head) → Agree hs rows → SizesFit rows → (entry_at rows i).row ≡ Some r
+    → IsFound (joined hs rows) (record { seg = identifier i (entry_at rows i).destroyed; id = pos (identifier i (entry_at rows i).destroyed); key = r.key; head = r.value })
+found_at hs rows i r agree sizes is =
+    let d = (entry_at rows i).destroyed in
+    let within = row-within rows i r is in
+    let small : i < 32768 = omega (arith, within, agree.few) in
+    let own : identifier i d % 32768 ≡ i = index-of i d small in
+    let sequence : identifier i d / 32768 ≡ d = sequence-of i d small in
+    let there = at-row hs rows i r is in
+    let bytes : bytes_at (joined hs rows) (identifier i d) ≡ bytes_of hs (identifier i d) =
+    ap (λ k. bytes_at_entry (slice_get (joined hs rows) k)) own ∙ ap bytes_at_entry there in
+    let lives : live rows (identifier i d) ≡ Some r = at-live rows i small ∙ is in
+    record {
+      entry = subst (λ k. slice_get (joined hs rows) k ≡ Some (record { destroyed = identifier i d / 32768; segment = Some (seen (joined hs rows) (record { seg = identifier i d; id = pos (identifier i d); key = r.key; head = r.value })) })) (sym own)
+          (there ∙ ap (λ (e : FlatEntry). Some e) (shown sequence bytes));
+      id = refl;
+      long = ap length bytes ∙ (held-as hs rows (identifier i d) r agree lives).size;
+      size = sizes (identifier i d) r lives;
+    }
+  where
+    shown : {d q : ℕ} {bs cs : List ℕ} → q ≡ d → bs ≡ cs → ◌≡◌ {A = FlatEntry} (record { destroyed = d; segment = Some (segment_of r cs) }) (record { destroyed = q; segment = Some (segment_of r bs) })
+    shown e f = rw (e, f) refl
+
+listed : (i d : ℕ) (o : Option (Row Head)) (x : ℤ × (ℕ × Head)) → row_shown i d o ≡ Some x → (o ≡ Some (record { key = x.1.0; value = x.1.1 })) × (x.0 ≡ pos (identifier i d))
+listed i d None x is = absurd (none-some x is)
+listed i d (Some r) x is = let same : (pos (identifier i d), (r.key, r.value)) ≡ x = cc is in rw (← same) (refl, refl)
+
+-- a row that is listed stands at its index
+pub listed-row : (i : ℕ) (e : Entry Head) (x : ℤ × (ℕ × Head)) → row_listed i e ≡ Some x
+    → (e.row ≡ Some (record { key = x.1.0; value = x.1.1 })) × (x.0 ≡ pos (identifier i e.destroyed))
+listed-row i e x is = listed i e.destroyed e.row x is
+
+unlisted : (i d : ℕ) (o : Option (Row Head)) → row_shown i d o ≡ None → o ≡ None
+unlisted i d None is = refl
+unlisted i d (Some r) is = absurd (none-some _ (sym is))
+
+pub unlisted-row : (i : ℕ) (e : Entry Head) → row_listed i e ≡ None → e.row ≡ None
+unlisted-row i e is = unlisted i e.destroyed e.row is
+
+flat-option : (hs : List Held) (id : ℕ) (o : Option (Row Head)) → flat_row (whole hs) id o ≡ option_map (whole hs id) o
+flat-option hs id None = refl
+flat-option hs id (Some r) = refl
+
+in-flat : (hs : List Held) (i id : ℕ) (e : Entry Head) → i ≡ id % 32768
+    → table.live_in id (Some (flat_entry (whole hs) i e)) ≡ option_map (whole hs id) (if identifier i e.destroyed == id then e.row else None)
+in-flat hs i id e own = by (cases_eq e.destroyed (id / 32768))
+  where
+    by : (e.destroyed ≡ id / 32768) ⊎ (e.destroyed ≢ id / 32768) → table.live_in id (Some (flat_entry (whole hs) i e)) ≡ option_map (whole hs id) (if identifier i e.destroyed == id then e.row else None)
+    by (inl h) =
+        let is : identifier i e.destroyed ≡ id = omega (arith, h, own) in
+        rw (eq-eqb e.destroyed (id / 32768) h, eq-eqb (identifier i e.destroyed) id is) (ap (λ n. flat_row (whole hs) n e.row) is ∙ flat-option hs id e.row)
+    by (inr n) =
+        let is : identifier i e.destroyed ≢ id = λ z. n (omega (arith, z, own)) in
+        rw (ne_eqb e.destroyed (id / 32768) n, ne_eqb (identifier i e.destroyed) id is) refl
+
+none-live : (hs : List Held) (id : ℕ) (b : Bool) → None ≡ option_map (whole hs id) (if b then None else None)
+none-live hs id true = refl
+none-live hs id false = refl
+
+-- what is live in the flat table
+pub live-joined : (hs : List Held) (rows : List (Entry Head)) (id : ℕ) → table.live (joined hs rows) id ≡ option_map (whole hs id) (live rows id)
+live-joined hs rows id = by (cases_lt (id % 32768) (length rows))
+  where
+    by : (id % 32768 < length rows) ⊎ (length rows ≤ id % 32768) → table.live (joined hs rows) id ≡ option_map (whole hs id) (live rows id)
+    by (inl l) = ap (table.live_in id) (at-table (whole hs) (id % 32768) rows l) ∙ in-flat hs (id % 32768) id (entry_at rows (id % 32768)) refl
+    by (inr past) =
+        ap (table.live_in id) (past-flat (whole hs) 0 (id % 32768) rows past)
+        ∙ rw (at_past rows (id % 32768) past) (none-live hs id (identifier (id % 32768) 0 == id))
+
+some-map : (hs : List Held) (id : ℕ) (o : Option (Row Head)) → is_some (option_map (whole hs id) o) ≡ is_some o
+some-map hs id None = refl
+some-map hs id (Some r) = refl
+
+pub is_live-row : (hs : List Held) (rows : List (Entry Head)) (id : ℕ) → table.IsLive (joined hs rows) id → is_some (live rows id) ≡ true
+is_live-row hs rows id is = sym (some-map hs id (live rows id)) ∙ ap is_some (sym (live-joined hs rows id)) ∙ is
+
+-- WHAT IS NOT LIVE
+
+pub live-none : (t : List FlatEntry) (id : ℕ) → table.segment_in (slice_get t (id % 32768)) ≡ None → table.live t id ≡ None
+live-none t id is = by (slice_get t (id % 32768)) is
+  where
+    in_entry : (b : Bool) (o : Option Segment) → o ≡ None → (if b then o else None) ≡ None
+    in_entry true o none = none
+    in_entry false o none = refl
+
+    by : (o : Option FlatEntry) → table.segment_in o ≡ None → table.live_in id o ≡ None
+    by None none = refl
+    by (Some e) none = in_entry (e.destroyed == id / 32768) e.segment none
+
+pub live-other_found : (t : List FlatEntry) (f : Found) (id : ℕ) → IsFound t f → f.seg % 32768 ≡ id % 32768 → f.seg ≢ id → table.live t id ≡ None
+live-other_found t f id found same other =
+    let there : slice_get t (id % 32768) ≡ Some (record { destroyed = f.seg / 32768; segment = Some (seen t f) }) = ap (slice_get t) (sym same) ∙ found.entry in
+    let apart : f.seg / 32768 ≢ id / 32768 = λ z. other (omega (arith, z, same)) in
+    ap (table.live_in id) there ∙ rw (ne_eqb (f.seg / 32768) (id / 32768) apart) refl
+
+pub live-found : (t : List FlatEntry) (f : Found) → IsFound t f → table.live t f.seg ≡ Some (seen t f)
+live-found t f found =
+    let own : f.seg / 32768 ≡ f.seg / 32768 = refl in
+    ap (table.live_in f.seg) found.entry ∙ rw (eq-eqb (f.seg / 32768) (f.seg / 32768) own) refl
+
+-- an index without a row has no segment
+pub none-at : (hs : List Held) (rows : List (Entry Head)) (i : ℕ) → (entry_at rows i).row ≡ None → table.segment_in (slice_get (joined hs rows) i) ≡ None
+none-at hs rows i none = by (cases_lt i (length rows))
+  where
+    by : (i < length rows) ⊎ (length rows ≤ i) → table.segment_in (slice_get (joined hs rows) i) ≡ None
+    by (inl l) = ap table.segment_in (at-table (whole hs) i rows l) ∙ ap (flat_row (whole hs) (identifier i (entry_at rows i).destroyed)) none
+    by (inr past) = ap table.segment_in (past-flat (whole hs) 0 i rows past)

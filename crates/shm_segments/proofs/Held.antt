@@ -1,0 +1,171 @@
+-- The pages of the segments that are held.
+use Rattle.std.proofs.Common.{◌≡◌, ◌≢◌, ℕ, ◌+◌, ◌*◌, ◌/◌, ◌≤◌, Bool, true, false, if◌then◌else◌, List, [], ◌∷◌, length, take, drop, map, Option, Some, None, is_some, refl, sym, ap, ◌∙◌, inl, inr, arith, eq-eqb, ne_eqb, true≢false}
+use Rattle.std.proofs.lemmas.Bool.{cases_eq}
+use Rattle.std.proofs.lemmas.Option.{none-some}
+use Rattle.std.proofs.lemmas.Grind.{common_steps}
+use Rattle.std.proofs.lemmas.List.{length-replicate}
+use Rattle.std.proofs.lemmas.List.Sums.{sum_by-cons, sum_by-append}
+use Rattle.std.specs.Prelude.{sum_by, All, replicate}
+use Rattle.shm_base.specs.declared.paging.Span.{Span}
+use Rattle.shm_plain.specs.Apart.{AreApart}
+use Rattle.shm_plain.specs.Held.{Held, find_held, is_held, bytes_of, bytes_in, pages_in, pages_held, pages_if_locked, pages_locked, with_zeros, without, relocked, with_lock, paste, pasted, written, FitsPage}
+use Rattle.shm_plain.proofs.Kept.{find_held-id}
+use Rattle.shm_plain.proofs.Pasted.{length-paste, apart-pasted}
+use Rattle.shm_fault.specs.Segs.{SegRec, find_seg}
+use Rattle.shm_fault.specs.Segs as segs
+use Rattle.shm_fault.specs.Store.{StoreView, held_by, held}
+use Rattle.shm_segments.proofs.Bytes.{Each, each, each-pasted}
+
+-- APART
+
+held-by : (s : StoreView) (gs : List SegRec) (id : ℕ) → is_held (map (held_by s.frames s.swap) gs) id ≡ is_some (find_seg gs id)
+held-by s [] id = refl
+held-by s (g ∷ gs) id = elim (cases_eq g.id id) [
+  | inl e ↦ rw (eq-eqb g.id id e) refl
+  | inr n ↦ rw (ne_eqb g.id id n) (held-by s gs id)
+]
+
+apart-by : (s : StoreView) (gs : List SegRec) → segs.AreApart gs → AreApart (map (held_by s.frames s.swap) gs)
+apart-by s [] apart = tt
+apart-by s (g ∷ gs) apart = (held-by s gs g.id ∙ ap is_some apart.0, apart-by s gs apart.1)
+
+-- no identifier stands twice in a memory
+pub apart-held : (s : StoreView) → segs.AreApart s.segs → AreApart (held s)
+unfolding held
+apart-held s apart = apart-by s s.segs apart
+
+-- ZEROS
+
+abbrev zeros : ℕ → List ℕ
+zeros n = replicate (4096 * n) 0
+
+zeros-pages : (n : ℕ) → length (zeros n) / 4096 ≡ n
+zeros-pages n = let size : length (zeros n) ≡ 4096 * n = length-replicate (4096 * n) 0 in omega (arith, size)
+
+pub pages-zeros : (hs : List Held) (id n : ℕ) → pages_held (with_zeros hs id n) ≡ pages_held hs + n
+pages-zeros hs id n =
+    let z : Held = record { id = id; locked = false; bytes = replicate (4096 * n) 0 } in
+    let sum = sum_by-append pages_in hs (z ∷ []) in
+    let one = sum_by-cons pages_in z [] in
+    omega (arith, sum, one, zeros-pages n)
+
+pub locks-zeros : (hs : List Held) (id n : ℕ) → pages_locked (with_zeros hs id n) ≡ pages_locked hs
+locks-zeros hs id n =
+    let z : Held = record { id = id; locked = false; bytes = replicate (4096 * n) 0 } in
+    let sum = sum_by-append pages_if_locked hs (z ∷ []) in
+    let one = sum_by-cons pages_if_locked z [] in
+    omega (arith, sum, one)
+
+-- ONE LESS
+
+sum-less : (f : Held → ℕ) (hs : List Held) (id : ℕ) → sum_by f (without hs id) ≤ sum_by f hs
+sum-less f [] id = omega arith
+sum-less f (h ∷ hs) id =
+    let rest = sum-less f hs id in
+    let all = sum_by-cons f h hs in
+    elim (cases_eq h.id id) [
+      | inl e ↦ rw (eq-eqb h.id id e) (omega (arith, rest, all))
+      | inr n ↦ rw (ne_eqb h.id id n) (omega (arith, rest, all, sum_by-cons f h (without hs id)))
+    ]
+
+pub sum-without : (f : Held → ℕ) (hs : List Held) (id : ℕ) (g : Held) → find_held hs id ≡ Some g → sum_by f (without hs id) + f g ≤ sum_by f hs
+sum-without f [] id g is = absurd (none-some g is)
+sum-without f (h ∷ hs) id g is =
+    let all = sum_by-cons f h hs in
+    elim (cases_eq h.id id) [
+      | inl e ↦
+          (let own : h ≡ g = let both : Some h ≡ Some g = rw (eq-eqb h.id id e) at is in cc in
+          rw (eq-eqb h.id id e) (omega (arith, sum-less f hs id, all, ap f own)))
+      | inr n ↦ rw (ne_eqb h.id id n) (omega (arith, sum-without f hs id g (rw (ne_eqb h.id id n) at is), all, sum_by-cons f h (without hs id)))
+    ]
+
+-- ONE CHANGED
+
+-- a change of the one segment with an identifier
+abbrev Only : ℕ → (Held → Held) → Type 0
+Only id c = (h : Held) → h.id ≢ id → c h ≡ h
+
+away : (c : Held → Held) (hs : List Held) (id : ℕ) → Only id c → is_held hs id ≡ false → map c hs ≡ hs
+away c [] id only none = refl
+away c (h ∷ hs) id only none = elim (cases_eq h.id id) [
+  | inl e ↦ (let z : true ≡ false = rw (eq-eqb h.id id e) at none in absurd (true≢false z))
+  | inr n ↦
+      (let here : c h ≡ h = only h n in
+      let rest : map c hs ≡ hs = away c hs id only (rw (ne_eqb h.id id n) at none) in
+      cc)
+]
+
+pub sum-changed : (f : Held → ℕ) (c : Held → Held) (hs : List Held) (id : ℕ) (g : Held) → Only id c → AreApart hs → find_held hs id ≡ Some g → sum_by f (map c hs) + f g ≡ sum_by f hs + f (c g)
+sum-changed f c [] id g only apart is = absurd (none-some g is)
+sum-changed f c (h ∷ hs) id g only apart is =
+    let all = sum_by-cons f h hs in
+    let new = sum_by-cons f (c h) (map c hs) in
+    elim (cases_eq h.id id) [
+      | inl e ↦
+          (let own : h ≡ g = let both : Some h ≡ Some g = rw (eq-eqb h.id id e) at is in cc in
+          let rest : map c hs ≡ hs = away c hs id only (rw e at apart.0) in
+          let tail : sum_by f (map c hs) ≡ sum_by f hs = ap (sum_by f) rest in
+          omega (arith, all, new, tail, ap f own, ap (λ x. f (c x)) own))
+      | inr n ↦
+          (let rest = sum-changed f c hs id g only apart.1 (rw (ne_eqb h.id id n) at is) in
+          omega (arith, all, new, rest, ap f (only h n)))
+    ]
+
+only-lock : (id : ℕ) (b : Bool) → Only id (relocked id b)
+only-lock id b h n = rw (ne_eqb h.id id n) refl
+
+only-pasted : (seg at : ℕ) (new : List ℕ) → Only seg (pasted seg at new)
+only-pasted seg at new h n = rw (ne_eqb h.id seg n) refl
+
+-- a lock
+pub pages-lock : (hs : List Held) (id : ℕ) (b : Bool) → pages_held (with_lock hs id b) ≡ pages_held hs
+pages-lock [] id b = refl
+pages-lock (h ∷ hs) id b =
+    let same : pages_in (relocked id b h) ≡ pages_in h = elim (cases_eq h.id id) [
+      | inl e ↦ rw (eq-eqb h.id id e) refl
+      | inr n ↦ rw (ne_eqb h.id id n) refl
+    ] in
+    omega (arith, pages-lock hs id b, same, sum_by-cons pages_in h hs, sum_by-cons pages_in (relocked id b h) (with_lock hs id b))
+
+pub locks-lock : (hs : List Held) (id : ℕ) (b : Bool) (g : Held) → AreApart hs → find_held hs id ≡ Some g → pages_locked (with_lock hs id b) + pages_if_locked g ≡ pages_locked hs + (if b then pages_in g else 0)
+locks-lock hs id b g apart is =
+    let sum = sum-changed pages_if_locked (relocked id b) hs id g (only-lock id b) apart is in
+    let own : pages_if_locked (relocked id b g) ≡ (if b then pages_in g else 0) = rw (eq-eqb g.id id (find_held-id hs id g is)) refl in
+    omega (arith, sum, own)
+
+-- BYTES REPLACED
+
+pasted-sums : (hs : List Held) (p : Span) (new : List ℕ) → AreApart hs → FitsPage hs p → length new ≤ p.len
+    → (pages_held (map (pasted p.seg p.at new) hs) ≡ pages_held hs) × (pages_locked (map (pasted p.seg p.at new) hs) ≡ pages_locked hs)
+pasted-sums hs p new apart fit few = by (find_held hs p.seg) refl
+  where
+    by : (o : Option Held) → find_held hs p.seg ≡ o → (pages_held (map (pasted p.seg p.at new) hs) ≡ pages_held hs) × (pages_locked (map (pasted p.seg p.at new) hs) ≡ pages_locked hs)
+    by None is = let z : false ≡ true = rw is at fit.0 in absurd (true≢false (sym z))
+    by (Some g) is =
+        let own : g.id ≡ p.seg = find_held-id hs p.seg g is in
+        let bytes : bytes_of hs p.seg ≡ g.bytes = ap bytes_in is in
+        let within : p.at + length new ≤ length g.bytes = omega (arith, fit.1, few, ap length bytes) in
+        let size : length (paste g.bytes p.at new) ≡ length g.bytes = length-paste g.bytes p.at new within in
+        let is_own : pasted p.seg p.at new g ≡ record g { bytes = paste g.bytes p.at new } = rw (eq-eqb g.id p.seg own) refl in
+        let pages : pages_in (pasted p.seg p.at new g) ≡ pages_in g = ap pages_in is_own ∙ ap (λ n. n / 4096) size in
+        let locks : pages_if_locked (pasted p.seg p.at new g) ≡ pages_if_locked g = ap pages_if_locked is_own ∙ ap (λ n. if g.locked then n / 4096 else 0) size in
+        let a = sum-changed pages_in (pasted p.seg p.at new) hs p.seg g (only-pasted p.seg p.at new) apart is in
+        let b = sum-changed pages_if_locked (pasted p.seg p.at new) hs p.seg g (only-pasted p.seg p.at new) apart is in
+        (omega (arith, a, pages), omega (arith, b, locks))
+
+-- what a store over stretches leaves
+pub record SameSums (hs gs : List Held) : Type 0 where
+  pub apart : AreApart gs
+  pub pages : pages_held gs ≡ pages_held hs
+  pub locks : pages_locked gs ≡ pages_locked hs
+
+each-sums : (ps : List Span) (hs : List Held) (new : List ℕ) → AreApart hs → Each (FitsPage hs) ps → SameSums hs (written hs ps new)
+each-sums [] hs new apart fits = record { apart = apart; pages = refl; locks = refl }
+each-sums (p ∷ ps) hs new apart fits =
+    let few : length (take p.len new) ≤ p.len = grind (arith, common_steps) in
+    let one = pasted-sums hs p (take p.len new) apart fits.0 few in
+    let rest = each-sums ps (map (pasted p.seg p.at (take p.len new)) hs) (drop p.len new) (apart-pasted hs p.seg p.at (take p.len new) apart) (each-pasted ps hs p (take p.len new) few fits.0 fits.1) in
+    record { apart = rest.apart; pages = rest.pages ∙ one.0; locks = rest.locks ∙ one.1 }
+
+pub sums-written : (hs : List Held) (ps : List Span) (new : List ℕ) → AreApart hs → All (FitsPage hs) ps → SameSums hs (written hs ps new)
+sums-written hs ps new apart fit = each-sums ps hs new apart (each (FitsPage hs) ps fit)

@@ -1,0 +1,126 @@
+-- The rows and the flat machine's table: what is live, what agrees, and what an edit shows.
+use Rattle.std.proofs.Common.{◌≡◌, ◌≢◌, ℕ, zero, suc, ◌+◌, ◌*◌, ◌%◌, ◌<◌, ◌≤◌, true, List, [], ◌∷◌, length, set, Option, Some, None, is_some, option_map, refl, sym, ap, ◌∙◌, arith, inl, inr, eq-eqb}
+use Rattle.std.proofs.lemmas.Bool.{cases_lt}
+use Rattle.std.proofs.lemmas.Bool.Decides.{eqb_tells}
+use Rattle.std.specs.Prelude.{slice_set}
+use Rattle.shm_base.specs.State.{Segment, pages_of}
+use Rattle.shm_ids.specs.declared.table.Entry.{Entry}
+use Rattle.shm_ids.specs.declared.table.Row.{Row}
+use Rattle.shm_ids.specs.Table.{identifier, entry_at}
+use Rattle.shm_ids.specs.Flat.{flat_row, flat_entry, flat_from}
+use Rattle.shm_ids.proofs.Entries.{at_past}
+use Rattle.shm_ids.proofs.Look.{identifier-mod}
+use Rattle.shm_ids.proofs.Flat.{flat_from-make, flat_table-make}
+use Rattle.shm_plain.specs.Held.{Held, find_held, bytes_of, bytes_in, is_held}
+use Rattle.shm_segments.specs.declared.head.Head.{Head}
+use Rattle.shm_segments.specs.Joined.{segment_of, whole, joined, live, Shape, shape_held, shape_row, Agree}
+use Rattle.shm_segments.proofs.Bytes.{SameBytes}
+
+-- WHAT IS LIVE
+
+none_some : {X : Type 0} {x : X} → None ≡ Some x → ⊥
+none_some e = cc
+
+-- what stands at the index of a live identifier
+pub record LiveAt (rows : List (Entry Head)) (id : ℕ) (r : Row Head) : Type 0 where
+  pub within : id % 32768 < length rows
+  pub there : (entry_at rows (id % 32768)).row ≡ Some r
+  pub own : identifier (id % 32768) (entry_at rows (id % 32768)).destroyed ≡ id
+
+pub live-at : (rows : List (Entry Head)) (id : ℕ) (r : Row Head) → live rows id ≡ Some r → LiveAt rows id r
+live-at rows id r is = elim (eqb_tells (identifier (id % 32768) (entry_at rows (id % 32768)).destroyed) id) [
+  | inl w ↦
+      (let there : (entry_at rows (id % 32768)).row ≡ Some r = rw w.0 at is in
+      elim (cases_lt (id % 32768) (length rows)) [
+        | inl within ↦ record { within = within; there = there; own = w.1 }
+        | inr past ↦ absurd (none_some (sym (ap (λ (e : Entry Head). e.row) (at_past rows (id % 32768) past)) ∙ there))
+      ])
+  | inr w ↦ absurd (none_some (rw w.0 at is))
+]
+
+-- what stands at an index is live under its identifier
+pub at-live : (rows : List (Entry Head)) (i : ℕ) → i < 32768 → live rows (identifier i (entry_at rows i).destroyed) ≡ (entry_at rows i).row
+at-live rows i small =
+    let d : ℕ = (entry_at rows i).destroyed in
+    rw (identifier-mod i d small, eq-eqb (identifier i d) (identifier i d) refl) refl
+
+-- THE TABLE SEES BYTES ALONE
+
+whole-same : (hs gs : List Held) (id : ℕ) (r : Row Head) → bytes_of gs id ≡ bytes_of hs id → whole gs id r ≡ whole hs id r
+whole-same hs gs id r e = ap (segment_of r) e
+
+row-same : (hs gs : List Held) (id : ℕ) (o : Option (Row Head)) → bytes_of gs id ≡ bytes_of hs id → flat_row (whole gs) id o ≡ flat_row (whole hs) id o
+row-same hs gs id None e = refl
+row-same hs gs id (Some r) e = ap Some (whole-same hs gs id r e)
+
+entry-same : (hs gs : List Held) (i : ℕ) (e : Entry Head) → bytes_of gs (identifier i e.destroyed) ≡ bytes_of hs (identifier i e.destroyed) → flat_entry (whole gs) i e ≡ flat_entry (whole hs) i e
+entry-same hs gs i e same = ap (λ (s : Option Segment). record { destroyed = e.destroyed; segment = s }) (row-same hs gs (identifier i e.destroyed) e.row same)
+
+pub joined-same : (hs gs : List Held) (rows : List (Entry Head)) → SameBytes hs gs → joined gs rows ≡ joined hs rows
+joined-same hs gs rows same = flat_table-make (whole gs) (whole hs) rows (λ k r lt is. whole-same hs gs (identifier k (entry_at rows k).destroyed) r (same (identifier k (entry_at rows k).destroyed)))
+
+-- ONE ENTRY AND WHAT IS HELD UNDER ITS IDENTIFIER
+
+set-from : (n k : ℕ) (hs gs : List Held) (t : List (Entry Head)) (x : Entry Head)
+    → ((j d : ℕ) → j < length t → j ≢ k → bytes_of gs (identifier (n + j) d) ≡ bytes_of hs (identifier (n + j) d))
+    → slice_set (flat_from (whole hs) n t) k (flat_entry (whole gs) (n + k) x) ≡ flat_from (whole gs) n (set t k x)
+set-from n k hs gs [] x same = refl
+set-from n zero hs gs (e ∷ es) x same =
+    let here : n + zero ≡ n = omega arith in
+    let rest : flat_from (whole hs) (n + 1) es ≡ flat_from (whole gs) (n + 1) es =
+    flat_from-make (whole hs) (whole gs) (n + 1) es
+    (λ k r lt is.
+    let next : n + suc k ≡ (n + 1) + k = omega arith in
+    let d : ℕ = (entry_at es k).destroyed in
+    sym (whole-same hs gs (identifier ((n + 1) + k) d) r (rw next at (same (suc k) d (omega arith) (omega arith))))) in
+    rw (here, rest) refl
+set-from n (suc k) hs gs (e ∷ es) x same =
+    let here : n + 0 ≡ n = omega arith in
+    let next : n + suc k ≡ (n + 1) + k = omega arith in
+    let first : flat_entry (whole gs) n e ≡ flat_entry (whole hs) n e = entry-same hs gs n e (rw here at (same 0 e.destroyed (omega arith) (omega arith))) in
+    let rest : slice_set (flat_from (whole hs) (n + 1) es) k (flat_entry (whole gs) ((n + 1) + k) x) ≡ flat_from (whole gs) (n + 1) (set es k x) =
+    set-from (n + 1) k hs gs es x
+    (λ j d lt other. let after : n + suc j ≡ (n + 1) + j = omega arith in rw after at (same (suc j) d (omega arith) (omega arith))) in
+    rw (next, first, rest) refl
+
+-- an entry set, where what is held changes under identifiers of its index alone
+pub set-joined : (hs gs : List Held) (rows : List (Entry Head)) (i : ℕ) (x : Entry Head) → length rows ≤ 32768
+    → ((id : ℕ) → id % 32768 ≢ i → bytes_of gs id ≡ bytes_of hs id)
+    → slice_set (joined hs rows) i (flat_entry (whole gs) i x) ≡ joined gs (set rows i x)
+set-joined hs gs rows i x few same =
+    let here : 0 + i ≡ i = omega arith in
+    rw here at
+    (set-from 0 i hs gs rows x
+    (λ j d lt other.
+    let own : identifier (0 + j) d % 32768 ≡ j = omega (arith, lt, few) in
+    same (identifier (0 + j) d) (λ is. other (sym own ∙ is))))
+
+-- WHAT AGREES
+
+pub same-held : (hs : List Held) (rows : List (Entry Head)) (id : ℕ) → Agree hs rows → is_held hs id ≡ is_some (live rows id)
+same-held hs rows id agree = sym (some-shape (find_held hs id)) ∙ ap is_some (agree.same id) ∙ some-row (live rows id)
+  where
+    some-shape : (o : Option Held) → is_some (option_map shape_held o) ≡ is_some o
+    some-shape None = refl
+    some-shape (Some g) = refl
+
+    some-row : (o : Option (Row Head)) → is_some (option_map shape_row o) ≡ is_some o
+    some-row None = refl
+    some-row (Some r) = refl
+
+-- what is held of a live segment
+pub record HeldAs (hs : List Held) (id : ℕ) (r : Row Head) : Type 0 where
+  pub held : is_held hs id ≡ true
+  pub size : length (bytes_of hs id) ≡ 4096 * pages_of r.value.size
+
+pub held-as : (hs : List Held) (rows : List (Entry Head)) (id : ℕ) (r : Row Head) → Agree hs rows → live rows id ≡ Some r → HeldAs hs id r
+held-as hs rows id r agree there = by (find_held hs id) refl (agree.same id ∙ ap (option_map shape_row) there)
+  where
+    by : (o : Option Held) → find_held hs id ≡ o → option_map shape_held (find_held hs id) ≡ Some (shape_row r) → HeldAs hs id r
+    by None is same = absurd (none_some (sym (ap (option_map shape_held) is) ∙ same))
+    by (Some g) is same =
+        let shape : shape_held g ≡ shape_row r = let both : Some (shape_held g) ≡ Some (shape_row r) = sym (ap (option_map shape_held) is) ∙ same in cc in
+        record {
+          held = ap is_some is;
+          size = ap (λ o. length (bytes_in o)) is ∙ ap (λ (s : Shape). s.size) shape;
+        }

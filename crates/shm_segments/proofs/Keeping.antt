@@ -1,0 +1,78 @@
+-- What is kept where a head changes.
+use Rattle.std.proofs.Common.{◌≡◌, ◌≢◌, ◌⊎◌, ℕ, pos, ◌%◌, ◌≤◌, List, Some, Ok, sym, ◌∙◌, inl, inr}
+use Rattle.std.proofs.lemmas.Bool.{cases_eq}
+use Rattle.shm_base.specs.State.{Segment, Entry as FlatEntry}
+use Rattle.shm_base.specs.Segments.{change}
+use Rattle.shm_ids.specs.declared.table.Entry.{Entry}
+use Rattle.shm_ids.specs.declared.table.Row.{Row}
+use Rattle.shm_ids.specs.Table.{key_at, look, with_value, with_key}
+use Rattle.shm_plain.specs.Held.{Held, bytes_of}
+use Rattle.shm_segments.specs.declared.head.Head.{Head}
+use Rattle.shm_segments.specs.Joined.{segment_of, joined, live}
+use Rattle.shm_segments.specs.Kept.{SizesFit, IsKept}
+use Rattle.shm_segments.proofs.Sums.{pages-with_value, pages-with_both, locked-value_same, locked-with_both}
+use Rattle.shm_segments.proofs.Edits.{look-live, with_other, other-value, other-both, live-other_same, live-other, joined-with_value, joined-with_both, agree-with_value, agree-with_both}
+
+-- another row of a size in range
+pub sizes-other : (rows : List (Entry Head)) (id : ℕ) (r s : Row Head) → live rows id ≡ Some r → SizesFit rows → (1 ≤ s.value.size) × (s.value.size ≤ 16777216) → SizesFit (with_other rows id s)
+sizes-other rows id r s lives sizes range = λ at q is. by at q is (cases_eq at id)
+  where
+    by : (at : ℕ) (q : Row Head) → live (with_other rows id s) at ≡ Some q → (at ≡ id) ⊎ (at ≢ id) → (1 ≤ q.value.size) × (q.value.size ≤ 16777216)
+    by at q is (inl e) =
+        let own : live (with_other rows id s) id ≡ Some q = rw e at is in
+        let same : s ≡ q = cc (sym (live-other_same rows id r s lives) ∙ own) in
+        rw (← same) range
+    by at q is (inr n) = sizes at q (sym (live-other rows id at r s lives n) ∙ is)
+
+-- what rows and bytes keep, and what they show
+pub record KeptAs (hs : List Held) (rows : List (Entry Head)) (pages locked_pages : ℕ) (shown : List FlatEntry) : Type 0 where
+  pub kept : IsKept hs rows pages locked_pages
+  pub is : joined hs rows ≡ shown
+
+-- a head put in the place of one of the same size and lock
+pub kept-value : (hs : List Held) (rows : List (Entry Head)) (pages locks seg : ℕ) (v w : Head) (f : Segment → Segment) → IsKept hs rows pages locks → look rows (pos seg) ≡ Ok v
+    → w.size ≡ v.size → w.locked ≡ v.locked
+    → ((key : ℕ) (bs : List ℕ) → f (segment_of (record { key = key; value = v }) bs) ≡ segment_of (record { key = key; value = w }) bs)
+    → KeptAs hs (with_value rows (seg % 32768) w) pages locks (change (joined hs rows) seg f)
+kept-value hs rows pages locks seg v w f k looked size locked same =
+    let r : Row Head = record { key = key_at rows (seg % 32768); value = v } in
+    let lives : live rows seg ≡ Some r = look-live rows seg v looked in
+    let shown = joined-with_value hs rows seg r w f lives (same r.key (bytes_of hs seg)) in
+    let range = k.sizes seg r lives in
+    record {
+      kept =
+          record {
+            agree = agree-with_value hs rows seg r w k.agree lives size locked;
+            sizes = rw (other-value rows seg r w lives) (sizes-other rows seg r (record r { value = w }) lives k.sizes (rw size range));
+            reserved = k.reserved ∙ sym (pages-with_value rows seg r w lives size);
+            locked = k.locked ∙ sym (locked-value_same rows seg r w lives size locked);
+            apart = k.apart;
+            few_pages = k.few_pages;
+            few_locked = k.few_locked;
+          };
+      is = shown;
+    }
+
+-- the same, and the key hidden
+pub kept-both : (hs : List Held) (rows : List (Entry Head)) (pages locks seg : ℕ) (v w : Head) (f : Segment → Segment) → IsKept hs rows pages locks → look rows (pos seg) ≡ Ok v
+    → w.size ≡ v.size → w.locked ≡ v.locked
+    → ((key : ℕ) (bs : List ℕ) → f (segment_of (record { key = key; value = v }) bs) ≡ segment_of (record { key = 0; value = w }) bs)
+    → KeptAs hs (with_key (with_value rows (seg % 32768) w) (seg % 32768) 0) pages locks (change (joined hs rows) seg f)
+kept-both hs rows pages locks seg v w f k looked size locked same =
+    let r : Row Head = record { key = key_at rows (seg % 32768); value = v } in
+    let lives : live rows seg ≡ Some r = look-live rows seg v looked in
+    let shown = joined-with_both hs rows seg r 0 w f lives (same r.key (bytes_of hs seg)) in
+    let range = k.sizes seg r lives in
+    record {
+      kept =
+          record {
+            agree = agree-with_both hs rows seg r 0 w k.agree lives size locked;
+            sizes = rw (other-both rows seg r 0 w lives) (sizes-other rows seg r (record { key = 0; value = w }) lives k.sizes (rw size range));
+            reserved = k.reserved ∙ sym (pages-with_both rows seg r 0 w lives size);
+            locked = k.locked ∙ sym (locked-with_both rows seg r 0 w lives size locked);
+            apart = k.apart;
+            few_pages = k.few_pages;
+            few_locked = k.few_locked;
+          };
+      is = shown;
+    }

@@ -1,0 +1,17 @@
+pub mod Bytes
+pub mod Joins
+pub mod Shown
+pub mod Pieces
+pub mod Edits
+pub mod Rows
+pub mod Sums
+pub mod Swept
+pub mod Entries
+pub mod Same
+pub mod Finding
+pub mod Looking
+pub mod Held
+pub mod Keeping
+pub mod Making
+pub mod Spanning
+pub mod Remembered

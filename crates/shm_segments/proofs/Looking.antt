@@ -1,0 +1,89 @@
+-- What is found under an identifier, and what the flat machine says of it.
+use Rattle.std.proofs.Common.{◌≡◌, ◌≢◌, ℕ, pos, ℤ, ◌%◌, List, Option, Some, None, Ok, Err, IsOk, is_none, is_some, option_map, Bool, true, false, not, true≢false, refl, sym, ap, subst, ◌∙◌}
+use Rattle.std.proofs.lemmas.Option.{none-some}
+use Rattle.shm_base.specs.declared.errno.Errno.TheVariants.{Eidrm, Einval}
+use Rattle.shm_base.specs.Identifier as flat
+use Rattle.shm_base.specs.Access.{bytes_at}
+use Rattle.shm_ids.specs.declared.table.Entry.{Entry}
+use Rattle.shm_ids.specs.declared.table.Row.{Row}
+use Rattle.shm_ids.specs.declared.table.LookRefused.TheVariants.{Removed, Invalid}
+use Rattle.shm_ids.specs.Table.{entry_at, key_at, find_key, free_index, id_at, index_of, look}
+use Rattle.shm_ids.specs.Flat.{flat_answer, flat_found, number_of}
+use Rattle.shm_ids.proofs.Flat.{look-flat, find_key-flat, find_key-look, free_index-flat}
+use Rattle.shm_plain.specs.Held.{Held, bytes_of}
+use Rattle.shm_segments.specs.declared.head.Head.{Head}
+use Rattle.shm_segments.specs.declared.head.Found.{Found}
+use Rattle.shm_segments.specs.Joined.{segment_of, whole, joined, live, Agree}
+use Rattle.shm_segments.specs.Kept.{SizesFit}
+use Rattle.shm_segments.specs.Table.{IsFound, look_of, refused_look}
+use Rattle.shm_segments.proofs.Joins.{live-at}
+use Rattle.shm_segments.proofs.Edits.{look-live}
+use Rattle.shm_segments.proofs.Shown.{bytes_at-joined}
+use Rattle.shm_segments.proofs.Finding.{found_at}
+
+-- what is found under an identifier
+abbrev pub found_under : List (Entry Head) → ℕ → Head → Found
+found_under rows seg v = record { seg = seg; id = pos seg; key = key_at rows (seg % 32768); head = v }
+
+pub found-looked : (hs : List Held) (rows : List (Entry Head)) (seg : ℕ) (v : Head) → Agree hs rows → SizesFit rows → look rows (pos seg) ≡ Ok v → IsFound (joined hs rows) (found_under rows seg v)
+found-looked hs rows seg v agree sizes looked =
+    let r : Row Head = record { key = key_at rows (seg % 32768); value = v } in
+    let at = live-at rows seg r (look-live rows seg v looked) in
+    subst (λ n. IsFound (joined hs rows) (record { seg = n; id = pos n; key = r.key; head = v })) at.own (found_at hs rows (seg % 32768) r agree sizes at.there)
+
+-- the flat machine finds it
+pub look-found : (hs : List Held) (rows : List (Entry Head)) (seg : ℕ) (v : Head) → look rows (pos seg) ≡ Ok v → flat.look (joined hs rows) (pos seg) ≡ look_of (joined hs rows) (found_under rows seg v)
+look-found hs rows seg v looked =
+    let lives : live rows seg ≡ Some (record { key = key_at rows (seg % 32768); value = v }) = look-live rows seg v looked in
+    let bytes : bytes_at (joined hs rows) seg ≡ bytes_of hs seg = bytes_at-joined hs rows seg (ap is_some lives) in
+    look-flat (whole hs) rows (pos seg)
+    ∙ ap (flat_answer (whole hs) (seg % 32768) seg (key_at rows (seg % 32768))) looked
+    ∙ ap (λ (bs : List ℕ). flat.Found (seg % 32768) (segment_of (record { key = key_at rows (seg % 32768); value = v }) bs)) (sym bytes)
+
+-- and does not find what is not there
+pub look-removed : (hs : List Held) (rows : List (Entry Head)) (id : ℤ) → look rows id ≡ Err Removed → refused_look (flat.look (joined hs rows) id) ≡ Some Eidrm
+look-removed hs rows id looked = ap refused_look (look-flat (whole hs) rows id ∙ ap (flat_answer (whole hs) (index_of id) (number_of id) (key_at rows (index_of id))) looked)
+
+pub look-invalid : (hs : List Held) (rows : List (Entry Head)) (id : ℤ) → look rows id ≡ Err Invalid → refused_look (flat.look (joined hs rows) id) ≡ Some Einval
+look-invalid hs rows id looked = ap refused_look (look-flat (whole hs) rows id ∙ ap (flat_answer (whole hs) (index_of id) (number_of id) (key_at rows (index_of id))) looked)
+
+-- KEYS
+
+pub key-none : (hs : List Held) (rows : List (Entry Head)) (key : ℕ) → key ≢ 0 → find_key rows key ≡ None → flat.find_key (joined hs rows) key ≡ flat.Invalid
+key-none hs rows key some none = find_key-flat (whole hs) (λ id r. refl) rows key some ∙ ap (flat_found (whole hs) (entry_at rows)) none
+
+pub key-some : (hs : List Held) (rows : List (Entry Head)) (key : ℕ) (id : ℤ) → key ≢ 0 → find_key rows key ≡ Some (index_of id) → IsOk (look rows id) → flat.find_key (joined hs rows) key ≡ flat.look (joined hs rows) id
+key-some hs rows key id some found ok = find_key-look (whole hs) (λ n r. refl) rows key id some found ok
+
+-- INDEXES
+
+mapped-none : {X Y : Type 0} (f : X → Y) (o : Option X) → is_none (option_map f o) ≡ is_none o
+mapped-none f None = refl
+mapped-none f (Some x) = refl
+
+pub none-mapped : {X Y : Type 0} (f : X → Y) (o : Option X) → option_map f o ≡ None → o ≡ None
+none-mapped f None is = refl
+none-mapped f (Some x) is = absurd (none-some (f x) (sym is))
+
+pub none-not_some : {X : Type 0} (o : Option X) (b : Bool) → is_some o ≡ not b → b ≡ is_none o
+none-not_some None true is = refl
+none-not_some None false is = absurd (true≢false (sym is))
+none-not_some (Some x) true is = absurd (true≢false is)
+none-not_some (Some x) false is = refl
+
+pub full-joined : (hs : List Held) (rows : List (Entry Head)) (o : Option ℤ) → o ≡ option_map (id_at rows) (free_index rows) → is_none o ≡ is_none (flat.free_index (joined hs rows))
+full-joined hs rows o is = ap is_none is ∙ mapped-none (id_at rows) (free_index rows) ∙ ap is_none (sym (free_index-flat (whole hs) rows))
+
+-- WHAT A LOOK ANSWERS
+
+same-found : (rows : List (Entry Head)) (f : Found) → f.id ≡ pos f.seg → f.key ≡ key_at rows (f.seg % 32768) → found_under rows f.seg f.head ≡ f
+same-found rows f id key = rw (sym id, sym key) refl
+
+pub found-under : (hs : List Held) (rows : List (Entry Head)) (f : Found) (id : ℤ) → Agree hs rows → SizesFit rows → f.id ≡ id → pos f.seg ≡ id → f.key ≡ key_at rows (index_of id) → look rows id ≡ Ok f.head
+    → IsFound (joined hs rows) f × (flat.look (joined hs rows) id ≡ look_of (joined hs rows) f)
+found-under hs rows f id agree sizes is own key looked =
+    let here : look rows (pos f.seg) ≡ Ok f.head = ap (look rows) own ∙ looked in
+    let same : found_under rows f.seg f.head ≡ f = same-found rows f (is ∙ sym own) (key ∙ ap (λ n. key_at rows (index_of n)) (sym own)) in (
+      subst (IsFound (joined hs rows)) same (found-looked hs rows f.seg f.head agree sizes here),
+      ap (flat.look (joined hs rows)) (sym own) ∙ look-found hs rows f.seg f.head here ∙ ap (look_of (joined hs rows)) same,
+    )

@@ -1,0 +1,234 @@
+-- What is kept where a segment is made, destroyed, locked or written.
+use Rattle.std.proofs.Common.{◌≡◌, ◌≢◌, ◌⊎◌, ℕ, suc, pos, ℤ, ◌+◌, ◌-◌, ◌*◌, ◌/◌, ◌%◌, ◌<◌, ◌≤◌, ◌==◌, Bool, true, false, if◌then◌else◌, List, [], ◌∷◌, length, replicate, slice_set, Option, Some, None, Ok, is_some, is_none, option_map, refl, sym, ap, ◌∙◌, inl, inr, arith, true≢false, eq-eqb, ne_eqb, eqb-true}
+use Rattle.std.proofs.lemmas.Bool.{cases_eq, cases_Bool}
+use Rattle.std.proofs.lemmas.Option.{none-some}
+use Rattle.shm_base.specs.State.{pages_of}
+use Rattle.shm_base.specs.Identifier as flat
+use Rattle.shm_base.specs.Segments.{change}
+use Rattle.shm_ids.specs.declared.table.Entry.{Entry}
+use Rattle.shm_ids.specs.declared.table.Row.{Row}
+use Rattle.shm_ids.specs.Table.{entry_at, identifier, key_at, row_key, key_from, look, find_key, free_index, id_at, with_value, with_row, without_row}
+use Rattle.shm_ids.specs.Flat.{flat_row, flat_found}
+use Rattle.shm_ids.proofs.Flat.{find_key-flat, free_index-flat, destroyed_at-flat}
+use Rattle.shm_plain.specs.Held.{Held, find_held, is_held, pages_in, pages_if_locked, with_zeros, without, with_lock}
+use Rattle.shm_plain.proofs.Kept.{apart-push, apart-without, apart-lock}
+use Rattle.shm_segments.specs.declared.head.Head.{Head}
+use Rattle.shm_segments.specs.Joined.{whole, joined, live, Shape, shape_held, shape_row, Agree}
+use Rattle.shm_segments.specs.Kept.{SizesFit, IsKept}
+use Rattle.shm_segments.specs.Table.{made, created, destroyed, relocked}
+use Rattle.shm_segments.proofs.Joins.{LiveAt, live-at}
+use Rattle.shm_segments.proofs.Edits.{look-live, other-value, agree-lock, joined-locked}
+use Rattle.shm_segments.proofs.Rows.{id_of, IsFree, index-free, free-new, joined-with_row, live-with_row_same, live-with_row_other, agree-with_row, joined-without, live-without, live-without_here, agree-without}
+use Rattle.shm_segments.proofs.Sums.{pages-with_row, pages-without_row, pages-with_value, locked-with_row, locked-without_row, locked-with_value, locked-within}
+use Rattle.shm_segments.proofs.Keeping.{KeptAs, sizes-other}
+use Rattle.shm_segments.proofs.Held.{pages-zeros, locks-zeros, sum-without, pages-lock, locks-lock}
+
+-- WHAT IS HELD OF A LIVE SEGMENT
+
+pub record HeldHere (hs : List Held) (id : ℕ) (r : Row Head) : Type 0 where
+  pub g : Held
+  pub is : find_held hs id ≡ Some g
+  pub pages : pages_in g ≡ pages_of r.value.size
+  pub locks : pages_if_locked g ≡ (if r.value.locked then pages_of r.value.size else 0)
+
+pub held-here : (hs : List Held) (rows : List (Entry Head)) (id : ℕ) (r : Row Head) → Agree hs rows → live rows id ≡ Some r → HeldHere hs id r
+held-here hs rows id r agree there = by (find_held hs id) refl (agree.same id ∙ ap (option_map shape_row) there)
+  where
+    by : (o : Option Held) → find_held hs id ≡ o → option_map shape_held (find_held hs id) ≡ Some (shape_row r) → HeldHere hs id r
+    by None is same = absurd (none-some (shape_row r) (sym (ap (option_map shape_held) is) ∙ same))
+    by (Some g) is same =
+        let shape : shape_held g ≡ shape_row r = let both : Some (shape_held g) ≡ Some (shape_row r) = sym (ap (option_map shape_held) is) ∙ same in cc in
+        let size : length g.bytes ≡ 4096 * pages_of r.value.size = ap (λ (s : Shape). s.size) shape in
+        let lock : g.locked ≡ r.value.locked = ap (λ (s : Shape). s.locked) shape in
+        let pages : pages_in g ≡ pages_of r.value.size = omega (arith, size) in
+        record { g = g; is = is; pages = pages; locks = rw (lock, pages) refl }
+
+-- DESTROYED
+
+pub kept-without : (hs : List Held) (rows : List (Entry Head)) (pages locks seg : ℕ) (v : Head) → IsKept hs rows pages locks → look rows (pos seg) ≡ Ok v
+    → KeptAs (without hs seg) (without_row rows (seg % 32768)) (pages - pages_of v.size) (locks - (if v.locked then pages_of v.size else 0)) (destroyed (joined hs rows) seg)
+kept-without hs rows pages locks seg v k looked =
+    let i = seg % 32768 in
+    let r : Row Head = record { key = key_at rows i; value = v } in
+    let lives : live rows seg ≡ Some r = look-live rows seg v looked in
+    let at = live-at rows seg r lives in
+    let own : id_of rows i ≡ seg = at.own in
+    let small : i < 32768 = omega arith in
+    let sequence : (entry_at rows i).destroyed ≡ seg / 32768 = omega (arith, own) in
+    let fewer = pages-without_row rows i r at.within at.there in
+    let looser = locked-without_row rows i r at.within at.there in
+    let here = held-here hs rows seg r k.agree lives in
+    record {
+      kept =
+          record {
+            agree = rw own at (agree-without hs rows i k.agree at.within);
+            sizes = sizes at;
+            reserved = omega (arith, fewer, k.reserved);
+            locked = omega (arith, looser, k.locked);
+            apart = apart-without hs seg k.apart;
+            few_pages = omega (arith, sum-without pages_in hs seg here.g here.is, here.pages, k.few_pages);
+            few_locked = omega (arith, sum-without pages_if_locked hs seg here.g here.is, here.locks, k.few_locked);
+          };
+      is = rw own at (joined-without hs rows i k.agree.few small) ∙ ap (λ n. slice_set (joined hs rows) i (record { destroyed = n + 1; segment = None })) sequence;
+    }
+  where
+    sizes : LiveAt rows seg (record { key = key_at rows (seg % 32768); value = v }) → SizesFit (without_row rows (seg % 32768))
+    sizes at = λ id q is. by id q is (cases_eq id seg)
+      where
+        by : (id : ℕ) (q : Row Head) → live (without_row rows (seg % 32768)) id ≡ Some q → (id ≡ seg) ⊎ (id ≢ seg) → (1 ≤ q.value.size) × (q.value.size ≤ 16777216)
+        by id q is (inl e) =
+            let none : live (without_row rows (seg % 32768)) id ≡ None = live-without_here rows (seg % 32768) id at.within (ap (λ n. n % 32768) e) in
+            absurd (none-some q (sym none ∙ is))
+        by id q is (inr n) = k.sizes id q (sym (live-without rows (seg % 32768) id at.within (λ z. n (z ∙ at.own))) ∙ is)
+
+-- LOCKED OR UNLOCKED
+
+pub kept-locked : (hs : List Held) (rows : List (Entry Head)) (pages locks seg : ℕ) (v : Head) (b : Bool) → IsKept hs rows pages locks → look rows (pos seg) ≡ Ok v
+    → KeptAs (with_lock hs seg b) (with_value rows (seg % 32768) (record v { locked = b })) pages
+    (locks - (if v.locked then pages_of v.size else 0) + (if b then pages_of v.size else 0)) (change (joined hs rows) seg (relocked b))
+kept-locked hs rows pages locks seg v b k looked =
+    let r : Row Head = record { key = key_at rows (seg % 32768); value = v } in
+    let w : Head = record v { locked = b } in
+    let lives : live rows seg ≡ Some r = look-live rows seg v looked in
+    let range = k.sizes seg r lives in
+    let loose = locked-with_value rows seg r w lives in
+    let within = locked-within rows seg r lives in
+    let here = held-here hs rows seg r k.agree lives in
+    let more : (b : Bool) → (if b then pages_in here.g else 0) ≡ (if b then pages_of v.size else 0) = λ b. ap (λ n. if b then n else 0) here.pages in
+    record {
+      kept =
+          record {
+            agree = agree-lock hs rows seg r w k.agree lives refl;
+            sizes = rw (other-value rows seg r w lives) (sizes-other rows seg r (record r { value = w }) lives k.sizes range);
+            reserved = k.reserved ∙ sym (pages-with_value rows seg r w lives refl);
+            locked = omega (arith, loose, within, k.locked);
+            apart = apart-lock hs seg b k.apart;
+            few_pages = omega (arith, pages-lock hs seg b, k.few_pages);
+            few_locked = omega (arith, locks-lock hs seg b here.g k.apart here.is, here.locks, more b, k.few_locked);
+          };
+      is = joined-locked hs rows seg r w (relocked b) lives refl;
+    }
+
+-- MADE
+
+-- what is held no more is as before
+pub without-zeros : (hs : List Held) (id pages : ℕ) → is_held hs id ≡ false → without (with_zeros hs id pages) id ≡ hs
+without-zeros [] id pages none = rw (eq-eqb id id refl) refl
+without-zeros (g ∷ gs) id pages none =
+    elim (cases_eq g.id id) [
+      | inl e ↦ absurd (true≢false (sym (rw (eq-eqb g.id id e) refl) ∙ none))
+      | inr n ↦ rw (ne_eqb g.id id n) (ap (λ (l : List Held). g ∷ l) (without-zeros gs id pages (rw (ne_eqb g.id id n) at none)))
+    ]
+
+pub zeros-held : (hs : List Held) (id pages : ℕ) → is_held (with_zeros hs id pages) id ≡ true
+zeros-held [] id pages = rw (eq-eqb id id refl) refl
+zeros-held (g ∷ gs) id pages =
+    elim (cases_eq g.id id) [
+      | inl e ↦ rw (eq-eqb g.id id e) refl
+      | inr n ↦ rw (ne_eqb g.id id n) (zeros-held gs id pages)
+    ]
+
+pub kept-made : (hs : List Held) (rows : List (Entry Head)) (pages locks i key : ℕ) (v : Head) → IsKept hs rows pages locks → free_index rows ≡ Some i → v.locked ≡ false
+    → (1 ≤ v.size) × (v.size ≤ 16777216)
+    → KeptAs (with_zeros hs (id_of rows i) (pages_of v.size)) (with_row rows i key v) (pages + pages_of v.size) locks (created (joined hs rows) i key v)
+kept-made hs rows pages locks i key v k found loose range =
+    let free = index-free rows i k.agree.few found in
+    let more = pages-with_row rows i key v free in
+    record {
+      kept =
+          record {
+            agree = agree-with_row hs rows i key (pages_of v.size) v k.agree free loose refl;
+            sizes = sizes free;
+            reserved = omega (arith, more, k.reserved);
+            locked = k.locked ∙ sym (locked-with_row rows i key v free loose);
+            apart = apart-push hs (record { id = id_of rows i; locked = false; bytes = replicate (4096 * pages_of v.size) 0 }) (free-new hs rows i k.agree free) k.apart;
+            few_pages = omega (arith, pages-zeros hs (id_of rows i) (pages_of v.size), k.few_pages);
+            few_locked = omega (arith, locks-zeros hs (id_of rows i) (pages_of v.size), k.few_locked);
+          };
+      is = joined-with_row hs rows i key (pages_of v.size) v k.agree free;
+    }
+  where
+    sizes : IsFree rows i → SizesFit (with_row rows i key v)
+    sizes free = λ id q is. by id q is (cases_eq id (id_of rows i))
+      where
+        by : (id : ℕ) (q : Row Head) → live (with_row rows i key v) id ≡ Some q → (id ≡ id_of rows i) ⊎ (id ≢ id_of rows i) → (1 ≤ q.value.size) × (q.value.size ≤ 16777216)
+        by id q is (inl e) =
+            let own : live (with_row rows i key v) (id_of rows i) ≡ Some q = rw e at is in
+            let same : record { key = key; value = v } ≡ q = cc (sym (live-with_row_same rows i key v free) ∙ own) in
+            rw (← same) range
+        by id q is (inr n) = k.sizes id q (sym (live-with_row_other rows i id key v free n) ∙ is)
+
+-- the free index
+pub free-some : (hs : List Held) (rows : List (Entry Head)) → is_none (flat.free_index (joined hs rows)) ≡ false → is_some (free_index rows) ≡ true
+free-some hs rows some = by (free_index rows) (sym (ap is_none (free_index-flat (whole hs) rows)) ∙ some)
+  where
+    by : (o : Option ℕ) → is_none o ≡ false → is_some o ≡ true
+    by None z = absurd (true≢false z)
+    by (Some i) z = refl
+
+-- what is made is what the flat table makes
+pub made-joined : (hs : List Held) (rows : List (Entry Head)) (i key : ℕ) (v : Head) → free_index rows ≡ Some i
+    → made (joined hs rows) key v ≡ Some (pos (id_of rows i), created (joined hs rows) i key v)
+made-joined hs rows i key v found =
+    let index : flat.free_index (joined hs rows) ≡ Some i = free_index-flat (whole hs) rows ∙ found in
+    ap (option_map (λ (n : ℕ). (pos (flat.identifier n (flat.destroyed_at (joined hs rows) n)), created (joined hs rows) n key v))) index
+    ∙ ap (λ d. Some (pos (flat.identifier i d), created (joined hs rows) i key v)) (destroyed_at-flat (whole hs) rows i)
+
+-- the next identifier is that of the free index
+pub record IsNext (rows : List (Entry Head)) (id : ℤ) : Type 0 where
+  pub i : ℕ
+  pub found : free_index rows ≡ Some i
+  pub is : id ≡ pos (id_of rows i)
+
+pub next-free : (rows : List (Entry Head)) (id : ℤ) → Some id ≡ option_map (id_at rows) (free_index rows) → IsNext rows id
+next-free rows id is = by (free_index rows) refl is
+  where
+    by : (o : Option ℕ) → free_index rows ≡ o → Some id ≡ option_map (id_at rows) o → IsNext rows id
+    by None found z = absurd (none-some id (sym z))
+    by (Some i) found z = record { i = i; found = found; is = cc z }
+
+-- a segment's pages are few
+pub few-pages : (b : Bool) (size : ℕ) → size ≤ 16777216 → (if b then pages_of size else 0) ≤ 4096
+few-pages true size range = omega (arith, range)
+few-pages false size range = omega arith
+
+-- a key that the flat table does not find
+record Hit (n : ℕ) (es : List (Entry Head)) (i : ℕ) : Type 0 where
+  k : ℕ
+  at : n + k ≡ i
+  there : is_some (entry_at es k).row ≡ true
+
+key-hit : (n key : ℕ) (es : List (Entry Head)) (i : ℕ) → key ≢ 0 → key_from key n es ≡ Some i → Hit n es i
+key-hit n key [] i some found = absurd (none-some i found)
+key-hit n key (e ∷ es) i some found =
+    elim (cases_Bool (row_key e.row == key)) [
+      | inl h ↦ record { k = 0; at = here h; there = has e.row h }
+      | inr h ↦ let r = key-hit (n + 1) key es i some (rw h at found) in record { k = suc r.k; at = omega (arith, r.at); there = r.there }
+    ]
+  where
+    here : (row_key e.row == key) ≡ true → n + 0 ≡ i
+    here h = let is : n ≡ i = cc (rw h at found) in omega (arith, is)
+
+    has : (o : Option (Row Head)) → (row_key o == key) ≡ true → is_some o ≡ true
+    has None h = absurd (some (sym (eqb-true 0 key h)))
+    has (Some r) h = refl
+
+not_invalid : (hs : List Held) (i id : ℕ) (o : Option (Row Head)) → is_some o ≡ true → flat.look_segment i (flat_row (whole hs) id o) ≡ flat.Invalid → ⊥
+not_invalid hs i id None some is = true≢false (sym some)
+not_invalid hs i id (Some r) some is = cc is
+
+pub key-absent : (hs : List Held) (rows : List (Entry Head)) (key : ℕ) → (key ≢ 0 → flat.find_key (joined hs rows) key ≡ flat.Invalid) → find_key rows key ≡ None
+key-absent hs rows key absent = by (cases_eq key 0)
+  where
+    none : key ≢ 0 → (o : Option ℕ) → key_from key 0 rows ≡ o → o ≡ None
+    none some None found = refl
+    none some (Some i) found =
+        let hit = key-hit 0 key rows i some found in
+        let index : hit.k ≡ i = omega (arith, hit.at) in
+        let at : is_some (entry_at rows i).row ≡ true = rw index at hit.there in
+        let own : find_key rows key ≡ Some i = rw (ne_eqb key 0 some) found in
+        absurd (not_invalid hs i (identifier i (entry_at rows i).destroyed) (entry_at rows i).row at (sym (find_key-flat (whole hs) (λ id r. refl) rows key some ∙ ap (flat_found (whole hs) (entry_at rows)) own) ∙ absent some))
+
+    by : (key ≡ 0) ⊎ (key ≢ 0) → find_key rows key ≡ None
+    by (inl z) = rw (eq-eqb key 0 z) refl
+    by (inr some) = rw (ne_eqb key 0 some) (none some (key_from key 0 rows) refl)

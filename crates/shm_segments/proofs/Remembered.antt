@@ -1,0 +1,198 @@
+-- What the memory keeps, and that it shows the table.
+use Rattle.std.proofs.Common.{◌≡◌, ◌≢◌, ℕ, ◌%◌, ◌==◌, Bool, true, false, List, [], ◌∷◌, ◌++◌, length, Option, Some, None, is_some, option_map, refl, sym, ap, ◌∙◌, inl, inr, arith, eq-eqb, ne_eqb, true≢false}
+use Rattle.std.proofs.lemmas.Bool.{cases_eq, cases_Bool}
+use Rattle.std.proofs.lemmas.Option.{none-some}
+use Rattle.std.specs.Prelude.{All, Result, Ok, Err, OnErr}
+use Rattle.shm_base.specs.declared.paging.Span.{Span}
+use Rattle.shm_base.specs.State.{Entry as FlatEntry}
+use Rattle.shm_ids.specs.declared.table.Entry.{Entry}
+use Rattle.shm_ids.specs.declared.table.Row.{Row}
+use Rattle.shm_plain.specs.Held.{Held, find_held, is_held, is_locked, lock_in, bytes_in, bytes_of, with_zeros, without, FitsPage, written}
+use Rattle.shm_plain.proofs.Kept.{find_held-id}
+use Rattle.shm_plain.proofs.Found.{find-without_same, find-without_other, find-zeros_same, find-zeros_other}
+use Rattle.shm_fault.specs.Store.{StoreView, held, frame_of, fresh_store}
+use Rattle.shm_frames.specs.Frame.{Frame}
+use Rattle.shm_slots.specs.View.{SwapView}
+use Rattle.shm_ids.specs.Table.{identifier}
+use Rattle.shm_fault.specs.Segs.{SegRec, find_seg, but, new_seg, rec_in}
+use Rattle.shm_fault.specs.Dropping.{IsBlank}
+use Rattle.shm_fault.proofs.Whole.{not-held, rec-added}
+use Rattle.shm_fault.specs.Steps.{Kept}
+use Rattle.shm_fault.specs.Sound.{IsSound}
+use Rattle.shm_fault.proofs.Sound.{GoesOn-refl, GoesOn-trans}
+use Rattle.shm_slots.specs.Cause.{GoesOn}
+use Rattle.shm_segments.specs.declared.head.Head.{Head}
+use Rattle.shm_segments.specs.Joined.{whole, joined, live, Shape, shape_held, shape_row, Agree}
+use Rattle.shm_segments.specs.Table as table
+use Rattle.shm_segments.specs.View.{SegmentsView, as_held, Shows, Runs}
+use Rattle.shm_segments.specs.Kept.{IsKept, IsWhole}
+use Rattle.shm_segments.proofs.Finding.{live-joined}
+use Rattle.shm_segments.proofs.Shown.{agree-written}
+use Rattle.shm_segments.proofs.Held.{sums-written}
+
+-- a table and its memory
+abbrev pub view_of : List FlatEntry → StoreView → SegmentsView
+view_of t m = record { table = t; memory = m }
+
+-- SHOWN
+
+pub shows-joined : (m : StoreView) (rows : List (Entry Head)) → Agree (held m) rows → Shows (joined (held m) rows) m
+shows-joined m rows agree id = by (live rows id) (find_held (held m) id) refl refl (agree.same id)
+  where
+    by : (r : Option (Row Head)) (o : Option Held) → live rows id ≡ r → find_held (held m) id ≡ o → option_map shape_held (find_held (held m) id) ≡ option_map shape_row (live rows id)
+        → find_held (held m) id ≡ option_map (as_held id) (table.live (joined (held m) rows) id)
+    by None None there is same = rw (is, live-joined (held m) rows id, there) refl
+    by None (Some g) there is same =
+        let z : Some (shape_held g) ≡ None = rw (is, there) at same in
+        absurd (none-some (shape_held g) (sym z))
+    by (Some r) None there is same =
+        let z : None ≡ Some (shape_row r) = rw (is, there) at same in
+        absurd (none-some (shape_row r) z)
+    by (Some r) (Some g) there is same =
+        let both : Some (shape_held g) ≡ Some (shape_row r) = rw (is, there) at same in
+        let shape : shape_held g ≡ shape_row r = cc both in
+        let lock : g.locked ≡ r.value.locked = ap (λ (s : Shape). s.locked) shape in
+        let own : g.id ≡ id = find_held-id (held m) id g is in
+        let bytes : bytes_of (held m) id ≡ g.bytes = ap bytes_in is in
+        let h : Held = record { id = g.id; locked = g.locked; bytes = g.bytes } in
+        let shown : Some h ≡ Some (as_held id (whole (held m) id r)) = rw (own, lock, bytes) refl in
+        rw (is, live-joined (held m) rows id, there) shown
+
+-- KEPT
+
+pub runs-refl : (m : StoreView) → Runs m m
+runs-refl m = record { kept = λ seg page a b e. e; locks = λ id e. e; goes_on = GoesOn-refl m.swap; frames = refl }
+
+pub runs-trans : (a b c : StoreView) → Runs a b → Runs b c → Runs a c
+runs-trans a b c p q = record {
+  kept = λ seg page before after e. let mid = q.locks seg after in q.kept seg page mid after (p.kept seg page before mid e);
+  locks = λ id e. p.locks id (q.locks id e);
+  goes_on = GoesOn-trans a.swap b.swap c.swap p.goes_on q.goes_on;
+  frames = q.frames ∙ p.frames;
+}
+
+-- frames and swap as they were, and no page moved
+pub runs-zeros : (a b : StoreView) (id n : ℕ) → is_held (held a) id ≡ false → held b ≡ with_zeros (held a) id n → b.swap ≡ a.swap → b.frames ≡ a.frames → ((s page : ℕ) → frame_of b s page ≡ frame_of a s page) → Runs a b
+runs-zeros a b id n new is swap frames still = record {
+  kept = λ seg page before after e. rw (still seg page) e;
+  locks = λ at e. locks at (rw is at e);
+  goes_on = rw swap (GoesOn-refl a.swap);
+  frames = ap length frames;
+}
+  where
+    locks : (at : ℕ) → is_locked (with_zeros (held a) id n) at ≡ true → is_locked (held a) at ≡ true
+    locks at e = elim (cases_eq at id) [
+      | inl q ↦ (let z : false ≡ true = rw (q, find-zeros_same (held a) id n new) at e in absurd (true≢false (sym z)))
+      | inr m ↦ rw (find-zeros_other (held a) id n at m) at e
+    ]
+
+-- a segment is gone, and the others' pages are where they were
+pub runs-without : (a b : StoreView) (id : ℕ) → held b ≡ without (held a) id → GoesOn a.swap b.swap → length b.frames ≡ length a.frames → ((s page : ℕ) → s ≢ id → frame_of b s page ≡ frame_of a s page) → Runs a b
+runs-without a b id is goes frames still = record {
+  kept = λ seg page before after e. kept seg page after e;
+  locks = λ at e. (locks at (rw is at e)).1;
+  goes_on = goes;
+  frames = frames;
+}
+  where
+    locks : (at : ℕ) → is_locked (without (held a) id) at ≡ true → (at ≢ id) × (is_locked (held a) at ≡ true)
+    locks at e = elim (cases_eq at id) [
+      | inl q ↦ (let z : false ≡ true = rw (q, find-without_same (held a) id) at e in absurd (true≢false (sym z)))
+      | inr m ↦ (m, rw (find-without_other (held a) id at m) at e)
+    ]
+
+    kept : (seg page : ℕ) → is_locked (held b) seg ≡ true → is_some (frame_of a seg page) ≡ true → is_some (frame_of b seg page) ≡ true
+    kept seg page after e = let l = locks seg (rw is at after) in rw (still seg page l.0) e
+
+-- no byte and no lock changed
+pub runs-same : (a b : StoreView) → held b ≡ held a → Kept a b → GoesOn a.swap b.swap → length b.frames ≡ length a.frames → Runs a b
+runs-same a b is kept goes frames = record { kept = kept; locks = λ id e. rw is at e; goes_on = goes; frames = frames }
+
+-- A SEGMENT THAT WAS MADE AND IS TAKEN BACK
+
+but-new : (gs : List SegRec) (id n : ℕ) → find_seg gs id ≡ None → but id (gs ++ new_seg id n ∷ []) ≡ gs
+but-new [] id n none = rw (eq-eqb id id refl) refl
+but-new (g ∷ gs) id n none = elim (cases_eq g.id id) [
+  | inl e ↦ (let z : Some g ≡ None = rw (eq-eqb g.id id e) at none in absurd (none-some g (sym z)))
+  | inr m ↦ rw (ne_eqb g.id id m) (ap (λ (l : List SegRec). g ∷ l) (but-new gs id n (rw (ne_eqb g.id id m) at none)))
+]
+
+taken-back : (a : StoreView) (id n : ℕ) → find_seg a.segs id ≡ None → record a { segs = but id (a.segs ++ new_seg id n ∷ []) } ≡ a
+taken-back a id n none = ap (λ (gs : List SegRec). record a { segs = gs }) (but-new a.segs id n none)
+
+-- a segment that was added and dropped at once
+pub undone : (s t u : StoreView) (id n : ℕ) → IsSound s → is_held (held s) id ≡ false → t ≡ record s { segs = s.segs ++ new_seg id n ∷ [] } → (IsBlank id t → u ≡ record t { segs = but id t.segs }) → u ≡ s
+undone s t u id n sound new is dropped =
+    let none : find_seg s.segs id ≡ None = not-held s sound id new in
+    let blank : IsBlank id t = λ page. rw is (rec-added s sound id n none (record { seg = id; page = page }) ∙ ap (λ (o : Option SegRec). rec_in o page) none) in
+    dropped blank ∙ ap (λ (v : StoreView). record v { segs = but id v.segs }) is ∙ taken-back s id n none
+
+-- what agrees with the same rows has the same locks
+pub agree-locks : (hs gs : List Held) (rows : List (Entry Head)) (id : ℕ) → Agree hs rows → Agree gs rows → is_locked gs id ≡ is_locked hs id
+agree-locks hs gs rows id a b = sym (by (find_held gs id)) ∙ ap lock_of (b.same id ∙ sym (a.same id)) ∙ by (find_held hs id)
+  where
+    lock_of : Option Shape → Bool
+    lock_of None = false
+    lock_of (Some s) = s.locked
+
+    by : (o : Option Held) → lock_of (option_map shape_held o) ≡ lock_in o
+    by None = refl
+    by (Some g) = refl
+
+-- A STORE
+
+pub kept-written : (hs : List Held) (rows : List (Entry Head)) (pages locks : ℕ) (ps : List Span) (new : List ℕ) → IsKept hs rows pages locks → All (FitsPage hs) ps → IsKept (written hs ps new) rows pages locks
+kept-written hs rows pages locks ps new k fit =
+    let sums = sums-written hs ps new k.apart fit in
+    record {
+      agree = agree-written hs rows ps new k.agree fit;
+      sizes = k.sizes;
+      reserved = k.reserved;
+      locked = k.locked;
+      apart = sums.apart;
+      few_pages = omega (arith, sums.pages, k.few_pages);
+      few_locked = omega (arith, sums.locks, k.few_locked);
+    }
+
+pub runs-written : (a b : StoreView) (rows : List (Entry Head)) (ps : List Span) (new : List ℕ) → Agree (held a) rows → All (FitsPage (held a)) ps → held b ≡ written (held a) ps new → Kept a b → GoesOn a.swap b.swap → length b.frames ≡ length a.frames → Runs a b
+runs-written a b rows ps new agree fit is kept goes frames = record {
+  kept = kept;
+  locks = λ id e. sym (agree-locks (held a) (written (held a) ps new) rows id agree (agree-written (held a) rows ps new agree fit)) ∙ (rw is at e);
+  goes_on = goes;
+  frames = frames;
+}
+
+pub OnErr-map : {A E : Type 0} (r : Result A E) (P Q : Type 0) → OnErr r P → (P → Q) → OnErr r Q
+OnErr-map (Ok a) P Q e f = tt
+OnErr-map (Err x) P Q e f = f e
+
+-- NO SEGMENT
+
+held-fresh : (frames : List Frame) (swap : SwapView) → held (fresh_store frames swap) ≡ []
+unfolding held
+held-fresh frames swap = refl
+
+pub whole-fresh : (s : StoreView) (swap : SwapView) → s ≡ fresh_store s.frames swap → IsSound s → IsWhole s [] 0 0
+whole-fresh s swap is sound =
+    let none : held s ≡ [] = ap held is ∙ held-fresh s.frames swap in
+    record {
+      kept = rw none (record {
+        agree = record { few = omega arith; same = λ id. same id };
+        sizes = λ id r there. absurd (none-some r (sym (nothing id) ∙ there));
+        reserved = refl;
+        locked = refl;
+        apart = tt;
+        few_pages = omega arith;
+        few_locked = omega arith;
+      });
+      sound = sound;
+    }
+  where
+    nothing : (id : ℕ) → live [] id ≡ None
+    nothing id = elim (cases_Bool (identifier (id % 32768) 0 == id)) [
+      | inl e ↦ rw e refl
+      | inr e ↦ rw e refl
+    ]
+
+    same : (id : ℕ) → option_map shape_held (find_held [] id) ≡ option_map shape_row (live [] id)
+    same id = sym (ap (option_map shape_row) (nothing id))

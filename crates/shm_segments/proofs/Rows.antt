@@ -1,0 +1,222 @@
+-- Segments that come and go, as the flat machine's table shows them.
+use Rattle.std.proofs.Common.{◌≡◌, ◌≢◌, ℕ, ◌+◌, ◌*◌, ◌%◌, ◌<◌, ◌≤◌, ◌==◌, ◌&&◌, if◌then◌else◌, nat_lt, Bool, true, false, List, length, replicate, Option, Some, None, is_some, is_none, option_map, refl, sym, ap, subst, ◌∙◌, arith, inl, inr, eq-eqb, ne_eqb, length-set}
+use Rattle.std.proofs.lemmas.Bool.{cases_lt, cases_eq, true≢false}
+use Rattle.std.proofs.lemmas.List.{length-replicate}
+use Rattle.std.specs.Prelude.{slice_set}
+use Rattle.shm_base.specs.State.{Runner, pages_of}
+use Rattle.shm_base.specs.Identifier.{with_segment}
+use Rattle.shm_base.specs.Segments.{attach_count}
+use Rattle.shm_ids.specs.declared.table.Entry.{Entry}
+use Rattle.shm_ids.specs.declared.table.Row.{Row}
+use Rattle.shm_ids.specs.Table.{identifier, entry_at, free_index, with_row, without_row}
+use Rattle.shm_ids.proofs.Entries.{at_set, at_set_other, at_row, at_row_other, with_row-few}
+use Rattle.shm_ids.proofs.Free.{free_found}
+use Rattle.shm_ids.proofs.Look.{identifier-mod}
+use Rattle.shm_ids.proofs.Flat.{with_segment-flat, flat_table-make}
+use Rattle.shm_plain.specs.Held.{Held, find_held, bytes_of, bytes_in, is_held, with_zeros, without}
+use Rattle.shm_plain.proofs.Found.{find-without_same, find-without_other, find-zeros_same, find-zeros_other}
+use Rattle.shm_segments.specs.declared.head.Head.{Head}
+use Rattle.shm_segments.specs.Joined.{segment_of, whole, joined, live, pages_in_row, pages_there, shape_held, shape_row, Agree, PiecesFit}
+use Rattle.shm_segments.proofs.Joins.{live-at, at-live, set-joined, same-held}
+use Rattle.shm_segments.proofs.Pieces.{fit-more, fit-unnamed}
+
+-- the identifier that an index has
+abbrev pub id_of : List (Entry Head) → ℕ → ℕ
+id_of rows i = identifier i (entry_at rows i).destroyed
+
+-- no other identifier is live at an index
+pub live-stale : (rows : List (Entry Head)) (i at : ℕ) → at % 32768 ≡ i → at ≢ id_of rows i → live rows at ≡ None
+live-stale rows i at here other =
+    let apart : identifier (at % 32768) (entry_at rows (at % 32768)).destroyed ≢ at = λ is. other (sym is ∙ ap (id_of rows) here) in
+    rw (ne_eqb (identifier (at % 32768) (entry_at rows (at % 32768)).destroyed) at apart) refl
+
+-- what is live is the entries' matter
+live-entry : (rows gs : List (Entry Head)) (at : ℕ) → entry_at gs (at % 32768) ≡ entry_at rows (at % 32768) → live gs at ≡ live rows at
+live-entry rows gs at same = ap (λ (e : Entry Head). if identifier (at % 32768) e.destroyed == at then e.row else None) same
+
+-- DESTROYED
+
+abbrev emptied : List (Entry Head) → ℕ → Entry Head
+emptied rows i = record { destroyed = (entry_at rows i).destroyed + 1; row = None }
+
+-- a row destroyed, and what is held of it dropped
+pub joined-without : (hs : List Held) (rows : List (Entry Head)) (i : ℕ) → length rows ≤ 32768 → i < 32768
+    → joined (without hs (id_of rows i)) (without_row rows i) ≡ slice_set (joined hs rows) i (record { destroyed = (entry_at rows i).destroyed + 1; segment = None })
+joined-without hs rows i few small =
+    let id : ℕ = id_of rows i in
+    let own : id % 32768 ≡ i = identifier-mod i (entry_at rows i).destroyed small in
+    sym
+    (set-joined hs (without hs id) rows i (record { destroyed = (entry_at rows i).destroyed + 1; row = None }) few
+    (λ at other. ap bytes_in (find-without_other hs id at (λ is. other (ap (λ n. n % 32768) is ∙ own)))))
+
+none-either : (b : Bool) (o : Option (Row Head)) → o ≡ None → (if b then o else None) ≡ None
+none-either true o e = e
+none-either false o e = refl
+
+-- nothing is live then at its index
+pub live-without_here : (rows : List (Entry Head)) (i at : ℕ) → i < length rows → at % 32768 ≡ i → live (without_row rows i) at ≡ None
+live-without_here rows i at within here =
+    let e : Entry Head = entry_at (without_row rows i) (at % 32768) in
+    let gone : e.row ≡ None = rw here (ap (λ (y : Entry Head). y.row) (at_set rows i (emptied rows i) within)) in
+    none-either (identifier (at % 32768) e.destroyed == at) e.row gone
+
+pub live-without_other : (rows : List (Entry Head)) (i at : ℕ) → at % 32768 ≢ i → live (without_row rows i) at ≡ live rows at
+live-without_other rows i at other = live-entry rows (without_row rows i) at (at_set_other rows i (at % 32768) (emptied rows i) other)
+
+-- what was not destroyed is live as before
+pub live-without : (rows : List (Entry Head)) (i at : ℕ) → i < length rows → at ≢ id_of rows i → live (without_row rows i) at ≡ live rows at
+live-without rows i at within apart = elim (cases_eq (at % 32768) i) [
+  | inl here ↦ live-without_here rows i at within here ∙ sym (live-stale rows i at here apart)
+  | inr other ↦ live-without_other rows i at other
+]
+
+pub agree-without : (hs : List Held) (rows : List (Entry Head)) (i : ℕ) → Agree hs rows → i < length rows → Agree (without hs (id_of rows i)) (without_row rows i)
+agree-without hs rows i agree within =
+    record {
+      few = omega (arith, agree.few, length-set rows i (emptied rows i));
+      same = shown;
+    }
+  where
+    own : id_of rows i % 32768 ≡ i
+    own = identifier-mod i (entry_at rows i).destroyed (omega (arith, within, agree.few))
+
+    shown : (at : ℕ) → option_map shape_held (find_held (without hs (id_of rows i)) at) ≡ option_map shape_row (live (without_row rows i) at)
+    shown at = elim (cases_eq at (id_of rows i)) [
+      | inl is ↦
+          rw is
+          (ap (option_map shape_held) (find-without_same hs (id_of rows i))
+          ∙ ap (option_map shape_row) (sym (live-without_here rows i (id_of rows i) within own)))
+      | inr apart ↦
+          ap (option_map shape_held) (find-without_other hs (id_of rows i) at apart) ∙ agree.same at
+          ∙ ap (option_map shape_row) (sym (live-without rows i at within apart))
+    ]
+
+-- pieces still fit where none names what is destroyed
+pub fit-without : (rows : List (Entry Head)) (rs : List Runner) (i : ℕ) → i < length rows → attach_count rs (id_of rows i) ≡ 0 → PiecesFit rows rs → PiecesFit (without_row rows i) rs
+fit-without rows rs i within none fit =
+    fit-unnamed rows (without_row rows i) rs (id_of rows i) none (λ at apart. omega (arith, ap pages_in_row (live-without rows i at within apart))) fit
+
+-- the same by an identifier that is live
+pub joined-gone : (hs : List Held) (rows : List (Entry Head)) (id : ℕ) (r : Row Head) → Agree hs rows → live rows id ≡ Some r
+    → joined (without hs id) (without_row rows (id % 32768)) ≡ slice_set (joined hs rows) (id % 32768) (record { destroyed = (entry_at rows (id % 32768)).destroyed + 1; segment = None })
+joined-gone hs rows id r agree there =
+    ap (λ n. joined (without hs n) (without_row rows (id % 32768))) (sym (live-at rows id r there).own) ∙ joined-without hs rows (id % 32768) agree.few (omega arith)
+
+pub agree-gone : (hs : List Held) (rows : List (Entry Head)) (id : ℕ) (r : Row Head) → Agree hs rows → live rows id ≡ Some r → Agree (without hs id) (without_row rows (id % 32768))
+agree-gone hs rows id r agree there =
+    let l = live-at rows id r there in
+    subst (λ n. Agree (without hs n) (without_row rows (id % 32768))) l.own (agree-without hs rows (id % 32768) agree l.within)
+
+pub fit-gone : (rows : List (Entry Head)) (rs : List Runner) (id : ℕ) (r : Row Head) → live rows id ≡ Some r → attach_count rs id ≡ 0 → PiecesFit rows rs → PiecesFit (without_row rows (id % 32768)) rs
+fit-gone rows rs id r there none fit =
+    let l = live-at rows id r there in
+    fit-without rows rs (id % 32768) l.within (ap (attach_count rs) l.own ∙ none) fit
+
+-- CREATED
+
+-- an index that may be given to a new segment
+pub record IsFree (rows : List (Entry Head)) (i : ℕ) : Type 0 where
+  pub within : i ≤ length rows
+  pub small : i < 32768
+  pub none : (entry_at rows i).row ≡ None
+
+none-free : (r : Option (Row Head)) (b : Bool) → (is_none r && b) ≡ true → r ≡ None
+none-free None b free = refl
+none-free (Some r) b free = absurd (true≢false (sym free))
+
+pub index-free : (rows : List (Entry Head)) (i : ℕ) → length rows ≤ 32768 → free_index rows ≡ Some i → IsFree rows i
+index-free rows i few is =
+    let f = free_found 0 i rows is in
+    let same : f.place ≡ i = omega (arith, f.at) in
+    let e : Entry Head = entry_at rows f.place in
+    record {
+      within = omega (arith, f.within, same);
+      small = elim (cases_lt f.place (length rows)) [ inl lt ↦ omega (arith, lt, few, same) | inr past ↦ f.small (omega (arith, f.within, past)) ];
+      none = rw (← same) (none-free e.row (nat_lt e.destroyed 65536) f.free);
+    }
+
+-- nothing is held under its identifier
+pub free-new : (hs : List Held) (rows : List (Entry Head)) (i : ℕ) → Agree hs rows → IsFree rows i → is_held hs (id_of rows i) ≡ false
+free-new hs rows i agree free = same-held hs rows (id_of rows i) agree ∙ ap is_some (at-live rows i free.small ∙ free.none)
+
+-- the row is new, and zeros are held for it
+pub joined-with_row : (hs : List Held) (rows : List (Entry Head)) (i key pages : ℕ) (v : Head) → Agree hs rows → IsFree rows i
+    → joined (with_zeros hs (id_of rows i) pages) (with_row rows i key v)
+    ≡ with_segment (joined hs rows) i (segment_of (record { key = key; value = v }) (replicate (4096 * pages) 0))
+joined-with_row hs rows i key pages v agree free =
+    sym (with_segment-flat (whole gs) rows i key v free.within) ∙ ap (λ t. with_segment t i (whole gs id row)) same ∙ ap (λ xs. with_segment (joined hs rows) i (segment_of row xs)) bytes
+  where
+    id : ℕ
+    id = id_of rows i
+
+    gs : List Held
+    gs = with_zeros hs id pages
+
+    row : Row Head
+    row = record { key = key; value = v }
+
+    bytes : bytes_of gs id ≡ replicate (4096 * pages) 0
+    bytes = ap bytes_in (find-zeros_same hs id pages (free-new hs rows i agree free))
+
+    same : joined gs rows ≡ joined hs rows
+    same = flat_table-make (whole gs) (whole hs) rows (λ k r lt is. ap (segment_of r) (ap bytes_in (find-zeros_other hs id pages (id_of rows k) (apart k r lt is))))
+      where
+        apart : (k : ℕ) (r : Row Head) → k < length rows → (entry_at rows k).row ≡ Some r → id_of rows k ≢ id
+        apart k r lt is both =
+            let here : k ≡ i = sym (identifier-mod k (entry_at rows k).destroyed (omega (arith, lt, agree.few))) ∙ ap (λ n. n % 32768) both ∙ identifier-mod i (entry_at rows i).destroyed free.small in
+            let clash : None ≡ Some r = sym free.none ∙ ap (λ n. (entry_at rows n).row) (sym here) ∙ is in
+            cc
+
+-- what is live then
+pub live-with_row_same : (rows : List (Entry Head)) (i key : ℕ) (v : Head) → IsFree rows i → live (with_row rows i key v) (id_of rows i) ≡ Some (record { key = key; value = v })
+live-with_row_same rows i key v free =
+    let own : id_of rows i % 32768 ≡ i = identifier-mod i (entry_at rows i).destroyed free.small in
+    rw (own, at_row rows i key v free.within, eq-eqb (id_of rows i) (id_of rows i) refl) refl
+
+pub live-with_row_other : (rows : List (Entry Head)) (i at key : ℕ) (v : Head) → IsFree rows i → at ≢ id_of rows i → live (with_row rows i key v) at ≡ live rows at
+live-with_row_other rows i at key v free apart = elim (cases_eq (at % 32768) i) [
+  | inl here ↦
+      (let other : identifier i (entry_at rows i).destroyed ≢ at = λ is. apart (sym is) in
+      rw (here, at_row rows i key v free.within, ne_eqb (id_of rows i) at other) refl)
+  | inr away ↦ live-entry rows (with_row rows i key v) at (at_row_other rows i (at % 32768) key v free.within away)
+]
+
+pub agree-with_row : (hs : List Held) (rows : List (Entry Head)) (i key pages : ℕ) (v : Head) → Agree hs rows → IsFree rows i → v.locked ≡ false → pages ≡ pages_of v.size
+    → Agree (with_zeros hs (id_of rows i) pages) (with_row rows i key v)
+agree-with_row hs rows i key pages v agree free lock size =
+    record {
+      few = with_row-few rows i key v free.within free.small agree.few;
+      same = shown;
+    }
+  where
+    id : ℕ
+    id = id_of rows i
+
+    zeros : List ℕ
+    zeros = replicate (4096 * pages) 0
+
+    long : length zeros ≡ 4096 * pages_of v.size
+    long = length-replicate (4096 * pages) 0 ∙ ap (λ n. 4096 * n) size
+
+    shown : (at : ℕ) → option_map shape_held (find_held (with_zeros hs id pages) at) ≡ option_map shape_row (live (with_row rows i key v) at)
+    shown at = elim (cases_eq at id) [
+      | inl is ↦
+          rw is
+          (ap (option_map shape_held) (find-zeros_same hs id pages (free-new hs rows i agree free))
+          ∙ ap (λ n. Some (record { locked = false; size = n })) long ∙ ap (λ b. Some (record { locked = b; size = 4096 * pages_of v.size })) (sym lock)
+          ∙ ap (option_map shape_row) (sym (live-with_row_same rows i key v free)))
+      | inr apart ↦
+          ap (option_map shape_held) (find-zeros_other hs id pages at apart) ∙ agree.same at
+          ∙ ap (option_map shape_row) (sym (live-with_row_other rows i at key v free apart))
+    ]
+
+pub fit-with_row : (rows : List (Entry Head)) (rs : List Runner) (i key : ℕ) (v : Head) → IsFree rows i → PiecesFit rows rs → PiecesFit (with_row rows i key v) rs
+fit-with_row rows rs i key v free fit = fit-more rows (with_row rows i key v) rs more fit
+  where
+    more : (at : ℕ) → pages_there rows at ≤ pages_there (with_row rows i key v) at
+    more at = elim (cases_eq at (id_of rows i)) [
+      | inl is ↦
+          (let none : pages_there rows at ≡ 0 = ap pages_in_row (ap (live rows) is ∙ at-live rows i free.small ∙ free.none) in
+          omega (arith, none))
+      | inr apart ↦ omega (arith, ap pages_in_row (live-with_row_other rows i at key v free apart))
+    ]

@@ -1,0 +1,163 @@
+-- Changes of a table that leave alone how many pages each segment has, which are locked, and which are marked.
+use Rattle.std.proofs.Common.{◌≡◌, ◌≢◌, ◌⊎◌, ℕ, ◌/◌, ◌%◌, List, [], ◌∷◌, length, slice_get, slice_set, Option, Some, None, refl, ap, ◌∙◌, inl, inr, eq-eqb, ne_eqb}
+use Rattle.std.proofs.lemmas.Bool.{cases_eq}
+use Rattle.std.specs.Prelude.{is_some, option_map}
+use Rattle.shm_base.specs.State.{Segment, Entry, Runner}
+use Rattle.shm_base.specs.Access.{Place, set_in, with_byte, entry_byte_set, byte_set, stored}
+use Rattle.shm_base.specs.Segments.{change, with_entry, pages_held, pages_locked, reserved, locked, detached, detach_all}
+use Rattle.shm_segments.specs.Table.{live, live_in, pages_at}
+use Rattle.shm_segments.specs.Left.{is_left, orphan_in, orphan, id_in, id_at}
+use Rattle.shm_segments.proofs.Entries.{get-set_same, get-set_other, length-slice_set, sum-set_same}
+
+-- two segments, or none, of as many pages
+pub record AlikePages (o p : Option Segment) : Type 0 where
+  pub pages : pages_held p ≡ pages_held o
+  pub some : is_some p ≡ is_some o
+
+-- the same segments are live, with as many pages
+pub record SamePages (t u : List Entry) : Type 0 where
+  pub size : length u ≡ length t
+  pub reserved : reserved u ≡ reserved t
+  pub pages : (id : ℕ) → pages_at u id ≡ pages_at t id
+  pub there : (id : ℕ) → is_some (live u id) ≡ is_some (live t id)
+  pub ids : (i : ℕ) → id_at u i ≡ id_at t i
+
+-- and the same are locked, and marked
+pub record SameTable (t u : List Entry) : Type 0 where
+  pub same : SamePages t u
+  pub locked : locked u ≡ locked t
+  pub left : (rs : List Runner) (i : ℕ) → orphan rs u i ≡ orphan rs t i
+
+pub pages-refl : (t : List Entry) → SamePages t t
+pages-refl t = record { size = refl; reserved = refl; pages = λ id. refl; there = λ id. refl; ids = λ i. refl }
+
+pub same-refl : (t : List Entry) → SameTable t t
+same-refl t = record { same = pages-refl t; locked = refl; left = λ rs i. refl }
+
+pub pages-trans : (t u v : List Entry) → SamePages t u → SamePages u v → SamePages t v
+pages-trans t u v a b =
+    record {
+      size = b.size ∙ a.size;
+      reserved = b.reserved ∙ a.reserved;
+      pages = λ id. b.pages id ∙ a.pages id;
+      there = λ id. b.there id ∙ a.there id;
+      ids = λ i. b.ids i ∙ a.ids i;
+    }
+
+pub same-trans : (t u v : List Entry) → SameTable t u → SameTable u v → SameTable t v
+same-trans t u v a b =
+    record { same = pages-trans t u v a.same b.same; locked = b.locked ∙ a.locked; left = λ rs i. b.left rs i ∙ a.left rs i }
+
+-- a word on what stands at an index is the same where it is so for the entry that was set
+at-set : {Y : Type 0} (w : Option Entry → Y) (t : List Entry) (i j : ℕ) (e x : Entry) → slice_get t i ≡ Some x → w (Some e) ≡ w (Some x) → w (slice_get (slice_set t i e) j) ≡ w (slice_get t j)
+at-set w t i j e x there same = by (cases_eq i j)
+  where
+    by : (i ≡ j) ⊎ (i ≢ j) → w (slice_get (slice_set t i e) j) ≡ w (slice_get t j)
+    by (inl h) = rw (← h, get-set_same t i e x there, there) same
+    by (inr n) = ap w (get-set_other t i j e n)
+
+live-alike : (id d : ℕ) (o p : Option Segment) → AlikePages o p → (pages_held (live_in id (Some (record { destroyed = d; segment = p }))) ≡ pages_held (live_in id (Some (record { destroyed = d; segment = o })))) × (is_some (live_in id (Some (record { destroyed = d; segment = p }))) ≡ is_some (live_in id (Some (record { destroyed = d; segment = o }))))
+live-alike id d o p a = by (cases_eq d (id / 32768))
+  where
+    by : (d ≡ id / 32768) ⊎ (d ≢ id / 32768) → (pages_held (live_in id (Some (record { destroyed = d; segment = p }))) ≡ pages_held (live_in id (Some (record { destroyed = d; segment = o })))) × (is_some (live_in id (Some (record { destroyed = d; segment = p }))) ≡ is_some (live_in id (Some (record { destroyed = d; segment = o }))))
+    by (inl h) = rw (eq-eqb d (id / 32768) h) (a.pages, a.some)
+    by (inr n) = rw (ne_eqb d (id / 32768) n) (refl, refl)
+
+-- one entry set to one of as many pages
+pub set-pages : (t : List Entry) (i : ℕ) (x : Entry) (p : Option Segment) → slice_get t i ≡ Some x → AlikePages x.segment p → SamePages t (slice_set t i (record { destroyed = x.destroyed; segment = p }))
+set-pages t i x p there a =
+    let e : Entry = record { destroyed = x.destroyed; segment = p } in
+    record {
+      size = length-slice_set t i e;
+      reserved = sum-set_same (λ (y : Entry). pages_held y.segment) t i e x there a.pages;
+      pages = λ id. at-set (λ o. pages_held (live_in id o)) t i (id % 32768) e x there (live-alike id x.destroyed x.segment p a).0;
+      there = λ id. at-set (λ o. is_some (live_in id o)) t i (id % 32768) e x there (live-alike id x.destroyed x.segment p a).1;
+      ids = λ j. by j (cases_eq i j);
+    }
+  where
+    e : Entry
+    e = record { destroyed = x.destroyed; segment = p }
+
+    by : (j : ℕ) → (i ≡ j) ⊎ (i ≢ j) → id_at (slice_set t i e) j ≡ id_at t j
+    by j (inl h) = rw (← h, get-set_same t i e x there, there) refl
+    by j (inr n) = ap (id_in j) (get-set_other t i j e n)
+
+-- what is marked where one entry is set to one that is marked alike
+pub set-left : (t : List Entry) (i : ℕ) (x : Entry) (p : Option Segment) → slice_get t i ≡ Some x → ((rs : List Runner) (id : ℕ) → is_left rs id p ≡ is_left rs id x.segment)
+    → (rs : List Runner) (j : ℕ) → orphan rs (slice_set t i (record { destroyed = x.destroyed; segment = p })) j ≡ orphan rs t j
+set-left t i x p there a rs j = by (cases_eq i j)
+  where
+    e : Entry
+    e = record { destroyed = x.destroyed; segment = p }
+
+    by : (i ≡ j) ⊎ (i ≢ j) → orphan rs (slice_set t i e) j ≡ orphan rs t j
+    by (inl h) = rw (← h, get-set_same t i e x there, there) (a rs _)
+    by (inr n) = ap (orphan_in j rs) (get-set_other t i j e n)
+
+-- A CHANGE OF ONE SEGMENT
+
+module _ (f : Segment → Segment) where
+  mapped-pages : ((s : Segment) → length (f s).bytes ≡ length s.bytes) → (o : Option Segment) → AlikePages o (option_map f o)
+  mapped-pages k None = record { pages = refl; some = refl }
+  mapped-pages k (Some s) = record { pages = rw (k s) refl; some = refl }
+
+  mapped-locked : ((s : Segment) → length (f s).bytes ≡ length s.bytes) → ((s : Segment) → (f s).locked ≡ s.locked) → (o : Option Segment) → pages_locked (option_map f o) ≡ pages_locked o
+  mapped-locked k l None = refl
+  mapped-locked k l (Some s) = rw (k s, l s) refl
+
+  mapped-left : ((s : Segment) → (f s).dest ≡ s.dest) → (o : Option Segment) (rs : List Runner) (id : ℕ) → is_left rs id (option_map f o) ≡ is_left rs id o
+  mapped-left k None rs id = refl
+  mapped-left k (Some s) rs id = rw (k s) refl
+
+  in-pages : ((s : Segment) → length (f s).bytes ≡ length s.bytes) → (t : List Entry) (i : ℕ) (o : Option Entry) → slice_get t i ≡ o → SamePages t (set_in t i (with_entry f) o)
+  in-pages k t i None is = pages-refl t
+  in-pages k t i (Some x) is = set-pages t i x (option_map f x.segment) is (mapped-pages k x.segment)
+
+  in-locked : ((s : Segment) → length (f s).bytes ≡ length s.bytes) → ((s : Segment) → (f s).locked ≡ s.locked) → (t : List Entry) (i : ℕ) (o : Option Entry) → slice_get t i ≡ o → locked (set_in t i (with_entry f) o) ≡ locked t
+  in-locked k l t i None is = refl
+  in-locked k l t i (Some x) is = sum-set_same (λ (y : Entry). pages_locked y.segment) t i (with_entry f x) x is (mapped-locked k l x.segment)
+
+  in-left : ((s : Segment) → (f s).dest ≡ s.dest) → (t : List Entry) (i : ℕ) (o : Option Entry) → slice_get t i ≡ o → (rs : List Runner) (j : ℕ) → orphan rs (set_in t i (with_entry f) o) j ≡ orphan rs t j
+  in-left k t i None is rs j = refl
+  in-left k t i (Some x) is rs j = set-left t i x (option_map f x.segment) is (mapped-left k x.segment) rs j
+
+  pub change-pages : ((s : Segment) → length (f s).bytes ≡ length s.bytes) → (t : List Entry) (id : ℕ) → SamePages t (change t id f)
+  change-pages k t id = in-pages k t (id % 32768) (slice_get t (id % 32768)) refl
+
+  pub change-locked : ((s : Segment) → length (f s).bytes ≡ length s.bytes) → ((s : Segment) → (f s).locked ≡ s.locked) → (t : List Entry) (id : ℕ) → locked (change t id f) ≡ locked t
+  change-locked k l t id = in-locked k l t (id % 32768) (slice_get t (id % 32768)) refl
+
+  pub change-left : ((s : Segment) → (f s).dest ≡ s.dest) → (t : List Entry) (id : ℕ) (rs : List Runner) (j : ℕ) → orphan rs (change t id f) j ≡ orphan rs t j
+  change-left k t id rs j = in-left k t (id % 32768) (slice_get t (id % 32768)) refl rs j
+
+  pub change-same : ((s : Segment) → length (f s).bytes ≡ length s.bytes) → ((s : Segment) → (f s).locked ≡ s.locked) → ((s : Segment) → (f s).dest ≡ s.dest) → (t : List Entry) (id : ℕ) → SameTable t (change t id f)
+  change-same k l d t id = record { same = change-pages k t id; locked = change-locked k l t id; left = change-left d t id }
+
+-- MANY CHANGES
+
+-- the time and the pid of a detach
+pub detach_all-same : (n pid : ℕ) (ids : List ℕ) (t : List Entry) → SameTable t (detach_all n pid t ids)
+detach_all-same n pid [] t = same-refl t
+detach_all-same n pid (id ∷ ids) t =
+    same-trans t (change t id (detached n pid)) (detach_all n pid (change t id (detached n pid)) ids)
+    (change-same (detached n pid) (λ s. refl) (λ s. refl) (λ s. refl) t id)
+    (detach_all-same n pid ids (change t id (detached n pid)))
+
+byte-same : (t : List Entry) (i at b : ℕ) (o : Option Entry) → slice_get t i ≡ o → SameTable t (set_in t i (entry_byte_set at b) o)
+byte-same t i at b None is = same-refl t
+byte-same t i at b (Some x) is =
+    let long : (s : Segment) → length (byte_set at b s).bytes ≡ length s.bytes = λ s. length-slice_set s.bytes at b in
+    record {
+      same = set-pages t i x (option_map (byte_set at b) x.segment) is (mapped-pages (byte_set at b) long x.segment);
+      locked = sum-set_same (λ (y : Entry). pages_locked y.segment) t i (entry_byte_set at b x) x is (mapped-locked (byte_set at b) long (λ s. refl) x.segment);
+      left = set-left t i x (option_map (byte_set at b) x.segment) is (mapped-left (byte_set at b) (λ s. refl) x.segment);
+    }
+
+-- bytes replaced
+pub stored-same : (ps : List Place) (bs : List ℕ) (t : List Entry) → SameTable t (stored t ps bs)
+stored-same [] bs t = same-refl t
+stored-same (p ∷ ps) [] t = same-refl t
+stored-same (p ∷ ps) (b ∷ bs) t =
+    same-trans t (with_byte t p b) (stored (with_byte t p b) ps bs)
+    (byte-same t (p.seg % 32768) p.at b (slice_get t (p.seg % 32768)) refl)
+    (stored-same ps bs (with_byte t p b))

@@ -1,0 +1,137 @@
+-- Loads and stores over stretches, as the flat machine's table shows them.
+use Rattle.std.proofs.Common.{◌≡◌, ℕ, zero, suc, ◌+◌, ◌%◌, ◌≤◌, Bool, true, List, [], ◌∷◌, ◌++◌, length, set, take, drop, map, Option, Some, None, is_some, option_map, refl, sym, ap, ◌∙◌, arith, inl, inr}
+use Rattle.std.proofs.lemmas.Bool.Decides.{eqb_tells}
+use Rattle.std.proofs.lemmas.Grind.{common_steps}
+use Rattle.std.proofs.lemmas.List.{set-get_or}
+use Rattle.std.specs.Prelude.{slice_set, slice_index, sum_by, All}
+use Rattle.shm_base.specs.Access.{Place, set_in, with_byte, entry_byte_set, stored, loaded, byte_at, bytes_at, bytes_at_entry}
+use Rattle.shm_base.specs.declared.paging.Span.{Span}
+use Rattle.shm_ids.specs.declared.table.Entry.{Entry}
+use Rattle.shm_ids.specs.Table.{identifier, unused, entry_at}
+use Rattle.shm_ids.specs.Flat.{flat_entry}
+use Rattle.shm_ids.proofs.Flat.{at-table}
+use Rattle.shm_attach.specs.Spans.{run, span_places}
+use Rattle.shm_plain.specs.Held.{Held, find_held, bytes_of, bytes_in, pasted, written, FitsPage, read_from}
+use Rattle.shm_plain.proofs.Kept.{find_held-id, find-map}
+use Rattle.shm_plain.proofs.Pasted.{length-paste, pasted-keeps}
+use Rattle.shm_segments.specs.declared.head.Head.{Head}
+use Rattle.shm_segments.specs.Joined.{segment_of, whole, joined, live, shape_held, Agree}
+use Rattle.shm_segments.proofs.Bytes.{put, puts, get, bytes_of-put_same, bytes_of-put_other, Each, each, each-pasted, len_of, written-same, get-spans}
+use Rattle.shm_segments.proofs.Joins.{live-at, joined-same, set-joined, same-held}
+
+-- A LIVE SEGMENT'S BYTES
+
+some-is : {X : Type 0} (o : Option X) → is_some o ≡ true → (x : X) × (o ≡ Some x)
+some-is None e = cc
+some-is (Some x) e = (x, refl)
+
+-- a byte set
+pub with_byte-joined : (hs : List Held) (rows : List (Entry Head)) (p : Place) (b : ℕ) → length rows ≤ 32768 → is_some (live rows p.seg) ≡ true → with_byte (joined hs rows) p b ≡ joined (put hs p b) rows
+with_byte-joined hs rows p b few there =
+    let row = some-is (live rows p.seg) there in
+    let l = live-at rows p.seg row.0 row.1 in
+    let i : ℕ = p.seg % 32768 in
+    let e : Entry Head = entry_at rows i in
+    let id : ℕ = identifier i e.destroyed in
+    let gs : List Held = put hs p b in
+    let bytes : set (bytes_of hs id) p.at b ≡ bytes_of gs id = rw l.own (sym (bytes_of-put_same hs p b)) in
+    let changed : entry_byte_set p.at b (flat_entry (whole hs) i e) ≡ flat_entry (whole gs) i e =
+    rw l.there (ap (λ xs. record { destroyed = e.destroyed; segment = Some (segment_of row.0 xs) }) bytes) in
+    ap (set_in (joined hs rows) i (entry_byte_set p.at b)) (at-table (whole hs) i rows l.within)
+    ∙ ap (slice_set (joined hs rows) i) changed
+    ∙ set-joined hs gs rows i e few (λ at other. bytes_of-put_other hs p b at (λ is. other (ap (λ n. n % 32768) is)))
+    ∙ ap (joined gs) (set-get_or rows i unused)
+
+-- the bytes of a segment
+pub bytes_at-joined : (hs : List Held) (rows : List (Entry Head)) (id : ℕ) → is_some (live rows id) ≡ true → bytes_at (joined hs rows) id ≡ bytes_of hs id
+bytes_at-joined hs rows id there =
+    let row = some-is (live rows id) there in
+    let l = live-at rows id row.0 row.1 in
+    let i : ℕ = id % 32768 in
+    ap bytes_at_entry (at-table (whole hs) i rows l.within) ∙ rw (l.there, l.own) refl
+
+-- PLACE BY PLACE
+
+abbrev AreLive : List (Entry Head) → List Place → Type 0
+AreLive rows ps = Each (λ (p : Place). is_some (live rows p.seg) ≡ true) ps
+
+stored-joined : (ps : List Place) (bs : List ℕ) (hs : List Held) (rows : List (Entry Head)) → length rows ≤ 32768 → AreLive rows ps → stored (joined hs rows) ps bs ≡ joined (puts hs ps bs) rows
+stored-joined [] bs hs rows few h = refl
+stored-joined (p ∷ ps) [] hs rows few h = refl
+stored-joined (p ∷ ps) (b ∷ bs) hs rows few h =
+    ap (λ t. stored t ps bs) (with_byte-joined hs rows p b few h.0) ∙ stored-joined ps bs (put hs p b) rows few h.1
+
+loaded-joined : (ps : List Place) (hs : List Held) (rows : List (Entry Head)) → AreLive rows ps → loaded (joined hs rows) ps ≡ map (get hs) ps
+loaded-joined [] hs rows h = refl
+loaded-joined (p ∷ ps) hs rows h =
+    let here : byte_at (joined hs rows) p ≡ get hs p = ap (λ xs. slice_index xs p.at) (bytes_at-joined hs rows p.seg h.0) in
+    let rest = loaded-joined ps hs rows h.1 in
+    cc
+
+live-run : (n seg at : ℕ) (w : Bool) (rows : List (Entry Head)) → is_some (live rows seg) ≡ true → AreLive rows (run seg at n w)
+live-run zero seg at w rows h = tt
+live-run (suc n) seg at w rows h = (h, live-run n seg (at + 1) w rows h)
+
+live-append : (ps qs : List Place) (rows : List (Entry Head)) → AreLive rows ps → AreLive rows qs → AreLive rows (ps ++ qs)
+live-append [] qs rows a b = b
+live-append (p ∷ ps) qs rows a b = (a.0, live-append ps qs rows a.1 b)
+
+-- STRETCH BY STRETCH
+
+-- what fits is live
+live-spans : (ps : List Span) (w : Bool) (hs : List Held) (rows : List (Entry Head)) → Agree hs rows → Each (FitsPage hs) ps → AreLive rows (span_places w ps)
+live-spans [] w hs rows agree h = tt
+live-spans (p ∷ ps) w hs rows agree h =
+    live-append (run p.seg p.at p.len w) (span_places w ps) rows
+    (live-run p.len p.seg p.at w rows (sym (same-held hs rows p.seg agree) ∙ h.0.0))
+    (live-spans ps w hs rows agree h.1)
+
+-- a store shows in the table as the bytes at the places replaced
+pub store_shown : (hs : List Held) (rows : List (Entry Head)) (w : Bool) (ps : List Span) (new : List ℕ) → Agree hs rows → All (FitsPage hs) ps → sum_by len_of ps ≡ length new
+    → stored (joined hs rows) (span_places w ps) new ≡ joined (written hs ps new) rows
+store_shown hs rows w ps new agree fit size =
+    let fits = each (FitsPage hs) ps fit in
+    stored-joined (span_places w ps) new hs rows agree.few (live-spans ps w hs rows agree fits)
+    ∙ sym (joined-same (puts hs (span_places w ps) new) (written hs ps new) rows (written-same ps w hs new fits size))
+
+-- a load gives the bytes at the places of the table
+pub load_shown : (hs : List Held) (rows : List (Entry Head)) (w : Bool) (ps : List Span) → Agree hs rows → All (FitsPage hs) ps
+    → loaded (joined hs rows) (span_places w ps) ≡ read_from hs ps
+load_shown hs rows w ps agree fit =
+    let fits = each (FitsPage hs) ps fit in
+    loaded-joined (span_places w ps) hs rows (live-spans ps w hs rows agree fits) ∙ get-spans ps w hs fits
+
+-- WHAT A STORE LEAVES
+
+paste-shape : (p : Span) (new : List ℕ) (g : Held) → (g.id ≡ p.seg → p.at + length new ≤ length g.bytes) → shape_held (pasted p.seg p.at new g) ≡ shape_held g
+paste-shape p new g fits = elim (eqb_tells g.id p.seg) [
+  | inl w ↦ rw w.0 (ap (λ n. record { locked = g.locked; size = n }) (length-paste g.bytes p.at new (fits w.1)))
+  | inr w ↦ rw w.0 refl
+]
+
+pub agree-pasted : (hs : List Held) (rows : List (Entry Head)) (p : Span) (new : List ℕ) → Agree hs rows → FitsPage hs p → length new ≤ p.len → Agree (map (pasted p.seg p.at new) hs) rows
+agree-pasted hs rows p new agree fit few =
+    record {
+      few = agree.few;
+      same = λ at. ap (option_map shape_held) (find-map (pasted p.seg p.at new) (pasted-keeps p.seg p.at new) hs at) ∙ by at (find_held hs at) refl ∙ agree.same at;
+    }
+  where
+    by : (at : ℕ) (o : Option Held) → find_held hs at ≡ o → option_map shape_held (option_map (pasted p.seg p.at new) (find_held hs at)) ≡ option_map shape_held (find_held hs at)
+    by at None is = rw is refl
+    by at (Some g) is =
+        let fits : g.id ≡ p.seg → p.at + length new ≤ length g.bytes = λ own.
+        let bytes : bytes_of hs p.seg ≡ g.bytes = ap (bytes_of hs) (sym own ∙ find_held-id hs at g is) ∙ ap bytes_in is in
+        omega (arith, fit.1, few, ap length bytes) in
+        rw is (ap Some (paste-shape p new g fits))
+
+each-agree : (ps : List Span) (hs : List Held) (rows : List (Entry Head)) (new : List ℕ) → Agree hs rows → Each (FitsPage hs) ps → Agree (written hs ps new) rows
+each-agree [] hs rows new agree fits = agree
+each-agree (p ∷ ps) hs rows new agree fits =
+    let few : length (take p.len new) ≤ p.len = grind (arith, common_steps) in
+    each-agree ps (map (pasted p.seg p.at (take p.len new)) hs) rows (drop p.len new)
+    (agree-pasted hs rows p (take p.len new) agree fits.0 few)
+    (each-pasted ps hs p (take p.len new) few fits.0 fits.1)
+
+-- rows and what is held still agree
+pub agree-written : (hs : List Held) (rows : List (Entry Head)) (ps : List Span) (new : List ℕ) → Agree hs rows → All (FitsPage hs) ps → Agree (written hs ps new) rows
+agree-written hs rows ps new agree fit = each-agree ps hs rows new agree (each (FitsPage hs) ps fit)

@@ -1,0 +1,203 @@
+-- Segments and pages counted over the rows.
+use Rattle.std.proofs.Common.{◌≡◌, ℕ, suc, ◌+◌, ◌*◌, ◌/◌, ◌%◌, ◌<◌, ◌≤◌, if◌then◌else◌, Bool, true, false, List, [], ◌∷◌, length, Option, Some, None, refl, sym, ap, ◌∙◌, arith, inl, inr}
+use Rattle.std.proofs.lemmas.Bool.{cases_eq}
+use Rattle.std.proofs.lemmas.List.Sums.{sum_by-cons, sum_by-set, sum_by_push, sum_by-le-sum_by, get_or-le-sum_by}
+use Rattle.std.specs.Prelude.{All, sum_by}
+use Rattle.shm_base.specs.State.{Entry as FlatEntry, pages_of}
+use Rattle.shm_base.specs.Segments.{reserved, locked, segment_count, pages_held, pages_locked}
+use Rattle.shm_ids.specs.declared.table.Entry.{Entry}
+use Rattle.shm_ids.specs.declared.table.Row.{Row}
+use Rattle.shm_ids.specs.Table.{identifier, unused, entry_at, held, with_row, with_value, with_key, without_row, row_count}
+use Rattle.shm_ids.specs.Flat.{flat_row, flat_entry, flat_from}
+use Rattle.shm_ids.proofs.Entries.{with_row-within, with_row-end}
+use Rattle.shm_ids.proofs.Flat.{segment_count-flat}
+use Rattle.shm_base.specs.declared.paging.Span.{Span}
+use Rattle.shm_plain.specs.Held.{Held, bytes_of, FitsPage, written}
+use Rattle.shm_segments.specs.declared.head.Head.{Head}
+use Rattle.shm_segments.specs.Joined.{whole, joined, live, pages_in_row, locked_in_row, pages_of_rows, locked_of_rows, Agree}
+use Rattle.shm_segments.proofs.Joins.{at-live, held-as, live-at}
+use Rattle.shm_segments.proofs.Shown.{agree-written}
+use Rattle.shm_segments.proofs.Edits.{with_other, other-value, other-key, other-both}
+use Rattle.shm_segments.proofs.Rows.{IsFree}
+
+-- THE TABLE'S SUMS
+
+-- each row's bytes are those of its pages
+abbrev AreWhole : ℕ → List Held → List (Entry Head) → Type 0
+AreWhole n hs rows = (k : ℕ) (r : Row Head) → k < length rows → (entry_at rows k).row ≡ Some r → length (bytes_of hs (identifier (n + k) (entry_at rows k).destroyed)) ≡ 4096 * pages_of r.value.size
+
+all-whole : (hs : List Held) (rows : List (Entry Head)) → Agree hs rows → AreWhole 0 hs rows
+all-whole hs rows agree k r lt is =
+    let here : 0 + k ≡ k = omega arith in
+    rw here (held-as hs rows (identifier k (entry_at rows k).destroyed) r agree (at-live rows k (omega (arith, lt, agree.few)) ∙ is)).size
+
+rest-whole : (n : ℕ) (hs : List Held) (e : Entry Head) (es : List (Entry Head)) → AreWhole n hs (e ∷ es) → AreWhole (n + 1) hs es
+rest-whole n hs e es all k r lt is = let next : n + suc k ≡ (n + 1) + k = omega arith in rw next at (all (suc k) r (omega arith) is)
+
+first-whole : (n : ℕ) (hs : List Held) (e : Entry Head) (es : List (Entry Head)) → AreWhole n hs (e ∷ es) → (r : Row Head) → e.row ≡ Some r → length (bytes_of hs (identifier n e.destroyed)) ≡ 4096 * pages_of r.value.size
+first-whole n hs e es all r is = let here : n + 0 ≡ n = omega arith in rw here at (all 0 r (omega arith) is)
+
+row-pages : (hs : List Held) (id : ℕ) (o : Option (Row Head)) → ((r : Row Head) → o ≡ Some r → length (bytes_of hs id) ≡ 4096 * pages_of r.value.size) → pages_held (flat_row (whole hs) id o) ≡ pages_in_row o
+row-pages hs id None whole = refl
+row-pages hs id (Some r) whole = let size = whole r refl in omega (arith, size)
+
+row-locked : (hs : List Held) (id : ℕ) (o : Option (Row Head)) → ((r : Row Head) → o ≡ Some r → length (bytes_of hs id) ≡ 4096 * pages_of r.value.size) → pages_locked (flat_row (whole hs) id o) ≡ locked_in_row o
+row-locked hs id None whole = refl
+row-locked hs id (Some r) whole =
+    let size : length (bytes_of hs id) / 4096 ≡ pages_of r.value.size = let size = whole r refl in omega (arith, size) in
+    ap (λ n. if r.value.locked then n else 0) size
+
+reserved-from : (n : ℕ) (hs : List Held) (rows : List (Entry Head)) → AreWhole n hs rows → reserved (flat_from (whole hs) n rows) ≡ pages_of_rows rows
+reserved-from n hs [] all = refl
+reserved-from n hs (e ∷ es) all =
+    sum_by-cons (λ (x : FlatEntry). pages_held x.segment) (flat_entry (whole hs) n e) (flat_from (whole hs) (n + 1) es)
+    ∙ ap (λ m. pages_held (flat_row (whole hs) (identifier n e.destroyed) e.row) + m) (reserved-from (n + 1) hs es (rest-whole n hs e es all))
+    ∙ ap (λ m. m + pages_of_rows es) (row-pages hs (identifier n e.destroyed) e.row (first-whole n hs e es all))
+    ∙ sym (sum_by-cons (λ (x : Entry Head). pages_in_row x.row) e es)
+
+locked-from : (n : ℕ) (hs : List Held) (rows : List (Entry Head)) → AreWhole n hs rows → locked (flat_from (whole hs) n rows) ≡ locked_of_rows rows
+locked-from n hs [] all = refl
+locked-from n hs (e ∷ es) all =
+    sum_by-cons (λ (x : FlatEntry). pages_locked x.segment) (flat_entry (whole hs) n e) (flat_from (whole hs) (n + 1) es)
+    ∙ ap (λ m. pages_locked (flat_row (whole hs) (identifier n e.destroyed) e.row) + m) (locked-from (n + 1) hs es (rest-whole n hs e es all))
+    ∙ ap (λ m. m + locked_of_rows es) (row-locked hs (identifier n e.destroyed) e.row (first-whole n hs e es all))
+    ∙ sym (sum_by-cons (λ (x : Entry Head). locked_in_row x.row) e es)
+
+pub reserved-joined : (hs : List Held) (rows : List (Entry Head)) → Agree hs rows → reserved (joined hs rows) ≡ pages_of_rows rows
+reserved-joined hs rows agree = reserved-from 0 hs rows (all-whole hs rows agree)
+
+pub locked-joined : (hs : List Held) (rows : List (Entry Head)) → Agree hs rows → locked (joined hs rows) ≡ locked_of_rows rows
+locked-joined hs rows agree = locked-from 0 hs rows (all-whole hs rows agree)
+
+pub segment_count-joined : (hs : List Held) (rows : List (Entry Head)) → segment_count (joined hs rows) ≡ row_count rows
+segment_count-joined hs rows = segment_count-flat (whole hs) 0 rows
+
+-- a store leaves them
+pub reserved-written : (hs : List Held) (rows : List (Entry Head)) (ps : List Span) (new : List ℕ) → Agree hs rows → All (FitsPage hs) ps → reserved (joined (written hs ps new) rows) ≡ reserved (joined hs rows)
+reserved-written hs rows ps new agree fit = reserved-joined (written hs ps new) rows (agree-written hs rows ps new agree fit) ∙ sym (reserved-joined hs rows agree)
+
+pub locked-written : (hs : List Held) (rows : List (Entry Head)) (ps : List Span) (new : List ℕ) → Agree hs rows → All (FitsPage hs) ps → locked (joined (written hs ps new) rows) ≡ locked (joined hs rows)
+locked-written hs rows ps new agree fit = locked-joined (written hs ps new) rows (agree-written hs rows ps new agree fit) ∙ sym (locked-joined hs rows agree)
+
+pub segment_count-held : (hs gs : List Held) (rows : List (Entry Head)) → segment_count (joined gs rows) ≡ segment_count (joined hs rows)
+segment_count-held hs gs rows = segment_count-joined gs rows ∙ sym (segment_count-joined hs rows)
+
+-- A ROW MORE, ANOTHER OR NONE
+
+-- any sum over rows
+module _ (f : Option (Row Head) → ℕ) (nothing : f None ≡ 0) where
+  abbrev sum_of : List (Entry Head) → ℕ
+  sum_of rows = sum_by (λ (e : Entry Head). f e.row) rows
+
+  sum-with_row : (rows : List (Entry Head)) (i key : ℕ) (v : Head) → IsFree rows i → sum_of (with_row rows i key v) ≡ sum_of rows + f (Some (record { key = key; value = v }))
+  sum-with_row rows i key v free = elim (cases_eq i (length rows)) [
+    | inl e ↦ ap sum_of (with_row-end rows i key v e) ∙ sum_by_push (λ (x : Entry Head). f x.row) rows (held unused key v)
+    | inr n ↦
+        (let lt : i < length rows = omega (arith, free.within, n) in
+        let moved = sum_by-set (λ (x : Entry Head). f x.row) rows i (held (entry_at rows i) key v) unused lt in
+        let before : f (entry_at rows i).row ≡ 0 = ap f free.none ∙ nothing in
+        rw (with_row-within rows i key v lt) (omega (arith, moved, before)))
+  ]
+
+  sum-without_row : (rows : List (Entry Head)) (i : ℕ) (r : Row Head) → i < length rows → (entry_at rows i).row ≡ Some r → sum_of (without_row rows i) + f (Some r) ≡ sum_of rows
+  sum-without_row rows i r within there =
+      let moved = sum_by-set (λ (x : Entry Head). f x.row) rows i (record { destroyed = (entry_at rows i).destroyed + 1; row = None }) unused within in
+      let before : f (entry_at rows i).row ≡ f (Some r) = ap f there in
+      omega (arith, moved, before, nothing)
+
+  sum-other : (rows : List (Entry Head)) (id : ℕ) (r s : Row Head) → live rows id ≡ Some r → sum_of (with_other rows id s) + f (Some r) ≡ sum_of rows + f (Some s)
+  sum-other rows id r s there =
+      let l = live-at rows id r there in
+      let moved = sum_by-set (λ (x : Entry Head). f x.row) rows (id % 32768) (record (entry_at rows (id % 32768)) { row = Some s }) unused l.within in
+      let before : f (entry_at rows (id % 32768)).row ≡ f (Some r) = ap f l.there in
+      omega (arith, moved, before)
+
+-- PAGES
+
+pub pages-with_row : (rows : List (Entry Head)) (i key : ℕ) (v : Head) → IsFree rows i → pages_of_rows (with_row rows i key v) ≡ pages_of_rows rows + pages_of v.size
+pages-with_row rows i key v free = sum-with_row pages_in_row refl rows i key v free
+
+pub pages-without_row : (rows : List (Entry Head)) (i : ℕ) (r : Row Head) → i < length rows → (entry_at rows i).row ≡ Some r → pages_of_rows (without_row rows i) + pages_of r.value.size ≡ pages_of_rows rows
+pages-without_row rows i r within there = sum-without_row pages_in_row refl rows i r within there
+
+pub pages-with_other : (rows : List (Entry Head)) (id : ℕ) (r s : Row Head) → live rows id ≡ Some r → s.value.size ≡ r.value.size → pages_of_rows (with_other rows id s) ≡ pages_of_rows rows
+pages-with_other rows id r s there size =
+    let moved = sum-other pages_in_row refl rows id r s there in
+    let same : pages_of s.value.size ≡ pages_of r.value.size = ap pages_of size in
+    omega (arith, moved, same)
+
+pub pages-with_value : (rows : List (Entry Head)) (id : ℕ) (r : Row Head) (v : Head) → live rows id ≡ Some r → v.size ≡ r.value.size → pages_of_rows (with_value rows (id % 32768) v) ≡ pages_of_rows rows
+pages-with_value rows id r v there size = ap pages_of_rows (other-value rows id r v there) ∙ pages-with_other rows id r (record r { value = v }) there size
+
+pub pages-with_key : (rows : List (Entry Head)) (id : ℕ) (r : Row Head) (key : ℕ) → live rows id ≡ Some r → pages_of_rows (with_key rows (id % 32768) key) ≡ pages_of_rows rows
+pages-with_key rows id r key there = ap pages_of_rows (other-key rows id r key there) ∙ pages-with_other rows id r (record r { key = key }) there refl
+
+pub pages-with_both : (rows : List (Entry Head)) (id : ℕ) (r : Row Head) (key : ℕ) (v : Head) → live rows id ≡ Some r → v.size ≡ r.value.size
+    → pages_of_rows (with_key (with_value rows (id % 32768) v) (id % 32768) key) ≡ pages_of_rows rows
+pages-with_both rows id r key v there size = ap pages_of_rows (other-both rows id r key v there) ∙ pages-with_other rows id r (record { key = key; value = v }) there size
+
+-- a segment's pages are among those of all
+pub pages-within : (rows : List (Entry Head)) (id : ℕ) (r : Row Head) → live rows id ≡ Some r → pages_of r.value.size ≤ pages_of_rows rows
+pages-within rows id r there =
+    let l = live-at rows id r there in
+    let within = get_or-le-sum_by (λ (e : Entry Head). pages_in_row e.row) rows (id % 32768) unused l.within in
+    let own : pages_in_row (entry_at rows (id % 32768)).row ≡ pages_of r.value.size = ap pages_in_row l.there in
+    omega (arith, within, own)
+
+-- LOCKED PAGES
+
+pub locked-with_row : (rows : List (Entry Head)) (i key : ℕ) (v : Head) → IsFree rows i → v.locked ≡ false → locked_of_rows (with_row rows i key v) ≡ locked_of_rows rows
+locked-with_row rows i key v free lock =
+    let more = sum-with_row locked_in_row refl rows i key v free in
+    let none : locked_in_row (Some (record { key = key; value = v })) ≡ 0 = rw lock refl in
+    omega (arith, more, none)
+
+pub locked-without_row : (rows : List (Entry Head)) (i : ℕ) (r : Row Head) → i < length rows → (entry_at rows i).row ≡ Some r → locked_of_rows (without_row rows i) + locked_in_row (Some r) ≡ locked_of_rows rows
+locked-without_row rows i r within there = sum-without_row locked_in_row refl rows i r within there
+
+pub locked-with_other : (rows : List (Entry Head)) (id : ℕ) (r s : Row Head) → live rows id ≡ Some r → locked_of_rows (with_other rows id s) + locked_in_row (Some r) ≡ locked_of_rows rows + locked_in_row (Some s)
+locked-with_other rows id r s there = sum-other locked_in_row refl rows id r s there
+
+pub locked-with_value : (rows : List (Entry Head)) (id : ℕ) (r : Row Head) (v : Head) → live rows id ≡ Some r
+    → locked_of_rows (with_value rows (id % 32768) v) + locked_in_row (Some r) ≡ locked_of_rows rows + locked_in_row (Some (record r { value = v }))
+locked-with_value rows id r v there =
+    ap (λ n. n + locked_in_row (Some r)) (ap locked_of_rows (other-value rows id r v there)) ∙ locked-with_other rows id r (record r { value = v }) there
+
+-- the same where size and lock stay
+pub locked-value_same : (rows : List (Entry Head)) (id : ℕ) (r : Row Head) (v : Head) → live rows id ≡ Some r → v.size ≡ r.value.size → v.locked ≡ r.value.locked
+    → locked_of_rows (with_value rows (id % 32768) v) ≡ locked_of_rows rows
+locked-value_same rows id r v there size lock =
+    let moved = locked-with_value rows id r v there in
+    let same : locked_in_row (Some (record r { value = v })) ≡ locked_in_row (Some r) = rw (size, lock) refl in
+    omega (arith, moved, same)
+
+pub locked-with_key : (rows : List (Entry Head)) (id : ℕ) (r : Row Head) (key : ℕ) → live rows id ≡ Some r → locked_of_rows (with_key rows (id % 32768) key) ≡ locked_of_rows rows
+locked-with_key rows id r key there =
+    let moved = locked-with_other rows id r (record r { key = key }) there in
+    ap locked_of_rows (other-key rows id r key there) ∙ omega (arith, moved)
+
+pub locked-with_both : (rows : List (Entry Head)) (id : ℕ) (r : Row Head) (key : ℕ) (v : Head) → live rows id ≡ Some r → v.size ≡ r.value.size → v.locked ≡ r.value.locked
+    → locked_of_rows (with_key (with_value rows (id % 32768) v) (id % 32768) key) ≡ locked_of_rows rows
+locked-with_both rows id r key v there size lock =
+    let moved = locked-with_other rows id r (record { key = key; value = v }) there in
+    let same : locked_in_row (Some (record { key = key; value = v })) ≡ locked_in_row (Some r) = rw (size, lock) refl in
+    ap locked_of_rows (other-both rows id r key v there) ∙ omega (arith, moved, same)
+
+-- a locked segment's pages are among those of all locked ones, and these among all
+pub locked-within : (rows : List (Entry Head)) (id : ℕ) (r : Row Head) → live rows id ≡ Some r → locked_in_row (Some r) ≤ locked_of_rows rows
+locked-within rows id r there =
+    let l = live-at rows id r there in
+    let within = get_or-le-sum_by (λ (e : Entry Head). locked_in_row e.row) rows (id % 32768) unused l.within in
+    let own : locked_in_row (entry_at rows (id % 32768)).row ≡ locked_in_row (Some r) = ap locked_in_row l.there in
+    omega (arith, within, own)
+
+less-locked : (o : Option (Row Head)) → locked_in_row o ≤ pages_in_row o
+less-locked None = omega arith
+less-locked (Some r) = by r.value.locked
+  where
+    by : (b : Bool) → (if b then pages_of r.value.size else 0) ≤ pages_of r.value.size
+    by true = omega arith
+    by false = omega arith
+
+pub locked-le-pages : (rows : List (Entry Head)) → locked_of_rows rows ≤ pages_of_rows rows
+locked-le-pages rows = sum_by-le-sum_by (λ (e : Entry Head). locked_in_row e.row) (λ (e : Entry Head). pages_in_row e.row) rows (λ e. less-locked e.row)

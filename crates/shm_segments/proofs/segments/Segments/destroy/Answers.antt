@@ -1,0 +1,32 @@
+use Rattle.std.proofs.Common.{ap, ◌∙◌}
+use Rattle.shm_segments.specs.Table.{destroyed}
+use Rattle.shm_segments.proofs.Finding.{is_live-row}
+use Rattle.shm_segments.proofs.Making.{kept-without}
+use Rattle.shm_segments.proofs.Remembered.{runs-without}
+use Rattle.shm_fault.specs.Store.{held}
+use Rattle.shm_segments.specs.View.{SegmentsView}
+use Rattle.shm_segments.proofs.segments.Segments.destroy.Goals as goal
+
+pub take-head-requires : goal.take-head-requires
+take-head-requires g c = is_live-row (held c.self.inside.store) c.self.inside.table c.args.seg (rw (← c.self.view_is) at c.requires)
+
+pub invariant_of-self : goal.invariant_of-self
+invariant_of-self g c =
+    let k = kept-without (held c.self.inside.store) c.self.inside.table c.self.inside.reserved c.self.inside.locked c.args.seg c.take-head.result c.self.invariant.kept c.take-head.ensures.value in
+    record { kept = rw (c.drop_segment.ensures.held, c.take-head.ensures.after, c.pages_of.ensures.value, c.pages_locked.ensures) k.kept; sound = c.drop_segment.ensures.sound }
+
+pub returns-clause-table : goal.returns-clause-table
+returns-clause-table g c =
+    let k = kept-without (held c.self.inside.store) c.self.inside.table c.self.inside.reserved c.self.inside.locked c.args.seg c.take-head.result c.self.invariant.kept c.take-head.ensures.value in
+    rw (c.drop_segment.ensures.held, c.take-head.ensures.after) (k.is ∙ ap (λ (v : SegmentsView). destroyed v.table c.args.seg) c.self.view_is)
+
+pub returns-clause-runs : goal.returns-clause-runs
+returns-clause-runs g c =
+    let e = c.drop_segment.ensures in
+    rw (← c.self.view_is) (runs-without c.self.inside.store c.drop_segment.new.self c.args.seg e.held e.counts.1 e.count e.still)
+
+pub returns-clause-sizes : goal.returns-clause-sizes
+returns-clause-sizes g c = rw (← c.self.view_is) c.drop_segment.ensures.sizes
+
+pub returns-clause-still : goal.returns-clause-still
+returns-clause-still g c = rw (← c.self.view_is) c.drop_segment.ensures.still

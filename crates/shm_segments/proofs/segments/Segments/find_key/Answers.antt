@@ -1,0 +1,22 @@
+use Rattle.std.proofs.Common.{rules, ◌≡◌, None, sym, ◌∙◌, to_z, of_z, w32}
+use Rattle.shm_ids.specs.Table.{find_key, id_at}
+use Rattle.shm_segments.proofs.Looking.{found-under, key-some, key-none, none-mapped}
+use Rattle.shm_fault.specs.Store.{held}
+use Rattle.shm_segments.proofs.segments.Segments.find_key.Goals as goal
+
+pub returns-in-Some-clause-found : goal.returns-in-Some-clause-found
+returns-in-Some-clause-found g c =
+    let signed : to_z w32 (of_z w32 c.in-Some.id) ≡ c.in-Some.id = search rules in
+    let under = found-under (held c.self.inside.store) c.self.inside.table c.found_under.result c.in-Some.id c.self.invariant.kept.agree c.self.invariant.kept.sizes (rw signed at c.found_under.ensures.id) (rw signed at c.found_under.ensures.seg) (rw signed at c.found_under.ensures.key) (rw signed at c.found_under.ensures.head) in
+    rw (← c.self.view_is) under.0
+
+pub returns-in-Some-clause-some : goal.returns-in-Some-clause-some
+returns-in-Some-clause-some g c =
+    let signed : to_z w32 (of_z w32 c.in-Some.id) ≡ c.in-Some.id = search rules in
+    let under = found-under (held c.self.inside.store) c.self.inside.table c.found_under.result c.in-Some.id c.self.invariant.kept.agree c.self.invariant.kept.sizes (rw signed at c.found_under.ensures.id) (rw signed at c.found_under.ensures.seg) (rw signed at c.found_under.ensures.key) (rw signed at c.found_under.ensures.head) in
+    rw (← c.self.view_is) (key-some (held c.self.inside.store) c.self.inside.table c.args.key c.in-Some.id c.requires c.in-Some.ensures.index c.in-Some.ensures.live ∙ under.1)
+
+pub returns-in-None-clause-none : goal.returns-in-None-clause-none
+returns-in-None-clause-none g c =
+    let none : find_key c.self.inside.table c.args.key ≡ None = none-mapped (id_at c.self.inside.table) (find_key c.self.inside.table c.args.key) (sym c.find_key.ensures.value ∙ c.in-None.is) in
+    rw (← c.self.view_is) (key-none (held c.self.inside.store) c.self.inside.table c.args.key c.requires none)

@@ -1,0 +1,11 @@
+use Rattle.std.proofs.Common.{ap, ◌∙◌, is_none}
+use Rattle.shm_base.specs.Identifier.{free_index}
+use Rattle.shm_segments.proofs.Looking.{full-joined, none-not_some}
+use Rattle.shm_fault.specs.Store.{held}
+use Rattle.shm_segments.specs.View.{SegmentsView}
+use Rattle.shm_segments.proofs.segments.Segments.is_full.Goals as goal
+
+pub returns : goal.returns
+returns g c =
+    none-not_some c.next_id.result c.is_none.result c.is_none.ensures ∙ full-joined (held c.self.inside.store) c.self.inside.table c.next_id.result c.next_id.ensures.value
+    ∙ ap (λ (v : SegmentsView). is_none (free_index v.table)) c.self.view_is

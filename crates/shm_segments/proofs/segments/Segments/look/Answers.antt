@@ -1,0 +1,30 @@
+use Rattle.std.proofs.Common.{rules, ◌≡◌, Err, to_z, of_z, w32}
+use Rattle.shm_ids.specs.declared.table.LookRefused.TheVariants.{Removed, Invalid}
+use Rattle.shm_ids.specs.Table.{look}
+use Rattle.shm_segments.proofs.Looking.{found-under, look-removed, look-invalid}
+use Rattle.shm_fault.specs.Store.{held}
+use Rattle.shm_segments.proofs.segments.Segments.look.Goals as goal
+
+pub returns-in-Ok-clause-found : goal.returns-in-Ok-clause-found
+returns-in-Ok-clause-found g c =
+    let signed : to_z w32 (of_z w32 c.args.id) ≡ c.args.id = search rules in
+    let under = found-under (held c.self.inside.store) c.self.inside.table c.found_under.result c.args.id c.self.invariant.kept.agree c.self.invariant.kept.sizes (rw signed at c.found_under.ensures.id) (rw signed at c.found_under.ensures.seg) (rw signed at c.found_under.ensures.key) (rw signed at c.found_under.ensures.head) in
+    rw (← c.self.view_is) under.0
+
+pub returns-in-Ok-clause-ok : goal.returns-in-Ok-clause-ok
+returns-in-Ok-clause-ok g c =
+    let signed : to_z w32 (of_z w32 c.args.id) ≡ c.args.id = search rules in
+    let under = found-under (held c.self.inside.store) c.self.inside.table c.found_under.result c.args.id c.self.invariant.kept.agree c.self.invariant.kept.sizes (rw signed at c.found_under.ensures.id) (rw signed at c.found_under.ensures.seg) (rw signed at c.found_under.ensures.key) (rw signed at c.found_under.ensures.head) in
+    rw (← c.self.view_is) under.1
+
+pub returns-in-Err-Removed-clause-err : goal.returns-in-Err-Removed-clause-err
+returns-in-Err-Removed-clause-err g c =
+    let signed : to_z w32 (of_z w32 c.args.id) ≡ c.args.id = search rules in
+    let looked : look c.self.inside.table c.args.id ≡ Err Removed = rw (c.in-Err-Removed.is, c.in-Err-Removed.field-0-is, signed) at c.look.ensures.err in
+    rw (← c.self.view_is) (look-removed (held c.self.inside.store) c.self.inside.table c.args.id looked)
+
+pub returns-in-Err-Invalid-clause-err : goal.returns-in-Err-Invalid-clause-err
+returns-in-Err-Invalid-clause-err g c =
+    let signed : to_z w32 (of_z w32 c.args.id) ≡ c.args.id = search rules in
+    let looked : look c.self.inside.table c.args.id ≡ Err Invalid = rw (c.in-Err-Invalid.is, c.in-Err-Invalid.field-0-is, signed) at c.look.ensures.err in
+    rw (← c.self.view_is) (look-invalid (held c.self.inside.store) c.self.inside.table c.args.id looked)

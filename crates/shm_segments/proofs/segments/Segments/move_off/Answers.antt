@@ -1,0 +1,39 @@
+use Rattle.std.proofs.Common.{◌≤◌, ◌+◌, length, ap, arith}
+use Rattle.shm_base.specs.Segments.{reserved}
+use Rattle.shm_slots.specs.View.{slots, area_at}
+use Rattle.shm_fault.specs.Store.{held}
+use Rattle.shm_segments.specs.Joined.{joined}
+use Rattle.shm_segments.proofs.Sums.{reserved-joined}
+use Rattle.shm_segments.specs.View.{SegmentsView}
+use Rattle.shm_segments.proofs.Remembered.{runs-same}
+use Rattle.shm_segments.proofs.segments.Segments.move_off.Goals as goal
+
+pub invariant_of-self : goal.invariant_of-self
+invariant_of-self g c = record { kept = rw c.move_off.ensures.held c.self.invariant.kept; sound = c.move_off.ensures.sound }
+
+pub returns-clause-table : goal.returns-clause-table
+returns-clause-table g c = rw c.move_off.ensures.held (ap (λ (v : SegmentsView). v.table) c.self.view_is)
+
+pub returns-clause-still : goal.returns-clause-still
+returns-clause-still g c = rw (← c.self.view_is) c.move_off.ensures.still
+
+pub returns-clause-sizes : goal.returns-clause-sizes
+returns-clause-sizes g c = rw (← c.self.view_is) c.move_off.ensures.sizes
+
+pub returns-clause-runs : goal.returns-clause-runs
+returns-clause-runs g c =
+    let e = c.move_off.ensures in
+    rw (← c.self.view_is) (runs-same c.self.inside.store c.move_off.new.self e.held e.kept e.counts e.count)
+
+pub returns-clause-gone : goal.returns-clause-gone
+returns-clause-gone g c = rw (← c.self.view_is) c.move_off.ensures.gone
+
+pub returns-clause-cause : goal.returns-clause-cause
+returns-clause-cause g c = rw (← c.self.view_is) c.move_off.ensures.cause
+
+pub move_off-requires-clause-room : goal.move_off-requires-clause-room
+move_off-requires-clause-room g c =
+    let s = c.self.inside.store in
+    let room : reserved (joined (held s) c.self.inside.table) + length (area_at s.swap c.args.area).pages ≤ slots s.swap = rw (← c.self.view_is) at c.requires.room in
+    let k = c.self.invariant.kept in
+    omega (arith, room, k.few_pages, k.reserved, reserved-joined (held s) c.self.inside.table k.agree)

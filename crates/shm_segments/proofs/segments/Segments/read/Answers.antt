@@ -1,0 +1,46 @@
+use Rattle.std.proofs.Common.{false, sym, ap, ◌∙◌}
+use Rattle.shm_base.specs.Access.{loaded}
+use Rattle.shm_attach.specs.Spans.{span_places}
+use Rattle.shm_fault.specs.Store.{held}
+use Rattle.shm_fault.proofs.Failures.{OnOk-map}
+use Rattle.shm_segments.specs.View.{SegmentsView}
+use Rattle.shm_segments.proofs.Spanning.{spans-fit}
+use Rattle.shm_segments.proofs.Shown.{load_shown}
+use Rattle.shm_segments.proofs.Remembered.{runs-same}
+use Rattle.shm_segments.proofs.segments.Segments.read.Goals as goal
+
+pub read-requires-clause-fit : goal.read-requires-clause-fit
+read-requires-clause-fit g c = spans-fit (held c.self.inside.store) c.self.inside.table c.args.spans.now c.self.invariant.kept.agree (rw (← c.self.view_is) at c.requires.fit)
+
+pub invariant_of-self : goal.invariant_of-self
+invariant_of-self g c = record { kept = rw c.read.ensures.held c.self.invariant.kept; sound = c.read.ensures.sound }
+
+pub returns-clause-bytes : goal.returns-clause-bytes
+returns-clause-bytes g c =
+    let fit = spans-fit (held c.self.inside.store) c.self.inside.table c.args.spans.now c.self.invariant.kept.agree (rw (← c.self.view_is) at c.requires.fit) in
+    OnOk-map c.read.result _ _ c.read.ensures.bytes
+    (λ e. e ∙ sym (load_shown (held c.self.inside.store) c.self.inside.table false c.args.spans.now c.self.invariant.kept.agree fit)
+    ∙ ap (λ (v : SegmentsView). loaded v.table (span_places false c.args.spans.now)) c.self.view_is)
+
+pub returns-clause-table : goal.returns-clause-table
+returns-clause-table g c = rw c.read.ensures.held (ap (λ (v : SegmentsView). v.table) c.self.view_is)
+
+pub returns-clause-cause : goal.returns-clause-cause
+returns-clause-cause g c = rw (← c.self.view_is) c.read.ensures.cause
+
+pub returns-clause-quiet : goal.returns-clause-quiet
+returns-clause-quiet g c = λ here. (c.read.ensures.quiet (rw (← c.self.view_is) at here)).1
+
+pub returns-clause-resident : goal.returns-clause-resident
+returns-clause-resident g c = c.read.ensures.resident
+
+pub returns-clause-moved : goal.returns-clause-moved
+returns-clause-moved g c = rw (← c.self.view_is) c.read.ensures.moved
+
+pub returns-clause-sizes : goal.returns-clause-sizes
+returns-clause-sizes g c = rw (← c.self.view_is) c.read.ensures.sizes
+
+pub returns-clause-runs : goal.returns-clause-runs
+returns-clause-runs g c =
+    let e = c.read.ensures in
+    rw (← c.self.view_is) (runs-same c.self.inside.store c.read.new.self e.held e.kept e.counts e.count)

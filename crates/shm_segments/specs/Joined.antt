@@ -1,0 +1,90 @@
+-- The flat machine's table, joined from rows without bytes and from bytes that lie elsewhere.
+use Rattle.std.specs.Prelude.{ℕ, ◌≡◌, ◌*◌, ◌%◌, ◌≤◌, Bool, false, ◌&&◌, ◌==◌, nat_lt, if◌then◌else◌, List, length, Option, Some, None, option_map, sum_by, All}
+use Rattle.shm_base.specs.State.{Segment, Entry as FlatEntry, Runner, pages_of}
+use Rattle.shm_base.specs.Segments.{attach_count}
+use Rattle.shm_ids.specs.declared.table.Entry.{Entry}
+use Rattle.shm_ids.specs.declared.table.Row.{Row}
+use Rattle.shm_ids.specs.Table.{identifier, entry_at}
+use Rattle.shm_ids.specs.Flat.{flat_table}
+use Rattle.shm_attach.specs.Spans.{PassPages}
+use Rattle.shm_segments.specs.declared.head.Head.{Head}
+use Rattle.shm_plain.specs.Held.{Held, find_held, bytes_of}
+
+-- the segment of a row that has these bytes
+abbrev pub segment_of : Row Head → List ℕ → Segment
+segment_of r bytes =
+    record {
+      key = r.key;
+      perm = r.value.perm;
+      size = r.value.size;
+      cpid = r.value.cpid;
+      lpid = r.value.lpid;
+      dest = r.value.dest;
+      locked = r.value.locked;
+      atime = r.value.atime;
+      dtime = r.value.dtime;
+      ctime = r.value.ctime;
+      bytes = bytes;
+    }
+
+-- the segment of a row, with the bytes that are held under its identifier
+abbrev pub whole : List Held → ℕ → Row Head → Segment
+whole hs id r = segment_of r (bytes_of hs id)
+
+-- the flat machine's table
+abbrev pub joined : List Held → List (Entry Head) → List FlatEntry
+joined hs rows = flat_table (whole hs) rows
+
+-- the row of the live segment with an identifier
+abbrev pub live : List (Entry Head) → ℕ → Option (Row Head)
+live rows id = if identifier (id % 32768) (entry_at rows (id % 32768)).destroyed == id then (entry_at rows (id % 32768)).row else None
+
+abbrev pub pages_in_row : Option (Row Head) → ℕ
+pages_in_row None = 0
+pages_in_row (Some r) = pages_of r.value.size
+
+-- how many pages the segment with an identifier has, none where it is not live
+abbrev pub pages_there : List (Entry Head) → ℕ → ℕ
+pages_there rows id = pages_in_row (live rows id)
+
+abbrev pub page_there : List (Entry Head) → ℕ → ℕ → Bool
+page_there rows id page = nat_lt page (pages_there rows id)
+
+abbrev pub locked_in_row : Option (Row Head) → ℕ
+locked_in_row None = 0
+locked_in_row (Some r) = if r.value.locked then pages_of r.value.size else 0
+
+-- the pages of all segments, and of the locked ones, by their rows
+abbrev pub pages_of_rows : List (Entry Head) → ℕ
+pages_of_rows rows = sum_by (λ (e : Entry Head). pages_in_row e.row) rows
+
+abbrev pub locked_of_rows : List (Entry Head) → ℕ
+locked_of_rows rows = sum_by (λ (e : Entry Head). locked_in_row e.row) rows
+
+-- what rows and held segments both know of a segment
+pub record Shape : Type 0 where
+  pub locked : Bool
+  pub size : ℕ
+
+abbrev pub shape_held : Held → Shape
+shape_held g = record { locked = g.locked; size = length g.bytes }
+
+abbrev pub shape_row : Row Head → Shape
+shape_row r = record { locked = r.value.locked; size = 4096 * pages_of r.value.size }
+
+-- a segment is held where it is live, with its row's lock and pages, and nothing else is held
+pub record Agree (hs : List Held) (rows : List (Entry Head)) : Type 0 where
+  pub few : length rows ≤ 32768
+  pub same : (id : ℕ) → option_map shape_held (find_held hs id) ≡ option_map shape_row (live rows id)
+
+-- each piece's pages are pages of its segment
+abbrev pub PiecesFit : List (Entry Head) → List Runner → Type 0
+PiecesFit rows rs = All (λ (r : Runner). PassPages (page_there rows) r.pieces) rs
+
+-- a marked segment that no piece names, which is to go
+abbrev pub is_condemned : List Runner → ℕ → Option (Row Head) → Bool
+is_condemned rs id None = false
+is_condemned rs id (Some r) = r.value.dest && (attach_count rs id == 0)
+
+abbrev pub NoneCondemned : List (Entry Head) → List Runner → Type 0
+NoneCondemned rows rs = (id : ℕ) → is_condemned rs id (live rows id) ≡ false

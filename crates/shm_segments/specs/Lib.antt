@@ -1,0 +1,5 @@
+pub mod Joined
+pub mod Table
+pub mod Kept
+pub mod Left
+pub mod View

@@ -1,0 +1,79 @@
+-- Words on the flat machine's table that contracts cite.
+use Rattle.std.specs.Prelude.{slice_get, slice_set, replicate, option_map, ℤ, ◌≡◌, ◌≤◌, ◌<◌, ◌+◌, ◌*◌, ◌/◌, ◌%◌, ◌==◌, ℕ, pos, Bool, true, nat_lt, if◌then◌else◌, is_some, List, length, Option, Some, None}
+use Rattle.shm_base.specs.declared.errno.Errno.{Errno}
+use Rattle.shm_base.specs.declared.errno.Errno.TheVariants.{Eidrm, Einval}
+use Rattle.shm_base.specs.declared.paging.Span.{Span}
+use Rattle.shm_base.specs.State.{Segment, Entry, pages_of}
+use Rattle.shm_base.specs.Identifier as flat
+use Rattle.shm_base.specs.Access.{bytes_at}
+use Rattle.shm_base.specs.Segments.{pages_held}
+use Rattle.shm_segments.specs.Joined.{segment_of}
+use Rattle.shm_segments.specs.declared.head.Head.{Head}
+use Rattle.shm_segments.specs.declared.head.Found.{Found}
+
+-- the segment that was found in a table
+abbrev pub seen : List Entry → Found → Segment
+seen table f = segment_of (record { key = f.key; value = f.head }) (bytes_at table f.seg)
+
+-- it is live there, under its identifier
+pub record IsFound (table : List Entry) (f : Found) : Type 0 where
+  pub entry : slice_get table (f.seg % 32768) ≡ Some (record { destroyed = f.seg / 32768; segment = Some (seen table f) })
+  pub id : f.id ≡ pos f.seg
+  pub long : length (bytes_at table f.seg) ≡ 4096 * pages_of f.head.size
+  pub size : (1 ≤ f.head.size) × (f.head.size ≤ 16777216)
+
+-- what the flat machine says of an identifier or a key that was found
+abbrev pub look_of : List Entry → Found → flat.Look
+look_of table f = flat.Found (f.seg % 32768) (seen table f)
+
+-- with which number a look that finds nothing is refused
+abbrev pub refused_look : flat.Look → Option Errno
+refused_look (flat.Found i x) = None
+refused_look flat.Removed = Some Eidrm
+refused_look flat.Invalid = Some Einval
+
+abbrev pub live_in : ℕ → Option Entry → Option Segment
+live_in id None = None
+live_in id (Some e) = if e.destroyed == id / 32768 then e.segment else None
+
+-- the segment under an identifier
+abbrev pub live : List Entry → ℕ → Option Segment
+live table id = live_in id (slice_get table (id % 32768))
+
+abbrev pub IsLive : List Entry → ℕ → Type 0
+IsLive table id = is_some (live table id) ≡ true
+
+abbrev pub segment_in : Option Entry → Option Segment
+segment_in None = None
+segment_in (Some e) = e.segment
+
+-- how many pages it has, none where it is not live
+abbrev pub pages_at : List Entry → ℕ → ℕ
+pages_at table id = pages_held (live table id)
+
+-- it has that page
+abbrev pub page_there : List Entry → ℕ → ℕ → Bool
+page_there table id page = nat_lt page (pages_at table id)
+
+-- a span lies in a page of a live segment
+abbrev pub SpanFits : List Entry → Span → Type 0
+SpanFits table p = (0 < p.len) × (p.at + p.len ≤ 4096 * (p.at / 4096) + 4096) × (page_there table p.seg (p.at / 4096) ≡ true)
+
+-- a segment that is made at an index
+abbrev pub created : List Entry → ℕ → ℕ → Head → List Entry
+created table i key h = flat.with_segment table i (segment_of (record { key = key; value = h }) (replicate (4096 * pages_of h.size) 0))
+
+-- what making a segment answers, and the table that it leaves; nothing where no index is free
+abbrev pub made : List Entry → ℕ → Head → Option (ℤ × List Entry)
+made table key h = option_map (λ i. (pos (flat.identifier i (flat.destroyed_at table i)), created table i key h)) (flat.free_index table)
+
+-- a segment that is gone
+abbrev pub destroyed : List Entry → ℕ → List Entry
+destroyed table id = slice_set table (id % 32768) (record { destroyed = id / 32768 + 1; segment = None })
+
+-- other owners, and another mode
+abbrev pub reowned : ℕ → ℕ → ℕ → ℕ → Segment → Segment
+reowned n uid gid mode y = record y { perm = record y.perm { uid = uid; gid = gid; mode = mode % 512 }; ctime = n }
+
+abbrev pub relocked : Bool → Segment → Segment
+relocked b y = record y { locked = b }

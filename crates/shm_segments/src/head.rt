@@ -1,0 +1,40 @@
+//! What is kept of a segment beside its bytes.
+ghost use Rattle.std.specs.Prelude.{◌≡◌, ◌≤◌, ◌+◌, ◌*◌, ◌^◌};
+ghost use Rattle.shm_base.specs.State as flat;
+
+use shm_base::{Perm, ShmId, pages_of};
+
+/// A segment without its key and its bytes.
+#[derive(Clone, Copy, Debug, PartialEq, Eq)]
+pub struct Head {
+    pub perm: Perm,
+    pub size: u64,
+    pub cpid: u32,
+    pub lpid: u32,
+    pub dest: bool,
+    pub locked: bool,
+    pub atime: u64,
+    pub dtime: u64,
+    pub ctime: u64,
+}
+
+/// A live segment: its identifier, its key (0 where it has none), and the rest but for its bytes. It is true
+/// until the segment changes.
+#[derive(Clone, Copy, Debug, PartialEq, Eq)]
+pub struct Found {
+    pub seg: u32,
+    pub id: ShmId,
+    pub key: u32,
+    pub head: Head,
+}
+
+impl Found {
+    /// How many pages the segment has.
+    pub fn pages(&self) -> u32
+        requires size { self.now.head.size ≤ 16777216 }
+        ensures value { result ≡ flat.pages_of self.now.head.size }
+        ensures few { result ≤ 4096 }
+    {
+        pages_of(self.head.size) as u32
+    }
+}

@@ -1,0 +1,376 @@
+//! The table of segments with their bytes.
+ghost use Rattle.std.specs.Prelude.{is_none, is_some, option_map, OnOk, if◌then◌else◌, IsOk, Ok, true, false, ◌≡◌, ◌≢◌, ℕ, ◌+◌, ◌*◌, ◌%◌, ◌≤◌, [], length, pos, IfOk, OnErr, IfErr, IfSome, IfNone, Some, None, map, slice_get};
+ghost use Rattle.shm_base.specs.State as flat;
+ghost use Rattle.shm_base.specs.Identifier as flat_ids;
+ghost use Rattle.shm_base.specs.Segments.{reserved, segment_count, change, attached, detached, marked};
+ghost use Rattle.shm_base.specs.Segments.{locked as locked_pages};
+ghost use Rattle.shm_slots.specs.View.{slots, sizes, owner_of};
+ghost use Rattle.shm_fault.specs.Segs.{with_seg_lock};
+ghost use Rattle.shm_fault.specs.Store.{fresh_store, frame_of};
+ghost use Rattle.shm_segments.specs.View.{IsExact, Runs};
+ghost use Rattle.shm_segments.specs.Table.{IsFound, IsLive, look_of, refused_look, live, segment_in, made, destroyed, reowned, relocked};
+
+use crate::head::{Found, Head};
+use shm_base::{Errno, HostMemory, Perm, ShmId, pages_of};
+use shm_fault::PageStore;
+use shm_ids::{IdTable, LookRefused};
+use shm_pager::Pager;
+use shm_slots::Swap;
+use std::alloc::Global;
+use std::marker::Model;
+
+/// The segments, seen as the flat machine's table beside the memory that their bytes lie in.
+#[derive(Drop)]
+pub struct Segments<P: Pager> {
+    pub(crate) table: IdTable<Head>,
+    pub(crate) store: PageStore<P>,
+    // The pages of all segments, and of the locked ones.
+    pub(crate) reserved: u64,
+    pub(crate) locked: u64,
+}
+
+impl<P: Pager> Model for Segments<P> {
+    ghost use Rattle.shm_fault.specs.Store.{held};
+    ghost use Rattle.shm_segments.specs.Joined.{joined};
+    ghost use Rattle.shm_segments.specs.Kept.{IsWhole};
+    ghost use Rattle.shm_segments.specs.View.{SegmentsView};
+
+    ghost Value = { SegmentsView };
+
+    ghost view = { λ s. record { table = joined (held s.store) s.table; memory = s.store } };
+
+    ghost invariant = { λ s. IsWhole s.store s.table s.reserved s.locked };
+}
+
+ghost use Rattle.shm_ids.specs.Table.{look, find_key, free_index, with_value, with_key, with_row, without_row, index_of, key_at};
+ghost use Rattle.shm_segments.specs.Joined.{live as live_row};
+
+// The identifier of a live segment, as the table has it.
+fn id_of(table: &IdTable<Head>, seg: u32) -> ShmId
+    requires { is_some (live_row table.now seg) ≡ true }
+    ensures id { result ≡ pos seg }
+    ensures live { IsOk (look table.now (pos seg)) }
+{
+    match table.row_at(seg as usize % 32768) {
+        Some((id, _, _)) => id,
+        None => unreachable!(),
+    }
+}
+
+// The head of a live segment.
+fn head_of(table: &IdTable<Head>, seg: u32) -> Head
+    requires { is_some (live_row table.now seg) ≡ true }
+    ensures { look table.now (pos seg) ≡ Ok result }
+{
+    match table.look(id_of(table, seg)) {
+        Ok(head) => *head,
+        Err(_) => unreachable!(),
+    }
+}
+
+// The pages of a segment, if it is locked.
+fn pages_locked(head: &Head) -> u64
+    ensures { result ≡ (if head.now.locked then flat.pages_of head.now.size else 0) }
+{
+    if head.locked { pages_of(head.size) } else { 0 }
+}
+
+// What is found under an identifier that is live.
+fn found_under(table: &IdTable<Head>, id: ShmId) -> Found
+    requires { IsOk (look table.now id) }
+    ensures id { result.id ≡ id }
+    ensures seg { pos result.seg ≡ id }
+    ensures key { result.key ≡ key_at table.now (index_of id) }
+    ensures head { look table.now id ≡ Ok result.head }
+{
+    match table.look(id) {
+        Ok(head) => Found {
+            seg: id as u32,
+            id,
+            key: table.key_of(id),
+            head: *head,
+        },
+        Err(_) => unreachable!(),
+    }
+}
+
+// Gives a live segment another head.
+fn replace(table: &mut IdTable<Head>, seg: u32, head: Head)
+    requires { is_some (live_row table.old seg) ≡ true }
+    ensures { table.new ≡ with_value table.old (seg % 32768) head }
+{
+    match table.look_mut(id_of(table, seg)) {
+        Ok(old) => *old = head,
+        Err(_) => unreachable!(),
+    }
+}
+
+// Gives a live segment another head, and hides its key.
+fn replace_and_hide(table: &mut IdTable<Head>, seg: u32, head: Head)
+    requires { is_some (live_row table.old seg) ≡ true }
+    ensures { table.new ≡ with_key (with_value table.old (seg % 32768) head) (seg % 32768) 0 }
+{
+    let id = id_of(table, seg);
+    replace(table, seg, head);
+    table.hide_key(id);
+}
+
+// Takes the row of a live segment out.
+fn take(table: &mut IdTable<Head>, seg: u32) -> Head
+    requires { is_some (live_row table.old seg) ≡ true }
+    ensures value { look table.old (pos seg) ≡ Ok result }
+    ensures after { table.new ≡ without_row table.old (seg % 32768) }
+{
+    let id = id_of(table, seg);
+    table.destroy(id)
+}
+
+// Makes a row under the next identifier.
+fn put(table: &mut IdTable<Head>, key: u32, head: Head) -> Result<(), HostMemory>
+    requires absent { find_key table.old key ≡ None }
+    requires free { is_some (free_index table.old) ≡ true }
+    ensures ok { OnOk result (option_map (λ i. with_row table.old i key head) (free_index table.old) ≡ Some table.new) }
+    ensures err { OnErr result (table.new ≡ table.old) }
+{
+    match table.insert(key, head) {
+        Ok(_) => Ok(()),
+        Err(_) => Err(HostMemory),
+    }
+}
+
+impl<P: Pager> Segments<P> {
+    /// No segment, over so many frames and the swap, none of whose slots is owned. The memory of the frames
+    /// is taken here.
+    pub fn new(alloc: Global, frames: u32, swap: Swap<P>) -> Result<Segments<P>, HostMemory>
+        requires frames { (2 ≤ frames) × (frames ≤ 4096) }
+        requires free { (area slot : ℕ) → owner_of swap area slot ≡ None }
+        ensures table { IfOk result (λ s. s.table ≡ []) }
+        ensures memory { IfOk result (λ s. s.memory ≡ fresh_store s.memory.frames swap) }
+        ensures frames { IfOk result (λ s. length s.memory.frames ≡ frames) }
+    {
+        let store = PageStore::new(alloc, frames, swap)?;
+        Ok(Segments {
+            table: IdTable::new(alloc),
+            store,
+            reserved: 0,
+            locked: 0,
+        })
+    }
+
+    /// What is true of a table and its memory at every time.
+    pub fn is_exact(&self)
+        ensures { IsExact self.now.table self.now.memory }
+    {
+        let _ = &self.store;
+    }
+
+    /// The pages of all segments.
+    pub fn reserved(&self) -> u64
+        ensures { result ≡ reserved self.now.table }
+    {
+        self.reserved
+    }
+
+    /// The pages of the locked segments.
+    pub fn locked(&self) -> u64
+        ensures { result ≡ locked_pages self.now.table }
+    {
+        self.locked
+    }
+
+    /// How many segments there are.
+    pub fn count(&self) -> u64
+        ensures { result ≡ segment_count self.now.table }
+    {
+        self.table.row_count()
+    }
+
+    /// How many indexes were ever used.
+    pub fn indexes(&self) -> u32
+        ensures { result ≡ length self.now.table }
+    {
+        self.table.indexes()
+    }
+
+    /// The segment at an index.
+    pub fn at(&self, index: u32) -> Option<Found>
+        ensures found { IfSome result (IsFound self.now.table) }
+        ensures index { IfSome result (λ f. f.seg % 32768 ≡ index) }
+        ensures none { IfNone result (segment_in (slice_get self.now.table index) ≡ None) }
+    {
+        match self.table.row_at(index as usize) {
+            Some((id, key, head)) => Some(Found {
+                seg: id as u32,
+                id,
+                key,
+                head: *head,
+            }),
+            None => None,
+        }
+    }
+
+    /// The live segment of an identifier.
+    pub fn find(&self, seg: u32) -> Option<Found>
+        ensures found { IfSome result (IsFound self.now.table) }
+        ensures seg { IfSome result (λ f. f.seg ≡ seg) }
+        ensures none { IfNone result (live self.now.table seg ≡ None) }
+    {
+        match self.at(seg % 32768) {
+            Some(found) if found.seg == seg => Some(found),
+            _ => None,
+        }
+    }
+
+    /// The segment under an identifier that a process names: Eidrm where it was destroyed, Einval where it was
+    /// never issued (shmctl(2)).
+    pub fn look(&self, id: ShmId) -> Result<Found, Errno>
+        ensures found { IfOk result (IsFound self.now.table) }
+        ensures ok { IfOk result (λ f. flat_ids.look self.now.table id ≡ look_of self.now.table f) }
+        ensures err { IfErr result (λ e. refused_look (flat_ids.look self.now.table id) ≡ Some e) }
+    {
+        match self.table.look(id) {
+            Ok(_) => Ok(found_under(&self.table, id)),
+            Err(LookRefused::Removed) => Err(Errno::Eidrm),
+            Err(LookRefused::Invalid) => Err(Errno::Einval),
+        }
+    }
+
+    /// The live segment with a key.
+    pub fn find_key(&self, key: u32) -> Option<Found>
+        requires { key ≢ 0 }
+        ensures found { IfSome result (IsFound self.now.table) }
+        ensures some { IfSome result (λ f. flat_ids.find_key self.now.table key ≡ look_of self.now.table f) }
+        ensures none { IfNone result (flat_ids.find_key self.now.table key ≡ flat_ids.Invalid) }
+    {
+        match self.table.find_key(key) {
+            Some(id) => Some(found_under(&self.table, id)),
+            None => None,
+        }
+    }
+
+    /// Whether no index is free for another segment: each is held or worn out.
+    pub fn is_full(&self) -> bool
+        ensures { result ≡ is_none (flat_ids.free_index self.now.table) }
+    {
+        self.table.next_id().is_none()
+    }
+
+    /// Makes a segment of zeros at the least free index, and answers its identifier. Its key is that of no
+    /// other segment, or 0.
+    pub fn create(&mut self, key: u32, head: Head) -> Result<ShmId, HostMemory>
+        requires free { is_none (flat_ids.free_index self.old.table) ≡ false }
+        requires absent { key ≢ 0 → flat_ids.find_key self.old.table key ≡ flat_ids.Invalid }
+        requires size { (1 ≤ head.size) × (head.size ≤ 16777216) }
+        requires loose { head.locked ≡ false }
+        requires few { reserved self.old.table ≤ 65536 }
+        requires room { reserved self.old.table + flat.pages_of head.size ≤ slots self.old.memory.swap }
+        ensures ok { IfOk result (λ id. made self.old.table key head ≡ Some (id, self.new.table)) }
+        ensures runs { OnOk result (Runs self.old.memory self.new.memory) }
+        ensures swap { OnOk result (self.new.memory.swap ≡ self.old.memory.swap) }
+        ensures still { (s page : ℕ) → frame_of self.new.memory s page ≡ frame_of self.old.memory s page }
+        ensures err { OnErr result (self.new ≡ self.old) }
+    {
+        let Some(id) = self.table.next_id() else {
+            unreachable!()
+        };
+        let pages = pages_of(head.size);
+        self.store.add_segment(id as u32, pages as u32)?;
+        match put(&mut self.table, key, head) {
+            Ok(()) => {
+                self.reserved += pages;
+                Ok(id)
+            }
+            Err(refused) => {
+                self.store.drop_segment(id as u32);
+                Err(refused)
+            }
+        }
+    }
+
+    /// Takes a segment out, with its bytes. Its identifier never comes again. It takes no memory.
+    pub fn destroy(&mut self, seg: u32)
+        requires { IsLive self.old.table seg }
+        ensures table { self.new.table ≡ destroyed self.old.table seg }
+        ensures runs { Runs self.old.memory self.new.memory }
+        ensures sizes { sizes self.new.memory.swap ≡ sizes self.old.memory.swap }
+        ensures still { (s page : ℕ) → s ≢ seg → frame_of self.new.memory s page ≡ frame_of self.old.memory s page }
+    {
+        let head = take(&mut self.table, seg);
+        self.store.drop_segment(seg);
+        self.reserved -= pages_of(head.size);
+        self.locked -= pages_locked(&head);
+    }
+
+    /// Sets the time and the pid of an attach.
+    pub fn attached(&mut self, seg: u32, time: u64, pid: u32)
+        requires { IsLive self.old.table seg }
+        ensures { self.new ≡ record self.old { table = change self.old.table seg (attached time pid) } }
+    {
+        let head = head_of(&self.table, seg);
+        let head = Head {
+            atime: time,
+            lpid: pid,
+            ..head
+        };
+        replace(&mut self.table, seg, head);
+    }
+
+    /// Sets the time and the pid of a detach.
+    pub fn detached(&mut self, seg: u32, time: u64, pid: u32)
+        requires { IsLive self.old.table seg }
+        ensures { self.new ≡ record self.old { table = change self.old.table seg (detached time pid) } }
+    {
+        let head = head_of(&self.table, seg);
+        let head = Head {
+            dtime: time,
+            lpid: pid,
+            ..head
+        };
+        replace(&mut self.table, seg, head);
+    }
+
+    /// Gives the segment another owner and other permission bits, the low nine of a mode.
+    pub fn set_owner(&mut self, seg: u32, time: u64, uid: u32, gid: u32, mode: u16)
+        requires { IsLive self.old.table seg }
+        ensures { self.new ≡ record self.old { table = change self.old.table seg (reowned time uid gid mode) } }
+    {
+        let head = head_of(&self.table, seg);
+        let perm = Perm {
+            uid,
+            gid,
+            mode: mode % 512,
+            ..head.perm
+        };
+        let head = Head {
+            perm,
+            ctime: time,
+            ..head
+        };
+        replace(&mut self.table, seg, head);
+    }
+
+    /// Marks the segment to be destroyed (SHM_DEST), and hides its key.
+    pub fn mark(&mut self, seg: u32)
+        requires { IsLive self.old.table seg }
+        ensures { self.new ≡ record self.old { table = change self.old.table seg marked } }
+    {
+        let head = head_of(&self.table, seg);
+        replace_and_hide(&mut self.table, seg, Head { dest: true, ..head });
+    }
+
+    /// Locks or unlocks the segment's pages (SHM_LOCKED).
+    pub fn set_locked(&mut self, seg: u32, locked: bool)
+        requires live { IsLive self.old.table seg }
+        requires small { locked_pages self.old.table ≤ 65536 }
+        requires few { locked ≡ true → locked_pages (change self.old.table seg (relocked true)) + 2 ≤ length self.old.memory.frames }
+        ensures table { self.new.table ≡ change self.old.table seg (relocked locked) }
+        ensures only { self.new.memory ≡ record self.old.memory { segs = map (with_seg_lock seg locked) self.old.memory.segs } }
+        ensures still { (s page : ℕ) → frame_of self.new.memory s page ≡ frame_of self.old.memory s page }
+    {
+        let old = head_of(&self.table, seg);
+        let head = Head { locked, ..old };
+        self.locked = self.locked - pages_locked(&old) + pages_locked(&head);
+        replace(&mut self.table, seg, head);
+        self.store.set_locked(seg, locked);
+    }
+}

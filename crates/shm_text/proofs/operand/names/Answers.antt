@@ -1,0 +1,11 @@
+use Rattle.std.proofs.Common.{rules}
+use Rattle.std.specs.Prelude.{◌==◌}
+use Rattle.std.proofs.lemmas.Bool.Decides.{nat_tests}
+use Rattle.std.proofs.lemmas.Iterator.Consumers.{count_from_yields_List}
+use Rattle.std.proofs.lemmas.Iterator.Splits.{YieldsList-from_slice_split}
+use Rattle.shm_text.proofs.operand.names.Goals as goal
+
+pub returns : goal.returns
+returns c =
+    count_from_yields_List c.split.result _ c.count.ensures.ran
+    (YieldsList-from_slice_split _ (λ b. b == 44) {f = c.split.result.pred} c.args.word.now (cc) (cc) (cc) (λ x b q k. search (rules, nat_tests)))

@@ -1,0 +1,166 @@
+-- The calls of a line: a word, and behind it the operands. Each form says first what its words are, and
+-- then their ranges, so that a bad line comes before a bad number.
+use Rattle.std.specs.Prelude.{ℕ, ◌+◌, Bool, true, false, ◌==◌, ◌&&◌, not, ◌||◌, List, length, take, drop, Option, Some, None, Result, Ok, Err, codes, if◌then◌else◌}
+use Rattle.std.specs.Option.{ok_or}
+use Rattle.std.specs.Str.{bytes_eq}
+use Rattle.shm_text.specs.declared.fault.FaultKind.{FaultKind}
+use Rattle.shm_text.specs.declared.fault.FaultKind.TheVariants.{BadLine}
+use Rattle.shm_text.specs.declared.calls.Verb.{Verb}
+use Rattle.shm_text.specs.declared.calls.Verb.TheVariants as verbs
+use Rattle.shm_text.specs.declared.script.LineId.{LineId}
+use Rattle.shm_text.specs.declared.script.LineAddr.{LineAddr}
+use Rattle.shm_text.specs.declared.script.LineCall.{LineCall}
+use Rattle.shm_text.specs.declared.script.LineCall.TheVariants.{Shmget, Shmat, Shmdt, Stat, Set, Rmid, Lock, Unlock, Load, Store, Xadd, Fork, Exec, Exit, Swapoff}
+use Rattle.shm_text.specs.Operand.{◌>>=◌, wanted, ranged, any, key_word, id_word, ranged_id, addr_word, ranged_addr, mode_word, get_flags_word, at_flags_word, chunk_word}
+use Rattle.shm_text.specs.Words.{word_at}
+
+-- the word of a call
+unfoldable pub verb_of : List ℕ → Option Verb
+verb_of w =
+    if bytes_eq w (codes "shmget") then Some verbs.Shmget else
+    if bytes_eq w (codes "shmat") then Some verbs.Shmat else
+    if bytes_eq w (codes "xadd") then Some verbs.Xadd else
+    if bytes_eq w (codes "shmdt") then Some verbs.Shmdt else
+    if bytes_eq w (codes "load") then Some verbs.Load else
+    if bytes_eq w (codes "store") then Some verbs.Store else
+    if bytes_eq w (codes "stat") then Some verbs.Stat else
+    if bytes_eq w (codes "set") then Some verbs.Set else
+    if bytes_eq w (codes "rmid") then Some verbs.Rmid else
+    if bytes_eq w (codes "lock") then Some verbs.Lock else
+    if bytes_eq w (codes "unlock") then Some verbs.Unlock else
+    if bytes_eq w (codes "fork") then Some verbs.Fork else
+    if bytes_eq w (codes "exec") then Some verbs.Exec else
+    if bytes_eq w (codes "exit") then Some verbs.Exit else
+    if bytes_eq w (codes "swapoff") then Some verbs.Swapoff else
+    None
+
+-- how many operands stand behind it
+abbrev pub operands : Verb → ℕ
+operands verbs.Shmget = 3
+operands verbs.Shmat = 3
+operands verbs.Xadd = 2
+operands verbs.Shmdt = 1
+operands verbs.Load = 2
+operands verbs.Store = 2
+operands verbs.Stat = 1
+operands verbs.Set = 4
+operands verbs.Rmid = 1
+operands verbs.Lock = 1
+operands verbs.Unlock = 1
+operands verbs.Fork = 1
+operands verbs.Exec = 0
+operands verbs.Exit = 0
+operands verbs.Swapoff = 1
+
+-- whether a variable and `=` may stand before it
+abbrev pub may_be_taken : Verb → Bool
+may_be_taken verbs.Shmget = true
+may_be_taken verbs.Shmat = true
+may_be_taken verbs.Xadd = true
+may_be_taken _ = false
+
+-- THE FORMS: the first operand stands at i
+
+abbrev pub id_operand : List (List ℕ) → ℕ → Result LineId FaultKind
+id_operand ws i = id_word (word_at ws i) >>= ranged_id
+
+abbrev pub addr_operand : List (List ℕ) → ℕ → Result LineAddr FaultKind
+addr_operand ws i = addr_word (word_at ws i) >>= ranged_addr
+
+unfoldable pub shmget_call : List (List ℕ) → ℕ → Result LineCall FaultKind
+shmget_call ws i = do
+  key ← key_word (word_at ws i)
+  size ← wanted (word_at ws (i + 1))
+  mode ← mode_word (take 3 (word_at ws (i + 2)))
+  flags ← get_flags_word (drop 3 (word_at ws (i + 2)))
+  key ← ranged 0 4294967295 key
+  size ← any size
+  Ok (Shmget key size mode flags)
+
+unfoldable pub shmat_call : List (List ℕ) → ℕ → Result LineCall FaultKind
+shmat_call ws i = do
+  id ← id_word (word_at ws i)
+  addr ← addr_word (word_at ws (i + 1))
+  flags ← at_flags_word (word_at ws (i + 2))
+  id ← ranged_id id
+  addr ← ranged_addr addr
+  Ok (Shmat id addr flags)
+
+unfoldable pub xadd_call : List (List ℕ) → ℕ → Result LineCall FaultKind
+xadd_call ws i = do
+  addr ← addr_word (word_at ws i)
+  add ← wanted (word_at ws (i + 1))
+  addr ← ranged_addr addr
+  add ← any add
+  Ok (Xadd addr add)
+
+unfoldable pub load_call : List (List ℕ) → ℕ → Result LineCall FaultKind
+load_call ws i = do
+  addr ← addr_word (word_at ws i)
+  len ← wanted (word_at ws (i + 1))
+  addr ← ranged_addr addr
+  len ← ranged 1 64 len
+  Ok (Load addr len)
+
+unfoldable pub store_call : List (List ℕ) → ℕ → Result LineCall FaultKind
+store_call ws i = do
+  addr ← addr_word (word_at ws i)
+  bytes ← chunk_word (word_at ws (i + 1))
+  addr ← ranged_addr addr
+  Ok (Store addr bytes)
+
+unfoldable pub set_call : List (List ℕ) → ℕ → Result LineCall FaultKind
+set_call ws i = do
+  id ← id_word (word_at ws i)
+  uid ← wanted (word_at ws (i + 1))
+  gid ← wanted (word_at ws (i + 2))
+  mode ← mode_word (word_at ws (i + 3))
+  id ← ranged_id id
+  uid ← ranged 0 4294967295 uid
+  gid ← ranged 0 4294967295 gid
+  Ok (Set id uid gid mode)
+
+unfoldable pub fork_call : List (List ℕ) → ℕ → Result LineCall FaultKind
+fork_call ws i = do
+  child ← wanted (word_at ws i)
+  child ← ranged 1 2147483647 child
+  Ok (Fork child)
+
+unfoldable pub swapoff_call : List (List ℕ) → ℕ → Result LineCall FaultKind
+swapoff_call ws i = do
+  area ← wanted (word_at ws i)
+  area ← ranged 0 7 area
+  Ok (Swapoff area)
+
+abbrev pub call_by : Verb → List (List ℕ) → ℕ → Result LineCall FaultKind
+call_by verbs.Shmget ws i = shmget_call ws i
+call_by verbs.Shmat ws i = shmat_call ws i
+call_by verbs.Xadd ws i = xadd_call ws i
+call_by verbs.Shmdt ws i = addr_operand ws i >>= λ addr. Ok (Shmdt addr)
+call_by verbs.Load ws i = load_call ws i
+call_by verbs.Store ws i = store_call ws i
+call_by verbs.Stat ws i = id_operand ws i >>= λ id. Ok (Stat id)
+call_by verbs.Set ws i = set_call ws i
+call_by verbs.Rmid ws i = id_operand ws i >>= λ id. Ok (Rmid id)
+call_by verbs.Lock ws i = id_operand ws i >>= λ id. Ok (Lock id)
+call_by verbs.Unlock ws i = id_operand ws i >>= λ id. Ok (Unlock id)
+call_by verbs.Fork ws i = fork_call ws i
+call_by verbs.Exec ws i = Ok Exec
+call_by verbs.Exit ws i = Ok Exit
+call_by verbs.Swapoff ws i = swapoff_call ws i
+
+-- where a call's word stands: behind the pid, and also behind a variable and `=` where one takes the answer
+abbrev pub place_of : Bool → ℕ
+place_of false = 1
+place_of true = 3
+
+-- the operands end the line
+abbrev pub call_with : List (List ℕ) → Bool → Verb → Result LineCall FaultKind
+call_with ws taken verb =
+    if (not taken || may_be_taken verb) && (length ws == place_of taken + 1 + operands verb)
+    then call_by verb ws (place_of taken + 1)
+    else Err BadLine
+
+-- the call of a line, whose answer a variable takes or not
+unfoldable pub call_words : List (List ℕ) → Bool → Result LineCall FaultKind
+call_words ws taken = ok_or (verb_of (word_at ws (place_of taken))) BadLine >>= call_with ws taken

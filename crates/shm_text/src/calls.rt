@@ -1,0 +1,338 @@
+//! The calls of a line: a word, and behind it the operands.
+ghost use Rattle.std.specs.Prelude.{◌≡◌, ◌≤◌, ◌<◌, ◌+◌, length, take, drop, true, IfOk};
+ghost use Rattle.shm_text.specs.Words.{word_at};
+ghost use Rattle.shm_text.specs.Form.{is_id, is_call, has_answer, is_answer_taken};
+ghost use Rattle.shm_text.specs.Calls.{verb_of, operands, may_be_taken, id_operand, addr_operand, shmget_call, shmat_call, xadd_call, load_call, store_call, set_call, fork_call, swapoff_call, call_by, place_of, call_with, call_words};
+
+use crate::fault::FaultKind;
+use crate::operand::{
+    addr_word, any, at_flags_word, chunk_word, get_flags_word, id_word, key_word, mode_word,
+    ranged, ranged_addr, ranged_id, wanted,
+};
+use crate::script::{LineAddr, LineCall, LineId};
+use crate::words::Words;
+use shm_base::AccessLen;
+
+/// The largest pid.
+pub(crate) const LAST_PID: u32 = 2_147_483_647;
+
+/// The largest number of a swap area.
+const LAST_AREA: u32 = 7;
+
+/// The word of a call.
+#[derive(Clone, Copy)]
+pub(crate) enum Verb {
+    Shmget,
+    Shmat,
+    Xadd,
+    Shmdt,
+    Load,
+    Store,
+    Stat,
+    Set,
+    Rmid,
+    Lock,
+    Unlock,
+    Fork,
+    Exec,
+    Exit,
+    Swapoff,
+}
+
+impl Verb {
+    #[tactic(auto, unfolding(crate::specs::Calls::verb_of))]
+    fn of(word: &[u8]) -> Option<Verb>
+        ensures { result ≡ verb_of word.now }
+    {
+        if word == b"shmget".as_slice() {
+            Some(Verb::Shmget)
+        } else if word == b"shmat".as_slice() {
+            Some(Verb::Shmat)
+        } else if word == b"xadd".as_slice() {
+            Some(Verb::Xadd)
+        } else if word == b"shmdt".as_slice() {
+            Some(Verb::Shmdt)
+        } else if word == b"load".as_slice() {
+            Some(Verb::Load)
+        } else if word == b"store".as_slice() {
+            Some(Verb::Store)
+        } else if word == b"stat".as_slice() {
+            Some(Verb::Stat)
+        } else if word == b"set".as_slice() {
+            Some(Verb::Set)
+        } else if word == b"rmid".as_slice() {
+            Some(Verb::Rmid)
+        } else if word == b"lock".as_slice() {
+            Some(Verb::Lock)
+        } else if word == b"unlock".as_slice() {
+            Some(Verb::Unlock)
+        } else if word == b"fork".as_slice() {
+            Some(Verb::Fork)
+        } else if word == b"exec".as_slice() {
+            Some(Verb::Exec)
+        } else if word == b"exit".as_slice() {
+            Some(Verb::Exit)
+        } else if word == b"swapoff".as_slice() {
+            Some(Verb::Swapoff)
+        } else {
+            None
+        }
+    }
+
+    // How many operands stand behind the word.
+    fn operands(self) -> usize
+        ensures { result ≡ operands self }
+    {
+        match self {
+            Verb::Exec | Verb::Exit => 0,
+            Verb::Shmdt
+            | Verb::Stat
+            | Verb::Rmid
+            | Verb::Lock
+            | Verb::Unlock
+            | Verb::Fork
+            | Verb::Swapoff => 1,
+            Verb::Xadd | Verb::Load | Verb::Store => 2,
+            Verb::Shmget | Verb::Shmat => 3,
+            Verb::Set => 4,
+        }
+    }
+
+    // Whether a variable and `=` may stand before it.
+    fn may_be_taken(self) -> bool
+        ensures { result ≡ may_be_taken self }
+    {
+        matches!(self, Verb::Shmget | Verb::Shmat | Verb::Xadd)
+    }
+}
+
+fn id_operand(words: &Words<'_>, index: usize) -> Result<LineId, FaultKind>
+    requires { index < length words.now }
+    ensures value { result ≡ id_operand words.now index }
+    ensures form { IfOk result (λ id. is_id id ≡ true) }
+{
+    let id = id_word(words.at(index))?;
+    ranged_id(id)
+}
+
+fn addr_operand(words: &Words<'_>, index: usize) -> Result<LineAddr, FaultKind>
+    requires { index < length words.now }
+    ensures { result ≡ addr_operand words.now index }
+{
+    let addr = addr_word(words.at(index))?;
+    ranged_addr(addr)
+}
+
+// The part of a word that has to be a mode: its first three bytes.
+fn mode_part(word: &[u8]) -> &[u8]
+    ensures { result.now ≡ take 3 word.now }
+{
+    &word[..word.len().min(3)]
+}
+
+// The part of a word behind its mode.
+fn flags_part(word: &[u8]) -> &[u8]
+    ensures { result.now ≡ drop 3 word.now }
+{
+    &word[word.len().min(3)..]
+}
+
+#[tactic(auto, unfolding(crate::specs::Calls::shmget_call))]
+fn shmget_call(words: &Words<'_>, index: usize) -> Result<LineCall, FaultKind>
+    requires small { index ≤ 4 }
+    requires words { index + 3 ≡ length words.now }
+    ensures value { result ≡ shmget_call words.now index }
+    ensures form { IfOk result (λ c. is_call c ≡ true) }
+    ensures answer { IfOk result (λ c. has_answer c ≡ true) }
+{
+    let key = key_word(words.at(index))?;
+    let size = wanted(words.at(index + 1))?;
+    let mode = mode_word(mode_part(words.at(index + 2)))?;
+    let flags = get_flags_word(flags_part(words.at(index + 2)))?;
+    let key = ranged(key, 0, u32::MAX)?;
+    let size = any(size)?;
+    Ok(LineCall::Shmget {
+        key,
+        size,
+        mode,
+        flags,
+    })
+}
+
+#[tactic(auto, unfolding(crate::specs::Calls::shmat_call))]
+fn shmat_call(words: &Words<'_>, index: usize) -> Result<LineCall, FaultKind>
+    requires small { index ≤ 4 }
+    requires words { index + 3 ≡ length words.now }
+    ensures value { result ≡ shmat_call words.now index }
+    ensures form { IfOk result (λ c. is_call c ≡ true) }
+    ensures answer { IfOk result (λ c. has_answer c ≡ true) }
+{
+    let id = id_word(words.at(index))?;
+    let addr = addr_word(words.at(index + 1))?;
+    let flags = at_flags_word(words.at(index + 2))?;
+    let id = ranged_id(id)?;
+    let addr = ranged_addr(addr)?;
+    Ok(LineCall::Shmat { id, addr, flags })
+}
+
+#[tactic(auto, unfolding(crate::specs::Calls::xadd_call))]
+fn xadd_call(words: &Words<'_>, index: usize) -> Result<LineCall, FaultKind>
+    requires small { index ≤ 4 }
+    requires words { index + 2 ≡ length words.now }
+    ensures value { result ≡ xadd_call words.now index }
+    ensures form { IfOk result (λ c. is_call c ≡ true) }
+    ensures answer { IfOk result (λ c. has_answer c ≡ true) }
+{
+    let addr = addr_word(words.at(index))?;
+    let add = wanted(words.at(index + 1))?;
+    let addr = ranged_addr(addr)?;
+    let add = any(add)?;
+    Ok(LineCall::Xadd { addr, add })
+}
+
+// The number of bytes of an access.
+fn access_len(len: u32) -> AccessLen
+    requires { (1 ≤ len) × (len ≤ 64) }
+    ensures { result ≡ len }
+{
+    AccessLen::new(len as u64).unwrap()
+}
+
+#[tactic(auto, unfolding(crate::specs::Calls::load_call))]
+fn load_call(words: &Words<'_>, index: usize) -> Result<LineCall, FaultKind>
+    requires small { index ≤ 4 }
+    requires words { index + 2 ≡ length words.now }
+    ensures value { result ≡ load_call words.now index }
+    ensures form { IfOk result (λ c. is_call c ≡ true) }
+{
+    let addr = addr_word(words.at(index))?;
+    let len = wanted(words.at(index + 1))?;
+    let addr = ranged_addr(addr)?;
+    let len = ranged(len, 1, 64)?;
+    Ok(LineCall::Load {
+        addr,
+        len: access_len(len),
+    })
+}
+
+#[tactic(auto, unfolding(crate::specs::Calls::store_call))]
+fn store_call(words: &Words<'_>, index: usize) -> Result<LineCall, FaultKind>
+    requires small { index ≤ 4 }
+    requires words { index + 2 ≡ length words.now }
+    ensures value { result ≡ store_call words.now index }
+    ensures form { IfOk result (λ c. is_call c ≡ true) }
+{
+    let addr = addr_word(words.at(index))?;
+    let chunk = chunk_word(words.at(index + 1))?;
+    let addr = ranged_addr(addr)?;
+    Ok(LineCall::Store { addr, chunk })
+}
+
+#[tactic(auto, unfolding(crate::specs::Calls::set_call))]
+fn set_call(words: &Words<'_>, index: usize) -> Result<LineCall, FaultKind>
+    requires small { index ≤ 4 }
+    requires words { index + 4 ≡ length words.now }
+    ensures value { result ≡ set_call words.now index }
+    ensures form { IfOk result (λ c. is_call c ≡ true) }
+{
+    let id = id_word(words.at(index))?;
+    let uid = wanted(words.at(index + 1))?;
+    let gid = wanted(words.at(index + 2))?;
+    let mode = mode_word(words.at(index + 3))?;
+    let id = ranged_id(id)?;
+    let uid = ranged(uid, 0, u32::MAX)?;
+    let gid = ranged(gid, 0, u32::MAX)?;
+    Ok(LineCall::Set { id, uid, gid, mode })
+}
+
+#[tactic(auto, unfolding(crate::specs::Calls::fork_call))]
+fn fork_call(words: &Words<'_>, index: usize) -> Result<LineCall, FaultKind>
+    requires { index < length words.now }
+    ensures value { result ≡ fork_call words.now index }
+    ensures form { IfOk result (λ c. is_call c ≡ true) }
+{
+    let child = wanted(words.at(index))?;
+    let child = ranged(child, 1, LAST_PID)?;
+    Ok(LineCall::Fork { child })
+}
+
+#[tactic(auto, unfolding(crate::specs::Calls::swapoff_call))]
+fn swapoff_call(words: &Words<'_>, index: usize) -> Result<LineCall, FaultKind>
+    requires { index < length words.now }
+    ensures value { result ≡ swapoff_call words.now index }
+    ensures form { IfOk result (λ c. is_call c ≡ true) }
+{
+    let area = wanted(words.at(index))?;
+    let area = ranged(area, 0, LAST_AREA)?;
+    Ok(LineCall::Swapoff { area })
+}
+
+// The call of a word, whose operands stand at an index and end the line.
+fn call_by(verb: Verb, words: &Words<'_>, index: usize) -> Result<LineCall, FaultKind>
+    requires small { index ≤ 4 }
+    requires words { index + operands verb ≡ length words.now }
+    ensures value { result ≡ call_by verb words.now index }
+    ensures form { IfOk result (λ c. is_call c ≡ true) }
+    ensures answer { may_be_taken verb ≡ true → IfOk result (λ c. has_answer c ≡ true) }
+{
+    match verb {
+        Verb::Shmget => shmget_call(words, index),
+        Verb::Shmat => shmat_call(words, index),
+        Verb::Xadd => xadd_call(words, index),
+        Verb::Load => load_call(words, index),
+        Verb::Store => store_call(words, index),
+        Verb::Set => set_call(words, index),
+        Verb::Fork => fork_call(words, index),
+        Verb::Swapoff => swapoff_call(words, index),
+        Verb::Shmdt => {
+            let addr = addr_operand(words, index)?;
+            Ok(LineCall::Shmdt { addr })
+        }
+        Verb::Stat => {
+            let id = id_operand(words, index)?;
+            Ok(LineCall::Stat { id })
+        }
+        Verb::Rmid => {
+            let id = id_operand(words, index)?;
+            Ok(LineCall::Rmid { id })
+        }
+        Verb::Lock => {
+            let id = id_operand(words, index)?;
+            Ok(LineCall::Lock { id })
+        }
+        Verb::Unlock => {
+            let id = id_operand(words, index)?;
+            Ok(LineCall::Unlock { id })
+        }
+        Verb::Exec => Ok(LineCall::Exec),
+        Verb::Exit => Ok(LineCall::Exit),
+    }
+}
+
+// Where a call's word stands, behind a variable and `=` or not.
+fn place_of(taken: bool) -> usize
+    ensures value { result ≡ place_of taken }
+    ensures small { result ≤ 3 }
+{
+    if taken { 3 } else { 1 }
+}
+
+/// The call of a line, whose answer a variable takes or not. Its operands end the line.
+#[tactic(auto, unfolding(crate::specs::Calls::call_words))]
+pub(crate) fn call_words(words: &Words<'_>, taken: bool) -> Result<LineCall, FaultKind>
+    ensures value { result ≡ call_words words.now taken }
+    ensures form { IfOk result (λ c. is_call c ≡ true) }
+    ensures answer { IfOk result (λ c. is_answer_taken taken c ≡ true) }
+{
+    let place = place_of(taken);
+    if words.len() <= place {
+        return Err(FaultKind::BadLine);
+    }
+    let Some(verb) = Verb::of(words.at(place)) else {
+        return Err(FaultKind::BadLine);
+    };
+    if (taken && !verb.may_be_taken()) || words.len() != place + 1 + verb.operands() {
+        return Err(FaultKind::BadLine);
+    }
+    call_by(verb, words, place + 1)
+}

@@ -1,0 +1,5 @@
+use Rattle.std.proofs.Common.{◌≤◌}
+use Rattle.shm_threads.proofs.worker.flush_all.Given as goal
+
+abbrev pub invariant-loop-line : goal.invariant-loop-line
+invariant-loop-line g l = l.n ≤ l.line-index

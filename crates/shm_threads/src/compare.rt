@@ -1,0 +1,298 @@
+//! The comparison of the transcripts with the history, once all workers have ended. What a run promises is
+//! what this finds: the workers themselves promise nothing.
+ghost use Rattle.std.specs.Prelude.{◌≡◌, ◌≤◌, IfNone, IfOk, IsTrue, All, map, length, drop};
+ghost use Rattle.std.specs.Option.{option_copied};
+ghost use Rattle.shm_base.specs.History.{IsHistory, own_part};
+ghost use Rattle.shm_text.specs.Variables.{no_values};
+ghost use Rattle.shm_threads.specs.Transcripts.{commands_of, reply_in, is_end, Follows, told, bears, is_forked, is_declared, is_child, pid_in, pid_of, HasLines, FitsMark, IsTranscript, IsAdmitted};
+
+use crate::outcome::{Answer, Entry, Transcript};
+use shm_base::{Call, Errno, Event, HostMemory, Process, Reply};
+use shm_history::{Opening, World};
+use shm_pager::Pager;
+use shm_text::{Line, Script, Vars};
+use std::alloc::Global;
+
+/// A copy of an opening.
+pub(crate) fn copied(alloc: Global, opening: &Opening) -> Result<Opening, HostMemory>
+    ensures { IfOk result (λ o. o ≡ opening.now) }
+{
+    let areas = Vec::from_slice(alloc, &opening.areas)?;
+    let processes = Vec::from_slice(alloc, &opening.processes)?;
+    Ok(Opening {
+        limits: opening.limits,
+        areas,
+        processes,
+    })
+}
+
+fn is_same(one: &Opening, other: &Opening) -> bool
+    ensures { IsTrue result → one.now ≡ other.now }
+{
+    one.limits == other.limits
+        && one.areas == other.areas
+        && are_same(&one.processes, &other.processes)
+}
+
+fn are_same(one: &[Process], other: &[Process]) -> bool
+    ensures { IsTrue result → one.now ≡ other.now }
+{
+    one == other
+}
+
+/// The least pid whose part of the history and whose transcript disagree, or 0 where the opening or the
+/// list of transcripts is not as it was handed in.
+pub(crate) fn mismatch<P: Pager>(
+    opening: &Opening,
+    world: &World<P>,
+    script: &Script,
+    transcripts: &Vec<Transcript>,
+) -> Option<u32>
+    ensures opening { IfNone result (world.now.opening ≡ opening.now) }
+    ensures legal { IfNone result (IsHistory world.now.opening world.now.events world.now.machine) }
+    ensures processes { IfNone result (map pid_of transcripts.now.items ≡ map pid_in script.now.processes) }
+    ensures transcripts { IfNone result (All (IsTranscript script.now world.now.events) transcripts.now.items) }
+    ensures events { IfNone result (All (IsAdmitted script.now.processes) world.now.events) }
+{
+    if !is_same(opening, world.opening()) {
+        return Some(0);
+    }
+    disagreement(script, world.history(), transcripts)
+}
+
+// As `mismatch`, but for the opening.
+pub(crate) fn disagreement(
+    script: &Script,
+    history: &[Event],
+    transcripts: &Vec<Transcript>,
+) -> Option<u32>
+    ensures processes { IfNone result (map pid_of transcripts.now.items ≡ map pid_in script.now.processes) }
+    ensures transcripts { IfNone result (All (IsTranscript script.now history.now) transcripts.now.items) }
+    ensures events { IfNone result (All (IsAdmitted script.now.processes) history.now) }
+{
+    if !has_each(&script.processes, transcripts) {
+        return Some(0);
+    }
+    let stranger = first_stranger(&script.processes, history);
+    let broken = first_broken(script, history, transcripts);
+    match (stranger, broken) {
+        (Some(a), Some(b)) => Some(a.min(b)),
+        (Some(a), None) => Some(a),
+        (None, other) => other,
+    }
+}
+
+// Whether there is one transcript for each process, in order.
+fn has_each(processes: &[Process], transcripts: &[Transcript]) -> bool
+    ensures { IsTrue result → map pid_of transcripts.now ≡ map pid_in processes.now }
+{
+    if processes.len() != transcripts.len() {
+        return false;
+    }
+    for (process, transcript) in processes.iter().zip(transcripts) {
+        if process.pid != transcript.pid {
+            return false;
+        }
+    }
+    true
+}
+
+// The least pid of an event that is of no declared process, or of one that was not live.
+fn first_stranger(processes: &[Process], history: &[Event]) -> Option<u32>
+    ensures { IfNone result (All (IsAdmitted processes.now) history.now) }
+{
+    let mut found = None;
+    for event in history {
+        if !is_admitted(processes, event) {
+            found = Some(least(found, event.pid));
+        }
+    }
+    found
+}
+
+fn is_admitted(processes: &[Process], event: &Event) -> bool
+    ensures { IsTrue result → IsAdmitted processes.now event.now }
+{
+    is_declared(processes, event.pid) && event.reply != Reply::Refused(Errno::Esrch)
+}
+
+fn is_declared(processes: &[Process], pid: u32) -> bool
+    ensures { result ≡ is_declared pid processes.now }
+{
+    processes.iter().any(|process| process.pid == pid)
+}
+
+/// The lesser of the least pid so far and another.
+pub(crate) fn least(so_far: Option<u32>, pid: u32) -> u32 {
+    so_far.map_or(pid, |other| other.min(pid))
+}
+
+// The least pid whose transcript is not its process's.
+fn first_broken(script: &Script, history: &[Event], transcripts: &[Transcript]) -> Option<u32>
+    ensures { IfNone result (All (IsTranscript script.now history.now) transcripts.now) }
+{
+    let mut found = None;
+    for transcript in transcripts {
+        if !is_whole(script, history, transcript) {
+            found = Some(least(found, transcript.pid));
+        }
+    }
+    found
+}
+
+fn is_whole(script: &Script, history: &[Event], transcript: &Transcript) -> bool
+    ensures { IsTrue result → IsTranscript script.now history.now transcript.now }
+{
+    has_lines(script, history, transcript)
+        && is_own(history, transcript.pid, &transcript.entries)
+        && fit(&transcript.entries)
+}
+
+fn has_lines(script: &Script, history: &[Event], transcript: &Transcript) -> bool
+    ensures { IsTrue result → HasLines script.now history.now transcript.now }
+{
+    if follow(&script.lines, transcript.pid, &transcript.entries) {
+        return true;
+    }
+    is_child(&script.processes, transcript.pid)
+        && transcript.entries.is_empty()
+        && !is_forked(history, transcript.pid)
+}
+
+fn is_child(processes: &[Process], pid: u32) -> bool
+    ensures { result ≡ is_child pid processes.now }
+{
+    processes
+        .iter()
+        .any(|process| process.pid == pid && process.born.is_none())
+}
+
+fn is_forked(history: &[Event], child: u32) -> bool
+    ensures { result ≡ is_forked child history.now }
+{
+    history.iter().any(|event| bears(event, child))
+}
+
+fn bears(event: &Event, child: u32) -> bool
+    ensures { result ≡ bears child event.now.call event.now.reply }
+{
+    match (&event.call, &event.reply) {
+        (Call::Fork { child: born }, Reply::Done) => *born == child,
+        _ => false,
+    }
+}
+
+// Whether only calls that may want memory are marked.
+fn fit(entries: &[Entry]) -> bool
+    ensures { IsTrue result → All FitsMark entries.now }
+{
+    entries.iter().all(|entry| fits(entry))
+}
+
+fn fits(entry: &Entry) -> bool
+    ensures { IsTrue result → FitsMark entry.now }
+{
+    match (&entry.call, &entry.answer) {
+        (_, Answer::Reply(_)) => true,
+        (Call::Shmget { .. } | Call::Shmat { .. } | Call::Fork { .. }, Answer::HostMemory) => true,
+        _ => false,
+    }
+}
+
+// Whether the entries follow the lines of the process.
+fn follow(lines: &[Line], pid: u32, entries: &[Entry]) -> bool
+    ensures { IsTrue result → Follows no_values (commands_of pid lines.now) entries.now }
+{
+    let mut vars = Vars::new();
+    let mut next = 0;
+    for line in lines {
+        let Line::Command(command) = line else {
+            continue;
+        };
+        if command.pid() != pid {
+            continue;
+        }
+        if next >= entries.len() {
+            return false;
+        }
+        let entry = &entries[next];
+        let call = vars.call(command);
+        if !has_call(entry, &call) {
+            return false;
+        }
+        next += 1;
+        if ends(entry) {
+            return next == entries.len();
+        }
+        vars.took(command, reply_in(&entry.answer));
+    }
+    next == entries.len()
+}
+
+fn has_call(entry: &Entry, call: &Call) -> bool
+    ensures { IsTrue result → entry.now.call ≡ call.now }
+{
+    entry.call == *call
+}
+
+/// The reply, where there is one.
+pub(crate) fn reply_in(answer: &Answer) -> Option<&Reply>
+    ensures { option_copied result ≡ reply_in answer.now }
+{
+    match answer {
+        Answer::Reply(reply) => Some(reply),
+        Answer::HostMemory => None,
+    }
+}
+
+/// Whether the process ends by this call.
+pub(crate) fn ends(entry: &Entry) -> bool
+    ensures { result ≡ is_end entry.now.call entry.now.answer }
+{
+    match (&entry.call, &entry.answer) {
+        (Call::Exit, Answer::Reply(Reply::Done)) => true,
+        _ => false,
+    }
+}
+
+// Whether the answered entries are the process's own part of the history.
+fn is_own(history: &[Event], pid: u32, entries: &[Entry]) -> bool
+    ensures { IsTrue result → told pid entries.now ≡ own_part pid history.now }
+{
+    let mut next = 0;
+    for event in history {
+        if event.pid != pid {
+            continue;
+        }
+        next = next_answered(entries, next, pid);
+        if next >= entries.len() || !is_event(&entries[next], event) {
+            return false;
+        }
+        next += 1;
+    }
+    next_answered(entries, next, pid) >= entries.len()
+}
+
+// Whether the entry is the event's call with its reply.
+fn is_event(entry: &Entry, event: &Event) -> bool
+    ensures { IsTrue result → (entry.now.call ≡ event.now.call) × (entry.now.answer ≡ Answer.Reply event.now.reply) }
+{
+    match &entry.answer {
+        Answer::Reply(reply) => entry.call == event.call && *reply == event.reply,
+        Answer::HostMemory => false,
+    }
+}
+
+// The first entry from a place on that is not marked. The pid is read by the contract alone.
+fn next_answered(entries: &[Entry], from: usize, pid: u32) -> usize
+    requires { from ≤ length entries.now }
+    ensures bound { result ≤ length entries.now }
+    ensures same { told pid (drop from entries.now) ≡ told pid (drop result entries.now) }
+{
+    let mut next = from;
+    while next < entries.len() && entries[next].answer == Answer::HostMemory {
+        next += 1;
+    }
+    let _ = pid;
+    next
+}

@@ -1,0 +1,17 @@
+//! A thread for each process of a script, over one world under a lock.
+#![tactic(auto)]
+
+mod compare;
+mod gate;
+mod hall;
+mod outcome;
+mod run;
+#[cfg(test)]
+mod run_tests;
+#[cfg(test)]
+mod tests;
+mod worker;
+
+pub use gate::Gate;
+pub use outcome::{Answer, Entry, Outcome, RunError, Transcript};
+pub use run::run_threads;

@@ -1,0 +1,145 @@
+//! Whole runs: whatever the schedule, they end as stated.
+use crate::gate::Gate;
+use crate::outcome::{Outcome, RunError};
+use crate::run::run_threads;
+use crate::tests::{Below, OPEN, calls, script, world};
+use shm_base::{AccessLen, Call, Chunk, Reply};
+use shm_pager::RamPager;
+use shm_text::{FlushLine, Line};
+use std::alloc::Global;
+use std::sync::Wait;
+use std::sync::atomic::{AtomicU64, Ordering};
+use std::test::Fail;
+use std::thread::Threads;
+
+// The head, and then the lines so often.
+fn repeated(alloc: Global, head: &[u8], lines: &[u8], times: u32) -> Result<Vec<u8>, Fail> {
+    let mut text = Vec::from_slice(alloc, head)?;
+    for _ in 0..times {
+        text.extend_from_slice(lines)?;
+    }
+    Ok(text)
+}
+
+fn run<R: Threads + Wait + Sync>(
+    rt: &R,
+    alloc: Global,
+    text: &[u8],
+) -> Result<Outcome<RamPager>, Fail> {
+    let script = script(alloc, text)?;
+    let world = world(alloc, &script)?;
+    let run = run_threads(rt, alloc, world, &script, &Below(OPEN));
+    Ok(run.ok().ok_or("a run")?)
+}
+
+/// Process 1 lets three children share its page, and then wants frames for another segment.
+const COUNTER: &[u8] =
+    b"limits 65536 16 64 2 0\nprocess 1 100 100\nchild 2\nchild 3\nchild 4\n1 shmget private 4096 600\n1 shmat 0 null -\n1 fork 2\n1 fork 3\n1 fork 4\n1 t = shmget private 12288 600\n1 b = shmat t null -\n1 store b 01\n1 store b+4096 02\n1 store b+8192 03\n1 rmid t\n1 shmdt b\n";
+
+const COUNTS: &[u8] =
+    b"1 xadd 0x40000000 1\n2 xadd 0x40000000 1\n3 xadd 0x40000000 1\n4 xadd 0x40000000 1\n1 xadd 0x40000000 1\n2 xadd 0x40000000 1\n3 xadd 0x40000000 1\n4 xadd 0x40000000 1\n0 flush 2\n";
+
+#[test]
+fn four_count_together(rt: HostRuntime) -> Result<(), Fail> {
+    let alloc = rt.alloc();
+    let text = repeated(alloc, COUNTER, COUNTS, 50)?;
+    let len = AccessLen::new(8).ok_or("1 to 64")?;
+    let addr = 0x40000000;
+    let sum = Chunk::new(&[0x90, 1, 0, 0, 0, 0, 0, 0]).ok_or("8 bytes")?;
+    let mut outcome = run(&rt, alloc, &text)?;
+    assert_eq!(rt; outcome.world.history().len(), 412);
+    assert_eq!(rt; calls(&outcome, 0), Some(112));
+    for place in 1..4 {
+        assert_eq!(rt; calls(&outcome, place), Some(100));
+    }
+    let loaded = outcome.world.call(1, &Call::Load { addr, len });
+    assert!(rt; matches!(&loaded, Ok(Reply::Bytes(bytes)) if *bytes == sum));
+    Ok(())
+}
+
+/// A child bears another, and one is never born.
+const TREE: &[u8] =
+    b"limits 65536 16 64 4 1\nprocess 1 100 100\nchild 2\nchild 3\nchild 4\nchild 5\n5 exit\n2 fork 4\n1 fork 2\n1 fork 3\n";
+
+#[test]
+fn children_of_children(rt: HostRuntime) -> Result<(), Fail> {
+    let alloc = rt.alloc();
+    let text = repeated(alloc, TREE, b"4 exec\n3 exec\n2 exec\n1 exec\n", 10)?;
+    let outcome = run(&rt, alloc, &text)?;
+    assert_eq!(rt; outcome.world.history().len(), 43);
+    for (place, wanted) in [12, 11, 10, 10, 0].iter().enumerate() {
+        assert_eq!(rt; calls(&outcome, place), Some(*wanted));
+    }
+    Ok(())
+}
+
+#[test]
+fn as_many_processes_as_there_may_be(rt: HostRuntime) -> Result<(), Fail> {
+    let alloc = rt.alloc();
+    let mut text = Vec::from_slice(alloc, b"limits 65536 16 64 4 1\n".as_slice())?;
+    for pid in 1..65 {
+        let line = format!(in alloc; "process {pid} 100 100\n")?;
+        text.extend_from_slice(line.as_bytes())?;
+    }
+    for pid in 1..65 {
+        let line = format!(in alloc; "{pid} shmget 5 4096 600,creat\n")?;
+        text.extend_from_slice(line.as_bytes())?;
+    }
+    let outcome = run(&rt, alloc, &text)?;
+    assert_eq!(rt; outcome.world.history().len(), 64);
+    assert_eq!(rt; outcome.world.indexes(), 1);
+    Ok(())
+}
+
+#[test]
+fn as_many_lines_as_there_may_be(rt: HostRuntime) -> Result<(), Fail> {
+    let alloc = rt.alloc();
+    let head = b"limits 65536 16 64 4 1\nprocess 1 100 100\nprocess 2 100 100\n";
+    let text = repeated(alloc, head, b"1 exec\n2 exec\n", 50_000)?;
+    let outcome = run(&rt, alloc, &text)?;
+    assert_eq!(rt; outcome.world.history().len(), 100_000);
+    assert_eq!(rt; calls(&outcome, 0), Some(50_000));
+    assert_eq!(rt; calls(&outcome, 1), Some(50_000));
+    Ok(())
+}
+
+/// Lets so many of the flusher's rounds pass, and counts them.
+#[derive(Drop)]
+struct Rounds {
+    most: u64,
+    made: AtomicU64,
+}
+
+impl Gate for Rounds {
+    fn before(&self, pid: u32, n: u64) -> bool {
+        pid != 0 || n <= self.most
+    }
+
+    fn after(&self, pid: u32, n: u64) {
+        if pid == 0 {
+            self.made.store(n, Ordering::SeqCst);
+        }
+    }
+}
+
+const TWO: &[u8] =
+    b"limits 65536 16 64 4 1\nprocess 1 100 100\nprocess 2 100 100\n1 exec\n2 exec\n1 exit\n";
+
+#[test]
+fn the_flusher_makes_its_rounds(rt: HostRuntime) -> Result<(), Fail> {
+    let alloc = rt.alloc();
+    let mut script = script(alloc, TWO)?;
+    for pages in 1..4 {
+        let round = FlushLine::new(pages).ok_or("1 to 4096")?;
+        script.lines.push(Line::Flush(round))?;
+    }
+    for (most, fault) in [(3, None), (1, Some(RunError::GateExpired { pid: 0 }))] {
+        let world = world(alloc, &script)?;
+        let made = AtomicU64::new(0);
+        let gate = Rounds { most, made };
+        let run = run_threads(&rt, alloc, world, &script, &gate);
+        assert!(rt; run.err() == fault);
+        assert_eq!(rt; gate.made.load(Ordering::SeqCst), most);
+    }
+    Ok(())
+}
