@@ -65,30 +65,57 @@ fn reply(rt: &impl Abort, world: &mut World<RamPager>, call: &Call) -> Result<Re
     Ok(world.call(1, call).ok().ok_or("memory comes back")?)
 }
 
+// Each call has its reply.
+fn replies(
+    rt: &impl Abort,
+    world: &mut World<RamPager>,
+    calls: &[(Call, Reply)],
+) -> Result<(), Fail> {
+    for (call, wanted) in calls {
+        assert!(rt; reply(rt, world, call)? == *wanted);
+    }
+    Ok(())
+}
+
+fn over_a_page(alloc: Global) -> Result<Vec<(Call, Reply)>, Fail> {
+    let calls = vec![in alloc;
+        (shmget(8192), Reply::Id(0)),
+        (shmat(0), Reply::Addr(0x40000000)),
+        (store(0x40000ffe, &[1, 2, 3, 4])?, Reply::Done),
+        (load(0x40000ffd, 6)?, bytes(&[0, 1, 2, 3, 4, 0])?),
+        (shmget(4096), Reply::Id(1)),
+        (Call::Exit, Reply::Done),
+        (Call::Exit, Reply::Refused(Errno::Esrch)),
+    ]?;
+    Ok(calls)
+}
+
 #[test]
 fn across_a_page(rt: HostRuntime) -> Result<(), Fail> {
+    let calls = over_a_page(rt.alloc())?;
     let mut world = world(&rt, 65536)?;
-    assert!(rt; reply(&rt, &mut world, &shmget(8192))? == Reply::Id(0));
-    assert!(rt; reply(&rt, &mut world, &shmat(0))? == Reply::Addr(0x40000000));
-    assert!(rt; reply(&rt, &mut world, &store(0x40000ffe, &[1, 2, 3, 4])?)? == Reply::Done);
-    assert!(rt; reply(&rt, &mut world, &load(0x40000ffd, 6)?)? == bytes(&[0, 1, 2, 3, 4, 0])?);
-    assert!(rt; reply(&rt, &mut world, &shmget(4096))? == Reply::Id(1));
-    assert!(rt; reply(&rt, &mut world, &Call::Exit)? == Reply::Done);
-    assert!(rt; reply(&rt, &mut world, &Call::Exit)? == Reply::Refused(Errno::Esrch));
+    replies(&rt, &mut world, &calls)?;
     assert_eq!(rt; world.history().len(), 7);
     Ok(())
 }
 
+fn seen_twice(alloc: Global) -> Result<Vec<(Call, Reply)>, Fail> {
+    let calls = vec![in alloc;
+        (shmget(4096), Reply::Id(0)),
+        (shmat(0), Reply::Addr(0x40000000)),
+        (shmat(0), Reply::Addr(0x40001000)),
+        (store(0x40000ffe, &[1, 2, 3, 4])?, Reply::Done),
+        (load(0x40000000, 2)?, bytes(&[3, 4])?),
+        (load(0x40001ffe, 2)?, bytes(&[1, 2])?),
+    ]?;
+    Ok(calls)
+}
+
 #[test]
 fn one_page_twice(rt: HostRuntime) -> Result<(), Fail> {
+    let calls = seen_twice(rt.alloc())?;
     let mut world = world(&rt, 65536)?;
-    assert!(rt; world.call(1, &shmget(4096)) == Ok(Reply::Id(0)));
-    assert!(rt; world.call(1, &shmat(0)) == Ok(Reply::Addr(0x40000000)));
-    assert!(rt; world.call(1, &shmat(0)) == Ok(Reply::Addr(0x40001000)));
-    assert!(rt; world.call(1, &store(0x40000ffe, &[1, 2, 3, 4])?) == Ok(Reply::Done));
-    assert!(rt; world.call(1, &load(0x40000000, 2)?) == Ok(bytes(&[3, 4])?));
-    assert!(rt; world.call(1, &load(0x40001ffe, 2)?) == Ok(bytes(&[1, 2])?));
-    Ok(())
+    replies(&rt, &mut world, &calls)
 }
 
 #[test]
