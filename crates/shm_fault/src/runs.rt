@@ -387,7 +387,7 @@ fn step<P: Pager>(rt: &impl Abort, pair: &mut Pair<P>, dice: &mut Dice) -> Resul
         17..=21 => lock(rt, pair, seg, below(dice, 2) == 0),
         22..=25 => {
             let outs = pair.paged.tally().outs;
-            let report = pair.paged.flush(below(dice, 4));
+            let report = pair.paged.flush(u64::from(below(dice, 4)));
             assert!(rt; pair.paged.tally().outs == outs.saturating_add(report.written));
         }
         _ => touch(rt, pair, dice),
