@@ -1,9 +1,9 @@
 use super::*;
 use bitflags::Flags;
 use shm_base::{
-    AccessLen, AtFlags, Call, Chunk, Cred, Errno, GetFlags, Limits, Process, Reply, Step,
+    AccessLen, AtFlags, Call, Chunk, Cred, Errno, GetFlags, Limits, Process, Reply, Step, Tally,
 };
-use shm_pager::RamPager;
+use shm_pager::{FusePager, Pager, RamPager};
 use std::alloc::Global;
 use std::process::Abort;
 use std::test::Fail;
@@ -12,16 +12,19 @@ fn world(rt: &HostRuntime, shmmax: u64) -> Result<World<RamPager>, Fail> {
     let limits = Limits::new(shmmax, 16, 64, 4, 1)
         .ok()
         .ok_or("the limits hold")?;
+    opened(rt.alloc(), limits, RamPager::new(rt.alloc(), 64)?)
+}
+
+fn opened<P: Pager>(alloc: Global, limits: Limits, pager: P) -> Result<World<P>, Fail> {
     let first = Process {
         pid: 1,
         born: Some(Cred { uid: 100, gid: 100 }),
     };
-    let alloc = rt.alloc();
-    let pagers = vec![in alloc; RamPager::new(alloc, 64)?]?;
+    let pagers = vec![in alloc; pager]?;
     let system = System::start(alloc, limits, pagers, &[first])
         .ok()
         .ok_or("it starts")?;
-    Ok(World::new(rt.alloc(), system))
+    Ok(World::new(alloc, system))
 }
 
 fn shmget(size: u64) -> Call {
@@ -56,7 +59,7 @@ fn bytes(bytes: &[u8]) -> Result<Reply, Fail> {
 }
 
 // The reply to a call. Where memory was wanting the history stays, and the call is made once more.
-fn reply(rt: &impl Abort, world: &mut World<RamPager>, call: &Call) -> Result<Reply, Fail> {
+fn reply<P: Pager>(rt: &impl Abort, world: &mut World<P>, call: &Call) -> Result<Reply, Fail> {
     let before = world.history().len();
     if let Ok(reply) = world.call(1, call) {
         return Ok(reply);
@@ -66,9 +69,9 @@ fn reply(rt: &impl Abort, world: &mut World<RamPager>, call: &Call) -> Result<Re
 }
 
 // Each call has its reply.
-fn replies(
+fn replies<P: Pager>(
     rt: &impl Abort,
-    world: &mut World<RamPager>,
+    world: &mut World<P>,
     calls: &[(Call, Reply)],
 ) -> Result<(), Fail> {
     for (call, wanted) in calls {
@@ -160,5 +163,50 @@ fn steps_with_room(rt: HostRuntime) -> Result<(), Fail> {
         assert!(rt; event.reply == *reply);
     }
     assert_eq!(rt; world.opening().areas.len(), 1);
+    Ok(())
+}
+
+fn up_to_the_last_count(alloc: Global) -> Result<Vec<(Call, Reply)>, Fail> {
+    let zero = bytes(&[0])?;
+    let calls = vec![in alloc;
+        (shmget(12288), Reply::Id(0)),
+        (shmat(0), Reply::Addr(0x40000000)),
+        (store(0x40000000, &[0x2a])?, Reply::Done),
+        (load(0x40001000, 1)?, zero.copied()),
+        (load(0x40002000, 1)?, Reply::Refused(Errno::Sigbus)),
+        (load(0x40000000, 1)?, bytes(&[0x2a])?),
+        (load(0x40002000, 1)?, zero.copied()),
+        (load(0x40001000, 1)?, Reply::Refused(Errno::Sigbus)),
+        (load(0x40001000, 1)?, zero),
+    ]?;
+    Ok(calls)
+}
+
+/// The first write counts the last failure that can be counted. Then the area is spent: the next page-out
+/// goes to it and fails without a call of its pager.
+#[test]
+fn a_spent_area(rt: HostRuntime) -> Result<(), Fail> {
+    let alloc = rt.alloc();
+    let limits = Limits::new(65536, 16, 64, 2, 0).ok().ok_or("they hold")?;
+    let ram = RamPager::new(alloc, 64)?;
+    let writes = vec![in alloc; 1]?;
+    let fuse = FusePager::new_at(ram, Vec::new(alloc), writes, 18446744073709551614);
+    let mut world = opened(alloc, limits, fuse)?;
+    replies(&rt, &mut world, &up_to_the_last_count(alloc)?)?;
+    let wanted = Tally {
+        events: 9,
+        segments: 1,
+        reserved: 3,
+        locked: 0,
+        frames: 2,
+        resident: 2,
+        dirty: 1,
+        slots: 64,
+        used: 1,
+        ins: 0,
+        outs: 0,
+        failures: 1,
+    };
+    assert!(rt; world.tally() == wanted);
     Ok(())
 }

@@ -75,22 +75,6 @@ unlock-few t f memlock found few = let sum = relocked-sum t f found false in ome
 
 -- MARKED
 
-pub marked-orphans : (t : List Entry) (f : Found) (rs : List Runner) → IsFound t f → OrphansAmong [] rs t → OrphansAmong (f.seg ∷ []) rs (change t f.seg marked)
-marked-orphans t f rs found none = λ i h. by i h (cases_eq (f.seg % 32768) i)
-  where
-    is-set : change t f.seg marked ≡ slice_set t (f.seg % 32768) (record { destroyed = f.seg / 32768; segment = Some (marked (table.seen t f)) })
-    is-set = rw found.entry refl
-
-    by : (i : ℕ) → orphan rs (change t f.seg marked) i ≡ true → (f.seg % 32768 ≡ i) ⊎ (f.seg % 32768 ≢ i) → is_among (f.seg ∷ []) (id_at (change t f.seg marked) i) ≡ true
-    by i h (inl e) =
-        let same : id_at (change t f.seg marked) i ≡ id_at t i = (change-pages marked (λ s. refl) t f.seg).ids i in
-        let there : slice_get t i ≡ Some (record { destroyed = f.seg / 32768; segment = Some (table.seen t f) }) = ap (slice_get t) (sym e) ∙ found.entry in
-        let own : f.seg ≡ id_at t i = omega (arith, e) ∙ sym (ap (id_in i) there) in
-        rw (same, ← own, eq-eqb f.seg f.seg refl) refl
-    by i h (inr n) =
-        let same : slice_get (change t f.seg marked) i ≡ slice_get t i = ap (λ (u : List Entry). slice_get u i) is-set ∙ get-set_other t (f.seg % 32768) i (record { destroyed = f.seg / 32768; segment = Some (marked (table.seen t f)) }) n in
-        absurd (true≢false (sym (none i (sym (ap (orphan_in i rs) same) ∙ h))))
-
 -- SPANS
 
 pub spans-there : (t : List Entry) (rs : List Runner) (c : Caller) (ps : List Span) → IsCaller c rs → PiecesFit t rs → All InPage ps

@@ -125,16 +125,6 @@ sweeps-destroyed rs t seg s there dest none =
 pub sweeps-none : (rs : List Runner) (t : List Entry) → Sweeps rs t t
 sweeps-none rs t = record { swept = refl; size = refl; reserved = omega arith; locked = omega arith; pieces = λ h. h }
 
-pub sweeps-then : (rs : List Runner) (t u v : List Entry) → Sweeps rs t u → Sweeps rs u v → Sweeps rs t v
-sweeps-then rs t u v a b =
-    record {
-      swept = b.swept ∙ a.swept;
-      size = b.size ∙ a.size;
-      reserved = omega (arith, a.reserved, b.reserved);
-      locked = omega (arith, a.locked, b.locked);
-      pieces = λ h. b.pieces (a.pieces h);
-    }
-
 -- a mark, and no piece
 pub left-parts : (dest : Bool) (n : ℕ) → dest && (n == 0) ≡ true → (dest ≡ true) × (n ≡ 0)
 left-parts true n h = (refl, eqb-true n 0 h)

@@ -6,6 +6,5 @@ pub mod Address
 pub mod Made
 pub mod Start
 pub mod SystemState
-pub mod Views
 pub mod MachineView
 pub mod Counts

@@ -2,20 +2,19 @@
 use Rattle.std.proofs.Common.{◌≡◌, ◌≢◌, ℕ, ◌*◌, ◌%◌, ◌==◌, if◌then◌else◌, Bool, pos, List, [], ◌∷◌, set, Some, None, option_map, Ok, refl, sym, ap, ◌∙◌, arith, inl, inr, eq-eqb, ne_eqb, length-set}
 use Rattle.std.proofs.lemmas.Bool.{cases_eq}
 use Rattle.std.proofs.lemmas.Bool.Decides.{eqb_tells}
-use Rattle.shm_base.specs.State.{Segment, Runner, pages_of}
+use Rattle.shm_base.specs.State.{Segment, pages_of}
 use Rattle.shm_base.specs.Segments.{change}
 use Rattle.shm_ids.specs.declared.table.Entry.{Entry}
 use Rattle.shm_ids.specs.declared.table.Row.{Row}
-use Rattle.shm_ids.specs.Table.{identifier, entry_at, key_at, look, look_row, row_with_value, row_with_key, with_value, with_key}
+use Rattle.shm_ids.specs.Table.{identifier, entry_at, key_at, look, row_with_value, with_value, with_key}
 use Rattle.shm_ids.proofs.Entries.{at_set, at_set_other, with_key-with_value}
-use Rattle.shm_ids.proofs.Look.{look-id_at, live_row}
+use Rattle.shm_ids.proofs.Look.{live_row}
 use Rattle.shm_ids.proofs.Flat.{change-flat}
 use Rattle.shm_plain.specs.Held.{Held, find_held, with_lock}
 use Rattle.shm_plain.proofs.Found.{bytes_of-lock}
 use Rattle.shm_segments.specs.declared.head.Head.{Head}
-use Rattle.shm_segments.specs.Joined.{whole, joined, live, pages_in_row, pages_there, Shape, shape_held, shape_row, Agree, PiecesFit}
+use Rattle.shm_segments.specs.Joined.{whole, joined, live, Shape, shape_held, shape_row, Agree}
 use Rattle.shm_segments.proofs.Joins.{live-at, joined-same}
-use Rattle.shm_segments.proofs.Pieces.{fit-more}
 
 -- LOOKED UP
 
@@ -24,11 +23,6 @@ pub look-live : (rows : List (Entry Head)) (id : ℕ) (v : Head) → look rows (
 look-live rows id v looked =
     let l = live_row rows id v looked in
     rw (eq-eqb (identifier (id % 32768) (entry_at rows (id % 32768)).destroyed) id l.own) l.there
-
-pub live-look : (rows : List (Entry Head)) (id : ℕ) (r : Row Head) → live rows id ≡ Some r → look rows (pos id) ≡ Ok r.value
-live-look rows id r there =
-    let l = live-at rows id r there in
-    ap (λ n. look rows (pos n)) (sym l.own) ∙ look-id_at rows (id % 32768) (omega arith) ∙ ap look_row l.there
 
 -- A ROW CHANGED
 
@@ -40,10 +34,6 @@ with_other rows id s = set rows (id % 32768) (record (entry_at rows (id % 32768)
 pub other-value : (rows : List (Entry Head)) (id : ℕ) (r : Row Head) (v : Head) → live rows id ≡ Some r → with_value rows (id % 32768) v ≡ with_other rows id (record r { value = v })
 other-value rows id r v there =
     ap (λ o. set rows (id % 32768) (record (entry_at rows (id % 32768)) { row = row_with_value v o })) (live-at rows id r there).there
-
-pub other-key : (rows : List (Entry Head)) (id : ℕ) (r : Row Head) (key : ℕ) → live rows id ≡ Some r → with_key rows (id % 32768) key ≡ with_other rows id (record r { key = key })
-other-key rows id r key there =
-    ap (λ o. set rows (id % 32768) (record (entry_at rows (id % 32768)) { row = row_with_key key o })) (live-at rows id r there).there
 
 pub other-both : (rows : List (Entry Head)) (id : ℕ) (r : Row Head) (key : ℕ) (v : Head) → live rows id ≡ Some r
     → with_key (with_value rows (id % 32768) v) (id % 32768) key ≡ with_other rows id (record { key = key; value = v })
@@ -92,25 +82,11 @@ agree-other hs rows id r s agree there same =
       | inr apart ↦ ap (option_map shape_row) (sym (live-other rows id at r s there apart))
     ]
 
--- no segment has other pages
-pub pages-other : (rows : List (Entry Head)) (id at : ℕ) (r s : Row Head) → live rows id ≡ Some r → pages_of s.value.size ≡ pages_of r.value.size → pages_there (with_other rows id s) at ≡ pages_there rows at
-pages-other rows id at r s there same = elim (cases_eq at id) [
-  | inl is ↦ rw is (ap pages_in_row (live-other_same rows id r s there) ∙ same ∙ sym (ap pages_in_row there))
-  | inr apart ↦ ap pages_in_row (live-other rows id at r s there apart)
-]
-
-pub fit-other : (rows : List (Entry Head)) (rs : List Runner) (id : ℕ) (r s : Row Head) → live rows id ≡ Some r → pages_of s.value.size ≡ pages_of r.value.size → PiecesFit rows rs → PiecesFit (with_other rows id s) rs
-fit-other rows rs id r s there same fit = fit-more rows (with_other rows id s) rs (λ at. omega (arith, pages-other rows id at r s there same)) fit
-
 -- A HEAD OR A KEY CHANGED
 
 pub joined-with_value : (hs : List Held) (rows : List (Entry Head)) (id : ℕ) (r : Row Head) (v : Head) (f : Segment → Segment) → live rows id ≡ Some r
     → f (whole hs id r) ≡ whole hs id (record r { value = v }) → joined hs (with_value rows (id % 32768) v) ≡ change (joined hs rows) id f
 joined-with_value hs rows id r v f there same = ap (joined hs) (other-value rows id r v there) ∙ joined-other hs rows id r (record r { value = v }) f there same
-
-pub joined-with_key : (hs : List Held) (rows : List (Entry Head)) (id : ℕ) (r : Row Head) (key : ℕ) (f : Segment → Segment) → live rows id ≡ Some r
-    → f (whole hs id r) ≡ whole hs id (record r { key = key }) → joined hs (with_key rows (id % 32768) key) ≡ change (joined hs rows) id f
-joined-with_key hs rows id r key f there same = ap (joined hs) (other-key rows id r key there) ∙ joined-other hs rows id r (record r { key = key }) f there same
 
 pub joined-with_both : (hs : List Held) (rows : List (Entry Head)) (id : ℕ) (r : Row Head) (key : ℕ) (v : Head) (f : Segment → Segment) → live rows id ≡ Some r
     → f (whole hs id r) ≡ whole hs id (record { key = key; value = v }) → joined hs (with_key (with_value rows (id % 32768) v) (id % 32768) key) ≡ change (joined hs rows) id f
@@ -121,23 +97,10 @@ pub agree-with_value : (hs : List Held) (rows : List (Entry Head)) (id : ℕ) (r
 agree-with_value hs rows id r v agree there size lock =
     rw (other-value rows id r v there) (agree-other hs rows id r (record r { value = v }) agree there cc)
 
-pub agree-with_key : (hs : List Held) (rows : List (Entry Head)) (id : ℕ) (r : Row Head) (key : ℕ) → Agree hs rows → live rows id ≡ Some r → Agree hs (with_key rows (id % 32768) key)
-agree-with_key hs rows id r key agree there = rw (other-key rows id r key there) (agree-other hs rows id r (record r { key = key }) agree there refl)
-
 pub agree-with_both : (hs : List Held) (rows : List (Entry Head)) (id : ℕ) (r : Row Head) (key : ℕ) (v : Head) → Agree hs rows → live rows id ≡ Some r → v.size ≡ r.value.size → v.locked ≡ r.value.locked
     → Agree hs (with_key (with_value rows (id % 32768) v) (id % 32768) key)
 agree-with_both hs rows id r key v agree there size lock =
     rw (other-both rows id r key v there) (agree-other hs rows id r (record { key = key; value = v }) agree there cc)
-
-pub fit-with_value : (rows : List (Entry Head)) (rs : List Runner) (id : ℕ) (r : Row Head) (v : Head) → live rows id ≡ Some r → v.size ≡ r.value.size → PiecesFit rows rs → PiecesFit (with_value rows (id % 32768) v) rs
-fit-with_value rows rs id r v there size fit = rw (other-value rows id r v there) (fit-other rows rs id r (record r { value = v }) there (ap pages_of size) fit)
-
-pub fit-with_key : (rows : List (Entry Head)) (rs : List Runner) (id : ℕ) (r : Row Head) (key : ℕ) → live rows id ≡ Some r → PiecesFit rows rs → PiecesFit (with_key rows (id % 32768) key) rs
-fit-with_key rows rs id r key there fit = rw (other-key rows id r key there) (fit-other rows rs id r (record r { key = key }) there refl fit)
-
-pub fit-with_both : (rows : List (Entry Head)) (rs : List Runner) (id : ℕ) (r : Row Head) (key : ℕ) (v : Head) → live rows id ≡ Some r → v.size ≡ r.value.size → PiecesFit rows rs
-    → PiecesFit (with_key (with_value rows (id % 32768) v) (id % 32768) key) rs
-fit-with_both rows rs id r key v there size fit = rw (other-both rows id r key v there) (fit-other rows rs id r (record { key = key; value = v }) there (ap pages_of size) fit)
 
 -- A LOCK SET
 

@@ -2,7 +2,7 @@
 use Rattle.std.proofs.Common.{◌≡◌, ◌≢◌, ◌⊎◌, ℕ, pos, ◌/◌, ◌%◌, ◌<◌, ◌≤◌, List, length, slice_get, Option, Some, None, ℤ, ◌==◌, Bool, true, false, is_some, if◌then◌else◌, option_map, eq-eqb, ne_eqb, refl, sym, ap, subst, ◌∙◌, inl, inr, arith}
 use Rattle.std.proofs.lemmas.Bool.{cases_lt, cases_eq}
 use Rattle.std.proofs.lemmas.Option.{none-some}
-use Rattle.shm_base.specs.State.{Segment, Entry as FlatEntry}
+use Rattle.shm_base.specs.State.{Entry as FlatEntry}
 use Rattle.shm_base.specs.Access.{bytes_at, bytes_at_entry}
 use Rattle.shm_ids.specs.declared.table.Entry.{Entry}
 use Rattle.shm_ids.specs.declared.table.Row.{Row}
@@ -118,23 +118,6 @@ pub is_live-row : (hs : List Held) (rows : List (Entry Head)) (id : ℕ) → tab
 is_live-row hs rows id is = sym (some-map hs id (live rows id)) ∙ ap is_some (sym (live-joined hs rows id)) ∙ is
 
 -- WHAT IS NOT LIVE
-
-pub live-none : (t : List FlatEntry) (id : ℕ) → table.segment_in (slice_get t (id % 32768)) ≡ None → table.live t id ≡ None
-live-none t id is = by (slice_get t (id % 32768)) is
-  where
-    in_entry : (b : Bool) (o : Option Segment) → o ≡ None → (if b then o else None) ≡ None
-    in_entry true o none = none
-    in_entry false o none = refl
-
-    by : (o : Option FlatEntry) → table.segment_in o ≡ None → table.live_in id o ≡ None
-    by None none = refl
-    by (Some e) none = in_entry (e.destroyed == id / 32768) e.segment none
-
-pub live-other_found : (t : List FlatEntry) (f : Found) (id : ℕ) → IsFound t f → f.seg % 32768 ≡ id % 32768 → f.seg ≢ id → table.live t id ≡ None
-live-other_found t f id found same other =
-    let there : slice_get t (id % 32768) ≡ Some (record { destroyed = f.seg / 32768; segment = Some (seen t f) }) = ap (slice_get t) (sym same) ∙ found.entry in
-    let apart : f.seg / 32768 ≢ id / 32768 = λ z. other (omega (arith, z, same)) in
-    ap (table.live_in id) there ∙ rw (ne_eqb (f.seg / 32768) (id / 32768) apart) refl
 
 pub live-found : (t : List FlatEntry) (f : Found) → IsFound t f → table.live t f.seg ≡ Some (seen t f)
 live-found t f found =

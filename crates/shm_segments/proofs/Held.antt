@@ -1,5 +1,5 @@
 -- The pages of the segments that are held.
-use Rattle.std.proofs.Common.{◌≡◌, ◌≢◌, ℕ, ◌+◌, ◌*◌, ◌/◌, ◌≤◌, Bool, true, false, if◌then◌else◌, List, [], ◌∷◌, length, take, drop, map, Option, Some, None, is_some, refl, sym, ap, ◌∙◌, inl, inr, arith, eq-eqb, ne_eqb, true≢false}
+use Rattle.std.proofs.Common.{◌≡◌, ◌≢◌, ℕ, ◌+◌, ◌*◌, ◌/◌, ◌≤◌, Bool, true, false, if◌then◌else◌, List, [], ◌∷◌, length, take, drop, map, Option, Some, None, refl, sym, ap, ◌∙◌, inl, inr, arith, eq-eqb, ne_eqb, true≢false}
 use Rattle.std.proofs.lemmas.Bool.{cases_eq}
 use Rattle.std.proofs.lemmas.Option.{none-some}
 use Rattle.std.proofs.lemmas.Grind.{common_steps}
@@ -11,28 +11,7 @@ use Rattle.shm_plain.specs.Apart.{AreApart}
 use Rattle.shm_plain.specs.Held.{Held, find_held, is_held, bytes_of, bytes_in, pages_in, pages_held, pages_if_locked, pages_locked, with_zeros, without, relocked, with_lock, paste, pasted, written, FitsPage}
 use Rattle.shm_plain.proofs.Kept.{find_held-id}
 use Rattle.shm_plain.proofs.Pasted.{length-paste, apart-pasted}
-use Rattle.shm_fault.specs.Segs.{SegRec, find_seg}
-use Rattle.shm_fault.specs.Segs as segs
-use Rattle.shm_fault.specs.Store.{StoreView, held_by, held}
 use Rattle.shm_segments.proofs.Bytes.{Each, each, each-pasted}
-
--- APART
-
-held-by : (s : StoreView) (gs : List SegRec) (id : ℕ) → is_held (map (held_by s.frames s.swap) gs) id ≡ is_some (find_seg gs id)
-held-by s [] id = refl
-held-by s (g ∷ gs) id = elim (cases_eq g.id id) [
-  | inl e ↦ rw (eq-eqb g.id id e) refl
-  | inr n ↦ rw (ne_eqb g.id id n) (held-by s gs id)
-]
-
-apart-by : (s : StoreView) (gs : List SegRec) → segs.AreApart gs → AreApart (map (held_by s.frames s.swap) gs)
-apart-by s [] apart = tt
-apart-by s (g ∷ gs) apart = (held-by s gs g.id ∙ ap is_some apart.0, apart-by s gs apart.1)
-
--- no identifier stands twice in a memory
-pub apart-held : (s : StoreView) → segs.AreApart s.segs → AreApart (held s)
-unfolding held
-apart-held s apart = apart-by s s.segs apart
 
 -- ZEROS
 

@@ -1,11 +1,9 @@
 pub mod Bytes
 pub mod Joins
 pub mod Shown
-pub mod Pieces
 pub mod Edits
 pub mod Rows
 pub mod Sums
-pub mod Swept
 pub mod Entries
 pub mod Same
 pub mod Finding

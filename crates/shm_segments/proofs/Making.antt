@@ -111,15 +111,6 @@ kept-locked hs rows pages locks seg v b k looked =
 
 -- MADE
 
--- what is held no more is as before
-pub without-zeros : (hs : List Held) (id pages : ℕ) → is_held hs id ≡ false → without (with_zeros hs id pages) id ≡ hs
-without-zeros [] id pages none = rw (eq-eqb id id refl) refl
-without-zeros (g ∷ gs) id pages none =
-    elim (cases_eq g.id id) [
-      | inl e ↦ absurd (true≢false (sym (rw (eq-eqb g.id id e) refl) ∙ none))
-      | inr n ↦ rw (ne_eqb g.id id n) (ap (λ (l : List Held). g ∷ l) (without-zeros gs id pages (rw (ne_eqb g.id id n) at none)))
-    ]
-
 pub zeros-held : (hs : List Held) (id pages : ℕ) → is_held (with_zeros hs id pages) id ≡ true
 zeros-held [] id pages = rw (eq-eqb id id refl) refl
 zeros-held (g ∷ gs) id pages =

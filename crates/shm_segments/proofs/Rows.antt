@@ -1,11 +1,10 @@
 -- Segments that come and go, as the flat machine's table shows them.
-use Rattle.std.proofs.Common.{◌≡◌, ◌≢◌, ℕ, ◌+◌, ◌*◌, ◌%◌, ◌<◌, ◌≤◌, ◌==◌, ◌&&◌, if◌then◌else◌, nat_lt, Bool, true, false, List, length, replicate, Option, Some, None, is_some, is_none, option_map, refl, sym, ap, subst, ◌∙◌, arith, inl, inr, eq-eqb, ne_eqb, length-set}
+use Rattle.std.proofs.Common.{◌≡◌, ◌≢◌, ℕ, ◌+◌, ◌*◌, ◌%◌, ◌<◌, ◌≤◌, ◌==◌, ◌&&◌, if◌then◌else◌, nat_lt, Bool, true, false, List, length, replicate, Option, Some, None, is_some, is_none, option_map, refl, sym, ap, ◌∙◌, arith, inl, inr, eq-eqb, ne_eqb, length-set}
 use Rattle.std.proofs.lemmas.Bool.{cases_lt, cases_eq, true≢false}
 use Rattle.std.proofs.lemmas.List.{length-replicate}
 use Rattle.std.specs.Prelude.{slice_set}
-use Rattle.shm_base.specs.State.{Runner, pages_of}
+use Rattle.shm_base.specs.State.{pages_of}
 use Rattle.shm_base.specs.Identifier.{with_segment}
-use Rattle.shm_base.specs.Segments.{attach_count}
 use Rattle.shm_ids.specs.declared.table.Entry.{Entry}
 use Rattle.shm_ids.specs.declared.table.Row.{Row}
 use Rattle.shm_ids.specs.Table.{identifier, entry_at, free_index, with_row, without_row}
@@ -16,9 +15,8 @@ use Rattle.shm_ids.proofs.Flat.{with_segment-flat, flat_table-make}
 use Rattle.shm_plain.specs.Held.{Held, find_held, bytes_of, bytes_in, is_held, with_zeros, without}
 use Rattle.shm_plain.proofs.Found.{find-without_same, find-without_other, find-zeros_same, find-zeros_other}
 use Rattle.shm_segments.specs.declared.head.Head.{Head}
-use Rattle.shm_segments.specs.Joined.{segment_of, whole, joined, live, pages_in_row, pages_there, shape_held, shape_row, Agree, PiecesFit}
-use Rattle.shm_segments.proofs.Joins.{live-at, at-live, set-joined, same-held}
-use Rattle.shm_segments.proofs.Pieces.{fit-more, fit-unnamed}
+use Rattle.shm_segments.specs.Joined.{segment_of, whole, joined, live, shape_held, shape_row, Agree}
+use Rattle.shm_segments.proofs.Joins.{at-live, set-joined, same-held}
 
 -- the identifier that an index has
 abbrev pub id_of : List (Entry Head) → ℕ → ℕ
@@ -90,27 +88,6 @@ agree-without hs rows i agree within =
           ap (option_map shape_held) (find-without_other hs (id_of rows i) at apart) ∙ agree.same at
           ∙ ap (option_map shape_row) (sym (live-without rows i at within apart))
     ]
-
--- pieces still fit where none names what is destroyed
-pub fit-without : (rows : List (Entry Head)) (rs : List Runner) (i : ℕ) → i < length rows → attach_count rs (id_of rows i) ≡ 0 → PiecesFit rows rs → PiecesFit (without_row rows i) rs
-fit-without rows rs i within none fit =
-    fit-unnamed rows (without_row rows i) rs (id_of rows i) none (λ at apart. omega (arith, ap pages_in_row (live-without rows i at within apart))) fit
-
--- the same by an identifier that is live
-pub joined-gone : (hs : List Held) (rows : List (Entry Head)) (id : ℕ) (r : Row Head) → Agree hs rows → live rows id ≡ Some r
-    → joined (without hs id) (without_row rows (id % 32768)) ≡ slice_set (joined hs rows) (id % 32768) (record { destroyed = (entry_at rows (id % 32768)).destroyed + 1; segment = None })
-joined-gone hs rows id r agree there =
-    ap (λ n. joined (without hs n) (without_row rows (id % 32768))) (sym (live-at rows id r there).own) ∙ joined-without hs rows (id % 32768) agree.few (omega arith)
-
-pub agree-gone : (hs : List Held) (rows : List (Entry Head)) (id : ℕ) (r : Row Head) → Agree hs rows → live rows id ≡ Some r → Agree (without hs id) (without_row rows (id % 32768))
-agree-gone hs rows id r agree there =
-    let l = live-at rows id r there in
-    subst (λ n. Agree (without hs n) (without_row rows (id % 32768))) l.own (agree-without hs rows (id % 32768) agree l.within)
-
-pub fit-gone : (rows : List (Entry Head)) (rs : List Runner) (id : ℕ) (r : Row Head) → live rows id ≡ Some r → attach_count rs id ≡ 0 → PiecesFit rows rs → PiecesFit (without_row rows (id % 32768)) rs
-fit-gone rows rs id r there none fit =
-    let l = live-at rows id r there in
-    fit-without rows rs (id % 32768) l.within (ap (attach_count rs) l.own ∙ none) fit
 
 -- CREATED
 
@@ -210,13 +187,3 @@ agree-with_row hs rows i key pages v agree free lock size =
           ∙ ap (option_map shape_row) (sym (live-with_row_other rows i at key v free apart))
     ]
 
-pub fit-with_row : (rows : List (Entry Head)) (rs : List Runner) (i key : ℕ) (v : Head) → IsFree rows i → PiecesFit rows rs → PiecesFit (with_row rows i key v) rs
-fit-with_row rows rs i key v free fit = fit-more rows (with_row rows i key v) rs more fit
-  where
-    more : (at : ℕ) → pages_there rows at ≤ pages_there (with_row rows i key v) at
-    more at = elim (cases_eq at (id_of rows i)) [
-      | inl is ↦
-          (let none : pages_there rows at ≡ 0 = ap pages_in_row (ap (live rows) is ∙ at-live rows i free.small ∙ free.none) in
-          omega (arith, none))
-      | inr apart ↦ omega (arith, ap pages_in_row (live-with_row_other rows i at key v free apart))
-    ]

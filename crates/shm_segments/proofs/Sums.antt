@@ -1,8 +1,8 @@
 -- Segments and pages counted over the rows.
-use Rattle.std.proofs.Common.{◌≡◌, ℕ, suc, ◌+◌, ◌*◌, ◌/◌, ◌%◌, ◌<◌, ◌≤◌, if◌then◌else◌, Bool, true, false, List, [], ◌∷◌, length, Option, Some, None, refl, sym, ap, ◌∙◌, arith, inl, inr}
+use Rattle.std.proofs.Common.{◌≡◌, ℕ, suc, ◌+◌, ◌*◌, ◌/◌, ◌%◌, ◌<◌, ◌≤◌, if◌then◌else◌, false, List, [], ◌∷◌, length, Option, Some, None, refl, sym, ap, ◌∙◌, arith, inl, inr}
 use Rattle.std.proofs.lemmas.Bool.{cases_eq}
-use Rattle.std.proofs.lemmas.List.Sums.{sum_by-cons, sum_by-set, sum_by_push, sum_by-le-sum_by, get_or-le-sum_by}
-use Rattle.std.specs.Prelude.{All, sum_by}
+use Rattle.std.proofs.lemmas.List.Sums.{sum_by-cons, sum_by-set, sum_by_push, get_or-le-sum_by}
+use Rattle.std.specs.Prelude.{sum_by}
 use Rattle.shm_base.specs.State.{Entry as FlatEntry, pages_of}
 use Rattle.shm_base.specs.Segments.{reserved, locked, segment_count, pages_held, pages_locked}
 use Rattle.shm_ids.specs.declared.table.Entry.{Entry}
@@ -11,13 +11,11 @@ use Rattle.shm_ids.specs.Table.{identifier, unused, entry_at, held, with_row, wi
 use Rattle.shm_ids.specs.Flat.{flat_row, flat_entry, flat_from}
 use Rattle.shm_ids.proofs.Entries.{with_row-within, with_row-end}
 use Rattle.shm_ids.proofs.Flat.{segment_count-flat}
-use Rattle.shm_base.specs.declared.paging.Span.{Span}
-use Rattle.shm_plain.specs.Held.{Held, bytes_of, FitsPage, written}
+use Rattle.shm_plain.specs.Held.{Held, bytes_of}
 use Rattle.shm_segments.specs.declared.head.Head.{Head}
 use Rattle.shm_segments.specs.Joined.{whole, joined, live, pages_in_row, locked_in_row, pages_of_rows, locked_of_rows, Agree}
 use Rattle.shm_segments.proofs.Joins.{at-live, held-as, live-at}
-use Rattle.shm_segments.proofs.Shown.{agree-written}
-use Rattle.shm_segments.proofs.Edits.{with_other, other-value, other-key, other-both}
+use Rattle.shm_segments.proofs.Edits.{with_other, other-value, other-both}
 use Rattle.shm_segments.proofs.Rows.{IsFree}
 
 -- THE TABLE'S SUMS
@@ -72,16 +70,6 @@ locked-joined hs rows agree = locked-from 0 hs rows (all-whole hs rows agree)
 pub segment_count-joined : (hs : List Held) (rows : List (Entry Head)) → segment_count (joined hs rows) ≡ row_count rows
 segment_count-joined hs rows = segment_count-flat (whole hs) 0 rows
 
--- a store leaves them
-pub reserved-written : (hs : List Held) (rows : List (Entry Head)) (ps : List Span) (new : List ℕ) → Agree hs rows → All (FitsPage hs) ps → reserved (joined (written hs ps new) rows) ≡ reserved (joined hs rows)
-reserved-written hs rows ps new agree fit = reserved-joined (written hs ps new) rows (agree-written hs rows ps new agree fit) ∙ sym (reserved-joined hs rows agree)
-
-pub locked-written : (hs : List Held) (rows : List (Entry Head)) (ps : List Span) (new : List ℕ) → Agree hs rows → All (FitsPage hs) ps → locked (joined (written hs ps new) rows) ≡ locked (joined hs rows)
-locked-written hs rows ps new agree fit = locked-joined (written hs ps new) rows (agree-written hs rows ps new agree fit) ∙ sym (locked-joined hs rows agree)
-
-pub segment_count-held : (hs gs : List Held) (rows : List (Entry Head)) → segment_count (joined gs rows) ≡ segment_count (joined hs rows)
-segment_count-held hs gs rows = segment_count-joined gs rows ∙ sym (segment_count-joined hs rows)
-
 -- A ROW MORE, ANOTHER OR NONE
 
 -- any sum over rows
@@ -129,20 +117,9 @@ pages-with_other rows id r s there size =
 pub pages-with_value : (rows : List (Entry Head)) (id : ℕ) (r : Row Head) (v : Head) → live rows id ≡ Some r → v.size ≡ r.value.size → pages_of_rows (with_value rows (id % 32768) v) ≡ pages_of_rows rows
 pages-with_value rows id r v there size = ap pages_of_rows (other-value rows id r v there) ∙ pages-with_other rows id r (record r { value = v }) there size
 
-pub pages-with_key : (rows : List (Entry Head)) (id : ℕ) (r : Row Head) (key : ℕ) → live rows id ≡ Some r → pages_of_rows (with_key rows (id % 32768) key) ≡ pages_of_rows rows
-pages-with_key rows id r key there = ap pages_of_rows (other-key rows id r key there) ∙ pages-with_other rows id r (record r { key = key }) there refl
-
 pub pages-with_both : (rows : List (Entry Head)) (id : ℕ) (r : Row Head) (key : ℕ) (v : Head) → live rows id ≡ Some r → v.size ≡ r.value.size
     → pages_of_rows (with_key (with_value rows (id % 32768) v) (id % 32768) key) ≡ pages_of_rows rows
 pages-with_both rows id r key v there size = ap pages_of_rows (other-both rows id r key v there) ∙ pages-with_other rows id r (record { key = key; value = v }) there size
-
--- a segment's pages are among those of all
-pub pages-within : (rows : List (Entry Head)) (id : ℕ) (r : Row Head) → live rows id ≡ Some r → pages_of r.value.size ≤ pages_of_rows rows
-pages-within rows id r there =
-    let l = live-at rows id r there in
-    let within = get_or-le-sum_by (λ (e : Entry Head). pages_in_row e.row) rows (id % 32768) unused l.within in
-    let own : pages_in_row (entry_at rows (id % 32768)).row ≡ pages_of r.value.size = ap pages_in_row l.there in
-    omega (arith, within, own)
 
 -- LOCKED PAGES
 
@@ -171,11 +148,6 @@ locked-value_same rows id r v there size lock =
     let same : locked_in_row (Some (record r { value = v })) ≡ locked_in_row (Some r) = rw (size, lock) refl in
     omega (arith, moved, same)
 
-pub locked-with_key : (rows : List (Entry Head)) (id : ℕ) (r : Row Head) (key : ℕ) → live rows id ≡ Some r → locked_of_rows (with_key rows (id % 32768) key) ≡ locked_of_rows rows
-locked-with_key rows id r key there =
-    let moved = locked-with_other rows id r (record r { key = key }) there in
-    ap locked_of_rows (other-key rows id r key there) ∙ omega (arith, moved)
-
 pub locked-with_both : (rows : List (Entry Head)) (id : ℕ) (r : Row Head) (key : ℕ) (v : Head) → live rows id ≡ Some r → v.size ≡ r.value.size → v.locked ≡ r.value.locked
     → locked_of_rows (with_key (with_value rows (id % 32768) v) (id % 32768) key) ≡ locked_of_rows rows
 locked-with_both rows id r key v there size lock =
@@ -190,14 +162,3 @@ locked-within rows id r there =
     let within = get_or-le-sum_by (λ (e : Entry Head). locked_in_row e.row) rows (id % 32768) unused l.within in
     let own : locked_in_row (entry_at rows (id % 32768)).row ≡ locked_in_row (Some r) = ap locked_in_row l.there in
     omega (arith, within, own)
-
-less-locked : (o : Option (Row Head)) → locked_in_row o ≤ pages_in_row o
-less-locked None = omega arith
-less-locked (Some r) = by r.value.locked
-  where
-    by : (b : Bool) → (if b then pages_of r.value.size else 0) ≤ pages_of r.value.size
-    by true = omega arith
-    by false = omega arith
-
-pub locked-le-pages : (rows : List (Entry Head)) → locked_of_rows rows ≤ pages_of_rows rows
-locked-le-pages rows = sum_by-le-sum_by (λ (e : Entry Head). locked_in_row e.row) (λ (e : Entry Head). pages_in_row e.row) rows (λ e. less-locked e.row)

@@ -1,12 +1,10 @@
 -- The flat machine's table, joined from rows without bytes and from bytes that lie elsewhere.
-use Rattle.std.specs.Prelude.{ℕ, ◌≡◌, ◌*◌, ◌%◌, ◌≤◌, Bool, false, ◌&&◌, ◌==◌, nat_lt, if◌then◌else◌, List, length, Option, Some, None, option_map, sum_by, All}
-use Rattle.shm_base.specs.State.{Segment, Entry as FlatEntry, Runner, pages_of}
-use Rattle.shm_base.specs.Segments.{attach_count}
+use Rattle.std.specs.Prelude.{ℕ, ◌≡◌, ◌*◌, ◌%◌, ◌≤◌, Bool, ◌==◌, if◌then◌else◌, List, length, Option, Some, None, option_map, sum_by}
+use Rattle.shm_base.specs.State.{Segment, Entry as FlatEntry, pages_of}
 use Rattle.shm_ids.specs.declared.table.Entry.{Entry}
 use Rattle.shm_ids.specs.declared.table.Row.{Row}
 use Rattle.shm_ids.specs.Table.{identifier, entry_at}
 use Rattle.shm_ids.specs.Flat.{flat_table}
-use Rattle.shm_attach.specs.Spans.{PassPages}
 use Rattle.shm_segments.specs.declared.head.Head.{Head}
 use Rattle.shm_plain.specs.Held.{Held, find_held, bytes_of}
 
@@ -43,13 +41,6 @@ abbrev pub pages_in_row : Option (Row Head) → ℕ
 pages_in_row None = 0
 pages_in_row (Some r) = pages_of r.value.size
 
--- how many pages the segment with an identifier has, none where it is not live
-abbrev pub pages_there : List (Entry Head) → ℕ → ℕ
-pages_there rows id = pages_in_row (live rows id)
-
-abbrev pub page_there : List (Entry Head) → ℕ → ℕ → Bool
-page_there rows id page = nat_lt page (pages_there rows id)
-
 abbrev pub locked_in_row : Option (Row Head) → ℕ
 locked_in_row None = 0
 locked_in_row (Some r) = if r.value.locked then pages_of r.value.size else 0
@@ -76,15 +67,3 @@ shape_row r = record { locked = r.value.locked; size = 4096 * pages_of r.value.s
 pub record Agree (hs : List Held) (rows : List (Entry Head)) : Type 0 where
   pub few : length rows ≤ 32768
   pub same : (id : ℕ) → option_map shape_held (find_held hs id) ≡ option_map shape_row (live rows id)
-
--- each piece's pages are pages of its segment
-abbrev pub PiecesFit : List (Entry Head) → List Runner → Type 0
-PiecesFit rows rs = All (λ (r : Runner). PassPages (page_there rows) r.pieces) rs
-
--- a marked segment that no piece names, which is to go
-abbrev pub is_condemned : List Runner → ℕ → Option (Row Head) → Bool
-is_condemned rs id None = false
-is_condemned rs id (Some r) = r.value.dest && (attach_count rs id == 0)
-
-abbrev pub NoneCondemned : List (Entry Head) → List Runner → Type 0
-NoneCondemned rows rs = (id : ℕ) → is_condemned rs id (live rows id) ≡ false

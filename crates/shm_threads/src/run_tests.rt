@@ -2,14 +2,15 @@
 use crate::gate::Gate;
 use crate::outcome::{Outcome, RunError};
 use crate::run::run_threads;
-use crate::tests::{Below, OPEN, calls, script, world};
-use shm_base::{AccessLen, Call, Chunk, Reply};
+use crate::tests::{Below, OPEN, TURNS, calls, script, world};
+use shm_base::{AccessLen, Call, Chunk, Reply, Tally};
 use shm_pager::RamPager;
 use shm_text::{FlushLine, Line};
 use std::alloc::Global;
 use std::sync::Wait;
 use std::sync::atomic::{AtomicU64, Ordering};
 use std::test::Fail;
+use std::thread;
 use std::thread::Threads;
 
 // The head, and then the lines so often.
@@ -141,5 +142,60 @@ fn the_flusher_makes_its_rounds(rt: HostRuntime) -> Result<(), Fail> {
         assert!(rt; run.err() == fault);
         assert_eq!(rt; gate.made.load(Ordering::SeqCst), most);
     }
+    Ok(())
+}
+
+/// Holds the flusher's first round until process 1 has made four calls.
+#[derive(Drop)]
+struct BehindFour {
+    made: AtomicU64,
+}
+
+impl Gate for BehindFour {
+    fn before(&self, pid: u32, _n: u64) -> bool {
+        if pid != 0 {
+            return true;
+        }
+        for _ in 0..TURNS {
+            if self.made.load(Ordering::SeqCst) >= 4 {
+                return true;
+            }
+            thread::yield_now();
+        }
+        false
+    }
+
+    fn after(&self, pid: u32, n: u64) {
+        if pid == 1 {
+            self.made.store(n, Ordering::SeqCst);
+        }
+    }
+}
+
+const LATE: &[u8] =
+    b"limits 65536 16 64 4 1\nprocess 1 100 100\n1 s = shmget private 8192 600\n1 a = shmat s null -\n1 store a+4094 01020304\n1 load a+4093 6\n0 flush 2\n";
+
+#[test]
+fn a_round_behind_the_last_call(rt: HostRuntime) -> Result<(), Fail> {
+    let alloc = rt.alloc();
+    let script = script(alloc, LATE)?;
+    let world = world(alloc, &script)?;
+    let made = AtomicU64::new(0);
+    let run = run_threads(&rt, alloc, world, &script, &BehindFour { made });
+    let wanted = Tally {
+        events: 4,
+        segments: 1,
+        reserved: 2,
+        locked: 0,
+        frames: 4,
+        resident: 2,
+        dirty: 0,
+        slots: 64,
+        used: 2,
+        ins: 0,
+        outs: 2,
+        failures: 0,
+    };
+    assert!(rt; run.ok().ok_or("a run")?.world.tally() == wanted);
     Ok(())
 }

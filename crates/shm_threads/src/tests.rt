@@ -14,7 +14,7 @@ use std::sync::atomic::{AtomicU64, Ordering};
 use std::test::Fail;
 use std::thread;
 
-const TURNS: u64 = 1_000_000;
+pub(crate) const TURNS: u64 = 1_000_000;
 
 /// No pid is so large.
 pub(crate) const OPEN: u32 = u32::MAX;

@@ -6,6 +6,8 @@ mod ends;
 mod options;
 mod serial;
 #[cfg(test)]
+mod sweeps;
+#[cfg(test)]
 mod tests;
 mod threaded;
 #[cfg(test)]

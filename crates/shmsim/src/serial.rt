@@ -133,7 +133,7 @@ pub(crate) fn stopped(error: StartError) -> RunFault
 
 // Runs the lines of a script in file order, in a world without history. It stops at the first want of
 // memory.
-fn run_lines<P: Pager>(
+pub(crate) fn run_lines<P: Pager>(
     alloc: Global,
     world: &mut World<P>,
     script: &Script,

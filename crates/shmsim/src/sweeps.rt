@@ -1,0 +1,279 @@
+//! One call of a pager fails, at each place in turn. Whatever failed, the history is that of areas which
+//! never fail, where a load of nothing stands for each call that was refused for the failure; and every
+//! byte at the end is the same.
+use crate::serial::{open_world, run_lines};
+use shm_base::{AccessLen, AtFlags, Call, Errno, Reply};
+use shm_history::World;
+use shm_pager::{FusePager, MirrorPager, Pager, RamPager};
+use shm_text::{Script, read_script};
+use shm_threads::{Gate, run_threads};
+use std::alloc::Global;
+use std::sync::Wait;
+use std::test::Fail;
+use std::thread::Threads;
+
+const SLOTS: u32 = 16;
+
+const MOST_PLACES: u64 = 1000;
+
+/// Twelve pages in three frames, two processes that map them all, and a child.
+const HEAD: &[u8] =
+    b"limits 65536 16 64 3 1\nprocess 1 0 0\nprocess 2 0 0\nchild 3\n1 a = shmget 10 20480 666,creat\n2 a = shmget 10 20480 666,creat\n1 b = shmget 11 16384 666,creat\n2 b = shmget 11 16384 666,creat\n1 c = shmget 12 8192 666,creat\n2 c = shmget 12 8192 666,creat\n1 d = shmget 13 4096 666,creat\n2 d = shmget 13 4096 666,creat\n1 p = shmat a null -\n2 p = shmat a null -\n0 flush 1\n1 q = shmat b null -\n2 q = shmat b null -\n1 r = shmat c null -\n2 r = shmat c null -\n1 s = shmat d null -\n2 s = shmat d null rdonly\n1 fork 3\n1 store p ffffffffffffffffff\n2 store q ff\n1 stat a\n0 flush 2\n";
+
+/// Thirty commands, which leave other bytes behind each time.
+const ROUND: &[u8] =
+    b"1 xadd p 72340172838076673\n2 xadd p+4090 578437695752307201\n1 store p+8190 01020304\n1 xadd p+8191 506381209866536711\n2 xadd q+4093 1234567890123456789\n1 lock d\n1 xadd q+12280 81985529216486895\n2 load p+16350 64\n3 xadd 0x40000ffc 1311768467463790320\n2 xadd r+4090 1229782938247303441\n0 flush 2\n1 xadd s+100 1229782938247303442\n1 t = shmget private 4096 600\n1 u = shmat t null -\n1 xadd u+8 1085102592571150095\n1 rmid t\n1 xadd u+12 4294967297\n1 load u 64\n1 shmdt u\n3 load 0x40003ff0 64\n2 unlock d\n0 flush 1\n2 xadd p+20472 72340172838076674\n1 xadd q 6510615555426900570\n3 xadd 0x40007ff8 3617008641903833650\n2 xadd r+8184 289360691352306692\n1 load r 64\n1 xadd p+12284 8608480567731124087\n2 load q+8130 64\n3 store 0x40005ffe 0102030405\n2 xadd q+8192 7378697629483820646\n1 load p+4064 64\n0 flush 3\n";
+
+/// Lets every call pass.
+#[derive(Drop)]
+struct Open;
+
+impl Gate for Open {
+    fn before(&self, _pid: u32, _n: u64) -> bool {
+        true
+    }
+
+    fn after(&self, _pid: u32, _n: u64) {}
+}
+
+// Twelve rounds, and an area that is taken away in their middle.
+fn script(alloc: Global) -> Result<Script, Fail> {
+    let mut text = Vec::from_slice(alloc, HEAD)?;
+    for round in 0..12 {
+        if round == 6 {
+            text.extend_from_slice(b"1 swapoff 0\n".as_slice())?;
+        }
+        text.extend_from_slice(ROUND)?;
+    }
+    Ok(read_script(alloc, &text).ok().ok_or("a script")?)
+}
+
+// A list of this place alone; of none, where it is 0.
+fn at(alloc: Global, place: u64) -> Result<Vec<u64>, Fail> {
+    let mut places = Vec::new(alloc);
+    if place > 0 {
+        places.push(place)?;
+    }
+    Ok(places)
+}
+
+// An area whose read and whose write at these places fail; 0 is none.
+fn fuse(alloc: Global, read: u64, write: u64) -> Result<FusePager<RamPager>, Fail> {
+    let ram = RamPager::new(alloc, SLOTS)?;
+    Ok(FusePager::new(ram, at(alloc, read)?, at(alloc, write)?))
+}
+
+// The world behind the script: run in the order of its lines, or with a thread for each process.
+fn ran<R: Threads + Wait + Sync, P: Pager + Send>(
+    rt: &R,
+    alloc: Global,
+    script: &Script,
+    pagers: Vec<P>,
+    threaded: bool,
+) -> Result<World<P>, Fail> {
+    let mut world = open_world(alloc, script, pagers).ok().ok_or("it starts")?;
+    if threaded {
+        let run = run_threads(rt, alloc, world, script, &Open);
+        return Ok(run.ok().ok_or("a run")?.world);
+    }
+    run_lines(alloc, &mut world, script).ok().ok_or("memory")?;
+    Ok(world)
+}
+
+// The calls of the history again, on areas that never fail.
+fn replayed<P: Pager>(
+    alloc: Global,
+    script: &Script,
+    world: &World<P>,
+) -> Result<World<RamPager>, Fail> {
+    let pagers = vec![in alloc; RamPager::new(alloc, SLOTS)?, RamPager::new(alloc, SLOTS)?]?;
+    let mut plain = open_world(alloc, script, pagers).ok().ok_or("it starts")?;
+    let nothing = Call::Load {
+        addr: 0,
+        len: AccessLen::new(1).ok_or("1 to 64")?,
+    };
+    for event in world.history() {
+        let (call, wanted) = match &event.reply {
+            Reply::Refused(Errno::Sigbus | Errno::Eio) => {
+                (&nothing, Reply::Refused(Errno::Sigsegv))
+            }
+            reply => (&event.call, reply.copied()),
+        };
+        if plain.call(event.pid, call).ok().ok_or("memory")? != wanted {
+            return Err("another reply".into());
+        }
+    }
+    Ok(plain)
+}
+
+// The reply to process 1. A load that a pager's failure refused is made once more.
+fn reply<P: Pager>(world: &mut World<P>, call: &Call) -> Result<Reply, Fail> {
+    let reply = world.call(1, call).ok().ok_or("memory")?;
+    if reply == Reply::Refused(Errno::Sigbus) {
+        return Ok(world.call(1, call).ok().ok_or("memory")?);
+    }
+    Ok(reply)
+}
+
+// Whether the bytes at the address are the same in both, to the end of a segment of this size.
+fn same_bytes<P: Pager>(
+    world: &mut World<P>,
+    plain: &mut World<RamPager>,
+    base: u64,
+    size: u64,
+) -> Result<bool, Fail> {
+    let len = AccessLen::new(64).ok_or("1 to 64")?;
+    for part in 0..size / 64 {
+        let addr = base.wrapping_add(part.wrapping_mul(64));
+        let load = Call::Load { addr, len };
+        let loaded = reply(world, &load)?;
+        if !matches!(&loaded, Reply::Bytes(_)) || loaded != reply(plain, &load)? {
+            return Ok(false);
+        }
+    }
+    Ok(true)
+}
+
+// Whether the segments are the same in both, with every byte.
+fn same_segments<P: Pager>(
+    world: &mut World<P>,
+    plain: &mut World<RamPager>,
+) -> Result<bool, Fail> {
+    for index in 0..world.indexes() {
+        let found = world.segment(index);
+        if found != plain.segment(index) {
+            return Ok(false);
+        }
+        if let Some((id, row)) = found {
+            let shmat = Call::Shmat {
+                id,
+                addr: 0,
+                flags: AtFlags::RDONLY,
+            };
+            let base = reply(world, &shmat)?;
+            if base != reply(plain, &shmat)? {
+                return Ok(false);
+            }
+            let Reply::Addr(base) = base else {
+                return Ok(false);
+            };
+            if !same_bytes(world, plain, base, row.size)? {
+                return Ok(false);
+            }
+        }
+    }
+    Ok(true)
+}
+
+// Runs the script over the areas, compares it with its calls on areas that never fail, and says how many
+// failures there were.
+fn failures<R: Threads + Wait + Sync, P: Pager + Send>(
+    rt: &R,
+    alloc: Global,
+    script: &Script,
+    pagers: Vec<P>,
+    threaded: bool,
+) -> Result<u64, Fail> {
+    let mut world = ran(rt, alloc, script, pagers, threaded)?;
+    let mut plain = replayed(alloc, script, &world)?;
+    if !same_segments(&mut world, &mut plain)? {
+        return Err("another byte".into());
+    }
+    Ok(world.tally().failures)
+}
+
+// Two areas, of which one fails at these places.
+fn fused(
+    alloc: Global,
+    first_fails: bool,
+    read: u64,
+    write: u64,
+) -> Result<Vec<FusePager<RamPager>>, Fail> {
+    let failing = fuse(alloc, read, write)?;
+    let other = fuse(alloc, 0, 0)?;
+    if first_fails {
+        return Ok(vec![in alloc; failing, other]?);
+    }
+    Ok(vec![in alloc; other, failing]?)
+}
+
+// Each read of an area fails, or each write, until a run has no failure. It has some at the first place.
+fn each_fails<R: Threads + Wait + Sync>(
+    rt: &R,
+    alloc: Global,
+    threaded: bool,
+    first_fails: bool,
+    reads: bool,
+) -> Result<(), Fail> {
+    let script = script(alloc)?;
+    for place in 1..MOST_PLACES {
+        let (read, write) = if reads { (place, 0) } else { (0, place) };
+        let pagers = fused(alloc, first_fails, read, write)?;
+        if failures(rt, alloc, &script, pagers, threaded)? == 0 {
+            if place == 1 {
+                return Err("nothing failed".into());
+            }
+            return Ok(());
+        }
+    }
+    Err("each run had a failure".into())
+}
+
+fn each_call_fails<R: Threads + Wait + Sync>(
+    rt: &R,
+    alloc: Global,
+    threaded: bool,
+) -> Result<(), Fail> {
+    for first_fails in [true, false] {
+        for reads in [true, false] {
+            each_fails(rt, alloc, threaded, first_fails, reads)?;
+        }
+    }
+    Ok(())
+}
+
+type Mirror = MirrorPager<FusePager<RamPager>, FusePager<RamPager>>;
+
+// A mirror whose left side fails at this write, and whose right side at this read.
+fn mirror(alloc: Global, write: u64, read: u64) -> Result<Mirror, Fail> {
+    let left = fuse(alloc, 0, write)?;
+    let right = fuse(alloc, read, 0)?;
+    Ok(MirrorPager::new(alloc, left, right)
+        .ok()
+        .ok_or("equal sides")?)
+}
+
+// A write of the left side fails, and a read of the right side, each at each of the first twenty places.
+fn each_side_fails<R: Threads + Wait + Sync>(
+    rt: &R,
+    alloc: Global,
+    threaded: bool,
+) -> Result<(), Fail> {
+    let script = script(alloc)?;
+    for pair in 0..400 {
+        let (write, read) = (1 + pair / 20, 1 + pair % 20);
+        let pagers = vec![in alloc; mirror(alloc, write, read)?, mirror(alloc, 0, 0)?]?;
+        let _found = failures(rt, alloc, &script, pagers, threaded)?;
+    }
+    Ok(())
+}
+
+#[test]
+fn each_call_fails_in_order(rt: HostRuntime) -> Result<(), Fail> {
+    each_call_fails(&rt, rt.alloc(), false)
+}
+
+#[test]
+fn each_call_fails_beside_threads(rt: HostRuntime) -> Result<(), Fail> {
+    each_call_fails(&rt, rt.alloc(), true)
+}
+
+#[test]
+fn each_side_fails_in_order(rt: HostRuntime) -> Result<(), Fail> {
+    each_side_fails(&rt, rt.alloc(), false)
+}
+
+#[test]
+fn each_side_fails_beside_threads(rt: HostRuntime) -> Result<(), Fail> {
+    each_side_fails(&rt, rt.alloc(), true)
+}
