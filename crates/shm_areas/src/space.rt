@@ -1,5 +1,5 @@
 //! A sorted list of pieces that never overlap.
-ghost use Rattle.std.specs.Prelude.{◌≡◌, ℕ, ◌+◌, ◌*◌, ◌%◌, ◌<◌, ◌≤◌, Bool, true, false, All, IfOk, length, IfSome, Some, option_map};
+ghost use Rattle.std.specs.Prelude.{◌≡◌, ℕ, ◌+◌, ◌*◌, ◌%◌, ◌<◌, ◌≤◌, Bool, true, false, All, IfOk, length, IfSome, Some, option_map, find};
 ghost use Rattle.shm_base.specs.Access as access;
 ghost use Rattle.shm_base.specs.Space as flat;
 ghost use Rattle.shm_areas.specs.Arranged.{bare, bare_all, Arranged, IsFit, IsCovering, covering};
@@ -171,9 +171,10 @@ impl Space {
         replace(&mut self.pieces, cut);
     }
 
-    /// The lowest piece whose segment would begin at the address.
+    /// The lowest piece whose segment would begin at the address, as it is stored.
     pub fn origin_of(&self, addr: u64) -> Option<Piece>
-        ensures { option_map bare result ≡ flat.origin_of addr (bare_all self.now) }
+        ensures stored { result ≡ find (λ (p : Stored). flat.has_origin addr (bare p)) self.now }
+        ensures flat { option_map bare result ≡ flat.origin_of addr (bare_all self.now) }
     {
         let start = count_below(&self.pieces, addr);
         for piece in &self.pieces[start..] {

@@ -109,5 +109,6 @@ fn a_cut_leaves_two_parts(rt: HostRuntime) -> Result<(), HostMemory> {
     space.clear();
     space.push(above);
     assert!(rt; space.pieces() == [above].as_slice());
+    assert!(rt; space.origin_of(0x40000000) == Some(above));
     Ok(())
 }

@@ -1,8 +1,11 @@
-use Rattle.std.proofs.Common.{◌≡◌, drop}
-use Rattle.shm_base.specs.Space.{origin_of}
-use Rattle.shm_areas.specs.Arranged.{bare_all}
+use Rattle.std.proofs.Common.{◌≡◌, drop, find}
+use Rattle.shm_base.specs.Space.{has_origin, origin_of}
+use Rattle.shm_areas.specs.declared.piece.Piece.{Piece}
+use Rattle.shm_areas.specs.Arranged.{bare, bare_all}
 use Rattle.shm_areas.proofs.space.Space.origin_of.Given as goal
 
--- the pieces that were passed have another origin
+-- the pieces that were passed have another origin, as they are stored and as they are shown
 abbrev pub invariant-loop-piece : goal.invariant-loop-piece
-invariant-loop-piece l = origin_of l.addr (bare_all l.self) ≡ origin_of l.addr (bare_all (drop l.piece-index l.piece-items))
+invariant-loop-piece l =
+    (find (λ (p : Piece). has_origin l.addr (bare p)) l.self ≡ find (λ (p : Piece). has_origin l.addr (bare p)) (drop l.piece-index l.piece-items))
+    × (origin_of l.addr (bare_all l.self) ≡ origin_of l.addr (bare_all (drop l.piece-index l.piece-items)))
