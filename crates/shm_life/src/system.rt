@@ -4,6 +4,9 @@ ghost use Rattle.shm_base.specs.State as flat;
 ghost use Rattle.shm_life.specs.Start.{start_error, IsFirstError};
 ghost use Rattle.shm_base.specs.History.{IsMove, is_failure};
 ghost use Rattle.shm_slots.specs.Cause.{had_cause};
+ghost use Rattle.shm_slots.specs.View.{fresh, new_swap};
+ghost use Rattle.shm_pager.specs.Pages.{seen};
+ghost use Rattle.shm_fault.specs.Store.{fresh_store};
 ghost use Rattle.shm_fault.specs.Flushing.{IsFlushed};
 ghost use Rattle.shm_life.specs.MachineView.{KeepsOn, IsExactly};
 ghost use Rattle.shm_life.specs.SystemState.{TakesNoMemory};
@@ -80,6 +83,7 @@ impl<P: Pager> System<P> {
         ensures opening { IfOk result (λ s. s.opening ≡ record { limits = limits; areas = map (λ p. length (P.content p)) pagers.items; processes = processes.now }) }
         ensures calls { IfOk result (λ s. s.calls ≡ 0) }
         ensures machine { IfOk result (λ s. s.machine ≡ flat.start_of s.opening) }
+        ensures memory { IfOk result (λ s. s.memory ≡ fresh_store s.memory.frames (new_swap (map (λ p. fresh (seen P.content P.failed p)) pagers.items))) }
         ensures ok { OnOk result (start_error (map (λ p. length (P.content p)) pagers.items) processes.now ≡ None) }
         ensures err { IfErr result (λ e. IsFirstError e (start_error (map (λ p. length (P.content p)) pagers.items) processes.now)) }
     {
@@ -103,6 +107,7 @@ impl<P: Pager> System<P> {
         ensures opening { IfOk result (λ s. s.opening ≡ record { limits = limits; areas = map (λ p. length (P.content p)) pagers.items; processes = processes.now }) }
         ensures calls { IfOk result (λ s. s.calls ≡ 0) }
         ensures machine { IfOk result (λ s. s.machine ≡ flat.start_of s.opening) }
+        ensures memory { IfOk result (λ s. s.memory ≡ fresh_store s.memory.frames (new_swap (map (λ p. fresh (seen P.content P.failed p)) pagers.items))) }
     {
         // What is read has a proof know its range.
         let (_, _) = (limits.shmall(), limits.memlock());
