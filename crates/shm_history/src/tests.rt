@@ -12,15 +12,15 @@ fn world(rt: &HostRuntime, shmmax: u64) -> Result<World<RamPager>, Fail> {
     let limits = Limits::new(shmmax, 16, 64, 4, 1)
         .ok()
         .ok_or("the limits hold")?;
-    opened(rt.alloc(), limits, RamPager::new(rt.alloc(), 64)?)
+    let pagers = vec![in rt.alloc(); RamPager::new(rt.alloc(), 64)?]?;
+    opened(rt.alloc(), limits, pagers)
 }
 
-fn opened<P: Pager>(alloc: Global, limits: Limits, pager: P) -> Result<World<P>, Fail> {
+fn opened<P: Pager>(alloc: Global, limits: Limits, pagers: Vec<P>) -> Result<World<P>, Fail> {
     let first = Process {
         pid: 1,
         born: Some(Cred { uid: 100, gid: 100 }),
     };
-    let pagers = vec![in alloc; pager]?;
     let system = System::start(alloc, limits, pagers, &[first])
         .ok()
         .ok_or("it starts")?;
@@ -191,7 +191,7 @@ fn a_spent_area(rt: HostRuntime) -> Result<(), Fail> {
     let ram = RamPager::new(alloc, 64)?;
     let writes = vec![in alloc; 1]?;
     let fuse = FusePager::new_at(ram, Vec::new(alloc), writes, 18446744073709551614);
-    let mut world = opened(alloc, limits, fuse)?;
+    let mut world = opened(alloc, limits, vec![in alloc; fuse]?)?;
     replies(&rt, &mut world, &up_to_the_last_count(alloc)?)?;
     let wanted = Tally {
         events: 9,
