@@ -72,8 +72,9 @@ fn sizes_of<P: Pager>(alloc: Global, pagers: &[P]) -> Result<Vec<u32>, AllocErro
 }
 
 impl<P: Pager> System<P> {
-    /// A machine as it opens, with the areas' slot counts from the pagers. It refuses by the first start
-    /// error that holds, and the pagers are dropped then.
+    /// A machine as it opens, with the areas' slot counts from the pagers. Nothing is read or written yet: the
+    /// pagers' pages and counts are as they were handed in. It refuses by the first start error that holds,
+    /// and the pagers are dropped then.
     pub fn start(
         alloc: Global,
         limits: Limits,
