@@ -80,6 +80,11 @@ fn ran<R: Threads + Wait + Sync, P: Pager + Send>(
     Ok(world)
 }
 
+// Whether a call was refused for a pager's failure.
+fn is_failure(reply: &Reply) -> bool {
+    matches!(reply, Reply::Refused(Errno::Sigbus | Errno::Eio))
+}
+
 // The calls of the history again, on areas that never fail.
 fn replayed<P: Pager>(
     alloc: Global,
@@ -93,13 +98,10 @@ fn replayed<P: Pager>(
         len: AccessLen::new(1).ok_or("1 to 64")?,
     };
     for event in world.history() {
-        let (call, wanted) = match &event.reply {
-            Reply::Refused(Errno::Sigbus | Errno::Eio) => {
-                (&nothing, Reply::Refused(Errno::Sigsegv))
-            }
-            reply => (&event.call, reply.copied()),
-        };
-        if plain.call(event.pid, call).ok().ok_or("memory")? != wanted {
+        let failed = is_failure(&event.reply);
+        let call = if failed { &nothing } else { &event.call };
+        let reply = plain.call(event.pid, call).ok().ok_or("memory")?;
+        if failed && reply != Reply::Refused(Errno::Sigsegv) || !failed && reply != event.reply {
             return Err("another reply".into());
         }
     }
@@ -238,9 +240,11 @@ type Mirror = MirrorPager<FusePager<RamPager>, FusePager<RamPager>>;
 fn mirror(alloc: Global, write: u64, read: u64) -> Result<Mirror, Fail> {
     let left = fuse(alloc, 0, write)?;
     let right = fuse(alloc, read, 0)?;
-    Ok(MirrorPager::new(alloc, left, right)
-        .ok()
-        .ok_or("equal sides")?)
+    Ok(
+        MirrorPager::new(alloc, left, right)
+            .ok()
+            .ok_or("equal sides")?,
+    )
 }
 
 // A write of the left side fails, and a read of the right side, each at each of the first twenty places.
