@@ -186,4 +186,3 @@ agree-with_row hs rows i key pages v agree free lock size =
           ap (option_map shape_held) (find-zeros_other hs id pages at apart) ∙ agree.same at
           ∙ ap (option_map shape_row) (sym (live-with_row_other rows i at key v free apart))
     ]
-

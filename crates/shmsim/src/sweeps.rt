@@ -1,8 +1,10 @@
 //! One call of a pager fails, at each place in turn. Whatever failed, the history is that of areas which
 //! never fail, where a load of nothing stands for each call that was refused for the failure; and every
 //! byte at the end is the same.
+ghost use Rattle.std.specs.Prelude.{◌≡◌, [], IfOk};
+
 use crate::serial::{open_world, run_lines};
-use shm_base::{AccessLen, AtFlags, Call, Errno, Reply};
+use shm_base::{AccessLen, AtFlags, Call, Errno, Event, Reply, ShmId};
 use shm_history::World;
 use shm_pager::{FusePager, MirrorPager, Pager, RamPager};
 use shm_text::{Script, read_script};
@@ -63,6 +65,16 @@ fn fuse(alloc: Global, read: u64, write: u64) -> Result<FusePager<RamPager>, Fai
     Ok(FusePager::new(ram, at(alloc, read)?, at(alloc, write)?))
 }
 
+fn behind_threads<R: Threads + Wait + Sync, P: Pager + Send>(
+    rt: &R,
+    alloc: Global,
+    script: &Script,
+    world: World<P>,
+) -> Result<World<P>, Fail> {
+    let run = run_threads(rt, alloc, world, script, &Open);
+    Ok(run.ok().ok_or("a run")?.world)
+}
+
 // The world behind the script: run in the order of its lines, or with a thread for each process.
 fn ran<R: Threads + Wait + Sync, P: Pager + Send>(
     rt: &R,
@@ -71,18 +83,50 @@ fn ran<R: Threads + Wait + Sync, P: Pager + Send>(
     pagers: Vec<P>,
     threaded: bool,
 ) -> Result<World<P>, Fail> {
-    let mut world = open_world(alloc, script, pagers).ok().ok_or("it starts")?;
+    let mut world = opened(alloc, script, pagers)?;
     if threaded {
-        let run = run_threads(rt, alloc, world, script, &Open);
-        return Ok(run.ok().ok_or("a run")?.world);
+        return behind_threads(rt, alloc, script, world);
     }
     run_lines(alloc, &mut world, script).ok().ok_or("memory")?;
     Ok(world)
 }
 
+// Two areas that never fail.
+fn sound(alloc: Global) -> Result<Vec<RamPager>, Fail> {
+    let first = RamPager::new(alloc, SLOTS)?;
+    let second = RamPager::new(alloc, SLOTS)?;
+    Ok(vec![in alloc; first, second]?)
+}
+
+fn opened<P: Pager>(alloc: Global, script: &Script, pagers: Vec<P>) -> Result<World<P>, Fail>
+    ensures { IfOk result (λ w. w.events ≡ []) }
+{
+    Ok(open_world(alloc, script, pagers).ok().ok_or("it starts")?)
+}
+
+fn load(addr: u64, len: u64) -> Result<Call, Fail> {
+    let len = AccessLen::new(len).ok_or("1 to 64")?;
+    Ok(Call::Load { addr, len })
+}
+
 // Whether a call was refused for a pager's failure.
 fn is_failure(reply: &Reply) -> bool {
     matches!(reply, Reply::Refused(Errno::Sigbus | Errno::Eio))
+}
+
+fn called<P: Pager>(world: &mut World<P>, pid: u32, call: &Call) -> Result<Reply, Fail> {
+    Ok(world.call(pid, call).ok().ok_or("memory")?)
+}
+
+// Whether the call has its reply here too. Where a pager failed, a load of nothing is made in its place.
+fn is_answered_alike(plain: &mut World<RamPager>, event: &Event) -> Result<bool, Fail> {
+    if is_failure(&event.reply) {
+        let nothing = load(0, 1)?;
+        let reply = called(plain, event.pid, &nothing)?;
+        return Ok(reply == Reply::Refused(Errno::Sigsegv));
+    }
+    let reply = called(plain, event.pid, &event.call)?;
+    Ok(reply == event.reply)
 }
 
 // The calls of the history again, on areas that never fail.
@@ -91,17 +135,9 @@ fn replayed<P: Pager>(
     script: &Script,
     world: &World<P>,
 ) -> Result<World<RamPager>, Fail> {
-    let pagers = vec![in alloc; RamPager::new(alloc, SLOTS)?, RamPager::new(alloc, SLOTS)?]?;
-    let mut plain = open_world(alloc, script, pagers).ok().ok_or("it starts")?;
-    let nothing = Call::Load {
-        addr: 0,
-        len: AccessLen::new(1).ok_or("1 to 64")?,
-    };
+    let mut plain = opened(alloc, script, sound(alloc)?)?;
     for event in world.history() {
-        let failed = is_failure(&event.reply);
-        let call = if failed { &nothing } else { &event.call };
-        let reply = plain.call(event.pid, call).ok().ok_or("memory")?;
-        if failed && reply != Reply::Refused(Errno::Sigsegv) || !failed && reply != event.reply {
+        if !is_answered_alike(&mut plain, event)? {
             return Err("another reply".into());
         }
     }
@@ -110,11 +146,22 @@ fn replayed<P: Pager>(
 
 // The reply to process 1. A load that a pager's failure refused is made once more.
 fn reply<P: Pager>(world: &mut World<P>, call: &Call) -> Result<Reply, Fail> {
-    let reply = world.call(1, call).ok().ok_or("memory")?;
-    if reply == Reply::Refused(Errno::Sigbus) {
-        return Ok(world.call(1, call).ok().ok_or("memory")?);
+    let reply = called(world, 1, call)?;
+    if is_failure(&reply) {
+        return called(world, 1, call);
     }
     Ok(reply)
+}
+
+// Whether a load of process 1 has the same bytes in both.
+fn same_load<P: Pager>(
+    world: &mut World<P>,
+    plain: &mut World<RamPager>,
+    load: &Call,
+) -> Result<bool, Fail> {
+    let loaded = reply(world, load)?;
+    let wanted = reply(plain, load)?;
+    Ok(matches!(&wanted, Reply::Bytes(_)) && loaded == wanted)
 }
 
 // Whether the bytes at the address are the same in both, to the end of a segment of this size.
@@ -124,16 +171,40 @@ fn same_bytes<P: Pager>(
     base: u64,
     size: u64,
 ) -> Result<bool, Fail> {
-    let len = AccessLen::new(64).ok_or("1 to 64")?;
     for part in 0..size / 64 {
-        let addr = base.wrapping_add(part.wrapping_mul(64));
-        let load = Call::Load { addr, len };
-        let loaded = reply(world, &load)?;
-        if !matches!(&loaded, Reply::Bytes(_)) || loaded != reply(plain, &load)? {
+        let load = load(base.wrapping_add(part.wrapping_mul(64)), 64)?;
+        if !same_load(world, plain, &load)? {
             return Ok(false);
         }
     }
     Ok(true)
+}
+
+// Where process 1 attaches the segment.
+fn attached<P: Pager>(world: &mut World<P>, id: ShmId) -> Result<u64, Fail> {
+    let shmat = Call::Shmat {
+        id,
+        addr: 0,
+        flags: AtFlags::RDONLY,
+    };
+    match called(world, 1, &shmat)? {
+        Reply::Addr(base) => Ok(base),
+        _ => Err("not attached".into()),
+    }
+}
+
+// Whether the segment has the same bytes in both.
+fn same_segment<P: Pager>(
+    world: &mut World<P>,
+    plain: &mut World<RamPager>,
+    id: ShmId,
+    size: u64,
+) -> Result<bool, Fail> {
+    let base = attached(world, id)?;
+    if attached(plain, id)? != base {
+        return Ok(false);
+    }
+    same_bytes(world, plain, base, size)
 }
 
 // Whether the segments are the same in both, with every byte.
@@ -147,19 +218,7 @@ fn same_segments<P: Pager>(
             return Ok(false);
         }
         if let Some((id, row)) = found {
-            let shmat = Call::Shmat {
-                id,
-                addr: 0,
-                flags: AtFlags::RDONLY,
-            };
-            let base = reply(world, &shmat)?;
-            if base != reply(plain, &shmat)? {
-                return Ok(false);
-            }
-            let Reply::Addr(base) = base else {
-                return Ok(false);
-            };
-            if !same_bytes(world, plain, base, row.size)? {
+            if !same_segment(world, plain, id, row.size)? {
                 return Ok(false);
             }
         }
@@ -247,6 +306,13 @@ fn mirror(alloc: Global, write: u64, read: u64) -> Result<Mirror, Fail> {
     )
 }
 
+// Two mirrors, of which the first fails so.
+fn mirrors(alloc: Global, write: u64, read: u64) -> Result<Vec<Mirror>, Fail> {
+    let failing = mirror(alloc, write, read)?;
+    let other = mirror(alloc, 0, 0)?;
+    Ok(vec![in alloc; failing, other]?)
+}
+
 // A write of the left side fails, and a read of the right side, each at each of the first twenty places.
 fn each_side_fails<R: Threads + Wait + Sync>(
     rt: &R,
@@ -256,7 +322,7 @@ fn each_side_fails<R: Threads + Wait + Sync>(
     let script = script(alloc)?;
     for pair in 0..400 {
         let (write, read) = (1 + pair / 20, 1 + pair % 20);
-        let pagers = vec![in alloc; mirror(alloc, write, read)?, mirror(alloc, 0, 0)?]?;
+        let pagers = mirrors(alloc, write, read)?;
         let _found = failures(rt, alloc, &script, pagers, threaded)?;
     }
     Ok(())
