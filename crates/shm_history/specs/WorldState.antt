@@ -1,5 +1,5 @@
 -- What contracts see of a world: its opening, its history, the flat machine at its end, and its memory.
-use Rattle.std.specs.Prelude.{◌≡◌, ◌≤◌, ◌-◌, ◌^◌, ℕ, true, List, [], ◌∷◌, length, map, min, count_by}
+use Rattle.std.specs.Prelude.{◌≡◌, ◌<◌, ◌≤◌, ◌+◌, ◌-◌, ◌^◌, ℕ, true, List, [], ◌∷◌, ◌++◌, length, map, min, take, count_by}
 use Rattle.std.specs.List.{flat_map}
 use Rattle.shm_base.specs.declared.call.Step.{Step}
 use Rattle.shm_base.specs.declared.call.Step.TheVariants as steps
@@ -7,13 +7,16 @@ use Rattle.shm_base.specs.declared.call.Step.TheVariants.{Flush}
 use Rattle.shm_base.specs.declared.call.Call.{Call}
 use Rattle.shm_base.specs.declared.call.Reply.{Reply}
 use Rattle.shm_base.specs.declared.call.Event.{Event}
-use Rattle.shm_base.specs.History.{is_failure}
+use Rattle.shm_base.specs.declared.paging.FlushReport.{FlushReport}
+use Rattle.shm_base.specs.History.{IsMove, is_failure}
 use Rattle.shm_base.specs.State.{Opening, Machine}
 use Rattle.shm_base.specs.Segments.{segment_count, reserved, locked}
 use Rattle.shm_base.specs.declared.paging.Tally.{Tally}
 use Rattle.shm_slots.specs.View.{SwapView, slots}
-use Rattle.shm_slots.specs.Cause.{total}
+use Rattle.shm_slots.specs.Cause.{total, had_cause}
 use Rattle.shm_fault.specs.Store.{StoreView, resident, dirty, used}
+use Rattle.shm_fault.specs.Flushing.{IsFlushed}
+use Rattle.shm_life.specs.MachineView.{KeepsOn}
 
 pub record WorldState : Type 0 where
   pub opening : Opening
@@ -44,6 +47,34 @@ calls_in (Flush n) = []
 
 abbrev pub step_calls : List Step → List (ℕ × Call)
 step_calls steps = flat_map calls_in steps
+
+-- a call is recorded with its reply, and is a move of the machine
+pub record IsCalled (before : WorldState) (pid : ℕ) (call : Call) (reply : Reply) (after : WorldState) : Type 0 where
+  pub recorded : after.events ≡ before.events ++ event pid call reply ∷ []
+  pub move_of : IsMove before.machine (length before.events + 1) (event pid call reply) after.machine
+  pub cause : is_failure call reply ≡ true → had_cause before.memory.swap after.memory.swap ≡ true
+  pub keeps : KeepsOn before.memory after.memory
+  pub opening : after.opening ≡ before.opening
+
+-- a flush round changes the memory alone
+pub record IsRound (before : WorldState) (pages : ℕ) (report : FlushReport) (after : WorldState) : Type 0 where
+  pub flushed : IsFlushed before.memory after.memory pages report
+  pub keeps : KeepsOn before.memory after.memory
+  pub rest : after ≡ record before { memory = after.memory }
+
+-- what one step does
+abbrev pub IsRun : WorldState → Step → WorldState → Type 0
+IsRun before (steps.Call pid call) after = (reply : Reply) × IsCalled before pid call reply after
+IsRun before (Flush pages) after = (report : FlushReport) × IsRound before pages report after
+
+-- the steps lead from one world to the other, each from where the one before it led
+abbrev pub RunTo : WorldState → List Step → WorldState → Type 0
+RunTo before [] after = after ≡ before
+RunTo before (step ∷ more) after = (next : WorldState) × IsRun before step next × RunTo next more after
+
+-- the first so many of the steps were run, not all of them, and after them nothing but the room changed
+abbrev pub StopsIn : WorldState → List Step → WorldState → Type 0
+StopsIn before steps after = (n : ℕ) × (last : WorldState) × (n < length steps) × RunTo before (take n steps) last × (after ≡ record last { room = after.room })
 
 -- the counts of a world
 abbrev pub tally_of : WorldState → Tally

@@ -166,6 +166,23 @@ fn steps_with_room(rt: HostRuntime) -> Result<(), Fail> {
     Ok(())
 }
 
+/// The round writes one of the two pages, and the calls none.
+#[test]
+fn a_round_among_steps(rt: HostRuntime) -> Result<(), Fail> {
+    let mut world = world(&rt, 8192)?;
+    let steps = vec![in rt.alloc();
+        Step::Call(1, shmget(8192)),
+        Step::Call(1, shmat(0)),
+        Step::Call(1, store(0x40000000, &[1])?),
+        Step::Call(1, store(0x40001000, &[2])?),
+        Step::Flush(1),
+    ]?;
+    world.run_steps(&steps).ok().ok_or("memory is there")?;
+    let tally = world.tally();
+    assert_eq!(rt; (tally.events, tally.dirty, tally.outs), (4, 1, 1));
+    Ok(())
+}
+
 fn up_to_the_last_count(alloc: Global) -> Result<Vec<(Call, Reply)>, Fail> {
     let zero = bytes(&[0])?;
     let calls = vec![in alloc;

@@ -11,7 +11,7 @@ ghost use Rattle.shm_fault.specs.Flushing.{IsFlushed};
 ghost use Rattle.shm_life.specs.MachineView.{IsExactly, KeepsOn};
 ghost use Rattle.shm_life.specs.SystemState.{TakesNoMemory};
 ghost use Rattle.shm_life.specs.Listed.{segment_at};
-ghost use Rattle.shm_history.specs.WorldState.{event, tally_of, AreCounted, calls_of, step_calls};
+ghost use Rattle.shm_history.specs.WorldState.{event, tally_of, AreCounted, calls_of, step_calls, IsRun, RunTo, StopsIn};
 
 use shm_base::{Call, Event, FlushReport, HostMemory, Reply, ShmId, ShmidDs, Step, Tally};
 use shm_life::{Opening, System};
@@ -171,22 +171,33 @@ impl<P: Pager> World<P> {
         self.system.tally()
     }
 
+    // One step. Want of memory changes nothing but the room.
+    fn run_step(&mut self, step: &Step) -> Result<(), HostMemory>
+        ensures ran { OnOk result (IsRun self.old step.now self.new) }
+        ensures stopped { OnErr result (self.new ≡ record self.old { room = self.new.room }) }
+    {
+        match step {
+            Step::Call(pid, call) => {
+                let _reply = self.call(*pid, call)?;
+            }
+            Step::Flush(pages) => {
+                let _report = self.flush(*pages);
+            }
+        }
+        Ok(())
+    }
+
     /// Runs the steps in order. It stops at the first want of memory, and the steps before it stand.
     pub fn run_steps(&mut self, steps: &[Step]) -> Result<(), HostMemory>
+        ensures steps { OnOk result (RunTo self.old steps.now self.new) }
+        ensures stopped { OnErr result (StopsIn self.old steps.now self.new) }
         ensures ran { OnOk result (calls_of self.new.events ≡ calls_of self.old.events ++ step_calls steps.now) }
         ensures part { IsPrefix (calls_of self.new.events) (calls_of self.old.events ++ step_calls steps.now) }
         ensures kept { self.new.events ≡ self.old.events ++ drop (length self.old.events) self.new.events }
         ensures opening { self.new.opening ≡ self.old.opening }
     {
         for step in steps {
-            match step {
-                Step::Call(pid, call) => {
-                    let _reply = self.call(*pid, call)?;
-                }
-                Step::Flush(pages) => {
-                    let _report = self.flush(*pages);
-                }
-            }
+            self.run_step(step)?;
         }
         Ok(())
     }
