@@ -243,41 +243,52 @@ fn failures<R: Threads + Wait + Sync, P: Pager + Send>(
     Ok(world.tally().failures)
 }
 
-// Two areas, of which one fails at these places.
-fn fused(
-    alloc: Global,
-    first_fails: bool,
-    read: u64,
-    write: u64,
-) -> Result<Vec<FusePager<RamPager>>, Fail> {
-    let failing = fuse(alloc, read, write)?;
-    let other = fuse(alloc, 0, 0)?;
-    if first_fails {
-        return Ok(vec![in alloc; failing, other]?);
-    }
-    Ok(vec![in alloc; other, failing]?)
+// Which calls fail: the reads or the writes of the first area, or of the second.
+#[derive(Clone, Copy)]
+enum Failing {
+    FirstReads,
+    FirstWrites,
+    SecondReads,
+    SecondWrites,
 }
 
-// Each read of an area fails, or each write, until a run has no failure. It has some at the first place.
+// Two areas, of which one fails at this place.
+fn fuses(alloc: Global, failing: Failing, place: u64) -> Result<Vec<FusePager<RamPager>>, Fail> {
+    let (first, second) = match failing {
+        Failing::FirstReads => ((place, 0), (0, 0)),
+        Failing::FirstWrites => ((0, place), (0, 0)),
+        Failing::SecondReads => ((0, 0), (place, 0)),
+        Failing::SecondWrites => ((0, 0), (0, place)),
+    };
+    let mut areas = Vec::with_capacity(alloc, 2)?;
+    areas.push(fuse(alloc, first.0, first.1)?)?;
+    areas.push(fuse(alloc, second.0, second.1)?)?;
+    Ok(areas)
+}
+
+// Each of these calls fails in turn, until a run has no failure. It has some at the first place.
 fn each_fails<R: Threads + Wait + Sync>(
     rt: &R,
     alloc: Global,
     threaded: bool,
-    first_fails: bool,
-    reads: bool,
+    failing: Failing,
 ) -> Result<(), Fail> {
     let script = script(alloc)?;
     for place in 1..MOST_PLACES {
-        let (read, write) = if reads { (place, 0) } else { (0, place) };
-        let pagers = fused(alloc, first_fails, read, write)?;
-        if failures(rt, alloc, &script, pagers, threaded)? == 0 {
-            if place == 1 {
-                return Err("nothing failed".into());
-            }
-            return Ok(());
+        let areas = fuses(alloc, failing, place)?;
+        if failures(rt, alloc, &script, areas, threaded)? == 0 {
+            return past(place);
         }
     }
     Err("each run had a failure".into())
+}
+
+// Whether the first run without a failure is not the first.
+fn past(place: u64) -> Result<(), Fail> {
+    if place == 1 {
+        return Err("nothing failed".into());
+    }
+    Ok(())
 }
 
 fn each_call_fails<R: Threads + Wait + Sync>(
@@ -285,12 +296,10 @@ fn each_call_fails<R: Threads + Wait + Sync>(
     alloc: Global,
     threaded: bool,
 ) -> Result<(), Fail> {
-    for first_fails in [true, false] {
-        for reads in [true, false] {
-            each_fails(rt, alloc, threaded, first_fails, reads)?;
-        }
-    }
-    Ok(())
+    each_fails(rt, alloc, threaded, Failing::FirstReads)?;
+    each_fails(rt, alloc, threaded, Failing::FirstWrites)?;
+    each_fails(rt, alloc, threaded, Failing::SecondReads)?;
+    each_fails(rt, alloc, threaded, Failing::SecondWrites)
 }
 
 type Mirror = MirrorPager<FusePager<RamPager>, FusePager<RamPager>>;
@@ -308,9 +317,10 @@ fn mirror(alloc: Global, write: u64, read: u64) -> Result<Mirror, Fail> {
 
 // Two mirrors, of which the first fails so.
 fn mirrors(alloc: Global, write: u64, read: u64) -> Result<Vec<Mirror>, Fail> {
-    let failing = mirror(alloc, write, read)?;
-    let other = mirror(alloc, 0, 0)?;
-    Ok(vec![in alloc; failing, other]?)
+    let mut areas = Vec::with_capacity(alloc, 2)?;
+    areas.push(mirror(alloc, write, read)?)?;
+    areas.push(mirror(alloc, 0, 0)?)?;
+    Ok(areas)
 }
 
 // A write of the left side fails, and a read of the right side, each at each of the first twenty places.
