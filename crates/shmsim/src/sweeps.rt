@@ -226,6 +226,21 @@ fn same_segments<P: Pager>(
     Ok(true)
 }
 
+// How many failures the areas of a world have counted, where it has the segments and bytes of the plain one.
+fn counted<P: Pager>(world: &mut World<P>, plain: &mut World<RamPager>) -> Result<u64, Fail> {
+    if !same_segments(world, plain)? {
+        return Err("another byte".into());
+    }
+    Ok(world.tally().failures)
+}
+
+// The failures of a world whose calls have the same replies and leave the same bytes on areas that never
+// fail.
+fn compared<P: Pager>(alloc: Global, script: &Script, mut world: World<P>) -> Result<u64, Fail> {
+    let mut plain = replayed(alloc, script, &world)?;
+    counted(&mut world, &mut plain)
+}
+
 // Runs the script over the areas, compares it with its calls on areas that never fail, and says how many
 // failures there were.
 fn failures<R: Threads + Wait + Sync, P: Pager + Send>(
@@ -235,12 +250,8 @@ fn failures<R: Threads + Wait + Sync, P: Pager + Send>(
     pagers: Vec<P>,
     threaded: bool,
 ) -> Result<u64, Fail> {
-    let mut world = ran(rt, alloc, script, pagers, threaded)?;
-    let mut plain = replayed(alloc, script, &world)?;
-    if !same_segments(&mut world, &mut plain)? {
-        return Err("another byte".into());
-    }
-    Ok(world.tally().failures)
+    let world = ran(rt, alloc, script, pagers, threaded)?;
+    compared(alloc, script, world)
 }
 
 // Which calls fail: the reads or the writes of the first area, or of the second.
