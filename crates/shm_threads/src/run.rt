@@ -9,7 +9,7 @@ use crate::hall::Hall;
 use crate::outcome::{Outcome, RunError, Transcript};
 use crate::worker::{Ended, flush_all, jobs, work};
 use shm_base::HostMemory;
-use shm_history::World;
+use shm_history::{Opening, World};
 use shm_pager::Pager;
 use shm_text::Script;
 use std::alloc::Global;
@@ -63,15 +63,24 @@ pub(crate) fn run_with<R: Threads + Wait + Sync, G: Gate, P: Pager + Send>(
 {
     let opening = copied(alloc, world.opening())?;
     world.reserve(script.lines.len())?;
+    let (world, run) = joined(rt, alloc, world, script, gate, refused_from)?;
+    compared(&opening, world, script, run)
+}
+
+// The world when all workers have ended, and what their joins gave.
+fn joined<R: Threads + Wait + Sync, G: Gate, P: Pager + Send>(
+    rt: &R,
+    alloc: Global,
+    world: World<P>,
+    script: &Script,
+    gate: &G,
+    refused_from: usize,
+) -> Result<(World<P>, Run), HostMemory> {
     let hall = Hall::new(alloc, world, &script.processes)?;
     let jobs = jobs(alloc, script)?;
     let handles = with_room(alloc, jobs.len())?;
     let transcripts = with_room(alloc, jobs.len())?;
-    let Run {
-        transcripts,
-        expired,
-        is_refused,
-    } = run_all(
+    let run = run_all(
         rt,
         &hall,
         script,
@@ -81,14 +90,30 @@ pub(crate) fn run_with<R: Threads + Wait + Sync, G: Gate, P: Pager + Send>(
         transcripts,
         refused_from,
     );
-    let world = hall.into_world();
-    if is_refused {
+    Ok((hall.into_world(), run))
+}
+
+// The outcome, where no thread was refused, no worker was ended, and the transcripts are the world's history.
+fn compared<P: Pager>(
+    opening: &Opening,
+    world: World<P>,
+    script: &Script,
+    run: Run,
+) -> Result<Outcome<P>, RunError>
+    ensures opening { IfOk result (λ o. o.world.opening ≡ opening.now) }
+    ensures legal { IfOk result (λ o. IsHistory o.world.opening o.world.events o.world.machine) }
+    ensures processes { IfOk result (λ o. map pid_of o.transcripts.items ≡ map pid_in script.now.processes) }
+    ensures transcripts { IfOk result (λ o. All (IsTranscript script.now o.world.events) o.transcripts.items) }
+    ensures events { IfOk result (λ o. All (IsAdmitted script.now.processes) o.world.events) }
+{
+    if run.is_refused {
         return Err(RunError::ThreadRefused);
     }
-    if let Some(pid) = expired {
+    if let Some(pid) = run.expired {
         return Err(RunError::GateExpired { pid });
     }
-    match mismatch(&opening, &world, script, &transcripts) {
+    let transcripts = run.transcripts;
+    match mismatch(opening, &world, script, &transcripts) {
         None => Ok(Outcome { world, transcripts }),
         Some(pid) => Err(RunError::HistoryMismatch { pid }),
     }
