@@ -4,11 +4,12 @@
 ghost use Rattle.std.specs.Prelude.{◌≡◌, [], IfOk};
 
 use crate::serial::{open_world, run_lines};
+use crate::threaded::Open;
 use shm_base::{AccessLen, AtFlags, Call, Errno, Event, Reply, ShmId};
 use shm_history::World;
 use shm_pager::{FusePager, MirrorPager, Pager, RamPager};
 use shm_text::{Script, read_script};
-use shm_threads::{Gate, run_threads};
+use shm_threads::run_threads;
 use std::alloc::Global;
 use std::sync::Wait;
 use std::test::Fail;
@@ -25,18 +26,6 @@ const HEAD: &[u8] =
 /// Thirty commands, which leave other bytes behind each time.
 const ROUND: &[u8] =
     b"1 xadd p 72340172838076673\n2 xadd p+4090 578437695752307201\n1 store p+8190 01020304\n1 xadd p+8191 506381209866536711\n2 xadd q+4093 1234567890123456789\n1 lock d\n1 xadd q+12280 81985529216486895\n2 load p+16350 64\n3 xadd 0x40000ffc 1311768467463790320\n2 xadd r+4090 1229782938247303441\n0 flush 2\n1 xadd s+100 1229782938247303442\n1 t = shmget private 4096 600\n1 u = shmat t null -\n1 xadd u+8 1085102592571150095\n1 rmid t\n1 xadd u+12 4294967297\n1 load u 64\n1 shmdt u\n3 load 0x40003ff0 64\n2 unlock d\n0 flush 1\n2 xadd p+20472 72340172838076674\n1 xadd q 6510615555426900570\n3 xadd 0x40007ff8 3617008641903833650\n2 xadd r+8184 289360691352306692\n1 load r 64\n1 xadd p+12284 8608480567731124087\n2 load q+8130 64\n3 store 0x40005ffe 0102030405\n2 xadd q+8192 7378697629483820646\n1 load p+4064 64\n0 flush 3\n";
-
-/// Lets every call pass.
-#[derive(Drop)]
-struct Open;
-
-impl Gate for Open {
-    fn before(&self, _pid: u32, _n: u64) -> bool {
-        true
-    }
-
-    fn after(&self, _pid: u32, _n: u64) {}
-}
 
 // Twelve rounds, and an area that is taken away in their middle.
 fn script(alloc: Global) -> Result<Script, Fail> {

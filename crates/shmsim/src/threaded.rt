@@ -19,7 +19,7 @@ use std::thread::Threads;
 
 /// Lets every worker pass.
 #[derive(Drop)]
-struct Open;
+pub(crate) struct Open;
 
 impl Gate for Open {
     fn before(&self, _pid: u32, _n: u64) -> bool {
