@@ -93,13 +93,15 @@ fn over_a_page(alloc: Global) -> Result<Vec<(Call, Reply)>, Fail> {
     Ok(calls)
 }
 
-#[test]
-fn across_a_page(rt: HostRuntime) -> Result<(), Fail> {
-    let calls = over_a_page(rt.alloc())?;
-    let mut world = world(&rt, 65536)?;
-    replies(&rt, &mut world, &calls)?;
+fn goes_across(rt: &impl Abort, alloc: Global, world: &mut World<RamPager>) -> Result<(), Fail> {
+    replies(rt, world, &over_a_page(alloc)?)?;
     assert_eq!(rt; world.history().len(), 7);
     Ok(())
+}
+
+#[test]
+fn across_a_page(rt: HostRuntime) -> Result<(), Fail> {
+    goes_across(&rt, rt.alloc(), &mut world(&rt, 65536)?)
 }
 
 fn seen_twice(alloc: Global) -> Result<Vec<(Call, Reply)>, Fail> {
@@ -117,13 +119,10 @@ fn seen_twice(alloc: Global) -> Result<Vec<(Call, Reply)>, Fail> {
 #[test]
 fn one_page_twice(rt: HostRuntime) -> Result<(), Fail> {
     let calls = seen_twice(rt.alloc())?;
-    let mut world = world(&rt, 65536)?;
-    replies(&rt, &mut world, &calls)
+    replies(&rt, &mut world(&rt, 65536)?, &calls)
 }
 
-#[test]
-fn sizes(rt: HostRuntime) -> Result<(), Fail> {
-    let mut world = world(&rt, 8192)?;
+fn creates_sizes(rt: &impl Abort, world: &mut World<RamPager>) -> Result<(), Fail> {
     let wanted = [
         (8193, Reply::Refused(Errno::Einval)),
         (0, Reply::Refused(Errno::Einval)),
@@ -135,6 +134,11 @@ fn sizes(rt: HostRuntime) -> Result<(), Fail> {
     Ok(())
 }
 
+#[test]
+fn sizes(rt: HostRuntime) -> Result<(), Fail> {
+    creates_sizes(&rt, &mut world(&rt, 8192)?)
+}
+
 fn steps(alloc: Global, sizes: &[u64]) -> Result<Vec<Step>, Fail> {
     let mut steps = Vec::new(alloc);
     for size in sizes {
@@ -143,16 +147,11 @@ fn steps(alloc: Global, sizes: &[u64]) -> Result<Vec<Step>, Fail> {
     Ok(steps)
 }
 
-#[test]
-fn steps_with_room(rt: HostRuntime) -> Result<(), Fail> {
-    let mut world = world(&rt, 8192)?;
+fn runs_steps(rt: &impl Abort, alloc: Global, world: &mut World<RamPager>) -> Result<(), Fail> {
+    let steps = steps(alloc, &[8193, 0, 8192])?;
     assert!(rt; world.reserve(3).is_ok());
     assert!(rt; world.room() >= 3);
-    assert!(rt;
-        world
-            .run_steps(&steps(rt.alloc(), &[8193, 0, 8192])?)
-            .is_ok()
-    );
+    assert!(rt; world.run_steps(&steps).is_ok());
     let replies = [
         Reply::Refused(Errno::Einval),
         Reply::Refused(Errno::Einval),
@@ -166,21 +165,35 @@ fn steps_with_room(rt: HostRuntime) -> Result<(), Fail> {
     Ok(())
 }
 
-/// The round writes one of the two pages, and the calls none.
 #[test]
-fn a_round_among_steps(rt: HostRuntime) -> Result<(), Fail> {
-    let mut world = world(&rt, 8192)?;
-    let steps = vec![in rt.alloc();
+fn steps_with_room(rt: HostRuntime) -> Result<(), Fail> {
+    runs_steps(&rt, rt.alloc(), &mut world(&rt, 8192)?)
+}
+
+fn two_stores_and_a_round(alloc: Global) -> Result<Vec<Step>, Fail> {
+    let (first, second) = (store(0x40000000, &[1])?, store(0x40001000, &[2])?);
+    let steps = vec![in alloc;
         Step::Call(1, shmget(8192)),
         Step::Call(1, shmat(0)),
-        Step::Call(1, store(0x40000000, &[1])?),
-        Step::Call(1, store(0x40001000, &[2])?),
+        Step::Call(1, first),
+        Step::Call(1, second),
         Step::Flush(1),
     ]?;
+    Ok(steps)
+}
+
+fn makes_a_round(rt: &impl Abort, alloc: Global, world: &mut World<RamPager>) -> Result<(), Fail> {
+    let steps = two_stores_and_a_round(alloc)?;
     world.run_steps(&steps).ok().ok_or("memory is there")?;
     let tally = world.tally();
     assert_eq!(rt; (tally.events, tally.dirty, tally.outs), (4, 1, 1));
     Ok(())
+}
+
+/// The round writes one of the two pages, and the calls none.
+#[test]
+fn a_round_among_steps(rt: HostRuntime) -> Result<(), Fail> {
+    makes_a_round(&rt, rt.alloc(), &mut world(&rt, 8192)?)
 }
 
 fn up_to_the_last_count(alloc: Global) -> Result<Vec<(Call, Reply)>, Fail> {
@@ -199,17 +212,20 @@ fn up_to_the_last_count(alloc: Global) -> Result<Vec<(Call, Reply)>, Fail> {
     Ok(calls)
 }
 
-/// The first write counts the last failure that can be counted. Then the area is spent: the next page-out
-/// goes to it and fails without a call of its pager.
-#[test]
-fn a_spent_area(rt: HostRuntime) -> Result<(), Fail> {
-    let alloc = rt.alloc();
-    let limits = Limits::new(65536, 16, 64, 2, 0).ok().ok_or("they hold")?;
-    let ram = RamPager::new(alloc, 64)?;
+// An area whose first write fails, and which can count this one failure alone.
+fn almost_spent(alloc: Global) -> Result<FusePager<RamPager>, Fail> {
     let writes = vec![in alloc; 1]?;
-    let fuse = FusePager::new_at(ram, Vec::new(alloc), writes, 18446744073709551614);
-    let mut world = opened(alloc, limits, vec![in alloc; fuse]?)?;
-    replies(&rt, &mut world, &up_to_the_last_count(alloc)?)?;
+    let ram = RamPager::new(alloc, 64)?;
+    Ok(FusePager::new_at(ram, Vec::new(alloc), writes, 18446744073709551614))
+}
+
+fn over_almost_spent(alloc: Global) -> Result<World<FusePager<RamPager>>, Fail> {
+    let limits = Limits::new(65536, 16, 64, 2, 0).ok().ok_or("they hold")?;
+    opened(alloc, limits, vec![in alloc; almost_spent(alloc)?]?)
+}
+
+fn spends<P: Pager>(rt: &impl Abort, alloc: Global, world: &mut World<P>) -> Result<(), Fail> {
+    replies(rt, world, &up_to_the_last_count(alloc)?)?;
     let wanted = Tally {
         events: 9,
         segments: 1,
@@ -226,4 +242,11 @@ fn a_spent_area(rt: HostRuntime) -> Result<(), Fail> {
     };
     assert!(rt; world.tally() == wanted);
     Ok(())
+}
+
+/// The first write counts the last failure that can be counted. Then the area is spent: the next page-out
+/// goes to it and fails without a call of its pager.
+#[test]
+fn a_spent_area(rt: HostRuntime) -> Result<(), Fail> {
+    spends(&rt, rt.alloc(), &mut over_almost_spent(rt.alloc())?)
 }

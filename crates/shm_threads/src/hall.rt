@@ -66,6 +66,19 @@ impl<P: Pager> Shared<P> {
     }
 }
 
+// A seat for each process.
+fn seats(alloc: Global, processes: &[Process]) -> Result<Vec<Seat>, HostMemory> {
+    let mut seats = Vec::with_capacity(alloc, processes.len())?;
+    for process in processes {
+        seats.push(Seat {
+            pid: process.pid,
+            is_born: process.born.is_some(),
+            has_ended: false,
+        })?;
+    }
+    Ok(seats)
+}
+
 fn note_birth(seats: &mut Vec<Seat>, pid: u32) {
     for seat in seats.iter_mut() {
         if seat.pid == pid {
@@ -95,14 +108,7 @@ impl<P: Pager> Hall<P> {
         world: World<P>,
         processes: &[Process],
     ) -> Result<Hall<P>, HostMemory> {
-        let mut seats = Vec::with_capacity(alloc, processes.len())?;
-        for process in processes {
-            seats.push(Seat {
-                pid: process.pid,
-                is_born: process.born.is_some(),
-                has_ended: false,
-            })?;
-        }
+        let seats = seats(alloc, processes)?;
         Ok(Hall {
             shared: Mutex::new(Shared { world, seats }),
             changed: Condvar::new(),

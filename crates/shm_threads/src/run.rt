@@ -1,5 +1,5 @@
 //! A run with threads: start, joins, comparison.
-ghost use Rattle.std.specs.Prelude.{◌≡◌, ◌+◌, ◌≤◌, IfOk, All, map, vec_len, vec_capacity};
+ghost use Rattle.std.specs.Prelude.{◌≡◌, ◌+◌, ◌≤◌, IfOk, OnOk, All, map, vec_len, vec_capacity};
 ghost use Rattle.shm_base.specs.History.{IsHistory};
 ghost use Rattle.shm_threads.specs.Transcripts.{HasRoom, IsTranscript, IsAdmitted, pid_in, pid_of};
 
@@ -61,10 +61,23 @@ pub(crate) fn run_with<R: Threads + Wait + Sync, G: Gate, P: Pager + Send>(
     ensures transcripts { IfOk result (λ o. All (IsTranscript script.now o.world.events) o.transcripts.items) }
     ensures events { IfOk result (λ o. All (IsAdmitted script.now.processes) o.world.events) }
 {
-    let opening = copied(alloc, world.opening())?;
-    world.reserve(script.lines.len())?;
+    let opening = prepared(alloc, &mut world, script)?;
     let (world, run) = joined(rt, alloc, world, script, gate, refused_from)?;
     compared(&opening, world, script, run)
+}
+
+// The world's opening. There is room for an event of each line.
+fn prepared<P: Pager>(
+    alloc: Global,
+    world: &mut World<P>,
+    script: &Script,
+) -> Result<Opening, HostMemory>
+    ensures opening { IfOk result (λ opening. opening ≡ world.old.opening) }
+    ensures rest { world.new ≡ record world.old { room = world.new.room } }
+{
+    let opening = copied(alloc, world.opening())?;
+    world.reserve(script.lines.len())?;
+    Ok(opening)
 }
 
 // The world when all workers have ended, and what their joins gave.
@@ -106,15 +119,36 @@ fn compared<P: Pager>(
     ensures transcripts { IfOk result (λ o. All (IsTranscript script.now o.world.events) o.transcripts.items) }
     ensures events { IfOk result (λ o. All (IsAdmitted script.now.processes) o.world.events) }
 {
+    match verdict(opening, &world, script, &run) {
+        Ok(()) => Ok(Outcome {
+            world,
+            transcripts: run.transcripts,
+        }),
+        Err(error) => Err(error),
+    }
+}
+
+// Why a run has no outcome, if it has none.
+fn verdict<P: Pager>(
+    opening: &Opening,
+    world: &World<P>,
+    script: &Script,
+    run: &Run,
+) -> Result<(), RunError>
+    ensures opening { OnOk result (world.now.opening ≡ opening.now) }
+    ensures legal { OnOk result (IsHistory world.now.opening world.now.events world.now.machine) }
+    ensures processes { OnOk result (map pid_of run.now.transcripts.items ≡ map pid_in script.now.processes) }
+    ensures transcripts { OnOk result (All (IsTranscript script.now world.now.events) run.now.transcripts.items) }
+    ensures events { OnOk result (All (IsAdmitted script.now.processes) world.now.events) }
+{
     if run.is_refused {
         return Err(RunError::ThreadRefused);
     }
     if let Some(pid) = run.expired {
         return Err(RunError::GateExpired { pid });
     }
-    let transcripts = run.transcripts;
-    match mismatch(opening, &world, script, &transcripts) {
-        None => Ok(Outcome { world, transcripts }),
+    match mismatch(opening, world, script, &run.transcripts) {
+        None => Ok(()),
         Some(pid) => Err(RunError::HistoryMismatch { pid }),
     }
 }

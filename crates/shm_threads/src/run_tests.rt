@@ -1,9 +1,10 @@
 //! Whole runs: whatever the schedule, they end as stated.
 use crate::gate::Gate;
-use crate::outcome::{Outcome, RunError};
+use crate::outcome::RunError;
 use crate::run::run_threads;
-use crate::tests::{Below, OPEN, TURNS, calls, script, world};
+use crate::tests::{Below, OPEN, Seen, TURNS, look_at, run_behind, script, seen_behind, world};
 use shm_base::{AccessLen, Call, Chunk, Reply, Tally};
+use shm_history::World;
 use shm_pager::RamPager;
 use shm_text::{FlushLine, Line};
 use std::alloc::Global;
@@ -22,17 +23,6 @@ fn repeated(alloc: Global, head: &[u8], lines: &[u8], times: u32) -> Result<Vec<
     Ok(text)
 }
 
-fn run<R: Threads + Wait + Sync>(
-    rt: &R,
-    alloc: Global,
-    text: &[u8],
-) -> Result<Outcome<RamPager>, Fail> {
-    let script = script(alloc, text)?;
-    let world = world(alloc, &script)?;
-    let run = run_threads(rt, alloc, world, &script, &Below(OPEN));
-    Ok(run.ok().ok_or("a run")?)
-}
-
 /// Process 1 lets three children share its page, and then wants frames for another segment.
 const COUNTER: &[u8] =
     b"limits 65536 16 64 2 0\nprocess 1 100 100\nchild 2\nchild 3\nchild 4\n1 shmget private 4096 600\n1 shmat 0 null -\n1 fork 2\n1 fork 3\n1 fork 4\n1 t = shmget private 12288 600\n1 b = shmat t null -\n1 store b 01\n1 store b+4096 02\n1 store b+8192 03\n1 rmid t\n1 shmdt b\n";
@@ -40,21 +30,27 @@ const COUNTER: &[u8] =
 const COUNTS: &[u8] =
     b"1 xadd 0x40000000 1\n2 xadd 0x40000000 1\n3 xadd 0x40000000 1\n4 xadd 0x40000000 1\n1 xadd 0x40000000 1\n2 xadd 0x40000000 1\n3 xadd 0x40000000 1\n4 xadd 0x40000000 1\n0 flush 2\n";
 
-#[test]
-fn four_count_together(rt: HostRuntime) -> Result<(), Fail> {
-    let alloc = rt.alloc();
-    let text = repeated(alloc, COUNTER, COUNTS, 50)?;
+// Whether the counter of process 1 has counted all 400.
+fn has_counted(world: &mut World<RamPager>) -> Result<bool, Fail> {
     let len = AccessLen::new(8).ok_or("1 to 64")?;
     let addr = 0x40000000;
     let sum = Chunk::new(&[0x90, 1, 0, 0, 0, 0, 0, 0]).ok_or("8 bytes")?;
-    let mut outcome = run(&rt, alloc, &text)?;
-    assert_eq!(rt; outcome.world.history().len(), 412);
-    assert_eq!(rt; calls(&outcome, 0), Some(112));
-    for place in 1..4 {
-        assert_eq!(rt; calls(&outcome, place), Some(100));
-    }
-    let loaded = outcome.world.call(1, &Call::Load { addr, len });
-    assert!(rt; matches!(&loaded, Ok(Reply::Bytes(bytes)) if *bytes == sum));
+    let loaded = world.call(1, &Call::Load { addr, len });
+    Ok(matches!(&loaded, Ok(Reply::Bytes(bytes)) if *bytes == sum))
+}
+
+fn counted<R: Threads + Wait + Sync>(rt: &R, alloc: Global) -> Result<(Seen, bool), Fail> {
+    let text = repeated(alloc, COUNTER, COUNTS, 50)?;
+    let mut outcome = run_behind(rt, alloc, &text, &Below(OPEN))?;
+    Ok((look_at(alloc, &outcome)?, has_counted(&mut outcome.world)?))
+}
+
+#[test]
+fn four_count_together(rt: HostRuntime) -> Result<(), Fail> {
+    let (seen, has_counted) = counted(&rt, rt.alloc())?;
+    assert_eq!(rt; seen.events, 412);
+    assert!(rt; seen.calls.as_slice() == [112, 100, 100, 100].as_slice());
+    assert!(rt; has_counted);
     Ok(())
 }
 
@@ -66,11 +62,9 @@ const TREE: &[u8] =
 fn children_of_children(rt: HostRuntime) -> Result<(), Fail> {
     let alloc = rt.alloc();
     let text = repeated(alloc, TREE, b"4 exec\n3 exec\n2 exec\n1 exec\n", 10)?;
-    let outcome = run(&rt, alloc, &text)?;
-    assert_eq!(rt; outcome.world.history().len(), 43);
-    for (place, wanted) in [12, 11, 10, 10, 0].iter().enumerate() {
-        assert_eq!(rt; calls(&outcome, place), Some(*wanted));
-    }
+    let seen = seen_behind(&rt, alloc, &text, &Below(OPEN))?;
+    assert_eq!(rt; seen.events, 43);
+    assert!(rt; seen.calls.as_slice() == [12, 11, 10, 10, 0].as_slice());
     Ok(())
 }
 
@@ -86,9 +80,9 @@ fn as_many_processes_as_there_may_be(rt: HostRuntime) -> Result<(), Fail> {
         let line = format!(in alloc; "{pid} shmget 5 4096 600,creat\n")?;
         text.extend_from_slice(line.as_bytes())?;
     }
-    let outcome = run(&rt, alloc, &text)?;
-    assert_eq!(rt; outcome.world.history().len(), 64);
-    assert_eq!(rt; outcome.world.indexes(), 1);
+    let seen = seen_behind(&rt, alloc, &text, &Below(OPEN))?;
+    assert_eq!(rt; seen.events, 64);
+    assert_eq!(rt; seen.indexes, 1);
     Ok(())
 }
 
@@ -97,10 +91,9 @@ fn as_many_lines_as_there_may_be(rt: HostRuntime) -> Result<(), Fail> {
     let alloc = rt.alloc();
     let head = b"limits 65536 16 64 4 1\nprocess 1 100 100\nprocess 2 100 100\n";
     let text = repeated(alloc, head, b"1 exec\n2 exec\n", 50_000)?;
-    let outcome = run(&rt, alloc, &text)?;
-    assert_eq!(rt; outcome.world.history().len(), 100_000);
-    assert_eq!(rt; calls(&outcome, 0), Some(50_000));
-    assert_eq!(rt; calls(&outcome, 1), Some(50_000));
+    let seen = seen_behind(&rt, alloc, &text, &Below(OPEN))?;
+    assert_eq!(rt; seen.events, 100_000);
+    assert!(rt; seen.calls.as_slice() == [50_000, 50_000].as_slice());
     Ok(())
 }
 
@@ -177,11 +170,8 @@ const LATE: &[u8] =
 
 #[test]
 fn a_round_behind_the_last_call(rt: HostRuntime) -> Result<(), Fail> {
-    let alloc = rt.alloc();
-    let script = script(alloc, LATE)?;
-    let world = world(alloc, &script)?;
     let made = AtomicU64::new(0);
-    let run = run_threads(&rt, alloc, world, &script, &BehindFour { made });
+    let outcome = run_behind(&rt, rt.alloc(), LATE, &BehindFour { made })?;
     let wanted = Tally {
         events: 4,
         segments: 1,
@@ -196,6 +186,6 @@ fn a_round_behind_the_last_call(rt: HostRuntime) -> Result<(), Fail> {
         outs: 2,
         failures: 0,
     };
-    assert!(rt; run.ok().ok_or("a run")?.world.tally() == wanted);
+    assert!(rt; outcome.world.tally() == wanted);
     Ok(())
 }

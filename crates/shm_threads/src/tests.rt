@@ -10,9 +10,11 @@ use shm_history::{Opening, System, World};
 use shm_pager::RamPager;
 use shm_text::{Script, read_script};
 use std::alloc::Global;
+use std::sync::Wait;
 use std::sync::atomic::{AtomicU64, Ordering};
 use std::test::Fail;
 use std::thread;
+use std::thread::Threads;
 
 pub(crate) const TURNS: u64 = 1_000_000;
 
@@ -76,26 +78,60 @@ pub(crate) fn world(alloc: Global, script: &Script) -> Result<World<RamPager>, F
     Ok(World::new(alloc, system))
 }
 
-// How many calls the transcript at this place has.
-pub(crate) fn calls(outcome: &Outcome<RamPager>, place: usize) -> Option<usize> {
-    Some(outcome.transcripts.get(place)?.entries.len())
+/// What a test looks at behind a run.
+#[derive(Drop)]
+pub(crate) struct Seen {
+    pub(crate) events: usize,
+    /// How many calls each transcript has.
+    pub(crate) calls: Vec<usize>,
+    pub(crate) indexes: u32,
+}
+
+pub(crate) fn look_at(alloc: Global, outcome: &Outcome<RamPager>) -> Result<Seen, Fail> {
+    let mut calls = Vec::new(alloc);
+    for transcript in &outcome.transcripts {
+        calls.push(transcript.entries.len())?;
+    }
+    let (events, indexes) = (outcome.world.history().len(), outcome.world.indexes());
+    Ok(Seen {
+        events,
+        calls,
+        indexes,
+    })
+}
+
+/// Runs a script behind this gate.
+pub(crate) fn run_behind<R: Threads + Wait + Sync, G: Gate>(
+    rt: &R,
+    alloc: Global,
+    text: &[u8],
+    gate: &G,
+) -> Result<Outcome<RamPager>, Fail> {
+    let script = script(alloc, text)?;
+    let world = world(alloc, &script)?;
+    let run = run_threads(rt, alloc, world, &script, gate);
+    Ok(run.ok().ok_or("a run")?)
+}
+
+/// What is seen behind such a run.
+pub(crate) fn seen_behind<R: Threads + Wait + Sync, G: Gate>(
+    rt: &R,
+    alloc: Global,
+    text: &[u8],
+    gate: &G,
+) -> Result<Seen, Fail> {
+    look_at(alloc, &run_behind(rt, alloc, text, gate)?)
 }
 
 #[test]
 fn two_run_at_once(rt: HostRuntime) -> Result<(), Fail> {
-    let alloc = rt.alloc();
-    let script = script(alloc, TWO)?;
-    let world = world(alloc, &script)?;
     let gate = Meet {
         first: AtomicU64::new(0),
         second: AtomicU64::new(0),
     };
-    let outcome = run_threads(&rt, alloc, world, &script, &gate)
-        .ok()
-        .ok_or("a run")?;
-    assert_eq!(rt; outcome.world.history().len(), 4);
-    assert_eq!(rt; calls(&outcome, 0), Some(2));
-    assert_eq!(rt; calls(&outcome, 1), Some(2));
+    let seen = seen_behind(&rt, rt.alloc(), TWO, &gate)?;
+    assert_eq!(rt; seen.events, 4);
+    assert!(rt; seen.calls.as_slice() == [2, 2].as_slice());
     Ok(())
 }
 
@@ -128,15 +164,9 @@ fn threads_are_refused(rt: HostRuntime) -> Result<(), Fail> {
 
 #[test]
 fn a_child_is_never_born(rt: HostRuntime) -> Result<(), Fail> {
-    let alloc = rt.alloc();
-    let script = script(alloc, CHILD)?;
-    let world = world(alloc, &script)?;
-    let outcome = run_threads(&rt, alloc, world, &script, &Below(OPEN))
-        .ok()
-        .ok_or("a run")?;
-    assert_eq!(rt; outcome.world.history().len(), 1);
-    assert_eq!(rt; calls(&outcome, 0), Some(1));
-    assert_eq!(rt; calls(&outcome, 1), Some(0));
+    let seen = seen_behind(&rt, rt.alloc(), CHILD, &Below(OPEN))?;
+    assert_eq!(rt; seen.events, 1);
+    assert!(rt; seen.calls.as_slice() == [1, 0].as_slice());
     Ok(())
 }
 
@@ -383,20 +413,23 @@ fn a_marked_call_is_no_event(rt: HostRuntime) -> Result<(), Fail> {
     Ok(())
 }
 
+fn opening_of(alloc: Global, world: &World<RamPager>) -> Result<Opening, Fail> {
+    Ok(copied(alloc, world.opening())?)
+}
+
 // The opening of a script's world.
 fn opening(alloc: Global, text: &[u8]) -> Result<Opening, Fail> {
     let script = script(alloc, text)?;
-    let world = world(alloc, &script)?;
-    Ok(copied(alloc, world.opening())?)
+    opening_of(alloc, &world(alloc, &script)?)
 }
 
 // What is found of a run of no calls, where this opening was handed in.
 fn compared(alloc: Global, opening: &Opening) -> Result<Option<u32>, Fail> {
-    let script = script(alloc, TWO)?;
-    let world = world(alloc, &script)?;
     let first = transcript(alloc, 1, &[])?;
     let second = transcript(alloc, 2, &[])?;
     let transcripts = vec![in alloc; first, second]?;
+    let script = script(alloc, TWO)?;
+    let world = world(alloc, &script)?;
     Ok(mismatch(opening, &world, &script, &transcripts))
 }
 

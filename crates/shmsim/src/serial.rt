@@ -211,12 +211,25 @@ fn output<P: Pager>(alloc: Global, script: &Script, pagers: Vec<P>) -> Result<Ve
         Ok(world) => world,
         Err(error) => return Err(error),
     };
-    let Ok(()) = run_lines(alloc, &mut world, script) else {
-        return Err(StartError::HostMemory);
-    };
+    let printed = printed(alloc, &mut world, script);
     let _legal = world.history();
-    match world_text(alloc, &world) {
+    match printed {
         Ok(text) => Ok(text),
-        Err(_) => Err(StartError::HostMemory),
+        Err(HostMemory) => Err(StartError::HostMemory),
     }
+}
+
+// Runs a script's lines on its world, and gives what is printed of it.
+fn printed<P: Pager>(
+    alloc: Global,
+    world: &mut World<P>,
+    script: &Script,
+) -> Result<Vec<u8>, HostMemory>
+    requires { world.old.events ≡ [] }
+    ensures follows { OnOk result (Follows (map fresh_holder script.now.processes) script.now.lines world.new.events) }
+    ensures opening { world.new.opening ≡ world.old.opening }
+    ensures prints { IfOk result (λ text. Prints world.new text.items) }
+{
+    run_lines(alloc, world, script)?;
+    Ok(world_text(alloc, world)?)
 }

@@ -118,6 +118,15 @@ fn is_answered_alike(plain: &mut World<RamPager>, event: &Event) -> Result<bool,
     Ok(reply == event.reply)
 }
 
+fn replay(plain: &mut World<RamPager>, history: &[Event]) -> Result<(), Fail> {
+    for event in history {
+        if !is_answered_alike(plain, event)? {
+            return Err("another reply".into());
+        }
+    }
+    Ok(())
+}
+
 // The calls of the history again, on areas that never fail.
 fn replayed<P: Pager>(
     alloc: Global,
@@ -125,11 +134,7 @@ fn replayed<P: Pager>(
     world: &World<P>,
 ) -> Result<World<RamPager>, Fail> {
     let mut plain = opened(alloc, script, sound(alloc)?)?;
-    for event in world.history() {
-        if !is_answered_alike(&mut plain, event)? {
-            return Err("another reply".into());
-        }
-    }
+    replay(&mut plain, world.history())?;
     Ok(plain)
 }
 
@@ -225,9 +230,9 @@ fn counted<P: Pager>(world: &mut World<P>, plain: &mut World<RamPager>) -> Resul
 
 // The failures of a world whose calls have the same replies and leave the same bytes on areas that never
 // fail.
-fn compared<P: Pager>(alloc: Global, script: &Script, mut world: World<P>) -> Result<u64, Fail> {
-    let mut plain = replayed(alloc, script, &world)?;
-    counted(&mut world, &mut plain)
+fn compared<P: Pager>(alloc: Global, script: &Script, world: &mut World<P>) -> Result<u64, Fail> {
+    let mut plain = replayed(alloc, script, world)?;
+    counted(world, &mut plain)
 }
 
 // Runs the script over the areas, compares it with its calls on areas that never fail, and says how many
@@ -239,8 +244,8 @@ fn failures<R: Threads + Wait + Sync, P: Pager + Send>(
     pagers: Vec<P>,
     threaded: bool,
 ) -> Result<u64, Fail> {
-    let world = ran(rt, alloc, script, pagers, threaded)?;
-    compared(alloc, script, world)
+    let mut world = ran(rt, alloc, script, pagers, threaded)?;
+    compared(alloc, script, &mut world)
 }
 
 // Which calls fail: the reads or the writes of the first area, or of the second.
