@@ -7,6 +7,7 @@ use shm_fault::{Move, PageStore};
 use shm_pager::RamPager;
 use shm_slots::Swap;
 use std::alloc::Global;
+use std::process::Abort;
 
 /// Process 1 of user 100, and child 2.
 fn family(alloc: Global) -> Result<Spaces, HostMemory> {
@@ -165,13 +166,10 @@ fn the_lowest_piece_names_the_segment(rt: HostRuntime) -> Result<(), HostMemory>
     Ok(())
 }
 
-#[test]
-fn a_child_has_its_parents_pieces(rt: HostRuntime) -> Result<(), HostMemory> {
-    let store = bare_store(rt.alloc())?;
-    let mut spaces = family(rt.alloc())?;
-    assert!(rt; attach(&mut spaces, &store, 1, 0, 1, 0, AtFlags::empty()) == Some(Ok(0x40000000)));
+// Process 1 bears its child, and each goes.
+fn bears_and_goes(rt: &impl Abort, spaces: &mut Spaces) {
     assert!(rt; !spaces.is_live(2));
-    assert!(rt; fork(&mut spaces, 1, 2) == Some(Ok(())));
+    assert!(rt; fork(spaces, 1, 2) == Some(Ok(())));
     assert!(rt; spaces.count(0) == 2);
     let child = spaces.caller(2);
     assert!(rt; child.is_some_and(|c| c.cred.uid == 100));
@@ -180,16 +178,24 @@ fn a_child_has_its_parents_pieces(rt: HostRuntime) -> Result<(), HostMemory> {
         assert!(rt; lost.as_slice() == [0].as_slice());
     }
     assert!(rt; spaces.count(0) == 1);
-    assert!(rt; fork(&mut spaces, 1, 2) == Some(Err(Errno::Eagain)));
-    assert!(rt; fork(&mut spaces, 1, 1) == Some(Err(Errno::Eagain)));
-    assert!(rt; fork(&mut spaces, 1, 3) == Some(Err(Errno::Eagain)));
+    assert!(rt; fork(spaces, 1, 2) == Some(Err(Errno::Eagain)));
+    assert!(rt; fork(spaces, 1, 1) == Some(Err(Errno::Eagain)));
+    assert!(rt; fork(spaces, 1, 3) == Some(Err(Errno::Eagain)));
     if let Some(parent) = spaces.caller(1) {
         let lost = spaces.exit(&parent);
         assert!(rt; lost.as_slice() == [0].as_slice());
     }
     assert!(rt; spaces.count(0) == 0);
     assert!(rt; !spaces.is_live(1));
-    assert!(rt; detach(&mut spaces, 1, 0x40000000).is_none());
+    assert!(rt; detach(spaces, 1, 0x40000000).is_none());
+}
+
+#[test]
+fn a_child_has_its_parents_pieces(rt: HostRuntime) -> Result<(), HostMemory> {
+    let store = bare_store(rt.alloc())?;
+    let mut spaces = family(rt.alloc())?;
+    assert!(rt; attach(&mut spaces, &store, 1, 0, 1, 0, AtFlags::empty()) == Some(Ok(0x40000000)));
+    bears_and_goes(&rt, &mut spaces);
     Ok(())
 }
 
