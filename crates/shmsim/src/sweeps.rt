@@ -118,6 +118,7 @@ fn is_answered_alike(plain: &mut World<RamPager>, event: &Event) -> Result<bool,
     Ok(reply == event.reply)
 }
 
+// Makes the calls of a history on a world over areas that never fail.
 fn replay(plain: &mut World<RamPager>, history: &[Event]) -> Result<(), Fail> {
     for event in history {
         if !is_answered_alike(plain, event)? {
