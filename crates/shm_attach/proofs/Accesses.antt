@@ -8,7 +8,8 @@ use Rattle.shm_base.specs.State.{Piece}
 use Rattle.shm_base.specs.Access.{Place, place, places, place_by, joined, covers, all_writable, only_writable, writable_places}
 use Rattle.shm_areas.specs.Arranged.{covering}
 use Rattle.shm_areas.proofs.Placing.{place_covering}
-use Rattle.shm_attach.specs.Spans.{run, unmarked, wanted_in}
+use Rattle.shm_base.specs.Spans.{run}
+use Rattle.shm_attach.specs.Spans.{unmarked, wanted_in}
 
 -- TWO PARTS OF AN ACCESS
 

@@ -5,16 +5,6 @@ use Rattle.shm_base.specs.State.{Piece, Runner}
 use Rattle.shm_base.specs.Access.{Place, places, writable_places}
 use Rattle.shm_base.specs.Step.{Caller, caller_from}
 
--- the places from byte `at` of a segment on
-abbrev pub run : ℕ → ℕ → ℕ → Bool → List Place
-run seg at zero w = []
-run seg at (suc n) w = record { seg = seg; at = at; writable = w } ∷ run seg (at + 1) n w
-
--- the places that spans name, in their order. All are marked alike
-abbrev pub span_places : Bool → List Span → List Place
-span_places w [] = []
-span_places w (p ∷ ps) = run p.seg p.at p.len w ++ span_places w ps
-
 -- a place without its mark
 abbrev pub unmarked : Place → Place
 unmarked p = record p { writable = false }
@@ -40,14 +30,6 @@ pieces_by pid rs = pieces_of_caller (caller_from 0 pid rs)
 abbrev pub wanted : Bool → ℕ → ℕ → ℕ → List Runner → Option (List Place)
 wanted write pid addr len rs = wanted_in write (pieces_by pid rs) addr len
 
--- the page of its segment in which a span lies
-abbrev pub page_of : Span → ℕ
-page_of s = s.at / 4096
-
 -- a test passes at every page of every piece
 abbrev pub PassPages : (ℕ → ℕ → Bool) → List Piece → Type 0
 PassPages test ps = All (λ (p : Piece). (j : ℕ) → j < p.pages → test p.seg (p.first_page + j) ≡ true) ps
-
--- a span is not empty and stays within a page
-abbrev pub InPage : Span → Type 0
-InPage s = (0 < s.len) × (s.at + s.len ≤ 4096 * page_of s + 4096)

@@ -9,7 +9,8 @@ ghost use Rattle.shm_attach.specs.Views.{life_view};
 ghost use Rattle.shm_fault.specs.Store.{StoreView, frame_of};
 ghost use Rattle.shm_fault.specs.Steps.{Moves};
 ghost use Rattle.shm_attach.specs.Spaces.{IsCaller, Translation, AreTrue};
-ghost use Rattle.shm_attach.specs.Spans.{span_places, wanted, pieces_by, PassPages, InPage, page_of};
+ghost use Rattle.shm_base.specs.Spans.{span_places, InPage, page_of};
+ghost use Rattle.shm_attach.specs.Spans.{wanted, pieces_by, PassPages};
 
 use crate::changes::space_at;
 use crate::counts::Counts;

@@ -3,7 +3,8 @@ ghost use Rattle.std.specs.Prelude.{◌≡◌, ◌+◌, ◌-◌, ◌*◌, ◌/�
 ghost use Rattle.shm_base.specs.declared.paging.Span.{Span as Stretch};
 ghost use Rattle.shm_areas.specs.Arranged.{bare_all};
 ghost use Rattle.shm_attach.specs.Tables.{Shape, shaped, has, AllTrue};
-ghost use Rattle.shm_attach.specs.Spans.{run, span_places, wanted_in, PassPages, InPage, page_of};
+ghost use Rattle.shm_base.specs.Spans.{run, span_places, InPage, page_of};
+ghost use Rattle.shm_attach.specs.Spans.{wanted_in, PassPages};
 
 use crate::tables::Tables;
 use shm_areas::Space;

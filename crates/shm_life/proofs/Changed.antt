@@ -10,7 +10,8 @@ use Rattle.shm_base.specs.Step.{Caller as FlatCaller, unborn_from}
 use Rattle.shm_base.specs.declared.paging.Span.{Span}
 use Rattle.shm_attach.specs.declared.process.Caller.{Caller}
 use Rattle.shm_attach.specs.Spaces.{IsCaller, seen, pieces_at}
-use Rattle.shm_attach.specs.Spans.{PassPages, InPage, page_of, pieces_by}
+use Rattle.shm_base.specs.Spans.{InPage, page_of}
+use Rattle.shm_attach.specs.Spans.{PassPages, pieces_by}
 use Rattle.shm_attach.specs.Fork.{forked_at, forked_by}
 use Rattle.shm_attach.proofs.FlatSteps.{pieces_by-caller}
 use Rattle.shm_segments.specs.declared.head.Found.{Found}

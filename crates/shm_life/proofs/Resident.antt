@@ -4,7 +4,7 @@ use Rattle.std.proofs.lemmas.List.Elements.{All-nil, All-append}
 use Rattle.std.specs.Prelude.{All, is_some}
 use Rattle.shm_base.specs.Access.{Place}
 use Rattle.shm_base.specs.declared.paging.Span.{Span}
-use Rattle.shm_attach.specs.Spans.{run, span_places, InPage}
+use Rattle.shm_base.specs.Spans.{run, span_places, InPage}
 use Rattle.shm_fault.specs.Store.{StoreView, frame_of, page_of, IsResident}
 use Rattle.shm_life.proofs.Pieces.{all-cons, all-head, all-tail}
 

@@ -7,7 +7,7 @@ use Rattle.std.proofs.lemmas.Bool.Decides.{eqb_tells}
 use Rattle.std.specs.Prelude.{slice_set, slice_index, sum_by, All}
 use Rattle.shm_base.specs.Access.{Place}
 use Rattle.shm_base.specs.declared.paging.Span.{Span}
-use Rattle.shm_attach.specs.Spans.{run, span_places}
+use Rattle.shm_base.specs.Spans.{run, span_places}
 use Rattle.shm_plain.specs.Held.{Held, bytes_of, is_held, paste, pasted, written, FitsPage, span_bytes, read_from}
 use Rattle.shm_plain.proofs.Pasted.{bytes_of-pasted_same, bytes_of-pasted_other, fits-pasted}
 

@@ -10,7 +10,7 @@ use Rattle.shm_ids.specs.declared.table.Entry.{Entry}
 use Rattle.shm_ids.specs.Table.{identifier, unused, entry_at}
 use Rattle.shm_ids.specs.Flat.{flat_entry}
 use Rattle.shm_ids.proofs.Flat.{at-table}
-use Rattle.shm_attach.specs.Spans.{run, span_places}
+use Rattle.shm_base.specs.Spans.{run, span_places}
 use Rattle.shm_plain.specs.Held.{Held, find_held, bytes_of, bytes_in, pasted, written, FitsPage, read_from}
 use Rattle.shm_plain.proofs.Kept.{find_held-id, find-map}
 use Rattle.shm_plain.proofs.Pasted.{length-paste, pasted-keeps}

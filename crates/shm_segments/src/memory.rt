@@ -3,7 +3,7 @@ ghost use Rattle.std.specs.Prelude.{◌≡◌, ◌≤◌, ◌+◌, ◌-◌, ◌^
 ghost use Rattle.shm_base.specs.declared.paging.Span.{Span as Stretch};
 ghost use Rattle.shm_base.specs.Access.{loaded, stored};
 ghost use Rattle.shm_base.specs.Segments.{reserved};
-ghost use Rattle.shm_attach.specs.Spans.{span_places, page_of};
+ghost use Rattle.shm_base.specs.Spans.{span_places, page_of};
 ghost use Rattle.shm_slots.specs.View.{slots, sizes, size_of, area_at};
 ghost use Rattle.shm_slots.specs.Cause.{had_cause, total};
 ghost use Rattle.shm_fault.specs.Store.{frame_of, resident, dirty, used, IsResident, IsReferenced};

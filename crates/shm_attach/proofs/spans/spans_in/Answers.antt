@@ -1,6 +1,6 @@
 use Rattle.std.proofs.Common.{◌≡◌, ◌-◌, ◌%◌, arith, false, append-nil}
 use Rattle.shm_areas.specs.Arranged.{bare_all}
-use Rattle.shm_attach.specs.Spans.{run}
+use Rattle.shm_base.specs.Spans.{run}
 use Rattle.shm_attach.proofs.Accesses.{wanted_in-first, wanted_in-second, wanted_in-both}
 use Rattle.shm_attach.proofs.spans.spans_in.Goals as goal
 

@@ -6,7 +6,8 @@ use Rattle.shm_areas.specs.Arranged.{bare_all}
 use Rattle.shm_base.specs.Step.{caller_from}
 use Rattle.shm_attach.specs.Views.{runners_view}
 use Rattle.shm_attach.specs.Spaces.{SpacesView, Translation, AreTrue, pieces_at, IsCaller, seen}
-use Rattle.shm_attach.specs.Spans.{span_places, pieces_by, pieces_of_caller, wanted_in, PassPages, page_of}
+use Rattle.shm_base.specs.Spans.{span_places, page_of}
+use Rattle.shm_attach.specs.Spans.{pieces_by, pieces_of_caller, wanted_in, PassPages}
 use Rattle.shm_attach.proofs.Accesses.{wanted_in-none}
 use Rattle.shm_attach.proofs.Callers.{caller_within}
 use Rattle.std.proofs.lemmas.Result.{IfOk-weaker}

@@ -4,7 +4,8 @@ use Rattle.shm_base.specs.Step.{gives}
 use Rattle.shm_base.specs.State.{Machine}
 use Rattle.shm_base.specs.declared.call.Reply.TheVariants.{Bytes}
 use Rattle.shm_attach.specs.Spaces.{IsCaller, seen, pieces_at}
-use Rattle.shm_attach.specs.Spans.{wanted, wanted_in, pieces_by, span_places}
+use Rattle.shm_base.specs.Spans.{span_places}
+use Rattle.shm_attach.specs.Spans.{wanted, wanted_in, pieces_by}
 use Rattle.shm_attach.proofs.FlatSteps.{pieces_by-caller, load-wanted}
 use Rattle.shm_slots.specs.View.{sizes}
 use Rattle.shm_life.proofs.Changed.{spans-there}

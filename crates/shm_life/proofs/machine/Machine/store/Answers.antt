@@ -2,7 +2,8 @@ use Rattle.std.proofs.Common.{◌≡◌, true, false, length, Some, refl, sym, �
 use Rattle.shm_base.specs.Access.{stored}
 use Rattle.shm_base.specs.State.{Machine}
 use Rattle.shm_attach.specs.Spaces.{IsCaller, seen, pieces_at}
-use Rattle.shm_attach.specs.Spans.{wanted, wanted_in, pieces_by, span_places}
+use Rattle.shm_base.specs.Spans.{span_places}
+use Rattle.shm_attach.specs.Spans.{wanted, wanted_in, pieces_by}
 use Rattle.shm_attach.proofs.FlatSteps.{pieces_by-caller, store-wanted}
 use Rattle.shm_slots.specs.View.{sizes}
 use Rattle.shm_segments.proofs.Same.{stored-same}

@@ -2,7 +2,8 @@ use Rattle.std.proofs.Common.{◌≡◌, true, false, Some, sym, true≢false, �
 use Rattle.std.specs.Prelude.{All}
 use Rattle.shm_base.specs.Access.{stored}
 use Rattle.shm_attach.specs.Spaces.{AreTrue, IsCaller}
-use Rattle.shm_attach.specs.Spans.{wanted, span_places}
+use Rattle.shm_base.specs.Spans.{span_places}
+use Rattle.shm_attach.specs.Spans.{wanted}
 use Rattle.shm_fault.specs.Store.{IsResident, IsReferenced}
 use Rattle.shm_segments.proofs.Same.{stored-same}
 use Rattle.shm_life.specs.Tied.{PiecesFit}

@@ -1,6 +1,6 @@
 use Rattle.std.proofs.Common.{false, sym, ap, ◌∙◌}
 use Rattle.shm_base.specs.Access.{loaded}
-use Rattle.shm_attach.specs.Spans.{span_places}
+use Rattle.shm_base.specs.Spans.{span_places}
 use Rattle.shm_fault.specs.Store.{held}
 use Rattle.shm_fault.proofs.Failures.{OnOk-map}
 use Rattle.shm_segments.specs.View.{SegmentsView}
