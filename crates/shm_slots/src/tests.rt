@@ -95,42 +95,68 @@ fn rams(alloc: Global, sizes: &[u32]) -> Result<Vec<RamPager>, AllocError> {
     Ok(pagers)
 }
 
+// What a swap is asked, and what it must answer.
+#[derive(Clone, Copy)]
+enum Wish {
+    Take(Option<Slot>),
+    TakeOutside(u32, Option<Slot>),
+    Give(Slot),
+}
+
+const FIRST: Slot = Slot { area: 0, slot: 0 };
+
+const SECOND: Slot = Slot { area: 0, slot: 1 };
+
+const OTHER: Slot = Slot { area: 1, slot: 0 };
+
+// Asks for the page of this number. A slot that is given has this owner then, one that is given back none.
+fn ask(rt: &impl Abort, swap: &mut Swap<RamPager>, number: u32, wish: Wish) {
+    let (taken, want) = match wish {
+        Wish::Take(want) => (swap.take_slot(page(number)), want),
+        Wish::TakeOutside(area, want) => (swap.take_outside(page(number), area), want),
+        Wish::Give(slot) => {
+            give(rt, swap, slot.area, slot.slot);
+            assert_eq!(rt; owner(rt, swap, slot.area, slot.slot), None, "ask {number}");
+            return;
+        }
+    };
+    assert_eq!(rt; taken, want, "ask {number}");
+    if let Some(slot) = taken {
+        let owner = owner(rt, swap, slot.area, slot.slot);
+        assert_eq!(rt; owner, Some(page(number)), "ask {number}");
+    }
+}
+
+// Asks in turn, and looks how many slots are used then.
+fn ask_all(rt: &impl Abort, swap: &mut Swap<RamPager>, wishes: &[(Wish, u64)]) {
+    let mut number = 0u32;
+    for &(wish, used) in wishes {
+        ask(rt, swap, number, wish);
+        assert_eq!(rt; swap.used(), used, "ask {number}");
+        number = number.wrapping_add(1);
+    }
+}
+
 #[test]
 fn the_least_free_slot_is_taken(rt: HostRuntime) -> Result<(), Fail> {
     let alloc = rt.alloc();
     let mut swap = swap_of(&rt, alloc, rams(alloc, &[2, 1])?)?;
     assert_eq!(rt; (swap.capacity(), swap.used()), (3, 0));
-    for (number, area, slot) in [(0, 0, 0), (1, 0, 1), (2, 1, 0)] {
-        assert_eq!(rt;
-            swap.take_slot(page(number)),
-            Some(Slot { area, slot }),
-            "page {number}"
-        );
-        assert_eq!(rt;
-            owner(&rt, &swap, area, slot),
-            Some(page(number)),
-            "page {number}"
-        );
-    }
-    assert_eq!(rt; swap.take_slot(page(3)), None);
-    assert_eq!(rt; (swap.capacity(), swap.used()), (3, 3));
-
-    give(&rt, &mut swap, 0, 1);
-    assert_eq!(rt; owner(&rt, &swap, 0, 1), None);
-    assert_eq!(rt; swap.used(), 2);
-    assert_eq!(rt; swap.take_outside(page(4), 0), None);
-    assert_eq!(rt;
-        swap.take_outside(page(4), 1),
-        Some(Slot { area: 0, slot: 1 })
-    );
-
-    give(&rt, &mut swap, 1, 0);
-    give(&rt, &mut swap, 0, 0);
-    assert_eq!(rt;
-        swap.take_outside(page(5), 0),
-        Some(Slot { area: 1, slot: 0 })
-    );
-    assert_eq!(rt; swap.take_slot(page(6)), Some(Slot { area: 0, slot: 0 }));
+    let wishes = [
+        (Wish::Take(Some(FIRST)), 1),
+        (Wish::Take(Some(SECOND)), 2),
+        (Wish::Take(Some(OTHER)), 3),
+        (Wish::Take(None), 3),
+        (Wish::Give(SECOND), 2),
+        (Wish::TakeOutside(0, None), 2),
+        (Wish::TakeOutside(1, Some(SECOND)), 3),
+        (Wish::Give(OTHER), 2),
+        (Wish::Give(FIRST), 1),
+        (Wish::TakeOutside(0, Some(OTHER)), 2),
+        (Wish::Take(Some(FIRST)), 3),
+    ];
+    ask_all(&rt, &mut swap, wishes.as_slice());
+    assert_eq!(rt; swap.capacity(), 3);
     Ok(())
 }
 

@@ -1,0 +1,73 @@
+"""The crates of the repository as crates.txt names them, and rooms in which one is worked on beside others.
+
+A run of rt in a crate keeps every other out of the crates below it. So what runs side by side gets a room each: a folder
+with the sources of a crate and of all below it, and with the libraries below it as they were built, by hard links where
+that is possible.
+"""
+import os
+import re
+import shutil
+
+TOP = os.path.dirname(os.path.dirname(os.path.realpath(__file__)))
+ROOMS = f"{TOP}/build"
+
+
+def graph():
+    """Returns each crate of crates.txt with the crates that it names, lowest first."""
+    named = {}
+    with open(f"{TOP}/crates.txt", encoding="utf-8") as file:
+        for line in file:
+            head, _, rest = line.partition("#")[0].partition(":")
+            if head.split():
+                named[head.split()[0]] = rest.split()
+    return {crate: [it for it in names if it in named] for crate, names in named.items()}
+
+
+def all_below(below, crate):
+    """Returns the crates on which a crate stands, by whatever way."""
+    found = set()
+    for it in below[crate]:
+        found |= {it} | all_below(below, it)
+    return found
+
+
+def lines(crate):
+    """Returns how much there is to prove, in lines."""
+    found = 0
+    for at, folders, files in os.walk(f"{TOP}/crates/{crate}"):
+        folders[:] = [it for it in folders if it != "out"]
+        for name in files:
+            if name.endswith((".rt", ".antt")):
+                with open(f"{at}/{name}", "rb") as file:
+                    found += file.read().count(b"\n")
+    return found
+
+
+def free_memory():
+    with open("/proc/meminfo", encoding="utf-8") as file:
+        return 1024 * int(re.search(r"MemAvailable:\s+(\d+)", file.read())[1])
+
+
+def link_or_copy(source, to):
+    try:
+        os.link(source, to)
+    except OSError:
+        shutil.copy2(source, to)
+
+
+def furnish(room, crate, below):
+    """Puts the sources of the crate and of those below it into the room, and the libraries that were built of those below."""
+    with open(f"{TOP}/crates.txt", encoding="utf-8") as file, open(f"{room}/crates.txt", "w", encoding="utf-8") as to:
+        to.writelines(line for line in file if re.match(r"\w*", line)[0] in {crate, *below})
+    for it in [crate, *below]:
+        for part in os.listdir(f"{TOP}/crates/{it}"):
+            source, to = f"{TOP}/crates/{it}/{part}", f"{room}/crates/{it}/{part}"
+            if part == "out":
+                if it == crate:
+                    continue
+                source, to = f"{source}/rlib", f"{to}/rlib"
+            if os.path.isfile(source):
+                os.makedirs(os.path.dirname(to), exist_ok=True)
+                link_or_copy(source, to)
+            elif os.path.isdir(source):
+                shutil.copytree(source, to, copy_function=link_or_copy)
