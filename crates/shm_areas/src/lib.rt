@@ -5,8 +5,6 @@ mod cut;
 mod piece;
 mod search;
 mod space;
-#[cfg(test)]
-mod tests;
 
 pub use piece::{Piece, Place};
 pub use space::Space;

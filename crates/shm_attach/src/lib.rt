@@ -13,8 +13,6 @@ mod spaces;
 mod spans;
 mod table;
 mod tables;
-#[cfg(test)]
-mod tests;
 
 pub use attach::Attached;
 pub use lost::Lost;

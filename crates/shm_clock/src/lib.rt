@@ -2,7 +2,5 @@
 #![tactic(auto)]
 
 mod clock;
-#[cfg(test)]
-mod tests;
 
 pub use clock::victim;

@@ -6,8 +6,6 @@
 
 mod frames;
 mod looks;
-#[cfg(test)]
-mod tests;
 
 pub use frames::Frames;
 pub use looks::Looks;

@@ -4,8 +4,6 @@
 
 mod rows;
 mod table;
-#[cfg(test)]
-mod tests;
 
 pub use rows::Rows;
 pub use table::{Entry, IdTable, InsertRefused, LookRefused, Row};

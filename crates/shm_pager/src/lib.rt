@@ -7,8 +7,6 @@ mod mirror;
 mod pager;
 mod ram;
 mod sparse;
-#[cfg(test)]
-mod tests;
 
 pub use fuse::FusePager;
 pub use mirror::{MirrorCause, MirrorPager, MirrorRefused};

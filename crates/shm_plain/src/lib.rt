@@ -6,7 +6,5 @@
 
 mod segment;
 mod store;
-#[cfg(test)]
-mod tests;
 
 pub use store::PlainStore;

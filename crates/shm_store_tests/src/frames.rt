@@ -1,5 +1,5 @@
-use super::{Frames, Looks};
 use shm_base::PageRef;
+use shm_frames::{Frames, Looks};
 use std::test::Fail;
 
 #[test]

@@ -1,7 +1,7 @@
 ghost use Rattle.std.specs.Prelude.{◌≡◌, ◌≤◌};
 
-use crate::Spaces;
 use bitflags::Flags;
+use shm_attach::Spaces;
 use shm_base::{AtFlags, Cred, Errno, FrameNo, HostMemory, PageRef, Process, Span};
 use shm_fault::{Move, PageStore};
 use shm_pager::RamPager;
@@ -112,21 +112,30 @@ fn a_process_has_at_most_256_pieces(rt: HostRuntime) -> Result<(), HostMemory> {
     Ok(())
 }
 
-/// A page in the middle of three pages is replaced, beside so many pieces of one page.
-fn crowded(alloc: Global, pieces: u64) -> Option<Result<u64, Errno>> {
-    let store = bare_store(alloc).ok()?;
-    let mut spaces = family(alloc).ok()?;
-    attach(&mut spaces, &store, 1, 0, 3, 0, AtFlags::empty())?.ok()?;
+// A page in the middle of three pages is replaced, beside so many pieces of one page.
+fn remap_in_a_crowd(
+    spaces: &mut Spaces,
+    store: &PageStore<RamPager>,
+    pieces: u64,
+) -> Option<Result<u64, Errno>> {
+    attach(spaces, store, 1, 0, 3, 0, AtFlags::empty())?.ok()?;
     for _ in 0..pieces {
-        attach(&mut spaces, &store, 1, 1, 1, 0, AtFlags::empty())?.ok()?;
+        attach(spaces, store, 1, 1, 1, 0, AtFlags::empty())?.ok()?;
     }
-    attach(&mut spaces, &store, 1, 1, 1, 0x40001000, AtFlags::REMAP)
+    attach(spaces, store, 1, 1, 1, 0x40001000, AtFlags::REMAP)
+}
+
+fn crowded(alloc: Global, pieces: u64) -> Result<Option<Result<u64, Errno>>, HostMemory> {
+    let store = bare_store(alloc)?;
+    let mut spaces = family(alloc)?;
+    Ok(remap_in_a_crowd(&mut spaces, &store, pieces))
 }
 
 #[test]
-fn a_cut_counts_its_parts(rt: HostRuntime) {
-    assert!(rt; crowded(rt.alloc(), 254) == Some(Err(Errno::Emfile)));
-    assert!(rt; crowded(rt.alloc(), 253) == Some(Ok(0x40001000)));
+fn a_cut_counts_its_parts(rt: HostRuntime) -> Result<(), HostMemory> {
+    assert!(rt; crowded(rt.alloc(), 254)? == Some(Err(Errno::Emfile)));
+    assert!(rt; crowded(rt.alloc(), 253)? == Some(Ok(0x40001000)));
+    Ok(())
 }
 
 #[test]
@@ -221,26 +230,40 @@ fn moves_reach_each_piece_and_each_process(rt: HostRuntime) -> Result<(), HostMe
     Ok(())
 }
 
-#[test]
-fn parts_keep_their_translations(rt: HostRuntime) -> Result<(), HostMemory> {
-    let store = bare_store(rt.alloc())?;
-    let mut spaces = family(rt.alloc())?;
-    assert!(rt; attach(&mut spaces, &store, 1, 0, 4, 0, AtFlags::empty()) == Some(Ok(0x40000000)));
+// Whether process 1 has these frames for the pages from 0x40000000 on.
+fn has_frames(spaces: &Spaces, want: &[Option<FrameNo>]) -> bool {
+    let mut addr = 0x40000000u64;
+    for &frame in want {
+        if frame_at(spaces, 1, addr) != frame {
+            return false;
+        }
+        addr = addr.wrapping_add(4096);
+    }
+    true
+}
+
+// Of four pages in frames 10 to 13, two are replaced, and one goes.
+fn cut_twice(rt: &impl Abort, spaces: &mut Spaces, store: &PageStore<RamPager>) {
+    assert!(rt; attach(spaces, store, 1, 0, 4, 0, AtFlags::empty()) == Some(Ok(0x40000000)));
     for page in 0..4 {
         spaces.note(&[Move::Came(PageRef { seg: 0, page }, 10 + page)]);
     }
     assert!(rt;
-        attach(&mut spaces, &store, 1, 1, 1, 0x40001000, AtFlags::REMAP) == Some(Ok(0x40001000))
+        attach(spaces, store, 1, 1, 1, 0x40001000, AtFlags::REMAP) == Some(Ok(0x40001000))
     );
-    assert!(rt; frame_at(&spaces, 1, 0x40000000) == Some(10));
-    assert!(rt; frame_at(&spaces, 1, 0x40001000).is_none());
-    assert!(rt; frame_at(&spaces, 1, 0x40002000) == Some(12));
+    assert!(rt; has_frames(spaces, [Some(10), None, Some(12), Some(13)].as_slice()));
     assert!(rt;
-        attach(&mut spaces, &store, 1, 1, 1, 0x40002000, AtFlags::REMAP) == Some(Ok(0x40002000))
+        attach(spaces, store, 1, 1, 1, 0x40002000, AtFlags::REMAP) == Some(Ok(0x40002000))
     );
-    assert!(rt; frame_at(&spaces, 1, 0x40003000) == Some(13));
+    assert!(rt; has_frames(spaces, [Some(10), None, None, Some(13)].as_slice()));
     spaces.note(&[Move::Gone(PageRef { seg: 0, page: 3 })]);
-    assert!(rt; frame_at(&spaces, 1, 0x40003000).is_none());
-    assert!(rt; frame_at(&spaces, 1, 0x40000000) == Some(10));
+    assert!(rt; has_frames(spaces, [Some(10), None, None, None].as_slice()));
+}
+
+#[test]
+fn parts_keep_their_translations(rt: HostRuntime) -> Result<(), HostMemory> {
+    let store = bare_store(rt.alloc())?;
+    let mut spaces = family(rt.alloc())?;
+    cut_twice(&rt, &mut spaces, &store);
     Ok(())
 }

@@ -1,9 +1,9 @@
 ghost use Rattle.std.specs.Prelude.{◌≡◌, ◌+◌, ◌<◌, ◌≤◌, ◌^◌, length, IfSome, true, ◌≢◌, []};
 ghost use Rattle.shm_clock.specs.Clock.{may_go, listed};
-ghost use Rattle.shm_clock.specs.Unlocked.{is_unlocked};
+ghost use Rattle.shm_store_tests.specs.Unlocked.{is_unlocked};
 
-use super::victim;
 use shm_base::{FrameNo, HostMemory, PageRef};
+use shm_clock::victim;
 use shm_frames::{Frames, Looks};
 use std::alloc::Global;
 use std::test::Fail;

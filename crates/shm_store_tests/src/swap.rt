@@ -2,9 +2,9 @@
 ghost use Rattle.std.specs.Prelude.{◌≡◌, length, IsTrue};
 ghost use Rattle.shm_slots.specs.View.{HasSlot, IsAreaSize};
 
-use crate::Swap;
 use shm_base::{HostMemory, PageRef, Slot};
 use shm_pager::{AnyPager, FusePager, Pager, PagerFault, RamPager};
+use shm_slots::Swap;
 use std::alloc::{AllocError, Global};
 use std::process::Abort;
 use std::sync::Arc;

@@ -1,6 +1,6 @@
 ghost use Rattle.std.specs.Prelude.{◌≡◌};
 
-use crate::{IdTable, InsertRefused, LookRefused};
+use shm_ids::{IdTable, InsertRefused, LookRefused};
 use std::alloc::{AllocError, Global};
 use std::fmt::Display;
 

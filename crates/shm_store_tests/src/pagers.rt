@@ -1,6 +1,6 @@
 //! Worked rows on the kinds of pagers, with their expected outcomes; and that each drop runs once, and
 //! wipes.
-use crate::{
+use shm_pager::{
     AnyPager, FusePager, MirrorCause, MirrorPager, Pager, PagerFault, RamPager, SparsePager,
     try_read, try_write, zeros,
 };

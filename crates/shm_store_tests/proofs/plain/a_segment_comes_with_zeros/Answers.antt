@@ -4,7 +4,7 @@ use Rattle.std.specs.Prelude.{All}
 use Rattle.shm_base.specs.declared.paging.Span.{Span}
 use Rattle.shm_plain.specs.Held.{FitsPage, is_held, with_zeros}
 use Rattle.shm_plain.proofs.Found.{fits-zeros}
-use Rattle.shm_plain.proofs.tests.a_segment_comes_with_zeros.Goals as goal
+use Rattle.shm_store_tests.proofs.plain.a_segment_comes_with_zeros.Goals as goal
 
 pub read-requires-clause-fit : goal.read-requires-clause-fit
 read-requires-clause-fit g c =

@@ -3,7 +3,7 @@ use Rattle.std.specs.Prelude.{All}
 use Rattle.shm_base.specs.declared.paging.Span.{Span}
 use Rattle.shm_plain.specs.Held.{FitsPage}
 use Rattle.shm_plain.proofs.Pasted.{fits-written}
-use Rattle.shm_plain.proofs.tests.bytes_stay_where_they_are_put.Goals as goal
+use Rattle.shm_store_tests.proofs.plain.bytes_stay_where_they_are_put.Goals as goal
 
 pub read-requires-2-clause-fit : goal.read-requires-2-clause-fit
 read-requires-2-clause-fit g c =

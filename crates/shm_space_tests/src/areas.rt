@@ -1,7 +1,7 @@
 ghost use Rattle.std.specs.Prelude.{◌≡◌, ◌+◌, ◌*◌, ◌%◌, ◌≤◌, true};
 
-use crate::{Piece, Place, Space};
 use bitflags::Flags;
+use shm_areas::{Piece, Place, Space};
 use shm_base::{AtFlags, Errno, HostMemory};
 
 fn piece(base: u64, seg: u32, first_page: u32, pages: u32) -> Piece
