@@ -110,6 +110,7 @@ pub(crate) fn id_of(index: usize, sequence: u32) -> ShmId
 fn room_at<T>(entries: &mut Vec<Entry<T>>, index: usize) -> Result<(), AllocError>
     ensures items { entries.new.items ≡ entries.old.items }
     ensures room { OnOk result (index ≡ length entries.old.items → length entries.old.items < vec_capacity entries.new) }
+    ensures no_memory { index < length entries.old.items → IsOk result }
 {
     if index == entries.len() {
         return entries.reserve(1);
@@ -121,6 +122,7 @@ fn room_at<T>(entries: &mut Vec<Entry<T>>, index: usize) -> Result<(), AllocErro
 fn room_for(keys: &mut IndexMap<u32, u32>, key: u32) -> Result<(), AllocError>
     ensures keys { (q : ℕ) → get nat_eq keys.new q ≡ get nat_eq keys.old q }
     ensures room { OnOk result (key ≢ 0 → 0 < spare keys.new) }
+    ensures no_memory { key ≡ 0 → IsOk result }
 {
     if key != 0 {
         return keys.reserve(1);
@@ -301,7 +303,8 @@ impl<T: Drop> IdTable<T> {
 
     /// Puts a row under a fresh identifier: that of the least index that no row holds and that is not
     /// worn out. A key of 0 is none. A refusal hands the value back and changes nothing: `IdFull` where
-    /// no index is free, then `HostMemory` where a growth was refused.
+    /// no index is free, then `HostMemory` where a growth was refused; with no key and at an index that was used
+    /// before, nothing grows.
     pub fn insert(&mut self, key: u32, value: T) -> Result<ShmId, (T, InsertRefused)>
         requires absent { find_key self.old key ≡ None }
         ensures ok { IfOk result (λ id. inserted self.old key value ≡ Some (id, self.new)) }
@@ -311,6 +314,7 @@ impl<T: Drop> IdTable<T> {
         ensures kept { IfErr result (λ e. (e.0 ≡ value) × (self.new ≡ self.old)) }
         ensures full { IfErr result (λ e. e.1 ≡ InsertRefused.IdFull → free_index self.old ≡ None) }
         ensures memory { IfErr result (λ e. e.1 ≡ InsertRefused.HostMemory → IsSome (free_index self.old)) }
+        ensures no_memory { key ≡ 0 → IfSome (free_index self.old) (λ i. i < length self.old → IsOk result) }
     {
         let Some(index) = free_from(&self.entries, self.first_free) else {
             return Err((value, InsertRefused::IdFull));

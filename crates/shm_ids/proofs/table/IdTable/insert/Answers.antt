@@ -5,6 +5,7 @@ use Rattle.shm_ids.proofs.Entries.{with_row-few}
 use Rattle.shm_ids.proofs.Steps.{Sound-same, fresh, Sound-put}
 use Rattle.shm_ids.proofs.Look.{look-id_at, identifier-mod}
 use Rattle.shm_ids.proofs.Counts.{row_count-with_row, row_count-le-length}
+use Rattle.shm_ids.proofs.table.IdTable.insert.Goals.{then-is_err-via-then-is_err, then-is_err-via-else-is_err+then-is_err-2}
 use Rattle.shm_ids.proofs.table.IdTable.insert.Goals as goal
 
 pub free_from-requires : goal.free_from-requires
@@ -81,3 +82,16 @@ returns-clause-ok g c =
     let id : c.put_row-id.result ≡ id_at t c.in-Some.index = rw (← c.room_at.ensures.items) c.put_row-id.ensures.id in
     let items : c.put_row-id.new.entries.items ≡ with_row t c.in-Some.index c.args.key c.args.value = rw (← c.room_at.ensures.items) c.put_row-id.ensures.items in
     rw (← c.self.view_is, signed, id, items) (ap (option_map (λ i. (id_at t i, with_row t i c.args.key c.args.value))) found)
+
+pub returns-in_default-clause-no_memory : goal.returns-in_default-clause-no_memory
+returns-in_default-clause-no_memory g c =
+    let full = skip _ _ c.self.invariant.0.used ∙ sym c.free_from.ensures ∙ c.in_default.is in
+    λ _. rw (← c.self.view_is, full) tt
+
+pub returns-then-is_err-clause-no_memory : goal.returns-then-is_err-clause-no_memory
+returns-then-is_err-clause-no_memory g c =
+    let found = skip _ _ c.self.invariant.0.used ∙ sym c.free_from.ensures ∙ c.in-Some.is in
+    λ no_key. rw (← c.self.view_is, found) (λ within. elim c.then-is_err.branch [
+      | then-is_err-via-then-is_err w ↦ let ok = c.room_at.ensures.no_memory within in search rules
+      | then-is_err-via-else-is_err+then-is_err-2 w ↦ let ok = w.room_for.ensures.no_memory no_key in search rules
+    ])
