@@ -25,7 +25,6 @@
 #include <stdio.h>
 #include <stdlib.h>
 #include <string.h>
-#include <sys/ipc.h>
 #include <sys/mman.h>
 #include <sys/prctl.h>
 #include <sys/resource.h>
@@ -35,26 +34,18 @@
 #include <time.h>
 #include <unistd.h>
 
-#ifndef SHM_REMAP
-#define SHM_REMAP 040000
-#endif
-#ifndef SHM_DEST
-#define SHM_DEST 01000
-#define SHM_LOCKED 02000
-#endif
-
 enum {
     PAGE = 4096, PROCESSES = 64, COMMANDS = 100000, PIECES = 1024, OWN_RANGES = 64, WORDS = 8,
     RECORD_FD = 98, ALIVE_FD = 99, FIRST_FD = 100
 };
 #define LOWEST_CHOSEN UINT64_C(0x40000000)
 
-enum task { GET, ATTACH, DETACH, STAT, SET, CONTROL, LOAD, STORE, ADD, FORK, EXEC, EXIT, MAPPED, TASKS };
+enum task { GET, ATTACH, DETACH, CONTROL, LOAD, STORE, ADD, FORK, EXEC, EXIT, MAPPED };
 
-/* what a worker is told: at[] are the addresses of an access, byte by byte */
+/* what a worker is told: flags are shmctl's command too; at[] are the addresses of an access, byte by byte */
 struct request {
     int task, id, flags, child;
-    unsigned key, uid, gid, length, is_placed;
+    unsigned key, uid, gid, mode, length, is_placed;
     uint64_t size, address, number, at[64];
     unsigned char bytes[64];
 };
@@ -86,13 +77,9 @@ static void on_fault(int signal) {
 static void read_own_ranges(void) {
     FILE *maps = fopen("/proc/self/maps", "r");
     char line[512];
-    own_count = 0;
-    while (maps && own_count < OWN_RANGES && fgets(line, sizeof line, maps)) {
-        uint64_t begin, end;
-        if (strstr(line, "/SYSV") || sscanf(line, "%" SCNx64 "-%" SCNx64, &begin, &end) != 2) continue;
-        own[own_count].begin = begin;
-        own[own_count++].end = end;
-    }
+    for (own_count = 0; maps && own_count < OWN_RANGES && fgets(line, sizeof line, maps);)
+        if (!strstr(line, "/SYSV"))
+            own_count += sscanf(line, "%" SCNx64 "-%" SCNx64, &own[own_count].begin, &own[own_count].end) == 2;
     if (maps) fclose(maps);
 }
 
@@ -107,145 +94,88 @@ static void settle(struct answer *a, int64_t value) {
     if (value == -1) a->error = errno;
 }
 
-static void do_get(const struct request *q, struct answer *a) {
+/* the record is written by the one who made the segment: it outlives this process and the director */
+static void get(const struct request *q, struct answer *a) {
     int id = shmget((key_t)q->key, (size_t)q->size, q->flags);
     settle(a, id);
-    /* the record is written by the one who made it: it outlives this process and the director */
     if (id != -1 && write(RECORD_FD, &id, sizeof id) != sizeof id) _exit(98);
 }
 
-static void do_attach(const struct request *q, struct answer *a) {
-    if (q->is_placed && is_own(q->address, q->size)) {
-        a->is_refused_here = 1;
-        return;
-    }
-    void *at = shmat(q->id, q->is_placed ? (void *)(uintptr_t)q->address : NULL, q->flags);
-    if (at == (void *)-1) settle(a, -1);
-    else a->value = (int64_t)(uintptr_t)at;
+static void attach(const struct request *q, struct answer *a) {
+    a->is_refused_here = q->is_placed && is_own(q->address, q->size);
+    if (a->is_refused_here) return;
+    settle(a, (int64_t)(intptr_t)shmat(q->id, q->is_placed ? (void *)(uintptr_t)q->address : NULL, q->flags));
 }
 
-static void do_detach(const struct request *q, struct answer *a) {
-    settle(a, shmdt((void *)(uintptr_t)q->address));
+static void control(const struct request *q, struct answer *a) {
+    a->segment.shm_perm.uid = q->uid;
+    a->segment.shm_perm.gid = q->gid;
+    a->segment.shm_perm.mode = (unsigned short)q->mode;
+    settle(a, shmctl(q->id, q->flags, &a->segment));
 }
 
-static void do_stat(const struct request *q, struct answer *a) {
-    settle(a, shmctl(q->id, IPC_STAT, &a->segment));
-}
-
-static void do_set(const struct request *q, struct answer *a) {
-    struct shmid_ds wanted;
-    memset(&wanted, 0, sizeof wanted);
-    wanted.shm_perm.uid = q->uid;
-    wanted.shm_perm.gid = q->gid;
-    wanted.shm_perm.mode = (unsigned short)q->flags;
-    settle(a, shmctl(q->id, IPC_SET, &wanted));
-}
-
-static void do_control(const struct request *q, struct answer *a) {
-    settle(a, shmctl(q->id, q->flags, NULL));
-}
-
-static int meets_own(const struct request *q) {
-    for (unsigned i = 0; i < q->length; i++)
-        if (is_own(q->at[i], 1)) return 1;
-    return 0;
-}
-
-static int is_one_word(const struct request *q) {
-    for (unsigned i = 0; i < 8; i++)
-        if (q->at[i] != q->at[0] + i) return 0;
-    return q->at[0] % 8 == 0 && __BYTE_ORDER__ == __ORDER_LITTLE_ENDIAN__;
-}
-
-static unsigned char *byte_at(const struct request *q, unsigned i) {
-    return (unsigned char *)(uintptr_t)q->at[i];
+static volatile unsigned char *byte_at(const struct request *q, unsigned i) {
+    return (volatile unsigned char *)(uintptr_t)q->at[i];
 }
 
 static void access_bytes(const struct request *q, struct answer *a) {
     uint64_t number = 0;
-    if (q->task == ADD && is_one_word(q)) {
-        a->value = (int64_t)__atomic_fetch_add((uint64_t *)(uintptr_t)q->at[0], q->number, __ATOMIC_SEQ_CST);
-        return;
-    }
-    for (unsigned i = 0; i < q->length && q->task != STORE; i++) a->bytes[i] = *(volatile unsigned char *)byte_at(q, i);
+    for (unsigned i = 0; i < q->length && q->task != STORE; i++) a->bytes[i] = *byte_at(q, i);
     for (unsigned i = 8; i-- > 0 && q->task == ADD;) number = number << 8 | a->bytes[i];
     a->value = (int64_t)number;
     number += q->number;
     for (unsigned i = 0; i < q->length && q->task != LOAD; i++)
-        *(volatile unsigned char *)byte_at(q, i) = q->task == STORE ? q->bytes[i] : (unsigned char)(number >> 8 * i);
+        *byte_at(q, i) = q->task == STORE ? q->bytes[i] : (unsigned char)(number >> 8 * i);
 }
 
-static void do_access(const struct request *q, struct answer *a) {
-    if (meets_own(q)) {
-        a->is_refused_here = 1;
-        return;
-    }
-    int signal = sigsetjmp(escape, 1);
-    is_accessing = signal == 0;
-    if (signal == 0) access_bytes(q, a);
-    else a->signal = signal;
+static void access_memory(const struct request *q, struct answer *a) {
+    for (unsigned i = 0; i < q->length; i++) a->is_refused_here |= is_own(q->at[i], 1);
+    if (a->is_refused_here) return;
+    a->signal = sigsetjmp(escape, 1);
+    is_accessing = a->signal == 0;
+    if (is_accessing) access_bytes(q, a);
     is_accessing = 0;
 }
 
 static void serve(int index) __attribute__((noreturn));
 
-static void do_fork(const struct request *q, struct answer *a) {
-    pid_t pid = fork();
-    if (pid == 0) serve(q->child);
-    settle(a, pid);
-}
-
-static void do_exec(const struct request *q, struct answer *a) {
-    (void)q;
-    execvp(exec_words[0], exec_words);
-    settle(a, -1);
-}
-
-static void do_exit(const struct request *q, struct answer *a) {
-    (void)q, (void)a;
-    _exit(0);
-}
-
-static void do_mapped(const struct request *q, struct answer *a) {
+static void perform(const struct request *q, struct answer *a) {
     unsigned char resident;
-    a->value = mincore((void *)(uintptr_t)q->address, PAGE, &resident) == 0;
-}
-
-typedef void worker_call(const struct request *, struct answer *);
-static worker_call *const worker_calls[TASKS] = {
-    do_get, do_attach, do_detach, do_stat, do_set, do_control, do_access, do_access, do_access,
-    do_fork, do_exec, do_exit, do_mapped };
-
-static int read_whole(int fd, void *to, size_t length) {
-    for (size_t done = 0; done < length;) {
-        ssize_t n = read(fd, (char *)to + done, length - done);
-        if (n == 0 || (n < 0 && errno != EINTR)) return 0;
-        if (n > 0) done += (size_t)n;
+    pid_t child;
+    switch (q->task) {
+    case GET: get(q, a); break;
+    case ATTACH: attach(q, a); break;
+    case DETACH: settle(a, shmdt((void *)(uintptr_t)q->address)); break;
+    case CONTROL: control(q, a); break;
+    case FORK:
+        child = fork();
+        if (child == 0) serve(q->child);
+        settle(a, child);
+        break;
+    case EXEC: settle(a, execvp(exec_words[0], exec_words)); break;
+    case EXIT: _exit(0);
+    case MAPPED: a->value = mincore((void *)(uintptr_t)q->address, PAGE, &resident) == 0; break;
+    default: access_memory(q, a);
     }
-    return 1;
 }
 
-/* a pipe takes less than PIPE_BUF bytes at once */
-static int write_whole(int fd, const void *from, size_t length) {
-    return write(fd, from, length) == (ssize_t)length;
-}
+/* a pipe takes and gives less than PIPE_BUF bytes at once */
+static int read_whole(int fd, void *to, size_t length) { return read(fd, to, length) == (ssize_t)length; }
+static int write_whole(int fd, const void *from, size_t length) { return write(fd, from, length) == (ssize_t)length; }
 
 static void serve(int index) {
     struct request q;
     snprintf(worker_number, sizeof worker_number, "%d", index);
     while (read_whole(FIRST_FD + 2 * index, &q, sizeof q)) {
-        struct answer a;
-        memset(&a, 0, sizeof a);
-        worker_calls[q.task](&q, &a);
+        struct answer a = {0};
+        perform(&q, &a);
         if (!write_whole(FIRST_FD + 2 * index + 1, &a, sizeof a)) break;
     }
     _exit(0);
 }
 
 static void prepare_worker(void) {
-    struct sigaction action;
-    memset(&action, 0, sizeof action);
-    action.sa_handler = on_fault;
+    struct sigaction action = {.sa_handler = on_fault};
     sigaction(SIGSEGV, &action, NULL);
     sigaction(SIGBUS, &action, NULL);
     signal(SIGCHLD, SIG_IGN);
@@ -261,8 +191,7 @@ static void set_exec_words(char **words, int count) {
 }
 
 static int continue_worker(int argc, char **argv) {
-    struct answer done;
-    memset(&done, 0, sizeof done);
+    struct answer done = {0};
     if (argc < 4 || argc - 3 > WORDS) return 2;
     prepare_worker();
     set_exec_words(argv + 3, argc - 3);
@@ -329,31 +258,26 @@ static uint64_t number_of(const char *word) {
     return number;
 }
 
-static int is_variable(const char *word) { return word[0] >= 'a' && word[0] <= 'z' && (!word[1] || word[1] == '+'); }
-
 static struct operand operand_of(const char *word) {
-    struct operand o = {-1, 0};
-    if (strcmp(word, "private") == 0 || strcmp(word, "null") == 0) return o;
-    if (is_variable(word)) {
-        o.variable = word[0] - 'a';
-        if (word[1]) o.number = number_of(word + 2);
-    } else {
-        o.number = number_of(word);
-    }
-    return o;
+    int is_variable = word[0] >= 'a' && word[0] <= 'z' && (!word[1] || word[1] == '+');
+    if (strcmp(word, "private") == 0 || strcmp(word, "null") == 0) return (struct operand){-1, 0};
+    if (!is_variable) return (struct operand){-1, number_of(word)};
+    return (struct operand){word[0] - 'a', word[1] ? number_of(word + 2) : 0};
 }
+
+enum { FLAGS = 5, GET_FLAGS = 2 };
+static const struct { const char *name; unsigned flag; } flag_names[FLAGS] = {
+    {"creat", IPC_CREAT}, {"excl", IPC_EXCL}, {"rnd", SHM_RND}, {"remap", SHM_REMAP}, {"rdonly", SHM_RDONLY} };
 
 /* the flags behind a mode, or those of an attach */
 static uint64_t flags_of(const char *word, int has_mode) {
-    static const struct { const char *name; int flag; } names[] = {
-        {"creat", IPC_CREAT}, {"excl", IPC_EXCL}, {"rnd", SHM_RND}, {"remap", SHM_REMAP}, {"rdonly", SHM_RDONLY} };
     uint64_t flags = has_mode ? strtoul(word, NULL, 8) & 0777 : 0;
     for (const char *at = has_mode ? strchr(word, ',') : word; at && *at && *at != '-'; at = strchr(at, ',')) {
         if (*at == ',') at++;
-        size_t length = strcspn(at, ","), known = sizeof names / sizeof *names, i = 0;
-        while (i < known && (strlen(names[i].name) != length || memcmp(names[i].name, at, length) != 0)) i++;
-        if (i == known) fail(1, "bad flags: %s", word);
-        flags |= (unsigned)names[i].flag;
+        size_t length = strcspn(at, ","), i = 0;
+        while (i < FLAGS && (strlen(flag_names[i].name) != length || memcmp(flag_names[i].name, at, length) != 0)) i++;
+        if (i == FLAGS) fail(1, "bad flags: %s", word);
+        flags |= flag_names[i].flag;
     }
     return flags;
 }
@@ -383,16 +307,12 @@ static void read_operand(struct command *c, int i, char letter, const char *word
 
 static void read_command(char **words, int count) {
     struct command *c = &commands[command_count++];
-    int at = 1;
+    int has_variable = count > 3 && strcmp(words[2], "=") == 0, at = has_variable ? 3 : 1;
     c->line = line_number;
     c->process = process_by_pid(number_of(words[0]));
-    c->variable = -1;
-    if (count > 3 && strcmp(words[2], "=") == 0) {
-        c->variable = words[1][0] - 'a';
-        at = 3;
-    }
+    c->variable = has_variable ? operand_of(words[1]).variable : -1;
     for (c->call = 0; c->call < CALLS && strcmp(calls[c->call].name, words[at]) != 0;) c->call++;
-    if (c->call == CALLS || (int)strlen(calls[c->call].operands) != count - at - 1 || c->variable > 25)
+    if (c->call == CALLS || (int)strlen(calls[c->call].operands) != count - at - 1)
         fail(1, "bad line");
     for (int i = 0; calls[c->call].operands[i]; i++) read_operand(c, i, calls[c->call].operands[i], words[at + 1 + i]);
 }
@@ -427,13 +347,12 @@ static void read_line(char *line) {
 }
 
 static void read_script(FILE *from) {
-    char line[1024];
+    char *line = NULL;
+    size_t room = 0;
     commands = calloc(COMMANDS, sizeof *commands);
     if (!commands) fail(3, "no memory");
-    while (fgets(line, sizeof line, from)) {
-        line_number++;
-        read_line(line);
-    }
+    for (line_number = 1; getline(&line, &room, from) > 0; line_number++) read_line(line);
+    free(line);
     if (limits[0] == 0) fail(1, "no limits line");
 }
 
@@ -444,6 +363,8 @@ static struct segment { int real, is_gone; unsigned index, sequence; uint64_t si
 static int segment_count;
 static time_t *began;
 
+static int64_t name_of(const struct segment *s) { return s->index + INT64_C(32768) * s->sequence; }
+
 static void note_destroyed(void) {
     struct shmid_ds ignored;
     for (int i = 0; i < segment_count; i++)
@@ -451,16 +372,10 @@ static void note_destroyed(void) {
             segments[i].is_gone = 1;
 }
 
-/* the newest segment with this identifier of the system */
-static struct segment *segment_by_real(int real) {
+/* the newest segment with this identifier of the system, or with this one of the script */
+static struct segment *find_segment(int real, int64_t name) {
     for (int i = segment_count; i-- > 0;)
-        if (segments[i].real == real) return &segments[i];
-    return NULL;
-}
-
-static struct segment *segment_by_name(uint64_t name) {
-    for (int i = segment_count; i-- > 0;)
-        if (segments[i].index + UINT64_C(32768) * segments[i].sequence == name) return &segments[i];
+        if (real >= 0 ? segments[i].real == real : name_of(&segments[i]) == name) return &segments[i];
     return NULL;
 }
 
@@ -471,7 +386,7 @@ static int is_index_held(unsigned index) {
 }
 
 static int64_t name_segment(int real, uint64_t size) {
-    struct segment *s = segment_by_real(real);
+    struct segment *s = find_segment(real, -1);
     if (!s || s->is_gone) {
         unsigned index = 0, sequence = 0;
         while (is_index_held(index)) index++;
@@ -479,12 +394,12 @@ static int64_t name_segment(int real, uint64_t size) {
         s = &segments[segment_count++];
         *s = (struct segment){real, 0, index, sequence, (size + PAGE - 1) / PAGE * PAGE};
     }
-    return s->index + INT64_C(32768) * s->sequence;
+    return name_of(s);
 }
 
 /* an identifier that the script never got is one that the system never gave */
 static int real_identifier(uint64_t name) {
-    struct segment *s = segment_by_name(name);
+    struct segment *s = find_segment(-1, (int64_t)name);
     return s ? s->real : name > INT32_MAX ? -1 : INT32_MAX;
 }
 
@@ -495,13 +410,10 @@ static unsigned script_pid(pid_t real) {
 }
 
 static void print_time(char *to, time_t at, int place) {
-    if (!has_seconds || at == 0) {
-        strcpy(to, at == 0 ? "0" : "set");
-        return;
-    }
-    while (place > 0 && began[place] != at) place--;
-    if (place) sprintf(to, "%d", place);
-    else strcpy(to, "elsewhen");
+    while (has_seconds && place > 0 && began[place] != at) place--;
+    if (at == 0 || !has_seconds) strcpy(to, at == 0 ? "0" : "set");
+    else if (place == 0) strcpy(to, "elsewhen");
+    else sprintf(to, "%d", place);
 }
 
 static struct piece *piece_at(struct process *p, uint64_t address) {
@@ -574,17 +486,6 @@ static const char *error_name(int error) {
     return other;
 }
 
-/* a process that ended is gone, or waits for a parent that never asks */
-static int is_ended(pid_t pid) {
-    char path[64], state = 0;
-    if (kill(pid, 0) == -1 && errno == ESRCH) return 1;
-    snprintf(path, sizeof path, "/proc/%d/stat", (int)pid);
-    FILE *stat = fopen(path, "r");
-    int got = stat ? fscanf(stat, "%*d (%*[^)]) %c", &state) : 0;
-    if (stat) fclose(stat);
-    return got == 1 && state == 'Z';
-}
-
 static void clean_up(void);
 
 /* then its work is done here */
@@ -599,32 +500,23 @@ static void wait_a_little(int milliseconds) {
     if (poll(&life, 1, milliseconds) > 0) lose_guardian();
 }
 
-static void send_request(struct process *p, const struct request *q) {
-    if (!write_whole(p->to, q, sizeof *q)) fail(3, "process %u is gone", p->pid);
-}
-
+/* the answer of a worker, or its end where that is what it was told */
 static struct answer ask(struct process *p, const struct request *q) {
-    struct answer a;
+    struct answer a = {0};
     time_t end = time(NULL) + limit_seconds + 1;
-    send_request(p, q);
+    if (!write_whole(p->to, q, sizeof *q)) fail(3, "process %u is gone", p->pid);
     for (;;) {
         struct pollfd both[2] = {{p->from, POLLIN, 0}, {life_fd, POLLIN, 0}};
-        if (poll(both, 2, 50) < 0 && errno != EINTR) fail(3, "poll: %s", strerror(errno));
+        if (poll(both, 2, q->task == EXIT ? 1 : 50) < 0 && errno != EINTR) fail(3, "poll: %s", strerror(errno));
         if (both[1].revents) lose_guardian();
         if (both[0].revents & POLLIN) break;
-        if (is_ended(p->real)) fail(3, "process %u died in its call", p->pid);
+        int is_ended = kill(p->real, 0) == -1 && errno == ESRCH;
+        if (is_ended && q->task == EXIT) return a;
+        if (is_ended) fail(3, "process %u died in its call", p->pid);
         if (time(NULL) >= end) fail(3, "process %u gave no answer in %d seconds", p->pid, limit_seconds);
     }
     if (!read_whole(p->from, &a, sizeof a)) fail(3, "process %u gave half an answer", p->pid);
     return a;
-}
-
-static void await_end(struct process *p) {
-    time_t end = time(NULL) + limit_seconds + 1;
-    while (!is_ended(p->real)) {
-        if (time(NULL) >= end) fail(3, "process %u did not end in %d seconds", p->pid, limit_seconds);
-        wait_a_little(1);
-    }
 }
 
 static int reply_plain(struct answer *a, char *reply) {
@@ -639,7 +531,7 @@ static void run_get(struct process *p, const uint64_t *v, char *reply, uint64_t 
     struct request q = {.task = GET, .key = (unsigned)v[0], .size = v[1], .flags = (int)v[2]};
     note_destroyed();
     int found = is_shared && v[0] ? shmget((key_t)v[0], 0, 0) : -1;
-    struct segment *known = found == -1 ? NULL : segment_by_real(found);
+    struct segment *known = found == -1 ? NULL : find_segment(found, -1);
     if ((found != -1 || (is_shared && v[0] && errno != ENOENT)) && (!known || known->is_gone)) {
         strcpy(reply, "skipped: the system has a segment with this key");
         return;
@@ -652,7 +544,7 @@ static void run_get(struct process *p, const uint64_t *v, char *reply, uint64_t 
 }
 
 static void run_attach(struct process *p, const uint64_t *v, char *reply, uint64_t *result) {
-    struct segment *s = segment_by_name(v[0]);
+    struct segment *s = find_segment(-1, (int64_t)v[0]);
     uint64_t size = s ? s->size : PAGE, page = v[1] - v[1] % PAGE, base;
     struct request q = {.task = ATTACH, .id = real_identifier(v[0]), .flags = (int)v[2], .is_placed = v[1] != 0};
     q.size = size;
@@ -686,7 +578,7 @@ static void run_detach(struct process *p, const uint64_t *v, char *reply) {
 }
 
 static void run_stat(struct process *p, const uint64_t *v, char *reply, int place) {
-    struct request q = {.task = STAT, .id = real_identifier(v[0])};
+    struct request q = {.task = CONTROL, .flags = IPC_STAT, .id = real_identifier(v[0])};
     struct answer a = ask(p, &q);
     char times[3][16];
     struct shmid_ds *s = &a.segment;
@@ -703,13 +595,9 @@ static void run_stat(struct process *p, const uint64_t *v, char *reply, int plac
 }
 
 static void run_control(struct process *p, int call, const uint64_t *v, char *reply) {
-    struct request q = {.task = call == SHMSET ? SET : CONTROL, .id = real_identifier(v[0])};
-    q.flags = call == RMID ? IPC_RMID : call == LOCK ? SHM_LOCK : SHM_UNLOCK;
-    if (call == SHMSET) {
-        q.uid = (unsigned)v[1];
-        q.gid = (unsigned)v[2];
-        q.flags = (int)v[3];
-    }
+    struct request q = {.task = CONTROL, .id = real_identifier(v[0]), .uid = (unsigned)v[1], .gid = (unsigned)v[2]};
+    q.mode = (unsigned)v[3];
+    q.flags = call == SHMSET ? IPC_SET : call == RMID ? IPC_RMID : call == LOCK ? SHM_LOCK : SHM_UNLOCK;
     struct answer a = ask(p, &q);
     reply_plain(&a, reply);
 }
@@ -719,6 +607,7 @@ static void run_access(struct process *p, const struct command *c, const uint64_
     struct request q = {.task = c->call == ACCESS_LOAD ? LOAD : c->call == ACCESS_STORE ? STORE : ADD};
     q.length = c->call == ACCESS_LOAD ? (unsigned)v[1] : c->call == ACCESS_STORE ? c->length : 8;
     q.number = v[1];
+    if (q.length > sizeof q.bytes) fail(1, "bad length: %u", q.length);
     memcpy(q.bytes, c->bytes, sizeof q.bytes);
     for (unsigned i = 0; i < q.length; i++)
         q.at[i] = v[0] + i < v[0] ? UINT64_MAX : real_address(p, v[0] + i);
@@ -749,19 +638,17 @@ static void run_fork(struct process *p, const uint64_t *v, char *reply) {
 
 static void run_end(struct process *p, int call, char *reply) {
     struct request q = {.task = call == EXECS ? EXEC : EXIT};
-    struct answer a = {0};
-    if (call == EXECS) {
-        a = ask(p, &q);
-    } else {
-        send_request(p, &q);
-        await_end(p);
-        p->life = ENDED;
-    }
+    struct answer a = ask(p, &q);
+    if (call == EXITS) p->life = ENDED;
     if (reply_plain(&a, reply)) p->piece_count = 0;
 }
 
 static void run(struct process *p, const struct command *c, const uint64_t *v, char *reply, uint64_t *result) {
-    if (p->has_no_user) strcpy(reply, "skipped: no right to be this user");
+    int is_too_large = (c->call == SHMGET && (size_t)v[1] != v[1]) || (c->call == SHMAT && (uintptr_t)v[1] != v[1]);
+    if (is_too_large) strcpy(reply, "skipped: this system has no such number");
+    else if (p->has_no_user) strcpy(reply, "skipped: no right to be this user");
+    else if (c->call == SHMSET && !is_root && !is_shared && (v[1] != p->uid || v[2] != p->gid))
+        strcpy(reply, "skipped: there is one user here");
     else if (p->life != LIVE) strcpy(reply, "skipped: no process makes this call");
     else if (c->call == SWAPOFF) strcpy(reply, "skipped: no swap area is the script's");
     else if (c->call == SHMGET) run_get(p, v, reply, result);
@@ -775,14 +662,12 @@ static void run(struct process *p, const struct command *c, const uint64_t *v, c
 }
 
 static void print_flags(uint64_t flags, int has_mode) {
-    static const struct { const char *name; int flag; } names[] = {
-        {"creat", IPC_CREAT}, {"excl", IPC_EXCL}, {"rnd", SHM_RND}, {"remap", SHM_REMAP}, {"rdonly", SHM_RDONLY} };
     const char *before = has_mode ? "," : "";
     if (has_mode) printf("%03o", (unsigned)flags & 0777);
     else if (!flags) printf("-");
-    for (int i = has_mode ? 0 : 2; i < (has_mode ? 2 : 5); i++) {
-        if (!(flags & (unsigned)names[i].flag)) continue;
-        printf("%s%s", before, names[i].name);
+    for (int i = has_mode ? 0 : GET_FLAGS; i < (has_mode ? GET_FLAGS : FLAGS); i++) {
+        if (!(flags & flag_names[i].flag)) continue;
+        printf("%s%s", before, flag_names[i].name);
         before = ",";
     }
 }
@@ -897,23 +782,27 @@ static void clean_up(void) {
     remove_all();
 }
 
-static void write_file(const char *path, const char *format, ...) __attribute__((format(printf, 2, 3)));
-
-static void write_file(const char *path, const char *format, ...) {
-    va_list rest;
+static void write_file(const char *path, const char *text) {
     FILE *file = fopen(path, "w");
-    va_start(rest, format);
-    int is_written = file && vfprintf(file, format, rest) > 0;
+    int is_written = file && fputs(text, file) >= 0;
     if (file && fclose(file) != 0) is_written = 0;
     if (!is_written) fprintf(stderr, "peer: note: %s stays as it is\n", path);
-    va_end(rest);
+}
+
+static void write_limit(const char *path, uint64_t limit) {
+    char text[32];
+    sprintf(text, "%" PRIu64, limit);
+    write_file(path, text);
 }
 
 /* without root there is one user: the first of the script, in a user namespace */
 static void enter_as_one_user(unsigned outer_uid, unsigned outer_gid) {
+    char text[64];
     write_file("/proc/self/setgroups", "deny");
-    write_file("/proc/self/uid_map", "%u %u 1", processes[0].uid, outer_uid);
-    write_file("/proc/self/gid_map", "%u %u 1", processes[0].gid, outer_gid);
+    sprintf(text, "%u %u 1", processes[0].uid, outer_uid);
+    write_file("/proc/self/uid_map", text);
+    sprintf(text, "%u %u 1", processes[0].gid, outer_gid);
+    write_file("/proc/self/gid_map", text);
 }
 
 static void drop_capabilities(void) {
@@ -932,9 +821,9 @@ static void enter_namespace(void) {
         return;
     }
     if (!is_root) enter_as_one_user(uid, gid);
-    write_file("/proc/sys/kernel/shmmax", "%" PRIu64, limits[0]);
-    write_file("/proc/sys/kernel/shmmni", "%" PRIu64, limits[1]);
-    write_file("/proc/sys/kernel/shmall", "%" PRIu64, limits[2]);
+    write_limit("/proc/sys/kernel/shmmax", limits[0]);
+    write_limit("/proc/sys/kernel/shmmni", limits[1]);
+    write_limit("/proc/sys/kernel/shmall", limits[2]);
     if (!is_root && processes[0].uid != 0) drop_capabilities();
 }
 
@@ -953,9 +842,7 @@ static void open_guard(int *life) {
 
 static int guard(void) {
     int life[2], status = 0;
-    struct sigaction action;
-    memset(&action, 0, sizeof action);
-    action.sa_handler = on_interrupt;
+    struct sigaction action = {.sa_handler = on_interrupt};
     open_guard(life);
     pid_t director = fork();
     if (director == 0) {
