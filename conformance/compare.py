@@ -1,0 +1,90 @@
+"""Compares what the program, the rules and the peer answer to one script."""
+
+from dataclasses import dataclass, field
+
+from rules import Machine, classify
+from script import is_expected, without_clock
+
+# calls that change nothing though they are answered with more than a refusal
+READS = ("load", "stat", "swapoff")
+
+
+@dataclass
+class Difference:
+    command: object
+    call: str
+    ours: str
+    theirs: str
+    rule: str = ""
+
+    def lines(self):
+        source = self.command.rule or "no rule is told"
+        return [f"    line {self.command.line}: {self.call}", f"        here  {self.ours}",
+                f"        there {self.theirs}", f"        rule  {source}"]
+
+
+@dataclass
+class Result:
+    """How many commands were alike, which differ and by which rule, and what was not compared and why."""
+
+    agree: int = 0
+    by_rule: dict = field(default_factory=dict)
+    skipped: dict = field(default_factory=dict)
+    different: list = field(default_factory=list)
+    first_rule: str = ""
+    whole: int = 0
+
+    def skip(self, reason, count=1):
+        self.skipped[reason] = self.skipped.get(reason, 0) + count
+
+    def name(self, rule):
+        self.by_rule[rule] = self.by_rule.get(rule, 0) + 1
+        self.first_rule = self.first_rule or rule
+
+    @property
+    def word(self):
+        if self.different:
+            return "DIFFER"
+        if self.by_rule:
+            return "profile"
+        return "agree" if self.agree else "skipped"
+
+
+def against_rules(case, events):
+    """The commands whose reply is not the one that the case tells."""
+    wrong = [Difference(command, event.call, event.reply, command.expected)
+             for command, event in zip(case.commands, events) if not is_expected(command.expected, event.reply)]
+    if len(events) != len(case.commands):
+        last = case.commands[-1]
+        wrong.append(Difference(last, last.text, f"{len(events)} events", f"{len(case.commands)} commands"))
+    return wrong
+
+
+def against_peer(case, events, others, has_clock=False, has_system_limits=False):
+    """Each command of the program beside the peer's, till the two are in different states."""
+    result = Result(whole=len(events))
+    machine = Machine(case.limits, dict(case.users), has_clock, has_system_limits=has_system_limits)
+    for index, (command, event, other) in enumerate(zip(case.commands, events, others)):
+        is_alike = compare_one(result, machine, command, event, other)
+        if not is_alike:
+            result.skip("behind a difference that changes the state", len(events) - index - 1)
+            break
+        machine.follow(event)
+    return result
+
+
+def compare_one(result, machine, command, event, other):
+    """Counts one command; whether program and peer are in like states behind it."""
+    if other.is_skipped:
+        result.skip(other.reply.removeprefix("skipped: "))
+        return event.is_refused or event.word in READS
+    ours = event.reply if machine.has_clock else without_clock(event.reply)
+    if event.call == other.call and ours == other.reply:
+        result.agree += 1
+        return True
+    known = classify(machine, event, other, command) if event.call == other.call else None
+    if known is None:
+        result.different.append(Difference(command, event.call, event.reply, other.reply))
+        return False
+    result.name(known[0])
+    return known[1]

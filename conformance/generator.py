@@ -1,0 +1,138 @@
+"""Random scripts: calls over several processes, owners and segments, from few values, so that states repeat."""
+
+import random
+
+USERS = ((0, 0), (100, 100), (100, 200), (200, 100), (300, 300), (400, 200))
+MODES = ("600", "640", "644", "660", "666", "400", "200", "440", "000", "606", "060", "460")
+KEYS = ("0x10", "0x11", "0x12", "4294967295")
+SIZES = (1, 4096, 4097, 8192, 12288, 20480)
+BASES = tuple(0x50000000 + 0x1000 * i for i in range(12))
+LETTERS = "abc"
+
+
+class Generator:
+    """Knows which processes live, and which segments were asked for; what the calls answer it does not know."""
+
+    def __init__(self, seed):
+        self.random = random.Random(seed)
+        count = self.random.randint(2, 5)
+        self.live = list(range(1, count + 1))
+        self.unborn = list(range(11, 11 + self.random.randint(0, 4)))
+        self.lines = [self.limits()]
+        for pid in self.live:
+            self.lines.append("process %d %d %d" % (pid, *self.random.choice(USERS)))
+        self.lines += [f"child {pid}" for pid in self.unborn]
+        self.created = 0
+        self.holds = {pid: set() for pid in self.live}
+
+    def limits(self):
+        pick = self.random.choice
+        return f"limits {pick((8192, 16384, 65536))} {pick((3, 6, 16))} {pick((8, 16, 64))} 16 {pick((0, 2, 4, 14))}"
+
+    def one_in(self, number):
+        return self.random.randrange(number) == 0
+
+    def pick(self, *values):
+        return self.random.choice(values)
+
+    def identifier(self, pid):
+        """Mostly one of the first segments, or what the process got itself; seldom a number that was not given."""
+        if self.holds[pid] and self.one_in(3):
+            return self.random.choice(sorted(self.holds[pid]))
+        return str(self.random.choice((0, 0, 1, 1, 2, 2, 3, 4)) + 32768 * (self.one_in(6) + self.one_in(20)))
+
+    def address(self):
+        if self.one_in(40):
+            return hex(self.pick(0x1000, 0xf000, 0x7fffffffd000, 0x7ffffffff000, 0x800000000000, 2 ** 64 - 4096))
+        return hex(self.random.choice(BASES) + (self.pick(1, 4095) if self.one_in(12) else 0))
+
+    def place(self):
+        """Where bytes are read or written: near the edges of pages."""
+        if self.one_in(60):
+            return hex(self.pick(0x0, 0x10000, 2 ** 64 - 4))
+        return hex(self.random.choice(BASES) + self.pick(0, 8, 100, 4088, 4092, 4095))
+
+    def user(self):
+        return 4294967295 if self.one_in(40) else self.pick(0, 100, 200, 300)
+
+    def mode(self):
+        return self.pick("700", "711", "755") if self.one_in(25) else self.random.choice(MODES)
+
+    def make_shmget(self, pid):
+        letter = self.random.choice("stu")
+        self.holds[pid].add(letter)
+        size = self.pick(0, 16385, 2 ** 32, 2 ** 64 - 1) if self.one_in(15) else self.random.choice(SIZES)
+        key = "private" if self.one_in(3) else self.random.choice(KEYS)
+        flags = self.mode() + self.pick(",creat", ",creat", ",creat", "", ",creat,excl", ",excl")
+        return f"{letter} = shmget {key} {size} {flags}"
+
+    def make_shmat(self, pid):
+        flags = [name for name, odds in (("rnd", 5), ("remap", 3), ("rdonly", 3)) if self.one_in(odds)]
+        if self.one_in(6):
+            flags = [flag for flag in flags if flag != "remap" or self.one_in(4)]
+            return f"{self.random.choice(LETTERS)} = shmat {self.identifier(pid)} null {','.join(flags) or '-'}"
+        return f"shmat {self.identifier(pid)} {self.address()} {','.join(flags) or '-'}"
+
+    def make_shmdt(self, _pid):
+        return f"shmdt {self.random.choice(LETTERS) if self.one_in(5) else self.address()}"
+
+    def make_stat(self, pid):
+        return f"stat {self.identifier(pid)}"
+
+    def make_set(self, pid):
+        return f"set {self.identifier(pid)} {self.user()} {self.user()} {self.mode()}"
+
+    def make_rmid(self, pid):
+        return f"rmid {self.identifier(pid)}"
+
+    def make_lock(self, pid):
+        return f"{self.pick('lock', 'lock', 'unlock')} {self.identifier(pid)}"
+
+    def make_load(self, _pid):
+        if self.one_in(6):
+            return f"load {self.random.choice(LETTERS)}+{self.pick(0, 100, 4090)} {self.pick(1, 8, 64)}"
+        return f"load {self.place()} {self.pick(1, 2, 8, 16)}"
+
+    def make_store(self, _pid):
+        data = "".join("%02x" % self.random.randrange(256) for _ in range(self.pick(1, 2, 8)))
+        return f"store {self.random.choice(LETTERS) if self.one_in(6) else self.place()} {data}"
+
+    def make_xadd(self, _pid):
+        return f"x = xadd {self.place()} {self.pick(1, 255, 2 ** 64 - 1)}"
+
+    def make_process_event(self, pid):
+        if self.unborn and not self.one_in(3):
+            child = self.unborn.pop(0)
+            self.live.append(child)
+            self.holds[child] = set()
+            return f"fork {child}"
+        if len(self.live) > 2 and self.one_in(3):
+            self.live.remove(pid)
+            return "exit"
+        return "exec"
+
+    def command(self):
+        makes = ((self.make_shmget, 12), (self.make_shmat, 20), (self.make_shmdt, 12), (self.make_stat, 16),
+                 (self.make_set, 5), (self.make_rmid, 5), (self.make_lock, 5), (self.make_load, 10),
+                 (self.make_store, 10), (self.make_xadd, 3), (self.make_process_event, 2))
+        make = self.random.choices([m for m, _ in makes], [w for _, w in makes])[0]
+        pid = self.random.choice(self.live)
+        return f"{pid} {make(pid)}"
+
+    def opening(self):
+        """A few segments, and attaches of them side by side."""
+        for _ in range(self.random.randint(2, 4)):
+            pid = self.random.choice(self.live)
+            self.lines.append(f"{pid} shmget private {self.random.choice(SIZES)} {self.pick('666', '660', '644', '600')}")
+        for pid in self.live:
+            self.lines += [f"{pid} shmat {self.random.randrange(3)} {hex(self.random.choice(BASES))} -" for _ in range(3)]
+
+    def script(self):
+        self.opening()
+        self.lines += [self.command() for _ in range(self.random.randint(40, 120))]
+        return "\n".join(self.lines) + "\n"
+
+
+def make_script(seed, number):
+    """The script with this number of this seed: the same at each run."""
+    return Generator(f"{seed}/{number}").script()

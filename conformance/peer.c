@@ -1,0 +1,898 @@
+/* peer: makes the calls of a script on the running system and prints one event line for each.
+
+   peer [--seconds] [--shared] [--limit S] [--exec WORDS] [SCRIPT]
+
+   Three kinds of processes: the guardian outlives the others and removes every segment that was made; the
+   director reads the script, tells one worker at a time what to do, and prints; a worker is one process of the
+   script, with its user and group. Identifiers, pids and addresses are printed as those of the script.
+
+   --seconds   begins each command in a second of its own, so that times are printed as places in the script;
+               without it a time is 0 or `set`
+   --shared    stays in the system's own IPC namespace, under the system's own limits
+   --limit S   gives each command at most S seconds (10)
+   --exec W    exec runs these words in place of this program: the emulator that the peer runs under */
+#define _GNU_SOURCE
+#include <errno.h>
+#include <fcntl.h>
+#include <grp.h>
+#include <inttypes.h>
+#include <linux/capability.h>
+#include <poll.h>
+#include <sched.h>
+#include <setjmp.h>
+#include <signal.h>
+#include <stdarg.h>
+#include <stdio.h>
+#include <stdlib.h>
+#include <string.h>
+#include <sys/mman.h>
+#include <sys/prctl.h>
+#include <sys/resource.h>
+#include <sys/shm.h>
+#include <sys/syscall.h>
+#include <sys/wait.h>
+#include <time.h>
+#include <unistd.h>
+
+enum {
+    PAGE = 4096, PROCESSES = 64, COMMANDS = 100000, PIECES = 1024, OWN_RANGES = 64, WORDS = 8,
+    RECORD_FD = 98, ALIVE_FD = 99, FIRST_FD = 100
+};
+#define LOWEST_CHOSEN UINT64_C(0x40000000)
+
+enum task { GET, ATTACH, DETACH, CONTROL, LOAD, STORE, ADD, FORK, EXEC, EXIT, MAPPED };
+
+/* what a worker is told: flags are shmctl's command too; at[] are the addresses of an access, byte by byte */
+struct request {
+    int task, id, flags, child;
+    unsigned key, uid, gid, mode, length, is_placed;
+    uint64_t size, address, number, at[64];
+    unsigned char bytes[64];
+};
+
+/* what it answers: an error of the system, a signal, or a value */
+struct answer {
+    int error, signal;
+    int is_refused_here;    /* the peer's own memory is there: the command was not made */
+    int64_t value;
+    struct shmid_ds segment;
+    unsigned char bytes[64];
+};
+
+/* ---- a worker ---- */
+
+static struct { uint64_t begin, end; } own[OWN_RANGES];
+static int own_count;
+static sigjmp_buf escape;
+static volatile sig_atomic_t is_accessing;
+static char *exec_words[2 * WORDS + 3];
+static char worker_number[16];
+
+static void on_fault(int signal) {
+    if (!is_accessing) _exit(99);
+    siglongjmp(escape, signal);
+}
+
+/* the ranges of this process that are no attaches: a script must not meet them */
+static void read_own_ranges(void) {
+    FILE *maps = fopen("/proc/self/maps", "r");
+    char line[512];
+    for (own_count = 0; maps && own_count < OWN_RANGES && fgets(line, sizeof line, maps);)
+        if (!strstr(line, "/SYSV"))
+            own_count += sscanf(line, "%" SCNx64 "-%" SCNx64, &own[own_count].begin, &own[own_count].end) == 2;
+    if (maps) fclose(maps);
+}
+
+static int is_own(uint64_t begin, uint64_t length) {
+    for (int i = 0; i < own_count; i++)
+        if (begin < own[i].end && own[i].begin < begin + length) return 1;
+    return 0;
+}
+
+static void settle(struct answer *a, int64_t value) {
+    a->value = value;
+    if (value == -1) a->error = errno;
+}
+
+/* the record is written by the one who made the segment: it outlives this process and the director */
+static void get(const struct request *q, struct answer *a) {
+    int id = shmget((key_t)q->key, (size_t)q->size, q->flags);
+    settle(a, id);
+    if (id != -1 && write(RECORD_FD, &id, sizeof id) != sizeof id) _exit(98);
+}
+
+static void attach(const struct request *q, struct answer *a) {
+    a->is_refused_here = q->is_placed && is_own(q->address, q->size);
+    if (a->is_refused_here) return;
+    settle(a, (int64_t)(intptr_t)shmat(q->id, q->is_placed ? (void *)(uintptr_t)q->address : NULL, q->flags));
+}
+
+static void control(const struct request *q, struct answer *a) {
+    a->segment.shm_perm.uid = q->uid;
+    a->segment.shm_perm.gid = q->gid;
+    a->segment.shm_perm.mode = (unsigned short)q->mode;
+    settle(a, shmctl(q->id, q->flags, &a->segment));
+}
+
+static volatile unsigned char *byte_at(const struct request *q, unsigned i) {
+    return (volatile unsigned char *)(uintptr_t)q->at[i];
+}
+
+static void access_bytes(const struct request *q, struct answer *a) {
+    uint64_t number = 0;
+    for (unsigned i = 0; i < q->length && q->task != STORE; i++) a->bytes[i] = *byte_at(q, i);
+    for (unsigned i = 8; i-- > 0 && q->task == ADD;) number = number << 8 | a->bytes[i];
+    a->value = (int64_t)number;
+    number += q->number;
+    for (unsigned i = 0; i < q->length && q->task != LOAD; i++)
+        *byte_at(q, i) = q->task == STORE ? q->bytes[i] : (unsigned char)(number >> 8 * i);
+}
+
+static void access_memory(const struct request *q, struct answer *a) {
+    for (unsigned i = 0; i < q->length; i++) a->is_refused_here |= is_own(q->at[i], 1);
+    if (a->is_refused_here) return;
+    a->signal = sigsetjmp(escape, 1);
+    is_accessing = a->signal == 0;
+    if (is_accessing) access_bytes(q, a);
+    is_accessing = 0;
+}
+
+static void serve(int index) __attribute__((noreturn));
+
+static void perform(const struct request *q, struct answer *a) {
+    unsigned char resident;
+    pid_t child;
+    switch (q->task) {
+    case GET: get(q, a); break;
+    case ATTACH: attach(q, a); break;
+    case DETACH: settle(a, shmdt((void *)(uintptr_t)q->address)); break;
+    case CONTROL: control(q, a); break;
+    case FORK:
+        child = fork();
+        if (child == 0) serve(q->child);
+        settle(a, child);
+        break;
+    case EXEC: settle(a, execvp(exec_words[0], exec_words)); break;
+    case EXIT: _exit(0);
+    case MAPPED: a->value = mincore((void *)(uintptr_t)q->address, PAGE, &resident) == 0; break;
+    default: access_memory(q, a);
+    }
+}
+
+/* a pipe takes and gives less than PIPE_BUF bytes at once */
+static int read_whole(int fd, void *to, size_t length) { return read(fd, to, length) == (ssize_t)length; }
+static int write_whole(int fd, const void *from, size_t length) { return write(fd, from, length) == (ssize_t)length; }
+
+static void serve(int index) {
+    struct request q;
+    snprintf(worker_number, sizeof worker_number, "%d", index);
+    while (read_whole(FIRST_FD + 2 * index, &q, sizeof q)) {
+        struct answer a = {0};
+        perform(&q, &a);
+        if (!write_whole(FIRST_FD + 2 * index + 1, &a, sizeof a)) break;
+    }
+    _exit(0);
+}
+
+static void prepare_worker(void) {
+    struct sigaction action = {.sa_handler = on_fault};
+    sigaction(SIGSEGV, &action, NULL);
+    sigaction(SIGBUS, &action, NULL);
+    signal(SIGCHLD, SIG_IGN);
+    signal(SIGPIPE, SIG_IGN);
+    read_own_ranges();
+}
+
+/* exec runs: the words, --worker, the worker's number, and the words again for the next exec */
+static void set_exec_words(char **words, int count) {
+    for (int i = 0; i < count; i++) exec_words[i] = exec_words[count + 2 + i] = words[i];
+    exec_words[count] = (char *)"--worker";
+    exec_words[count + 1] = worker_number;
+}
+
+static int continue_worker(int argc, char **argv) {
+    struct answer done = {0};
+    if (argc < 4 || argc - 3 > WORDS) return 2;
+    prepare_worker();
+    set_exec_words(argv + 3, argc - 3);
+    if (!write_whole(FIRST_FD + 2 * atoi(argv[2]) + 1, &done, sizeof done)) return 1;
+    serve(atoi(argv[2]));
+}
+
+/* ---- the script ---- */
+
+enum call { SHMGET, SHMAT, SHMDT, ACCESS_LOAD, ACCESS_STORE, XADD, SHMSTAT, SHMSET, RMID, LOCK, UNLOCK,
+    FORKS, EXECS, EXITS, SWAPOFF, CALLS };
+
+/* each letter is an operand: key, number, get flags, identifier, address, attach flags, bytes, mode, child */
+static const struct { const char *name, *operands; } calls[CALLS] = {
+    {"shmget", "kng"}, {"shmat", "iaf"}, {"shmdt", "a"}, {"load", "an"}, {"store", "ab"}, {"xadd", "an"},
+    {"stat", "i"}, {"set", "innm"}, {"rmid", "i"}, {"lock", "i"}, {"unlock", "i"}, {"fork", "c"}, {"exec", ""},
+    {"exit", ""}, {"swapoff", "n"} };
+
+struct operand { int variable; uint64_t number; };
+struct command {
+    int line, process, variable, call;
+    unsigned length;
+    struct operand operands[4];
+    unsigned char bytes[64];
+};
+
+enum life { UNBORN, LIVE, ENDED };
+struct piece { uint64_t base, size, real, origin; };
+struct process {
+    unsigned pid, uid, gid;
+    int life, has_no_user, to, from, piece_count;
+    pid_t real;
+    uint64_t variables[26];
+    struct piece pieces[PIECES];
+};
+
+static struct process processes[PROCESSES];
+static struct command *commands;
+static int process_count, command_count, line_number;
+static uint64_t limits[5];
+static int life_fd = -1, alive_fd = -1, has_seconds, is_shared, is_root, limit_seconds = 10;
+
+static void fail(int status, const char *format, ...) __attribute__((noreturn, format(printf, 2, 3)));
+
+static void fail(int status, const char *format, ...) {
+    va_list rest;
+    va_start(rest, format);
+    fflush(stdout);
+    fprintf(stderr, "peer: line %d: ", line_number);
+    vfprintf(stderr, format, rest);
+    fputc('\n', stderr);
+    va_end(rest);
+    for (int i = 0; i < process_count; i++)
+        if (processes[i].real > 0 && processes[i].life == LIVE) kill(processes[i].real, SIGKILL);
+    exit(status);
+}
+
+static uint64_t number_of(const char *word) {
+    char *end;
+    int is_hexadecimal = word[0] == '0' && word[1] == 'x';
+    errno = 0;
+    unsigned long long number = strtoull(word, &end, is_hexadecimal ? 16 : 10);
+    if (*end || errno || word[0] < '0' || word[0] > '9') fail(1, "bad number: %s", word);
+    return number;
+}
+
+static struct operand operand_of(const char *word) {
+    int is_variable = word[0] >= 'a' && word[0] <= 'z' && (!word[1] || word[1] == '+');
+    if (strcmp(word, "private") == 0 || strcmp(word, "null") == 0) return (struct operand){-1, 0};
+    if (!is_variable) return (struct operand){-1, number_of(word)};
+    return (struct operand){word[0] - 'a', word[1] ? number_of(word + 2) : 0};
+}
+
+enum { FLAGS = 5, GET_FLAGS = 2 };
+static const struct { const char *name; unsigned flag; } flag_names[FLAGS] = {
+    {"creat", IPC_CREAT}, {"excl", IPC_EXCL}, {"rnd", SHM_RND}, {"remap", SHM_REMAP}, {"rdonly", SHM_RDONLY} };
+
+/* the flags behind a mode, or those of an attach */
+static uint64_t flags_of(const char *word, int has_mode) {
+    uint64_t flags = has_mode ? strtoul(word, NULL, 8) & 0777 : 0;
+    for (const char *at = has_mode ? strchr(word, ',') : word; at && *at && *at != '-'; at = strchr(at, ',')) {
+        if (*at == ',') at++;
+        size_t length = strcspn(at, ","), i = 0;
+        while (i < FLAGS && (strlen(flag_names[i].name) != length || memcmp(flag_names[i].name, at, length) != 0)) i++;
+        if (i == FLAGS) fail(1, "bad flags: %s", word);
+        flags |= flag_names[i].flag;
+    }
+    return flags;
+}
+
+static void read_bytes(struct command *c, const char *word) {
+    unsigned byte;
+    for (c->length = 0; c->length < 64 && sscanf(word, "%2x", &byte) == 1 && word[1]; word += 2)
+        c->bytes[c->length++] = (unsigned char)byte;
+    if (*word) fail(1, "bad bytes: %s", word);
+}
+
+static int process_by_pid(uint64_t pid) {
+    for (int i = 0; i < process_count; i++)
+        if (processes[i].pid == pid) return i;
+    fail(1, "unknown process: %" PRIu64, pid);
+}
+
+static void read_operand(struct command *c, int i, char letter, const char *word) {
+    c->operands[i] = (struct operand){-1, 0};
+    if (letter == 'g') c->operands[i].number = flags_of(word, 1);
+    else if (letter == 'f') c->operands[i].number = flags_of(word, 0);
+    else if (letter == 'm') c->operands[i].number = strtoul(word, NULL, 8);
+    else if (letter == 'b') read_bytes(c, word);
+    else c->operands[i] = operand_of(word);
+    if (letter == 'c') process_by_pid(c->operands[i].number);
+}
+
+static void read_command(char **words, int count) {
+    struct command *c = &commands[command_count++];
+    int has_variable = count > 3 && strcmp(words[2], "=") == 0, at = has_variable ? 3 : 1;
+    c->line = line_number;
+    c->process = process_by_pid(number_of(words[0]));
+    c->variable = has_variable ? operand_of(words[1]).variable : -1;
+    for (c->call = 0; c->call < CALLS && strcmp(calls[c->call].name, words[at]) != 0;) c->call++;
+    if (c->call == CALLS || (int)strlen(calls[c->call].operands) != count - at - 1)
+        fail(1, "bad line");
+    for (int i = 0; calls[c->call].operands[i]; i++) read_operand(c, i, calls[c->call].operands[i], words[at + 1 + i]);
+}
+
+static void read_process(char **words, int count) {
+    int is_child = strcmp(words[0], "child") == 0;
+    if (process_count == PROCESSES) fail(1, "too many processes");
+    if (count != (is_child ? 2 : 4)) fail(1, "bad line");
+    struct process *p = &processes[process_count++];
+    p->pid = (unsigned)number_of(words[1]);
+    p->life = is_child ? UNBORN : LIVE;
+    p->uid = is_child ? 0 : (unsigned)number_of(words[2]);
+    p->gid = is_child ? 0 : (unsigned)number_of(words[3]);
+}
+
+static void read_line(char *line) {
+    char *words[WORDS + 1];
+    int count = 0;
+    for (char *w = strtok(line, " \t\n"); w && count <= WORDS; w = strtok(NULL, " \t\n")) words[count++] = w;
+    if (count == 0 || words[0][0] == '#') return;
+    if (strcmp(words[0], "limits") == 0 && count == 6) {
+        for (int i = 0; i < 5; i++) limits[i] = number_of(words[i + 1]);
+    } else if (strcmp(words[0], "process") == 0 || strcmp(words[0], "child") == 0) {
+        read_process(words, count);
+    } else if (strcmp(words[0], "0") == 0 && count == 3) {
+        return; /* a flush round is no command */
+    } else if (count < 2 || command_count == COMMANDS) {
+        fail(1, "bad line");
+    } else {
+        read_command(words, count);
+    }
+}
+
+static void read_script(FILE *from) {
+    char *line = NULL;
+    size_t room = 0;
+    commands = calloc(COMMANDS, sizeof *commands);
+    if (!commands) fail(3, "no memory");
+    for (line_number = 1; getline(&line, &room, from) > 0; line_number++) read_line(line);
+    free(line);
+    if (limits[0] == 0) fail(1, "no limits line");
+}
+
+/* ---- identifiers, pids, times and addresses as the script has them ---- */
+
+/* an identifier of the script is an index and how many segments were destroyed there before */
+static struct segment { int real, is_gone; unsigned index, sequence; uint64_t size; } *segments;
+static int segment_count;
+static time_t *began;
+
+static int64_t name_of(const struct segment *s) { return s->index + INT64_C(32768) * s->sequence; }
+
+static void note_destroyed(void) {
+    struct shmid_ds ignored;
+    for (int i = 0; i < segment_count; i++)
+        if (!segments[i].is_gone && shmctl(segments[i].real, IPC_STAT, &ignored) == -1 && errno != EACCES)
+            segments[i].is_gone = 1;
+}
+
+/* the newest segment with this identifier of the system, or with this one of the script */
+static struct segment *find_segment(int real, int64_t name) {
+    for (int i = segment_count; i-- > 0;)
+        if (real >= 0 ? segments[i].real == real : name_of(&segments[i]) == name) return &segments[i];
+    return NULL;
+}
+
+static int is_index_held(unsigned index) {
+    for (int i = 0; i < segment_count; i++)
+        if (segments[i].index == index && !segments[i].is_gone) return 1;
+    return 0;
+}
+
+static int64_t name_segment(int real, uint64_t size) {
+    struct segment *s = find_segment(real, -1);
+    if (!s || s->is_gone) {
+        unsigned index = 0, sequence = 0;
+        while (is_index_held(index)) index++;
+        for (int i = 0; i < segment_count; i++) sequence += segments[i].index == index;
+        s = &segments[segment_count++];
+        *s = (struct segment){real, 0, index, sequence, (size + PAGE - 1) / PAGE * PAGE};
+    }
+    return name_of(s);
+}
+
+/* an identifier that the script never got is one that the system never gave */
+static int real_identifier(uint64_t name) {
+    struct segment *s = find_segment(-1, (int64_t)name);
+    return s ? s->real : name > INT32_MAX ? -1 : INT32_MAX;
+}
+
+static unsigned script_pid(pid_t real) {
+    for (int i = 0; real && i < process_count; i++)
+        if (processes[i].real == real) return processes[i].pid;
+    return (unsigned)real;
+}
+
+static void print_time(char *to, time_t at, int place) {
+    while (has_seconds && place > 0 && began[place] != at) place--;
+    if (at == 0 || !has_seconds) strcpy(to, at == 0 ? "0" : "set");
+    else if (place == 0) strcpy(to, "elsewhen");
+    else sprintf(to, "%d", place);
+}
+
+static struct piece *piece_at(struct process *p, uint64_t address) {
+    for (int i = 0; i < p->piece_count; i++)
+        if (p->pieces[i].base <= address && address - p->pieces[i].base < p->pieces[i].size) return &p->pieces[i];
+    return NULL;
+}
+
+/* where no attach is, addresses are those of the system */
+static uint64_t real_address(struct process *p, uint64_t address) {
+    struct piece *piece = piece_at(p, address);
+    return piece ? piece->real + (address - piece->base) : address;
+}
+
+/* the least gap that fits: what an address that the system chose is called */
+static uint64_t chosen_name(struct process *p, uint64_t size) {
+    uint64_t at = LOWEST_CHOSEN;
+    for (int i = 0; i < p->piece_count;) {
+        struct piece *q = &p->pieces[i++];
+        if (at >= q->base + q->size || q->base >= at + size) continue;
+        at = q->base + q->size;
+        i = 0;
+    }
+    return at;
+}
+
+static void add_piece(struct process *p, struct piece piece) {
+    if (p->piece_count == PIECES) fail(3, "more than %d pieces", PIECES);
+    if (piece.size) p->pieces[p->piece_count++] = piece;
+}
+
+/* a new attach takes the place of what stood in its range */
+static void replace_pieces(struct process *p, struct piece new) {
+    uint64_t end = new.base + new.size;
+    for (int i = p->piece_count; i-- > 0;) {
+        struct piece old = p->pieces[i];
+        if (old.base >= end || new.base >= old.base + old.size) continue;
+        p->pieces[i] = p->pieces[--p->piece_count];
+        if (old.base < new.base) add_piece(p, (struct piece){old.base, new.base - old.base, old.real, old.origin});
+        if (end < old.base + old.size)
+            add_piece(p, (struct piece){end, old.base + old.size - end, old.real + (end - old.base), old.origin});
+    }
+    add_piece(p, new);
+}
+
+/* whether a range of the script is one range of the system, and holds no attach that the script has elsewhere */
+static int is_one_range(struct process *p, uint64_t base, uint64_t size) {
+    uint64_t real = real_address(p, base);
+    for (uint64_t at = 0; at < size; at += PAGE)
+        if (real_address(p, base + at) != real + at) return 0;
+    for (int i = 0; i < p->piece_count; i++) {
+        struct piece *q = &p->pieces[i];
+        int is_met = q->real < real + size && real < q->real + q->size;
+        if (is_met && q->real - real != q->base - base) return 0;
+    }
+    return 1;
+}
+
+/* ---- the director ---- */
+
+static const char *error_name(int error) {
+    static const struct { int error; const char *name; } names[] = {
+        {EPERM, "EPERM"}, {ENOENT, "ENOENT"}, {ESRCH, "ESRCH"}, {EIO, "EIO"}, {EAGAIN, "EAGAIN"}, {ENOMEM, "ENOMEM"},
+        {EACCES, "EACCES"}, {EEXIST, "EEXIST"}, {EINVAL, "EINVAL"}, {EMFILE, "EMFILE"}, {ENOSPC, "ENOSPC"},
+        {EIDRM, "EIDRM"}, {ENFILE, "ENFILE"}, {ENOSYS, "ENOSYS"}, {EFAULT, "EFAULT"}, {EOVERFLOW, "EOVERFLOW"} };
+    static char other[32];
+    for (size_t i = 0; i < sizeof names / sizeof *names; i++)
+        if (names[i].error == error) return names[i].name;
+    snprintf(other, sizeof other, "errno%d", error);
+    return other;
+}
+
+static void clean_up(void);
+
+/* then its work is done here */
+static void lose_guardian(void) {
+    for (int i = 0; i < process_count; i++) close(processes[i].to);
+    clean_up();
+    fail(3, "the guardian is gone");
+}
+
+static void wait_a_little(int milliseconds) {
+    struct pollfd life = {life_fd, POLLIN, 0};
+    if (poll(&life, 1, milliseconds) > 0) lose_guardian();
+}
+
+/* the answer of a worker, or its end where that is what it was told */
+static struct answer ask(struct process *p, const struct request *q) {
+    struct answer a = {0};
+    time_t end = time(NULL) + limit_seconds + 1;
+    if (!write_whole(p->to, q, sizeof *q)) fail(3, "process %u is gone", p->pid);
+    for (;;) {
+        struct pollfd both[2] = {{p->from, POLLIN, 0}, {life_fd, POLLIN, 0}};
+        if (poll(both, 2, q->task == EXIT ? 1 : 50) < 0 && errno != EINTR) fail(3, "poll: %s", strerror(errno));
+        if (both[1].revents) lose_guardian();
+        if (both[0].revents & POLLIN) break;
+        int is_ended = kill(p->real, 0) == -1 && errno == ESRCH;
+        if (is_ended && q->task == EXIT) return a;
+        if (is_ended) fail(3, "process %u died in its call", p->pid);
+        if (time(NULL) >= end) fail(3, "process %u gave no answer in %d seconds", p->pid, limit_seconds);
+    }
+    if (!read_whole(p->from, &a, sizeof a)) fail(3, "process %u gave half an answer", p->pid);
+    return a;
+}
+
+static int reply_plain(struct answer *a, char *reply) {
+    if (a->is_refused_here) strcpy(reply, "skipped: the peer's own memory is there");
+    else if (a->signal) strcpy(reply, a->signal == SIGSEGV ? "SIGSEGV" : "SIGBUS");
+    else if (a->error) strcpy(reply, error_name(a->error));
+    else strcpy(reply, "ok");
+    return !a->is_refused_here && !a->signal && !a->error;
+}
+
+static void run_get(struct process *p, const uint64_t *v, char *reply, uint64_t *result) {
+    struct request q = {.task = GET, .key = (unsigned)v[0], .size = v[1], .flags = (int)v[2]};
+    note_destroyed();
+    int found = is_shared && v[0] ? shmget((key_t)v[0], 0, 0) : -1;
+    struct segment *known = found == -1 ? NULL : find_segment(found, -1);
+    if ((found != -1 || (is_shared && v[0] && errno != ENOENT)) && (!known || known->is_gone)) {
+        strcpy(reply, "skipped: the system has a segment with this key");
+        return;
+    }
+    struct answer a = ask(p, &q);
+    if (!reply_plain(&a, reply)) return;
+    int64_t name = name_segment((int)a.value, v[1]);
+    *result = (uint64_t)name;
+    sprintf(reply, "%" PRId64, name);
+}
+
+static void run_attach(struct process *p, const uint64_t *v, char *reply, uint64_t *result) {
+    struct segment *s = find_segment(-1, (int64_t)v[0]);
+    uint64_t size = s ? s->size : PAGE, page = v[1] - v[1] % PAGE, base;
+    struct request q = {.task = ATTACH, .id = real_identifier(v[0]), .flags = (int)v[2], .is_placed = v[1] != 0};
+    q.size = size;
+    q.address = real_address(p, page) + v[1] % PAGE;
+    int is_occupied = piece_at(p, page) && !(v[2] & SHM_REMAP);
+    if (v[1] && page + size > page && !is_occupied && !is_one_range(p, page, size)) {
+        strcpy(reply, "skipped: the range is not one range of the system");
+        return;
+    }
+    struct answer a = ask(p, &q);
+    if (!reply_plain(&a, reply)) return;
+    base = v[1] ? page : chosen_name(p, size);
+    if ((uint64_t)a.value % PAGE) fail(3, "an attach at %#" PRIx64, (uint64_t)a.value);
+    replace_pieces(p, (struct piece){base, size, (uint64_t)a.value, base});
+    *result = base;
+    if (base) sprintf(reply, "0x%" PRIx64, base);
+    else strcpy(reply, "null");
+}
+
+/* which attaches went is looked up, not assumed */
+static void run_detach(struct process *p, const uint64_t *v, char *reply) {
+    struct request q = {.task = DETACH, .address = real_address(p, v[0])};
+    for (int i = 0; i < p->piece_count && !piece_at(p, v[0]); i++) /* the first part was replaced and is gone */
+        if (p->pieces[i].origin == v[0]) q.address = p->pieces[i].real - (p->pieces[i].base - v[0]);
+    struct answer a = ask(p, &q);
+    if (!reply_plain(&a, reply)) return;
+    for (int i = p->piece_count; i-- > 0;) {
+        struct request look = {.task = MAPPED, .address = p->pieces[i].real};
+        if (ask(p, &look).value == 0) p->pieces[i] = p->pieces[--p->piece_count];
+    }
+}
+
+static void run_stat(struct process *p, const uint64_t *v, char *reply, int place) {
+    struct request q = {.task = CONTROL, .flags = IPC_STAT, .id = real_identifier(v[0])};
+    struct answer a = ask(p, &q);
+    char times[3][16];
+    struct shmid_ds *s = &a.segment;
+    if (!reply_plain(&a, reply)) return;
+    print_time(times[0], s->shm_atime, place);
+    print_time(times[1], s->shm_dtime, place);
+    print_time(times[2], s->shm_ctime, place);
+    int is_dest = s->shm_perm.mode & SHM_DEST, is_locked = s->shm_perm.mode & SHM_LOCKED;
+    sprintf(reply, "key=0x%08x uid=%u gid=%u cuid=%u cgid=%u mode=%03o status=%s size=%zu cpid=%u lpid=%u nattch=%lu "
+        "atime=%s dtime=%s ctime=%s", (unsigned)s->shm_perm.__key, s->shm_perm.uid, s->shm_perm.gid,
+        s->shm_perm.cuid, s->shm_perm.cgid, s->shm_perm.mode & 0777u,
+        is_dest && is_locked ? "dest,locked" : is_dest ? "dest" : is_locked ? "locked" : "-", s->shm_segsz,
+        script_pid(s->shm_cpid), script_pid(s->shm_lpid), (unsigned long)s->shm_nattch, times[0], times[1], times[2]);
+}
+
+static void run_control(struct process *p, int call, const uint64_t *v, char *reply) {
+    struct request q = {.task = CONTROL, .id = real_identifier(v[0]), .uid = (unsigned)v[1], .gid = (unsigned)v[2]};
+    q.mode = (unsigned)v[3];
+    q.flags = call == SHMSET ? IPC_SET : call == RMID ? IPC_RMID : call == LOCK ? SHM_LOCK : SHM_UNLOCK;
+    struct answer a = ask(p, &q);
+    reply_plain(&a, reply);
+}
+
+/* each byte is looked up for itself: attaches that the script has side by side may lie apart in the system */
+static void run_access(struct process *p, const struct command *c, const uint64_t *v, char *reply, uint64_t *result) {
+    struct request q = {.task = c->call == ACCESS_LOAD ? LOAD : c->call == ACCESS_STORE ? STORE : ADD};
+    q.length = c->call == ACCESS_LOAD ? (unsigned)v[1] : c->call == ACCESS_STORE ? c->length : 8;
+    q.number = v[1];
+    if (q.length > sizeof q.bytes) fail(1, "bad length: %u", q.length);
+    memcpy(q.bytes, c->bytes, sizeof q.bytes);
+    for (unsigned i = 0; i < q.length; i++)
+        q.at[i] = v[0] + i < v[0] ? UINT64_MAX : real_address(p, v[0] + i);
+    struct answer a = ask(p, &q);
+    if (!reply_plain(&a, reply) || q.task == STORE) return;
+    *result = (uint64_t)a.value;
+    if (q.task == ADD) sprintf(reply, "%" PRIu64, *result);
+    for (unsigned i = 0; i < q.length && q.task == LOAD; i++) sprintf(reply + 2 * i, "%02x", a.bytes[i]);
+}
+
+static void run_fork(struct process *p, const uint64_t *v, char *reply) {
+    int index = process_by_pid(v[0]);
+    struct process *child = &processes[index];
+    struct request q = {.task = FORK, .child = index};
+    if (child->life != UNBORN) {
+        strcpy(reply, "skipped: no such child can be");
+        return;
+    }
+    struct answer a = ask(p, &q);
+    if (!reply_plain(&a, reply)) return;
+    child->life = LIVE;
+    child->real = (pid_t)a.value;
+    child->uid = p->uid;
+    child->gid = p->gid;
+    memcpy(child->pieces, p->pieces, sizeof p->pieces);
+    child->piece_count = p->piece_count;
+}
+
+static void run_end(struct process *p, int call, char *reply) {
+    struct request q = {.task = call == EXECS ? EXEC : EXIT};
+    struct answer a = ask(p, &q);
+    if (call == EXITS) p->life = ENDED;
+    if (reply_plain(&a, reply)) p->piece_count = 0;
+}
+
+static void run(struct process *p, const struct command *c, const uint64_t *v, char *reply, uint64_t *result) {
+    int is_too_large = (c->call == SHMGET && (size_t)v[1] != v[1]) || (c->call == SHMAT && (uintptr_t)v[1] != v[1]);
+    if (is_too_large) strcpy(reply, "skipped: this system has no such number");
+    else if (p->has_no_user) strcpy(reply, "skipped: no right to be this user");
+    else if (c->call == SHMSET && !is_root && !is_shared && (v[1] != p->uid || v[2] != p->gid))
+        strcpy(reply, "skipped: there is one user here");
+    else if (p->life != LIVE) strcpy(reply, "skipped: no process makes this call");
+    else if (c->call == SWAPOFF) strcpy(reply, "skipped: no swap area is the script's");
+    else if (c->call == SHMGET) run_get(p, v, reply, result);
+    else if (c->call == SHMAT) run_attach(p, v, reply, result);
+    else if (c->call == SHMDT) run_detach(p, v, reply);
+    else if (c->call <= XADD) run_access(p, c, v, reply, result);
+    else if (c->call == SHMSTAT) run_stat(p, v, reply, (int)(c - commands) + 1);
+    else if (c->call <= UNLOCK) run_control(p, c->call, v, reply);
+    else if (c->call == FORKS) run_fork(p, v, reply);
+    else run_end(p, c->call, reply);
+}
+
+static void print_flags(uint64_t flags, int has_mode) {
+    const char *before = has_mode ? "," : "";
+    if (has_mode) printf("%03o", (unsigned)flags & 0777);
+    else if (!flags) printf("-");
+    for (int i = has_mode ? 0 : GET_FLAGS; i < (has_mode ? GET_FLAGS : FLAGS); i++) {
+        if (!(flags & flag_names[i].flag)) continue;
+        printf("%s%s", before, flag_names[i].name);
+        before = ",";
+    }
+}
+
+static void print_operand(const struct command *c, char letter, uint64_t value) {
+    putchar(' ');
+    if (letter == 'k') printf("0x%08" PRIx64, value);
+    else if (letter == 'a' && value == 0) printf("null");
+    else if (letter == 'a') printf("0x%" PRIx64, value);
+    else if (letter == 'm') printf("%03" PRIo64, value);
+    else if (letter == 'g' || letter == 'f') print_flags(value, letter == 'g');
+    else if (letter == 'b') for (unsigned i = 0; i < c->length; i++) printf("%02x", c->bytes[i]);
+    else if (letter == 'i' && value > INT32_MAX) printf("-1");
+    else printf("%" PRIu64, value);
+}
+
+static void run_command(int place) {
+    struct command *c = &commands[place - 1];
+    struct process *p = &processes[c->process];
+    uint64_t values[4] = {0}, result = UINT64_MAX;
+    char reply[512];
+    line_number = c->line;
+    printf("%d %u %s", place, p->pid, calls[c->call].name);
+    for (int i = 0; calls[c->call].operands[i]; i++) {
+        struct operand o = c->operands[i];
+        values[i] = o.number + (o.variable < 0 ? 0 : p->variables[o.variable]);
+        print_operand(c, calls[c->call].operands[i], values[i]);
+    }
+    run(p, c, values, reply, &result);
+    if (c->variable >= 0) p->variables[c->variable] = result;
+    printf(" = %s\n", reply);
+    fflush(stdout);
+}
+
+static void begin_second(int place) {
+    time_t last = place > 1 ? began[place - 1] : time(NULL);
+    while (time(NULL) <= last) wait_a_little(5);
+    began[place] = time(NULL);
+}
+
+static void become_user(const struct process *p) {
+    struct rlimit locked = {limits[4] * PAGE, limits[4] * PAGE};
+    setrlimit(RLIMIT_MEMLOCK, &locked);
+    if (is_root && (setgroups(0, NULL) || setresgid(p->gid, p->gid, p->gid) || setresuid(p->uid, p->uid, p->uid)))
+        _exit(97);
+}
+
+/* pipes to a worker and from it: its own ends have numbers that stand, whoever forks and execs */
+static void open_pipes(int index) {
+    int to[2], from[2], at = FIRST_FD + 2 * index;
+    if (pipe(to) || pipe(from) || dup2(to[0], at) < 0 || dup2(from[1], at + 1) < 0) fail(3, "pipe: %s", strerror(errno));
+    close(to[0]);
+    close(from[1]);
+    processes[index].to = to[1];
+    processes[index].from = from[0];
+    fcntl(to[1], F_SETFD, FD_CLOEXEC);
+    fcntl(from[0], F_SETFD, FD_CLOEXEC);
+}
+
+static void start_worker(int index) {
+    struct process *p = &processes[index];
+    int has_user = is_root ? p->uid != UINT32_MAX && p->gid != UINT32_MAX : p->uid == getuid() && p->gid == getgid();
+    if (p->life != LIVE || !has_user) {
+        p->has_no_user = p->life == LIVE;
+        return;
+    }
+    p->real = fork();
+    if (p->real == -1) fail(3, "fork: %s", strerror(errno));
+    if (p->real != 0) return;
+    for (int i = 0; i < process_count; i++) {
+        close(processes[i].to);
+        close(processes[i].from);
+    }
+    close(life_fd);
+    become_user(p);
+    prepare_worker();
+    serve(index);
+}
+
+static void direct(void) {
+    segments = calloc((size_t)command_count + 1, sizeof *segments);
+    began = calloc((size_t)command_count + 1, sizeof *began);
+    if (!segments || !began) fail(3, "no memory");
+    signal(SIGCHLD, SIG_IGN);
+    signal(SIGPIPE, SIG_IGN);
+    prctl(PR_SET_CHILD_SUBREAPER, 1);
+    for (int i = 0; i < process_count; i++) open_pipes(i);
+    for (int i = 0; i < process_count; i++) start_worker(i);
+    for (int i = 0; i < process_count; i++) {
+        close(FIRST_FD + 2 * i);
+        close(FIRST_FD + 2 * i + 1);
+    }
+    close(ALIVE_FD);
+    for (int place = 1; place <= command_count; place++) {
+        if (has_seconds) begin_second(place);
+        run_command(place);
+    }
+}
+
+/* ---- the guardian ---- */
+
+static void remove_all(void) {
+    int id;
+    for (off_t at = 0; pread(RECORD_FD, &id, sizeof id, at) == sizeof id; at += (off_t)sizeof id)
+        shmctl(id, IPC_RMID, NULL);
+}
+
+/* the workers end when the director's ends of their pipes are closed; then nobody makes a segment any more */
+static void clean_up(void) {
+    struct pollfd alive = {alive_fd, POLLIN, 0};
+    while (poll(&alive, 1, 1000 * limit_seconds) == -1 && errno == EINTR) continue;
+    remove_all();
+}
+
+static void write_file(const char *path, const char *text) {
+    FILE *file = fopen(path, "w");
+    int is_written = file && fputs(text, file) >= 0;
+    if (file && fclose(file) != 0) is_written = 0;
+    if (!is_written) fprintf(stderr, "peer: note: %s stays as it is\n", path);
+}
+
+static void write_limit(const char *path, uint64_t limit) {
+    char text[32];
+    sprintf(text, "%" PRIu64, limit);
+    write_file(path, text);
+}
+
+/* without root there is one user: the first of the script, in a user namespace */
+static void enter_as_one_user(unsigned outer_uid, unsigned outer_gid) {
+    char text[64];
+    write_file("/proc/self/setgroups", "deny");
+    sprintf(text, "%u %u 1", processes[0].uid, outer_uid);
+    write_file("/proc/self/uid_map", text);
+    sprintf(text, "%u %u 1", processes[0].gid, outer_gid);
+    write_file("/proc/self/gid_map", text);
+}
+
+static void drop_capabilities(void) {
+    struct __user_cap_header_struct header = {_LINUX_CAPABILITY_VERSION_3, 0};
+    struct __user_cap_data_struct none[2];
+    memset(none, 0, sizeof none);
+    syscall(SYS_capset, &header, none);
+}
+
+static void enter_namespace(void) {
+    unsigned uid = geteuid(), gid = getegid();
+    is_root = uid == 0;
+    if (!is_shared && unshare(is_root ? CLONE_NEWIPC : CLONE_NEWIPC | CLONE_NEWUSER) == -1) is_shared = 1;
+    if (is_shared) {
+        fprintf(stderr, "peer: note: in the system's own IPC namespace, under its limits\n");
+        return;
+    }
+    if (!is_root) enter_as_one_user(uid, gid);
+    write_limit("/proc/sys/kernel/shmmax", limits[0]);
+    write_limit("/proc/sys/kernel/shmmni", limits[1]);
+    write_limit("/proc/sys/kernel/shmall", limits[2]);
+    if (!is_root && processes[0].uid != 0) drop_capabilities();
+}
+
+static void on_interrupt(int signal) { (void)signal; }
+
+static void open_guard(int *life) {
+    int alive[2];
+    FILE *record = tmpfile();
+    if (!record || pipe(life) || pipe(alive) || dup2(fileno(record), RECORD_FD) < 0 || dup2(alive[1], ALIVE_FD) < 0)
+        fail(3, "pipe: %s", strerror(errno));
+    fcntl(RECORD_FD, F_SETFL, O_APPEND);
+    fcntl(alive[0], F_SETFD, FD_CLOEXEC);
+    close(alive[1]);
+    alive_fd = alive[0];
+}
+
+static int guard(void) {
+    int life[2], status = 0;
+    struct sigaction action = {.sa_handler = on_interrupt};
+    open_guard(life);
+    pid_t director = fork();
+    if (director == 0) {
+        close(life[1]);
+        life_fd = life[0];
+        direct();
+        exit(0);
+    }
+    if (director == -1) fail(3, "fork: %s", strerror(errno));
+    sigaction(SIGINT, &action, NULL);
+    sigaction(SIGTERM, &action, NULL);
+    sigaction(SIGHUP, &action, NULL);
+    close(ALIVE_FD);
+    while (waitpid(director, &status, 0) == -1 && errno == EINTR) kill(director, SIGTERM);
+    clean_up();
+    if (WIFSIGNALED(status)) fprintf(stderr, "peer: ended by signal %d\n", WTERMSIG(status));
+    return WIFEXITED(status) ? WEXITSTATUS(status) : 3;
+}
+
+static int usage(void) {
+    fprintf(stderr, "peer: usage: peer [--seconds] [--shared] [--limit S] [--exec WORDS] [SCRIPT]\n");
+    return 2;
+}
+
+/* the words that exec runs: those of --exec, or this program */
+static void choose_exec_words(char *given) {
+    static char this_program[] = "/proc/self/exe", *words[WORDS];
+    int count = 0;
+    for (char *w = given ? strtok(given, " ") : NULL; w && count < WORDS; w = strtok(NULL, " ")) words[count++] = w;
+    if (count == 0) words[count++] = this_program;
+    set_exec_words(words, count);
+}
+
+int main(int argc, char **argv) {
+    char *given = NULL;
+    FILE *from = stdin;
+    int i = 1;
+    if (argc > 1 && strcmp(argv[1], "--worker") == 0) return continue_worker(argc, argv);
+    for (; i < argc && strncmp(argv[i], "--", 2) == 0; i++) {
+        if (strcmp(argv[i], "--seconds") == 0) has_seconds = 1;
+        else if (strcmp(argv[i], "--shared") == 0) is_shared = 1;
+        else if (strcmp(argv[i], "--limit") == 0 && i + 1 < argc) limit_seconds = atoi(argv[++i]);
+        else if (strcmp(argv[i], "--exec") == 0 && i + 1 < argc) given = argv[++i];
+        else return usage();
+    }
+    if (argc - i > 1 || limit_seconds < 1) return usage();
+    if (i < argc && !(from = fopen(argv[i], "r"))) fail(1, "%s: %s", argv[i], strerror(errno));
+    if (sysconf(_SC_PAGESIZE) != PAGE) fail(4, "skipped: pages here are not of %d bytes", PAGE);
+    choose_exec_words(given);
+    read_script(from);
+    enter_namespace();
+    return guard();
+}

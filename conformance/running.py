@@ -1,0 +1,166 @@
+"""Runs the program and the peer, each with a limit of time, and leaves nothing behind."""
+
+import os
+import selectors
+import shutil
+import signal
+import subprocess
+import tempfile
+import time
+
+from script import BadInput, read_event, read_events
+
+HERE = os.path.dirname(os.path.abspath(__file__))
+TOP = os.path.dirname(HERE)
+PEER_SOURCE = os.path.join(HERE, "peer.c")
+FLAGS = ["-std=gnu11", "-O1", "-Wall", "-Wextra", "-Werror"]
+
+
+class Stopped(Exception):
+    """A tool died, hung, or printed what is no event line."""
+
+
+def run_program(words, case, limit):
+    """The program's events for a case."""
+    command = words + ["serial"] + case.swap
+    try:
+        done = subprocess.run(command, input=case.text.encode(), capture_output=True, timeout=6 * limit, check=False)
+    except subprocess.TimeoutExpired:
+        raise Stopped(f"the program gave no answer in {6 * limit} seconds") from None
+    except OSError as error:
+        raise Stopped(f"the program was not started: {error}") from None
+    if done.returncode != 0:
+        message = done.stderr.decode(errors="replace").strip().splitlines()[-1:] or ["nothing was said"]
+        raise Stopped(f"the program ended with status {done.returncode}: {message[0]}")
+    try:
+        return read_events(done.stdout.decode("ascii", "replace"), "the program")
+    except BadInput as error:
+        raise Stopped(str(error)) from None
+
+
+def build_peer(folder, is_static=False):
+    """The peer's path, built by the machine's C compiler."""
+    compiler = shutil.which("cc")
+    if compiler is None:
+        raise Stopped("no C compiler (cc) is here")
+    path = os.path.join(folder, "peer")
+    static = ["-static"] if is_static else []
+    done = subprocess.run([compiler] + FLAGS + static + ["-o", path, PEER_SOURCE], capture_output=True, check=False)
+    if done.returncode != 0:
+        raise Stopped("the peer was not built: " + done.stderr.decode(errors="replace").strip()[:300])
+    return path
+
+
+def open_folder():
+    """A folder for what is built; another user may run what is in it."""
+    folder = tempfile.TemporaryDirectory(prefix="conform.")
+    os.chmod(folder.name, 0o755)
+    return folder
+
+
+class Peer:
+    """A command that reads a script on standard input and prints event lines."""
+
+    def __init__(self, words, options=(), limit=10):
+        self.words = list(words) + list(options)
+        # behind an exec the emulator runs again, or the process would leave it
+        if os.path.basename(words[0]).startswith("qemu"):
+            self.words += ["--exec", " ".join(words)]
+        self.limit = limit
+        self.notes = set()
+
+    def run(self, text, count):
+        """The events of a script of so many commands."""
+        with tempfile.TemporaryFile() as script, tempfile.TemporaryFile() as said:
+            script.write(text.encode())
+            script.seek(0)
+            try:
+                process = subprocess.Popen(self.words, stdin=script, stdout=subprocess.PIPE, stderr=said,
+                                           start_new_session=True)
+            except OSError as error:
+                raise Stopped(f"the peer was not started: {error}") from None
+            try:
+                return self.listen(process, count, said)
+            finally:
+                end_group(process)
+
+    def listen(self, process, count, said):
+        events = []
+        for line in lines_within(process.stdout, 2 * self.limit):
+            event = read_event(line)
+            if event is None or event.place != len(events) + 1:
+                raise Stopped(f"the peer printed no event line: {line[:80]!r}")
+            events.append(event)
+        status = process.wait(2 * self.limit)
+        message = text_of(said)
+        self.notes.update(line for line in message if " note: " in line)
+        faults = [line for line in message if " note: " not in line]
+        if status != 0:
+            raise Stopped(f"the peer ended with status {status}: {(faults or ['nothing was said'])[-1]}")
+        if len(events) != count:
+            raise Stopped(f"the peer printed {len(events)} lines for {count} commands")
+        return events
+
+
+def text_of(file):
+    file.seek(0)
+    return file.read().decode(errors="replace").splitlines()
+
+
+def lines_within(stream, limit):
+    """Each line, which must come within so many seconds of the one before."""
+    rest = b""
+    with selectors.DefaultSelector() as selector:
+        selector.register(stream, selectors.EVENT_READ)
+        while True:
+            if not selector.select(limit):
+                raise Stopped(f"the peer printed nothing for {limit} seconds")
+            got = os.read(stream.fileno(), 65536)
+            if not got:
+                break
+            *lines, rest = (rest + got).split(b"\n")
+            yield from (line.decode("ascii", "replace") for line in lines)
+    if rest:
+        raise Stopped(f"the peer printed half a line: {rest[:80].decode('ascii', 'replace')!r}")
+
+
+def end_group(process):
+    """Ends what is left of a peer: asked first, so that it removes what it made."""
+    for number, seconds in ((signal.SIGTERM, 5), (signal.SIGKILL, 5)):
+        if not is_group_there(process.pid):
+            break
+        try:
+            os.killpg(process.pid, number)
+        except ProcessLookupError:
+            break
+        wait_for_group(process, seconds)
+    process.stdout.close()
+    process.wait()
+
+
+def wait_for_group(process, seconds):
+    end = time.monotonic() + seconds
+    while time.monotonic() < end:
+        process.poll()
+        if not is_group_there(process.pid):
+            return
+        time.sleep(0.01)
+
+
+def is_group_there(group):
+    try:
+        os.killpg(group, 0)
+    except ProcessLookupError:
+        return False
+    return True
+
+
+def why_no_peer():
+    """Why the peer can't be run here, or nothing."""
+    if shutil.which("cc") is None:
+        return "no C compiler (cc) is here"
+    if os.geteuid() == 0:
+        return ""
+    test = subprocess.run(["unshare", "--user", "--ipc", "true"], capture_output=True, check=False) \
+        if shutil.which("unshare") else None
+    return "" if test and test.returncode == 0 else "neither root nor a user namespace is at hand"
