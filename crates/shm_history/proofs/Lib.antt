@@ -1,3 +1,4 @@
 pub mod Histories
 pub mod Counted
 pub mod Steps
+pub mod Cells

@@ -1,9 +1,15 @@
-//! A system with the history of its calls, which is legal at all times.
+//! A system with the history of its calls, which is legal at all times, and a gauge of its counts.
 #![tactic(auto)]
 
+mod cell;
+mod gauges;
+mod publish;
 #[cfg(test)]
 mod tests;
 mod world;
 
+pub use cell::Reading;
+pub use gauges::{Gauge, Keeper, ReaderSeat};
+pub use publish::gauge;
 pub use shm_life::{Opening, StartError, System};
 pub use world::World;

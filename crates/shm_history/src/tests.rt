@@ -6,6 +6,7 @@ use shm_base::{
 use shm_pager::{FusePager, Pager, RamPager};
 use std::alloc::Global;
 use std::process::Abort;
+use std::sync::Wait;
 use std::test::Fail;
 
 fn world(rt: &HostRuntime, shmmax: u64) -> Result<World<RamPager>, Fail> {
@@ -249,4 +250,70 @@ fn spends<P: Pager>(rt: &impl Abort, alloc: Global, world: &mut World<P>) -> Res
 #[test]
 fn a_spent_area(rt: HostRuntime) -> Result<(), Fail> {
     spends(&rt, rt.alloc(), &mut over_almost_spent(rt.alloc())?)
+}
+
+fn two_pages(alloc: Global) -> Result<Vec<(Call, Reply)>, Fail> {
+    let calls = vec![in alloc;
+        (shmget(8192), Reply::Id(0)),
+        (shmat(0), Reply::Addr(0x40000000)),
+        (store(0x40000ffe, &[1, 2, 3, 4])?, Reply::Done),
+        (load(0x40000ffd, 6)?, bytes(&[0, 1, 2, 3, 4, 0])?),
+    ]?;
+    Ok(calls)
+}
+
+fn counts(events: u64, resident: u64, dirty: u64, used: u64) -> Reading {
+    Reading {
+        events,
+        resident,
+        dirty,
+        used,
+    }
+}
+
+fn shows_what_is_published<R: Abort + Wait>(
+    rt: &R,
+    alloc: Global,
+    world: &mut World<RamPager>,
+    empty: &World<RamPager>,
+) -> Result<(), Fail> {
+    let (gauge, mut keeper, mut seat) = gauge(rt, alloc, world)?;
+    replies(rt, world, &two_pages(alloc)?)?;
+    // nothing is published yet
+    assert_eq!(rt; gauge.read(rt, &mut seat), counts(0, 0, 0, 0));
+    assert!(rt; world.publish(rt, &mut keeper));
+    assert_eq!(rt; gauge.read(rt, &mut seat), counts(4, 2, 2, 0));
+    world.flush(2);
+    assert!(rt; world.publish(rt, &mut keeper));
+    assert_eq!(rt; gauge.read(rt, &mut seat), counts(4, 2, 0, 2));
+    // a world with fewer events is not published
+    assert!(rt; !empty.publish(rt, &mut keeper));
+    assert_eq!(rt; gauge.read(rt, &mut seat), counts(4, 2, 0, 2));
+    Ok(())
+}
+
+#[test]
+fn a_gauge_shows_what_is_published(rt: HostRuntime) -> Result<(), Fail> {
+    shows_what_is_published(
+        &rt,
+        rt.alloc(),
+        &mut world(&rt, 65536)?,
+        &world(&rt, 65536)?,
+    )
+}
+
+fn shows_the_world<R: Abort + Wait>(
+    rt: &R,
+    alloc: Global,
+    world: &mut World<RamPager>,
+) -> Result<(), Fail> {
+    replies(rt, world, &two_pages(alloc)?)?;
+    let (gauge, _keeper, mut seat) = gauge(rt, alloc, world)?;
+    assert_eq!(rt; gauge.read(rt, &mut seat), counts(4, 2, 2, 0));
+    Ok(())
+}
+
+#[test]
+fn a_new_gauge_shows_its_world(rt: HostRuntime) -> Result<(), Fail> {
+    shows_the_world(&rt, rt.alloc(), &mut world(&rt, 65536)?)
 }

@@ -1,11 +1,10 @@
 -- What is kept where a segment is locked, marked or written, and where a process forks.
-use Rattle.std.proofs.Common.{◌≡◌, ◌≢◌, ◌⊎◌, ℕ, ◌+◌, ◌/◌, ◌%◌, ◌≤◌, ◌&&◌, nat_lt, not, Bool, true, false, if◌then◌else◌, List, [], ◌∷◌, slice_get, slice_set, Option, Some, None, Ok, refl, sym, ap, ◌∙◌, inl, inr, arith, true≢false, eq-eqb}
-use Rattle.std.proofs.lemmas.Bool.{cases_eq}
+use Rattle.std.proofs.Common.{◌≡◌, ℕ, ◌+◌, ◌/◌, ◌%◌, ◌≤◌, ◌&&◌, nat_lt, not, Bool, true, false, if◌then◌else◌, List, [], slice_set, Option, Some, None, Ok, refl, sym, ◌∙◌, arith, true≢false}
 use Rattle.std.proofs.lemmas.Grind.{common_steps}
 use Rattle.std.specs.Prelude.{All}
 use Rattle.shm_base.specs.Bounds.{Bounds}
 use Rattle.shm_base.specs.State.{Live, Entry, Runner, pages_of, pages_in}
-use Rattle.shm_base.specs.Segments.{attach_count, change, marked, pages_locked, locked}
+use Rattle.shm_base.specs.Segments.{attach_count, change, pages_locked, locked}
 use Rattle.shm_base.specs.Step.{Caller as FlatCaller, unborn_from}
 use Rattle.shm_base.specs.declared.paging.Span.{Span}
 use Rattle.shm_attach.specs.declared.process.Caller.{Caller}
@@ -17,11 +16,9 @@ use Rattle.shm_attach.proofs.FlatSteps.{pieces_by-caller}
 use Rattle.shm_segments.specs.declared.head.Found.{Found}
 use Rattle.shm_segments.specs.Table.{IsFound, SpanFits, page_there, relocked}
 use Rattle.shm_segments.specs.Table as table
-use Rattle.shm_segments.specs.Left.{orphan_in, orphan, id_in, id_at}
-use Rattle.shm_segments.proofs.Entries.{get-set_other, sum-set}
+use Rattle.shm_segments.proofs.Entries.{sum-set}
 use Rattle.shm_segments.proofs.Same.{SamePages, change-pages, change-left}
 use Rattle.shm_life.specs.Tied.{PieceFits, PiecesFit}
-use Rattle.shm_life.specs.Orphans.{is_among, OrphansAmong}
 use Rattle.shm_life.specs.Kept.{IsKept}
 use Rattle.shm_life.proofs.Leaving.{orphans-among}
 use Rattle.shm_life.proofs.Pieces.{fit-set, fit-same}

@@ -11,3 +11,4 @@ pub mod Created
 pub mod Changed
 pub mod Going
 pub mod Shmat
+pub mod Reserved

@@ -4,9 +4,9 @@ use Rattle.shm_base.specs.State.{Machine}
 use Rattle.shm_base.specs.Step.{Outcome}
 use Rattle.shm_base.specs.History.{is_refusal}
 use Rattle.shm_base.specs.Segments as flat
-use Rattle.shm_slots.specs.View.{sizes}
+use Rattle.shm_slots.specs.View.{sizes, slots}
 use Rattle.shm_slots.specs.Cause.{GoesOn, had_cause}
-use Rattle.shm_fault.specs.Store.{StoreView}
+use Rattle.shm_fault.specs.Store.{StoreView, used}
 use Rattle.shm_fault.specs.Steps.{Kept}
 use Rattle.shm_fault.specs.Sound.{IsSound}
 use Rattle.shm_segments.specs.View.{Shows}
@@ -27,11 +27,15 @@ pub record IsFailed (o : Outcome) (s t : MachineView) : Type 0 where
   pub unchanged : t.flat ≡ s.flat
   pub cause : had_cause s.memory.swap t.memory.swap ≡ true
 
--- the memory shows the flat machine and is sound, and no count is out of its bound
+-- The memory shows the flat machine and is sound, and no count is out of its bound: the slots that are used are
+-- no more than the pages of all segments, these no more than the slots that are there, nor than the limit
 pub record IsExactly (m : Machine) (memory : StoreView) : Type 0 where
   pub sound : IsSound memory
   pub shows : Shows m.table memory
   pub areas : m.areas ≡ sizes memory.swap
   pub frames : length memory.frames ≡ m.limits.frames
+  pub used : used memory ≤ flat.reserved m.table
+  pub room : flat.reserved m.table ≤ slots memory.swap
   pub reserved : flat.reserved m.table ≤ m.limits.shmall
+  pub shmall : m.limits.shmall ≤ 65536
   pub locked : flat.locked m.table ≤ m.limits.memlock

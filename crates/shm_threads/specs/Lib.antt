@@ -1,1 +1,3 @@
+pub mod Keepers
+pub mod Plans
 pub mod Transcripts

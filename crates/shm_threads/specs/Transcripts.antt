@@ -1,7 +1,8 @@
 -- What the transcripts of a run say of its history.
-use Rattle.std.specs.Prelude.{◌≡◌, ◌≢◌, ◌≤◌, ◌⊎◌, ◌==◌, ℕ, ◌+◌, length, vec_len, vec_capacity, List, [], ◌∷◌, Bool, true, false, not, ◌&&◌, is_some, if◌then◌else◌, Option, Some, None, MatchBool, All}
+use Rattle.std.specs.Prelude.{◌≡◌, ◌≢◌, ◌≤◌, ◌⊎◌, ◌==◌, ℕ, ◌+◌, length, vec_len, vec_capacity, List, [], ◌∷◌, Bool, true, false, not, ◌&&◌, is_some, if◌then◌else◌, Option, Some, None, MatchBool, All, map}
 use Rattle.std.specs.List.{list_any}
-use Rattle.shm_base.specs.History.{own_part}
+use Rattle.shm_base.specs.History.{IsHistory, own_part}
+use Rattle.shm_base.specs.State.{Opening}
 use Rattle.shm_base.specs.declared.call.Call.{Call}
 use Rattle.shm_base.specs.declared.call.Call.TheVariants.{Shmget, Shmat, Fork, Exit}
 use Rattle.shm_base.specs.declared.call.Reply.{Reply}
@@ -9,7 +10,7 @@ use Rattle.shm_base.specs.declared.call.Reply.TheVariants.{Done, Refused}
 use Rattle.shm_base.specs.declared.call.Event.{Event}
 use Rattle.shm_base.specs.declared.call.Process.{Process}
 use Rattle.shm_base.specs.declared.errno.Errno.TheVariants.{Esrch}
-use Rattle.shm_history.specs.WorldState.{event}
+use Rattle.shm_history.specs.WorldState.{WorldState, event}
 use Rattle.shm_text.specs.Form.{CommandView}
 use Rattle.shm_text.specs.Script.{ScriptView}
 use Rattle.shm_text.specs.Variables.{no_values, call_of, values_after}
@@ -56,13 +57,13 @@ abbrev pub told : ℕ → List Entry → List Event
 told pid [] = []
 told pid (e ∷ es) = events_of pid e.call e.answer (told pid es)
 
--- whether a fork of the child was answered ok
-abbrev pub bears : ℕ → Call → Reply → Bool
-bears child (Fork c) Done = c == child
-bears child _ _ = false
+-- whether the call is a fork of the child that was answered ok
+abbrev pub is_fork_of : ℕ → Call → Reply → Bool
+is_fork_of child (Fork c) Done = c == child
+is_fork_of child _ _ = false
 
 abbrev pub is_forked : ℕ → List Event → Bool
-is_forked child history = list_any (λ (e : Event). bears child e.call e.reply) history
+is_forked child history = list_any (λ (e : Event). is_fork_of child e.call e.reply) history
 
 -- whether a pid is declared, and whether as a child
 abbrev pub is_declared : ℕ → List Process → Bool
@@ -103,6 +104,15 @@ pub record IsTranscript (script : ScriptView) (history : List Event) (t : Transc
 pub record IsAdmitted (processes : List Process) (e : Event) : Type 0 where
   pub declared : is_declared e.pid processes ≡ true
   pub live : e.reply ≢ Refused Esrch
+
+-- The outcome of a run: the opening stays, the history is legal, there is a transcript for each process, in the
+-- script's order, which is its process's, and the history has no events of others
+pub record IsOutcome (script : ScriptView) (opened : Opening) (world : WorldState) (all : List Transcript) : Type 0 where
+  pub opening : world.opening ≡ opened
+  pub legal : IsHistory world.opening world.events world.machine
+  pub processes : map pid_of all ≡ map pid_in script.processes
+  pub transcripts : All (IsTranscript script world.events) all
+  pub events : All (IsAdmitted script.processes) world.events
 
 -- before a run: the transcript has room for its process's lines
 abbrev pub HasRoom : List Line → Transcript → Type 0

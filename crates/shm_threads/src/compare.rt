@@ -2,9 +2,9 @@
 //! what this finds: the workers themselves promise nothing.
 ghost use Rattle.std.specs.Prelude.{◌≡◌, ◌≤◌, IfNone, IfOk, IsTrue, All, map, length, drop};
 ghost use Rattle.std.specs.Option.{option_copied};
-ghost use Rattle.shm_base.specs.History.{IsHistory, own_part};
+ghost use Rattle.shm_base.specs.History.{own_part};
 ghost use Rattle.shm_text.specs.Variables.{no_values};
-ghost use Rattle.shm_threads.specs.Transcripts.{commands_of, reply_in, is_end, Follows, told, bears, is_forked, is_declared, is_child, pid_in, pid_of, HasLines, FitsMark, IsTranscript, IsAdmitted};
+ghost use Rattle.shm_threads.specs.Transcripts.{commands_of, reply_in, is_end, Follows, told, is_fork_of, is_forked, is_declared, is_child, pid_in, pid_of, HasLines, FitsMark, IsTranscript, IsAdmitted, IsOutcome};
 
 use crate::outcome::{Answer, Entry, Transcript};
 use shm_base::{Call, Errno, Event, HostMemory, Process, Reply};
@@ -48,11 +48,7 @@ pub(crate) fn mismatch<P: Pager>(
     script: &Script,
     transcripts: &Vec<Transcript>,
 ) -> Option<u32>
-    ensures opening { IfNone result (world.now.opening ≡ opening.now) }
-    ensures legal { IfNone result (IsHistory world.now.opening world.now.events world.now.machine) }
-    ensures processes { IfNone result (map pid_of transcripts.now.items ≡ map pid_in script.now.processes) }
-    ensures transcripts { IfNone result (All (IsTranscript script.now world.now.events) transcripts.now.items) }
-    ensures events { IfNone result (All (IsAdmitted script.now.processes) world.now.events) }
+    ensures { IfNone result (IsOutcome script.now opening.now world.now transcripts.now.items) }
 {
     if !is_same(opening, world.opening()) {
         return Some(0);
@@ -170,14 +166,14 @@ fn is_child(processes: &[Process], pid: u32) -> bool
 fn is_forked(history: &[Event], child: u32) -> bool
     ensures { result ≡ is_forked child history.now }
 {
-    history.iter().any(|event| bears(event, child))
+    history.iter().any(|event| is_fork_of(event, child))
 }
 
-fn bears(event: &Event, child: u32) -> bool
-    ensures { result ≡ bears child event.now.call event.now.reply }
+fn is_fork_of(event: &Event, child: u32) -> bool
+    ensures { result ≡ is_fork_of child event.now.call event.now.reply }
 {
     match (&event.call, &event.reply) {
-        (Call::Fork { child: born }, Reply::Done) => *born == child,
+        (Call::Fork { child: forked }, Reply::Done) => *forked == child,
         _ => false,
     }
 }

@@ -3,15 +3,17 @@
 
 mod compare;
 mod gate;
-mod hall;
+#[cfg(test)]
+mod gauge_tests;
 mod outcome;
 mod run;
 #[cfg(test)]
 mod run_tests;
+mod shared;
 #[cfg(test)]
 mod tests;
 mod worker;
 
 pub use gate::Gate;
 pub use outcome::{Answer, Entry, Outcome, RunError, Transcript};
-pub use run::run_threads;
+pub use run::{run_threads, run_threads_gauged};

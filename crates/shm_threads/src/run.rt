@@ -1,32 +1,34 @@
 //! A run with threads: start, joins, comparison.
-ghost use Rattle.std.specs.Prelude.{◌≡◌, ◌+◌, ◌≤◌, IfOk, OnOk, All, map, vec_len, vec_capacity};
-ghost use Rattle.shm_base.specs.History.{IsHistory};
-ghost use Rattle.shm_threads.specs.Transcripts.{HasRoom, IsTranscript, IsAdmitted, pid_in, pid_of};
+ghost use Rattle.std.specs.Prelude.{◌≡◌, ◌+◌, ◌≤◌, true, false, IfOk, OnOk, IfNone, length, vec_len, vec_capacity};
+ghost use Rattle.shm_threads.specs.Keepers.{cell_of, IsCaughtUp};
+ghost use Rattle.shm_threads.specs.Transcripts.{HasRoom, IsOutcome};
+ghost use Rattle.shm_threads.specs.Plans.{IsPlan};
 
 use crate::compare::{copied, least, mismatch};
 use crate::gate::Gate;
-use crate::hall::Hall;
 use crate::outcome::{Outcome, RunError, Transcript};
-use crate::worker::{Ended, flush_all, jobs, work};
+use crate::shared::{ProcessState, Shared, states};
+use crate::worker::{Ended, Flushed, flush_all, jobs, work};
 use shm_base::HostMemory;
-use shm_history::{Opening, World};
+use shm_history::{Keeper, Opening, World};
 use shm_pager::Pager;
 use shm_text::Script;
 use std::alloc::Global;
+use std::snapshot::Snapshot;
 use std::sync::Wait;
 use std::thread;
-use std::thread::{Builder, JoinHandle, Threads};
+use std::thread::{Builder, JoinHandle, Promise, Threads};
 
 /// Runs the lines of a script on a world, with a worker in a thread of its own for each process: its command
 /// lines in order, up to the last or to its exit. The world is opened with the script's processes and has no
 /// history yet; a run on one that has a history gives no outcome. Each call takes the world's one lock and
-/// lets it go. A child's worker waits until the child is born, or until none that could bear it is left. A
+/// lets it go. A child's worker waits until the child is born, or until none that could fork it is left. A
 /// call for which the host refused memory is marked in the transcript, its variable becomes -1, and the
 /// worker goes on. Another thread, the flusher, runs the flush lines in order, one round for each taking of
 /// the lock. Nothing is said of the order in which threads get the lock, nor that a run ends: workers wait,
 /// and the gate may.
 ///
-/// The clauses say of an outcome: its world has the opening that was handed in; its history is legal; it has a
+/// The clause says of an outcome: its world has the opening that was handed in; its history is legal; it has a
 /// transcript for each process, in the script's order, which follows the process's lines, or is empty and that
 /// of a child never born; without its marked calls a transcript is the process's own part of the history; only
 /// shmget, shmat and fork are marked; the history has no other pids, and no call of one that was not live.
@@ -37,178 +39,222 @@ pub fn run_threads<R: Threads + Wait + Sync, G: Gate, P: Pager + Send>(
     script: &Script,
     gate: &G,
 ) -> Result<Outcome<P>, RunError>
-    ensures opening { IfOk result (λ o. o.world.opening ≡ world.opening) }
-    ensures legal { IfOk result (λ o. IsHistory o.world.opening o.world.events o.world.machine) }
-    ensures processes { IfOk result (λ o. map pid_of o.transcripts.items ≡ map pid_in script.now.processes) }
-    ensures transcripts { IfOk result (λ o. All (IsTranscript script.now o.world.events) o.transcripts.items) }
-    ensures events { IfOk result (λ o. All (IsAdmitted script.now.processes) o.world.events) }
+    ensures { IfOk result (λ o. IsOutcome script.now world.opening o.world o.transcripts.items) }
 {
-    run_with(rt, alloc, world, script, gate, usize::MAX)
+    let (outcome, _) = run_with(rt, alloc, world, None, script, gate, usize::MAX)?;
+    Ok(outcome)
 }
 
-// As `run_threads`. From this place on, a worker asks for a stack that no thread can have.
+/// As `run_threads`, with a gauge. The flusher has its keeper and publishes in each round, under the lock, and
+/// the call publishes once more when the workers have ended: so the keeper that comes back has stored the
+/// counts of the outcome's world, unless it had stored those of more events. The keeper is dropped where there
+/// is no outcome. How often the gauge changes while the run goes on, is not said.
+pub fn run_threads_gauged<R: Threads + Wait + Sync, G: Gate, P: Pager + Send>(
+    rt: &R,
+    alloc: Global,
+    world: World<P>,
+    keeper: Keeper,
+    script: &Script,
+    gate: &G,
+) -> Result<(Outcome<P>, Keeper), RunError>
+    ensures outcome { IfOk result (λ r. IsOutcome script.now world.opening r.0.world r.0.transcripts.items) }
+    ensures cell { IfOk result (λ r. r.1.cell ≡ keeper.cell) }
+    ensures numbers { IfOk result (λ r. IsCaughtUp r.0.world r.1.numbers) }
+{
+    let (outcome, keeper) = run_with(rt, alloc, world, Some(keeper), script, gate, usize::MAX)?;
+    let Some(mut keeper) = keeper else {
+        unreachable!()
+    };
+    outcome.world.publish(rt, &mut keeper);
+    Ok((outcome, keeper))
+}
+
+// The one body of both, with or without a keeper. From this place on, a worker is refused its thread.
 pub(crate) fn run_with<R: Threads + Wait + Sync, G: Gate, P: Pager + Send>(
     rt: &R,
     alloc: Global,
     mut world: World<P>,
+    keeper: Option<Keeper>,
     script: &Script,
     gate: &G,
     refused_from: usize,
-) -> Result<Outcome<P>, RunError>
-    ensures opening { IfOk result (λ o. o.world.opening ≡ world.opening) }
-    ensures legal { IfOk result (λ o. IsHistory o.world.opening o.world.events o.world.machine) }
-    ensures processes { IfOk result (λ o. map pid_of o.transcripts.items ≡ map pid_in script.now.processes) }
-    ensures transcripts { IfOk result (λ o. All (IsTranscript script.now o.world.events) o.transcripts.items) }
-    ensures events { IfOk result (λ o. All (IsAdmitted script.now.processes) o.world.events) }
+) -> Result<(Outcome<P>, Option<Keeper>), RunError>
+    ensures outcome { IfOk result (λ r. IsOutcome script.now world.opening r.0.world r.0.transcripts.items) }
+    ensures cell { IfOk result (λ r. cell_of r.1 ≡ cell_of keeper) }
 {
-    let opening = prepared(alloc, &mut world, script)?;
-    let (world, run) = joined(rt, alloc, world, script, gate, refused_from)?;
-    compared(&opening, world, script, run)
+    let Start {
+        opening,
+        processes,
+        plan,
+    } = prepared(alloc, &mut world, script)?;
+    let shared = Shared::new(world, processes);
+    let run = run_all(rt, &shared, keeper, script, gate, plan, refused_from);
+    let world = shared.into_world();
+    match fault(&opening, &world, script, &run) {
+        None => Ok(ended(world, run)),
+        Some(error) => Err(error),
+    }
 }
 
-// The world's opening. There is room for an event of each line.
+// All that a run takes memory for before its workers start, but for the room in its world.
+#[derive(Drop)]
+struct Start {
+    opening: Opening,
+    processes: Vec<ProcessState>,
+    plan: Plan,
+}
+
+// What the workers and their joins need.
+#[derive(Drop)]
+struct Plan {
+    // An empty transcript for each process, with room for its lines.
+    jobs: Vec<Transcript>,
+    // Empty lists with room for each job.
+    handles: Vec<JoinHandle<Ended>>,
+    transcripts: Vec<Transcript>,
+}
+
+// The world's opening, and what the workers need. There is room for an event of each line.
 fn prepared<P: Pager>(
     alloc: Global,
     world: &mut World<P>,
     script: &Script,
-) -> Result<Opening, HostMemory>
-    ensures opening { IfOk result (λ opening. opening ≡ world.old.opening) }
+) -> Result<Start, HostMemory>
+    ensures opening { IfOk result (λ s. s.opening ≡ world.old.opening) }
+    ensures plan { IfOk result (λ s. IsPlan script.now.lines s.plan.jobs s.plan.handles s.plan.transcripts) }
+    ensures room { OnOk result (length script.now.lines ≤ world.new.room) }
     ensures rest { world.new ≡ record world.old { room = world.new.room } }
 {
     let opening = copied(alloc, world.opening())?;
+    let processes = states(alloc, &script.processes)?;
+    let plan = planned(alloc, script)?;
     world.reserve(script.lines.len())?;
-    Ok(opening)
+    Ok(Start {
+        opening,
+        processes,
+        plan,
+    })
 }
 
-// The world when all workers have ended, and what their joins gave.
-fn joined<R: Threads + Wait + Sync, G: Gate, P: Pager + Send>(
-    rt: &R,
-    alloc: Global,
-    world: World<P>,
-    script: &Script,
-    gate: &G,
-    refused_from: usize,
-) -> Result<(World<P>, Run), HostMemory> {
-    let hall = Hall::new(alloc, world, &script.processes)?;
+fn planned(alloc: Global, script: &Script) -> Result<Plan, HostMemory>
+    ensures { IfOk result (λ p. IsPlan script.now.lines p.jobs p.handles p.transcripts) }
+{
     let jobs = jobs(alloc, script)?;
-    let handles = with_room(alloc, jobs.len())?;
-    let transcripts = with_room(alloc, jobs.len())?;
-    let run = run_all(
-        rt,
-        &hall,
-        script,
-        gate,
+    let handles = Vec::with_capacity(alloc, jobs.len())?;
+    let transcripts = Vec::with_capacity(alloc, jobs.len())?;
+    Ok(Plan {
         jobs,
         handles,
         transcripts,
-        refused_from,
-    );
-    Ok((hall.into_world(), run))
+    })
 }
 
-// The outcome, where no thread was refused, no worker was ended, and the transcripts are the world's history.
-fn compared<P: Pager>(
-    opening: &Opening,
-    world: World<P>,
-    script: &Script,
-    run: Run,
-) -> Result<Outcome<P>, RunError>
-    ensures opening { IfOk result (λ o. o.world.opening ≡ opening.now) }
-    ensures legal { IfOk result (λ o. IsHistory o.world.opening o.world.events o.world.machine) }
-    ensures processes { IfOk result (λ o. map pid_of o.transcripts.items ≡ map pid_in script.now.processes) }
-    ensures transcripts { IfOk result (λ o. All (IsTranscript script.now o.world.events) o.transcripts.items) }
-    ensures events { IfOk result (λ o. All (IsAdmitted script.now.processes) o.world.events) }
-{
-    match verdict(opening, &world, script, &run) {
-        Ok(()) => Ok(Outcome {
-            world,
-            transcripts: run.transcripts,
-        }),
-        Err(error) => Err(error),
-    }
-}
-
-// Why a run has no outcome, if it has none.
-fn verdict<P: Pager>(
-    opening: &Opening,
-    world: &World<P>,
-    script: &Script,
-    run: &Run,
-) -> Result<(), RunError>
-    ensures opening { OnOk result (world.now.opening ≡ opening.now) }
-    ensures legal { OnOk result (IsHistory world.now.opening world.now.events world.now.machine) }
-    ensures processes { OnOk result (map pid_of run.now.transcripts.items ≡ map pid_in script.now.processes) }
-    ensures transcripts { OnOk result (All (IsTranscript script.now world.now.events) run.now.transcripts.items) }
-    ensures events { OnOk result (All (IsAdmitted script.now.processes) world.now.events) }
-{
-    if run.is_refused {
-        return Err(RunError::ThreadRefused);
-    }
-    if let Some(pid) = run.expired {
-        return Err(RunError::GateExpired { pid });
-    }
-    match mismatch(opening, world, script, &run.transcripts) {
-        None => Ok(()),
-        Some(pid) => Err(RunError::HistoryMismatch { pid }),
-    }
-}
-
-// An empty list with room for so many.
-fn with_room<T: Drop>(alloc: Global, count: usize) -> Result<Vec<T>, HostMemory>
-    ensures none { IfOk result (λ list. vec_len list ≡ 0) }
-    ensures room { IfOk result (λ list. count ≤ vec_capacity list) }
-{
-    let list = Vec::with_capacity(alloc, count)?;
-    Ok(list)
-}
-
-// What the joins gave.
+// What the joins gave: beside the transcripts and the keeper, the least pid of a worker that the gate ended, and
+// whether a thread was refused.
 #[derive(Drop)]
 struct Run {
     transcripts: Vec<Transcript>,
+    keeper: Option<Keeper>,
     expired: Option<u32>,
     is_refused: bool,
 }
 
-// Starts a worker for each job, and joins them all. Each transcript has room for its lines, and both lists
-// have room for each job. Where a thread is refused no more are started.
+// Why a run has no outcome, if it has none.
+fn fault<P: Pager>(
+    opening: &Opening,
+    world: &World<P>,
+    script: &Script,
+    run: &Run,
+) -> Option<RunError>
+    ensures outcome { IfNone result (IsOutcome script.now opening.now world.now run.now.transcripts.items) }
+    ensures started { IfNone result (run.now.is_refused ≡ false) }
+{
+    if run.is_refused {
+        return Some(RunError::ThreadRefused);
+    }
+    if let Some(pid) = run.expired {
+        return Some(RunError::GateExpired { pid });
+    }
+    match mismatch(opening, world, script, &run.transcripts) {
+        None => None,
+        Some(pid) => Some(RunError::HistoryMismatch { pid }),
+    }
+}
+
+fn ended<P: Pager>(world: World<P>, run: Run) -> (Outcome<P>, Option<Keeper>)
+    ensures world { result.0.world ≡ world }
+    ensures transcripts { result.0.transcripts ≡ run.transcripts }
+    ensures keeper { result.1 ≡ run.keeper }
+{
+    let Run {
+        transcripts,
+        keeper,
+        expired: _,
+        is_refused: _,
+    } = run;
+    (Outcome { world, transcripts }, keeper)
+}
+
+// The keeper that comes back, if there is one, is of the same cell.
+#[derive(Drop)]
+struct SameCell(Snapshot<Option<Keeper>>);
+
+impl Promise<Flushed> for SameCell {
+    ghost use Rattle.std.specs.Prelude.{◌≡◌};
+    ghost use Rattle.shm_threads.specs.Keepers.{cell_of};
+
+    ghost kept_by = { λ p r. cell_of r.keeper ≡ cell_of p.0.value };
+}
+
+// Starts the flusher and a worker for each job, and joins them all. Where a thread is refused no more are
+// started.
 fn run_all<R: Threads + Wait + Sync, G: Gate, P: Pager + Send>(
     rt: &R,
-    hall: &Hall<P>,
+    shared: &Shared<P>,
+    keeper: Option<Keeper>,
     script: &Script,
     gate: &G,
-    jobs: Vec<Transcript>,
-    handles: Vec<JoinHandle<Ended>>,
-    transcripts: Vec<Transcript>,
+    plan: Plan,
     refused_from: usize,
 ) -> Run
-    requires jobs { All (HasRoom script.now.lines) jobs.items }
-    requires none { vec_len handles ≡ 0 }
-    requires handles { vec_len handles + vec_len jobs ≤ vec_capacity handles }
-    requires transcripts { vec_len transcripts + vec_len jobs ≤ vec_capacity transcripts }
+    requires { IsPlan script.now.lines plan.jobs plan.handles plan.transcripts }
+    ensures { result.is_refused ≡ false → cell_of result.keeper ≡ cell_of keeper }
 {
+    let Plan {
+        jobs,
+        handles,
+        transcripts,
+    } = plan;
+    if refused_from == 0 {
+        return refused(transcripts);
+    }
     thread::scope(
         thread::scope_env(),
         rt,
         move |scope| -> Run
-            requires { All (HasRoom script.now.lines) jobs.items × (vec_len handles + vec_len jobs ≤ vec_capacity handles) × (vec_len handles ≡ 0) × (vec_len transcripts + vec_len jobs ≤ vec_capacity transcripts) }
+            requires { IsPlan script.now.lines jobs handles transcripts }
+            ensures { result.is_refused ≡ false → cell_of result.keeper ≡ cell_of keeper }
         {
             let mut handles = handles;
-            let flusher = builder(0 < refused_from).spawn_scoped(scope, move || -> bool {
-                flush_all(rt, hall, &script.lines, gate)
-            });
-            let mut is_refused = flusher.is_err();
+            let same = SameCell(Snapshot::of(&keeper));
+            let Ok(flusher) = scope.spawn_with(
+                same,
+                move || flush_all(rt, shared, &script.lines, gate, keeper),
+            ) else {
+                return refused(transcripts);
+            };
+            let mut is_refused = false;
             for job in jobs {
                 let pid = job.pid;
                 if is_refused {
-                    hall.leave(rt, pid);
+                    shared.end(rt, pid);
                     continue;
                 }
                 let started = builder(handles.len() < refused_from).spawn_scoped(
                     scope,
                     move || -> Ended
                         requires { HasRoom script.now.lines job }
-                    { work(rt, hall, &script.lines, gate, job) },
+                    { work(rt, shared, &script.lines, gate, job) },
                 );
                 if let Ok(handle) = started {
                     let Ok(()) = handles.push(handle) else {
@@ -216,20 +262,34 @@ fn run_all<R: Threads + Wait + Sync, G: Gate, P: Pager + Send>(
                     };
                 } else {
                     is_refused = true;
-                    hall.leave(rt, pid);
+                    shared.end(rt, pid);
                 }
             }
-            let is_flushed = match flusher {
-                Ok(flusher) => flusher.join(rt),
-                Err(_) => true,
-            };
-            let mut run = join_all(rt, handles, transcripts, is_refused);
-            if !is_flushed {
-                run.expired = Some(0);
+            let Flushed { keeper, is_expired } = flusher.join(rt);
+            let (transcripts, mut expired) = join_all(rt, handles, transcripts);
+            if is_expired {
+                expired = Some(0);
             }
-            run
+            Run {
+                transcripts,
+                keeper,
+                expired,
+                is_refused,
+            }
         },
     )
+}
+
+// Where the flusher is refused its thread, no worker is started.
+fn refused(transcripts: Vec<Transcript>) -> Run
+    ensures { result.is_refused ≡ true }
+{
+    Run {
+        transcripts,
+        keeper: None,
+        expired: None,
+        is_refused: true,
+    }
 }
 
 // A thread as the host makes it, or one whose stack no host can have.
@@ -241,13 +301,12 @@ fn builder(can_start: bool) -> Builder {
     }
 }
 
-// Joins the workers. The list of transcripts has room for each.
+// Joins the workers: their transcripts, and the least pid of one that the gate ended. The list has room for each.
 fn join_all<R: Threads + Wait>(
     rt: &R,
     handles: Vec<JoinHandle<Ended>>,
     mut transcripts: Vec<Transcript>,
-    is_refused: bool,
-) -> Run
+) -> (Vec<Transcript>, Option<u32>)
     requires { vec_len transcripts + vec_len handles ≤ vec_capacity transcripts }
 {
     let mut expired = None;
@@ -263,9 +322,5 @@ fn join_all<R: Threads + Wait>(
             unreachable!()
         };
     }
-    Run {
-        transcripts,
-        expired,
-        is_refused,
-    }
+    (transcripts, expired)
 }

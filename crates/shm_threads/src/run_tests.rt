@@ -2,7 +2,7 @@
 use crate::gate::Gate;
 use crate::outcome::RunError;
 use crate::run::run_threads;
-use crate::tests::{Below, OPEN, Seen, TURNS, look_at, run_behind, script, seen_behind, world};
+use crate::tests::{Below, OPEN, Seen, comes_to, look_at, run_behind, script, seen_behind, world};
 use shm_base::{AccessLen, Call, Chunk, Reply, Tally};
 use shm_history::World;
 use shm_pager::RamPager;
@@ -11,11 +11,15 @@ use std::alloc::Global;
 use std::sync::Wait;
 use std::sync::atomic::{AtomicU64, Ordering};
 use std::test::Fail;
-use std::thread;
 use std::thread::Threads;
 
 // The head, and then the lines so often.
-fn repeated(alloc: Global, head: &[u8], lines: &[u8], times: u32) -> Result<Vec<u8>, Fail> {
+pub(crate) fn repeated(
+    alloc: Global,
+    head: &[u8],
+    lines: &[u8],
+    times: u32,
+) -> Result<Vec<u8>, Fail> {
     let mut text = Vec::from_slice(alloc, head)?;
     for _ in 0..times {
         text.extend_from_slice(lines)?;
@@ -24,10 +28,10 @@ fn repeated(alloc: Global, head: &[u8], lines: &[u8], times: u32) -> Result<Vec<
 }
 
 /// Process 1 lets three children share its page, and then wants frames for another segment.
-const COUNTER: &[u8] =
+pub(crate) const COUNTER: &[u8] =
     b"limits 65536 16 64 2 0\nprocess 1 100 100\nchild 2\nchild 3\nchild 4\n1 shmget private 4096 600\n1 shmat 0 null -\n1 fork 2\n1 fork 3\n1 fork 4\n1 t = shmget private 12288 600\n1 b = shmat t null -\n1 store b 01\n1 store b+4096 02\n1 store b+8192 03\n1 rmid t\n1 shmdt b\n";
 
-const COUNTS: &[u8] =
+pub(crate) const COUNTS: &[u8] =
     b"1 xadd 0x40000000 1\n2 xadd 0x40000000 1\n3 xadd 0x40000000 1\n4 xadd 0x40000000 1\n1 xadd 0x40000000 1\n2 xadd 0x40000000 1\n3 xadd 0x40000000 1\n4 xadd 0x40000000 1\n0 flush 2\n";
 
 // Whether the counter of process 1 has counted all 400.
@@ -54,7 +58,7 @@ fn four_count_together(rt: HostRuntime) -> Result<(), Fail> {
     Ok(())
 }
 
-/// A child bears another, and one is never born.
+/// A child forks another, and one is never born.
 const TREE: &[u8] =
     b"limits 65536 16 64 4 1\nprocess 1 100 100\nchild 2\nchild 3\nchild 4\nchild 5\n5 exit\n2 fork 4\n1 fork 2\n1 fork 3\n";
 
@@ -140,8 +144,16 @@ fn the_flusher_makes_its_rounds(rt: HostRuntime) -> Result<(), Fail> {
 
 /// Holds the flusher's first round until process 1 has made four calls.
 #[derive(Drop)]
-struct BehindFour {
+pub(crate) struct BehindFour {
     made: AtomicU64,
+}
+
+impl BehindFour {
+    pub(crate) fn new() -> BehindFour {
+        BehindFour {
+            made: AtomicU64::new(0),
+        }
+    }
 }
 
 impl Gate for BehindFour {
@@ -149,13 +161,7 @@ impl Gate for BehindFour {
         if pid != 0 {
             return true;
         }
-        for _ in 0..TURNS {
-            if self.made.load(Ordering::SeqCst) >= 4 {
-                return true;
-            }
-            thread::yield_now();
-        }
-        false
+        comes_to(&self.made, 4)
     }
 
     fn after(&self, pid: u32, n: u64) {
@@ -165,13 +171,12 @@ impl Gate for BehindFour {
     }
 }
 
-const LATE: &[u8] =
+pub(crate) const LATE: &[u8] =
     b"limits 65536 16 64 4 1\nprocess 1 100 100\n1 s = shmget private 8192 600\n1 a = shmat s null -\n1 store a+4094 01020304\n1 load a+4093 6\n0 flush 2\n";
 
 #[test]
 fn a_round_behind_the_last_call(rt: HostRuntime) -> Result<(), Fail> {
-    let made = AtomicU64::new(0);
-    let outcome = run_behind(&rt, rt.alloc(), LATE, &BehindFour { made })?;
+    let outcome = run_behind(&rt, rt.alloc(), LATE, &BehindFour::new())?;
     let wanted = Tally {
         events: 4,
         segments: 1,

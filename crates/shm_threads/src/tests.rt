@@ -7,7 +7,7 @@ use crate::run::{run_threads, run_with};
 use bitflags::Flags;
 use shm_base::{Call, Chunk, Errno, Event, GetFlags, Reply, ShmId};
 use shm_history::{Opening, System, World};
-use shm_pager::RamPager;
+use shm_pager::{Pager, RamPager};
 use shm_text::{Script, read_script};
 use std::alloc::Global;
 use std::sync::Wait;
@@ -16,7 +16,7 @@ use std::test::Fail;
 use std::thread;
 use std::thread::Threads;
 
-pub(crate) const TURNS: u64 = 1_000_000;
+const TURNS: u64 = 1_000_000;
 
 /// No pid is so large.
 pub(crate) const OPEN: u32 = u32::MAX;
@@ -26,6 +26,17 @@ const TWO: &[u8] =
 
 const CHILD: &[u8] =
     b"limits 65536 16 64 4 1\nprocess 1 100 100\nchild 2\n1 exit\n2 exit\n1 exit\n";
+
+/// Waits until a count is so high, for so many turns. False if it was not.
+pub(crate) fn comes_to(count: &AtomicU64, least: u64) -> bool {
+    for _ in 0..TURNS {
+        if count.load(Ordering::SeqCst) >= least {
+            return true;
+        }
+        thread::yield_now();
+    }
+    false
+}
 
 /// Holds each of two processes until the other comes as far.
 #[derive(Drop)]
@@ -42,13 +53,7 @@ impl Gate for Meet {
             (&self.second, &self.first)
         };
         mine.store(n, Ordering::SeqCst);
-        for _ in 0..TURNS {
-            if other.load(Ordering::SeqCst) >= n {
-                return true;
-            }
-            thread::yield_now();
-        }
-        false
+        comes_to(other, n)
     }
 
     fn after(&self, _pid: u32, _n: u64) {}
@@ -71,7 +76,15 @@ pub(crate) fn script(alloc: Global, text: &[u8]) -> Result<Script, Fail> {
 }
 
 pub(crate) fn world(alloc: Global, script: &Script) -> Result<World<RamPager>, Fail> {
-    let pagers = vec![in alloc; RamPager::new(alloc, 64)?]?;
+    world_over(alloc, script, RamPager::new(alloc, 64)?)
+}
+
+pub(crate) fn world_over<P: Pager>(
+    alloc: Global,
+    script: &Script,
+    pager: P,
+) -> Result<World<P>, Fail> {
+    let pagers = vec![in alloc; pager]?;
     let system = System::start(alloc, script.limits, pagers, &script.processes)
         .ok()
         .ok_or("it starts")?;
@@ -155,7 +168,7 @@ fn threads_are_refused(rt: HostRuntime) -> Result<(), Fail> {
         // where the first worker is started, the gate ends it, or lets it pass
         for pid in [1, OPEN] {
             let world = world(alloc, &script)?;
-            let refused = run_with(&rt, alloc, world, &script, &Below(pid), started);
+            let refused = run_with(&rt, alloc, world, None, &script, &Below(pid), started);
             assert!(rt; refused.err() == Some(RunError::ThreadRefused));
         }
     }

@@ -1,12 +1,14 @@
 //! What a process's thread runs.
 ghost use Rattle.std.specs.Prelude.{◌≡◌, IfOk, All, length};
+ghost use Rattle.shm_threads.specs.Keepers.{cell_of};
 ghost use Rattle.shm_threads.specs.Transcripts.{HasRoom, commands_of, is_line_of};
 
 use crate::compare::{ends, reply_in};
 use crate::gate::Gate;
-use crate::hall::Hall;
 use crate::outcome::Transcript;
+use crate::shared::Shared;
 use shm_base::HostMemory;
+use shm_history::Keeper;
 use shm_pager::Pager;
 use shm_text::{Line, Script, Vars};
 use std::alloc::Global;
@@ -60,13 +62,23 @@ fn is_line_of(line: &Line, pid: u32) -> bool
     }
 }
 
-/// Runs the flush lines, in order. False if the gate ended it.
+/// The keeper that the flusher had, if there is one, and whether the gate ended the flusher.
+#[derive(Drop)]
+pub(crate) struct Flushed {
+    pub(crate) keeper: Option<Keeper>,
+    pub(crate) is_expired: bool,
+}
+
+/// Runs the flush lines, in order, and has the keeper publish in each round.
 pub(crate) fn flush_all<R: Wait, G: Gate, P: Pager>(
     rt: &R,
-    hall: &Hall<P>,
+    shared: &Shared<P>,
     lines: &[Line],
     gate: &G,
-) -> bool {
+    mut keeper: Option<Keeper>,
+) -> Flushed
+    ensures { cell_of result.keeper ≡ cell_of keeper }
+{
     let mut n = 0u64;
     for line in lines {
         let Line::Flush(round) = line else {
@@ -74,18 +86,24 @@ pub(crate) fn flush_all<R: Wait, G: Gate, P: Pager>(
         };
         n += 1;
         if !gate.before(0, n) {
-            return false;
+            return Flushed {
+                keeper,
+                is_expired: true,
+            };
         }
-        hall.flush(rt, round.pages());
+        shared.flush(rt, round.pages(), &mut keeper);
         gate.after(0, n);
     }
-    true
+    Flushed {
+        keeper,
+        is_expired: false,
+    }
 }
 
 /// Runs one process, from its birth to its end.
 pub(crate) fn work<R: Wait, G: Gate, P: Pager>(
     rt: &R,
-    hall: &Hall<P>,
+    shared: &Shared<P>,
     lines: &[Line],
     gate: &G,
     mut transcript: Transcript,
@@ -93,9 +111,9 @@ pub(crate) fn work<R: Wait, G: Gate, P: Pager>(
     requires { HasRoom lines.now transcript }
 {
     let pid = transcript.pid;
-    let is_expired = hall.wait_for_birth(rt, pid)
-        && !run_lines(rt, hall, lines, gate, &mut transcript);
-    hall.leave(rt, pid);
+    let is_expired = shared.wait_for_birth(rt, pid)
+        && !run_lines(rt, shared, lines, gate, &mut transcript);
+    shared.end(rt, pid);
     Ended {
         transcript,
         is_expired,
@@ -105,7 +123,7 @@ pub(crate) fn work<R: Wait, G: Gate, P: Pager>(
 // Runs the lines of a born process. False if the gate ended it.
 fn run_lines<R: Wait, G: Gate, P: Pager>(
     rt: &R,
-    hall: &Hall<P>,
+    shared: &Shared<P>,
     lines: &[Line],
     gate: &G,
     transcript: &mut Transcript,
@@ -126,7 +144,7 @@ fn run_lines<R: Wait, G: Gate, P: Pager>(
         if !gate.before(pid, n) {
             return false;
         }
-        let entry = hall.call(rt, command, &vars);
+        let entry = shared.call(rt, command, &vars);
         gate.after(pid, n);
         vars.took(command, reply_in(&entry.answer));
         let has_ended = ends(&entry);

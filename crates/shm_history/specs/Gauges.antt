@@ -1,0 +1,58 @@
+-- The gauge's four words, what each seat knows of them, and what each kind of step does to it.
+use Rattle.std.specs.Prelude.{◌≡◌, ℕ, ◌≤◌, List, [], ◌∷◌, slice_index, true, false}
+use mathlib.Core.Option.{some}
+use lib.ListN.{get_elem?}
+use Rattle.atomic_table.specs.Seated.{TableId}
+use Rattle.shm_base.specs.declared.paging.Tally.{Tally}
+use Rattle.shm_history.specs.declared.cell.Reading.{Reading}
+use Rattle.shm_history.specs.declared.cell.SeatView.{SeatView}
+
+-- the name of one gauge's cell
+abbrev pub CellName : Type 0
+CellName = TableId
+
+-- what a contract sees of a seat: the name of its cell, and the counts that it knows
+pub record Seat : Type 0 where
+  pub cell : CellName
+  pub numbers : Reading
+
+abbrev pub zeros : Reading
+zeros = record { events = 0; resident = 0; dirty = 0; used = 0 }
+
+-- the gauge's counts among all
+abbrev pub reading_of : Tally → Reading
+reading_of t = record { events = t.events; resident = t.resident; dirty = t.dirty; used = t.used }
+
+abbrev pub words_of : Reading → List ℕ
+words_of r = r.events ∷ r.resident ∷ r.dirty ∷ r.used ∷ []
+
+abbrev pub numbers_of : List ℕ → Reading
+numbers_of ws = record { events = slice_index ws 0; resident = slice_index ws 1; dirty = slice_index ws 2; used = slice_index ws 3 }
+
+-- the bounds that a world's counts keep
+abbrev pub IsReading : Reading → Type 0
+IsReading r = (r.dirty ≤ r.resident) × (r.resident ≤ 4096) × (r.used ≤ 65536)
+
+-- what the keeper's seat knows, and what a reader's
+abbrev pub keeping : Reading → SeatView
+keeping r = record { is_keeper = true; seen = r }
+
+abbrev pub having_seen : Reading → SeatView
+having_seen r = record { is_keeper = false; seen = r }
+
+-- THE RULE: one seat is the keeper's, and the words are the counts that it knows, which keep their bounds. No seat
+-- has seen more events than the words
+abbrev pub IsKept : List ℕ → List SeatView → Type 0
+IsKept words views =
+    (seat : ℕ) × (now : Reading)
+    × (words ≡ words_of now) × IsReading now
+    × (get_elem? views seat ≡ some (keeping now))
+    × ((by : ℕ) (v : SeatView) → get_elem? views by ≡ some v → (v.is_keeper ≡ true → by ≡ seat) × (v.seen.events ≤ now.events))
+
+-- a reader's load: it has seen the words, which stay
+abbrev pub Loaded : SeatView → List ℕ → List ℕ → SeatView → Type 0
+Loaded v before after w = (w ≡ having_seen (numbers_of after)) × IsReading w.seen × (v.seen.events ≤ w.seen.events)
+
+-- the keeper's store: it knows the words that it stored
+abbrev pub Stored : SeatView → List ℕ → List ℕ → SeatView → Type 0
+Stored v before after w = w ≡ keeping (numbers_of after)

@@ -1,0 +1,67 @@
+//! The cell of a gauge: four words that one seat stores and others load, no lock between them. There are four
+//! kinds of step on it and no other: it is made with the keeper's seat, a reader's seat is split off, a reader
+//! loads, and the keeper stores.
+use atomic_table::Split;
+use crossbeam_utils::atomic::seq_cell::{Pass, RuledSeqCell};
+use crossbeam_utils::rule::{Outcome, Protocol};
+
+/// Four counts of one world at one moment: its events, its frames in use, those that are dirty, and the swap
+/// slots in use.
+#[derive(Clone, Copy, PartialEq, Eq, Debug)]
+pub struct Reading {
+    pub events: u64,
+    pub resident: u64,
+    pub dirty: u64,
+    pub used: u64,
+}
+
+// What a seat knows: whether it is the keeper's, and four counts. The keeper's are those that it stored last, a
+// reader's those that it loaded last. No value of it is made.
+pub struct SeatView {
+    pub is_keeper: bool,
+    pub seen: Reading,
+}
+
+// The rule of the cell, and what the keeper's seat knows first.
+pub struct Gauged;
+
+impl Protocol<[u64; 4], SeatView> for Gauged {
+    ghost use Rattle.shm_history.specs.Gauges.{IsKept, keeping, zeros};
+
+    ghost holds = { IsKept };
+
+    ghost first = { keeping zeros };
+}
+
+// A reader's load: what it has seen are the words.
+pub struct Loads;
+
+impl Outcome<[u64; 4], SeatView> for Loads {
+    ghost use Rattle.shm_history.specs.Gauges.{Loaded};
+
+    ghost then = { Loaded };
+}
+
+// The keeper's store: what it knows are the words that it stored.
+pub struct Stores;
+
+impl Outcome<[u64; 4], SeatView> for Stores {
+    ghost use Rattle.shm_history.specs.Gauges.{Stored};
+
+    ghost then = { Stored };
+}
+
+// A reader's seat, split off beside the keeper's.
+pub struct NewReader;
+
+impl Split<SeatView> for NewReader {
+    ghost use Rattle.shm_history.specs.Gauges.{having_seen, zeros};
+
+    ghost left = { λ v. v };
+
+    ghost right = { λ _. having_seen zeros };
+}
+
+pub type Cell = RuledSeqCell<[u64; 4], SeatView, Gauged, 4>;
+
+pub type SeatPass = Pass<[u64; 4], SeatView>;

@@ -1,0 +1,163 @@
+//! A gauge is read without the world's lock; the one keeper stores what it shows. Gauge, keeper and readers'
+//! seats are of one cell. A reading is what the keeper stored at one moment, all four counts together, and a
+//! seat's readings never go back in events. How old a reading is, is not said.
+ghost use Rattle.std.specs.Prelude.{◌≡◌, ◌≤◌, IfOk};
+ghost use Rattle.std.specs.Arc.{arc_value};
+ghost use Rattle.crossbeam_utils.specs.Seq.{cell_view};
+ghost use Rattle.shm_history.specs.Gauges.{zeros, keeping, words_of, IsReading};
+
+use crate::cell::{Cell, Loads, NewReader, Reading, SeatPass, Stores};
+use shm_base::HostMemory;
+use std::alloc::Global;
+use std::marker::Model;
+use std::sync::{Arc, Wait};
+
+/// Shows the counts that its keeper stored last. It is shared by reference. To a contract it is the name of
+/// its cell.
+#[derive(Drop)]
+pub struct Gauge {
+    cell: Arc<Cell, Global>,
+}
+
+impl Model for Gauge {
+    ghost use Rattle.shm_history.specs.Gauges.{CellName};
+
+    ghost Value = { CellName };
+
+    ghost use Rattle.std.specs.Arc.{arc_value};
+
+    ghost view = { λ g. (arc_value g.cell).table.shared.table_id };
+}
+
+/// The one seat that stores. To a contract it is the name of its cell, and the counts that it stored last.
+#[derive(Drop)]
+pub struct Keeper {
+    cell: Arc<Cell, Global>,
+    pass: SeatPass,
+    last: Reading,
+}
+
+impl Model for Keeper {
+    ghost use Rattle.shm_history.specs.Gauges.{Seat};
+
+    ghost Value = { Seat };
+
+    ghost use Rattle.std.specs.Prelude.{◌≡◌};
+    ghost use Rattle.std.specs.Arc.{arc_value};
+    ghost use Rattle.crossbeam_utils.specs.Seq.{cell_view};
+    ghost use Rattle.shm_history.specs.Gauges.{keeping};
+
+    ghost view = { λ k. record { cell = k.pass.table_id; numbers = k.last } };
+
+    ghost invariant = { λ k. (k.pass.table_id ≡ (arc_value k.cell).table.shared.table_id) × (cell_view k.pass ≡ keeping k.last) };
+}
+
+/// A reader's seat. To a contract it is the name of its cell, and what its last reading was.
+#[derive(Drop)]
+pub struct ReaderSeat {
+    pass: SeatPass,
+}
+
+impl Model for ReaderSeat {
+    ghost use Rattle.shm_history.specs.Gauges.{Seat};
+
+    ghost Value = { Seat };
+
+    ghost use Rattle.std.specs.Prelude.{◌≡◌, false};
+    ghost use Rattle.crossbeam_utils.specs.Seq.{cell_view};
+
+    ghost view = { λ r. record { cell = r.pass.table_id; numbers = (cell_view r.pass).seen } };
+
+    ghost invariant = { λ r. (cell_view r.pass).is_keeper ≡ false };
+}
+
+impl Gauge {
+    /// The counts that the keeper stored last, or since this call began. Its events are not fewer than those of
+    /// the seat's earlier readings; the other counts may have fallen.
+    pub fn read<R: Wait>(&self, rt: &R, seat: &mut ReaderSeat) -> Reading
+        requires { seat.old.cell ≡ self.now }
+        ensures seen { result ≡ seat.new.numbers }
+        ensures cell { seat.new.cell ≡ seat.old.cell }
+        ensures bounds { IsReading result }
+        ensures later { seat.old.numbers.events ≤ result.events }
+    {
+        let words = self.cell.load_as::<Loads, R>(rt, &mut seat.pass);
+        Reading {
+            events: words[0],
+            resident: words[1],
+            dirty: words[2],
+            used: words[3],
+        }
+    }
+}
+
+impl Keeper {
+    /// A gauge of a new cell, all of whose counts are zeros, with its keeper.
+    pub(crate) fn new(alloc: Global) -> Result<(Gauge, Keeper), HostMemory>
+        ensures cell { IfOk result (λ g. g.1.cell ≡ g.0) }
+        ensures numbers { IfOk result (λ g. g.1.numbers ≡ zeros) }
+    {
+        let (cell, pass) = Cell::ruled(alloc, [0, 0, 0, 0])?;
+        let cell = Arc::new(alloc, cell)?;
+        let gauge = Gauge {
+            cell: Arc::try_clone(&cell)?,
+        };
+        Ok((gauge, of(cell, pass)))
+    }
+
+    /// A reader's seat, which has read zeros.
+    pub(crate) fn split_reader(&mut self) -> ReaderSeat
+        ensures keeper { self.new ≡ self.old }
+        ensures seat { result ≡ record { cell = self.old.cell; numbers = zeros } }
+    {
+        ReaderSeat {
+            pass: self.cell.split_pass::<NewReader>(&mut self.pass),
+        }
+    }
+
+    /// The counts that were stored last.
+    pub(crate) fn last(&self) -> Reading
+        ensures { result ≡ self.now.numbers }
+    {
+        self.last
+    }
+
+    /// Stores these counts.
+    pub(crate) fn store<R: Wait>(&mut self, rt: &R, next: Reading)
+        requires later { self.old.numbers.events ≤ next.events }
+        requires bounds { IsReading next }
+        ensures { self.new ≡ record self.old { numbers = next } }
+    {
+        self.cell
+            .swap_as::<Stores, R>(rt, &mut self.pass, words(&next));
+        self.last = next;
+    }
+}
+
+fn of(cell: Arc<Cell, Global>, pass: SeatPass) -> Keeper
+    requires cell { pass.table_id ≡ (arc_value cell).table.shared.table_id }
+    requires view { cell_view pass ≡ keeping zeros }
+    ensures { result ≡ record { cell = pass.table_id; numbers = zeros } }
+{
+    Keeper {
+        cell,
+        pass,
+        last: Reading {
+            events: 0,
+            resident: 0,
+            dirty: 0,
+            used: 0,
+        },
+    }
+}
+
+fn words(numbers: &Reading) -> [u64; 4]
+    ensures { result ≡ words_of numbers.now }
+{
+    [
+        numbers.events,
+        numbers.resident,
+        numbers.dirty,
+        numbers.used,
+    ]
+}

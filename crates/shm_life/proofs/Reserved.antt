@@ -1,0 +1,175 @@
+-- The pages of the table's segments are those of the segments that the memory holds.
+use Rattle.std.proofs.Common.{◌≡◌, ◌≢◌, ◌⊎◌, ℕ, zero, suc, ◌+◌, ◌/◌, ◌%◌, ◌<◌, ◌≤◌, true, List, [], ◌∷◌, length, map, slice_get, slice_set, Option, Some, None, refl, sym, ap, ◌∙◌, inl, inr, arith, eq-eqb, ne_eqb}
+use Rattle.std.proofs.lemmas.Bool.{cases_eq}
+use Rattle.std.proofs.lemmas.Option.{none-some, slice_get_within}
+use Rattle.std.proofs.lemmas.List.Sums.{sum_by-cons}
+use Rattle.std.specs.Prelude.{is_some, option_map}
+use Rattle.shm_base.specs.State.{Segment, Entry}
+use Rattle.shm_base.specs.Identifier.{identifier}
+use Rattle.shm_base.specs.Segments.{reserved, pages_held}
+use Rattle.shm_slots.specs.View.{slots}
+use Rattle.shm_plain.specs.Apart.{AreApart}
+use Rattle.shm_plain.specs.Held.{Held, find_held, is_held, pages_in, pages_held as held_pages, without}
+use Rattle.shm_fault.specs.Segs.{SegRec, find_seg, pages_of}
+use Rattle.shm_fault.specs.Segs as segs
+use Rattle.shm_fault.specs.Store.{StoreView, held, held_by, used}
+use Rattle.shm_fault.specs.Sound.{IsSound}
+use Rattle.shm_fault.proofs.Whole.{pages_held-is}
+use Rattle.shm_segments.specs.Table.{live, live_in, pages_at}
+use Rattle.shm_segments.specs.View.{Shows, as_held}
+use Rattle.shm_segments.proofs.Entries.{get-set_other, sum-set}
+use Rattle.shm_segments.proofs.Held.{sum-without}
+use Rattle.shm_plain.proofs.Found.{find-without_other}
+
+-- no identifier stands twice in the memory
+
+found : (m : StoreView) (gs : List SegRec) (id : ℕ) → is_held (map (held_by m.frames m.swap) gs) id ≡ is_some (find_seg gs id)
+found m [] id = refl
+found m (g ∷ gs) id = elim (cases_eq g.id id) [
+  | inl e ↦ rw (eq-eqb g.id id e) refl
+  | inr n ↦ rw (ne_eqb g.id id n) (found m gs id)
+]
+
+apart-all : (m : StoreView) (gs : List SegRec) → segs.AreApart gs → AreApart (map (held_by m.frames m.swap) gs)
+apart-all m [] apart = tt
+apart-all m (g ∷ gs) apart = (found m gs g.id ∙ ap is_some apart.0, apart-all m gs apart.1)
+
+apart-held : (m : StoreView) → segs.AreApart m.segs → AreApart (held m)
+unfolding held
+apart-held m apart = apart-all m m.segs apart
+
+-- THE MEMORY HOLDS NO MORE
+
+-- no held segment has more pages than the table says
+abbrev NoMore : List Held → List Entry → Type 0
+NoMore hs t = (id : ℕ) (g : Held) → find_held hs id ≡ Some g → pages_in g ≤ pages_at t id
+
+-- the table without what stands at an identifier's index
+abbrev emptied : List Entry → ℕ → List Entry
+emptied t id = slice_set t (id % 32768) (record { destroyed = id / 32768; segment = None })
+
+not-there : (id i : ℕ) (o : Option Entry) → o ≡ Some (record { destroyed = i; segment = None }) → pages_held (live_in id o) ≡ 0
+not-there id i o is = elim (cases_eq i (id / 32768)) [
+  | inl e ↦ rw (is, eq-eqb i (id / 32768) e) refl
+  | inr n ↦ rw (is, ne_eqb i (id / 32768) n) refl
+]
+
+-- where a segment is live, the table without it has so many pages less, and the others stay
+pub record Emptied (t u : List Entry) (id n : ℕ) : Type 0 where
+  pub fewer : reserved u + n ≤ reserved t
+  pub others : (other : ℕ) → other ≢ id → pages_at t other ≤ pages_at u other
+
+empty-at : (t : List Entry) (id n : ℕ) → 0 < n → n ≤ pages_at t id → Emptied t (emptied t id) id n
+empty-at t id n some most = by (slice_get t (id % 32768)) refl most
+  where
+    by : (o : Option Entry) → slice_get t (id % 32768) ≡ o → n ≤ pages_held (live_in id o) → Emptied t (emptied t id) id n
+    by None is most = absurd (omega (arith, most, some))
+    by (Some e) is most = elim (cases_eq e.destroyed (id / 32768)) [
+      | inl own ↦
+          (let here : n ≤ pages_held e.segment = rw (eq-eqb e.destroyed (id / 32768) own) at most in
+          let sum = sum-set (λ (x : Entry). pages_held x.segment) t (id % 32768) (record { destroyed = id / 32768; segment = None }) e is in
+          record { fewer = omega (arith, sum, here); others = λ other apart. stays e is own other apart (cases_eq (other % 32768) (id % 32768)) })
+      | inr other ↦ absurd (let none : n ≤ 0 = rw (ne_eqb e.destroyed (id / 32768) other) at most in omega (arith, none, some))
+    ]
+      where
+        stays : (e : Entry) → slice_get t (id % 32768) ≡ Some e → e.destroyed ≡ id / 32768 → (other : ℕ) → other ≢ id → (other % 32768 ≡ id % 32768) ⊎ (other % 32768 ≢ id % 32768) → pages_at t other ≤ pages_at (emptied t id) other
+        stays e is own other apart (inl same) =
+            let sequence : e.destroyed ≢ other / 32768 = λ k. apart (omega (arith, k, own, same)) in
+            let none : pages_at t other ≡ 0 = rw (same, is, ne_eqb e.destroyed (other / 32768) sequence) refl in
+            omega (arith, none)
+        stays e is own other apart (inr index) =
+            let kept : pages_at (emptied t id) other ≡ pages_at t other = ap (λ o. pages_held (live_in other o)) (get-set_other t (id % 32768) (other % 32768) (record { destroyed = id / 32768; segment = None }) (λ k. index (sym k))) in
+            omega (arith, kept)
+
+-- a table without the pages of one segment
+fewer : (t : List Entry) (id n : ℕ) → n ≤ pages_at t id → (u : List Entry) × Emptied t u id n
+fewer t id zero most = (t, record { fewer = omega arith; others = λ other apart. omega arith })
+fewer t id (suc n) most = (emptied t id, empty-at t id (suc n) (omega arith) most)
+
+no-more : (hs : List Held) (t : List Entry) → AreApart hs → NoMore hs t → held_pages hs ≤ reserved t
+no-more [] t apart each = omega arith
+no-more (h ∷ hs) t apart each =
+    let here : pages_in h ≤ pages_at t h.id = each h.id h (rw (eq-eqb h.id h.id refl) refl) in
+    let less = fewer t h.id (pages_in h) here in
+    let other : (id : ℕ) (g : Held) → find_held hs id ≡ Some g → id ≢ h.id = λ id g is same. let there : is_held hs h.id ≡ true = rw (← same, is) refl in absurd (cc (there, apart.0)) in
+    let rest = no-more hs less.0 apart.1 (λ id g is.
+    let ne : id ≢ h.id = other id g is in
+    let before : pages_in g ≤ pages_at t id = each id g (rw (ne_eqb h.id id (λ k. ne (sym k))) is) in
+    omega (arith, before, less.1.others id ne)) in
+    omega (arith, rest, less.1.fewer, sum_by-cons pages_in h hs)
+
+-- AND NO LESS
+
+abbrev pages_found : Option Held → ℕ
+pages_found None = 0
+pages_found (Some g) = pages_in g
+
+-- each segment of the table is held with as many pages; the table's first index is n
+abbrev NoLess : ℕ → List Held → List Entry → Type 0
+NoLess n hs t = (k : ℕ) (e : Entry) → slice_get t k ≡ Some e → pages_held e.segment ≤ pages_found (find_held hs (identifier (n + k) e.destroyed))
+
+no-less : (n : ℕ) (t : List Entry) (hs : List Held) → n + length t ≤ 32768 → NoLess n hs t → reserved t ≤ held_pages hs
+no-less n [] hs few each = omega arith
+no-less n (e ∷ t) hs few each =
+    by (λ gs all. no-less (n + 1) t gs (omega arith) all) (find_held hs (identifier n e.destroyed)) refl (let at : n + 0 ≡ n = omega arith in rw at at (each 0 e refl))
+  where
+    rest : (gs : List Held) → ((id : ℕ) → id ≢ identifier n e.destroyed → find_held gs id ≡ find_held hs id) → NoLess (n + 1) gs t
+    rest gs same k x is =
+        let within = slice_get_within t k x is in
+        let next : n + suc k ≡ (n + 1) + k = omega arith in
+        let apart : identifier ((n + 1) + k) x.destroyed ≢ identifier n e.destroyed = λ equal. omega (arith, equal, within, few) in
+        rw (same (identifier ((n + 1) + k) x.destroyed) apart) (rw next at (each (suc k) x is))
+
+    by : ((gs : List Held) → NoLess (n + 1) gs t → reserved t ≤ held_pages gs) → (o : Option Held) → find_held hs (identifier n e.destroyed) ≡ o → pages_held e.segment ≤ pages_found o → reserved (e ∷ t) ≤ held_pages hs
+    by more None is none =
+        let others = more hs (rest hs (λ id apart. refl)) in
+        omega (arith, none, others, sum_by-cons (λ (x : Entry). pages_held x.segment) e t)
+    by more (Some g) is some =
+        let id = identifier n e.destroyed in
+        let others = more (without hs id) (rest (without hs id) (λ other apart. find-without_other hs id other apart)) in
+        let sum = sum-without pages_in hs id g is in
+        omega (arith, some, others, sum, sum_by-cons (λ (x : Entry). pages_held x.segment) e t)
+
+-- BOTH, WHERE THE MEMORY SHOWS THE TABLE
+
+module _ (t : List Entry) (m : StoreView) (sound : IsSound m) (shows : Shows t m) where
+  more : NoMore (held m) t
+  more id g is = by (live t id) (sym is ∙ shows id)
+    where
+      by : (o : Option Segment) → Some g ≡ option_map (as_held id) o → pages_in g ≤ pages_held o
+      by None e = absurd (none-some g (sym e))
+      by (Some x) e = let own : g ≡ as_held id x = cc in rw own (omega arith)
+
+  -- the slots that are used are no more than the pages of all segments
+  pub few-used : used m ≤ reserved t
+  few-used =
+      let all = pages_held-is m sound in
+      let most = no-more (held m) t (apart-held m sound.apart) more in
+      omega (arith, all, most, sound.few_used)
+
+  module _ (few : length t ≤ 32768) where
+    less : NoLess 0 (held m) t
+    less k e is = by e.segment there
+      where
+        index : identifier (0 + k) e.destroyed % 32768 ≡ k
+        index = let within = slice_get_within t k e is in omega (arith, within, few)
+
+        sequence : e.destroyed ≡ identifier (0 + k) e.destroyed / 32768
+        sequence = let within = slice_get_within t k e is in omega (arith, within, few)
+
+        there : find_held (held m) (identifier (0 + k) e.destroyed) ≡ option_map (as_held (identifier (0 + k) e.destroyed)) e.segment
+        there =
+            let id = identifier (0 + k) e.destroyed in
+            let at : live t id ≡ e.segment = ap (λ j. live_in id (slice_get t j)) index ∙ ap (live_in id) is ∙ rw (eq-eqb e.destroyed (id / 32768) sequence) refl in
+            shows id ∙ ap (option_map (as_held id)) at
+
+        by : (o : Option Segment) → find_held (held m) (identifier (0 + k) e.destroyed) ≡ option_map (as_held (identifier (0 + k) e.destroyed)) o → pages_held o ≤ pages_found (find_held (held m) (identifier (0 + k) e.destroyed))
+        by None h = omega arith
+        by (Some x) h = rw h (omega arith)
+
+    -- the pages of all segments are no more than the slots
+    pub few-reserved : reserved t ≤ slots m.swap
+    few-reserved =
+        let all = pages_held-is m sound in
+        let most = no-less 0 t (held m) (omega (arith, few)) less in
+        omega (arith, all, most, sound.capacity)

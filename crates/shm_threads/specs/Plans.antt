@@ -1,0 +1,15 @@
+-- What a run takes memory for before its workers start.
+use Rattle.std.specs.Prelude.{◌≡◌, ◌+◌, ◌≤◌, List, All, Vec, vec_len, vec_capacity}
+use Rattle.std.specs.declared.alloc.Global.{Global}
+use Rattle.std.specs.declared.thread.JoinHandle.{JoinHandle}
+use Rattle.shm_text.specs.declared.script.Line.{Line}
+use Rattle.shm_threads.specs.Transcripts.{HasRoom}
+use Rattle.shm_threads.specs.declared.outcome.Transcript.{Transcript}
+use Rattle.shm_threads.specs.declared.worker.Ended.{Ended}
+
+-- each job has room for its process's lines, and both lists have room for each job
+pub record IsPlan (lines : List Line) (jobs : Vec Transcript Global) (handles : Vec (JoinHandle Ended) Global) (transcripts : Vec Transcript Global) : Type 0 where
+  pub lines_fit : All (HasRoom lines) jobs.items
+  pub no_handle : vec_len handles ≡ 0
+  pub handles_fit : vec_len jobs ≤ vec_capacity handles
+  pub transcripts_fit : vec_len transcripts + vec_len jobs ≤ vec_capacity transcripts
