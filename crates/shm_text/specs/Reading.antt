@@ -1,5 +1,5 @@
 -- What the lines of a script say, and the first fault.
-use Rattle.std.specs.Prelude.{ℕ, ◌+◌, Bool, ◌==◌, ◌&&◌, ◌||◌, not, List, [], ◌∷◌, ◌++◌, length, Option, Some, None, Result, Ok, Err, IsOk, ◌≡◌, nat_le, nat_lt, ◌<◌, is_some, slice_index, codes, if◌then◌else◌}
+use Rattle.std.specs.Prelude.{ℕ, ◌+◌, Bool, ◌==◌, ◌&&◌, ◌||◌, not, List, [], ◌∷◌, ◌++◌, length, Option, Some, None, Result, Ok, Err, IsOk, ◌≡◌, nat_le, nat_lt, ◌<◌, is_some, slice_get, slice_index, codes, if◌then◌else◌}
 use Rattle.std.specs.List.{list_all, list_any}
 use Rattle.std.specs.Str.{bytes_eq}
 use Rattle.shm_base.specs.Bounds.{Bounds, limits_of}
@@ -205,7 +205,7 @@ lines_in (items.Limits b ∷ rest) = lines_in rest
 lines_in (items.Process p ∷ rest) = lines_in rest
 lines_in (items.Line l ∷ rest) = l ∷ lines_in rest
 
--- with no limits line at all the fault is at line 1
+-- without limits the fault is that of line 1
 abbrev pub script_by : Option Bounds → List Item → Result ScriptView ScriptFault
 script_by None items = Err (record { line = 1; kind = NoLimits })
 script_by (Some b) items = Ok (record { limits = b; processes = processes_in items; lines = lines_in items })
@@ -213,13 +213,35 @@ script_by (Some b) items = Ok (record { limits = b; processes = processes_in ite
 abbrev pub script_from : List Item → Result ScriptView ScriptFault
 script_from items = script_by (limits_after None items) items
 
+-- what lines say, one after another from the first
+abbrev pub told : List (List ℕ) → Result ScriptView ScriptFault
+told text_lines = items_of 1 nothing text_lines >>= script_from
+
+-- a blank line or a comment, whatever its bytes
+abbrev pub is_wordless : List ℕ → Bool
+is_wordless line = is_skipped (words_of line)
+
+-- what is wrong with a first line: a byte that is not allowed, else that it is not the limits line
+abbrev pub kind_without_limits : Option (List ℕ) → FaultKind
+kind_without_limits None = NoLimits
+kind_without_limits (Some line) = if list_all is_allowed line then NoLimits else BadByte
+
+-- the fault of a text without words is that of its first line, whatever stands in the others
+abbrev pub without_words : List (List ℕ) → ScriptFault
+without_words text_lines = record { line = 1; kind = kind_without_limits (slice_get text_lines 0) }
+
 -- what the lines of a text say
 abbrev pub said : List (List ℕ) → Result ScriptView ScriptFault
-said text_lines = items_of 1 nothing text_lines >>= script_from
+said text_lines = if list_all is_wordless text_lines then Err (without_words text_lines) else told text_lines
 
 -- what a script says, or its first fault
 unfoldable pub script_of : List ℕ → Result ScriptView ScriptFault
 script_of bytes = if nat_lt 1048576 (length bytes) then Err (record { line = 0; kind = TooLong }) else said (lines_of bytes)
+
+-- a fault that was found is that of what was read
+abbrev pub IsFound : ReadRefused → Result ScriptView ScriptFault → Type 0
+IsFound refused.HostMemory read = Unit {0}
+IsFound (refused.Fault fault) read = read ≡ Err fault
 
 -- a refusal is the script's fault, or want of memory where it has none
 abbrev pub IsFaultOf : ReadRefused → Result ScriptView ScriptFault → Type 0

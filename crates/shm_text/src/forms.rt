@@ -1,7 +1,7 @@
 //! The forms of lines.
 ghost use Rattle.std.specs.Prelude.{◌≡◌, ◌<◌, ◌≤◌, length, true, false, IfOk};
 ghost use Rattle.shm_text.specs.Form.{is_pid};
-ghost use Rattle.shm_text.specs.Reading.{limits_item, process_item, child_item, declared, declaration, taker, known, known_child, declared_pid, command, flush_item, command_item, body_item, words_item, line_item, is_skipped, HasPlace, HasPlaceFor, IsLimits, IsLine};
+ghost use Rattle.shm_text.specs.Reading.{limits_item, process_item, child_item, declared, declaration, taker, known, known_child, declared_pid, command, flush_item, command_item, body_item, words_item, line_item, is_skipped, is_wordless, HasPlace, HasPlaceFor, IsLimits, IsLine};
 
 use crate::calls::{LAST_PID, call_words};
 use crate::fault::FaultKind;
@@ -229,6 +229,14 @@ fn is_skipped(words: &Words<'_>) -> bool
     ensures words { result ≡ false → 0 < length words.now }
 {
     words.len() == 0 || words.at(0).first() == Some(&b'#')
+}
+
+/// Whether a line is blank or a comment.
+#[tactic(auto, using(crate::proofs::FirstWords::same_words))]
+pub(crate) fn is_wordless(line: &[u8]) -> bool
+    ensures { result ≡ is_wordless line.now }
+{
+    is_skipped(&Words::of(line))
 }
 
 /// What a line says, with what the lines above it said.

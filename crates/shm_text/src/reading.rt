@@ -1,12 +1,14 @@
 //! Reads a script, line by line from the top.
-ghost use Rattle.std.specs.Prelude.{◌≡◌, ◌<◌, ◌≤◌, ◌++◌, [], IfOk, OnOk, IsOk, IfErr, Ok, Err, length, MatchOption, nat_le, is_some};
-ghost use Rattle.shm_text.specs.Reading.{said, script_of, nothing, seen_next, with_item, processes_in, lines_in, is_declared, IsFaultOf, HasPlaceFor};
+ghost use Rattle.std.specs.Prelude.{◌≡◌, ◌<◌, ◌≤◌, ◌++◌, [], IfOk, OnOk, IsOk, IfErr, Ok, Err, length, not, MatchOption, nat_le, is_some};
+ghost use Rattle.std.specs.List.{list_all};
+ghost use Rattle.shm_text.specs.Reading.{told, script_of, without_words, is_wordless, nothing, seen_next, with_item, processes_in, lines_in, is_declared, IsFaultOf, IsFound, HasPlaceFor};
 ghost use Rattle.shm_text.specs.Words.{lines_of};
 
 use crate::fault::{FaultKind, ReadRefused, ScriptFault};
-use crate::forms::line_item;
+use crate::forms::{is_wordless, line_item};
 use crate::lines::Lines;
 use crate::script::{Item, Line, Script};
+use crate::words::all_allowed;
 use arrayvec::ArrayVec;
 use shm_base::{Limits, Process};
 use std::alloc::{AllocError, Global};
@@ -96,10 +98,38 @@ pub fn read_script(alloc: Global, bytes: &[u8]) -> Result<Script, ReadRefused>
             kind: FaultKind::TooLong,
         }));
     }
-    if let Some(fault) = first_fault(bytes) {
-        return Err(ReadRefused::Fault(fault));
+    if !has_words(bytes) {
+        return Err(ReadRefused::Fault(without_words(bytes)));
     }
-    read_lines(alloc, bytes)
+    match read_lines(alloc, bytes) {
+        Ok(script) => Ok(script),
+        Err(ReadRefused::Fault(fault)) => Err(ReadRefused::Fault(fault)),
+        Err(ReadRefused::HostMemory) => Err(fault_or_memory(bytes)),
+    }
+}
+
+/// Whether a line has words and is no comment.
+fn has_words(bytes: &[u8]) -> bool
+    ensures { result ≡ not (list_all is_wordless (lines_of bytes.now)) }
+{
+    let mut lines = Lines::of(bytes);
+    while let Some(line) = lines.next() {
+        if !is_wordless(line) {
+            return true;
+        }
+    }
+    false
+}
+
+/// The fault of a text without words: it has no limits line, or its first line a byte that is not allowed.
+fn without_words(bytes: &[u8]) -> ScriptFault
+    ensures { result ≡ without_words (lines_of bytes.now) }
+{
+    let kind = match Lines::of(bytes).next() {
+        Some(line) if !all_allowed(line) => FaultKind::BadByte,
+        _ => FaultKind::NoLimits,
+    };
+    ScriptFault { line: 1, kind }
 }
 
 /// Without a limits line the fault is at line 1.
@@ -108,10 +138,21 @@ const NO_LIMITS: ScriptFault = ScriptFault {
     kind: FaultKind::NoLimits,
 };
 
+/// The first fault of a text's lines, or want of memory where they have none.
+fn fault_or_memory(bytes: &[u8]) -> ReadRefused
+    requires { length bytes.now ≤ LONGEST }
+    ensures { IsFaultOf result (told (lines_of bytes.now)) }
+{
+    match first_fault(bytes) {
+        Some(fault) => ReadRefused::Fault(fault),
+        None => ReadRefused::HostMemory,
+    }
+}
+
 /// The first fault of a text's lines. Takes no memory.
 fn first_fault(bytes: &[u8]) -> Option<ScriptFault>
     requires { length bytes.now ≤ LONGEST }
-    ensures { MatchOption result (IsOk (said (lines_of bytes.now))) (λ f. said (lines_of bytes.now) ≡ Err f) }
+    ensures { MatchOption result (IsOk (told (lines_of bytes.now))) (λ f. told (lines_of bytes.now) ≡ Err f) }
 {
     let mut seen = Seen::new();
     let mut lines = Lines::of(bytes);
@@ -147,12 +188,11 @@ fn keep(
     Ok(())
 }
 
-/// What the lines of a text without fault say.
+/// What the lines of a text say, or the first fault. Where memory is wanting, nothing is known of the lines.
 fn read_lines(alloc: Global, bytes: &[u8]) -> Result<Script, ReadRefused>
-    requires room { length bytes.now ≤ LONGEST }
-    requires sound { IsOk (said (lines_of bytes.now)) }
-    ensures read { IfOk result (λ script. said (lines_of bytes.now) ≡ Ok script) }
-    ensures fault { IfErr result (λ e. IsFaultOf e (said (lines_of bytes.now))) }
+    requires { length bytes.now ≤ LONGEST }
+    ensures read { IfOk result (λ script. told (lines_of bytes.now) ≡ Ok script) }
+    ensures fault { IfErr result (λ e. IsFound e (told (lines_of bytes.now))) }
 {
     let mut seen = Seen::new();
     let mut processes = Vec::new(alloc);
