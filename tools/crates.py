@@ -4,12 +4,31 @@ A run of rt in a crate keeps every other out of the crates below it. So what run
 with the sources of a crate and of all below it, and with the libraries below it as they were built, by hard links where
 that is possible.
 """
+import contextlib
+import fcntl
 import os
 import re
 import shutil
+import tempfile
 
 TOP = os.path.dirname(os.path.dirname(os.path.realpath(__file__)))
 ROOMS = f"{TOP}/build"
+
+
+@contextlib.contextmanager
+def alone():
+    """Keeps other runs of the tools out of the rooms. What a run left that was killed goes."""
+    os.makedirs(ROOMS, exist_ok=True)
+    with open(f"{ROOMS}/lock", "w", encoding="utf-8") as lock:
+        fcntl.flock(lock, fcntl.LOCK_EX)
+        for name in os.listdir(ROOMS):
+            if name.startswith("room-"):
+                shutil.rmtree(f"{ROOMS}/{name}", ignore_errors=True)
+        yield
+
+
+def new_room():
+    return tempfile.TemporaryDirectory(prefix="room-", dir=ROOMS)
 
 
 def graph():
