@@ -4,6 +4,8 @@
 #[cfg(test)]
 mod clock;
 #[cfg(test)]
+mod counting;
+#[cfg(test)]
 mod frames;
 #[cfg(test)]
 mod pagers;

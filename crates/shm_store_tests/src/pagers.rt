@@ -1,13 +1,12 @@
 //! Worked rows on the kinds of pagers, with their expected outcomes; and that each drop runs once, and
 //! wipes.
+use crate::counting::Counter;
 use shm_pager::{
     AnyPager, FusePager, MirrorCause, MirrorPager, Pager, PagerFault, RamPager, SparsePager,
     try_read, try_write, zeros,
 };
 use std::alloc::{AllocError, Global};
 use std::process::Abort;
-use std::sync::Arc;
-use std::sync::atomic::{AtomicU64, Ordering};
 use std::test::Fail;
 
 const P: [u8; 4096] = [0x50; 4096];
@@ -176,100 +175,6 @@ fn each_kind_runs(rt: HostRuntime) -> Result<(), Fail> {
     Ok(())
 }
 
-// Pages in memory that tell outside how often a slot was discarded, and how often they were wiped and
-// dropped.
-struct CountingPager {
-    inner: RamPager,
-    discards: Arc<AtomicU64>,
-    wipes: Arc<AtomicU64>,
-    drops: Arc<AtomicU64>,
-}
-
-impl Pager for CountingPager {
-    ghost content = { λ p. p.inner };
-
-    ghost failed = { λ _. 0 };
-
-    fn slots(&self) -> u32 {
-        self.inner.slots()
-    }
-
-    fn failures(&self) -> u64 {
-        0
-    }
-
-    fn write(&mut self, slot: u32, page: &[u8; 4096]) -> Result<(), PagerFault> {
-        self.inner.write(slot, page)
-    }
-
-    fn read(&mut self, slot: u32, page: &mut [u8; 4096]) -> Result<(), PagerFault> {
-        self.inner.read(slot, page)
-    }
-
-    fn discard(&mut self, slot: u32) {
-        self.discards.fetch_add(1, Ordering::SeqCst);
-        self.inner.discard(slot);
-    }
-
-    fn wipe(&mut self) {
-        self.wipes.fetch_add(1, Ordering::SeqCst);
-        self.inner.wipe();
-    }
-}
-
-impl Drop for CountingPager {
-    fn drop(self) {
-        self.drops.fetch_add(1, Ordering::SeqCst);
-        let CountingPager {
-            inner: _,
-            discards: _,
-            wipes: _,
-            drops: _,
-        } = self;
-    }
-}
-
-// Makes such pagers, and has their counts.
-#[derive(Drop)]
-struct Counter {
-    alloc: Global,
-    discards: Arc<AtomicU64>,
-    wipes: Arc<AtomicU64>,
-    drops: Arc<AtomicU64>,
-}
-
-impl Counter {
-    fn new(alloc: Global) -> Result<Counter, AllocError> {
-        Ok(Counter {
-            alloc,
-            discards: Arc::new(alloc, AtomicU64::new(0))?,
-            wipes: Arc::new(alloc, AtomicU64::new(0))?,
-            drops: Arc::new(alloc, AtomicU64::new(0))?,
-        })
-    }
-
-    fn pager(&self, slots: u32) -> Result<CountingPager, AllocError> {
-        Ok(CountingPager {
-            inner: RamPager::new(self.alloc, slots)?,
-            discards: Arc::try_clone(&self.discards)?,
-            wipes: Arc::try_clone(&self.wipes)?,
-            drops: Arc::try_clone(&self.drops)?,
-        })
-    }
-
-    fn discards(&self) -> u64 {
-        self.discards.load(Ordering::SeqCst)
-    }
-
-    // Wipes and drops so far.
-    fn counts(&self) -> (u64, u64) {
-        (
-            self.wipes.load(Ordering::SeqCst),
-            self.drops.load(Ordering::SeqCst),
-        )
-    }
-}
-
 fn drop_in_a_fuse<X: Pager>(alloc: Global, inner: X) -> Result<(), AllocError> {
     drop(FusePager::new(inner, places(alloc, &[])?, places(alloc, &[])?));
     Ok(())
@@ -280,23 +185,23 @@ fn each_drop_runs_once_and_wipes(rt: HostRuntime) -> Result<(), Fail> {
     let alloc = rt.alloc();
 
     let counter = Counter::new(alloc)?;
-    drop_in_a_fuse(alloc, counter.pager(1)?)?;
+    drop_in_a_fuse(alloc, counter.pager(1, 0)?)?;
     assert_eq!(rt; counter.counts(), (1, 1), "a fuse");
 
     let counter = Counter::new(alloc)?;
-    let boxed: AnyPager = Box::new(alloc, counter.pager(1)?)?;
+    let boxed: AnyPager = Box::new(alloc, counter.pager(1, 0)?)?;
     drop_in_a_fuse(alloc, boxed)?;
     assert_eq!(rt; counter.counts(), (1, 1), "a box in a fuse");
 
     // A mirror that finds no memory hands both sides back, so that each is dropped once all the same.
     let counter = Counter::new(alloc)?;
-    let mirror = MirrorPager::new(alloc, counter.pager(1)?, counter.pager(1)?);
+    let mirror = MirrorPager::new(alloc, counter.pager(1, 0)?, counter.pager(1, 0)?);
     let wipes = if mirror.is_ok() { 2 } else { 0 };
     drop(mirror);
     assert_eq!(rt; counter.counts(), (wipes, 2), "a mirror");
 
     let counter = Counter::new(alloc)?;
-    drop(MirrorPager::new(alloc, counter.pager(1)?, counter.pager(2)?));
+    drop(MirrorPager::new(alloc, counter.pager(1, 0)?, counter.pager(2, 0)?));
     assert_eq!(rt; counter.counts(), (0, 2), "the sides of a refused mirror");
     Ok(())
 }
@@ -307,17 +212,22 @@ fn a_discard_reaches_the_pagers_behind(rt: HostRuntime) -> Result<(), Fail> {
     let alloc = rt.alloc();
     let counter = Counter::new(alloc)?;
 
-    let mut fuse = FusePager::new(counter.pager(1)?, places(alloc, &[])?, places(alloc, &[])?);
-    discard(&rt, &mut fuse, 0);
-    assert_eq!(rt; counter.discards(), 1, "a fuse");
+    let inner = counter.pager(2, 0)?;
+    let mut fuse = FusePager::new(inner, places(alloc, &[])?, places(alloc, &[])?);
+    discard(&rt, &mut fuse, 1);
+    assert_eq!(rt; counter.discards(), (1, 1), "a fuse");
 
-    let mut boxed: AnyPager = Box::new(alloc, counter.pager(1)?)?;
-    discard(&rt, &mut boxed, 0);
-    assert_eq!(rt; counter.discards(), 2, "a box");
+    let mut boxed: AnyPager = Box::new(alloc, counter.pager(3, 0)?)?;
+    discard(&rt, &mut boxed, 2);
+    assert_eq!(rt; counter.discards(), (2, 2), "a box");
 
-    let mirror = MirrorPager::new(alloc, counter.pager(1)?, counter.pager(1)?);
+    let mirror = MirrorPager::new(alloc, counter.pager(2, 0)?, counter.pager(2, u64::MAX)?);
     let mut mirror = mirror.map_err(|e| e.cause)?;
-    discard(&rt, &mut mirror, 0);
-    assert_eq!(rt; counter.discards(), 4, "both sides of a mirror");
+    discard(&rt, &mut mirror, 1);
+    assert_eq!(rt;
+        counter.discards(),
+        (4, 1),
+        "both sides of a mirror, of which one is spent"
+    );
     Ok(())
 }

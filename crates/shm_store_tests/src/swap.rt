@@ -2,13 +2,12 @@
 ghost use Rattle.std.specs.Prelude.{◌≡◌, length, IsTrue};
 ghost use Rattle.shm_slots.specs.View.{HasSlot, IsAreaSize};
 
+use crate::counting::{Counter, CountingPager};
 use shm_base::{HostMemory, PageRef, Slot};
 use shm_pager::{AnyPager, FusePager, Pager, PagerFault, RamPager};
 use shm_slots::Swap;
 use std::alloc::{AllocError, Global};
 use std::process::Abort;
-use std::sync::Arc;
-use std::sync::atomic::{AtomicU64, Ordering};
 use std::test::Fail;
 
 const P: [u8; 4096] = [0x50; 4096];
@@ -233,78 +232,49 @@ fn keeps_a_page<X: Pager>(
     Ok(())
 }
 
-// Pages in memory that tell outside how often a slot was discarded and how often they were dropped.
-struct CountingPager {
-    inner: RamPager,
-    discards: Arc<AtomicU64>,
-    drops: Arc<AtomicU64>,
-}
-
-impl Pager for CountingPager {
-    ghost content = { λ p. p.inner };
-
-    ghost failed = { λ _. 0 };
-
-    fn slots(&self) -> u32 {
-        self.inner.slots()
-    }
-
-    fn failures(&self) -> u64 {
-        0
-    }
-
-    fn write(&mut self, slot: u32, page: &[u8; 4096]) -> Result<(), PagerFault> {
-        self.inner.write(slot, page)
-    }
-
-    fn read(&mut self, slot: u32, page: &mut [u8; 4096]) -> Result<(), PagerFault> {
-        self.inner.read(slot, page)
-    }
-
-    fn discard(&mut self, slot: u32) {
-        self.discards.fetch_add(1, Ordering::SeqCst);
-        self.inner.discard(slot);
-    }
-
-    fn wipe(&mut self) {
-        self.inner.wipe();
-    }
-}
-
-impl Drop for CountingPager {
-    fn drop(self) {
-        self.drops.fetch_add(1, Ordering::SeqCst);
-        let CountingPager {
-            inner: _,
-            discards: _,
-            drops: _,
-        } = self;
-    }
-}
-
 #[test]
 fn pagers_are_told_and_dropped_once(rt: HostRuntime) -> Result<(), Fail> {
     let alloc = rt.alloc();
-    let discards = Arc::new(alloc, AtomicU64::new(0))?;
-    let drops = Arc::new(alloc, AtomicU64::new(0))?;
+    let counter = Counter::new(alloc)?;
     let mut pagers = Vec::with_capacity(alloc, 2)?;
     for _i in 0..2 {
-        pagers.push(CountingPager {
-            inner: RamPager::new(alloc, 1)?,
-            discards: Arc::try_clone(&discards)?,
-            drops: Arc::try_clone(&drops)?,
-        })?;
+        pagers.push(counter.pager(1, 0)?)?;
     }
     let mut swap = swap_of(&rt, alloc, pagers)?;
-    assert_eq!(rt; swap.take_slot(page(0)), Some(Slot { area: 0, slot: 0 }));
-    assert_eq!(rt; discards.load(Ordering::SeqCst), 0);
-    give(&rt, &mut swap, 0, 0);
-    assert_eq!(rt; discards.load(Ordering::SeqCst), 1);
-
     turn_off(&rt, &mut swap, 0);
-    assert_eq!(rt; drops.load(Ordering::SeqCst), 1);
+    assert_eq!(rt; counter.counts(), (0, 1));
     drop(swap);
-    assert_eq!(rt; drops.load(Ordering::SeqCst), 2);
+    assert_eq!(rt; counter.counts(), (0, 2));
+    Ok(())
+}
+
+// Takes the four slots of two areas, and gives back the second of each.
+fn give_second_slots(
+    rt: &impl Abort,
+    swap: &mut Swap<CountingPager>,
+    first: &Counter,
+    other: &Counter,
+) {
+    for number in 0..4 {
+        assert!(rt; swap.take_slot(page(number)).is_some());
+    }
+    give(rt, swap, 1, 1);
+    assert_eq!(rt; (first.discards(), other.discards()), ((0, 0), (1, 1)));
+    give(rt, swap, 0, 1);
+    assert_eq!(rt; (first.discards(), other.discards()), ((1, 1), (1, 1)));
+}
+
+// Also where the area's pager is spent: it is asked no more, but told.
+#[test]
+fn a_slot_given_back_is_discarded(rt: HostRuntime) -> Result<(), Fail> {
+    let alloc = rt.alloc();
+    let first = Counter::new(alloc)?;
+    let other = Counter::new(alloc)?;
+    let mut pagers = Vec::with_capacity(alloc, 2)?;
+    pagers.push(first.pager(2, u64::MAX)?)?;
+    pagers.push(other.pager(2, 0)?)?;
+    let mut swap = swap_of(&rt, alloc, pagers)?;
+    give_second_slots(&rt, &mut swap, &first, &other);
     Ok(())
 }
 
