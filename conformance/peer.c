@@ -778,8 +778,10 @@ static void remove_all(void) {
 /* the workers end when the director's ends of their pipes are closed; then nobody makes a segment any more */
 static void clean_up(void) {
     struct pollfd alive = {alive_fd, POLLIN, 0};
-    while (poll(&alive, 1, 1000 * limit_seconds) == -1 && errno == EINTR) continue;
+    int got;
+    while ((got = poll(&alive, 1, 1000 * limit_seconds)) == -1 && errno == EINTR) continue;
     remove_all();
+    while (got > 0 && waitpid(-1, NULL, 0) > 0) continue;
 }
 
 static void write_file(const char *path, const char *text) {
@@ -844,6 +846,7 @@ static int guard(void) {
     int life[2], status = 0;
     struct sigaction action = {.sa_handler = on_interrupt};
     open_guard(life);
+    prctl(PR_SET_CHILD_SUBREAPER, 1);
     pid_t director = fork();
     if (director == 0) {
         close(life[1]);

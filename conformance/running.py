@@ -1,5 +1,7 @@
 """Runs the program and the peer, each with a limit of time, and leaves nothing behind."""
 
+import contextlib
+import fcntl
 import os
 import selectors
 import shutil
@@ -71,7 +73,7 @@ class Peer:
 
     def run(self, text, count):
         """The events of a script of so many commands."""
-        with tempfile.TemporaryFile() as script, tempfile.TemporaryFile() as said:
+        with only_one(), tempfile.TemporaryFile() as script, tempfile.TemporaryFile() as said:
             script.write(text.encode())
             script.seek(0)
             try:
@@ -100,6 +102,17 @@ class Peer:
         if len(events) != count:
             raise Stopped(f"the peer printed {len(events)} lines for {count} commands")
         return events
+
+
+@contextlib.contextmanager
+def only_one():
+    """One peer at a time on this machine: Linux counts a user's locked pages for all of its processes."""
+    folder = os.open(tempfile.gettempdir(), os.O_RDONLY)
+    try:
+        fcntl.flock(folder, fcntl.LOCK_EX)
+        yield
+    finally:
+        os.close(folder)
 
 
 def text_of(file):
