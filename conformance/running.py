@@ -161,11 +161,21 @@ def wait_for_group(process, seconds):
 
 
 def is_group_there(group):
+    """Whether a process of the group runs; one that only waits for its parent does not."""
     try:
         os.killpg(group, 0)
     except ProcessLookupError:
         return False
-    return True
+    return any(is_running(name, group) for name in os.listdir("/proc") if name.isdigit())
+
+
+def is_running(pid, group):
+    try:
+        with open(f"/proc/{pid}/stat", encoding="ascii", errors="replace") as file:
+            state, _parent, its_group = file.read().rsplit(")", 1)[1].split()[:3]
+    except OSError:
+        return False
+    return int(its_group) == group and state not in "ZX"
 
 
 def why_no_peer():
