@@ -85,6 +85,6 @@ def compare_one(result, machine, command, event, other):
     known = classify(machine, event, other, command) if event.call == other.call else None
     if known is None:
         result.different.append(Difference(command, event.call, event.reply, other.reply))
-        return False
+        return event.is_refused and other.is_refused
     result.name(known[0])
     return known[1]

@@ -1,13 +1,11 @@
-/* peer: makes the calls of a script on the running system and prints one event line for each.
-
-   peer [--seconds] [--shared] [--limit S] [--exec WORDS] [SCRIPT]
+/* peer [--seconds] [--shared] [--limit S] [--exec WORDS] [SCRIPT]
+   makes the calls of a script on the running system and prints one event line for each.
 
    Three kinds of processes: the guardian outlives the others and removes every segment that was made; the
    director reads the script, tells one worker at a time what to do, and prints; a worker is one process of the
    script, with its user and group. Identifiers, pids and addresses are printed as those of the script.
 
-   --seconds   begins each command in a second of its own, so that times are printed as places in the script;
-               without it a time is 0 or `set`
+   --seconds   a second for each command: times are printed as places in the script, else as 0 or `set`
    --shared    stays in the system's own IPC namespace, under the system's own limits
    --limit S   gives each command at most S seconds (10)
    --exec W    exec runs these words in place of this program: the emulator that the peer runs under */
@@ -69,14 +67,14 @@ static char *exec_words[2 * WORDS + 3];
 static char worker_number[16];
 
 static void on_fault(int signal) {
-    if (!is_accessing) _exit(99);
-    siglongjmp(escape, signal);
+    if (is_accessing) siglongjmp(escape, signal);
+    _exit(99);
 }
 
 /* the ranges of this process that are no attaches: a script must not meet them */
 static void read_own_ranges(void) {
-    FILE *maps = fopen("/proc/self/maps", "r");
     char line[512];
+    FILE *maps = fopen("/proc/self/maps", "r");
     for (own_count = 0; maps && own_count < OWN_RANGES && fgets(line, sizeof line, maps);)
         if (!strstr(line, "/SYSV"))
             own_count += sscanf(line, "%" SCNx64 "-%" SCNx64, &own[own_count].begin, &own[own_count].end) == 2;
@@ -89,10 +87,7 @@ static int is_own(uint64_t begin, uint64_t length) {
     return 0;
 }
 
-static void settle(struct answer *a, int64_t value) {
-    a->value = value;
-    if (value == -1) a->error = errno;
-}
+static void settle(struct answer *a, int64_t value) { a->error = (a->value = value) == -1 ? errno : 0; }
 
 /* the record is written by the one who made the segment: it outlives this process and the director */
 static void get(const struct request *q, struct answer *a) {
@@ -114,9 +109,8 @@ static void control(const struct request *q, struct answer *a) {
     settle(a, shmctl(q->id, q->flags, &a->segment));
 }
 
-static volatile unsigned char *byte_at(const struct request *q, unsigned i) {
-    return (volatile unsigned char *)(uintptr_t)q->at[i];
-}
+typedef volatile unsigned char byte;
+static byte *byte_at(const struct request *q, unsigned i) { return (byte *)(uintptr_t)q->at[i]; }
 
 static void access_bytes(const struct request *q, struct answer *a) {
     uint64_t number = 0;
@@ -139,19 +133,20 @@ static void access_memory(const struct request *q, struct answer *a) {
 
 static void serve(int index) __attribute__((noreturn));
 
+static pid_t fork_child(int index) {
+    pid_t child = fork();
+    if (child == 0) serve(index);
+    return child;
+}
+
 static void perform(const struct request *q, struct answer *a) {
     unsigned char resident;
-    pid_t child;
     switch (q->task) {
     case GET: get(q, a); break;
     case ATTACH: attach(q, a); break;
     case DETACH: settle(a, shmdt((void *)(uintptr_t)q->address)); break;
     case CONTROL: control(q, a); break;
-    case FORK:
-        child = fork();
-        if (child == 0) serve(q->child);
-        settle(a, child);
-        break;
+    case FORK: settle(a, fork_child(q->child)); break;
     case EXEC: settle(a, execvp(exec_words[0], exec_words)); break;
     case EXIT: _exit(0);
     case MAPPED: a->value = mincore((void *)(uintptr_t)q->address, PAGE, &resident) == 0; break;
@@ -234,13 +229,11 @@ static int process_count, command_count, line_number;
 static uint64_t limits[5];
 static int life_fd = -1, alive_fd = -1, has_seconds, is_shared, is_root, limit_seconds = 10;
 
-static void fail(int status, const char *format, ...) __attribute__((noreturn, format(printf, 2, 3)));
-
-static void fail(int status, const char *format, ...) {
+__attribute__((noreturn, format(printf, 2, 3))) static void fail(int status, const char *format, ...) {
     va_list rest;
     va_start(rest, format);
     fflush(stdout);
-    fprintf(stderr, "peer: line %d: ", line_number);
+    fprintf(stderr, line_number ? "peer: line %d: " : "peer: ", line_number);
     vfprintf(stderr, format, rest);
     fputc('\n', stderr);
     va_end(rest);
@@ -251,9 +244,8 @@ static void fail(int status, const char *format, ...) {
 
 static uint64_t number_of(const char *word) {
     char *end;
-    int is_hexadecimal = word[0] == '0' && word[1] == 'x';
     errno = 0;
-    unsigned long long number = strtoull(word, &end, is_hexadecimal ? 16 : 10);
+    unsigned long long number = strtoull(word, &end, word[0] == '0' && word[1] == 'x' ? 16 : 10);
     if (*end || errno || word[0] < '0' || word[0] > '9') fail(1, "bad number: %s", word);
     return number;
 }
@@ -306,6 +298,7 @@ static void read_operand(struct command *c, int i, char letter, const char *word
 }
 
 static void read_command(char **words, int count) {
+    if (count < 2 || command_count == COMMANDS) fail(1, "bad line");
     struct command *c = &commands[command_count++];
     int has_variable = count > 3 && strcmp(words[2], "=") == 0, at = has_variable ? 3 : 1;
     c->line = line_number;
@@ -322,8 +315,7 @@ static void read_process(char **words, int count) {
     if (process_count == PROCESSES) fail(1, "too many processes");
     if (count != (is_child ? 2 : 4)) fail(1, "bad line");
     struct process *p = &processes[process_count++];
-    p->pid = (unsigned)number_of(words[1]);
-    p->life = is_child ? UNBORN : LIVE;
+    *p = (struct process){.pid = (unsigned)number_of(words[1]), .life = is_child ? UNBORN : LIVE};
     p->uid = is_child ? 0 : (unsigned)number_of(words[2]);
     p->gid = is_child ? 0 : (unsigned)number_of(words[3]);
 }
@@ -332,18 +324,12 @@ static void read_line(char *line) {
     char *words[WORDS + 1];
     int count = 0;
     for (char *w = strtok(line, " \t\n"); w && count <= WORDS; w = strtok(NULL, " \t\n")) words[count++] = w;
-    if (count == 0 || words[0][0] == '#') return;
-    if (strcmp(words[0], "limits") == 0 && count == 6) {
-        for (int i = 0; i < 5; i++) limits[i] = number_of(words[i + 1]);
-    } else if (strcmp(words[0], "process") == 0 || strcmp(words[0], "child") == 0) {
-        read_process(words, count);
-    } else if (strcmp(words[0], "0") == 0 && count == 3) {
-        return; /* a flush round is no command */
-    } else if (count < 2 || command_count == COMMANDS) {
-        fail(1, "bad line");
-    } else {
-        read_command(words, count);
-    }
+    if (count == 0 || words[0][0] == '#' || strcmp(words[0], "0") == 0) return; /* a flush round is no command */
+    int is_process = strcmp(words[0], "process") == 0 || strcmp(words[0], "child") == 0;
+    int is_limits = strcmp(words[0], "limits") == 0 && count == 6;
+    for (int i = 0; i < 5 && is_limits; i++) limits[i] = number_of(words[i + 1]);
+    if (is_process) read_process(words, count);
+    else if (!is_limits) read_command(words, count);
 }
 
 static void read_script(FILE *from) {
@@ -486,18 +472,26 @@ static const char *error_name(int error) {
     return other;
 }
 
-static void clean_up(void);
+static void remove_all(void) {
+    int id;
+    for (off_t at = 0; pread(RECORD_FD, &id, sizeof id, at) == sizeof id; at += (off_t)sizeof id)
+        shmctl(id, IPC_RMID, NULL);
+}
+
+/* the workers end when the director's ends of their pipes are closed; then nobody makes a segment any more */
+static void clean_up(void) {
+    struct pollfd alive = {alive_fd, POLLIN, 0};
+    int got;
+    while ((got = poll(&alive, 1, 1000 * limit_seconds)) == -1 && errno == EINTR) continue;
+    remove_all();
+    while (got > 0 && waitpid(-1, NULL, 0) > 0) continue;
+}
 
 /* then its work is done here */
 static void lose_guardian(void) {
     for (int i = 0; i < process_count; i++) close(processes[i].to);
     clean_up();
     fail(3, "the guardian is gone");
-}
-
-static void wait_a_little(int milliseconds) {
-    struct pollfd life = {life_fd, POLLIN, 0};
-    if (poll(&life, 1, milliseconds) > 0) lose_guardian();
 }
 
 /* the answer of a worker, or its end where that is what it was told */
@@ -507,7 +501,7 @@ static struct answer ask(struct process *p, const struct request *q) {
     if (!write_whole(p->to, q, sizeof *q)) fail(3, "process %u is gone", p->pid);
     for (;;) {
         struct pollfd both[2] = {{p->from, POLLIN, 0}, {life_fd, POLLIN, 0}};
-        if (poll(both, 2, q->task == EXIT ? 1 : 50) < 0 && errno != EINTR) fail(3, "poll: %s", strerror(errno));
+        if (poll(both, 2, q->task == EXIT ? 1 : 50) < 0) continue;
         if (both[1].revents) lose_guardian();
         if (both[0].revents & POLLIN) break;
         int is_ended = kill(p->real, 0) == -1 && errno == ESRCH;
@@ -519,8 +513,11 @@ static struct answer ask(struct process *p, const struct request *q) {
     return a;
 }
 
+static void skip(char *reply, const char *why) { sprintf(reply, "skipped: %s", why); }
+
+/* a reply that is no value; whether the call was made and not refused */
 static int reply_plain(struct answer *a, char *reply) {
-    if (a->is_refused_here) strcpy(reply, "skipped: the peer's own memory is there");
+    if (a->is_refused_here) skip(reply, "the peer's own memory is there");
     else if (a->signal) strcpy(reply, a->signal == SIGSEGV ? "SIGSEGV" : "SIGBUS");
     else if (a->error) strcpy(reply, error_name(a->error));
     else strcpy(reply, "ok");
@@ -532,10 +529,8 @@ static void run_get(struct process *p, const uint64_t *v, char *reply, uint64_t 
     note_destroyed();
     int found = is_shared && v[0] ? shmget((key_t)v[0], 0, 0) : -1;
     struct segment *known = found == -1 ? NULL : find_segment(found, -1);
-    if ((found != -1 || (is_shared && v[0] && errno != ENOENT)) && (!known || known->is_gone)) {
-        strcpy(reply, "skipped: the system has a segment with this key");
-        return;
-    }
+    if ((found != -1 || (is_shared && v[0] && errno != ENOENT)) && (!known || known->is_gone))
+        return skip(reply, "the system has a segment with this key");
     struct answer a = ask(p, &q);
     if (!reply_plain(&a, reply)) return;
     int64_t name = name_segment((int)a.value, v[1]);
@@ -550,18 +545,15 @@ static void run_attach(struct process *p, const uint64_t *v, char *reply, uint64
     q.size = size;
     q.address = real_address(p, page) + v[1] % PAGE;
     int is_occupied = piece_at(p, page) && !(v[2] & SHM_REMAP);
-    if (v[1] && page + size > page && !is_occupied && !is_one_range(p, page, size)) {
-        strcpy(reply, "skipped: the range is not one range of the system");
-        return;
-    }
+    if (v[1] && page + size > page && !is_occupied && !is_one_range(p, page, size))
+        return skip(reply, "the range is not one range of the system");
     struct answer a = ask(p, &q);
     if (!reply_plain(&a, reply)) return;
     base = v[1] ? page : chosen_name(p, size);
     if ((uint64_t)a.value % PAGE) fail(3, "an attach at %#" PRIx64, (uint64_t)a.value);
     replace_pieces(p, (struct piece){base, size, (uint64_t)a.value, base});
     *result = base;
-    if (base) sprintf(reply, "0x%" PRIx64, base);
-    else strcpy(reply, "null");
+    sprintf(reply, base ? "0x%jx" : "null%.0jx", (uintmax_t)base);
 }
 
 /* which attaches went is looked up, not assumed */
@@ -622,18 +614,12 @@ static void run_fork(struct process *p, const uint64_t *v, char *reply) {
     int index = process_by_pid(v[0]);
     struct process *child = &processes[index];
     struct request q = {.task = FORK, .child = index};
-    if (child->life != UNBORN) {
-        strcpy(reply, "skipped: no such child can be");
-        return;
-    }
+    if (child->life != UNBORN) return skip(reply, "no such child can be");
     struct answer a = ask(p, &q);
     if (!reply_plain(&a, reply)) return;
-    child->life = LIVE;
-    child->real = (pid_t)a.value;
-    child->uid = p->uid;
-    child->gid = p->gid;
+    *child = (struct process){.pid = child->pid, .uid = p->uid, .gid = p->gid, .life = LIVE, .real = (pid_t)a.value,
+        .to = child->to, .from = child->from, .piece_count = p->piece_count};
     memcpy(child->pieces, p->pieces, sizeof p->pieces);
-    child->piece_count = p->piece_count;
 }
 
 static void run_end(struct process *p, int call, char *reply) {
@@ -645,12 +631,12 @@ static void run_end(struct process *p, int call, char *reply) {
 
 static void run(struct process *p, const struct command *c, const uint64_t *v, char *reply, uint64_t *result) {
     int is_too_large = (c->call == SHMGET && (size_t)v[1] != v[1]) || (c->call == SHMAT && (uintptr_t)v[1] != v[1]);
-    if (is_too_large) strcpy(reply, "skipped: this system has no such number");
-    else if (p->has_no_user) strcpy(reply, "skipped: no right to be this user");
+    if (is_too_large) skip(reply, "this system has no such number");
+    else if (p->has_no_user) skip(reply, "no right to be this user");
     else if (c->call == SHMSET && !is_root && !is_shared && (v[1] != p->uid || v[2] != p->gid))
-        strcpy(reply, "skipped: there is one user here");
-    else if (p->life != LIVE) strcpy(reply, "skipped: no process makes this call");
-    else if (c->call == SWAPOFF) strcpy(reply, "skipped: no swap area is the script's");
+        skip(reply, "there is one user here");
+    else if (p->life != LIVE) skip(reply, "no process makes this call");
+    else if (c->call == SWAPOFF) skip(reply, "no swap area is the script's");
     else if (c->call == SHMGET) run_get(p, v, reply, result);
     else if (c->call == SHMAT) run_attach(p, v, reply, result);
     else if (c->call == SHMDT) run_detach(p, v, reply);
@@ -665,18 +651,14 @@ static void print_flags(uint64_t flags, int has_mode) {
     const char *before = has_mode ? "," : "";
     if (has_mode) printf("%03o", (unsigned)flags & 0777);
     else if (!flags) printf("-");
-    for (int i = has_mode ? 0 : GET_FLAGS; i < (has_mode ? GET_FLAGS : FLAGS); i++) {
-        if (!(flags & flag_names[i].flag)) continue;
-        printf("%s%s", before, flag_names[i].name);
-        before = ",";
-    }
+    for (int i = has_mode ? 0 : GET_FLAGS; i < (has_mode ? GET_FLAGS : FLAGS); i++)
+        if (flags & flag_names[i].flag) before = printf("%s%s", before, flag_names[i].name) ? "," : before;
 }
 
 static void print_operand(const struct command *c, char letter, uint64_t value) {
     putchar(' ');
     if (letter == 'k') printf("0x%08" PRIx64, value);
-    else if (letter == 'a' && value == 0) printf("null");
-    else if (letter == 'a') printf("0x%" PRIx64, value);
+    else if (letter == 'a') printf(value ? "0x%jx" : "null%.0jx", (uintmax_t)value);
     else if (letter == 'm') printf("%03" PRIo64, value);
     else if (letter == 'g' || letter == 'f') print_flags(value, letter == 'g');
     else if (letter == 'b') for (unsigned i = 0; i < c->length; i++) printf("%02x", c->bytes[i]);
@@ -704,15 +686,15 @@ static void run_command(int place) {
 
 static void begin_second(int place) {
     time_t last = place > 1 ? began[place - 1] : time(NULL);
-    while (time(NULL) <= last) wait_a_little(5);
-    began[place] = time(NULL);
+    struct pollfd life = {life_fd, POLLIN, 0};
+    while ((began[place] = time(NULL)) <= last)
+        if (poll(&life, 1, 5) > 0) lose_guardian();
 }
 
-static void become_user(const struct process *p) {
+static int become_user(unsigned uid, unsigned gid) {
     struct rlimit locked = {limits[4] * PAGE, limits[4] * PAGE};
     setrlimit(RLIMIT_MEMLOCK, &locked);
-    if (is_root && (setgroups(0, NULL) || setresgid(p->gid, p->gid, p->gid) || setresuid(p->uid, p->uid, p->uid)))
-        _exit(97);
+    return !is_root || (!setgroups(0, NULL) && !setresgid(gid, gid, gid) && !setresuid(uid, uid, uid));
 }
 
 /* pipes to a worker and from it: its own ends have numbers that stand, whoever forks and execs */
@@ -730,19 +712,14 @@ static void open_pipes(int index) {
 static void start_worker(int index) {
     struct process *p = &processes[index];
     int has_user = is_root ? p->uid != UINT32_MAX && p->gid != UINT32_MAX : p->uid == getuid() && p->gid == getgid();
-    if (p->life != LIVE || !has_user) {
-        p->has_no_user = p->life == LIVE;
-        return;
-    }
+    p->has_no_user = p->life == LIVE && !has_user;
+    if (p->life != LIVE || !has_user) return;
     p->real = fork();
     if (p->real == -1) fail(3, "fork: %s", strerror(errno));
     if (p->real != 0) return;
-    for (int i = 0; i < process_count; i++) {
-        close(processes[i].to);
-        close(processes[i].from);
-    }
+    for (int i = 0; i < process_count; i++) close(processes[i].to), close(processes[i].from);
     close(life_fd);
-    become_user(p);
+    if (!become_user(p->uid, p->gid)) _exit(97);
     prepare_worker();
     serve(index);
 }
@@ -756,11 +733,7 @@ static void direct(void) {
     prctl(PR_SET_CHILD_SUBREAPER, 1);
     for (int i = 0; i < process_count; i++) open_pipes(i);
     for (int i = 0; i < process_count; i++) start_worker(i);
-    for (int i = 0; i < process_count; i++) {
-        close(FIRST_FD + 2 * i);
-        close(FIRST_FD + 2 * i + 1);
-    }
-    close(ALIVE_FD);
+    for (int fd = ALIVE_FD; fd < FIRST_FD + 2 * process_count; fd++) close(fd);
     for (int place = 1; place <= command_count; place++) {
         if (has_seconds) begin_second(place);
         run_command(place);
@@ -769,46 +742,23 @@ static void direct(void) {
 
 /* ---- the guardian ---- */
 
-static void remove_all(void) {
-    int id;
-    for (off_t at = 0; pread(RECORD_FD, &id, sizeof id, at) == sizeof id; at += (off_t)sizeof id)
-        shmctl(id, IPC_RMID, NULL);
-}
-
-/* the workers end when the director's ends of their pipes are closed; then nobody makes a segment any more */
-static void clean_up(void) {
-    struct pollfd alive = {alive_fd, POLLIN, 0};
-    while (poll(&alive, 1, 1000 * limit_seconds) == -1 && errno == EINTR) continue;
-    remove_all();
-}
-
-static void write_file(const char *path, const char *text) {
+static void write_file(const char *path, const char *format, uint64_t a, uint64_t b) {
     FILE *file = fopen(path, "w");
-    int is_written = file && fputs(text, file) >= 0;
+    int is_written = file && fprintf(file, format, a, b) > 0;
     if (file && fclose(file) != 0) is_written = 0;
     if (!is_written) fprintf(stderr, "peer: note: %s stays as it is\n", path);
 }
 
-static void write_limit(const char *path, uint64_t limit) {
-    char text[32];
-    sprintf(text, "%" PRIu64, limit);
-    write_file(path, text);
-}
-
 /* without root there is one user: the first of the script, in a user namespace */
 static void enter_as_one_user(unsigned outer_uid, unsigned outer_gid) {
-    char text[64];
-    write_file("/proc/self/setgroups", "deny");
-    sprintf(text, "%u %u 1", processes[0].uid, outer_uid);
-    write_file("/proc/self/uid_map", text);
-    sprintf(text, "%u %u 1", processes[0].gid, outer_gid);
-    write_file("/proc/self/gid_map", text);
+    write_file("/proc/self/setgroups", "deny", 0, 0);
+    write_file("/proc/self/uid_map", "%" PRIu64 " %" PRIu64 " 1", processes[0].uid, outer_uid);
+    write_file("/proc/self/gid_map", "%" PRIu64 " %" PRIu64 " 1", processes[0].gid, outer_gid);
 }
 
 static void drop_capabilities(void) {
     struct __user_cap_header_struct header = {_LINUX_CAPABILITY_VERSION_3, 0};
-    struct __user_cap_data_struct none[2];
-    memset(none, 0, sizeof none);
+    struct __user_cap_data_struct none[2] = {{0}, {0}};
     syscall(SYS_capset, &header, none);
 }
 
@@ -816,14 +766,12 @@ static void enter_namespace(void) {
     unsigned uid = geteuid(), gid = getegid();
     is_root = uid == 0;
     if (!is_shared && unshare(is_root ? CLONE_NEWIPC : CLONE_NEWIPC | CLONE_NEWUSER) == -1) is_shared = 1;
-    if (is_shared) {
-        fprintf(stderr, "peer: note: in the system's own IPC namespace, under its limits\n");
-        return;
-    }
+    if (is_shared) fprintf(stderr, "peer: note: in the system's own IPC namespace, under its limits\n");
+    if (is_shared) return;
     if (!is_root) enter_as_one_user(uid, gid);
-    write_limit("/proc/sys/kernel/shmmax", limits[0]);
-    write_limit("/proc/sys/kernel/shmmni", limits[1]);
-    write_limit("/proc/sys/kernel/shmall", limits[2]);
+    write_file("/proc/sys/kernel/shmmax", "%" PRIu64, limits[0], 0);
+    write_file("/proc/sys/kernel/shmmni", "%" PRIu64, limits[1], 0);
+    write_file("/proc/sys/kernel/shmall", "%" PRIu64, limits[2], 0);
     if (!is_root && processes[0].uid != 0) drop_capabilities();
 }
 
@@ -844,6 +792,7 @@ static int guard(void) {
     int life[2], status = 0;
     struct sigaction action = {.sa_handler = on_interrupt};
     open_guard(life);
+    prctl(PR_SET_CHILD_SUBREAPER, 1);
     pid_t director = fork();
     if (director == 0) {
         close(life[1]);
@@ -852,9 +801,7 @@ static int guard(void) {
         exit(0);
     }
     if (director == -1) fail(3, "fork: %s", strerror(errno));
-    sigaction(SIGINT, &action, NULL);
-    sigaction(SIGTERM, &action, NULL);
-    sigaction(SIGHUP, &action, NULL);
+    for (int i = 0; i < 3; i++) sigaction((int[]){SIGINT, SIGTERM, SIGHUP}[i], &action, NULL);
     close(ALIVE_FD);
     while (waitpid(director, &status, 0) == -1 && errno == EINTR) kill(director, SIGTERM);
     clean_up();
@@ -862,21 +809,16 @@ static int guard(void) {
     return WIFEXITED(status) ? WEXITSTATUS(status) : 3;
 }
 
-static int usage(void) {
-    fprintf(stderr, "peer: usage: peer [--seconds] [--shared] [--limit S] [--exec WORDS] [SCRIPT]\n");
-    return 2;
-}
-
 /* the words that exec runs: those of --exec, or this program */
 static void choose_exec_words(char *given) {
-    static char this_program[] = "/proc/self/exe", *words[WORDS];
+    char *words[WORDS] = {(char *)"/proc/self/exe"};
     int count = 0;
     for (char *w = given ? strtok(given, " ") : NULL; w && count < WORDS; w = strtok(NULL, " ")) words[count++] = w;
-    if (count == 0) words[count++] = this_program;
-    set_exec_words(words, count);
+    set_exec_words(words, count ? count : 1);
 }
 
 int main(int argc, char **argv) {
+    const char *usage = "usage: peer [--seconds] [--shared] [--limit S] [--exec WORDS] [SCRIPT]";
     char *given = NULL;
     FILE *from = stdin;
     int i = 1;
@@ -886,9 +828,9 @@ int main(int argc, char **argv) {
         else if (strcmp(argv[i], "--shared") == 0) is_shared = 1;
         else if (strcmp(argv[i], "--limit") == 0 && i + 1 < argc) limit_seconds = atoi(argv[++i]);
         else if (strcmp(argv[i], "--exec") == 0 && i + 1 < argc) given = argv[++i];
-        else return usage();
+        else fail(2, "%s", usage);
     }
-    if (argc - i > 1 || limit_seconds < 1) return usage();
+    if (argc - i > 1 || limit_seconds < 1) fail(2, "%s", usage);
     if (i < argc && !(from = fopen(argv[i], "r"))) fail(1, "%s: %s", argv[i], strerror(errno));
     if (sysconf(_SC_PAGESIZE) != PAGE) fail(4, "skipped: pages here are not of %d bytes", PAGE);
     choose_exec_words(given);

@@ -27,6 +27,7 @@ class Segment:
     mode: int
     pages: int
     locked_by: int | None = None
+    locked_there_by: int | None = None
 
 
 @dataclass
@@ -76,8 +77,12 @@ class Machine:
         """A marked segment that nobody has goes, and with it its lock."""
         held = {piece.segment for pieces in self.pieces.values() for piece in pieces}
         for name in [name for name in self.marked if name not in held]:
-            self.segments[name].locked_by = None
+            self.unlock(name)
             self.marked.discard(name)
+
+    def unlock(self, name):
+        self.segments[name].locked_by = self.segments[name].locked_there_by = None
+        self.words.pop((name, "status"), None)
 
     def follow_rmid(self, _event, name):
         self.marked.add(int(name))
@@ -146,8 +151,7 @@ class Machine:
             self.segments[int(name)].locked_by = self.users[event.pid][0]
 
     def follow_unlock(self, _event, name):
-        self.segments[int(name)].locked_by = None
-        self.words.pop((int(name), "status"), None)
+        self.unlock(int(name))
 
     def follow_write(self, event):
         """A store that is refused leaves on Linux what it had written before."""
@@ -246,6 +250,8 @@ def of_stat(machine, event, other, _command):
         if theirs[word] == value:
             continue
         rule, linux = machine.words.get((number_of(event.operands[0]), word), (None, None))
+        if word == "status" and value == "dest" and linux:
+            linux = "dest," + linux
         if linux != theirs[word]:
             return None
         rules.append(rule)
@@ -262,15 +268,17 @@ def of_lock(machine, event, other, _command):
     if event.reply != "ENOMEM":
         return None
     name, (uid, _gid) = number_of(event.operands[0]), machine.users[event.pid]
-    is_free = uid == 0 or machine.limits[4] * PAGE > 0 and fits_limit(machine, name, uid)
-    if other.reply == "ok" and is_free:
+    is_there = (name, "status") in machine.words
+    if other.reply == "ok" and (uid == 0 or is_there or fits_limit(machine, name, uid)):
         machine.words[name, "status"] = ("locked pages", "locked")
+        machine.segments[name].locked_there_by = machine.segments[name].locked_there_by if is_there else uid
         return "locked pages", True
     return ("locked pages", True) if other.reply == "EPERM" and uid != 0 and machine.limits[4] == 0 else None
 
 
 def fits_limit(machine, name, uid):
-    held = sum(segment.pages for segment in machine.segments.values() if segment.locked_by == uid)
+    held = sum(segment.pages for segment in machine.segments.values()
+               if uid in (segment.locked_by, segment.locked_there_by))
     return held + machine.segments[name].pages <= machine.limits[4]
 
 

@@ -1,5 +1,7 @@
 """Runs the program and the peer, each with a limit of time, and leaves nothing behind."""
 
+import contextlib
+import fcntl
 import os
 import selectors
 import shutil
@@ -71,7 +73,7 @@ class Peer:
 
     def run(self, text, count):
         """The events of a script of so many commands."""
-        with tempfile.TemporaryFile() as script, tempfile.TemporaryFile() as said:
+        with only_one(), tempfile.TemporaryFile() as script, tempfile.TemporaryFile() as said:
             script.write(text.encode())
             script.seek(0)
             try:
@@ -100,6 +102,17 @@ class Peer:
         if len(events) != count:
             raise Stopped(f"the peer printed {len(events)} lines for {count} commands")
         return events
+
+
+@contextlib.contextmanager
+def only_one():
+    """One peer at a time on this machine: Linux counts a user's locked pages for all of its processes."""
+    folder = os.open(tempfile.gettempdir(), os.O_RDONLY)
+    try:
+        fcntl.flock(folder, fcntl.LOCK_EX)
+        yield
+    finally:
+        os.close(folder)
 
 
 def text_of(file):
@@ -148,11 +161,21 @@ def wait_for_group(process, seconds):
 
 
 def is_group_there(group):
+    """Whether a process of the group runs; one that only waits for its parent does not."""
     try:
         os.killpg(group, 0)
     except ProcessLookupError:
         return False
-    return True
+    return any(is_running(name, group) for name in os.listdir("/proc") if name.isdigit())
+
+
+def is_running(pid, group):
+    try:
+        with open(f"/proc/{pid}/stat", encoding="ascii", errors="replace") as file:
+            state, _parent, its_group = file.read().rsplit(")", 1)[1].split()[:3]
+    except OSError:
+        return False
+    return int(its_group) == group and state not in "ZX"
 
 
 def why_no_peer():

@@ -11,6 +11,7 @@ ERRORS = ("EPERM ENOENT ESRCH EIO EAGAIN ENOMEM EACCES EEXIST EINVAL EMFILE ENOS
           "ENFILE ENOSYS EFAULT EOVERFLOW").split()
 DECLARATIONS = ("limits", "process", "child")
 EVENT = re.compile(r"(\d+) (\d+) (\S+)((?: \S+)*) = (\S.*)")
+SOURCE = re.compile(r"POSIX [\w<]|\(\d\)|profile")
 SWAP = ["sparse:65536"]
 TIMES = ("atime", "dtime", "ctime")
 
@@ -109,8 +110,8 @@ def read_case(name, text, is_strict=True):
 
 def require_rules(case):
     for command in case.commands:
-        if not command.rule:
-            raise BadInput(f"{case.name}: line {command.line}: no comment names the rule")
+        if not SOURCE.search(command.rule):
+            raise BadInput(f"{case.name}: line {command.line}: no comment names the rule and its source")
         if not command.expected:
             raise BadInput(f"{case.name}: line {command.line}: no reply is told")
     if not case.commands:
