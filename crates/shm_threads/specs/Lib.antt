@@ -1,3 +1,4 @@
+pub mod Ends
 pub mod Keepers
 pub mod Plans
 pub mod Transcripts

@@ -1,5 +1,5 @@
 -- What the transcripts of a run say of its history.
-use Rattle.std.specs.Prelude.{◌≡◌, ◌≢◌, ◌≤◌, ◌⊎◌, ◌==◌, ℕ, ◌+◌, length, vec_len, vec_capacity, List, [], ◌∷◌, Bool, true, false, not, ◌&&◌, is_some, if◌then◌else◌, Option, Some, None, MatchBool, All, map}
+use Rattle.std.specs.Prelude.{◌≡◌, ◌≢◌, ◌≤◌, ◌⊎◌, ◌==◌, ℕ, ◌+◌, length, vec_len, vec_capacity, List, [], ◌∷◌, Bool, true, false, not, ◌&&◌, is_some, if◌then◌else◌, Option, Some, None, MatchBool, All, map, min}
 use Rattle.std.specs.List.{list_any}
 use Rattle.shm_base.specs.History.{IsHistory, own_part}
 use Rattle.shm_base.specs.State.{Opening}
@@ -99,6 +99,11 @@ pub record IsTranscript (script : ScriptView) (history : List Event) (t : Transc
   pub lines : HasLines script history t
   pub own : told t.pid t.entries.items ≡ own_part t.pid history
   pub marks : All FitsMark t.entries.items
+
+-- the lesser of a pid and the least so far
+abbrev pub least_of : Option ℕ → ℕ → ℕ
+least_of None pid = pid
+least_of (Some other) pid = min other pid
 
 -- The event is of a declared process, which was live
 pub record IsAdmitted (processes : List Process) (e : Event) : Type 0 where

@@ -1,10 +1,10 @@
 //! The comparison of the transcripts with the history, once all workers have ended. What a run promises is
 //! what this finds: the workers themselves promise nothing.
-ghost use Rattle.std.specs.Prelude.{◌≡◌, ◌≤◌, IfNone, IfOk, IsTrue, All, map, length, drop};
+ghost use Rattle.std.specs.Prelude.{◌≡◌, ◌↔◌, ◌≤◌, IfNone, IfOk, IsTrue, All, map, length, drop};
 ghost use Rattle.std.specs.Option.{option_copied};
 ghost use Rattle.shm_base.specs.History.{own_part};
 ghost use Rattle.shm_text.specs.Variables.{no_values};
-ghost use Rattle.shm_threads.specs.Transcripts.{commands_of, reply_in, is_end, Follows, told, is_fork_of, is_forked, is_declared, is_child, pid_in, pid_of, HasLines, FitsMark, IsTranscript, IsAdmitted, IsOutcome};
+ghost use Rattle.shm_threads.specs.Transcripts.{commands_of, reply_in, is_end, Follows, told, is_fork_of, is_forked, is_declared, is_child, pid_in, pid_of, HasLines, FitsMark, IsTranscript, IsAdmitted, IsOutcome, least_of};
 
 use crate::outcome::{Answer, Entry, Transcript};
 use shm_base::{Call, Errno, Event, HostMemory, Process, Reply};
@@ -71,10 +71,9 @@ pub(crate) fn disagreement(
     }
     let stranger = first_stranger(&script.processes, history);
     let broken = first_broken(script, history, transcripts);
-    match (stranger, broken) {
-        (Some(a), Some(b)) => Some(a.min(b)),
-        (Some(a), None) => Some(a),
-        (None, other) => other,
+    match broken {
+        Some(pid) => Some(least(stranger, pid)),
+        None => stranger,
     }
 }
 
@@ -107,7 +106,7 @@ fn first_stranger(processes: &[Process], history: &[Event]) -> Option<u32>
 }
 
 fn is_admitted(processes: &[Process], event: &Event) -> bool
-    ensures { IsTrue result → IsAdmitted processes.now event.now }
+    ensures { IsTrue result ↔ IsAdmitted processes.now event.now }
 {
     is_declared(processes, event.pid) && event.reply != Reply::Refused(Errno::Esrch)
 }
@@ -119,7 +118,9 @@ fn is_declared(processes: &[Process], pid: u32) -> bool
 }
 
 /// The lesser of the least pid so far and another.
-pub(crate) fn least(so_far: Option<u32>, pid: u32) -> u32 {
+pub(crate) fn least(so_far: Option<u32>, pid: u32) -> u32
+    ensures { result ≡ least_of so_far pid }
+{
     so_far.map_or(pid, |other| other.min(pid))
 }
 
@@ -180,13 +181,13 @@ fn is_fork_of(event: &Event, child: u32) -> bool
 
 // Whether only calls that may want memory are marked.
 fn fit(entries: &[Entry]) -> bool
-    ensures { IsTrue result → All FitsMark entries.now }
+    ensures { IsTrue result ↔ All FitsMark entries.now }
 {
     entries.iter().all(|entry| fits(entry))
 }
 
 fn fits(entry: &Entry) -> bool
-    ensures { IsTrue result → FitsMark entry.now }
+    ensures { IsTrue result ↔ FitsMark entry.now }
 {
     match (&entry.call, &entry.answer) {
         (_, Answer::Reply(_)) => true,

@@ -1,5 +1,6 @@
 //! A run with threads: start, joins, comparison.
-ghost use Rattle.std.specs.Prelude.{◌≡◌, ◌+◌, ◌≤◌, true, false, IfOk, OnOk, IfNone, length, vec_len, vec_capacity};
+ghost use Rattle.std.specs.Prelude.{◌≡◌, ◌+◌, ◌≤◌, true, false, IfOk, OnOk, IfNone, IfSome, length, vec_len, vec_capacity};
+ghost use Rattle.shm_threads.specs.Ends.{IsFirst};
 ghost use Rattle.shm_threads.specs.Keepers.{cell_of, IsCaughtUp};
 ghost use Rattle.shm_threads.specs.Transcripts.{HasRoom, IsOutcome};
 ghost use Rattle.shm_threads.specs.Plans.{IsPlan};
@@ -168,6 +169,7 @@ fn fault<P: Pager>(
 ) -> Option<RunError>
     ensures outcome { IfNone result (IsOutcome script.now opening.now world.now run.now.transcripts.items) }
     ensures started { IfNone result (run.now.is_refused ≡ false) }
+    ensures first { IfSome result (IsFirst run.now.is_refused run.now.expired) }
 {
     if run.is_refused {
         return Some(RunError::ThreadRefused);

@@ -1,8 +1,9 @@
 //! Whole runs: whatever the schedule, they end as stated.
 use crate::gate::Gate;
 use crate::outcome::RunError;
-use crate::run::run_threads;
-use crate::tests::{Below, OPEN, Seen, comes_to, look_at, run_behind, script, seen_behind, world};
+use crate::tests::{
+    Below, OPEN, Seen, comes_to, fault_behind, look_at, run_behind, script, seen_behind,
+};
 use shm_base::{AccessLen, Call, Chunk, Reply, Tally};
 use shm_history::World;
 use shm_pager::RamPager;
@@ -132,11 +133,9 @@ fn the_flusher_makes_its_rounds(rt: HostRuntime) -> Result<(), Fail> {
         script.lines.push(Line::Flush(round))?;
     }
     for (most, fault) in [(3, None), (1, Some(RunError::GateExpired { pid: 0 }))] {
-        let world = world(alloc, &script)?;
         let made = AtomicU64::new(0);
         let gate = Rounds { most, made };
-        let run = run_threads(&rt, alloc, world, &script, &gate);
-        assert!(rt; run.err() == fault);
+        assert!(rt; fault_behind(&rt, alloc, &script, &gate, usize::MAX)? == fault);
         assert_eq!(rt; gate.made.load(Ordering::SeqCst), most);
     }
     Ok(())

@@ -84,7 +84,8 @@ pub(crate) fn world_over<P: Pager>(
     script: &Script,
     pager: P,
 ) -> Result<World<P>, Fail> {
-    let pagers = vec![in alloc; pager]?;
+    let mut pagers = Vec::new(alloc);
+    pagers.push(pager)?;
     let system = System::start(alloc, script.limits, pagers, &script.processes)
         .ok()
         .ok_or("it starts")?;
@@ -148,14 +149,26 @@ fn two_run_at_once(rt: HostRuntime) -> Result<(), Fail> {
     Ok(())
 }
 
+/// Why a run behind this gate has no outcome, where from this place on a worker is refused its thread.
+pub(crate) fn fault_behind<R: Threads + Wait + Sync, G: Gate>(
+    rt: &R,
+    alloc: Global,
+    script: &Script,
+    gate: &G,
+    refused_from: usize,
+) -> Result<Option<RunError>, Fail> {
+    let world = world(alloc, script)?;
+    let run = run_with(rt, alloc, world, None, script, gate, refused_from);
+    Ok(run.err())
+}
+
 #[test]
 fn a_gate_ends_workers(rt: HostRuntime) -> Result<(), Fail> {
     let alloc = rt.alloc();
     let script = script(alloc, TWO)?;
     for pid in 1..3 {
-        let world = world(alloc, &script)?;
-        let ended = run_threads(&rt, alloc, world, &script, &Below(pid));
-        assert!(rt; ended.err() == Some(RunError::GateExpired { pid }));
+        let ended = fault_behind(&rt, alloc, &script, &Below(pid), usize::MAX)?;
+        assert!(rt; ended == Some(RunError::GateExpired { pid }));
     }
     Ok(())
 }
@@ -167,9 +180,8 @@ fn threads_are_refused(rt: HostRuntime) -> Result<(), Fail> {
     for started in 0..2 {
         // where the first worker is started, the gate ends it, or lets it pass
         for pid in [1, OPEN] {
-            let world = world(alloc, &script)?;
-            let refused = run_with(&rt, alloc, world, None, &script, &Below(pid), started);
-            assert!(rt; refused.err() == Some(RunError::ThreadRefused));
+            let refused = fault_behind(&rt, alloc, &script, &Below(pid), started)?;
+            assert!(rt; refused == Some(RunError::ThreadRefused));
         }
     }
     Ok(())
@@ -436,11 +448,16 @@ fn opening(alloc: Global, text: &[u8]) -> Result<Opening, Fail> {
     opening_of(alloc, &world(alloc, &script)?)
 }
 
-// What is found of a run of no calls, where this opening was handed in.
-fn compared(alloc: Global, opening: &Opening) -> Result<Option<u32>, Fail> {
+// The empty transcripts of two processes.
+fn two_empty(alloc: Global) -> Result<Vec<Transcript>, Fail> {
     let first = transcript(alloc, 1, &[])?;
     let second = transcript(alloc, 2, &[])?;
-    let transcripts = vec![in alloc; first, second]?;
+    Ok(vec![in alloc; first, second]?)
+}
+
+// What is found of a run of no calls, where this opening was handed in.
+fn compared(alloc: Global, opening: &Opening) -> Result<Option<u32>, Fail> {
+    let transcripts = two_empty(alloc)?;
     let script = script(alloc, TWO)?;
     let world = world(alloc, &script)?;
     Ok(mismatch(opening, &world, &script, &transcripts))
