@@ -180,29 +180,45 @@ fn drop_in_a_fuse<X: Pager>(alloc: Global, inner: X) -> Result<(), AllocError> {
     Ok(())
 }
 
-#[test]
-fn each_drop_runs_once_and_wipes(rt: HostRuntime) -> Result<(), Fail> {
-    let alloc = rt.alloc();
-
+// Wipes and drops of what a fuse had.
+fn dropped_in_a_fuse(alloc: Global) -> Result<(u64, u64), AllocError> {
     let counter = Counter::new(alloc)?;
     drop_in_a_fuse(alloc, counter.pager(1, 0)?)?;
-    assert_eq!(rt; counter.counts(), (1, 1), "a fuse");
+    Ok(counter.counts())
+}
 
+fn dropped_in_a_box(alloc: Global) -> Result<(u64, u64), Fail> {
     let counter = Counter::new(alloc)?;
     let boxed: AnyPager = Box::new(alloc, counter.pager(1, 0)?)?;
     drop_in_a_fuse(alloc, boxed)?;
-    assert_eq!(rt; counter.counts(), (1, 1), "a box in a fuse");
+    Ok(counter.counts())
+}
+
+// Wipes and drops of a mirror's sides, of which the right one has so many slots, and whether there was one.
+fn dropped_in_a_mirror(alloc: Global, slots: u32) -> Result<(u64, u64, bool), AllocError> {
+    let counter = Counter::new(alloc)?;
+    let mirror = MirrorPager::new(alloc, counter.pager(1, 0)?, counter.pager(slots, 0)?);
+    let was_made = mirror.is_ok();
+    drop(mirror);
+    let (wipes, drops) = counter.counts();
+    Ok((wipes, drops, was_made))
+}
+
+#[test]
+fn each_drop_runs_once_and_wipes(rt: HostRuntime) -> Result<(), Fail> {
+    let alloc = rt.alloc();
+    assert_eq!(rt; dropped_in_a_fuse(alloc)?, (1, 1), "a fuse");
+    assert_eq!(rt; dropped_in_a_box(alloc)?, (1, 1), "a box in a fuse");
 
     // A mirror that finds no memory hands both sides back, so that each is dropped once all the same.
-    let counter = Counter::new(alloc)?;
-    let mirror = MirrorPager::new(alloc, counter.pager(1, 0)?, counter.pager(1, 0)?);
-    let wipes = if mirror.is_ok() { 2 } else { 0 };
-    drop(mirror);
-    assert_eq!(rt; counter.counts(), (wipes, 2), "a mirror");
-
-    let counter = Counter::new(alloc)?;
-    drop(MirrorPager::new(alloc, counter.pager(1, 0)?, counter.pager(2, 0)?));
-    assert_eq!(rt; counter.counts(), (0, 2), "the sides of a refused mirror");
+    let (wipes, drops, was_made) = dropped_in_a_mirror(alloc, 1)?;
+    assert_eq!(rt;
+        (wipes, drops),
+        (if was_made { 2 } else { 0 }, 2),
+        "a mirror"
+    );
+    let (wipes, drops, _) = dropped_in_a_mirror(alloc, 2)?;
+    assert_eq!(rt; (wipes, drops), (0, 2), "the sides of a refused mirror");
     Ok(())
 }
 
