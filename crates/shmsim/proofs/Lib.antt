@@ -1,2 +1,3 @@
 pub mod Holders
 mod Causes
+mod Texts

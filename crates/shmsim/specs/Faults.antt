@@ -2,8 +2,14 @@
 use Rattle.std.specs.Prelude.{ℕ, List, ◌++◌, codes}
 use Rattle.std.specs.Fmt.{decimal}
 use Rattle.shm_text.specs.Fault.{kind_text}
-use Rattle.shmsim.specs.declared.serial.RunFault.{RunFault}
-use Rattle.shmsim.specs.declared.serial.RunFault.TheVariants.{Script, StartRefused, ReadFailed, WriteFailed, Gate, Mismatch, ThreadRefused, HostMemory}
+use Rattle.shm_text.specs.declared.fault.ReadRefused.{ReadRefused}
+use Rattle.shm_text.specs.declared.fault.ReadRefused.TheVariants as refused
+use Rattle.shm_life.specs.declared.start.StartError.{StartError}
+use Rattle.shm_life.specs.declared.start.StartError.TheVariants as starts
+use Rattle.shm_threads.specs.declared.outcome.RunError.{RunError}
+use Rattle.shm_threads.specs.declared.outcome.RunError.TheVariants as errors
+use Rattle.shmsim.specs.declared.fault.RunFault.{RunFault}
+use Rattle.shmsim.specs.declared.fault.RunFault.TheVariants.{Script, StartRefused, ReadFailed, WriteFailed, Gate, Mismatch, ThreadRefused, HostMemory}
 
 abbrev pub fault_text : RunFault → List ℕ
 fault_text (Script f) = codes "line " ++ (decimal f.line ++ (codes ": " ++ kind_text f.kind))
@@ -25,3 +31,23 @@ status_of (Gate pid) = 3
 status_of (Mismatch pid) = 3
 status_of ThreadRefused = 3
 status_of HostMemory = 4
+
+-- a refusal of the reader's, as a fault of the run
+abbrev pub refused_as : ReadRefused → RunFault
+refused_as refused.HostMemory = HostMemory
+refused_as (refused.Fault fault) = Script fault
+
+-- a start error, as a fault of the run
+abbrev pub stopped_as : StartError → RunFault
+stopped_as starts.Areas = StartRefused 1
+stopped_as starts.AreaSize = StartRefused 2
+stopped_as starts.Processes = StartRefused 3
+stopped_as starts.Pid = StartRefused 4
+stopped_as starts.HostMemory = HostMemory
+
+-- the error of a run with threads, as a fault
+abbrev pub ended_as : RunError → RunFault
+ended_as errors.HostMemory = HostMemory
+ended_as (errors.GateExpired pid) = Gate pid
+ended_as (errors.HistoryMismatch pid) = Mismatch pid
+ended_as errors.ThreadRefused = ThreadRefused

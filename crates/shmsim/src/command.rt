@@ -2,10 +2,10 @@
 ghost use Rattle.std.specs.Prelude.{◌≡◌, Some};
 ghost use Rattle.shmsim.specs.Stop.{stop_text, stop_status};
 
+use crate::fault::RunFault;
 use crate::options::{SwapWord, read_swap};
-use crate::serial::RunFault;
 use clap::error::ErrorKind;
-use clap::{Arg, ArgAction, Command, Error};
+use clap::{Arg, ArgAction, ArgMatches, Command, Error};
 use shm_pager::{MirrorRefused, Pager};
 use std::alloc::{AllocError, AllocFailed, Global};
 use std::rt::Env;
@@ -93,24 +93,48 @@ pub(crate) fn read_command<R: Env + AllocGlobal>(
 ) -> Result<(Mode, Vec<SwapWord>), Stop> {
     let args = env::args(rt)?;
     let words: Vec<String> = args.collect(alloc)?;
+    read_words(alloc, &words)
+}
+
+// What the words say, the first of which is the program's name.
+fn read_words(alloc: Global, words: &[String]) -> Result<(Mode, Vec<SwapWord>), Stop> {
+    let matches = matched(alloc, words)?;
+    read_matches(alloc, &matches)
+}
+
+fn matched(alloc: Global, words: &[String]) -> Result<ArgMatches<'_>, Stop> {
+    let command = command_line(alloc)?;
+    Ok(command.try_get_matches_from(words)?)
+}
+
+// A mode, and one to eight swap areas.
+fn command_line<'a>(alloc: Global) -> Result<Command<'a>, Stop> {
     let mode = Arg::new(alloc, "mode").required(true);
+    let command = Command::new(alloc, "shmsim").arg(mode)?;
     let swap = Arg::new(alloc, "swap")
         .required(true)
         .num_args(1..=8)
         .action(ArgAction::Append);
-    let command = Command::new(alloc, "shmsim").arg(mode)?.arg(swap)?;
-    let matches = command.try_get_matches_from(words.as_slice())?;
+    Ok(command.arg(swap)?)
+}
+
+fn read_matches(alloc: Global, matches: &ArgMatches<'_>) -> Result<(Mode, Vec<SwapWord>), Stop> {
     let mode = match matches.get_str("mode") {
         Some("serial") => Mode::Serial,
         Some("threads") => Mode::Threads,
         _ => return Err(Stop::Usage),
     };
+    let swaps = read_swaps(alloc, matches.get_strs("swap").unwrap_or(&[]))?;
+    Ok((mode, swaps))
+}
+
+fn read_swaps(alloc: Global, words: &[&str]) -> Result<Vec<SwapWord>, Stop> {
     let mut swaps = Vec::new(alloc);
-    for word in matches.get_strs("swap").unwrap_or(&[]) {
+    for word in words {
         match read_swap(word.as_bytes()) {
             Some(swap) => swaps.push(swap)?,
             None => return Err(Stop::Usage),
         }
     }
-    Ok((mode, swaps))
+    Ok(swaps)
 }

@@ -3,6 +3,7 @@
 
 mod command;
 mod ends;
+mod fault;
 mod options;
 mod serial;
 #[cfg(test)]
@@ -13,11 +14,13 @@ mod threaded;
 #[cfg(test)]
 mod threaded_tests;
 mod values;
+mod world;
 
 use command::{Mode, Stop, read_command};
 use options::SwapWord;
 use serial::run_serial;
 use shm_pager::{AnyPager, FusePager, MirrorPager, RamPager, SparsePager};
+use std::alloc::Global;
 use std::io;
 use std::process::ExitCode;
 use std::rt::Env;
@@ -25,33 +28,59 @@ use std::sync::Wait;
 use std::thread::Threads;
 use threaded::run_threaded;
 
+// Two areas in memory, kept alike.
+fn mirror(alloc: Global, slots: u32) -> Result<MirrorPager<RamPager, RamPager>, Stop> {
+    let left = RamPager::new(alloc, slots)?;
+    let right = RamPager::new(alloc, slots)?;
+    Ok(MirrorPager::new(alloc, left, right)?)
+}
+
+// An area in memory whose read at this place fails.
+fn failing_read(alloc: Global, slots: u32, place: u64) -> Result<FusePager<RamPager>, Stop> {
+    let inner = RamPager::new(alloc, slots)?;
+    let reads = vec![in alloc; place]?;
+    Ok(FusePager::new(inner, reads, Vec::new(alloc)))
+}
+
+// An area in memory whose write at this place fails.
+fn failing_write(alloc: Global, slots: u32, place: u64) -> Result<FusePager<RamPager>, Stop> {
+    let inner = RamPager::new(alloc, slots)?;
+    let writes = vec![in alloc; place]?;
+    Ok(FusePager::new(inner, Vec::new(alloc), writes))
+}
+
 // Makes the pagers of the swap areas and runs the script over them.
-fn run<R: Env + Input + Print + AllocGlobal + Threads + Wait + Sync>(rt: &R) -> Result<(), Stop> {
+fn run_over<R: Input + Print + AllocGlobal + Threads + Wait + Sync>(
+    rt: &R,
+    mode: Mode,
+    swaps: &[SwapWord],
+) -> Result<(), Stop> {
     let alloc = rt.alloc();
-    let (mode, swaps) = read_command(rt, alloc)?;
     let mut pagers: Vec<AnyPager> = Vec::new(alloc);
-    for swap in &swaps {
+    for swap in swaps {
         let pager: AnyPager = match *swap {
             SwapWord::Ram(slots) => Box::new(alloc, RamPager::new(alloc, slots)?)?,
             SwapWord::Sparse(slots) => Box::new(alloc, SparsePager::new(alloc, slots)?)?,
-            SwapWord::Mirror(slots) => {
-                let left = RamPager::new(alloc, slots)?;
-                let right = RamPager::new(alloc, slots)?;
-                Box::new(alloc, MirrorPager::new(alloc, left, right)?)?
-            }
+            SwapWord::Mirror(slots) => Box::new(alloc, mirror(alloc, slots)?)?,
             SwapWord::FuseRead(slots, place) => {
-                let reads = vec![in alloc; place]?;
-                let inner = RamPager::new(alloc, slots)?;
-                Box::new(alloc, FusePager::new(inner, reads, Vec::new(alloc)))?
+                Box::new(alloc, failing_read(alloc, slots, place)?)?
             }
             SwapWord::FuseWrite(slots, place) => {
-                let writes = vec![in alloc; place]?;
-                let inner = RamPager::new(alloc, slots)?;
-                Box::new(alloc, FusePager::new(inner, Vec::new(alloc), writes))?
+                Box::new(alloc, failing_write(alloc, slots, place)?)?
             }
         };
         pagers.push(pager)?;
     }
+    run_script(rt, mode, pagers)
+}
+
+// Runs the script on standard input over swap areas behind these pagers.
+fn run_script<R: Input + Print + AllocGlobal + Threads + Wait + Sync>(
+    rt: &R,
+    mode: Mode,
+    pagers: Vec<AnyPager>,
+) -> Result<(), Stop> {
+    let alloc = rt.alloc();
     let (mut reader, mut writer) = (rt.reader(), io::writer(rt));
     let ended = match mode {
         Mode::Serial => run_serial(alloc, &mut reader, &mut writer, pagers),
@@ -61,6 +90,11 @@ fn run<R: Env + Input + Print + AllocGlobal + Threads + Wait + Sync>(rt: &R) -> 
         Ok(()) => Ok(()),
         Err(fault) => Err(Stop::Fault(fault)),
     }
+}
+
+fn run<R: Env + Input + Print + AllocGlobal + Threads + Wait + Sync>(rt: &R) -> Result<(), Stop> {
+    let (mode, swaps) = read_command(rt, rt.alloc())?;
+    run_over(rt, mode, &swaps)
 }
 
 fn main(rt: HostRuntime) -> io::Result<ExitCode> {

@@ -3,8 +3,9 @@
 //! byte at the end is the same.
 ghost use Rattle.std.specs.Prelude.{◌≡◌, [], IfOk};
 
-use crate::serial::{open_world, run_lines};
+use crate::serial::run_lines;
 use crate::threaded::Open;
+use crate::world::open_world;
 use shm_base::{AccessLen, AtFlags, Call, Errno, Event, Reply, ShmId};
 use shm_history::World;
 use shm_pager::{FusePager, MirrorPager, Pager, RamPager};

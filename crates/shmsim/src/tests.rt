@@ -1,5 +1,6 @@
 //! Readers and writers that fail, are interrupted, or go byte by byte.
-use crate::serial::{RunFault, run_serial};
+use crate::fault::RunFault;
+use crate::serial::run_serial;
 use shm_pager::RamPager;
 use std::alloc::Global;
 use std::io;

@@ -1,17 +1,17 @@
 //! A run with threads: a script comes from a reader, each of its processes runs in a thread of its own, and
 //! the texts of the history that they made go to a writer.
-ghost use Rattle.std.specs.Prelude.{◌≡◌, ◌⊎◌, Ok, true, false, length, map, OnOk, IfErr, IfOk, IfSome};
-ghost use Rattle.std.specs.Io.KnownBytes.{IsAtEnd};
-ghost use Rattle.shm_life.specs.Start.{start_error};
-ghost use Rattle.shm_text.specs.Reading.{script_of};
-ghost use Rattle.shmsim.specs.Output.{IsSilent};
-ghost use Rattle.shmsim.specs.Threaded.{is_marked, has_mark, have_mark, IsThreadedOutput, ShowsThreaded, IsRunCause, IsThreadedCause, IsReadCause, ended_as};
+ghost use Rattle.std.specs.Prelude.{◌≡◌, ◌⊎◌, true, false, length, map, OnOk, IfErr};
+ghost use Rattle.std.specs.Io.KnownBytes.{Appends};
+ghost use Rattle.shmsim.specs.Output.{IsCauseIn, IsOpening, IsSound, Writes, world_text};
+ghost use Rattle.shmsim.specs.Threaded.{is_marked, has_mark, have_mark, IsThreadedOutput, IsThreadedRun, IsAllOrNothing};
 
-use crate::ends::{ReadFault, read_input, write_output};
-use crate::serial::{RunFault, open_world, refused, stopped, world_text};
+use crate::ends::whole_script;
+use crate::fault::{RunFault, ended};
+use crate::world::{open_world, write_world};
+use shm_history::World;
 use shm_pager::Pager;
-use shm_text::{Script, read_script};
-use shm_threads::{Answer, Entry, Gate, RunError, Transcript, run_threads};
+use shm_text::Script;
+use shm_threads::{Answer, Entry, Gate, Outcome, Transcript, run_threads};
 use std::alloc::Global;
 use std::io::{Read, Write};
 use std::sync::Wait;
@@ -43,10 +43,7 @@ pub fn run_threaded<T: Threads + Wait + Sync, R: Read, W: Write, P: Pager + Send
     writer: &mut W,
     pagers: Vec<P>,
 ) -> Result<(), RunFault>
-    ensures ok { OnOk result (IfSome (R.remaining reader.old) (λ input. ShowsThreaded false (W.contents writer.old) (W.contents writer.new) (map (λ p. length (P.content p)) pagers.items) input)) }
-    ensures whole { OnOk result (IsAtEnd (R.remaining reader.new)) }
-    ensures cause { IfErr result (λ f. IfSome (R.remaining reader.old) (λ input. IsThreadedCause f (map (λ p. length (P.content p)) pagers.items) input)) }
-    ensures written { IfErr result (λ f. IsSilent f (W.contents writer.old) (W.contents writer.new) ⊎ ((f ≡ RunFault.HostMemory) × IsAtEnd (R.remaining reader.new) × IfSome (R.remaining reader.old) (λ input. ShowsThreaded true (W.contents writer.old) (W.contents writer.new) (map (λ p. length (P.content p)) pagers.items) input))) }
+    ensures { IsThreadedRun result (R.remaining reader.old) (R.remaining reader.new) (W.contents writer.old) (W.contents writer.new) (map (λ p. length (P.content p)) pagers.items) }
 {
     run_gated(rt, alloc, reader, writer, pagers, &Open)
 }
@@ -60,88 +57,73 @@ pub(crate) fn run_gated<T: Threads + Wait + Sync, R: Read, W: Write, P: Pager + 
     pagers: Vec<P>,
     gate: &G,
 ) -> Result<(), RunFault>
-    ensures ok { OnOk result (IfSome (R.remaining reader.old) (λ input. ShowsThreaded false (W.contents writer.old) (W.contents writer.new) (map (λ p. length (P.content p)) pagers.items) input)) }
-    ensures whole { OnOk result (IsAtEnd (R.remaining reader.new)) }
-    ensures cause { IfErr result (λ f. IfSome (R.remaining reader.old) (λ input. IsThreadedCause f (map (λ p. length (P.content p)) pagers.items) input)) }
-    ensures written { IfErr result (λ f. IsSilent f (W.contents writer.old) (W.contents writer.new) ⊎ ((f ≡ RunFault.HostMemory) × IsAtEnd (R.remaining reader.new) × IfSome (R.remaining reader.old) (λ input. ShowsThreaded true (W.contents writer.old) (W.contents writer.new) (map (λ p. length (P.content p)) pagers.items) input))) }
+    ensures { IsThreadedRun result (R.remaining reader.old) (R.remaining reader.new) (W.contents writer.old) (W.contents writer.new) (map (λ p. length (P.content p)) pagers.items) }
 {
-    let script = match whole_script(alloc, reader) {
-        Ok(script) => script,
-        Err(fault) => return Err(fault),
-    };
-    let printed = match output(rt, alloc, &script, pagers, gate) {
-        Ok(printed) => printed,
-        Err(fault) => return Err(fault),
-    };
-    if write_output(writer, &printed.text).is_err() {
-        return Err(RunFault::WriteFailed);
+    match whole_script(alloc, reader) {
+        Ok(script) => run_script(rt, alloc, writer, &script, pagers, gate),
+        Err(fault) => Err(fault),
     }
-    if printed.is_marked {
-        return Err(RunFault::HostMemory);
-    }
-    Ok(())
 }
 
-// The script that the whole input is.
-fn whole_script<R: Read>(alloc: Global, reader: &mut R) -> Result<Script, RunFault>
-    ensures read { IfOk result (λ script. IfSome (R.remaining reader.old) (λ input. script_of input ≡ Ok script)) }
-    ensures whole { OnOk result (IsAtEnd (R.remaining reader.new)) }
-    ensures cause { IfErr result (λ f. IfSome (R.remaining reader.old) (λ input. IsReadCause f input)) }
-{
-    let input = match read_input(alloc, reader) {
-        Ok(input) => input,
-        Err(ReadFault::Memory) => return Err(RunFault::HostMemory),
-        Err(ReadFault::Failed) => return Err(RunFault::ReadFailed),
-    };
-    let script = match read_script(alloc, &input) {
-        Ok(script) => script,
-        Err(refusal) => return Err(refused(refusal)),
-    };
-    Ok(script)
-}
-
-// What a run prints, and whether one of its calls found no memory.
-#[derive(Drop)]
-struct Printed {
-    text: Vec<u8>,
-    is_marked: bool,
-}
-
-// Runs a script, and gives what it prints.
-fn output<T: Threads + Wait + Sync, P: Pager + Send, G: Gate>(
+// Runs a script, and writes what is printed of it.
+fn run_script<T: Threads + Wait + Sync, W: Write, P: Pager + Send, G: Gate>(
     rt: &T,
     alloc: Global,
+    writer: &mut W,
     script: &Script,
     pagers: Vec<P>,
     gate: &G,
-) -> Result<Printed, RunFault>
-    ensures ok { IfOk result (λ p. IsThreadedOutput script.now (map (λ p. length (P.content p)) pagers.items) p.is_marked p.text.items) }
-    ensures err { IfErr result (λ f. IsRunCause f (start_error (map (λ p. length (P.content p)) pagers.items) script.now.processes)) }
+) -> Result<(), RunFault>
+    ensures ok { OnOk result (Writes (IsThreadedOutput false script.now (map (λ p. length (P.content p)) pagers.items)) (W.contents writer.old) (W.contents writer.new)) }
+    ensures cause { IfErr result (λ f. IsCauseIn f (map (λ p. length (P.content p)) pagers.items) script.now) }
+    ensures written { IfErr result (λ f. IsAllOrNothing f (W.contents writer.old) (W.contents writer.new) (Writes (IsThreadedOutput true script.now (map (λ p. length (P.content p)) pagers.items)) (W.contents writer.old) (W.contents writer.new))) }
 {
-    let world = match open_world(alloc, script, pagers) {
-        Ok(world) => world,
-        Err(error) => return Err(stopped(error)),
-    };
-    let outcome = match run_threads(rt, alloc, world, script, gate) {
-        Ok(outcome) => outcome,
-        Err(error) => return Err(ended(error)),
-    };
-    let _legal = outcome.world.history();
-    let is_marked = have_mark(&outcome.transcripts);
-    match world_text(alloc, &outcome.world) {
-        Ok(text) => Ok(Printed { text, is_marked }),
-        Err(_) => Err(RunFault::HostMemory),
+    match open_world(alloc, script, pagers) {
+        Ok(world) => run_in(rt, alloc, writer, world, script, gate),
+        Err(fault) => Err(fault),
     }
 }
 
-fn ended(error: RunError) -> RunFault
-    ensures { result ≡ ended_as error }
+// Runs a script in a world that it opened, and writes what is printed of it.
+fn run_in<T: Threads + Wait + Sync, W: Write, P: Pager + Send, G: Gate>(
+    rt: &T,
+    alloc: Global,
+    writer: &mut W,
+    world: World<P>,
+    script: &Script,
+    gate: &G,
+) -> Result<(), RunFault>
+    requires { IsOpening script.now world.opening }
+    ensures ok { OnOk result (Writes (IsThreadedOutput false script.now world.opening.areas) (W.contents writer.old) (W.contents writer.new)) }
+    ensures cause { IfErr result (λ f. IsCauseIn f world.opening.areas script.now) }
+    ensures written { IfErr result (λ f. IsAllOrNothing f (W.contents writer.old) (W.contents writer.new) (Writes (IsThreadedOutput true script.now world.opening.areas) (W.contents writer.old) (W.contents writer.new))) }
 {
-    match error {
-        RunError::HostMemory => RunFault::HostMemory,
-        RunError::GateExpired { pid } => RunFault::Gate { pid },
-        RunError::HistoryMismatch { pid } => RunFault::Mismatch { pid },
-        RunError::ThreadRefused => RunFault::ThreadRefused,
+    match run_threads(rt, alloc, world, script, gate) {
+        Ok(outcome) => write_outcome(alloc, writer, &outcome),
+        Err(error) => Err(ended(error)),
+    }
+}
+
+// Writes what is printed of a run, and then says whether one of its calls found no memory.
+pub(crate) fn write_outcome<W: Write, P: Pager>(
+    alloc: Global,
+    writer: &mut W,
+    outcome: &Outcome<P>,
+) -> Result<(), RunFault>
+    ensures ok { OnOk result ((have_mark outcome.now.transcripts.items ≡ false) × Appends (W.contents writer.old) (W.contents writer.new) (world_text outcome.now.world)) }
+    ensures sound { IsSound outcome.now.world }
+    ensures fault { IfErr result (λ f. (f ≡ RunFault.HostMemory) ⊎ (f ≡ RunFault.WriteFailed)) }
+    ensures written { IfErr result (λ f. IsAllOrNothing f (W.contents writer.old) (W.contents writer.new) ((have_mark outcome.now.transcripts.items ≡ true) × Appends (W.contents writer.old) (W.contents writer.new) (world_text outcome.now.world))) }
+{
+    match write_world(alloc, writer, &outcome.world) {
+        Ok(()) => {
+            if have_mark(&outcome.transcripts) {
+                Err(RunFault::HostMemory)
+            } else {
+                Ok(())
+            }
+        }
+        Err(fault) => Err(fault),
     }
 }
 

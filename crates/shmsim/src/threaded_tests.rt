@@ -1,5 +1,5 @@
 //! A run with threads writes its whole output, or nothing.
-use crate::serial::RunFault;
+use crate::fault::RunFault;
 use crate::tests::{OUTPUT, Sink, reader, writer};
 use crate::threaded::{run_gated, run_threaded};
 use shm_pager::RamPager;

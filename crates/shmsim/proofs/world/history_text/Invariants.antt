@@ -1,6 +1,6 @@
 use Rattle.std.proofs.Common.{◌≡◌, ◌+◌, ◌++◌, drop}
 use Rattle.shm_print.specs.Text.{events_text}
-use Rattle.shmsim.proofs.serial.history_text.Given as goal
+use Rattle.shmsim.proofs.world.history_text.Given as goal
 
 -- the lines so far, and then those of what is left
 abbrev pub invariant-loop-event : goal.invariant-loop-event

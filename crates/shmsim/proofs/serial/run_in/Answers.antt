@@ -1,0 +1,11 @@
+use Rattle.std.proofs.Common.{ap, subst, sym}
+use Rattle.shm_base.specs.State.{Opening}
+use Rattle.shmsim.specs.Output.{IsOpening, IsWorldOf}
+use Rattle.shmsim.proofs.Texts.{serial_text}
+use Rattle.shmsim.proofs.serial.run_in.Goals as goal
+
+pub returns-in-Ok-clause-ok : goal.returns-in-Ok-clause-ok
+returns-in-Ok-clause-ok g c =
+    let same = c.run_lines.ensures.opening in
+    let is : IsWorldOf c.args.script.now c.args.world.now.opening.areas c.run_lines.new.world = record { opened = subst (IsOpening c.args.script.now) (sym same) c.requires.opened; over = ap (λ (o : Opening). o.areas) same; sound = c.write_world.ensures.sound } in
+    serial_text c.write_world.result c.args.script.now c.args.world.now.opening.areas c.run_lines.new.world (g.W.Write.contents c.args.writer.now) (g.W.Write.contents c.write_world.new.writer) is c.in-Ok.ensures.follows c.write_world.ensures.written

@@ -1,0 +1,80 @@
+//! What both runs do with a world: it is opened as the script says, and its text is written.
+ghost use Rattle.std.specs.Prelude.{◌≡◌, ◌⊎◌, [], length, map, OnOk, IfErr, IfOk};
+ghost use Rattle.std.specs.Io.KnownBytes.{Appends};
+ghost use Rattle.shm_print.specs.Text.{events_text};
+ghost use Rattle.shm_life.specs.Start.{start_error};
+ghost use Rattle.shmsim.specs.Output.{IsOpening, IsSilent, IsSound, IsStop, world_text};
+
+use crate::ends::write_output;
+use crate::fault::{RunFault, stopped};
+use shm_base::Event;
+use shm_history::{System, World};
+use shm_pager::Pager;
+use shm_print::{event_text, listing, usage};
+use shm_text::Script;
+use std::alloc::{AllocError, Global};
+use std::io::Write;
+
+/// A world as a script opens it.
+pub(crate) fn open_world<P: Pager>(
+    alloc: Global,
+    script: &Script,
+    pagers: Vec<P>,
+) -> Result<World<P>, RunFault>
+    ensures opened { IfOk result (λ w. IsOpening script.now w.opening) }
+    ensures areas { IfOk result (λ w. w.opening.areas ≡ map (λ p. length (P.content p)) pagers.items) }
+    ensures events { IfOk result (λ w. w.events ≡ []) }
+    ensures err { IfErr result (λ f. IsStop f (start_error (map (λ p. length (P.content p)) pagers.items) script.now.processes)) }
+{
+    match System::start(alloc, script.limits, pagers, &script.processes) {
+        Ok(system) => Ok(World::new(alloc, system)),
+        Err(error) => Err(stopped(error)),
+    }
+}
+
+// The lines of a history.
+fn history_text(alloc: Global, history: &[Event]) -> Result<Vec<u8>, AllocError>
+    ensures { IfOk result (λ text. text.items ≡ events_text 1 history.now) }
+{
+    let mut text = Vec::new(alloc);
+    let mut place = 1u64;
+    for event in history {
+        let line = event_text(alloc, place, event)?;
+        text.extend_from_slice(line.as_bytes())?;
+        place += 1;
+    }
+    Ok(text)
+}
+
+// What is printed of a world: its event lines, the listing of its segments, and its usage.
+fn world_text<P: Pager>(alloc: Global, world: &World<P>) -> Result<Vec<u8>, AllocError>
+    ensures text { IfOk result (λ text. text.items ≡ world_text world.now) }
+    ensures sound { IsSound world.now }
+{
+    let mut text = history_text(alloc, world.history())?;
+    let listed = listing(alloc, world)?;
+    text.extend_from_slice(listed.as_bytes())?;
+    let counts = usage(alloc, world)?;
+    text.extend_from_slice(counts.as_bytes())?;
+    Ok(text)
+}
+
+/// Writes what is printed of a world. The whole text is there before its first byte is written.
+pub(crate) fn write_world<W: Write, P: Pager>(
+    alloc: Global,
+    writer: &mut W,
+    world: &World<P>,
+) -> Result<(), RunFault>
+    ensures written { OnOk result (Appends (W.contents writer.old) (W.contents writer.new) (world_text world.now)) }
+    ensures sound { IsSound world.now }
+    ensures fault { IfErr result (λ f. (f ≡ RunFault.HostMemory) ⊎ (f ≡ RunFault.WriteFailed)) }
+    ensures silent { IfErr result (λ f. IsSilent f (W.contents writer.old) (W.contents writer.new)) }
+{
+    match world_text(alloc, world) {
+        Ok(text) => match write_output(writer, &text) {
+            Ok(()) => Ok(()),
+            Err(_) => Err(RunFault::WriteFailed),
+        },
+        Err(_) => Err(RunFault::HostMemory),
+    }
+}
