@@ -7,9 +7,9 @@ use shm_history::StartError;
 use shm_pager::{PagerFault, RamPager};
 use shm_threads::RunError;
 use std::alloc::{AllocError, Global};
-use std::io;
 use std::io::{ErrorKind, Read, Write};
 use std::test::Fail;
+use std::{fmt, io};
 
 pub(crate) const SCRIPT: &[u8] =
     b"limits 65536 16 64 4 1\nprocess 1 100 100\n1 s = shmget private 8192 600\n1 a = shmat s null -\n1 store a+4094 01020304\n1 load a+4093 6\n";
@@ -185,32 +185,45 @@ fn refused_starts(rt: HostRuntime) -> Result<(), Fail> {
     Ok(())
 }
 
+fn has_text<T: fmt::Display>(alloc: Global, error: &T, text: &str) -> Result<bool, Fail> {
+    Ok(format!(in alloc; "{error}")?.as_str() == text)
+}
+
 #[test]
-fn texts_of_errors(rt: HostRuntime) -> Result<(), Fail> {
+fn texts_of_refused_starts(rt: HostRuntime) -> Result<(), Fail> {
     let alloc = rt.alloc();
-    let starts = [
+    for (error, text) in [
         (StartError::Areas, "not 1 to 8 swap areas"),
         (StartError::AreaSize, "a swap area without 1 to 65536 slots"),
         (StartError::Processes, "more than 64 processes"),
         (StartError::Pid, "a pid out of range, or twice"),
         (StartError::HostMemory, "out of memory"),
-    ];
-    for (error, text) in starts {
-        assert!(rt; format!(in alloc; "{error}")?.as_str() == text, "{text}");
+    ] {
+        assert!(rt; has_text(alloc, &error, text)?, "{text}");
     }
-    let runs = [
+    Ok(())
+}
+
+#[test]
+fn texts_of_ended_runs(rt: HostRuntime) -> Result<(), Fail> {
+    let alloc = rt.alloc();
+    for (error, text) in [
         (RunError::HostMemory, "out of memory"),
         (RunError::GateExpired { pid: 7 }, "gate expired 7"),
         (RunError::HistoryMismatch { pid: 0 }, "history mismatch 0"),
         (RunError::ThreadRefused, "thread refused"),
-    ];
-    for (error, text) in runs {
-        assert!(rt; format!(in alloc; "{error}")?.as_str() == text, "{text}");
+    ] {
+        assert!(rt; has_text(alloc, &error, text)?, "{text}");
     }
-    let (limits, memory, pager) = (BadLimits(5), HostMemory, PagerFault);
-    assert!(rt; format!(in alloc; "{limits}")?.as_str() == "bad limits 5");
-    assert!(rt; format!(in alloc; "{memory}")?.as_str() == "out of memory");
-    assert!(rt; format!(in alloc; "{pager}")?.as_str() == "a pager failed");
+    Ok(())
+}
+
+#[test]
+fn texts_of_lower_errors(rt: HostRuntime) -> Result<(), Fail> {
+    let alloc = rt.alloc();
+    assert!(rt; has_text(alloc, &BadLimits(5), "bad limits 5")?);
+    assert!(rt; has_text(alloc, &HostMemory, "out of memory")?);
+    assert!(rt; has_text(alloc, &PagerFault, "a pager failed")?);
     Ok(())
 }
 
