@@ -1,13 +1,17 @@
-//! Readers and writers that fail, are interrupted, or go byte by byte.
+//! Readers and writers that fail, are interrupted, or go byte by byte; and the texts and statuses of faults.
+use crate::command::Stop;
 use crate::fault::RunFault;
 use crate::serial::run_serial;
-use shm_pager::RamPager;
-use std::alloc::Global;
-use std::io;
+use shm_base::{BadLimits, HostMemory};
+use shm_history::StartError;
+use shm_pager::{PagerFault, RamPager};
+use shm_threads::RunError;
+use std::alloc::{AllocError, Global};
 use std::io::{ErrorKind, Read, Write};
 use std::test::Fail;
+use std::{fmt, io};
 
-const SCRIPT: &[u8] =
+pub(crate) const SCRIPT: &[u8] =
     b"limits 65536 16 64 4 1\nprocess 1 100 100\n1 s = shmget private 8192 600\n1 a = shmat s null -\n1 store a+4094 01020304\n1 load a+4093 6\n";
 
 pub(crate) const OUTPUT: &[u8] =
@@ -178,5 +182,57 @@ fn refused_starts(rt: HostRuntime) -> Result<(), Fail> {
         assert!(rt; fault == Some(RunFault::StartRefused(1)), "at {areas}");
         assert!(rt; taker.taken.is_empty());
     }
+    Ok(())
+}
+
+fn has_text<T: fmt::Display>(alloc: Global, error: &T, text: &str) -> Result<bool, Fail> {
+    Ok(format!(in alloc; "{error}")?.as_str() == text)
+}
+
+#[test]
+fn texts_of_refused_starts(rt: HostRuntime) -> Result<(), Fail> {
+    let alloc = rt.alloc();
+    for (error, text) in [
+        (StartError::Areas, "not 1 to 8 swap areas"),
+        (StartError::AreaSize, "a swap area without 1 to 65536 slots"),
+        (StartError::Processes, "more than 64 processes"),
+        (StartError::Pid, "a pid out of range, or twice"),
+        (StartError::HostMemory, "out of memory"),
+    ] {
+        assert!(rt; has_text(alloc, &error, text)?, "{text}");
+    }
+    Ok(())
+}
+
+#[test]
+fn texts_of_ended_runs(rt: HostRuntime) -> Result<(), Fail> {
+    let alloc = rt.alloc();
+    for (error, text) in [
+        (RunError::HostMemory, "out of memory"),
+        (RunError::GateExpired { pid: 7 }, "gate expired 7"),
+        (RunError::HistoryMismatch { pid: 0 }, "history mismatch 0"),
+        (RunError::ThreadRefused, "thread refused"),
+    ] {
+        assert!(rt; has_text(alloc, &error, text)?, "{text}");
+    }
+    Ok(())
+}
+
+#[test]
+fn texts_of_lower_errors(rt: HostRuntime) -> Result<(), Fail> {
+    let alloc = rt.alloc();
+    assert!(rt; has_text(alloc, &BadLimits(5), "bad limits 5")?);
+    assert!(rt; has_text(alloc, &HostMemory, "out of memory")?);
+    assert!(rt; has_text(alloc, &PagerFault, "a pager failed")?);
+    Ok(())
+}
+
+#[test]
+fn refused_words(rt: HostRuntime) -> Result<(), Fail> {
+    let memory = Stop::from(io::Error::from(ErrorKind::OutOfMemory));
+    assert_eq!(rt; memory.status(), 4);
+    assert_eq!(rt; Stop::from(AllocError).status(), 4);
+    let unreadable = Stop::from(io::Error::from(ErrorKind::InvalidData));
+    assert_eq!(rt; unreadable.status(), 2);
     Ok(())
 }

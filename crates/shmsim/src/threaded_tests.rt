@@ -1,9 +1,16 @@
 //! A run with threads writes its whole output, or nothing.
+ghost use Rattle.std.specs.Prelude.{◌≡◌, [], IfOk};
+
 use crate::fault::RunFault;
-use crate::tests::{OUTPUT, Sink, reader, writer};
-use crate::threaded::{run_gated, run_threaded};
+use crate::serial::run_lines;
+use crate::tests::{OUTPUT, SCRIPT, Sink, reader, writer};
+use crate::threaded::{run_gated, run_threaded, write_outcome};
+use crate::world::open_world;
+use shm_base::Call;
+use shm_history::World;
 use shm_pager::RamPager;
-use shm_threads::Gate;
+use shm_text::{Script, read_script};
+use shm_threads::{Answer, Entry, Gate, Outcome, Transcript};
 use std::alloc::Global;
 use std::io::ErrorKind;
 use std::sync::Wait;
@@ -72,5 +79,59 @@ fn a_shut_gate(rt: HostRuntime) -> Result<(), Fail> {
     let ended = run_gated(&rt, alloc, &mut reader(25, 0), &mut taker, pagers, &Shut);
     assert!(rt; ended.err() == Some(RunFault::Gate { pid: 1 }));
     assert!(rt; taker.taken.is_empty());
+    Ok(())
+}
+
+fn script(alloc: Global) -> Result<Script, Fail> {
+    Ok(read_script(alloc, SCRIPT).ok().ok_or("a script")?)
+}
+
+fn opened(alloc: Global, script: &Script) -> Result<World<RamPager>, Fail>
+    ensures { IfOk result (λ w. w.events ≡ []) }
+{
+    let pagers = vec![in alloc; RamPager::new(alloc, 64)?]?;
+    Ok(open_world(alloc, script, pagers).ok().ok_or("it starts")?)
+}
+
+// The world behind the script.
+fn ran(alloc: Global) -> Result<World<RamPager>, Fail> {
+    let script = script(alloc)?;
+    let mut world = opened(alloc, &script)?;
+    run_lines(alloc, &mut world, &script).ok().ok_or("memory")?;
+    Ok(world)
+}
+
+// A transcript with one call, for which the host refused memory, or with none.
+fn transcripts(alloc: Global, marked: bool) -> Result<Vec<Transcript>, Fail> {
+    let mut entries = Vec::new(alloc);
+    if marked {
+        let (call, answer) = (Call::Exit, Answer::HostMemory);
+        entries.push(Entry { call, answer })?;
+    }
+    Ok(vec![in alloc; Transcript { pid: 1, entries }]?)
+}
+
+fn outcome(alloc: Global, marked: bool) -> Result<Outcome<RamPager>, Fail> {
+    let transcripts = transcripts(alloc, marked)?;
+    let world = ran(alloc)?;
+    Ok(Outcome { world, transcripts })
+}
+
+// How the writing of such an outcome ends.
+fn written(alloc: Global, marked: bool, taker: &mut Sink) -> Result<Option<RunFault>, Fail> {
+    let outcome = outcome(alloc, marked)?;
+    Ok(write_outcome(alloc, taker, &outcome).err())
+}
+
+#[test]
+fn a_marked_run_is_written(rt: HostRuntime) -> Result<(), Fail> {
+    let alloc = rt.alloc();
+    for (marked, fault) in [(false, None), (true, Some(RunFault::HostMemory))] {
+        let mut taker = writer(alloc, 4096, 0, ErrorKind::Other);
+        assert!(rt; written(alloc, marked, &mut taker)? == fault);
+        assert!(rt; taker.taken.as_slice() == OUTPUT);
+    }
+    let mut taker = writer(alloc, 50, 2, ErrorKind::Other);
+    assert!(rt; written(alloc, true, &mut taker)? == Some(RunFault::WriteFailed));
     Ok(())
 }
