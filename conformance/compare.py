@@ -76,7 +76,7 @@ def against_peer(case, events, others, has_clock=False, has_system_limits=False)
 def compare_one(result, machine, command, event, other):
     """Counts one command; whether program and peer are in like states behind it."""
     if other.is_skipped:
-        result.skip(other.reply.removeprefix("skipped: "))
+        result.skip(other.reply[len("skipped: "):])
         return event.is_refused or event.word in READS
     ours = event.reply if machine.has_clock else without_clock(event.reply)
     if event.call == other.call and ours == other.reply:

@@ -123,9 +123,11 @@ class Generator:
         """A few segments, and attaches of them side by side."""
         for _ in range(self.random.randint(2, 4)):
             pid = self.random.choice(self.live)
-            self.lines.append(f"{pid} shmget private {self.random.choice(SIZES)} {self.pick('666', '660', '644', '600')}")
+            size = self.random.choice(SIZES)
+            self.lines.append(f"{pid} shmget private {size} {self.pick('666', '660', '644', '600')}")
         for pid in self.live:
-            self.lines += [f"{pid} shmat {self.random.randrange(3)} {hex(self.random.choice(BASES))} -" for _ in range(3)]
+            for _ in range(3):
+                self.lines.append(f"{pid} shmat {self.random.randrange(3)} {hex(self.random.choice(BASES))} -")
 
     def script(self):
         self.opening()

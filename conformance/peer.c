@@ -1,9 +1,9 @@
 /* peer [--seconds] [--shared] [--limit S] [--exec WORDS] [SCRIPT]
    makes the calls of a script on the running system and prints one event line for each.
 
-   Three kinds of processes: the guardian outlives the others and removes every segment that was made; the
-   director reads the script, tells one worker at a time what to do, and prints; a worker is one process of the
-   script, with its user and group. Identifiers, pids and addresses are printed as those of the script.
+   The guardian outlives the others and removes every segment that was made; the director tells one worker at a
+   time what to do, and prints; a worker is one process of the script, with its user and group. Identifiers, pids
+   and addresses are printed as those of the script.
 
    --seconds   a second for each command: times are printed as places in the script, else as 0 or `set`
    --shared    stays in the system's own IPC namespace, under the system's own limits
@@ -32,10 +32,8 @@
 #include <time.h>
 #include <unistd.h>
 
-enum {
-    PAGE = 4096, PROCESSES = 64, COMMANDS = 100000, PIECES = 1024, OWN_RANGES = 64, WORDS = 8,
-    RECORD_FD = 98, ALIVE_FD = 99, FIRST_FD = 100
-};
+enum { PAGE = 4096, PROCESSES = 64, COMMANDS = 100000, PIECES = 1024, OWN_RANGES = 64, WORDS = 8 };
+enum { RECORD_FD = 98, ALIVE_FD = 99, FIRST_FD = 100 };
 #define LOWEST_CHOSEN UINT64_C(0x40000000)
 
 enum task { GET, ATTACH, DETACH, CONTROL, LOAD, STORE, ADD, FORK, EXEC, EXIT, MAPPED };
@@ -48,10 +46,9 @@ struct request {
     unsigned char bytes[64];
 };
 
-/* what it answers: an error of the system, a signal, or a value */
+/* what it answers: a value, an error of the system, a signal, or that its own memory is where the call is to be */
 struct answer {
-    int error, signal;
-    int is_refused_here;    /* the peer's own memory is there: the command was not made */
+    int error, signal, is_refused_here;
     int64_t value;
     struct shmid_ds segment;
     unsigned char bytes[64];
@@ -63,8 +60,7 @@ static struct { uint64_t begin, end; } own[OWN_RANGES];
 static int own_count;
 static sigjmp_buf escape;
 static volatile sig_atomic_t is_accessing;
-static char *exec_words[2 * WORDS + 3];
-static char worker_number[16];
+static char *exec_words[WORDS + 1];
 
 static void on_fault(int signal) {
     if (is_accessing) siglongjmp(escape, signal);
@@ -82,9 +78,9 @@ static void read_own_ranges(void) {
 }
 
 static int is_own(uint64_t begin, uint64_t length) {
-    for (int i = 0; i < own_count; i++)
-        if (begin < own[i].end && own[i].begin < begin + length) return 1;
-    return 0;
+    int i = 0;
+    while (i < own_count && (begin >= own[i].end || own[i].begin >= begin + length)) i++;
+    return i < own_count;
 }
 
 static void settle(struct answer *a, int64_t value) { a->error = (a->value = value) == -1 ? errno : 0; }
@@ -133,12 +129,6 @@ static void access_memory(const struct request *q, struct answer *a) {
 
 static void serve(int index) __attribute__((noreturn));
 
-static pid_t fork_child(int index) {
-    pid_t child = fork();
-    if (child == 0) serve(index);
-    return child;
-}
-
 static void perform(const struct request *q, struct answer *a) {
     unsigned char resident;
     switch (q->task) {
@@ -146,7 +136,7 @@ static void perform(const struct request *q, struct answer *a) {
     case ATTACH: attach(q, a); break;
     case DETACH: settle(a, shmdt((void *)(uintptr_t)q->address)); break;
     case CONTROL: control(q, a); break;
-    case FORK: settle(a, fork_child(q->child)); break;
+    case FORK: if ((a->value = fork()) == 0) serve(q->child); else settle(a, a->value); break;
     case EXEC: settle(a, execvp(exec_words[0], exec_words)); break;
     case EXIT: _exit(0);
     case MAPPED: a->value = mincore((void *)(uintptr_t)q->address, PAGE, &resident) == 0; break;
@@ -160,7 +150,9 @@ static int write_whole(int fd, const void *from, size_t length) { return write(f
 
 static void serve(int index) {
     struct request q;
-    snprintf(worker_number, sizeof worker_number, "%d", index);
+    char number[16];
+    sprintf(number, "%d", index);
+    setenv("PEER_WORKER", number, 1);
     while (read_whole(FIRST_FD + 2 * index, &q, sizeof q)) {
         struct answer a = {0};
         perform(&q, &a);
@@ -170,28 +162,25 @@ static void serve(int index) {
 }
 
 static void prepare_worker(void) {
-    struct sigaction action = {.sa_handler = on_fault};
-    sigaction(SIGSEGV, &action, NULL);
-    sigaction(SIGBUS, &action, NULL);
+    signal(SIGSEGV, on_fault);
+    signal(SIGBUS, on_fault);
     signal(SIGCHLD, SIG_IGN);
     signal(SIGPIPE, SIG_IGN);
     read_own_ranges();
 }
 
-/* exec runs: the words, --worker, the worker's number, and the words again for the next exec */
-static void set_exec_words(char **words, int count) {
-    for (int i = 0; i < count; i++) exec_words[i] = exec_words[count + 2 + i] = words[i];
-    exec_words[count] = (char *)"--worker";
-    exec_words[count + 1] = worker_number;
+/* the words that exec runs: those of --exec, which the environment keeps, or this program */
+static void choose_exec_words(void) {
+    const char *given = getenv("PEER_EXEC");
+    char *words = strdup(given ? given : "/proc/self/exe");
+    for (int i = 0; i < WORDS && words; i++) exec_words[i] = strtok(i ? NULL : words, " ");
 }
 
-static int continue_worker(int argc, char **argv) {
+static void continue_worker(int index) {
     struct answer done = {0};
-    if (argc < 4 || argc - 3 > WORDS) return 2;
     prepare_worker();
-    set_exec_words(argv + 3, argc - 3);
-    if (!write_whole(FIRST_FD + 2 * atoi(argv[2]) + 1, &done, sizeof done)) return 1;
-    serve(atoi(argv[2]));
+    if (!write_whole(FIRST_FD + 2 * index + 1, &done, sizeof done)) _exit(1);
+    serve(index);
 }
 
 /* ---- the script ---- */
@@ -354,8 +343,8 @@ static int64_t name_of(const struct segment *s) { return s->index + INT64_C(3276
 static void note_destroyed(void) {
     struct shmid_ds ignored;
     for (int i = 0; i < segment_count; i++)
-        if (!segments[i].is_gone && shmctl(segments[i].real, IPC_STAT, &ignored) == -1 && errno != EACCES)
-            segments[i].is_gone = 1;
+        if (!segments[i].is_gone)
+            segments[i].is_gone = shmctl(segments[i].real, IPC_STAT, &ignored) == -1 && errno != EACCES;
 }
 
 /* the newest segment with this identifier of the system, or with this one of the script */
@@ -366,21 +355,19 @@ static struct segment *find_segment(int real, int64_t name) {
 }
 
 static int is_index_held(unsigned index) {
-    for (int i = 0; i < segment_count; i++)
-        if (segments[i].index == index && !segments[i].is_gone) return 1;
-    return 0;
+    int i = 0;
+    while (i < segment_count && (segments[i].index != index || segments[i].is_gone)) i++;
+    return i < segment_count;
 }
 
 static int64_t name_segment(int real, uint64_t size) {
     struct segment *s = find_segment(real, -1);
-    if (!s || s->is_gone) {
-        unsigned index = 0, sequence = 0;
-        while (is_index_held(index)) index++;
-        for (int i = 0; i < segment_count; i++) sequence += segments[i].index == index;
-        s = &segments[segment_count++];
-        *s = (struct segment){real, 0, index, sequence, (size + PAGE - 1) / PAGE * PAGE};
-    }
-    return name_of(s);
+    unsigned index = 0, sequence = 0;
+    if (s && !s->is_gone) return name_of(s);
+    while (is_index_held(index)) index++;
+    for (int i = 0; i < segment_count; i++) sequence += segments[i].index == index;
+    segments[segment_count] = (struct segment){real, 0, index, sequence, (size + PAGE - 1) / PAGE * PAGE};
+    return name_of(&segments[segment_count++]);
 }
 
 /* an identifier that the script never got is one that the system never gave */
@@ -417,11 +404,9 @@ static uint64_t real_address(struct process *p, uint64_t address) {
 /* the least gap that fits: what an address that the system chose is called */
 static uint64_t chosen_name(struct process *p, uint64_t size) {
     uint64_t at = LOWEST_CHOSEN;
-    for (int i = 0; i < p->piece_count;) {
-        struct piece *q = &p->pieces[i++];
-        if (at >= q->base + q->size || q->base >= at + size) continue;
-        at = q->base + q->size;
-        i = 0;
+    for (int i = 0; i < p->piece_count; i++) {
+        struct piece *q = &p->pieces[i];
+        if (at < q->base + q->size && q->base < at + size) at = q->base + q->size, i = -1;
     }
     return at;
 }
@@ -461,10 +446,10 @@ static int is_one_range(struct process *p, uint64_t base, uint64_t size) {
 /* ---- the director ---- */
 
 static const char *error_name(int error) {
+#define NAME(error) {error, #error}
     static const struct { int error; const char *name; } names[] = {
-        {EPERM, "EPERM"}, {ENOENT, "ENOENT"}, {ESRCH, "ESRCH"}, {EIO, "EIO"}, {EAGAIN, "EAGAIN"}, {ENOMEM, "ENOMEM"},
-        {EACCES, "EACCES"}, {EEXIST, "EEXIST"}, {EINVAL, "EINVAL"}, {EMFILE, "EMFILE"}, {ENOSPC, "ENOSPC"},
-        {EIDRM, "EIDRM"}, {ENFILE, "ENFILE"}, {ENOSYS, "ENOSYS"}, {EFAULT, "EFAULT"}, {EOVERFLOW, "EOVERFLOW"} };
+        NAME(EPERM), NAME(ENOENT), NAME(ESRCH), NAME(EIO), NAME(EAGAIN), NAME(ENOMEM), NAME(EACCES),
+        NAME(EEXIST), NAME(EINVAL), NAME(EMFILE), NAME(ENOSPC), NAME(EIDRM), NAME(ENFILE), NAME(ENOSYS), NAME(EFAULT) };
     static char other[32];
     for (size_t i = 0; i < sizeof names / sizeof *names; i++)
         if (names[i].error == error) return names[i].name;
@@ -472,18 +457,13 @@ static const char *error_name(int error) {
     return other;
 }
 
-static void remove_all(void) {
-    int id;
-    for (off_t at = 0; pread(RECORD_FD, &id, sizeof id, at) == sizeof id; at += (off_t)sizeof id)
-        shmctl(id, IPC_RMID, NULL);
-}
-
 /* the workers end when the director's ends of their pipes are closed; then nobody makes a segment any more */
 static void clean_up(void) {
     struct pollfd alive = {alive_fd, POLLIN, 0};
-    int got;
+    int got, id;
     while ((got = poll(&alive, 1, 1000 * limit_seconds)) == -1 && errno == EINTR) continue;
-    remove_all();
+    for (off_t at = 0; pread(RECORD_FD, &id, sizeof id, at) == sizeof id; at += (off_t)sizeof id)
+        shmctl(id, IPC_RMID, NULL);
     while (got > 0 && waitpid(-1, NULL, 0) > 0) continue;
 }
 
@@ -492,6 +472,11 @@ static void lose_guardian(void) {
     for (int i = 0; i < process_count; i++) close(processes[i].to);
     clean_up();
     fail(3, "the guardian is gone");
+}
+
+static void wait_a_little(void) {
+    struct pollfd life = {life_fd, POLLIN, 0};
+    if (poll(&life, 1, 5) > 0) lose_guardian();
 }
 
 /* the answer of a worker, or its end where that is what it was told */
@@ -533,9 +518,8 @@ static void run_get(struct process *p, const uint64_t *v, char *reply, uint64_t 
         return skip(reply, "the system has a segment with this key");
     struct answer a = ask(p, &q);
     if (!reply_plain(&a, reply)) return;
-    int64_t name = name_segment((int)a.value, v[1]);
-    *result = (uint64_t)name;
-    sprintf(reply, "%" PRId64, name);
+    *result = (uint64_t)name_segment((int)a.value, v[1]);
+    sprintf(reply, "%" PRIu64, *result);
 }
 
 static void run_attach(struct process *p, const uint64_t *v, char *reply, uint64_t *result) {
@@ -575,9 +559,7 @@ static void run_stat(struct process *p, const uint64_t *v, char *reply, int plac
     char times[3][16];
     struct shmid_ds *s = &a.segment;
     if (!reply_plain(&a, reply)) return;
-    print_time(times[0], s->shm_atime, place);
-    print_time(times[1], s->shm_dtime, place);
-    print_time(times[2], s->shm_ctime, place);
+    for (int i = 0; i < 3; i++) print_time(times[i], (time_t[]){s->shm_atime, s->shm_dtime, s->shm_ctime}[i], place);
     int is_dest = s->shm_perm.mode & SHM_DEST, is_locked = s->shm_perm.mode & SHM_LOCKED;
     sprintf(reply, "key=0x%08x uid=%u gid=%u cuid=%u cgid=%u mode=%03o status=%s size=%zu cpid=%u lpid=%u nattch=%lu "
         "atime=%s dtime=%s ctime=%s", (unsigned)s->shm_perm.__key, s->shm_perm.uid, s->shm_perm.gid,
@@ -684,13 +666,6 @@ static void run_command(int place) {
     fflush(stdout);
 }
 
-static void begin_second(int place) {
-    time_t last = place > 1 ? began[place - 1] : time(NULL);
-    struct pollfd life = {life_fd, POLLIN, 0};
-    while ((began[place] = time(NULL)) <= last)
-        if (poll(&life, 1, 5) > 0) lose_guardian();
-}
-
 static int become_user(unsigned uid, unsigned gid) {
     struct rlimit locked = {limits[4] * PAGE, limits[4] * PAGE};
     setrlimit(RLIMIT_MEMLOCK, &locked);
@@ -700,13 +675,11 @@ static int become_user(unsigned uid, unsigned gid) {
 /* pipes to a worker and from it: its own ends have numbers that stand, whoever forks and execs */
 static void open_pipes(int index) {
     int to[2], from[2], at = FIRST_FD + 2 * index;
-    if (pipe(to) || pipe(from) || dup2(to[0], at) < 0 || dup2(from[1], at + 1) < 0) fail(3, "pipe: %s", strerror(errno));
-    close(to[0]);
-    close(from[1]);
+    if (pipe2(to, O_CLOEXEC) || pipe2(from, O_CLOEXEC) || dup2(to[0], at) < 0 || dup2(from[1], at + 1) < 0)
+        fail(3, "pipe: %s", strerror(errno));
+    close(to[0]), close(from[1]);
     processes[index].to = to[1];
     processes[index].from = from[0];
-    fcntl(to[1], F_SETFD, FD_CLOEXEC);
-    fcntl(from[0], F_SETFD, FD_CLOEXEC);
 }
 
 static void start_worker(int index) {
@@ -724,20 +697,22 @@ static void start_worker(int index) {
     serve(index);
 }
 
-static void direct(void) {
+__attribute__((noreturn)) static void direct(int *life) {
+    close(life[1]);
+    life_fd = life[0];
     segments = calloc((size_t)command_count + 1, sizeof *segments);
     began = calloc((size_t)command_count + 1, sizeof *began);
     if (!segments || !began) fail(3, "no memory");
+    began[0] = time(NULL);
     signal(SIGCHLD, SIG_IGN);
     signal(SIGPIPE, SIG_IGN);
     prctl(PR_SET_CHILD_SUBREAPER, 1);
     for (int i = 0; i < process_count; i++) open_pipes(i);
     for (int i = 0; i < process_count; i++) start_worker(i);
     for (int fd = ALIVE_FD; fd < FIRST_FD + 2 * process_count; fd++) close(fd);
-    for (int place = 1; place <= command_count; place++) {
-        if (has_seconds) begin_second(place);
-        run_command(place);
-    }
+    for (int place = 1; place <= command_count; run_command(place++))
+        while ((began[place] = time(NULL)) <= began[place - 1] && has_seconds) wait_a_little();
+    exit(0);
 }
 
 /* ---- the guardian ---- */
@@ -766,8 +741,7 @@ static void enter_namespace(void) {
     unsigned uid = geteuid(), gid = getegid();
     is_root = uid == 0;
     if (!is_shared && unshare(is_root ? CLONE_NEWIPC : CLONE_NEWIPC | CLONE_NEWUSER) == -1) is_shared = 1;
-    if (is_shared) fprintf(stderr, "peer: note: in the system's own IPC namespace, under its limits\n");
-    if (is_shared) return;
+    if (is_shared) return (void)fprintf(stderr, "peer: note: in the system's own IPC namespace, under its limits\n");
     if (!is_root) enter_as_one_user(uid, gid);
     write_file("/proc/sys/kernel/shmmax", "%" PRIu64, limits[0], 0);
     write_file("/proc/sys/kernel/shmmni", "%" PRIu64, limits[1], 0);
@@ -776,14 +750,12 @@ static void enter_namespace(void) {
 }
 
 static void on_interrupt(int signal) { (void)signal; }
-
 static void open_guard(int *life) {
     int alive[2];
     FILE *record = tmpfile();
-    if (!record || pipe(life) || pipe(alive) || dup2(fileno(record), RECORD_FD) < 0 || dup2(alive[1], ALIVE_FD) < 0)
-        fail(3, "pipe: %s", strerror(errno));
+    if (!record || pipe(life) || pipe2(alive, O_CLOEXEC)) fail(3, "pipe: %s", strerror(errno));
+    if (dup2(fileno(record), RECORD_FD) < 0 || dup2(alive[1], ALIVE_FD) < 0) fail(3, "dup2: %s", strerror(errno));
     fcntl(RECORD_FD, F_SETFL, O_APPEND);
-    fcntl(alive[0], F_SETFD, FD_CLOEXEC);
     close(alive[1]);
     alive_fd = alive[0];
 }
@@ -794,12 +766,7 @@ static int guard(void) {
     open_guard(life);
     prctl(PR_SET_CHILD_SUBREAPER, 1);
     pid_t director = fork();
-    if (director == 0) {
-        close(life[1]);
-        life_fd = life[0];
-        direct();
-        exit(0);
-    }
+    if (director == 0) direct(life);
     if (director == -1) fail(3, "fork: %s", strerror(errno));
     for (int i = 0; i < 3; i++) sigaction((int[]){SIGINT, SIGTERM, SIGHUP}[i], &action, NULL);
     close(ALIVE_FD);
@@ -809,31 +776,23 @@ static int guard(void) {
     return WIFEXITED(status) ? WEXITSTATUS(status) : 3;
 }
 
-/* the words that exec runs: those of --exec, or this program */
-static void choose_exec_words(char *given) {
-    char *words[WORDS] = {(char *)"/proc/self/exe"};
-    int count = 0;
-    for (char *w = given ? strtok(given, " ") : NULL; w && count < WORDS; w = strtok(NULL, " ")) words[count++] = w;
-    set_exec_words(words, count ? count : 1);
-}
-
 int main(int argc, char **argv) {
     const char *usage = "usage: peer [--seconds] [--shared] [--limit S] [--exec WORDS] [SCRIPT]";
-    char *given = NULL;
     FILE *from = stdin;
     int i = 1;
-    if (argc > 1 && strcmp(argv[1], "--worker") == 0) return continue_worker(argc, argv);
+    choose_exec_words();
+    if (getenv("PEER_WORKER")) continue_worker(atoi(getenv("PEER_WORKER")));
     for (; i < argc && strncmp(argv[i], "--", 2) == 0; i++) {
         if (strcmp(argv[i], "--seconds") == 0) has_seconds = 1;
         else if (strcmp(argv[i], "--shared") == 0) is_shared = 1;
         else if (strcmp(argv[i], "--limit") == 0 && i + 1 < argc) limit_seconds = atoi(argv[++i]);
-        else if (strcmp(argv[i], "--exec") == 0 && i + 1 < argc) given = argv[++i];
+        else if (strcmp(argv[i], "--exec") == 0 && i + 1 < argc) setenv("PEER_EXEC", argv[++i], 1);
         else fail(2, "%s", usage);
     }
     if (argc - i > 1 || limit_seconds < 1) fail(2, "%s", usage);
     if (i < argc && !(from = fopen(argv[i], "r"))) fail(1, "%s: %s", argv[i], strerror(errno));
     if (sysconf(_SC_PAGESIZE) != PAGE) fail(4, "skipped: pages here are not of %d bytes", PAGE);
-    choose_exec_words(given);
+    choose_exec_words();
     read_script(from);
     enter_namespace();
     return guard();

@@ -4,6 +4,8 @@ The machine's events are followed, so that each rule names one answer of Linux; 
 own. The names stand in docs/CONFORMANCE.md, with what each side answers and why.
 """
 
+from __future__ import annotations
+
 from dataclasses import dataclass, field
 
 from script import stat_words, without_clock

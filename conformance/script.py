@@ -4,6 +4,8 @@ A case is a script in which each command has a comment above it, with the rule a
 `#= REPLY`: the reply that the rule gives, of `stat` any of its words. A line `#swap WORDS` names other swap areas.
 """
 
+from __future__ import annotations
+
 import re
 from dataclasses import dataclass, field
 
