@@ -248,13 +248,9 @@ fn cut_twice(rt: &impl Abort, spaces: &mut Spaces, store: &PageStore<RamPager>) 
     for page in 0..4 {
         spaces.note(&[Move::Came(PageRef { seg: 0, page }, 10 + page)]);
     }
-    assert!(rt;
-        attach(spaces, store, 1, 1, 1, 0x40001000, AtFlags::REMAP) == Some(Ok(0x40001000))
-    );
+    assert!(rt; attach(spaces, store, 1, 1, 1, 0x40001000, AtFlags::REMAP) == Some(Ok(0x40001000)));
     assert!(rt; has_frames(spaces, [Some(10), None, Some(12), Some(13)].as_slice()));
-    assert!(rt;
-        attach(spaces, store, 1, 1, 1, 0x40002000, AtFlags::REMAP) == Some(Ok(0x40002000))
-    );
+    assert!(rt; attach(spaces, store, 1, 1, 1, 0x40002000, AtFlags::REMAP) == Some(Ok(0x40002000)));
     assert!(rt; has_frames(spaces, [Some(10), None, None, Some(13)].as_slice()));
     spaces.note(&[Move::Gone(PageRef { seg: 0, page: 3 })]);
     assert!(rt; has_frames(spaces, [Some(10), None, None, None].as_slice()));

@@ -1,0 +1,184 @@
+//! The run, and the monitor beside it.
+ghost use Rattle.std.specs.Prelude.{◌≡◌};
+
+use shm_base::HostMemory;
+use shm_history::{Gauge, Keeper, ReaderSeat, System, World, gauge};
+use shm_pager::SparsePager;
+use shm_text::{Script, read_script};
+use shm_threads::{Gate, RunError, run_threads, run_threads_gauged};
+use std::alloc::{AllocError, AllocFailed, Global};
+use std::sync::Wait;
+use std::sync::atomic::{AtomicBool, Ordering};
+use std::thread::{Threads, join};
+use thiserror::Error;
+
+/// What runs beside the script's workers and its flusher: a keeper that publishes, and a monitor that reads.
+#[derive(Clone, Copy, Debug, PartialEq, Eq)]
+pub(crate) enum Mode {
+    Plain,
+    Gauged,
+    Watched,
+}
+
+/// How many events were there at the end, how many readings were taken, and how many of them had fewer events
+/// than the one before.
+#[derive(Clone, Copy, Debug, PartialEq, Eq)]
+pub(crate) struct Watched {
+    pub(crate) events: u64,
+    pub(crate) readings: u64,
+    pub(crate) went_back: u64,
+}
+
+/// Why there is no run.
+#[derive(Clone, Copy, Debug, PartialEq, Eq, Error)]
+pub(crate) enum Stop {
+    #[error("no script")]
+    Script,
+    #[error("start refused")]
+    Start,
+    #[error("out of memory")]
+    HostMemory,
+    #[error("{0}")]
+    Run(RunError),
+}
+
+impl From<HostMemory> for Stop {
+    fn from(_refused: HostMemory) -> Stop {
+        Stop::HostMemory
+    }
+}
+
+impl From<AllocError> for Stop {
+    fn from(_refused: AllocError) -> Stop {
+        Stop::HostMemory
+    }
+}
+
+impl<T: Drop> From<AllocFailed<T>> for Stop {
+    fn from(_refused: AllocFailed<T>) -> Stop {
+        Stop::HostMemory
+    }
+}
+
+impl From<RunError> for Stop {
+    fn from(error: RunError) -> Stop {
+        Stop::Run(error)
+    }
+}
+
+// Lets every call pass.
+struct Open;
+
+impl Gate for Open {
+    fn before(&self, _pid: u32, _n: u64) -> bool {
+        true
+    }
+
+    fn after(&self, _pid: u32, _n: u64) {}
+}
+
+fn start(alloc: Global, script: &Script) -> Result<World<SparsePager>, Stop> {
+    let mut pagers = Vec::new(alloc);
+    pagers.push(SparsePager::new(alloc, 65536)?)?;
+    match System::start(alloc, script.limits, pagers, &script.processes) {
+        Ok(system) => Ok(World::new(alloc, system)),
+        Err(_) => Err(Stop::Start),
+    }
+}
+
+// The monitor: reads until the run is done, and once more.
+fn watch<R: Wait>(rt: &R, gauge: &Gauge, mut seat: ReaderSeat, is_done: &AtomicBool) -> Watched
+    requires { seat.cell ≡ gauge.now }
+{
+    let mut watched = Watched {
+        events: 0,
+        readings: 0,
+        went_back: 0,
+    };
+    for _ in rt.forever() {
+        let is_last = is_done.load(Ordering::SeqCst);
+        let now = gauge.read(rt, &mut seat);
+        if now.events < watched.events {
+            watched.went_back = watched.went_back.saturating_add(1);
+        }
+        watched.events = now.events;
+        watched.readings = watched.readings.saturating_add(1);
+        if is_last {
+            break;
+        }
+    }
+    watched
+}
+
+// How many events the run made.
+fn run_gauged<R: Threads + Wait + Sync>(
+    rt: &R,
+    alloc: Global,
+    world: World<SparsePager>,
+    keeper: Keeper,
+    script: &Script,
+) -> Result<u64, RunError> {
+    let (outcome, _) = run_threads_gauged(rt, alloc, world, keeper, script, &Open)?;
+    Ok(outcome.world.history().len() as u64)
+}
+
+fn run_plain<R: Threads + Wait + Sync>(
+    rt: &R,
+    alloc: Global,
+    world: World<SparsePager>,
+    script: &Script,
+) -> Result<u64, RunError> {
+    let outcome = run_threads(rt, alloc, world, script, &Open)?;
+    Ok(outcome.world.history().len() as u64)
+}
+
+fn unwatched(events: u64) -> Watched {
+    Watched {
+        events,
+        readings: 0,
+        went_back: 0,
+    }
+}
+
+// A gauged run with the monitor on a thread of its own.
+fn run_watched<R: Threads + Wait + Sync>(
+    rt: &R,
+    alloc: Global,
+    world: World<SparsePager>,
+    script: &Script,
+) -> Result<Watched, Stop> {
+    let (gauge, keeper, seat) = gauge(rt, alloc, &world)?;
+    let is_done = AtomicBool::new(false);
+    let (watched, run) = join(
+        rt,
+        || watch(rt, &gauge, seat, &is_done),
+        || {
+            let run = run_gauged(rt, alloc, world, keeper, script);
+            is_done.store(true, Ordering::SeqCst);
+            run
+        },
+    );
+    run?;
+    Ok(watched)
+}
+
+/// Runs a script with threads, over one area that takes memory for the pages in it.
+pub(crate) fn run<R: Threads + Wait + Sync>(
+    rt: &R,
+    alloc: Global,
+    bytes: &[u8],
+    mode: Mode,
+) -> Result<Watched, Stop> {
+    let Ok(script) = read_script(alloc, bytes) else {
+        return Err(Stop::Script);
+    };
+    let world = start(alloc, &script)?;
+    match mode {
+        Mode::Plain => Ok(unwatched(run_plain(rt, alloc, world, &script)?)),
+        Mode::Gauged => {
+            let (_, keeper, _) = gauge(rt, alloc, &world)?;
+            Ok(unwatched(run_gauged(rt, alloc, world, keeper, &script)?))
+        }
+        Mode::Watched => run_watched(rt, alloc, world, &script),
+    }
+}
