@@ -1,0 +1,7 @@
+use Rattle.std.proofs.Common.{refl}
+use Rattle.shm_laws.specs.Worked.{opening, a_store_fails}
+use Rattle.shm_laws.proofs.Computing.{legal}
+use Rattle.shm_laws.proofs.worked.worked_histories.Goals as goal
+
+pub returns : goal.returns
+returns c = record { replay = (legal opening a_store_fails (refl, (refl, (refl, (refl, (refl, refl))))), refl) }
