@@ -1,2 +1,5 @@
 pub mod Replay
+pub mod Standing
+pub mod Removal
+pub mod Identity
 pub mod Worked

@@ -1,7 +1,11 @@
 //! Laws of whole histories, in the words of those who rely on the machine: each function shows one of the world at hand.
 #![tactic(auto)]
 
+mod identity;
+mod removal;
 mod replay;
 mod worked;
 
+pub use identity::named_once;
+pub use removal::removed_in_time;
 pub use replay::replayed;
