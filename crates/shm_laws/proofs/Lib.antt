@@ -7,3 +7,4 @@ pub mod Stepping
 pub mod Fates
 pub mod Removing
 pub mod Naming
+pub mod Piecing

@@ -60,7 +60,7 @@ module _ (s t : Machine) (e : Event) (sound : IsSound s) (k : Kind s (removed e.
       at None is h = absurd (true≢false (sym h))
       at (Some n) is h = is ∙ ap (λ m. Some m) (eqb-true n id h)
 
-  same-runners : removed e.call e.reply ≡ Some id → t.runners ≡ s.runners
+  pub same-runners : removed e.call e.reply ≡ Some id → t.runners ≡ s.runners
   same-runners h = at k
     where
       at : Kind s (removed e.call e.reply) t → t.runners ≡ s.runners

@@ -106,7 +106,7 @@ quiet s t turned same =
 sweeps : (s t : Machine) (middle : List Entry) → ((i : ℕ) → Turned s.table middle i) → t.table ≡ swept t.runners middle → (Bare s.runners → Bare t.runners) → Kind s None t
 sweeps s t middle turned table bare = inl (refl, inr (inl (record { middle = middle; turned = turned; table = table; bare = bare })))
 
-pick : (P : Outcome → Type 0) (b : Bool) (o p : Outcome) → P o → P p → P (if b then o else p)
+pub pick : (P : Outcome → Type 0) (b : Bool) (o p : Outcome) → P o → P p → P (if b then o else p)
 pick P true o p h k = h
 pick P false o p h k = k
 

@@ -2,4 +2,5 @@ pub mod Replay
 pub mod Standing
 pub mod Removal
 pub mod Identity
+pub mod Pieces
 pub mod Worked

@@ -79,3 +79,10 @@ RemovalWorked =
     × (attach_count (after_two_go 7).runners 0 ≡ 1)
     × IsGone (after_two_go 5) 1 × IsGone (after_two_go 8) 0 × IsGone (after_two_go 10) 0
     × (is_found (look (after_two_go 10).table (pos 32768)) ≡ true)
+
+-- PIECES: process 2 has one of segment 0, which stands, and none of segment 1, which is gone
+abbrev pub PiecesWorked : Type 0
+PiecesWorked =
+    (is_found (look (after_two_go 7).table (pos 0)) ≡ true)
+    × (attach_count (after_two_go 7).runners 1 ≡ 0)
+    × (attach_count (after_two_go 8).runners 0 ≡ 0)

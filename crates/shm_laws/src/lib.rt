@@ -2,10 +2,12 @@
 #![tactic(auto)]
 
 mod identity;
+mod pieces;
 mod removal;
 mod replay;
 mod worked;
 
 pub use identity::named_once;
+pub use pieces::pieces_stand;
 pub use removal::removed_in_time;
 pub use replay::replayed;

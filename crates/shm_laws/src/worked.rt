@@ -4,4 +4,5 @@ ghost use Rattle.shm_laws.specs.Worked as worked;
 fn worked_histories()
     ensures replay { worked.ReplayWorked }
     ensures removal { worked.RemovalWorked }
+    ensures pieces { worked.PiecesWorked }
 {}

@@ -8,4 +8,5 @@ returns c =
     record {
       replay = (legal opening a_store_fails (refl, (refl, (refl, (refl, (refl, refl))))), refl);
       removal = (legal opening two_go (refl, (refl, (refl, (refl, (refl, (refl, (refl, (refl, (refl, (refl, refl)))))))))), refl, refl, refl, refl, refl, refl);
+      pieces = (refl, refl, refl);
     }
