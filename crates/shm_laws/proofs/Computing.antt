@@ -3,7 +3,7 @@ use Rattle.std.proofs.Common.{◌≡◌, ℕ, ◌+◌, Bool, true, false, if◌t
 use Rattle.shm_base.specs.declared.call.Event.{Event}
 use Rattle.shm_base.specs.State.{Machine, Opening, start_of}
 use Rattle.shm_base.specs.Step.{Outcome, step}
-use Rattle.shm_base.specs.History.{is_refusal, is_failure, LeadsFrom, IsHistory}
+use Rattle.shm_base.specs.History.{is_refusal, is_failure, LeadsFrom}
 use Rattle.shm_laws.specs.Worked.{IsLegal}
 
 -- a failure stands in place of a reply that refuses nothing, and another reply is the step's

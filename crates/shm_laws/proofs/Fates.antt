@@ -1,7 +1,7 @@
 -- What becomes of each index of the table in a step, and of what is kept.
-use Rattle.std.proofs.Common.{◌≡◌, ◌≢◌, ◌⊎◌, ℕ, suc, zero, ◌+◌, ◌*◌, ◌/◌, ◌%◌, ◌<◌, ◌≤◌, ◌==◌, ◌&&◌, ◌||◌, pos, negsuc, Bool, true, false, List, Option, Some, None, slice_get, refl, sym, ap, subst, ◌∙◌, inl, inr, arith, eq-eqb, ne_eqb, true≢false}
+use Rattle.std.proofs.Common.{◌≡◌, ◌≢◌, ◌⊎◌, ℕ, ◌/◌, ◌%◌, ◌<◌, ◌≤◌, ◌==◌, ◌&&◌, ◌||◌, pos, negsuc, Bool, true, false, List, Option, Some, None, slice_get, refl, sym, ap, subst, ◌∙◌, inl, inr, arith, eq-eqb, ne_eqb, true≢false}
 use Rattle.std.specs.Prelude.{option_map}
-use Rattle.std.proofs.lemmas.Bool.{cases_Bool, cases_eq, eqb-true}
+use Rattle.std.proofs.lemmas.Bool.{cases_Bool, cases_eq}
 use Rattle.std.proofs.lemmas.Option.{none-some}
 use Rattle.shm_base.specs.declared.call.Call.{Call}
 use Rattle.shm_base.specs.declared.call.Call.TheVariants.{Shmget, Shmat, Shmdt, Stat, Set, Rmid, Lock, Unlock, Load, Store, Xadd, Fork, Exec, Exit, Swapoff}
@@ -11,16 +11,16 @@ use Rattle.shm_base.specs.declared.call.Reply.TheVariants as replies
 use Rattle.shm_base.specs.declared.call.Event.{Event}
 use Rattle.shm_base.specs.State.{Segment, Entry, Runner, Machine}
 use Rattle.shm_base.specs.Identifier.{identifier, destroyed_in, with_segment}
-use Rattle.shm_base.specs.Segments.{attach_count, with_entry, marked, change, swept_at, swept}
-use Rattle.shm_base.specs.Step.{Outcome, Caller, step, step_by, caller_of}
+use Rattle.shm_base.specs.Segments.{attach_count, with_entry, marked, change, swept_at}
+use Rattle.shm_base.specs.Step.{Outcome, Caller, step_by, caller_of}
 use Rattle.shm_base.specs.History.{is_failure, IsMove}
 use Rattle.shm_segments.specs.Table.{segment_in}
 use Rattle.shm_segments.specs.Left.{orphan_in, orphan}
 use Rattle.shm_laws.specs.Identity.{IsSame}
-use Rattle.shm_laws.proofs.Turning.{same_refl, Turned, set_in-here, set_in-there, swept_entry, swept-get}
-use Rattle.shm_laws.proofs.Fresh.{IsEmpty, MadeAt, made-at}
+use Rattle.shm_laws.proofs.Turning.{same_refl, set_in-here, set_in-there, swept_entry, swept-get}
+use Rattle.shm_laws.proofs.Fresh.{IsEmpty, made-at}
 use Rattle.shm_laws.proofs.Looks.{holds, bare_entry, stands-at}
-use Rattle.shm_laws.proofs.Stepping.{Bare, StillTo, SweepTo, MakeTo, RemoveTo, RemovesBy, Kind, removed, removed_by, kind-acts, still}
+use Rattle.shm_laws.proofs.Stepping.{Bare, StillTo, SweepTo, MakeTo, RemoveTo, Kind, removed, removed_by, kind-acts, still}
 
 -- WHAT EACH MOVE IS
 

@@ -1,5 +1,5 @@
 -- What a look finds, and what stands at the index.
-use Rattle.std.proofs.Common.{◌≡◌, ◌≢◌, ◌⊎◌, ℕ, ◌+◌, ◌/◌, ◌%◌, ◌<◌, ◌≤◌, ◌==◌, pos, Bool, true, false, nat_lt, if◌then◌else◌, List, Option, Some, None, slice_get, refl, sym, ap, ◌∙◌, inl, inr, arith, eq-eqb, ne_eqb}
+use Rattle.std.proofs.Common.{◌≡◌, ◌⊎◌, ℕ, ◌/◌, ◌%◌, ◌<◌, ◌≤◌, ◌==◌, pos, true, false, nat_lt, List, Option, Some, None, slice_get, refl, sym, ap, ◌∙◌, inl, inr, arith, eq-eqb}
 use Rattle.std.proofs.lemmas.Bool.{cases_Bool, cases_lt, lt-ltb, le-ltb, eqb-true}
 use Rattle.shm_base.specs.State.{Segment, Entry}
 use Rattle.shm_base.specs.Identifier.{Look, Found, Removed, Invalid, look_segment, look_entry, look}

@@ -1,5 +1,5 @@
 -- An identifier names one segment.
-use Rattle.std.proofs.Common.{◌≡◌, ◌⊎◌, ℕ, ◌+◌, ◌/◌, ◌%◌, ◌<◌, ◌==◌, ◌&&◌, pos, Bool, true, false, List, [], ◌∷◌, Option, Some, None, slice_get, refl, sym, ap, subst, ◌∙◌, inl, inr, arith}
+use Rattle.std.proofs.Common.{◌≡◌, ◌⊎◌, ℕ, ◌+◌, ◌/◌, ◌%◌, ◌<◌, ◌==◌, ◌&&◌, pos, List, [], ◌∷◌, Option, Some, None, slice_get, refl, sym, ap, subst, ◌∙◌, inl, inr, arith}
 use Rattle.std.proofs.lemmas.Bool.{cases_Bool}
 use Rattle.std.proofs.lemmas.Option.{none-some}
 use Rattle.shm_base.specs.declared.call.Event.{Event}
@@ -11,9 +11,9 @@ use Rattle.shm_segments.specs.Table.{segment_in}
 use Rattle.shm_laws.specs.Standing.{Stands, IsGone, MovesBy, MomentsBy}
 use Rattle.shm_laws.specs.Identity.{IsSame, KeepsNames, NamesAnew, NamesOneSegment}
 use Rattle.shm_laws.proofs.Turning.{same_refl, same_trans}
-use Rattle.shm_laws.proofs.Looks.{holds, bare_entry, GoneAt, stands-at, at-stands, at-gone, at-never, at-next, entry-gone}
+use Rattle.shm_laws.proofs.Looks.{holds, bare_entry, stands-at, at-stands, at-gone, at-never, at-next, entry-gone}
 use Rattle.shm_laws.proofs.Stepping.{Kind, removed}
-use Rattle.shm_laws.proofs.Fates.{IsSound, IsNew, names, Stays, stays, comes, sound-after, kind-move}
+use Rattle.shm_laws.proofs.Fates.{IsSound, IsNew, stays, comes, sound-after, kind-move}
 use Rattle.shm_laws.proofs.Removing.{sound-start, stands-or-gone}
 
 -- ONE MOVE

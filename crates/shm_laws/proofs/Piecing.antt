@@ -1,13 +1,10 @@
 -- What a piece names stands.
-use Rattle.std.proofs.Common.{◌≡◌, ◌≢◌, ◌⊎◌, ℕ, suc, zero, ◌+◌, ◌-◌, ◌*◌, ◌/◌, ◌%◌, ◌≤◌, ◌==◌, ◌&&◌, ℤ, pos, negsuc, Bool, true, false, not, nat_le, nat_lt, if◌then◌else◌, List, [], ◌∷◌, length, map, Option, Some, None, slice_get, slice_set, refl, sym, ap, subst, ◌∙◌, inl, inr, arith, eq-eqb, ne_eqb}
-use Rattle.std.specs.Prelude.{sum_by}
+use Rattle.std.proofs.Common.{◌≡◌, ◌≢◌, ◌⊎◌, ℕ, suc, zero, ◌+◌, ◌*◌, ◌/◌, ◌%◌, ◌≤◌, ◌==◌, ◌&&◌, ℤ, pos, negsuc, true, false, not, nat_le, nat_lt, List, [], ◌∷◌, length, map, Option, Some, None, slice_get, slice_set, refl, sym, ap, subst, ◌∙◌, inl, inr, arith, eq-eqb, ne_eqb}
 use Rattle.std.proofs.lemmas.Bool.{cases_eq}
 use Rattle.std.proofs.lemmas.Option.{none-some}
 use Rattle.std.proofs.lemmas.List.Sums.{sum_by-cons}
-use Rattle.shm_base.specs.declared.errno.Errno.TheVariants.{Emfile}
 use Rattle.shm_base.specs.declared.call.Call.{Call}
 use Rattle.shm_base.specs.declared.call.Call.TheVariants.{Shmget, Shmat, Shmdt, Stat, Set, Rmid, Lock, Unlock, Load, Store, Xadd, Fork, Exec, Exit, Swapoff}
-use Rattle.shm_base.specs.declared.call.Reply.TheVariants.{Addr}
 use Rattle.shm_base.specs.declared.call.Event.{Event}
 use Rattle.shm_base.specs.declared.flags.AtFlags.{AtFlags}
 use Rattle.shm_base.specs.declared.flags.GetFlags.{GetFlags}
@@ -17,9 +14,9 @@ use Rattle.shm_base.specs.Access.{Place, places, writable_places}
 use Rattle.shm_base.specs.Permission.{grants, owns, wish_of}
 use Rattle.shm_base.specs.State.{Segment, Piece, Life, Unborn, Live, Ended, Runner, Machine, Opening, start_of, runner_at_start, pages_of, pages_in}
 use Rattle.shm_base.specs.Identifier.{Look, Found, Removed, Invalid, identifier, destroyed_at, destroyed_in, free_index, find_key, look}
-use Rattle.shm_base.specs.Space.{inside, occupied, choose, cut, parts, origin_of, is_named, without_named, pieces_of}
+use Rattle.shm_base.specs.Space.{inside, occupied, cut, parts, origin_of, is_named, without_named, pieces_of}
 use Rattle.shm_base.specs.Segments.{attach_count, segment_count, reserved, locked, slots}
-use Rattle.shm_base.specs.Step.{creates_at, creates, gets, wants_no_other, wants_creation, stat, controls, sets, removes, locks, unlocks, load, store, xadd, takes_away, swapoff, Caller, Outcome, caller_from, caller_of, acts, step_by, step, at_wish, is_rnd, is_remap, is_rdonly, refuses, gives, pieces_with, attaches, attaches_chosen, attaches_fixed, attaches_found, shmat, detaches, forks, unborn_from}
+use Rattle.shm_base.specs.Step.{creates_at, creates, gets, wants_no_other, wants_creation, stat, controls, sets, removes, locks, unlocks, load, store, xadd, takes_away, Caller, Outcome, caller_from, caller_of, acts, step_by, at_wish, is_rnd, is_remap, is_rdonly, pieces_with, attaches, attaches_chosen, attaches_fixed, attaches_found, shmat, detaches, forks, unborn_from}
 use Rattle.shm_base.specs.History.{IsMove, LeadsFrom, IsHistory}
 use Rattle.shm_attach.specs.Views.{one_if, some_if}
 use Rattle.shm_attach.proofs.Processes.{one_more, pieces_of-inserted, pieces_of-cut_cons, pieces_of-filter}

@@ -1,20 +1,20 @@
 -- Each move destroys what is due, and what is marked has a piece.
-use Rattle.std.proofs.Common.{◌≡◌, ◌⊎◌, ℕ, suc, zero, ◌+◌, ◌*◌, ◌/◌, ◌%◌, ◌<◌, ◌≤◌, ◌==◌, ◌&&◌, ◌||◌, pos, Bool, true, false, List, [], ◌∷◌, map, Option, Some, None, slice_get, refl, sym, ap, subst, ◌∙◌, inl, inr, arith, eq-eqb, true≢false}
+use Rattle.std.proofs.Common.{◌≡◌, ◌⊎◌, ℕ, suc, zero, ◌+◌, ◌/◌, ◌%◌, ◌≤◌, ◌==◌, ◌&&◌, ◌||◌, pos, Bool, true, false, List, [], ◌∷◌, map, Option, Some, None, slice_get, refl, sym, ap, subst, ◌∙◌, inl, inr, arith, eq-eqb, true≢false}
 use Rattle.std.proofs.lemmas.Bool.{cases_Bool, cases_eq, eqb-true}
 use Rattle.std.proofs.lemmas.Option.{none-some}
 use Rattle.shm_base.specs.declared.call.Process.{Process}
 use Rattle.shm_base.specs.declared.call.Event.{Event}
-use Rattle.shm_base.specs.State.{Segment, Runner, Unborn, Machine, Opening, start_of, runner_at_start}
+use Rattle.shm_base.specs.State.{Segment, Runner, Machine, Opening, start_of, runner_at_start}
 use Rattle.shm_base.specs.Identifier.{identifier, look}
-use Rattle.shm_base.specs.Segments.{attach_count, swept_at}
+use Rattle.shm_base.specs.Segments.{attach_count}
 use Rattle.shm_base.specs.History.{IsMove, LeadsFrom, IsHistory}
-use Rattle.shm_segments.specs.Left.{orphan_in, orphan}
+use Rattle.shm_segments.specs.Left.{orphan_in}
 use Rattle.shm_life.proofs.Sweeping.{left-parts}
-use Rattle.shm_laws.specs.Standing.{Stands, IsGone, MovesBy, EachMove}
+use Rattle.shm_laws.specs.Standing.{Stands, IsGone, MovesBy}
 use Rattle.shm_laws.specs.Identity.{IsSame}
-use Rattle.shm_laws.specs.Removal.{MarkedHavePieces, IsRemovedBare, LosesLastPiece, IsDue, DestroysWhatIsDue, GoesWhenItMust}
-use Rattle.shm_laws.proofs.Looks.{holds, stands-at, at-stands, at-gone, not-both}
-use Rattle.shm_laws.proofs.Stepping.{Bare, RemovesBy, Kind, removed}
+use Rattle.shm_laws.specs.Removal.{MarkedHavePieces, IsDue, DestroysWhatIsDue, GoesWhenItMust}
+use Rattle.shm_laws.proofs.Looks.{stands-at, at-stands, at-gone, not-both}
+use Rattle.shm_laws.proofs.Stepping.{Bare, Kind, removed}
 use Rattle.shm_laws.proofs.Fates.{IsSound, names, Stays, stays, sound-after, kind-move, removed-call}
 
 -- WHERE A MACHINE STARTS

@@ -1,5 +1,5 @@
 -- The four kinds of step on the segments: still, a sweep after a detach, a creation, a removal.
-use Rattle.std.proofs.Common.{◌≡◌, ◌⊎◌, ℕ, suc, zero, ◌+◌, ◌-◌, ◌*◌, ◌%◌, ◌^◌, ◌≤◌, ◌==◌, ◌&&◌, ℤ, pos, negsuc, Bool, true, false, not, nat_le, nat_lt, if◌then◌else◌, List, [], ◌∷◌, length, get_or, Option, Some, None, slice_get, slice_set, refl, sym, ap, ◌∙◌, inl, inr, arith}
+use Rattle.std.proofs.Common.{◌≡◌, ◌⊎◌, ℕ, suc, zero, ◌+◌, ◌*◌, ◌%◌, ◌^◌, ◌≤◌, ◌==◌, ◌&&◌, ℤ, pos, negsuc, Bool, true, false, not, nat_le, nat_lt, if◌then◌else◌, List, [], ◌∷◌, length, get_or, Option, Some, None, slice_get, slice_set, refl, sym, ap, ◌∙◌, inl, inr, arith}
 use Rattle.std.specs.Int.{w64, to_le_bytes}
 use Rattle.std.proofs.lemmas.Option.{slice_get-get_or}
 use Rattle.shm_base.specs.declared.errno.Errno.TheVariants.{Emfile}
@@ -11,17 +11,17 @@ use Rattle.shm_base.specs.declared.call.Reply.{Reply}
 use Rattle.shm_base.specs.declared.call.Reply.TheVariants.{Done, Addr}
 use Rattle.shm_base.specs.Bounds.{within}
 use Rattle.shm_base.specs.Permission.{grants, owns, wish_of}
-use Rattle.shm_base.specs.Access.{Place, places, writable_places, stored}
-use Rattle.shm_base.specs.State.{Segment, Entry, Piece, Life, Unborn, Live, Ended, Runner, Machine, pages_of, pages_in}
-use Rattle.shm_base.specs.Identifier.{Look, Found, Removed, Invalid, identifier, free_index, destroyed_at, with_segment, look, find_key}
-use Rattle.shm_base.specs.Space.{inside, occupied, choose, cut_segments, origin_of, pieces_of}
+use Rattle.shm_base.specs.Access.{Place, places, writable_places}
+use Rattle.shm_base.specs.State.{Segment, Entry, Piece, Unborn, Live, Ended, Runner, Machine, pages_of, pages_in}
+use Rattle.shm_base.specs.Identifier.{Look, Found, Removed, Invalid, free_index, with_segment, look, find_key}
+use Rattle.shm_base.specs.Space.{inside, occupied, cut_segments, origin_of}
 use Rattle.shm_base.specs.Segments.{attach_count, segment_count, reserved, locked, slots, change, attached, marked, detach_all, swept}
-use Rattle.shm_base.specs.Step.{Outcome, gives, refuses, segments_of, Caller, acts, step_by, step, caller_of, new_segment, creates_at, creates, gets, shmget, wants_creation, wants_no_other, is_rnd, is_remap, at_wish, attaches, attaches_chosen, attaches_fixed, attaches_found, shmat, pieces_with, with_pieces, with_end, detaches, forks, is_unborn, unborn_from, stat, controls, sets, removes, locks, unlocks, load, store, xadd, number_at, takes_away, swapoff}
+use Rattle.shm_base.specs.Step.{Outcome, gives, refuses, segments_of, Caller, acts, new_segment, creates_at, creates, gets, shmget, wants_creation, wants_no_other, is_rnd, is_remap, at_wish, attaches, attaches_chosen, attaches_fixed, attaches_found, shmat, pieces_with, with_pieces, detaches, forks, unborn_from, stat, controls, sets, removes, locks, unlocks, load, store, xadd, number_at, takes_away, swapoff}
 use Rattle.shm_attach.proofs.Callers.{first_runner, child_at}
 use Rattle.shm_attach.specs.Spaces.{life_in}
 use Rattle.shm_life.proofs.Leaving.{keeps-set}
 use Rattle.shm_laws.specs.Identity.{IsSame}
-use Rattle.shm_laws.proofs.Turning.{same_refl, Turned, turned-refl, turned-trans, turned-change, turned-detach, turned-stored}
+use Rattle.shm_laws.proofs.Turning.{Turned, turned-refl, turned-trans, turned-change, turned-detach, turned-stored}
 use Rattle.shm_laws.proofs.Looks.{entry-found}
 
 -- PROCESSES THAT ARE NOT BORN HAVE NO PIECES
