@@ -1,0 +1,37 @@
+-- A history is legal where each reply is the step's, or a pager's failure in its place.
+use Rattle.std.proofs.Common.{◌≡◌, ℕ, ◌+◌, Bool, true, false, if◌then◌else◌, List, [], ◌∷◌, refl, inl, inr}
+use Rattle.shm_base.specs.declared.call.Event.{Event}
+use Rattle.shm_base.specs.State.{Machine, Opening, start_of}
+use Rattle.shm_base.specs.Step.{Outcome, step}
+use Rattle.shm_base.specs.History.{is_refusal, is_failure, LeadsFrom}
+use Rattle.shm_laws.specs.Worked.{IsLegal}
+
+-- a failure stands in place of a reply that refuses nothing, and another reply is the step's
+abbrev fits : Bool → Outcome → Event → Type 0
+fits true o e = is_refusal o.reply ≡ false
+fits false o e = o.reply ≡ e.reply
+
+abbrev pub FitsFrom : ℕ → Machine → List Event → Type 0
+FitsFrom n s [] = s ≡ s
+FitsFrom n s (e ∷ es) =
+    let o = step s n e.pid e.call in
+    let failed = is_failure e.call e.reply in
+    fits failed o e × FitsFrom (n + 1) (if failed then s else o.state) es
+
+abbrev Leads : ℕ → Machine → List Event → Type 0
+Leads n s es = (end : Machine) × LeadsFrom n s es end
+
+leads_one : (n : ℕ) (s : Machine) (e : Event) (es : List Event) (b : Bool) → is_failure e.call e.reply ≡ b → fits b (step s n e.pid e.call) e
+    → Leads (n + 1) (if b then s else (step s n e.pid e.call).state) es → Leads n s (e ∷ es)
+leads_one n s e es true failure fit more =
+    (more.0, (s, inr (record { failure = failure; instead = fit; unchanged = refl }), more.1))
+leads_one n s e es false failure fit more =
+    let o = step s n e.pid e.call in
+    (more.0, (o.state, inl (λ i. record { reply = fit i; state = o.state }), more.1))
+
+leads-fit : (n : ℕ) (s : Machine) (es : List Event) → FitsFrom n s es → Leads n s es
+leads-fit n s [] h = (s, refl)
+leads-fit n s (e ∷ es) h = leads_one n s e es (is_failure e.call e.reply) refl h.0 (leads-fit (n + 1) _ es h.1)
+
+pub legal : (o : Opening) (es : List Event) → FitsFrom 1 (start_of o) es → IsLegal o es
+legal o es h = leads-fit 1 (start_of o) es h

@@ -1,0 +1,301 @@
+-- What becomes of each index of the table in a step, and of what is kept.
+use Rattle.std.proofs.Common.{◌≡◌, ◌≢◌, ◌⊎◌, ℕ, ◌/◌, ◌%◌, ◌<◌, ◌≤◌, ◌==◌, ◌&&◌, ◌||◌, pos, negsuc, Bool, true, false, List, Option, Some, None, slice_get, refl, sym, ap, subst, ◌∙◌, inl, inr, arith, eq-eqb, ne_eqb, true≢false}
+use Rattle.std.specs.Prelude.{option_map}
+use Rattle.std.proofs.lemmas.Bool.{cases_Bool, cases_eq}
+use Rattle.std.proofs.lemmas.Option.{none-some}
+use Rattle.shm_base.specs.declared.call.Call.{Call}
+use Rattle.shm_base.specs.declared.call.Call.TheVariants.{Shmget, Shmat, Shmdt, Stat, Set, Rmid, Lock, Unlock, Load, Store, Xadd, Fork, Exec, Exit, Swapoff}
+use Rattle.shm_base.specs.declared.call.Reply.{Reply}
+use Rattle.shm_base.specs.declared.call.Reply.TheVariants.{Id, Addr, Bytes, Number, Done, Refused}
+use Rattle.shm_base.specs.declared.call.Reply.TheVariants as replies
+use Rattle.shm_base.specs.declared.call.Event.{Event}
+use Rattle.shm_base.specs.State.{Segment, Entry, Runner, Machine}
+use Rattle.shm_base.specs.Identifier.{identifier, destroyed_in, with_segment}
+use Rattle.shm_base.specs.Segments.{attach_count, with_entry, marked, change, swept_at}
+use Rattle.shm_base.specs.Step.{Outcome, Caller, step_by, caller_of}
+use Rattle.shm_base.specs.History.{is_failure, IsMove}
+use Rattle.shm_segments.specs.Table.{segment_in}
+use Rattle.shm_segments.specs.Left.{orphan_in, orphan}
+use Rattle.shm_laws.specs.Identity.{IsSame}
+use Rattle.shm_laws.proofs.Turning.{same_refl, set_in-here, set_in-there, swept_entry, swept-get}
+use Rattle.shm_laws.proofs.Fresh.{IsEmpty, made-at}
+use Rattle.shm_laws.proofs.Looks.{holds, bare_entry, stands-at}
+use Rattle.shm_laws.proofs.Stepping.{Bare, StillTo, SweepTo, MakeTo, RemoveTo, Kind, removed, removed_by, kind-acts, still}
+
+-- WHAT EACH MOVE IS
+
+kind-by : (s : Machine) (n : ℕ) (call : Call) (o : Option Caller) → Bare s.runners → Kind s (removed call (step_by s n call o).reply) (step_by s n call o).state
+kind-by s n (Rmid (pos id)) None bare = still s
+kind-by s n (Rmid (negsuc id)) None bare = still s
+kind-by s n (Shmget key size mode flags) None bare = still s
+kind-by s n (Shmat id addr flags) None bare = still s
+kind-by s n (Shmdt addr) None bare = still s
+kind-by s n (Stat id) None bare = still s
+kind-by s n (Set id uid gid mode) None bare = still s
+kind-by s n (Lock id) None bare = still s
+kind-by s n (Unlock id) None bare = still s
+kind-by s n (Load a len) None bare = still s
+kind-by s n (Store a bytes) None bare = still s
+kind-by s n (Xadd a add) None bare = still s
+kind-by s n (Fork child) None bare = still s
+kind-by s n Exec None bare = still s
+kind-by s n Exit None bare = still s
+kind-by s n (Swapoff area) None bare = still s
+kind-by s n call (Some c) bare = kind-acts s n c call bare
+
+failure-removed : (call : Call) (reply : Reply) → is_failure call reply ≡ true → removed call reply ≡ None
+failure-removed (Rmid id) reply h = absurd (true≢false (sym h))
+failure-removed (Shmget key size mode flags) reply h = refl
+failure-removed (Shmat id addr flags) reply h = refl
+failure-removed (Shmdt addr) reply h = refl
+failure-removed (Stat id) reply h = refl
+failure-removed (Set id uid gid mode) reply h = refl
+failure-removed (Lock id) reply h = refl
+failure-removed (Unlock id) reply h = refl
+failure-removed (Load a len) reply h = refl
+failure-removed (Store a bytes) reply h = refl
+failure-removed (Xadd a add) reply h = refl
+failure-removed (Fork child) reply h = refl
+failure-removed Exec reply h = refl
+failure-removed Exit reply h = refl
+failure-removed (Swapoff area) reply h = refl
+
+pub kind-move : (s : Machine) (n : ℕ) (e : Event) (t : Machine) → Bare s.runners → IsMove s n e t → Kind s (removed e.call e.reply) t
+kind-move s n e t bare (inl m) =
+    subst (λ (o : Outcome). Kind s (removed e.call o.reply) o.state) m (kind-by s n e.call (caller_of s e.pid) bare)
+kind-move s n e t bare (inr x) =
+    rw (failure-removed e.call e.reply x.failure, x.unchanged) (still s)
+
+-- WHICH CALL REMOVED
+
+no_name : (reply : Reply) (k id : ℕ) → removed_by reply (negsuc k) ≡ Some id → ⊥
+no_name (Id i) k id h = none-some id h
+no_name (Addr a) k id h = none-some id h
+no_name (Bytes b) k id h = none-some id h
+no_name (Number m) k id h = none-some id h
+no_name (replies.Stat d) k id h = none-some id h
+no_name Done k id h = none-some id h
+no_name (Refused e) k id h = none-some id h
+
+by_done : (reply : Reply) (k id : ℕ) → removed_by reply (pos k) ≡ Some id → (k ≡ id) × (reply ≡ Done)
+by_done (Id i) k id h = absurd (none-some id h)
+by_done (Addr a) k id h = absurd (none-some id h)
+by_done (Bytes b) k id h = absurd (none-some id h)
+by_done (Number m) k id h = absurd (none-some id h)
+by_done (replies.Stat d) k id h = absurd (none-some id h)
+by_done Done k id h = (cc h, refl)
+by_done (Refused e) k id h = absurd (none-some id h)
+
+pub removed-call : (call : Call) (reply : Reply) (id : ℕ) → removed call reply ≡ Some id → (call ≡ Rmid (pos id)) × (reply ≡ Done)
+removed-call (Rmid (pos k)) reply id h = let d = by_done reply k id h in (ap (λ m. Rmid (pos m)) d.0, d.1)
+removed-call (Rmid (negsuc k)) reply id h = absurd (no_name reply k id h)
+removed-call (Shmget key size mode flags) reply id h = absurd (none-some id h)
+removed-call (Shmat z addr flags) reply id h = absurd (none-some id h)
+removed-call (Shmdt addr) reply id h = absurd (none-some id h)
+removed-call (Stat z) reply id h = absurd (none-some id h)
+removed-call (Set z uid gid mode) reply id h = absurd (none-some id h)
+removed-call (Lock z) reply id h = absurd (none-some id h)
+removed-call (Unlock z) reply id h = absurd (none-some id h)
+removed-call (Load a len) reply id h = absurd (none-some id h)
+removed-call (Store a bytes) reply id h = absurd (none-some id h)
+removed-call (Xadd a add) reply id h = absurd (none-some id h)
+removed-call (Fork child) reply id h = absurd (none-some id h)
+removed-call Exec reply id h = absurd (none-some id h)
+removed-call Exit reply id h = absurd (none-some id h)
+removed-call (Swapoff area) reply id h = absurd (none-some id h)
+
+-- WHAT IS KEPT
+
+-- what is marked has a piece, and who is not born has none
+pub record IsSound (s : Machine) : Type 0 where
+  pub orphans : (i : ℕ) → i < 32768 → orphan s.runners s.table i ≡ false
+  pub bare : Bare s.runners
+
+abbrev pub names : Option ℕ → ℕ → Bool
+names None id = false
+names (Some n) id = n == id
+
+-- a segment that stood: it is swept as it is now, which is as it was but for a mark
+pub record Stays (i : ℕ) (rs : List Runner) (b : Bool) (d : ℕ) (x : Segment) (after : Option Entry) : Type 0 where
+  pub now : Segment
+  pub same : IsSame x now
+  pub dest : now.dest ≡ (b || x.dest)
+  pub at : after ≡ Some (swept_at i rs d (Some now))
+
+-- a new one
+pub record IsNew (d : ℕ) (after : Option Entry) : Type 0 where
+  pub now : Segment
+  pub dest : now.dest ≡ false
+  pub at : after ≡ holds d now
+
+left-less : (b : Bool) (m k : ℕ) → b && (m == 0) ≡ false → m ≤ k → b && (k == 0) ≡ false
+left-less false m k h le = refl
+left-less true m k h le =
+    elim (cases_eq k 0) [
+      | inl z ↦ (let none : m ≡ 0 = omega (arith, z, le) in absurd (true≢false (sym (eq-eqb m 0 none) ∙ h)))
+      | inr apart ↦ ne_eqb k 0 apart
+    ]
+
+pub not-left : (i : ℕ) (rs : List Runner) (d : ℕ) (y : Segment) → y.dest && (attach_count rs (identifier i d) == 0) ≡ false → holds d y ≡ Some (swept_at i rs d (Some y))
+not-left i rs d y h = rw h refl
+
+stays-same : (s t : Machine) (i d : ℕ) (x y : Segment) → orphan s.runners s.table i ≡ false → slice_get s.table i ≡ holds d x → IsSame x y → y.dest ≡ x.dest
+    → ((id : ℕ) → attach_count s.runners id ≤ attach_count t.runners id) → slice_get t.table i ≡ holds d y → Stays i t.runners false d x (slice_get t.table i)
+stays-same s t i d x y none is same dest grows at =
+    let was : x.dest && (attach_count s.runners (identifier i d) == 0) ≡ false = rw is at none in
+    let now : y.dest && (attach_count t.runners (identifier i d) == 0) ≡ false = rw dest (left-less x.dest _ _ was (grows (identifier i d))) in
+    record { now = y; same = same; dest = dest; at = at ∙ not-left i t.runners d y now }
+
+turned-empty : (f : Segment → Segment) (d : ℕ) (o : Option Entry) → IsEmpty d o → option_map (with_entry f) o ≡ o
+turned-empty f d o (inl h) = rw h refl
+turned-empty f d o (inr h) = rw h.0 refl
+
+swept-empty : (i : ℕ) (rs : List Runner) (d : ℕ) (o : Option Entry) → IsEmpty d o → option_map (swept_entry i rs) o ≡ o
+swept-empty i rs d o (inl h) = rw h refl
+swept-empty i rs d o (inr h) = rw h.0 refl
+
+same-count : (d e : ℕ) (o : Option Entry) → IsEmpty d o → IsEmpty e o → d ≡ e
+same-count d e o (inl a) (inl b) = ap destroyed_in (sym a ∙ b)
+same-count d e o (inl a) (inr b) = absurd (none-some _ (sym b.0 ∙ a))
+same-count d e o (inr a) (inl b) = absurd (none-some _ (sym a.0 ∙ b))
+same-count d e o (inr a) (inr b) = a.1 ∙ sym b.1
+
+-- what is swept is no orphan
+swept-sound : (i : ℕ) (rs : List Runner) (d : ℕ) (y : Segment) → orphan_in i rs (Some (swept_at i rs d (Some y))) ≡ false
+swept-sound i rs d y =
+    elim (cases_Bool (y.dest && (attach_count rs (identifier i d) == 0))) [
+      | inl h ↦ rw h refl
+      | inr h ↦ rw h h
+    ]
+
+module _ (s t : Machine) (sound : IsSound s) (i : ℕ) (small : i < 32768) where
+  stays-still : (d : ℕ) (x : Segment) → StillTo s t → slice_get s.table i ≡ holds d x → Stays i t.runners false d x (slice_get t.table i)
+  stays-still d x k is =
+      let u = k.turned i in
+      stays-same s t i d x (u.turn x) (sound.orphans i small) is (u.same x) (u.dest x) k.grows (u.at ∙ ap (option_map (with_entry u.turn)) is)
+
+  stays-swept : (d : ℕ) (x : Segment) → SweepTo s t → slice_get s.table i ≡ holds d x → Stays i t.runners false d x (slice_get t.table i)
+  stays-swept d x k is =
+      let u = k.turned i in
+      record {
+        now = u.turn x;
+        same = u.same x;
+        dest = u.dest x;
+        at = ap (λ (es : List Entry). slice_get es i) k.table ∙ swept-get t.runners k.middle i ∙ ap (option_map (swept_entry i t.runners)) (u.at ∙ ap (option_map (with_entry u.turn)) is);
+      }
+
+  holds-empty : (d e : ℕ) (x : Segment) (o : Option Entry) → o ≡ holds d x → IsEmpty e o → ⊥
+  holds-empty d e x o is (inl h) = none-some x (ap segment_in (sym h ∙ is))
+  holds-empty d e x o is (inr h) = none-some _ (sym h.0 ∙ is)
+
+  stays-made : (d : ℕ) (x : Segment) → MakeTo s t → slice_get s.table i ≡ holds d x → Stays i t.runners false d x (slice_get t.table i)
+  stays-made d x k is =
+      let m = made-at s.table k.index k.segment k.free in
+      elim (cases_eq k.index i) [
+        | inl h ↦ absurd (holds-empty d m.destroyed x (slice_get s.table k.index) (rw h is) m.empty)
+        | inr apart ↦
+            stays-same s t i d x x (sound.orphans i small) is (same_refl x) refl (λ id. rw k.runners (omega arith))
+            (ap (λ (es : List Entry). slice_get es i) k.table ∙ m.there i apart ∙ is)
+      ]
+
+  marked-at : (id d : ℕ) (x : Segment) → id % 32768 ≡ i → slice_get s.table i ≡ holds d x → slice_get (change s.table (id % 32768) marked) i ≡ holds d (marked x)
+  marked-at id d x here is =
+      let twice : (id % 32768) % 32768 ≡ i = omega (arith, here) in
+      rw twice (set_in-here s.table i (with_entry marked) (slice_get s.table i) refl ∙ ap (option_map (with_entry marked)) is)
+
+  stays-removed : (d : ℕ) (x : Segment) (id : ℕ) → RemoveTo s t id → slice_get s.table i ≡ holds d x → Stays i t.runners (id == identifier i d) d x (slice_get t.table i)
+  stays-removed d x id k is = by (cases_eq (id % 32768) i)
+    where
+      after : slice_get t.table i ≡ option_map (swept_entry i t.runners) (slice_get (change s.table (id % 32768) marked) i)
+      after = rw k.runners (ap (λ (es : List Entry). slice_get es i) k.table ∙ swept-get s.runners (change s.table (id % 32768) marked) i)
+
+      by : (id % 32768 ≡ i) ⊎ (id % 32768 ≢ i) → Stays i t.runners (id == identifier i d) d x (slice_get t.table i)
+      by (inl here) =
+          let there : holds (id / 32768) k.segment ≡ holds d x = sym (stays-found) ∙ is in
+          let count : id / 32768 ≡ d = ap destroyed_in there in
+          let own : id ≡ identifier i d = omega (arith, here, count) in
+          rw (eq-eqb id (identifier i d) own)
+          (record {
+            now = marked x;
+            same = record { size = refl; cpid = refl; cuid = refl; cgid = refl };
+            dest = refl;
+            at = after ∙ ap (option_map (swept_entry i t.runners)) (marked-at id d x here is);
+          })
+        where
+          stays-found : slice_get s.table i ≡ holds (id / 32768) k.segment
+          stays-found = rw here at (stands-at s.table id k.segment k.found)
+      by (inr apart) =
+          let other : id ≢ identifier i d = λ same. apart (omega (arith, same, small)) in
+          let twice : (id % 32768) % 32768 ≢ i = λ same. apart (omega (arith, same)) in
+          rw (ne_eqb id (identifier i d) other)
+          (record {
+            now = x;
+            same = same_refl x;
+            dest = refl;
+            at = after ∙ ap (option_map (swept_entry i t.runners)) (set_in-there s.table _ i (with_entry marked) _ twice ∙ is);
+          })
+
+  -- a segment that stood
+  pub stays : (r : Option ℕ) (d : ℕ) (x : Segment) → Kind s r t → slice_get s.table i ≡ holds d x → Stays i t.runners (names r (identifier i d)) d x (slice_get t.table i)
+  stays r d x (inl (none, inl k)) is = rw none (stays-still d x k is)
+  stays r d x (inl (none, inr (inl k))) is = rw none (stays-swept d x k is)
+  stays r d x (inl (none, inr (inr k))) is = rw none (stays-made d x k is)
+  stays r d x (inr k) is = rw k.named (stays-removed d x k.id k.removes is)
+
+  -- an index that held no segment
+  pub comes : (r : Option ℕ) (d : ℕ) (o : Option Entry) → Kind s r t → slice_get s.table i ≡ o → IsEmpty d o → (slice_get t.table i ≡ o) ⊎ IsNew d (slice_get t.table i)
+  comes r d o (inl (none, inl k)) is empty = inl ((k.turned i).at ∙ ap (option_map (with_entry (k.turned i).turn)) is ∙ turned-empty (k.turned i).turn d o empty)
+  comes r d o (inl (none, inr (inl k))) is empty =
+      inl (ap (λ (es : List Entry). slice_get es i) k.table ∙ swept-get t.runners k.middle i
+      ∙ ap (option_map (swept_entry i t.runners)) ((k.turned i).at ∙ ap (option_map (with_entry (k.turned i).turn)) is ∙ turned-empty (k.turned i).turn d o empty)
+      ∙ swept-empty i t.runners d o empty)
+  comes r d o (inl (none, inr (inr k))) is empty =
+      let m = made-at s.table k.index k.segment k.free in
+      let table = ap (λ (es : List Entry). slice_get es i) k.table in
+      elim (cases_eq k.index i) [
+        | inl h ↦
+            (let count : m.destroyed ≡ d = same-count m.destroyed d o (subst (IsEmpty m.destroyed) (ap (slice_get s.table) h ∙ is) m.empty) empty in
+            inr (record { now = k.segment; dest = k.fresh; at = table ∙ sym (ap (slice_get (with_segment s.table k.index k.segment)) h) ∙ m.here ∙ ap (λ c. holds c k.segment) count }))
+        | inr apart ↦ inl (table ∙ m.there i apart ∙ is)
+      ]
+  comes r d o (inr k) is empty =
+      inl (ap (λ (es : List Entry). slice_get es i) k.removes.table ∙ swept-get s.runners (change s.table (k.id % 32768) marked) i
+      ∙ ap (option_map (swept_entry i s.runners)) (marked-empty (cases_eq ((k.id % 32768) % 32768) i)) ∙ swept-empty i s.runners d o empty)
+    where
+      marked-empty : (((k.id % 32768) % 32768) ≡ i) ⊎ (((k.id % 32768) % 32768) ≢ i) → slice_get (change s.table (k.id % 32768) marked) i ≡ o
+      marked-empty (inl h) = rw h (set_in-here s.table i (with_entry marked) (slice_get s.table i) refl ∙ ap (option_map (with_entry marked)) is ∙ turned-empty marked d o empty)
+      marked-empty (inr apart) = set_in-there s.table _ i (with_entry marked) _ apart ∙ is
+
+  -- WHAT IS KEPT STAYS SO
+
+  stays-sound : (b : Bool) (d : ℕ) (x : Segment) → Stays i t.runners b d x (slice_get t.table i) → orphan t.runners t.table i ≡ false
+  stays-sound b d x k = ap (orphan_in i t.runners) k.at ∙ swept-sound i t.runners d k.now
+
+  new-sound : (d : ℕ) → IsNew d (slice_get t.table i) → orphan t.runners t.table i ≡ false
+  new-sound d k = ap (orphan_in i t.runners) k.at ∙ rw k.dest refl
+
+  orphan-after : (r : Option ℕ) → Kind s r t → (o : Option Entry) → slice_get s.table i ≡ o → orphan t.runners t.table i ≡ false
+  orphan-after r k None is = either (comes r 0 None k is (inr (refl, refl)))
+    where
+      either : (slice_get t.table i ≡ None) ⊎ IsNew 0 (slice_get t.table i) → orphan t.runners t.table i ≡ false
+      either (inl h) = ap (orphan_in i t.runners) h
+      either (inr h) = new-sound 0 h
+  orphan-after r k (Some e) is = in_entry e.destroyed e.segment is
+    where
+      in_entry : (d : ℕ) (p : Option Segment) → slice_get s.table i ≡ Some (record { destroyed = d; segment = p }) → orphan t.runners t.table i ≡ false
+      in_entry d (Some x) is = stays-sound (names r (identifier i d)) d x (stays r d x k is)
+      in_entry d None is = either (comes r d (bare_entry d) k is (inl refl))
+        where
+          either : (slice_get t.table i ≡ bare_entry d) ⊎ IsNew d (slice_get t.table i) → orphan t.runners t.table i ≡ false
+          either (inl h) = ap (orphan_in i t.runners) h
+          either (inr h) = new-sound d h
+
+bare-after : (s t : Machine) (r : Option ℕ) → Kind s r t → Bare s.runners → Bare t.runners
+bare-after s t r (inl (none, inl k)) bare = k.bare bare
+bare-after s t r (inl (none, inr (inl k))) bare = k.bare bare
+bare-after s t r (inl (none, inr (inr k))) bare = rw k.runners bare
+bare-after s t r (inr k) bare = rw k.removes.runners bare
+
+pub sound-after : (s t : Machine) (r : Option ℕ) → Kind s r t → IsSound s → IsSound t
+sound-after s t r k sound =
+    record { orphans = λ i small. orphan-after s t sound i small r k (slice_get s.table i) refl; bare = bare-after s t r k sound.bare }

@@ -1,0 +1,105 @@
+-- Where a new segment goes: to an index that holds none.
+use Rattle.std.proofs.Common.{◌≡◌, ◌≢◌, ◌⊎◌, ℕ, suc, zero, ◌+◌, ◌&&◌, true, false, nat_lt, is_none, List, [], ◌∷◌, ◌++◌, length, Option, Some, None, slice_get, refl, sym, ap, ◌∙◌, inl, inr, arith, eq-eqb, ne_eqb, true≢false}
+use Rattle.std.proofs.lemmas.Bool.{cases_Bool, cases_eq}
+use Rattle.std.proofs.lemmas.Option.{none-some}
+use Rattle.shm_base.specs.State.{Segment, Entry}
+use Rattle.shm_base.specs.Identifier.{free_from, free_index, destroyed_at, destroyed_in, with_segment}
+use Rattle.shm_segments.proofs.Entries.{get-set_same, get-set_other}
+
+-- an entry with no segment, or the place behind the last
+abbrev pub IsEmpty : ℕ → Option Entry → Type 0
+IsEmpty d o = (o ≡ Some (record { destroyed = d; segment = None })) ⊎ ((o ≡ None) × (d ≡ 0))
+
+pub record FreeAt (n j : ℕ) (t : List Entry) : Type 0 where
+  pub place : ℕ
+  pub at : n + place ≡ j
+  pub end : (place ≡ length t) ⊎ ((d : ℕ) × (slice_get t place ≡ Some (record { destroyed = d; segment = None })))
+
+entry-bare : (e : Entry) → is_none e.segment && nat_lt e.destroyed 65536 ≡ true → e ≡ record { destroyed = e.destroyed; segment = None }
+entry-bare e h = by e.segment refl h
+  where
+    by : (o : Option Segment) → e.segment ≡ o → is_none o && nat_lt e.destroyed 65536 ≡ true → e ≡ record { destroyed = e.destroyed; segment = None }
+    by None is h = ap (λ (p : Option Segment). record { destroyed = e.destroyed; segment = p }) is
+    by (Some x) is h = absurd (true≢false (sym h))
+
+end-found : (n j : ℕ) → free_from n [] ≡ Some j → n ≡ j
+end-found n j h =
+    elim (cases_Bool (nat_lt n 32768)) [
+      | inl b ↦ (let same : Some n ≡ Some j = rw b at h in cc same)
+      | inr b ↦ absurd (none-some j (rw b at h))
+    ]
+
+pub free_found : (n j : ℕ) (t : List Entry) → free_from n t ≡ Some j → FreeAt n j t
+free_found n j [] h = record { place = 0; at = let same = end-found n j h in omega (arith, same); end = inl refl }
+free_found n j (e ∷ es) h = by (cases_Bool (is_none e.segment && nat_lt e.destroyed 65536)) (free_found (n + 1) j es)
+  where
+    by : (is_none e.segment && nat_lt e.destroyed 65536 ≡ true) ⊎ (is_none e.segment && nat_lt e.destroyed 65536 ≡ false) → (free_from (n + 1) es ≡ Some j → FreeAt (n + 1) j es) → FreeAt n j (e ∷ es)
+    by (inl b) more =
+        let same : Some n ≡ Some j = rw b at h in
+        let is : n ≡ j = cc same in
+        record { place = 0; at = omega (arith, is); end = inr (e.destroyed, ap (λ (x : Entry). Some x) (entry-bare e b)) }
+    by (inr b) more =
+        let f = more (rw b at h) in
+        record { place = suc f.place; at = omega (arith, f.at); end = ends f.end }
+      where
+        ends : {k : ℕ} → (k ≡ length es) ⊎ ((d : ℕ) × (slice_get es k ≡ Some (record { destroyed = d; segment = None }))) → (suc k ≡ suc (length es)) ⊎ ((d : ℕ) × (slice_get es k ≡ Some (record { destroyed = d; segment = None })))
+        ends (inl x) = inl (ap suc x)
+        ends (inr x) = inr x
+
+snoc-last : (t : List Entry) (e : Entry) → slice_get (t ++ e ∷ []) (length t) ≡ Some e
+snoc-last [] e = refl
+snoc-last (x ∷ xs) e = snoc-last xs e
+
+snoc-other : (t : List Entry) (e : Entry) (j : ℕ) → j ≢ length t → slice_get (t ++ e ∷ []) j ≡ slice_get t j
+snoc-other [] e zero apart = absurd (apart refl)
+snoc-other [] e (suc j) apart = refl
+snoc-other (x ∷ xs) e zero apart = refl
+snoc-other (x ∷ xs) e (suc j) apart = snoc-other xs e j (λ k. apart (ap suc k))
+
+behind : (t : List Entry) → slice_get t (length t) ≡ None
+behind [] = refl
+behind (x ∷ xs) = behind xs
+
+-- another index keeps what it has, and the free one gets the segment
+pub record MadeAt (t : List Entry) (i : ℕ) (x : Segment) : Type 0 where
+  pub destroyed : ℕ
+  pub empty : IsEmpty destroyed (slice_get t i)
+  pub count : destroyed_at t i ≡ destroyed
+  pub here : slice_get (with_segment t i x) i ≡ Some (record { destroyed = destroyed; segment = Some x })
+  pub there : (j : ℕ) → i ≢ j → slice_get (with_segment t i x) j ≡ slice_get t j
+
+made-end : (t : List Entry) (i : ℕ) (x : Segment) → i ≡ length t → MadeAt t i x
+made-end t i x is =
+    let none : slice_get t i ≡ None = rw is (behind t) in
+    record {
+      destroyed = 0;
+      empty = inr (none, refl);
+      count = ap destroyed_in none;
+      here = rw (eq-eqb i (length t) is, is) (snoc-last t (record { destroyed = 0; segment = Some x }));
+      there = λ j apart. rw (eq-eqb i (length t) is) (snoc-other t (record { destroyed = 0; segment = Some x }) j (λ k. apart (is ∙ sym k)));
+    }
+
+made-within : (t : List Entry) (i d : ℕ) (x : Segment) → i ≢ length t → slice_get t i ≡ Some (record { destroyed = d; segment = None }) → MadeAt t i x
+made-within t i d x apart is =
+    let count : destroyed_at t i ≡ d = ap destroyed_in is in
+    record {
+      destroyed = d;
+      empty = inl is;
+      count = count;
+      here = rw (ne_eqb i (length t) apart) (get-set_same t i (record { destroyed = destroyed_at t i; segment = Some x }) _ is ∙ ap (λ (n : ℕ). Some (record { destroyed = n; segment = Some x })) count);
+      there = λ j other. rw (ne_eqb i (length t) apart) (get-set_other t i j (record { destroyed = destroyed_at t i; segment = Some x }) other);
+    }
+
+pub made-at : (t : List Entry) (i : ℕ) (x : Segment) → free_index t ≡ Some i → MadeAt t i x
+made-at t i x free = by f.end (cases_eq i (length t))
+  where
+    f : FreeAt 0 i t
+    f = free_found 0 i t free
+
+    place : f.place ≡ i
+    place = omega (arith, f.at)
+
+    by : (f.place ≡ length t) ⊎ ((d : ℕ) × (slice_get t f.place ≡ Some (record { destroyed = d; segment = None }))) → (i ≡ length t) ⊎ (i ≢ length t) → MadeAt t i x
+    by (inl e) other = made-end t i x (sym place ∙ e)
+    by (inr e) (inl k) = made-end t i x k
+    by (inr e) (inr apart) = made-within t i e.0 x apart (rw place at e.1)

@@ -1,0 +1,10 @@
+pub mod Replaying
+pub mod Computing
+pub mod Turning
+pub mod Fresh
+pub mod Looks
+pub mod Stepping
+pub mod Fates
+pub mod Removing
+pub mod Naming
+pub mod Piecing

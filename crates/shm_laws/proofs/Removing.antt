@@ -1,0 +1,151 @@
+-- Each move destroys what is due, and what is marked has a piece.
+use Rattle.std.proofs.Common.{◌≡◌, ◌⊎◌, ℕ, suc, zero, ◌+◌, ◌/◌, ◌%◌, ◌≤◌, ◌==◌, ◌&&◌, ◌||◌, pos, Bool, true, false, List, [], ◌∷◌, map, Option, Some, None, slice_get, refl, sym, ap, subst, ◌∙◌, inl, inr, arith, eq-eqb, true≢false}
+use Rattle.std.proofs.lemmas.Bool.{cases_Bool, cases_eq, eqb-true}
+use Rattle.std.proofs.lemmas.Option.{none-some}
+use Rattle.shm_base.specs.declared.call.Process.{Process}
+use Rattle.shm_base.specs.declared.call.Event.{Event}
+use Rattle.shm_base.specs.State.{Segment, Runner, Machine, Opening, start_of, runner_at_start}
+use Rattle.shm_base.specs.Identifier.{identifier, look}
+use Rattle.shm_base.specs.Segments.{attach_count}
+use Rattle.shm_base.specs.History.{IsMove, LeadsFrom, IsHistory}
+use Rattle.shm_segments.specs.Left.{orphan_in}
+use Rattle.shm_life.proofs.Sweeping.{left-parts}
+use Rattle.shm_laws.specs.Standing.{Stands, IsGone, MovesBy}
+use Rattle.shm_laws.specs.Identity.{IsSame}
+use Rattle.shm_laws.specs.Removal.{MarkedHavePieces, IsDue, DestroysWhatIsDue, GoesWhenItMust}
+use Rattle.shm_laws.proofs.Looks.{stands-at, at-stands, at-gone, not-both}
+use Rattle.shm_laws.proofs.Stepping.{Bare, Kind, removed}
+use Rattle.shm_laws.proofs.Fates.{IsSound, names, Stays, stays, sound-after, kind-move, removed-call}
+
+-- WHERE A MACHINE STARTS
+
+bare-start : (ps : List Process) → Bare (map runner_at_start ps)
+bare-start [] k r is u = absurd (none-some r is)
+bare-start (p ∷ ps) zero r is u = let same : runner_at_start p ≡ r = cc is in ap (λ (q : Runner). q.pieces) (sym same)
+bare-start (p ∷ ps) (suc k) r is u = bare-start ps k r is u
+
+pub sound-start : (o : Opening) → IsSound (start_of o)
+sound-start o = record { orphans = λ i small. refl; bare = bare-start o.processes }
+
+-- WHAT IS MARKED
+
+some-piece : (b : Bool) (n : ℕ) → b && (n == 0) ≡ false → b ≡ true → 1 ≤ n
+some-piece b n h marked =
+    elim (cases_eq n 0) [
+      | inl z ↦ absurd (true≢false (sym (rw (marked, eq-eqb n 0 z) refl) ∙ h))
+      | inr apart ↦ omega (arith, apart)
+    ]
+
+pub marked-pieces : (s : Machine) → IsSound s → MarkedHavePieces s
+marked-pieces s sound id x stands dest =
+    let is = stands-at s.table id x stands in
+    let own : identifier (id % 32768) (id / 32768) ≡ id = omega arith in
+    let none : x.dest && (attach_count s.runners (identifier (id % 32768) (id / 32768)) == 0) ≡ false =
+    sym (ap (orphan_in (id % 32768) s.runners) is) ∙ sound.orphans (id % 32768) (omega arith) in
+    some-piece x.dest (attach_count s.runners id) (rw own at none) dest
+
+-- ONE SEGMENT IN ONE MOVE
+
+module _ (s t : Machine) (e : Event) (sound : IsSound s) (k : Kind s (removed e.call e.reply) t) (id : ℕ) (x : Segment) (stood : Stands s id x) where
+  own : identifier (id % 32768) (id / 32768) ≡ id
+  own = omega arith
+
+  after : Stays (id % 32768) t.runners (names (removed e.call e.reply) (identifier (id % 32768) (id / 32768))) (id / 32768) x (slice_get t.table (id % 32768))
+  after = stays s t sound (id % 32768) (omega arith) (removed e.call e.reply) (id / 32768) x k (stands-at s.table id x stood)
+
+  by_name : names (removed e.call e.reply) id ≡ true → removed e.call e.reply ≡ Some id
+  by_name h = at (removed e.call e.reply) refl h
+    where
+      at : (r : Option ℕ) → removed e.call e.reply ≡ r → names r id ≡ true → removed e.call e.reply ≡ Some id
+      at None is h = absurd (true≢false (sym h))
+      at (Some n) is h = is ∙ ap (λ m. Some m) (eqb-true n id h)
+
+  pub same-runners : removed e.call e.reply ≡ Some id → t.runners ≡ s.runners
+  same-runners h = at k
+    where
+      at : Kind s (removed e.call e.reply) t → t.runners ≡ s.runners
+      at (inl (none, q)) = absurd (none-some id (sym none ∙ h))
+      at (inr q) = q.removes.runners
+
+  -- it is swept
+  abbrev goes : Bool
+  goes = after.now.dest && (attach_count t.runners (identifier (id % 32768) (id / 32768)) == 0)
+
+  stands-on : goes ≡ false → Stands t id after.now
+  stands-on h = at-stands t.table id after.now (after.at ∙ rw h refl)
+
+  goes-now : goes ≡ true → IsGone t id
+  goes-now h = at-gone t.table id (id / 32768 + 1) None (after.at ∙ rw h refl) (omega arith)
+
+  due : goes ≡ true → IsDue s e t id x
+  due h =
+      let parts = left-parts after.now.dest _ h in
+      let none : attach_count t.runners id ≡ 0 = rw own at parts.1 in
+      by none (after.dest ∙ ap (λ m. names (removed e.call e.reply) m || x.dest) own) parts.0 (cases_Bool (names (removed e.call e.reply) id))
+    where
+      by : attach_count t.runners id ≡ 0 → after.now.dest ≡ (names (removed e.call e.reply) id || x.dest) → after.now.dest ≡ true
+          → (names (removed e.call e.reply) id ≡ true) ⊎ (names (removed e.call e.reply) id ≡ false) → IsDue s e t id x
+      by none dest marked (inl named) =
+          let r = by_name named in
+          let c = removed-call e.call e.reply id r in
+          inl (record { call = c.0; reply = c.1; bare = ap (λ rs. attach_count rs id) (sym (same-runners r)) ∙ none })
+      by none dest marked (inr other) =
+          let old : x.dest ≡ true = ap (λ b. b || x.dest) (sym other) ∙ sym dest ∙ marked in
+          inr (record { marked = old; before = marked-pieces s sound id x stood old; after = none })
+
+  pub just : IsGone t id → IsDue s e t id x
+  just gone =
+      elim (cases_Bool goes) [
+        | inl h ↦ due h
+        | inr h ↦ absurd (not-both (look t.table (pos id)) (id % 32768) after.now gone (stands-on h))
+      ]
+
+  goes-by : after.now.dest ≡ true → attach_count t.runners id ≡ 0 → goes ≡ true
+  goes-by dest none = rw (dest, own) (eq-eqb _ 0 none)
+
+  pub must : IsDue s e t id x → IsGone t id
+  must (inl d) =
+      let r : removed e.call e.reply ≡ Some id = rw (d.call, d.reply) refl in
+      let named : names (removed e.call e.reply) (identifier (id % 32768) (id / 32768)) ≡ true = rw (own, r) (eq-eqb id id refl) in
+      goes-now (goes-by (after.dest ∙ ap (λ b. b || x.dest) named) (ap (λ rs. attach_count rs id) (same-runners r) ∙ d.bare))
+  must (inr d) =
+      goes-now (goes-by (after.dest ∙ or-true (names (removed e.call e.reply) (identifier (id % 32768) (id / 32768))) x.dest d.marked) d.after)
+    where
+      or-true : (a b : Bool) → b ≡ true → (a || b) ≡ true
+      or-true true b h = refl
+      or-true false b h = h
+
+  -- what stood stands on as the same segment, or is gone
+  pub stands-or-gone : ((y : Segment) × Stands t id y × IsSame x y) ⊎ IsGone t id
+  stands-or-gone =
+      elim (cases_Bool goes) [
+        | inl h ↦ inr (goes-now h)
+        | inr h ↦ inl (after.now, stands-on h, after.same)
+      ]
+
+-- WHOLE HISTORIES
+
+one_move : (s : Machine) (n : ℕ) (e : Event) (t : Machine) → IsSound s → IsMove s n e t → IsSound t × DestroysWhatIsDue s e t
+one_move s n e t sound m =
+    let k = kind-move s n e t sound.bare m in
+    let next = sound-after s t (removed e.call e.reply) k sound in (
+      next,
+      record {
+        just = λ id x stood gone. just s t e sound k id x stood gone;
+        must = λ id x stood due. must s t e sound k id x stood due;
+        marked = marked-pieces t next;
+      },
+    )
+
+all_moves : (n : ℕ) (s : Machine) (es : List Event) (t : Machine) → IsSound s → LeadsFrom n s es t → IsSound t × MovesBy DestroysWhatIsDue n s es t
+all_moves n s [] t sound h = (subst IsSound (sym h) sound, h)
+all_moves n s (e ∷ es) t sound h =
+    let one = one_move s n e h.0 sound h.1 in
+    let more = all_moves (n + 1) h.0 es t one.0 h.2 in
+    (more.0, (h.0, h.1, one.1, more.1))
+
+-- of every legal history
+pub goes_when_it_must : (o : Opening) (events : List Event) (end : Machine) → IsHistory o events end → GoesWhenItMust o events end
+goes_when_it_must o events end h =
+    let all = all_moves 1 (start_of o) events end (sound-start o) h in
+    record { moves = all.1; marked = marked-pieces end all.0 }

@@ -1,0 +1,104 @@
+-- Changes of a table that keep what a segment was made as, and its mark.
+use Rattle.std.proofs.Common.{◌≡◌, ◌≢◌, ◌⊎◌, ℕ, suc, zero, ◌+◌, ◌%◌, List, [], ◌∷◌, Option, Some, None, slice_get, refl, sym, ap, ◌∙◌, inl, inr, arith}
+use Rattle.std.specs.Prelude.{option_map}
+use Rattle.std.proofs.lemmas.Bool.{cases_eq}
+use Rattle.shm_base.specs.State.{Segment, Entry, Runner}
+use Rattle.shm_base.specs.Access.{Place, set_in, with_byte, byte_set, stored}
+use Rattle.shm_base.specs.Segments.{change, with_entry, detached, detach_all, swept_at, swept_from, swept}
+use Rattle.shm_laws.specs.Identity.{IsSame}
+use Rattle.shm_segments.proofs.Entries.{get-set_same, get-set_other}
+
+pub same_refl : (x : Segment) → IsSame x x
+same_refl x = record { size = refl; cpid = refl; cuid = refl; cgid = refl }
+
+pub same_trans : (x y z : Segment) → IsSame x y → IsSame y z → IsSame x z
+same_trans x y z a b = record { size = b.size ∙ a.size; cpid = b.cpid ∙ a.cpid; cuid = b.cuid ∙ a.cuid; cgid = b.cgid ∙ a.cgid }
+
+-- what stands at an index is changed so
+pub record Turned (t u : List Entry) (i : ℕ) : Type 0 where
+  pub turn : Segment → Segment
+  pub same : (x : Segment) → IsSame x (turn x)
+  pub dest : (x : Segment) → (turn x).dest ≡ x.dest
+  pub at : slice_get u i ≡ option_map (with_entry turn) (slice_get t i)
+
+map-none : (o : Option Segment) → option_map (λ x. x) o ≡ o
+map-none None = refl
+map-none (Some x) = refl
+
+entry-none : (o : Option Entry) → option_map (with_entry (λ x. x)) o ≡ o
+entry-none None = refl
+entry-none (Some e) = ap (λ (p : Option Segment). Some (record { destroyed = e.destroyed; segment = p })) (map-none e.segment)
+
+map-twice : (f g : Segment → Segment) (o : Option Segment) → option_map g (option_map f o) ≡ option_map (λ x. g (f x)) o
+map-twice f g None = refl
+map-twice f g (Some x) = refl
+
+entry-twice : (f g : Segment → Segment) (o : Option Entry) → option_map (with_entry g) (option_map (with_entry f) o) ≡ option_map (with_entry (λ x. g (f x))) o
+entry-twice f g None = refl
+entry-twice f g (Some e) = ap (λ (p : Option Segment). Some (record { destroyed = e.destroyed; segment = p })) (map-twice f g e.segment)
+
+pub turned-as : (t u : List Entry) (i : ℕ) → slice_get u i ≡ slice_get t i → Turned t u i
+turned-as t u i is = record { turn = λ x. x; same = same_refl; dest = λ x. refl; at = is ∙ sym (entry-none (slice_get t i)) }
+
+pub turned-refl : (t : List Entry) (i : ℕ) → Turned t t i
+turned-refl t i = turned-as t t i refl
+
+pub turned-trans : (t u v : List Entry) (i : ℕ) → Turned t u i → Turned u v i → Turned t v i
+turned-trans t u v i a b =
+    record {
+      turn = λ x. b.turn (a.turn x);
+      same = λ x. same_trans x (a.turn x) (b.turn (a.turn x)) (a.same x) (b.same (a.turn x));
+      dest = λ x. b.dest (a.turn x) ∙ a.dest x;
+      at = b.at ∙ ap (option_map (with_entry b.turn)) a.at ∙ entry-twice a.turn b.turn (slice_get t i);
+    }
+
+-- ONE ENTRY
+
+pub set_in-here : (t : List Entry) (k : ℕ) (g : Entry → Entry) (o : Option Entry) → slice_get t k ≡ o → slice_get (set_in t k g o) k ≡ option_map g o
+set_in-here t k g None is = is
+set_in-here t k g (Some e) is = get-set_same t k (g e) e is
+
+pub set_in-there : (t : List Entry) (k i : ℕ) (g : Entry → Entry) (o : Option Entry) → k ≢ i → slice_get (set_in t k g o) i ≡ slice_get t i
+set_in-there t k i g None apart = refl
+set_in-there t k i g (Some e) apart = get-set_other t k i (g e) apart
+
+module _ (f : Segment → Segment) (same : (x : Segment) → IsSame x (f x)) (dest : (x : Segment) → (f x).dest ≡ x.dest) where
+  pub turned-in : (t : List Entry) (k i : ℕ) → Turned t (set_in t k (with_entry f) (slice_get t k)) i
+  turned-in t k i = by (cases_eq k i)
+    where
+      by : (k ≡ i) ⊎ (k ≢ i) → Turned t (set_in t k (with_entry f) (slice_get t k)) i
+      by (inl h) = rw (← h) (record { turn = f; same = same; dest = dest; at = set_in-here t k (with_entry f) (slice_get t k) refl })
+      by (inr apart) = turned-as t (set_in t k (with_entry f) (slice_get t k)) i (set_in-there t k i (with_entry f) (slice_get t k) apart)
+
+  pub turned-change : (t : List Entry) (id i : ℕ) → Turned t (change t id f) i
+  turned-change t id i = turned-in t (id % 32768) i
+
+-- MANY
+
+pub turned-detach : (n pid : ℕ) (ids : List ℕ) (t : List Entry) (i : ℕ) → Turned t (detach_all n pid t ids) i
+turned-detach n pid [] t i = turned-refl t i
+turned-detach n pid (id ∷ ids) t i =
+    turned-trans t (change t id (detached n pid)) (detach_all n pid (change t id (detached n pid)) ids) i
+    (turned-change (detached n pid) (λ x. record { size = refl; cpid = refl; cuid = refl; cgid = refl }) (λ x. refl) t id i)
+    (turned-detach n pid ids (change t id (detached n pid)) i)
+
+pub turned-stored : (ps : List Place) (bs : List ℕ) (t : List Entry) (i : ℕ) → Turned t (stored t ps bs) i
+turned-stored [] bs t i = turned-refl t i
+turned-stored (p ∷ ps) [] t i = turned-refl t i
+turned-stored (p ∷ ps) (b ∷ bs) t i =
+    turned-trans t (with_byte t p b) (stored (with_byte t p b) ps bs) i
+    (turned-in (byte_set p.at b) (λ x. record { size = refl; cpid = refl; cuid = refl; cgid = refl }) (λ x. refl) t (p.seg % 32768) i)
+    (turned-stored ps bs (with_byte t p b) i)
+
+-- THE SWEEP
+
+abbrev pub swept_entry : ℕ → List Runner → Entry → Entry
+swept_entry i rs e = swept_at i rs e.destroyed e.segment
+
+swept_from-get : (k i : ℕ) (rs : List Runner) (t : List Entry) → slice_get (swept_from k rs t) i ≡ option_map (swept_entry (k + i) rs) (slice_get t i)
+swept_from-get k i rs [] = refl
+swept_from-get k zero rs (e ∷ es) = let here : k + 0 ≡ k = omega arith in rw here refl
+swept_from-get k (suc i) rs (e ∷ es) = let next : k + suc i ≡ (k + 1) + i = omega arith in rw next (swept_from-get (k + 1) i rs es)
+
+pub swept-get : (rs : List Runner) (t : List Entry) (i : ℕ) → slice_get (swept rs t) i ≡ option_map (swept_entry i rs) (slice_get t i)
+swept-get rs t i = let here : 0 + i ≡ i = omega arith in rw here at (swept_from-get 0 i rs t)

@@ -1,0 +1,12 @@
+use Rattle.std.proofs.Common.{refl}
+use Rattle.shm_laws.specs.Worked.{opening, a_store_fails, two_go}
+use Rattle.shm_laws.proofs.Computing.{legal}
+use Rattle.shm_laws.proofs.worked.worked_histories.Goals as goal
+
+pub returns : goal.returns
+returns c =
+    record {
+      replay = (legal opening a_store_fails (refl, (refl, (refl, (refl, (refl, refl))))), refl);
+      removal = (legal opening two_go (refl, (refl, (refl, (refl, (refl, (refl, (refl, (refl, (refl, (refl, refl)))))))))), refl, refl, refl, refl, refl, refl);
+      pieces = (refl, refl, refl);
+    }

@@ -1,0 +1,6 @@
+pub mod Replay
+pub mod Standing
+pub mod Removal
+pub mod Identity
+pub mod Pieces
+pub mod Worked

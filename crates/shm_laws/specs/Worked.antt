@@ -1,0 +1,88 @@
+-- Worked histories, in which the laws say something. They are computed.
+use Rattle.std.specs.Prelude.{◌≡◌, ℕ, ◌+◌, pos, Bool, true, false, List, [], ◌∷◌, take, Some, option_map, slice_get}
+use Rattle.shm_base.specs.declared.errno.Errno.TheVariants.{Eidrm, Sigbus}
+use Rattle.shm_base.specs.declared.call.Call.TheVariants.{Rmid, Load, Store, Exec}
+use Rattle.shm_base.specs.declared.call.Reply.TheVariants.{Addr, Bytes, Done, Refused}
+use Rattle.shm_base.specs.declared.call.Event.{Event}
+use Rattle.shm_base.specs.State.{Segment, Entry, Machine, Opening, start_of}
+use Rattle.shm_base.specs.History.{IsHistory}
+use Rattle.shm_base.specs.Rows.{Answers, does, id, mode, shmget, shmat, stat, process}
+use Rattle.shm_base.specs.Identifier.{Look, Found, Removed, Invalid, look}
+use Rattle.shm_base.specs.Segments.{attach_count}
+use Rattle.shm_base.specs.Step.{step}
+use Rattle.shm_laws.specs.Standing.{IsGone}
+use Rattle.shm_laws.specs.Replay.{without_failures}
+
+-- they are legal, and lead somewhere
+abbrev pub IsLegal : Opening → List Event → Type 0
+IsLegal o events = (end : Machine) × IsHistory o events end
+
+abbrev pub is_found : Look → Bool
+is_found (Found i x) = true
+is_found Removed = false
+is_found Invalid = false
+
+-- two processes of one user
+abbrev pub opening : Opening
+opening =
+    record {
+      limits = record { shmmax = 65536; shmmni = 16; shmall = 64; frames = 4; memlock = 1 };
+      areas = 64 ∷ [];
+      processes = process 1 100 100 ∷ process 2 100 100 ∷ [];
+    }
+
+-- REPLAY: a store that a pager failed, and a load that shows it
+
+abbrev pub a_store_fails : List Event
+a_store_fails =
+    does 1 (shmget 0 4096 (mode 6 0 0) 0) (id 0)
+    ∷ does 1 (shmat 0 0 0) (Addr 0x40000000)
+    ∷ does 1 (Store 0x40000000 (7 ∷ [])) Done
+    ∷ does 1 (Store 0x40000000 (9 ∷ [])) (Refused Sigbus)
+    ∷ does 1 (Load 0x40000000 1) (Bytes (7 ∷ []))
+    ∷ []
+
+abbrev pub ReplayWorked : Type 0
+ReplayWorked = IsLegal opening a_store_fails × Answers (start_of opening) (without_failures a_store_fails)
+
+-- REMOVAL AND IDENTITY: a marked segment stands while process 2 has a piece of it, and goes with that piece; one
+-- that has none goes at once; and their indexes are used again under identifiers that are new
+
+abbrev pub two_go : List Event
+two_go =
+    does 1 (shmget 0 4096 (mode 6 0 0) 0) (id 0)
+    ∷ does 1 (shmget 0 8192 (mode 6 0 0) 0) (id 1)
+    ∷ does 2 (shmat 0 0 0) (Addr 0x40000000)
+    ∷ does 1 (Rmid (pos 0)) Done
+    ∷ does 1 (Rmid (pos 1)) Done
+    ∷ does 1 (stat 1) (Refused Eidrm)
+    ∷ does 2 (Load 0x40000000 1) (Bytes (0 ∷ []))
+    ∷ does 2 Exec Done
+    ∷ does 1 (stat 0) (Refused Eidrm)
+    ∷ does 1 (shmget 0 4096 (mode 6 0 0) 0) (id 32768)
+    ∷ []
+
+-- where a history leads
+abbrev pub ends_from : ℕ → Machine → List Event → Machine
+ends_from n s [] = s
+ends_from n s (e ∷ es) = ends_from (n + 1) (step s n e.pid e.call).state es
+
+abbrev pub after_two_go : ℕ → Machine
+after_two_go n = ends_from 1 (start_of opening) (take n two_go)
+
+-- it is legal; segment 0 is marked and has a piece before the exec, and is gone after it; segment 1 goes with its rmid;
+-- and what segment 0 was named by names none when its index is used again
+abbrev pub RemovalWorked : Type 0
+RemovalWorked =
+    IsLegal opening two_go
+    × (option_map (λ (e : Entry). option_map (λ (x : Segment). x.dest) e.segment) (slice_get (after_two_go 7).table 0) ≡ Some (Some true))
+    × (attach_count (after_two_go 7).runners 0 ≡ 1)
+    × IsGone (after_two_go 5) 1 × IsGone (after_two_go 8) 0 × IsGone (after_two_go 10) 0
+    × (is_found (look (after_two_go 10).table (pos 32768)) ≡ true)
+
+-- PIECES: process 2 has one of segment 0, which stands, and none of segment 1, which is gone
+abbrev pub PiecesWorked : Type 0
+PiecesWorked =
+    (is_found (look (after_two_go 7).table (pos 0)) ≡ true)
+    × (attach_count (after_two_go 7).runners 1 ≡ 0)
+    × (attach_count (after_two_go 8).runners 0 ≡ 0)

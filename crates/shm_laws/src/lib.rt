@@ -1,0 +1,13 @@
+//! Laws of whole histories, in the words of those who rely on the machine: each function shows one of the world at hand.
+#![tactic(auto)]
+
+mod identity;
+mod pieces;
+mod removal;
+mod replay;
+mod worked;
+
+pub use identity::named_once;
+pub use pieces::pieces_stand;
+pub use removal::removed_in_time;
+pub use replay::replayed;

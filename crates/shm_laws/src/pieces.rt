@@ -1,0 +1,16 @@
+ghost use Rattle.std.specs.Prelude.{◌≡◌};
+ghost use Rattle.shm_laws.specs.Pieces.{PiecesAreOfSegments};
+
+use shm_base::Event;
+use shm_history::World;
+use shm_pager::Pager;
+
+#[tactic(auto, using(crate::proofs::Piecing::pieces_are_of_segments))]
+/// The history of the world. In it no process gets a first piece of a segment that does not stand, and what a process
+/// has a piece of stands at all times.
+pub fn pieces_stand<P: Pager>(world: &World<P>) -> &[Event]
+    ensures events { result.now ≡ world.now.events }
+    ensures law { PiecesAreOfSegments world.now.opening world.now.events world.now.machine }
+{
+    world.history()
+}

@@ -1,0 +1,16 @@
+ghost use Rattle.std.specs.Prelude.{◌≡◌};
+ghost use Rattle.shm_laws.specs.Removal.{GoesWhenItMust};
+
+use shm_base::Event;
+use shm_history::World;
+use shm_pager::Pager;
+
+#[tactic(auto, using(crate::proofs::Removing::goes_when_it_must))]
+/// The history of the world. In it a segment is destroyed by an rmid that finds it without pieces, or by the move that
+/// takes its last piece while it is marked, and by no other; what is marked and stands has a piece at all times.
+pub fn removed_in_time<P: Pager>(world: &World<P>) -> &[Event]
+    ensures events { result.now ≡ world.now.events }
+    ensures law { GoesWhenItMust world.now.opening world.now.events world.now.machine }
+{
+    world.history()
+}
