@@ -16,5 +16,3 @@ pub mod Bringing
 pub mod Whole
 pub mod Drops
 pub mod Areas
-pub mod Trials
-pub mod Rows

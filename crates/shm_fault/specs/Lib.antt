@@ -8,4 +8,3 @@ pub mod Goes
 pub mod Access
 pub mod Dropping
 pub mod Moving
-pub mod Trial

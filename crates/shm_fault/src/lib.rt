@@ -11,12 +11,8 @@ mod dropping;
 mod flushing;
 mod moving;
 mod paging;
-#[cfg(test)]
-mod runs;
 mod segments;
 mod store;
-#[cfg(test)]
-mod tests;
 mod touched;
 
 pub use segments::PageRec;

@@ -4,8 +4,6 @@
 mod cell;
 mod gauges;
 mod publish;
-#[cfg(test)]
-mod tests;
 mod world;
 
 pub use cell::Reading;

@@ -11,8 +11,6 @@ mod paging;
 mod start;
 mod swapoff;
 mod system;
-#[cfg(test)]
-mod tests;
 
 pub use start::StartError;
 pub use system::{Opening, System};

@@ -4,8 +4,6 @@
 mod counts;
 mod event;
 mod lines;
-#[cfg(test)]
-mod tests;
 mod words;
 
 pub use counts::{usage, usage_text};

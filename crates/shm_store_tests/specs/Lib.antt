@@ -1,1 +1,2 @@
 pub mod Unlocked
+pub mod Trial

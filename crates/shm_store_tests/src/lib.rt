@@ -1,4 +1,4 @@
-//! Tests of pagers, swap, frames, the clock and plain lists, through what each crate makes public.
+//! Tests of pagers, swap, frames, the clock, plain lists and the page store, through what each crate makes public.
 #![tactic(auto)]
 
 #[cfg(test)]
@@ -10,6 +10,10 @@ mod frames;
 #[cfg(test)]
 mod pagers;
 #[cfg(test)]
+mod paging;
+#[cfg(test)]
 mod plain;
+#[cfg(test)]
+mod runs;
 #[cfg(test)]
 mod swap;

@@ -9,8 +9,6 @@ mod number;
 mod operand;
 mod reading;
 mod script;
-#[cfg(test)]
-mod tests;
 mod variables;
 mod words;
 

@@ -3,12 +3,8 @@
 
 mod compare;
 mod gate;
-#[cfg(test)]
-mod gauge_tests;
 mod outcome;
 mod run;
-#[cfg(test)]
-mod run_tests;
 mod shared;
 #[cfg(test)]
 mod tests;

@@ -1,25 +1,21 @@
-//! What no contract says: that workers run at once, that an error comes only with cause, and which runs the
+//! What no contract says and no other crate can see: that a thread which is refused is answered, and which runs the
 //! comparison finds wrong.
 use crate::compare::{copied, disagreement, mismatch};
 use crate::gate::Gate;
-use crate::outcome::{Answer, Entry, Outcome, RunError, Transcript};
-use crate::run::{run_threads, run_with};
+use crate::outcome::{Answer, Entry, RunError, Transcript};
+use crate::run::run_with;
 use bitflags::Flags;
 use shm_base::{Call, Chunk, Errno, Event, GetFlags, Reply, ShmId};
 use shm_history::{Opening, System, World};
-use shm_pager::{Pager, RamPager};
+use shm_pager::RamPager;
 use shm_text::{Script, read_script};
 use std::alloc::Global;
 use std::sync::Wait;
-use std::sync::atomic::{AtomicU64, Ordering};
 use std::test::Fail;
-use std::thread;
 use std::thread::Threads;
 
-const TURNS: u64 = 1_000_000;
-
 /// No pid is so large.
-pub(crate) const OPEN: u32 = u32::MAX;
+const OPEN: u32 = u32::MAX;
 
 const TWO: &[u8] =
     b"limits 65536 16 64 4 1\nprocess 1 100 100\nprocess 2 100 100\n1 shmget private 1 600\n1 shmget private 1 600\n2 shmget private 1 600\n2 shmget private 1 600\n";
@@ -27,41 +23,9 @@ const TWO: &[u8] =
 const CHILD: &[u8] =
     b"limits 65536 16 64 4 1\nprocess 1 100 100\nchild 2\n1 exit\n2 exit\n1 exit\n";
 
-/// Waits until a count is so high, for so many turns. False if it was not.
-pub(crate) fn comes_to(count: &AtomicU64, least: u64) -> bool {
-    for _ in 0..TURNS {
-        if count.load(Ordering::SeqCst) >= least {
-            return true;
-        }
-        thread::yield_now();
-    }
-    false
-}
-
-/// Holds each of two processes until the other comes as far.
-#[derive(Drop)]
-struct Meet {
-    first: AtomicU64,
-    second: AtomicU64,
-}
-
-impl Gate for Meet {
-    fn before(&self, pid: u32, n: u64) -> bool {
-        let (mine, other) = if pid == 1 {
-            (&self.first, &self.second)
-        } else {
-            (&self.second, &self.first)
-        };
-        mine.store(n, Ordering::SeqCst);
-        comes_to(other, n)
-    }
-
-    fn after(&self, _pid: u32, _n: u64) {}
-}
-
 /// Ends the workers from this pid on.
 #[derive(Drop)]
-pub(crate) struct Below(pub(crate) u32);
+struct Below(u32);
 
 impl Gate for Below {
     fn before(&self, pid: u32, _n: u64) -> bool {
@@ -71,86 +35,21 @@ impl Gate for Below {
     fn after(&self, _pid: u32, _n: u64) {}
 }
 
-pub(crate) fn script(alloc: Global, text: &[u8]) -> Result<Script, Fail> {
+fn script(alloc: Global, text: &[u8]) -> Result<Script, Fail> {
     Ok(read_script(alloc, text).ok().ok_or("a script")?)
 }
 
-pub(crate) fn world(alloc: Global, script: &Script) -> Result<World<RamPager>, Fail> {
-    world_over(alloc, script, RamPager::new(alloc, 64)?)
-}
-
-pub(crate) fn world_over<P: Pager>(
-    alloc: Global,
-    script: &Script,
-    pager: P,
-) -> Result<World<P>, Fail> {
+fn world(alloc: Global, script: &Script) -> Result<World<RamPager>, Fail> {
     let mut pagers = Vec::new(alloc);
-    pagers.push(pager)?;
+    pagers.push(RamPager::new(alloc, 64)?)?;
     let system = System::start(alloc, script.limits, pagers, &script.processes)
         .ok()
         .ok_or("it starts")?;
     Ok(World::new(alloc, system))
 }
 
-/// What a test looks at behind a run.
-#[derive(Drop)]
-pub(crate) struct Seen {
-    pub(crate) events: usize,
-    /// How many calls each transcript has.
-    pub(crate) calls: Vec<usize>,
-    pub(crate) indexes: u32,
-}
-
-pub(crate) fn look_at(alloc: Global, outcome: &Outcome<RamPager>) -> Result<Seen, Fail> {
-    let mut calls = Vec::new(alloc);
-    for transcript in &outcome.transcripts {
-        calls.push(transcript.entries.len())?;
-    }
-    let (events, indexes) = (outcome.world.history().len(), outcome.world.indexes());
-    Ok(Seen {
-        events,
-        calls,
-        indexes,
-    })
-}
-
-/// Runs a script behind this gate.
-pub(crate) fn run_behind<R: Threads + Wait + Sync, G: Gate>(
-    rt: &R,
-    alloc: Global,
-    text: &[u8],
-    gate: &G,
-) -> Result<Outcome<RamPager>, Fail> {
-    let script = script(alloc, text)?;
-    let world = world(alloc, &script)?;
-    let run = run_threads(rt, alloc, world, &script, gate);
-    Ok(run.ok().ok_or("a run")?)
-}
-
-/// What is seen behind such a run.
-pub(crate) fn seen_behind<R: Threads + Wait + Sync, G: Gate>(
-    rt: &R,
-    alloc: Global,
-    text: &[u8],
-    gate: &G,
-) -> Result<Seen, Fail> {
-    look_at(alloc, &run_behind(rt, alloc, text, gate)?)
-}
-
-#[test]
-fn two_run_at_once(rt: HostRuntime) -> Result<(), Fail> {
-    let gate = Meet {
-        first: AtomicU64::new(0),
-        second: AtomicU64::new(0),
-    };
-    let seen = seen_behind(&rt, rt.alloc(), TWO, &gate)?;
-    assert_eq!(rt; seen.events, 4);
-    assert!(rt; seen.calls.as_slice() == [2, 2].as_slice());
-    Ok(())
-}
-
 /// Why a run behind this gate has no outcome, where from this place on a worker is refused its thread.
-pub(crate) fn fault_behind<R: Threads + Wait + Sync, G: Gate>(
+fn fault_behind<R: Threads + Wait + Sync, G: Gate>(
     rt: &R,
     alloc: Global,
     script: &Script,
@@ -160,17 +59,6 @@ pub(crate) fn fault_behind<R: Threads + Wait + Sync, G: Gate>(
     let world = world(alloc, script)?;
     let run = run_with(rt, alloc, world, None, script, gate, refused_from);
     Ok(run.err())
-}
-
-#[test]
-fn a_gate_ends_workers(rt: HostRuntime) -> Result<(), Fail> {
-    let alloc = rt.alloc();
-    let script = script(alloc, TWO)?;
-    for pid in 1..3 {
-        let ended = fault_behind(&rt, alloc, &script, &Below(pid), usize::MAX)?;
-        assert!(rt; ended == Some(RunError::GateExpired { pid }));
-    }
-    Ok(())
 }
 
 #[test]
@@ -184,14 +72,6 @@ fn threads_are_refused(rt: HostRuntime) -> Result<(), Fail> {
             assert!(rt; refused == Some(RunError::ThreadRefused));
         }
     }
-    Ok(())
-}
-
-#[test]
-fn a_child_is_never_born(rt: HostRuntime) -> Result<(), Fail> {
-    let seen = seen_behind(&rt, rt.alloc(), CHILD, &Below(OPEN))?;
-    assert_eq!(rt; seen.events, 1);
-    assert!(rt; seen.calls.as_slice() == [1, 0].as_slice());
     Ok(())
 }
 

@@ -1,7 +1,0 @@
-use Rattle.std.proofs.Common.{◌==◌, not, rules}
-use Rattle.std.proofs.lemmas.Fn.{filter_same}
-use Rattle.shm_fault.specs.Trial.{Row}
-use Rattle.shm_fault.proofs.runs.forget.Goals as goal
-
-pub returns : goal.returns
-returns c = filter_same _ (λ (r : Row). not (r.seg == c.args.seg)) _ (λ x b f k. search rules) _ _ c.retain.ensures.filtered

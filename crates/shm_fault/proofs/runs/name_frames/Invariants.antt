@@ -1,6 +1,0 @@
-use Rattle.std.proofs.Common.{◌≡◌, ◌++◌, map, take, drop}
-use Rattle.shm_fault.specs.Trial.{with_frame}
-use Rattle.shm_fault.proofs.runs.name_frames.Given as goal
-
-abbrev pub invariant-loop-span : goal.invariant-loop-span
-invariant-loop-span g l = l.spans ≡ map (with_frame l.store) (take l.span-index l.fn.spans) ++ drop l.span-index l.fn.spans

@@ -1,0 +1,373 @@
+//! What no contract says: that a script is read with memory at hand, and the longest ones; and each form
+//! and fault once.
+use bitflags::Flags;
+use shm_base::{AccessLen, AtFlags, Call, Chunk, GetFlags, Reply};
+use shm_text::{FaultKind, FlushLine, Line, LineCall, ReadRefused, Script, Vars, read_decimal, read_script};
+use std::alloc::Global;
+use std::test::Fail;
+
+const HEAD: &[u8] = b"limits 65536 16 64 4 1\nprocess 1 100 100\n";
+
+/// What became of a script: how many processes and other lines it has, or its fault.
+#[derive(Clone, Copy, Debug, PartialEq, Eq)]
+enum Outcome {
+    Script(usize, usize),
+    Fault(u32, FaultKind),
+    HostMemory,
+}
+
+fn read(alloc: Global, script: &[u8]) -> Outcome {
+    match read_script(alloc, script) {
+        Ok(script) => Outcome::Script(script.processes.len(), script.lines.len()),
+        Err(ReadRefused::Fault(fault)) => Outcome::Fault(fault.line, fault.kind),
+        Err(ReadRefused::HostMemory) => Outcome::HostMemory,
+    }
+}
+
+/// The call of a script whose last line is this one, where all variables are 0.
+fn call_of(alloc: Global, line: &[u8]) -> Result<Call, Fail> {
+    let mut script = HEAD.to_vec(alloc)?;
+    script.extend_from_slice(line)?;
+    let Ok(script) = read_script(alloc, &script) else {
+        return Err("a script".into());
+    };
+    match script.lines.first() {
+        Some(Line::Command(command)) => Ok(Vars::new().call(command)),
+        Some(Line::Flush(_)) | None => Err("a command".into()),
+    }
+}
+
+#[test]
+fn lines_in_file_order(rt: HostRuntime) -> Result<(), Fail> {
+    let alloc = rt.alloc();
+    let mut script = HEAD.to_vec(alloc)?;
+    script.extend_from_slice(b"child 2\n1 s = xadd a 0x10\n2 shmdt s+1")?;
+    let Ok(script) = read_script(alloc, &script) else {
+        return Err("a script".into());
+    };
+    assert_eq!(rt; script.processes.len(), 2);
+    assert_eq!(rt; script.lines.len(), 2);
+    let mut vars = Vars::new();
+    let calls = [Call::Xadd { addr: 0, add: 16 }, Call::Shmdt { addr: 3 }];
+    for (line, call) in script.lines.iter().zip(&calls) {
+        let Line::Command(command) = line else {
+            return Err("a command".into());
+        };
+        assert!(rt; vars.call(command) == *call);
+        vars.took(command, Some(&Reply::Number(2)));
+    }
+    Ok(())
+}
+
+#[test]
+fn each_key_and_flag_of_shmget(rt: HostRuntime) -> Result<(), Fail> {
+    let alloc = rt.alloc();
+    let read: [(&[u8], u32, u64, u16, GetFlags); 5] = [
+        (b"1 shmget private 1 600", 0, 1, 0o600, GetFlags::empty()),
+        (
+            b"1 shmget 0xffffffff 0 007,excl",
+            4294967295,
+            0,
+            7,
+            GetFlags::EXCL,
+        ),
+        (
+            b"1 k = shmget 42 18446744073709551615 777,excl,creat",
+            42,
+            u64::MAX,
+            0o777,
+            GetFlags::all(),
+        ),
+        (
+            b"1 shmget 0x2a 4096 640,creat,excl",
+            42,
+            4096,
+            0o640,
+            GetFlags::all(),
+        ),
+        (
+            b"1 shmget 0 4096 640,creat",
+            0,
+            4096,
+            0o640,
+            GetFlags::CREAT,
+        ),
+    ];
+    for (line, key, size, mode, flags) in read {
+        let call = Call::Shmget {
+            key,
+            size,
+            mode,
+            flags,
+        };
+        assert!(rt; call_of(alloc, line)? == call);
+    }
+    Ok(())
+}
+
+#[test]
+fn each_address_and_flag_of_shmat(rt: HostRuntime) -> Result<(), Fail> {
+    let alloc = rt.alloc();
+    let all = AtFlags::all();
+    let mut two = AtFlags::RDONLY;
+    two.insert(AtFlags::REMAP);
+    let read: [(&[u8], i32, u64, AtFlags); 5] = [
+        (
+            b"1 a = shmat 2147483647 null -",
+            2147483647,
+            0,
+            AtFlags::empty(),
+        ),
+        (b"1 shmat s 0x50000fff rnd", 0, 0x50000fff, AtFlags::RND),
+        (b"1 shmat s a rdonly,remap", 0, 0, two),
+        (b"1 shmat 00 a+0xFfFf rdonly,remap,rnd", 0, 65535, all),
+        (
+            b"1 shmat 7 18446744073709551615 remap,rnd,rdonly",
+            7,
+            u64::MAX,
+            all,
+        ),
+    ];
+    for (line, id, addr, flags) in read {
+        assert!(rt; call_of(alloc, line)? == Call::Shmat { id, addr, flags });
+    }
+    Ok(())
+}
+
+#[test]
+fn each_other_form(rt: HostRuntime) -> Result<(), Fail> {
+    let alloc = rt.alloc();
+    let len = AccessLen::new(64).ok_or("1 to 64")?;
+    let chunk = Chunk::new(&[0, 171]).ok_or("1 to 64")?;
+    let set = Call::Set {
+        id: 0,
+        uid: 4294967295,
+        gid: 0,
+        mode: 0o644,
+    };
+    let read: [(&[u8], Call); 15] = [
+        (b"1 swapoff 7", Call::Swapoff { area: 7 }),
+        (
+            b"1 x = xadd a+18446744073709551615 1",
+            Call::Xadd {
+                addr: u64::MAX,
+                add: 1,
+            },
+        ),
+        (
+            b"1 xadd 4096 18446744073709551615",
+            Call::Xadd {
+                addr: 4096,
+                add: u64::MAX,
+            },
+        ),
+        (b"1 shmdt a", Call::Shmdt { addr: 0 }),
+        (b"1 load null 64", Call::Load { addr: 0, len }),
+        (b"1 store 0x10 00Ab", Call::Store { addr: 16, chunk }),
+        (b"1 stat 0", Call::Stat { id: 0 }),
+        (b"1 set s 4294967295 0 644", set),
+        (b"1 rmid 7", Call::Rmid { id: 7 }),
+        (b"1 lock s", Call::Lock { id: 0 }),
+        (b"1 unlock 2147483647", Call::Unlock { id: 2147483647 }),
+        (b"1 fork 1", Call::Fork { child: 1 }),
+        (b"01 exec", Call::Exec),
+        (b"\t1  exit ", Call::Exit),
+        (b"0x1 exit", Call::Exit),
+    ];
+    for (line, call) in &read {
+        assert!(rt; call_of(alloc, line)? == *call);
+    }
+    Ok(())
+}
+
+#[test]
+fn flush_lines(rt: HostRuntime) -> Result<(), Fail> {
+    let alloc = rt.alloc();
+    let mut script = HEAD.to_vec(alloc)?;
+    script.extend_from_slice(b"0 flush 4096\n0 flush 0x1\n")?;
+    let Ok(script) = read_script(alloc, &script) else {
+        return Err("a script".into());
+    };
+    assert_eq!(rt; script.lines.len(), 2);
+    for (line, pages) in script.lines.iter().zip(&[4096u64, 1]) {
+        let round = FlushLine::new(*pages).ok_or("1 to 4096")?;
+        assert!(rt; *line == Line::Flush(round));
+    }
+    Ok(())
+}
+
+/// Third lines of a script, each with its fault.
+const FAULTS: [(&[u8], FaultKind); 66] = [
+    (b"process 1 5 5", FaultKind::Twice),
+    (b"2 exit", FaultKind::UnknownProcess),
+    (b"1 fork 9", FaultKind::UnknownProcess),
+    (b"1 fork 0", FaultKind::BadNumber),
+    (b"1 load 0 0", FaultKind::BadNumber),
+    (b"1 load 0x 1", FaultKind::BadLine),
+    (b"1 store 0 abc", FaultKind::BadLine),
+    (b"1 rmid 2147483648", FaultKind::BadNumber),
+    (b"0 exit", FaultKind::BadLine),
+    (b"00 exit", FaultKind::BadNumber),
+    (b"1 exit\r", FaultKind::BadByte),
+    (b"limits 1 1 1 2 0", FaultKind::BadLine),
+    (b"9 fork 0", FaultKind::BadNumber),
+    (b"00 fork 9", FaultKind::BadNumber),
+    (b"1 fork 2147483648", FaultKind::BadNumber),
+    (b"1 fork null", FaultKind::BadLine),
+    (b"1 fork", FaultKind::BadLine),
+    (b"1 shmget 0x100000000 1 600", FaultKind::BadNumber),
+    (b"1 shmget Private 1 600", FaultKind::BadLine),
+    (b"1 shmget s 1 600", FaultKind::BadLine),
+    (b"1 shmget private 1 600,", FaultKind::BadLine),
+    (b"1 shmget private 1 600,creat,creat", FaultKind::BadLine),
+    (b"1 shmget private 1 60,creat", FaultKind::BadLine),
+    (b"1 shmget private 1 creat", FaultKind::BadLine),
+    (b"1 shmget private null 600", FaultKind::BadLine),
+    (b"1 shmat s null rnd,rnd", FaultKind::BadLine),
+    (b"1 shmat s null -,rnd", FaultKind::BadLine),
+    (b"1 shmat s null rnd,", FaultKind::BadLine),
+    (b"1 shmat s null creat", FaultKind::BadLine),
+    (b"1 shmat s null", FaultKind::BadLine),
+    (b"1 shmat 2147483648 null rnd,rnd", FaultKind::BadLine),
+    (b"1 shmat 2147483648 null rnd", FaultKind::BadNumber),
+    (b"1 shmat s a+18446744073709551616 -", FaultKind::BadNumber),
+    (b"1 shmat s a+ -", FaultKind::BadLine),
+    (b"1 shmat s a +1 -", FaultKind::BadLine),
+    (b"1 set s 4294967296 0 600", FaultKind::BadNumber),
+    (b"1 set s 0 4294967296 600", FaultKind::BadNumber),
+    (b"1 set s 0 4294967296 1600", FaultKind::BadLine),
+    (b"1 set s 0 0 600 0", FaultKind::BadLine),
+    (b"1 xadd a", FaultKind::BadLine),
+    (b"1 xadd a b", FaultKind::BadLine),
+    (b"1 xadd a 18446744073709551616", FaultKind::BadNumber),
+    (b"1 v = load a 1", FaultKind::BadLine),
+    (b"1 v = shmdt a", FaultKind::BadLine),
+    (b"1 v = exit", FaultKind::BadLine),
+    (b"1 v =", FaultKind::BadLine),
+    (b"1 v shmget private 1 600", FaultKind::BadLine),
+    (b"1 V = shmget private 1 600", FaultKind::BadLine),
+    (b"1 vv = shmget private 1 600", FaultKind::BadLine),
+    (b"1 shmdt", FaultKind::BadLine),
+    (b"1 stat null", FaultKind::BadLine),
+    (b"1 stat s+1", FaultKind::BadLine),
+    (b"1 lock ss", FaultKind::BadLine),
+    (b"1 unlock 2147483648", FaultKind::BadNumber),
+    (b"1 exec 1", FaultKind::BadLine),
+    (b"1 Exit", FaultKind::BadLine),
+    (b"1", FaultKind::BadLine),
+    (b"1 swapoff 8", FaultKind::BadNumber),
+    (b"1 swapoff", FaultKind::BadLine),
+    (b"1 s = swapoff 0", FaultKind::BadLine),
+    (b"0 flush 0", FaultKind::BadNumber),
+    (b"0 flush 4097", FaultKind::BadNumber),
+    (b"00 flush 1", FaultKind::BadLine),
+    (b"1 flush 1", FaultKind::BadLine),
+    (b"0 flush", FaultKind::BadLine),
+    (b"0 flush 1 1", FaultKind::BadLine),
+];
+
+/// Whether this third line has this fault, with an end of line or without.
+fn has_fault(alloc: Global, line: &[u8], kind: FaultKind) -> Result<bool, Fail> {
+    let mut script = HEAD.to_vec(alloc)?;
+    script.extend_from_slice(line)?;
+    let without_end = read(alloc, &script);
+    script.push(b'\n')?;
+    let fault = Outcome::Fault(3, kind);
+    Ok(without_end == fault && read(alloc, &script) == fault)
+}
+
+#[test]
+fn each_fault_of_a_line(rt: HostRuntime) -> Result<(), Fail> {
+    let alloc = rt.alloc();
+    for (index, (line, kind)) in FAULTS.iter().enumerate() {
+        assert!(rt; has_fault(alloc, line, *kind)?, "at {index}");
+    }
+    Ok(())
+}
+
+const SCRIPT: &[u8] = b"\
+limits 65536 16 64 4 1\n\
+process 1 100 100\n\
+process 2 100 100\n\
+process 3 100 100\n\
+1 s = shmget 0x2a 4096 600,creat\n\
+1 shmat s null -\n\
+2 b = shmat 0 null -\n\
+2 store b 7f\n\
+1 rmid s\n\
+1 stat s\n\
+1 shmget 0x2a 4096 600\n\
+1 shmat s null rdonly\n\
+1 exit\n\
+2 load b 1\n\
+2 exit\n\
+3 stat 0\n\
+1 stat 0\n\n";
+
+#[test]
+fn each_beginning_of_a_script(rt: HostRuntime) -> Result<(), Fail> {
+    let alloc = rt.alloc();
+    // From the first of these lengths up to the second.
+    let runs = [
+        (0, 6, Outcome::Fault(1, FaultKind::NoLimits)),
+        (6, 22, Outcome::Fault(1, FaultKind::BadLine)),
+        (22, 24, Outcome::Script(0, 0)),
+        (24, 38, Outcome::Fault(2, FaultKind::BadLine)),
+        (38, 42, Outcome::Script(1, 0)),
+        (42, 56, Outcome::Fault(3, FaultKind::BadLine)),
+        (56, 60, Outcome::Script(2, 0)),
+        (60, 74, Outcome::Fault(4, FaultKind::BadLine)),
+        (74, 78, Outcome::Script(3, 0)),
+        (78, 103, Outcome::Fault(5, FaultKind::BadLine)),
+        (103, 104, Outcome::Script(3, 1)),
+        (104, 109, Outcome::Fault(5, FaultKind::BadLine)),
+        (109, 111, Outcome::Script(3, 1)),
+        (111, 126, Outcome::Fault(6, FaultKind::BadLine)),
+        (126, 128, Outcome::Script(3, 2)),
+        (128, 147, Outcome::Fault(7, FaultKind::BadLine)),
+        (147, 149, Outcome::Script(3, 3)),
+        (149, 160, Outcome::Fault(8, FaultKind::BadLine)),
+        (160, 162, Outcome::Script(3, 4)),
+        (162, 169, Outcome::Fault(9, FaultKind::BadLine)),
+        (169, 171, Outcome::Script(3, 5)),
+        (171, 178, Outcome::Fault(10, FaultKind::BadLine)),
+        (178, 180, Outcome::Script(3, 6)),
+        (180, 201, Outcome::Fault(11, FaultKind::BadLine)),
+        (201, 203, Outcome::Script(3, 7)),
+        (203, 223, Outcome::Fault(12, FaultKind::BadLine)),
+        (223, 225, Outcome::Script(3, 8)),
+        (225, 230, Outcome::Fault(13, FaultKind::BadLine)),
+        (230, 232, Outcome::Script(3, 9)),
+        (232, 241, Outcome::Fault(14, FaultKind::BadLine)),
+        (241, 243, Outcome::Script(3, 10)),
+        (243, 248, Outcome::Fault(15, FaultKind::BadLine)),
+        (248, 250, Outcome::Script(3, 11)),
+        (250, 257, Outcome::Fault(16, FaultKind::BadLine)),
+        (257, 259, Outcome::Script(3, 12)),
+        (259, 266, Outcome::Fault(17, FaultKind::BadLine)),
+        (266, 268, Outcome::Script(3, 13)),
+    ];
+    for (first, end, outcome) in runs {
+        for length in first..end {
+            let beginning = SCRIPT.get(..length).ok_or("a beginning")?;
+            assert!(rt; read(alloc, beginning) == outcome);
+        }
+    }
+    Ok(())
+}
+
+#[test]
+fn longest_scripts(rt: HostRuntime) -> Result<(), Fail> {
+    let alloc = rt.alloc();
+    let empty = vec![in alloc; b'\n'; 1048577]?;
+    assert!(rt; read(alloc, &empty) == Outcome::Fault(0, FaultKind::TooLong));
+    assert!(rt; read(alloc, &empty[1..]) == Outcome::Fault(1, FaultKind::NoLimits));
+    let mut script = HEAD.to_vec(alloc)?;
+    for _ in 0..100000 {
+        script.extend_from_slice(b"1 exit\n")?;
+    }
+    assert!(rt; read(alloc, &script) == Outcome::Script(1, 100000));
+    script.extend_from_slice(b"1 exit")?;
+    assert!(rt; read(alloc, &script) == Outcome::Fault(100003, FaultKind::TooMany));
+    Ok(())
+}

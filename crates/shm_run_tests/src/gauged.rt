@@ -1,0 +1,283 @@
+//! Gauged runs beside a reader, which waits for no lock.
+ghost use Rattle.std.specs.Prelude.{◌≡◌};
+
+use crate::behind::{Below, OPEN, comes_to, script, world, world_over};
+use crate::runs::{BehindFour, COUNTER, COUNTS, LATE, repeated};
+use shm_history::{Gauge, Keeper, ReaderSeat, Reading, World, gauge};
+use shm_pager::{Pager, PagerFault, RamPager};
+use shm_text::Script;
+use shm_threads::{Gate, RunError, run_threads_gauged};
+use std::alloc::{AllocError, Global};
+use std::sync::atomic::{AtomicU64, Ordering};
+use std::sync::{Arc, Wait};
+use std::test::Fail;
+use std::thread::{Threads, join};
+
+/// What a reader tells others, and they it.
+#[derive(Drop)]
+struct Readings {
+    /// How many have ended.
+    ended: AtomicU64,
+    /// How many were none that a world can have, or went back in events.
+    wrong: AtomicU64,
+    /// Whether one was that of two pages which a round has written out behind four calls.
+    flushed: AtomicU64,
+    /// Whether the run has ended.
+    done: AtomicU64,
+    /// How often one that was waited for did not come.
+    late: AtomicU64,
+}
+
+impl Readings {
+    fn none() -> Readings {
+        Readings {
+            ended: AtomicU64::new(0),
+            wrong: AtomicU64::new(0),
+            flushed: AtomicU64::new(0),
+            done: AtomicU64::new(0),
+            late: AtomicU64::new(0),
+        }
+    }
+
+    fn note(&self, last: u64, now: Reading) {
+        let flushed = Reading {
+            events: 4,
+            resident: 2,
+            dirty: 0,
+            used: 2,
+        };
+        if now == flushed {
+            self.flushed.store(1, Ordering::SeqCst);
+        }
+        let is_sound = now.dirty <= now.resident && now.resident <= 4096 && now.used <= 65536;
+        if now.events < last || !is_sound {
+            self.wrong.fetch_add(1, Ordering::SeqCst);
+        }
+        self.ended.fetch_add(1, Ordering::SeqCst);
+    }
+
+    /// Waits until this count is so high.
+    fn wait(&self, count: &AtomicU64, least: u64) {
+        if !comes_to(count, least) {
+            self.late.fetch_add(1, Ordering::SeqCst);
+        }
+    }
+}
+
+/// Reads until the run has ended, and so often at least.
+fn watch<R: Wait>(
+    rt: &R,
+    gauge: &Gauge,
+    mut seat: ReaderSeat,
+    readings: &Readings,
+    least: u64,
+) -> ReaderSeat
+    requires { seat.cell ≡ gauge.now }
+    ensures { result.cell ≡ gauge.entry.now }
+{
+    let mut last = 0;
+    for _ in rt.forever() {
+        let is_done = readings.done.load(Ordering::SeqCst) == 1;
+        if is_done && readings.ended.load(Ordering::SeqCst) >= least {
+            break;
+        }
+        let now = gauge.read(rt, &mut seat);
+        readings.note(last, now);
+        last = now.events;
+    }
+    seat
+}
+
+fn run_gauged<R: Threads + Wait + Sync, G: Gate, P: Pager + Send>(
+    rt: &R,
+    alloc: Global,
+    world: World<P>,
+    keeper: Keeper,
+    script: &Script,
+    gate: &G,
+    readings: &Readings,
+) -> Option<RunError> {
+    let run = run_threads_gauged(rt, alloc, world, keeper, script, gate);
+    readings.done.store(1, Ordering::SeqCst);
+    run.err()
+}
+
+/// What is read behind a gauged run, in which a reader on a thread of its own reads so often at least.
+fn beside_a_reader<R: Threads + Wait + Sync, G: Gate, P: Pager + Send>(
+    rt: &R,
+    alloc: Global,
+    world: World<P>,
+    script: &Script,
+    gate: &G,
+    readings: &Readings,
+    least: u64,
+) -> Result<(Option<RunError>, Reading), Fail> {
+    let (gauge, keeper, seat) = gauge(rt, alloc, &world)?;
+    let (mut seat, fault) = join(
+        rt,
+        || watch(rt, &gauge, seat, readings, least),
+        || run_gauged(rt, alloc, world, keeper, script, gate, readings),
+    );
+    Ok((fault, gauge.read(rt, &mut seat)))
+}
+
+#[test]
+fn readings_beside_four_that_count(rt: HostRuntime) -> Result<(), Fail> {
+    let alloc = rt.alloc();
+    let readings = Readings::none();
+    let script = script(alloc, &repeated(alloc, COUNTER, COUNTS, 50)?)?;
+    let world = world(alloc, &script)?;
+    let (fault, last) = beside_a_reader(
+        &rt,
+        alloc,
+        world,
+        &script,
+        &Below(OPEN),
+        &readings,
+        100_000,
+    )?;
+    assert!(rt; fault.is_none());
+    assert_eq!(rt; last.events, 412);
+    assert_eq!(rt; readings.wrong.load(Ordering::SeqCst), 0);
+    Ok(())
+}
+
+/// Lets the flusher's round come behind process 1's fourth call, and holds the flusher until what it published is
+/// read.
+#[derive(Drop)]
+struct UntilRead<'a> {
+    behind: BehindFour,
+    readings: &'a Readings,
+}
+
+impl Gate for UntilRead<'_> {
+    fn before(&self, pid: u32, n: u64) -> bool {
+        self.behind.before(pid, n)
+    }
+
+    fn after(&self, pid: u32, n: u64) {
+        self.behind.after(pid, n);
+        if pid == 0 && n == 1 {
+            self.readings.wait(&self.readings.flushed, 1);
+        }
+    }
+}
+
+#[test]
+fn a_round_is_published(rt: HostRuntime) -> Result<(), Fail> {
+    let alloc = rt.alloc();
+    let readings = Readings::none();
+    let gate = UntilRead {
+        behind: BehindFour::new(),
+        readings: &readings,
+    };
+    let script = script(alloc, LATE)?;
+    let world = world(alloc, &script)?;
+    let (fault, last) = beside_a_reader(&rt, alloc, world, &script, &gate, &readings, 0)?;
+    assert!(rt; fault.is_none());
+    assert_eq!(rt; last.events, 4);
+    assert_eq!(rt; readings.late.load(Ordering::SeqCst), 0);
+    Ok(())
+}
+
+/// Pages in memory. The first write, which comes under the world's lock, ends only when a reading was begun and
+/// ended since.
+struct WaitingPager {
+    inner: RamPager,
+    readings: Arc<Readings, Global>,
+    has_waited: bool,
+}
+
+impl WaitingPager {
+    fn new(alloc: Global, readings: &Arc<Readings, Global>) -> Result<WaitingPager, AllocError> {
+        Ok(WaitingPager {
+            inner: RamPager::new(alloc, 64)?,
+            readings: Arc::try_clone(readings)?,
+            has_waited: false,
+        })
+    }
+}
+
+impl Pager for WaitingPager {
+    ghost content = { λ p. p.inner };
+
+    ghost failed = { λ _. 0 };
+
+    fn slots(&self) -> u32 {
+        self.inner.slots()
+    }
+
+    fn failures(&self) -> u64 {
+        0
+    }
+
+    fn write(&mut self, slot: u32, page: &[u8; 4096]) -> Result<(), PagerFault> {
+        if !self.has_waited {
+            self.has_waited = true;
+            // one may have been begun before, but not two
+            let ended = self.readings.ended.load(Ordering::SeqCst);
+            self.readings
+                .wait(&self.readings.ended, ended.saturating_add(2));
+        }
+        self.inner.write(slot, page)
+    }
+
+    fn read(&mut self, slot: u32, page: &mut [u8; 4096]) -> Result<(), PagerFault> {
+        self.inner.read(slot, page)
+    }
+
+    fn discard(&mut self, slot: u32) {
+        self.inner.discard(slot);
+    }
+
+    fn wipe(&mut self) {
+        self.inner.wipe();
+    }
+}
+
+impl Drop for WaitingPager {
+    fn drop(self) {
+        let WaitingPager {
+            inner: _,
+            readings: _,
+            has_waited: _,
+        } = self;
+    }
+}
+
+/// Three pages in two frames: the last but one call writes a page out.
+const SHORT: &[u8] =
+    b"limits 65536 16 64 2 0\nprocess 1 100 100\n1 s = shmget private 12288 600\n1 a = shmat s null -\n1 store a 2a\n1 load a+4096 1\n1 load a+8192 1\n1 load a 1\n";
+
+// How many events were read at the end, and how often a write waited in vain.
+fn over_a_waiting_pager<R: Threads + Wait + Sync, G: Gate>(
+    rt: &R,
+    alloc: Global,
+    text: &[u8],
+    gate: &G,
+) -> Result<(Option<RunError>, u64, u64), Fail> {
+    let readings = Arc::new(alloc, Readings::none())?;
+    let pager = WaitingPager::new(alloc, &readings)?;
+    let script = script(alloc, text)?;
+    let world = world_over(alloc, &script, pager)?;
+    let shared: &Readings = &readings;
+    let (fault, last) = beside_a_reader(rt, alloc, world, &script, gate, shared, 0)?;
+    Ok((fault, last.events, shared.late.load(Ordering::SeqCst)))
+}
+
+#[test]
+fn readings_while_a_call_holds_the_lock(rt: HostRuntime) -> Result<(), Fail> {
+    let (fault, events, late) = over_a_waiting_pager(&rt, rt.alloc(), SHORT, &Below(OPEN))?;
+    assert!(rt; fault.is_none());
+    assert_eq!(rt; (events, late), (6, 0));
+    Ok(())
+}
+
+#[test]
+fn readings_while_the_flusher_holds_the_lock(rt: HostRuntime) -> Result<(), Fail> {
+    let gate = BehindFour::new();
+    let (fault, events, late) = over_a_waiting_pager(&rt, rt.alloc(), LATE, &gate)?;
+    assert!(rt; fault.is_none());
+    assert_eq!(rt; (events, late), (4, 0));
+    Ok(())
+}

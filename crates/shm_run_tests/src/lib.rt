@@ -1,0 +1,9 @@
+//! Tests of runs with threads and of their gauges, through what the crate of the runs makes public.
+#![tactic(auto)]
+
+#[cfg(test)]
+mod behind;
+#[cfg(test)]
+mod gauged;
+#[cfg(test)]
+mod runs;

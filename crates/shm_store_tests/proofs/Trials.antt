@@ -1,0 +1,61 @@
+-- What the tests know of the stores that they make.
+use Rattle.std.proofs.Common.{◌≡◌, ℕ, zero, suc, ◌<◌, true, List, [], ◌∷◌, length, get_or, map, replicate, Option, Some, None, refl, sym, ap, ◌∙◌, inl, inr, arith}
+use Rattle.std.specs.Prelude.{All}
+use Rattle.std.proofs.lemmas.Bool.{cases_Bool}
+use Rattle.shm_base.specs.declared.paging.PageRef.{PageRef}
+use Rattle.shm_base.specs.declared.paging.Span.{Span}
+use Rattle.shm_pager.specs.Pages.{PagerView}
+use Rattle.shm_plain.specs.Held.{Held, FitsPage, find_held, pages_held, written, with_zeros}
+use Rattle.shm_plain.specs.Apart.{AreApart}
+use Rattle.shm_slots.specs.View.{AreaView, SwapView, fresh, new_swap, owner_of, size_of}
+use Rattle.shm_frames.specs.Frame.{Frame}
+use Rattle.shm_fault.specs.Store.{held, fresh_store}
+use Rattle.shm_store_tests.specs.Trial.{row_of, known, pages_all, three}
+use Rattle.shm_store_tests.proofs.Rows.{known-is, told-some, all-is, rows-zeros, rows-written}
+
+-- no slot of areas that were just handed in is owned
+none-owned : (n slot : ℕ) → get_or {A = Option PageRef} (replicate n None) slot None ≡ None
+none-owned zero slot = refl
+none-owned (suc n) zero = refl
+none-owned (suc n) (suc slot) = none-owned n slot
+
+pub fresh-free : {X : Type 0} (f : X → PagerView) (xs : List X) (area slot : ℕ) → owner_of (new_swap (map (λ x. fresh (f x)) xs)) area slot ≡ None
+fresh-free f [] area slot = refl
+fresh-free f (x ∷ xs) zero slot = none-owned (length (f x).pages) slot
+fresh-free f (x ∷ xs) (suc area) slot = fresh-free f xs area slot
+
+pub fresh-held : (frames : List Frame) (swap : SwapView) → held (fresh_store frames swap) ≡ []
+unfolding held
+fresh-held frames swap = refl
+
+-- one span
+pub all-one : (P : Span → Type 0) (p : Span) → P p → All P (p ∷ [])
+all-one P p is zero d lt = is
+all-one P p is (suc k) d lt = absurd (omega arith)
+
+pub three-added : (frames : List Frame) (swap : SwapView) → map row_of (with_zeros (held (fresh_store frames swap)) 0 3) ≡ three
+three-added frames swap = rw (fresh-held frames swap) (rows-zeros [] 0 3)
+
+-- what is known of three pages
+one-apart : (hs : List Held) → map row_of hs ≡ three → AreApart hs
+one-apart [] e = cc
+one-apart (g ∷ []) e = (refl, tt)
+one-apart (g ∷ h ∷ hs) e = let more : length (map row_of (g ∷ h ∷ hs)) ≡ 1 = ap length e in absurd (omega (arith, more))
+
+pub three-written : (hs : List Held) (p : Span) (new : List ℕ) → map row_of hs ≡ three → FitsPage hs p → map row_of (written hs (p ∷ []) new) ≡ three
+three-written hs p new e fit = (rows-written (p ∷ []) hs new (one-apart hs e) (all-one (FitsPage hs) p fit)).0 ∙ e
+
+pub three-pages : (hs : List Held) → map row_of hs ≡ three → pages_held hs ≡ 3
+three-pages hs e = sym (all-is hs) ∙ ap pages_all e
+
+pub three-fit : (hs : List Held) (p : Span) → map row_of hs ≡ three → p.seg ≡ 0 → p.at < 12288 → p.len ≡ 1 → FitsPage hs p
+three-fit hs p e seg at len =
+    let told = told-some (find_held hs 0) 3 (sym (known-is hs 0) ∙ ap (λ rs. known rs 0) e) in
+    rw seg (told.0, omega (arith, told.1, at, len), omega (arith, len), omega (arith, len))
+
+-- an area that has a size is there
+pub sized : (a : AreaView) (n : ℕ) → size_of a ≡ Some n → (a.here ≡ true) × (length a.pages ≡ n)
+sized a n e = elim (cases_Bool a.here) [
+  | inl is ↦ let k : Some (length a.pages) ≡ Some n = rw is at e in (is, cc)
+  | inr not ↦ absurd (let k : None ≡ Some n = rw not at e in cc)
+]

@@ -1,0 +1,30 @@
+use Rattle.std.proofs.Common.{◌≡◌, ◌≤◌, [], refl, ap, ◌∙◌, arith}
+use Rattle.shm_pager.specs.Pages.{seen}
+use Rattle.shm_plain.specs.Held.{with_zeros}
+use Rattle.shm_slots.specs.View.{slots}
+use Rattle.shm_fault.specs.Store.{held, fresh_store}
+use Rattle.shm_store_tests.proofs.Trials.{fresh-free, fresh-held, three-added}
+use Rattle.shm_store_tests.proofs.paging.store_over.Goals as goal
+
+pub new-requires-2-clause-free : goal.new-requires-2-clause-free
+new-requires-2-clause-free g c = λ area slot. rw c.in-Ok.ensures (fresh-free (λ p. seen g.P.Pager.content g.P.Pager.failed p) c.args.pagers.items area slot)
+
+pub add_segment-requires-clause-new : goal.add_segment-requires-clause-new
+add_segment-requires-clause-new g c =
+    let s = c.in-Ok-new.store in
+    let none : held s ≡ [] = ap held c.in-Ok-new.ensures.fresh ∙ fresh-held s.frames c.in-Ok.swap in
+    rw none refl
+
+pub add_segment-requires-clause-room : goal.add_segment-requires-clause-room
+add_segment-requires-clause-room g c =
+    let s = c.in-Ok-new.store in
+    let none : held s ≡ [] = ap held c.in-Ok-new.ensures.fresh ∙ fresh-held s.frames c.in-Ok.swap in
+    let room : 3 ≤ slots s.swap = omega (arith, c.capacity.ensures) in
+    rw none room
+
+pub returns-in-Ok-add_segment : goal.returns-in-Ok-add_segment
+returns-in-Ok-add_segment g c =
+    let s = c.in-Ok-new.store in
+    let made : held s ≡ held (fresh_store s.frames c.in-Ok.swap) = ap held c.in-Ok-new.ensures.fresh in
+    let is : held c.add_segment.new.store ≡ with_zeros (held s) 0 3 = c.in-Ok-add_segment.ensures.held in
+    rw (is, made) (three-added s.frames c.in-Ok.swap)

@@ -1,0 +1,7 @@
+use Rattle.std.proofs.Common.{◌≡◌, drop}
+use Rattle.shm_store_tests.specs.Trial.{known}
+use Rattle.shm_store_tests.proofs.runs.find.Given as goal
+
+-- the segment is not among the rows that were seen
+abbrev pub invariant-loop-row : goal.invariant-loop-row
+invariant-loop-row l = known (drop l.row-index l.rows.items) l.seg ≡ known l.rows.items l.seg

@@ -1,0 +1,19 @@
+use Rattle.std.proofs.Common.{◌≡◌, ◌<◌, length, get_or, set, Option, None, ap, ◌∙◌, ℕ}
+use Rattle.std.proofs.lemmas.List.{get_or_default}
+use Rattle.std.proofs.lemmas.List.Edits.{map_over_more}
+use Rattle.shm_base.specs.declared.paging.Span.{Span}
+use Rattle.shm_store_tests.specs.Trial.{with_frame}
+use Rattle.shm_store_tests.proofs.runs.name_frames.Goals as goal
+
+pub loop-span-preserved : goal.loop-span-preserved
+loop-span-preserved g c =
+    let s = c.args.store.now in
+    let xs = c.args.spans.now in
+    let ys = c.loop-span.spans in
+    let i = c.loop-span.span-index in
+    let none : Span = record { seg = 0; at = 0; len = 0; frame = None } in
+    let x : Span = get_or ys i none in
+    let within : i < length ys = rw c.loop-span.auto.spans c.loop-span-test.true in
+    let step = map_over_more (with_frame s) xs ys i x c.loop-span-test.true c.loop-span.invariant (get_or_default ys i none x within) in
+    let named : record x { frame = c.frame-span.result } ≡ with_frame s x = ap (λ (f : Option ℕ). record x { frame = f }) c.frame-span.ensures in
+    ap (set ys i) named ∙ step

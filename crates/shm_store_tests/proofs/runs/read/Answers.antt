@@ -1,0 +1,15 @@
+use Rattle.std.proofs.Common.{refl}
+use Rattle.shm_store_tests.proofs.Rows.{access-named, frames-named}
+use Rattle.shm_store_tests.proofs.runs.read.Goals as goal
+
+pub read-requires-clause-fit : goal.read-requires-clause-fit
+read-requires-clause-fit g c = rw c.name_frames.ensures (access-named c.args.pair.now.paged c.args.pair.now.paged c.args.spans.now _ c.requires.spans refl).fit
+
+pub read-requires-clause-frames : goal.read-requires-clause-frames
+read-requires-clause-frames g c = rw c.name_frames.ensures (frames-named c.args.pair.now.paged c.args.spans.now)
+
+pub returns-in-Ok-clause-spans : goal.returns-in-Ok-clause-spans
+returns-in-Ok-clause-spans g c = rw c.name_frames.ensures (access-named c.args.pair.now.paged c.read.new.self c.args.spans.now _ (rw c.read.auto.out c.requires.spans) c.read.ensures.held)
+
+pub returns-in-Err-clause-spans : goal.returns-in-Err-clause-spans
+returns-in-Err-clause-spans g c = rw c.name_frames.ensures (access-named c.args.pair.now.paged c.read.new.self c.args.spans.now _ (rw c.read.auto.out c.requires.spans) c.read.ensures.held)

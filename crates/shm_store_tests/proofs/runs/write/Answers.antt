@@ -1,0 +1,25 @@
+use Rattle.std.proofs.Common.{refl}
+use Rattle.std.specs.Prelude.{All}
+use Rattle.shm_plain.specs.Held.{FitsPage}
+use Rattle.shm_fault.specs.Store.{held}
+use Rattle.shm_store_tests.proofs.Rows.{access-named, frames-named, alike-written}
+use Rattle.shm_store_tests.proofs.runs.write.Goals as goal
+
+pub write-requires-clause-fit : goal.write-requires-clause-fit
+write-requires-clause-fit g c = rw c.name_frames.ensures (access-named c.args.pair.now.paged c.args.pair.now.paged c.args.spans.now _ c.requires.spans refl).fit
+
+pub write-requires-clause-frames : goal.write-requires-clause-frames
+write-requires-clause-frames g c = rw c.name_frames.ensures (frames-named c.args.pair.now.paged c.args.spans.now)
+
+pub write-requires-in-Ok-clause-fit : goal.write-requires-in-Ok-clause-fit
+write-requires-in-Ok-clause-fit g c =
+    let s = c.args.pair.now.paged in
+    let fit : All (FitsPage (held s)) c.name_frames.new.spans = rw c.name_frames.ensures (access-named s s c.args.spans.now _ c.requires.spans refl).fit in
+    rw c.requires.alike.same fit
+
+pub returns-in-Ok : goal.returns-in-Ok
+returns-in-Ok g c =
+    let p = c.args.pair.now in
+    let s = p.paged in
+    let fit : All (FitsPage (held s)) c.name_frames.new.spans = rw c.name_frames.ensures (access-named s s c.args.spans.now _ c.requires.spans refl).fit in
+    record { alike = alike-written s p.plain p.rows.items c.requires.alike c.write.new.self c.write-in-Ok.new.self c.name_frames.new.spans c.args.bytes.now fit c.in-Ok.ensures.written c.write-in-Ok.ensures c.in-Ok.ensures.count }

@@ -1,0 +1,58 @@
+-- What the tests keep true of the stores that they make.
+use Rattle.std.specs.Prelude.{ℕ, ◌≡◌, ◌==◌, ◌||◌, ◌≤◌, Bool, false, if◌then◌else◌, List, [], ◌∷◌, Option, Some, None, map, length, sum_by, All}
+use Rattle.shm_base.specs.declared.paging.Span.{Span}
+use Rattle.shm_plain.specs.Held.{Held, FitsPage, pages_in}
+use Rattle.shm_plain.specs.Apart.{AreApart}
+use Rattle.shm_fault.specs.Store.{StoreView, held, frame_of, page_of}
+
+-- what a run of calls knows of a segment by itself
+pub record Row : Type 0 where
+  pub seg : ℕ
+  pub locked : Bool
+  pub pages : ℕ
+
+abbrev pub row_of : Held → Row
+row_of g = record { seg = g.id; locked = g.locked; pages = pages_in g }
+
+-- the store holds segment 0 alone, of three pages
+abbrev pub three : List Row
+three = record { seg = 0; locked = false; pages = 3 } ∷ []
+
+abbrev pub HasThree : StoreView → Type 0
+HasThree s = map row_of (held s) ≡ three
+
+-- how many pages a segment has, if there is a row of that number
+abbrev pub known : List Row → ℕ → Option ℕ
+known [] seg = None
+known (r ∷ rs) seg = if r.seg == seg then Some r.pages else known rs seg
+
+abbrev pub row_with_lock : ℕ → Bool → Row → Row
+row_with_lock seg locked r = if r.seg == seg then record r { locked = locked } else r
+
+-- the pages of all segments
+abbrev pub pages_all : List Row → ℕ
+pages_all rs = sum_by (λ (r : Row). r.pages) rs
+
+-- the pages of a row that is of that number or locked
+abbrev pub pinned_in : ℕ → Row → ℕ
+pinned_in seg r = if (r.seg == seg) || r.locked then r.pages else 0
+
+abbrev pub pages_pinned : List Row → ℕ → ℕ
+pages_pinned rs seg = sum_by (pinned_in seg) rs
+
+-- two stores hold the same, the rows tell of which segments, and one has four frames
+pub record AreAlike (s : StoreView) (plain : List Held) (rows : List Row) : Type 0 where
+  pub same : plain ≡ held s
+  pub told : rows ≡ map row_of (held s)
+  pub frames : length s.frames ≡ 4
+  pub apart : AreApart (held s)
+
+-- the stretch with the frame that its page is in
+abbrev pub with_frame : StoreView → Span → Span
+with_frame s p = record p { frame = frame_of s p.seg (page_of p) }
+
+-- stretches that a read or write may be asked for, of so many bytes
+pub record IsAccess (s : StoreView) (ps : List Span) (size : ℕ) : Type 0 where
+  pub few : length ps ≤ 2
+  pub fit : All (FitsPage (held s)) ps
+  pub sum : sum_by (λ (p : Span). p.len) ps ≡ size
