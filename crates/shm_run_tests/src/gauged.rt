@@ -2,7 +2,7 @@
 ghost use Rattle.std.specs.Prelude.{◌≡◌};
 
 use crate::behind::{Below, OPEN, comes_to, script, world, world_over};
-use crate::runs::{BehindFour, COUNTER, COUNTS, LATE, repeated};
+use crate::runs::{BehindFour, COUNTER, COUNTS, late, repeated};
 use shm_history::{Gauge, Keeper, ReaderSeat, Reading, World, gauge};
 use shm_pager::{Pager, PagerFault, RamPager};
 use shm_text::Script;
@@ -171,7 +171,7 @@ fn a_round_is_published(rt: HostRuntime) -> Result<(), Fail> {
         behind: BehindFour::new(),
         readings: &readings,
     };
-    let script = script(alloc, LATE)?;
+    let script = script(alloc, &late(alloc, 2)?)?;
     let world = world(alloc, &script)?;
     let (fault, last) = beside_a_reader(&rt, alloc, world, &script, &gate, &readings, 0)?;
     assert!(rt; fault.is_none());
@@ -267,17 +267,18 @@ fn over_a_waiting_pager<R: Threads + Wait + Sync, G: Gate>(
 
 #[test]
 fn readings_while_a_call_holds_the_lock(rt: HostRuntime) -> Result<(), Fail> {
-    let (fault, events, late) = over_a_waiting_pager(&rt, rt.alloc(), SHORT, &Below(OPEN))?;
+    let (fault, events, in_vain) = over_a_waiting_pager(&rt, rt.alloc(), SHORT, &Below(OPEN))?;
     assert!(rt; fault.is_none());
-    assert_eq!(rt; (events, late), (6, 0));
+    assert_eq!(rt; (events, in_vain), (6, 0));
     Ok(())
 }
 
 #[test]
 fn readings_while_the_flusher_holds_the_lock(rt: HostRuntime) -> Result<(), Fail> {
+    let text = late(rt.alloc(), 2)?;
     let gate = BehindFour::new();
-    let (fault, events, late) = over_a_waiting_pager(&rt, rt.alloc(), LATE, &gate)?;
+    let (fault, events, in_vain) = over_a_waiting_pager(&rt, rt.alloc(), &text, &gate)?;
     assert!(rt; fault.is_none());
-    assert_eq!(rt; (events, late), (4, 0));
+    assert_eq!(rt; (events, in_vain), (4, 0));
     Ok(())
 }

@@ -227,26 +227,39 @@ impl Gate for BehindFour {
     }
 }
 
-pub(crate) const LATE: &[u8] =
-    b"limits 65536 16 64 4 1\nprocess 1 100 100\n1 s = shmget private 8192 600\n1 a = shmat s null -\n1 store a+4094 01020304\n1 load a+4093 6\n0 flush 2\n";
+const FOUR_CALLS: &[u8] =
+    b"limits 65536 16 64 4 1\nprocess 1 100 100\n1 s = shmget private 8192 600\n1 a = shmat s null -\n1 store a+4094 01020304\n1 load a+4093 6\n";
+
+/// Four calls that leave two pages dirty, and a flush round of so many pages at most.
+pub(crate) fn late(alloc: Global, pages: u64) -> Result<Vec<u8>, Fail> {
+    let round = format!(in alloc; "0 flush {pages}\n")?;
+    repeated(alloc, FOUR_CALLS, round.as_bytes(), 1)
+}
+
+// The tally behind such a run.
+fn flushed<R: Threads + Wait + Sync>(rt: &R, alloc: Global, pages: u64) -> Result<Tally, Fail> {
+    let outcome = run_behind(rt, alloc, &late(alloc, pages)?, &BehindFour::new())?;
+    Ok(outcome.world.tally())
+}
 
 #[test]
 fn a_round_behind_the_last_call(rt: HostRuntime) -> Result<(), Fail> {
-    let outcome = run_behind(&rt, rt.alloc(), LATE, &BehindFour::new())?;
-    let wanted = Tally {
-        events: 4,
-        segments: 1,
-        reserved: 2,
-        locked: 0,
-        frames: 4,
-        resident: 2,
-        dirty: 0,
-        slots: 64,
-        used: 2,
-        ins: 0,
-        outs: 2,
-        failures: 0,
-    };
-    assert!(rt; outcome.world.tally() == wanted);
+    for pages in 1..3 {
+        let wanted = Tally {
+            events: 4,
+            segments: 1,
+            reserved: 2,
+            locked: 0,
+            frames: 4,
+            resident: 2,
+            dirty: 2 - pages,
+            slots: 64,
+            used: pages,
+            ins: 0,
+            outs: pages,
+            failures: 0,
+        };
+        assert!(rt; flushed(&rt, rt.alloc(), pages)? == wanted);
+    }
     Ok(())
 }
