@@ -1,2 +1,3 @@
-mod Found
 mod Following
+mod Found
+mod Own

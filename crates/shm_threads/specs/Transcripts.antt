@@ -57,6 +57,11 @@ abbrev pub told : ℕ → List Entry → List Event
 told pid [] = []
 told pid (e ∷ es) = events_of pid e.call e.answer (told pid es)
 
+-- whether the entry is one that is not marked
+abbrev pub is_answered : Option Entry → Bool
+is_answered None = false
+is_answered (Some e) = is_some (reply_in e.answer)
+
 -- whether the call is a fork of the child that was answered ok
 abbrev pub is_fork_of : ℕ → Call → Reply → Bool
 is_fork_of child (Fork c) Done = c == child

@@ -1,10 +1,10 @@
 //! The comparison of the transcripts with the history, once all workers have ended. What a run promises is
 //! what this finds: the workers themselves promise nothing.
-ghost use Rattle.std.specs.Prelude.{◌≡◌, ◌↔◌, ◌≤◌, IfNone, IfOk, IsTrue, All, map, length, drop};
+ghost use Rattle.std.specs.Prelude.{◌≡◌, ◌↔◌, ◌<◌, ◌≤◌, IsNone, IfOk, IsTrue, All, map, length, drop, true, slice_get};
 ghost use Rattle.std.specs.Option.{option_copied};
 ghost use Rattle.shm_base.specs.History.{own_part};
 ghost use Rattle.shm_text.specs.Variables.{no_values};
-ghost use Rattle.shm_threads.specs.Transcripts.{commands_of, reply_in, is_end, Follows, told, is_fork_of, is_forked, is_declared, is_child, pid_in, pid_of, HasLines, FitsMark, IsTranscript, IsAdmitted, IsOutcome, least_of};
+ghost use Rattle.shm_threads.specs.Transcripts.{commands_of, reply_in, is_end, Follows, told, is_fork_of, is_forked, is_declared, is_child, pid_in, pid_of, HasLines, FitsMark, IsTranscript, IsAdmitted, IsOutcome, is_answered, least_of};
 
 use crate::outcome::{Answer, Entry, Transcript};
 use shm_base::{Call, Errno, Event, HostMemory, Process, Reply};
@@ -27,7 +27,7 @@ pub(crate) fn copied(alloc: Global, opening: &Opening) -> Result<Opening, HostMe
 }
 
 fn is_same(one: &Opening, other: &Opening) -> bool
-    ensures { IsTrue result → one.now ≡ other.now }
+    ensures { IsTrue result ↔ one.now ≡ other.now }
 {
     one.limits == other.limits
         && one.areas == other.areas
@@ -35,7 +35,7 @@ fn is_same(one: &Opening, other: &Opening) -> bool
 }
 
 fn are_same(one: &[Process], other: &[Process]) -> bool
-    ensures { IsTrue result → one.now ≡ other.now }
+    ensures { IsTrue result ↔ one.now ≡ other.now }
 {
     one == other
 }
@@ -48,7 +48,7 @@ pub(crate) fn mismatch<P: Pager>(
     script: &Script,
     transcripts: &Vec<Transcript>,
 ) -> Option<u32>
-    ensures { IfNone result (IsOutcome script.now opening.now world.now transcripts.now.items) }
+    ensures { IsNone result ↔ IsOutcome script.now opening.now world.now transcripts.now.items }
 {
     if !is_same(opening, world.opening()) {
         return Some(0);
@@ -62,9 +62,7 @@ pub(crate) fn disagreement(
     history: &[Event],
     transcripts: &Vec<Transcript>,
 ) -> Option<u32>
-    ensures processes { IfNone result (map pid_of transcripts.now.items ≡ map pid_in script.now.processes) }
-    ensures transcripts { IfNone result (All (IsTranscript script.now history.now) transcripts.now.items) }
-    ensures events { IfNone result (All (IsAdmitted script.now.processes) history.now) }
+    ensures { IsNone result ↔ (map pid_of transcripts.now.items ≡ map pid_in script.now.processes) × All (IsTranscript script.now history.now) transcripts.now.items × All (IsAdmitted script.now.processes) history.now }
 {
     if !has_each(&script.processes, transcripts) {
         return Some(0);
@@ -79,13 +77,13 @@ pub(crate) fn disagreement(
 
 // Whether there is one transcript for each process, in order.
 fn has_each(processes: &[Process], transcripts: &[Transcript]) -> bool
-    ensures { IsTrue result → map pid_of transcripts.now ≡ map pid_in processes.now }
+    ensures { IsTrue result ↔ map pid_of transcripts.now ≡ map pid_in processes.now }
 {
     if processes.len() != transcripts.len() {
         return false;
     }
-    for (process, transcript) in processes.iter().zip(transcripts) {
-        if process.pid != transcript.pid {
+    for (index, process) in processes.iter().enumerate() {
+        if process.pid != transcripts[index].pid {
             return false;
         }
     }
@@ -94,7 +92,7 @@ fn has_each(processes: &[Process], transcripts: &[Transcript]) -> bool
 
 // The least pid of an event that is of no declared process, or of one that was not live.
 fn first_stranger(processes: &[Process], history: &[Event]) -> Option<u32>
-    ensures { IfNone result (All (IsAdmitted processes.now) history.now) }
+    ensures { IsNone result ↔ All (IsAdmitted processes.now) history.now }
 {
     let mut found = None;
     for event in history {
@@ -126,7 +124,7 @@ pub(crate) fn least(so_far: Option<u32>, pid: u32) -> u32
 
 // The least pid whose transcript is not its process's.
 fn first_broken(script: &Script, history: &[Event], transcripts: &[Transcript]) -> Option<u32>
-    ensures { IfNone result (All (IsTranscript script.now history.now) transcripts.now) }
+    ensures { IsNone result ↔ All (IsTranscript script.now history.now) transcripts.now }
 {
     let mut found = None;
     for transcript in transcripts {
@@ -138,7 +136,7 @@ fn first_broken(script: &Script, history: &[Event], transcripts: &[Transcript]) 
 }
 
 fn is_whole(script: &Script, history: &[Event], transcript: &Transcript) -> bool
-    ensures { IsTrue result → IsTranscript script.now history.now transcript.now }
+    ensures { IsTrue result ↔ IsTranscript script.now history.now transcript.now }
 {
     has_lines(script, history, transcript)
         && is_own(history, transcript.pid, &transcript.entries)
@@ -146,7 +144,7 @@ fn is_whole(script: &Script, history: &[Event], transcript: &Transcript) -> bool
 }
 
 fn has_lines(script: &Script, history: &[Event], transcript: &Transcript) -> bool
-    ensures { IsTrue result → HasLines script.now history.now transcript.now }
+    ensures { IsTrue result ↔ HasLines script.now history.now transcript.now }
 {
     if follow(&script.lines, transcript.pid, &transcript.entries) {
         return true;
@@ -198,7 +196,7 @@ fn fits(entry: &Entry) -> bool
 
 // Whether the entries follow the lines of the process.
 fn follow(lines: &[Line], pid: u32, entries: &[Entry]) -> bool
-    ensures { IsTrue result → Follows no_values (commands_of pid lines.now) entries.now }
+    ensures { IsTrue result ↔ Follows no_values (commands_of pid lines.now) entries.now }
 {
     let mut vars = Vars::new();
     let mut next = 0;
@@ -227,7 +225,7 @@ fn follow(lines: &[Line], pid: u32, entries: &[Entry]) -> bool
 }
 
 fn has_call(entry: &Entry, call: &Call) -> bool
-    ensures { IsTrue result → entry.now.call ≡ call.now }
+    ensures { IsTrue result ↔ entry.now.call ≡ call.now }
 {
     entry.call == *call
 }
@@ -254,7 +252,7 @@ pub(crate) fn ends(entry: &Entry) -> bool
 
 // Whether the answered entries are the process's own part of the history.
 fn is_own(history: &[Event], pid: u32, entries: &[Entry]) -> bool
-    ensures { IsTrue result → told pid entries.now ≡ own_part pid history.now }
+    ensures { IsTrue result ↔ told pid entries.now ≡ own_part pid history.now }
 {
     let mut next = 0;
     for event in history {
@@ -272,7 +270,7 @@ fn is_own(history: &[Event], pid: u32, entries: &[Entry]) -> bool
 
 // Whether the entry is the event's call with its reply.
 fn is_event(entry: &Entry, event: &Event) -> bool
-    ensures { IsTrue result → (entry.now.call ≡ event.now.call) × (entry.now.answer ≡ Answer.Reply event.now.reply) }
+    ensures { IsTrue result ↔ (entry.now.call ≡ event.now.call) × (entry.now.answer ≡ Answer.Reply event.now.reply) }
 {
     match &entry.answer {
         Answer::Reply(reply) => entry.call == event.call && *reply == event.reply,
@@ -285,6 +283,7 @@ fn next_answered(entries: &[Entry], from: usize, pid: u32) -> usize
     requires { from ≤ length entries.now }
     ensures bound { result ≤ length entries.now }
     ensures same { told pid (drop from entries.now) ≡ told pid (drop result entries.now) }
+    ensures answered { result < length entries.now → is_answered (slice_get entries.now result) ≡ true }
 {
     let mut next = from;
     while next < entries.len() && entries[next].answer == Answer::HostMemory {

@@ -8,4 +8,6 @@ same : (x y : Process) → (eq-value.it x y ≡ true → x ≡ y) × (x ≡ y �
 same x y = (search rules, search rules)
 
 pub returns : goal.returns
-returns c = λ t. (pointwise_decides same c.args.one.now c.args.other.now).0 (search rules)
+returns c =
+    let both = pointwise_decides same c.args.one.now c.args.other.now in
+    (λ t. both.0 (search rules), λ e. (let k = both.1 e in search rules))
