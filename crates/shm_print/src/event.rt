@@ -1,14 +1,23 @@
 //! The printed text of events and replies.
-ghost use Rattle.std.specs.Prelude.{◌≡◌, IfOk, string_bytes};
-ghost use Rattle.shm_print.specs.Text as text;
+ghost use Rattle.std.specs.Prelude.{◌≡◌, ◌++◌, IfOk, OnOk, string_bytes};
+ghost use Rattle.hex.specs.Hex.{encode_lower};
+ghost use Rattle.shm_print.specs.Text as printed;
 
 use crate::words::{Address, AtWord, GetWord, Key, Mode, StatusWord};
 use shm_base::{Call, Event, Perm, Reply, ShmidDs};
 use std::alloc::{AllocError, Global};
 
-/// The word of a call and its arguments, as they were when the call was made.
-pub fn call_text(alloc: Global, call: &Call) -> Result<String, AllocError>
-    ensures { IfOk result (λ s. string_bytes s ≡ text.call_text call.now) }
+// Puts bytes behind a text, two digits each.
+fn push_bytes(alloc: Global, text: &mut String, bytes: &[u8]) -> Result<(), AllocError>
+    ensures { OnOk result (string_bytes text.new ≡ string_bytes text.old ++ encode_lower bytes.now) }
+{
+    let digits = hex::encode(alloc, bytes)?;
+    text.push_str(&digits)
+}
+
+// Puts the word of a call and its arguments behind a text.
+fn push_call(alloc: Global, text: &mut String, call: &Call) -> Result<(), AllocError>
+    ensures { OnOk result (string_bytes text.new ≡ string_bytes text.old ++ printed.call_text call.now) }
 {
     match call {
         Call::Shmget {
@@ -18,95 +27,133 @@ pub fn call_text(alloc: Global, call: &Call) -> Result<String, AllocError>
             flags,
         } => {
             let (key, mode, flags) = (Key(*key), Mode(*mode), GetWord(*flags));
-            format!(in alloc; "shmget {key} {size} {mode}{flags}")
+            write!(text, "shmget {key} {size} {mode}{flags}")
         }
         Call::Shmat { id, addr, flags } => {
             let (addr, flags) = (Address(*addr), AtWord(*flags));
-            format!(in alloc; "shmat {id} {addr} {flags}")
+            write!(text, "shmat {id} {addr} {flags}")
         }
         Call::Shmdt { addr } => {
             let addr = Address(*addr);
-            format!(in alloc; "shmdt {addr}")
+            write!(text, "shmdt {addr}")
         }
-        Call::Stat { id } => format!(in alloc; "stat {id}"),
+        Call::Stat { id } => write!(text, "stat {id}"),
         Call::Set { id, uid, gid, mode } => {
             let mode = Mode(*mode);
-            format!(in alloc; "set {id} {uid} {gid} {mode}")
+            write!(text, "set {id} {uid} {gid} {mode}")
         }
-        Call::Rmid { id } => format!(in alloc; "rmid {id}"),
-        Call::Lock { id } => format!(in alloc; "lock {id}"),
-        Call::Unlock { id } => format!(in alloc; "unlock {id}"),
+        Call::Rmid { id } => write!(text, "rmid {id}"),
+        Call::Lock { id } => write!(text, "lock {id}"),
+        Call::Unlock { id } => write!(text, "unlock {id}"),
         Call::Load { addr, len } => {
             let (addr, len) = (Address(*addr), len.get());
-            format!(in alloc; "load {addr} {len}")
+            write!(text, "load {addr} {len}")
         }
         Call::Store { addr, chunk } => {
-            let (addr, bytes) = (Address(*addr), hex::encode(alloc, chunk.as_slice())?);
-            format!(in alloc; "store {addr} {bytes}")
+            let addr = Address(*addr);
+            write!(text, "store {addr} ")?;
+            push_bytes(alloc, text, chunk.as_slice())
         }
         Call::Xadd { addr, add } => {
             let addr = Address(*addr);
-            format!(in alloc; "xadd {addr} {add}")
+            write!(text, "xadd {addr} {add}")
         }
-        Call::Fork { child } => format!(in alloc; "fork {child}"),
-        Call::Exec => format!(in alloc; "exec"),
-        Call::Exit => format!(in alloc; "exit"),
-        Call::Swapoff { area } => format!(in alloc; "swapoff {area}"),
+        Call::Fork { child } => write!(text, "fork {child}"),
+        Call::Exec => text.push_str("exec"),
+        Call::Exit => text.push_str("exit"),
+        Call::Swapoff { area } => write!(text, "swapoff {area}"),
     }
 }
 
-fn perm_text(alloc: Global, perm: &Perm) -> Result<String, AllocError>
-    ensures { IfOk result (λ s. string_bytes s ≡ text.perm_text perm.now) }
+fn push_perm(text: &mut String, perm: &Perm) -> Result<(), AllocError>
+    ensures { OnOk result (string_bytes text.new ≡ string_bytes text.old ++ printed.perm_text perm.now) }
 {
     let (uid, gid, cuid, cgid) = (perm.uid, perm.gid, perm.cuid, perm.cgid);
     let mode = Mode(perm.mode);
-    format!(in alloc; "uid={uid} gid={gid} cuid={cuid} cgid={cgid} mode={mode}")
+    write!(text, "uid={uid} gid={gid} cuid={cuid} cgid={cgid} mode={mode}")
 }
 
-fn use_text(alloc: Global, shown: &ShmidDs) -> Result<String, AllocError>
-    ensures { IfOk result (λ s. string_bytes s ≡ text.use_text shown.now) }
+fn push_uses(text: &mut String, shown: &ShmidDs) -> Result<(), AllocError>
+    ensures { OnOk result (string_bytes text.new ≡ string_bytes text.old ++ printed.use_text shown.now) }
 {
     let (cpid, lpid, nattch) = (shown.cpid, shown.lpid, shown.nattch);
     let (atime, dtime, ctime) = (shown.atime, shown.dtime, shown.ctime);
-    format!(in alloc;
+    write!(
+        text,
         "cpid={cpid} lpid={lpid} nattch={nattch} atime={atime} dtime={dtime} ctime={ctime}"
     )
 }
 
-fn stat_text(alloc: Global, shown: &ShmidDs) -> Result<String, AllocError>
-    ensures { IfOk result (λ s. string_bytes s ≡ text.stat_text shown.now) }
+fn push_stat(text: &mut String, shown: &ShmidDs) -> Result<(), AllocError>
+    ensures { OnOk result (string_bytes text.new ≡ string_bytes text.old ++ printed.stat_text shown.now) }
 {
-    let owners = perm_text(alloc, &shown.perm)?;
-    let uses = use_text(alloc, shown)?;
     let (key, status, size) = (Key(shown.key), StatusWord(shown.status), shown.size);
-    format!(in alloc; "key={key} {owners} status={status} size={size} {uses}")
+    write!(text, "key={key} ")?;
+    push_perm(text, &shown.perm)?;
+    write!(text, " status={status} size={size} ")?;
+    push_uses(text, shown)
+}
+
+// Puts a reply behind a text.
+fn push_reply(alloc: Global, text: &mut String, reply: &Reply) -> Result<(), AllocError>
+    ensures { OnOk result (string_bytes text.new ≡ string_bytes text.old ++ printed.reply_text reply.now) }
+{
+    match reply {
+        Reply::Id(id) => write!(text, "{id}"),
+        Reply::Addr(addr) => {
+            let addr = Address(*addr);
+            write!(text, "{addr}")
+        }
+        Reply::Bytes(chunk) => push_bytes(alloc, text, chunk.as_slice()),
+        Reply::Number(number) => write!(text, "{number}"),
+        Reply::Stat(shown) => push_stat(text, shown),
+        Reply::Done => text.push_str("ok"),
+        Reply::Refused(errno) => write!(text, "{errno}"),
+    }
+}
+
+/// Puts the line of an event behind a text: its place in the history from 1, the process, the call and the
+/// reply. Where memory is refused a part of the line may stand there.
+pub fn push_event(
+    alloc: Global,
+    text: &mut String,
+    place: u64,
+    event: &Event,
+) -> Result<(), AllocError>
+    ensures { OnOk result (string_bytes text.new ≡ string_bytes text.old ++ printed.event_text place event.now) }
+{
+    let pid = event.pid;
+    write!(text, "{place} {pid} ")?;
+    push_call(alloc, text, &event.call)?;
+    text.push_str(" = ")?;
+    push_reply(alloc, text, &event.reply)?;
+    text.push_str("\n")
+}
+
+/// The word of a call and its arguments, as they were when the call was made.
+pub fn call_text(alloc: Global, call: &Call) -> Result<String, AllocError>
+    ensures { IfOk result (λ s. string_bytes s ≡ printed.call_text call.now) }
+{
+    let mut text = String::new(alloc);
+    push_call(alloc, &mut text, call)?;
+    Ok(text)
 }
 
 /// A reply: an identifier or a number in decimal, an address, bytes as digits, what stat shows, `ok`, or the
 /// name of a refusal.
 pub fn reply_text(alloc: Global, reply: &Reply) -> Result<String, AllocError>
-    ensures { IfOk result (λ s. string_bytes s ≡ text.reply_text reply.now) }
+    ensures { IfOk result (λ s. string_bytes s ≡ printed.reply_text reply.now) }
 {
-    match reply {
-        Reply::Id(id) => format!(in alloc; "{id}"),
-        Reply::Addr(addr) => {
-            let addr = Address(*addr);
-            format!(in alloc; "{addr}")
-        }
-        Reply::Bytes(chunk) => hex::encode(alloc, chunk.as_slice()),
-        Reply::Number(number) => format!(in alloc; "{number}"),
-        Reply::Stat(shown) => stat_text(alloc, shown),
-        Reply::Done => format!(in alloc; "ok"),
-        Reply::Refused(errno) => format!(in alloc; "{errno}"),
-    }
+    let mut text = String::new(alloc);
+    push_reply(alloc, &mut text, reply)?;
+    Ok(text)
 }
 
 /// The line of an event: its place in the history from 1, the process, the call and the reply.
 pub fn event_text(alloc: Global, place: u64, event: &Event) -> Result<String, AllocError>
-    ensures { IfOk result (λ s. string_bytes s ≡ text.event_text place event.now) }
+    ensures { IfOk result (λ s. string_bytes s ≡ printed.event_text place event.now) }
 {
-    let pid = event.pid;
-    let call = call_text(alloc, &event.call)?;
-    let reply = reply_text(alloc, &event.reply)?;
-    format!(in alloc; "{place} {pid} {call} = {reply}\n")
+    let mut text = String::new(alloc);
+    push_event(alloc, &mut text, place, event)?;
+    Ok(text)
 }

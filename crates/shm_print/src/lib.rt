@@ -7,5 +7,5 @@ mod lines;
 mod words;
 
 pub use counts::{usage, usage_text};
-pub use event::{call_text, event_text, reply_text};
+pub use event::{call_text, event_text, push_event, reply_text};
 pub use lines::{listing, segment_line};

@@ -1,5 +1,5 @@
 //! What both runs do with a world: it is opened as the script says, and its text is written.
-ghost use Rattle.std.specs.Prelude.{◌≡◌, ◌⊎◌, [], length, map, OnOk, IfErr, IfOk};
+ghost use Rattle.std.specs.Prelude.{◌≡◌, ◌⊎◌, [], length, map, OnOk, IfErr, IfOk, string_bytes};
 ghost use Rattle.std.specs.Io.KnownBytes.{Appends};
 ghost use Rattle.shm_print.specs.Text.{events_text};
 ghost use Rattle.shm_life.specs.Start.{start_error};
@@ -10,7 +10,7 @@ use crate::fault::{RunFault, stopped};
 use shm_base::Event;
 use shm_history::{System, World};
 use shm_pager::Pager;
-use shm_print::{event_text, listing, usage};
+use shm_print::{listing, push_event, usage};
 use shm_text::Script;
 use std::alloc::{AllocError, Global};
 use std::io::Write;
@@ -33,29 +33,26 @@ pub(crate) fn open_world<P: Pager>(
 }
 
 // The lines of a history.
-fn history_text(alloc: Global, history: &[Event]) -> Result<Vec<u8>, AllocError>
-    ensures { IfOk result (λ text. text.items ≡ events_text 1 history.now) }
+fn history_text(alloc: Global, history: &[Event]) -> Result<String, AllocError>
+    ensures { IfOk result (λ text. string_bytes text ≡ events_text 1 history.now) }
 {
-    let mut text = Vec::new(alloc);
+    let mut text = String::new(alloc);
     let mut place = 1u64;
     for event in history {
-        let line = event_text(alloc, place, event)?;
-        text.extend_from_slice(line.as_bytes())?;
+        push_event(alloc, &mut text, place, event)?;
         place += 1;
     }
     Ok(text)
 }
 
 // What is printed of a world: its event lines, the listing of its segments, and its usage.
-fn world_text<P: Pager>(alloc: Global, world: &World<P>) -> Result<Vec<u8>, AllocError>
-    ensures text { IfOk result (λ text. text.items ≡ world_text world.now) }
+fn world_text<P: Pager>(alloc: Global, world: &World<P>) -> Result<String, AllocError>
+    ensures text { IfOk result (λ text. string_bytes text ≡ world_text world.now) }
     ensures sound { IsSound world.now }
 {
     let mut text = history_text(alloc, world.history())?;
-    let listed = listing(alloc, world)?;
-    text.extend_from_slice(listed.as_bytes())?;
-    let counts = usage(alloc, world)?;
-    text.extend_from_slice(counts.as_bytes())?;
+    text.push_str(&listing(alloc, world)?)?;
+    text.push_str(&usage(alloc, world)?)?;
     Ok(text)
 }
 
@@ -71,7 +68,7 @@ pub(crate) fn write_world<W: Write, P: Pager>(
     ensures silent { IfErr result (λ f. IsSilent f (W.contents writer.old) (W.contents writer.new)) }
 {
     match world_text(alloc, world) {
-        Ok(text) => match write_output(writer, &text) {
+        Ok(text) => match write_output(writer, text.as_bytes()) {
             Ok(()) => Ok(()),
             Err(_) => Err(RunFault::WriteFailed),
         },
