@@ -1,11 +1,21 @@
 //! The printed text of events and replies.
-ghost use Rattle.std.specs.Prelude.{◌≡◌, ◌++◌, IfOk, OnOk, string_bytes};
+ghost use Rattle.std.specs.Prelude.{◌≡◌, ◌++◌, IfOk, OnOk, string_bytes, decimal, codes};
 ghost use Rattle.hex.specs.Hex.{encode_lower};
 ghost use Rattle.shm_print.specs.Text as printed;
 
 use crate::words::{Address, AtWord, GetWord, Key, Mode, StatusWord};
+use itoa::Buffer;
 use shm_base::{Call, Event, Perm, Reply, ShmidDs};
 use std::alloc::{AllocError, Global};
+
+// Puts a number in decimal and a space behind a text.
+fn push_number(text: &mut String, number: u64) -> Result<(), AllocError>
+    ensures { OnOk result (string_bytes text.new ≡ string_bytes text.old ++ (decimal number ++ codes " ")) }
+{
+    let mut digits = Buffer::new();
+    text.push_str(digits.format(number))?;
+    text.push_str(" ")
+}
 
 // Puts bytes behind a text, two digits each.
 fn push_bytes(alloc: Global, text: &mut String, bytes: &[u8]) -> Result<(), AllocError>
@@ -70,7 +80,10 @@ fn push_perm(text: &mut String, perm: &Perm) -> Result<(), AllocError>
 {
     let (uid, gid, cuid, cgid) = (perm.uid, perm.gid, perm.cuid, perm.cgid);
     let mode = Mode(perm.mode);
-    write!(text, "uid={uid} gid={gid} cuid={cuid} cgid={cgid} mode={mode}")
+    write!(
+        text,
+        "uid={uid} gid={gid} cuid={cuid} cgid={cgid} mode={mode}"
+    )
 }
 
 fn push_uses(text: &mut String, shown: &ShmidDs) -> Result<(), AllocError>
@@ -122,8 +135,8 @@ pub fn push_event(
 ) -> Result<(), AllocError>
     ensures { OnOk result (string_bytes text.new ≡ string_bytes text.old ++ printed.event_text place event.now) }
 {
-    let pid = event.pid;
-    write!(text, "{place} {pid} ")?;
+    push_number(text, place)?;
+    push_number(text, u64::from(event.pid))?;
     push_call(alloc, text, &event.call)?;
     text.push_str(" = ")?;
     push_reply(alloc, text, &event.reply)?;
