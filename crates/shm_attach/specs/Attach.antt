@@ -7,7 +7,6 @@ use Rattle.shm_base.specs.State.{Piece, Runner}
 use Rattle.shm_base.specs.Space.{lowest_address, last_address, choose, inserted, cut, cut_segments}
 use Rattle.shm_base.specs.Step.{Caller, is_rdonly, with_pieces}
 use Rattle.shm_areas.specs.Fixed.{fixed}
-use Rattle.shm_attach.specs.Tables.{Entry}
 
 abbrev pub chosen : Option ℕ → Result ℕ Errno
 chosen None = Err Enomem
@@ -28,13 +27,13 @@ pub record IsRange (pages base : ℕ) : Type 0 where
   pub low : lowest_address ≤ base
   pub high : base + 4096 * pages ≤ last_address
 
+-- the piece of these pages of a segment, all from its first on
+abbrev pub new_piece : ℕ → ℕ → ℕ → Bool → Piece
+new_piece seg base pages writable = record { base = base; seg = seg; first_page = 0; pages = pages; writable = writable }
+
 -- the new piece
 abbrev pub piece_for : ℕ → ℕ → AtFlags → ℕ → Piece
-piece_for seg pages flags base = record { base = base; seg = seg; first_page = 0; pages = pages; writable = not (is_rdonly flags) }
-
--- the piece of these pages of a segment, all from its first on
-abbrev pub new_piece : ℕ → ℕ → Bool → Entry → Piece
-new_piece base pages writable e = record { base = base; seg = e.seg; first_page = 0; pages = pages; writable = writable }
+piece_for seg pages flags base = new_piece seg base pages (not (is_rdonly flags))
 
 -- where the new piece begins, the segments that lost pages to it, and the processes with it
 pub record Attachment : Type 0 where

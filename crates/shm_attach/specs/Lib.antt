@@ -1,5 +1,6 @@
 pub mod Views
 pub mod Spaces
+pub mod Entries
 pub mod Tables
 pub mod Exact
 pub mod Place

@@ -32,14 +32,8 @@ impl Spaces {
         let Some(origin) = space_at(&self.processes, caller.index).origin_of(addr) else {
             return Err(Errno::Einval);
         };
-        let gone = take_at(
-            &mut self.processes,
-            &mut self.tables,
-            caller.index,
-            addr,
-            origin.seg,
-        );
-        self.counts.take(origin.seg, gone);
+        let gone = take_at(&mut self.processes, caller.index, addr, origin.seg);
+        self.tables.replace(origin.seg, gone, 0);
         Ok(origin.seg)
     }
 
@@ -53,12 +47,10 @@ impl Spaces {
     {
         take_range(
             &mut self.processes,
-            &mut self.counts,
             &mut self.tables,
             caller.index,
             LOWEST,
             END,
-            0,
         )
     }
 

@@ -1,10 +1,9 @@
-//! The pieces of all processes, how many pieces each segment has, in which frame each page of a piece is,
+//! The pieces of all processes, how many pieces each segment has, in which frame each of their pages is,
 //! and the spans of an access.
 #![tactic(auto)]
 
 mod attach;
 mod changes;
-mod counts;
 mod fork;
 mod leave;
 mod lost;

@@ -13,7 +13,6 @@ ghost use Rattle.shm_base.specs.Spans.{span_places, InPage, page_of};
 ghost use Rattle.shm_attach.specs.Spans.{wanted, pieces_by, PassPages};
 
 use crate::changes::space_at;
-use crate::counts::Counts;
 use crate::process::{Caller, Life, Runner};
 use crate::spans::{Segv, Spans, spans_in};
 use crate::tables::Tables;
@@ -25,11 +24,10 @@ use std::alloc::Global;
 use std::marker::Model;
 
 /// The processes in the order in which they were declared, each with its pieces, the attach count of each
-/// segment, and the translations: for each page of each piece the frame that it is in, or none.
+/// segment, and the translations: for each page of each attached segment the frame that it is in, or none.
 #[derive(Drop)]
 pub struct Spaces {
     pub(crate) processes: IndexMap<u32, Runner>,
-    pub(crate) counts: Counts,
     pub(crate) tables: Tables,
 }
 
@@ -37,13 +35,14 @@ impl Model for Spaces {
     ghost use Rattle.shm_attach.specs.Views.{runners_view};
     ghost use Rattle.shm_attach.specs.Spaces.{SpacesView};
     ghost use Rattle.shm_attach.specs.Exact.{IsExact};
-    ghost use Rattle.shm_attach.specs.Tables.{translations_of, IsTied};
+    ghost use Rattle.shm_attach.specs.Entries.{translations_of};
+    ghost use Rattle.shm_attach.specs.Tables.{IsTied, AllHeld};
 
     ghost Value = { SpacesView };
 
     ghost view = { λ s. record { runners = runners_view s.processes.entries; translations = translations_of s.tables.slab } };
 
-    ghost invariant = { λ s. IsExact (runners_view s.processes.entries) s.counts × IsTied s.processes.entries s.tables.slab };
+    ghost invariant = { λ s. IsExact (runners_view s.processes.entries) s.tables × IsTied s.tables × AllHeld s.processes.entries s.tables.slab };
 }
 
 fn born(process: &Process) -> Life
@@ -71,7 +70,6 @@ impl Spaces {
         }
         Ok(Spaces {
             processes: by_pid,
-            counts: Counts::new(alloc),
             tables: Tables::new(alloc),
         })
     }
@@ -101,11 +99,10 @@ impl Spaces {
         ensures value { result ≡ attach_count self.now.runners seg }
         ensures unnamed { result ≡ 0 → All (λ (t : Translation). t.seg ≢ seg) self.now.translations }
     {
-        self.counts.get(seg)
+        self.tables.count(seg)
     }
 
-    /// The spans of an access of a process to so many addresses, each with the frame that its piece keeps for
-    /// the page. Segv where the process is not live, where
+    /// The spans of an access of a process to so many addresses, each with the frame that is kept for its page. Segv where the process is not live, where
     /// an address has no piece, and for a write where one lies in a piece that is read-only.
     pub fn spans(&self, pid: u32, addr: u64, len: u64, write: bool) -> Result<Spans, Segv>
         requires size { (1 ≤ len) × (len ≤ 64) }
@@ -123,7 +120,7 @@ impl Spaces {
         spans_in(space, &self.tables, addr, len, write)
     }
 
-    /// Notes which pages moved, one after another, in every piece. It takes no memory.
+    /// Notes which pages moved, one after another, for all pieces at once. It takes no memory.
     pub fn note(&mut self, moved: &[Move])
         ensures runners { self.new.runners ≡ self.old.runners }
         ensures translated { (m n : StoreView) → AreTrue self.old.translations m → Moves moved.now m n → AreTrue self.new.translations n }

@@ -93,15 +93,14 @@ impl<P: Pager> Machine<P> {
     #[tactic(auto, using(crate::proofs::Running::keeps_refl))]
     /// A child that was declared is born, with the caller's credentials and pieces; Eagain where the
     /// process is no such child.
-    pub(crate) fn fork(&mut self, caller: &Caller, child: u32) -> Result<Reply, HostMemory>
+    pub(crate) fn fork(&mut self, caller: &Caller, child: u32) -> Reply
         requires { IsCallerOf self.old.flat caller.now }
-        ensures step { IfOk result (λ r. flat.fork self.old.flat (seen caller.now self.old.flat.runners) child ≡ record { reply = r; state = self.new.flat }) }
+        ensures step { flat.fork self.old.flat (seen caller.now self.old.flat.runners) child ≡ record { reply = result; state = self.new.flat } }
         ensures keeps { KeepsOn self.old.memory self.new.memory }
-        ensures err { OnErr result (self.new ≡ self.old) }
     {
-        match self.spaces.fork(caller, child)? {
-            Ok(()) => Ok(Reply::Done),
-            Err(errno) => Ok(Reply::Refused(errno)),
+        match self.spaces.fork(caller, child) {
+            Ok(()) => Reply::Done,
+            Err(errno) => Reply::Refused(errno),
         }
     }
 

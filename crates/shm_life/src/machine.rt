@@ -61,7 +61,7 @@ impl<P: Pager> Machine<P> {
             Call::Load { addr, len } => Ok(self.load(&caller, *addr, *len)),
             Call::Store { addr, chunk } => Ok(self.store(&caller, *addr, chunk)),
             Call::Xadd { addr, add } => Ok(self.xadd(&caller, *addr, *add)),
-            Call::Fork { child } => self.fork(&caller, *child),
+            Call::Fork { child } => Ok(self.fork(&caller, *child)),
             Call::Exec => Ok(self.exec(time, &caller)),
             Call::Exit => Ok(self.exit(time, &caller)),
             Call::Swapoff { area } => Ok(self.swapoff(&caller, *area)),

@@ -52,7 +52,7 @@ fn detach(spaces: &mut Spaces, pid: u32, addr: u64) -> Option<Result<u32, Errno>
 
 fn fork(spaces: &mut Spaces, pid: u32, child: u32) -> Option<Result<(), Errno>> {
     let caller = spaces.caller(pid)?;
-    spaces.fork(&caller, child).ok()
+    Some(spaces.fork(&caller, child))
 }
 
 fn span(seg: u32, at: u64, len: u64) -> Span {
@@ -227,6 +227,22 @@ fn moves_reach_each_piece_and_each_process(rt: HostRuntime) -> Result<(), HostMe
     assert!(rt; frame_at(&spaces, 1, 0x40002fff).is_none());
     assert!(rt; frame_at(&spaces, 2, 0x40002fff).is_none());
     assert!(rt; frame_at(&spaces, 2, 0x40000000) == Some(5));
+    Ok(())
+}
+
+#[test]
+fn a_gone_segment_has_no_frames(rt: HostRuntime) -> Result<(), HostMemory> {
+    let store = bare_store(rt.alloc())?;
+    let mut spaces = family(rt.alloc())?;
+    assert!(rt; attach(&mut spaces, &store, 1, 0, 1, 0, AtFlags::empty()) == Some(Ok(0x40000000)));
+    spaces.note(&[Move::Came(PageRef { seg: 0, page: 0 }, 5)]);
+    assert!(rt; attach(&mut spaces, &store, 1, 0, 2, 0, AtFlags::empty()) == Some(Ok(0x40001000)));
+    assert!(rt; detach(&mut spaces, 1, 0x40000000) == Some(Ok(0)));
+    assert!(rt; frame_at(&spaces, 1, 0x40001000) == Some(5));
+    assert!(rt; frame_at(&spaces, 1, 0x40002000).is_none());
+    assert!(rt; detach(&mut spaces, 1, 0x40001000) == Some(Ok(0)));
+    assert!(rt; attach(&mut spaces, &store, 1, 0, 1, 0, AtFlags::empty()) == Some(Ok(0x40000000)));
+    assert!(rt; frame_at(&spaces, 1, 0x40000000).is_none());
     Ok(())
 }
 

@@ -45,10 +45,8 @@ returns-clause-attached g c =
     let found : base_for (pieces_at rs i) pages flags c.args.addr ≡ Ok base =
     ap (λ (qs : List flat.Piece). base_for qs pages flags c.args.addr) (sym own) ∙ sym c.in-Ok.ensures.value in
     let q = piece_for c.args.seg pages flags base in
-    let p = new_piece base pages (not c.contains-writable.result) c.in_ok-table.table in
-    let same : q ≡ p =
-    ap (λ b. record { base = base; seg = c.args.seg; first_page = 0; pages = pages; writable = not b }) (sym (c.contains-writable.ensures tt))
-    ∙ ap (λ x. record { base = base; seg = x; first_page = 0; pages = pages; writable = not c.contains-writable.result }) (sym c.in_ok-table.ensures.seg) in
+    let p = new_piece c.args.seg base pages (not c.contains-writable.result) in
+    let same : q ≡ p = ap (λ b. new_piece c.args.seg base pages (not b)) (sym (c.contains-writable.ensures tt)) in
     let runners : with_pieces rs k (inserted q (f (pieces_at rs i))) ≡ c.put.new.self.runners =
     with_pieces-at c.args.caller.now rs (λ ps. inserted q (f ps)) c.requires.live
     ∙ ap (λ (x : flat.Piece). with_pieces_at rs i (λ ps. inserted x (f ps))) same ∙ sym c.in_ok-lost.ensures.runners in

@@ -8,10 +8,10 @@ use Rattle.shm_attach.specs.Fork.{forked_at, forked_by}
 use Rattle.shm_attach.proofs.Processes.{nobody}
 use Rattle.shm_attach.proofs.Callers.{caller_within, caller_born, child_at}
 use Rattle.shm_attach.proofs.Keeping.{small_counts, own_counted, with_life_at-pieces, IsExact-set}
-use Rattle.shm_attach.specs.Tables.{stored_at, backwards}
-use Rattle.shm_attach.proofs.Ties.{has-slots, true-slots}
-use Rattle.shm_attach.proofs.Shapes.{tied-own, backwards-slots}
-use Rattle.shm_attach.proofs.Translations.{keeps}
+use Rattle.std.specs.Prelude.{All}
+use Rattle.shm_areas.specs.declared.piece.Piece.{Piece as Stored}
+use Rattle.shm_attach.specs.Entries.{translations_of}
+use Rattle.shm_attach.specs.Tables.{IsHeld, AllHeld}
 use Rattle.shm_attach.proofs.spaces.Spaces.fork.Goals as goal
 
 pub copy_pieces-requires-clause-parent : goal.copy_pieces-requires-clause-parent
@@ -36,37 +36,20 @@ copy_pieces-requires-clause-none c =
 pub copy_pieces-requires-clause-counted : goal.copy_pieces-requires-clause-counted
 copy_pieces-requires-clause-counted c = λ id.
     let within = caller_within c.args.caller.now c.self.inside.processes.entries (rw (← c.self.view_is) at c.requires) in
-    own_counted (runners_view c.self.inside.processes.entries) c.self.inside.counts c.args.caller.now.index c.self.invariant.0
+    own_counted (runners_view c.self.inside.processes.entries) c.self.inside.tables c.args.caller.now.index c.self.invariant.0
     (omega (arith, within, length-map c.self.inside.processes.entries runner_view)) id
 
 pub copy_pieces-requires-clause-small : goal.copy_pieces-requires-clause-small
 copy_pieces-requires-clause-small c = λ id.
-    omega (arith, small_counts (runners_view c.self.inside.processes.entries) c.self.inside.counts c.self.invariant.0 id)
+    omega (arith, small_counts (runners_view c.self.inside.processes.entries) c.self.inside.tables c.self.invariant.0 id)
 
 pub set_life_at-requires : goal.set_life_at-requires
 set_life_at-requires c =
     let ch = child_at c.args.child c.in-Some.index (runners_view c.self.inside.processes.entries) (sym c.in-Some.ensures) in
     omega (arith, c.copy_pieces.ensures.count, ch.within, length-map c.self.inside.processes.entries runner_view)
 
-pub space_at-requires : goal.space_at-requires
-space_at-requires c = caller_within c.args.caller.now c.self.inside.processes.entries (rw (← c.self.view_is) at c.requires)
-
-pub copies_of-requires-clause-tied : goal.copies_of-requires-clause-tied
-copies_of-requires-clause-tied c = λ s.
-    rw (c.pieces-pieces.ensures.value ∙ c.space_at.ensures.stored) (tied-own c.self.inside.processes.entries c.self.inside.tables.slab c.args.caller.now.index c.self.invariant.1 s)
-
-pub copy_pieces-requires-clause-tied : goal.copy_pieces-requires-clause-tied
-copy_pieces-requires-clause-tied c = λ s.
-    let own = tied-own c.self.inside.processes.entries c.self.inside.tables.slab c.args.caller.now.index c.self.invariant.1 s in
-    omega (arith, own, has-slots c.self.inside.tables.slab c.reserve.new.self.slab c.reserve.ensures.same s)
-
-pub copy_pieces-requires-clause-copies : goal.copy_pieces-requires-clause-copies
-copy_pieces-requires-clause-copies c =
-    c.in_ok-copies.ensures ∙ ap (backwards c.self.inside.tables.slab) (c.pieces-pieces.ensures.value ∙ c.space_at.ensures.stored)
-    ∙ backwards-slots c.self.inside.tables.slab c.reserve.new.self.slab c.reserve.ensures.same (stored_at c.self.inside.processes.entries c.args.caller.now.index)
-
-pub invariant_of-self-2 : goal.invariant_of-self-2
-invariant_of-self-2 c =
+pub invariant_of-self : goal.invariant_of-self
+invariant_of-self c =
     let rs = runners_view c.self.inside.processes.entries in
     let j = c.in-Some.index in
     let P = pieces_at rs c.args.caller.now.index in
@@ -77,27 +60,19 @@ invariant_of-self-2 c =
     ∙ with_life_at-pieces rs j (λ (_ : List Piece). P) (Live c.args.caller.now.cred) ch.within in
     let none : pieces_at rs j ≡ [] = c.self.invariant.0.unborn j ch.unborn in
     let asleep : Live c.args.caller.now.cred ≢ Unborn = λ same. cc same in
-    let exact : IsExact (runners_view c.set_life_at.new.processes.entries) c.copy_pieces.new.counts =
+    let exact : IsExact (runners_view c.set_life_at.new.processes.entries) c.copy_pieces.new.tables =
     rw after
-    (IsExact-set rs j r c.self.inside.counts c.copy_pieces.new.counts c.self.invariant.0 ch.within
+    (IsExact-set rs j r c.self.inside.tables c.copy_pieces.new.tables c.self.invariant.0 ch.within
     (c.self.invariant.0.pieces c.args.caller.now.index) (c.self.invariant.0.arranged c.args.caller.now.index) (λ same. absurd (asleep same))
-    (λ id. rw none (omega (arith, c.copy_pieces.ensures.counts id)))) in (
-      exact,
-      λ s.
-          omega (
-            arith,
-            c.self.invariant.1 s,
-            has-slots c.self.inside.tables.slab c.reserve.new.self.slab c.reserve.ensures.same s,
-            c.copy_pieces.ensures.tied s,
-            c.set_life_at.ensures.shapes s,
-          ),
-    )
+    (λ id. rw none (omega (arith, c.copy_pieces.ensures.counts id)))) in
+    let stays : AllHeld c.set_life_at.new.processes.entries c.copy_pieces.new.tables.slab =
+    λ i. subst (λ (ps : List Stored). All (IsHeld c.copy_pieces.new.tables.slab) ps) (sym (c.set_life_at.ensures.stored i)) (c.copy_pieces.ensures.held i) in
+    (exact, c.copy_pieces.ensures.tied, stays)
 
 pub returns-clause-translated : goal.returns-clause-translated
-returns-clause-translated c =
-    let t = c.self.inside.tables.slab in
-    keeps c.args.self.now.translations t c.copy_pieces.new.tables.slab (ap (λ (v : SpacesView). v.translations) c.self.view_is)
-    (λ at all. c.copy_pieces.ensures.translated at (true-slots at t c.reserve.new.self.slab c.reserve.ensures.same all))
+returns-clause-translated c = λ m old.
+    let shown : translations_of c.copy_pieces.new.tables.slab ≡ c.args.self.now.translations = ap translations_of c.copy_pieces.ensures.slab ∙ ap (λ (v : SpacesView). v.translations) c.self.view_is in
+    rw shown old
 
 pub returns-clause-born : goal.returns-clause-born
 returns-clause-born c =
@@ -129,8 +104,8 @@ returns-clause-more c = λ id.
     ∙ with_life_at-pieces rs j (λ (_ : List Piece). P) (Live c.args.caller.now.cred) ch.within in
     let none : pieces_at rs j ≡ [] = c.self.invariant.0.unborn j ch.unborn in
     let asleep : Live c.args.caller.now.cred ≢ Unborn = λ same. cc same in
-    let now : IsExact (set rs j r) c.copy_pieces.new.counts =
-    (IsExact-set rs j r c.self.inside.counts c.copy_pieces.new.counts c.self.invariant.0 ch.within
+    let now : IsExact (set rs j r) c.copy_pieces.new.tables =
+    (IsExact-set rs j r c.self.inside.tables c.copy_pieces.new.tables c.self.invariant.0 ch.within
     (c.self.invariant.0.pieces c.args.caller.now.index) (c.self.invariant.0.arranged c.args.caller.now.index) (λ same. absurd (asleep same))
     (λ id. rw none (omega (arith, c.copy_pieces.ensures.counts id)))) in
     let view : rs ≡ c.args.self.now.runners = ap (λ (v : SpacesView). v.runners) c.self.view_is in
