@@ -5,5 +5,4 @@ pub mod Tables
 pub mod Exact
 pub mod Place
 pub mod Spans
-pub mod Attach
 pub mod Fork

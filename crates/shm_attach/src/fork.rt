@@ -1,5 +1,5 @@
 //! A child is born with its parent's credentials and pieces.
-ghost use Rattle.std.specs.Prelude.{◌≡◌, ◌≢◌, ℕ, ◌+◌, ◌<◌, ◌≤◌, [], length, Ok, Err, IfErr, OnOk, OnErr};
+ghost use Rattle.std.specs.Prelude.{◌≡◌, ◌≢◌, ℕ, ◌+◌, ◌<◌, ◌≤◌, [], length, Some};
 ghost use Rattle.shm_base.specs.Segments.{attach_count};
 ghost use Rattle.shm_base.specs.Space.{lowest_address, pieces_of};
 ghost use Rattle.shm_base.specs.Step.{unborn_from};
@@ -8,17 +8,16 @@ ghost use Rattle.shm_attach.specs.Views.{with_pieces_at, runners_view};
 ghost use Rattle.shm_fault.specs.Store.{StoreView};
 ghost use Rattle.shm_attach.specs.Spaces.{pieces_at, seen, IsCaller, AreTrue};
 ghost use Rattle.shm_attach.specs.Tables.{counted, IsTied, AllHeld};
-ghost use Rattle.shm_attach.specs.Fork.{forked_by};
+ghost use Rattle.shm_attach.specs.Fork.{born_child};
 
 use crate::changes::{piece_at, push_at, set_life_at, space_at};
-use crate::process::{Caller, Life, Runner};
+use crate::process::{Caller, Child, Life, Runner};
 use crate::spaces::Spaces;
 use crate::tables::Tables;
 use indexmap::IndexMap;
-use shm_base::Errno;
 
 /// The place of a child that is not born yet.
-fn unborn_at(processes: &IndexMap<u32, Runner>, child: u32) -> Option<usize>
+pub(crate) fn unborn_at(processes: &IndexMap<u32, Runner>, child: u32) -> Option<usize>
     ensures { result ≡ unborn_from 0 child (runners_view processes.now.entries) }
 {
     let (index, _, runner) = processes.get_full(&child)?;
@@ -61,22 +60,21 @@ fn copy_pieces(
 }
 
 impl Spaces {
-    /// A child that was declared and is not born yet becomes live, with the credentials and the pieces of the
-    /// caller (fork(2); shmop(2): a child inherits the attached segments). Eagain where the named process is no such
-    /// child. It takes no memory.
-    pub fn fork(&mut self, caller: &Caller, child: u32) -> Result<(), Errno>
-        requires { IsCaller caller.now self.old.runners }
-        ensures born { OnOk result (forked_by self.old.runners (seen caller.now self.old.runners) child ≡ Ok self.new.runners) }
-        ensures more { OnOk result ((id : ℕ) → attach_count self.old.runners id ≤ attach_count self.new.runners id) }
-        ensures refused { IfErr result (λ e. forked_by self.old.runners (seen caller.now self.old.runners) child ≡ Err e) }
-        ensures kept { OnErr result (self.new ≡ self.old) }
+    /// A child becomes live, with the credentials and the pieces of the caller (fork(2); shmop(2): a child inherits
+    /// the attached segments). It takes no memory.
+    pub fn fork(&mut self, caller: &Caller, child: &Child)
+        requires live { IsCaller caller.now self.old.runners }
+        requires unborn { unborn_from 0 child.now.pid self.old.runners ≡ Some child.now.index }
+        ensures born { self.new.runners ≡ born_child self.old.runners (seen caller.now self.old.runners) child.now }
+        ensures more { (id : ℕ) → attach_count self.old.runners id ≤ attach_count self.new.runners id }
         ensures translated { (m : StoreView) → AreTrue self.old.translations m → AreTrue self.new.translations m }
     {
-        let Some(index) = unborn_at(&self.processes, child) else {
-            return Err(Errno::Eagain);
-        };
-        copy_pieces(&mut self.processes, &mut self.tables, caller.index, index);
-        set_life_at(&mut self.processes, index, Life::Live(caller.cred));
-        Ok(())
+        copy_pieces(
+            &mut self.processes,
+            &mut self.tables,
+            caller.index,
+            child.index,
+        );
+        set_life_at(&mut self.processes, child.index, Life::Live(caller.cred));
     }
 }

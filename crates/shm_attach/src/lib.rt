@@ -13,8 +13,7 @@ mod spans;
 mod table;
 mod tables;
 
-pub use attach::Attached;
 pub use lost::Lost;
-pub use process::Caller;
+pub use process::{Caller, Child};
 pub use spaces::Spaces;
 pub use spans::{Segv, Spans};

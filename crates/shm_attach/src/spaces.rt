@@ -2,18 +2,20 @@
 ghost use Rattle.std.specs.Prelude.{◌≡◌, ◌≢◌, ℕ, ◌<◌, ◌≤◌, length, map, [], is_some, slice_index_or, None, Some, IfSome, IfNone, IfOk, OnErr, Bool, true, false, All, AllPairs, sum_by};
 ghost use Rattle.shm_base.specs.State.{life_at_start, runner_at_start};
 ghost use Rattle.shm_base.specs.Segments.{attach_count};
-ghost use Rattle.shm_base.specs.Step.{caller_from};
+ghost use Rattle.shm_base.specs.Step.{caller_from, unborn_from};
 ghost use Rattle.shm_base.specs.declared.call.Process.{Process as Declared};
 ghost use Rattle.shm_base.specs.declared.paging.Span.{Span as Stretch};
 ghost use Rattle.shm_attach.specs.Views.{life_view};
 ghost use Rattle.shm_fault.specs.Store.{StoreView, frame_of};
 ghost use Rattle.shm_fault.specs.Steps.{Moves};
-ghost use Rattle.shm_attach.specs.Spaces.{IsCaller, Translation, AreTrue};
+ghost use Rattle.shm_areas.specs.Arranged.{bare_all};
+ghost use Rattle.shm_attach.specs.Spaces.{IsCaller, Translation, AreTrue, pieces_at};
 ghost use Rattle.shm_base.specs.Spans.{span_places, InPage, page_of};
 ghost use Rattle.shm_attach.specs.Spans.{wanted, pieces_by, PassPages};
 
 use crate::changes::space_at;
-use crate::process::{Caller, Life, Runner};
+use crate::fork::unborn_at;
+use crate::process::{Caller, Child, Life, Runner};
 use crate::spans::{Segv, Spans, spans_in};
 use crate::tables::Tables;
 use indexmap::IndexMap;
@@ -92,6 +94,24 @@ impl Spaces {
         ensures { result ≡ is_some (caller_from 0 pid self.now.runners) }
     {
         self.caller(pid).is_some()
+    }
+
+    /// The child with a pid that was declared and is not born yet.
+    pub fn child(&self, pid: u32) -> Option<Child>
+        ensures pid { IfSome result (λ c. c.pid ≡ pid) }
+        ensures unborn { IfSome result (λ c. unborn_from 0 c.pid self.now.runners ≡ Some c.index) }
+        ensures none { IfNone result (unborn_from 0 pid self.now.runners ≡ None) }
+    {
+        let index = unborn_at(&self.processes, pid)?;
+        Some(Child { index, pid })
+    }
+
+    /// The address space of a live process.
+    pub fn space(&self, caller: &Caller) -> &Space
+        requires { IsCaller caller.now self.now.runners }
+        ensures { bare_all result.now ≡ pieces_at self.now.runners caller.now.index }
+    {
+        space_at(&self.processes, caller.index)
     }
 
     /// How many pieces of all processes name the segment (shm_nattch): a number that is read.

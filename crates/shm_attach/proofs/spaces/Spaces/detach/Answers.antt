@@ -15,9 +15,6 @@ use Rattle.shm_attach.proofs.Held.{held-without, held-changed, held-all}
 use Rattle.shm_attach.proofs.Translations.{keeps}
 use Rattle.shm_attach.proofs.spaces.Spaces.detach.Goals as goal
 
-pub space_at-requires : goal.space_at-requires
-space_at-requires c = caller_within c.args.caller.now c.self.inside.processes.entries (rw (← c.self.view_is) at c.requires)
-
 pub take_at-gone-requires : goal.take_at-gone-requires
 take_at-gone-requires c = record { there = caller_within c.args.caller.now c.self.inside.processes.entries (rw (← c.self.view_is) at c.requires) }
 
@@ -25,20 +22,20 @@ pub replace-requires-clause-gone : goal.replace-requires-clause-gone
 replace-requires-clause-gone c =
     let rs = runners_view c.self.inside.processes.entries in
     let i = c.args.caller.now.index in
-    let seg = c.in-Some.origin.seg in
+    let seg = c.args.seg in
     let within = caller_within c.args.caller.now c.self.inside.processes.entries (rw (← c.self.view_is) at c.requires) in
     let own = own_counted rs c.self.inside.tables i c.self.invariant.0 (omega (arith, within, length-map c.self.inside.processes.entries runner_view)) seg in
     let gone = rw (eq-eqb seg seg refl) at (pieces_of-without seg c.args.addr seg (pieces_at rs i) c.take_at-gone.result c.take_at-gone.ensures.gone) in
     omega (arith, own, gone)
 
 pub replace-requires-clause-fits : goal.replace-requires-clause-fits
-replace-requires-clause-fits c = omega (arith, small_counts (runners_view c.self.inside.processes.entries) c.self.inside.tables c.self.invariant.0 c.in-Some.origin.seg)
+replace-requires-clause-fits c = omega (arith, small_counts (runners_view c.self.inside.processes.entries) c.self.inside.tables c.self.invariant.0 c.args.seg)
 
 pub invariant_of-self : goal.invariant_of-self
 invariant_of-self c =
     let rs = runners_view c.self.inside.processes.entries in
     let i = c.args.caller.now.index in
-    let seg = c.in-Some.origin.seg in
+    let seg = c.args.seg in
     let ps = pieces_at rs i in
     let within = caller_within c.args.caller.now c.self.inside.processes.entries (rw (← c.self.view_is) at c.requires) in
     let lt : i < length rs = omega (arith, within, length-map c.self.inside.processes.entries runner_view) in
@@ -63,7 +60,7 @@ pub returns-clause-gone : goal.returns-clause-gone
 returns-clause-gone c =
     let rs = runners_view c.self.inside.processes.entries in
     let i = c.args.caller.now.index in
-    let f = without_named c.args.addr c.in-Some.origin.seg in
+    let f = without_named c.args.addr c.args.seg in
     let view : rs ≡ c.args.self.now.runners = ap (λ (v : SpacesView). v.runners) c.self.view_is in
     let is : IsCaller c.args.caller.now rs = rw (← c.self.view_is) at c.requires in
     c.take_at-gone.ensures.runners ∙ sym (with_pieces-at c.args.caller.now rs f is)

@@ -1,10 +1,10 @@
-use Rattle.std.proofs.Common.{◌≡◌, ◌≢◌, ◌∙◌, ap, sym, subst, arith, List, [], get_or, set, Ok}
+use Rattle.std.proofs.Common.{◌≡◌, ◌≢◌, ◌∙◌, ap, sym, subst, arith, List, [], get_or, set}
 use Rattle.std.proofs.lemmas.List.{length-map}
 use Rattle.shm_base.specs.State.{Piece, Runner, Unborn, Live}
 use Rattle.shm_attach.specs.Views.{runner_view, runners_view, with_life_at}
 use Rattle.shm_attach.specs.Spaces.{SpacesView, pieces_at, life_at, seen}
 use Rattle.shm_attach.specs.Exact.{IsExact}
-use Rattle.shm_attach.specs.Fork.{forked_at, forked_by}
+use Rattle.shm_attach.specs.Fork.{born_child}
 use Rattle.shm_attach.proofs.Processes.{nobody}
 use Rattle.shm_attach.proofs.Callers.{caller_within, caller_born, child_at}
 use Rattle.shm_attach.proofs.Keeping.{small_counts, own_counted, with_life_at-pieces, IsExact-set}
@@ -15,27 +15,27 @@ use Rattle.shm_attach.specs.Tables.{IsHeld, AllHeld}
 use Rattle.shm_attach.proofs.spaces.Spaces.fork.Goals as goal
 
 pub copy_pieces-requires-clause-parent : goal.copy_pieces-requires-clause-parent
-copy_pieces-requires-clause-parent c = caller_within c.args.caller.now c.self.inside.processes.entries (rw (← c.self.view_is) at c.requires)
+copy_pieces-requires-clause-parent c = caller_within c.args.caller.now c.self.inside.processes.entries (rw (← c.self.view_is) at c.requires.live)
 
 pub copy_pieces-requires-clause-child : goal.copy_pieces-requires-clause-child
 copy_pieces-requires-clause-child c =
-    let ch = child_at c.args.child c.in-Some.index (runners_view c.self.inside.processes.entries) (sym c.in-Some.ensures) in
+    let ch = child_at c.args.child.now.pid c.args.child.now.index (runners_view c.self.inside.processes.entries) (rw (← c.self.view_is) at c.requires.unborn) in
     omega (arith, ch.within, length-map c.self.inside.processes.entries runner_view)
 
 pub copy_pieces-requires-clause-apart : goal.copy_pieces-requires-clause-apart
 copy_pieces-requires-clause-apart c = λ same.
     let rs = runners_view c.self.inside.processes.entries in
-    let ch = child_at c.args.child c.in-Some.index rs (sym c.in-Some.ensures) in
-    caller_born c.args.caller.now rs (rw (← c.self.view_is) at c.requires) (ap (life_at rs) same ∙ ch.unborn)
+    let ch = child_at c.args.child.now.pid c.args.child.now.index rs (rw (← c.self.view_is) at c.requires.unborn) in
+    caller_born c.args.caller.now rs (rw (← c.self.view_is) at c.requires.live) (ap (life_at rs) same ∙ ch.unborn)
 
 pub copy_pieces-requires-clause-none : goal.copy_pieces-requires-clause-none
 copy_pieces-requires-clause-none c =
-    let ch = child_at c.args.child c.in-Some.index (runners_view c.self.inside.processes.entries) (sym c.in-Some.ensures) in
-    c.self.invariant.0.unborn c.in-Some.index ch.unborn
+    let ch = child_at c.args.child.now.pid c.args.child.now.index (runners_view c.self.inside.processes.entries) (rw (← c.self.view_is) at c.requires.unborn) in
+    c.self.invariant.0.unborn c.args.child.now.index ch.unborn
 
 pub copy_pieces-requires-clause-counted : goal.copy_pieces-requires-clause-counted
 copy_pieces-requires-clause-counted c = λ id.
-    let within = caller_within c.args.caller.now c.self.inside.processes.entries (rw (← c.self.view_is) at c.requires) in
+    let within = caller_within c.args.caller.now c.self.inside.processes.entries (rw (← c.self.view_is) at c.requires.live) in
     own_counted (runners_view c.self.inside.processes.entries) c.self.inside.tables c.args.caller.now.index c.self.invariant.0
     (omega (arith, within, length-map c.self.inside.processes.entries runner_view)) id
 
@@ -45,15 +45,15 @@ copy_pieces-requires-clause-small c = λ id.
 
 pub set_life_at-requires : goal.set_life_at-requires
 set_life_at-requires c =
-    let ch = child_at c.args.child c.in-Some.index (runners_view c.self.inside.processes.entries) (sym c.in-Some.ensures) in
+    let ch = child_at c.args.child.now.pid c.args.child.now.index (runners_view c.self.inside.processes.entries) (rw (← c.self.view_is) at c.requires.unborn) in
     omega (arith, c.copy_pieces.ensures.count, ch.within, length-map c.self.inside.processes.entries runner_view)
 
 pub invariant_of-self : goal.invariant_of-self
 invariant_of-self c =
     let rs = runners_view c.self.inside.processes.entries in
-    let j = c.in-Some.index in
+    let j = c.args.child.now.index in
     let P = pieces_at rs c.args.caller.now.index in
-    let ch = child_at c.args.child j rs (sym c.in-Some.ensures) in
+    let ch = child_at c.args.child.now.pid j rs (rw (← c.self.view_is) at c.requires.unborn) in
     let r : Runner = record { pid = (get_or rs j nobody).pid; life = Live c.args.caller.now.cred; pieces = P } in
     let after : runners_view c.set_life_at.new.processes.entries ≡ set rs j r =
     c.set_life_at.ensures.runners ∙ ap (λ (xs : List Runner). with_life_at xs j (Live c.args.caller.now.cred)) c.copy_pieces.ensures.runners
@@ -77,27 +77,23 @@ returns-clause-translated c = λ m old.
 pub returns-clause-born : goal.returns-clause-born
 returns-clause-born c =
     let rs = runners_view c.self.inside.processes.entries in
-    let j = c.in-Some.index in
+    let j = c.args.child.now.index in
     let P = pieces_at rs c.args.caller.now.index in
     let k = seen c.args.caller.now rs in
-    let ch = child_at c.args.child j rs (sym c.in-Some.ensures) in
+    let ch = child_at c.args.child.now.pid j rs (rw (← c.self.view_is) at c.requires.unborn) in
     let after : runners_view c.set_life_at.new.processes.entries ≡ set rs j (record { pid = (get_or rs j nobody).pid; life = Live c.args.caller.now.cred; pieces = P }) =
     c.set_life_at.ensures.runners ∙ ap (λ (xs : List Runner). with_life_at xs j (Live c.args.caller.now.cred)) c.copy_pieces.ensures.runners
     ∙ with_life_at-pieces rs j (λ (_ : List Piece). P) (Live c.args.caller.now.cred) ch.within in
-    let own : forked_by rs k c.args.child ≡ Ok (runners_view c.set_life_at.new.processes.entries) =
-    ap (forked_at rs k c.args.child) (sym c.in-Some.ensures)
-    ∙ ap (λ pid. Ok (set rs j (record { pid = pid; life = Live c.args.caller.now.cred; pieces = P }))) (sym ch.named)
-    ∙ ap (λ (xs : List Runner). Ok xs) (sym after) in
-    let view : rs ≡ c.args.self.now.runners = ap (λ (v : SpacesView). v.runners) c.self.view_is in
-    let Answers : List Runner → Type 0 = λ xs. forked_by xs (seen c.args.caller.now xs) c.args.child ≡ Ok (runners_view c.set_life_at.new.processes.entries) in
-    subst Answers view own
+    let own : runners_view c.set_life_at.new.processes.entries ≡ born_child rs k c.args.child.now =
+    after ∙ ap (λ pid. set rs j (record { pid = pid; life = Live c.args.caller.now.cred; pieces = P })) ch.named in
+    own ∙ ap (λ (v : SpacesView). born_child v.runners (seen c.args.caller.now v.runners) c.args.child.now) c.self.view_is
 
 pub returns-clause-more : goal.returns-clause-more
 returns-clause-more c = λ id.
     let rs = runners_view c.self.inside.processes.entries in
-    let j = c.in-Some.index in
+    let j = c.args.child.now.index in
     let P = pieces_at rs c.args.caller.now.index in
-    let ch = child_at c.args.child j rs (sym c.in-Some.ensures) in
+    let ch = child_at c.args.child.now.pid j rs (rw (← c.self.view_is) at c.requires.unborn) in
     let r : Runner = record { pid = (get_or rs j nobody).pid; life = Live c.args.caller.now.cred; pieces = P } in
     let after : runners_view c.set_life_at.new.processes.entries ≡ set rs j r =
     c.set_life_at.ensures.runners ∙ ap (λ (xs : List Runner). with_life_at xs j (Live c.args.caller.now.cred)) c.copy_pieces.ensures.runners
