@@ -36,6 +36,7 @@ fn attach(
     seg: u32,
     base: u64,
     pages: u32,
+    writable: bool,
 ) -> bool
     requires pages { (1 ≤ pages) × (pages ≤ 4096) }
     requires range { IsRange pages base }
@@ -50,7 +51,7 @@ fn attach(
         return false;
     }
     spaces
-        .attach(&caller, seg, base, pages, true, store)
+        .attach(&caller, seg, base, pages, writable, store)
         .is_ok()
 }
 
@@ -101,13 +102,8 @@ fn has_spans(spaces: &Spaces, addr: u64, len: u64, write: bool, want: &[Span]) -
 fn an_access_over_two_pieces_has_two_spans(rt: HostRuntime) -> Result<(), HostMemory> {
     let store = bare_store(rt.alloc())?;
     let mut spaces = family(rt.alloc())?;
-    assert!(rt; attach(&mut spaces, &store, 1, 0, 0x40000000, 1));
-    let caller = spaces.caller(1);
-    assert!(rt; caller.is_some());
-    if let Some(caller) = caller {
-        let read_only = spaces.attach(&caller, 0, 0x40001000, 1, false, &store);
-        assert!(rt; read_only.is_ok_and(|lost| lost.as_slice().is_empty()));
-    }
+    assert!(rt; attach(&mut spaces, &store, 1, 0, 0x40000000, 1, true));
+    assert!(rt; attach(&mut spaces, &store, 1, 0, 0x40001000, 1, false));
     let both = [span(0, 4094, 2), span(0, 0, 2)];
     assert!(rt; has_spans(&spaces, 0x40000ffe, 4, false, both.as_slice()));
     assert!(rt; has_spans(&spaces, 0x40000ffe, 4, true, [].as_slice()));
@@ -123,9 +119,9 @@ fn a_process_has_room_for_256_pieces(rt: HostRuntime) -> Result<(), HostMemory> 
     let store = bare_store(rt.alloc())?;
     let mut spaces = family(rt.alloc())?;
     for k in 0..256u64 {
-        assert!(rt; attach(&mut spaces, &store, 1, 0, 0x40000000 + 4096 * k, 1));
+        assert!(rt; attach(&mut spaces, &store, 1, 0, 0x40000000 + 4096 * k, 1, true));
     }
-    assert!(rt; !attach(&mut spaces, &store, 1, 0, 0x50000000, 1));
+    assert!(rt; !attach(&mut spaces, &store, 1, 0, 0x50000000, 1, true));
     assert!(rt; spaces.count(0) == 256);
     Ok(())
 }
@@ -134,8 +130,8 @@ fn a_process_has_room_for_256_pieces(rt: HostRuntime) -> Result<(), HostMemory> 
 fn parts_of_one_attach_go_together(rt: HostRuntime) -> Result<(), HostMemory> {
     let store = bare_store(rt.alloc())?;
     let mut spaces = family(rt.alloc())?;
-    assert!(rt; attach(&mut spaces, &store, 1, 0, 0x40000000, 3));
-    assert!(rt; attach(&mut spaces, &store, 1, 1, 0x40001000, 1));
+    assert!(rt; attach(&mut spaces, &store, 1, 0, 0x40000000, 3, true));
+    assert!(rt; attach(&mut spaces, &store, 1, 1, 0x40001000, 1, true));
     assert!(rt; spaces.count(0) == 2);
     assert!(rt; has_spans(&spaces, 0x40002000, 1, true, [span(0, 8192, 1)].as_slice()));
     assert!(rt; detach(&mut spaces, 1, 0x40000000) == Some(0));
@@ -150,8 +146,8 @@ fn parts_of_one_attach_go_together(rt: HostRuntime) -> Result<(), HostMemory> {
 fn the_lowest_piece_names_the_segment(rt: HostRuntime) -> Result<(), HostMemory> {
     let store = bare_store(rt.alloc())?;
     let mut spaces = family(rt.alloc())?;
-    assert!(rt; attach(&mut spaces, &store, 1, 0, 0x40000000, 2));
-    assert!(rt; attach(&mut spaces, &store, 1, 1, 0x40000000, 1));
+    assert!(rt; attach(&mut spaces, &store, 1, 0, 0x40000000, 2, true));
+    assert!(rt; attach(&mut spaces, &store, 1, 1, 0x40000000, 1, true));
     assert!(rt; detach(&mut spaces, 1, 0x40000000) == Some(1));
     assert!(rt; (spaces.count(0), spaces.count(1)) == (1, 0));
     assert!(rt; detach(&mut spaces, 1, 0x40000000) == Some(0));
@@ -187,7 +183,7 @@ fn forks_and_goes(rt: &impl Abort, spaces: &mut Spaces) {
 fn a_child_has_its_parents_pieces(rt: HostRuntime) -> Result<(), HostMemory> {
     let store = bare_store(rt.alloc())?;
     let mut spaces = family(rt.alloc())?;
-    assert!(rt; attach(&mut spaces, &store, 1, 0, 0x40000000, 1));
+    assert!(rt; attach(&mut spaces, &store, 1, 0, 0x40000000, 1, true));
     forks_and_goes(&rt, &mut spaces);
     Ok(())
 }
@@ -196,7 +192,7 @@ fn a_child_has_its_parents_pieces(rt: HostRuntime) -> Result<(), HostMemory> {
 fn moves_reach_each_piece_and_each_process(rt: HostRuntime) -> Result<(), HostMemory> {
     let store = bare_store(rt.alloc())?;
     let mut spaces = family(rt.alloc())?;
-    assert!(rt; attach(&mut spaces, &store, 1, 0, 0x40000000, 3));
+    assert!(rt; attach(&mut spaces, &store, 1, 0, 0x40000000, 3, true));
     assert!(rt; fork(&mut spaces, 1, 2));
     assert!(rt; frame_at(&spaces, 2, 0x40002000).is_none());
     let last = PageRef { seg: 0, page: 2 };
@@ -218,14 +214,14 @@ fn moves_reach_each_piece_and_each_process(rt: HostRuntime) -> Result<(), HostMe
 fn a_gone_segment_has_no_frames(rt: HostRuntime) -> Result<(), HostMemory> {
     let store = bare_store(rt.alloc())?;
     let mut spaces = family(rt.alloc())?;
-    assert!(rt; attach(&mut spaces, &store, 1, 0, 0x40000000, 1));
+    assert!(rt; attach(&mut spaces, &store, 1, 0, 0x40000000, 1, true));
     spaces.note(&[Move::Came(PageRef { seg: 0, page: 0 }, 5)]);
-    assert!(rt; attach(&mut spaces, &store, 1, 0, 0x40001000, 2));
+    assert!(rt; attach(&mut spaces, &store, 1, 0, 0x40001000, 2, true));
     assert!(rt; detach(&mut spaces, 1, 0x40000000) == Some(0));
     assert!(rt; frame_at(&spaces, 1, 0x40001000) == Some(5));
     assert!(rt; frame_at(&spaces, 1, 0x40002000).is_none());
     assert!(rt; detach(&mut spaces, 1, 0x40001000) == Some(0));
-    assert!(rt; attach(&mut spaces, &store, 1, 0, 0x40000000, 1));
+    assert!(rt; attach(&mut spaces, &store, 1, 0, 0x40000000, 1, true));
     assert!(rt; frame_at(&spaces, 1, 0x40000000).is_none());
     Ok(())
 }
@@ -244,13 +240,13 @@ fn has_frames(spaces: &Spaces, want: &[Option<FrameNo>]) -> bool {
 
 // Of four pages in frames 10 to 13, two are replaced, and one goes.
 fn cut_twice(rt: &impl Abort, spaces: &mut Spaces, store: &PageStore<RamPager>) {
-    assert!(rt; attach(spaces, store, 1, 0, 0x40000000, 4));
+    assert!(rt; attach(spaces, store, 1, 0, 0x40000000, 4, true));
     for page in 0..4 {
         spaces.note(&[Move::Came(PageRef { seg: 0, page }, 10 + page)]);
     }
-    assert!(rt; attach(spaces, store, 1, 1, 0x40001000, 1));
+    assert!(rt; attach(spaces, store, 1, 1, 0x40001000, 1, true));
     assert!(rt; has_frames(spaces, [Some(10), None, Some(12), Some(13)].as_slice()));
-    assert!(rt; attach(spaces, store, 1, 1, 0x40002000, 1));
+    assert!(rt; attach(spaces, store, 1, 1, 0x40002000, 1, true));
     assert!(rt; has_frames(spaces, [Some(10), None, None, Some(13)].as_slice()));
     spaces.note(&[Move::Gone(PageRef { seg: 0, page: 3 })]);
     assert!(rt; has_frames(spaces, [Some(10), None, None, None].as_slice()));
