@@ -98,19 +98,19 @@ occupied-run from to (p ∷ ps) (suc first) (suc last) r =
 -- WHAT IS LEFT
 
 -- nothing is met, nothing is cut
-pub cut-none : (from to fresh : ℕ) (ps : List Piece) (first : ℕ) → IsRun from to ps first first → kept_cut from to fresh ps ≡ ps
-cut-none from to fresh [] first r = refl
-cut-none from to fresh (p ∷ ps) zero r =
-    rw (is_above from to p (r.above 0 p (omega arith) (omega arith))) (ap (λ (xs : List Piece). p ∷ xs) (cut-none from to fresh ps zero (past_run from to p ps r)))
-cut-none from to fresh (p ∷ ps) (suc first) r =
-    rw (is_below from to p (r.before 0 p (omega arith))) (ap (λ (xs : List Piece). p ∷ xs) (cut-none from to fresh ps first (next_run from to p ps first first r)))
+pub cut-none : (from to : ℕ) (ps : List Piece) (first : ℕ) → IsRun from to ps first first → kept_cut from to ps ≡ ps
+cut-none from to [] first r = refl
+cut-none from to (p ∷ ps) zero r =
+    rw (is_above from to p (r.above 0 p (omega arith) (omega arith))) (ap (λ (xs : List Piece). p ∷ xs) (cut-none from to ps zero (past_run from to p ps r)))
+cut-none from to (p ∷ ps) (suc first) r =
+    rw (is_below from to p (r.before 0 p (omega arith))) (ap (λ (xs : List Piece). p ∷ xs) (cut-none from to ps first (next_run from to p ps first first r)))
 
 -- nothing stays below of a piece that begins in the range, and nothing above of one that ends in it
 below-none : (from : ℕ) (p : Piece) → from ≤ p.base → kept_below from p ≡ []
 below-none from p le = rw (le-ltb p.base from le) refl
 
-above-none : (from to fresh : ℕ) (p : Piece) → end_of (bare p) ≤ to → kept_above from to fresh p ≡ []
-above-none from to fresh p le = rw (le-ltb to (end_of (bare p)) le) refl
+above-none : (to : ℕ) (p : Piece) → end_of (bare p) ≤ to → kept_above to p ≡ []
+above-none to p le = rw (le-ltb to (end_of (bare p)) le) refl
 
 -- a piece with another of the run behind it ends in the range
 ends_in : (from to last low : ℕ) (p : Piece) (ps : List Piece) → Arranged low (bare_all (p ∷ ps)) → IsRun from to (p ∷ ps) 0 (suc (suc last)) → end_of (bare p) ≤ to
@@ -121,44 +121,44 @@ ends_in from to last low p ps ar r =
     omega (arith, next, begins)
 
 -- all pieces of the run begin in the range
-cut-begun : (from to fresh last low : ℕ) (ps : List Piece) (d : Piece) → Arranged low (bare_all ps) → from ≤ low → IsRun from to ps 0 (suc last)
-    → kept_cut from to fresh ps ≡ kept_above from to fresh (get_or ps last d) ++ drop (suc last) ps
-cut-begun from to fresh last low [] d ar le r = absurd (omega (arith, r.bound))
-cut-begun from to fresh zero low (p ∷ ps) d ar le r =
+cut-begun : (from to last low : ℕ) (ps : List Piece) (d : Piece) → Arranged low (bare_all ps) → from ≤ low → IsRun from to ps 0 (suc last)
+    → kept_cut from to ps ≡ kept_above to (get_or ps last d) ++ drop (suc last) ps
+cut-begun from to last low [] d ar le r = absurd (omega (arith, r.bound))
+cut-begun from to zero low (p ∷ ps) d ar le r =
     let first : low ≤ p.base = ar.0 in
     rw (meets_it from to p (r.below 0 p (omega arith)) (r.after 0 p (omega arith) (omega arith)), below-none from p (omega (arith, le, first)))
-    (ap (λ (xs : List Piece). kept_above from to fresh p ++ xs) (cut-none from to fresh ps zero (inner_run from to p ps zero r)))
-cut-begun from to fresh (suc last) low (p ∷ ps) d ar le r =
+    (ap (λ (xs : List Piece). kept_above to p ++ xs) (cut-none from to ps zero (inner_run from to p ps zero r)))
+cut-begun from to (suc last) low (p ∷ ps) d ar le r =
     let first : low ≤ p.base = ar.0 in
     let after : from < end_of (bare p) = r.after 0 p (omega arith) (omega arith) in
     rw (
       meets_it from to p (r.below 0 p (omega arith)) after,
       below-none from p (omega (arith, le, first)),
-      above-none from to fresh p (ends_in from to last low p ps ar r),
+      above-none to p (ends_in from to last low p ps ar r),
     )
-    (cut-begun from to fresh last (end_of (bare p)) ps d ar.1.1 (omega (arith, after)) (inner_run from to p ps (suc last) r))
+    (cut-begun from to last (end_of (bare p)) ps d ar.1.1 (omega (arith, after)) (inner_run from to p ps (suc last) r))
 
-pub cut-run : (from to fresh first last low : ℕ) (ps : List Piece) (d : Piece) → Arranged low (bare_all ps) → IsRun from to ps first (suc last) → first < suc last
-    → splice ps first (suc last) (kept_below from (get_or ps first d) ++ kept_above from to fresh (get_or ps last d)) ≡ kept_cut from to fresh ps
-cut-run from to fresh first last low [] d ar r lt = absurd (omega (arith, r.bound))
-cut-run from to fresh zero zero low (p ∷ ps) d ar r lt =
-    let none = cut-none from to fresh ps zero (inner_run from to p ps zero r) in
+pub cut-run : (from to first last low : ℕ) (ps : List Piece) (d : Piece) → Arranged low (bare_all ps) → IsRun from to ps first (suc last) → first < suc last
+    → splice ps first (suc last) (kept_below from (get_or ps first d) ++ kept_above to (get_or ps last d)) ≡ kept_cut from to ps
+cut-run from to first last low [] d ar r lt = absurd (omega (arith, r.bound))
+cut-run from to zero zero low (p ∷ ps) d ar r lt =
+    let none = cut-none from to ps zero (inner_run from to p ps zero r) in
     rw (meets_it from to p (r.below 0 p (omega arith)) (r.after 0 p (omega arith) (omega arith)), none) refl
-cut-run from to fresh zero (suc last) low (p ∷ ps) d ar r lt =
+cut-run from to zero (suc last) low (p ∷ ps) d ar r lt =
     let after : from < end_of (bare p) = r.after 0 p (omega arith) (omega arith) in
-    let rest = cut-begun from to fresh last (end_of (bare p)) ps d ar.1.1 (omega (arith, after)) (inner_run from to p ps (suc last) r) in
+    let rest = cut-begun from to last (end_of (bare p)) ps d ar.1.1 (omega (arith, after)) (inner_run from to p ps (suc last) r) in
     rw (
       meets_it from to p (r.below 0 p (omega arith)) after,
-      above-none from to fresh p (ends_in from to last low p ps ar r),
+      above-none to p (ends_in from to last low p ps ar r),
       rest,
       append-nil (kept_below from p),
-      append_assoc (kept_below from p) (kept_above from to fresh (get_or ps last d)) (drop (suc last) ps),
+      append_assoc (kept_below from p) (kept_above to (get_or ps last d)) (drop (suc last) ps),
     )
     refl
-cut-run from to fresh (suc first) zero low (p ∷ ps) d ar r lt = absurd (omega (arith, lt))
-cut-run from to fresh (suc first) (suc last) low (p ∷ ps) d ar r lt =
+cut-run from to (suc first) zero low (p ∷ ps) d ar r lt = absurd (omega (arith, lt))
+cut-run from to (suc first) (suc last) low (p ∷ ps) d ar r lt =
     rw (is_below from to p (r.before 0 p (omega arith)))
-    (ap (λ (xs : List Piece). p ∷ xs) (cut-run from to fresh first last (end_of (bare p)) ps d ar.1.1 (next_run from to p ps first (suc last) r) (omega (arith, lt))))
+    (ap (λ (xs : List Piece). p ∷ xs) (cut-run from to first last (end_of (bare p)) ps d ar.1.1 (next_run from to p ps first (suc last) r) (omega (arith, lt))))
 
 -- THE SEARCH FOR THE RUN
 

@@ -93,19 +93,19 @@ bare_append (x ∷ xs) ys = ap (λ (zs : List flat.Piece). bare x ∷ zs) (bare_
 pub bare_below : (from : ℕ) (p : Piece) → bare_all (kept_below from p) ≡ part_below from (bare p)
 bare_below from p = elim (cases_Bool (nat_lt p.base from)) [ inl h ↦ rw h refl | inr h ↦ rw h refl ]
 
-pub bare_above : (from to fresh : ℕ) (p : Piece) → bare_all (kept_above from to fresh p) ≡ part_above to (bare p)
-bare_above from to fresh p = elim (cases_Bool (nat_lt to (end_of (bare p)))) [ inl h ↦ rw h refl | inr h ↦ rw h refl ]
+pub bare_above : (to : ℕ) (p : Piece) → bare_all (kept_above to p) ≡ part_above to (bare p)
+bare_above to p = elim (cases_Bool (nat_lt to (end_of (bare p)))) [ inl h ↦ rw h refl | inr h ↦ rw h refl ]
 
-pub bare_parts : (from to fresh : ℕ) (p : Piece) → bare_all (kept_parts from to fresh p) ≡ parts from to (bare p)
-bare_parts from to fresh p =
+pub bare_parts : (from to : ℕ) (p : Piece) → bare_all (kept_parts from to p) ≡ parts from to (bare p)
+bare_parts from to p =
     elim (cases_Bool (meets from to (bare p))) [
       | inl h ↦ rw (h, bare_append, bare_below, bare_above) refl
       | inr h ↦ rw h refl
     ]
 
-pub bare_cut : (from to fresh : ℕ) (ps : List Piece) → bare_all (kept_cut from to fresh ps) ≡ cut from to (bare_all ps)
-bare_cut from to fresh [] = refl
-bare_cut from to fresh (p ∷ ps) = rw (bare_append, bare_parts, bare_cut from to fresh ps) refl
+pub bare_cut : (from to : ℕ) (ps : List Piece) → bare_all (kept_cut from to ps) ≡ cut from to (bare_all ps)
+bare_cut from to [] = refl
+bare_cut from to (p ∷ ps) = rw (bare_append, bare_parts, bare_cut from to ps) refl
 
 -- an address inside a piece cuts it at whole pages
 pub whole : (a b : ℕ) → a % 4096 ≡ 0 → b % 4096 ≡ 0 → a ≤ b → a + 4096 * ((b - a) / 4096) ≡ b

@@ -16,9 +16,9 @@ kept_inserted p (q ∷ qs) = if nat_lt p.base q.base then p ∷ q ∷ qs else q 
 abbrev pub kept_below : ℕ → Piece → List Piece
 kept_below from p = if nat_lt p.base from then record p { pages = (from - p.base) / 4096 } ∷ [] else []
 
--- the part above an address keeps the key where nothing stays below, and else has the fresh one
-abbrev pub kept_above : ℕ → ℕ → ℕ → Piece → List Piece
-kept_above from to fresh p =
+-- the part above an address keeps the key too
+abbrev pub kept_above : ℕ → Piece → List Piece
+kept_above to p =
     if nat_lt to (end_of (bare p))
     then
     record {
@@ -27,16 +27,16 @@ kept_above from to fresh p =
       first_page = p.first_page + (to - p.base) / 4096;
       pages = (end_of (bare p) - to) / 4096;
       writable = p.writable;
-      key = if nat_lt p.base from then fresh else p.key;
+      key = p.key;
     } ∷ []
     else []
 
-abbrev pub kept_parts : ℕ → ℕ → ℕ → Piece → List Piece
-kept_parts from to fresh p = if meets from to (bare p) then kept_below from p ++ kept_above from to fresh p else p ∷ []
+abbrev pub kept_parts : ℕ → ℕ → Piece → List Piece
+kept_parts from to p = if meets from to (bare p) then kept_below from p ++ kept_above to p else p ∷ []
 
 -- the pieces with the range taken out
-abbrev pub kept_cut : ℕ → ℕ → ℕ → List Piece → List Piece
-kept_cut from to fresh ps = flat_map (kept_parts from to fresh) ps
+abbrev pub kept_cut : ℕ → ℕ → List Piece → List Piece
+kept_cut from to ps = flat_map (kept_parts from to) ps
 
 abbrev pub kept_named : ℕ → ℕ → Piece → Bool
 kept_named addr seg p = is_named addr seg (bare p)

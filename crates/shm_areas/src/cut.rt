@@ -34,11 +34,11 @@ fn part_below(piece: &Piece, from: u64) -> Option<Piece>
     })
 }
 
-/// What is left of a piece above a range. The key is a fresh one where a part below stays too.
-fn part_above(piece: &Piece, from: u64, to: u64, fresh: usize) -> Option<Piece>
+/// What is left of a piece above a range.
+fn part_above(piece: &Piece, to: u64) -> Option<Piece>
     requires fit { IsFit (bare piece.now) }
     requires begins { piece.now.base < to }
-    ensures { option_to_list result ≡ kept_above from to fresh piece.now }
+    ensures { option_to_list result ≡ kept_above to piece.now }
 {
     let end = piece.end();
     if end <= to {
@@ -48,16 +48,15 @@ fn part_above(piece: &Piece, from: u64, to: u64, fresh: usize) -> Option<Piece>
         base: to,
         first_page: piece.first_page + ((to - piece.base) / 4096) as u32,
         pages: ((end - to) / 4096) as u32,
-        key: if piece.base < from { fresh } else { piece.key },
         ..*piece
     })
 }
 
 /// What taking a range out does.
-pub(crate) fn cut_of(pieces: &[Piece], from: u64, to: u64, fresh: usize) -> Cut
+pub(crate) fn cut_of(pieces: &[Piece], from: u64, to: u64) -> Cut
     requires arranged { Arranged flat.lowest_address (bare_all pieces.now) }
     requires order { from < to }
-    ensures { IsCut pieces.now result (kept_cut from to fresh pieces.now) }
+    ensures { IsCut pieces.now result (kept_cut from to pieces.now) }
 {
     let run = run_in(pieces, from, to);
     if run.first == run.last {
@@ -72,7 +71,7 @@ pub(crate) fn cut_of(pieces: &[Piece], from: u64, to: u64, fresh: usize) -> Cut
         first: run.first,
         last: run.last,
         below: part_below(&pieces[run.first], from),
-        above: part_above(&pieces[run.last - 1], from, to, fresh),
+        above: part_above(&pieces[run.last - 1], to),
     }
 }
 

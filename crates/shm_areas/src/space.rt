@@ -139,7 +139,7 @@ impl Space {
         requires order { from < to }
         ensures { result ≡ length (flat.cut from to (bare_all self.now)) }
     {
-        count_left(&self.pieces, cut_of(&self.pieces, from, to, 0))
+        count_left(&self.pieces, cut_of(&self.pieces, from, to))
     }
 
     /// Puts a piece where no other piece lies.
@@ -158,16 +158,16 @@ impl Space {
     }
 
     /// Takes a range out: pieces in it go, and of pieces that reach beyond it the parts outside stay, each
-    /// a piece with its own first page. Where one piece is cut in two the upper part gets the fresh key.
-    pub fn cut(&mut self, from: u64, to: u64, fresh: usize)
+    /// a piece with its own first page and the same key.
+    pub fn cut(&mut self, from: u64, to: u64)
         requires from { from % 4096 ≡ 0 }
         requires to { to % 4096 ≡ 0 }
         requires order { from < to }
         requires few { length (flat.cut from to (bare_all self.old)) ≤ 256 }
-        ensures kept { self.new ≡ kept_cut from to fresh self.old }
+        ensures kept { self.new ≡ kept_cut from to self.old }
         ensures flat { bare_all self.new ≡ flat.cut from to (bare_all self.old) }
     {
-        let cut = cut_of(&self.pieces, from, to, fresh);
+        let cut = cut_of(&self.pieces, from, to);
         replace(&mut self.pieces, cut);
     }
 

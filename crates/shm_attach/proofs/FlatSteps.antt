@@ -1,67 +1,17 @@
 -- The flat machine's steps, by what the address spaces answer. For the machine above.
-use Rattle.std.proofs.Common.{◌≡◌, ℕ, ◌+◌, ◌-◌, ◌*◌, ◌%◌, ◌==◌, ◌&&◌, true, false, not, nat_lt, if◌then◌else◌, List, [], ◌∷◌, length, map, Option, Some, None, option_map, Result, Ok, Err, inl, inr, refl, ap, sym, ◌∙◌, ◌^◌}
+use Rattle.std.proofs.Common.{◌≡◌, ℕ, ◌+◌, ◌%◌, true, false, List, [], ◌∷◌, length, map, Option, Some, None, option_map, refl, ap, sym, ◌∙◌, ◌^◌}
 use Rattle.std.specs.Int.{w64, to_le_bytes, from_le_bytes}
-use Rattle.std.proofs.lemmas.Bool.{cases_Bool}
 use Rattle.std.proofs.lemmas.Option.{none-some}
-use Rattle.shm_base.specs.declared.errno.Errno.{Errno}
-use Rattle.shm_base.specs.declared.errno.Errno.TheVariants.{Einval, Sigsegv}
-use Rattle.shm_base.specs.declared.flags.AtFlags.{AtFlags}
-use Rattle.shm_base.specs.declared.call.Reply.TheVariants.{Addr, Bytes, Number, Done}
-use Rattle.shm_base.specs.State.{Segment, Entry, Piece, Runner, Machine, pages_in}
+use Rattle.shm_base.specs.declared.errno.Errno.TheVariants.{Eagain, Einval, Sigsegv}
+use Rattle.shm_base.specs.declared.call.Reply.TheVariants.{Bytes, Number, Done}
+use Rattle.shm_base.specs.State.{Entry, Piece, Runner, Machine}
 use Rattle.shm_base.specs.Access.{Place, places, writable_places, byte_at, with_byte, loaded, stored}
-use Rattle.shm_base.specs.Space.{inside, occupied, choose, cut, origin_of, without_named}
-use Rattle.shm_base.specs.Segments.{change, attached, detach_all, swept, after_detach}
-use Rattle.shm_base.specs.Step.{Caller, caller_from, Outcome, gives, refuses, with_pieces, pieces_with, is_remap, attaches, attaches_chosen, attaches_fixed, detaches, shmdt, fork, forks, load, store, xadd, unborn_from}
-use Rattle.shm_areas.specs.Fixed.{fixed_at}
+use Rattle.shm_base.specs.Space.{origin_of, without_named}
+use Rattle.shm_base.specs.Segments.{after_detach}
+use Rattle.shm_base.specs.Step.{Caller, caller_from, gives, refuses, with_pieces, detaches, shmdt, fork, forks, load, store, xadd, unborn_from}
 use Rattle.shm_attach.specs.Spans.{unmarked, wanted_in, pieces_by, pieces_of_caller}
-use Rattle.shm_attach.specs.Attach.{Attachment, chosen, if_few, piece_for, attached_at, attached_by}
-use Rattle.shm_attach.specs.Fork.{forked_at, forked_by}
-use Rattle.shm_attach.proofs.Processes.{length-inserted}
-
--- ATTACHING
-
--- what the flat machine does with an attachment
-abbrev pub attached_outcome : Machine → ℕ → Caller → ℕ → Result Attachment Errno → Outcome
-attached_outcome s n c id (Err e) = refuses s e
-attached_outcome s n c id (Ok a) =
-    gives (record s { table = swept a.runners (change (detach_all n c.pid s.table a.lost) id (attached n c.pid)); runners = a.runners }) (Addr a.base)
-
-attaches-few : (s : Machine) (n : ℕ) (c : Caller) (id : ℕ) (x : Segment) (flags : AtFlags) (base : ℕ)
-    → attaches s n c id x flags base ≡ attached_outcome s n c id (attached_at s.runners c id (pages_in x) flags (if_few c.pieces (pages_in x) (Ok base)))
-attaches-few s n c id x flags base =
-    let long : length (pieces_with c id x flags base) ≡ length (cut base (base + 4096 * pages_in x) c.pieces) + 1 =
-    length-inserted (piece_for id (pages_in x) flags base) (cut base (base + 4096 * pages_in x) c.pieces) in
-    elim (cases_Bool (nat_lt 256 (length (cut base (base + 4096 * pages_in x) c.pieces) + 1))) [
-      | inl h ↦ rw (long, h) refl
-      | inr h ↦ rw (long, h) refl
-    ]
-
-attaches_chosen-flat : (s : Machine) (n : ℕ) (c : Caller) (id : ℕ) (x : Segment) (flags : AtFlags) (o : Option ℕ)
-    → attaches_chosen s n c id x flags o ≡ attached_outcome s n c id (attached_at s.runners c id (pages_in x) flags (if_few c.pieces (pages_in x) (chosen o)))
-attaches_chosen-flat s n c id x flags None = refl
-attaches_chosen-flat s n c id x flags (Some base) = attaches-few s n c id x flags base
-
-attaches_fixed-flat : (s : Machine) (n : ℕ) (c : Caller) (id : ℕ) (x : Segment) (flags : AtFlags) (base : ℕ)
-    → attaches_fixed s n c id x flags base
-    ≡ attached_outcome s n c id (attached_at s.runners c id (pages_in x) flags (if_few c.pieces (pages_in x) (fixed_at c.pieces base (pages_in x) flags)))
-attaches_fixed-flat s n c id x flags base =
-    elim (cases_Bool (not (inside base (pages_in x)))) [
-      | inl h ↦ rw h refl
-      | inr h ↦ elim (cases_Bool (not (is_remap flags) && occupied c.pieces base (base + 4096 * pages_in x))) [
-        | inl k ↦ rw (h, k) refl
-        | inr k ↦ rw (h, k) (attaches-few s n c id x flags base)
-      ]
-    ]
-
--- shmat behind the permission test
-pub attaches-flat : (s : Machine) (n : ℕ) (c : Caller) (id : ℕ) (x : Segment) (flags : AtFlags) (addr : ℕ)
-    → (if addr == 0 then attaches_chosen s n c id x flags (choose c.pieces (pages_in x)) else attaches_fixed s n c id x flags (addr - addr % 4096))
-    ≡ attached_outcome s n c id (attached_by s.runners c id (pages_in x) addr flags)
-attaches-flat s n c id x flags addr =
-    elim (cases_Bool (addr == 0)) [
-      | inl h ↦ rw h (attaches_chosen-flat s n c id x flags (choose c.pieces (pages_in x)))
-      | inr h ↦ rw h (attaches_fixed-flat s n c id x flags (addr - addr % 4096))
-    ]
+use Rattle.shm_attach.specs.declared.process.Child.{Child}
+use Rattle.shm_attach.specs.Fork.{born_child}
 
 -- DETACHING
 
@@ -81,16 +31,12 @@ shmdt-none s n c addr none = ap (detaches s n c addr) none
 
 -- FORK
 
-abbrev pub forked_outcome : Machine → Result (List Runner) Errno → Outcome
-forked_outcome s (Err e) = refuses s e
-forked_outcome s (Ok rs) = gives (record s { runners = rs }) Done
+pub fork-born : (s : Machine) (c : Caller) (child : Child) → unborn_from 0 child.pid s.runners ≡ Some child.index
+    → fork s c child.pid ≡ gives (record s { runners = born_child s.runners c child }) Done
+fork-born s c child unborn = ap (forks s c child.pid) unborn
 
-pub fork-flat : (s : Machine) (c : Caller) (child : ℕ) → fork s c child ≡ forked_outcome s (forked_by s.runners c child)
-fork-flat s c child = by (unborn_from 0 child s.runners)
-  where
-    by : (o : Option ℕ) → forks s c child o ≡ forked_outcome s (forked_at s.runners c child o)
-    by None = refl
-    by (Some i) = refl
+pub fork-none : (s : Machine) (c : Caller) (child : ℕ) → unborn_from 0 child s.runners ≡ None → fork s c child ≡ refuses s Eagain
+fork-none s c child none = ap (forks s c child) none
 
 -- ACCESSES
 

@@ -11,8 +11,9 @@ use Rattle.shm_base.specs.Segments.{attach_count}
 use Rattle.shm_areas.specs.Arranged.{bare, bare_all, Arranged}
 use Rattle.shm_areas.specs.declared.piece.Piece.{Piece as Stored}
 use Rattle.shm_areas.proofs.Edits.{lower}
-use Rattle.shm_attach.specs.declared.counts.Counts.{Counts}
-use Rattle.shm_attach.specs.Views.{counted, one_if, with_own, with_pieces_at, with_other_life, with_life_at}
+use Rattle.shm_attach.specs.declared.tables.Tables.{Tables}
+use Rattle.shm_attach.specs.Tables.{counted}
+use Rattle.shm_attach.specs.Views.{one_if, with_own, with_pieces_at, with_other_life, with_life_at}
 use Rattle.shm_attach.specs.Spaces.{pieces_at, life_at}
 use Rattle.shm_attach.specs.Exact.{IsExact}
 use Rattle.shm_attach.proofs.Processes.{nobody, attach_count-changed, one_more, pieces_of-append}
@@ -96,7 +97,7 @@ with_life_at-pieces rs i f l lt =
 -- THE COUNTS
 
 -- one process is replaced by another, and the counts follow
-pub IsExact-set : (rs : List Runner) (i : ℕ) (r : Runner) (c d : Counts) → IsExact rs c → i < length rs → length r.pieces ≤ 256
+pub IsExact-set : (rs : List Runner) (i : ℕ) (r : Runner) (c d : Tables) → IsExact rs c → i < length rs → length r.pieces ≤ 256
     → Arranged lowest_address r.pieces → (r.life ≡ Unborn → r.pieces ≡ [])
     → ((id : ℕ) → counted d id + pieces_of id (pieces_at rs i) ≡ counted c id + pieces_of id r.pieces)
     → IsExact (set rs i r) d
@@ -124,7 +125,7 @@ IsExact-set rs i r c d exact lt few order asleep counts =
         rw (same, pieces_at-set rs i r lt) (asleep (sym (life_at-set rs i r lt) ∙ ap (life_at (set rs i r)) (sym same) ∙ none))
     empty j none (inr other) = rw (pieces_at-set_other rs i j r other) (exact.unborn j (sym (life_at-set_other rs i j r other) ∙ none))
 
-pub IsExact-changed : (rs : List Runner) (i : ℕ) (f : List Piece → List Piece) (c d : Counts) → IsExact rs c → i < length rs → length (f (pieces_at rs i)) ≤ 256
+pub IsExact-changed : (rs : List Runner) (i : ℕ) (f : List Piece → List Piece) (c d : Tables) → IsExact rs c → i < length rs → length (f (pieces_at rs i)) ≤ 256
     → Arranged lowest_address (f (pieces_at rs i)) → (life_at rs i ≡ Unborn → f (pieces_at rs i) ≡ [])
     → ((id : ℕ) → counted d id + pieces_of id (pieces_at rs i) ≡ counted c id + pieces_of id (f (pieces_at rs i)))
     → IsExact (with_pieces_at rs i f) d
@@ -135,7 +136,7 @@ IsExact-changed rs i f c d exact lt few order asleep counts =
     (IsExact-set rs i (record r { pieces = f r.pieces }) c d exact lt (rw same at few) (rw same at order)
     (λ none. sym same ∙ asleep (life_at-get_or rs i ∙ none)) (λ id. rw same at (counts id)))
 
-pub IsExact-life : (rs : List Runner) (i : ℕ) (l : Life) (c : Counts) → IsExact rs c → i < length rs → l ≢ Unborn → IsExact (with_life_at rs i l) c
+pub IsExact-life : (rs : List Runner) (i : ℕ) (l : Life) (c : Tables) → IsExact rs c → i < length rs → l ≢ Unborn → IsExact (with_life_at rs i l) c
 IsExact-life rs i l c exact lt awake =
     let r = get_or rs i nobody in
     let same : pieces_at rs i ≡ r.pieces = pieces_at-get_or rs i in
@@ -153,10 +154,10 @@ attach_count-few id (r ∷ rs) few =
     let all = sum_by-cons (λ (x : Runner). pieces_of id x.pieces) r rs in
     omega (arith, first, own, rest, all)
 
-pub small_counts : (rs : List Runner) (c : Counts) → IsExact rs c → (id : ℕ) → counted c id ≤ 16384
+pub small_counts : (rs : List Runner) (c : Tables) → IsExact rs c → (id : ℕ) → counted c id ≤ 16384
 small_counts rs c exact id = omega (arith, exact.counts id, attach_count-few id rs exact.pieces, exact.processes)
 
-pub own_counted : (rs : List Runner) (c : Counts) (i : ℕ) → IsExact rs c → i < length rs → (id : ℕ) → pieces_of id (pieces_at rs i) ≤ counted c id
+pub own_counted : (rs : List Runner) (c : Tables) (i : ℕ) → IsExact rs c → i < length rs → (id : ℕ) → pieces_of id (pieces_at rs i) ≤ counted c id
 own_counted rs c i exact lt id = omega (arith, exact.counts id, attach_count-changed id i (λ ps. []) rs lt)
 
 -- WHAT IS FREE AFTER A CUT

@@ -1,10 +1,11 @@
-pub mod Ties
+pub mod Residency
 pub mod Processes
 pub mod Accesses
 pub mod Callers
 pub mod Keeping
 pub mod Bases
-pub mod Shapes
+pub mod Held
+pub mod Tied
 pub mod Translations
 pub mod Starts
 pub mod FlatSteps

@@ -1,7 +1,7 @@
 -- One process's pieces change, and the counts with them.
-use Rattle.std.proofs.Common.{inl, inr, ◌⊎◌, ◌≡◌, ℕ, zero, suc, ◌+◌, ◌-◌, ◌<◌, ◌≤◌, Bool, true, false, ◌==◌, nat_lt, List, [], ◌∷◌, length, map, get_or, Option, Some, None, slice_get, not, filter, refl, ap, sym, ◌∙◌, arith, ◌++◌, cond, drop, drop-cons, add-one}
+use Rattle.std.proofs.Common.{inl, inr, ◌⊎◌, ◌≡◌, ℕ, zero, suc, ◌+◌, ◌-◌, ◌<◌, ◌≤◌, Bool, true, false, ◌==◌, nat_lt, List, [], ◌∷◌, length, map, get_or, Option, Some, None, slice_get, not, filter, refl, ap, sym, ◌∙◌, arith, ◌++◌, cond, drop, drop-cons, add-one, ne_eqb}
 use Rattle.std.proofs.lemmas.List.Sums.{sum_by-set, sum_by-append, length-filter, count_by-le-length}
-use Rattle.std.proofs.lemmas.Bool.{lt-ltb, le-ltb, cases_lt, cases_Bool, eqb-true, and_parts}
+use Rattle.std.proofs.lemmas.Bool.{lt-ltb, le-ltb, cases_eq, cases_lt, cases_Bool, eqb-true, and_parts}
 use Rattle.std.proofs.lemmas.Option.{none-some, slice_get-get_or}
 use Rattle.indexmap.specs.IndexMap.{set_value_at}
 use Rattle.shm_base.specs.State as flat
@@ -177,6 +177,14 @@ few_parts from to p =
 
 pub some_if-le : (id seg n : ℕ) → some_if id seg n ≤ n
 some_if-le id seg n = elim (cases_Bool (seg == id)) [ inl h ↦ rw h (omega arith) | inr h ↦ rw h (omega arith) ]
+
+-- what has pieces after a change had some before
+pub was_counted : (id seg a b n m : ℕ) → (seg ≡ id → 0 < a) → b + some_if id seg n ≡ a + some_if id seg m → 0 < b → 0 < a
+was_counted id seg a b n m own change some =
+    elim (cases_eq seg id) [
+      | inl same ↦ own same
+      | inr other ↦ let still : b + 0 ≡ a + 0 = rw (ne_eqb seg id other) at change in omega (arith, still, some)
+    ]
 
 -- a piece that is met goes to both sides
 pieces_of-cut_one : (id from to : ℕ) (p : flat.Piece) (ps : List flat.Piece) → meets from to p ≡ true

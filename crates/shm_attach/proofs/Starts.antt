@@ -8,15 +8,16 @@ use Rattle.shm_base.specs.State.{runner_at_start}
 use Rattle.shm_base.specs.Space.{pieces_of}
 use Rattle.shm_base.specs.Segments.{attach_count}
 use Rattle.shm_base.specs.declared.call.Process.{Process}
-use Rattle.shm_attach.specs.declared.counts.Counts.{Counts}
+use Rattle.shm_attach.specs.declared.tables.Tables.{Tables}
 use Rattle.shm_attach.specs.declared.process.Runner.{Runner}
-use Rattle.shm_attach.specs.Views.{counted, runner_view, runners_view}
+use Rattle.shm_attach.specs.Views.{runner_view, runners_view}
 use Rattle.shm_attach.specs.Spaces.{pieces_at}
 use Rattle.shm_attach.specs.Exact.{IsExact}
 use Rattle.slab.specs.Slab.{Slab}
-use Rattle.shm_areas.specs.declared.piece.Piece.{Piece as Stored}
-use Rattle.shm_areas.specs.Arranged.{bare_all}
-use Rattle.shm_attach.specs.Tables.{Entry, Shape, shaped, total, has}
+use Rattle.shm_areas.specs.Arranged.{bare, bare_all}
+use Rattle.shm_attach.specs.Entries.{Entry}
+use Rattle.shm_attach.specs.Tables.{counted, stored_at, AllHeld}
+use Rattle.shm_attach.proofs.Held.{pieces_at-bare}
 use Rattle.shm_attach.proofs.Callers.{nobody}
 
 -- a process under a new pid stands behind the others
@@ -65,7 +66,7 @@ pieces_at-start [] i = refl
 pieces_at-start (p ∷ ps) zero = refl
 pieces_at-start (p ∷ ps) (suc i) = pieces_at-start ps i
 
-pub IsExact-start : (ps : List Process) (c : Counts) → length ps ≤ 64 → ((id : ℕ) → counted c id ≡ 0) → IsExact (map runner_at_start ps) c
+pub IsExact-start : (ps : List Process) (c : Tables) → length ps ≤ 64 → ((id : ℕ) → counted c id ≡ 0) → IsExact (map runner_at_start ps) c
 IsExact-start ps c few none =
     record {
       counts = λ id. none id ∙ sym (attach_count-start id ps);
@@ -75,22 +76,8 @@ IsExact-start ps c few none =
       arranged = λ i. rw (pieces_at-start ps i) tt;
     }
 
-abbrev pieces_first : List flat.Runner → List flat.Piece
-pieces_first [] = []
-pieces_first (r ∷ rs) = r.pieces
-
-total-start : (s : Shape) (es : List (ℕ × Runner)) (ps : List Process) → runners_view es ≡ map runner_at_start ps → total s es ≡ 0
-total-start s [] ps same = refl
-total-start s (e ∷ es) [] same = absurd (cc same)
-total-start s (e ∷ es) (p ∷ ps) same =
-    let rest = total-start s es ps (ap tail_of same) in
-    let none : bare_all e.1.space ≡ [] = ap pieces_first same in
-    omega (arith, rest, no_pieces e.1.space none)
-  where
-    no_pieces : (qs : List Stored) → bare_all qs ≡ [] → shaped s qs ≡ 0
-    no_pieces [] none = refl
-    no_pieces (q ∷ qs) none = absurd (cc none)
-
 -- no piece has a table yet
-pub no_shapes : (s : Shape) (es : List (ℕ × Runner)) (ps : List Process) (t : Slab Entry) → runners_view es ≡ map runner_at_start ps → t.slots ≡ [] → has t s ≡ total s es
-no_shapes s es ps t same empty = rw empty (sym (total-start s es ps same))
+pub AllHeld-start : (es : List (ℕ × Runner)) (ps : List Process) (t : Slab Entry) → runners_view es ≡ map runner_at_start ps → AllHeld es t
+AllHeld-start es ps t same i k d lt =
+    let none : bare_all (stored_at es i) ≡ [] = sym (pieces_at-bare es i) ∙ ap (λ (rs : List flat.Runner). pieces_at rs i) same ∙ pieces_at-start ps i in
+    absurd (omega (arith, lt, length-map (stored_at es i) bare, ap length none))

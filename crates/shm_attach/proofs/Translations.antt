@@ -1,23 +1,14 @@
 -- The translations of all pieces are true where each entry is.
-use Rattle.std.proofs.Common.{◌≡◌, ◌≢◌, ◌⊎◌, inl, inr, ◌==◌, true, false, ℕ, zero, suc, ◌+◌, ◌<◌, ◌≤◌, List, [], ◌∷◌, ◌++◌, length, get_or, Option, Some, None, refl, sym, subst, arith}
+use Rattle.std.proofs.Common.{◌≡◌, ◌≢◌, ℕ, zero, suc, ◌+◌, ◌<◌, List, [], ◌∷◌, ◌++◌, length, get_or, Option, Some, None, refl, ap, sym, subst, ◌∙◌, arith}
 use Rattle.std.specs.Prelude.{All, ⊤}
 use Rattle.std.specs.List.{flat_map}
 use Rattle.std.proofs.lemmas.List.Elements.{All-append, All-nil, All-cons, All-head, All-tail}
-use Rattle.std.proofs.lemmas.Bool.{cases_Bool, eqb-false}
-use Rattle.std.proofs.lemmas.List.Sums.{sum_by-cons}
 use Rattle.slab.specs.Slab.{Slab, get}
-use Rattle.shm_base.specs.State as flat
-use Rattle.shm_base.specs.Space.{pieces_of}
-use Rattle.shm_base.specs.Segments.{attach_count}
-use Rattle.shm_areas.specs.declared.piece.Piece.{Piece}
-use Rattle.shm_areas.specs.Arranged.{bare, bare_all}
-use Rattle.shm_attach.specs.declared.process.Runner.{Runner}
-use Rattle.shm_attach.specs.Views.{one_if, runner_view, runners_view}
 use Rattle.shm_fault.specs.Store.{StoreView, frame_of}
+use Rattle.shm_attach.specs.declared.tables.Tables.{Tables}
 use Rattle.shm_attach.specs.Spaces.{Translation, AreTrue}
-use Rattle.shm_attach.specs.Tables.{Entry, Shape, translations_from, translations_in, translations_of, TrueSlot, AllTrue, IsTied, shape_of, shape_at, one, shaped, total, has}
-use Rattle.shm_attach.proofs.Processes.{one_more}
-use Rattle.shm_attach.proofs.Ties.{one-self, one-le, one-seg}
+use Rattle.shm_attach.specs.Entries.{Entry, translations_from, translations_in, translations_of, seg_in, TrueSlot, AllTrue}
+use Rattle.shm_attach.specs.Tables.{counted, IsTied}
 
 abbrev Holds : (ℕ → ℕ → Option ℕ) → Translation → Type 0
 Holds at t = t.frame ≡ at t.seg t.page
@@ -56,7 +47,8 @@ of-frames at seg first (f ∷ fs) each =
 slots-of : (at : ℕ → ℕ → Option ℕ) (os : List (Option Entry)) → All (Holds at) (flat_map translations_in os) → (k : ℕ) → TrueSlot at (get_or os k None)
 slots-of at [] all k = tt
 slots-of at (None ∷ os) all zero = tt
-slots-of at (Some e ∷ os) all zero = frames-of at e.seg e.first_page e.frames (All-left (Holds at) (translations_from e.seg e.first_page e.frames) (flat_map translations_in os) all)
+slots-of at (Some e ∷ os) all zero =
+    λ j lt. let here : 0 + j ≡ j = omega arith in rw here at (frames-of at e.seg 0 e.frames (All-left (Holds at) (translations_from e.seg 0 e.frames) (flat_map translations_in os) all) j lt)
 slots-of at (o ∷ os) all (suc k) = slots-of at os (All-right (Holds at) (translations_in o) (flat_map translations_in os) all) k
 
 of-slots : (at : ℕ → ℕ → Option ℕ) (os : List (Option Entry)) → ((k : ℕ) → TrueSlot at (get_or os k None)) → All (Holds at) (flat_map translations_in os)
@@ -65,7 +57,7 @@ of-slots at (o ∷ os) each = All-append (Holds at) (translations_in o) (flat_ma
   where
     first : (o : Option Entry) → TrueSlot at o → All (Holds at) (translations_in o)
     first None tr = All-nil (Holds at)
-    first (Some e) tr = of-frames at e.seg e.first_page e.frames tr
+    first (Some e) tr = of-frames at e.seg 0 e.frames (λ j lt. let here : 0 + j ≡ j = omega arith in rw here (tr j lt))
 
 pub all-true : (at : ℕ → ℕ → Option ℕ) (t : Slab Entry) → All (λ (x : Translation). x.frame ≡ at x.seg x.page) (translations_of t) → AllTrue at t
 all-true at t all = slots-of at t.slots all
@@ -98,40 +90,16 @@ slots-apart seg (o ∷ os) each = All-append (Apart seg) (translations_in o) (fl
   where
     first : (o : Option Entry) → SlotApart seg o → All (Apart seg) (translations_in o)
     first None tr = All-nil (Apart seg)
-    first (Some e) tr = frames-apart seg e.seg e.first_page e.frames tr
+    first (Some e) tr = frames-apart seg e.seg 0 e.frames tr
 
 pub apart-all : (seg : ℕ) (t : Slab Entry) → ((k : ℕ) → SlotApart seg (get t k)) → All (λ (x : Translation). x.seg ≢ seg) (translations_of t)
 apart-all seg t each = slots-apart seg t.slots each
 
-shaped-le : (s : Shape) (ps : List Piece) → shaped s ps ≤ pieces_of s.seg (bare_all ps)
-shaped-le s [] = omega arith
-shaped-le s (p ∷ ps) =
-    let rest = shaped-le s ps in
-    let more = one_more s.seg (bare p) (bare_all ps) in
-    omega (arith, rest, more, first (cases_Bool (p.seg == s.seg)))
+pub unnamed : (seg : ℕ) (t : Tables) → IsTied t → counted t seg ≡ 0 → All (λ (x : Translation). x.seg ≢ seg) (translations_of t.slab)
+unnamed seg t tied none = apart-all seg t.slab (λ k. by k (get t.slab k) refl)
   where
-    first : (p.seg == s.seg ≡ true) ⊎ (p.seg == s.seg ≡ false) → one s (shape_of p) ≤ one_if s.seg p.seg
-    first (inl same) = rw same (one-le s (shape_of p))
-    first (inr other) =
-        let none : one s (shape_of p) ≡ 0 = omega (arith, one-seg s (shape_of p) (λ same. eqb-false p.seg s.seg other (sym same))) in
-        rw (other, none) (omega arith)
-
-total-le : (s : Shape) (es : List (ℕ × Runner)) → total s es ≤ attach_count (runners_view es) s.seg
-total-le s [] = omega arith
-total-le s (e ∷ es) =
-    let all = sum_by-cons (λ (x : flat.Runner). pieces_of s.seg x.pieces) (runner_view e) (runners_view es) in
-    omega (arith, shaped-le s e.1.space, total-le s es, all)
-
-pub unnamed : (seg : ℕ) (es : List (ℕ × Runner)) (t : Slab Entry) → IsTied es t → attach_count (runners_view es) seg ≡ 0
-    → All (λ (x : Translation). x.seg ≢ seg) (translations_of t)
-unnamed seg es t tied none = apart-all seg t (λ k. by k (get t k) refl)
-  where
-    by : (k : ℕ) (o : Option Entry) → get t k ≡ o → SlotApart seg (get t k)
+    by : (k : ℕ) (o : Option Entry) → get t.slab k ≡ o → SlotApart seg (get t.slab k)
     by k None at = rw at tt
     by k (Some e) at =
-        let s = shape_at k e in
-        let here : has t s ≡ 1 = rw at (one-self s) in
-        let other : e.seg ≢ seg = λ same.
-        let counted : attach_count (runners_view es) e.seg ≡ 0 = rw same none in
-        absurd (omega (arith, here, tied s, total-le s es, counted)) in
+        let other : e.seg ≢ seg = λ same. cc (tied.named seg k (ap seg_in at ∙ ap Some same), tied.some seg none) in
         rw at other

@@ -1,6 +1,5 @@
 -- Stretches of bytes of segments, as the places that an access asks for.
-use Rattle.std.specs.Prelude.{ℕ, zero, suc, ◌≡◌, ◌+◌, ◌*◌, ◌/◌, ◌<◌, ◌≤◌, Bool, true, false, List, [], ◌∷◌, ◌++◌, Option, Some, None, option_map, map, All}
-use Rattle.shm_base.specs.declared.paging.Span.{Span}
+use Rattle.std.specs.Prelude.{ℕ, ◌≡◌, ◌+◌, ◌<◌, Bool, true, false, List, [], Option, Some, None, option_map, map, All}
 use Rattle.shm_base.specs.State.{Piece, Runner}
 use Rattle.shm_base.specs.Access.{Place, places, writable_places}
 use Rattle.shm_base.specs.Step.{Caller, caller_from}

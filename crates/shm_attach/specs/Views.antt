@@ -1,7 +1,5 @@
 -- What the stored processes show of the flat machine.
-use Rattle.std.specs.Prelude.{ℕ, List, map, Option, Some, None, if◌then◌else◌, ◌==◌, nat_eq, slice_get, slice_set}
-use Rattle.std.specs.HashMap.{get}
-use Rattle.shm_attach.specs.declared.counts.Counts.{Counts}
+use Rattle.std.specs.Prelude.{ℕ, List, map, Option, Some, None, if◌then◌else◌, ◌==◌, slice_get, slice_set}
 use Rattle.shm_base.specs.State as flat
 use Rattle.shm_areas.specs.Arranged.{bare_all}
 use Rattle.shm_attach.specs.declared.process.Life.{Life}
@@ -22,13 +20,6 @@ runners_view es = map runner_view es
 -- one more or one less for one segment
 abbrev pub one_if : ℕ → ℕ → ℕ
 one_if id seg = if seg == id then 1 else 0
-
-abbrev pub number : Option ℕ → ℕ
-number None = 0
-number (Some n) = n
-
-abbrev pub counted : Counts → ℕ → ℕ
-counted c id = number (get nat_eq c.by_segment id)
 
 abbrev pub with_own : List flat.Runner → ℕ → (List flat.Piece → List flat.Piece) → Option flat.Runner → List flat.Runner
 with_own rs i f None = rs

@@ -1,17 +1,17 @@
 //! Changes of the pieces of one process. Every attach and every detach goes through these, whatever its
-//! cause, so that the counts stay exact and each piece has its table.
+//! cause, so that the counts stay exact and each piece has its segment's table.
 ghost use Rattle.std.specs.Prelude.{◌≡◌, ◌≢◌, ℕ, Option, ◌+◌, ◌%◌, ◌<◌, ◌≤◌, length, true, All, map, slice_index_or, [], ◌∷◌, ◌++◌};
 ghost use Rattle.shm_base.specs.State.{Piece as FlatPiece};
 ghost use Rattle.shm_base.specs.Space.{lowest_address, inserted, cut, cut_segments, meets, pieces_of, without_named};
 ghost use Rattle.shm_areas.specs.declared.piece.Piece.{Piece as Stored};
 ghost use Rattle.shm_areas.specs.Arranged.{bare, bare_all, Arranged};
-ghost use Rattle.shm_attach.specs.Views.{counted, life_view, with_pieces_at, with_life_at, runners_view};
-ghost use Rattle.shm_areas.specs.Edit.{kept_without};
+ghost use Rattle.shm_attach.specs.Views.{life_view, with_pieces_at, with_life_at, runners_view};
+ghost use Rattle.shm_areas.specs.Edit.{kept_inserted, kept_cut, kept_without};
 ghost use Rattle.shm_attach.specs.Spaces.{pieces_at};
-ghost use Rattle.shm_attach.specs.Tables.{Shape, one, shape_of, shaped, total, has, AllTrue, stored_at, left_shaped, upper_shaped};
+ghost use Rattle.shm_attach.specs.Entries.{AllTrue};
+ghost use Rattle.shm_attach.specs.Tables.{counted, stored_at, IsHeld, IsTied};
 ghost use Rattle.shm_attach.specs.Place.{IsPlaceFor};
 
-use crate::counts::Counts;
 use crate::lost::Lost;
 use crate::process::{Life, Runner};
 use crate::tables::Tables;
@@ -46,7 +46,8 @@ pub(crate) fn insert_at(processes: &mut IndexMap<u32, Runner>, index: usize, pie
     requires room { IsPlaceFor (bare piece) (pieces_at (runners_view processes.old.entries) index) }
     ensures runners { runners_view processes.new.entries ≡ with_pieces_at (runners_view processes.old.entries) index (inserted (bare piece)) }
     ensures count { length processes.new.entries ≡ length processes.old.entries }
-    ensures shapes { (s : Shape) → total s processes.new.entries ≡ total s processes.old.entries + one s (shape_of piece) }
+    ensures own { stored_at processes.new.entries index ≡ kept_inserted piece (stored_at processes.old.entries index) }
+    ensures others { (j : ℕ) → j ≢ index → stored_at processes.new.entries j ≡ stored_at processes.old.entries j }
 {
     let Some(runner) = processes.get_index_mut(index) else {
         unreachable!();
@@ -54,48 +55,23 @@ pub(crate) fn insert_at(processes: &mut IndexMap<u32, Runner>, index: usize, pie
     runner.space.insert(piece);
 }
 
-/// Takes the table of a piece out, if it is one of a segment with this origin.
-fn remove_if_named(tables: &mut Tables, piece: &Piece, addr: u64, seg: u32)
-    requires { 1 ≤ has tables.old.slab (shape_of piece.now) }
-    ensures less { (s : Shape) → has tables.new.slab s + one s (shape_of piece.now) ≡ has tables.old.slab s + shaped s (kept_without addr seg (piece.now ∷ [])) }
-    ensures translated { (at : ℕ → ℕ → Option ℕ) → AllTrue at tables.old.slab → AllTrue at tables.new.slab }
-{
-    if piece.has_origin(addr) && piece.seg == seg {
-        tables.remove(piece);
-    }
-}
-
-/// Takes the tables of the pieces of a segment with this origin out.
-fn remove_named(tables: &mut Tables, pieces: &[Piece], addr: u64, seg: u32)
-    requires { (s : Shape) → shaped s pieces.now ≤ has tables.old.slab s }
-    ensures tied { (s : Shape) → has tables.new.slab s + shaped s pieces.now ≡ has tables.old.slab s + shaped s (kept_without addr seg pieces.now) }
-    ensures translated { (at : ℕ → ℕ → Option ℕ) → AllTrue at tables.old.slab → AllTrue at tables.new.slab }
-{
-    for piece in pieces {
-        remove_if_named(tables, piece, addr, seg);
-    }
-}
-
 /// Takes out the pieces of a segment with this origin, and tells how many they were.
 pub(crate) fn take_at(
     processes: &mut IndexMap<u32, Runner>,
-    tables: &mut Tables,
     index: usize,
     addr: u64,
     seg: u32,
 ) -> u32
     requires there { index < length processes.old.entries }
-    requires tied { (s : Shape) → shaped s (stored_at processes.old.entries index) ≤ has tables.old.slab s }
     ensures runners { runners_view processes.new.entries ≡ with_pieces_at (runners_view processes.old.entries) index (without_named addr seg) }
     ensures count { length processes.new.entries ≡ length processes.old.entries }
-    ensures tied { (s : Shape) → has tables.new.slab s + total s processes.old.entries ≡ has tables.old.slab s + total s processes.new.entries }
-    ensures translated { (at : ℕ → ℕ → Option ℕ) → AllTrue at tables.old.slab → AllTrue at tables.new.slab }
+    ensures own { stored_at processes.new.entries index ≡ kept_without addr seg (stored_at processes.old.entries index) }
+    ensures others { (j : ℕ) → j ≢ index → stored_at processes.new.entries j ≡ stored_at processes.old.entries j }
     ensures gone { length (without_named addr seg (pieces_at (runners_view processes.old.entries) index)) + result ≡ length (pieces_at (runners_view processes.old.entries) index) }
 {
     let Some(runner) = processes.get_index_mut(index) else {
         unreachable!();
     };
-    remove_named(tables, runner.space.pieces(), addr, seg);
     let before = runner.space.pieces().len();
     runner.space.take_at(addr, seg);
     let after = runner.space.pieces().len();
@@ -103,70 +79,57 @@ pub(crate) fn take_at(
 }
 
 /// Counts what becomes of pieces that a range meets: each goes, and its parts outside come.
-fn recount(counts: &mut Counts, met: &[Piece], from: u64, to: u64)
+fn recount(tables: &mut Tables, met: &[Piece], from: u64, to: u64)
     requires fit { Arranged lowest_address (bare_all met.now) }
     requires meets { All (λ (p : Stored). meets from to (bare p) ≡ true) met.now }
+    requires counted { (id : ℕ) → pieces_of id (bare_all met.now) ≤ counted tables.old id }
+    requires small { (id : ℕ) → counted tables.old id ≤ 65536 }
     requires few { length met.now ≤ 256 }
-    requires counted { (id : ℕ) → pieces_of id (bare_all met.now) ≤ counted counts.old id }
-    requires small { (id : ℕ) → counted counts.old id ≤ 65536 }
-    ensures { (id : ℕ) → counted counts.new id + pieces_of id (bare_all met.now) ≡ counted counts.old id + pieces_of id (cut from to (bare_all met.now)) }
-{
-    for piece in met {
-        counts.raise(piece.seg, piece.parts_outside(from, to));
-        counts.take(piece.seg, 1);
-    }
-}
-
-/// Takes a range out of the tables of pieces that it meets.
-fn cut_tables(tables: &mut Tables, met: &[Piece], from: u64, to: u64)
-    requires fit { Arranged lowest_address (bare_all met.now) }
-    requires meets { All (λ (p : Stored). meets from to (bare p) ≡ true) met.now }
-    requires from { from % 4096 ≡ 0 }
-    requires to { to % 4096 ≡ 0 }
-    requires tied { (s : Shape) → shaped s met.now ≤ has tables.old.slab s }
-    ensures tied { (s : Shape) → has tables.new.slab s + shaped s met.now ≡ has tables.old.slab s + left_shaped s from to met.now }
+    requires tied { IsTied tables.old }
+    ensures counts { (id : ℕ) → counted tables.new id + pieces_of id (bare_all met.now) ≡ counted tables.old id + pieces_of id (cut from to (bare_all met.now)) }
+    ensures held { (p : Stored) → IsHeld tables.old.slab p → 0 < counted tables.new p.seg → IsHeld tables.new.slab p }
     ensures translated { (at : ℕ → ℕ → Option ℕ) → AllTrue at tables.old.slab → AllTrue at tables.new.slab }
+    ensures tied { IsTied tables.new }
 {
     for piece in met {
-        tables.cut(piece, from, to);
+        tables.replace(piece.seg, 1, piece.parts_outside(from, to));
     }
 }
 
 /// Takes a range out of the process at a place: pieces in it go, and those that reach beyond it are cut.
-/// Where one is cut in two, the table of the upper part lies under the fresh key already. The answer names
-/// the segment of each.
+/// The answer names the segment of each.
 pub(crate) fn take_range(
     processes: &mut IndexMap<u32, Runner>,
-    counts: &mut Counts,
     tables: &mut Tables,
     index: usize,
     from: u64,
     to: u64,
-    fresh: usize,
 ) -> Lost
     requires there { index < length processes.old.entries }
     requires from { from % 4096 ≡ 0 }
     requires to { to % 4096 ≡ 0 }
     requires order { from < to }
     requires few { length (cut from to (pieces_at (runners_view processes.old.entries) index)) ≤ 256 }
-    requires counted { (id : ℕ) → pieces_of id (pieces_at (runners_view processes.old.entries) index) ≤ counted counts.old id }
-    requires small { (id : ℕ) → counted counts.old id ≤ 65536 }
-    requires tied { (s : Shape) → shaped s (stored_at processes.old.entries index) ≤ has tables.old.slab s }
+    requires counted { (id : ℕ) → pieces_of id (pieces_at (runners_view processes.old.entries) index) ≤ counted tables.old id }
+    requires small { (id : ℕ) → counted tables.old id ≤ 65536 }
+    requires tied { IsTied tables.old }
     ensures lost { result ≡ cut_segments from to (pieces_at (runners_view processes.old.entries) index) }
     ensures runners { runners_view processes.new.entries ≡ with_pieces_at (runners_view processes.old.entries) index (cut from to) }
     ensures count { length processes.new.entries ≡ length processes.old.entries }
-    ensures counts { (id : ℕ) → counted counts.new id + pieces_of id (pieces_at (runners_view processes.old.entries) index) ≡ counted counts.old id + pieces_of id (cut from to (pieces_at (runners_view processes.old.entries) index)) }
-    ensures tied { (s : Shape) → has tables.new.slab s + total s processes.old.entries + upper_shaped s from to fresh (stored_at processes.old.entries index) ≡ has tables.old.slab s + total s processes.new.entries }
+    ensures own { stored_at processes.new.entries index ≡ kept_cut from to (stored_at processes.old.entries index) }
+    ensures others { (j : ℕ) → j ≢ index → stored_at processes.new.entries j ≡ stored_at processes.old.entries j }
+    ensures counts { (id : ℕ) → counted tables.new id + pieces_of id (pieces_at (runners_view processes.old.entries) index) ≡ counted tables.old id + pieces_of id (cut from to (pieces_at (runners_view processes.old.entries) index)) }
+    ensures held { (p : Stored) → IsHeld tables.old.slab p → 0 < counted tables.new p.seg → IsHeld tables.new.slab p }
     ensures translated { (at : ℕ → ℕ → Option ℕ) → AllTrue at tables.old.slab → AllTrue at tables.new.slab }
+    ensures tied { IsTied tables.new }
 {
     let Some(runner) = processes.get_index_mut(index) else {
         unreachable!();
     };
     let met = runner.space.met(from, to);
-    recount(counts, met, from, to);
-    cut_tables(tables, met, from, to);
+    recount(tables, met, from, to);
     let lost = Lost::of(met);
-    runner.space.cut(from, to, fresh);
+    runner.space.cut(from, to);
     lost
 }
 
@@ -177,7 +140,7 @@ pub(crate) fn push_at(processes: &mut IndexMap<u32, Runner>, index: usize, piece
     requires behind { Arranged lowest_address (pieces_at (runners_view processes.old.entries) index ++ bare piece ∷ []) }
     ensures runners { runners_view processes.new.entries ≡ with_pieces_at (runners_view processes.old.entries) index (λ ps. ps ++ bare piece ∷ []) }
     ensures count { length processes.new.entries ≡ length processes.old.entries }
-    ensures shapes { (s : Shape) → total s processes.new.entries ≡ total s processes.old.entries + one s (shape_of piece) }
+    ensures own { stored_at processes.new.entries index ≡ stored_at processes.old.entries index ++ piece ∷ [] }
     ensures others { (j : ℕ) → j ≢ index → stored_at processes.new.entries j ≡ stored_at processes.old.entries j }
 {
     let Some(runner) = processes.get_index_mut(index) else {
@@ -191,7 +154,7 @@ pub(crate) fn set_life_at(processes: &mut IndexMap<u32, Runner>, index: usize, l
     requires { index < length processes.old.entries }
     ensures runners { runners_view processes.new.entries ≡ with_life_at (runners_view processes.old.entries) index (life_view life) }
     ensures count { length processes.new.entries ≡ length processes.old.entries }
-    ensures shapes { (s : Shape) → total s processes.new.entries ≡ total s processes.old.entries }
+    ensures stored { (j : ℕ) → stored_at processes.new.entries j ≡ stored_at processes.old.entries j }
 {
     let Some(runner) = processes.get_index_mut(index) else {
         unreachable!();

@@ -1,16 +1,14 @@
 //! Detaching pieces: those of one attach by shmdt, and all of them by exec and exit.
-ghost use Rattle.std.specs.Prelude.{◌≡◌, [], Some, None, IfOk, IfErr, option_map, map};
-ghost use Rattle.shm_base.specs.State.{Piece as FlatPiece};
-ghost use Rattle.shm_base.specs.Space.{origin_of, without_named};
+ghost use Rattle.std.specs.Prelude.{◌≡◌, []};
+ghost use Rattle.shm_base.specs.Space.{without_named};
 ghost use Rattle.shm_base.specs.Step.{with_pieces, with_end, segments_of};
 ghost use Rattle.shm_fault.specs.Store.{StoreView};
 ghost use Rattle.shm_attach.specs.Spaces.{pieces_at, seen, IsCaller, AreTrue};
 
-use crate::changes::{set_life_at, space_at, take_at, take_range};
+use crate::changes::{set_life_at, take_at, take_range};
 use crate::lost::Lost;
 use crate::process::{Caller, Life};
 use crate::spaces::Spaces;
-use shm_base::Errno;
 
 /// All addresses that a piece may have.
 const LOWEST: u64 = 0x10000;
@@ -18,29 +16,15 @@ const LOWEST: u64 = 0x10000;
 const END: u64 = 0x7ffffffff000;
 
 impl Spaces {
-    /// Takes out the pieces that are left of an attach: among the pieces whose segment would begin at the
-    /// address the lowest names the segment, and all pieces of that segment with this origin go. Answers
-    /// the segment; Einval where no piece has this origin (shmop(2); the origin is this profile's). It takes no memory.
-    pub fn detach(&mut self, caller: &Caller, addr: u64) -> Result<u32, Errno>
+    /// Takes out the pieces of a segment that would begin at the address: those that are left of an attach. It
+    /// takes no memory.
+    pub fn detach(&mut self, caller: &Caller, addr: u64, seg: u32)
         requires { IsCaller caller.now self.old.runners }
-        ensures named { IfOk result (λ seg. option_map (λ (p : FlatPiece). p.seg) (origin_of addr (pieces_at self.old.runners caller.now.index)) ≡ Some seg) }
-        ensures gone { IfOk result (λ seg. self.new.runners ≡ with_pieces self.old.runners (seen caller.now self.old.runners) (without_named addr seg (pieces_at self.old.runners caller.now.index))) }
-        ensures none { IfErr result (λ e. (e ≡ Errno.Einval) × (origin_of addr (pieces_at self.old.runners caller.now.index) ≡ None)) }
-        ensures kept { IfErr result (λ _. self.new ≡ self.old) }
+        ensures gone { self.new.runners ≡ with_pieces self.old.runners (seen caller.now self.old.runners) (without_named addr seg (pieces_at self.old.runners caller.now.index)) }
         ensures translated { (m : StoreView) → AreTrue self.old.translations m → AreTrue self.new.translations m }
     {
-        let Some(origin) = space_at(&self.processes, caller.index).origin_of(addr) else {
-            return Err(Errno::Einval);
-        };
-        let gone = take_at(
-            &mut self.processes,
-            &mut self.tables,
-            caller.index,
-            addr,
-            origin.seg,
-        );
-        self.counts.take(origin.seg, gone);
-        Ok(origin.seg)
+        let gone = take_at(&mut self.processes, caller.index, addr, seg);
+        self.tables.replace(seg, gone, 0);
     }
 
     /// Takes all pieces of a process out, and answers the segments that they named, by rising base. It takes no
@@ -53,12 +37,10 @@ impl Spaces {
     {
         take_range(
             &mut self.processes,
-            &mut self.counts,
             &mut self.tables,
             caller.index,
             LOWEST,
             END,
-            0,
         )
     }
 

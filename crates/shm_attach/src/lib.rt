@@ -1,10 +1,9 @@
-//! The pieces of all processes, how many pieces each segment has, in which frame each page of a piece is,
+//! The pieces of all processes, how many pieces each segment has, in which frame each of their pages is,
 //! and the spans of an access.
 #![tactic(auto)]
 
 mod attach;
 mod changes;
-mod counts;
 mod fork;
 mod leave;
 mod lost;
@@ -14,8 +13,7 @@ mod spans;
 mod table;
 mod tables;
 
-pub use attach::Attached;
 pub use lost::Lost;
-pub use process::Caller;
+pub use process::{Caller, Child};
 pub use spaces::Spaces;
 pub use spans::{Segv, Spans};

@@ -16,6 +16,13 @@ pub(crate) struct Runner {
     pub(crate) space: Space,
 }
 
+/// A child that was declared and is not born yet: its place among the processes.
+#[derive(Clone, Copy, Debug, PartialEq, Eq)]
+pub struct Child {
+    pub index: usize,
+    pub pid: u32,
+}
+
 /// A live process: its place among the processes, from 0 in the order in which they were declared, and
 /// its credentials. It serves until the process ends.
 #[derive(Clone, Copy, Debug, PartialEq, Eq)]

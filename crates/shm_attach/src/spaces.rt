@@ -2,19 +2,20 @@
 ghost use Rattle.std.specs.Prelude.{◌≡◌, ◌≢◌, ℕ, ◌<◌, ◌≤◌, length, map, [], is_some, slice_index_or, None, Some, IfSome, IfNone, IfOk, OnErr, Bool, true, false, All, AllPairs, sum_by};
 ghost use Rattle.shm_base.specs.State.{life_at_start, runner_at_start};
 ghost use Rattle.shm_base.specs.Segments.{attach_count};
-ghost use Rattle.shm_base.specs.Step.{caller_from};
+ghost use Rattle.shm_base.specs.Step.{caller_from, unborn_from};
 ghost use Rattle.shm_base.specs.declared.call.Process.{Process as Declared};
 ghost use Rattle.shm_base.specs.declared.paging.Span.{Span as Stretch};
 ghost use Rattle.shm_attach.specs.Views.{life_view};
 ghost use Rattle.shm_fault.specs.Store.{StoreView, frame_of};
 ghost use Rattle.shm_fault.specs.Steps.{Moves};
-ghost use Rattle.shm_attach.specs.Spaces.{IsCaller, Translation, AreTrue};
+ghost use Rattle.shm_areas.specs.Arranged.{bare_all};
+ghost use Rattle.shm_attach.specs.Spaces.{IsCaller, Translation, AreTrue, pieces_at};
 ghost use Rattle.shm_base.specs.Spans.{span_places, InPage, page_of};
 ghost use Rattle.shm_attach.specs.Spans.{wanted, pieces_by, PassPages};
 
 use crate::changes::space_at;
-use crate::counts::Counts;
-use crate::process::{Caller, Life, Runner};
+use crate::fork::unborn_at;
+use crate::process::{Caller, Child, Life, Runner};
 use crate::spans::{Segv, Spans, spans_in};
 use crate::tables::Tables;
 use indexmap::IndexMap;
@@ -25,11 +26,10 @@ use std::alloc::Global;
 use std::marker::Model;
 
 /// The processes in the order in which they were declared, each with its pieces, the attach count of each
-/// segment, and the translations: for each page of each piece the frame that it is in, or none.
+/// segment, and the translations: for each page of each attached segment the frame that it is in, or none.
 #[derive(Drop)]
 pub struct Spaces {
     pub(crate) processes: IndexMap<u32, Runner>,
-    pub(crate) counts: Counts,
     pub(crate) tables: Tables,
 }
 
@@ -37,13 +37,14 @@ impl Model for Spaces {
     ghost use Rattle.shm_attach.specs.Views.{runners_view};
     ghost use Rattle.shm_attach.specs.Spaces.{SpacesView};
     ghost use Rattle.shm_attach.specs.Exact.{IsExact};
-    ghost use Rattle.shm_attach.specs.Tables.{translations_of, IsTied};
+    ghost use Rattle.shm_attach.specs.Entries.{translations_of};
+    ghost use Rattle.shm_attach.specs.Tables.{IsTied, AllHeld};
 
     ghost Value = { SpacesView };
 
     ghost view = { λ s. record { runners = runners_view s.processes.entries; translations = translations_of s.tables.slab } };
 
-    ghost invariant = { λ s. IsExact (runners_view s.processes.entries) s.counts × IsTied s.processes.entries s.tables.slab };
+    ghost invariant = { λ s. IsExact (runners_view s.processes.entries) s.tables × IsTied s.tables × AllHeld s.processes.entries s.tables.slab };
 }
 
 fn born(process: &Process) -> Life
@@ -71,7 +72,6 @@ impl Spaces {
         }
         Ok(Spaces {
             processes: by_pid,
-            counts: Counts::new(alloc),
             tables: Tables::new(alloc),
         })
     }
@@ -96,16 +96,33 @@ impl Spaces {
         self.caller(pid).is_some()
     }
 
+    /// The child with a pid that was declared and is not born yet.
+    pub fn child(&self, pid: u32) -> Option<Child>
+        ensures pid { IfSome result (λ c. c.pid ≡ pid) }
+        ensures unborn { IfSome result (λ c. unborn_from 0 c.pid self.now.runners ≡ Some c.index) }
+        ensures none { IfNone result (unborn_from 0 pid self.now.runners ≡ None) }
+    {
+        let index = unborn_at(&self.processes, pid)?;
+        Some(Child { index, pid })
+    }
+
+    /// The address space of a live process.
+    pub fn space(&self, caller: &Caller) -> &Space
+        requires { IsCaller caller.now self.now.runners }
+        ensures { bare_all result.now ≡ pieces_at self.now.runners caller.now.index }
+    {
+        space_at(&self.processes, caller.index)
+    }
+
     /// How many pieces of all processes name the segment (shm_nattch): a number that is read.
     pub fn count(&self, seg: u32) -> u32
         ensures value { result ≡ attach_count self.now.runners seg }
         ensures unnamed { result ≡ 0 → All (λ (t : Translation). t.seg ≢ seg) self.now.translations }
     {
-        self.counts.get(seg)
+        self.tables.count(seg)
     }
 
-    /// The spans of an access of a process to so many addresses, each with the frame that its piece keeps for
-    /// the page. Segv where the process is not live, where
+    /// The spans of an access of a process to so many addresses, each with the frame that is kept for its page. Segv where the process is not live, where
     /// an address has no piece, and for a write where one lies in a piece that is read-only.
     pub fn spans(&self, pid: u32, addr: u64, len: u64, write: bool) -> Result<Spans, Segv>
         requires size { (1 ≤ len) × (len ≤ 64) }
@@ -123,7 +140,7 @@ impl Spaces {
         spans_in(space, &self.tables, addr, len, write)
     }
 
-    /// Notes which pages moved, one after another, in every piece. It takes no memory.
+    /// Notes which pages moved, one after another, for all pieces at once. It takes no memory.
     pub fn note(&mut self, moved: &[Move])
         ensures runners { self.new.runners ≡ self.old.runners }
         ensures translated { (m n : StoreView) → AreTrue self.old.translations m → Moves moved.now m n → AreTrue self.new.translations n }

@@ -2,7 +2,8 @@
 ghost use Rattle.std.specs.Prelude.{◌≡◌, ◌+◌, ◌-◌, ◌*◌, ◌/◌, ◌%◌, ◌<◌, ◌≤◌, ◌^◌, ℕ, Bool, Option, true, false, length, [], ◌∷◌, None, Some, IfSome, IfNone, IfOk, OnErr, All, sum_by};
 ghost use Rattle.shm_base.specs.declared.paging.Span.{Span as Stretch};
 ghost use Rattle.shm_areas.specs.Arranged.{bare_all};
-ghost use Rattle.shm_attach.specs.Tables.{Shape, shaped, has, AllTrue};
+ghost use Rattle.shm_attach.specs.Entries.{AllTrue};
+ghost use Rattle.shm_attach.specs.Tables.{IsHeld};
 ghost use Rattle.shm_base.specs.Spans.{run, span_places, InPage, page_of};
 ghost use Rattle.shm_attach.specs.Spans.{wanted_in, PassPages};
 
@@ -65,7 +66,7 @@ impl Spans {
 /// The span of an access to addresses of one page.
 fn span_in(space: &Space, tables: &Tables, addr: u64, len: u64, write: bool) -> Option<Span>
     requires some { 1 ≤ len }
-    requires tied { (s : Shape) → shaped s space.now ≤ has tables.now.slab s }
+    requires held { All (IsHeld tables.now.slab) space.now }
     requires page { addr % 4096 + len ≤ 4096 }
     ensures places { IfSome result (λ s. wanted_in write (bare_all space.now) addr len ≡ Some (run s.seg s.at s.len false)) }
     ensures none { IfNone result (wanted_in write (bare_all space.now) addr len ≡ None) }
@@ -79,12 +80,12 @@ fn span_in(space: &Space, tables: &Tables, addr: u64, len: u64, write: bool) -> 
     if write && !piece.writable {
         return None;
     }
-    let past = addr - piece.base;
+    let at = PAGE_SIZE * piece.first_page as u64 + (addr - piece.base);
     Some(Span {
         seg: piece.seg,
-        at: PAGE_SIZE * piece.first_page as u64 + past,
+        at,
         len,
-        frame: tables.frame(piece.key, (past / PAGE_SIZE) as usize),
+        frame: tables.frame(piece.key, (at / PAGE_SIZE) as usize),
     })
 }
 
@@ -97,7 +98,7 @@ pub(crate) fn spans_in(
     write: bool,
 ) -> Result<Spans, Segv>
     requires size { (1 ≤ len) × (len ≤ 64) }
-    requires tied { (s : Shape) → shaped s space.now ≤ has tables.now.slab s }
+    requires held { All (IsHeld tables.now.slab) space.now }
     ensures places { IfOk result (λ s. wanted_in write (bare_all space.now) addr len ≡ Some (span_places false s)) }
     ensures none { OnErr result (wanted_in write (bare_all space.now) addr len ≡ None) }
     ensures within { IfOk result (λ s. All InPage s) }

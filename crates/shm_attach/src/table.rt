@@ -1,7 +1,7 @@
-//! The frames of the pages of a piece: its translations.
-ghost use Rattle.std.specs.Prelude.{◌≡◌, ℕ, ◌+◌, ◌<◌, ◌≤◌, ◌^◌, Option, Some, length, take, drop, IfOk};
+//! The frames of the pages of a segment: its translations.
+ghost use Rattle.std.specs.Prelude.{◌≡◌, ℕ, ◌<◌, ◌≤◌, Option, Some, length, [], OnOk, OnErr};
 ghost use Rattle.shm_fault.specs.Store.{frame_of};
-ghost use Rattle.shm_attach.specs.Tables.{entry_from, frame_in, TrueEntry, with_frame};
+ghost use Rattle.shm_attach.specs.Entries.{frame_in, TrueEntry, with_frame};
 
 use shm_base::{FrameNo, HostMemory, PageRef};
 use shm_fault::PageStore;
@@ -9,80 +9,53 @@ use shm_pager::Pager;
 use std::alloc::Global;
 use std::marker::Model;
 
-/// The frames of pages side by side of a segment: where each is resident, and none where it is not.
+/// The frames of the first pages of a segment: where each is resident, and none where it is not.
 #[derive(Drop)]
 pub(crate) struct Table {
     seg: u32,
-    first_page: u32,
     frames: Vec<Option<FrameNo>>,
 }
 
 impl Model for Table {
-    ghost use Rattle.shm_attach.specs.Tables.{Entry};
+    ghost use Rattle.shm_attach.specs.Entries.{Entry};
 
     ghost Value = { Entry };
 
-    ghost view = { λ t. record { seg = t.seg; first_page = t.first_page; frames = t.frames.items } };
-}
-
-// All frames but so many of the first.
-fn copied(
-    alloc: Global,
-    frames: &Vec<Option<FrameNo>>,
-    skip: usize,
-) -> Result<Vec<Option<FrameNo>>, HostMemory>
-    ensures { IfOk result (λ copy. copy.items ≡ drop skip frames.now.items) }
-{
-    let count = frames.len();
-    let mut copy = Vec::with_capacity(alloc, count.saturating_sub(skip))?;
-    for page in skip..count {
-        copy.push(frames[page])?;
-    }
-    Ok(copy)
+    ghost view = { λ t. record { seg = t.seg; frames = t.frames.items } };
 }
 
 impl Table {
-    /// The first so many pages of a segment, as they are in the store.
-    pub(crate) fn of_store<P: Pager>(
-        alloc: Global,
-        store: &PageStore<P>,
-        seg: u32,
-        pages: u32,
-    ) -> Result<Table, HostMemory>
-        ensures seg { IfOk result (λ t. t.seg ≡ seg) }
-        ensures first { IfOk result (λ t. t.first_page ≡ 0) }
-        ensures pages { IfOk result (λ t. length t.frames ≡ pages) }
-        ensures translated { IfOk result (λ t. TrueEntry (frame_of store.now) t) }
+    /// No page of a segment.
+    pub(crate) fn new(alloc: Global, seg: u32) -> Table
+        ensures seg { result.seg ≡ seg }
+        ensures none { result.frames ≡ [] }
     {
-        let mut frames = Vec::with_capacity(alloc, pages as usize)?;
-        for page in 0..pages {
-            frames.push(store.frame(seg, page))?;
-        }
-        Ok(Table {
+        Table {
             seg,
-            first_page: 0,
-            frames,
-        })
+            frames: Vec::new(alloc),
+        }
     }
 
-    /// The segment of the pages.
-    pub(crate) fn seg(&self) -> u32
-        ensures { result ≡ self.now.seg }
+    /// Goes on to so many pages, each further one as it is in the store.
+    pub(crate) fn extend<P: Pager>(
+        &mut self,
+        store: &PageStore<P>,
+        pages: u32,
+    ) -> Result<(), HostMemory>
+        ensures seg { self.new.seg ≡ self.old.seg }
+        ensures more { length self.old.frames ≤ length self.new.frames }
+        ensures pages { OnOk result (pages ≤ length self.new.frames) }
+        ensures err { OnErr result (self.new ≡ self.old) }
+        ensures translated { TrueEntry (frame_of store.now) self.old → TrueEntry (frame_of store.now) self.new }
     {
-        self.seg
-    }
-
-    /// A copy without so many of the first pages.
-    pub(crate) fn copy_from(&self, alloc: Global, skip: usize) -> Result<Table, HostMemory>
-        requires { self.now.first_page + skip < 2 ^ 32 }
-        ensures { IfOk result (λ t. t ≡ entry_from skip self.now) }
-    {
-        let frames = copied(alloc, &self.frames, skip)?;
-        Ok(Table {
-            seg: self.seg,
-            first_page: self.first_page + skip as u32,
-            frames,
-        })
+        let known = self.frames.len();
+        let pages = pages as usize;
+        self.frames.reserve(pages.saturating_sub(known))?;
+        for page in known..pages {
+            self.frames
+                .push_reserved(store.frame(self.seg, page as u32));
+        }
+        Ok(())
     }
 
     /// The frame of one of the pages.
@@ -92,34 +65,14 @@ impl Table {
         self.frames.get(page).copied().flatten()
     }
 
-    /// Keeps so many of the first pages.
-    pub(crate) fn keep(&mut self, count: usize)
-        ensures { self.new ≡ record self.old { frames = take count self.old.frames } }
-    {
-        self.frames.truncate(count);
-    }
-
-    /// Leaves so many of the first pages out.
-    pub(crate) fn skip(&mut self, count: usize)
-        requires within { count ≤ length self.old.frames }
-        requires fits { self.old.first_page + count < 2 ^ 32 }
-        ensures { self.new ≡ entry_from count self.old }
-    {
-        self.frames.drain(..count);
-        self.first_page += count as u32;
-    }
-
-    /// Notes where a page is now, if it is one of these.
+    /// Notes where a page of the segment is now.
     pub(crate) fn set(&mut self, page: PageRef, frame: Option<FrameNo>)
+        requires { page.seg ≡ self.old.seg }
         ensures seg { self.new.seg ≡ self.old.seg }
-        ensures first { self.new.first_page ≡ self.old.first_page }
         ensures pages { length self.new.frames ≡ length self.old.frames }
         ensures translated { (at : ℕ → ℕ → Option ℕ) → TrueEntry at self.old → TrueEntry (with_frame page frame at) self.new }
     {
-        if page.seg != self.seg || page.page < self.first_page {
-            return;
-        }
-        let k = (page.page - self.first_page) as usize;
+        let k = page.page as usize;
         if k < self.frames.len() {
             self.frames[k] = frame;
         }

@@ -1,69 +1,62 @@
-//! The tables of all pieces. Each lies under the key of its piece, and tells itself which pages it is of, so
-//! that a move is noted without a look at the processes.
-ghost use Rattle.std.specs.Prelude.{◌≡◌, ◌≢◌, ℕ, ◌+◌, ◌-◌, ◌%◌, ◌<◌, ◌≤◌, ◌^◌, [], ◌∷◌, Option, None, Some, length, IfOk, OnOk, true};
-ghost use Rattle.slab.specs.Slab.{get, HasRoomFor};
-ghost use Rattle.shm_base.specs.Space.{meets};
-ghost use Rattle.shm_areas.specs.Arranged.{bare, IsFit};
+//! The attach counts, and where the pages of the attached segments are. The pieces of a segment share one
+//! table, whose key each of them has, so that a move is noted in one place. A segment without pieces has none.
+ghost use Rattle.std.specs.Prelude.{◌≡◌, ℕ, ◌+◌, ◌^◌, ◌<◌, ◌≤◌, [], ◌∷◌, Option, Some, IfOk, OnOk, OnErr};
+ghost use Rattle.slab.specs.Slab.{get};
+ghost use Rattle.shm_areas.specs.declared.piece.Piece.{Piece as Stored};
 ghost use Rattle.shm_fault.specs.Steps.{moved};
-ghost use Rattle.shm_attach.specs.Tables.{entry_or, entry_from, frame_in, TrueEntry, AllTrue, with_frame, shape_of, shape_at, one, shaped, has, left_of, Shape, TrueSlot};
+ghost use Rattle.shm_fault.specs.Store.{frame_of};
+ghost use Rattle.shm_attach.specs.Views.{one_if, some_if};
+ghost use Rattle.shm_attach.specs.Entries.{frame_in, seg_in, size_in, AllTrue, with_frame};
+ghost use Rattle.shm_attach.specs.Tables.{counted, IsHeld, IsTied};
 
 use crate::table::Table;
-use shm_areas::Piece;
-use shm_base::{FrameNo, HostMemory, PAGE_SIZE, PageRef};
-use shm_fault::Move;
+use shm_base::{FrameNo, HostMemory, PageRef};
+use shm_fault::{Move, PageStore};
+use shm_pager::Pager;
 use slab::Slab;
 use std::alloc::Global;
+use std::collections::HashMap;
 
-/// The tables of the pieces.
+/// The pieces of a segment: how many they are, and the key of their table.
+#[derive(Clone, Copy, Drop)]
+pub(crate) struct Attaches {
+    pub(crate) count: u32,
+    pub(crate) key: usize,
+}
+
+/// The attached segments, and their tables.
 #[derive(Drop)]
 pub(crate) struct Tables {
-    pub(crate) alloc: Global,
-    pub(crate) slab: Slab<Table>,
+    alloc: Global,
+    by_segment: HashMap<u32, Attaches>,
+    slab: Slab<Table>,
 }
 
 impl Tables {
-    /// No tables.
+    /// No pieces.
     pub(crate) fn new(alloc: Global) -> Tables
-        ensures { result.slab.slots ≡ [] }
+        ensures none { (id : ℕ) → counted result id ≡ 0 }
+        ensures slots { result.slab.slots ≡ [] }
+        ensures tied { IsTied result }
     {
         Tables {
             alloc,
+            by_segment: HashMap::new(alloc),
             slab: Slab::new(alloc),
         }
     }
 
-    /// Room for so many more tables.
-    pub(crate) fn reserve(&mut self, more: usize) -> Result<(), HostMemory>
-        ensures same { self.new.slab.slots ≡ self.old.slab.slots }
-        ensures room { OnOk result (HasRoomFor self.new.slab more) }
+    /// How many pieces a segment has.
+    pub(crate) fn count(&self, seg: u32) -> u32
+        ensures { result ≡ counted self.now seg }
     {
-        self.slab.reserve(more)?;
-        Ok(())
+        match self.by_segment.get(&seg) {
+            Some(attaches) => attaches.count,
+            None => 0,
+        }
     }
 
-    /// Puts a table where there is room, and answers its key.
-    pub(crate) fn add(&mut self, table: Table) -> usize
-        requires { HasRoomFor self.old.slab 1 }
-        ensures more { (s : Shape) → has self.new.slab s ≡ has self.old.slab s + one s (shape_at result table) }
-        ensures translated { (at : ℕ → ℕ → Option ℕ) → AllTrue at self.old.slab → TrueEntry at table → AllTrue at self.new.slab }
-        ensures room { (n : ℕ) → HasRoomFor self.old.slab (n + 1) → HasRoomFor self.new.slab n }
-    {
-        self.slab.insert_reserved(table)
-    }
-
-    /// A copy of a table without so many of its first pages.
-    pub(crate) fn copy_from(&self, key: usize, skip: usize) -> Result<Table, HostMemory>
-        requires there { get self.now.slab key ≡ Some (entry_or (get self.now.slab key)) }
-        requires fits { (entry_or (get self.now.slab key)).first_page + skip < 2 ^ 32 }
-        ensures { IfOk result (λ t. t ≡ entry_from skip (entry_or (get self.now.slab key))) }
-    {
-        let Some(table) = self.slab.get(key) else {
-            unreachable!();
-        };
-        table.copy_from(self.alloc, skip)
-    }
-
-    /// The frame of one of the pages under a key.
+    /// The frame of a page of the segment whose table lies under a key.
     pub(crate) fn frame(&self, key: usize, page: usize) -> Option<FrameNo>
         ensures { result ≡ frame_in (get self.now.slab key) page }
     {
@@ -73,86 +66,140 @@ impl Tables {
         }
     }
 
-    /// Takes the table of a piece out.
-    pub(crate) fn remove(&mut self, piece: &Piece)
-        requires { 1 ≤ has self.old.slab (shape_of piece.now) }
-        ensures less { (s : Shape) → has self.new.slab s + one s (shape_of piece.now) ≡ has self.old.slab s }
-        ensures translated { (at : ℕ → ℕ → Option ℕ) → AllTrue at self.old.slab → AllTrue at self.new.slab }
+    // The first piece of a segment.
+    fn open<P: Pager>(
+        &mut self,
+        store: &PageStore<P>,
+        seg: u32,
+        pages: u32,
+    ) -> Result<usize, HostMemory>
+        requires none { counted self.old seg ≡ 0 }
+        requires tied { IsTied self.old }
+        ensures counts { OnOk result ((id : ℕ) → counted self.new id ≡ counted self.old id + one_if id seg) }
+        ensures seg { IfOk result (λ key. seg_in (get self.new.slab key) ≡ Some seg) }
+        ensures pages { IfOk result (λ key. pages ≤ size_in (get self.new.slab key)) }
+        ensures held { (p : Stored) → IsHeld self.old.slab p → IsHeld self.new.slab p }
+        ensures translated { AllTrue (frame_of store.now) self.old.slab → AllTrue (frame_of store.now) self.new.slab }
+        ensures tied { IsTied self.new }
+        ensures slots { OnErr result (self.new.slab.slots ≡ self.old.slab.slots) }
+        ensures err { OnErr result ((id : ℕ) → counted self.new id ≡ counted self.old id) }
     {
-        self.slab.try_remove(piece.key);
+        let mut table = Table::new(self.alloc, seg);
+        table.extend(store, pages)?;
+        self.slab.reserve(1)?;
+        let key = self.slab.vacant_key();
+        self.by_segment.insert(seg, Attaches { count: 1, key })?;
+        self.slab.insert_reserved(table);
+        Ok(key)
     }
 
-    // Keeps so many of the first pages of a piece.
-    fn keep(&mut self, piece: &Piece, count: u32)
-        requires there { 1 ≤ has self.old.slab (shape_of piece.now) }
-        requires within { count ≤ piece.now.pages }
-        ensures less { (s : Shape) → has self.new.slab s + one s (shape_of piece.now) ≡ has self.old.slab s + one s (record { key = piece.now.key; seg = piece.now.seg; first_page = piece.now.first_page; pages = count }) }
-        ensures translated { (at : ℕ → ℕ → Option ℕ) → AllTrue at self.old.slab → AllTrue at self.new.slab }
+    // A table goes on to so many pages of its segment.
+    fn extend<P: Pager>(
+        &mut self,
+        store: &PageStore<P>,
+        key: usize,
+        pages: u32,
+    ) -> Result<(), HostMemory>
+        ensures seg { (k : ℕ) → seg_in (get self.new.slab k) ≡ seg_in (get self.old.slab k) }
+        ensures more { (k : ℕ) → size_in (get self.old.slab k) ≤ size_in (get self.new.slab k) }
+        ensures pages { (id : ℕ) → seg_in (get self.old.slab key) ≡ Some id → OnOk result (pages ≤ size_in (get self.new.slab key)) }
+        ensures translated { AllTrue (frame_of store.now) self.old.slab → AllTrue (frame_of store.now) self.new.slab }
+        ensures rest { self.new ≡ record self.old { slab = self.new.slab } }
+        ensures err { OnErr result (self.new.slab.slots ≡ self.old.slab.slots) }
     {
-        if let Some(table) = self.slab.get_mut(piece.key) {
-            table.keep(count as usize);
+        match self.slab.get_mut(key) {
+            Some(table) => table.extend(store, pages),
+            None => Ok(()),
         }
     }
 
-    // Leaves so many of the first pages of a piece out.
-    fn skip(&mut self, piece: &Piece, count: u32)
-        requires there { 1 ≤ has self.old.slab (shape_of piece.now) }
-        requires within { count ≤ piece.now.pages }
-        requires few { piece.now.first_page + piece.now.pages ≤ 4096 }
-        ensures less { (s : Shape) → has self.new.slab s + one s (shape_of piece.now) ≡ has self.old.slab s + one s (record { key = piece.now.key; seg = piece.now.seg; first_page = piece.now.first_page + count; pages = piece.now.pages - count }) }
-        ensures translated { (at : ℕ → ℕ → Option ℕ) → AllTrue at self.old.slab → AllTrue at self.new.slab }
+    /// One more piece of a segment that has some. It takes no memory.
+    pub(crate) fn raise(&mut self, seg: u32)
+        requires some { 0 < counted self.old seg }
+        requires fits { counted self.old seg + 1 < 2 ^ 32 }
+        requires tied { IsTied self.old }
+        ensures counts { (id : ℕ) → counted self.new id ≡ counted self.old id + one_if id seg }
+        ensures slab { self.new.slab ≡ self.old.slab }
+        ensures tied { IsTied self.new }
     {
-        if let Some(table) = self.slab.get_mut(piece.key) {
-            table.skip(count as usize);
+        if let Some(attaches) = self.by_segment.get_mut(&seg) {
+            attaches.count += 1;
         }
     }
 
-    /// Takes a range out of a piece that it meets: the table goes, or keeps the pages of the part that keeps
-    /// the key.
-    pub(crate) fn cut(&mut self, piece: &Piece, from: u64, to: u64)
-        requires there { 1 ≤ has self.old.slab (shape_of piece.now) }
-        requires fit { IsFit (bare piece.now) }
-        requires meets { meets from to (bare piece.now) ≡ true }
-        requires from { from % 4096 ≡ 0 }
-        requires to { to % 4096 ≡ 0 }
-        ensures less { (s : Shape) → has self.new.slab s + one s (shape_of piece.now) ≡ has self.old.slab s + shaped s (left_of from to piece.now) }
-        ensures translated { (at : ℕ → ℕ → Option ℕ) → AllTrue at self.old.slab → AllTrue at self.new.slab }
+    /// One more piece of a segment, which has its first so many pages, and the key of the table. The growths
+    /// come first.
+    pub(crate) fn add<P: Pager>(
+        &mut self,
+        store: &PageStore<P>,
+        seg: u32,
+        pages: u32,
+    ) -> Result<usize, HostMemory>
+        requires fits { counted self.old seg + 1 < 2 ^ 32 }
+        requires tied { IsTied self.old }
+        ensures counts { OnOk result ((id : ℕ) → counted self.new id ≡ counted self.old id + one_if id seg) }
+        ensures seg { IfOk result (λ key. seg_in (get self.new.slab key) ≡ Some seg) }
+        ensures pages { IfOk result (λ key. pages ≤ size_in (get self.new.slab key)) }
+        ensures held { (p : Stored) → IsHeld self.old.slab p → IsHeld self.new.slab p }
+        ensures translated { AllTrue (frame_of store.now) self.old.slab → AllTrue (frame_of store.now) self.new.slab }
+        ensures tied { IsTied self.new }
+        ensures slots { OnErr result (self.new.slab.slots ≡ self.old.slab.slots) }
+        ensures err { OnErr result ((id : ℕ) → counted self.new id ≡ counted self.old id) }
     {
-        if piece.base < from {
-            self.keep(piece, ((from - piece.base) / PAGE_SIZE) as u32);
-        } else if to < piece.end() {
-            self.skip(piece, ((to - piece.base) / PAGE_SIZE) as u32);
-        } else {
-            self.remove(piece);
-        }
+        let Some(attaches) = self.by_segment.get(&seg).copied() else {
+            return self.open(store, seg, pages);
+        };
+        self.extend(store, attaches.key, pages)?;
+        self.raise(seg);
+        Ok(attaches.key)
     }
 
-    // Notes under one key where a page is now.
-    fn set_at(&mut self, key: usize, page: PageRef, frame: Option<FrameNo>)
-        ensures same { (s : Shape) → has self.new.slab s ≡ has self.old.slab s }
-        ensures length { length self.new.slab.slots ≡ length self.old.slab.slots }
-        ensures others { (other : ℕ) → other ≢ key → get self.new.slab other ≡ get self.old.slab other }
-        ensures translated { (at : ℕ → ℕ → Option ℕ) → TrueSlot at (get self.old.slab key) → TrueSlot (with_frame page frame at) (get self.new.slab key) }
+    /// Some pieces of a segment give way to so many others. Where none is left its table goes. It takes no
+    /// memory.
+    pub(crate) fn replace(&mut self, seg: u32, gone: u32, parts: u32)
+        requires some { 0 < parts → 0 < counted self.old seg }
+        requires gone { gone ≤ counted self.old seg }
+        requires fits { counted self.old seg + parts < 2 ^ 32 }
+        requires tied { IsTied self.old }
+        ensures counts { (id : ℕ) → counted self.new id + some_if id seg gone ≡ counted self.old id + some_if id seg parts }
+        ensures held { (p : Stored) → IsHeld self.old.slab p → 0 < counted self.new p.seg → IsHeld self.new.slab p }
+        ensures translated { (at : ℕ → ℕ → Option ℕ) → AllTrue at self.old.slab → AllTrue at self.new.slab }
+        ensures tied { IsTied self.new }
     {
-        if let Some(table) = self.slab.get_mut(key) {
-            table.set(page, frame);
+        let Some(attaches) = self.by_segment.get_mut(&seg) else {
+            return;
+        };
+        attaches.count = attaches.count - gone + parts;
+        let Attaches { count, key } = *attaches;
+        if count == 0 {
+            self.by_segment.remove(&seg);
+            self.slab.try_remove(key);
         }
     }
 
     // Notes where a page is now.
     fn set(&mut self, page: PageRef, frame: Option<FrameNo>)
-        ensures same { (s : Shape) → has self.new.slab s ≡ has self.old.slab s }
+        requires { IsTied self.old }
+        ensures counts { (id : ℕ) → counted self.new id ≡ counted self.old id }
+        ensures held { (p : Stored) → IsHeld self.old.slab p → IsHeld self.new.slab p }
         ensures translated { (at : ℕ → ℕ → Option ℕ) → AllTrue at self.old.slab → AllTrue (with_frame page frame at) self.new.slab }
+        ensures tied { IsTied self.new }
     {
-        for key in 0..self.slab.capacity() {
-            self.set_at(key, page, frame);
+        let Some(attaches) = self.by_segment.get(&page.seg) else {
+            return;
+        };
+        if let Some(table) = self.slab.get_mut(attaches.key) {
+            table.set(page, frame);
         }
     }
 
     // Notes one move.
     fn note_one(&mut self, entry: Move)
-        ensures same { (s : Shape) → has self.new.slab s ≡ has self.old.slab s }
+        requires { IsTied self.old }
+        ensures counts { (id : ℕ) → counted self.new id ≡ counted self.old id }
+        ensures held { (p : Stored) → IsHeld self.old.slab p → IsHeld self.new.slab p }
         ensures translated { (at : ℕ → ℕ → Option ℕ) → AllTrue at self.old.slab → AllTrue (λ seg page. moved (entry ∷ []) seg page (at seg page)) self.new.slab }
+        ensures tied { IsTied self.new }
     {
         match entry {
             Move::Gone(page) => self.set(page, None),
@@ -160,10 +207,13 @@ impl Tables {
         }
     }
 
-    /// Notes which pages moved, one after another, in every table. It takes no memory.
+    /// Notes which pages moved, one after another, each in the table of its segment. It takes no memory.
     pub(crate) fn note(&mut self, moves: &[Move])
-        ensures same { (s : Shape) → has self.new.slab s ≡ has self.old.slab s }
+        requires { IsTied self.old }
+        ensures counts { (id : ℕ) → counted self.new id ≡ counted self.old id }
+        ensures held { (p : Stored) → IsHeld self.old.slab p → IsHeld self.new.slab p }
         ensures translated { (at : ℕ → ℕ → Option ℕ) → AllTrue at self.old.slab → AllTrue (λ seg page. moved moves.now seg page (at seg page)) self.new.slab }
+        ensures tied { IsTied self.new }
     {
         for entry in moves {
             self.note_one(*entry);

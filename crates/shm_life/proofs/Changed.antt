@@ -1,17 +1,18 @@
 -- What is kept where a segment is locked, marked or written, and where a process forks.
-use Rattle.std.proofs.Common.{◌≡◌, ℕ, ◌+◌, ◌/◌, ◌%◌, ◌≤◌, ◌&&◌, nat_lt, not, Bool, true, false, if◌then◌else◌, List, [], slice_set, Option, Some, None, Ok, refl, sym, ◌∙◌, arith, true≢false}
+use Rattle.std.proofs.Common.{◌≡◌, ℕ, ◌+◌, ◌/◌, ◌%◌, ◌≤◌, ◌&&◌, nat_lt, not, Bool, true, false, if◌then◌else◌, List, [], slice_set, Some, refl, sym, ◌∙◌, arith, true≢false}
 use Rattle.std.proofs.lemmas.Grind.{common_steps}
 use Rattle.std.specs.Prelude.{All}
 use Rattle.shm_base.specs.Bounds.{Bounds}
 use Rattle.shm_base.specs.State.{Live, Entry, Runner, pages_of, pages_in}
 use Rattle.shm_base.specs.Segments.{attach_count, change, pages_locked, locked}
-use Rattle.shm_base.specs.Step.{Caller as FlatCaller, unborn_from}
+use Rattle.shm_base.specs.Step.{Caller as FlatCaller}
 use Rattle.shm_base.specs.declared.paging.Span.{Span}
 use Rattle.shm_attach.specs.declared.process.Caller.{Caller}
 use Rattle.shm_attach.specs.Spaces.{IsCaller, seen, pieces_at}
 use Rattle.shm_base.specs.Spans.{InPage, page_of}
 use Rattle.shm_attach.specs.Spans.{PassPages, pieces_by}
-use Rattle.shm_attach.specs.Fork.{forked_at, forked_by}
+use Rattle.shm_attach.specs.declared.process.Child.{Child}
+use Rattle.shm_attach.specs.Fork.{born_child}
 use Rattle.shm_attach.proofs.FlatSteps.{pieces_by-caller}
 use Rattle.shm_segments.specs.declared.head.Found.{Found}
 use Rattle.shm_segments.specs.Table.{IsFound, SpanFits, page_there, relocked}
@@ -85,14 +86,8 @@ spans-there t rs c ps is fit within pages =
 
 -- FORK
 
-pub forked-fits : (t : List Entry) (rs after : List Runner) (k : FlatCaller) (child : ℕ) → forked_by rs k child ≡ Ok after → PiecesFit t rs → All (PieceFits t) k.pieces → PiecesFit t after
-forked-fits t rs after k child is fit own = by (unborn_from 0 child rs) is
-  where
-    by : (o : Option ℕ) → forked_at rs k child o ≡ Ok after → PiecesFit t after
-    by None z = absurd (cc z)
-    by (Some i) z =
-        let same : slice_set rs i (record { pid = child; life = Live k.cred; pieces = k.pieces }) ≡ after = cc z in
-        rw (← same) (fit-set t rs i (record { pid = child; life = Live k.cred; pieces = k.pieces }) fit own)
+pub born-fits : (t : List Entry) (rs : List Runner) (k : FlatCaller) (child : Child) → PiecesFit t rs → All (PieceFits t) k.pieces → PiecesFit t (born_child rs k child)
+born-fits t rs k child fit own = fit-set t rs child.index (record { pid = child.pid; life = Live k.cred; pieces = k.pieces }) fit own
 
 pub forked-kept : (limits : Bounds) (t : List Entry) (rs after : List Runner) → IsKept limits t rs → PiecesFit t after → ((id : ℕ) → attach_count rs id ≤ attach_count after id) → IsKept limits t after
 forked-kept limits t rs after k fit more =

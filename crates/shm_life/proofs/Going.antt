@@ -1,21 +1,20 @@
 -- A process whose pieces go, or come: what the calls on segments need, and what is kept after them.
-use Rattle.std.proofs.Common.{◌≡◌, ℕ, ◌+◌, ◌*◌, ◌≤◌, false, List, [], length, slice_set, Result, Ok, Err, is_some, refl, ap, ◌∙◌, arith}
+use Rattle.std.proofs.Common.{◌≡◌, ℕ, ◌+◌, ◌*◌, ◌≤◌, false, List, [], length, slice_set, is_some, refl, ap, ◌∙◌, arith}
 use Rattle.std.proofs.lemmas.Bool.{lt-ltb}
 use Rattle.std.specs.Prelude.{All}
 use Rattle.shm_base.specs.Bounds.{Bounds}
 use Rattle.shm_base.specs.State.{Piece, Life, Live, Entry, Runner, pages_of}
-use Rattle.shm_base.specs.Space.{cut, cut_segments, inserted, pieces_of}
+use Rattle.shm_base.specs.Space.{cut, pieces_of}
 use Rattle.shm_base.specs.Segments.{change, attached, detach_all, pages_held}
-use Rattle.shm_base.specs.Step.{Caller as FlatCaller, with_pieces}
-use Rattle.shm_base.specs.declared.errno.Errno.{Errno}
 use Rattle.shm_base.specs.declared.flags.AtFlags.{AtFlags}
 use Rattle.shm_attach.specs.declared.process.Caller.{Caller}
 use Rattle.shm_attach.specs.Spaces.{IsCaller, pieces_at}
-use Rattle.shm_attach.specs.Attach.{Attachment, base_for, piece_for, attached_at, attached_by}
 use Rattle.shm_segments.specs.declared.head.Found.{Found}
 use Rattle.shm_segments.specs.Table.{IsFound, pages_at}
 use Rattle.shm_segments.proofs.Finding.{live-found}
 use Rattle.shm_segments.proofs.Same.{SameTable, change-same, same-trans, detach_all-same}
+use Rattle.shm_life.specs.declared.attach.Placed.{Placed}
+use Rattle.shm_life.specs.Placing.{piece_for, pieces_after}
 use Rattle.shm_life.specs.Tied.{PieceFits}
 use Rattle.shm_life.specs.Orphans.{is_among, OrphansAmong, Sweeps}
 use Rattle.shm_life.specs.Kept.{IsKept}
@@ -44,31 +43,16 @@ few-same t v same few = omega (arith, few, same.same.size)
 
 -- ATTACHING
 
-pub record IsAttached (rs : List Runner) (k : FlatCaller) (seg pages : ℕ) (flags : AtFlags) (a : Attachment) : Type 0 where
-  pub lost : a.lost ≡ cut_segments a.base (a.base + 4096 * pages) k.pieces
-  pub runners : a.runners ≡ with_pieces rs k (inserted (piece_for seg pages flags a.base) (cut a.base (a.base + 4096 * pages) k.pieces))
-
-pub is_attached : (rs : List Runner) (k : FlatCaller) (seg pages addr : ℕ) (flags : AtFlags) (a : Attachment) → attached_by rs k seg pages addr flags ≡ Ok a → IsAttached rs k seg pages flags a
-is_attached rs k seg pages addr flags a is = by (base_for k.pieces pages flags addr) is
-  where
-    by : (r : Result ℕ Errno) → attached_at rs k seg pages flags r ≡ Ok a → IsAttached rs k seg pages flags a
-    by (Err e) z = absurd (cc z)
-    by (Ok base) z =
-        let same : record { base = base; lost = cut_segments base (base + 4096 * pages) k.pieces; runners = with_pieces rs k (inserted (piece_for seg pages flags base) (cut base (base + 4096 * pages) k.pieces)) } ≡ a = cc z in
-        rw (← same) (record { lost = refl; runners = refl })
-
 -- a piece of all pages of a segment fits
-pub found-fits : (t : List Entry) (f : Found) (flags : AtFlags) (base : ℕ) → IsFound t f → PieceFits t (piece_for f.seg (pages_of f.head.size) flags base)
+pub found-fits : (t : List Entry) (f : Found) (flags : AtFlags) (base : ℕ) → IsFound t f → PieceFits t (piece_for flags (record { seg = f.seg; pages = pages_of f.head.size; base = base }))
 found-fits t f flags base found =
     let lives = live-found t f found in
     let pages : pages_at t f.seg ≡ pages_of f.head.size = ap pages_held lives ∙ pages-seen t f found in
     (ap is_some lives, λ j lt. rw pages (lt-ltb (0 + j) (pages_of f.head.size) (omega (arith, lt))))
 
-pub attached-fits : (t : List Entry) (f : Found) (flags : AtFlags) (base : ℕ) (ps : List Piece) → IsFound t f → All (PieceFits t) ps
-    → All (PieceFits t) (inserted (piece_for f.seg (pages_of f.head.size) flags base) (cut base (base + 4096 * pages_of f.head.size) ps))
-attached-fits t f flags base ps found fits =
-    pass-inserted t (piece_for f.seg (pages_of f.head.size) flags base) (cut base (base + 4096 * pages_of f.head.size) ps) (found-fits t f flags base found)
-    (pass-cut t base (base + 4096 * pages_of f.head.size) ps fits)
+pub placed-fits : (t : List Entry) (flags : AtFlags) (p : Placed) (ps : List Piece) → PieceFits t (piece_for flags p) → All (PieceFits t) ps → All (PieceFits t) (pieces_after ps flags p)
+placed-fits t flags p ps own fits =
+    pass-inserted t (piece_for flags p) (cut p.base (p.base + 4096 * p.pages) ps) own (pass-cut t p.base (p.base + 4096 * p.pages) ps fits)
 
 -- the times of detaches and of the attach
 pub attached-same : (n pid : ℕ) (lost : List ℕ) (t : List Entry) (seg : ℕ) → SameTable t (change (detach_all n pid t lost) seg (attached n pid))

@@ -1,31 +1,150 @@
--- The flat machine's shmat, by what its parts answer.
-use Rattle.std.proofs.Common.{◌≡◌, ℕ, ℤ, ◌%◌, ◌==◌, ◌&&◌, ◌||◌, not, Bool, true, false, refl, ap, ◌∙◌, arith, true≢false}
+-- The flat machine's shmat, by where its piece goes.
+use Rattle.std.proofs.Common.{◌≡◌, ◌≢◌, ◌⊎◌, ne_eqb, inl, inr, ℕ, ℤ, ◌+◌, ◌-◌, ◌*◌, ◌%◌, ◌<◌, ◌≤◌, ◌==◌, ◌&&◌, ◌||◌, not, nat_lt, if◌then◌else◌, Bool, true, false, List, length, Option, Some, None, Result, Ok, Err, refl, ap, sym, ◌∙◌, arith}
+use Rattle.std.proofs.lemmas.Bool.{cases_Bool, cases_lt, lt-ltb, le-ltb, leb-true, and_parts, true≢false}
+use Rattle.shm_base.specs.declared.errno.Errno.{Errno}
+use Rattle.shm_base.specs.declared.errno.Errno.TheVariants.{Enomem, Emfile}
 use Rattle.shm_base.specs.declared.flags.AtFlags.{AtFlags}
-use Rattle.shm_base.specs.State.{Machine, pages_of}
-use Rattle.shm_base.specs.Identifier.{look, identifier, destroyed_at, destroyed_in}
+use Rattle.shm_base.specs.State.{Segment, Piece, Machine, pages_of, pages_in}
+use Rattle.shm_base.specs.Identifier.{Look, Invalid, Removed, Found, look, identifier, destroyed_at, destroyed_in}
 use Rattle.shm_base.specs.Permission.{grants}
-use Rattle.shm_base.specs.Step.{Caller, is_remap, is_rnd, at_wish, shmat, attaches_found}
-use Rattle.shm_attach.specs.Attach.{attached_by}
-use Rattle.shm_attach.proofs.FlatSteps.{attached_outcome, attaches-flat}
+use Rattle.shm_base.specs.Space.{lowest_address, last_address, first_chosen, inside, occupied, choose, cut}
+use Rattle.shm_base.specs.Step.{Caller, pieces_with, is_remap, is_rnd, at_wish, shmat, attaches, attaches_chosen, attaches_fixed, attaches_found}
+use Rattle.std.specs.Prelude.{ok_or, MatchOption, OnErr, nat_le}
+use Rattle.shm_areas.specs.Fixed.{fixed_at, fixed}
+use Rattle.shm_areas.specs.Gap.{HasNoGap, IsLeastGap}
+use Rattle.shm_attach.specs.Place.{IsRange}
+use Rattle.shm_attach.proofs.Processes.{length-inserted}
 use Rattle.shm_segments.specs.declared.head.Found.{Found as Live}
-use Rattle.shm_segments.specs.Table.{IsFound, look_of, refused_look}
-use Rattle.shm_segments.specs.Table as table
+use Rattle.shm_segments.specs.Table.{IsFound, look_of}
+use Rattle.shm_life.specs.declared.attach.Placed.{Placed}
 use Rattle.shm_life.specs.Address.{misplaced}
+use Rattle.shm_life.specs.Placing.{chosen, if_few, base_for, placed_at, placed_found, placed, piece_for, placed_outcome}
 use Rattle.shm_life.proofs.Changed.{pages-seen}
 
 neither : (a b : Bool) → a || b ≡ false → (a ≡ false) × (b ≡ false)
 neither true b h = absurd (true≢false h)
 neither false b h = (refl, h)
 
-module _ (s : Machine) (n : ℕ) (c : Caller) (id : ℤ) (addr : ℕ) (flags : AtFlags) where
-  placed : misplaced addr flags ≡ false → shmat s n c id addr flags ≡ attaches_found s n c flags addr (look s.table id)
-  placed h = let parts = neither ((addr == 0) && is_remap flags) (not (addr % 4096 == 0) && not (is_rnd flags)) h in rw (parts.0, parts.1) refl
+module _ (s : Machine) (n : ℕ) (c : Caller) (flags : AtFlags) where
+  few-outcome : (id : ℕ) (x : Segment) (base : ℕ)
+      → attaches s n c id x flags base ≡ placed_outcome s n c flags (placed_at id (pages_in x) (if_few c.pieces (pages_in x) (Ok base)))
+  few-outcome id x base =
+      let p : Placed = record { seg = id; pages = pages_in x; base = base } in
+      let long : length (pieces_with c id x flags base) ≡ length (cut base (base + 4096 * pages_in x) c.pieces) + 1 =
+      length-inserted (piece_for flags p) (cut base (base + 4096 * pages_in x) c.pieces) in
+      elim (cases_Bool (nat_lt 256 (length (cut base (base + 4096 * pages_in x) c.pieces) + 1))) [
+        | inl h ↦ rw (long, h) refl
+        | inr h ↦ rw (long, h) refl
+      ]
 
-  -- behind the tests it is what the address spaces answer
-  pub shmat-found : (f : Live) → IsFound s.table f → misplaced addr flags ≡ false → look s.table id ≡ look_of s.table f → grants c.cred f.head.perm (at_wish flags) ≡ true
-      → shmat s n c id addr flags ≡ attached_outcome s n c f.seg (attached_by s.runners c f.seg (pages_of f.head.size) addr flags)
-  shmat-found f found h is granted =
-      let own : identifier (f.seg % 32768) (destroyed_at s.table (f.seg % 32768)) ≡ f.seg = ap (λ o. identifier (f.seg % 32768) (destroyed_in o)) found.entry ∙ omega arith in
-      let pages = pages-seen s.table f found in
-      placed h ∙ ap (attaches_found s n c flags addr) is
-      ∙ rw (granted, own) (attaches-flat s n c f.seg (table.seen s.table f) flags addr ∙ ap (λ k. attached_outcome s n c f.seg (attached_by s.runners c f.seg k addr flags)) pages)
+  chosen-outcome : (id : ℕ) (x : Segment) (o : Option ℕ)
+      → attaches_chosen s n c id x flags o ≡ placed_outcome s n c flags (placed_at id (pages_in x) (if_few c.pieces (pages_in x) (chosen o)))
+  chosen-outcome id x None = refl
+  chosen-outcome id x (Some base) = few-outcome id x base
+
+  fixed-outcome : (id : ℕ) (x : Segment) (base : ℕ)
+      → attaches_fixed s n c id x flags base ≡ placed_outcome s n c flags (placed_at id (pages_in x) (if_few c.pieces (pages_in x) (fixed_at c.pieces base (pages_in x) flags)))
+  fixed-outcome id x base =
+      elim (cases_Bool (not (inside base (pages_in x)))) [
+        | inl h ↦ rw h refl
+        | inr h ↦ elim (cases_Bool (not (is_remap flags) && occupied c.pieces base (base + 4096 * pages_in x))) [
+          | inl k ↦ rw (h, k) refl
+          | inr k ↦ rw (h, k) (few-outcome id x base)
+        ]
+      ]
+
+  base-outcome : (id : ℕ) (x : Segment) (addr : ℕ)
+      → (if addr == 0 then attaches_chosen s n c id x flags (choose c.pieces (pages_in x)) else attaches_fixed s n c id x flags (addr - addr % 4096))
+      ≡ placed_outcome s n c flags (placed_at id (pages_in x) (base_for c.pieces (pages_in x) flags addr))
+  base-outcome id x addr =
+      elim (cases_Bool (addr == 0)) [
+        | inl h ↦ rw h (chosen-outcome id x (choose c.pieces (pages_in x)))
+        | inr h ↦ rw h (fixed-outcome id x (addr - addr % 4096))
+      ]
+
+  found-outcome : (addr : ℕ) (o : Look) → attaches_found s n c flags addr o ≡ placed_outcome s n c flags (placed_found s c flags addr o)
+  found-outcome addr Invalid = refl
+  found-outcome addr Removed = refl
+  found-outcome addr (Found i x) =
+      elim (cases_Bool (not (grants c.cred x.perm (at_wish flags)))) [
+        | inl h ↦ rw h refl
+        | inr h ↦ rw h (base-outcome (identifier i (destroyed_at s.table i)) x addr)
+      ]
+
+  -- shmat does what its place says
+  pub shmat-placed : (id : ℤ) (addr : ℕ) → shmat s n c id addr flags ≡ placed_outcome s n c flags (placed s c id addr flags)
+  shmat-placed id addr =
+      elim (cases_Bool ((addr == 0) && is_remap flags)) [
+        | inl h ↦ rw h refl
+        | inr h ↦ elim (cases_Bool (not (addr % 4096 == 0) && not (is_rnd flags))) [
+          | inl k ↦ rw (h, k) refl
+          | inr k ↦ rw (h, k) (found-outcome addr (look s.table id))
+        ]
+      ]
+
+-- behind the tests it is where the pages go
+pub placed-found : (s : Machine) (c : Caller) (id : ℤ) (addr : ℕ) (flags : AtFlags) (f : Live) → IsFound s.table f → misplaced addr flags ≡ false
+    → look s.table id ≡ look_of s.table f → grants c.cred f.head.perm (at_wish flags) ≡ true
+    → placed s c id addr flags ≡ placed_at f.seg (pages_of f.head.size) (base_for c.pieces (pages_of f.head.size) flags addr)
+placed-found s c id addr flags f found h is granted =
+    let own : identifier (f.seg % 32768) (destroyed_at s.table (f.seg % 32768)) ≡ f.seg = ap (λ o. identifier (f.seg % 32768) (destroyed_in o)) found.entry ∙ omega arith in
+    rw h (ap (placed_found s c flags addr) is ∙ rw (granted, own) (ap (λ k. placed_at f.seg k (base_for c.pieces k flags addr)) (pages-seen s.table f found)))
+
+pub if_few-ok : (ps : List Piece) (pages base : ℕ) (r : Result ℕ Errno) → if_few ps pages r ≡ Ok base → length (cut base (base + 4096 * pages) ps) + 1 ≤ 256
+if_few-ok ps pages base (Err e) is = absurd (cc is)
+if_few-ok ps pages base (Ok b) is = by (cases_lt 256 (length (cut b (b + 4096 * pages) ps) + 1))
+  where
+    by : (256 < length (cut b (b + 4096 * pages) ps) + 1) ⊎ (length (cut b (b + 4096 * pages) ps) + 1 ≤ 256) → length (cut base (base + 4096 * pages) ps) + 1 ≤ 256
+    by (inl more) = absurd (cc (rw (lt-ltb 256 (length (cut b (b + 4096 * pages) ps) + 1) more) at is))
+    by (inr few) = let same : b ≡ base = cc (rw (le-ltb 256 (length (cut b (b + 4096 * pages) ps) + 1) few) at is) in rw (← same) few
+
+-- the base that is wished for
+pub chosen-when : (addr : ℕ) (ps : List Piece) (n : ℕ) (flags : AtFlags) (o : Option ℕ) (r : Result ℕ Errno) → addr ≡ 0 → o ≡ choose ps n → r ≡ ok_or o Enomem
+    → (if addr == 0 then chosen (choose ps n) else fixed ps addr n flags) ≡ r
+chosen-when addr ps n flags o r null is made = rw null (ap chosen (sym is) ∙ same o ∙ sym made)
+  where
+    same : (o : Option ℕ) → chosen o ≡ ok_or o Enomem
+    same None = refl
+    same (Some b) = refl
+
+pub fixed-when : (addr : ℕ) (ps : List Piece) (n : ℕ) (flags : AtFlags) (r : Result ℕ Errno) → addr ≢ 0 → r ≡ fixed ps addr n flags
+    → (if addr == 0 then chosen (choose ps n) else fixed ps addr n flags) ≡ r
+fixed-when addr ps n flags r some made = rw (ne_eqb addr 0 some) (sym made)
+
+pub if_few-under : (ps : List Piece) (pages base : ℕ) → length (cut base (base + 4096 * pages) ps) < 256 → if_few ps pages (Ok base) ≡ Ok base
+if_few-under ps pages base few = rw (le-ltb 256 (length (cut base (base + 4096 * pages) ps) + 1) (omega (arith, few))) refl
+
+pub if_few-over : (ps : List Piece) (pages base : ℕ) → 256 ≤ length (cut base (base + 4096 * pages) ps) → if_few ps pages (Ok base) ≡ Err Emfile
+if_few-over ps pages base many = rw (lt-ltb 256 (length (cut base (base + 4096 * pages) ps) + 1) (omega (arith, many))) refl
+
+-- the range that is wished for lies within the addresses
+pub chosen-range : (ps : List Piece) (n base : ℕ) (o : Option ℕ) (r : Result ℕ Errno) → MatchOption o (HasNoGap ps n) (IsLeastGap ps n) → r ≡ ok_or o Enomem → r ≡ Ok base → IsRange n base
+chosen-range ps n base None r least made is = absurd (cc (sym made ∙ is))
+chosen-range ps n base (Some b) r least made is =
+    let same : b ≡ base = cc (sym made ∙ is) in
+    let parts = and_parts (nat_le first_chosen b && nat_le (b + 4096 * n) last_address) (not (occupied ps b (b + 4096 * n))) least.gap in
+    let ends = and_parts (nat_le first_chosen b) (nat_le (b + 4096 * n) last_address) parts.0 in
+    rw (← same)
+    (record {
+      aligned = least.aligned;
+      low = omega (arith, leb-true first_chosen b ends.0);
+      high = leb-true (b + 4096 * n) last_address ends.1;
+    })
+
+fixed_at-range : (ps : List Piece) (n b base : ℕ) (flags : AtFlags) → b % 4096 ≡ 0 → fixed_at ps b n flags ≡ Ok base → IsRange n base
+fixed_at-range ps n b base flags aligned is = by (cases_Bool (inside b n)) (cases_Bool (not (is_remap flags) && occupied ps b (b + 4096 * n)))
+  where
+    by : (inside b n ≡ true) ⊎ (inside b n ≡ false) → (not (is_remap flags) && occupied ps b (b + 4096 * n) ≡ true) ⊎ (not (is_remap flags) && occupied ps b (b + 4096 * n) ≡ false) → IsRange n base
+    by (inr out) taken = absurd (cc (rw out at is))
+    by (inl within) (inl taken) = absurd (cc (rw (within, taken) at is))
+    by (inl within) (inr free) =
+        let same : b ≡ base = cc (rw (within, free) at is) in
+        let parts = and_parts (nat_le lowest_address b) (nat_le (b + 4096 * n) last_address) within in
+        rw (← same) (record { aligned = aligned; low = leb-true lowest_address b parts.0; high = leb-true (b + 4096 * n) last_address parts.1 })
+
+pub fixed-range : (ps : List Piece) (n addr base : ℕ) (flags : AtFlags) → fixed ps addr n flags ≡ Ok base → IsRange n base
+fixed-range ps n addr base flags is = fixed_at-range ps n (addr - addr % 4096) base flags (omega arith) is
+
+pub on-err : {T E X : Type 0} (r : Result T E) → X → OnErr r X
+on-err (Ok t) x = tt
+on-err (Err e) x = x

@@ -3,6 +3,7 @@ pub mod Kept
 pub mod Orphans
 pub mod Listed
 pub mod Address
+pub mod Placing
 pub mod Made
 pub mod Start
 pub mod SystemState

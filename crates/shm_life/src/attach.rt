@@ -1,10 +1,14 @@
 //! Attaching, detaching, and what becomes of pieces at fork, exec and exit.
-ghost use Rattle.std.specs.Prelude.{◌≡◌, IfOk, OnErr};
+ghost use Rattle.std.specs.Prelude.{◌≡◌, ◌+◌, ◌*◌, ◌≤◌, false, length, IfOk, OnErr};
+ghost use Rattle.shm_base.specs.History.{is_refusal};
+ghost use Rattle.shm_base.specs.Space.{cut};
 ghost use Rattle.shm_base.specs.Step as flat;
-ghost use Rattle.shm_attach.specs.Spaces.{seen};
-ghost use Rattle.shm_life.specs.MachineView.{KeepsOn};
+ghost use Rattle.shm_attach.specs.Place.{IsRange};
+ghost use Rattle.shm_attach.specs.Spaces.{pieces_at, seen};
 ghost use Rattle.shm_life.specs.Address.{misplaced};
-ghost use Rattle.shm_life.specs.Tied.{IsCallerOf};
+ghost use Rattle.shm_life.specs.MachineView.{KeepsOn};
+ghost use Rattle.shm_life.specs.Placing.{placed, piece_for};
+ghost use Rattle.shm_life.specs.Tied.{IsCallerOf, PieceFits};
 
 use crate::detach::{note_detached, sweep};
 use crate::machine::Machine;
@@ -24,12 +28,64 @@ fn is_misplaced(addr: u64, flags: AtFlags) -> bool
     }
 }
 
+/// Where a new piece goes: its segment, that segment's pages, and its base.
+#[derive(Clone, Copy)]
+pub(crate) struct Placed {
+    seg: u32,
+    pages: u32,
+    base: u64,
+}
+
 impl<P: Pager> Machine<P> {
+    /// The refusals of shmat in their order, and where the new piece goes (shmop(2); the order is this
+    /// profile's). Einval where a null address comes with SHM_REMAP or another is unaligned without SHM_RND;
+    /// Einval or Eidrm for the identifier; Eacces; Einval where the range leaves the addresses, or is occupied
+    /// without SHM_REMAP; Enomem where no gap is left for a null address; Emfile for more than 256 pieces.
+    fn place_for(
+        &self,
+        caller: &Caller,
+        id: ShmId,
+        addr: u64,
+        flags: AtFlags,
+    ) -> Result<Placed, Errno>
+        requires { IsCallerOf self.now.flat caller.now }
+        ensures value { result ≡ placed self.now.flat (seen caller.now self.now.flat.runners) id addr flags }
+        ensures fits { IfOk result (λ p. PieceFits self.now.flat.table (piece_for flags p)) }
+        ensures pages { IfOk result (λ p. (1 ≤ p.pages) × (p.pages ≤ 4096)) }
+        ensures range { IfOk result (λ p. IsRange p.pages p.base) }
+        ensures room { IfOk result (λ p. length (cut p.base (p.base + 4096 * p.pages) (pieces_at self.now.flat.runners caller.now.index)) + 1 ≤ 256) }
+    {
+        if is_misplaced(addr, flags) {
+            return Err(Errno::Einval);
+        }
+        let found = self.segments.look(id)?;
+        let want = Want {
+            read: true,
+            write: !flags.contains(AtFlags::RDONLY),
+        };
+        if !grants(&caller.cred, &found.head.perm, want) {
+            return Err(Errno::Eacces);
+        }
+        let space = self.spaces.space(caller);
+        let (seg, pages) = (found.seg, found.pages());
+        let wanted = if addr == 0 {
+            space.choose(pages).ok_or(Errno::Enomem)
+        } else {
+            space.check_fixed(addr, pages, flags)
+        };
+        let base = match wanted {
+            Ok(base) => base,
+            Err(errno) => return Err(errno),
+        };
+        if space.count_outside(base, base + PAGE_SIZE * pages as u64) >= 256 {
+            return Err(Errno::Emfile);
+        }
+        Ok(Placed { seg, pages, base })
+    }
+
     #[tactic(auto, using(crate::proofs::Running::keeps_refl))]
-    /// Attaches a segment (shmop(2)). Einval where a null address comes with SHM_REMAP or another is
-    /// unaligned without SHM_RND; Einval or Eidrm for the identifier; Eacces; then as the address spaces
-    /// refuse. Segments whose pieces are replaced are detached, and those marked that lose their last piece are
-    /// destroyed after the new piece stands.
+    /// Attaches a segment. Segments whose pieces are replaced are detached, and those marked that lose their
+    /// last piece are destroyed after the new piece stands.
     pub(crate) fn shmat(
         &mut self,
         time: u64,
@@ -42,67 +98,57 @@ impl<P: Pager> Machine<P> {
         ensures step { IfOk result (λ r. flat.shmat self.old.flat time (seen caller.now self.old.flat.runners) id addr flags ≡ record { reply = r; state = self.new.flat }) }
         ensures keeps { KeepsOn self.old.memory self.new.memory }
         ensures err { OnErr result (self.new ≡ self.old) }
+        ensures memory { OnErr result (is_refusal (flat.shmat self.old.flat time (seen caller.now self.old.flat.runners) id addr flags).reply ≡ false) }
     {
-        if is_misplaced(addr, flags) {
-            return Ok(Reply::Refused(Errno::Einval));
-        }
-        let found = match self.segments.look(id) {
-            Ok(found) => found,
+        let placed = match self.place_for(caller, id, addr, flags) {
+            Ok(placed) => placed,
             Err(errno) => return Ok(Reply::Refused(errno)),
         };
-        let want = Want {
-            read: true,
-            write: !flags.contains(AtFlags::RDONLY),
-        };
-        if !grants(&caller.cred, &found.head.perm, want) {
-            return Ok(Reply::Refused(Errno::Eacces));
-        }
-        let pages = found.pages();
+        let Placed { seg, pages, base } = placed;
+        let writable = !flags.contains(AtFlags::RDONLY);
         let store = self.segments.store();
-        let attached = match self
+        let lost = self
             .spaces
-            .attach(caller, found.seg, pages, addr, flags, store)?
-        {
-            Ok(attached) => attached,
-            Err(errno) => return Ok(Reply::Refused(errno)),
-        };
-        let lost = attached.lost.as_slice();
+            .attach(caller, seg, base, pages, writable, store)?;
+        let lost = lost.as_slice();
         note_detached(&mut self.segments, lost, time, caller.pid);
-        self.segments.attached(found.seg, time, caller.pid);
+        self.segments.attached(seg, time, caller.pid);
         sweep(&mut self.segments, &self.spaces, lost);
-        Ok(Reply::Addr(attached.base))
+        Ok(Reply::Addr(base))
     }
 
     #[tactic(auto, using(crate::proofs::Running::keeps_refl))]
-    /// Detaches the pieces of an attach (shmop(2)); Einval where there is none at the address.
+    /// Detaches the pieces that are left of an attach (shmop(2)): among the pieces whose segment would begin at
+    /// the address the lowest names the segment, and all pieces of that segment with this origin go (the origin
+    /// is this profile's). Einval where there is none.
     pub(crate) fn shmdt(&mut self, time: u64, caller: &Caller, addr: u64) -> Reply
         requires { IsCallerOf self.old.flat caller.now }
         ensures step { flat.shmdt self.old.flat time (seen caller.now self.old.flat.runners) addr ≡ record { reply = result; state = self.new.flat } }
         ensures keeps { KeepsOn self.old.memory self.new.memory }
     {
-        let seg = match self.spaces.detach(caller, addr) {
-            Ok(seg) => seg,
-            Err(errno) => return Reply::Refused(errno),
+        let Some(origin) = self.spaces.space(caller).origin_of(addr) else {
+            return Reply::Refused(Errno::Einval);
         };
-        let lost = [seg];
+        self.spaces.detach(caller, addr, origin.seg);
+        let lost = [origin.seg];
         note_detached(&mut self.segments, &lost, time, caller.pid);
         sweep(&mut self.segments, &self.spaces, &lost);
         Reply::Done
     }
 
     #[tactic(auto, using(crate::proofs::Running::keeps_refl))]
-    /// A child that was declared is born, with the caller's credentials and pieces; Eagain where the
+    /// A child that was declared is born, with the caller's credentials and pieces (fork(2)). Eagain where the
     /// process is no such child.
-    pub(crate) fn fork(&mut self, caller: &Caller, child: u32) -> Result<Reply, HostMemory>
+    pub(crate) fn fork(&mut self, caller: &Caller, child: u32) -> Reply
         requires { IsCallerOf self.old.flat caller.now }
-        ensures step { IfOk result (λ r. flat.fork self.old.flat (seen caller.now self.old.flat.runners) child ≡ record { reply = r; state = self.new.flat }) }
+        ensures step { flat.fork self.old.flat (seen caller.now self.old.flat.runners) child ≡ record { reply = result; state = self.new.flat } }
         ensures keeps { KeepsOn self.old.memory self.new.memory }
-        ensures err { OnErr result (self.new ≡ self.old) }
     {
-        match self.spaces.fork(caller, child)? {
-            Ok(()) => Ok(Reply::Done),
-            Err(errno) => Ok(Reply::Refused(errno)),
-        }
+        let Some(child) = self.spaces.child(child) else {
+            return Reply::Refused(Errno::Eagain);
+        };
+        self.spaces.fork(caller, &child);
+        Reply::Done
     }
 
     #[tactic(auto, using(crate::proofs::Running::keeps_refl))]

@@ -1,5 +1,6 @@
 //! shmget: an existing segment by its key, or a new one.
-ghost use Rattle.std.specs.Prelude.{◌≡◌, ◌≢◌, ℕ, IfOk, OnErr};
+ghost use Rattle.std.specs.Prelude.{◌≡◌, ◌≢◌, ℕ, false, IfOk, OnErr};
+ghost use Rattle.shm_base.specs.History.{is_refusal};
 ghost use Rattle.shm_base.specs.Identifier as flat_ids;
 ghost use Rattle.shm_base.specs.Permission as permission;
 ghost use Rattle.shm_base.specs.Step as flat;
@@ -65,6 +66,7 @@ impl<P: Pager> Machine<P> {
         ensures step { IfOk result (λ r. flat.shmget self.old.flat time (seen caller.now self.old.flat.runners) key size mode flags ≡ record { reply = r; state = self.new.flat }) }
         ensures keeps { KeepsOn self.old.memory self.new.memory }
         ensures err { OnErr result (self.new ≡ self.old) }
+        ensures memory { OnErr result (is_refusal (flat.shmget self.old.flat time (seen caller.now self.old.flat.runners) key size mode flags).reply ≡ false) }
     {
         if key == 0 {
             return self.create(time, caller, 0, size, mode);
@@ -108,6 +110,7 @@ impl<P: Pager> Machine<P> {
         ensures step { IfOk result (λ r. flat.creates self.old.flat time (seen caller.now self.old.flat.runners) key size mode ≡ record { reply = r; state = self.new.flat }) }
         ensures keeps { KeepsOn self.old.memory self.new.memory }
         ensures err { OnErr result (self.new ≡ self.old) }
+        ensures memory { OnErr result (is_refusal (flat.creates self.old.flat time (seen caller.now self.old.flat.runners) key size mode).reply ≡ false) }
     {
         if size < 1 || size > self.limits.shmmax() {
             return Ok(Reply::Refused(Errno::Einval));

@@ -1,7 +1,7 @@
 //! The machine: one call of a process is one step of the flat machine.
 ghost use Rattle.std.specs.Prelude.{◌≡◌, true, false, IfOk, OnErr, IsOk};
 ghost use Rattle.shm_base.specs.Step.{step};
-ghost use Rattle.shm_base.specs.History.{is_failure};
+ghost use Rattle.shm_base.specs.History.{is_failure, is_refusal};
 ghost use Rattle.shm_life.specs.MachineView.{IsFailed, KeepsOn};
 ghost use Rattle.shm_life.specs.SystemState.{TakesNoMemory};
 
@@ -39,6 +39,7 @@ impl<P: Pager> Machine<P> {
         ensures failed { IfOk result (λ r. is_failure call.now r ≡ true → IsFailed (step self.old.flat time pid call.now) self.old self.new) }
         ensures keeps { KeepsOn self.old.memory self.new.memory }
         ensures err { OnErr result (self.new ≡ self.old) }
+        ensures memory { OnErr result (is_refusal (step self.old.flat time pid call.now).reply ≡ false) }
         ensures no_memory { TakesNoMemory call.now → IsOk result }
     {
         let Some(caller) = self.spaces.caller(pid) else {
@@ -61,7 +62,7 @@ impl<P: Pager> Machine<P> {
             Call::Load { addr, len } => Ok(self.load(&caller, *addr, *len)),
             Call::Store { addr, chunk } => Ok(self.store(&caller, *addr, chunk)),
             Call::Xadd { addr, add } => Ok(self.xadd(&caller, *addr, *add)),
-            Call::Fork { child } => self.fork(&caller, *child),
+            Call::Fork { child } => Ok(self.fork(&caller, *child)),
             Call::Exec => Ok(self.exec(time, &caller)),
             Call::Exit => Ok(self.exit(time, &caller)),
             Call::Swapoff { area } => Ok(self.swapoff(&caller, *area)),

@@ -1,8 +1,9 @@
 //! A machine with its swap areas, how it began, and how many calls it answered.
-ghost use Rattle.std.specs.Prelude.{◌≡◌, true, ◌+◌, ◌-◌, ◌^◌, ◌<◌, length, map, IfOk, IfErr, OnOk, OnErr, IsOk, None};
+ghost use Rattle.std.specs.Prelude.{◌≡◌, true, false, ◌+◌, ◌-◌, ◌^◌, ◌<◌, length, map, IfOk, IfErr, OnOk, OnErr, IsOk, None};
 ghost use Rattle.shm_base.specs.State as flat;
 ghost use Rattle.shm_life.specs.Start.{start_error, IsFirstError};
-ghost use Rattle.shm_base.specs.History.{IsMove, is_failure};
+ghost use Rattle.shm_base.specs.History.{IsMove, is_failure, is_refusal};
+ghost use Rattle.shm_base.specs.Step.{step};
 ghost use Rattle.shm_slots.specs.Cause.{had_cause};
 ghost use Rattle.shm_slots.specs.View.{fresh, new_swap};
 ghost use Rattle.shm_pager.specs.Pages.{seen};
@@ -145,7 +146,7 @@ impl<P: Pager> System<P> {
 
     #[tactic(auto, using(crate::proofs::Running::keeps_refl))]
     /// One call of a process, at the time that is its place among the calls. Want of memory changes
-    /// nothing and is not counted. Where a pager fails the reply says so in place of the flat machine's,
+    /// nothing and is not counted; it comes only where the flat machine refuses nothing. Where a pager fails the reply says so in place of the flat machine's,
     /// and nothing else changes.
     pub fn call(&mut self, pid: u32, call: &Call) -> Result<Reply, HostMemory>
         requires room { self.old.calls < 2 ^ 64 - 1 }
@@ -155,6 +156,7 @@ impl<P: Pager> System<P> {
         ensures opening { self.new.opening ≡ self.old.opening }
         ensures keeps { KeepsOn self.old.memory self.new.memory }
         ensures err { OnErr result (self.new ≡ self.old) }
+        ensures memory { OnErr result (is_refusal (step self.old.machine (self.old.calls + 1) pid call.now).reply ≡ false) }
         ensures no_memory { TakesNoMemory call.now → IsOk result }
     {
         let time = self.calls + 1;

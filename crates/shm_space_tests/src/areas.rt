@@ -94,12 +94,9 @@ fn a_cut_leaves_two_parts(rt: HostRuntime) -> Result<(), HostMemory> {
     assert!(rt; put(&mut space, 0x40000000, 7, 3));
     assert!(rt; space.met(0x40001000, 0x40002000).len() == 1);
     assert!(rt; space.count_outside(0x40001000, 0x40002000) == 2);
-    space.cut(0x40001000, 0x40002000, 5);
+    space.cut(0x40001000, 0x40002000);
     let below = piece(0x40000000, 7, 0, 1);
-    let above = Piece {
-        key: 5,
-        ..piece(0x40002000, 7, 2, 1)
-    };
+    let above = piece(0x40002000, 7, 2, 1);
     assert!(rt; space.pieces() == [below, above].as_slice());
     assert!(rt; space.place(0x40002001).is_some_and(|p| p.at == 8193));
     assert!(rt; space.origin_of(0x40000000) == Some(below));

@@ -1,8 +1,8 @@
 ghost use Rattle.std.specs.Prelude.{◌≡◌, ◌≤◌};
+ghost use Rattle.shm_attach.specs.Place.{IsRange};
 
-use bitflags::Flags;
 use shm_attach::Spaces;
-use shm_base::{AtFlags, Cred, Errno, FrameNo, HostMemory, PageRef, Process, Span};
+use shm_base::{Cred, FrameNo, HostMemory, PAGE_SIZE, PageRef, Process, Span};
 use shm_fault::{Move, PageStore};
 use shm_pager::RamPager;
 use shm_slots::Swap;
@@ -28,31 +28,49 @@ fn bare_store(alloc: Global) -> Result<PageStore<RamPager>, HostMemory> {
     PageStore::new(alloc, 2, swap)
 }
 
-/// An attach of a process that should be live: where the piece begins, or the refusal.
+/// Attaches pages of a segment to a process that should be live, where there is room for one more piece.
 fn attach(
     spaces: &mut Spaces,
     store: &PageStore<RamPager>,
     pid: u32,
     seg: u32,
+    base: u64,
     pages: u32,
-    addr: u64,
-    flags: AtFlags,
-) -> Option<Result<u64, Errno>>
-    requires { (1 ≤ pages) × (pages ≤ 4096) }
+    writable: bool,
+) -> bool
+    requires pages { (1 ≤ pages) × (pages ≤ 4096) }
+    requires range { IsRange pages base }
 {
-    let caller = spaces.caller(pid)?;
-    let answer = spaces.attach(&caller, seg, pages, addr, flags, store).ok()?;
-    Some(answer.map(|attached| attached.base))
+    let Some(caller) = spaces.caller(pid) else {
+        return false;
+    };
+    let left = spaces
+        .space(&caller)
+        .count_outside(base, base + PAGE_SIZE * pages as u64);
+    if left >= 256 {
+        return false;
+    }
+    spaces
+        .attach(&caller, seg, base, pages, writable, store)
+        .is_ok()
 }
 
-fn detach(spaces: &mut Spaces, pid: u32, addr: u64) -> Option<Result<u32, Errno>> {
+/// Detaches what the lowest piece of an origin names, and tells the segment.
+fn detach(spaces: &mut Spaces, pid: u32, addr: u64) -> Option<u32> {
     let caller = spaces.caller(pid)?;
-    Some(spaces.detach(&caller, addr))
+    let seg = spaces.space(&caller).origin_of(addr)?.seg;
+    spaces.detach(&caller, addr, seg);
+    Some(seg)
 }
 
-fn fork(spaces: &mut Spaces, pid: u32, child: u32) -> Option<Result<(), Errno>> {
-    let caller = spaces.caller(pid)?;
-    spaces.fork(&caller, child).ok()
+fn fork(spaces: &mut Spaces, pid: u32, child: u32) -> bool {
+    match (spaces.caller(pid), spaces.child(child)) {
+        (Some(caller), Some(child)) => {
+            spaces.fork(&caller, &child);
+            true
+        }
+        _ => false,
+    }
 }
 
 fn span(seg: u32, at: u64, len: u64) -> Span {
@@ -84,9 +102,8 @@ fn has_spans(spaces: &Spaces, addr: u64, len: u64, write: bool, want: &[Span]) -
 fn an_access_over_two_pieces_has_two_spans(rt: HostRuntime) -> Result<(), HostMemory> {
     let store = bare_store(rt.alloc())?;
     let mut spaces = family(rt.alloc())?;
-    let none = AtFlags::empty();
-    assert!(rt; attach(&mut spaces, &store, 1, 0, 1, 0, none) == Some(Ok(0x40000000)));
-    assert!(rt; attach(&mut spaces, &store, 1, 0, 1, 0, AtFlags::RDONLY) == Some(Ok(0x40001000)));
+    assert!(rt; attach(&mut spaces, &store, 1, 0, 0x40000000, 1, true));
+    assert!(rt; attach(&mut spaces, &store, 1, 0, 0x40001000, 1, false));
     let both = [span(0, 4094, 2), span(0, 0, 2)];
     assert!(rt; has_spans(&spaces, 0x40000ffe, 4, false, both.as_slice()));
     assert!(rt; has_spans(&spaces, 0x40000ffe, 4, true, [].as_slice()));
@@ -98,43 +115,14 @@ fn an_access_over_two_pieces_has_two_spans(rt: HostRuntime) -> Result<(), HostMe
 }
 
 #[test]
-fn a_process_has_at_most_256_pieces(rt: HostRuntime) -> Result<(), HostMemory> {
+fn a_process_has_room_for_256_pieces(rt: HostRuntime) -> Result<(), HostMemory> {
     let store = bare_store(rt.alloc())?;
     let mut spaces = family(rt.alloc())?;
-    let none = AtFlags::empty();
     for k in 0..256u64 {
-        assert!(rt;
-            attach(&mut spaces, &store, 1, 0, 1, 0, none) == Some(Ok(0x40000000 + 4096 * k))
-        );
+        assert!(rt; attach(&mut spaces, &store, 1, 0, 0x40000000 + 4096 * k, 1, true));
     }
-    assert!(rt; attach(&mut spaces, &store, 1, 0, 1, 0, none) == Some(Err(Errno::Emfile)));
+    assert!(rt; !attach(&mut spaces, &store, 1, 0, 0x50000000, 1, true));
     assert!(rt; spaces.count(0) == 256);
-    Ok(())
-}
-
-// A page in the middle of three pages is replaced, beside so many pieces of one page.
-fn remap_in_a_crowd(
-    spaces: &mut Spaces,
-    store: &PageStore<RamPager>,
-    pieces: u64,
-) -> Option<Result<u64, Errno>> {
-    attach(spaces, store, 1, 0, 3, 0, AtFlags::empty())?.ok()?;
-    for _ in 0..pieces {
-        attach(spaces, store, 1, 1, 1, 0, AtFlags::empty())?.ok()?;
-    }
-    attach(spaces, store, 1, 1, 1, 0x40001000, AtFlags::REMAP)
-}
-
-fn crowded(alloc: Global, pieces: u64) -> Result<Option<Result<u64, Errno>>, HostMemory> {
-    let store = bare_store(alloc)?;
-    let mut spaces = family(alloc)?;
-    Ok(remap_in_a_crowd(&mut spaces, &store, pieces))
-}
-
-#[test]
-fn a_cut_counts_its_parts(rt: HostRuntime) -> Result<(), HostMemory> {
-    assert!(rt; crowded(rt.alloc(), 254)? == Some(Err(Errno::Emfile)));
-    assert!(rt; crowded(rt.alloc(), 253)? == Some(Ok(0x40001000)));
     Ok(())
 }
 
@@ -142,21 +130,15 @@ fn a_cut_counts_its_parts(rt: HostRuntime) -> Result<(), HostMemory> {
 fn parts_of_one_attach_go_together(rt: HostRuntime) -> Result<(), HostMemory> {
     let store = bare_store(rt.alloc())?;
     let mut spaces = family(rt.alloc())?;
-    assert!(rt; attach(&mut spaces, &store, 1, 0, 3, 0, AtFlags::empty()) == Some(Ok(0x40000000)));
-    assert!(rt;
-        attach(&mut spaces, &store, 1, 1, 1, 0x40001000, AtFlags::empty())
-            == Some(Err(Errno::Einval))
-    );
-    assert!(rt;
-        attach(&mut spaces, &store, 1, 1, 1, 0x40001fff, AtFlags::REMAP) == Some(Ok(0x40001000))
-    );
+    assert!(rt; attach(&mut spaces, &store, 1, 0, 0x40000000, 3, true));
+    assert!(rt; attach(&mut spaces, &store, 1, 1, 0x40001000, 1, true));
     assert!(rt; spaces.count(0) == 2);
     assert!(rt; has_spans(&spaces, 0x40002000, 1, true, [span(0, 8192, 1)].as_slice()));
-    assert!(rt; detach(&mut spaces, 1, 0x40000000) == Some(Ok(0)));
+    assert!(rt; detach(&mut spaces, 1, 0x40000000) == Some(0));
     assert!(rt; spaces.count(0) == 0);
     assert!(rt; has_spans(&spaces, 0x40001000, 1, true, [span(1, 0, 1)].as_slice()));
-    assert!(rt; detach(&mut spaces, 1, 0x40001000) == Some(Ok(1)));
-    assert!(rt; detach(&mut spaces, 1, 0x40001000) == Some(Err(Errno::Einval)));
+    assert!(rt; detach(&mut spaces, 1, 0x40001000) == Some(1));
+    assert!(rt; detach(&mut spaces, 1, 0x40001000).is_none());
     Ok(())
 }
 
@@ -164,21 +146,19 @@ fn parts_of_one_attach_go_together(rt: HostRuntime) -> Result<(), HostMemory> {
 fn the_lowest_piece_names_the_segment(rt: HostRuntime) -> Result<(), HostMemory> {
     let store = bare_store(rt.alloc())?;
     let mut spaces = family(rt.alloc())?;
-    assert!(rt; attach(&mut spaces, &store, 1, 0, 2, 0, AtFlags::empty()) == Some(Ok(0x40000000)));
-    assert!(rt;
-        attach(&mut spaces, &store, 1, 1, 1, 0x40000000, AtFlags::REMAP) == Some(Ok(0x40000000))
-    );
-    assert!(rt; detach(&mut spaces, 1, 0x40000000) == Some(Ok(1)));
+    assert!(rt; attach(&mut spaces, &store, 1, 0, 0x40000000, 2, true));
+    assert!(rt; attach(&mut spaces, &store, 1, 1, 0x40000000, 1, true));
+    assert!(rt; detach(&mut spaces, 1, 0x40000000) == Some(1));
     assert!(rt; (spaces.count(0), spaces.count(1)) == (1, 0));
-    assert!(rt; detach(&mut spaces, 1, 0x40000000) == Some(Ok(0)));
+    assert!(rt; detach(&mut spaces, 1, 0x40000000) == Some(0));
     assert!(rt; spaces.count(0) == 0);
     Ok(())
 }
 
-// Process 1 bears its child, and each goes.
-fn bears_and_goes(rt: &impl Abort, spaces: &mut Spaces) {
+// Process 1 forks its child, and each goes.
+fn forks_and_goes(rt: &impl Abort, spaces: &mut Spaces) {
     assert!(rt; !spaces.is_live(2));
-    assert!(rt; fork(spaces, 1, 2) == Some(Ok(())));
+    assert!(rt; fork(spaces, 1, 2));
     assert!(rt; spaces.count(0) == 2);
     let child = spaces.caller(2);
     assert!(rt; child.is_some_and(|c| c.cred.uid == 100));
@@ -187,9 +167,9 @@ fn bears_and_goes(rt: &impl Abort, spaces: &mut Spaces) {
         assert!(rt; lost.as_slice() == [0].as_slice());
     }
     assert!(rt; spaces.count(0) == 1);
-    assert!(rt; fork(spaces, 1, 2) == Some(Err(Errno::Eagain)));
-    assert!(rt; fork(spaces, 1, 1) == Some(Err(Errno::Eagain)));
-    assert!(rt; fork(spaces, 1, 3) == Some(Err(Errno::Eagain)));
+    assert!(rt; !fork(spaces, 1, 2));
+    assert!(rt; !fork(spaces, 1, 1));
+    assert!(rt; !fork(spaces, 1, 3));
     if let Some(parent) = spaces.caller(1) {
         let lost = spaces.exit(&parent);
         assert!(rt; lost.as_slice() == [0].as_slice());
@@ -203,8 +183,8 @@ fn bears_and_goes(rt: &impl Abort, spaces: &mut Spaces) {
 fn a_child_has_its_parents_pieces(rt: HostRuntime) -> Result<(), HostMemory> {
     let store = bare_store(rt.alloc())?;
     let mut spaces = family(rt.alloc())?;
-    assert!(rt; attach(&mut spaces, &store, 1, 0, 1, 0, AtFlags::empty()) == Some(Ok(0x40000000)));
-    bears_and_goes(&rt, &mut spaces);
+    assert!(rt; attach(&mut spaces, &store, 1, 0, 0x40000000, 1, true));
+    forks_and_goes(&rt, &mut spaces);
     Ok(())
 }
 
@@ -212,8 +192,8 @@ fn a_child_has_its_parents_pieces(rt: HostRuntime) -> Result<(), HostMemory> {
 fn moves_reach_each_piece_and_each_process(rt: HostRuntime) -> Result<(), HostMemory> {
     let store = bare_store(rt.alloc())?;
     let mut spaces = family(rt.alloc())?;
-    assert!(rt; attach(&mut spaces, &store, 1, 0, 3, 0, AtFlags::empty()) == Some(Ok(0x40000000)));
-    assert!(rt; fork(&mut spaces, 1, 2) == Some(Ok(())));
+    assert!(rt; attach(&mut spaces, &store, 1, 0, 0x40000000, 3, true));
+    assert!(rt; fork(&mut spaces, 1, 2));
     assert!(rt; frame_at(&spaces, 2, 0x40002000).is_none());
     let last = PageRef { seg: 0, page: 2 };
     spaces.note(&[
@@ -227,6 +207,22 @@ fn moves_reach_each_piece_and_each_process(rt: HostRuntime) -> Result<(), HostMe
     assert!(rt; frame_at(&spaces, 1, 0x40002fff).is_none());
     assert!(rt; frame_at(&spaces, 2, 0x40002fff).is_none());
     assert!(rt; frame_at(&spaces, 2, 0x40000000) == Some(5));
+    Ok(())
+}
+
+#[test]
+fn a_gone_segment_has_no_frames(rt: HostRuntime) -> Result<(), HostMemory> {
+    let store = bare_store(rt.alloc())?;
+    let mut spaces = family(rt.alloc())?;
+    assert!(rt; attach(&mut spaces, &store, 1, 0, 0x40000000, 1, true));
+    spaces.note(&[Move::Came(PageRef { seg: 0, page: 0 }, 5)]);
+    assert!(rt; attach(&mut spaces, &store, 1, 0, 0x40001000, 2, true));
+    assert!(rt; detach(&mut spaces, 1, 0x40000000) == Some(0));
+    assert!(rt; frame_at(&spaces, 1, 0x40001000) == Some(5));
+    assert!(rt; frame_at(&spaces, 1, 0x40002000).is_none());
+    assert!(rt; detach(&mut spaces, 1, 0x40001000) == Some(0));
+    assert!(rt; attach(&mut spaces, &store, 1, 0, 0x40000000, 1, true));
+    assert!(rt; frame_at(&spaces, 1, 0x40000000).is_none());
     Ok(())
 }
 
@@ -244,13 +240,13 @@ fn has_frames(spaces: &Spaces, want: &[Option<FrameNo>]) -> bool {
 
 // Of four pages in frames 10 to 13, two are replaced, and one goes.
 fn cut_twice(rt: &impl Abort, spaces: &mut Spaces, store: &PageStore<RamPager>) {
-    assert!(rt; attach(spaces, store, 1, 0, 4, 0, AtFlags::empty()) == Some(Ok(0x40000000)));
+    assert!(rt; attach(spaces, store, 1, 0, 0x40000000, 4, true));
     for page in 0..4 {
         spaces.note(&[Move::Came(PageRef { seg: 0, page }, 10 + page)]);
     }
-    assert!(rt; attach(spaces, store, 1, 1, 1, 0x40001000, AtFlags::REMAP) == Some(Ok(0x40001000)));
+    assert!(rt; attach(spaces, store, 1, 1, 0x40001000, 1, true));
     assert!(rt; has_frames(spaces, [Some(10), None, Some(12), Some(13)].as_slice()));
-    assert!(rt; attach(spaces, store, 1, 1, 1, 0x40002000, AtFlags::REMAP) == Some(Ok(0x40002000)));
+    assert!(rt; attach(spaces, store, 1, 1, 0x40002000, 1, true));
     assert!(rt; has_frames(spaces, [Some(10), None, None, Some(13)].as_slice()));
     spaces.note(&[Move::Gone(PageRef { seg: 0, page: 3 })]);
     assert!(rt; has_frames(spaces, [Some(10), None, None, None].as_slice()));

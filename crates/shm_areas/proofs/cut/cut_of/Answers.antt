@@ -16,7 +16,7 @@ returns-then-run c =
     record {
       order = r.order;
       bound = r.bound;
-      leaves = rw (same, cut-none c.args.from c.args.to c.args.fresh c.args.pieces.now c.run_in-run.result.first ends)
+      leaves = rw (same, cut-none c.args.from c.args.to c.args.pieces.now c.run_in-run.result.first ends)
           (take-append-drop c.run_in-run.result.first c.args.pieces.now);
     }
 
@@ -41,7 +41,7 @@ returns c =
     let order = r.order in
     let next : suc (last - 1) ≡ last = omega (arith, c.if-run.false) in
     let run : IsRun c.args.from c.args.to ps first (suc (last - 1)) = rw next r in
-    let left = cut-run c.args.from c.args.to c.args.fresh first (last - 1) lowest_address ps nothing c.requires.arranged run (omega (arith, c.if-run.false)) in
-    let whole : splice ps first last (kept_below c.args.from (get_or ps first nothing) ++ kept_above c.args.from c.args.to c.args.fresh (get_or ps (last - 1) nothing))
-    ≡ kept_cut c.args.from c.args.to c.args.fresh ps = rw next at left in
+    let left = cut-run c.args.from c.args.to first (last - 1) lowest_address ps nothing c.requires.arranged run (omega (arith, c.if-run.false)) in
+    let whole : splice ps first last (kept_below c.args.from (get_or ps first nothing) ++ kept_above c.args.to (get_or ps (last - 1) nothing))
+    ≡ kept_cut c.args.from c.args.to ps = rw next at left in
     record { order = r.order; bound = r.bound; leaves = rw (c.part_below.ensures, c.part_above.ensures) whole }

@@ -1,11 +1,12 @@
-use Rattle.std.proofs.Common.{◌≡◌, ◌+◌, ◌∙◌, ap, arith, Some, slice_get, refl}
+use Rattle.std.proofs.Common.{◌≡◌, ◌∙◌, ap, sym, List, Some, slice_get, refl}
 use Rattle.std.proofs.lemmas.List.{length-map}
 use Rattle.shm_base.specs.Space.{inserted}
 use Rattle.shm_areas.specs.Arranged.{bare, bare_all}
 use Rattle.shm_attach.specs.Place.{IsPlaceFor}
 use Rattle.shm_attach.proofs.Processes.{values_of, pieces_at-stored, runners_set, length_set}
-use Rattle.shm_attach.specs.Tables.{one, shape_of, shaped}
-use Rattle.shm_attach.proofs.Shapes.{total-set, shaped-inserted}
+use Rattle.shm_areas.specs.declared.piece.Piece.{Piece}
+use Rattle.shm_areas.specs.Edit.{kept_inserted}
+use Rattle.shm_attach.proofs.Held.{stored_at-set, stored_at-value, stored_at-other}
 use Rattle.shm_attach.proofs.changes.insert_at.Goals as goal
 
 pub insert-requires-clause-free : goal.insert-requires-clause-free
@@ -32,11 +33,13 @@ pub returns-clause-count : goal.returns-clause-count
 returns-clause-count c =
     length_set c.args.processes.now.entries c.args.index (record { life = c.in-Some.runner.now.life; space = c.insert.new.self })
 
-pub returns-clause-shapes : goal.returns-clause-shapes
-returns-clause-shapes c = λ s.
+pub returns-clause-own : goal.returns-clause-own
+returns-clause-own c =
+    let es = c.args.processes.now.entries in
     let w = c.in-Some.runner.now in
-    let at : Some w ≡ slice_get (values_of c.args.processes.now.entries) c.args.index = rw c.in-Some.is at c.get_index_mut.ensures.value in
-    let all = total-set s c.args.processes.now.entries c.args.index w (record { life = w.life; space = c.insert.new.self }) at in
-    let more : shaped s c.insert.new.self ≡ shaped s w.space + one s (shape_of c.args.piece) =
-    ap (shaped s) c.insert.ensures.kept ∙ shaped-inserted s c.args.piece w.space in
-    omega (arith, all, more)
+    let at : Some w ≡ slice_get (values_of es) c.args.index = rw c.in-Some.is at c.get_index_mut.ensures.value in
+    stored_at-set es c.args.index w (record { life = w.life; space = c.insert.new.self }) at ∙ c.insert.ensures.kept ∙ ap (λ (ps : List Piece). kept_inserted c.args.piece ps) (sym (stored_at-value es c.args.index w at))
+
+pub returns-clause-others : goal.returns-clause-others
+returns-clause-others c = λ j other.
+    stored_at-other c.args.processes.now.entries c.args.index j (record { life = c.in-Some.runner.now.life; space = c.insert.new.self }) other

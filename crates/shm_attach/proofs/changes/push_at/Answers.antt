@@ -1,12 +1,11 @@
-use Rattle.std.proofs.Common.{◌≡◌, ◌+◌, ◌<◌, arith, ◌++◌, ◌∷◌, [], length, Some, slice_get, refl, List, ◌∙◌, ap}
+use Rattle.std.proofs.Common.{◌≡◌, ◌<◌, ◌++◌, ◌∷◌, [], length, Some, slice_get, refl, List, ◌∙◌, ap, sym}
 use Rattle.std.proofs.lemmas.List.{length-map, map-append}
 use Rattle.shm_base.specs.State as flat
 use Rattle.shm_base.specs.Space.{lowest_address}
 use Rattle.shm_areas.specs.declared.piece.Piece.{Piece}
 use Rattle.shm_areas.specs.Arranged.{bare, bare_all, Arranged}
 use Rattle.shm_attach.proofs.Processes.{values_of, pieces_at-stored, runners_set, length_set}
-use Rattle.shm_attach.specs.Tables.{one, shape_of, shaped}
-use Rattle.shm_attach.proofs.Shapes.{total-set, shaped-append, stored_at-other}
+use Rattle.shm_attach.proofs.Held.{stored_at-set, stored_at-value, stored_at-other}
 use Rattle.shm_attach.proofs.changes.push_at.Goals as goal
 
 pub push-requires-clause-room : goal.push-requires-clause-room
@@ -35,14 +34,12 @@ returns-clause-runners c =
 pub returns-clause-count : goal.returns-clause-count
 returns-clause-count c = length_set c.args.processes.now.entries c.args.index (record { life = c.in-Some.runner.now.life; space = c.push.new.self })
 
-pub returns-clause-shapes : goal.returns-clause-shapes
-returns-clause-shapes c = λ s.
+pub returns-clause-own : goal.returns-clause-own
+returns-clause-own c =
+    let es = c.args.processes.now.entries in
     let w = c.in-Some.runner.now in
-    let at : Some w ≡ slice_get (values_of c.args.processes.now.entries) c.args.index = rw c.in-Some.is at c.get_index_mut.ensures.value in
-    let all = total-set s c.args.processes.now.entries c.args.index w (record { life = w.life; space = c.push.new.self }) at in
-    let more : shaped s c.push.new.self ≡ shaped s w.space + (one s (shape_of c.args.piece) + 0) =
-    ap (shaped s) c.push.ensures ∙ shaped-append s w.space (c.args.piece ∷ []) in
-    omega (arith, all, more)
+    let at : Some w ≡ slice_get (values_of es) c.args.index = rw c.in-Some.is at c.get_index_mut.ensures.value in
+    stored_at-set es c.args.index w (record { life = w.life; space = c.push.new.self }) at ∙ c.push.ensures ∙ ap (λ (ps : List Piece). ps ++ c.args.piece ∷ []) (sym (stored_at-value es c.args.index w at))
 
 pub returns-clause-others : goal.returns-clause-others
 returns-clause-others c = λ j other.

@@ -1,9 +1,10 @@
-use Rattle.std.proofs.Common.{◌≡◌, ℕ, ◌+◌, ◌≤◌, ◌∷◌, ◌∙◌, ap, sym, get_or, drop, arith}
+use Rattle.std.proofs.Common.{◌≡◌, ℕ, ◌+◌, ◌<◌, ◌≤◌, ◌∷◌, ◌∙◌, ap, sym, subst, refl, eq-eqb, get_or, drop, arith}
 use Rattle.shm_base.specs.Space.{lowest_address, pieces_of, cut}
 use Rattle.shm_areas.specs.Arranged.{bare, bare_all}
 use Rattle.shm_areas.proofs.Placing.{nothing, fit_at}
 use Rattle.shm_attach.specs.Views.{one_if, some_if}
-use Rattle.shm_attach.proofs.Processes.{one_more, pieces_of-cut_cons, few_parts, drop-bare, some_if-le}
+use Rattle.shm_attach.proofs.Processes.{one_more, pieces_of-cut_cons, few_parts, drop-bare, some_if-le, was_counted}
+use Rattle.shm_attach.specs.Tables.{counted}
 use Rattle.shm_attach.proofs.changes.recount.Goals as goal
 
 pub parts_outside-requires-clause-fit : goal.parts_outside-requires-clause-fit
@@ -23,8 +24,17 @@ loop-piece-preserved c =
     let cuts : (id : ℕ) → pieces_of id (cut from to (bare_all (drop i met))) ≡ some_if id p.seg c.parts_outside.result + pieces_of id (cut from to rest) =
     λ id. ap (λ ps. pieces_of id (cut from to ps)) next ∙ pieces_of-cut_cons id from to p rest ∙ ap (λ n. some_if id p.seg n + pieces_of id (cut from to rest)) (sym c.parts_outside.ensures) in
     let kept = c.loop-piece.invariant in
+    let one : one_if p.seg p.seg ≡ 1 = rw (eq-eqb p.seg p.seg refl) refl in
+    let own_count : 0 < counted c.loop-piece.tables p.seg = omega (arith, kept.some p.seg, here p.seg, one) in
     record {
-      left = λ id. omega (arith, kept.left id, kept.some id, here id, cuts id, c.raise.ensures id, c.take.ensures id);
-      some = λ id. omega (arith, kept.some id, here id, c.raise.ensures id, c.take.ensures id);
-      small = λ id. omega (arith, kept.small id, some_if-le id p.seg c.parts_outside.result, came, c.raise.ensures id, c.take.ensures id);
+      left = λ id. omega (arith, kept.left id, kept.some id, here id, cuts id, c.replace.ensures.counts id);
+      some = λ id. omega (arith, kept.some id, here id, c.replace.ensures.counts id);
+      small = λ id. omega (arith, kept.small id, some_if-le id p.seg c.parts_outside.result, came, c.replace.ensures.counts id);
+      held = λ q own some.
+          let before : 0 < counted c.loop-piece.tables q.seg =
+          was_counted q.seg p.seg (counted c.loop-piece.tables q.seg) (counted c.replace.new.self q.seg) 1 c.parts_outside.result
+          (λ same. subst (λ id. 0 < counted c.loop-piece.tables id) same own_count) (c.replace.ensures.counts q.seg) some in
+          c.replace.ensures.held q (kept.held q own before) some;
+      translated = λ at all. c.replace.ensures.translated at (kept.translated at all);
+      tied = c.replace.ensures.tied;
     }

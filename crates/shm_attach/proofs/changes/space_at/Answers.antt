@@ -1,6 +1,6 @@
 use Rattle.std.proofs.Common.{sym}
 use Rattle.shm_attach.proofs.Processes.{pieces_at-entry}
-use Rattle.shm_attach.proofs.Shapes.{stored_at-entry}
+use Rattle.shm_attach.proofs.Held.{stored_at-entry}
 use Rattle.shm_attach.proofs.changes.space_at.Goals as goal
 
 pub returns-clause-flat : goal.returns-clause-flat

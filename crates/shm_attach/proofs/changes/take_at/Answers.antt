@@ -1,12 +1,11 @@
-use Rattle.std.proofs.Common.{◌≡◌, ◌+◌, ap, ◌≤◌, length, Some, slice_get, refl, arith, not}
+use Rattle.std.proofs.Common.{◌≡◌, ap, sym, ◌∙◌, List, ◌≤◌, length, Some, slice_get, refl, arith, not}
 use Rattle.std.proofs.lemmas.List.{length-map}
 use Rattle.shm_base.specs.Space.{without_named}
 use Rattle.shm_areas.specs.Arranged.{bare, bare_all}
 use Rattle.shm_areas.specs.declared.piece.Piece.{Piece}
 use Rattle.shm_areas.specs.Edit.{kept_named, kept_without}
 use Rattle.shm_attach.proofs.Processes.{values_of, pieces_at-stored, runners_set, length_set, shorter_filter}
-use Rattle.shm_attach.specs.Tables.{shaped, has}
-use Rattle.shm_attach.proofs.Shapes.{total-set, stored_at-value}
+use Rattle.shm_attach.proofs.Held.{stored_at-set, stored_at-value, stored_at-other}
 use Rattle.shm_attach.proofs.changes.take_at.Goals as goal
 
 pub overflow_sub-result : goal.overflow_sub-result
@@ -37,17 +36,13 @@ returns-clause-gone c =
     let new : length (without_named c.args.addr c.args.seg (bare_all own)) ≡ length c.take_at.new.self = rw (← c.take_at.ensures.flat) (length-map c.take_at.new.self bare) in
     rw (pieces_at-stored c.args.processes.now.entries c.args.index c.in-Some.runner.now at) (omega (arith, before, after, old, new, fewer))
 
-pub remove_named-requires : goal.remove_named-requires
-remove_named-requires c = λ s.
-    let at : Some c.in-Some.runner.now ≡ slice_get (values_of c.args.processes.now.entries) c.args.index = rw c.in-Some.is at c.get_index_mut.ensures.value in
-    rw (c.pieces.ensures.value, ← stored_at-value c.args.processes.now.entries c.args.index c.in-Some.runner.now at) (c.requires.tied s)
-
-pub returns-clause-tied : goal.returns-clause-tied
-returns-clause-tied c = λ s.
+pub returns-clause-own : goal.returns-clause-own
+returns-clause-own c =
+    let es = c.args.processes.now.entries in
     let w = c.in-Some.runner.now in
-    let at : Some w ≡ slice_get (values_of c.args.processes.now.entries) c.args.index = rw c.in-Some.is at c.get_index_mut.ensures.value in
-    let all = total-set s c.args.processes.now.entries c.args.index w (record { life = w.life; space = c.take_at.new.self }) at in
-    let left : shaped s c.take_at.new.self ≡ shaped s (kept_without c.args.addr c.args.seg w.space) = ap (shaped s) c.take_at.ensures.kept in
-    let gone : has c.remove_named.new.tables.slab s + shaped s w.space ≡ has c.args.tables.now.slab s + shaped s (kept_without c.args.addr c.args.seg w.space) =
-    rw c.pieces.ensures.value at (c.remove_named.ensures.tied s) in
-    omega (arith, all, left, gone)
+    let at : Some w ≡ slice_get (values_of es) c.args.index = rw c.in-Some.is at c.get_index_mut.ensures.value in
+    stored_at-set es c.args.index w (record { life = w.life; space = c.take_at.new.self }) at ∙ c.take_at.ensures.kept ∙ ap (λ (ps : List Piece). kept_without c.args.addr c.args.seg ps) (sym (stored_at-value es c.args.index w at))
+
+pub returns-clause-others : goal.returns-clause-others
+returns-clause-others c = λ j other.
+    stored_at-other c.args.processes.now.entries c.args.index j (record { life = c.in-Some.runner.now.life; space = c.take_at.new.self }) other

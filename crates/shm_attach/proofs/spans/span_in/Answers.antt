@@ -1,12 +1,12 @@
-use Rattle.std.proofs.Common.{◌≡◌, ℕ, ◌+◌, ◌-◌, ◌*◌, ◌/◌, ◌<◌, ◌≤◌, ◌∙◌, true, nat_lt, get_or, ap, sym, arith}
-use Rattle.std.proofs.lemmas.Bool.{true≢false, lt-ltb, ltb-true}
+use Rattle.std.proofs.Common.{◌≡◌, ℕ, ◌+◌, ◌-◌, ◌*◌, ◌/◌, ◌<◌, ◌∙◌, true, get_or, sym, arith}
+use Rattle.std.proofs.lemmas.Bool.{true≢false}
 use Rattle.shm_base.specs.State.{Piece}
 use Rattle.shm_areas.specs.Arranged.{bare, bare_all, IsCovering}
 use Rattle.shm_attach.proofs.Accesses.{wanted_in-run, wanted_in-none, wanted_in-readonly, covering-passes, in_page, from_not, from_not_false}
-use Rattle.shm_areas.specs.declared.piece.Piece.{Piece as Stored}
-use Rattle.shm_attach.specs.Tables.{shape_of, shaped, has}
-use Rattle.shm_attach.proofs.Ties.{frame-true}
-use Rattle.shm_attach.proofs.Shapes.{shaped-there}
+use Rattle.slab.specs.Slab.{get}
+use Rattle.shm_attach.specs.Entries.{size_in}
+use Rattle.shm_attach.specs.Tables.{IsHeld}
+use Rattle.shm_attach.proofs.Held.{is_held, held-passes, held-passed, frame-true}
 use Rattle.shm_attach.proofs.spans.span_in.Goals as goal
 use Rattle.shm_attach.proofs.spans.span_in.Goals.{else-write-via-then-write+else-not-piece, else-write-via-else-write}
 
@@ -49,11 +49,8 @@ returns-clause-frames c = λ at all.
     let p = c.in_ok-piece.piece in
     let t = c.args.tables.now.slab in
     let ps = c.args.space.now in
-    let past = c.args.addr - p.base in
     let within : IsCovering c.args.addr p = c.in_ok-piece.ensures.within in
-    let listed : nat_lt 0 (shaped (shape_of p) ps) ≡ true =
-    c.in_ok-piece.ensures.among (λ (q : Stored). nat_lt 0 (shaped (shape_of q) ps)) (λ k d lt. lt-ltb 0 (shaped (shape_of (get_or ps k d)) ps) (shaped-there ps k d lt)) in
-    let some : 1 ≤ has t (shape_of p) = omega (arith, ltb-true 0 (shaped (shape_of p) ps) listed, c.requires.tied (shape_of p)) in
-    let few : past / 4096 < p.pages = omega (arith, within.from, within.to) in
-    let page : (4096 * p.first_page + past) / 4096 ≡ p.first_page + past / 4096 = omega arith in
-    c.frame.ensures ∙ frame-true at t (shape_of p) (past / 4096) some all few ∙ ap (at p.seg) (sym page)
+    let own : IsHeld t p = held-passed t p (c.in_ok-piece.ensures.among (is_held t) (λ k d lt. held-passes t (get_or ps k d) (c.requires.held k d lt))) in
+    let page = (4096 * p.first_page + (c.args.addr - p.base)) / 4096 in
+    let inside : page < size_in (get t p.key) = omega (arith, within.from, within.to, own.pages) in
+    c.frame.ensures ∙ frame-true at (get t p.key) p.seg page own.seg (all p.key) inside

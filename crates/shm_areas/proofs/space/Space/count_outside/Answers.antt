@@ -12,6 +12,6 @@ returns c =
     let from = c.args.from in
     let to = c.args.to in
     let ps = c.args.self.now in
-    let leaves : left_by ps c.cut_of.result ≡ kept_cut from to 0 ps = rw same at c.cut_of.ensures.leaves in
+    let leaves : left_by ps c.cut_of.result ≡ kept_cut from to ps = rw same at c.cut_of.ensures.leaves in
     let counted : c.count_left.result ≡ length (left_by ps c.cut_of.result) = rw own at c.count_left.ensures in
-    counted ∙ ap length leaves ∙ sym (length-map (kept_cut from to 0 ps) bare) ∙ ap length (bare_cut from to 0 ps)
+    counted ∙ ap length leaves ∙ sym (length-map (kept_cut from to ps) bare) ∙ ap length (bare_cut from to ps)

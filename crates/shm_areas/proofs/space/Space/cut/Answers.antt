@@ -7,26 +7,26 @@ use Rattle.shm_areas.specs.Edit.{kept_cut, left_by}
 use Rattle.shm_areas.proofs.Edits.{bare_cut, arranged_cut}
 use Rattle.shm_areas.proofs.space.Space.cut.Goals as goal
 
-few : (from to fresh : _) (ps : List Piece) → length (cut from to (bare_all ps)) ≤ 256 → length (kept_cut from to fresh ps) ≤ 256
-few from to fresh ps h = rw (← length-map (kept_cut from to fresh ps) bare, bare_cut from to fresh ps) h
+few : (from to : _) (ps : List Piece) → length (cut from to (bare_all ps)) ≤ 256 → length (kept_cut from to ps) ≤ 256
+few from to ps h = rw (← length-map (kept_cut from to ps) bare, bare_cut from to ps) h
 
 pub replace-requires-clause-room : goal.replace-requires-clause-room
 replace-requires-clause-room c =
     let own : c.self.inside.pieces.items ≡ c.args.self.now = c.self.view_is in
     let same : c.deref.result.now ≡ c.args.self.now = cc in
-    let left : left_by c.self.inside.pieces.items c.cut_of-cut.result ≡ kept_cut c.args.from c.args.to c.args.fresh c.args.self.now = rw (own, ← same) c.cut_of-cut.ensures.leaves in
-    let short = few c.args.from c.args.to c.args.fresh c.args.self.now c.requires.few in
+    let left : left_by c.self.inside.pieces.items c.cut_of-cut.result ≡ kept_cut c.args.from c.args.to c.args.self.now = rw (own, ← same) c.cut_of-cut.ensures.leaves in
+    let short = few c.args.from c.args.to c.args.self.now c.requires.few in
     rw left (omega (arith, short, c.self.invariant.2))
 
 pub returns-clause-kept : goal.returns-clause-kept
 returns-clause-kept c =
     let own : c.self.inside.pieces.items ≡ c.args.self.now = c.self.view_is in
     let same : c.deref.result.now ≡ c.args.self.now = cc in
-    let left : left_by c.self.inside.pieces.items c.cut_of-cut.result ≡ kept_cut c.args.from c.args.to c.args.fresh c.args.self.now = rw (own, ← same) c.cut_of-cut.ensures.leaves in
+    let left : left_by c.self.inside.pieces.items c.cut_of-cut.result ≡ kept_cut c.args.from c.args.to c.args.self.now = rw (own, ← same) c.cut_of-cut.ensures.leaves in
     c.replace.ensures.items ∙ left
 
 pub returns-clause-flat : goal.returns-clause-flat
-returns-clause-flat c = rw (returns-clause-kept c) (bare_cut c.args.from c.args.to c.args.fresh c.args.self.now)
+returns-clause-flat c = rw (returns-clause-kept c) (bare_cut c.args.from c.args.to c.args.self.now)
 
 pub invariant_of-self : goal.invariant_of-self
 invariant_of-self c =
@@ -34,6 +34,6 @@ invariant_of-self c =
     let order : c.args.from ≤ c.args.to = omega (arith, c.requires.order) in
     let after = arranged_cut lowest_address c.args.from c.args.to (bare_all c.args.self.now) before c.requires.from c.requires.to order in (
       rw (returns-clause-flat c) after,
-      rw (returns-clause-kept c) (few c.args.from c.args.to c.args.fresh c.args.self.now c.requires.few),
+      rw (returns-clause-kept c) (few c.args.from c.args.to c.args.self.now c.requires.few),
       omega (arith, c.replace.ensures.capacity, c.self.invariant.2),
     )

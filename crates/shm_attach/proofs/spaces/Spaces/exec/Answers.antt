@@ -7,10 +7,10 @@ use Rattle.shm_attach.specs.Views.{runner_view, runners_view, with_pieces_at}
 use Rattle.shm_attach.specs.Spaces.{SpacesView, pieces_at, seen, IsCaller}
 use Rattle.shm_attach.proofs.Callers.{caller_within, with_pieces-at}
 use Rattle.shm_attach.proofs.Keeping.{small_counts, own_counted, IsExact-changed, cut-all, cut_segments-all}
-use Rattle.shm_areas.specs.Arranged.{bare_all, Arranged}
+use Rattle.std.specs.Prelude.{All}
 use Rattle.shm_attach.specs.Exact.{IsExact}
-use Rattle.shm_attach.specs.Tables.{stored_at}
-use Rattle.shm_attach.proofs.Shapes.{tied-own, pieces_at-bare, upper-none}
+use Rattle.shm_attach.specs.Tables.{stored_at, IsHeld, AllHeld}
+use Rattle.shm_attach.proofs.Held.{held-cut, held-changed, held-all}
 use Rattle.shm_attach.proofs.Translations.{keeps}
 use Rattle.shm_attach.proofs.spaces.Spaces.exec.Goals as goal
 
@@ -28,14 +28,11 @@ pub take_range-requires-clause-counted : goal.take_range-requires-clause-counted
 take_range-requires-clause-counted c = λ id.
     let rs = runners_view c.self.inside.processes.entries in
     let within = caller_within c.args.caller.now c.self.inside.processes.entries (rw (← c.self.view_is) at c.requires) in
-    own_counted rs c.self.inside.counts c.args.caller.now.index c.self.invariant.0 (omega (arith, within, length-map c.self.inside.processes.entries runner_view)) id
+    own_counted rs c.self.inside.tables c.args.caller.now.index c.self.invariant.0 (omega (arith, within, length-map c.self.inside.processes.entries runner_view)) id
 
 pub take_range-requires-clause-small : goal.take_range-requires-clause-small
 take_range-requires-clause-small c = λ id.
-    omega (arith, small_counts (runners_view c.self.inside.processes.entries) c.self.inside.counts c.self.invariant.0 id)
-
-pub take_range-requires-clause-tied : goal.take_range-requires-clause-tied
-take_range-requires-clause-tied c = tied-own c.self.inside.processes.entries c.self.inside.tables.slab c.args.caller.now.index c.self.invariant.1
+    omega (arith, small_counts (runners_view c.self.inside.processes.entries) c.self.inside.tables c.self.invariant.0 id)
 
 pub invariant_of-self : goal.invariant_of-self
 invariant_of-self c =
@@ -44,13 +41,16 @@ invariant_of-self c =
     let ps = pieces_at rs i in
     let within = caller_within c.args.caller.now c.self.inside.processes.entries (rw (← c.self.view_is) at c.requires) in
     let none : cut lowest_address last_address ps ≡ [] = cut-all lowest_address ps (omega arith) (c.self.invariant.0.arranged i) in
-    let exact : IsExact (runners_view c.take_range.new.processes.entries) c.take_range.new.counts =
+    let exact : IsExact (runners_view c.take_range.new.processes.entries) c.take_range.new.tables =
     rw c.take_range.ensures.runners
-    (IsExact-changed rs i (cut lowest_address last_address) c.self.inside.counts c.take_range.new.counts c.self.invariant.0
+    (IsExact-changed rs i (cut lowest_address last_address) c.self.inside.tables c.take_range.new.tables c.self.invariant.0
     (omega (arith, within, length-map c.self.inside.processes.entries runner_view)) (omega (arith, ap length none)) (rw none tt) (λ _. none) c.take_range.ensures.counts) in
     let es = c.self.inside.processes.entries in
-    let order : Arranged lowest_address (bare_all (stored_at es i)) = rw (← pieces_at-bare es i) (c.self.invariant.0.arranged i) in
-    (exact, λ s. omega (arith, c.take_range.ensures.tied s, c.self.invariant.1 s, upper-none s lowest_address last_address 0 lowest_address (stored_at es i) order (omega arith)))
+    let fs = c.take_range.new.processes.entries in
+    let t = c.self.inside.tables.slab in
+    let own : All (IsHeld t) (stored_at fs i) = rw c.take_range.ensures.own (held-cut t lowest_address last_address (stored_at es i) (c.self.invariant.2 i)) in
+    let left : AllHeld fs t = held-changed es fs t i c.self.invariant.2 own c.take_range.ensures.others in
+    (exact, c.take_range.ensures.tied, held-all fs t c.take_range.new.tables exact left c.take_range.ensures.held)
 
 pub returns-clause-lost : goal.returns-clause-lost
 returns-clause-lost c =

@@ -2,8 +2,8 @@ use Rattle.std.proofs.Common.{List, ap, sym, subst}
 use Rattle.shm_fault.specs.Store.{frame_of}
 use Rattle.shm_fault.specs.Steps.{moved}
 use Rattle.shm_attach.specs.Spaces.{SpacesView, Translation, AreTrue}
-use Rattle.shm_attach.specs.Tables.{translations_of}
-use Rattle.shm_attach.proofs.Ties.{true-same}
+use Rattle.shm_attach.specs.Entries.{translations_of}
+use Rattle.shm_attach.proofs.Residency.{true-same}
 use Rattle.shm_attach.proofs.Translations.{all-true, true-all}
 use Rattle.shm_attach.proofs.spaces.Spaces.note.Goals as goal
 

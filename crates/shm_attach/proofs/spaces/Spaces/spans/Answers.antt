@@ -12,8 +12,7 @@ use Rattle.shm_attach.proofs.Accesses.{wanted_in-none}
 use Rattle.shm_attach.proofs.Callers.{caller_within}
 use Rattle.std.proofs.lemmas.Result.{IfOk-weaker}
 use Rattle.shm_fault.specs.Store.{StoreView, frame_of}
-use Rattle.shm_attach.specs.Tables.{AllTrue, translations_of}
-use Rattle.shm_attach.proofs.Shapes.{tied-own}
+use Rattle.shm_attach.specs.Entries.{AllTrue, translations_of}
 use Rattle.shm_attach.proofs.Translations.{all-true}
 use Rattle.shm_attach.proofs.spaces.Spaces.spans.Goals as goal
 
@@ -25,9 +24,8 @@ returns-in_default-clause-none c =
 pub space_at-space-requires : goal.space_at-space-requires
 space_at-space-requires c = caller_within c.in-Some.caller c.self.inside.processes.entries (rw (← c.self.view_is) at c.in-Some.ensures.live)
 
-pub spans_in-requires-clause-tied : goal.spans_in-requires-clause-tied
-spans_in-requires-clause-tied c = λ s.
-    rw c.space_at-space.ensures.stored (tied-own c.self.inside.processes.entries c.self.inside.tables.slab c.in-Some.caller.index c.self.invariant.1 s)
+pub spans_in-requires-clause-held : goal.spans_in-requires-clause-held
+spans_in-requires-clause-held c = rw c.space_at-space.ensures.stored (c.self.invariant.2 c.in-Some.caller.index)
 
 pub returns : goal.returns
 returns c =

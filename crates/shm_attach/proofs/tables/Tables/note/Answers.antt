@@ -3,8 +3,8 @@ use Rattle.std.proofs.lemmas.List.{take_all}
 use Rattle.shm_fault.specs.Steps.{moved}
 use Rattle.shm_fault.specs.declared.touched.Move.{Move}
 use Rattle.shm_fault.specs.declared.touched.Move.TheVariants.{Gone}
-use Rattle.shm_attach.specs.Tables.{AllTrue}
-use Rattle.shm_attach.proofs.Ties.{moved-more, true-same}
+use Rattle.shm_attach.specs.Entries.{AllTrue}
+use Rattle.shm_attach.proofs.Residency.{moved-more, true-same}
 use Rattle.shm_attach.proofs.tables.Tables.note.Goals as goal
 
 abbrev nothing : Move
@@ -16,11 +16,13 @@ loop-entry-preserved c =
     let i = c.loop-entry.entry-index in
     let kept = c.loop-entry.invariant in
     record {
-      same = λ s. c.note_one.ensures.same s ∙ kept.same s;
+      counts = λ id. c.note_one.ensures.counts id ∙ kept.counts id;
+      held = λ p own. c.note_one.ensures.held p (kept.held p own);
       translated = λ at all.
           true-same (λ seg page. moved (get_or ms i nothing ∷ []) seg page (moved (take i ms) seg page (at seg page))) (λ seg page. moved (take (i + 1) ms) seg page (at seg page)) c.note_one.new.self.slab
           (λ seg page. sym (moved-more ms i nothing seg page (at seg page) c.loop-entry-test.true))
           (c.note_one.ensures.translated (λ seg page. moved (take i ms) seg page (at seg page)) (kept.translated at all));
+      tied = c.note_one.ensures.tied;
     }
 
 pub returns-clause-translated : goal.returns-clause-translated

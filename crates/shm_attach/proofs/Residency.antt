@@ -1,0 +1,40 @@
+-- Entries that are true of one residency, and of another.
+use Rattle.std.proofs.Common.{◌≡◌, ◌≢◌, ◌⊎◌, inl, inr, ℕ, zero, suc, ◌+◌, ◌<◌, if◌then◌else◌, List, [], ◌∷◌, length, get_or, take, Option, Some, None, sym, subst, ◌∙◌, refl, arith}
+use Rattle.std.proofs.lemmas.Bool.{cases_eq}
+use Rattle.slab.specs.Slab.{Slab, get, Updates}
+use Rattle.shm_fault.specs.declared.touched.Move.{Move}
+use Rattle.shm_fault.specs.declared.touched.Move.TheVariants.{Gone, Came}
+use Rattle.shm_fault.specs.Steps.{is_page, moved}
+use Rattle.shm_attach.specs.Entries.{Entry, TrueSlot, AllTrue}
+
+pub true-update : (at : ℕ → ℕ → Option ℕ) (t u : Slab Entry) (key : ℕ) (o : Option Entry) → Updates t u key o → TrueSlot at o → AllTrue at t → AllTrue at u
+true-update at t u key o up new all = λ k. by k (cases_eq k key)
+  where
+    by : (k : ℕ) → (k ≡ key) ⊎ (k ≢ key) → TrueSlot at (get u k)
+    by k (inl same) = rw (same, up.changed) new
+    by k (inr other) = rw (up.others k other) (all k)
+
+pub true-slots : (at : ℕ → ℕ → Option ℕ) (t u : Slab Entry) → u.slots ≡ t.slots → AllTrue at t → AllTrue at u
+true-slots at t u same all k = subst (λ (os : List (Option Entry)). TrueSlot at (get_or os k None)) (sym same) (all k)
+
+-- THE MOVES, ONE AFTER ANOTHER
+
+moved-step : (ms : List Move) (i : ℕ) (d : Move) (seg page : ℕ) (f : Option ℕ) → i < length ms
+    → moved (take (suc i) ms) seg page f ≡ moved (get_or ms i d ∷ []) seg page (moved (take i ms) seg page f)
+moved-step [] i d seg page f lt = absurd (omega arith)
+moved-step (Gone r ∷ ms) zero d seg page f lt = refl
+moved-step (Came r k ∷ ms) zero d seg page f lt = refl
+moved-step (Gone r ∷ ms) (suc i) d seg page f lt = moved-step ms i d seg page (if is_page r seg page then None else f) (omega (arith, lt))
+moved-step (Came r k ∷ ms) (suc i) d seg page f lt = moved-step ms i d seg page (if is_page r seg page then Some k else f) (omega (arith, lt))
+
+pub moved-more : (ms : List Move) (i : ℕ) (d : Move) (seg page : ℕ) (f : Option ℕ) → i < length ms
+    → moved (take (i + 1) ms) seg page f ≡ moved (get_or ms i d ∷ []) seg page (moved (take i ms) seg page f)
+moved-more ms i d seg page f lt = let next : i + 1 ≡ suc i = omega arith in rw next (moved-step ms i d seg page f lt)
+
+-- what holds of one residency holds of another that is the same
+pub true-same : (at by : ℕ → ℕ → Option ℕ) (t : Slab Entry) → ((seg page : ℕ) → at seg page ≡ by seg page) → AllTrue at t → AllTrue by t
+true-same at by t same all = λ k. over (get t k) (all k)
+  where
+    over : (o : Option Entry) → TrueSlot at o → TrueSlot by o
+    over None tr = tt
+    over (Some e) tr = λ j lt. tr j lt ∙ same e.seg j

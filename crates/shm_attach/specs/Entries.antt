@@ -1,0 +1,55 @@
+-- The frames of the pages of a segment, and when they are true.
+use Rattle.std.specs.Prelude.{◌≡◌, ℕ, ◌+◌, ◌<◌, if◌then◌else◌, List, [], ◌∷◌, length, get_or, Option, Some, None, ⊤}
+use Rattle.std.specs.List.{flat_map}
+use Rattle.slab.specs.Slab.{Slab, get}
+use Rattle.shm_base.specs.declared.paging.PageRef.{PageRef}
+use Rattle.shm_fault.specs.Steps.{is_page}
+use Rattle.shm_attach.specs.Spaces.{Translation}
+
+-- the frames of the first pages of a segment
+pub record Entry : Type 0 where
+  pub seg : ℕ
+  pub frames : List (Option ℕ)
+
+abbrev pub translations_from : ℕ → ℕ → List (Option ℕ) → List Translation
+translations_from seg page [] = []
+translations_from seg page (f ∷ fs) = record { seg = seg; page = page; frame = f } ∷ translations_from seg (page + 1) fs
+
+abbrev pub translations_in : Option Entry → List Translation
+translations_in None = []
+translations_in (Some e) = translations_from e.seg 0 e.frames
+
+-- the translations of all attached segments
+abbrev pub translations_of : Slab Entry → List Translation
+translations_of t = flat_map translations_in t.slots
+
+abbrev pub frame_in : Option Entry → ℕ → Option ℕ
+frame_in None j = None
+frame_in (Some e) j = get_or e.frames j None
+
+-- the segment of a table that is there
+abbrev pub seg_in : Option Entry → Option ℕ
+seg_in None = None
+seg_in (Some e) = Some e.seg
+
+-- how many pages a table has
+abbrev pub size_in : Option Entry → ℕ
+size_in None = 0
+size_in (Some e) = length e.frames
+
+-- THE RESIDENCY, AS A FUNCTION OF SEGMENT AND PAGE
+
+-- each frame is that of its page
+abbrev pub TrueEntry : (ℕ → ℕ → Option ℕ) → Entry → Type 0
+TrueEntry at e = (j : ℕ) → j < length e.frames → get_or e.frames j None ≡ at e.seg j
+
+abbrev pub TrueSlot : (ℕ → ℕ → Option ℕ) → Option Entry → Type 0
+TrueSlot at None = ⊤
+TrueSlot at (Some e) = TrueEntry at e
+
+abbrev pub AllTrue : (ℕ → ℕ → Option ℕ) → Slab Entry → Type 0
+AllTrue at t = (key : ℕ) → TrueSlot at (get t key)
+
+-- a residency with another frame for one page
+abbrev pub with_frame : PageRef → Option ℕ → (ℕ → ℕ → Option ℕ) → ℕ → ℕ → Option ℕ
+with_frame r f at seg page = if is_page r seg page then f else at seg page

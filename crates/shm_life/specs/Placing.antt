@@ -1,0 +1,62 @@
+-- Where shmat puts a new piece: its refusals in their order, and what the flat machine does then.
+use Rattle.std.specs.Prelude.{ℕ, ℤ, ◌+◌, ◌*◌, ◌==◌, nat_lt, not, if◌then◌else◌, List, length, Option, Some, None, Result, Ok, Err}
+use Rattle.shm_base.specs.declared.errno.Errno.{Errno}
+use Rattle.shm_base.specs.declared.errno.Errno.TheVariants.{Einval, Eidrm, Eacces, Enomem, Emfile}
+use Rattle.shm_base.specs.declared.flags.AtFlags.{AtFlags}
+use Rattle.shm_base.specs.declared.call.Reply.TheVariants.{Addr}
+use Rattle.shm_base.specs.State.{Piece, Machine, pages_in}
+use Rattle.shm_base.specs.Identifier.{Look, Invalid, Removed, Found, look, identifier, destroyed_at}
+use Rattle.shm_base.specs.Permission.{grants}
+use Rattle.shm_base.specs.Segments.{change, attached, detach_all, swept}
+use Rattle.shm_base.specs.Space.{choose, inserted, cut, cut_segments}
+use Rattle.shm_base.specs.Step.{Caller, Outcome, gives, refuses, with_pieces, is_rdonly, at_wish}
+use Rattle.shm_areas.specs.Fixed.{fixed}
+use Rattle.shm_attach.specs.Place.{new_piece}
+use Rattle.shm_life.specs.Address.{misplaced}
+use Rattle.shm_life.specs.declared.attach.Placed.{Placed}
+
+abbrev pub chosen : Option ℕ → Result ℕ Errno
+chosen None = Err Enomem
+chosen (Some base) = Ok base
+
+-- no process has more than 256 pieces
+abbrev pub if_few : List Piece → ℕ → Result ℕ Errno → Result ℕ Errno
+if_few ps pages (Err e) = Err e
+if_few ps pages (Ok base) = if nat_lt 256 (length (cut base (base + 4096 * pages) ps) + 1) then Err Emfile else Ok base
+
+-- where so many pages go: where the system chooses, or at the address, rounded down
+abbrev pub base_for : List Piece → ℕ → AtFlags → ℕ → Result ℕ Errno
+base_for ps pages flags addr = if_few ps pages (if addr == 0 then chosen (choose ps pages) else fixed ps addr pages flags)
+
+abbrev pub placed_at : ℕ → ℕ → Result ℕ Errno → Result Placed Errno
+placed_at seg pages (Err e) = Err e
+placed_at seg pages (Ok base) = Ok (record { seg = seg; pages = pages; base = base })
+
+abbrev pub placed_found : Machine → Caller → AtFlags → ℕ → Look → Result Placed Errno
+placed_found s c flags addr Invalid = Err Einval
+placed_found s c flags addr Removed = Err Eidrm
+placed_found s c flags addr (Found i x) =
+    if not (grants c.cred x.perm (at_wish flags)) then Err Eacces else
+    placed_at (identifier i (destroyed_at s.table i)) (pages_in x) (base_for c.pieces (pages_in x) flags addr)
+
+abbrev pub placed : Machine → Caller → ℤ → ℕ → AtFlags → Result Placed Errno
+placed s c id addr flags = if misplaced addr flags then Err Einval else placed_found s c flags addr (look s.table id)
+
+-- the new piece
+abbrev pub piece_for : AtFlags → Placed → Piece
+piece_for flags p = new_piece p.seg p.base p.pages (not (is_rdonly flags))
+
+-- the caller's pieces with it
+abbrev pub pieces_after : List Piece → AtFlags → Placed → List Piece
+pieces_after ps flags p = inserted (piece_for flags p) (cut p.base (p.base + 4096 * p.pages) ps)
+
+-- the segments that lose pages to it
+abbrev pub lost_to : List Piece → Placed → List ℕ
+lost_to ps p = cut_segments p.base (p.base + 4096 * p.pages) ps
+
+-- what the flat machine does with the place, or the refusal
+abbrev pub placed_outcome : Machine → ℕ → Caller → AtFlags → Result Placed Errno → Outcome
+placed_outcome s n c flags (Err e) = refuses s e
+placed_outcome s n c flags (Ok p) =
+    let rs = with_pieces s.runners c (pieces_after c.pieces flags p) in
+    gives (record s { table = swept rs (change (detach_all n c.pid s.table (lost_to c.pieces p)) p.seg (attached n c.pid)); runners = rs }) (Addr p.base)
