@@ -87,7 +87,7 @@ typedef struct nog_limits {
 /* A swap area: its kind and how many pages it takes, 1 to 65536. */
 enum nog_kind {
     NOG_RAM = 1,     /* a page of memory for each slot, taken when the machine is opened */
-    NOG_SPARSE = 2,  /* memory for those slots only that hold other bytes than zeros */
+    NOG_SPARSE = 2,  /* memory for those slots only that hold other bytes than zeros; a write fails where there is none */
     NOG_MIRROR = 3   /* two sides of NOG_RAM, kept alike: a page is read from the left one, or else from the right */
 };
 typedef struct nog_area {
