@@ -7,12 +7,14 @@
 
    ANSWERS. Each function but nog_version answers 0 or a code. Outputs are written where the answer is 0, and else they
    are left as they were (but for `done` of nog_read and nog_write). A call that is answered by an error of errno(3), or
-   by one of the two signals, changed nothing but the count of calls, nor is anything changed at a code from 2001 on.
+   by one of the two signals, changed nothing but the count of calls and which pages are in frames. At a code from 2001
+   on nothing is changed at all.
 
    Each function that takes a machine answers NOG_CLOSED for a closed one (but nog_open, which opens it). Each call of a
    process, nog_get to nog_swapoff, answers NOG_SPENT where 2^64 - 1 calls were answered, and else NOG_ESRCH where no
    live process has this pid: it is unborn, has ended, or was not declared when the machine was opened. Below, each
-   function names the codes that come beside these three; of those of errno(3), the first that holds, in their order.
+   function names the codes that come beside these three: first NOG_OUT_OF_RANGE, which comes before any other code, then
+   those of errno(3), of which the first that holds comes, last NOG_NO_MEMORY, which comes in place of 0.
 
    POINTERS are never null, also where a count or a length beside them is 0, and point to as much as the types and counts
    say. No two of a call overlap. Nothing that is handed in is kept: arrays, buffers and outputs are the caller's.
@@ -174,11 +176,11 @@ enum nog_key { NOG_PRIVATE = 0 };
 
 /* Opens a machine: with 1 to 8 swap areas, numbered from 0 in their order, the calls of them that fail, and up to 64
    processes, children included. A handle that is open is opened anew: its machine before is closed where the new one
-   stands, and stays where it does not.
-   NOG_OUT_OF_RANGE: a kind is none; a failure's area or side is not there, or its call is 0.
+   stands, and stays where it does not. The first of these that holds is answered:
    NOG_BAD_SHMMAX to NOG_BAD_MEMLOCK: the first limit that is out of its range.
-   NOG_BAD_AREAS, NOG_BAD_AREA_SIZE, NOG_BAD_PROCESSES, NOG_BAD_PID: the first of these that holds.
-   NOG_NO_MEMORY: the heap gave no memory. */
+   NOG_OUT_OF_RANGE: a kind is none; a failure's area or side is not there, or its call is 0.
+   NOG_BAD_AREAS, NOG_BAD_AREA_SIZE, NOG_BAD_PROCESSES, NOG_BAD_PID: the first of these.
+   NOG_NO_MEMORY: the heap gave none; it may come in place of 0 and of the last four. */
 uint32_t nog_open(nog_machine *machine, const nog_limits *limits, const nog_area *areas, size_t area_count,
                   const nog_failure *failures, size_t failure_count, const nog_process *processes, size_t process_count);
 
@@ -190,22 +192,22 @@ uint32_t nog_close(nog_machine *machine);
 /* shmget(2): the segment with this key, or a new one. A new one has the caller's user and group, the nine low bits of
    `mode`, and zeros for bytes. A key of NOG_PRIVATE always makes one, whatever the flags; else one is made where no
    segment has the key and NOG_CREAT is set.
+   NOG_OUT_OF_RANGE: the mode or the flags have more than 16 bits.
    Where a segment has the key: NOG_EEXIST, both flags are set; NOG_EINVAL, it has fewer bytes than `size`; NOG_EACCES, it
    may not be read, or written, as any read, or write, bit of `mode` asks.
    Where none has it: NOG_ENOENT, NOG_CREAT is not set; NOG_EINVAL, the size is 0 or above SHMMAX; NOG_ENOSPC, SHMALL or
    SHMMNI would be passed, or no index is free; NOG_ENOMEM, the swap areas have not as many slots as all segments would
-   have pages.
-   NOG_OUT_OF_RANGE: the mode or the flags have more than 16 bits. NOG_NO_MEMORY: the heap gave none. */
+   have pages. NOG_NO_MEMORY: the heap gave none. */
 uint32_t nog_get(nog_machine *machine, uint32_t pid, uint32_t key, uint64_t size, uint32_t mode, uint32_t flags, int32_t *id);
 
 /* shmat(2): attaches a segment, at the least free range from 0x40000000 on where `addr` is 0, else at `addr`; its
    address is put into `at`. NOG_RND rounds `addr` down to a page, NOG_RDONLY attaches for reading alone, NOG_REMAP puts
    the new piece in the place of what its range holds.
+   NOG_OUT_OF_RANGE: the flags have more than 16 bits.
    NOG_EINVAL: the address is 0 with NOG_REMAP, or is no multiple of 4096 without NOG_RND; no segment had the identifier.
    NOG_EIDRM: its segment is destroyed. NOG_EACCES: reading, or without NOG_RDONLY writing, is not permitted.
    NOG_EINVAL: the range is not within 0x10000 to 0x7ffffffff000, or holds a piece and NOG_REMAP is not set. NOG_ENOMEM: no
-   range is left. NOG_EMFILE: the process would have more than 256 pieces.
-   NOG_OUT_OF_RANGE: the flags have more than 16 bits. NOG_NO_MEMORY: the heap gave none. */
+   range is left. NOG_EMFILE: the process would have more than 256 pieces. NOG_NO_MEMORY: the heap gave none. */
 uint32_t nog_attach(nog_machine *machine, uint32_t pid, int32_t id, uint64_t addr, uint32_t flags, uint64_t *at);
 
 /* shmdt(2): detaches the segment that was attached at `addr`. The last detach of a marked segment destroys it.
@@ -217,8 +219,8 @@ uint32_t nog_detach(nog_machine *machine, uint32_t pid, uint64_t addr);
 uint32_t nog_stat(nog_machine *machine, uint32_t pid, int32_t id, nog_segment *segment);
 
 /* shmctl(2), IPC_SET: another owner, and the nine low bits of `mode`; sets the time of change.
-   NOG_EINVAL, NOG_EIDRM: as nog_stat. NOG_EPERM: the caller is not owner, creator or user 0.
-   NOG_OUT_OF_RANGE: the mode has more than 16 bits. */
+   NOG_OUT_OF_RANGE: the mode has more than 16 bits. NOG_EINVAL, NOG_EIDRM: as nog_stat. NOG_EPERM: the caller is not owner,
+   creator or user 0. */
 uint32_t nog_set(nog_machine *machine, uint32_t pid, int32_t id, uint32_t uid, uint32_t gid, uint32_t mode);
 
 /* shmctl(2), IPC_RMID: destroys a segment that has no piece; else marks it: its key is 0 then, and it goes with its last
@@ -233,12 +235,12 @@ uint32_t nog_lock(nog_machine *machine, uint32_t pid, int32_t id);
 uint32_t nog_unlock(nog_machine *machine, uint32_t pid, int32_t id);
 
 /* Reads 1 to 64 bytes from `addr` on, in one step.
-   NOG_SIGSEGV: a byte of them is not attached. NOG_SIGBUS: a swap area failed; no byte of any segment was changed.
-   NOG_OUT_OF_RANGE: the length is not 1 to 64. */
+   NOG_OUT_OF_RANGE: the length is not 1 to 64. NOG_SIGSEGV: a byte of them is not attached. NOG_SIGBUS: a swap area failed;
+   no byte of any segment was changed. */
 uint32_t nog_load(nog_machine *machine, uint32_t pid, uint64_t addr, uint8_t *bytes, size_t len);
 
 /* Writes 1 to 64 bytes from `addr` on, in one step.
-   NOG_SIGSEGV: a byte of them is not attached for writing. NOG_SIGBUS, NOG_OUT_OF_RANGE: as nog_load. */
+   NOG_OUT_OF_RANGE, NOG_SIGBUS: as nog_load. NOG_SIGSEGV: a byte of them is not attached for writing. */
 uint32_t nog_store(nog_machine *machine, uint32_t pid, uint64_t addr, const uint8_t *bytes, size_t len);
 
 /* Adds to the eight bytes from `addr` on, a number with its lowest byte first, modulo 2^64, in one step; the number that
@@ -283,7 +285,7 @@ uint32_t nog_tally_of(const nog_machine *machine, nog_tally *tally);
 uint32_t nog_indexes(const nog_machine *machine, uint32_t *indexes);
 
 /* The segment at an index of the table, as nog_stat shows it, whoever may read it.
-   NOG_OUT_OF_RANGE: no segment has the index. */
+   NOG_OUT_OF_RANGE: no segment of the open machine has the index. */
 uint32_t nog_segment_at(const nog_machine *machine, uint32_t index, nog_segment *segment);
 
 /* How many calls of processes were answered; one that was refused counts, and none that found no memory. */
