@@ -279,17 +279,17 @@ uint32_t nog_write(nog_machine *machine, uint32_t pid, uint64_t addr, const uint
 uint32_t nog_flush(nog_machine *machine, uint64_t pages, nog_flushed *flushed);
 
 /* The counts as they are. */
-uint32_t nog_tally_of(const nog_machine *machine, nog_tally *tally);
+uint32_t nog_tally_of(nog_machine *machine, nog_tally *tally);
 
 /* How many indexes of the table of segments were ever used: nog_segment_at has none from there on. */
-uint32_t nog_indexes(const nog_machine *machine, uint32_t *indexes);
+uint32_t nog_indexes(nog_machine *machine, uint32_t *indexes);
 
 /* The segment at an index of the table, as nog_stat shows it, whoever may read it.
    NOG_OUT_OF_RANGE: no segment of the open machine has the index. */
-uint32_t nog_segment_at(const nog_machine *machine, uint32_t index, nog_segment *segment);
+uint32_t nog_segment_at(nog_machine *machine, uint32_t index, nog_segment *segment);
 
 /* How many calls of processes were answered; one that was refused counts, and none that found no memory. */
-uint32_t nog_calls(const nog_machine *machine, uint64_t *calls);
+uint32_t nog_calls(nog_machine *machine, uint64_t *calls);
 
 /* ---- the library ---- */
 
