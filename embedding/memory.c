@@ -24,7 +24,7 @@ void *__wrap_realloc(void *block, size_t size) { return is_refused() ? NULL : __
 struct shown {
     nog_tally tally;
     nog_segment segments[4];
-    uint32_t indexes;
+    uint32_t indexes, codes[4];
 };
 
 static struct shown show(nog_machine *m) {
@@ -32,7 +32,7 @@ static struct shown show(nog_machine *m) {
     memset(&s, 0, sizeof s);
     ANSWER(nog_indexes(m, &s.indexes), NOG_DONE);
     ANSWER(nog_tally_of(m, &s.tally), NOG_DONE);
-    for (uint32_t i = 0; i < s.indexes && i < 4; i++) ANSWER(nog_segment_at(m, i, &s.segments[i]), NOG_DONE);
+    for (uint32_t i = 0; i < s.indexes && i < 4; i++) s.codes[i] = nog_segment_at(m, i, &s.segments[i]);
     return s;
 }
 
