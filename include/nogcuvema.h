@@ -195,9 +195,9 @@ uint32_t nog_close(nog_machine *machine);
    NOG_OUT_OF_RANGE: the mode or the flags have more than 16 bits.
    Where a segment has the key: NOG_EEXIST, both flags are set; NOG_EINVAL, it has fewer bytes than `size`; NOG_EACCES, it
    may not be read, or written, as any read, or write, bit of `mode` asks.
-   Where none has it: NOG_ENOENT, NOG_CREAT is not set; NOG_EINVAL, the size is 0 or above SHMMAX; NOG_ENOSPC, SHMALL or
-   SHMMNI would be passed, or no index is free; NOG_ENOMEM, the swap areas have not as many slots as all segments would
-   have pages. NOG_NO_MEMORY: the heap gave none. */
+   Where one is to be made: NOG_ENOENT, the key is not NOG_PRIVATE and NOG_CREAT is not set; NOG_EINVAL, the size is 0 or
+   above SHMMAX; NOG_ENOSPC, SHMALL or SHMMNI would be passed, or no index is free; NOG_ENOMEM, the swap areas have not as
+   many slots as all segments would have pages. NOG_NO_MEMORY: the heap gave none. */
 uint32_t nog_get(nog_machine *machine, uint32_t pid, uint32_t key, uint64_t size, uint32_t mode, uint32_t flags, int32_t *id);
 
 /* shmat(2): attaches a segment, at the least free range from 0x40000000 on where `addr` is 0, else at `addr`; its
