@@ -85,8 +85,8 @@ static int try_each(const char *name, uint32_t kind, unsigned refused) {
         for (uint64_t call = 1; call <= calls; call++)
             wrong += !is_same(kind, (nog_failure){.is_write = is_write, .call = call}, refused, &whole);
     }
-    printf("%s: each of %" PRIu64 " reads and %" PRIu64 " writes failed once; accesses refused in a run: %u; runs that differ: %u\n",
-           name, whole.tally.ins, whole.tally.outs, refused, wrong);
+    printf("%s: each of %" PRIu64 " reads and %" PRIu64 " writes failed once; accesses refused in a run: %u; "
+           "runs that differ: %u\n", name, whole.tally.ins, whole.tally.outs, refused, wrong);
     return wrong == 0;
 }
 
