@@ -163,9 +163,31 @@ static void test_segments(nog_machine *m) {
     ANSWER(nog_remove(m, ROOT, 1), NOG_DONE);
     ANSWER(nog_stat(m, ROOT, 1, &s), NOG_EIDRM);
     ANSWER(nog_stat(m, USER, 0, &s), NOG_DONE);
-    TEST(s.id == 0 && s.key == 0x2a && s.uid == 300 && s.gid == 301 && s.cuid == 200 && s.cgid == 200);
+    TEST(s.id == 0 && s.key == 0x2a && s.uid == 300 && s.gid == 301 && s.cuid == 200 && s.cgid == 201);
     TEST(s.mode == 0666 && s.status == 0 && s.size == 5000 && s.cpid == USER && s.lpid == 0 && s.nattch == 0);
     TEST(s.atime == 0 && s.dtime == 0 && s.ctime == 3 && s.index == 0);
+}
+
+/* a segment each of whose fields has a value of its own: made as the second at its index, attached three times by two */
+static void test_each_field(nog_machine *m) {
+    nog_segment s;
+    uint64_t at = 0;
+    int32_t id = -1;
+    ANSWER(open_usual(m), NOG_DONE);
+    for (int i = 0; i < 3; i++) ANSWER(nog_get(m, ROOT, NOG_PRIVATE, 1, 0600, 0, &id), NOG_DONE);
+    for (int i = 1; i < 3; i++) ANSWER(nog_remove(m, ROOT, i), NOG_DONE);
+    for (int i = 1; i < 3; i++) ANSWER(nog_get(m, USER, (uint32_t)(0x50 + i), 4000, 0606, NOG_CREAT, &id), NOG_DONE);
+    TEST(id == 32770);
+    ANSWER(nog_set(m, USER, id, 300, 301, 0660), NOG_DONE);
+    for (int i = 0; i < 3; i++) ANSWER(nog_attach(m, USER, id, 0, 0, &at), NOG_DONE);
+    ANSWER(nog_fork(m, USER, CHILD), NOG_DONE);
+    ANSWER(nog_detach(m, CHILD, at), NOG_DONE);
+    ANSWER(nog_lock(m, ROOT, id), NOG_DONE);
+    ANSWER(nog_stat(m, ROOT, id, &s), NOG_DONE);
+    TEST(s.size == 4000 && s.ctime == 8 && s.atime == 11 && s.dtime == 13);
+    TEST(s.id == 32770 && s.index == 2 && s.key == 0x52 && s.status == NOG_LOCKED && s.mode == 0660);
+    TEST(s.uid == 300 && s.gid == 301 && s.cuid == 200 && s.cgid == 201);
+    TEST(s.cpid == USER && s.lpid == CHILD && s.nattch == 5);
 }
 
 static void test_accesses(nog_machine *m) {
@@ -295,7 +317,7 @@ static void test_table(nog_machine *m) {
 /* ---- the library ---- */
 
 static void test_texts(void) {
-    static const uint32_t codes[] = {1, 2, 3, 5, 11, 12, 13, 17, 22, 24, 28, 43, 1007, 1011, 2001, 2002, 2003, 2004,
+    static const uint32_t codes[] = {0, 1, 2, 3, 5, 11, 12, 13, 17, 22, 24, 28, 43, 1007, 1011, 2001, 2002, 2003, 2004,
         2011, 2012, 2013, 2014, 2015, 2021, 2022, 2023, 2024};
     static const uint32_t no_codes[] = {4, 44, 1008, 2000, 2005, 2010, 2016, 2020, 2025, UINT32_MAX};
     uint8_t text[64], cut[3];
@@ -344,6 +366,7 @@ int main(void) {
     test_processes(&machine);
     test_opened_again(&machine);
     test_segments(&machine);
+    test_each_field(&machine);
     test_accesses(&machine);
     test_out_of_range(&machine);
     test_long_accesses(&machine);

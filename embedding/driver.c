@@ -123,9 +123,13 @@ static const char *name_of(uint32_t code) {
         {NOG_ENOMEM, "ENOMEM"}, {NOG_EACCES, "EACCES"}, {NOG_EEXIST, "EEXIST"}, {NOG_EINVAL, "EINVAL"},
         {NOG_EMFILE, "EMFILE"}, {NOG_ENOSPC, "ENOSPC"}, {NOG_EIDRM, "EIDRM"}, {NOG_SIGBUS, "SIGBUS"},
         {NOG_SIGSEGV, "SIGSEGV"} };
-    for (size_t i = 0; i < sizeof names / sizeof *names; i++)
-        if (names[i].code == code) return names[i].name;
-    fail(3, "a call was answered %" PRIu32, code);
+    uint8_t text[16];
+    size_t len, i = 0;
+    while (i < sizeof names / sizeof *names && names[i].code != code) i++;
+    if (i == sizeof names / sizeof *names) fail(3, "a call was answered %" PRIu32, code);
+    if (nog_text(code, text, sizeof text, &len) != NOG_DONE || strcmp((char *)text, names[i].name) != 0)
+        fail(3, "the text of %" PRIu32 " is not %s", code, names[i].name);
+    return names[i].name;
 }
 
 static const char *status_of(uint32_t status) {

@@ -11,7 +11,7 @@ enum { ROOT = 1, USER = 2, CHILD = 3, UNDECLARED = 4, PAGE = 4096, LOWEST = 0x40
 static const nog_limits limits = {.shmmax = 65536, .shmmni = 4, .shmall = 64, .frames = 4, .memlock = 1};
 static const nog_area ram = {NOG_RAM, 64};
 static const nog_failure none = {.call = 1};
-static const nog_process processes[] = {{ROOT, 1, 0, 0}, {USER, 1, 200, 200}, {CHILD, 0, 0, 0}};
+static const nog_process processes[] = {{ROOT, 1, 0, 0}, {USER, 1, 200, 201}, {CHILD, 0, 0, 0}};
 
 static unsigned tested, differ;
 

@@ -293,8 +293,9 @@ uint32_t nog_calls(nog_machine *machine, uint64_t *calls);
 
 /* ---- the library ---- */
 
-/* The text of a code, ended by a zero and cut to `size` - 1 bytes; its whole length is put into `len`. At a size of 0
-   nothing is written but `len`. NOG_OUT_OF_RANGE: no answer has this code. */
+/* The text of a code, ended by a zero and cut to `size` - 1 bytes; its whole length is put into `len`. Of an error of
+   errno(3) and of a signal it is the name, as EINVAL. At a size of 0 nothing is written but `len`.
+   NOG_OUT_OF_RANGE: no answer has this code. */
 uint32_t nog_text(uint32_t code, uint8_t *text, size_t size, size_t *len);
 
 /* The version of the library, as NOG_VERSION is that of this header. */
