@@ -3,7 +3,9 @@
    A machine has limits, swap areas and processes. Its calls are those of shmget(2), shmop(2) and shmctl(2), accesses to
    attached memory, fork, exec, exit and swapoff, each made for a process of the machine, by its pid. No memory, signal or
    process of the system that the program runs on is behind them: an address is a number, and the bytes at it are read
-   and written by nog_load, nog_store and nog_add. docs/MACHINE.md has the rules, docs/EMBEDDING.md the way to use this.
+   and written by nog_load, nog_store and nog_add. A piece is a range of addresses of a process with pages of a segment:
+   an attach makes one, and a later attach in its range may cut it. docs/MACHINE.md has the rules, docs/EMBEDDING.md the
+   way to use this.
 
    ANSWERS. Each function but nog_version answers 0 or a code. Outputs are written where the answer is 0, and else they
    are left as they were (but for `done` of nog_read and nog_write). A call that is answered by an error of errno(3), or
@@ -103,7 +105,7 @@ typedef struct nog_failure {
     uint32_t area;      /* the area's place among the areas, from 0 */
     uint32_t side;      /* 0: the area, or a mirror's left side; 1: a mirror's right side */
     uint32_t is_write;  /* 0: a read; else a write */
-    uint32_t unused;    /* 0 */
+    uint32_t unused;    /* counts for nothing */
     uint64_t call;
 } nog_failure;
 
@@ -149,11 +151,11 @@ typedef struct nog_tally {
     uint64_t frames;
     uint64_t resident;  /* frames with a page */
     uint64_t dirty;     /* frames whose page is not in a slot as it is */
-    uint64_t slots;     /* slots of all areas */
+    uint64_t slots;     /* slots of the areas that are there */
     uint64_t used;      /* slots that pages have */
     uint64_t ins;       /* pages that were read from areas */
     uint64_t outs;      /* pages that were written to areas */
-    uint64_t failures;  /* reads and writes of areas that failed */
+    uint64_t failures;  /* reads and writes of areas that failed; of a mirror, those that failed on both sides */
 } nog_tally;
 
 /* What a flush round did. */
