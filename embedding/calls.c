@@ -190,6 +190,25 @@ static void test_each_field(nog_machine *m) {
     TEST(s.cpid == USER && s.lpid == CHILD && s.nattch == 5);
 }
 
+/* bits that are none of a mode, and flags that are none, count for nothing; a private key asks for no flag */
+static void test_other_bits(nog_machine *m) {
+    nog_segment s;
+    uint64_t at = 0;
+    int32_t id = -1;
+    ANSWER(open_usual(m), NOG_DONE);
+    ANSWER(nog_get(m, USER, NOG_PRIVATE, 1, 0177640, 0xffff, &id), NOG_DONE);
+    ANSWER(nog_get(m, USER, NOG_PRIVATE, 1, 0600, NOG_CREAT | NOG_EXCL, &id), NOG_DONE);
+    TEST(id == 1);
+    ANSWER(nog_stat(m, USER, 0, &s), NOG_DONE);
+    TEST(s.mode == 0640 && s.key == 0);
+    ANSWER(nog_set(m, USER, 0, 200, 201, 0177604), NOG_DONE);
+    ANSWER(nog_stat(m, USER, 0, &s), NOG_DONE);
+    TEST(s.mode == 0604);
+    ANSWER(nog_attach(m, USER, 0, 0, 0x8fff, &at), NOG_DONE);
+    TEST(at == LOWEST);
+    ANSWER(nog_get(m, USER, 7, 1, 0600, 0xffff & ~(uint32_t)NOG_CREAT, &id), NOG_ENOENT);
+}
+
 static void test_accesses(nog_machine *m) {
     uint64_t at = 0, before = 1;
     uint8_t bytes[6] = {9, 9, 9, 9, 9, 9};
@@ -367,6 +386,7 @@ int main(void) {
     test_opened_again(&machine);
     test_segments(&machine);
     test_each_field(&machine);
+    test_other_bits(&machine);
     test_accesses(&machine);
     test_out_of_range(&machine);
     test_long_accesses(&machine);

@@ -104,6 +104,28 @@ static uint32_t remove_it(nog_machine *m) { return nog_remove(m, USER, 0); }
 static uint32_t swapoff(nog_machine *m) { return nog_swapoff(m, ROOT, 0); }
 static uint32_t end(nog_machine *m) { return nog_exit(m, CHILD); }
 
+/* three pages in two frames: the third needs one, whose page a sparse area has no memory to take */
+static void fail_write(nog_machine *m) {
+    static const nog_limits two_frames = {65536, 1, 3, 2, 0};
+    static const nog_area sparse = {NOG_SPARSE, 3};
+    nog_tally t;
+    uint8_t byte = 0;
+    ANSWER(nog_open(m, &two_frames, &sparse, 1, &none, 0, processes, 3), NOG_DONE);
+    int32_t id;
+    uint64_t at;
+    ANSWER(nog_get(m, USER, NOG_PRIVATE, 3 * PAGE, 0600, 0, &id), NOG_DONE);
+    ANSWER(nog_attach(m, USER, id, 0, 0, &at), NOG_DONE);
+    for (uint64_t i = 0; i < 2; i++) ANSWER(nog_store(m, USER, at + i * PAGE, (const uint8_t *)"a", 1), NOG_DONE);
+    left = 0;
+    ANSWER(nog_store(m, USER, at + 2 * PAGE, (const uint8_t *)"b", 1), NOG_SIGBUS);
+    left = NEVER;
+    ANSWER(nog_tally_of(m, &t), NOG_DONE);
+    TEST(t.failures == 1 && t.outs == 0 && t.resident == 2 && t.dirty == 2);
+    ANSWER(nog_load(m, USER, at, &byte, 1), NOG_DONE);
+    TEST(byte == 'a');
+    ANSWER(nog_store(m, USER, at + 2 * PAGE, (const uint8_t *)"b", 1), NOG_DONE);
+}
+
 int main(void) {
     static const struct { step make; int takes_memory; } steps[] = {
         {get, 1}, {attach, 1}, {fork_child, 1}, {store, 0}, {add, 0}, {set, 0}, {flush, 0}, {detach, 0}, {exec, 0},
@@ -112,6 +134,7 @@ int main(void) {
     fail_each_open(&machine, open_mirror);
     fail_each(&machine, open_usual, 1);
     for (size_t i = 0; i < sizeof steps / sizeof *steps; i++) fail_each(&machine, steps[i].make, steps[i].takes_memory);
+    fail_write(&machine);
     ANSWER(nog_close(&machine), NOG_DONE);
     return finish("memory");
 }
