@@ -1,8 +1,9 @@
 /* A test bench: a workload whose pages go to swap and come back is run once as it is, and then once for each read and
    each write of the swap area, which fails in that run. What the workload saw and every byte that it left are compared.
 
-   Eight pages in two frames, ten rounds over them: each access needs a page that left its frame, and each page that leaves
-   was changed. With the reading at the end that makes a read and a write for each of the 80 accesses. */
+   Eight pages in two frames, ten rounds over them: each access needs a page that is in no frame, and each page that leaves
+   one was changed. The first round reads no page, and the reading at the end reads all eight and has the last two changed
+   ones written: that makes 80 reads and 80 writes. */
 #include <inttypes.h>
 #include <stdio.h>
 #include <string.h>
