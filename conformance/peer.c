@@ -31,10 +31,13 @@
 #include <sys/wait.h>
 #include <time.h>
 #include <unistd.h>
+#include "script.h"
 
-enum { PAGE = 4096, PROCESSES = 64, COMMANDS = 100000, PIECES = 1024, OWN_RANGES = 64, WORDS = 8 };
+enum { PAGE = 4096, PIECES = 1024, OWN_RANGES = 64 };
 enum { RECORD_FD = 98, ALIVE_FD = 99, FIRST_FD = 100 };
 #define LOWEST_CHOSEN UINT64_C(0x40000000)
+_Static_assert(IPC_CREAT == CREAT && IPC_EXCL == EXCL && SHM_RDONLY == RDONLY && SHM_RND == RND && SHM_REMAP == REMAP,
+    "a script's flags are the system's");
 
 enum task { GET, ATTACH, DETACH, CONTROL, LOAD, STORE, ADD, FORK, EXEC, EXIT, MAPPED };
 
@@ -185,150 +188,37 @@ static void continue_worker(int index) {
 
 /* ---- the script ---- */
 
-enum call { SHMGET, SHMAT, SHMDT, ACCESS_LOAD, ACCESS_STORE, XADD, SHMSTAT, SHMSET, RMID, LOCK, UNLOCK,
-    FORKS, EXECS, EXITS, SWAPOFF, CALLS };
-
-/* each letter is an operand: key, number, get flags, identifier, address, attach flags, bytes, mode, child */
-static const struct { const char *name, *operands; } calls[CALLS] = {
-    {"shmget", "kng"}, {"shmat", "iaf"}, {"shmdt", "a"}, {"load", "an"}, {"store", "ab"}, {"xadd", "an"},
-    {"stat", "i"}, {"set", "innm"}, {"rmid", "i"}, {"lock", "i"}, {"unlock", "i"}, {"fork", "c"}, {"exec", ""},
-    {"exit", ""}, {"swapoff", "n"} };
-
-struct operand { int variable; uint64_t number; };
-struct command {
-    int line, process, variable, call;
-    unsigned length;
-    struct operand operands[4];
-    unsigned char bytes[64];
-};
-
 enum life { UNBORN, LIVE, ENDED };
 struct piece { uint64_t base, size, real, origin; };
 struct process {
     unsigned pid, uid, gid;
     int life, has_no_user, to, from, piece_count;
     pid_t real;
-    uint64_t variables[26];
     struct piece pieces[PIECES];
 };
 
 static struct process processes[PROCESSES];
-static struct command *commands;
-static int process_count, command_count, line_number;
-static uint64_t limits[5];
+static struct script script;
 static int life_fd = -1, alive_fd = -1, has_seconds, is_shared, is_root, limit_seconds = 10;
 
 __attribute__((noreturn, format(printf, 2, 3))) static void fail(int status, const char *format, ...) {
     va_list rest;
     va_start(rest, format);
     fflush(stdout);
-    fprintf(stderr, line_number ? "peer: line %d: " : "peer: ", line_number);
+    fprintf(stderr, script.line ? "peer: line %d: " : "peer: ", script.line);
     vfprintf(stderr, format, rest);
     fputc('\n', stderr);
     va_end(rest);
-    for (int i = 0; i < process_count; i++)
+    for (int i = 0; i < script.process_count; i++)
         if (processes[i].real > 0 && processes[i].life == LIVE) kill(processes[i].real, SIGKILL);
     exit(status);
 }
 
-static uint64_t number_of(const char *word) {
-    char *end;
-    errno = 0;
-    unsigned long long number = strtoull(word, &end, word[0] == '0' && word[1] == 'x' ? 16 : 10);
-    if (*end || errno || word[0] < '0' || word[0] > '9') fail(1, "bad number: %s", word);
-    return number;
-}
-
-static struct operand operand_of(const char *word) {
-    int is_variable = word[0] >= 'a' && word[0] <= 'z' && (!word[1] || word[1] == '+');
-    if (strcmp(word, "private") == 0 || strcmp(word, "null") == 0) return (struct operand){-1, 0};
-    if (!is_variable) return (struct operand){-1, number_of(word)};
-    return (struct operand){word[0] - 'a', word[1] ? number_of(word + 2) : 0};
-}
-
-enum { FLAGS = 5, GET_FLAGS = 2 };
-static const struct { const char *name; unsigned flag; } flag_names[FLAGS] = {
-    {"creat", IPC_CREAT}, {"excl", IPC_EXCL}, {"rnd", SHM_RND}, {"remap", SHM_REMAP}, {"rdonly", SHM_RDONLY} };
-
-/* the flags behind a mode, or those of an attach */
-static uint64_t flags_of(const char *word, int has_mode) {
-    uint64_t flags = has_mode ? strtoul(word, NULL, 8) & 0777 : 0;
-    for (const char *at = has_mode ? strchr(word, ',') : word; at && *at && *at != '-'; at = strchr(at, ',')) {
-        if (*at == ',') at++;
-        size_t length = strcspn(at, ","), i = 0;
-        while (i < FLAGS && (strlen(flag_names[i].name) != length || memcmp(flag_names[i].name, at, length) != 0)) i++;
-        if (i == FLAGS) fail(1, "bad flags: %s", word);
-        flags |= flag_names[i].flag;
+static void declare_processes(void) {
+    for (int i = 0; i < script.process_count; i++) {
+        const struct declared *d = &script.processes[i];
+        processes[i] = (struct process){.pid = d->pid, .uid = d->uid, .gid = d->gid, .life = d->is_child ? UNBORN : LIVE};
     }
-    return flags;
-}
-
-static void read_bytes(struct command *c, const char *word) {
-    unsigned byte;
-    for (c->length = 0; c->length < 64 && sscanf(word, "%2x", &byte) == 1 && word[1]; word += 2)
-        c->bytes[c->length++] = (unsigned char)byte;
-    if (*word) fail(1, "bad bytes: %s", word);
-}
-
-static int process_by_pid(uint64_t pid) {
-    for (int i = 0; i < process_count; i++)
-        if (processes[i].pid == pid) return i;
-    fail(1, "unknown process: %" PRIu64, pid);
-}
-
-static void read_operand(struct command *c, int i, char letter, const char *word) {
-    c->operands[i] = (struct operand){-1, 0};
-    if (letter == 'g') c->operands[i].number = flags_of(word, 1);
-    else if (letter == 'f') c->operands[i].number = flags_of(word, 0);
-    else if (letter == 'm') c->operands[i].number = strtoul(word, NULL, 8);
-    else if (letter == 'b') read_bytes(c, word);
-    else c->operands[i] = operand_of(word);
-    if (letter == 'c') process_by_pid(c->operands[i].number);
-}
-
-static void read_command(char **words, int count) {
-    if (count < 2 || command_count == COMMANDS) fail(1, "bad line");
-    struct command *c = &commands[command_count++];
-    int has_variable = count > 3 && strcmp(words[2], "=") == 0, at = has_variable ? 3 : 1;
-    c->line = line_number;
-    c->process = process_by_pid(number_of(words[0]));
-    c->variable = has_variable ? operand_of(words[1]).variable : -1;
-    for (c->call = 0; c->call < CALLS && strcmp(calls[c->call].name, words[at]) != 0;) c->call++;
-    if (c->call == CALLS || (int)strlen(calls[c->call].operands) != count - at - 1)
-        fail(1, "bad line");
-    for (int i = 0; calls[c->call].operands[i]; i++) read_operand(c, i, calls[c->call].operands[i], words[at + 1 + i]);
-}
-
-static void read_process(char **words, int count) {
-    int is_child = strcmp(words[0], "child") == 0;
-    if (process_count == PROCESSES) fail(1, "too many processes");
-    if (count != (is_child ? 2 : 4)) fail(1, "bad line");
-    struct process *p = &processes[process_count++];
-    *p = (struct process){.pid = (unsigned)number_of(words[1]), .life = is_child ? UNBORN : LIVE};
-    p->uid = is_child ? 0 : (unsigned)number_of(words[2]);
-    p->gid = is_child ? 0 : (unsigned)number_of(words[3]);
-}
-
-static void read_line(char *line) {
-    char *words[WORDS + 1];
-    int count = 0;
-    for (char *w = strtok(line, " \t\n"); w && count <= WORDS; w = strtok(NULL, " \t\n")) words[count++] = w;
-    if (count == 0 || words[0][0] == '#' || strcmp(words[0], "0") == 0) return; /* a flush round is no command */
-    int is_process = strcmp(words[0], "process") == 0 || strcmp(words[0], "child") == 0;
-    int is_limits = strcmp(words[0], "limits") == 0 && count == 6;
-    for (int i = 0; i < 5 && is_limits; i++) limits[i] = number_of(words[i + 1]);
-    if (is_process) read_process(words, count);
-    else if (!is_limits) read_command(words, count);
-}
-
-static void read_script(FILE *from) {
-    char *line = NULL;
-    size_t room = 0;
-    commands = calloc(COMMANDS, sizeof *commands);
-    if (!commands) fail(3, "no memory");
-    for (line_number = 1; getline(&line, &room, from) > 0; line_number++) read_line(line);
-    free(line);
-    if (limits[0] == 0) fail(1, "no limits line");
 }
 
 /* ---- identifiers, pids, times and addresses as the script has them ---- */
@@ -377,7 +267,7 @@ static int real_identifier(uint64_t name) {
 }
 
 static unsigned script_pid(pid_t real) {
-    for (int i = 0; real && i < process_count; i++)
+    for (int i = 0; real && i < script.process_count; i++)
         if (processes[i].real == real) return processes[i].pid;
     return (unsigned)real;
 }
@@ -469,7 +359,7 @@ static void clean_up(void) {
 
 /* then its work is done here */
 static void lose_guardian(void) {
-    for (int i = 0; i < process_count; i++) close(processes[i].to);
+    for (int i = 0; i < script.process_count; i++) close(processes[i].to);
     clean_up();
     fail(3, "the guardian is gone");
 }
@@ -593,7 +483,7 @@ static void run_access(struct process *p, const struct command *c, const uint64_
 }
 
 static void run_fork(struct process *p, const uint64_t *v, char *reply) {
-    int index = process_by_pid(v[0]);
+    int index = process_by_pid(&script, v[0]);
     struct process *child = &processes[index];
     struct request q = {.task = FORK, .child = index};
     if (child->life != UNBORN) return skip(reply, "no such child can be");
@@ -623,51 +513,26 @@ static void run(struct process *p, const struct command *c, const uint64_t *v, c
     else if (c->call == SHMAT) run_attach(p, v, reply, result);
     else if (c->call == SHMDT) run_detach(p, v, reply);
     else if (c->call <= XADD) run_access(p, c, v, reply, result);
-    else if (c->call == SHMSTAT) run_stat(p, v, reply, (int)(c - commands) + 1);
+    else if (c->call == SHMSTAT) run_stat(p, v, reply, (int)(c - script.commands) + 1);
     else if (c->call <= UNLOCK) run_control(p, c->call, v, reply);
     else if (c->call == FORKS) run_fork(p, v, reply);
     else run_end(p, c->call, reply);
 }
 
-static void print_flags(uint64_t flags, int has_mode) {
-    const char *before = has_mode ? "," : "";
-    if (has_mode) printf("%03o", (unsigned)flags & 0777);
-    else if (!flags) printf("-");
-    for (int i = has_mode ? 0 : GET_FLAGS; i < (has_mode ? GET_FLAGS : FLAGS); i++)
-        if (flags & flag_names[i].flag) before = printf("%s%s", before, flag_names[i].name) ? "," : before;
-}
-
-static void print_operand(const struct command *c, char letter, uint64_t value) {
-    putchar(' ');
-    if (letter == 'k') printf("0x%08" PRIx64, value);
-    else if (letter == 'a') printf(value ? "0x%jx" : "null%.0jx", (uintmax_t)value);
-    else if (letter == 'm') printf("%03" PRIo64, value);
-    else if (letter == 'g' || letter == 'f') print_flags(value, letter == 'g');
-    else if (letter == 'b') for (unsigned i = 0; i < c->length; i++) printf("%02x", c->bytes[i]);
-    else if (letter == 'i' && value > INT32_MAX) printf("-1");
-    else printf("%" PRIu64, value);
-}
-
 static void run_command(int place) {
-    struct command *c = &commands[place - 1];
-    struct process *p = &processes[c->process];
-    uint64_t values[4] = {0}, result = UINT64_MAX;
+    struct command *c = &script.commands[place - 1];
+    uint64_t values[OPERANDS] = {0}, result = UINT64_MAX;
     char reply[512];
-    line_number = c->line;
-    printf("%d %u %s", place, p->pid, calls[c->call].name);
-    for (int i = 0; calls[c->call].operands[i]; i++) {
-        struct operand o = c->operands[i];
-        values[i] = o.number + (o.variable < 0 ? 0 : p->variables[o.variable]);
-        print_operand(c, calls[c->call].operands[i], values[i]);
-    }
-    run(p, c, values, reply, &result);
-    if (c->variable >= 0) p->variables[c->variable] = result;
+    script.line = c->line;
+    print_call(&script, place, values);
+    run(&processes[c->process], c, values, reply, &result);
+    keep_result(&script, c, result);
     printf(" = %s\n", reply);
     fflush(stdout);
 }
 
 static int become_user(unsigned uid, unsigned gid) {
-    struct rlimit locked = {limits[4] * PAGE, limits[4] * PAGE};
+    struct rlimit locked = {script.limits[4] * PAGE, script.limits[4] * PAGE};
     setrlimit(RLIMIT_MEMLOCK, &locked);
     return !is_root || (!setgroups(0, NULL) && !setresgid(gid, gid, gid) && !setresuid(uid, uid, uid));
 }
@@ -690,7 +555,7 @@ static void start_worker(int index) {
     p->real = fork();
     if (p->real == -1) fail(3, "fork: %s", strerror(errno));
     if (p->real != 0) return;
-    for (int i = 0; i < process_count; i++) close(processes[i].to), close(processes[i].from);
+    for (int i = 0; i < script.process_count; i++) close(processes[i].to), close(processes[i].from);
     close(life_fd);
     if (!become_user(p->uid, p->gid)) _exit(97);
     prepare_worker();
@@ -700,17 +565,17 @@ static void start_worker(int index) {
 __attribute__((noreturn)) static void direct(int *life) {
     close(life[1]);
     life_fd = life[0];
-    segments = calloc((size_t)command_count + 1, sizeof *segments);
-    began = calloc((size_t)command_count + 1, sizeof *began);
+    segments = calloc((size_t)script.command_count + 1, sizeof *segments);
+    began = calloc((size_t)script.command_count + 1, sizeof *began);
     if (!segments || !began) fail(3, "no memory");
     began[0] = time(NULL);
     signal(SIGCHLD, SIG_IGN);
     signal(SIGPIPE, SIG_IGN);
     prctl(PR_SET_CHILD_SUBREAPER, 1);
-    for (int i = 0; i < process_count; i++) open_pipes(i);
-    for (int i = 0; i < process_count; i++) start_worker(i);
-    for (int fd = ALIVE_FD; fd < FIRST_FD + 2 * process_count; fd++) close(fd);
-    for (int place = 1; place <= command_count; run_command(place++))
+    for (int i = 0; i < script.process_count; i++) open_pipes(i);
+    for (int i = 0; i < script.process_count; i++) start_worker(i);
+    for (int fd = ALIVE_FD; fd < FIRST_FD + 2 * script.process_count; fd++) close(fd);
+    for (int place = 1; place <= script.command_count; run_command(place++))
         while ((began[place] = time(NULL)) <= began[place - 1] && has_seconds) wait_a_little();
     exit(0);
 }
@@ -743,9 +608,9 @@ static void enter_namespace(void) {
     if (!is_shared && unshare(is_root ? CLONE_NEWIPC : CLONE_NEWIPC | CLONE_NEWUSER) == -1) is_shared = 1;
     if (is_shared) return (void)fprintf(stderr, "peer: note: in the system's own IPC namespace, under its limits\n");
     if (!is_root) enter_as_one_user(uid, gid);
-    write_file("/proc/sys/kernel/shmmax", "%" PRIu64, limits[0], 0);
-    write_file("/proc/sys/kernel/shmmni", "%" PRIu64, limits[1], 0);
-    write_file("/proc/sys/kernel/shmall", "%" PRIu64, limits[2], 0);
+    write_file("/proc/sys/kernel/shmmax", "%" PRIu64, script.limits[0], 0);
+    write_file("/proc/sys/kernel/shmmni", "%" PRIu64, script.limits[1], 0);
+    write_file("/proc/sys/kernel/shmall", "%" PRIu64, script.limits[2], 0);
     if (!is_root && processes[0].uid != 0) drop_capabilities();
 }
 
@@ -793,7 +658,8 @@ int main(int argc, char **argv) {
     if (i < argc && !(from = fopen(argv[i], "r"))) fail(1, "%s: %s", argv[i], strerror(errno));
     if (sysconf(_SC_PAGESIZE) != PAGE) fail(4, "skipped: pages here are not of %d bytes", PAGE);
     choose_exec_words();
-    read_script(from);
+    read_script(&script, from);
+    declare_processes();
     enter_namespace();
     return guard();
 }

@@ -1,0 +1,140 @@
+/* memory: each allocation of a call fails in turn: the answer is NOG_NO_MEMORY, nothing is changed, and the call made
+   again is done. Calls but nog_open, nog_get, nog_attach and nog_fork take no memory. It is linked with --wrap=malloc and
+   --wrap=realloc, so that the library's own allocations come here. */
+#include <stdlib.h>
+#include "testing.h"
+
+enum { NEVER = -1, MOST = 10000 };
+static long left = NEVER;  /* how many allocations are done until one fails */
+
+void *__real_malloc(size_t size);
+void *__real_realloc(void *block, size_t size);
+void *__wrap_malloc(size_t size);
+void *__wrap_realloc(void *block, size_t size);
+
+static int is_refused(void) {
+    if (left == NEVER) return 0;
+    return left-- == 0;
+}
+
+void *__wrap_malloc(size_t size) { return is_refused() ? NULL : __real_malloc(size); }
+void *__wrap_realloc(void *block, size_t size) { return is_refused() ? NULL : __real_realloc(block, size); }
+
+/* what can be seen of a machine */
+struct shown {
+    nog_tally tally;
+    nog_segment segments[4];
+    uint32_t indexes, codes[4];
+};
+
+static struct shown show(nog_machine *m) {
+    struct shown s;
+    memset(&s, 0, sizeof s);
+    ANSWER(nog_indexes(m, &s.indexes), NOG_DONE);
+    ANSWER(nog_tally_of(m, &s.tally), NOG_DONE);
+    for (uint32_t i = 0; i < s.indexes && i < 4; i++) s.codes[i] = nog_segment_at(m, i, &s.segments[i]);
+    return s;
+}
+
+typedef uint32_t (*step)(nog_machine *m);
+
+
+static uint32_t open_mirror(nog_machine *m) {
+    static const nog_area areas[] = {{NOG_MIRROR, 3}, {NOG_SPARSE, 5}};
+    static const nog_failure failures[] = {{0, 1, 0, 0, 9}, {0, 0, 1, 0, 9}, {1, 0, 0, 0, 9}};
+    return nog_open(m, &limits, areas, 2, failures, 3, processes, 3);
+}
+
+static uint32_t get(nog_machine *m) {
+    int32_t id;
+    return nog_get(m, USER, NOG_PRIVATE, 2 * PAGE, 0600, 0, &id);
+}
+
+static uint32_t attach(nog_machine *m) {
+    uint64_t at;
+    return nog_attach(m, USER, 0, 0, 0, &at);
+}
+
+static uint32_t fork_child(nog_machine *m) { return nog_fork(m, USER, CHILD); }
+
+/* makes the step with its first allocation failing, then its second, until it takes no more of them */
+static void fail_each(nog_machine *m, step make, int takes_memory) {
+    struct shown before = show(m), after;
+    uint32_t code = NOG_NO_MEMORY;
+    long allocations = 0;
+    for (; code == NOG_NO_MEMORY && allocations < MOST; allocations++) {
+        left = allocations;
+        code = make(m);
+        left = NEVER;
+        if (code != NOG_NO_MEMORY) break;
+        after = show(m);
+        TEST(memcmp(&before, &after, sizeof before) == 0);
+    }
+    ANSWER(code, NOG_DONE);
+    TEST(takes_memory == (allocations > 0));
+}
+
+/* a machine that was not opened stays closed */
+static void fail_each_open(nog_machine *m, step open) {
+    uint32_t code = NOG_NO_MEMORY, indexes;
+    long allocations = 0;
+    for (; code == NOG_NO_MEMORY && allocations < MOST; allocations++) {
+        left = allocations;
+        code = open(m);
+        left = NEVER;
+        if (code == NOG_NO_MEMORY) ANSWER(nog_indexes(m, &indexes), NOG_CLOSED);
+    }
+    ANSWER(code, NOG_DONE);
+    TEST(allocations > 5);
+}
+
+static uint32_t store(nog_machine *m) { return nog_store(m, USER, LOWEST + PAGE - 2, (const uint8_t *)"1234", 4); }
+static uint32_t add(nog_machine *m) {
+    uint64_t before;
+    return nog_add(m, CHILD, LOWEST, 5, &before);
+}
+static uint32_t set(nog_machine *m) { return nog_set(m, USER, 0, 200, 200, 0644); }
+static uint32_t detach(nog_machine *m) { return nog_detach(m, USER, LOWEST); }
+static uint32_t exec(nog_machine *m) { return nog_exec(m, CHILD); }
+static uint32_t flush(nog_machine *m) {
+    nog_flushed flushed;
+    return nog_flush(m, 4, &flushed);
+}
+static uint32_t remove_it(nog_machine *m) { return nog_remove(m, USER, 0); }
+static uint32_t swapoff(nog_machine *m) { return nog_swapoff(m, ROOT, 0); }
+static uint32_t end(nog_machine *m) { return nog_exit(m, CHILD); }
+
+/* three pages in two frames: the third needs one, whose page a sparse area has no memory to take */
+static void fail_write(nog_machine *m) {
+    static const nog_limits two_frames = {65536, 1, 3, 2, 0};
+    static const nog_area sparse = {NOG_SPARSE, 3};
+    nog_tally t;
+    uint8_t byte = 0;
+    ANSWER(nog_open(m, &two_frames, &sparse, 1, &none, 0, processes, 3), NOG_DONE);
+    int32_t id;
+    uint64_t at;
+    ANSWER(nog_get(m, USER, NOG_PRIVATE, 3 * PAGE, 0600, 0, &id), NOG_DONE);
+    ANSWER(nog_attach(m, USER, id, 0, 0, &at), NOG_DONE);
+    for (uint64_t i = 0; i < 2; i++) ANSWER(nog_store(m, USER, at + i * PAGE, (const uint8_t *)"a", 1), NOG_DONE);
+    left = 0;
+    ANSWER(nog_store(m, USER, at + 2 * PAGE, (const uint8_t *)"b", 1), NOG_SIGBUS);
+    left = NEVER;
+    ANSWER(nog_tally_of(m, &t), NOG_DONE);
+    TEST(t.failures == 1 && t.outs == 0 && t.resident == 2 && t.dirty == 2);
+    ANSWER(nog_load(m, USER, at, &byte, 1), NOG_DONE);
+    TEST(byte == 'a');
+    ANSWER(nog_store(m, USER, at + 2 * PAGE, (const uint8_t *)"b", 1), NOG_DONE);
+}
+
+int main(void) {
+    static const struct { step make; int takes_memory; } steps[] = {
+        {get, 1}, {attach, 1}, {fork_child, 1}, {store, 0}, {add, 0}, {set, 0}, {flush, 0}, {detach, 0}, {exec, 0},
+        {remove_it, 0}, {swapoff, 0}, {end, 0} };
+    nog_machine machine = NOG_MACHINE_INITIALIZER;
+    fail_each_open(&machine, open_mirror);
+    fail_each(&machine, open_usual, 1);
+    for (size_t i = 0; i < sizeof steps / sizeof *steps; i++) fail_each(&machine, steps[i].make, steps[i].takes_memory);
+    fail_write(&machine);
+    ANSWER(nog_close(&machine), NOG_DONE);
+    return finish("memory");
+}

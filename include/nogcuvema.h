@@ -1,0 +1,315 @@
+/* nogcuvema.h - the System V shared memory calls over simulated processes, for C99 and C++.
+
+   A machine has limits, swap areas and processes. Its calls are those of shmget(2), shmop(2) and shmctl(2), accesses to
+   attached memory, fork, exec, exit and swapoff, each made for a process of the machine, by its pid. No memory, signal or
+   process of the system that the program runs on is behind them: an address is a number, and the bytes at it are read
+   and written by nog_load, nog_store and nog_add. A piece is a range of addresses of a process with pages of a segment:
+   an attach makes one, and a later attach in its range may cut it. docs/MACHINE.md has the rules, docs/EMBEDDING.md the
+   way to use this.
+
+   ANSWERS. Each function but nog_version answers 0 or a code. Outputs are written where the answer is 0, and else they
+   are left as they were (but for `done` of nog_read and nog_write). A call that is answered by an error of errno(3), or
+   by one of the two signals, changed nothing but the count of calls and which pages are in frames. At a code from 2001
+   on nothing is changed at all.
+
+   Each function that takes a machine answers NOG_CLOSED for a closed one (but nog_open, which opens it). Each call of a
+   process, nog_get to nog_swapoff, answers NOG_SPENT where 2^64 - 1 calls were answered, and else NOG_ESRCH where no
+   live process has this pid: it is unborn, has ended, or was not declared when the machine was opened. Below, each
+   function names the codes that come beside these three: first NOG_OUT_OF_RANGE, which comes before any other code, then
+   those of errno(3), of which the first that holds comes, last NOG_NO_MEMORY, which comes in place of 0.
+
+   POINTERS are never null, also where a count or a length beside them is 0, and point to as much as the types and counts
+   say. No two of a call overlap. Nothing that is handed in is kept: arrays, buffers and outputs are the caller's.
+
+   THREADS. One thread at a time calls for a machine; two machines may be used by two threads at once. */
+#ifndef NOGCUVEMA_H
+#define NOGCUVEMA_H
+
+#include <stddef.h>
+#include <stdint.h>
+
+#ifdef __cplusplus
+extern "C" {
+#endif
+
+/* The version of this header: 10000 for the first number, 100 for the second, 1 for the third. */
+#define NOG_VERSION 900
+#define NOG_VERSION_TEXT "0.9.0"
+
+/* A machine, or none: zeroed memory is a closed machine. The caller owns the struct, nog_open gives it memory of the
+   heap and nog_close takes that away. The fields are the library's: don't read or write them, and use no copy beside
+   the original. It may be moved as a whole. */
+typedef struct nog_machine {
+    uint32_t is_open;
+    void *kept;
+} nog_machine;
+#define NOG_MACHINE_INITIALIZER {0, 0}
+
+/* What a call is answered by. The numbers of errno(3) are Linux's on every system; text of each by nog_text. */
+enum nog_code {
+    NOG_DONE = 0,
+    NOG_EPERM = 1,
+    NOG_ENOENT = 2,
+    NOG_ESRCH = 3,
+    NOG_EIO = 5,
+    NOG_EAGAIN = 11,
+    NOG_ENOMEM = 12,
+    NOG_EACCES = 13,
+    NOG_EEXIST = 17,
+    NOG_EINVAL = 22,
+    NOG_EMFILE = 24,
+    NOG_ENOSPC = 28,
+    NOG_EIDRM = 43,
+    NOG_SIGBUS = 1007,         /* a swap area failed while a page was brought in */
+    NOG_SIGSEGV = 1011,        /* nothing is attached there, or it may not be written */
+    NOG_NO_MEMORY = 2001,      /* the heap of the program gave none */
+    NOG_CLOSED = 2002,         /* there is no machine in the handle */
+    NOG_OUT_OF_RANGE = 2003,   /* a number that no call can carry */
+    NOG_SPENT = 2004,          /* 2^64 - 1 calls were answered */
+    NOG_BAD_LIMITS = 2010,     /* never answered itself; 2011 to 2015: limit 1 to 5 of nog_limits is out of its range */
+    NOG_BAD_SHMMAX = 2011,
+    NOG_BAD_SHMMNI = 2012,
+    NOG_BAD_SHMALL = 2013,
+    NOG_BAD_FRAMES = 2014,
+    NOG_BAD_MEMLOCK = 2015,
+    NOG_START_REFUSED = 2020,  /* never answered itself */
+    NOG_BAD_AREAS = 2021,      /* there are not 1 to 8 swap areas */
+    NOG_BAD_AREA_SIZE = 2022,  /* an area has not 1 to 65536 slots */
+    NOG_BAD_PROCESSES = 2023,  /* there are more than 64 processes */
+    NOG_BAD_PID = 2024         /* a pid is 0, above 2147483647, or stands twice */
+};
+
+/* The limits of a machine. A page has 4096 bytes. */
+typedef struct nog_limits {
+    uint64_t shmmax;   /* the most bytes of a segment, 1 to 2^24 */
+    uint64_t shmmni;   /* the most segments, 1 to 4096 */
+    uint64_t shmall;   /* the most pages of all segments together, 1 to 65536 */
+    uint64_t frames;   /* page frames, 2 to 4096: so many pages are in memory, the others in swap areas */
+    uint64_t memlock;  /* the most pages of locked segments, 0 to frames - 2 */
+} nog_limits;
+
+/* A swap area: its kind and how many pages it takes, 1 to 65536. */
+enum nog_kind {
+    NOG_RAM = 1,     /* a page of memory for each slot, taken when the machine is opened */
+    NOG_SPARSE = 2,  /* memory for those slots only that hold other bytes than zeros; a write fails where there is none */
+    NOG_MIRROR = 3   /* two sides of NOG_RAM, kept alike: a page is read from the left one, or else from the right */
+};
+typedef struct nog_area {
+    uint32_t kind;
+    uint32_t slots;
+} nog_area;
+
+/* One call of a swap area that fails: the read or write number `call`, counted from 1. A mirror's sides count for
+   themselves. A page whose write failed is not written: its slot holds other bytes, and the frame keeps the page. */
+typedef struct nog_failure {
+    uint32_t area;      /* the area's place among the areas, from 0 */
+    uint32_t side;      /* 0: the area, or a mirror's left side; 1: a mirror's right side */
+    uint32_t is_write;  /* 0: a read; else a write */
+    uint32_t unused;    /* counts for nothing */
+    uint64_t call;
+} nog_failure;
+
+/* A process that the machine may have: born with the machine, or a child that a fork may begin. */
+typedef struct nog_process {
+    uint32_t pid;      /* 1 to 2147483647 */
+    uint32_t is_born;  /* 0: a child that is not born yet; it gets its user and group from who forks it */
+    uint32_t uid;      /* the effective user; user 0 passes each test of permission */
+    uint32_t gid;      /* the effective group */
+} nog_process;
+
+/* A segment as shmctl(2) with IPC_STAT shows it. A time is the place of a call among all calls, counted from 1; 0: never. */
+typedef struct nog_segment {
+    uint64_t size;    /* in bytes, as it was asked for */
+    uint64_t atime;   /* the last attach */
+    uint64_t dtime;   /* the last detach */
+    uint64_t ctime;   /* its making, or the last nog_set */
+    int32_t id;
+    uint32_t key;     /* 0: it is private, or marked for removal */
+    uint32_t uid;     /* the owner */
+    uint32_t gid;
+    uint32_t cuid;    /* who made it */
+    uint32_t cgid;
+    uint32_t mode;    /* the nine permission bits */
+    uint32_t status;  /* NOG_DEST and NOG_LOCKED */
+    uint32_t cpid;    /* the process that made it */
+    uint32_t lpid;    /* the process of the last attach or detach; 0: none */
+    uint32_t nattch;  /* how many pieces of processes it has */
+    uint32_t index;   /* its place in the table, as nog_segment_at takes it */
+} nog_segment;
+
+enum nog_status {
+    NOG_DEST = 512,    /* marked for removal: it goes with its last piece */
+    NOG_LOCKED = 1024  /* its pages stay in their frames */
+};
+
+/* Counts of a machine and of its memory. */
+typedef struct nog_tally {
+    uint64_t events;    /* calls that were answered */
+    uint64_t segments;
+    uint64_t reserved;  /* pages of all segments */
+    uint64_t locked;    /* pages of locked segments */
+    uint64_t frames;
+    uint64_t resident;  /* frames with a page */
+    uint64_t dirty;     /* frames whose page is not in a slot as it is */
+    uint64_t slots;     /* slots of the areas that are there */
+    uint64_t used;      /* slots that pages have */
+    uint64_t ins;       /* pages that were read from areas */
+    uint64_t outs;      /* pages that were written to areas */
+    uint64_t failures;  /* reads and writes of areas that failed; of a mirror, those that failed on both sides */
+} nog_tally;
+
+/* What a flush round did. */
+typedef struct nog_flushed {
+    uint64_t written;  /* pages that were written out */
+    uint64_t failed;   /* pages whose write failed: they stay in their frames */
+} nog_flushed;
+
+/* Flags, by Linux's numbers; other bits of the 16 count for nothing. */
+enum nog_flag {
+    NOG_CREAT = 512,     /* nog_get: IPC_CREAT */
+    NOG_EXCL = 1024,     /* nog_get: IPC_EXCL */
+    NOG_RDONLY = 4096,   /* nog_attach: SHM_RDONLY */
+    NOG_RND = 8192,      /* nog_attach: SHM_RND */
+    NOG_REMAP = 16384    /* nog_attach: SHM_REMAP */
+};
+enum nog_key { NOG_PRIVATE = 0 };
+
+/* ---- a machine ---- */
+
+/* Opens a machine: with 1 to 8 swap areas, numbered from 0 in their order, the calls of them that fail, and up to 64
+   processes, children included. A handle that is open is opened anew: its machine before is closed where the new one
+   stands, and stays where it does not. The first of these that holds is answered:
+   NOG_BAD_SHMMAX to NOG_BAD_MEMLOCK: the first limit that is out of its range.
+   NOG_OUT_OF_RANGE: a kind is none; a failure's area or side is not there, or its call is 0.
+   NOG_BAD_AREAS, NOG_BAD_AREA_SIZE, NOG_BAD_PROCESSES, NOG_BAD_PID: the first of these.
+   NOG_NO_MEMORY: the heap gave none; it may come in place of 0 and of the last four. */
+uint32_t nog_open(nog_machine *machine, const nog_limits *limits, const nog_area *areas, size_t area_count,
+                  const nog_failure *failures, size_t failure_count, const nog_process *processes, size_t process_count);
+
+/* Closes a machine, and frees all that it had. */
+uint32_t nog_close(nog_machine *machine);
+
+/* ---- the calls of a process ---- */
+
+/* shmget(2): the segment with this key, or a new one. A new one has the caller's user and group, the nine low bits of
+   `mode`, and zeros for bytes. A key of NOG_PRIVATE always makes one, whatever the flags; else one is made where no
+   segment has the key and NOG_CREAT is set.
+   NOG_OUT_OF_RANGE: the mode or the flags have more than 16 bits.
+   Where a segment has the key: NOG_EEXIST, both flags are set; NOG_EINVAL, it has fewer bytes than `size`; NOG_EACCES, it
+   may not be read, or written, as any read, or write, bit of `mode` asks.
+   Where one is to be made: NOG_ENOENT, the key is not NOG_PRIVATE and NOG_CREAT is not set; NOG_EINVAL, the size is 0 or
+   above SHMMAX; NOG_ENOSPC, SHMALL or SHMMNI would be passed, or no index is free; NOG_ENOMEM, the swap areas have not as
+   many slots as all segments would have pages. NOG_NO_MEMORY: the heap gave none. */
+uint32_t nog_get(nog_machine *machine, uint32_t pid, uint32_t key, uint64_t size, uint32_t mode, uint32_t flags, int32_t *id);
+
+/* shmat(2): attaches a segment, at the least free range from 0x40000000 on where `addr` is 0, else at `addr`; its
+   address is put into `at`. NOG_RND rounds `addr` down to a page, NOG_RDONLY attaches for reading alone, NOG_REMAP puts
+   the new piece in the place of what its range holds.
+   NOG_OUT_OF_RANGE: the flags have more than 16 bits.
+   NOG_EINVAL: the address is 0 with NOG_REMAP, or is no multiple of 4096 without NOG_RND; no segment had the identifier.
+   NOG_EIDRM: its segment is destroyed. NOG_EACCES: reading, or without NOG_RDONLY writing, is not permitted.
+   NOG_EINVAL: the range is not within 0x10000 to 0x7ffffffff000, or holds a piece and NOG_REMAP is not set. NOG_ENOMEM: no
+   range is left. NOG_EMFILE: the process would have more than 256 pieces. NOG_NO_MEMORY: the heap gave none. */
+uint32_t nog_attach(nog_machine *machine, uint32_t pid, int32_t id, uint64_t addr, uint32_t flags, uint64_t *at);
+
+/* shmdt(2): detaches the segment that was attached at `addr`. The last detach of a marked segment destroys it.
+   NOG_EINVAL: no segment was attached there. */
+uint32_t nog_detach(nog_machine *machine, uint32_t pid, uint64_t addr);
+
+/* shmctl(2), IPC_STAT: what is known of a segment.
+   NOG_EINVAL: no segment had the identifier. NOG_EIDRM: its segment is destroyed. NOG_EACCES: it may not be read. */
+uint32_t nog_stat(nog_machine *machine, uint32_t pid, int32_t id, nog_segment *segment);
+
+/* shmctl(2), IPC_SET: another owner, and the nine low bits of `mode`; sets the time of change.
+   NOG_OUT_OF_RANGE: the mode has more than 16 bits. NOG_EINVAL, NOG_EIDRM: as nog_stat. NOG_EPERM: the caller is not owner,
+   creator or user 0. */
+uint32_t nog_set(nog_machine *machine, uint32_t pid, int32_t id, uint32_t uid, uint32_t gid, uint32_t mode);
+
+/* shmctl(2), IPC_RMID: destroys a segment that has no piece; else marks it: its key is 0 then, and it goes with its last
+   piece. NOG_EINVAL, NOG_EIDRM, NOG_EPERM: as nog_set. */
+uint32_t nog_remove(nog_machine *machine, uint32_t pid, int32_t id);
+
+/* shmctl(2), SHM_LOCK: the pages of the segment stay in memory, once they are there.
+   NOG_EINVAL, NOG_EIDRM, NOG_EPERM: as nog_set. NOG_ENOMEM: MEMLOCK would be passed. */
+uint32_t nog_lock(nog_machine *machine, uint32_t pid, int32_t id);
+
+/* shmctl(2), SHM_UNLOCK. NOG_EINVAL, NOG_EIDRM, NOG_EPERM: as nog_set. */
+uint32_t nog_unlock(nog_machine *machine, uint32_t pid, int32_t id);
+
+/* Reads 1 to 64 bytes from `addr` on, in one step.
+   NOG_OUT_OF_RANGE: the length is not 1 to 64. NOG_SIGSEGV: a byte of them is not attached. NOG_SIGBUS: a swap area failed;
+   no byte of any segment was changed. */
+uint32_t nog_load(nog_machine *machine, uint32_t pid, uint64_t addr, uint8_t *bytes, size_t len);
+
+/* Writes 1 to 64 bytes from `addr` on, in one step.
+   NOG_OUT_OF_RANGE, NOG_SIGBUS: as nog_load. NOG_SIGSEGV: a byte of them is not attached for writing. */
+uint32_t nog_store(nog_machine *machine, uint32_t pid, uint64_t addr, const uint8_t *bytes, size_t len);
+
+/* Adds to the eight bytes from `addr` on, a number with its lowest byte first, modulo 2^64, in one step; the number that
+   stood there is put into `before`. `addr` needs no alignment. NOG_SIGSEGV, NOG_SIGBUS: as nog_store. */
+uint32_t nog_add(nog_machine *machine, uint32_t pid, uint64_t addr, uint64_t add, uint64_t *before);
+
+/* fork(2): a declared child is born, with the caller's user, group and pieces.
+   NOG_EAGAIN: no unborn child has the pid `child`. NOG_NO_MEMORY: the heap gave none. */
+uint32_t nog_fork(nog_machine *machine, uint32_t pid, uint32_t child);
+
+/* execve(2): every piece of the caller is detached. */
+uint32_t nog_exec(nog_machine *machine, uint32_t pid);
+
+/* exit(2): every piece of the caller is detached, and it is no process any more: its pid does not come back. */
+uint32_t nog_exit(nog_machine *machine, uint32_t pid);
+
+/* swapoff(2): moves the pages of an area elsewhere and takes the area away.
+   NOG_EPERM: the caller is not user 0. NOG_EINVAL: the area is not there, or not any more. NOG_ENOMEM: the others have not
+   as many slots as all segments have pages. NOG_EIO: a swap area failed; the area stays, and no byte was changed. */
+uint32_t nog_swapoff(nog_machine *machine, uint32_t pid, uint32_t area);
+
+/* ---- accesses of any length ---- */
+
+/* Reads `len` bytes by loads of 64 bytes from `addr` on, the last one of what is left: each is a call of its own and is
+   counted, and a length of 0 makes none. It ends at the first load that is refused, with its answer. How many bytes were
+   read is put into `done`, whatever the answer, but where that is NOG_CLOSED. The codes are those of nog_load. */
+uint32_t nog_read(nog_machine *machine, uint32_t pid, uint64_t addr, uint8_t *bytes, size_t len, uint64_t *done);
+
+/* Writes `len` bytes by stores, as nog_read reads them. What was stored stays where a later store is refused. */
+uint32_t nog_write(nog_machine *machine, uint32_t pid, uint64_t addr, const uint8_t *bytes, size_t len, uint64_t *done);
+
+/* ---- the machine's memory, and its state ---- */
+
+/* A flush round: writes the first `pages` dirty frames out to swap, those of locked segments left out. It is no call of
+   a process and changes no byte of any segment. A failed write is counted in `flushed`, and the answer is 0. */
+uint32_t nog_flush(nog_machine *machine, uint64_t pages, nog_flushed *flushed);
+
+/* The counts as they are. */
+uint32_t nog_tally_of(nog_machine *machine, nog_tally *tally);
+
+/* How many indexes of the table of segments were ever used: nog_segment_at has none from there on. */
+uint32_t nog_indexes(nog_machine *machine, uint32_t *indexes);
+
+/* The segment at an index of the table, as nog_stat shows it, whoever may read it.
+   NOG_OUT_OF_RANGE: no segment of the open machine has the index. */
+uint32_t nog_segment_at(nog_machine *machine, uint32_t index, nog_segment *segment);
+
+/* How many calls of processes were answered; one that was refused counts, and none that found no memory. */
+uint32_t nog_calls(nog_machine *machine, uint64_t *calls);
+
+/* ---- the library ---- */
+
+/* The text of a code, ended by a zero and cut to `size` - 1 bytes; its whole length is put into `len`. Of an error of
+   errno(3) and of a signal it is the name, as EINVAL. At a size of 0 nothing is written but `len`.
+   NOG_OUT_OF_RANGE: no answer has this code. */
+uint32_t nog_text(uint32_t code, uint8_t *text, size_t size, size_t *len);
+
+/* The version of the library, as NOG_VERSION is that of this header. */
+uint32_t nog_version(void);
+
+/* How the library sees its structs, to compare a binding with. `which` is 0 nog_machine, 1 nog_limits, 2 nog_area, 3
+   nog_failure, 4 nog_process, 5 nog_segment, 6 nog_tally, 7 nog_flushed; `field` 0 asks for the size of the struct, a
+   number from 1 on for the offset of that field, in bytes. NOG_OUT_OF_RANGE: there is no such struct or field. */
+uint32_t nog_layout(uint32_t which, uint32_t field, size_t *value);
+
+#ifdef __cplusplus
+}
+#endif
+
+#endif

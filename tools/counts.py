@@ -1,0 +1,25 @@
+"""The counts of a part of ./test."""
+
+
+class Count:
+    """What passed, failed and was skipped; a failure and a skip are told where they come."""
+
+    def __init__(self, part):
+        self.part = part
+        self.passed = self.failed = self.skipped = 0
+
+    def take(self, is_right, name):
+        if is_right:
+            self.passed += 1
+        else:
+            self.failed += 1
+            print(f"{self.part}: FAILED: {name}")
+
+    def skip(self, count, reason):
+        self.skipped += count
+        print(f"{self.part}: skipped: {reason}")
+
+    def finish(self):
+        """Prints the last line, as ./test reads it. Returns the exit status."""
+        print(f"{self.passed} passed, {self.failed} failed, {self.skipped} skipped")
+        return 1 if self.failed else 0
