@@ -1,0 +1,14 @@
+//! The machine for programs in C: a handle, and a function for each call.
+#![tactic(auto)]
+
+mod code;
+mod get;
+mod handle;
+mod held;
+mod load;
+mod parts;
+
+pub use get::{nog_attach, nog_get};
+pub use handle::Handle;
+pub use held::Kept;
+pub use load::{nog_load, nog_store};

@@ -1,0 +1,3 @@
+mod Fitting
+mod Mirrored
+mod Sizes

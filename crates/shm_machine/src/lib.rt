@@ -1,0 +1,14 @@
+//! A machine as one type without parameters: swap areas of three kinds behind one pager, and a method for each call.
+//! No history is kept: a machine answers calls in memory that does not grow with their number.
+#![tactic(auto)]
+
+mod area;
+mod calls;
+mod machine;
+mod opening;
+mod refusal;
+
+pub use area::{AreaKind, AreaPager, Failing};
+pub use machine::Machine;
+pub use opening::{Area, Failure, Side};
+pub use refusal::Refusal;
