@@ -5,10 +5,8 @@ mod code;
 mod get;
 mod handle;
 mod held;
-mod load;
 mod parts;
 
-pub use get::{nog_attach, nog_get};
+pub use get::nog_get;
 pub use handle::Handle;
 pub use held::Kept;
-pub use load::{nog_load, nog_store};

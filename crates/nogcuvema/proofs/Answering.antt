@@ -1,0 +1,12 @@
+-- A refusal is answered by its code.
+use Rattle.std.proofs.Common.{◌≡◌, ℕ, Err, inr}
+use Rattle.shm_base.specs.declared.call.Call.{Call}
+use Rattle.shm_base.specs.declared.call.Reply.{Reply}
+use Rattle.shm_machine.specs.declared.machine.Machine.{Machine}
+use Rattle.shm_machine.specs.declared.refusal.Refusal.{Refusal}
+use Rattle.shm_machine.specs.Answered.{Answered}
+use Rattle.nogcuvema.specs.Answers.{refusal_code, AnswersFor}
+
+pub refused : (before after : Machine) (pid code : ℕ) (call : Call) (reply : Reply) (refusal : Refusal) → code ≡ refusal_code refusal → Answered before.system pid call (Err refusal) after.system
+    → AnswersFor before pid call reply code after
+refused before after pid code call reply refusal is answered = inr (refusal, is, answered)

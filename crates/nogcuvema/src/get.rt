@@ -1,0 +1,60 @@
+//! Making, finding and attaching segments.
+ghost use Rattle.std.specs.Prelude.{◌≡◌, ◌≢◌, ◌&&◌, nat_lt};
+ghost use Rattle.shm_base.specs.declared.call.Call.TheVariants as call;
+ghost use Rattle.shm_base.specs.declared.call.Reply.TheVariants as reply;
+ghost use Rattle.nogcuvema.specs.Answers.{Answers, AnswersFor, WhereFits};
+
+use crate::code::{CLOSED, DONE, OUT_OF_RANGE, refusal_code};
+use crate::handle::Handle;
+use bitflags::Flags;
+use shm_base::GetFlags;
+use shm_machine::Machine;
+use std::alloc::Global;
+
+#[tactic(auto, using(crate::proofs::Answering::refused))]
+fn get(
+    machine: &mut Machine,
+    pid: u32,
+    key: u32,
+    size: u64,
+    mode: u16,
+    flags: u16,
+    id: &mut i32,
+) -> u32
+    ensures answers { AnswersFor machine.old pid (call.Shmget key size mode (record { 0 = flags })) (reply.Id id.new) result machine.new }
+    ensures id { result ≢ 0 → id.new ≡ id.old }
+{
+    match machine.get(pid, key, size, mode, GetFlags::from_bits_retain(flags)) {
+        Ok(found) => {
+            *id = found;
+            DONE
+        }
+        Err(refusal) => refusal_code(refusal),
+    }
+}
+
+/// shmget(2): the identifier of the segment that has the key, or of a new one. Mode and flags are below 65536.
+#[unsafe(no_mangle)]
+pub extern "C" fn nog_get(
+    alloc: Global,
+    handle: &mut Handle,
+    pid: u32,
+    key: u32,
+    size: u64,
+    mode: u32,
+    flags: u32,
+    id: &mut i32,
+) -> u32
+    ensures answers { WhereFits (nat_lt mode 65536 && nat_lt flags 65536) (Answers handle.old.kept.value pid (call.Shmget key size mode (record { 0 = flags })) (reply.Id id.new) result handle.new.kept.value) handle.old.kept.value result handle.new.kept.value }
+    ensures id { result ≢ 0 → id.new ≡ id.old }
+{
+    if mode > 65535 || flags > 65535 {
+        return OUT_OF_RANGE;
+    }
+    let Some(mut machine) = handle.take(alloc) else {
+        return CLOSED;
+    };
+    let code = get(&mut machine, pid, key, size, mode as u16, flags as u16, id);
+    handle.put(machine);
+    code
+}
