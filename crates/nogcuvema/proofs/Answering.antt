@@ -1,5 +1,5 @@
 -- A refusal is answered by its code.
-use Rattle.std.proofs.Common.{◌≡◌, ℕ, Err, inr}
+use Rattle.std.proofs.Common.{◌≡◌, ℕ, Err, inr, subst}
 use Rattle.shm_base.specs.declared.call.Call.{Call}
 use Rattle.shm_base.specs.declared.call.Reply.{Reply}
 use Rattle.shm_machine.specs.declared.machine.Machine.{Machine}
@@ -10,3 +10,9 @@ use Rattle.nogcuvema.specs.Answers.{refusal_code, AnswersFor}
 pub refused : (before after : Machine) (pid code : ℕ) (call : Call) (reply : Reply) (refusal : Refusal) → code ≡ refusal_code refusal → Answered before.system pid call (Err refusal) after.system
     → AnswersFor before pid call reply code after
 refused before after pid code call reply refusal is answered = inr (refusal, is, answered)
+
+-- the same, where the call is written in another way
+pub refused_alike : (before after : Machine) (pid code : ℕ) (asked call : Call) (reply : Reply) (refusal : Refusal) → asked ≡ call → code ≡ refusal_code refusal → Answered before.system pid asked (Err refusal) after.system
+    → AnswersFor before pid call reply code after
+refused_alike before after pid code asked call reply refusal same is answered =
+    inr (refusal, is, subst (λ (c : Call). Answered before.system pid c (Err refusal) after.system) same answered)

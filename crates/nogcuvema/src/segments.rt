@@ -7,7 +7,7 @@ ghost use Rattle.nogcuvema.specs.Answers.{Answers, AnswersFor, WhereFits};
 use crate::code::{CLOSED, DONE, OUT_OF_RANGE, refusal_code};
 use crate::handle::Handle;
 use bitflags::Flags;
-use shm_base::GetFlags;
+use shm_base::{AtFlags, GetFlags};
 use shm_machine::Machine;
 use std::alloc::Global;
 
@@ -55,6 +55,45 @@ pub extern "C" fn nog_get(
         return CLOSED;
     };
     let code = get(&mut machine, pid, key, size, mode as u16, flags as u16, id);
+    handle.put(machine);
+    code
+}
+
+#[tactic(auto, using(crate::proofs::Answering::refused))]
+fn attach(machine: &mut Machine, pid: u32, id: i32, addr: u64, flags: u16, at: &mut u64) -> u32
+    ensures answers { AnswersFor machine.old pid (call.Shmat id addr (record { 0 = flags })) (reply.Addr at.new) result machine.new }
+    ensures at { result ≢ 0 → at.new ≡ at.old }
+{
+    match machine.attach(pid, id, addr, AtFlags::from_bits_retain(flags)) {
+        Ok(found) => {
+            *at = found;
+            DONE
+        }
+        Err(refusal) => refusal_code(refusal),
+    }
+}
+
+/// shmat(2): the address at which the segment is attached; 0 has the machine choose it. Flags are below 65536.
+#[unsafe(no_mangle)]
+pub extern "C" fn nog_attach(
+    alloc: Global,
+    handle: &mut Handle,
+    pid: u32,
+    id: i32,
+    addr: u64,
+    flags: u32,
+    at: &mut u64,
+) -> u32
+    ensures answers { WhereFits (nat_lt flags 65536) (Answers handle.old.kept.value pid (call.Shmat id addr (record { 0 = flags })) (reply.Addr at.new) result handle.new.kept.value) handle.old.kept.value result handle.new.kept.value }
+    ensures at { result ≢ 0 → at.new ≡ at.old }
+{
+    if flags > 65535 {
+        return OUT_OF_RANGE;
+    }
+    let Some(mut machine) = handle.take(alloc) else {
+        return CLOSED;
+    };
+    let code = attach(&mut machine, pid, id, addr, flags as u16, at);
     handle.put(machine);
     code
 }
