@@ -6,6 +6,8 @@ use Rattle.shm_base.specs.declared.call.Reply.{Reply}
 use Rattle.shm_base.specs.declared.call.Reply.TheVariants as replies
 use Rattle.shm_base.specs.declared.call.Reply.TheVariants.{Id, Addr, Bytes, Number, Done}
 use Rattle.shm_base.specs.History.{IsMove, is_failure}
+use Rattle.shm_base.specs.declared.paging.FlushReport.{FlushReport}
+use Rattle.shm_fault.specs.Flushing.{IsFlushed}
 use Rattle.shm_slots.specs.Cause.{had_cause}
 use Rattle.shm_life.specs.MachineView.{KeepsOn}
 use Rattle.shm_life.specs.SystemState.{SystemState, TakesNoMemory}
@@ -59,3 +61,9 @@ told reply_of (Err refusal) = Err refusal
 -- a call that has no more to tell
 abbrev pub done : {A : Type 0} → A → Reply
 done _ = Done
+
+-- a flush round: the memory alone changes
+pub record Flushed (before : SystemState) (pages : ℕ) (report : FlushReport) (after : SystemState) : Type 0 where
+  pub rest : after ≡ record before { memory = after.memory }
+  pub flushed : IsFlushed before.memory after.memory pages report
+  pub keeps : KeepsOn before.memory after.memory

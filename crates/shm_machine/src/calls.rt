@@ -1,12 +1,12 @@
-//! A method for each call.
+//! The calls that tell something.
 ghost use Rattle.std.specs.Prelude.{◌≡◌, length, IfOk};
 ghost use Rattle.shm_base.specs.declared.call.Call.TheVariants as call;
 ghost use Rattle.shm_base.specs.declared.call.Reply.TheVariants as reply;
-ghost use Rattle.shm_machine.specs.Answered.{Answered, told, done};
+ghost use Rattle.shm_machine.specs.Answered.{Answered, told};
 
 use crate::machine::Machine;
 use crate::refusal::Refusal;
-use shm_base::{AccessLen, AtFlags, Call, Chunk, GetFlags, Reply, ShmId};
+use shm_base::{AccessLen, AtFlags, Call, Chunk, GetFlags, Reply, ShmId, ShmidDs};
 
 impl Machine {
     /// shmget(2): the identifier of the segment that has the key, or of a new one.
@@ -64,10 +64,25 @@ impl Machine {
         }
     }
 
-    /// Replaces bytes of attached memory.
-    pub fn store(&mut self, pid: u32, addr: u64, chunk: Chunk) -> Result<(), Refusal>
-        ensures { Answered self.old.system pid (call.Store addr chunk) (told done result) self.new.system }
+    /// shmctl(2), IPC_STAT: what the segment shows.
+    pub fn stat(&mut self, pid: u32, id: ShmId) -> Result<ShmidDs, Refusal>
+        ensures { Answered self.old.system pid (call.Stat id) (told (λ s. reply.Stat s) result) self.new.system }
     {
-        self.answer_done(pid, &Call::Store { addr, chunk })
+        match self.answer(pid, &Call::Stat { id }) {
+            Ok(Reply::Stat(shown)) => Ok(shown),
+            Ok(_) => unreachable!(),
+            Err(refusal) => Err(refusal),
+        }
+    }
+
+    /// Adds to eight little-endian bytes of attached memory modulo 2^64, and answers the number that stood there.
+    pub fn add(&mut self, pid: u32, addr: u64, add: u64) -> Result<u64, Refusal>
+        ensures { Answered self.old.system pid (call.Xadd addr add) (told (λ n. reply.Number n) result) self.new.system }
+    {
+        match self.answer(pid, &Call::Xadd { addr, add }) {
+            Ok(Reply::Number(before)) => Ok(before),
+            Ok(_) => unreachable!(),
+            Err(refusal) => Err(refusal),
+        }
     }
 }

@@ -1,16 +1,18 @@
 //! The machine.
 ghost use Rattle.std.specs.Prelude.{◌≡◌, ◌⊎◌, true, map, length, IfOk, OnOk, IfErr, None, Some, false, MatchOption};
 ghost use Rattle.shm_life.specs.Start.{start_error};
+ghost use Rattle.shm_life.specs.Counts.{Counts};
+ghost use Rattle.shm_life.specs.Listed.{segment_at};
 ghost use Rattle.shm_life.specs.declared.start.StartError.TheVariants as start;
 ghost use Rattle.shm_machine.specs.Opened.{IsOpened, sizes_of};
 ghost use Rattle.shm_base.specs.declared.call.Reply.TheVariants as replies;
 ghost use Rattle.shm_base.specs.History.{is_refusal};
-ghost use Rattle.shm_machine.specs.Answered.{Answered, told, done, fits};
+ghost use Rattle.shm_machine.specs.Answered.{Answered, Flushed, told, done, fits};
 
 use crate::area::AreaPager;
 use crate::opening::{Area, Failure, are_sizes_sound, pagers_for};
 use crate::refusal::Refusal;
-use shm_base::{Call, Errno, HostMemory, Limits, Process, Reply};
+use shm_base::{Call, Errno, FlushReport, HostMemory, Limits, Process, Reply, ShmId, ShmidDs, Tally};
 use shm_life::{StartError, System};
 use std::alloc::Global;
 
@@ -77,8 +79,9 @@ impl Machine {
         }
     }
 
-    // A call whose only reply that is no refusal is that it was done.
-    pub(crate) fn answer_done(&mut self, pid: u32, call: &Call) -> Result<(), Refusal>
+    /// One of the calls that have nothing to tell but that they were done: shmdt(2), the changes of shmctl(2), a
+    /// store, fork, exec, exit, and swapoff(2).
+    pub fn perform(&mut self, pid: u32, call: &Call) -> Result<(), Refusal>
         requires { fits call.now replies.Done ≡ true }
         ensures { Answered self.old.system pid call.now (told done result) self.new.system }
     {
@@ -87,5 +90,42 @@ impl Machine {
             Ok(_) => unreachable!(),
             Err(refusal) => Err(refusal),
         }
+    }
+
+    /// Writes the first `pages` dirty frames of segments that are not locked out to their slots. It is no call,
+    /// and the flat machine knows nothing of it.
+    pub fn flush(&mut self, pages: u64) -> FlushReport
+        ensures { Flushed self.old.system pages result self.new.system }
+    {
+        self.system.flush(pages)
+    }
+
+    /// The counts of the machine as they are, and of what its areas did.
+    pub fn tally(&self) -> Tally
+        ensures { Counts self.now.system.calls self.now.system.machine self.now.system.memory result }
+    {
+        self.system.tally()
+    }
+
+    /// How many calls were answered.
+    pub fn calls(&self) -> u64
+        ensures { result ≡ self.now.system.calls }
+    {
+        self.system.calls()
+    }
+
+    /// How many indexes of the table of segments were ever used.
+    pub fn indexes(&self) -> u32
+        ensures { result ≡ length self.now.system.machine.table }
+    {
+        self.system.indexes()
+    }
+
+    /// The segment at an index of the table as stat shows it, with no permission test; none where no segment
+    /// holds the index.
+    pub fn segment(&self, index: u32) -> Option<(ShmId, ShmidDs)>
+        ensures { result ≡ segment_at self.now.system.machine index }
+    {
+        self.system.segment(index)
     }
 }
