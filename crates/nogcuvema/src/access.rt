@@ -1,4 +1,4 @@
-//! Loads and stores.
+//! Loads and additions.
 ghost use Rattle.std.specs.Prelude.{◌≡◌, ◌≢◌, length};
 ghost use Rattle.shm_base.specs.Bounds.{within};
 ghost use Rattle.shm_base.specs.declared.call.Call.TheVariants as call;
@@ -7,7 +7,7 @@ ghost use Rattle.nogcuvema.specs.Answers.{Answers, AnswersFor, WhereFits};
 
 use crate::code::{CLOSED, DONE, OUT_OF_RANGE, refusal_code};
 use crate::handle::Handle;
-use shm_base::{AccessLen, Chunk};
+use shm_base::AccessLen;
 use shm_machine::Machine;
 use std::alloc::Global;
 
@@ -50,33 +50,36 @@ pub extern "C" fn nog_load(
 }
 
 #[tactic(auto, using(crate::proofs::Answering::refused))]
-fn store(machine: &mut Machine, pid: u32, addr: u64, chunk: Chunk) -> u32
-    ensures { AnswersFor machine.old pid (call.Store addr chunk) reply.Done result machine.new }
+fn add_to(machine: &mut Machine, pid: u32, addr: u64, add: u64, before: &mut u64) -> u32
+    ensures answers { AnswersFor machine.old pid (call.Xadd addr add) (reply.Number before.new) result machine.new }
+    ensures before { result ≢ 0 → before.new ≡ before.old }
 {
-    match machine.store(pid, addr, chunk) {
-        Ok(()) => DONE,
+    match machine.add(pid, addr, add) {
+        Ok(stood) => {
+            *before = stood;
+            DONE
+        }
         Err(refusal) => refusal_code(refusal),
     }
 }
 
-/// Replaces 1 to 64 bytes of attached memory, in one step.
+/// Adds to eight little-endian bytes of attached memory modulo 2^64, in one step; `before` is the number that stood there.
 #[unsafe(no_mangle)]
-pub extern "C" fn nog_store(
+pub extern "C" fn nog_add(
     alloc: Global,
     handle: &mut Handle,
     pid: u32,
     addr: u64,
-    bytes: &[u8],
+    add: u64,
+    before: &mut u64,
 ) -> u32
-    ensures { WhereFits (within 1 64 (length bytes.now)) (Answers handle.old.kept.value pid (call.Store addr bytes.now) reply.Done result handle.new.kept.value) handle.old.kept.value result handle.new.kept.value }
+    ensures answers { Answers handle.old.kept.value pid (call.Xadd addr add) (reply.Number before.new) result handle.new.kept.value }
+    ensures before { result ≢ 0 → before.new ≡ before.old }
 {
-    let Some(chunk) = Chunk::new(bytes) else {
-        return OUT_OF_RANGE;
-    };
     let Some(mut machine) = handle.take(alloc) else {
         return CLOSED;
     };
-    let code = store(&mut machine, pid, addr, chunk);
+    let code = add_to(&mut machine, pid, addr, add, before);
     handle.put(machine);
     code
 }

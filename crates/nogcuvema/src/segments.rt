@@ -3,9 +3,11 @@ ghost use Rattle.std.specs.Prelude.{◌≡◌, ◌≢◌, ◌&&◌, nat_lt};
 ghost use Rattle.shm_base.specs.declared.call.Call.TheVariants as call;
 ghost use Rattle.shm_base.specs.declared.call.Reply.TheVariants as reply;
 ghost use Rattle.nogcuvema.specs.Answers.{Answers, AnswersFor, WhereFits};
+ghost use Rattle.nogcuvema.specs.Shown.{shown_by, index_of};
 
 use crate::code::{CLOSED, DONE, OUT_OF_RANGE, refusal_code};
 use crate::handle::Handle;
+use crate::structs::{NogSegment, index_of};
 use bitflags::Flags;
 use shm_base::{AtFlags, GetFlags};
 use shm_machine::Machine;
@@ -94,6 +96,42 @@ pub extern "C" fn nog_attach(
         return CLOSED;
     };
     let code = attach(&mut machine, pid, id, addr, flags as u16, at);
+    handle.put(machine);
+    code
+}
+
+#[tactic(auto, using(crate::proofs::Answering::refused))]
+fn stat(machine: &mut Machine, pid: u32, id: i32, segment: &mut NogSegment) -> u32
+    ensures answers { AnswersFor machine.old pid (call.Stat id) (reply.Stat (shown_by segment.new)) result machine.new }
+    ensures place { result ≡ 0 → (segment.new.id ≡ id) × (segment.new.index ≡ index_of id) }
+    ensures segment { result ≢ 0 → segment.new ≡ segment.old }
+{
+    match machine.stat(pid, id) {
+        Ok(shown) => {
+            *segment = NogSegment::of(id, index_of(id), &shown);
+            DONE
+        }
+        Err(refusal) => refusal_code(refusal),
+    }
+}
+
+/// shmctl(2), IPC_STAT: what a segment shows, under its identifier and its index in the table.
+#[unsafe(no_mangle)]
+pub extern "C" fn nog_stat(
+    alloc: Global,
+    handle: &mut Handle,
+    pid: u32,
+    id: i32,
+    segment: &mut NogSegment,
+) -> u32
+    ensures answers { Answers handle.old.kept.value pid (call.Stat id) (reply.Stat (shown_by segment.new)) result handle.new.kept.value }
+    ensures place { result ≡ 0 → (segment.new.id ≡ id) × (segment.new.index ≡ index_of id) }
+    ensures segment { result ≢ 0 → segment.new ≡ segment.old }
+{
+    let Some(mut machine) = handle.take(alloc) else {
+        return CLOSED;
+    };
+    let code = stat(&mut machine, pid, id, segment);
     handle.put(machine);
     code
 }
