@@ -1,6 +1,7 @@
 //! The machine for programs in C: a handle, and a function for each call.
 #![tactic(auto)]
 
+mod about;
 mod access;
 mod code;
 mod handle;
@@ -12,6 +13,7 @@ mod perform;
 mod segments;
 mod structs;
 
+pub use about::{nog_layout, nog_text, nog_version};
 pub use access::{nog_add, nog_load};
 pub use handle::Handle;
 pub use held::Kept;
