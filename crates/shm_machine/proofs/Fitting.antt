@@ -111,7 +111,7 @@ joined-length (Some p) (Some qs) m ps k is =
     let same : p ∷ qs ≡ ps = cc is in
     rw (← same) (ap suc (k qs refl))
 
-places-length : (pieces : List Piece) (a n : ℕ) (ps : List Place) → places pieces a n ≡ Some ps → length ps ≡ n
+pub places-length : (pieces : List Piece) (a n : ℕ) (ps : List Place) → places pieces a n ≡ Some ps → length ps ≡ n
 places-length pieces a zero ps is = let same : [] ≡ ps = cc is in rw (← same) refl
 places-length pieces a (suc n) ps is =
     joined-length (place pieces a) (places pieces (a + 1) n) n ps (λ qs. places-length pieces (a + 1) n qs) is

@@ -7,8 +7,10 @@ mod calls;
 mod machine;
 mod opening;
 mod refusal;
+mod stretch;
 
 pub use area::{AreaKind, AreaPager, Failing};
 pub use machine::Machine;
 pub use opening::{Area, Failure, Side};
 pub use refusal::Refusal;
+pub use stretch::Progress;
