@@ -11,6 +11,7 @@ mod open;
 mod parts;
 mod perform;
 mod segments;
+mod stretch;
 mod structs;
 
 pub use about::{nog_layout, nog_text, nog_version};
@@ -24,6 +25,7 @@ pub use perform::{
     nog_swapoff, nog_unlock,
 };
 pub use segments::{nog_attach, nog_get, nog_stat};
+pub use stretch::{nog_read, nog_write};
 pub use structs::{
     NogArea, NogFailure, NogFlushed, NogLimits, NogProcess, NogSegment, NogTally,
 };
