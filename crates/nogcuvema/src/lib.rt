@@ -26,6 +26,4 @@ pub use perform::{
 };
 pub use segments::{nog_attach, nog_get, nog_stat};
 pub use stretch::{nog_read, nog_write};
-pub use structs::{
-    NogArea, NogFailure, NogFlushed, NogLimits, NogProcess, NogSegment, NogTally,
-};
+pub use structs::{NogArea, NogFailure, NogFlushed, NogLimits, NogProcess, NogSegment, NogTally};

@@ -21,7 +21,6 @@ abbrev pub same_flag : Bool → Bool → Bool
 same_flag true b = b
 same_flag false b = not b
 
-
 -- whether a failure is of the reads, or of the writes, of a side of an area
 abbrev pub is_at : ℕ → Side → Bool → Failure → Bool
 is_at area side is_write f = (f.area == area) && same_side f.side side && same_flag f.is_write is_write

@@ -36,13 +36,7 @@ impl Machine {
     }
 
     /// shmat(2): the address at which the segment is attached.
-    pub fn attach(
-        &mut self,
-        pid: u32,
-        id: ShmId,
-        addr: u64,
-        flags: AtFlags,
-    ) -> Result<u64, Refusal>
+    pub fn attach(&mut self, pid: u32, id: ShmId, addr: u64, flags: AtFlags) -> Result<u64, Refusal>
         ensures { Answered self.old.system pid (call.Shmat id addr flags) (told (λ a. reply.Addr a) result) self.new.system }
     {
         match self.answer(pid, &Call::Shmat { id, addr, flags }) {

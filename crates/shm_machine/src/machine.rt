@@ -12,7 +12,9 @@ ghost use Rattle.shm_machine.specs.Answered.{Answered, Flushed, told, done, fits
 use crate::area::AreaPager;
 use crate::opening::{Area, Failure, are_sizes_sound, pagers_for};
 use crate::refusal::Refusal;
-use shm_base::{Call, Errno, FlushReport, HostMemory, Limits, Process, Reply, ShmId, ShmidDs, Tally};
+use shm_base::{
+    Call, Errno, FlushReport, HostMemory, Limits, Process, Reply, ShmId, ShmidDs, Tally,
+};
 use shm_life::{StartError, System};
 use std::alloc::Global;
 
