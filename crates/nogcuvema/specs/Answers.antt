@@ -1,5 +1,5 @@
 -- What a function of the interface answers, and what it leaves in the handle. One definition serves all calls.
-use Rattle.std.specs.Prelude.{ℕ, ◌≡◌, ◌≢◌, ◌⊎◌, Bool, true, false, Option, Some, None, Result, Ok, Err}
+use Rattle.std.specs.Prelude.{ℕ, ◌≡◌, ◌⊎◌, Bool, true, false, Option, Some, None, Ok, Err}
 use Rattle.shm_base.specs.Codes.{code_of}
 use Rattle.shm_base.specs.declared.call.Call.{Call}
 use Rattle.shm_base.specs.declared.call.Reply.{Reply}
@@ -42,7 +42,7 @@ Answers None pid call reply code after = Unchanged closed None code after
 Answers (Some before) pid call reply code None = ⊥
 Answers (Some before) pid call reply code (Some after) = AnswersFor before pid call reply code after
 
--- what holds where a call can carry the numbers; where it can't, the code says so and nothing changed
-abbrev pub WhereFits : Bool → Type 0 → Option Machine → ℕ → Option Machine → Type 0
-WhereFits true asked before code after = asked
-WhereFits false asked before code after = Unchanged out_of_range before code after
+-- the same, where a call can carry the numbers; where it can't, the code says so and nothing changed
+abbrev pub AnswersWhere : Bool → Option Machine → ℕ → Call → Reply → ℕ → Option Machine → Type 0
+AnswersWhere true before pid call reply code after = Answers before pid call reply code after
+AnswersWhere false before pid call reply code after = Unchanged out_of_range before code after

@@ -11,6 +11,8 @@ use Rattle.shm_machine.specs.declared.area.AreaKind.{AreaKind}
 use Rattle.shm_machine.specs.declared.area.AreaKind.TheVariants.{Ram, Sparse, Mirror}
 use Rattle.shm_machine.specs.declared.machine.Machine.{Machine}
 use Rattle.shm_machine.specs.declared.opening.Area.{Area}
+use Rattle.shm_machine.specs.declared.opening.Failure.{Failure}
+use Rattle.shm_machine.specs.declared.opening.Side.TheVariants.{Left, Right}
 use Rattle.shm_machine.specs.Opened.{IsOpened, sizes_of}
 use Rattle.nogcuvema.specs.declared.structs.NogLimits.{NogLimits}
 use Rattle.nogcuvema.specs.declared.structs.NogArea.{NogArea}
@@ -23,6 +25,9 @@ kind_of kind = if kind == 1 then Ram else if kind == 2 then Sparse else Mirror
 
 abbrev pub area_of : NogArea → Area
 area_of a = record { kind = kind_of a.kind; slots = a.slots }
+
+abbrev pub failure_of : NogFailure → Failure
+failure_of f = record { area = f.area; side = if f.side == 0 then Left else Right; is_write = not (f.is_write == 0); call = f.call }
 
 abbrev pub process_of : NogProcess → Process
 process_of p = record { pid = p.pid; born = if p.is_born == 0 then None else Some (record { uid = p.uid; gid = p.gid }) }

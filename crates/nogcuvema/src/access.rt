@@ -3,7 +3,7 @@ ghost use Rattle.std.specs.Prelude.{◌≡◌, ◌≢◌, length};
 ghost use Rattle.shm_base.specs.Bounds.{within};
 ghost use Rattle.shm_base.specs.declared.call.Call.TheVariants as call;
 ghost use Rattle.shm_base.specs.declared.call.Reply.TheVariants as reply;
-ghost use Rattle.nogcuvema.specs.Answers.{Answers, AnswersFor, WhereFits};
+ghost use Rattle.nogcuvema.specs.Answers.{Answers, AnswersFor, AnswersWhere};
 
 use crate::code::{CLOSED, DONE, OUT_OF_RANGE, refusal_code};
 use crate::handle::Handle;
@@ -35,7 +35,7 @@ pub extern "C" fn nog_load(
     addr: u64,
     bytes: &mut [u8],
 ) -> u32
-    ensures answers { WhereFits (within 1 64 (length bytes.old)) (Answers handle.old.kept.value pid (call.Load addr (length bytes.old)) (reply.Bytes bytes.new) result handle.new.kept.value) handle.old.kept.value result handle.new.kept.value }
+    ensures answers { AnswersWhere (within 1 64 (length bytes.old)) handle.old.kept.value pid (call.Load addr (length bytes.old)) (reply.Bytes bytes.new) result handle.new.kept.value }
     ensures bytes { result ≢ 0 → bytes.new ≡ bytes.old }
 {
     let Some(len) = AccessLen::new(bytes.len() as u64) else {

@@ -1,7 +1,7 @@
 //! Opening and closing.
 ghost use Rattle.std.specs.Prelude.{◌≡◌, ◌≢◌, ◌⊎◌, map, IfOk, IfErr, None, is_some, if◌then◌else◌};
 ghost use Rattle.nogcuvema.specs.Answers.{closed, no_memory};
-ghost use Rattle.nogcuvema.specs.Opens.{kind_of, area_of, process_of, are_kinds, is_there, are_there, opening_code, Opens, OpenedTo};
+ghost use Rattle.nogcuvema.specs.Opens.{kind_of, area_of, failure_of, process_of, are_kinds, is_there, are_there, opening_code, Opens, OpenedTo};
 
 use crate::code::{CLOSED, DONE, NO_MEMORY, OUT_OF_RANGE};
 use crate::handle::Handle;
@@ -40,7 +40,9 @@ fn areas_of(alloc: Global, areas: &[NogArea]) -> Result<Vec<Area>, AllocError>
     Ok(all)
 }
 
-fn failures_of(alloc: Global, failures: &[NogFailure]) -> Result<Vec<Failure>, AllocError> {
+fn failures_of(alloc: Global, failures: &[NogFailure]) -> Result<Vec<Failure>, AllocError>
+    ensures { IfOk result (λ v. v.items ≡ map failure_of failures.now) }
+{
     let mut all = Vec::new(alloc);
     for failure in failures {
         all.push(Failure {

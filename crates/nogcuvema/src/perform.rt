@@ -4,7 +4,7 @@ ghost use Rattle.shm_base.specs.Bounds.{within};
 ghost use Rattle.shm_base.specs.declared.call.Call.TheVariants as call;
 ghost use Rattle.shm_base.specs.declared.call.Reply.TheVariants as reply;
 ghost use Rattle.shm_machine.specs.Answered.{fits};
-ghost use Rattle.nogcuvema.specs.Answers.{Answers, AnswersFor, WhereFits};
+ghost use Rattle.nogcuvema.specs.Answers.{Answers, AnswersFor, AnswersWhere};
 
 use crate::code::{CLOSED, DONE, OUT_OF_RANGE, refusal_code};
 use crate::handle::Handle;
@@ -54,7 +54,7 @@ pub extern "C" fn nog_set(
     gid: u32,
     mode: u32,
 ) -> u32
-    ensures { WhereFits (nat_lt mode 65536) (Answers handle.old.kept.value pid (call.Set id uid gid mode) reply.Done result handle.new.kept.value) handle.old.kept.value result handle.new.kept.value }
+    ensures { AnswersWhere (nat_lt mode 65536) handle.old.kept.value pid (call.Set id uid gid mode) reply.Done result handle.new.kept.value }
 {
     if mode > 65535 {
         return OUT_OF_RANGE;
@@ -96,7 +96,7 @@ pub extern "C" fn nog_store(
     addr: u64,
     bytes: &[u8],
 ) -> u32
-    ensures { WhereFits (within 1 64 (length bytes.now)) (Answers handle.old.kept.value pid (call.Store addr bytes.now) reply.Done result handle.new.kept.value) handle.old.kept.value result handle.new.kept.value }
+    ensures { AnswersWhere (within 1 64 (length bytes.now)) handle.old.kept.value pid (call.Store addr bytes.now) reply.Done result handle.new.kept.value }
 {
     let Some(chunk) = Chunk::new(bytes) else {
         return OUT_OF_RANGE;

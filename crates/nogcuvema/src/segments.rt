@@ -2,7 +2,7 @@
 ghost use Rattle.std.specs.Prelude.{◌≡◌, ◌≢◌, ◌&&◌, nat_lt};
 ghost use Rattle.shm_base.specs.declared.call.Call.TheVariants as call;
 ghost use Rattle.shm_base.specs.declared.call.Reply.TheVariants as reply;
-ghost use Rattle.nogcuvema.specs.Answers.{Answers, AnswersFor, WhereFits};
+ghost use Rattle.nogcuvema.specs.Answers.{Answers, AnswersFor, AnswersWhere};
 ghost use Rattle.nogcuvema.specs.Shown.{shown_by, index_of};
 
 use crate::code::{CLOSED, DONE, OUT_OF_RANGE, refusal_code};
@@ -47,7 +47,7 @@ pub extern "C" fn nog_get(
     flags: u32,
     id: &mut i32,
 ) -> u32
-    ensures answers { WhereFits (nat_lt mode 65536 && nat_lt flags 65536) (Answers handle.old.kept.value pid (call.Shmget key size mode (record { 0 = flags })) (reply.Id id.new) result handle.new.kept.value) handle.old.kept.value result handle.new.kept.value }
+    ensures answers { AnswersWhere (nat_lt mode 65536 && nat_lt flags 65536) handle.old.kept.value pid (call.Shmget key size mode (record { 0 = flags })) (reply.Id id.new) result handle.new.kept.value }
     ensures id { result ≢ 0 → id.new ≡ id.old }
 {
     if mode > 65535 || flags > 65535 {
@@ -86,7 +86,7 @@ pub extern "C" fn nog_attach(
     flags: u32,
     at: &mut u64,
 ) -> u32
-    ensures answers { WhereFits (nat_lt flags 65536) (Answers handle.old.kept.value pid (call.Shmat id addr (record { 0 = flags })) (reply.Addr at.new) result handle.new.kept.value) handle.old.kept.value result handle.new.kept.value }
+    ensures answers { AnswersWhere (nat_lt flags 65536) handle.old.kept.value pid (call.Shmat id addr (record { 0 = flags })) (reply.Addr at.new) result handle.new.kept.value }
     ensures at { result ≢ 0 → at.new ≡ at.old }
 {
     if flags > 65535 {

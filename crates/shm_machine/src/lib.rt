@@ -1,4 +1,4 @@
-//! A machine as one type without parameters: swap areas of three kinds behind one pager, and a method for each call.
+//! A machine as one type without parameters: swap areas of three kinds behind one pager, and methods for the calls.
 //! No history is kept: a machine answers calls in memory that does not grow with their number.
 #![tactic(auto)]
 
@@ -8,6 +8,8 @@ mod machine;
 mod opening;
 mod refusal;
 mod stretch;
+#[cfg(test)]
+mod tests;
 
 pub use area::{AreaKind, AreaPager, Failing};
 pub use machine::Machine;
