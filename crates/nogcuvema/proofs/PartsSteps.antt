@@ -1,0 +1,24 @@
+-- What both proofs of `Parts` share. Assumes `Logic`.
+use Rattle.std.proofs.Common.{List, [], ◌∷◌}
+use mir.Val.{Val, vptr}
+use base.Fml.{Fml, ftrue, flft, Lft, Share}
+use contract.BorrowLft.{◌⊑◌}
+use contract.Monad.{fact}
+use seplogic.Ra.Ura.{Ura}
+use types.Logic.{Logic}
+use types.Kit.{Item, ‵, raw, ◌⊛◌}
+use denote.RattleType.{RattleType}
+use Rattle.std.proofs.BoxSteps.Form.{Bx, R, P}
+use Rattle.nogcuvema.specs.contracts.parts.Parts as parts
+
+-- the parts of a box, as a row
+abbrev pub PartsOf : Bx → RattleType
+PartsOf E = parts.the_row (R E) (P E) E.al.g
+
+module _ (E : Bx) {M : Type 1} {𝓤 : Ura M} (𝓛 : Logic 𝓤) where
+  -- the tokens of the lifetimes of the value and of the allocator, and that they outlive what they are of
+  abbrev pub tokens : (value alloc : Lft) (p q : Share) → Item 𝓤
+  tokens value alloc p q = ‵ (flft value p) ⊛ ‵ (flft alloc q) ⊛ ‵ ftrue
+
+  abbrev pub outlived : (value alloc : Lft) → Item 𝓤
+  outlived value alloc = raw (fact 𝓤 (value ⊑ E.row.lives)) ⊛ raw (fact 𝓤 (alloc ⊑ E.al.row.lives)) ⊛ ‵ ftrue

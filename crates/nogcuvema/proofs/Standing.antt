@@ -1,0 +1,35 @@
+-- A machine that stands was refused nothing.
+use Rattle.std.proofs.Common.{◌≡◌, ℕ, ◌+◌, Bool, true, false, not, ◌&&◌, nat_lt, if◌then◌else◌, List, map, None, Result, Ok, refl, sym, ap, ◌∙◌}
+use Rattle.shm_base.specs.Bounds.{Bounds, within, bad, limits_of}
+use Rattle.shm_base.specs.declared.limits.BadLimits.{BadLimits}
+use Rattle.shm_base.specs.declared.call.Process.{Process}
+use Rattle.shm_life.specs.Start.{start_error}
+use Rattle.shm_machine.specs.declared.machine.Machine.{Machine}
+use Rattle.shm_machine.specs.declared.opening.Area.{Area}
+use Rattle.shm_machine.specs.Opened.{IsOpened, sizes_of}
+use Rattle.nogcuvema.specs.declared.structs.NogLimits.{NogLimits}
+use Rattle.nogcuvema.specs.declared.structs.NogArea.{NogArea}
+use Rattle.nogcuvema.specs.declared.structs.NogFailure.{NogFailure}
+use Rattle.nogcuvema.specs.declared.structs.NogProcess.{NogProcess}
+use Rattle.nogcuvema.specs.Opens.{area_of, process_of, are_kinds, are_there, bounds_of, opening_code, Opens}
+
+past : (b : Bool) (n : ℕ) (r : Result Bounds BadLimits) (x : Bounds) → (if b then bad n else r) ≡ Ok x → r ≡ Ok x
+past true n r x h = absurd (cc h)
+past false n r x h = h
+
+bounds-are : (l : NogLimits) (x : Bounds) → limits_of l.shmmax l.shmmni l.shmall l.frames l.memlock ≡ Ok x → x ≡ bounds_of l
+bounds-are l x h =
+    let ok : Ok (bounds_of l) ≡ Ok x = past (nat_lt l.frames (l.memlock + 2)) 5 _ x (past (not (within 2 4096 l.frames)) 4 _ x (past (not (within 1 65536 l.shmall)) 3 _ x (past (not (within 1 4096 l.shmmni)) 2 _ x (past (not (within 1 16777216 l.shmmax)) 1 _ x h)))) in
+    let same : bounds_of l ≡ x = cc ok in
+    sym same
+
+pub opens : (l : NogLimits) (areas : List NogArea) (failures : List NogFailure) (processes : List NogProcess) (x : Bounds) (given : List Area) (ps : List Process) (m : Machine)
+    → limits_of l.shmmax l.shmmni l.shmall l.frames l.memlock ≡ Ok x → are_kinds areas ≡ true → are_there areas failures ≡ true
+    → given ≡ map area_of areas → ps ≡ map process_of processes → start_error (sizes_of given) ps ≡ None → IsOpened x given ps m.system → Opens l areas failures processes m
+opens l areas failures processes x given ps m limits kinds there same-areas same-processes start opened =
+    let none : start_error (sizes_of (map area_of areas)) (map process_of processes) ≡ None = rw (← same-areas, ← same-processes) start in
+    let bounds = bounds-are l x limits in
+    record {
+      sound = rw (limits, kinds, there, none) refl;
+      opened = rw (← bounds, ← same-areas, ← same-processes) opened;
+    }

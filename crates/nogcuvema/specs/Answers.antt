@@ -1,0 +1,48 @@
+-- What a function of the interface answers, and what it leaves in the handle. One definition serves all calls.
+use Rattle.std.specs.Prelude.{ℕ, ◌≡◌, ◌⊎◌, Bool, true, false, Option, Some, None, Ok, Err}
+use Rattle.shm_base.specs.Codes.{code_of}
+use Rattle.shm_base.specs.declared.call.Call.{Call}
+use Rattle.shm_base.specs.declared.call.Reply.{Reply}
+use Rattle.shm_machine.specs.declared.machine.Machine.{Machine}
+use Rattle.shm_machine.specs.declared.refusal.Refusal.{Refusal}
+use Rattle.shm_machine.specs.declared.refusal.Refusal.TheVariants.{Refused, HostMemory, Spent}
+use Rattle.shm_machine.specs.Answered.{Answered}
+
+abbrev pub no_memory : ℕ
+no_memory = 2001
+
+abbrev pub closed : ℕ
+closed = 2002
+
+abbrev pub out_of_range : ℕ
+out_of_range = 2003
+
+abbrev pub spent : ℕ
+spent = 2004
+
+-- the code of a refusal
+abbrev pub refusal_code : Refusal → ℕ
+refusal_code (Refused errno) = code_of errno
+refusal_code HostMemory = no_memory
+refusal_code Spent = spent
+
+-- nothing changed, and this is why
+abbrev pub Unchanged : ℕ → Option Machine → ℕ → Option Machine → Type 0
+Unchanged why before code after = (code ≡ why) × (after ≡ before)
+
+-- a call was answered: 0 and this reply, or the code of a refusal
+abbrev pub AnswersFor : Machine → ℕ → Call → Reply → ℕ → Machine → Type 0
+AnswersFor before pid call reply code after =
+    ((code ≡ 0) × Answered before.system pid call (Ok reply) after.system)
+    ⊎ ((refusal : Refusal) × (code ≡ refusal_code refusal) × Answered before.system pid call (Err refusal) after.system)
+
+-- a call of a process through a handle; the reply is what the outputs show where the code is 0
+abbrev pub Answers : Option Machine → ℕ → Call → Reply → ℕ → Option Machine → Type 0
+Answers None pid call reply code after = Unchanged closed None code after
+Answers (Some before) pid call reply code None = ⊥
+Answers (Some before) pid call reply code (Some after) = AnswersFor before pid call reply code after
+
+-- the same, where a call can carry the numbers; where it can't, the code says so and nothing changed
+abbrev pub AnswersWhere : Bool → Option Machine → ℕ → Call → Reply → ℕ → Option Machine → Type 0
+AnswersWhere true before pid call reply code after = Answers before pid call reply code after
+AnswersWhere false before pid call reply code after = Unchanged out_of_range before code after

@@ -1,0 +1,16 @@
+-- What a handle owns: a machine's block where it is open, and else nothing.
+use Rattle.std.specs.Prelude.{ℕ, Option, Some, None, ◌≡◌, ◌≢◌, IsSome, IsNone}
+use base.Fml.{Fml, ftrue}
+use mir.Syntax.{Ty}
+use denote.RawPtr.{Ptr}
+use Rattle.std.specs.Box.Ownership.{box_owns}
+use Rattle.shm_machine.specs.declared.machine.Machine.{Machine}
+use Rattle.shm_machine.specs.contracts.machine.Machine.{the_row}
+
+abbrev pub held : (Ty → Ptr → Fml) → Ptr → Option Machine → Fml
+held frees p None = ftrue
+held frees p (Some m) = box_owns frees the_row p m
+
+-- the flag of a handle says whether it holds one
+abbrev pub IsOpenAs : ℕ → Option Machine → Type 0
+IsOpenAs flag machine = (flag ≡ 0 → IsNone machine) × (flag ≢ 0 → IsSome machine)

@@ -1,0 +1,76 @@
+-- What nog_open answers, and which machine it opens.
+use Rattle.std.specs.Prelude.{ℕ, ◌≡◌, ◌≢◌, ◌+◌, ◌⊎◌, Bool, true, false, not, ◌&&◌, ◌==◌, nat_le, nat_lt, if◌then◌else◌, List, map, Option, Some, None, Result, Ok, Err, slice_get, IsSomeAnd}
+use Rattle.std.specs.List.{list_all}
+use Rattle.shm_base.specs.Bounds.{Bounds, within, limits_of}
+use Rattle.shm_base.specs.declared.limits.BadLimits.{BadLimits}
+use Rattle.shm_base.specs.declared.owner.Cred.{Cred}
+use Rattle.shm_base.specs.declared.call.Process.{Process}
+use Rattle.shm_life.specs.Start.{start_error, number_of}
+use Rattle.shm_life.specs.declared.start.StartError.{StartError}
+use Rattle.shm_machine.specs.declared.area.AreaKind.{AreaKind}
+use Rattle.shm_machine.specs.declared.area.AreaKind.TheVariants.{Ram, Sparse, Mirror}
+use Rattle.shm_machine.specs.declared.machine.Machine.{Machine}
+use Rattle.shm_machine.specs.declared.opening.Area.{Area}
+use Rattle.shm_machine.specs.declared.opening.Failure.{Failure}
+use Rattle.shm_machine.specs.declared.opening.Side.TheVariants.{Left, Right}
+use Rattle.shm_machine.specs.Opened.{IsOpened, sizes_of}
+use Rattle.nogcuvema.specs.declared.structs.NogLimits.{NogLimits}
+use Rattle.nogcuvema.specs.declared.structs.NogArea.{NogArea}
+use Rattle.nogcuvema.specs.declared.structs.NogFailure.{NogFailure}
+use Rattle.nogcuvema.specs.declared.structs.NogProcess.{NogProcess}
+use Rattle.nogcuvema.specs.Answers.{no_memory, out_of_range}
+
+abbrev pub kind_of : ℕ → AreaKind
+kind_of kind = if kind == 1 then Ram else if kind == 2 then Sparse else Mirror
+
+abbrev pub area_of : NogArea → Area
+area_of a = record { kind = kind_of a.kind; slots = a.slots }
+
+abbrev pub failure_of : NogFailure → Failure
+failure_of f = record { area = f.area; side = if f.side == 0 then Left else Right; is_write = not (f.is_write == 0); call = f.call }
+
+abbrev pub process_of : NogProcess → Process
+process_of p = record { pid = p.pid; born = if p.is_born == 0 then None else Some (record { uid = p.uid; gid = p.gid }) }
+
+abbrev pub are_kinds : List NogArea → Bool
+are_kinds areas = list_all (λ (a : NogArea). within 1 3 a.kind) areas
+
+-- whether an area has the side
+abbrev pub has_side : ℕ → Option NogArea → Bool
+has_side side None = false
+has_side side (Some a) = nat_lt side (if a.kind == 3 then 2 else 1)
+
+-- whether a call is listed of a side that is there
+abbrev pub is_there : List NogArea → NogFailure → Bool
+is_there areas f = has_side f.side (slice_get areas f.area) && nat_le 1 f.call
+
+abbrev pub are_there : List NogArea → List NogFailure → Bool
+are_there areas failures = list_all (is_there areas) failures
+
+abbrev pub start_code : Option StartError → ℕ
+start_code None = 0
+start_code (Some e) = 2020 + number_of e
+
+abbrev pub code_by : Result Bounds BadLimits → List NogArea → List NogFailure → List NogProcess → ℕ
+code_by (Err bad) areas failures processes = 2010 + bad.0
+code_by (Ok limits) areas failures processes =
+    if not (are_kinds areas && are_there areas failures) then out_of_range else
+    start_code (start_error (sizes_of (map area_of areas)) (map process_of processes))
+
+-- the first refusal that holds, 0 where none does: a limit, a number that nothing can carry, a start error
+abbrev pub opening_code : NogLimits → List NogArea → List NogFailure → List NogProcess → ℕ
+opening_code l areas failures processes = code_by (limits_of l.shmmax l.shmmni l.shmall l.frames l.memlock) areas failures processes
+
+abbrev pub bounds_of : NogLimits → Bounds
+bounds_of l = record { shmmax = l.shmmax; shmmni = l.shmmni; shmall = l.shmall; frames = l.frames; memlock = l.memlock }
+
+-- such a machine stands, and nothing is refused
+pub record Opens (l : NogLimits) (areas : List NogArea) (failures : List NogFailure) (processes : List NogProcess) (m : Machine) : Type 0 where
+  pub sound : opening_code l areas failures processes ≡ 0
+  pub opened : IsOpened (bounds_of l) (map area_of areas) (map process_of processes) m.system
+
+-- it was opened, or refused for the first reason or for want of memory, and nothing changed
+abbrev pub OpenedTo : Option Machine → NogLimits → List NogArea → List NogFailure → List NogProcess → ℕ → Option Machine → Type 0
+OpenedTo before l areas failures processes code after =
+    ((code ≡ 0) × IsSomeAnd after (Opens l areas failures processes))
+    ⊎ ((code ≢ 0) × (((code ≡ no_memory) ⊎ (code ≡ opening_code l areas failures processes)) × (after ≡ before)))

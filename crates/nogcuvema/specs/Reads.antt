@@ -1,0 +1,30 @@
+-- What is read of a machine with no call, and flushing.
+use Rattle.std.specs.Prelude.{ℕ, ℤ, ◌≡◌, Option, Some, None}
+use Rattle.shm_base.specs.declared.call.ShmidDs.{ShmidDs}
+use Rattle.shm_base.specs.declared.paging.FlushReport.{FlushReport}
+use Rattle.shm_life.specs.Listed.{segment_at}
+use Rattle.shm_machine.specs.declared.machine.Machine.{Machine}
+use Rattle.shm_machine.specs.Answered.{Flushed}
+use Rattle.nogcuvema.specs.declared.structs.NogSegment.{NogSegment}
+use Rattle.nogcuvema.specs.Shown.{shown_by}
+use Rattle.nogcuvema.specs.Answers.{closed, out_of_range, Unchanged}
+
+-- a machine is there, shows this, and stays as it is
+abbrev pub Reads : Option Machine → (Machine → Type 0) → ℕ → Option Machine → Type 0
+Reads None shows code after = Unchanged closed None code after
+Reads (Some m) shows code after = Unchanged 0 (Some m) code after × shows m
+
+abbrev pub ListedBy : ℕ → NogSegment → ℕ → Option (ℤ × ShmidDs) → Type 0
+ListedBy index segment code None = code ≡ out_of_range
+ListedBy index segment code (Some found) = (code ≡ 0) × (segment.index ≡ index) × (segment.id ≡ found.0) × (shown_by segment ≡ found.1)
+
+-- the segment at an index, out of range where there is none; the machine stays as it is
+abbrev pub Listed : Option Machine → ℕ → NogSegment → ℕ → Option Machine → Type 0
+Listed None index segment code after = Unchanged closed None code after
+Listed (Some m) index segment code after = ListedBy index segment code (segment_at m.system.machine index) × (after ≡ Some m)
+
+-- a flush round, by what it reports
+abbrev pub FlushedTo : Option Machine → ℕ → FlushReport → ℕ → Option Machine → Type 0
+FlushedTo None pages report code after = Unchanged closed None code after
+FlushedTo (Some m) pages report code None = ⊥
+FlushedTo (Some m) pages report code (Some n) = (code ≡ 0) × Flushed m.system pages report n.system

@@ -1,0 +1,159 @@
+//! What the library says of itself.
+ghost use Rattle.std.specs.Prelude.{◌≡◌, ◌≢◌, option_map, slice_get};
+ghost use Rattle.nogcuvema.specs.About.{text_by, with_text, layout_by, TextTold, ValueTold};
+
+use crate::code::{DONE, OUT_OF_RANGE};
+use crate::handle::Handle;
+use crate::structs::{
+    NogArea, NogFailure, NogFlushed, NogLimits, NogProcess, NogSegment, NogTally,
+};
+
+fn text_of(code: u32) -> Option<&'static str>
+    ensures { option_map (λ s. s.now) result ≡ text_by code }
+{
+    match code {
+        0 => Some("done"),
+        1 => Some("EPERM"),
+        2 => Some("ENOENT"),
+        3 => Some("ESRCH"),
+        5 => Some("EIO"),
+        11 => Some("EAGAIN"),
+        12 => Some("ENOMEM"),
+        13 => Some("EACCES"),
+        17 => Some("EEXIST"),
+        22 => Some("EINVAL"),
+        24 => Some("EMFILE"),
+        28 => Some("ENOSPC"),
+        43 => Some("EIDRM"),
+        1007 => Some("SIGBUS"),
+        1011 => Some("SIGSEGV"),
+        2001 => Some("out of memory"),
+        2002 => Some("no machine in the handle"),
+        2003 => Some("a number that no call can carry"),
+        2004 => Some("no more calls can be counted"),
+        2011 => Some("bad limits: SHMMAX"),
+        2012 => Some("bad limits: SHMMNI"),
+        2013 => Some("bad limits: SHMALL"),
+        2014 => Some("bad limits: frames"),
+        2015 => Some("bad limits: MEMLOCK"),
+        2021 => Some("start refused: not 1 to 8 swap areas"),
+        2022 => Some("start refused: a swap area without 1 to 65536 slots"),
+        2023 => Some("start refused: more than 64 processes"),
+        2024 => Some("start refused: a pid out of range, or twice"),
+        _ => None,
+    }
+}
+
+// The text with a zero behind it, cut where it is long.
+fn put_text(text: &[u8], buffer: &mut [u8])
+    ensures { buffer.new ≡ with_text text.now buffer.old }
+{
+    let Some(most) = buffer.len().checked_sub(1) else {
+        return;
+    };
+    let count = text.len().min(most);
+    buffer[..count].copy_from_slice(&text[..count]);
+    buffer[count] = 0;
+}
+
+/// The text of a code, ended by a zero and cut to one byte less than the buffer; `len` is its whole length. Out of
+/// range for a number that is no code.
+#[unsafe(no_mangle)]
+pub extern "C" fn nog_text(code: u32, text: &mut [u8], len: &mut usize) -> u32
+    ensures { TextTold (text_by code) text.old len.old result text.new len.new }
+{
+    let Some(told) = text_of(code) else {
+        return OUT_OF_RANGE;
+    };
+    put_text(told.as_bytes(), text);
+    *len = told.len();
+    DONE
+}
+
+/// The version: 900 is 0.9.0.
+#[unsafe(no_mangle)]
+pub extern "C" fn nog_version() -> u32
+    ensures { result ≡ 900 }
+{
+    900
+}
+
+const MACHINE: [usize; 3] = [size_of::<Handle>(), 0, 8];
+
+const LIMITS: [usize; 6] = [size_of::<NogLimits>(), 0, 8, 16, 24, 32];
+
+const AREA: [usize; 3] = [size_of::<NogArea>(), 0, 4];
+
+const FAILURE: [usize; 6] = [size_of::<NogFailure>(), 0, 4, 8, 12, 16];
+
+const PROCESS: [usize; 5] = [size_of::<NogProcess>(), 0, 4, 8, 12];
+
+const SEGMENT: [usize; 17] = [
+    size_of::<NogSegment>(),
+    0,
+    8,
+    16,
+    24,
+    32,
+    36,
+    40,
+    44,
+    48,
+    52,
+    56,
+    60,
+    64,
+    68,
+    72,
+    76,
+];
+
+const TALLY: [usize; 13] = [
+    size_of::<NogTally>(),
+    0,
+    8,
+    16,
+    24,
+    32,
+    40,
+    48,
+    56,
+    64,
+    72,
+    80,
+    88,
+];
+
+const FLUSHED: [usize; 3] = [size_of::<NogFlushed>(), 0, 8];
+
+fn layout_of(which: u32, field: usize) -> Option<usize>
+    ensures { result ≡ slice_get (layout_by which) field }
+{
+    let layout: &[usize] = match which {
+        0 => &MACHINE,
+        1 => &LIMITS,
+        2 => &AREA,
+        3 => &FAILURE,
+        4 => &PROCESS,
+        5 => &SEGMENT,
+        6 => &TALLY,
+        7 => &FLUSHED,
+        _ => &[],
+    };
+    layout.get(field).copied()
+}
+
+/// What the library has for its structs: `which` 0 is the machine, 1 limits, 2 area, 3 failure, 4 process, 5 segment, 6
+/// tally, 7 flushed; field 0 the size in bytes, field n the offset of the n-th field. Out of range for others.
+#[unsafe(no_mangle)]
+pub extern "C" fn nog_layout(which: u32, field: u32, value: &mut usize) -> u32
+    ensures { ValueTold (slice_get (layout_by which) field) value.old result value.new }
+{
+    match layout_of(which, field as usize) {
+        Some(told) => {
+            *value = told;
+            DONE
+        }
+        None => OUT_OF_RANGE,
+    }
+}

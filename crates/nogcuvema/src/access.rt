@@ -1,0 +1,85 @@
+//! Loads and additions.
+ghost use Rattle.std.specs.Prelude.{◌≡◌, ◌≢◌, length};
+ghost use Rattle.shm_base.specs.Bounds.{within};
+ghost use Rattle.shm_base.specs.declared.call.Call.TheVariants as call;
+ghost use Rattle.shm_base.specs.declared.call.Reply.TheVariants as reply;
+ghost use Rattle.nogcuvema.specs.Answers.{Answers, AnswersFor, AnswersWhere};
+
+use crate::code::{CLOSED, DONE, OUT_OF_RANGE, refusal_code};
+use crate::handle::Handle;
+use shm_base::AccessLen;
+use shm_machine::Machine;
+use std::alloc::Global;
+
+#[tactic(auto, using(crate::proofs::Answering::refused))]
+fn load(machine: &mut Machine, pid: u32, addr: u64, len: AccessLen, bytes: &mut [u8]) -> u32
+    requires { length bytes.old ≡ len }
+    ensures answers { AnswersFor machine.old pid (call.Load addr len) (reply.Bytes bytes.new) result machine.new }
+    ensures bytes { result ≢ 0 → bytes.new ≡ bytes.old }
+{
+    match machine.load(pid, addr, len) {
+        Ok(chunk) => {
+            bytes.copy_from_slice(chunk.as_slice());
+            DONE
+        }
+        Err(refusal) => refusal_code(refusal),
+    }
+}
+
+/// Reads 1 to 64 bytes of attached memory, in one step.
+#[unsafe(no_mangle)]
+pub extern "C" fn nog_load(
+    alloc: Global,
+    handle: &mut Handle,
+    pid: u32,
+    addr: u64,
+    bytes: &mut [u8],
+) -> u32
+    ensures answers { AnswersWhere (within 1 64 (length bytes.old)) handle.old.kept.value pid (call.Load addr (length bytes.old)) (reply.Bytes bytes.new) result handle.new.kept.value }
+    ensures bytes { result ≢ 0 → bytes.new ≡ bytes.old }
+{
+    let Some(len) = AccessLen::new(bytes.len() as u64) else {
+        return OUT_OF_RANGE;
+    };
+    let Some(mut machine) = handle.take(alloc) else {
+        return CLOSED;
+    };
+    let code = load(&mut machine, pid, addr, len, bytes);
+    handle.put(machine);
+    code
+}
+
+#[tactic(auto, using(crate::proofs::Answering::refused))]
+fn add_to(machine: &mut Machine, pid: u32, addr: u64, add: u64, before: &mut u64) -> u32
+    ensures answers { AnswersFor machine.old pid (call.Xadd addr add) (reply.Number before.new) result machine.new }
+    ensures before { result ≢ 0 → before.new ≡ before.old }
+{
+    match machine.add(pid, addr, add) {
+        Ok(stood) => {
+            *before = stood;
+            DONE
+        }
+        Err(refusal) => refusal_code(refusal),
+    }
+}
+
+/// Adds to eight little-endian bytes of attached memory modulo 2^64, in one step; `before` is the number that stood there.
+#[unsafe(no_mangle)]
+pub extern "C" fn nog_add(
+    alloc: Global,
+    handle: &mut Handle,
+    pid: u32,
+    addr: u64,
+    add: u64,
+    before: &mut u64,
+) -> u32
+    ensures answers { Answers handle.old.kept.value pid (call.Xadd addr add) (reply.Number before.new) result handle.new.kept.value }
+    ensures before { result ≢ 0 → before.new ≡ before.old }
+{
+    let Some(mut machine) = handle.take(alloc) else {
+        return CLOSED;
+    };
+    let code = add_to(&mut machine, pid, addr, add, before);
+    handle.put(machine);
+    code
+}

@@ -1,0 +1,53 @@
+//! What a C program holds.
+ghost use Rattle.std.specs.Prelude.{◌≡◌, Option, Some, None, IsSome, IsNone, IfSome, option_map};
+ghost use Rattle.nogcuvema.specs.Held.{IsOpenAs};
+
+use crate::held::Kept;
+use crate::parts::Parts;
+use shm_machine::Machine;
+use std::alloc::Global;
+use std::mem::replace;
+
+/// A machine, or none yet. C keeps it, and moves it only as a whole.
+#[repr(C)]
+#[derive(Drop)]
+pub struct Handle {
+    is_open: u32,
+    pub kept: Kept,
+    ghost rule: { IsOpenAs is_open kept.value },
+}
+
+impl Handle {
+    /// A handle with no machine.
+    pub fn empty() -> Handle
+        ensures { result.kept.value ≡ None }
+    {
+        Handle {
+            is_open: 0,
+            kept: Kept::none(),
+        }
+    }
+
+    /// Takes the machine out, if there is one.
+    pub fn take(&mut self, alloc: Global) -> Option<Box<Machine>>
+        ensures new { self.new.kept.value ≡ None }
+        ensures old { option_map (λ c. c.value) result ≡ self.old.kept.value }
+    {
+        let Handle { is_open, kept } = replace(self, Handle::empty());
+        if is_open == 0 {
+            return None;
+        }
+        Some(kept.into_parts(alloc).into_box())
+    }
+
+    /// Puts a machine in, where there is none.
+    pub fn put(&mut self, machine: Box<Machine>)
+        requires { self.old.kept.value ≡ None }
+        ensures { self.new.kept.value ≡ Some machine.value }
+    {
+        *self = Handle {
+            is_open: 1,
+            kept: Kept::of(Parts::of(machine)),
+        };
+    }
+}

@@ -1,0 +1,52 @@
+//! A machine on the heap, behind a pointer that C keeps.
+ghost use Rattle.std.specs.Prelude.{◌≡◌, Option, Some, None, IsSome};
+ghost use Rattle.nogcuvema.specs.Held.{held};
+ghost use Rattle.shm_machine.specs.declared.machine.Machine.{Machine};
+
+use crate::parts::Parts;
+use shm_machine::Machine;
+use std::alloc::{Allocator, Global};
+use std::marker::Model;
+
+/// A machine's block, or nothing. Dropping it frees nothing.
+#[repr(C)]
+#[derive(Drop)]
+pub struct Kept {
+    at: *mut u8,
+    pub ghost value: { Option Machine },
+}
+
+impl Model for Kept {
+    ghost also_owns = { λ k. held (⟦<Global as Allocator>⟧.dealloc_token (record { memory = record { seal = tt } })) k.at k.value };
+}
+
+impl Kept {
+    /// Nothing.
+    pub fn none() -> Kept
+        ensures { result.value ≡ None }
+    {
+        Kept {
+            at: std::ptr::null_mut(),
+        }
+    }
+
+    /// Takes over a machine's block.
+    pub fn of(parts: Parts<Machine, Global>) -> Kept
+        ensures { result.value ≡ Some parts.value }
+    {
+        let Parts { ptr, alloc: _ } = parts;
+        Kept { at: ptr as *mut u8 }
+    }
+
+    /// Gives the block back.
+    pub fn into_parts(self, alloc: Global) -> Parts<Machine, Global>
+        requires { IsSome self.value }
+        ensures { self.value ≡ Some result.value }
+    {
+        let Kept { at } = self;
+        Parts {
+            ptr: at as *mut Machine,
+            alloc,
+        }
+    }
+}

@@ -1,0 +1,31 @@
+//! The machine for programs in C: a handle, and a function for each call.
+#![tactic(auto)]
+
+mod about;
+mod access;
+mod code;
+mod handle;
+mod held;
+mod inspect;
+mod open;
+mod parts;
+mod perform;
+mod segments;
+mod stretch;
+mod structs;
+#[cfg(test)]
+mod tests;
+
+pub use about::{nog_layout, nog_text, nog_version};
+pub use access::{nog_add, nog_load};
+pub use handle::Handle;
+pub use held::Kept;
+pub use inspect::{nog_calls, nog_flush, nog_indexes, nog_segment_at, nog_tally_of};
+pub use open::{nog_close, nog_open};
+pub use perform::{
+    nog_detach, nog_exec, nog_exit, nog_fork, nog_lock, nog_remove, nog_set, nog_store,
+    nog_swapoff, nog_unlock,
+};
+pub use segments::{nog_attach, nog_get, nog_stat};
+pub use stretch::{nog_read, nog_write};
+pub use structs::{NogArea, NogFailure, NogFlushed, NogLimits, NogProcess, NogSegment, NogTally};

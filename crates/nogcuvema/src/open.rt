@@ -1,0 +1,184 @@
+//! Opening and closing.
+ghost use Rattle.std.specs.Prelude.{◌≡◌, ◌≢◌, ◌⊎◌, map, IfOk, IfErr, None, is_some, if◌then◌else◌};
+ghost use Rattle.nogcuvema.specs.Answers.{closed, no_memory};
+ghost use Rattle.nogcuvema.specs.Opens.{kind_of, area_of, failure_of, process_of, are_kinds, is_there, are_there, opening_code, Opens, OpenedTo};
+
+use crate::code::{CLOSED, DONE, NO_MEMORY, OUT_OF_RANGE};
+use crate::handle::Handle;
+use crate::structs::{NogArea, NogFailure, NogLimits, NogProcess};
+use shm_base::{Cred, Limits, Process};
+use shm_life::StartError;
+use shm_machine::{Area, AreaKind, Failure, Machine, Side};
+use std::alloc::{AllocError, Global};
+
+const BAD_LIMITS: u32 = 2010;
+
+const START_REFUSED: u32 = 2020;
+
+fn kind_of(kind: u32) -> AreaKind
+    ensures { result ≡ kind_of kind }
+{
+    if kind == 1 {
+        AreaKind::Ram
+    } else if kind == 2 {
+        AreaKind::Sparse
+    } else {
+        AreaKind::Mirror
+    }
+}
+
+fn areas_of(alloc: Global, areas: &[NogArea]) -> Result<Vec<Area>, AllocError>
+    ensures { IfOk result (λ v. v.items ≡ map area_of areas.now) }
+{
+    let mut all = Vec::new(alloc);
+    for area in areas {
+        all.push(Area {
+            kind: kind_of(area.kind),
+            slots: area.slots,
+        })?;
+    }
+    Ok(all)
+}
+
+fn failures_of(alloc: Global, failures: &[NogFailure]) -> Result<Vec<Failure>, AllocError>
+    ensures { IfOk result (λ v. v.items ≡ map failure_of failures.now) }
+{
+    let mut all = Vec::new(alloc);
+    for failure in failures {
+        all.push(Failure {
+            area: failure.area,
+            side: if failure.side == 0 {
+                Side::Left
+            } else {
+                Side::Right
+            },
+            is_write: failure.is_write != 0,
+            call: failure.call,
+        })?;
+    }
+    Ok(all)
+}
+
+fn processes_of(alloc: Global, processes: &[NogProcess]) -> Result<Vec<Process>, AllocError>
+    ensures { IfOk result (λ v. v.items ≡ map process_of processes.now) }
+{
+    let mut all = Vec::new(alloc);
+    for process in processes {
+        let born = if process.is_born == 0 {
+            None
+        } else {
+            Some(Cred {
+                uid: process.uid,
+                gid: process.gid,
+            })
+        };
+        all.push(Process {
+            pid: process.pid,
+            born,
+        })?;
+    }
+    Ok(all)
+}
+
+fn are_kinds(areas: &[NogArea]) -> bool
+    ensures { result ≡ are_kinds areas.now }
+{
+    areas.iter().all(|area| area.kind >= 1 && area.kind <= 3)
+}
+
+fn is_there(areas: &[NogArea], failure: &NogFailure) -> bool
+    ensures { result ≡ is_there areas.now failure.now }
+{
+    let Some(area) = areas.get(failure.area as usize) else {
+        return false;
+    };
+    let sides = if area.kind == 3 { 2 } else { 1 };
+    failure.side < sides && failure.call >= 1
+}
+
+fn are_there(areas: &[NogArea], failures: &[NogFailure]) -> bool
+    ensures { result ≡ are_there areas.now failures.now }
+{
+    for failure in failures {
+        if !is_there(areas, failure) {
+            return false;
+        }
+    }
+    true
+}
+
+// The machine, or the code of the first refusal.
+fn machine_of(
+    alloc: Global,
+    limits: &NogLimits,
+    areas: &[NogArea],
+    failures: &[NogFailure],
+    processes: &[NogProcess],
+) -> Result<Machine, u32>
+    ensures ok { IfOk result (Opens limits.now areas.now failures.now processes.now) }
+    ensures err { IfErr result (λ code. (code ≢ 0) × ((code ≡ no_memory) ⊎ (code ≡ opening_code limits.now areas.now failures.now processes.now))) }
+{
+    let bounds = match Limits::new(
+        limits.shmmax,
+        limits.shmmni,
+        limits.shmall,
+        limits.frames,
+        limits.memlock,
+    ) {
+        Ok(bounds) => bounds,
+        Err(bad) => return Err(BAD_LIMITS + u32::from(bad.0)),
+    };
+    if !are_kinds(areas) || !are_there(areas, failures) {
+        return Err(OUT_OF_RANGE);
+    }
+    let Ok(areas) = areas_of(alloc, areas) else {
+        return Err(NO_MEMORY);
+    };
+    let Ok(failures) = failures_of(alloc, failures) else {
+        return Err(NO_MEMORY);
+    };
+    let Ok(processes) = processes_of(alloc, processes) else {
+        return Err(NO_MEMORY);
+    };
+    match Machine::open(alloc, bounds, &areas, &failures, &processes) {
+        Ok(machine) => Ok(machine),
+        Err(StartError::HostMemory) => Err(NO_MEMORY),
+        Err(error) => Err(START_REFUSED + u32::from(error.number())),
+    }
+}
+
+/// Opens a machine in the handle, and lets go of the one before where the new one stands.
+#[unsafe(no_mangle)]
+pub extern "C" fn nog_open(
+    alloc: Global,
+    handle: &mut Handle,
+    limits: &NogLimits,
+    areas: &[NogArea],
+    failures: &[NogFailure],
+    processes: &[NogProcess],
+) -> u32
+    ensures { OpenedTo handle.old.kept.value limits.now areas.now failures.now processes.now result handle.new.kept.value }
+{
+    let machine = match machine_of(alloc, limits, areas, failures, processes) {
+        Ok(machine) => machine,
+        Err(code) => return code,
+    };
+    let Ok(made) = Box::new(alloc, machine) else {
+        return NO_MEMORY;
+    };
+    let _before = handle.take(alloc);
+    handle.put(made);
+    DONE
+}
+
+/// Lets go of the machine.
+#[unsafe(no_mangle)]
+pub extern "C" fn nog_close(alloc: Global, handle: &mut Handle) -> u32
+    ensures code { result ≡ (if is_some handle.old.kept.value then 0 else closed) }
+    ensures none { handle.new.kept.value ≡ None }
+{
+    match handle.take(alloc) {
+        Some(_) => DONE,
+        None => CLOSED,
+    }
+}

@@ -1,0 +1,137 @@
+//! The calls that have nothing to tell but that they were done.
+ghost use Rattle.std.specs.Prelude.{◌≡◌, true, nat_lt, length};
+ghost use Rattle.shm_base.specs.Bounds.{within};
+ghost use Rattle.shm_base.specs.declared.call.Call.TheVariants as call;
+ghost use Rattle.shm_base.specs.declared.call.Reply.TheVariants as reply;
+ghost use Rattle.shm_machine.specs.Answered.{fits};
+ghost use Rattle.nogcuvema.specs.Answers.{Answers, AnswersFor, AnswersWhere};
+
+use crate::code::{CLOSED, DONE, OUT_OF_RANGE, refusal_code};
+use crate::handle::Handle;
+use shm_base::{Call, Chunk};
+use shm_machine::Machine;
+use std::alloc::Global;
+
+#[tactic(auto, using(crate::proofs::Answering::refused))]
+fn performed(machine: &mut Machine, pid: u32, call: &Call) -> u32
+    requires { fits call.now reply.Done ≡ true }
+    ensures { AnswersFor machine.old pid call.now reply.Done result machine.new }
+{
+    match machine.perform(pid, call) {
+        Ok(()) => DONE,
+        Err(refusal) => refusal_code(refusal),
+    }
+}
+
+fn perform(alloc: Global, handle: &mut Handle, pid: u32, call: &Call) -> u32
+    requires { fits call.now reply.Done ≡ true }
+    ensures { Answers handle.old.kept.value pid call.now reply.Done result handle.new.kept.value }
+{
+    let Some(mut machine) = handle.take(alloc) else {
+        return CLOSED;
+    };
+    let code = performed(&mut machine, pid, call);
+    handle.put(machine);
+    code
+}
+
+/// shmdt(2): takes out the pieces of one attach.
+#[unsafe(no_mangle)]
+pub extern "C" fn nog_detach(alloc: Global, handle: &mut Handle, pid: u32, addr: u64) -> u32
+    ensures { Answers handle.old.kept.value pid (call.Shmdt addr) reply.Done result handle.new.kept.value }
+{
+    perform(alloc, handle, pid, &Call::Shmdt { addr })
+}
+
+/// shmctl(2), IPC_SET: owner, group and mode of a segment. The mode is below 65536.
+#[unsafe(no_mangle)]
+pub extern "C" fn nog_set(
+    alloc: Global,
+    handle: &mut Handle,
+    pid: u32,
+    id: i32,
+    uid: u32,
+    gid: u32,
+    mode: u32,
+) -> u32
+    ensures { AnswersWhere (nat_lt mode 65536) handle.old.kept.value pid (call.Set id uid gid mode) reply.Done result handle.new.kept.value }
+{
+    if mode > 65535 {
+        return OUT_OF_RANGE;
+    }
+    let mode = mode as u16;
+    perform(alloc, handle, pid, &Call::Set { id, uid, gid, mode })
+}
+
+/// shmctl(2), IPC_RMID: marks a segment, which goes with its last piece.
+#[unsafe(no_mangle)]
+pub extern "C" fn nog_remove(alloc: Global, handle: &mut Handle, pid: u32, id: i32) -> u32
+    ensures { Answers handle.old.kept.value pid (call.Rmid id) reply.Done result handle.new.kept.value }
+{
+    perform(alloc, handle, pid, &Call::Rmid { id })
+}
+
+/// shmctl(2), SHM_LOCK: the pages of a segment stay resident.
+#[unsafe(no_mangle)]
+pub extern "C" fn nog_lock(alloc: Global, handle: &mut Handle, pid: u32, id: i32) -> u32
+    ensures { Answers handle.old.kept.value pid (call.Lock id) reply.Done result handle.new.kept.value }
+{
+    perform(alloc, handle, pid, &Call::Lock { id })
+}
+
+/// shmctl(2), SHM_UNLOCK.
+#[unsafe(no_mangle)]
+pub extern "C" fn nog_unlock(alloc: Global, handle: &mut Handle, pid: u32, id: i32) -> u32
+    ensures { Answers handle.old.kept.value pid (call.Unlock id) reply.Done result handle.new.kept.value }
+{
+    perform(alloc, handle, pid, &Call::Unlock { id })
+}
+
+/// Replaces 1 to 64 bytes of attached memory, in one step.
+#[unsafe(no_mangle)]
+pub extern "C" fn nog_store(
+    alloc: Global,
+    handle: &mut Handle,
+    pid: u32,
+    addr: u64,
+    bytes: &[u8],
+) -> u32
+    ensures { AnswersWhere (within 1 64 (length bytes.now)) handle.old.kept.value pid (call.Store addr bytes.now) reply.Done result handle.new.kept.value }
+{
+    let Some(chunk) = Chunk::new(bytes) else {
+        return OUT_OF_RANGE;
+    };
+    perform(alloc, handle, pid, &Call::Store { addr, chunk })
+}
+
+/// fork(2): a declared child begins, with the pieces and the ids of the process.
+#[unsafe(no_mangle)]
+pub extern "C" fn nog_fork(alloc: Global, handle: &mut Handle, pid: u32, child: u32) -> u32
+    ensures { Answers handle.old.kept.value pid (call.Fork child) reply.Done result handle.new.kept.value }
+{
+    perform(alloc, handle, pid, &Call::Fork { child })
+}
+
+/// execve(2): the process loses its pieces.
+#[unsafe(no_mangle)]
+pub extern "C" fn nog_exec(alloc: Global, handle: &mut Handle, pid: u32) -> u32
+    ensures { Answers handle.old.kept.value pid call.Exec reply.Done result handle.new.kept.value }
+{
+    perform(alloc, handle, pid, &Call::Exec)
+}
+
+/// _exit(2): the process ends, and loses its pieces.
+#[unsafe(no_mangle)]
+pub extern "C" fn nog_exit(alloc: Global, handle: &mut Handle, pid: u32) -> u32
+    ensures { Answers handle.old.kept.value pid call.Exit reply.Done result handle.new.kept.value }
+{
+    perform(alloc, handle, pid, &Call::Exit)
+}
+
+/// swapoff(2): takes a swap area away.
+#[unsafe(no_mangle)]
+pub extern "C" fn nog_swapoff(alloc: Global, handle: &mut Handle, pid: u32, area: u32) -> u32
+    ensures { Answers handle.old.kept.value pid (call.Swapoff area) reply.Done result handle.new.kept.value }
+{
+    perform(alloc, handle, pid, &Call::Swapoff { area })
+}

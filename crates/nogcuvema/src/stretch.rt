@@ -1,0 +1,78 @@
+//! Reads and writes of any length.
+ghost use Rattle.std.specs.Prelude.{◌≡◌};
+ghost use Rattle.nogcuvema.specs.Through.{stop_code, ReadBy, ReadThrough, WrittenBy, WrittenThrough};
+
+use crate::code::{CLOSED, DONE, refusal_code};
+use crate::handle::Handle;
+use shm_machine::{Machine, Refusal};
+use std::alloc::Global;
+
+// The code of what an access was stopped by.
+fn stop_code(stopped: Option<Refusal>) -> u32
+    ensures { result ≡ stop_code stopped }
+{
+    match stopped {
+        Some(refusal) => refusal_code(refusal),
+        None => DONE,
+    }
+}
+
+#[tactic(auto, using(crate::proofs::Answering::read_by))]
+fn read(machine: &mut Machine, pid: u32, addr: u64, bytes: &mut [u8], done: &mut u64) -> u32
+    ensures { ReadBy machine.old pid addr bytes.old result bytes.new done.new machine.new }
+{
+    let progress = machine.read(pid, addr, bytes);
+    *done = progress.done as u64;
+    stop_code(progress.stopped)
+}
+
+/// Reads attached memory into the buffer, by loads of 64 bytes and a last one of the rest, until one is refused; `done`
+/// is how many bytes were read.
+#[unsafe(no_mangle)]
+pub extern "C" fn nog_read(
+    alloc: Global,
+    handle: &mut Handle,
+    pid: u32,
+    addr: u64,
+    bytes: &mut [u8],
+    done: &mut u64,
+) -> u32
+    ensures { ReadThrough handle.old.kept.value pid addr bytes.old done.old result bytes.new done.new handle.new.kept.value }
+{
+    let Some(mut machine) = handle.take(alloc) else {
+        return CLOSED;
+    };
+    let code = read(&mut machine, pid, addr, bytes, done);
+    handle.put(machine);
+    code
+}
+
+#[tactic(auto, using(crate::proofs::Answering::written_by))]
+fn write(machine: &mut Machine, pid: u32, addr: u64, bytes: &[u8], done: &mut u64) -> u32
+    ensures { WrittenBy machine.old pid addr bytes.now result done.new machine.new }
+{
+    let progress = machine.write(pid, addr, bytes);
+    *done = progress.done as u64;
+    stop_code(progress.stopped)
+}
+
+/// Replaces attached memory by the bytes, by stores of 64 bytes and a last one of the rest, until one is refused; `done`
+/// is how many bytes were written.
+#[unsafe(no_mangle)]
+pub extern "C" fn nog_write(
+    alloc: Global,
+    handle: &mut Handle,
+    pid: u32,
+    addr: u64,
+    bytes: &[u8],
+    done: &mut u64,
+) -> u32
+    ensures { WrittenThrough handle.old.kept.value pid addr bytes.now done.old result done.new handle.new.kept.value }
+{
+    let Some(mut machine) = handle.take(alloc) else {
+        return CLOSED;
+    };
+    let code = write(&mut machine, pid, addr, bytes, done);
+    handle.put(machine);
+    code
+}

@@ -1,0 +1,166 @@
+//! What C and the library hand each other.
+ghost use Rattle.std.specs.Prelude.{◌≡◌};
+ghost use Rattle.nogcuvema.specs.Shown.{shown_by, index_of, tally_by, report_by};
+
+use bitflags::Flags;
+use shm_base::{FlushReport, ShmidDs, Tally};
+
+/// The limits of a machine.
+#[repr(C)]
+#[derive(Clone, Copy)]
+pub struct NogLimits {
+    pub shmmax: u64,
+    pub shmmni: u64,
+    pub shmall: u64,
+    pub frames: u64,
+    pub memlock: u64,
+}
+
+/// A swap area: its kind, 1 ram, 2 sparse, 3 a mirror, and how many slots it has, or each side of a mirror.
+#[repr(C)]
+#[derive(Clone, Copy)]
+pub struct NogArea {
+    pub kind: u32,
+    pub slots: u32,
+}
+
+/// The `call`-th read of a side of an area fails, or write where `is_write` is not 0. Calls count from 1, areas from
+/// 0. Side 0 is the area, or a mirror's left side, 1 a mirror's right one.
+#[repr(C)]
+#[derive(Clone, Copy)]
+pub struct NogFailure {
+    pub area: u32,
+    pub side: u32,
+    pub is_write: u32,
+    pub unused: u32,
+    pub call: u64,
+}
+
+/// A process; where `is_born` is 0 a child that a fork begins, whose ids count for nothing.
+#[repr(C)]
+#[derive(Clone, Copy)]
+pub struct NogProcess {
+    pub pid: u32,
+    pub is_born: u32,
+    pub uid: u32,
+    pub gid: u32,
+}
+
+/// What a segment shows (shmctl(2), IPC_STAT), with its identifier and its index in the table. A time is the place of a
+/// call among those that were answered, counted from 1; 0 means never. Of the status 512 says that the segment is to
+/// be removed, and 1024 that it is locked.
+#[repr(C)]
+#[derive(Clone, Copy)]
+pub struct NogSegment {
+    pub size: u64,
+    pub atime: u64,
+    pub dtime: u64,
+    pub ctime: u64,
+    pub id: i32,
+    pub key: u32,
+    pub uid: u32,
+    pub gid: u32,
+    pub cuid: u32,
+    pub cgid: u32,
+    pub mode: u32,
+    pub status: u32,
+    pub cpid: u32,
+    pub lpid: u32,
+    pub nattch: u32,
+    pub index: u32,
+}
+
+/// The index of an identifier in the table; of a negative one, which no segment has, 0.
+pub(crate) fn index_of(id: i32) -> u32
+    ensures { result ≡ index_of id }
+{
+    match u32::try_from(id) {
+        Ok(id) => id % 32768,
+        Err(_) => 0,
+    }
+}
+
+impl NogSegment {
+    pub(crate) fn of(id: i32, index: u32, shown: &ShmidDs) -> NogSegment
+        ensures shown { shown_by result ≡ shown.now }
+        ensures id { result.id ≡ id }
+        ensures index { result.index ≡ index }
+    {
+        NogSegment {
+            size: shown.size,
+            atime: shown.atime,
+            dtime: shown.dtime,
+            ctime: shown.ctime,
+            id,
+            key: shown.key,
+            uid: shown.perm.uid,
+            gid: shown.perm.gid,
+            cuid: shown.perm.cuid,
+            cgid: shown.perm.cgid,
+            mode: u32::from(shown.perm.mode),
+            status: u32::from(shown.status.bits()),
+            cpid: shown.cpid,
+            lpid: shown.lpid,
+            nattch: shown.nattch,
+            index,
+        }
+    }
+}
+
+/// The counts of a machine.
+#[repr(C)]
+#[derive(Clone, Copy)]
+pub struct NogTally {
+    pub events: u64,
+    pub segments: u64,
+    pub reserved: u64,
+    pub locked: u64,
+    pub frames: u64,
+    pub resident: u64,
+    pub dirty: u64,
+    pub slots: u64,
+    pub used: u64,
+    pub ins: u64,
+    pub outs: u64,
+    pub failures: u64,
+}
+
+impl NogTally {
+    pub(crate) fn of(tally: &Tally) -> NogTally
+        ensures { tally_by result ≡ tally.now }
+    {
+        NogTally {
+            events: tally.events,
+            segments: tally.segments,
+            reserved: tally.reserved,
+            locked: tally.locked,
+            frames: tally.frames,
+            resident: tally.resident,
+            dirty: tally.dirty,
+            slots: tally.slots,
+            used: tally.used,
+            ins: tally.ins,
+            outs: tally.outs,
+            failures: tally.failures,
+        }
+    }
+}
+
+/// What a flush round did: pages written, and writes that failed.
+#[repr(C)]
+#[derive(Clone, Copy)]
+pub struct NogFlushed {
+    pub written: u64,
+    pub failed: u64,
+}
+
+impl NogFlushed {
+    pub(crate) fn of(report: &FlushReport) -> NogFlushed
+        ensures { report_by result ≡ report.now }
+    {
+        NogFlushed {
+            written: report.written,
+            failed: report.failed,
+        }
+    }
+}

@@ -1,0 +1,4 @@
+mod Fitting
+mod Mirrored
+mod Sizes
+mod Stretching

@@ -1,0 +1,27 @@
+use Rattle.std.proofs.Common.{ap, sym, ◌∙◌, List, ℕ}
+use Rattle.shm_base.specs.State.{Opening, start_of}
+use Rattle.shm_slots.specs.View.{AreaView, new_swap}
+use Rattle.shm_fault.specs.Store.{fresh_store}
+use Rattle.shm_life.specs.Start.{start_error}
+use Rattle.shm_machine.proofs.Sizes.{pager-sizes, pager-areas, first-error}
+use Rattle.shm_machine.proofs.machine.Machine.open.Goals as goal
+
+pub returns-in-Ok-start-clause-opened : goal.returns-in-Ok-start-clause-opened
+returns-in-Ok-start-clause-opened c =
+    let e = c.in-Ok-start.ensures in
+    let sizes = pager-sizes c.in-Ok.pagers.items c.args.areas.now c.in-Ok.ensures in
+    let opening = e.opening ∙ ap (λ (ns : List ℕ). let o : Opening = record { limits = c.args.limits; areas = ns; processes = c.args.processes.now } in o) sizes in
+    record {
+      opening = opening;
+      calls = e.calls;
+      machine = e.machine ∙ ap start_of opening;
+      memory = e.memory ∙ ap (λ (areas : List AreaView). fresh_store c.in-Ok-start.system.memory.frames (new_swap areas)) (pager-areas c.in-Ok.pagers.items c.args.areas.now c.in-Ok.ensures);
+    }
+
+pub returns-in-Ok-start-clause-ok : goal.returns-in-Ok-start-clause-ok
+returns-in-Ok-start-clause-ok c =
+    ap (λ (ns : List ℕ). start_error ns c.args.processes.now) (sym (pager-sizes c.in-Ok.pagers.items c.args.areas.now c.in-Ok.ensures)) ∙ c.in-Ok-start.ensures.ok
+
+pub returns-in-Err-clause-err : goal.returns-in-Err-clause-err
+returns-in-Err-clause-err c =
+    first-error c.in-Err.error _ _ c.args.processes.now (pager-sizes c.in-Ok.pagers.items c.args.areas.now c.in-Ok.ensures) c.in-Err.ensures.err

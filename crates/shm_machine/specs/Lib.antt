@@ -1,0 +1,4 @@
+pub mod Areas
+pub mod Answered
+pub mod Opened
+pub mod Stretched

@@ -1,0 +1,58 @@
+-- Loads and stores of any length, as calls of at most 64 bytes each from the first on.
+use Rattle.std.specs.Prelude.{ℕ, ◌≡◌, ◌+◌, ◌-◌, ◌*◌, ◌/◌, ◌^◌, ◌<◌, ◌≤◌, ◌⊎◌, min, List, length, take, drop, Option, Some, None, Err, MatchOption}
+use Rattle.shm_base.specs.declared.call.Call.{Call}
+use Rattle.shm_base.specs.declared.call.Call.TheVariants.{Load, Store}
+use Rattle.shm_base.specs.declared.call.Reply.TheVariants.{Bytes, Done}
+use Rattle.shm_base.specs.declared.errno.Errno.TheVariants.{Sigsegv}
+use Rattle.shm_base.specs.Step.{step}
+use Rattle.shm_slots.specs.Cause.{GoesOn}
+use Rattle.shm_life.specs.SystemState.{SystemState}
+use Rattle.shm_machine.specs.declared.refusal.Refusal.{Refusal}
+use Rattle.shm_machine.specs.declared.refusal.Refusal.TheVariants.{Refused}
+use Rattle.shm_machine.specs.declared.stretch.Progress.{Progress}
+use Rattle.shm_machine.specs.Answered.{Answered}
+
+-- how many calls so many bytes take
+abbrev pub calls_for : ℕ → ℕ
+calls_for n = (n + 63) / 64
+
+-- how many bytes the next call takes of so many
+abbrev pub next_len : ℕ → ℕ
+next_len n = min n 64
+
+-- so many bytes were done, by as many calls as they take, and no count of failures fell
+pub record Reached (before : SystemState) (bytes : ℕ) (stood : SystemState) : Type 0 where
+  pub calls : stood.calls ≡ before.calls + calls_for bytes
+  pub opening : stood.opening ≡ before.opening
+  pub goes_on : GoesOn before.memory.swap stood.memory.swap
+
+-- a call at an address was not done; at one past 64 bits there is none to be asked, and no piece either
+abbrev pub StoppedAt : SystemState → ℕ → ℕ → Call → Refusal → SystemState → Type 0
+StoppedAt stood pid addr call refusal after =
+    ((addr < 2 ^ 64) × Answered stood pid call (Err refusal) after)
+    ⊎ ((2 ^ 64 ≤ addr) × (refusal ≡ Refused Sigsegv) × (after ≡ stood))
+
+-- all was done, or the next call was not
+abbrev pub EndedAt : SystemState → ℕ → ℕ → ℕ → (ℕ → Call) → Progress → SystemState → Type 0
+EndedAt stood pid addr size next p after =
+    MatchOption p.stopped ((p.done ≡ size) × (after ≡ stood))
+    (λ refusal. (p.done < size) × StoppedAt stood pid (addr + p.done) (next (next_len (size - p.done))) refusal after)
+
+-- the bytes that were read are those of one load of the flat machine; the others stay
+pub record ReadTo (before : SystemState) (pid addr : ℕ) (old : List ℕ) (p : Progress) (new : List ℕ) (after : SystemState) : Type 0 where
+  pub within : p.done ≤ length old
+  pub rest : drop p.done new ≡ drop p.done old
+  pub bytes : 0 < p.done → (step before.machine (before.calls + 1) pid (Load addr p.done)).reply ≡ Bytes (take p.done new)
+  pub stood : SystemState
+  pub reached : Reached before p.done stood
+  pub machine : stood.machine ≡ before.machine
+  pub ended : EndedAt stood pid addr (length old) (λ n. Load (addr + p.done) n) p after
+
+-- the bytes that were written are there as by one store of the flat machine
+pub record WrittenTo (before : SystemState) (pid addr : ℕ) (bytes : List ℕ) (p : Progress) (after : SystemState) : Type 0 where
+  pub within : p.done ≤ length bytes
+  pub stood : SystemState
+  pub reached : Reached before p.done stood
+  pub none : p.done ≡ 0 → stood.machine ≡ before.machine
+  pub stored : 0 < p.done → step before.machine (before.calls + 1) pid (Store addr (take p.done bytes)) ≡ record { reply = Done; state = stood.machine }
+  pub ended : EndedAt stood pid addr (length bytes) (λ n. Store (addr + p.done) (take n (drop p.done bytes))) p after

@@ -1,0 +1,126 @@
+//! A swap area of one of the kinds, as one type.
+ghost use Rattle.std.specs.Prelude.{◌≡◌, IfOk, replicate};
+ghost use Rattle.shm_pager.specs.Pages.{zero_page};
+ghost use Rattle.shm_machine.specs.Areas.{pages_in, failed_in, FailsWhere, IsOfKind};
+
+use shm_base::HostMemory;
+use shm_pager::{FusePager, MirrorPager, Pager, PagerFault, RamPager, SparsePager};
+use std::alloc::Global;
+
+/// A kind of swap area: a page of memory for each slot; memory only for slots that hold other bytes than zeros;
+/// or two sides of the first kind with the same pages.
+#[derive(Clone, Copy, Debug, PartialEq, Eq)]
+pub enum AreaKind {
+    Ram,
+    Sparse,
+    Mirror,
+}
+
+/// Which calls of a side of an area fail: the places of its reads and of its writes, each counted from 1.
+#[derive(Debug, Drop)]
+pub struct Failing {
+    pub reads: Vec<u64>,
+    pub writes: Vec<u64>,
+}
+
+/// A swap area whose listed reads and writes fail.
+#[derive(Drop)]
+pub enum AreaPager {
+    Ram(FusePager<RamPager>),
+    Sparse(FusePager<SparsePager>),
+    Mirror(MirrorPager<FusePager<RamPager>, FusePager<RamPager>>),
+}
+
+// A side in memory.
+fn ram(alloc: Global, slots: u32, failing: Failing) -> Result<FusePager<RamPager>, HostMemory>
+    ensures { IfOk result (λ f. FailsWhere f slots failing.reads.items failing.writes.items) }
+{
+    let Failing { reads, writes } = failing;
+    Ok(FusePager::new(RamPager::new(alloc, slots)?, reads, writes))
+}
+
+impl AreaPager {
+    /// An area with zeros in each slot. The right side's places count for a mirror alone.
+    pub fn new(
+        alloc: Global,
+        kind: AreaKind,
+        slots: u32,
+        left: Failing,
+        right: Failing,
+    ) -> Result<AreaPager, HostMemory>
+        ensures pages { IfOk result (λ p. pages_in p ≡ replicate slots zero_page) }
+        ensures failed { IfOk result (λ p. failed_in p ≡ 0) }
+        ensures kind { IfOk result (λ p. IsOfKind kind slots left.reads.items left.writes.items p) }
+    {
+        match kind {
+            AreaKind::Ram => Ok(AreaPager::Ram(ram(alloc, slots, left)?)),
+            AreaKind::Sparse => {
+                let Failing { reads, writes } = left;
+                let pages = SparsePager::new(alloc, slots)?;
+                Ok(AreaPager::Sparse(FusePager::new(pages, reads, writes)))
+            }
+            AreaKind::Mirror => {
+                let left = ram(alloc, slots, left)?;
+                let right = ram(alloc, slots, right)?;
+                match MirrorPager::new(alloc, left, right) {
+                    Ok(mirror) => Ok(AreaPager::Mirror(mirror)),
+                    Err(_) => Err(HostMemory),
+                }
+            }
+        }
+    }
+}
+
+impl Pager for AreaPager {
+    ghost content = { pages_in };
+
+    ghost failed = { failed_in };
+
+    fn slots(&self) -> u32 {
+        match self {
+            AreaPager::Ram(pager) => pager.slots(),
+            AreaPager::Sparse(pager) => pager.slots(),
+            AreaPager::Mirror(pager) => pager.slots(),
+        }
+    }
+
+    fn failures(&self) -> u64 {
+        match self {
+            AreaPager::Ram(pager) => pager.failures(),
+            AreaPager::Sparse(pager) => pager.failures(),
+            AreaPager::Mirror(pager) => pager.failures(),
+        }
+    }
+
+    fn write(&mut self, slot: u32, page: &[u8; 4096]) -> Result<(), PagerFault> {
+        match self {
+            AreaPager::Ram(pager) => pager.write(slot, page),
+            AreaPager::Sparse(pager) => pager.write(slot, page),
+            AreaPager::Mirror(pager) => pager.write(slot, page),
+        }
+    }
+
+    fn read(&mut self, slot: u32, page: &mut [u8; 4096]) -> Result<(), PagerFault> {
+        match self {
+            AreaPager::Ram(pager) => pager.read(slot, page),
+            AreaPager::Sparse(pager) => pager.read(slot, page),
+            AreaPager::Mirror(pager) => pager.read(slot, page),
+        }
+    }
+
+    fn discard(&mut self, slot: u32) {
+        match self {
+            AreaPager::Ram(pager) => pager.discard(slot),
+            AreaPager::Sparse(pager) => pager.discard(slot),
+            AreaPager::Mirror(pager) => pager.discard(slot),
+        }
+    }
+
+    fn wipe(&mut self) {
+        match self {
+            AreaPager::Ram(pager) => pager.wipe(),
+            AreaPager::Sparse(pager) => pager.wipe(),
+            AreaPager::Mirror(pager) => pager.wipe(),
+        }
+    }
+}

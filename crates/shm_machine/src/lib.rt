@@ -1,0 +1,18 @@
+//! A machine as one type without parameters: swap areas of three kinds behind one pager, and methods for the calls.
+//! No history is kept: a machine answers calls in memory that does not grow with their number.
+#![tactic(auto)]
+
+mod area;
+mod calls;
+mod machine;
+mod opening;
+mod refusal;
+mod stretch;
+#[cfg(test)]
+mod tests;
+
+pub use area::{AreaKind, AreaPager, Failing};
+pub use machine::Machine;
+pub use opening::{Area, Failure, Side};
+pub use refusal::Refusal;
+pub use stretch::Progress;

@@ -1,0 +1,133 @@
+//! The machine.
+ghost use Rattle.std.specs.Prelude.{◌≡◌, ◌⊎◌, true, map, length, IfOk, OnOk, IfErr, None, Some, false, MatchOption};
+ghost use Rattle.shm_life.specs.Start.{start_error};
+ghost use Rattle.shm_life.specs.Counts.{Counts};
+ghost use Rattle.shm_life.specs.Listed.{segment_at};
+ghost use Rattle.shm_life.specs.declared.start.StartError.TheVariants as start;
+ghost use Rattle.shm_machine.specs.Opened.{IsOpened, sizes_of};
+ghost use Rattle.shm_base.specs.declared.call.Reply.TheVariants as replies;
+ghost use Rattle.shm_base.specs.History.{is_refusal};
+ghost use Rattle.shm_machine.specs.Answered.{Answered, Flushed, told, done, fits};
+
+use crate::area::AreaPager;
+use crate::opening::{Area, Failure, are_sizes_sound, pagers_for};
+use crate::refusal::Refusal;
+use shm_base::{
+    Call, Errno, FlushReport, HostMemory, Limits, Process, Reply, ShmId, ShmidDs, Tally,
+};
+use shm_life::{StartError, System};
+use std::alloc::Global;
+
+/// A machine over swap areas of the kinds that there are.
+#[derive(Drop)]
+pub struct Machine {
+    pub system: System<AreaPager>,
+}
+
+// The error of a refusal.
+fn refused(reply: &Reply) -> Option<Errno>
+    ensures { MatchOption result (is_refusal reply.now ≡ false) (λ e. reply.now ≡ replies.Refused e) }
+{
+    match reply {
+        Reply::Refused(errno) => Some(*errno),
+        _ => None,
+    }
+}
+
+impl Machine {
+    /// A machine as it opens, with zeros in each slot of its areas, whose listed calls will fail. It is refused by the
+    /// first start error that holds, or for want of memory; no memory is taken for areas that are refused. A
+    /// failure of an area or a side that is not there counts for nothing.
+    pub fn open(
+        alloc: Global,
+        limits: Limits,
+        areas: &[Area],
+        failures: &[Failure],
+        processes: &[Process],
+    ) -> Result<Machine, StartError>
+        ensures opened { IfOk result (λ m. IsOpened limits areas.now processes.now m.system) }
+        ensures ok { OnOk result (start_error (sizes_of areas.now) processes.now ≡ None) }
+        ensures err { IfErr result (λ e. (e ≡ start.HostMemory) ⊎ (start_error (sizes_of areas.now) processes.now ≡ Some e)) }
+    {
+        if areas.is_empty() || areas.len() > 8 {
+            return Err(StartError::Areas);
+        }
+        if !are_sizes_sound(areas) {
+            return Err(StartError::AreaSize);
+        }
+        let Ok(pagers) = pagers_for(alloc, areas, failures) else {
+            return Err(StartError::HostMemory);
+        };
+        match System::start(alloc, limits, pagers, processes) {
+            Ok(system) => Ok(Machine { system }),
+            Err(error) => Err(error),
+        }
+    }
+
+    // A call, with the refusals told apart from the other replies.
+    pub(crate) fn answer(&mut self, pid: u32, call: &Call) -> Result<Reply, Refusal>
+        ensures answered { Answered self.old.system pid call.now result self.new.system }
+        ensures fits { IfOk result (λ r. fits call.now r ≡ true) }
+    {
+        if self.system.calls() == u64::MAX {
+            return Err(Refusal::Spent);
+        }
+        match self.system.call(pid, call) {
+            Ok(reply) => match refused(&reply) {
+                Some(errno) => Err(Refusal::Refused(errno)),
+                None => Ok(reply),
+            },
+            Err(HostMemory) => Err(Refusal::HostMemory),
+        }
+    }
+
+    /// One of the calls that have nothing to tell but that they were done: shmdt(2), the changes of shmctl(2), a
+    /// store, fork, exec, exit, and swapoff(2).
+    pub fn perform(&mut self, pid: u32, call: &Call) -> Result<(), Refusal>
+        requires { fits call.now replies.Done ≡ true }
+        ensures { Answered self.old.system pid call.now (told done result) self.new.system }
+    {
+        match self.answer(pid, call) {
+            Ok(Reply::Done) => Ok(()),
+            Ok(_) => unreachable!(),
+            Err(refusal) => Err(refusal),
+        }
+    }
+
+    /// Writes the first `pages` dirty frames of segments that are not locked out to their slots. It is no call,
+    /// and the flat machine knows nothing of it.
+    pub fn flush(&mut self, pages: u64) -> FlushReport
+        ensures { Flushed self.old.system pages result self.new.system }
+    {
+        self.system.flush(pages)
+    }
+
+    /// The counts of the machine as they are, and of what its areas did.
+    pub fn tally(&self) -> Tally
+        ensures { Counts self.now.system.calls self.now.system.machine self.now.system.memory result }
+    {
+        self.system.tally()
+    }
+
+    /// How many calls were answered.
+    pub fn calls(&self) -> u64
+        ensures { result ≡ self.now.system.calls }
+    {
+        self.system.calls()
+    }
+
+    /// How many indexes of the table of segments were ever used.
+    pub fn indexes(&self) -> u32
+        ensures { result ≡ length self.now.system.machine.table }
+    {
+        self.system.indexes()
+    }
+
+    /// The segment at an index of the table as stat shows it, with no permission test; none where no segment
+    /// holds the index.
+    pub fn segment(&self, index: u32) -> Option<(ShmId, ShmidDs)>
+        ensures { result ≡ segment_at self.now.system.machine index }
+    {
+        self.system.segment(index)
+    }
+}

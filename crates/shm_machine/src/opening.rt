@@ -1,0 +1,120 @@
+//! From what a machine is opened.
+ghost use Rattle.std.specs.Prelude.{◌≡◌, ◌==◌, ◌≤◌, IfOk, map, filter, length, true, false};
+ghost use Rattle.shm_life.specs.Start.{are_sizes};
+ghost use Rattle.shm_pager.specs.Pages.{seen};
+ghost use Rattle.shm_machine.specs.Areas.{blank, pages_in, failed_in, IsOfKind};
+ghost use Rattle.shm_machine.specs.Opened.{is_at, calls_at, sizes_of};
+
+use crate::area::{AreaKind, AreaPager, Failing};
+use shm_base::HostMemory;
+use std::alloc::Global;
+
+/// A swap area: its kind, and how many slots it has. Each side of a mirror has as many.
+#[derive(Clone, Copy, Debug, PartialEq, Eq)]
+pub struct Area {
+    pub kind: AreaKind,
+    pub slots: u32,
+}
+
+/// A side of an area. An area that is no mirror has the left side alone.
+#[derive(Clone, Copy, Debug, PartialEq, Eq)]
+pub enum Side {
+    Left,
+    Right,
+}
+
+/// A call of a side of an area that fails: its `call`-th write, or its `call`-th read, counted from 1. Areas
+/// count from 0.
+#[derive(Clone, Copy, Debug, PartialEq, Eq)]
+pub struct Failure {
+    pub area: u32,
+    pub side: Side,
+    pub is_write: bool,
+    pub call: u64,
+}
+
+impl Failure {
+    // Whether it is of the reads, or of the writes, of this side.
+    fn is_at(&self, area: u32, side: Side, is_write: bool) -> bool
+        ensures { result ≡ is_at area side is_write self.now }
+    {
+        self.area == area && self.side == side && self.is_write == is_write
+    }
+}
+
+// The places of the reads, or of the writes, of a side that fail.
+fn calls_at(
+    alloc: Global,
+    failures: &[Failure],
+    area: u32,
+    side: Side,
+    is_write: bool,
+) -> Result<Vec<u64>, HostMemory>
+    ensures { IfOk result (λ v. v.items ≡ calls_at area side is_write failures.now) }
+{
+    let mut calls = Vec::new(alloc);
+    for failure in failures {
+        if failure.is_at(area, side, is_write) {
+            calls.push(failure.call)?;
+        }
+    }
+    Ok(calls)
+}
+
+fn failing(
+    alloc: Global,
+    failures: &[Failure],
+    area: u32,
+    side: Side,
+) -> Result<Failing, HostMemory>
+    ensures reads { IfOk result (λ f. f.reads.items ≡ calls_at area side false failures.now) }
+    ensures writes { IfOk result (λ f. f.writes.items ≡ calls_at area side true failures.now) }
+{
+    Ok(Failing {
+        reads: calls_at(alloc, failures, area, side, false)?,
+        writes: calls_at(alloc, failures, area, side, true)?,
+    })
+}
+
+// An area of zeros whose listed calls fail.
+fn pager_for(
+    alloc: Global,
+    index: u32,
+    area: &Area,
+    failures: &[Failure],
+) -> Result<AreaPager, HostMemory>
+    ensures blank { IfOk result (λ p. seen pages_in failed_in p ≡ blank area.now.slots) }
+    ensures kind { IfOk result (λ p. IsOfKind area.now.kind area.now.slots (calls_at index Side.Left false failures.now) (calls_at index Side.Left true failures.now) p) }
+{
+    let left = failing(alloc, failures, index, Side::Left)?;
+    let right = failing(alloc, failures, index, Side::Right)?;
+    AreaPager::new(alloc, area.kind, area.slots, left, right)
+}
+
+/// The areas, in their order.
+pub(crate) fn pagers_for(
+    alloc: Global,
+    areas: &[Area],
+    failures: &[Failure],
+) -> Result<Vec<AreaPager>, HostMemory>
+    requires { length areas.now ≤ 8 }
+    ensures { IfOk result (λ v. map (seen pages_in failed_in) v.items ≡ map (λ a. blank a.slots) areas.now) }
+{
+    let mut pagers = Vec::new(alloc);
+    for (index, area) in areas.iter().enumerate() {
+        pagers.push(pager_for(alloc, index as u32, area, failures)?)?;
+    }
+    Ok(pagers)
+}
+
+/// Whether each area has 1 to 65536 slots. It is asked before memory is taken for any of them.
+pub(crate) fn are_sizes_sound(areas: &[Area]) -> bool
+    ensures { result ≡ are_sizes (sizes_of areas.now) }
+{
+    for area in areas {
+        if area.slots < 1 || area.slots > 65536 {
+            return false;
+        }
+    }
+    true
+}

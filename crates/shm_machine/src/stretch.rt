@@ -1,0 +1,96 @@
+//! Loads and stores of any length, as calls of at most 64 bytes each.
+ghost use Rattle.std.specs.Prelude.{◌≡◌, ◌+◌, ◌≤◌, length, Ok, Err, MatchResult};
+ghost use Rattle.shm_base.specs.declared.call.Call.TheVariants as call;
+ghost use Rattle.shm_base.specs.declared.call.Reply.TheVariants as reply;
+ghost use Rattle.shm_machine.specs.Answered.{Moves};
+ghost use Rattle.shm_machine.specs.Stretched.{StoppedAt, ReadTo, WrittenTo};
+
+use crate::machine::Machine;
+use crate::refusal::Refusal;
+use shm_base::{AccessLen, Call, Chunk, Errno};
+
+/// How far an access came: how many bytes were done, and by what it was stopped where that is not all.
+#[derive(Clone, Copy, Debug, PartialEq, Eq)]
+pub struct Progress {
+    pub done: usize,
+    pub stopped: Option<Refusal>,
+}
+
+impl Machine {
+    // One call of a read: so many bytes, behind those that were done.
+    fn read_on(&mut self, pid: u32, addr: u64, done: usize, len: usize) -> Result<Chunk, Refusal>
+        requires { (1 ≤ len) × (len ≤ 64) }
+        ensures { MatchResult result (λ b. Moves self.old.system pid (call.Load (addr + done) len) (reply.Bytes b) self.new.system × (length b ≡ len)) (λ e. StoppedAt self.old.system pid (addr + done) (call.Load (addr + done) len) e self.new.system) }
+    {
+        let Some(at) = addr.checked_add(done as u64) else {
+            return Err(Refusal::Refused(Errno::Sigsegv));
+        };
+        match AccessLen::new(len as u64) {
+            Some(len) => self.load(pid, at, len),
+            None => unreachable!(),
+        }
+    }
+
+    // One call of a write: these bytes, behind those that were done.
+    fn write_on(&mut self, pid: u32, addr: u64, done: usize, bytes: &[u8]) -> Result<(), Refusal>
+        requires { (1 ≤ length bytes.now) × (length bytes.now ≤ 64) }
+        ensures { MatchResult result (λ _. Moves self.old.system pid (call.Store (addr + done) bytes.now) reply.Done self.new.system) (λ e. StoppedAt self.old.system pid (addr + done) (call.Store (addr + done) bytes.now) e self.new.system) }
+    {
+        let Some(addr) = addr.checked_add(done as u64) else {
+            return Err(Refusal::Refused(Errno::Sigsegv));
+        };
+        match Chunk::new(bytes) {
+            Some(chunk) => self.perform(pid, &Call::Store { addr, chunk }),
+            None => unreachable!(),
+        }
+    }
+
+    /// Reads attached memory from an address on, by loads of 64 bytes and a last one of the rest, until one is
+    /// not done. An address past 64 bits has no piece: Sigsegv, with no call.
+    pub fn read(&mut self, pid: u32, addr: u64, bytes: &mut [u8]) -> Progress
+        ensures { ReadTo self.old.system pid addr bytes.old result bytes.new self.new.system }
+    {
+        let mut done = 0;
+        while done < bytes.len() {
+            let len = (bytes.len() - done).min(64);
+            match self.read_on(pid, addr, done, len) {
+                Ok(chunk) => bytes[done..done + len].copy_from_slice(chunk.as_slice()),
+                Err(refusal) => {
+                    return Progress {
+                        done,
+                        stopped: Some(refusal),
+                    };
+                }
+            }
+            done += len;
+        }
+        Progress {
+            done,
+            stopped: None,
+        }
+    }
+
+    /// Replaces attached memory from an address on, by stores of 64 bytes and a last one of the rest, until one
+    /// is not done. An address past 64 bits has no piece: Sigsegv, with no call.
+    pub fn write(&mut self, pid: u32, addr: u64, bytes: &[u8]) -> Progress
+        ensures { WrittenTo self.old.system pid addr bytes.now result self.new.system }
+    {
+        let mut done = 0;
+        while done < bytes.len() {
+            let len = (bytes.len() - done).min(64);
+            match self.write_on(pid, addr, done, &bytes[done..done + len]) {
+                Ok(()) => done += len,
+                Err(refusal) => {
+                    return Progress {
+                        done,
+                        stopped: Some(refusal),
+                    };
+                }
+            }
+        }
+        Progress {
+            done,
+            stopped: None,
+        }
+    }
+}
