@@ -2,9 +2,10 @@
 //!
 //! The rule that the type keeps: the history is legal on the flat machine from the opening, and leads
 //! to the machine that the system shows. A call and its reply are recorded together or not at all.
-ghost use Rattle.std.specs.Prelude.{◌≡◌, ℕ, ◌+◌, ◌-◌, ◌^◌, ◌<◌, ◌≤◌, List, [], ◌∷◌, ◌++◌, length, drop, vec_len, vec_capacity, IfOk, OnOk, OnErr, IsOk, true};
+ghost use Rattle.std.specs.Prelude.{◌≡◌, ℕ, ◌+◌, ◌-◌, ◌^◌, ◌<◌, ◌≤◌, List, [], ◌∷◌, ◌++◌, length, drop, vec_len, vec_capacity, IfOk, OnOk, OnErr, IsOk, true, false};
 ghost use Rattle.shm_base.specs.State.{start_of};
-ghost use Rattle.shm_base.specs.History.{IsHistory, IsMove, is_failure};
+ghost use Rattle.shm_base.specs.History.{IsHistory, IsMove, is_failure, is_refusal};
+ghost use Rattle.shm_base.specs.Step.{step};
 ghost use mathlib.Core.List.{IsPrefix};
 ghost use Rattle.shm_slots.specs.Cause.{had_cause};
 ghost use Rattle.shm_fault.specs.Flushing.{IsFlushed};
@@ -126,7 +127,8 @@ impl<P: Pager> World<P> {
     }
 
     /// One call, which is recorded with its reply. Want of memory changes nothing but the room, and
-    /// nothing is recorded; with room left, the calls that take no memory always get their reply.
+    /// nothing is recorded; with room left, it comes only where the flat machine refuses nothing, and the
+    /// calls that take no memory always get their reply.
     pub fn call(&mut self, pid: u32, call: &Call) -> Result<Reply, HostMemory>
         ensures recorded { IfOk result (λ r. self.new.events ≡ self.old.events ++ event pid call.now r ∷ []) }
         ensures move_of { IfOk result (λ r. IsMove self.old.machine (length self.old.events + 1) (event pid call.now r) self.new.machine) }
@@ -134,6 +136,7 @@ impl<P: Pager> World<P> {
         ensures keeps { KeepsOn self.old.memory self.new.memory }
         ensures opening { self.new.opening ≡ self.old.opening }
         ensures err { OnErr result (self.new ≡ record self.old { room = self.new.room }) }
+        ensures memory { OnErr result (0 < self.old.room → is_refusal (step self.old.machine (length self.old.events + 1) pid call.now).reply ≡ false) }
         ensures no_memory { TakesNoMemory call.now → 0 < self.old.room → IsOk result }
         ensures room { self.old.room ≤ self.new.room + 1 }
         ensures room_kept { OnErr result (self.old.room ≤ self.new.room) }
