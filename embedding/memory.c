@@ -1,5 +1,5 @@
 /* memory: each allocation of a call fails in turn: the answer is NOG_NO_MEMORY, nothing is changed, and the call made
-   again is done. Calls but nog_open, nog_get, nog_attach and nog_fork take no memory. It is linked with --wrap=malloc and
+   again is done. Calls but nog_open, nog_get and nog_attach take no memory. It is linked with --wrap=malloc and
    --wrap=realloc, so that the library's own allocations come here. */
 #include <stdlib.h>
 #include "testing.h"
@@ -128,7 +128,7 @@ static void fail_write(nog_machine *m) {
 
 int main(void) {
     static const struct { step make; int takes_memory; } steps[] = {
-        {get, 1}, {attach, 1}, {fork_child, 1}, {store, 0}, {add, 0}, {set, 0}, {flush, 0}, {detach, 0}, {exec, 0},
+        {get, 1}, {attach, 1}, {fork_child, 0}, {store, 0}, {add, 0}, {set, 0}, {flush, 0}, {detach, 0}, {exec, 0},
         {remove_it, 0}, {swapoff, 0}, {end, 0} };
     nog_machine machine = NOG_MACHINE_INITIALIZER;
     fail_each_open(&machine, open_mirror);

@@ -250,7 +250,7 @@ uint32_t nog_store(nog_machine *machine, uint32_t pid, uint64_t addr, const uint
 uint32_t nog_add(nog_machine *machine, uint32_t pid, uint64_t addr, uint64_t add, uint64_t *before);
 
 /* fork(2): a declared child is born, with the caller's user, group and pieces.
-   NOG_EAGAIN: no unborn child has the pid `child`. NOG_NO_MEMORY: the heap gave none. */
+   NOG_EAGAIN: no unborn child has the pid `child`. */
 uint32_t nog_fork(nog_machine *machine, uint32_t pid, uint32_t child);
 
 /* execve(2): every piece of the caller is detached. */
