@@ -41,13 +41,13 @@ fn attached(machine: &mut Machine, size: u64) -> Result<u64, Refusal> {
 
 // What the third of three stores answers, each in a page of its own, and what it answers when it is made again.
 fn third_store(machine: &mut Machine) -> Result<(bool, bool), Fail> {
-    let Ok(at) = attached(machine, 12288) else {
+    if attached(machine, 12288) != Ok(0x40000000) {
         return Err("the segment is attached".into());
-    };
+    }
+    let pages = [0x40000000, 0x40001000, 0x40002000, 0x40002000];
     let mut answers = [true; 4];
-    for (answer, page) in answers.iter_mut().zip([0, 1, 2, 2]) {
+    for (answer, addr) in answers.iter_mut().zip(pages) {
         let chunk = chunk_of(&[7])?;
-        let addr = at + page * 4096;
         *answer = match machine.perform(1, &Call::Store { addr, chunk }) {
             Ok(()) => true,
             Err(refusal) => {
@@ -145,7 +145,8 @@ fn methods_answer(rt: HostRuntime) -> Result<(), Fail> {
 
 // 130 bytes over a page's seam: three calls each way, and the first byte behind the piece stops the fourth.
 fn each_way(machine: &mut Machine) -> Result<bool, Refusal> {
-    let at = attached(machine, 8192)?;
+    let found = attached(machine, 8192)?;
+    let at = 0x40000000;
     let out = machine.write(1, at + 4000, &[5; 130]);
     let mut bytes = [9; 132];
     let back = machine.read(1, at + 3999, &mut bytes);
@@ -155,7 +156,9 @@ fn each_way(machine: &mut Machine) -> Result<bool, Refusal> {
     let none = machine.write(1, u64::MAX, &[]);
     let sigsegv = Some(Refusal::Refused(Errno::Sigsegv));
     Ok(
-        ends && out.done == 130
+        found == at
+            && ends
+            && out.done == 130
             && out.stopped.is_none()
             && back.done == 132
             && back.stopped.is_none()
