@@ -3,7 +3,8 @@ ghost use Rattle.std.specs.Prelude.{◌≡◌, ◌≤◌, ◌++◌, length, IfOk
 ghost use Rattle.hex.specs.Hex.{encode_lower};
 ghost use Rattle.shm_print.specs.Text as printed;
 
-use crate::words::{Address, AtWord, GetWord, Key, Mode, StatusWord};
+use crate::digits::push_digits;
+use crate::words::{AtWord, GetWord, Key, Mode, StatusWord};
 use itoa::Buffer;
 use shm_base::{Call, Event, Perm, Reply, ShmidDs};
 use std::alloc::{AllocError, Global};
@@ -19,8 +20,11 @@ fn push_number(text: &mut String, number: u64) -> Result<(), AllocError>
 fn push_address(text: &mut String, addr: u64) -> Result<(), AllocError>
     ensures { OnOk result (string_bytes text.new ≡ string_bytes text.old ++ printed.address_text addr) }
 {
-    let addr = Address(addr);
-    write!(text, "{addr}")
+    if addr == 0 {
+        return text.push_str("null");
+    }
+    text.push_str("0x")?;
+    push_digits(text, addr)
 }
 
 // Puts bytes behind a text, two digits each.
@@ -49,8 +53,10 @@ fn push_call(text: &mut String, call: &Call) -> Result<(), AllocError>
             write!(text, "shmget {key} {size} {mode}{flags}")
         }
         Call::Shmat { id, addr, flags } => {
-            let (addr, flags) = (Address(*addr), AtWord(*flags));
-            write!(text, "shmat {id} {addr} {flags}")
+            let flags = AtWord(*flags);
+            write!(text, "shmat {id} ")?;
+            push_address(text, *addr)?;
+            write!(text, " {flags}")
         }
         Call::Shmdt { addr } => {
             text.push_str("shmdt ")?;

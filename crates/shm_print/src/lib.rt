@@ -2,6 +2,7 @@
 #![tactic(auto)]
 
 mod counts;
+mod digits;
 mod event;
 mod lines;
 mod words;

@@ -1,8 +1,8 @@
 //! The listing and the usage of a world, as they are printed.
 #![tactic(auto)]
 
-mod listing;
-mod usage;
+mod counts;
+mod lines;
 
-pub use listing::listing;
-pub use usage::usage;
+pub use counts::usage;
+pub use lines::listing;

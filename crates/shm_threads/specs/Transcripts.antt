@@ -4,12 +4,13 @@ use Rattle.std.specs.List.{list_any}
 use Rattle.shm_base.specs.History.{IsHistory, own_part}
 use Rattle.shm_base.specs.State.{Opening}
 use Rattle.shm_base.specs.declared.call.Call.{Call}
-use Rattle.shm_base.specs.declared.call.Call.TheVariants.{Shmget, Shmat, Fork, Exit}
+use Rattle.shm_base.specs.declared.call.Call.TheVariants.{Fork, Exit}
 use Rattle.shm_base.specs.declared.call.Reply.{Reply}
 use Rattle.shm_base.specs.declared.call.Reply.TheVariants.{Done, Refused}
 use Rattle.shm_base.specs.declared.call.Event.{Event}
 use Rattle.shm_base.specs.declared.call.Process.{Process}
 use Rattle.shm_base.specs.declared.errno.Errno.TheVariants.{Esrch}
+use Rattle.shm_life.specs.SystemState.{takes_memory}
 use Rattle.shm_history.specs.WorldState.{WorldState, event}
 use Rattle.shm_text.specs.Form.{CommandView}
 use Rattle.shm_text.specs.Script.{ScriptView}

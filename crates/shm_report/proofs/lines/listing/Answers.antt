@@ -2,7 +2,7 @@ use Rattle.std.proofs.Common.{rules, arith, ◌≡◌, ◌<◌, ◌+◌, ◌∙�
 use Rattle.shm_life.specs.Listed.{segment_at}
 use Rattle.shm_report.specs.Listing.{line_shown, lines_from}
 use Rattle.shm_report.proofs.Rows.{lines_from-next}
-use Rattle.shm_report.proofs.listing.listing.Goals as goal
+use Rattle.shm_report.proofs.lines.listing.Goals as goal
 
 pub loop-index-preserved : goal.loop-index-preserved
 loop-index-preserved g c =
