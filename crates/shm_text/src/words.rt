@@ -1,6 +1,6 @@
 //! Lines of a script, and their words.
 
-ghost use Rattle.std.specs.Prelude.{◌≡◌, ◌<◌, ℕ, List, length, take};
+ghost use Rattle.std.specs.Prelude.{◌≡◌, ◌<◌, ◌==◌, ℕ, List, length, take};
 ghost use Rattle.std.specs.List.{list_all};
 ghost use Rattle.std.specs.Str.{bytes_eq};
 ghost use Rattle.shm_text.specs.Words.{is_allowed, words_of, texts, word_at};
@@ -11,10 +11,18 @@ use std::marker::Model;
 /// One word more than a line of any form has.
 pub(crate) const MOST: usize = 8;
 
+// Whether a byte is a tab. It stands apart, since hardly any byte is asked: the loops that ask stay short.
+#[inline(never)]
+fn is_tab(byte: u8) -> bool
+    ensures { result ≡ (byte == 9) }
+{
+    byte == b'\t'
+}
+
 pub(crate) fn all_allowed(line: &[u8]) -> bool
     ensures { result ≡ list_all is_allowed line.now }
 {
-    line.iter().all(|b| *b == 9 || (*b >= 32 && *b <= 126))
+    line.iter().all(|b| (*b >= 32 && *b <= 126) || is_tab(*b))
 }
 
 /// The first words of a line.
@@ -35,7 +43,7 @@ impl<'a> Words<'a> {
     {
         let mut found: ArrayVec<&'a [u8], MOST> = ArrayVec::new();
         for word in line
-            .split(|b| *b == b' ' || *b == b'\t')
+            .split(|b| *b == b' ' || (*b < b' ' && is_tab(*b)))
             .filter(|w| !w.is_empty())
         {
             if found.try_push(word).is_err() {
