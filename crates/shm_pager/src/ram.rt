@@ -32,6 +32,13 @@ impl RamPager {
         }
         Ok(RamPager { pages })
     }
+
+    // Gives the memory back, in which nothing but zeros is left.
+    fn release(self)
+        requires { self ≡ replicate (length self) zero_page }
+    {
+        let RamPager { pages: _ } = self;
+    }
 }
 
 impl Pager for RamPager {
@@ -85,6 +92,6 @@ impl Pager for RamPager {
 impl Drop for RamPager {
     fn drop(mut self) {
         self.wipe();
-        let RamPager { pages: _ } = self;
+        self.release();
     }
 }

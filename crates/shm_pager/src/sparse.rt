@@ -48,6 +48,17 @@ impl SparsePager {
             failed: 0,
         })
     }
+
+    // Gives the memory back, in which no page is left.
+    fn release(self)
+        requires { self.pages ≡ replicate (length self.pages) zero_page }
+    {
+        let SparsePager {
+            alloc: _,
+            pages: _,
+            failed: _,
+        } = self;
+    }
 }
 
 #[tactic(auto, using(crate::proofs::Rooms::rooms))]
@@ -129,10 +140,6 @@ impl Pager for SparsePager {
 impl Drop for SparsePager {
     fn drop(mut self) {
         self.wipe();
-        let SparsePager {
-            alloc: _,
-            pages: _,
-            failed: _,
-        } = self;
+        self.release();
     }
 }
