@@ -2,7 +2,7 @@
 use super::*;
 use bitflags::Flags;
 use shm_base::{AccessLen, AtFlags, Call, Chunk, Cred, Errno, GetFlags, Limits, Process};
-use std::alloc::Global;
+use std::alloc::{AllocError, Global};
 use std::test::Fail;
 
 // Two frames over one area of eight slots; user 0 as process 1, which may fork process 2.
@@ -180,4 +180,20 @@ fn any_length(rt: HostRuntime) -> Result<(), Fail> {
         Err(_) => return Err("the segment is attached".into()),
     }
     Ok(())
+}
+
+fn text_of(alloc: Global, refusal: Refusal) -> Result<String, AllocError> {
+    format!(in alloc; "{refusal}")
+}
+
+#[test]
+fn refusals_are_told(rt: HostRuntime) {
+    let texts = [
+        (Refusal::Refused(Errno::Enoent), "refused: ENOENT"),
+        (Refusal::HostMemory, "out of memory"),
+        (Refusal::Spent, "no more calls can be counted"),
+    ];
+    for (refusal, want) in texts {
+        assert!(rt; text_of(rt.alloc(), refusal).is_ok_and(|t| t.as_str() == want));
+    }
 }

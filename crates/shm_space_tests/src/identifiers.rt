@@ -1,8 +1,6 @@
 ghost use Rattle.std.specs.Prelude.{◌≡◌};
 
 use shm_ids::{IdTable, InsertRefused, LookRefused};
-use std::alloc::{AllocError, Global};
-use std::fmt::Display;
 
 /// An insert under no key: its identifier, or why it was refused.
 fn put(table: &mut IdTable<u8>, value: u8) -> Result<i32, (u8, InsertRefused)> {
@@ -94,33 +92,4 @@ fn rows_by_rising_index(rt: HostRuntime) {
     assert!(rt; table.row_at(0) == Some((0, 42, &5)));
     assert!(rt; table.row_at(1).is_none());
     assert!(rt; table.row_at(3).is_none());
-}
-
-fn text_of(alloc: Global, refusal: &impl Display) -> Result<String, AllocError> {
-    format!(in alloc; "{refusal}")
-}
-
-#[test]
-fn refusals_are_told(rt: HostRuntime) {
-    let texts = [
-        (
-            text_of(rt.alloc(), &InsertRefused::IdFull),
-            "every identifier is in use or worn out",
-        ),
-        (
-            text_of(rt.alloc(), &InsertRefused::HostMemory),
-            "out of memory",
-        ),
-        (
-            text_of(rt.alloc(), &LookRefused::Removed),
-            "the identifier was removed",
-        ),
-        (
-            text_of(rt.alloc(), &LookRefused::Invalid),
-            "the identifier was never issued",
-        ),
-    ];
-    for (text, want) in texts {
-        assert!(rt; text.is_ok_and(|t| t.as_str() == want));
-    }
 }

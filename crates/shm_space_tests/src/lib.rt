@@ -1,4 +1,4 @@
-//! Tests of identifiers and of address spaces, through what each crate makes public.
+//! Tests of identifiers, of address spaces and of the texts of errors, through what each crate makes public.
 #![tactic(auto)]
 
 #[cfg(test)]
@@ -7,3 +7,5 @@ mod areas;
 mod attaching;
 #[cfg(test)]
 mod identifiers;
+#[cfg(test)]
+mod texts;
