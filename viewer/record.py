@@ -110,25 +110,26 @@ def left(page, before, after):
         return f"{named(page)} left its frame and is zeros"
     if before.frames[before.frame_of()[page]][2]:
         return f"{named(page)} went to {placed(slot, after)}"
-    return f"{named(page)}, which was clean, is in {placed(slot, after)} alone"
+    return f"{named(page)} was clean and stays in {placed(slot, after)}"
 
 
-def came(page, frame, before, after):
+def came(page, frame, other, before):
+    """A page in a frame; its segment is not named again behind a page of the same."""
     slot = before.slot_of().get(page)
-    whence = f" from {placed(slot, before)}" if slot else ""
-    return f"frame {frame} taken for {named(page)}{whence}"
+    name = f"page {page[1]}" if other and other[0] == page[0] else named(page)
+    return f"frame {frame} taken for {name}" + (f", read from {placed(slot, before)}" if slot else "")
 
 
 def say_frames(before, after):
     """Which pages left their frames and which came in; a page of a segment that is gone is not told of."""
-    is_there = {page for page in before.frame_of() if page[0] in after.segments}
     for frame in sorted(before.frames.keys() | after.frames.keys(), key=int):
-        old, new = before.frames.get(frame), after.frames.get(frame)
-        told = []
-        if old and (not new or new[0] != old[0]) and old[0] in is_there:
-            told.append(left(old[0], before, after))
-        if new and (not old or new[0] != old[0]):
-            told.append(came(new[0], frame, before, after))
+        old, new = (it.frames.get(frame, (None,))[0] for it in (before, after))
+        if old == new:
+            continue
+        goes = old if old and old[0] in after.segments else None
+        told = [left(goes, before, after)] if goes else []
+        if new:
+            told.append(came(new, frame, goes, before))
         if told:
             yield ", ".join(told)
 
