@@ -1,5 +1,5 @@
 -- The record of a step: what the step did, and then how the machine and its memory stand, a line each.
-use Rattle.std.specs.Prelude.{ℕ, ◌+◌, Bool, if◌then◌else◌, List, [], ◌∷◌, ◌++◌, codes, length, Option, Some, None}
+use Rattle.std.specs.Prelude.{ℕ, ◌+◌, Bool, false, if◌then◌else◌, List, [], ◌∷◌, ◌++◌, codes, length, Option, Some, None}
 use Rattle.std.specs.Fmt.{decimal, digits}
 use Rattle.std.specs.List.{flat_map}
 use Rattle.shm_base.specs.State.{Piece, Runner}
@@ -34,7 +34,7 @@ action_text n (Flush pages r) = codes "flush " ++ (decimal pages ++ (codes " wri
 
 -- `piece BASE SEGMENT FIRST_PAGE PAGES rw`, or `ro` where it is read-only
 abbrev pub piece_line : Piece → List ℕ
-piece_line p = codes "piece 0x" ++ (digits 16 false p.base ++ (codes " " ++ (decimal p.seg ++ (codes " " ++ (decimal p.first_page ++ (codes " " ++ (decimal p.pages ++ (if p.writable then codes " rw\n" else codes " ro\n"))))))))
+piece_line p = codes "piece 0x" ++ (digits 16 false p.base ++ (codes " " ++ (decimal p.seg ++ (codes " " ++ (decimal p.first_page ++ (codes " " ++ (decimal p.pages ++ (codes " " ++ ((if p.writable then codes "rw" else codes "ro") ++ codes "\n")))))))))
 
 abbrev pub pieces_text : List Piece → List ℕ
 pieces_text ps = flat_map piece_line ps
@@ -96,8 +96,18 @@ areas_text s = numbered area_text 0 s.areas
 
 -- THE STEP
 
--- its number, what it did, and then the segments as the listing has them, the processes, the frames, the swap areas and
--- the usage, all as they stand after it; an empty line ends it
+-- the segments as the listing has them, and the processes
+unfoldable pub machine_text : WorldState → List ℕ
+machine_text w = listing_of w.machine ++ processes_text w.machine.runners w.opening.processes
+
+-- the frames and the swap areas
+unfoldable pub memory_text : StoreView → List ℕ
+memory_text m = frames_text m ++ areas_text m.swap
+
+unfoldable pub counts_text : WorldState → List ℕ
+counts_text w = usage_text (tally_of w)
+
+-- its number, what it did, and then the machine, its memory and the usage as they stand after it; an empty line ends it
 abbrev pub step_text : ℕ → Action → WorldState → List ℕ
 step_text n action w =
-    codes "step " ++ (decimal n ++ (codes "\n" ++ (action_text (length w.events) action ++ (listing_of w.machine ++ (processes_text w.machine.runners w.opening.processes ++ (frames_text w.memory ++ (areas_text w.memory.swap ++ (usage_text (tally_of w) ++ codes "\n"))))))))
+    codes "step " ++ (decimal n ++ (codes "\n" ++ (action_text (length w.events) action ++ (machine_text w ++ (memory_text w.memory ++ (counts_text w ++ codes "\n"))))))
