@@ -93,6 +93,6 @@ world_serials (Ok done) e = tt
 world_serials (Err fault) e = world_serial fault e
 
 -- where a result is no error, what is true anyway
-pub anyway : (result : Result (Unit {0}) RunFault) (P : Type 0) → P → OnOk result P
+pub anyway : {E : Type 0} → (result : Result (Unit {0}) E) (P : Type 0) → P → OnOk result P
 anyway (Ok done) P p = p
 anyway (Err fault) P p = tt

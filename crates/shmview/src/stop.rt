@@ -4,7 +4,7 @@ ghost use Rattle.shmview.specs.Stop.{stop_text, stop_status};
 
 use shm_base::HostMemory;
 use shm_program::RunFault;
-use std::alloc::AllocError;
+use std::alloc::{AllocError, AllocFailed};
 use std::{fmt, io};
 
 /// Why the program stops: wrong words on the command line; a run of so many steps, more than 2,000, of which none
@@ -45,6 +45,12 @@ impl fmt::Display for Stop {
 
 impl From<AllocError> for Stop {
     fn from(_e: AllocError) -> Stop {
+        Stop::Fault(RunFault::HostMemory)
+    }
+}
+
+impl<T: Drop> From<AllocFailed<T>> for Stop {
+    fn from(_e: AllocFailed<T>) -> Stop {
         Stop::Fault(RunFault::HostMemory)
     }
 }

@@ -1,14 +1,15 @@
 //! A run that is looked at: a script comes from a reader, its lines run in file order, and the record of each
 //! step goes to a writer.
-ghost use Rattle.std.specs.Prelude.{◌≡◌, ◌⊎◌, ◌≤◌, [], length, map, None, OnOk, IfErr, IfSome};
-ghost use Rattle.std.specs.Io.KnownBytes.{IsAtEnd};
+ghost use Rattle.std.specs.Prelude.{◌≡◌, ◌⊎◌, ◌≤◌, [], length, map, None, OnOk, IfErr, IfSome, MatchOption};
+ghost use Rattle.std.specs.Io.KnownBytes.{Appends, IsAtEnd};
 ghost use Rattle.shm_program.specs.Runs.{Shows, Writes, IsOpening};
 ghost use Rattle.shmview.specs.Record.{IsRecord};
-ghost use Rattle.shmview.specs.Stop.{IsStopIn, IsStopOf, WritesNothing};
+ghost use Rattle.shmview.specs.Stop.{IsStopIn, IsStopOf, IsTooLong, WritesNothing};
 
 use crate::lines::record;
 use crate::steps::{MOST, Steps};
 use crate::stop::Stop;
+use shm_base::HostMemory;
 use shm_history::World;
 use shm_pager::Pager;
 use shm_program::{RunFault, open_world, whole_script, write_output};
@@ -20,6 +21,7 @@ use std::io::{Read, Write};
 /// that is asked for: of all where none are, and then the script has at most 2,000 lines. Before the first byte
 /// is written the whole output is there, so at any stop but by a writer that fails nothing is written. It stops
 /// as a serial run does, and for too many steps once the script is read.
+#[tactic(auto, using(crate::proofs::Stops::nothing_written))]
 pub(crate) fn view<R: Read, W: Write, P: Pager>(
     alloc: Global,
     reader: &mut R,
@@ -38,7 +40,20 @@ pub(crate) fn view<R: Read, W: Write, P: Pager>(
     }
 }
 
+// How many lines there are, where they are too many to be shown whole and no steps are asked for.
+fn too_many(script: &Script, asked: Option<Steps>) -> Option<u64>
+    ensures { MatchOption result (asked ≡ None → length script.now.lines ≤ 2000) (IsTooLong asked script.now) }
+{
+    let lines = script.lines.len() as u64;
+    if asked.is_none() && lines > MOST {
+        Some(lines)
+    } else {
+        None
+    }
+}
+
 // Runs a script, and writes the record of its run.
+#[tactic(auto, using(crate::proofs::Stops::nothing_written))]
 fn view_script<W: Write, P: Pager>(
     alloc: Global,
     writer: &mut W,
@@ -50,8 +65,7 @@ fn view_script<W: Write, P: Pager>(
     ensures cause { IfErr result (λ s. IsStopIn s asked (map (λ p. length (P.content p)) pagers.items) script.now) }
     ensures silent { IfErr result (λ s. WritesNothing s (W.contents writer.old) (W.contents writer.new)) }
 {
-    let lines = script.lines.len() as u64;
-    if asked.is_none() && lines > MOST {
+    if let Some(lines) = too_many(script, asked) {
         return Err(Stop::TooLong(lines));
     }
     match open_world(alloc, script, pagers) {
@@ -61,6 +75,7 @@ fn view_script<W: Write, P: Pager>(
 }
 
 // Runs a script in the world that it opened, and writes the record of its run.
+#[tactic(auto, using(crate::proofs::Stops::nothing_written))]
 fn view_in<W: Write, P: Pager>(
     alloc: Global,
     writer: &mut W,
@@ -78,10 +93,17 @@ fn view_in<W: Write, P: Pager>(
     // What is told here of the world is true before its first step.
     let _sound = world.history();
     match record(alloc, Steps::asked(asked), world, script) {
-        Ok(text) => match write_output(writer, text.as_bytes()) {
-            Ok(()) => Ok(()),
-            Err(_) => Err(Stop::Fault(RunFault::WriteFailed)),
-        },
-        Err(_) => Err(Stop::Fault(RunFault::HostMemory)),
+        Ok(text) => write_text(writer, text.as_bytes()),
+        Err(HostMemory) => Err(Stop::Fault(RunFault::HostMemory)),
+    }
+}
+
+fn write_text<W: Write>(writer: &mut W, text: &[u8]) -> Result<(), Stop>
+    ensures ok { OnOk result (Appends (W.contents writer.old) (W.contents writer.new) text.now) }
+    ensures fault { IfErr result (λ s. s ≡ Stop.Fault RunFault.WriteFailed) }
+{
+    match write_output(writer, text) {
+        Ok(()) => Ok(()),
+        Err(_) => Err(Stop::Fault(RunFault::WriteFailed)),
     }
 }
