@@ -8,8 +8,9 @@ ghost use Rattle.shmsim.specs.Output.{world_text};
 use shm_base::Event;
 use shm_history::World;
 use shm_pager::Pager;
-use shm_print::{listing, push_event, usage};
+use shm_print::push_event;
 use shm_program::{RunFault, write_output};
+use shm_report::{listing, usage};
 use std::alloc::{AllocError, Global};
 use std::io::Write;
 
@@ -20,7 +21,7 @@ fn history_text(alloc: Global, history: &[Event]) -> Result<String, AllocError>
     let mut text = String::new(alloc);
     let mut place = 1u64;
     for event in history {
-        push_event(alloc, &mut text, place, event)?;
+        push_event(&mut text, place, event)?;
         place += 1;
     }
     Ok(text)

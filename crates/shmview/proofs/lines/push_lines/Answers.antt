@@ -1,5 +1,6 @@
-use Rattle.std.proofs.Common.{rules, arith, ◌≡◌, ◌+◌, ◌∙◌, ap, sym, subst, refl, ℕ, List, [], ◌∷◌, ◌++◌, drop, map, append-nil, append_assoc, string_bytes}
+use Rattle.std.proofs.Common.{rules, arith, ◌≡◌, ◌+◌, ◌∙◌, ap, sym, subst, refl, ℕ, List, [], ◌∷◌, ◌++◌, drop, get_or, map, append-nil, append_assoc, string_bytes}
 use Rattle.std.proofs.lemmas.Grind.{common_steps}
+use Rattle.std.proofs.lemmas.List.{drop_more}
 use Rattle.shm_text.specs.declared.script.Line.{Line}
 use Rattle.shm_program.specs.Values.{HolderView, fresh_holder}
 use Rattle.shmview.specs.Record.{HasRun, Leads, shown_text}
@@ -24,7 +25,8 @@ loop-line-preserved g c =
     let action = c.in_ok-action.action in
     let next = c.run_line.new.world in
     let line : Line = c.line-item.result in
-    let split : drop i ls ≡ line ∷ drop (i + 1) ls = search rules in
+    let here : get_or ls i line ≡ line = grind (arith, common_steps) in
+    let split : drop i ls ≡ line ∷ drop (i + 1) ls = drop_more ls i line (grind (arith, common_steps)) ∙ ap (λ (l : Line). l ∷ drop (i + 1) ls) here in
     let run : HasRun hs w line action c.run_line.new.values next = c.in_ok-action.ensures in
     let text = string_bytes c.loop-line.text in
     let pushed : string_bytes c.push_shown.new.text ≡ text ++ shown_text steps n action next = c.in_ok-push_shown.ensures in record {
