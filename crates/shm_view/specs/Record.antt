@@ -11,7 +11,7 @@ use Rattle.shm_frames.specs.Frame.{Frame}
 use Rattle.shm_fault.specs.Store.{StoreView}
 use Rattle.shm_history.specs.WorldState.{WorldState, tally_of}
 use Rattle.shm_print.specs.Text.{event_text}
-use Rattle.shm_print.specs.Listing.{listing_of}
+use Rattle.shm_report.specs.Listing.{listing_of}
 use Rattle.shm_print.specs.Usage.{usage_text}
 use Rattle.shm_view.specs.declared.action.Action.{Action}
 use Rattle.shm_view.specs.declared.action.Action.TheVariants.{Start, Call, Flush}

@@ -4,7 +4,7 @@ ghost use Rattle.shm_view.specs.Record.{action_text};
 
 use shm_base::{Event, FlushReport};
 use shm_print::push_event;
-use std::alloc::{AllocError, Global};
+use std::alloc::AllocError;
 
 /// What a step did: `Start` is the machine as it opens, `Call` a call with its reply, and `Flush` a flush round
 /// for at most so many pages, with its report.
@@ -16,19 +16,14 @@ pub enum Action {
 }
 
 // Puts the line of what a step did behind a text. A call stands at this place of the history.
-pub(crate) fn push_action(
-    alloc: Global,
-    text: &mut String,
-    place: u64,
-    action: &Action,
-) -> Result<(), AllocError>
+pub(crate) fn push_action(text: &mut String, place: u64, action: &Action) -> Result<(), AllocError>
     ensures { OnOk result (string_bytes text.new ≡ string_bytes text.old ++ action_text place action.now) }
 {
     match action {
         Action::Start => text.push_str("start\n"),
         Action::Call(event) => {
             text.push_str("call ")?;
-            push_event(alloc, text, place, event)
+            push_event(text, place, event)
         }
         Action::Flush(pages, report) => {
             let (written, failed) = (report.written, report.failed);

@@ -8,7 +8,7 @@ use crate::processes::push_processes;
 use shm_fault::PageStore;
 use shm_history::World;
 use shm_pager::Pager;
-use shm_print::{listing, usage};
+use shm_report::{listing, usage};
 use std::alloc::{AllocError, Global};
 
 // Puts the segments and the processes behind a text.
@@ -58,7 +58,7 @@ pub fn push_step<P: Pager>(
     ensures { OnOk result (string_bytes text.new ≡ string_bytes text.old ++ step_text number action.now world.now) }
 {
     write!(text, "step {number}\n")?;
-    push_action(alloc, text, world.history().len() as u64, action)?;
+    push_action(text, world.history().len() as u64, action)?;
     push_machine(alloc, text, world)?;
     push_memory(text, world.system().store())?;
     push_counts(alloc, text, world)?;
