@@ -65,11 +65,7 @@ fn push_slot(
     }
 }
 
-fn push_slots(
-    text: &mut String,
-    area: u32,
-    owners: &[Option<PageRef>],
-) -> Result<(), AllocError>
+fn push_slots(text: &mut String, area: u32, owners: &[Option<PageRef>]) -> Result<(), AllocError>
     ensures { OnOk result (string_bytes text.new ≡ string_bytes text.old ++ numbered (slot_line area) 0 owners.now) }
 {
     for slot in 0..owners.len() {

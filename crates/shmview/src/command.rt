@@ -17,10 +17,7 @@ pub(crate) fn read_command<R: Env + AllocGlobal>(
 }
 
 // What the words say, the first of which is the program's name.
-fn read_words(
-    alloc: Global,
-    words: &[String],
-) -> Result<(Option<Steps>, Vec<SwapWord>), Stop> {
+fn read_words(alloc: Global, words: &[String]) -> Result<(Option<Steps>, Vec<SwapWord>), Stop> {
     if words.len() < 3 || words[1].as_str() != "--steps" {
         return Ok((None, read_swaps(alloc, words.get(1..).unwrap_or(&[]))?));
     }
