@@ -12,6 +12,7 @@ mod flushing;
 mod moving;
 mod paging;
 mod segments;
+mod shown;
 mod store;
 mod touched;
 

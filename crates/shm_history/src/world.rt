@@ -81,6 +81,15 @@ impl<P: Pager> World<P> {
         self.system.opening()
     }
 
+    /// The system, to be looked at: it has the machine and the memory of this world.
+    pub fn system(&self) -> &System<P>
+        ensures opening { result.now.opening ≡ self.now.opening }
+        ensures machine { result.now.machine ≡ self.now.machine }
+        ensures memory { result.now.memory ≡ self.now.memory }
+    {
+        &self.system
+    }
+
     /// The calls so far with their replies. They are legal, and lead to the machine, which the memory
     /// shows exactly. Those that name a pager's failure are at most the failures that were counted, where
     /// no area was ever spent.

@@ -8,6 +8,7 @@ mod detach;
 mod get;
 mod machine;
 mod paging;
+mod shown;
 mod start;
 mod swapoff;
 mod system;

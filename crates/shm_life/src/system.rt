@@ -46,7 +46,7 @@ impl Model for Opening {
 pub struct System<P: Pager> {
     opening: Opening,
     calls: u64,
-    machine: Machine<P>,
+    pub(crate) machine: Machine<P>,
 }
 
 impl<P: Pager> Model for System<P> {

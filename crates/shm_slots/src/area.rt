@@ -107,6 +107,13 @@ impl<P: Pager> Area<P> {
         self.owners.get(slot)
     }
 
+    /// Who owns the slots, by rising number.
+    pub fn owners(&self) -> &[Option<PageRef>]
+        ensures { result.now ≡ self.now.owners }
+    {
+        self.owners.as_slice()
+    }
+
     /// The least slot that nobody owns.
     pub fn least_free(&self) -> Option<u32>
         ensures { FoundLeast self.now.owners result }

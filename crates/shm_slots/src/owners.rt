@@ -72,6 +72,13 @@ impl Owners {
         self.slots[slot as usize]
     }
 
+    /// The owners of all slots, by rising number.
+    pub fn as_slice(&self) -> &[Option<PageRef>]
+        ensures { result.now ≡ self.now }
+    {
+        self.slots.as_slice()
+    }
+
     /// The least free slot.
     pub fn least_free(&self) -> Option<u32>
         ensures { FoundLeast self.now result }

@@ -87,6 +87,23 @@ impl<P: Pager> Swap<P> {
         self.areas.get(area as usize)?.size()
     }
 
+    /// How many areas there are, those gone included.
+    pub fn areas(&self) -> u32
+        ensures { result ≡ length self.now.areas }
+    {
+        self.areas.len() as u32
+    }
+
+    /// Who owns the slots of an area, by rising number. An area that is gone has none.
+    pub fn owners(&self, area: u32) -> &[Option<PageRef>]
+        ensures { result.now ≡ (area_at self.now area).owners }
+    {
+        match self.areas.get(area as usize) {
+            Some(area) => area.owners(),
+            None => &[],
+        }
+    }
+
     #[tactic(auto, unfolding(crate::specs::Cause::total))]
     /// How many failures the pagers have counted since they were handed in, those gone included. The
     /// sum stays at `u64::MAX`.

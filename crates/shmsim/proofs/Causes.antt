@@ -1,61 +1,10 @@
--- What faults say of the input, and from what was read to the whole of it.
-use Rattle.std.proofs.Common.{◌≡◌, ◌≤◌, ◌⊎◌, ◌∙◌, ap, subst, sym, refl, inl, inr, ℕ, true, List, ◌++◌, length, Option, Some, None, Ok, append-nil}
-use Rattle.std.specs.Prelude.{IfSome, OnOk, IfErr, Result, Err}
-use Rattle.std.specs.Io.KnownBytes.{Consumes, IsAtEnd}
-use Rattle.std.proofs.KnownBytes.{Keeps-refl}
-use Rattle.shm_life.specs.Start.{start_error}
+-- What the errors of a run with threads say of the input.
+use Rattle.std.proofs.Common.{ℕ, List}
 use Rattle.shm_text.specs.Script.{ScriptView}
-use Rattle.shm_text.specs.Reading.{script_of, IsFaultOf}
-use Rattle.shm_text.specs.declared.fault.ReadRefused.{ReadRefused}
-use Rattle.shm_text.specs.declared.fault.ReadRefused.TheVariants as refused
-use Rattle.shm_text.proofs.ItemSteps.{same_fault}
-use Rattle.shm_life.specs.declared.start.StartError.{StartError}
 use Rattle.shm_threads.specs.declared.outcome.RunError.{RunError}
 use Rattle.shm_threads.specs.declared.outcome.RunError.TheVariants as errors
-use Rattle.shmsim.specs.Faults.{refused_as, ended_as}
-use Rattle.shmsim.specs.Output.{IsCause, IsCauseIn, IsSilent, IsStop, is_serial}
-use Rattle.shmsim.specs.declared.fault.RunFault.{RunFault}
-use Rattle.shmsim.specs.declared.fault.RunFault.TheVariants.{Script, StartRefused, ReadFailed, WriteFailed, Gate, Mismatch, ThreadRefused, HostMemory}
-
--- a fault of what was read is the fault of the input
-pub refusals : (refusal : ReadRefused) (old new : Option (List ℕ)) (read : List ℕ) → Consumes old new read → (length read ≤ 1048576 → IsAtEnd new) → IsFaultOf refusal (script_of read) → IfSome old (λ input. (areas : List ℕ) → IsCause (refused_as refusal) areas input)
-refusals refusal None new read taken whole e = tt
-refusals refusal (Some input) None read taken whole e = absurd taken
-refusals refused.HostMemory (Some input) (Some rest) read taken whole e = λ areas. tt
-refusals (refused.Fault fault) (Some input) (Some rest) read taken whole e = λ areas. same_fault input read rest fault taken whole e
-
--- what was read to its end is the input
-pub whole_input : (old new : Option (List ℕ)) (read : List ℕ) (P : List ℕ → Type 0) → Consumes old new read → IsAtEnd new → P read → IfSome old P
-whole_input None new read P taken end p = tt
-whole_input (Some input) None read P taken end p = absurd taken
-whole_input (Some input) (Some rest) read P taken end p = rw (taken ∙ ap (λ l. read ++ l) end ∙ append-nil read) p
-
--- where nothing is written, a fault is silent
-pub silent_kept : (fault : RunFault) (kept : Option (List ℕ)) → IsSilent fault kept kept
-silent_kept (Script fault) kept = Keeps-refl kept
-silent_kept (StartRefused n) kept = Keeps-refl kept
-silent_kept ReadFailed kept = Keeps-refl kept
-silent_kept WriteFailed kept = tt
-silent_kept (Gate pid) kept = Keeps-refl kept
-silent_kept (Mismatch pid) kept = Keeps-refl kept
-silent_kept ThreadRefused kept = Keeps-refl kept
-silent_kept HostMemory kept = Keeps-refl kept
-
--- why a world was not opened
-pub stop_cause : (fault : RunFault) (areas : List ℕ) (script : ScriptView) → IsStop fault (start_error areas script.processes) → IsCauseIn fault areas script
-stop_cause (StartRefused n) areas script stop = λ input read. (script, read, stop)
-stop_cause HostMemory areas script stop = λ input read. tt
-stop_cause (Script fault) areas script stop = absurd stop
-stop_cause ReadFailed areas script stop = absurd stop
-stop_cause WriteFailed areas script stop = absurd stop
-stop_cause (Gate pid) areas script stop = absurd stop
-stop_cause (Mismatch pid) areas script stop = absurd stop
-stop_cause ThreadRefused areas script stop = absurd stop
-
--- want of memory and a writer that fails say nothing of the input
-no_cause : (fault : RunFault) (areas : List ℕ) (script : ScriptView) → (fault ≡ HostMemory) ⊎ (fault ≡ WriteFailed) → IsCauseIn fault areas script
-no_cause fault areas script (inl e) = λ input read. subst (λ f. IsCause f areas input) (sym e) tt
-no_cause fault areas script (inr e) = λ input read. subst (λ f. IsCause f areas input) (sym e) tt
+use Rattle.shm_program.specs.Runs.{IsCauseIn}
+use Rattle.shmsim.specs.Faults.{ended_as}
 
 -- why a run with threads ended
 pub ended_cause : (error : RunError) (areas : List ℕ) (script : ScriptView) → IsCauseIn (ended_as error) areas script
@@ -63,45 +12,3 @@ ended_cause errors.HostMemory areas script = λ input read. tt
 ended_cause (errors.GateExpired pid) areas script = λ input read. tt
 ended_cause (errors.HistoryMismatch pid) areas script = λ input read. tt
 ended_cause errors.ThreadRefused areas script = λ input read. tt
-
--- without threads no fault is one of theirs
-pub refused_serial : (refusal : ReadRefused) → is_serial (refused_as refusal) ≡ true
-refused_serial refused.HostMemory = refl
-refused_serial (refused.Fault fault) = refl
-
-pub stop_serial : (fault : RunFault) (first : Option StartError) → IsStop fault first → is_serial fault ≡ true
-stop_serial (StartRefused n) first stop = refl
-stop_serial HostMemory first stop = refl
-stop_serial (Script fault) first stop = absurd stop
-stop_serial ReadFailed first stop = absurd stop
-stop_serial WriteFailed first stop = absurd stop
-stop_serial (Gate pid) first stop = absurd stop
-stop_serial (Mismatch pid) first stop = absurd stop
-stop_serial ThreadRefused first stop = absurd stop
-
-world_serial : (fault : RunFault) → (fault ≡ HostMemory) ⊎ (fault ≡ WriteFailed) → is_serial fault ≡ true
-world_serial fault (inl e) = ap is_serial e
-world_serial fault (inr e) = ap is_serial e
-
--- a fault of the run says of the input what it says of the script
-pub causes : (result : Result (Unit {0}) RunFault) (input : Option (List ℕ)) (areas : List ℕ) (script : ScriptView) → IfSome input (λ bytes. script_of bytes ≡ Ok script) → IfErr result (λ f. IsCauseIn f areas script) → IfErr result (λ f. IfSome input (λ bytes. IsCause f areas bytes))
-causes (Ok done) input areas script read cause = tt
-causes (Err fault) None areas script read cause = tt
-causes (Err fault) (Some bytes) areas script read cause = cause bytes read
-
-pub early_cause : (fault : RunFault) (input : Option (List ℕ)) (areas : List ℕ) → IfSome input (λ bytes. (over : List ℕ) → IsCause fault over bytes) → IfSome input (λ bytes. IsCause fault areas bytes)
-early_cause fault None areas cause = tt
-early_cause fault (Some bytes) areas cause = cause areas
-
-pub world_causes : (result : Result (Unit {0}) RunFault) (areas : List ℕ) (script : ScriptView) → IfErr result (λ f. (f ≡ HostMemory) ⊎ (f ≡ WriteFailed)) → IfErr result (λ f. IsCauseIn f areas script)
-world_causes (Ok done) areas script e = tt
-world_causes (Err fault) areas script e = no_cause fault areas script e
-
-pub world_serials : (result : Result (Unit {0}) RunFault) → IfErr result (λ f. (f ≡ HostMemory) ⊎ (f ≡ WriteFailed)) → IfErr result (λ f. is_serial f ≡ true)
-world_serials (Ok done) e = tt
-world_serials (Err fault) e = world_serial fault e
-
--- where a result is no error, what is true anyway
-pub anyway : (result : Result (Unit {0}) RunFault) (P : Type 0) → P → OnOk result P
-anyway (Ok done) P p = p
-anyway (Err fault) P p = tt

@@ -1,3 +1,2 @@
-pub mod Holders
 mod Causes
 mod Texts

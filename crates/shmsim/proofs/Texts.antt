@@ -6,10 +6,12 @@ use Rattle.shm_history.specs.WorldState.{WorldState}
 use Rattle.shm_text.specs.Script.{ScriptView}
 use Rattle.shm_text.specs.Reading.{script_of}
 use Rattle.shm_threads.specs.declared.outcome.Transcript.{Transcript}
-use Rattle.shmsim.specs.Values.{fresh_holder}
-use Rattle.shmsim.specs.Output.{IsWorldOf, IsOutput, Follows, Writes, Shows, world_text}
+use Rattle.shm_program.specs.Values.{fresh_holder}
+use Rattle.shm_program.specs.Runs.{IsWorldOf, Writes, Shows}
+use Rattle.shmsim.specs.Output.{IsOutput, Follows, world_text}
+use Rattle.shm_program.proofs.Texts.{shown}
 use Rattle.shmsim.specs.Threaded.{IsRunOf, IsThreadedOutput, IsAllOrNothing, have_mark}
-use Rattle.shmsim.specs.declared.fault.RunFault.{RunFault}
+use Rattle.shm_program.specs.declared.fault.RunFault.{RunFault}
 
 pub serial_text : (result : Result (Unit {0}) RunFault) (script : ScriptView) (areas : List ℕ) (w : WorldState) (old new : Option (List ℕ)) → IsWorldOf script areas w → Follows (map fresh_holder script.processes) script.lines w.events → OnOk result (Appends old new (world_text w)) → OnOk result (Writes (IsOutput script areas) old new)
 serial_text (Ok done) script areas w old new is follows written = (world_text w, record { world = w; is_world = is; follows = follows; printed = refl }, written)
@@ -29,15 +31,6 @@ marked_by fault script areas w transcripts old new is run (inr (e, (marks, writt
 pub marked_text : (result : Result (Unit {0}) RunFault) (script : ScriptView) (areas : List ℕ) (w : WorldState) (transcripts : List Transcript) (old new : Option (List ℕ)) → IsWorldOf script areas w → IsRunOf script w transcripts → IfErr result (λ f. IsAllOrNothing f old new ((have_mark transcripts ≡ true) × Appends old new (world_text w))) → IfErr result (λ f. IsAllOrNothing f old new (Writes (IsThreadedOutput true script areas) old new))
 marked_text (Ok done) script areas w transcripts old new is run e = tt
 marked_text (Err fault) script areas w transcripts old new is run e = marked_by fault script areas w transcripts old new is run e
-
--- of the input that was read as a script
-shown : (IsText : ScriptView → List ℕ → List ℕ → Type 0) (input old new : Option (List ℕ)) (areas : List ℕ) (script : ScriptView) → IfSome input (λ bytes. script_of bytes ≡ Ok script) → Writes (IsText script areas) old new → IfSome input (λ bytes. Shows IsText old new areas bytes)
-shown IsText None old new areas script read written = tt
-shown IsText (Some bytes) old new areas script read written = (script, read, written)
-
-pub shows : (IsText : ScriptView → List ℕ → List ℕ → Type 0) (result : Result (Unit {0}) RunFault) (input old new : Option (List ℕ)) (areas : List ℕ) (script : ScriptView) → IfSome input (λ bytes. script_of bytes ≡ Ok script) → OnOk result (Writes (IsText script areas) old new) → OnOk result (IfSome input (λ bytes. Shows IsText old new areas bytes))
-shows IsText (Ok done) input old new areas script read written = shown IsText input old new areas script read written
-shows IsText (Err fault) input old new areas script read written = tt
 
 marked_shown : (fault : RunFault) (input rest old new : Option (List ℕ)) (areas : List ℕ) (script : ScriptView) → IfSome input (λ bytes. script_of bytes ≡ Ok script) → IsAtEnd rest → IsAllOrNothing fault old new (Writes (IsThreadedOutput true script areas) old new) → IsAllOrNothing fault old new (IsAtEnd rest × IfSome input (λ bytes. Shows (IsThreadedOutput true) old new areas bytes))
 marked_shown fault input rest old new areas script read end (inl silent) = inl silent

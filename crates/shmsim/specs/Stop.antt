@@ -1,6 +1,6 @@
 -- Why the program stops: its text and its exit status.
 use Rattle.std.specs.Prelude.{ℕ, List, codes}
-use Rattle.shmsim.specs.Faults.{fault_text, status_of}
+use Rattle.shm_program.specs.Faults.{fault_text, status_of}
 use Rattle.shmsim.specs.declared.command.Stop.{Stop}
 use Rattle.shmsim.specs.declared.command.Stop.TheVariants.{Usage, Fault}
 

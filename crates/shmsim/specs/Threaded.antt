@@ -9,9 +9,10 @@ use Rattle.shm_threads.specs.declared.outcome.Answer.{Answer}
 use Rattle.shm_threads.specs.declared.outcome.Answer.TheVariants as answers
 use Rattle.shm_threads.specs.declared.outcome.Entry.{Entry}
 use Rattle.shm_threads.specs.declared.outcome.Transcript.{Transcript}
-use Rattle.shmsim.specs.Output.{world_text, IsWorldOf, IsSilent, IsCause, Shows}
-use Rattle.shmsim.specs.declared.fault.RunFault.{RunFault}
-use Rattle.shmsim.specs.declared.fault.RunFault.TheVariants.{HostMemory}
+use Rattle.shm_program.specs.Runs.{IsWorldOf, IsSilent, IsCause, Shows}
+use Rattle.shmsim.specs.Output.{world_text}
+use Rattle.shm_program.specs.declared.fault.RunFault.{RunFault}
+use Rattle.shm_program.specs.declared.fault.RunFault.TheVariants.{HostMemory}
 
 -- a call for which the host refused memory
 abbrev pub is_marked : Answer → Bool

@@ -2,11 +2,10 @@
 ghost use Rattle.std.specs.Prelude.{◌≡◌, Some};
 ghost use Rattle.shmsim.specs.Stop.{stop_text, stop_status};
 
-use crate::fault::RunFault;
-use crate::options::{SwapWord, read_swap};
 use clap::error::ErrorKind;
 use clap::{Arg, ArgAction, ArgMatches, Command, Error};
 use shm_pager::{MirrorRefused, Pager};
+use shm_program::{RunFault, SwapWord, read_swap};
 use std::alloc::{AllocError, AllocFailed, Global};
 use std::rt::Env;
 use std::{env, fmt, io};

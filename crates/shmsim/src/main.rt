@@ -2,9 +2,7 @@
 #![tactic(auto)]
 
 mod command;
-mod ends;
 mod fault;
-mod options;
 mod serial;
 #[cfg(test)]
 mod sweeps;
@@ -13,13 +11,12 @@ mod tests;
 mod threaded;
 #[cfg(test)]
 mod threaded_tests;
-mod values;
 mod world;
 
 use command::{Mode, Stop, read_command};
-use options::SwapWord;
 use serial::run_serial;
 use shm_pager::{AnyPager, FusePager, MirrorPager, RamPager, SparsePager};
+use shm_program::SwapWord;
 use std::alloc::Global;
 use std::io;
 use std::process::ExitCode;

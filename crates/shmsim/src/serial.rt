@@ -2,16 +2,15 @@
 //! answered go to a writer.
 ghost use Rattle.std.specs.Prelude.{◌≡◌, ◌⊎◌, [], length, true, map, OnOk, IfErr, IfSome};
 ghost use Rattle.std.specs.Io.KnownBytes.{IsAtEnd};
-ghost use Rattle.shmsim.specs.Output.{Shows, Writes, IsCause, IsCauseIn, is_serial, IsSilent, IsOutput, IsOpening, Follows};
-ghost use Rattle.shmsim.specs.Values.{fresh_holder};
+ghost use Rattle.shm_program.specs.Runs.{Shows, Writes, IsCause, IsCauseIn, is_serial, IsSilent, IsOpening};
+ghost use Rattle.shmsim.specs.Output.{IsOutput, Follows};
+ghost use Rattle.shm_program.specs.Values.{fresh_holder};
 
-use crate::ends::whole_script;
-use crate::fault::RunFault;
-use crate::values::Values;
-use crate::world::{open_world, write_world};
+use crate::world::write_world;
 use shm_base::HostMemory;
 use shm_history::World;
 use shm_pager::Pager;
+use shm_program::{RunFault, Values, open_world, whole_script};
 use shm_text::{Line, Script};
 use std::alloc::Global;
 use std::io::{Read, Write};

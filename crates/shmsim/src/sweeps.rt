@@ -5,10 +5,10 @@ ghost use Rattle.std.specs.Prelude.{◌≡◌, [], IfOk};
 
 use crate::serial::run_lines;
 use crate::threaded::Open;
-use crate::world::open_world;
 use shm_base::{AccessLen, AtFlags, Call, Errno, Event, Reply, ShmId};
 use shm_history::World;
 use shm_pager::{FusePager, MirrorPager, Pager, RamPager};
+use shm_program::open_world;
 use shm_text::{Script, read_script};
 use shm_threads::run_threads;
 use std::alloc::Global;

@@ -1,10 +1,10 @@
 //! Readers and writers that fail, are interrupted, or go byte by byte; and the texts and statuses of faults.
 use crate::command::Stop;
-use crate::fault::RunFault;
 use crate::serial::run_serial;
 use shm_base::{BadLimits, HostMemory};
 use shm_history::StartError;
 use shm_pager::{PagerFault, RamPager};
+use shm_program::RunFault;
 use shm_threads::RunError;
 use std::alloc::{AllocError, Global};
 use std::io::{ErrorKind, Read, Write};

@@ -2,14 +2,15 @@
 //! the texts of the history that they made go to a writer.
 ghost use Rattle.std.specs.Prelude.{◌≡◌, ◌⊎◌, true, false, length, map, OnOk, IfErr};
 ghost use Rattle.std.specs.Io.KnownBytes.{Appends};
-ghost use Rattle.shmsim.specs.Output.{IsCauseIn, IsOpening, IsSound, Writes, world_text};
+ghost use Rattle.shm_program.specs.Runs.{IsCauseIn, IsOpening, IsSound, Writes};
+ghost use Rattle.shmsim.specs.Output.{world_text};
 ghost use Rattle.shmsim.specs.Threaded.{is_marked, has_mark, have_mark, IsThreadedOutput, IsThreadedRun, IsAllOrNothing};
 
-use crate::ends::whole_script;
-use crate::fault::{RunFault, ended};
-use crate::world::{open_world, write_world};
+use crate::fault::ended;
+use crate::world::write_world;
 use shm_history::World;
 use shm_pager::Pager;
+use shm_program::{RunFault, open_world, whole_script};
 use shm_text::Script;
 use shm_threads::{Answer, Entry, Gate, Outcome, Transcript, run_threads};
 use std::alloc::Global;

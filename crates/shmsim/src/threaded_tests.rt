@@ -1,14 +1,13 @@
 //! A run with threads writes its whole output, or nothing.
 ghost use Rattle.std.specs.Prelude.{◌≡◌, [], IfOk};
 
-use crate::fault::RunFault;
 use crate::serial::run_lines;
 use crate::tests::{OUTPUT, SCRIPT, Sink, reader, writer};
 use crate::threaded::{run_gated, run_threaded, write_outcome};
-use crate::world::open_world;
 use shm_base::Call;
 use shm_history::World;
 use shm_pager::RamPager;
+use shm_program::{RunFault, open_world};
 use shm_text::{Script, read_script};
 use shm_threads::{Answer, Entry, Gate, Outcome, Transcript};
 use std::alloc::Global;

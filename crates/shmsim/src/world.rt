@@ -1,37 +1,18 @@
-//! What both runs do with a world: it is opened as the script says, and its text is written.
-ghost use Rattle.std.specs.Prelude.{◌≡◌, ◌⊎◌, [], length, map, OnOk, IfErr, IfOk, string_bytes};
+//! The text of a world is written.
+ghost use Rattle.std.specs.Prelude.{◌≡◌, ◌⊎◌, OnOk, IfErr, IfOk, string_bytes};
 ghost use Rattle.std.specs.Io.KnownBytes.{Appends};
 ghost use Rattle.shm_print.specs.Text.{events_text};
-ghost use Rattle.shm_life.specs.Start.{start_error};
-ghost use Rattle.shmsim.specs.Output.{IsOpening, IsSilent, IsSound, IsStop, world_text};
+ghost use Rattle.shm_program.specs.Runs.{IsSilent, IsSound};
+ghost use Rattle.shmsim.specs.Output.{world_text};
 
-use crate::ends::write_output;
-use crate::fault::{RunFault, stopped};
 use shm_base::Event;
-use shm_history::{System, World};
+use shm_history::World;
 use shm_pager::Pager;
 use shm_print::push_event;
+use shm_program::{RunFault, write_output};
 use shm_report::{listing, usage};
-use shm_text::Script;
 use std::alloc::{AllocError, Global};
 use std::io::Write;
-
-/// A world as a script opens it.
-pub(crate) fn open_world<P: Pager>(
-    alloc: Global,
-    script: &Script,
-    pagers: Vec<P>,
-) -> Result<World<P>, RunFault>
-    ensures opened { IfOk result (λ w. IsOpening script.now w.opening) }
-    ensures areas { IfOk result (λ w. w.opening.areas ≡ map (λ p. length (P.content p)) pagers.items) }
-    ensures events { IfOk result (λ w. w.events ≡ []) }
-    ensures err { IfErr result (λ f. IsStop f (start_error (map (λ p. length (P.content p)) pagers.items) script.now.processes)) }
-{
-    match System::start(alloc, script.limits, pagers, &script.processes) {
-        Ok(system) => Ok(World::new(alloc, system)),
-        Err(error) => Err(stopped(error)),
-    }
-}
 
 // The lines of a history.
 fn history_text(alloc: Global, history: &[Event]) -> Result<String, AllocError>

@@ -1,6 +1,6 @@
 use Rattle.std.proofs.Common.{ap, subst, sym}
 use Rattle.shm_base.specs.State.{Opening}
-use Rattle.shmsim.specs.Output.{IsOpening, IsWorldOf}
+use Rattle.shm_program.specs.Runs.{IsOpening, IsWorldOf}
 use Rattle.shmsim.proofs.Texts.{serial_text}
 use Rattle.shmsim.proofs.serial.run_in.Goals as goal
 

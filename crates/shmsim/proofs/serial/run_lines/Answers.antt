@@ -2,7 +2,7 @@ use Rattle.std.proofs.Common.{arith, ◌≡◌, sym, subst, List, [], append-nil
 use Rattle.shm_base.specs.declared.call.Event.{Event}
 use Rattle.shm_text.specs.declared.script.Line.{Line}
 use Rattle.std.proofs.lemmas.Grind.{common_steps}
-use Rattle.shmsim.specs.Values.{fresh_holder}
+use Rattle.shm_program.specs.Values.{fresh_holder}
 use Rattle.shmsim.specs.Output.{Follows}
 use Rattle.shmsim.proofs.serial.run_lines.Goals as goal
 

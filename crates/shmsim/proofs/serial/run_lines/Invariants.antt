@@ -1,6 +1,6 @@
 use Rattle.std.proofs.Common.{◌≡◌, ◌++◌, List, drop, map}
 use Rattle.shm_base.specs.declared.call.Event.{Event}
-use Rattle.shmsim.specs.Values.{fresh_holder}
+use Rattle.shm_program.specs.Values.{fresh_holder}
 use Rattle.shmsim.specs.Output.{Follows}
 use Rattle.shmsim.proofs.serial.run_lines.Given as goal
 

@@ -1,7 +1,8 @@
 use Rattle.std.proofs.Common.{subst, ℕ, List, map, length}
 use Rattle.std.specs.Prelude.{OnOk}
-use Rattle.shmsim.specs.Output.{IsOutput, Writes}
-use Rattle.shmsim.proofs.Causes.{world_causes, world_serials, stop_cause, stop_serial, silent_kept}
+use Rattle.shm_program.specs.Runs.{Writes}
+use Rattle.shmsim.specs.Output.{IsOutput}
+use Rattle.shm_program.proofs.Causes.{world_causes, world_serials, stop_cause, stop_serial, silent_kept}
 use Rattle.shmsim.proofs.serial.run_script.Goals as goal
 
 pub returns-in-Ok-clause-ok : goal.returns-in-Ok-clause-ok

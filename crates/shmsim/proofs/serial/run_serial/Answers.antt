@@ -1,8 +1,8 @@
 use Rattle.std.proofs.Common.{map, length}
 use Rattle.std.specs.Io.KnownBytes.{IsAtEnd}
 use Rattle.shmsim.specs.Output.{IsOutput}
-use Rattle.shmsim.proofs.Causes.{anyway, causes, early_cause, silent_kept}
-use Rattle.shmsim.proofs.Texts.{shows}
+use Rattle.shm_program.proofs.Causes.{anyway, causes, early_cause, silent_kept}
+use Rattle.shm_program.proofs.Texts.{shows}
 use Rattle.shmsim.proofs.serial.run_serial.Goals as goal
 
 pub returns-in-Ok-clause-ok : goal.returns-in-Ok-clause-ok

@@ -2,8 +2,9 @@ use Rattle.std.proofs.Common.{inl, map, length}
 use Rattle.std.specs.Prelude.{false}
 use Rattle.std.specs.Io.KnownBytes.{IsAtEnd}
 use Rattle.shmsim.specs.Threaded.{IsThreadedOutput}
-use Rattle.shmsim.proofs.Causes.{anyway, causes, early_cause, silent_kept}
-use Rattle.shmsim.proofs.Texts.{shows, marked_shows}
+use Rattle.shm_program.proofs.Causes.{anyway, causes, early_cause, silent_kept}
+use Rattle.shm_program.proofs.Texts.{shows}
+use Rattle.shmsim.proofs.Texts.{marked_shows}
 use Rattle.shmsim.proofs.threaded.run_gated.Goals as goal
 
 pub returns-in-Ok : goal.returns-in-Ok

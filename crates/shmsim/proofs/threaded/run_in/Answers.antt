@@ -1,8 +1,9 @@
 use Rattle.std.proofs.Common.{ap, subst, sym, inl}
 use Rattle.shm_base.specs.State.{Opening}
-use Rattle.shmsim.specs.Output.{IsOpening, IsWorldOf}
+use Rattle.shm_program.specs.Runs.{IsOpening, IsWorldOf}
 use Rattle.shmsim.specs.Threaded.{IsRunOf}
-use Rattle.shmsim.proofs.Causes.{world_causes, ended_cause, silent_kept}
+use Rattle.shm_program.proofs.Causes.{world_causes, silent_kept}
+use Rattle.shmsim.proofs.Causes.{ended_cause}
 use Rattle.shmsim.proofs.Texts.{threaded_text, marked_text}
 use Rattle.shmsim.proofs.threaded.run_in.Goals as goal
 

@@ -1,8 +1,8 @@
 use Rattle.std.proofs.Common.{subst, inl, ℕ, List, map, length}
 use Rattle.std.specs.Prelude.{OnOk, IfErr, true, false}
-use Rattle.shmsim.specs.Output.{Writes, IsCauseIn}
+use Rattle.shm_program.specs.Runs.{Writes, IsCauseIn}
 use Rattle.shmsim.specs.Threaded.{IsThreadedOutput, IsAllOrNothing}
-use Rattle.shmsim.proofs.Causes.{stop_cause, silent_kept}
+use Rattle.shm_program.proofs.Causes.{stop_cause, silent_kept}
 use Rattle.shmsim.proofs.threaded.run_script.Goals as goal
 
 pub returns-in-Ok-clause-ok : goal.returns-in-Ok-clause-ok

@@ -1,0 +1,23 @@
+//! What a system lends to whoever looks at it: its memory, and the pieces of its processes.
+ghost use Rattle.std.specs.Prelude.{◌≡◌};
+
+use crate::system::System;
+use shm_attach::Spaces;
+use shm_fault::PageStore;
+use shm_pager::Pager;
+
+impl<P: Pager> System<P> {
+    /// The pages of the segments, over frames and swap areas.
+    pub fn store(&self) -> &PageStore<P>
+        ensures { result.now ≡ self.now.memory }
+    {
+        self.machine.segments.store()
+    }
+
+    /// The processes, each with its address space.
+    pub fn spaces(&self) -> &Spaces
+        ensures { result.now.runners ≡ self.now.machine.runners }
+    {
+        &self.machine.spaces
+    }
+}

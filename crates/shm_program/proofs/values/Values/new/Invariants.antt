@@ -1,0 +1,6 @@
+use Rattle.std.proofs.Common.{◌≡◌, map, take}
+use Rattle.shm_program.specs.Values.{fresh_holder}
+use Rattle.shm_program.proofs.values.Values.new.Given as goal
+
+abbrev pub invariant-loop-process : goal.invariant-loop-process
+invariant-loop-process l = l.holders.items ≡ map fresh_holder (take l.process-index l.processes)

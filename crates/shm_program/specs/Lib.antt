@@ -1,0 +1,4 @@
+pub mod Values
+pub mod Runs
+pub mod Options
+pub mod Faults

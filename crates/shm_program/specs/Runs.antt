@@ -1,0 +1,72 @@
+-- The world that a script opens, what is written of it, and what a run's faults say of its input.
+use Rattle.std.specs.Prelude.{◌≡◌, ℕ, Bool, true, false, List, Option, Some, None, Ok, Err}
+use Rattle.std.specs.Io.KnownBytes.{Appends, Keeps}
+use Rattle.shm_base.specs.State.{Opening}
+use Rattle.shm_base.specs.History.{IsHistory}
+use Rattle.shm_life.specs.declared.start.StartError.{StartError}
+use Rattle.shm_life.specs.Start.{start_error, number_of}
+use Rattle.shm_life.specs.MachineView.{IsExactly}
+use Rattle.shm_history.specs.WorldState.{WorldState, AreCounted}
+use Rattle.shm_text.specs.Script.{ScriptView}
+use Rattle.shm_text.specs.Reading.{script_of}
+use Rattle.shm_program.specs.declared.fault.RunFault.{RunFault}
+use Rattle.shm_program.specs.declared.fault.RunFault.TheVariants.{Script, StartRefused, WriteFailed, Gate, Mismatch, ThreadRefused, HostMemory}
+
+abbrev pub opening_of : ScriptView → List ℕ → Opening
+opening_of script areas = record { limits = script.limits; areas = areas; processes = script.processes }
+
+-- the history of a world is legal, its memory shows the machine at its end exactly, and the failures that it names
+-- were counted
+pub record IsSound (w : WorldState) : Type 0 where
+  pub legal : IsHistory w.opening w.events w.machine
+  pub counted : AreCounted w.events w.memory.swap
+  pub exact : IsExactly w.machine w.memory
+
+-- a world as a script opens it: its start was not refused
+pub record IsOpening (script : ScriptView) (opening : Opening) : Type 0 where
+  pub started : start_error opening.areas script.processes ≡ None
+  pub is : opening ≡ opening_of script opening.areas
+
+-- a world over these areas as a script opens it
+pub record IsWorldOf (script : ScriptView) (areas : List ℕ) (w : WorldState) : Type 0 where
+  pub opened : IsOpening script w.opening
+  pub over : w.opening.areas ≡ areas
+  pub sound : IsSound w
+
+-- such a text was written, and nothing else
+abbrev pub Writes : (List ℕ → Type 0) → Option (List ℕ) → Option (List ℕ) → Type 0
+Writes IsText old new = (text : List ℕ) × IsText text × Appends old new text
+
+-- the input is a script, and what its run prints was written, and nothing else
+abbrev pub Shows : (ScriptView → List ℕ → List ℕ → Type 0) → Option (List ℕ) → Option (List ℕ) → List ℕ → List ℕ → Type 0
+Shows IsText old new areas input =
+    (script : ScriptView) × (script_of input ≡ Ok script) × Writes (IsText script areas) old new
+
+-- a script fault is the input's, and a refused start is by the first start error
+abbrev pub IsCause : RunFault → List ℕ → List ℕ → Type 0
+IsCause (Script fault) areas input = script_of input ≡ Err fault
+IsCause (StartRefused n) areas input =
+    (script : ScriptView) × (script_of input ≡ Ok script) × ((e : StartError) × (start_error areas script.processes ≡ Some e) × (number_of e ≡ n))
+IsCause _ areas input = Unit {0}
+
+-- a fault once the input was read as this script
+abbrev pub IsCauseIn : RunFault → List ℕ → ScriptView → Type 0
+IsCauseIn fault areas script = (input : List ℕ) → script_of input ≡ Ok script → IsCause fault areas input
+
+-- whether a run without threads can have this fault
+abbrev pub is_serial : RunFault → Bool
+is_serial (Gate pid) = false
+is_serial (Mismatch pid) = false
+is_serial ThreadRefused = false
+is_serial _ = true
+
+-- nothing is written, but by a writer that failed
+abbrev pub IsSilent : RunFault → Option (List ℕ) → Option (List ℕ) → Type 0
+IsSilent WriteFailed old new = Unit {0}
+IsSilent _ old new = Keeps old new
+
+-- a world is not opened for the first start error, or for want of memory where there is none
+abbrev pub IsStop : RunFault → Option StartError → Type 0
+IsStop (StartRefused n) first = (e : StartError) × (first ≡ Some e) × (number_of e ≡ n)
+IsStop HostMemory first = first ≡ None
+IsStop _ first = ⊥

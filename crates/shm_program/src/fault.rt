@@ -1,0 +1,86 @@
+//! Why a run ends without its whole output, and how the program says so.
+ghost use Rattle.std.specs.Prelude.{◌≡◌};
+ghost use Rattle.shm_program.specs.Faults.{refused_as, stopped_as};
+
+use shm_history::StartError;
+use shm_text::{ReadRefused, ScriptFault};
+use std::fmt;
+
+/// Why a run ended without its whole output. `Script`: the input is no script, by its first fault.
+/// `StartRefused`: the first start error that holds, by its number. `ReadFailed`: the reader failed, or was
+/// asked 2,097,152 times without an end. `WriteFailed`: the writer failed, was interrupted, or took no
+/// byte; an unknown beginning was written. `HostMemory`: the host refused memory. Of a run with threads
+/// also: `Gate`: the gate ended a worker, of which this is the least pid. `Mismatch`: a worker's calls and
+/// the history disagree, of which this is the least pid, or 0. `ThreadRefused`: the host refused a thread.
+#[derive(Clone, Copy, Debug, PartialEq, Eq)]
+pub enum RunFault {
+    Script(ScriptFault),
+    StartRefused(u8),
+    ReadFailed,
+    WriteFailed,
+    Gate { pid: u32 },
+    Mismatch { pid: u32 },
+    ThreadRefused,
+    HostMemory,
+}
+
+impl RunFault {
+    ghost use Rattle.shm_program.specs.Faults.{status_of};
+
+    /// The exit status of the program: 1 for a script fault, 3 for a fault of the run, 4 for want of memory.
+    pub fn status(self) -> u8
+        ensures { result ≡ status_of self }
+    {
+        match self {
+            RunFault::Script(_) => 1,
+            RunFault::StartRefused(_)
+            | RunFault::ReadFailed
+            | RunFault::WriteFailed
+            | RunFault::Gate { .. }
+            | RunFault::Mismatch { .. }
+            | RunFault::ThreadRefused => 3,
+            RunFault::HostMemory => 4,
+        }
+    }
+}
+
+impl fmt::Display for RunFault {
+    ghost use Rattle.std.specs.Prelude.{Some};
+    ghost use Rattle.shm_program.specs.Faults.{fault_text};
+
+    ghost output = { λ f. Some (fault_text f) };
+
+    fn fmt<W: fmt::Write>(&self, f: &mut fmt::Formatter<W>) -> fmt::Result {
+        match self {
+            RunFault::Script(fault) => {
+                let (line, kind) = (fault.line, fault.kind);
+                write!(f, "line {line}: {kind}")
+            }
+            RunFault::StartRefused(number) => write!(f, "start refused {number}"),
+            RunFault::ReadFailed => write!(f, "read failed"),
+            RunFault::WriteFailed => write!(f, "write failed"),
+            RunFault::Gate { pid } => write!(f, "gate expired {pid}"),
+            RunFault::Mismatch { pid } => write!(f, "history mismatch {pid}"),
+            RunFault::ThreadRefused => write!(f, "thread refused"),
+            RunFault::HostMemory => write!(f, "out of memory"),
+        }
+    }
+}
+
+pub(crate) fn refused(refusal: ReadRefused) -> RunFault
+    ensures { result ≡ refused_as refusal }
+{
+    match refusal {
+        ReadRefused::HostMemory => RunFault::HostMemory,
+        ReadRefused::Fault(fault) => RunFault::Script(fault),
+    }
+}
+
+pub(crate) fn stopped(error: StartError) -> RunFault
+    ensures { result ≡ stopped_as error }
+{
+    match error {
+        StartError::HostMemory => RunFault::HostMemory,
+        _ => RunFault::StartRefused(error.number()),
+    }
+}

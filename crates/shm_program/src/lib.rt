@@ -1,0 +1,15 @@
+//! What the programs that run a script share: the words for swap areas, the whole input as a script, the world
+//! that it opens, the variables of its processes, the output, and the faults with their texts and statuses.
+#![tactic(auto)]
+
+mod ends;
+mod fault;
+mod opening;
+mod options;
+mod values;
+
+pub use ends::{WriteFault, whole_script, write_output};
+pub use fault::RunFault;
+pub use opening::open_world;
+pub use options::{SwapWord, read_swap};
+pub use values::Values;

@@ -1,0 +1,28 @@
+//! The world that a script opens.
+ghost use Rattle.std.specs.Prelude.{◌≡◌, [], length, map, IfErr, IfOk};
+ghost use Rattle.shm_life.specs.Start.{start_error};
+ghost use Rattle.shm_program.specs.Runs.{IsOpening, IsStop};
+
+use crate::fault::{RunFault, stopped};
+use shm_history::{System, World};
+use shm_pager::Pager;
+use shm_text::Script;
+use std::alloc::Global;
+
+/// A world as a script opens it, with no event yet. It fails as the start of its system does: by the first
+/// start error that holds, or for want of memory; the pagers are dropped then.
+pub fn open_world<P: Pager>(
+    alloc: Global,
+    script: &Script,
+    pagers: Vec<P>,
+) -> Result<World<P>, RunFault>
+    ensures opened { IfOk result (λ w. IsOpening script.now w.opening) }
+    ensures areas { IfOk result (λ w. w.opening.areas ≡ map (λ p. length (P.content p)) pagers.items) }
+    ensures events { IfOk result (λ w. w.events ≡ []) }
+    ensures err { IfErr result (λ f. IsStop f (start_error (map (λ p. length (P.content p)) pagers.items) script.now.processes)) }
+{
+    match System::start(alloc, script.limits, pagers, &script.processes) {
+        Ok(system) => Ok(World::new(alloc, system)),
+        Err(error) => Err(stopped(error)),
+    }
+}

@@ -1,0 +1,66 @@
+//! The record of one step.
+ghost use Rattle.std.specs.Prelude.{◌≡◌, ◌++◌, OnOk, string_bytes};
+ghost use Rattle.shm_view.specs.Record.{counts_text, machine_text, memory_text, step_text};
+
+use crate::action::{Action, push_action};
+use crate::memory::{push_areas, push_frames};
+use crate::processes::push_processes;
+use shm_fault::PageStore;
+use shm_history::World;
+use shm_pager::Pager;
+use shm_report::{listing, usage};
+use std::alloc::{AllocError, Global};
+
+// Puts the segments and the processes behind a text.
+#[tactic(auto, unfolding(crate::specs::Record::machine_text))]
+fn push_machine<P: Pager>(
+    alloc: Global,
+    text: &mut String,
+    world: &World<P>,
+) -> Result<(), AllocError>
+    ensures { OnOk result (string_bytes text.new ≡ string_bytes text.old ++ machine_text world.now) }
+{
+    text.push_str(&listing(alloc, world)?)?;
+    push_processes(text, world.system().spaces(), &world.opening().processes)
+}
+
+// Puts the frames and the swap areas behind a text.
+#[tactic(auto, unfolding(crate::specs::Record::memory_text))]
+fn push_memory<P: Pager>(text: &mut String, store: &PageStore<P>) -> Result<(), AllocError>
+    ensures { OnOk result (string_bytes text.new ≡ string_bytes text.old ++ memory_text store.now) }
+{
+    push_frames(text, store)?;
+    push_areas(text, store.swap())
+}
+
+// Puts the usage behind a text.
+#[tactic(auto, unfolding(crate::specs::Record::counts_text))]
+fn push_counts<P: Pager>(
+    alloc: Global,
+    text: &mut String,
+    world: &World<P>,
+) -> Result<(), AllocError>
+    ensures { OnOk result (string_bytes text.new ≡ string_bytes text.old ++ counts_text world.now) }
+{
+    text.push_str(&usage(alloc, world)?)
+}
+
+/// Puts the record of a step behind a text: its number, what it did, and how the world stands after it, as the
+/// segments of the listing, the processes with their pieces, the frames, the swap areas and the usage. Each line
+/// begins with a word that says what it shows. Where memory is refused a part of the record may stand there.
+pub fn push_step<P: Pager>(
+    alloc: Global,
+    text: &mut String,
+    number: u64,
+    action: &Action,
+    world: &World<P>,
+) -> Result<(), AllocError>
+    ensures { OnOk result (string_bytes text.new ≡ string_bytes text.old ++ step_text number action.now world.now) }
+{
+    write!(text, "step {number}\n")?;
+    push_action(text, world.history().len() as u64, action)?;
+    push_machine(alloc, text, world)?;
+    push_memory(text, world.system().store())?;
+    push_counts(alloc, text, world)?;
+    text.push_str("\n")
+}

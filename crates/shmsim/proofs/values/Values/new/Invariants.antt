@@ -1,6 +1,0 @@
-use Rattle.std.proofs.Common.{◌≡◌, map, take}
-use Rattle.shmsim.specs.Values.{fresh_holder}
-use Rattle.shmsim.proofs.values.Values.new.Given as goal
-
-abbrev pub invariant-loop-process : goal.invariant-loop-process
-invariant-loop-process l = l.holders.items ≡ map fresh_holder (take l.process-index l.processes)

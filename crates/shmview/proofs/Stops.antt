@@ -1,0 +1,58 @@
+-- What the stops say of the input, and what they leave of the output.
+use Rattle.std.proofs.Common.{◌≡◌, ◌⊎◌, refl, sym, subst, inl, inr, ℕ, true, List, Option, Some, None, Ok}
+use Rattle.std.specs.Prelude.{IfSome, IfErr, Result, Err}
+use Rattle.std.proofs.KnownBytes.{Keeps-refl}
+use Rattle.shm_life.specs.Start.{start_error}
+use Rattle.shm_text.specs.Script.{ScriptView}
+use Rattle.shm_text.specs.Reading.{script_of}
+use Rattle.shm_program.specs.Runs.{IsCause, IsStop, is_serial}
+use Rattle.shm_program.specs.declared.fault.RunFault.{RunFault}
+use Rattle.shm_program.specs.declared.fault.RunFault.TheVariants.{WriteFailed, HostMemory}
+use Rattle.shm_program.proofs.Causes.{silent_kept, stop_cause, stop_serial}
+use Rattle.shmview.specs.Stop.{IsStopIn, IsStopOf, WritesNothing}
+use Rattle.shmview.specs.declared.steps.Steps.{Steps}
+use Rattle.shmview.specs.declared.stop.Stop.{Stop}
+use Rattle.shmview.specs.declared.stop.Stop.TheVariants.{Usage, TooLong, Fault}
+
+pub nothing_written : (s : Stop) (kept : Option (List ℕ)) → WritesNothing s kept kept
+nothing_written Usage kept = Keeps-refl kept
+nothing_written (TooLong n) kept = Keeps-refl kept
+nothing_written (Fault fault) kept = silent_kept fault kept
+
+-- a writer that failed
+pub failed_writer : (result : Result (Unit {0}) Stop) (old new : Option (List ℕ)) → IfErr result (λ s. s ≡ Fault WriteFailed) → IfErr result (λ s. WritesNothing s old new)
+failed_writer (Ok done) old new failed = tt
+failed_writer (Err s) old new failed = subst (λ s. WritesNothing s old new) (sym failed) tt
+
+-- what a stop says of the input, from what it says of the script that the input is
+stop_of : (s : Stop) (asked : Option Steps) (areas : List ℕ) (script : ScriptView) (input : List ℕ) → script_of input ≡ Ok script → IsStopIn s asked areas script → IsStopOf s asked areas input
+stop_of Usage asked areas script input read stop = absurd stop
+stop_of (TooLong n) asked areas script input read stop = (script, read, stop)
+stop_of (Fault fault) asked areas script input read (cause, serial) = (cause input read, serial)
+
+pub stops : (result : Result (Unit {0}) Stop) (input : Option (List ℕ)) (asked : Option Steps) (areas : List ℕ) (script : ScriptView) → IfSome input (λ bytes. script_of bytes ≡ Ok script) → IfErr result (λ s. IsStopIn s asked areas script) → IfErr result (λ s. IfSome input (λ bytes. IsStopOf s asked areas bytes))
+stops (Ok done) input asked areas script read stop = tt
+stops (Err s) None asked areas script read stop = tt
+stops (Err s) (Some bytes) asked areas script read stop = stop_of s asked areas script bytes read stop
+
+-- the input was not read, or is no script
+pub early_stop : (fault : RunFault) (input : Option (List ℕ)) (asked : Option Steps) (areas : List ℕ) → IfSome input (λ bytes. (over : List ℕ) → IsCause fault over bytes) → is_serial fault ≡ true → IfSome input (λ bytes. IsStopOf (Fault fault) asked areas bytes)
+early_stop fault None asked areas cause serial = tt
+early_stop fault (Some bytes) asked areas cause serial = (cause areas, serial)
+
+-- the world was not opened
+pub open_stop : (fault : RunFault) (asked : Option Steps) (areas : List ℕ) (script : ScriptView) → IsStop fault (start_error areas script.processes) → IsStopIn (Fault fault) asked areas script
+open_stop fault asked areas script stop = (stop_cause fault areas script stop, stop_serial fault _ stop)
+
+-- the world was opened: want of memory and a writer that fails say nothing of the script
+late_stop : (s : Stop) (asked : Option Steps) (areas : List ℕ) (script : ScriptView) → (s ≡ Fault HostMemory) ⊎ (s ≡ Fault WriteFailed) → IsStopIn s asked areas script
+late_stop s asked areas script (inl e) = subst (λ s. IsStopIn s asked areas script) (sym e) ((λ input read. tt), refl)
+late_stop s asked areas script (inr e) = subst (λ s. IsStopIn s asked areas script) (sym e) ((λ input read. tt), refl)
+
+pub late_stops : (result : Result (Unit {0}) Stop) (asked : Option Steps) (areas : List ℕ) (script : ScriptView) → IfErr result (λ s. (s ≡ Fault HostMemory) ⊎ (s ≡ Fault WriteFailed)) → IfErr result (λ s. IsStopIn s asked areas script)
+late_stops (Ok done) asked areas script e = tt
+late_stops (Err s) asked areas script e = late_stop s asked areas script e
+
+pub writer_stops : (result : Result (Unit {0}) Stop) → IfErr result (λ s. s ≡ Fault WriteFailed) → IfErr result (λ s. (s ≡ Fault HostMemory) ⊎ (s ≡ Fault WriteFailed))
+writer_stops (Ok done) e = tt
+writer_stops (Err s) e = inr e

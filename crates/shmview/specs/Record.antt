@@ -1,0 +1,50 @@
+-- The record of a script's run, step by step.
+use Rattle.std.specs.Prelude.{ℕ, ◌≡◌, ◌≤◌, ◌+◌, if◌then◌else◌, List, [], ◌∷◌, ◌++◌, map, length, Option, Some, None}
+use Rattle.shm_base.specs.declared.call.Call.{Call}
+use Rattle.shm_base.specs.declared.call.Reply.{Reply}
+use Rattle.shm_base.specs.declared.paging.FlushReport.{FlushReport}
+use Rattle.shm_text.specs.Script.{ScriptView}
+use Rattle.shm_text.specs.Form.{CommandView}
+use Rattle.shm_text.specs.Variables.{call_of}
+use Rattle.shm_text.specs.declared.script.Line.{Line}
+use Rattle.shm_text.specs.declared.script.Line.TheVariants.{Command, Flush}
+use Rattle.shm_history.specs.WorldState.{WorldState, event, IsCalled, IsRound}
+use Rattle.shm_view.specs.declared.action.Action.{Action}
+use Rattle.shm_view.specs.declared.action.Action.TheVariants as actions
+use Rattle.shm_view.specs.Record.{step_text}
+use Rattle.shm_program.specs.Runs.{IsWorldOf}
+use Rattle.shm_program.specs.Values.{HolderView, fresh_holder, values_of, answered}
+use Rattle.shmview.specs.Steps.{is_among, steps_asked}
+use Rattle.shmview.specs.declared.steps.Steps.{Steps}
+
+-- the call that a command line makes with these variables
+abbrev pub call_by : List HolderView → CommandView → Call
+call_by hs c = call_of (values_of hs c.pid) c.call
+
+-- what a line does to the variables and to the world, and how that is told
+abbrev pub HasRun : List HolderView → WorldState → Line → Action → List HolderView → WorldState → Type 0
+HasRun hs w (Command c) action after next =
+    (reply : Reply) × (action ≡ actions.Call (event c.pid (call_by hs c) reply)) × IsCalled w c.pid (call_by hs c) reply next × (after ≡ answered hs c (Some reply))
+HasRun hs w (Flush pages) action after next =
+    (report : FlushReport) × (action ≡ actions.Flush pages report) × IsRound w pages report next × (after ≡ hs)
+
+-- the record of a step that is shown, and nothing of another
+abbrev pub shown_text : Steps → ℕ → Action → WorldState → List ℕ
+shown_text steps n action w = if is_among steps n then step_text n action w else []
+
+-- the lines lead from a world through others, and these are the records of their steps, the first of which has a number
+abbrev pub Leads : Steps → List HolderView → ℕ → WorldState → List Line → List ℕ → Type 0
+Leads steps hs n w [] text = text ≡ []
+Leads steps hs n w (line ∷ lines) text =
+    (action : Action) × (after : List HolderView) × (next : WorldState) × (rest : List ℕ) × HasRun hs w line action after next × Leads steps after (n + 1) next lines rest × (text ≡ shown_text steps n action next ++ rest)
+
+-- the record of a run of a script over these areas: step 0 is the world as it opens, and each line is a step. Where no
+-- steps are asked for the script has at most 2,000 lines
+pub record IsRecord (asked : Option Steps) (script : ScriptView) (areas : List ℕ) (text : List ℕ) : Type 0 where
+  pub world : WorldState
+  pub is_world : IsWorldOf script areas world
+  pub fresh : world.events ≡ []
+  pub few : asked ≡ None → length script.lines ≤ 2000
+  pub rest : List ℕ
+  pub leads : Leads (steps_asked asked) (map fresh_holder script.processes) 1 world script.lines rest
+  pub printed : text ≡ shown_text (steps_asked asked) 0 actions.Start world ++ rest

@@ -1,0 +1,44 @@
+-- Why the program stops: its text, its exit status, and what that says of its input.
+use Rattle.std.specs.Prelude.{ℕ, ◌≡◌, ◌<◌, true, List, ◌++◌, codes, length, Option, None, Ok}
+use Rattle.std.specs.Fmt.{decimal}
+use Rattle.shm_text.specs.Script.{ScriptView}
+use Rattle.shm_text.specs.Reading.{script_of}
+use Rattle.shm_program.specs.Faults.{fault_text, status_of}
+use Rattle.shm_program.specs.Runs.{IsCause, IsSilent, is_serial}
+use Rattle.std.specs.Io.KnownBytes.{Keeps}
+use Rattle.shmview.specs.declared.steps.Steps.{Steps}
+use Rattle.shmview.specs.declared.stop.Stop.{Stop}
+use Rattle.shmview.specs.declared.stop.Stop.TheVariants.{Usage, TooLong, Fault}
+
+abbrev pub stop_text : Stop → List ℕ
+stop_text Usage = codes "usage: shmview [--text] [--steps FROM-TO] SWAP..."
+stop_text (TooLong steps) = decimal steps ++ codes " steps are more than 2000: choose some by --steps FROM-TO"
+stop_text (Fault fault) = fault_text fault
+
+abbrev pub stop_status : Stop → ℕ
+stop_status Usage = 2
+stop_status (TooLong steps) = 2
+stop_status (Fault fault) = status_of fault
+
+-- the script has so many lines, more than 2,000, and no steps were asked for
+pub record IsTooLong (asked : Option Steps) (script : ScriptView) (n : ℕ) : Type 0 where
+  pub all : asked ≡ None
+  pub lines : n ≡ length script.lines
+  pub long : 2000 < n
+
+-- what a stop says of an input that was read as this script
+abbrev pub IsStopIn : Stop → Option Steps → List ℕ → ScriptView → Type 0
+IsStopIn Usage asked areas script = ⊥
+IsStopIn (TooLong n) asked areas script = IsTooLong asked script n
+IsStopIn (Fault fault) asked areas script = ((input : List ℕ) → script_of input ≡ Ok script → IsCause fault areas input) × (is_serial fault ≡ true)
+
+-- what a stop says of its input
+abbrev pub IsStopOf : Stop → Option Steps → List ℕ → List ℕ → Type 0
+IsStopOf Usage asked areas input = ⊥
+IsStopOf (TooLong n) asked areas input = (script : ScriptView) × (script_of input ≡ Ok script) × IsTooLong asked script n
+IsStopOf (Fault fault) asked areas input = IsCause fault areas input × (is_serial fault ≡ true)
+
+-- nothing is written, but by a writer that failed
+abbrev pub WritesNothing : Stop → Option (List ℕ) → Option (List ℕ) → Type 0
+WritesNothing (Fault fault) old new = IsSilent fault old new
+WritesNothing _ old new = Keeps old new

@@ -1,0 +1,43 @@
+//! The command line.
+use crate::steps::{Steps, read_steps};
+use crate::stop::Stop;
+use shm_program::{SwapWord, read_swap};
+use std::alloc::Global;
+use std::env;
+use std::rt::Env;
+
+/// The steps that are asked for, and the swap areas.
+pub(crate) fn read_command<R: Env + AllocGlobal>(
+    rt: &R,
+    alloc: Global,
+) -> Result<(Option<Steps>, Vec<SwapWord>), Stop> {
+    let args = env::args(rt)?;
+    let words: Vec<String> = args.collect(alloc)?;
+    read_words(alloc, &words)
+}
+
+// What the words say, the first of which is the program's name.
+fn read_words(alloc: Global, words: &[String]) -> Result<(Option<Steps>, Vec<SwapWord>), Stop> {
+    if words.len() < 3 || words[1].as_str() != "--steps" {
+        return Ok((None, read_swaps(alloc, words.get(1..).unwrap_or(&[]))?));
+    }
+    let Some(steps) = read_steps(words[2].as_bytes()) else {
+        return Err(Stop::Usage);
+    };
+    Ok((Some(steps), read_swaps(alloc, &words[3..])?))
+}
+
+// One to eight swap areas.
+fn read_swaps(alloc: Global, words: &[String]) -> Result<Vec<SwapWord>, Stop> {
+    if words.is_empty() || words.len() > 8 {
+        return Err(Stop::Usage);
+    }
+    let mut swaps = Vec::new(alloc);
+    for word in words {
+        match read_swap(word.as_bytes()) {
+            Some(swap) => swaps.push(swap)?,
+            None => return Err(Stop::Usage),
+        }
+    }
+    Ok(swaps)
+}

@@ -1,0 +1,90 @@
+//! The lines of a script are run, and the record of each step is put behind a text.
+ghost use Rattle.std.specs.Prelude.{◌≡◌, ◌++◌, List, ℕ, [], map, IfOk, OnOk, string_bytes};
+ghost use Rattle.shm_view.specs.declared.action.Action.TheVariants.{Start};
+ghost use Rattle.shm_program.specs.Values.{fresh_holder};
+ghost use Rattle.shmview.specs.Record.{HasRun, Leads, shown_text};
+
+use crate::steps::Steps;
+use shm_base::{Event, HostMemory};
+use shm_history::World;
+use shm_pager::Pager;
+use shm_program::Values;
+use shm_text::{Line, Script};
+use shm_view::{Action, push_step};
+use std::alloc::Global;
+
+// Runs a line with the variables of its process.
+fn run_line<P: Pager>(
+    world: &mut World<P>,
+    values: &mut Values,
+    line: &Line,
+) -> Result<Action, HostMemory>
+    ensures { IfOk result (λ action. HasRun values.old world.old line.now action values.new world.new) }
+{
+    match line {
+        Line::Command(command) => {
+            let call = values.call(command);
+            let pid = command.pid();
+            let reply = world.call(pid, &call)?;
+            values.took(command, &reply);
+            Ok(Action::Call(Event { pid, call, reply }))
+        }
+        Line::Flush(round) => {
+            let pages = u64::from(round.pages());
+            let report = world.flush(pages);
+            Ok(Action::Flush(pages, report))
+        }
+    }
+}
+
+// Puts the record of a step behind a text, where the step is to be shown.
+fn push_shown<P: Pager>(
+    alloc: Global,
+    text: &mut String,
+    steps: Steps,
+    number: u64,
+    action: &Action,
+    world: &World<P>,
+) -> Result<(), HostMemory>
+    ensures { OnOk result (string_bytes text.new ≡ string_bytes text.old ++ shown_text steps number action.now world.now) }
+{
+    if steps.is_among(number) {
+        push_step(alloc, text, number, action, world)?;
+    }
+    Ok(())
+}
+
+// Runs the lines of a script in file order, and puts the records of their steps behind a text.
+fn push_lines<P: Pager>(
+    alloc: Global,
+    text: &mut String,
+    steps: Steps,
+    world: &mut World<P>,
+    script: &Script,
+) -> Result<(), HostMemory>
+    ensures { OnOk result ((rest : List ℕ) × Leads steps (map fresh_holder script.now.processes) 1 world.old script.now.lines rest × (string_bytes text.new ≡ string_bytes text.old ++ rest)) }
+{
+    let mut values = Values::new(alloc, &script.processes)?;
+    let mut number = 1u64;
+    for line in &script.lines {
+        let action = run_line(world, &mut values, line)?;
+        push_shown(alloc, text, steps, number, &action, world)?;
+        number += 1;
+    }
+    Ok(())
+}
+
+/// The record of a script's run in the world that it opened: of the world as it is, and of each step.
+pub(crate) fn record<P: Pager>(
+    alloc: Global,
+    steps: Steps,
+    world: &mut World<P>,
+    script: &Script,
+) -> Result<String, HostMemory>
+    ensures { IfOk result (λ text. (rest : List ℕ) × Leads steps (map fresh_holder script.now.processes) 1 world.old script.now.lines rest × (string_bytes text ≡ shown_text steps 0 Start world.old ++ rest)) }
+{
+    let mut text = String::new(alloc);
+    push_shown(alloc, &mut text, steps, 0, &Action::Start, world)?;
+    push_lines(alloc, &mut text, steps, world, script)?;
+    Ok(text)
+}

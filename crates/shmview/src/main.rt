@@ -1,0 +1,35 @@
+//! The viewer: a script of processes and calls goes in on standard input, the record of each step comes out.
+#![tactic(auto)]
+
+mod command;
+mod lines;
+mod steps;
+mod stop;
+mod swap;
+mod view;
+
+use command::read_command;
+use std::io;
+use std::process::ExitCode;
+use std::rt::Env;
+use stop::Stop;
+use swap::areas;
+use view::view;
+
+fn run<R: Env + Input + Print + AllocGlobal>(rt: &R) -> Result<(), Stop> {
+    let alloc = rt.alloc();
+    let (steps, words) = read_command(rt, alloc)?;
+    let pagers = areas(alloc, &words)?;
+    let (mut reader, mut writer) = (rt.reader(), io::writer(rt));
+    view(alloc, &mut reader, &mut writer, pagers, steps)
+}
+
+fn main(rt: HostRuntime) -> io::Result<ExitCode> {
+    match run(&rt) {
+        Ok(()) => Ok(ExitCode::SUCCESS),
+        Err(stop) => {
+            eprintln!(rt; "shmview: {stop}")?;
+            Ok(ExitCode::from(stop.status()))
+        }
+    }
+}

@@ -1,0 +1,52 @@
+//! Which steps of a run are shown.
+ghost use Rattle.std.specs.Prelude.{◌≡◌, ◌+◌, ◌<◌, length, take, drop, IfSome};
+ghost use Rattle.shm_text.specs.Number.{decimal_of};
+ghost use Rattle.shmview.specs.Steps.{is_among, hyphen, steps_of, steps_asked};
+
+use shm_text::read_decimal;
+
+/// The steps from one number to another, both included. Step 0 is the machine as it opens.
+#[derive(Clone, Copy, Debug, PartialEq, Eq)]
+pub(crate) struct Steps {
+    pub(crate) from: u64,
+    pub(crate) to: u64,
+}
+
+/// How many steps a run has at most that is shown whole.
+pub(crate) const MOST: u64 = 2000;
+
+impl Steps {
+    /// Those that are shown: all of a run that is not too long, where none are asked for.
+    pub(crate) fn asked(steps: Option<Steps>) -> Steps
+        ensures { result ≡ steps_asked steps }
+    {
+        steps.unwrap_or(Steps { from: 0, to: MOST })
+    }
+
+    /// Whether a step is one of these.
+    pub(crate) fn is_among(self, number: u64) -> bool
+        ensures { result ≡ is_among self number }
+    {
+        self.from <= number && number <= self.to
+    }
+}
+
+fn hyphen(word: &[u8]) -> Option<usize>
+    ensures value { result ≡ hyphen word.now }
+    ensures within { IfSome result (λ i. i < length word.now) }
+{
+    word.iter().position(|b| *b == b'-')
+}
+
+/// A word for steps: `FROM-TO`, in decimal digits, FROM not above TO.
+pub(crate) fn read_steps(word: &[u8]) -> Option<Steps>
+    ensures { result ≡ steps_of word.now }
+{
+    let end = hyphen(word)?;
+    let from = read_decimal(&word[..end])?;
+    let to = read_decimal(&word[end + 1..])?;
+    if from > to {
+        return None;
+    }
+    Some(Steps { from, to })
+}

@@ -1,0 +1,109 @@
+//! A run that is looked at: a script comes from a reader, its lines run in file order, and the record of each
+//! step goes to a writer.
+ghost use Rattle.std.specs.Prelude.{◌≡◌, ◌⊎◌, ◌≤◌, [], length, map, None, OnOk, IfErr, IfSome, MatchOption};
+ghost use Rattle.std.specs.Io.KnownBytes.{Appends, IsAtEnd};
+ghost use Rattle.shm_program.specs.Runs.{Shows, Writes, IsOpening};
+ghost use Rattle.shmview.specs.Record.{IsRecord};
+ghost use Rattle.shmview.specs.Stop.{IsStopIn, IsStopOf, IsTooLong, WritesNothing};
+
+use crate::lines::record;
+use crate::steps::{MOST, Steps};
+use crate::stop::Stop;
+use shm_base::HostMemory;
+use shm_history::World;
+use shm_pager::Pager;
+use shm_program::{RunFault, open_world, whole_script, write_output};
+use shm_text::Script;
+use std::alloc::Global;
+use std::io::{Read, Write};
+
+/// Runs the script that the reader gives over swap areas behind these pagers, and writes the record of each step
+/// that is asked for: of all where none are, and then the script has at most 2,000 lines. Before the first byte
+/// is written the whole output is there, so at any stop but by a writer that fails nothing is written. It stops
+/// as a serial run does, and for too many steps once the script is read.
+#[tactic(auto, using(crate::proofs::Stops::nothing_written))]
+pub(crate) fn view<R: Read, W: Write, P: Pager>(
+    alloc: Global,
+    reader: &mut R,
+    writer: &mut W,
+    pagers: Vec<P>,
+    asked: Option<Steps>,
+) -> Result<(), Stop>
+    ensures ok { OnOk result (IfSome (R.remaining reader.old) (λ input. Shows (IsRecord asked) (W.contents writer.old) (W.contents writer.new) (map (λ p. length (P.content p)) pagers.items) input)) }
+    ensures whole { OnOk result (IsAtEnd (R.remaining reader.new)) }
+    ensures cause { IfErr result (λ s. IfSome (R.remaining reader.old) (λ input. IsStopOf s asked (map (λ p. length (P.content p)) pagers.items) input)) }
+    ensures silent { IfErr result (λ s. WritesNothing s (W.contents writer.old) (W.contents writer.new)) }
+{
+    match whole_script(alloc, reader) {
+        Ok(script) => view_script(alloc, writer, &script, pagers, asked),
+        Err(fault) => Err(Stop::Fault(fault)),
+    }
+}
+
+// How many lines there are, where they are too many to be shown whole and no steps are asked for.
+fn too_many(script: &Script, asked: Option<Steps>) -> Option<u64>
+    ensures { MatchOption result (asked ≡ None → length script.now.lines ≤ 2000) (IsTooLong asked script.now) }
+{
+    let lines = script.lines.len() as u64;
+    if asked.is_none() && lines > MOST {
+        Some(lines)
+    } else {
+        None
+    }
+}
+
+// Runs a script, and writes the record of its run.
+#[tactic(auto, using(crate::proofs::Stops::nothing_written))]
+fn view_script<W: Write, P: Pager>(
+    alloc: Global,
+    writer: &mut W,
+    script: &Script,
+    pagers: Vec<P>,
+    asked: Option<Steps>,
+) -> Result<(), Stop>
+    ensures ok { OnOk result (Writes (IsRecord asked script.now (map (λ p. length (P.content p)) pagers.items)) (W.contents writer.old) (W.contents writer.new)) }
+    ensures cause { IfErr result (λ s. IsStopIn s asked (map (λ p. length (P.content p)) pagers.items) script.now) }
+    ensures silent { IfErr result (λ s. WritesNothing s (W.contents writer.old) (W.contents writer.new)) }
+{
+    if let Some(lines) = too_many(script, asked) {
+        return Err(Stop::TooLong(lines));
+    }
+    match open_world(alloc, script, pagers) {
+        Ok(mut world) => view_in(alloc, writer, &mut world, script, asked),
+        Err(fault) => Err(Stop::Fault(fault)),
+    }
+}
+
+// Runs a script in the world that it opened, and writes the record of its run.
+#[tactic(auto, using(crate::proofs::Stops::nothing_written))]
+fn view_in<W: Write, P: Pager>(
+    alloc: Global,
+    writer: &mut W,
+    world: &mut World<P>,
+    script: &Script,
+    asked: Option<Steps>,
+) -> Result<(), Stop>
+    requires events { world.old.events ≡ [] }
+    requires opened { IsOpening script.now world.old.opening }
+    requires few { asked ≡ None → length script.now.lines ≤ 2000 }
+    ensures ok { OnOk result (Writes (IsRecord asked script.now world.old.opening.areas) (W.contents writer.old) (W.contents writer.new)) }
+    ensures fault { IfErr result (λ s. (s ≡ Stop.Fault RunFault.HostMemory) ⊎ (s ≡ Stop.Fault RunFault.WriteFailed)) }
+    ensures silent { IfErr result (λ s. WritesNothing s (W.contents writer.old) (W.contents writer.new)) }
+{
+    // What is told here of the world is true before its first step.
+    let _sound = world.history();
+    match record(alloc, Steps::asked(asked), world, script) {
+        Ok(text) => write_text(writer, text.as_bytes()),
+        Err(HostMemory) => Err(Stop::Fault(RunFault::HostMemory)),
+    }
+}
+
+fn write_text<W: Write>(writer: &mut W, text: &[u8]) -> Result<(), Stop>
+    ensures ok { OnOk result (Appends (W.contents writer.old) (W.contents writer.new) text.now) }
+    ensures fault { IfErr result (λ s. s ≡ Stop.Fault RunFault.WriteFailed) }
+{
+    match write_output(writer, text) {
+        Ok(()) => Ok(()),
+        Err(_) => Err(Stop::Fault(RunFault::WriteFailed)),
+    }
+}

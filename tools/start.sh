@@ -1,0 +1,53 @@
+# What the start scripts share; each sets `name`, its program, and `top`, the repository.
+program=$top/crates/$name/out/$name
+
+version() {
+    sed -n 's/^## \([0-9][0-9.]*\).*/\1/p' "$top/CHANGELOG.md" | head -n 1
+}
+
+has_toolchain() {
+    command -v rt > /dev/null && return
+    echo "$name: there is no command rt, the toolchain's, on the path" >&2
+    exit 125
+}
+
+is_current() {
+    [ -x "$program" ] || return 1
+    newer=$(find "$top/crates" "$top/crates.txt" -path '*/out' -prune -o \
+        \( -name '*.rt' -o -name '*.antt' -o -name crates.txt \) -newer "$program" -print | head -n 1)
+    [ -z "$newer" ]
+}
+
+# The toolchain's quick run of the program: its own last lines come behind what the program said.
+run_unproved() {
+    has_toolchain
+    said=$(mktemp) || exit 125
+    trap 'rm -f "$said"' EXIT
+    echo "$name: nothing is proved on this machine by this run" >&2
+    (cd "$top/crates/$name" && exec rt try -- "$@") 2> "$said"
+    tried=$?
+    status=$(sed -n 's/^run=ended status=\([0-9]*\) .*/\1/p' "$said" | tail -n 1)
+    if [ -z "$status" ]; then
+        if grep -q '^checked: no-answer: the program wrote more than' "$said"; then
+            echo "$name: the output is longer than the quick run carries, 1 MiB: run without --unproved" >&2
+        else
+            tail -n 20 "$said" >&2
+            echo "$name: the quick run gave no answer (rt try ended with status $tried)" >&2
+        fi
+        exit 125
+    fi
+    grep -vE '^(checked: ended status=|races: |run=ended status=|interpreter: )' "$said" >&2
+    exit "$status"
+}
+
+# Proves and builds the program where it is missing, or older than a source.
+build_current() {
+    is_current && return
+    has_toolchain
+    echo "$name: proving and building, once; --unproved in front of the words gives an answer sooner" >&2
+    if ! "$top/tools/build" "$name"; then
+        echo "$name: not built" >&2
+        exit 125
+    fi
+    touch "$program"
+}
