@@ -1,4 +1,5 @@
 pub mod Histories
 pub mod Counted
+pub mod Clear
 pub mod Steps
 pub mod Cells

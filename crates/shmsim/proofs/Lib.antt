@@ -1,2 +1,3 @@
 mod Causes
+mod Flatness
 mod Texts

@@ -9,12 +9,13 @@ use Rattle.shm_threads.specs.declared.outcome.Transcript.{Transcript}
 use Rattle.shm_program.specs.Values.{fresh_holder}
 use Rattle.shm_program.specs.Runs.{IsWorldOf, Writes, Shows}
 use Rattle.shmsim.specs.Output.{IsOutput, Follows, world_text}
+use Rattle.shmsim.proofs.Flatness.{flat_printed}
 use Rattle.shm_program.proofs.Texts.{shown}
 use Rattle.shmsim.specs.Threaded.{IsRunOf, IsThreadedOutput, IsAllOrNothing, have_mark}
 use Rattle.shm_program.specs.declared.fault.RunFault.{RunFault}
 
 pub serial_text : (result : Result (Unit {0}) RunFault) (script : ScriptView) (areas : List ℕ) (w : WorldState) (old new : Option (List ℕ)) → IsWorldOf script areas w → Follows (map fresh_holder script.processes) script.lines w.events → OnOk result (Appends old new (world_text w)) → OnOk result (Writes (IsOutput script areas) old new)
-serial_text (Ok done) script areas w old new is follows written = (world_text w, record { world = w; is_world = is; follows = follows; printed = refl }, written)
+serial_text (Ok done) script areas w old new is follows written = (world_text w, record { world = w; is_world = is; follows = follows; printed = refl; invisible = flat_printed script areas w is follows }, written)
 serial_text (Err fault) script areas w old new is follows written = tt
 
 text_of : (marked : Bool) (script : ScriptView) (areas : List ℕ) (w : WorldState) (transcripts : List Transcript) (old new : Option (List ℕ)) → IsWorldOf script areas w → IsRunOf script w transcripts → have_mark transcripts ≡ marked → Appends old new (world_text w) → Writes (IsThreadedOutput marked script areas) old new

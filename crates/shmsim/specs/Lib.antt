@@ -1,4 +1,5 @@
 pub mod Output
+pub mod Flat
 pub mod Threaded
 pub mod Faults
 pub mod Stop
