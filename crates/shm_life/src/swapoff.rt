@@ -24,10 +24,10 @@ impl<P: Pager> Machine<P> {
         if caller.cred.uid != 0 {
             return Reply::Refused(Errno::Eperm);
         }
-        let Some(size) = self.segments.area_size(area) else {
+        let Some(size) = self.segments.store().area_size(area) else {
             return Reply::Refused(Errno::Einval);
         };
-        if self.segments.capacity() < self.segments.reserved() + u64::from(size) {
+        if self.segments.store().capacity() < self.segments.reserved() + u64::from(size) {
             return Reply::Refused(Errno::Enomem);
         }
         if self.segments.move_off(area).is_err() {
