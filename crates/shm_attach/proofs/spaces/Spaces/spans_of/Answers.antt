@@ -1,4 +1,4 @@
-use Rattle.std.proofs.Common.{◌≡◌, ◌∙◌, ℕ, Bool, true, false, ap, sym, subst, List, [], Option, Some, None, IfOk, refl}
+use Rattle.std.proofs.Common.{◌≡◌, ◌∙◌, ℕ, Bool, true, false, ap, sym, subst, List, Option, Some, None, IfOk}
 use Rattle.std.specs.Prelude.{OnErr, All}
 use Rattle.shm_base.specs.State.{Piece, Runner}
 use Rattle.shm_base.specs.declared.paging.Span.{Span}
