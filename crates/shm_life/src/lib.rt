@@ -7,6 +7,7 @@ mod control;
 mod detach;
 mod get;
 mod machine;
+mod shown;
 mod start;
 mod swapoff;
 mod system;

@@ -46,7 +46,7 @@ impl Model for Opening {
 pub struct System<P: Pager> {
     opening: Opening,
     calls: u64,
-    machine: Machine<P>,
+    pub(crate) machine: Machine<P>,
 }
 
 impl<P: Pager> Model for System<P> {
@@ -180,8 +180,8 @@ impl<P: Pager> System<P> {
         ensures counts { Counts self.now.calls self.now.machine self.now.memory result }
         ensures exact { IsExactly self.now.machine self.now.memory }
     {
+        let pages = self.store().tally();
         let machine = &self.machine;
-        let pages = machine.segments.store().tally();
         Tally {
             events: self.calls,
             segments: machine.segments.count(),

@@ -1,4 +1,4 @@
-use Rattle.std.proofs.Common.{true, false, sym, ◌∙◌}
+use Rattle.std.proofs.Common.{false, sym, ◌∙◌}
 use Rattle.shm_attach.specs.Spaces.{IsCaller}
 use Rattle.shm_base.specs.Spans.{span_places}
 use Rattle.shm_segments.specs.Table.{added}

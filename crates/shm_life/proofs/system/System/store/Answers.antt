@@ -1,6 +1,6 @@
 use Rattle.std.proofs.Common.{rules}
 use Rattle.shm_life.proofs.Reserved.{few-used, few-reserved}
-use Rattle.shm_life.proofs.system.System.tally.Goals as goal
+use Rattle.shm_life.proofs.system.System.store.Goals as goal
 
 pub returns-clause-exact : goal.returns-clause-exact
 returns-clause-exact g c =
