@@ -122,8 +122,9 @@ impl Spaces {
         self.tables.count(seg)
     }
 
-    /// The spans of an access of a process to so many addresses, each with the frame that is kept for its page. Segv where the process is not live, where
-    /// an address has no piece, and for a write where one lies in a piece that is read-only.
+    /// The spans of an access of a process to so many addresses, each with the frame that is kept for its page.
+    /// Segv where the process is not live, where an address has no piece, and for a write where one lies in a
+    /// piece that is read-only.
     pub fn spans(&self, pid: u32, addr: u64, len: u64, write: bool) -> Result<Spans, Segv>
         requires size { (1 ≤ len) × (len ≤ 64) }
         ensures places { IfOk result (λ s. wanted write pid addr len self.now.runners ≡ Some (span_places false s)) }
@@ -133,9 +134,23 @@ impl Spaces {
         ensures pages { IfOk result (λ s. (test : ℕ → ℕ → Bool) → PassPages test (pieces_by pid self.now.runners) → All (λ (p : Stretch). test p.seg (page_of p) ≡ true) s) }
         ensures frames { IfOk result (λ s. (m : StoreView) → AreTrue self.now.translations m → All (λ (p : Stretch). p.frame ≡ frame_of m p.seg (page_of p)) s) }
     {
-        let Some(caller) = self.caller(pid) else {
-            return Err(Segv);
-        };
+        match self.caller(pid) {
+            Some(caller) => self.spans_of(&caller, addr, len, write),
+            None => Err(Segv),
+        }
+    }
+
+    /// As [`Spaces::spans`], of a process that is known to be live.
+    pub fn spans_of(&self, caller: &Caller, addr: u64, len: u64, write: bool) -> Result<Spans, Segv>
+        requires live { IsCaller caller.now self.now.runners }
+        requires size { (1 ≤ len) × (len ≤ 64) }
+        ensures places { IfOk result (λ s. wanted write caller.now.pid addr len self.now.runners ≡ Some (span_places false s)) }
+        ensures none { OnErr result (wanted write caller.now.pid addr len self.now.runners ≡ None) }
+        ensures within { IfOk result (λ s. All InPage s) }
+        ensures sum { IfOk result (λ s. sum_by (λ (p : Stretch). p.len) s ≡ len) }
+        ensures pages { IfOk result (λ s. (test : ℕ → ℕ → Bool) → PassPages test (pieces_by caller.now.pid self.now.runners) → All (λ (p : Stretch). test p.seg (page_of p) ≡ true) s) }
+        ensures frames { IfOk result (λ s. (m : StoreView) → AreTrue self.now.translations m → All (λ (p : Stretch). p.frame ≡ frame_of m p.seg (page_of p)) s) }
+    {
         let space = space_at(&self.processes, caller.index);
         spans_in(space, &self.tables, addr, len, write)
     }

@@ -2,7 +2,6 @@
 use Rattle.std.proofs.Common.{◌≡◌, ◌≢◌, ℕ, zero, suc, ◌<◌, ◌≤◌, ◌+◌, Bool, true, false, cond, List, [], ◌∷◌, length, get_or, set, sum_by, Option, Some, None, is_some, refl, sym, ap, ◌∙◌, inl, inr, arith, length-set, get_or-set_same, get_or-set_other}
 use Rattle.std.proofs.lemmas.Bool.{cases_eq, cases_lt}
 use Rattle.std.proofs.lemmas.List.{get_or_past, length-map}
-use Rattle.std.proofs.Math.ListN.{get_or-map}
 use Rattle.std.proofs.lemmas.List.Sums.{sum_by-set, sum_by-cons}
 use Rattle.shm_base.specs.declared.paging.PageRef.{PageRef}
 use Rattle.shm_base.specs.declared.paging.Slot.{Slot}
@@ -16,6 +15,7 @@ use Rattle.shm_fault.specs.Segs.{rec_by, HasPage, with_rec}
 use Rattle.shm_fault.specs.Store.{StoreView, held, stored, bytes_by, page_bytes}
 use Rattle.shm_fault.specs.Sound.{IsTied, Tied, IsSound}
 use Rattle.shm_fault.specs.Goes.{Goes, Still}
+use Rattle.shm_fault.specs.Counting.{AtRest}
 use Rattle.shm_fault.specs.Moving.{SameOwned, IsRelocated, IsCleared}
 use Rattle.shm_fault.proofs.Pages.{outlines-with, rec-with, rec-with_other, other, other_ne, cases_ref, has-frame, has-slot}
 use Rattle.shm_fault.proofs.Slots.{OnlySlot, OnlySlot-trans, OnlySlot-owner, OnlySlot-page, OnlySlot-given, OnlySlot-fault, page-written, owner-written, owner-set, owner-given, cases_slot}
@@ -23,23 +23,11 @@ use Rattle.shm_fault.proofs.Ties.{Alike-refl, Touches, IsOwn, IsOwn-some, set_al
 use Rattle.shm_fault.proofs.Bytes.{bytes_at, held-same}
 use Rattle.shm_fault.proofs.Tally.{used-slots}
 use Rattle.shm_fault.proofs.Whole.{pages_held-is}
-use Rattle.shm_fault.proofs.Failures.{spent-cause, cause-before, cause-more}
+use Rattle.shm_fault.proofs.Failures.{size-at, pages-same, spent-cause, cause-before, cause-more}
 use Rattle.shm_fault.proofs.Sound.{IsSound-from, sound-touched, goes-touched, Goes-refl, Goes-trans}
+use Rattle.shm_fault.proofs.Counting.{AtRest-refl, AtRest-trans}
 use Rattle.shm_fault.proofs.Changes.{Keeps, keeps-one, some_same, bytes_by-some}
 use Rattle.shm_fault.proofs.Drops.{GivenSlots, given-slots}
-
--- sizes and what follows from them
-pub size-at : (s : SwapView) (area : ℕ) → get_or (sizes s) area None ≡ size_of (area_at s area)
-size-at s area = get_or-map size_of s.areas area no_area
-
-pub pages-same : (s t : SwapView) (area : ℕ) → sizes t ≡ sizes s → (area_at s area).here ≡ true → ((area_at t area).here ≡ true) × (length (area_at t area).pages ≡ length (area_at s area).pages)
-pages-same s t area same here =
-    let e : size_of (area_at t area) ≡ Some (length (area_at s area).pages) = sym (size-at t area) ∙ ap (λ l. get_or l area None) same ∙ size-at s area ∙ rw here refl in
-    by (area_at t area).here refl e
-  where
-    by : (b : Bool) → (area_at t area).here ≡ b → size_of (area_at t area) ≡ Some (length (area_at s area).pages) → ((area_at t area).here ≡ true) × (length (area_at t area).pages ≡ length (area_at s area).pages)
-    by true h e = let k : Some (length (area_at t area).pages) ≡ Some (length (area_at s area).pages) = rw h at e in (h, cc)
-    by false h e = let k : None ≡ Some (length (area_at s area).pages) = rw h at e in cc
 
 pub here-lt : (s : SwapView) (area : ℕ) → (area_at s area).here ≡ true → area < length s.areas
 here-lt s area here = elim (cases_lt area (length s.areas)) [
@@ -359,16 +347,18 @@ pub record IsCleaned (area n : ℕ) (s t : StoreView) : Type 0 where
   pub sound : IsSound t
   pub goes : Goes s t
   pub still : Still s t
+  pub rest : AtRest s t
   pub free : (slot : ℕ) → slot < n → owner_of t.swap area slot ≡ None
 
 pub cleaned-none : (area : ℕ) (s : StoreView) → IsSound s → IsCleaned area 0 s s
-cleaned-none area s sound = record { sound = sound; goes = Goes-refl s; still = λ q. refl; free = λ slot lt. absurd (omega arith) }
+cleaned-none area s sound = record { sound = sound; goes = Goes-refl s; still = λ q. refl; rest = AtRest-refl s; free = λ slot lt. absurd (omega arith) }
 
-pub cleaned-more : (area n : ℕ) (s t u : StoreView) → IsCleaned area n s t → IsSound u → Goes t u → Still t u → IsCleared (record { area = area; slot = n }) t.swap u.swap → IsCleaned area (n + 1) s u
-cleaned-more area n s t u d sound goes still cleared = record {
+pub cleaned-more : (area n : ℕ) (s t u : StoreView) → IsCleaned area n s t → IsSound u → Goes t u → Still t u → AtRest t u → IsCleared (record { area = area; slot = n }) t.swap u.swap → IsCleaned area (n + 1) s u
+cleaned-more area n s t u d sound goes still rest cleared = record {
   sound = sound;
   goes = Goes-trans s t u d.goes goes;
   still = λ q. still q ∙ d.still q;
+  rest = AtRest-trans s t u d.rest rest;
   free = λ slot lt. elim (cases_eq slot n) [
     | inl e ↦ rw e cleared.free
     | inr ne ↦ cleared.rest slot (d.free slot (omega arith))

@@ -1,12 +1,11 @@
 -- What an access leaves, put together from the visits to its pages.
-use Rattle.std.proofs.Common.{◌≡◌, ◌≢◌, ℕ, zero, suc, map, ◌≤◌, ◌+◌, Bool, true, false, not, ◌&&◌, ◌||◌, cond, eqb, List, [], ◌∷◌, length, Option, Some, None, is_some, Result, Ok, Err, is_ok, OnOk, OnErr, refl, sym, ap, ◌∙◌, inl, inr, arith}
+use Rattle.std.proofs.Common.{◌≡◌, ◌≢◌, ℕ, zero, suc, map, ◌<◌, ◌≤◌, ◌+◌, Bool, true, false, not, ◌&&◌, ◌||◌, cond, eqb, List, [], ◌∷◌, length, get_or, subst, Option, Some, None, is_some, Result, Ok, Err, is_ok, OnOk, OnErr, refl, sym, ap, ◌∙◌, inl, inr, arith}
 use Rattle.std.specs.Prelude.{All, IsSome, slice_get}
 use Rattle.std.proofs.lemmas.Bool.{cases_eq, ne_eqb, and_parts, eqb-true, eq-eqb, false≢true}
 use Rattle.shm_base.specs.declared.paging.PageRef.{PageRef}
 use Rattle.shm_base.specs.declared.paging.Span.{Span}
 use Rattle.shm_plain.specs.Held.{is_locked}
 use Rattle.shm_slots.specs.View.{SwapView}
-use Rattle.shm_slots.specs.Cause.{had_cause}
 use Rattle.shm_frames.specs.Frame.{Frame}
 use Rattle.shm_fault.specs.declared.segments.PageRec.{PageRec}
 use Rattle.shm_fault.specs.declared.touched.Move.{Move}
@@ -14,9 +13,13 @@ use Rattle.shm_fault.specs.declared.touched.Touched.{Touched}
 use Rattle.shm_fault.specs.Segs.{SegRec, rec_by, locked_by}
 use Rattle.shm_fault.specs.Store.{StoreView, held, held_by, frame_of, page_of, ref_of, is_swapped, IsResident, IsReferenced, pages_among, swapped_among, same_page}
 use Rattle.shm_fault.specs.Steps.{Moves, Kept}
-use Rattle.shm_fault.specs.Goes.{KeepsLocked, Visits, MovesOn, frame_by, referenced_at}
-use Rattle.shm_fault.specs.Access.{IsIn, Brings, Accessed}
-use Rattle.shm_fault.proofs.Sound.{GoesOn-refl, Goes-trans, KeepsLocked-trans, cause-after}
+use Rattle.shm_fault.specs.Goes.{KeepsLocked, Visits, frame_by, referenced_at}
+use Rattle.shm_fault.specs.declared.access.InFrames.{InFrames}
+use Rattle.shm_fault.specs.declared.touched.PagerFailed.{PagerFailed}
+use Rattle.shm_fault.specs.Sound.{IsSound}
+use Rattle.shm_fault.specs.Counting.{raised, one_if, hand_after}
+use Rattle.shm_fault.specs.Access.{Visited, IsIn, AreIn, Brings, Accessed}
+use Rattle.shm_fault.proofs.Sound.{Goes-refl, Goes-trans, KeepsLocked-trans, cause-after}
 use Rattle.shm_fault.proofs.Visits.{moves-trans}
 
 pub ok_of : {A E : Type 0} (r : Result A E) (P : Type 0) → OnOk r P → is_ok r ≡ true → P
@@ -30,46 +33,64 @@ err_of (Err x) P h e = h
 swap_bit : Bool → ℕ
 swap_bit b = cond b 1 0
 
--- what one visit says
-pub record Visited (r : PageRef) (pinned known : Option ℕ) (s t : StoreView) (u v : Touched) (ok : Bool) : Type 0 where
-  pub visits : Visits r pinned s t
-  pub moves : MovesOn u.moved.items v.moved.items s t
-  pub few : length v.moved.items ≤ length u.moved.items + 2
-  pub ins : ok ≡ true → v.ins ≡ u.ins + cond (is_swapped (rec_by s.segs r)) 1 0
-  pub outs : v.outs ≤ u.outs + 1
-  pub quiet : IsSome known → (ok ≡ true) × (v ≡ u) × (t.segs ≡ s.segs) × (t.swap ≡ s.swap)
-  pub cause : ok ≡ false → had_cause s.swap t.swap ≡ true
-
 bit-le : (b : Bool) → cond b 1 0 ≤ 1
 bit-le true = omega arith
 bit-le false = omega arith
+
+hand-known : (s : StoreView) (pinned known : Option ℕ) → IsSome known → hand_after s known pinned ≡ s.hand
+hand-known s pinned None e = cc
+hand-known s pinned (Some f) e = refl
 
 resident-at : (s : StoreView) (p : Span) → is_some (frame_of s p.seg (page_of p)) ≡ true → IsSome (frame_by s (ref_of p))
 unfolding frame_of
 resident-at s p e = e
 
--- one page was brought in
-pub brings-one : (p : Span) (s t : StoreView) (u v : Touched) (ok : Bool) → (u.moved.items ≡ []) × (u.ins ≡ 0) × (u.outs ≡ 0) → Visited (ref_of p) None (frame_by s (ref_of p)) s t u v ok
-    → Brings (p ∷ []) s t v.moved.items v.ins v.outs ok
-brings-one p s t u v ok none w = record {
-  goes = w.visits.goes;
-  kept = w.visits.kept;
-  moves = w.moves s (λ seg page. rw none.0 refl);
-  few = let f = w.few in let z : length u.moved.items ≡ 0 = rw none.0 refl in omega (arith, f, z);
-  ins_few = λ e. let i = w.ins e in let b = bit-le (is_swapped (rec_by s.segs (ref_of p))) in omega (arith, i, b, none.1);
-  outs_few = λ e. omega (arith, w.outs, none.2);
-  swapped = λ e. let i = w.ins e in by (is_swapped (rec_by s.segs (ref_of p))) i;
-  none = λ e all. let q = w.quiet (resident-at s p (all 0 p (omega arith))) in
-      let i : v.ins ≡ u.ins = ap (λ (x : Touched). x.ins) q.1 in
-      let o : v.outs ≡ u.outs = ap (λ (x : Touched). x.outs) q.1 in
-      (i ∙ none.1, o ∙ none.2);
-  quiet = λ all. let q = w.quiet (resident-at s p (all 0 p (omega arith))) in (q.0, q.3);
-  cause = w.cause;
-}
-  where
-    by : (b : Bool) → v.ins ≡ u.ins + cond b 1 0 → cond (b && true) 1 0 + 0 ≤ v.ins
-    by true i = omega (arith, i)
-    by false i = omega arith
+-- an access that counted nothing yet
+abbrev pub IsNone : Touched → Type 0
+IsNone u = (u.moved.items ≡ []) × (u.ins ≡ 0) × (u.outs ≡ 0)
+
+-- the first page was brought in, or was not
+module _ (p : Span) (s t : StoreView) (u v : Touched) (ok : Bool) (none : IsNone u) (w : Visited (ref_of p) None (frame_by s (ref_of p)) s t u v ok) where
+  read-in-one : t.ins ≡ raised s.ins v.ins
+  read-in-one = w.counts.ins s.ins (rw none.1 refl)
+
+  written-out-one : t.outs ≡ raised s.outs v.outs
+  written-out-one = w.counts.outs s.outs (rw none.2 refl)
+
+  few-one : length v.moved.items ≤ 4
+  few-one = let f = w.few in let z : length u.moved.items ≡ 0 = rw none.0 refl in omega (arith, f, z)
+
+  ins-one : v.ins ≤ 1
+  ins-one = let b = bit-le (ok && is_swapped (rec_by s.segs (ref_of p))) in let i = w.ins in omega (arith, i, b, none.1)
+
+  quiet-one : IsSome (frame_by s (ref_of p)) → (ok ≡ true) × (t.swap ≡ s.swap) × (v.ins ≡ 0) × (v.outs ≡ 0)
+  quiet-one known =
+      let q = w.quiet known in
+      (q.0, q.3, ap (λ (x : Touched). x.ins) q.1 ∙ none.1, ap (λ (x : Touched). x.outs) q.1 ∙ none.2)
+
+  pub brings-one : Brings (p ∷ []) s t v ok
+  brings-one = record {
+    goes = w.visits.goes;
+    kept = w.visits.kept;
+    moves = w.moves s (λ seg page. rw none.0 refl);
+    few = few-one;
+    ins_few = omega (arith, ins-one);
+    outs_few = omega (arith, w.outs, none.2);
+    read_in = read-in-one;
+    written_out = written-out-one;
+    turns = record {
+      still = λ all. w.hand ∙ hand-known s None (frame_by s (ref_of p)) (resident-at s p (all 0 p (omega arith)));
+      one = λ q e. let same : p ≡ q = cc in rw (← same) w.hand;
+    };
+    swapped = λ e. by ok e (is_swapped (rec_by s.segs (ref_of p))) w.ins;
+    quiet = λ all. quiet-one (resident-at s p (all 0 p (omega arith)));
+    cause = w.cause;
+  }
+    where
+      by : (x : Bool) → x ≡ true → (b : Bool) → v.ins ≡ u.ins + one_if (x && b) → cond (b && true) 1 0 + 0 ≤ v.ins
+      by true e true i = omega (arith, i)
+      by true e false i = omega arith
+      by false e b i = absurd (false≢true e)
 
 same_page-ref : (p q : Span) → same_page p q ≡ true → ref_of q ≡ ref_of p
 same_page-ref p q e =
@@ -84,6 +105,13 @@ same_page-not p q e same =
     let g : page_of q ≡ page_of p = ap (λ (r : PageRef). r.page) same in
     let t : same_page p q ≡ true = rw (eq-eqb p.seg q.seg (sym s), eq-eqb (page_of p) (page_of q) (sym g)) refl in
     false≢true (sym e ∙ t)
+
+among-two : (p q : Span) → 1 ≤ pages_among (p ∷ q ∷ [])
+among-two p q = by (same_page p q)
+  where
+    by : (b : Bool) → 1 ≤ cond (b || false) 0 1 + (1 + 0)
+    by true = omega arith
+    by false = omega arith
 
 swapped-away : (r : PageRec) → is_swapped r ≡ true → r.frame ≡ None
 swapped-away r e = by r.frame refl
@@ -100,7 +128,7 @@ still_swapped : (p q : Span) (s t : StoreView) (pinned : Option ℕ) → Visits 
 still_swapped p q s t pinned v apart e = rw (v.away (ref_of q) (same_page-not p q apart) (swapped-away (rec_by s.segs (ref_of q)) e)) e
 
 -- the second of two pages was brought in, or was not
-module _ (p q : Span) (s t z : StoreView) (f : ℕ) (u v w : Touched) (ok : Bool) (none : (u.moved.items ≡ []) × (u.ins ≡ 0) × (u.outs ≡ 0))
+module _ (p q : Span) (s t z : StoreView) (f : ℕ) (u v w : Touched) (ok : Bool) (none : IsNone u)
     (one : Visited (ref_of p) None (frame_by s (ref_of p)) s t u v true) (at : frame_by t (ref_of p) ≡ Some f)
     (two : Visited (ref_of q) (Some f) (frame_by t (ref_of q)) t z v w ok) where
   abbrev swp : Bool
@@ -118,18 +146,27 @@ module _ (p q : Span) (s t z : StoreView) (f : ℕ) (u v w : Touched) (ok : Bool
 
   ins-is : ok ≡ true → w.ins ≡ swap_bit swp + swap_bit swq
   unfolding swap_bit
-  ins-is e = let a = one.ins refl in let b = two.ins e in omega (arith, a, b, none.1)
+  ins-is e = let a = one.ins in let b : w.ins ≡ v.ins + one_if (true && swq) = rw e at two.ins in omega (arith, a, b, none.1)
 
-  ins-le : ok ≡ true → w.ins ≤ pages_among (p ∷ q ∷ [])
-  unfolding swap_bit
-  ins-le e = by (same_page p q) refl
+  ins-le : w.ins ≤ pages_among (p ∷ q ∷ [])
+  ins-le = by (same_page p q) refl
     where
-      by : (b : Bool) → same_page p q ≡ b → w.ins ≤ cond (b || false) 0 1 + (1 + 0)
-      by true h = let i = ins-is e in let n = (resident-q h).0 in let k : w.ins ≡ swap_bit swp + 0 = rw n at i in let l = bit-le swp in omega (arith, k, l)
-      by false h = let i = ins-is e in let l = bit-le swp in let m = bit-le swq in omega (arith, i, l, m)
+      and-false : (b : Bool) → one_if (b && false) ≡ 0
+      and-false true = refl
+      and-false false = refl
 
-  outs-le : ok ≡ true → w.outs ≤ pages_among (p ∷ q ∷ [])
-  outs-le e = by (same_page p q) refl
+      sum : w.ins ≡ one_if swp + one_if (ok && swq)
+      sum = let a = one.ins in let b = two.ins in omega (arith, a, b, none.1)
+
+      by : (b : Bool) → same_page p q ≡ b → w.ins ≤ cond (b || false) 0 1 + (1 + 0)
+      by true h =
+          let n = (resident-q h).0 in
+          let last : one_if (ok && swq) ≡ 0 = rw n (and-false ok) in
+          let l = bit-le swp in omega (arith, sum, last, l)
+      by false h = let l = bit-le swp in let m = bit-le (ok && swq) in omega (arith, sum, l, m)
+
+  outs-le : w.outs ≤ pages_among (p ∷ q ∷ [])
+  outs-le = by (same_page p q) refl
     where
       by : (b : Bool) → same_page p q ≡ b → w.outs ≤ cond (b || false) 0 1 + (1 + 0)
       by true h = let n = (resident-q h).1 in omega (arith, n, one.outs, none.2)
@@ -172,7 +209,13 @@ module _ (p q : Span) (s t z : StoreView) (f : ℕ) (u v w : Touched) (ok : Bool
       let o : w.outs ≡ u.outs = ap (λ (x : Touched). x.outs) same in
       (b.0, b.3 ∙ a.3, i ∙ none.1, o ∙ none.2)
 
-  pub brings-two : Brings (p ∷ q ∷ []) s z w.moved.items w.ins w.outs ok
+  both-still : All (IsResident s) (p ∷ q ∷ []) → z.hand ≡ s.hand
+  both-still all =
+      let a = one.quiet (resident-at s p (all 0 p (omega arith))) in
+      let known : IsSome (frame_by t (ref_of q)) = rw a.2 (resident-at s q (all 1 q (omega arith))) in
+      two.hand ∙ hand-known t (Some f) (frame_by t (ref_of q)) known ∙ one.hand ∙ hand-known s None (frame_by s (ref_of p)) (resident-at s p (all 0 p (omega arith)))
+
+  pub brings-two : Brings (p ∷ q ∷ []) s z w ok
   brings-two = record {
     goes = Goes-trans s t z one.visits.goes two.visits.goes;
     kept = KeepsLocked-trans s t z one.visits.goes.shape one.visits.kept two.visits.kept;
@@ -180,26 +223,51 @@ module _ (p q : Span) (s t z : StoreView) (f : ℕ) (u v w : Touched) (ok : Bool
     few = let a = one.few in let b = two.few in let y : length u.moved.items ≡ 0 = rw none.0 refl in omega (arith, a, b, y);
     ins_few = ins-le;
     outs_few = outs-le;
+    read_in = two.counts.ins s.ins (read-in-one p s t u v true none one);
+    written_out = two.counts.outs s.outs (written-out-one p s t u v true none one);
+    turns = record { still = both-still; one = λ r e. cc };
     swapped = swapped-le;
-    none = λ e all. let k = both-quiet all in (k.2, k.3);
-    quiet = λ all. let k = both-quiet all in (k.0, k.1);
+    quiet = both-quiet;
     cause = λ e. cause-after s t z one.visits.goes two.visits.goes (two.cause e);
   }
 
 -- the first of two pages was not brought in
-pub brings-not : (p q : Span) (s t : StoreView) (u v : Touched) → (u.moved.items ≡ []) × (u.ins ≡ 0) × (u.outs ≡ 0) → Visited (ref_of p) None (frame_by s (ref_of p)) s t u v false
-    → Brings (p ∷ q ∷ []) s t v.moved.items v.ins v.outs false
-brings-not p q s t u v none w = record {
-  goes = w.visits.goes;
-  kept = w.visits.kept;
-  moves = w.moves s (λ seg page. rw none.0 refl);
-  few = let f = w.few in let z : length u.moved.items ≡ 0 = rw none.0 refl in omega (arith, f, z);
-  ins_few = λ e. absurd (false≢true e);
-  outs_few = λ e. absurd (false≢true e);
-  swapped = λ e. absurd (false≢true e);
-  none = λ e. absurd (false≢true e);
-  quiet = λ all. absurd (false≢true (w.quiet (resident-at s p (all 0 p (omega arith)))).0);
-  cause = w.cause;
+pub brings-not : (p q : Span) (s t : StoreView) (u v : Touched) → IsNone u → Visited (ref_of p) None (frame_by s (ref_of p)) s t u v false
+    → Brings (p ∷ q ∷ []) s t v false
+brings-not p q s t u v none w =
+    let one = brings-one p s t u v false none w in
+    let never = λ (all : All (IsResident s) (p ∷ q ∷ [])). (w.quiet (resident-at s p (all 0 p (omega arith)))).0 in
+    let least = among-two p q in
+    record {
+      goes = one.goes;
+      kept = one.kept;
+      moves = one.moves;
+      few = one.few;
+      ins_few = omega (arith, ins-one p s t u v false none w, least);
+      outs_few = omega (arith, w.outs, none.2, least);
+      read_in = one.read_in;
+      written_out = one.written_out;
+      turns = record { still = λ all. absurd (false≢true (never all)); one = λ r e. cc };
+      swapped = λ e. absurd (false≢true e);
+      quiet = λ all. absurd (false≢true (never all));
+      cause = w.cause;
+    }
+
+-- nothing was asked for
+pub brings-none : (s : StoreView) (u : Touched) → IsNone u → Brings [] s s u true
+brings-none s u none = record {
+  goes = Goes-refl s;
+  kept = λ r locked e. e;
+  moves = λ seg page. rw none.0 refl;
+  few = let z : length u.moved.items ≡ 0 = rw none.0 refl in omega (arith, z);
+  ins_few = omega (arith, none.1);
+  outs_few = omega (arith, none.2);
+  read_in = rw none.1 refl;
+  written_out = rw none.2 refl;
+  turns = record { still = λ all. refl; one = λ p e. cc };
+  swapped = λ e. omega arith;
+  quiet = λ all. (refl, refl, none.1, none.2);
+  cause = λ e. absurd (false≢true (sym e));
 }
 
 lock-held : (frames : List Frame) (swap : SwapView) (gs : List SegRec) (id : ℕ) → is_locked (map (held_by frames swap) gs) id ≡ locked_by gs id
@@ -221,10 +289,33 @@ referenced : (t : StoreView) (p : Span) (f : ℕ) → IsIn t p f → IsReference
 unfolding frame_of
 referenced t p f is = rw is.at is.bit
 
+all-referenced : (z : StoreView) (ps : List Span) (here : InFrames) → length ps ≤ 2 → AreIn z ps here → All (IsReferenced z) ps
+all-referenced z [] here few is k d lt = absurd (omega arith)
+all-referenced z (p ∷ []) here few is zero d lt = referenced z p here.first is
+all-referenced z (p ∷ []) here few is (suc k) d lt = absurd (omega arith)
+all-referenced z (p ∷ q ∷ []) here few is zero d lt = referenced z p here.first is.0
+all-referenced z (p ∷ q ∷ []) here few is (suc zero) d lt = referenced z q here.second is.1
+all-referenced z (p ∷ q ∷ []) here few is (suc (suc k)) d lt = absurd (omega arith)
+all-referenced z (p ∷ q ∷ r ∷ ps) here few is k d lt = absurd (omega (arith, few))
+
 -- what an access that was done leaves, where bytes may have changed since
-module _ (s t z : StoreView) (segs : z.segs ≡ t.segs) (swap : z.swap ≡ t.swap) (count : length z.frames ≡ length t.frames) (bits : (f : ℕ) → referenced_at z f ≡ referenced_at t f) where
+module _ (s t z : StoreView) (rest : z ≡ record t { frames = z.frames }) (count : length z.frames ≡ length t.frames) (bits : (f : ℕ) → referenced_at z f ≡ referenced_at t f) (sound : IsSound z) where
+  segs : z.segs ≡ t.segs
+  segs = ap (λ (v : StoreView). v.segs) rest
+
+  swap : z.swap ≡ t.swap
+  swap = ap (λ (v : StoreView). v.swap) rest
+
+  hand : z.hand ≡ t.hand
+  hand = ap (λ (v : StoreView). v.hand) rest
+
   in-after : (p : Span) (f : ℕ) → IsIn t p f → IsIn z p f
   in-after p f is = record { at = ap (λ (gs : List SegRec). (rec_by gs (ref_of p)).frame) segs ∙ is.at; bit = bits f ∙ is.bit }
+
+  are-after : (ps : List Span) (here : InFrames) → AreIn t ps here → AreIn z ps here
+  are-after [] here is = tt
+  are-after (p ∷ []) here is = in-after p here.first is
+  are-after (p ∷ q ∷ ps) here is = (in-after p here.first is.0, in-after q here.second is.1)
 
   moves-after : (ms : List Move) → Moves ms s t → Moves ms s z
   unfolding frame_of
@@ -233,59 +324,45 @@ module _ (s t z : StoreView) (segs : z.segs ≡ t.segs) (swap : z.swap ≡ t.swa
   kept-after : KeepsLocked s t → KeepsLocked s z
   kept-after keeps r locked e = ap (λ (gs : List SegRec). is_some (rec_by gs r).frame) segs ∙ keeps r locked e
 
-  accessed : (ps : List Span) (u : Touched) → Brings ps s t u.moved.items u.ins u.outs true → All (IsReferenced z) ps → Accessed ps s z (Ok u)
-  accessed ps u b all = record {
+  pub accessed : (ps : List Span) (here : InFrames) (u : Touched) → length ps ≤ 2 → Brings ps s t u true → AreIn t ps here → Accessed ps s z (Ok u)
+  accessed ps here u few b is = record {
     cause = tt;
-    quiet = λ here. (b.none refl here, refl, swap ∙ (b.quiet here).1);
-    touched = (b.ins_few refl, b.outs_few refl, b.swapped refl);
-    resident = all;
-    moved = (moves-after u.moved.items b.moves, b.few);
+    quiet = λ all. let q = b.quiet all in (refl, swap ∙ q.1, q.2, q.3);
+    ins_few = b.ins_few;
+    outs_few = b.outs_few;
+    swapped = b.swapped refl;
+    read_in = ap (λ (v : StoreView). v.ins) rest ∙ b.read_in;
+    written_out = ap (λ (v : StoreView). v.outs) rest ∙ b.written_out;
+    turns = record { still = λ all. hand ∙ b.turns.still all; one = λ p e. hand ∙ b.turns.one p e };
+    resident = all-referenced z ps here few (are-after ps here is);
+    moved = moves-after u.moved.items b.moves;
+    few_moved = b.few;
     kept = kept-locked s z (kept-after b.kept);
     counts = rw swap b.goes.goes_on;
     same_sizes = rw swap b.goes.same_sizes;
     size = count ∙ b.goes.size;
+    sound = sound;
   }
 
-  pub accessed-one : (p : Span) (f : ℕ) (u : Touched) → Brings (p ∷ []) s t u.moved.items u.ins u.outs true → IsIn t p f → Accessed (p ∷ []) s z (Ok u)
-  accessed-one p f u b is = accessed (p ∷ []) u b (all_one (referenced z p f (in-after p f is)))
-    where
-      all_one : IsReferenced z p → All (IsReferenced z) (p ∷ [])
-      all_one r zero d lt = r
-      all_one r (suc k) d lt = absurd (omega arith)
-
-  pub accessed-two : (p q : Span) (f g : ℕ) (u : Touched) → Brings (p ∷ q ∷ []) s t u.moved.items u.ins u.outs true → IsIn t p f → IsIn t q g → Accessed (p ∷ q ∷ []) s z (Ok u)
-  accessed-two p q f g u b is js = accessed (p ∷ q ∷ []) u b (all_two (referenced z p f (in-after p f is)) (referenced z q g (in-after q g js)))
-    where
-      all_two : IsReferenced z p → IsReferenced z q → All (IsReferenced z) (p ∷ q ∷ [])
-      all_two r r₂ zero d lt = r
-      all_two r r₂ (suc zero) d lt = r₂
-      all_two r r₂ (suc (suc k)) d lt = absurd (omega arith)
-
 -- and one that was not
-pub accessed-not : (ps : List Span) (s t : StoreView) (u : Touched) → Brings ps s t u.moved.items u.ins u.outs false → Accessed ps s t (Err (record { moved = u.moved }))
-accessed-not ps s t u b = record {
+pub accessed-not : (ps : List Span) (s t : StoreView) (e : PagerFailed) → IsSound t → Brings ps s t e.touched false → Accessed ps s t (Err e)
+accessed-not ps s t e sound b = record {
   cause = b.cause refl;
-  quiet = λ here. absurd (false≢true (b.quiet here).0);
-  touched = tt;
+  quiet = λ all. absurd (false≢true (b.quiet all).0);
+  ins_few = b.ins_few;
+  outs_few = b.outs_few;
+  swapped = tt;
+  read_in = b.read_in;
+  written_out = b.written_out;
+  turns = b.turns;
   resident = tt;
-  moved = (b.moves, b.few);
+  moved = b.moves;
+  few_moved = b.few;
   kept = kept-locked s t b.kept;
   counts = b.goes.goes_on;
   same_sizes = b.goes.same_sizes;
   size = b.goes.size;
-}
-
-pub accessed-none : (s : StoreView) (u : Touched) → (u.moved.items ≡ []) → u.ins ≡ 0 → u.outs ≡ 0 → Accessed [] s s (Ok u)
-accessed-none s u moved ins outs = record {
-  cause = tt;
-  quiet = λ here. ((ins, outs), refl, refl);
-  touched = (omega (arith, ins), omega (arith, outs), omega arith);
-  resident = λ k d lt. absurd (omega arith);
-  moved = (λ seg page. rw moved refl, let z : length u.moved.items ≡ 0 = rw moved refl in omega (arith, z));
-  kept = λ seg page locked after e. e;
-  counts = GoesOn-refl s.swap;
-  same_sizes = refl;
-  size = refl;
+  sound = sound;
 }
 
 -- the stretches of a list of at most two
@@ -304,8 +381,20 @@ list-two (x ∷ []) p q le e f = cc
 list-two (x ∷ y ∷ []) p q le e f = let h : x ≡ p = cc in let k : y ≡ q = cc in rw (h, k) refl
 list-two (x ∷ y ∷ z ∷ zs) p q le e f = absurd (omega arith)
 
--- the first stretch names its page's frame
+-- each stretch names its page's frame
 pub first_frame : (s : StoreView) (ps : List Span) (p : Span) → Some p ≡ slice_get ps 0 → All (λ (q : Span). q.frame ≡ frame_of s q.seg (page_of q)) ps → p.frame ≡ frame_by s (ref_of p)
 unfolding frame_of
 first_frame s [] p e all = cc
 first_frame s (q ∷ ps) p e all = let h : p ≡ q = cc in rw h (all 0 q (omega arith))
+
+pub second_frame : (s : StoreView) (ps : List Span) (p : Span) → 1 < length ps → p ≡ get_or ps 1 p → All (λ (q : Span). q.frame ≡ frame_of s q.seg (page_of q)) ps → p.frame ≡ frame_by s (ref_of p)
+unfolding frame_of
+second_frame s ps p lt e all = subst (λ (q : Span). q.frame ≡ frame_by s (ref_of q)) (sym e) (all 1 p lt)
+
+-- where nothing moved the second page is where it was
+pub unmoved : (p q : Span) (s t : StoreView) (u v : Touched) (ok : Bool) → IsNone u → Visited (ref_of p) None (frame_by s (ref_of p)) s t u v ok → v.moved.items ≡ [] → q.frame ≡ frame_by s (ref_of q) → q.frame ≡ frame_by t (ref_of q)
+unfolding frame_of
+unmoved p q s t u v ok none w still e =
+    let led : Moves v.moved.items s t = w.moves s (λ seg page. rw none.0 refl) in
+    let same : frame_by t (ref_of q) ≡ frame_by s (ref_of q) = rw still at (led q.seg (page_of q)) in
+    e ∙ sym same

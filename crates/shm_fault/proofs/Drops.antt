@@ -17,6 +17,8 @@ use Rattle.shm_fault.specs.Sound.{IsTied, IsSound}
 use Rattle.shm_fault.specs.Goes.{outline, outlines, Alike}
 use Rattle.shm_fault.specs.Dropping.{emptied, Given, Dropped}
 use Rattle.shm_fault.proofs.Entries.{apart-filter}
+use Rattle.shm_fault.specs.Counting.{AtRest}
+use Rattle.shm_fault.proofs.Counting.{AtRest-refl, AtRest-trans}
 use Rattle.shm_fault.proofs.Sound.{IsSound-from, GoesOn-refl, GoesOn-trans}
 use Rattle.std.proofs.lemmas.List.Sums.{sum_by-cons}
 use Rattle.shm_fault.proofs.Pages.{outlines-with, rec-with, rec-with_other, rec-past, apart-same, other, other-true}
@@ -221,6 +223,7 @@ dropped-none seg s = record {
   steady = IsSteady-refl s.swap;
   still = λ q n. refl;
   done = λ page lt. absurd (omega arith);
+  rest = AtRest-refl s;
   nothing = λ blank. refl;
 }
 
@@ -228,8 +231,8 @@ dropped-none seg s = record {
 pub dropped-more : (seg n : ℕ) (s t u : StoreView) → Dropped seg n s t → HasPage t.segs (record { seg = seg; page = n }) → u.segs ≡ with_rec t.segs (record { seg = seg; page = n }) no_page
     → without (held u) seg ≡ without (held t) seg → ((f : ℕ) → disowned seg (frame_at u.frames f).owner ≡ disowned seg (frame_at t.frames f).owner)
     → ((k : Slot) → disowned seg (owner_of u.swap k.area k.slot) ≡ disowned seg (owner_of t.swap k.area k.slot)) → length u.frames ≡ length t.frames → IsSteady t.swap u.swap
-    → (rec_by t.segs (record { seg = seg; page = n }) ≡ no_page → u ≡ t) → Dropped seg (n + 1) s u
-dropped-more seg n s t u d has segs bytes frames slots size steady same =
+    → AtRest t u → (rec_by t.segs (record { seg = seg; page = n }) ≡ no_page → u ≡ t) → Dropped seg (n + 1) s u
+dropped-more seg n s t u d has segs bytes frames slots size steady rest same =
     let r : PageRef = record { seg = seg; page = n } in
     let at : (q : PageRef) → rec_by u.segs q ≡ rec_by (with_rec t.segs r no_page) q = λ q. ap (λ (gs : List SegRec). rec_by gs q) segs in
     record {
@@ -244,6 +247,7 @@ dropped-more seg n s t u d has segs bytes frames slots size steady same =
         | inl e ↦ rw e (at r ∙ rec-with t.segs r no_page has)
         | inr ne ↦ at (record { seg = seg; page = page }) ∙ rec-with_other t.segs r (record { seg = seg; page = page }) no_page (other-true r (record { seg = seg; page = page }) (λ same. ne (ap (λ (x : PageRef). x.page) same))) ∙ d.done page (omega arith)
       ];
+      rest = AtRest-trans s t u d.rest rest;
       nothing = λ blank. let is : t ≡ s = d.nothing blank in same (rw is (blank n)) ∙ is;
     }
 

@@ -1,14 +1,30 @@
--- Failures counted by one write.
-use Rattle.std.proofs.Common.{◌≡◌, ◌⊎◌, ℕ, suc, ltb, [], ◌∷◌, Result, Ok, Err, OnOk, OnErr, ◌<◌, ◌≤◌, ◌+◌, true, false, List, length, get_or, set, sum_by, refl, sym, ap, ◌∙◌, inl, inr, arith, length-set}
+-- Failures that are counted, and the areas that count them.
+use Rattle.std.proofs.Common.{◌≡◌, ◌⊎◌, ℕ, suc, ltb, Bool, [], ◌∷◌, Some, None, Result, Ok, Err, OnOk, OnErr, ◌<◌, ◌≤◌, ◌+◌, true, false, List, length, get_or, set, sum_by, refl, sym, ap, ◌∙◌, inl, inr, arith, length-set}
 use Rattle.std.specs.List.{list_any}
-use Rattle.std.proofs.lemmas.Bool.{cases_Bool, eq-eqb, lt-ltb, ltb-true, or_left, or_right, or_cases, false≢true}
+use Rattle.std.proofs.lemmas.Bool.{cases_Bool, and_parts, eq-eqb, eqb-true, lt-ltb, ltb-true, or_left, or_right, or_cases, false≢true}
 use Rattle.std.proofs.lemmas.Bool.Decides.{eqb_tells}
 use Rattle.std.proofs.lemmas.List.Sums.{sum_by-set, sum_by-cons}
 use Rattle.std.proofs.lemmas.List.Folds.{list_any_at}
+use Rattle.std.proofs.Math.ListN.{get_or-map}
 use Rattle.shm_base.specs.declared.paging.Slot.{Slot}
 use Rattle.shm_pager.specs.Pages.{last_count}
-use Rattle.shm_slots.specs.View.{AreaView, SwapView, no_area, area_at, rise, is_spent, with_page, with_slot_page, OneArea, WriteFault, IsSwap}
+use Rattle.shm_slots.specs.View.{AreaView, SwapView, no_area, area_at, rise, is_spent, is_spent_here, size_of, sizes, with_page, with_slot_page, HasSlot, OneArea, WriteFault, IsSwap}
 use Rattle.shm_slots.specs.Cause.{total, some_spent, had_cause, GoesOn}
+use Rattle.shm_slots.proofs.Causes.{rises-le, total-le}
+use Rattle.shm_slots.proofs.Changes.{slot-here}
+
+-- sizes and what follows from them
+pub size-at : (s : SwapView) (area : ℕ) → get_or (sizes s) area None ≡ size_of (area_at s area)
+size-at s area = get_or-map size_of s.areas area no_area
+
+pub pages-same : (s t : SwapView) (area : ℕ) → sizes t ≡ sizes s → (area_at s area).here ≡ true → ((area_at t area).here ≡ true) × (length (area_at t area).pages ≡ length (area_at s area).pages)
+pages-same s t area same here =
+    let e : size_of (area_at t area) ≡ Some (length (area_at s area).pages) = sym (size-at t area) ∙ ap (λ l. get_or l area None) same ∙ size-at s area ∙ rw here refl in
+    by (area_at t area).here refl e
+  where
+    by : (b : Bool) → (area_at t area).here ≡ b → size_of (area_at t area) ≡ Some (length (area_at s area).pages) → ((area_at t area).here ≡ true) × (length (area_at t area).pages ≡ length (area_at s area).pages)
+    by true h e = let k : Some (length (area_at t area).pages) ≡ Some (length (area_at s area).pages) = rw h at e in (h, cc)
+    by false h e = let k : None ≡ Some (length (area_at s area).pages) = rw h at e in cc
 
 pub total-written : (s : SwapView) (k : Slot) (page : List ℕ) → k.area < length s.areas → total (with_slot_page s k page) ≡ total s
 unfolding total
@@ -16,9 +32,11 @@ total-written s k page lt =
     let e = sum_by-set rise s.areas k.area (with_page (area_at s k.area) k.slot page) no_area lt in
     omega (arith, e)
 
-pub total-fault : (s t : SwapView) (k : Slot) → k.area < length s.areas → (area_at s k.area).start ≤ (area_at s k.area).failed → OneArea k.area s t → WriteFault k.slot (area_at s k.area) (area_at t k.area) → some_spent t ≡ false → total t ≡ total s + 1
+pub total-fault : (s t : SwapView) (k : Slot) → IsSwap s → HasSlot s k.area k.slot → OneArea k.area s t → WriteFault k.slot (area_at s k.area) (area_at t k.area) → some_spent t ≡ false → total t ≡ total s + 1
 unfolding total some_spent
-total-fault s t k lt begun one fault unspent =
+total-fault s t k swap there one fault unspent =
+    let lt = there.0 in
+    let begun = (swap.each k.area).begun in
     let areas : t.areas ≡ set s.areas k.area (area_at t k.area) = ap (λ (u : SwapView). u.areas) one in
     let e = sum_by-set rise s.areas k.area (area_at t k.area) no_area lt in
     let start : (area_at t k.area).start ≡ (area_at s k.area).start = ap (λ (b : AreaView). b.start) fault.0 in
@@ -28,7 +46,9 @@ total-fault s t k lt begun one fault unspent =
           let within : k.area < length t.areas = rw (areas, length-set s.areas k.area (area_at t k.area)) lt in
           let same : (area_at t k.area).failed ≡ (area_at s k.area).failed = ap (λ (b : AreaView). b.failed) spent.1 in
           let last : (area_at t k.area).failed ≡ last_count = same ∙ spent.0 in
-          let some : list_any is_spent t.areas ≡ true = list_any_at is_spent t.areas k.area no_area within (eq-eqb (area_at t k.area).failed last_count last) in
+          let here : (area_at t k.area).here ≡ true = ap (λ (b : AreaView). b.here) fault.0 ∙ slot-here (area_at s k.area) (swap.each k.area) k.slot there.1 in
+          let spent_here : is_spent_here (area_at t k.area) ≡ true = rw (eq-eqb (area_at t k.area).failed last_count last) here in
+          let some : list_any is_spent_here t.areas ≡ true = list_any_at is_spent_here t.areas k.area no_area within spent_here in
           cc)
     ]
 
@@ -37,21 +57,16 @@ record Rose (xs ys : List AreaView) : Type 0 where
   same : length ys ≡ length xs
   starts : (i : ℕ) → (get_or ys i no_area).start ≡ (get_or xs i no_area).start
   counts : (i : ℕ) → (get_or xs i no_area).failed ≤ (get_or ys i no_area).failed
+  here : (i : ℕ) → (get_or ys i no_area).here ≡ true → (get_or xs i no_area).here ≡ true
 
 rose-tail : (x y : AreaView) (xs ys : List AreaView) → Rose (x ∷ xs) (y ∷ ys) → Rose xs ys
-rose-tail x y xs ys r = record { same = omega (arith, r.same); starts = λ i. r.starts (suc i); counts = λ i. r.counts (suc i) }
+rose-tail x y xs ys r = record { same = omega (arith, r.same); starts = λ i. r.starts (suc i); counts = λ i. r.counts (suc i); here = λ i. r.here (suc i) }
 
 sum-rose : (xs ys : List AreaView) → Rose xs ys → sum_by rise xs ≤ sum_by rise ys
-sum-rose [] ys r = omega arith
-sum-rose (x ∷ xs) [] r = absurd (omega (arith, r.same))
-sum-rose (x ∷ xs) (y ∷ ys) r =
-    let rest = sum-rose xs ys (rose-tail x y xs ys r) in
-    let start = r.starts 0 in
-    let count = r.counts 0 in
-    omega (arith, rest, start, count, sum_by-cons rise x xs, sum_by-cons rise y ys)
+sum-rose xs ys r = rises-le xs ys r.same r.starts r.counts
 
-spent-rose : (xs ys : List AreaView) → Rose xs ys → ((i : ℕ) → (get_or xs i no_area).start ≤ (get_or xs i no_area).failed) → list_any is_spent ys ≡ true
-    → (sum_by rise xs < sum_by rise ys) ⊎ (list_any is_spent xs ≡ true)
+spent-rose : (xs ys : List AreaView) → Rose xs ys → ((i : ℕ) → (get_or xs i no_area).start ≤ (get_or xs i no_area).failed) → list_any is_spent_here ys ≡ true
+    → (sum_by rise xs < sum_by rise ys) ⊎ (list_any is_spent_here xs ≡ true)
 spent-rose xs [] r begun e = absurd (false≢true e)
 spent-rose [] (y ∷ ys) r begun e = absurd (omega (arith, r.same))
 spent-rose (x ∷ xs) (y ∷ ys) r begun e =
@@ -60,37 +75,38 @@ spent-rose (x ∷ xs) (y ∷ ys) r begun e =
     let start = r.starts 0 in
     let count = r.counts 0 in
     let b = begun 0 in
-    elim (eqb_tells x.failed last_count) [
-      | inl h ↦ inr (rw h.0 refl)
-      | inr m ↦ elim (eqb_tells y.failed last_count) [
-        | inl n ↦ inl (omega (arith, rest, start, count, b, m.1, n.1, sum_by-cons rise x xs, sum_by-cons rise y ys))
-        | inr n ↦
-            let more : list_any is_spent ys ≡ true = rw n.0 at e in
-            elim (spent-rose xs ys tail (λ i. begun (suc i)) more) [
-              | inl lt ↦ inl (omega (arith, lt, start, count, sum_by-cons rise x xs, sum_by-cons rise y ys))
-              | inr some ↦ inr (rw m.0 some)
-            ]
+    elim (or_cases (is_spent_here y) (list_any is_spent_here ys) e) [
+      | inl spent ↦
+          let parts = and_parts (is_spent y) y.here spent in
+          let last : y.failed ≡ last_count = eqb-true y.failed last_count parts.0 in
+          elim (eqb_tells x.failed last_count) [
+            | inl h ↦ inr (or_left (is_spent_here x) (list_any is_spent_here xs) (rw h.0 (r.here 0 parts.1)))
+            | inr m ↦ inl (omega (arith, rest, start, count, b, m.1, last, sum_by-cons rise x xs, sum_by-cons rise y ys))
+          ]
+      | inr more ↦ elim (spent-rose xs ys tail (λ i. begun (suc i)) more) [
+        | inl lt ↦ inl (omega (arith, lt, start, count, sum_by-cons rise x xs, sum_by-cons rise y ys))
+        | inr some ↦ inr (or_right (is_spent_here x) (list_any is_spent_here xs) some)
       ]
     ]
 
-spent-stays : (xs ys : List AreaView) → Rose xs ys → ((i : ℕ) → (get_or ys i no_area).failed ≤ last_count) → list_any is_spent xs ≡ true → list_any is_spent ys ≡ true
-spent-stays [] ys r few e = absurd (false≢true e)
-spent-stays (x ∷ xs) [] r few e = absurd (omega (arith, r.same))
-spent-stays (x ∷ xs) (y ∷ ys) r few e =
+spent-stays : (xs ys : List AreaView) → Rose xs ys → ((i : ℕ) → (get_or ys i no_area).failed ≤ last_count) → ((i : ℕ) → (get_or xs i no_area).here ≡ true → (get_or ys i no_area).here ≡ true) → list_any is_spent_here xs ≡ true → list_any is_spent_here ys ≡ true
+spent-stays [] ys r few stay e = absurd (false≢true e)
+spent-stays (x ∷ xs) [] r few stay e = absurd (omega (arith, r.same))
+spent-stays (x ∷ xs) (y ∷ ys) r few stay e =
     let tail = rose-tail x y xs ys r in
     let count = r.counts 0 in
     let most = few 0 in
-    elim (eqb_tells x.failed last_count) [
-      | inl h ↦ let last : y.failed ≡ last_count = omega (arith, count, most, h.1) in rw (eq-eqb y.failed last_count last) refl
-      | inr m ↦ or_right (is_spent y) (list_any is_spent ys) (spent-stays xs ys tail (λ i. few (suc i)) (rw m.0 at e))
+    elim (or_cases (is_spent_here x) (list_any is_spent_here xs) e) [
+      | inl spent ↦
+          let parts = and_parts (is_spent x) x.here spent in
+          let was : x.failed ≡ last_count = eqb-true x.failed last_count parts.0 in
+          let last : y.failed ≡ last_count = omega (arith, count, most, was) in
+          or_left (is_spent_here y) (list_any is_spent_here ys) (rw (eq-eqb y.failed last_count last) (stay 0 parts.1))
+      | inr more ↦ or_right (is_spent_here y) (list_any is_spent_here ys) (spent-stays xs ys tail (λ i. few (suc i)) (λ i. stay (suc i)) more)
     ]
 
 rose : (s t : SwapView) → GoesOn s t → Rose s.areas t.areas
-rose s t g = record { same = g.areas; starts = g.starts; counts = g.counts }
-
-pub total-le : (s t : SwapView) → GoesOn s t → total s ≤ total t
-unfolding total
-total-le s t g = sum-rose s.areas t.areas (rose s t g)
+rose s t g = record { same = g.areas; starts = g.starts; counts = g.counts; here = g.here }
 
 -- what was spent by then had a cause before
 pub spent-cause : (s t : SwapView) → IsSwap s → GoesOn s t → some_spent t ≡ true → had_cause s t ≡ true
@@ -116,11 +132,11 @@ cause-before s t u spent g h e =
       | inr some ↦ cause-more s t u h (spent some)
     ]
 
--- an area that is spent stays so
-pub unspent-before : (s t : SwapView) → IsSwap t → GoesOn s t → some_spent t ≡ false → some_spent s ≡ false
+-- an area that is spent stays so, where none goes
+pub unspent-before : (s t : SwapView) → IsSwap t → GoesOn s t → sizes t ≡ sizes s → some_spent t ≡ false → some_spent s ≡ false
 unfolding some_spent
-unspent-before s t swap g e = elim (cases_Bool (list_any is_spent s.areas)) [
-  | inl some ↦ absurd (false≢true (sym e ∙ spent-stays s.areas t.areas (rose s t g) (λ i. (swap.each i).countable) some))
+unspent-before s t swap g same e = elim (cases_Bool (list_any is_spent_here s.areas)) [
+  | inl some ↦ absurd (false≢true (sym e ∙ spent-stays s.areas t.areas (rose s t g) (λ i. (swap.each i).countable) (λ i here. (pages-same s t i same here).0) some))
   | inr none ↦ none
 ]
 

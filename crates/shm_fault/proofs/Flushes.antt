@@ -13,6 +13,7 @@ use Rattle.shm_fault.specs.Segs.{locked_by}
 use Rattle.shm_fault.specs.Store.{StoreView}
 use Rattle.shm_fault.specs.Sound.{IsSound}
 use Rattle.shm_fault.specs.Goes.{Goes, Still}
+use Rattle.shm_fault.specs.Counting.{raised}
 use Rattle.shm_fault.specs.Flushing.{owner_unlocked, may_flush, dirty_list, dirty_after, IsFlushed}
 use Rattle.shm_fault.proofs.Sound.{Goes-refl, Goes-trans}
 use Rattle.shm_fault.proofs.Failures.{unspent-before}
@@ -38,6 +39,9 @@ pub record Flushed (n : ℕ) (s : StoreView) (i : ℕ) (t : StoreView) (written 
   pub frames : (f : ℕ) → frame_at t.frames f ≡ record (frame_at s.frames f) { dirty = (frame_at t.frames f).dirty }
   pub others : (f : ℕ) → (Contains (take n (due s i)) f → ⊥) → frame_at t.frames f ≡ frame_at s.frames f
   pub counted : some_spent t.swap ≡ false → total t.swap ≡ total s.swap + failed
+  pub written_out : t.outs ≡ raised s.outs written
+  pub read_in : t.ins ≡ s.ins
+  pub hand : t.hand ≡ s.hand
 
 AllBelow-more : (i : ℕ) (xs : List ℕ) → AllBelow i xs → AllBelow (i + 1) xs
 AllBelow-more i [] all = tt
@@ -107,6 +111,9 @@ flushed-none n s sound = let none : take n (due s 0) ≡ [] = by n in record {
   frames = λ f. refl;
   others = λ f out. refl;
   counted = λ e. omega arith;
+  written_out = refl;
+  read_in = refl;
+  hand = refl;
 }
   where
     by : (m : ℕ) → take m (due s 0) ≡ []
@@ -147,6 +154,9 @@ module _ (n : ℕ) (s : StoreView) (i : ℕ) (t : StoreView) (written failed : �
     frames = d.frames;
     others = λ f out. d.others f (rw same at out);
     counted = d.counted;
+    written_out = d.written_out;
+    read_in = d.read_in;
+    hand = d.hand;
   }
 
   -- enough frames were written
@@ -161,8 +171,9 @@ module _ (n : ℕ) (s : StoreView) (i : ℕ) (t : StoreView) (written failed : �
   pub flushed-more : (u : StoreView) (wrote fails : ℕ) → written + failed < n → may_flush t i ≡ true → i < length t.frames
       → u.frames ≡ set t.frames i (record (frame_at t.frames i) { dirty = dirty_after u i }) → Goes t u → Still t u → IsSound u
       → wrote + fails ≡ written + failed + 1 → fails ≡ failed + cond (dirty_after u i) 1 0
-      → (some_spent u.swap ≡ false → total u.swap ≡ total t.swap + cond (dirty_after u i) 1 0) → Flushed n s (i + 1) u wrote fails
-  flushed-more u wrote fails lt may there frames goes still sound sum more counted =
+      → (some_spent u.swap ≡ false → total u.swap ≡ total t.swap + cond (dirty_after u i) 1 0)
+      → ((m : ℕ) → t.outs ≡ raised m written → u.outs ≡ raised m wrote) → u ≡ record t { segs = u.segs; frames = u.frames; swap = u.swap; outs = u.outs } → Flushed n s (i + 1) u wrote fails
+  flushed-more u wrote fails lt may there frames goes still sound sum more counted written_out rest =
       let l = take n (due s i) in
       let is : take n (due s (i + 1)) ≡ l ++ i ∷ [] =
       ap (take n) (due-yes s i (sym (may-same n s i t written failed d) ∙ may)) ∙ take-more n (due s i) i (omega (arith, lt, d.sum)) in
@@ -183,7 +194,10 @@ module _ (n : ℕ) (s : StoreView) (i : ℕ) (t : StoreView) (written failed : �
           | inr ne ↦ rw (other f ne) (d.frames f)
         ];
         others = λ f out. other f (λ e. out (rw (is, e) (Contains-push l i))) ∙ d.others f (λ has. out (rw is (Contains-append_left l (i ∷ []) f has)));
-        counted = λ e. let a = counted e in let b = d.counted (unspent-before t.swap u.swap sound.swap goes.goes_on e) in omega (arith, a, b, more);
+        counted = λ e. let a = counted e in let b = d.counted (unspent-before t.swap u.swap sound.swap goes.goes_on goes.same_sizes e) in omega (arith, a, b, more);
+        written_out = written_out s.outs d.written_out;
+        read_in = ap (λ (v : StoreView). v.ins) rest ∙ d.read_in;
+        hand = ap (λ (v : StoreView). v.hand) rest ∙ d.hand;
       }
     where
       at : frame_at u.frames i ≡ record (frame_at t.frames i) { dirty = dirty_after u i }
@@ -201,6 +215,9 @@ flushed-all n s i t written failed e d =
       frames = d.frames;
       others = λ f out. d.others f (rw (← same) at out);
       counted = d.counted;
+      written_out = d.written_out;
+      read_in = d.read_in;
+      hand = d.hand;
     }
 
 pub flushable : (s : StoreView) (i : ℕ) (r : PageRef) → (frame_at s.frames i).owner ≡ Some r → (frame_at s.frames i).dirty ≡ true → not (locked_by s.segs r.seg) ≡ may_flush s i

@@ -6,12 +6,14 @@ pub mod Counts
 pub mod Tally
 pub mod Bytes
 pub mod Sound
+pub mod Counting
 pub mod Changes
 pub mod Failures
 pub mod Flushes
 pub mod Visits
 pub mod Clock
 pub mod Spans
+pub mod Visiting
 pub mod Bringing
 pub mod Whole
 pub mod Drops

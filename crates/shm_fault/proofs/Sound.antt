@@ -74,13 +74,14 @@ module _ (off : PageRef → Bool) (s t : StoreView) (sound : IsSound s) (to : To
   }
 
 pub GoesOn-refl : (s : SwapView) → GoesOn s s
-GoesOn-refl s = record { areas = refl; starts = λ a. refl; counts = λ a. omega arith; flag = λ e. e }
+GoesOn-refl s = record { areas = refl; starts = λ a. refl; counts = λ a. omega arith; here = λ a e. e; flag = λ e. e }
 
 pub GoesOn-trans : (s t u : SwapView) → GoesOn s t → GoesOn t u → GoesOn s u
 GoesOn-trans s t u a b = record {
   areas = b.areas ∙ a.areas;
   starts = λ i. b.starts i ∙ a.starts i;
   counts = λ i. let x = a.counts i in let y = b.counts i in omega (arith, x, y);
+  here = λ i e. a.here i (b.here i e);
   flag = λ e. a.flag (b.flag e);
 }
 

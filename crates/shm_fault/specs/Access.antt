@@ -1,41 +1,87 @@
 -- What an access leaves, beside the bytes that it reads or writes.
-use Rattle.std.specs.Prelude.{ℕ, ◌≡◌, ◌≤◌, Bool, true, false, List, Some, Result, length, OnOk, OnErr, IfOk, IsOk, MatchResult, All}
+use Rattle.std.specs.Prelude.{ℕ, ◌≡◌, ◌≤◌, ◌+◌, ◌&&◌, Bool, true, false, List, [], ◌∷◌, Option, Some, None, Result, Ok, Err, length, OnOk, OnErr, IsOk, IsSome, All, ⊤}
+use Rattle.shm_base.specs.declared.paging.PageRef.{PageRef}
 use Rattle.shm_base.specs.declared.paging.Span.{Span}
 use Rattle.shm_slots.specs.View.{sizes}
 use Rattle.shm_slots.specs.Cause.{GoesOn, had_cause}
-use Rattle.shm_fault.specs.declared.touched.Move.{Move}
+use Rattle.shm_fault.specs.declared.access.InFrames.{InFrames}
 use Rattle.shm_fault.specs.declared.touched.Touched.{Touched}
 use Rattle.shm_fault.specs.declared.touched.PagerFailed.{PagerFailed}
-use Rattle.shm_fault.specs.Store.{StoreView, ref_of, IsResident, IsReferenced, pages_among, swapped_among}
+use Rattle.shm_fault.specs.Segs.{rec_by}
+use Rattle.shm_fault.specs.Store.{StoreView, ref_of, is_swapped, IsResident, IsReferenced, pages_among, swapped_among}
 use Rattle.shm_fault.specs.Steps.{Moves, Kept}
-use Rattle.shm_fault.specs.Goes.{Goes, KeepsLocked, frame_by, referenced_at}
+use Rattle.shm_fault.specs.Goes.{Goes, KeepsLocked, Visits, MovesOn, frame_by, referenced_at}
+use Rattle.shm_fault.specs.Counting.{raised, one_if, CountsOn, hand_after}
+use Rattle.shm_fault.specs.Sound.{IsSound}
+
+-- what a visit to a page leaves, whose frame was known where it had one
+pub record Visited (r : PageRef) (pinned known : Option ℕ) (s t : StoreView) (u v : Touched) (ok : Bool) : Type 0 where
+  pub visits : Visits r pinned s t
+  pub moves : MovesOn u.moved.items v.moved.items s t
+  pub few : length v.moved.items ≤ length u.moved.items + 2
+  pub ins : v.ins ≡ u.ins + one_if (ok && is_swapped (rec_by s.segs r))
+  pub outs : v.outs ≤ u.outs + 1
+  pub counts : CountsOn u v s t
+  pub hand : t.hand ≡ hand_after s known pinned
+  pub quiet : IsSome known → (ok ≡ true) × (v ≡ u) × (t.segs ≡ s.segs) × (t.swap ≡ s.swap)
+  pub cause : ok ≡ false → had_cause s.swap t.swap ≡ true
 
 -- the page of a stretch is in the frame, whose referenced bit is set
 pub record IsIn (t : StoreView) (p : Span) (f : ℕ) : Type 0 where
   pub at : frame_by t (ref_of p) ≡ Some f
   pub bit : referenced_at t f ≡ true
 
+-- the pages of one or two stretches are in these frames
+abbrev pub AreIn : StoreView → List Span → InFrames → Type 0
+AreIn t [] here = ⊤
+AreIn t (p ∷ []) here = IsIn t p here.first
+AreIn t (p ∷ q ∷ ps) here = IsIn t p here.first × IsIn t q here.second
+
+-- where the pages of stretches were in frames the hand stays; for one stretch it is where the visit to its page leaves it
+pub record Turns (ps : List Span) (s t : StoreView) : Type 0 where
+  pub still : All (IsResident s) ps → t.hand ≡ s.hand
+  pub one : (p : Span) → ps ≡ p ∷ [] → t.hand ≡ hand_after s (frame_by s (ref_of p)) None
+
 -- the pages of stretches were brought in, or one of them was not
-pub record Brings (ps : List Span) (s t : StoreView) (ms : List Move) (ins outs : ℕ) (ok : Bool) : Type 0 where
+pub record Brings (ps : List Span) (s t : StoreView) (u : Touched) (ok : Bool) : Type 0 where
   pub goes : Goes s t
   pub kept : KeepsLocked s t
-  pub moves : Moves ms s t
-  pub few : length ms ≤ 4
-  pub ins_few : ok ≡ true → ins ≤ pages_among ps
-  pub outs_few : ok ≡ true → outs ≤ pages_among ps
-  pub swapped : ok ≡ true → swapped_among s ps ≤ ins
-  pub none : ok ≡ true → All (IsResident s) ps → (ins ≡ 0) × (outs ≡ 0)
-  pub quiet : All (IsResident s) ps → (ok ≡ true) × (t.swap ≡ s.swap)
+  pub moves : Moves u.moved.items s t
+  pub few : length u.moved.items ≤ 4
+  pub ins_few : u.ins ≤ pages_among ps
+  pub outs_few : u.outs ≤ pages_among ps
+  pub read_in : t.ins ≡ raised s.ins u.ins
+  pub written_out : t.outs ≡ raised s.outs u.outs
+  pub turns : Turns ps s t
+  pub swapped : ok ≡ true → swapped_among s ps ≤ u.ins
+  pub quiet : All (IsResident s) ps → (ok ≡ true) × (t.swap ≡ s.swap) × (u.ins ≡ 0) × (u.outs ≡ 0)
   pub cause : ok ≡ false → had_cause s.swap t.swap ≡ true
 
--- the same with what the call answers
+-- what was counted and named, also by an access that failed
+abbrev pub touched_of : Result Touched PagerFailed → Touched
+touched_of (Ok u) = u
+touched_of (Err e) = e.touched
+
+abbrev pub brought_of : Result (InFrames × Touched) PagerFailed → Touched
+brought_of (Ok b) = b.1
+brought_of (Err e) = e.touched
+
+-- What an access leaves. A pager was asked for no more than the pages had to have: a read for each page that was in
+-- a slot, a write for each that had to go, and each is counted, in the answer and in the store.
 pub record Accessed (ps : List Span) (s t : StoreView) (result : Result Touched PagerFailed) : Type 0 where
   pub cause : OnErr result (had_cause s.swap t.swap ≡ true)
-  pub quiet : All (IsResident s) ps → IfOk result (λ u. (u.ins ≡ 0) × (u.outs ≡ 0)) × IsOk result × (t.swap ≡ s.swap)
-  pub touched : IfOk result (λ u. (u.ins ≤ pages_among ps) × (u.outs ≤ pages_among ps) × (swapped_among s ps ≤ u.ins))
+  pub quiet : All (IsResident s) ps → IsOk result × (t.swap ≡ s.swap) × ((touched_of result).ins ≡ 0) × ((touched_of result).outs ≡ 0)
+  pub ins_few : (touched_of result).ins ≤ pages_among ps
+  pub outs_few : (touched_of result).outs ≤ pages_among ps
+  pub swapped : OnOk result (swapped_among s ps ≤ (touched_of result).ins)
+  pub read_in : t.ins ≡ raised s.ins (touched_of result).ins
+  pub written_out : t.outs ≡ raised s.outs (touched_of result).outs
+  pub turns : Turns ps s t
   pub resident : OnOk result (All (IsReferenced t) ps)
-  pub moved : MatchResult result (λ u. Moves u.moved.items s t × (length u.moved.items ≤ 4)) (λ e. Moves e.moved.items s t × (length e.moved.items ≤ 4))
+  pub moved : Moves (touched_of result).moved.items s t
+  pub few_moved : length (touched_of result).moved.items ≤ 4
   pub kept : Kept s t
   pub counts : GoesOn s.swap t.swap
   pub same_sizes : sizes t.swap ≡ sizes s.swap
   pub size : length t.frames ≡ length s.frames
+  pub sound : IsSound t

@@ -9,6 +9,7 @@ use Rattle.shm_frames.specs.Frame.{Frame, no_frame, frame_at}
 use Rattle.shm_fault.specs.Segs.{rec_by, no_page}
 use Rattle.shm_fault.specs.Store.{StoreView, held, disowned}
 use Rattle.shm_fault.specs.Goes.{outlines}
+use Rattle.shm_fault.specs.Counting.{AtRest}
 
 -- the frames with one of them made free
 abbrev pub emptied : List Frame → Option ℕ → List Frame
@@ -39,4 +40,5 @@ pub record Dropped (seg n : ℕ) (s t : StoreView) : Type 0 where
   pub steady : IsSteady s.swap t.swap
   pub still : (q : PageRef) → (q.seg ≡ seg → ⊥) → rec_by t.segs q ≡ rec_by s.segs q
   pub done : (page : ℕ) → page < n → rec_by t.segs (record { seg = seg; page = page }) ≡ no_page
+  pub rest : AtRest s t
   pub nothing : IsBlank seg s → t ≡ s

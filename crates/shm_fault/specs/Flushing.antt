@@ -7,6 +7,7 @@ use Rattle.shm_plain.specs.Held.{is_locked}
 use Rattle.shm_slots.specs.Cause.{total, some_spent}
 use Rattle.shm_frames.specs.Frame.{frame_at}
 use Rattle.shm_fault.specs.Store.{StoreView, held}
+use Rattle.shm_fault.specs.Counting.{raised}
 
 abbrev pub owner_unlocked : StoreView → Option PageRef → Bool
 owner_unlocked s None = false
@@ -33,3 +34,7 @@ pub record IsFlushed (before after : StoreView) (n : ℕ) (report : FlushReport)
   pub frames : (f : ℕ) → frame_at after.frames f ≡ record (frame_at before.frames f) { dirty = (frame_at after.frames f).dirty }
   pub others : (f : ℕ) → (Contains (chosen before n) f → ⊥) → frame_at after.frames f ≡ frame_at before.frames f
   pub counted : some_spent after.swap ≡ false → total after.swap ≡ total before.swap + report.failed
+  -- what was written is counted, nothing is read, and the hand stays
+  pub written_out : after.outs ≡ raised before.outs report.written
+  pub read_in : after.ins ≡ before.ins
+  pub hand : after.hand ≡ before.hand

@@ -5,6 +5,8 @@ pub mod Sound
 pub mod Steps
 pub mod Flushing
 pub mod Goes
+pub mod Counting
 pub mod Access
+pub mod Adding
 pub mod Dropping
 pub mod Moving

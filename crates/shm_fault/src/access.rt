@@ -1,23 +1,36 @@
 //! Reads and writes of bytes. The pages of an access come in first, in the order of its stretches, and
 //! the first stays while the second comes in; only then are bytes read or changed.
-ghost use Rattle.std.specs.Prelude.{◌≡◌, ◌≢◌, ℕ, ◌+◌, ◌-◌, ◌*◌, ◌/◌, ◌%◌, ◌<◌, ◌≤◌, ◌^◌, Bool, true, false, [], ◌∷◌, length, map, set, take, drop, Option, Some, None, is_some, is_ok, IfOk, IfErr, OnOk, OnErr, IsOk, IsSome, MatchResult, All, sum_by};
+ghost use Rattle.std.specs.Prelude.{◌≡◌, ℕ, ◌+◌, ◌<◌, ◌≤◌, true, [], ◌∷◌, length, map, set, Some, is_ok, IfOk, OnOk, OnErr, All, sum_by};
 ghost use Rattle.shm_base.specs.declared.paging.Span.{Span as Stretch};
 ghost use Rattle.shm_plain.specs.Held.{FitsPage, read_from, written, pasted, paste, span_bytes};
 ghost use Rattle.shm_frames.specs.Frame.{frame_at};
-ghost use Rattle.shm_slots.specs.View.{sizes};
-ghost use Rattle.shm_slots.specs.Cause.{had_cause, GoesOn};
 ghost use Rattle.shm_fault.specs.Segs.{HasPage};
-ghost use Rattle.shm_fault.specs.Steps.{Moves, Kept};
-ghost use Rattle.shm_fault.specs.Store.{StoreView, held, frame_of, page_of, ref_of, IsResident, IsReferenced, pages_among, swapped_among};
+ghost use Rattle.shm_fault.specs.Store.{held, frame_of, page_of, ref_of};
 ghost use Rattle.shm_fault.specs.Sound.{IsSound};
 ghost use Rattle.shm_fault.specs.Goes.{frame_by, referenced_at};
-ghost use Rattle.shm_fault.specs.Access.{IsIn, Brings, Accessed};
+ghost use Rattle.shm_fault.specs.Access.{AreIn, Brings, Accessed, brought_of};
+ghost use Rattle.shm_fault.specs.Adding.{number_in, added};
 
 use crate::store::PageStore;
 use crate::touched::{PagerFailed, Touched};
 use shm_base::{FrameNo, PAGE_SIZE, PageRef, Span};
 use shm_frames::Frames;
 use shm_pager::{Pager, PagerFault};
+
+/// The frames that the pages of one or two stretches are in; the same twice where there is one.
+#[derive(Clone, Copy)]
+pub(crate) struct InFrames {
+    pub(crate) first: FrameNo,
+    pub(crate) second: FrameNo,
+}
+
+impl InFrames {
+    // For no stretch.
+    const ANY: InFrames = InFrames {
+        first: 0,
+        second: 0,
+    };
+}
 
 // Puts bytes into a frame.
 fn paste_into(frames: &mut Frames, frame: FrameNo, from: usize, bytes: &[u8])
@@ -45,16 +58,32 @@ impl<P: Pager> PageStore<P> {
         }
     }
 
+    // The frame that the page of a stretch is in: the one that the stretch names, as long as nothing moved.
+    fn frame_now(&self, span: &Span, page: PageRef, touched: &Touched) -> Option<FrameNo>
+        requires page { page ≡ ref_of span.now }
+        requires still { touched.now.moved.items ≡ [] → span.now.frame ≡ frame_by self.now (ref_of span.now) }
+        ensures { result ≡ frame_by self.now page }
+    {
+        if touched.moved.is_empty() {
+            return span.frame;
+        }
+        self.segs.page(page).frame
+    }
+
     // Brings in the page of a stretch.
-    fn bring_one(&mut self, first: &Span, touched: &mut Touched) -> Result<FrameNo, PagerFault>
+    fn bring_one(&mut self, first: &Span, touched: &mut Touched) -> Result<InFrames, PagerFault>
         requires fit { FitsPage (held self.old) first.now }
         requires frame { first.now.frame ≡ frame_by self.old (ref_of first.now) }
         requires none { (touched.old.moved.items ≡ []) × (touched.old.ins ≡ 0) × (touched.old.outs ≡ 0) }
-        ensures here { IfOk result (λ f. IsIn self.new first.now f) }
-        ensures brings { Brings (first.now ∷ []) self.old self.new touched.new.moved.items touched.new.ins touched.new.outs (is_ok result) }
+        ensures here { IfOk result (AreIn self.new (first.now ∷ [])) }
+        ensures brings { Brings (first.now ∷ []) self.old self.new touched.new (is_ok result) }
     {
         let page = self.page_at(first);
-        self.visit(page, first.frame, None, touched)
+        let frame = self.visit(page, first.frame, None, touched)?;
+        Ok(InFrames {
+            first: frame,
+            second: frame,
+        })
     }
 
     // Brings in the pages of two stretches. Where that of the first fails the second is not tried.
@@ -63,24 +92,62 @@ impl<P: Pager> PageStore<P> {
         first: &Span,
         second: &Span,
         touched: &mut Touched,
-    ) -> Result<(FrameNo, FrameNo), PagerFault>
+    ) -> Result<InFrames, PagerFault>
         requires fit { FitsPage (held self.old) first.now × FitsPage (held self.old) second.now }
-        requires frame { first.now.frame ≡ frame_by self.old (ref_of first.now) }
+        requires frames { (first.now.frame ≡ frame_by self.old (ref_of first.now)) × (second.now.frame ≡ frame_by self.old (ref_of second.now)) }
         requires none { (touched.old.moved.items ≡ []) × (touched.old.ins ≡ 0) × (touched.old.outs ≡ 0) }
-        ensures here { IfOk result (λ f. IsIn self.new first.now f.0 × IsIn self.new second.now f.1) }
-        ensures brings { Brings (first.now ∷ second.now ∷ []) self.old self.new touched.new.moved.items touched.new.ins touched.new.outs (is_ok result) }
+        ensures here { IfOk result (AreIn self.new (first.now ∷ second.now ∷ [])) }
+        ensures brings { Brings (first.now ∷ second.now ∷ []) self.old self.new touched.new (is_ok result) }
     {
         let page = self.page_at(first);
-        match self.visit(page, first.frame, None, touched) {
-            Ok(near) => {
-                let page = self.page_at(second);
-                let known = self.segs.page(page).frame;
-                match self.visit(page, known, Some(near), touched) {
-                    Ok(far) => Ok((near, far)),
-                    Err(fault) => Err(fault),
-                }
-            }
-            Err(fault) => Err(fault),
+        let near = self.visit(page, first.frame, None, touched)?;
+        let page = self.page_at(second);
+        let known = self.frame_now(second, page, touched);
+        let far = self.visit(page, known, Some(near), touched)?;
+        Ok(InFrames {
+            first: near,
+            second: far,
+        })
+    }
+
+    // Brings in the pages of at most two stretches.
+    fn bring_spans(
+        &mut self,
+        spans: &[Span],
+        touched: &mut Touched,
+    ) -> Result<InFrames, PagerFault>
+        requires few { length spans.now ≤ 2 }
+        requires fit { All (FitsPage (held self.old)) spans.now }
+        requires frames { All (λ (p : Stretch). p.frame ≡ frame_of self.old p.seg (page_of p)) spans.now }
+        requires none { (touched.old.moved.items ≡ []) × (touched.old.ins ≡ 0) × (touched.old.outs ≡ 0) }
+        ensures here { IfOk result (AreIn self.new spans.now) }
+        ensures brings { Brings spans.now self.old self.new touched.new (is_ok result) }
+    {
+        let Some(first) = spans.first() else {
+            return Ok(InFrames::ANY);
+        };
+        match spans.get(1) {
+            Some(second) => self.bring_two(first, second, touched),
+            None => self.bring_one(first, touched),
+        }
+    }
+
+    // Brings in the pages of at most two stretches, the first page first, and answers their frames.
+    fn bring(&mut self, spans: &[Span]) -> Result<(InFrames, Touched), PagerFailed>
+        requires few { length spans.now ≤ 2 }
+        requires fit { All (FitsPage (held self.old)) spans.now }
+        requires frames { All (λ (p : Stretch). p.frame ≡ frame_of self.old p.seg (page_of p)) spans.now }
+        ensures here { IfOk result (λ b. AreIn self.new spans.now b.0) }
+        ensures brings { Brings spans.now self.old self.new (brought_of result) (is_ok result) }
+        ensures sound { IsSound self.new }
+    {
+        let mut touched = Touched::none();
+        let brought = self.bring_spans(spans, &mut touched);
+        // What is read of the store has a proof know what is true of it.
+        let _ = &self.segs;
+        match brought {
+            Ok(here) => Ok((here, touched)),
+            Err(_) => Err(PagerFailed { touched }),
         }
     }
 
@@ -113,143 +180,58 @@ impl<P: Pager> PageStore<P> {
         self.frames.set_dirty(frame, true);
     }
 
-    // Reads one stretch.
-    fn read_one(&mut self, first: &Span, out: &mut [u8]) -> Result<Touched, PagerFailed>
-        requires fit { FitsPage (held self.old) first.now }
-        requires frame { first.now.frame ≡ frame_by self.old (ref_of first.now) }
-        requires size { first.now.len ≡ length out.old }
-        ensures bytes { OnOk result (out.new ≡ read_from (held self.old) (first.now ∷ [])) }
-        ensures held { held self.new ≡ held self.old }
-        ensures access { Accessed (first.now ∷ []) self.old self.new result }
-    {
-        let mut touched = Touched::none();
-        match self.bring_one(first, &mut touched) {
-            Ok(frame) => {
-                self.copy_out(first, frame, out);
-                Ok(touched)
-            }
-            Err(_fault) => Err(PagerFailed {
-                moved: touched.moved,
-            }),
-        }
-    }
-
-    // Reads two stretches.
-    fn read_two(
-        &mut self,
-        first: &Span,
-        second: &Span,
-        out: &mut [u8],
-    ) -> Result<Touched, PagerFailed>
-        requires fit { FitsPage (held self.old) first.now × FitsPage (held self.old) second.now }
-        requires frame { first.now.frame ≡ frame_by self.old (ref_of first.now) }
-        requires size { first.now.len + second.now.len ≡ length out.old }
-        ensures bytes { OnOk result (out.new ≡ read_from (held self.old) (first.now ∷ second.now ∷ [])) }
-        ensures held { held self.new ≡ held self.old }
-        ensures access { Accessed (first.now ∷ second.now ∷ []) self.old self.new result }
-    {
-        let mut touched = Touched::none();
-        match self.bring_two(first, second, &mut touched) {
-            Ok((near, far)) => {
-                let (front, back) = out.split_at_mut(first.len as usize);
-                self.copy_out(first, near, front);
-                self.copy_out(second, far, back);
-                Ok(touched)
-            }
-            Err(_fault) => Err(PagerFailed {
-                moved: touched.moved,
-            }),
-        }
-    }
-
-    // Writes one stretch.
-    fn write_one(&mut self, first: &Span, bytes: &[u8]) -> Result<Touched, PagerFailed>
-        requires fit { FitsPage (held self.old) first.now }
-        requires frame { first.now.frame ≡ frame_by self.old (ref_of first.now) }
-        requires size { first.now.len ≡ length bytes.now }
-        ensures written { OnOk result (held self.new ≡ written (held self.old) (first.now ∷ []) bytes.now) }
-        ensures same { OnErr result (held self.new ≡ held self.old) }
-        ensures access { Accessed (first.now ∷ []) self.old self.new result }
-    {
-        let mut touched = Touched::none();
-        match self.bring_one(first, &mut touched) {
-            Ok(frame) => {
-                self.store(first, frame, bytes);
-                Ok(touched)
-            }
-            Err(_fault) => Err(PagerFailed {
-                moved: touched.moved,
-            }),
-        }
-    }
-
-    // Writes two stretches, once the pages of both are there.
-    fn write_two(
-        &mut self,
-        first: &Span,
-        second: &Span,
-        bytes: &[u8],
-    ) -> Result<Touched, PagerFailed>
-        requires fit { FitsPage (held self.old) first.now × FitsPage (held self.old) second.now }
-        requires frame { first.now.frame ≡ frame_by self.old (ref_of first.now) }
-        requires size { first.now.len + second.now.len ≡ length bytes.now }
-        ensures written { OnOk result (held self.new ≡ written (held self.old) (first.now ∷ second.now ∷ []) bytes.now) }
-        ensures same { OnErr result (held self.new ≡ held self.old) }
-        ensures access { Accessed (first.now ∷ second.now ∷ []) self.old self.new result }
-    {
-        let mut touched = Touched::none();
-        match self.bring_two(first, second, &mut touched) {
-            Ok((head, tail)) => {
-                let (front, back) = bytes.split_at(first.len as usize);
-                self.store(first, head, front);
-                self.store(second, tail, back);
-                Ok(touched)
-            }
-            Err(_fault) => Err(PagerFailed {
-                moved: touched.moved,
-            }),
-        }
-    }
-
-    fn read_spans(&mut self, spans: &[Span], out: &mut [u8]) -> Result<Touched, PagerFailed>
+    // Copies the bytes of stretches out of the frames that their pages are in.
+    fn copy_spans(&self, spans: &[Span], here: InFrames, out: &mut [u8])
         requires few { length spans.now ≤ 2 }
-        requires fit { All (FitsPage (held self.old)) spans.now }
-        requires frames { All (λ (p : Stretch). p.frame ≡ frame_of self.old p.seg (page_of p)) spans.now }
+        requires fit { All (FitsPage (held self.now)) spans.now }
+        requires here { AreIn self.now spans.now here }
         requires size { sum_by (λ (p : Stretch). p.len) spans.now ≡ length out.old }
-        ensures bytes { OnOk result (out.new ≡ read_from (held self.old) spans.now) }
-        ensures held { held self.new ≡ held self.old }
-        ensures access { Accessed spans.now self.old self.new result }
+        ensures { out.new ≡ read_from (held self.now) spans.now }
     {
         let Some(first) = spans.first() else {
-            return Ok(Touched::none());
+            return;
         };
         match spans.get(1) {
-            Some(second) => self.read_two(first, second, out),
-            None => self.read_one(first, out),
+            Some(second) => {
+                let (front, back) = out.split_at_mut(first.len as usize);
+                self.copy_out(first, here.first, front);
+                self.copy_out(second, here.second, back);
+            }
+            None => self.copy_out(first, here.first, out),
         }
     }
 
-    fn write_spans(&mut self, spans: &[Span], bytes: &[u8]) -> Result<Touched, PagerFailed>
+    // Puts bytes into the frames that the pages of stretches are in.
+    fn store_spans(&mut self, spans: &[Span], here: InFrames, bytes: &[u8])
         requires few { length spans.now ≤ 2 }
         requires fit { All (FitsPage (held self.old)) spans.now }
-        requires frames { All (λ (p : Stretch). p.frame ≡ frame_of self.old p.seg (page_of p)) spans.now }
+        requires here { AreIn self.old spans.now here }
         requires size { sum_by (λ (p : Stretch). p.len) spans.now ≡ length bytes.now }
-        ensures written { OnOk result (held self.new ≡ written (held self.old) spans.now bytes.now) }
-        ensures same { OnErr result (held self.new ≡ held self.old) }
-        ensures access { Accessed spans.now self.old self.new result }
+        ensures written { held self.new ≡ written (held self.old) spans.now bytes.now }
+        ensures bits { (f : ℕ) → referenced_at self.new f ≡ referenced_at self.old f }
+        ensures rest { self.new ≡ record self.old { frames = self.new.frames } }
+        ensures count { length self.new.frames ≡ length self.old.frames }
+        ensures sound { IsSound self.new }
     {
+        // What is read of the store has a proof know what is true of it.
+        let _ = &self.segs;
         let Some(first) = spans.first() else {
-            return Ok(Touched::none());
+            return;
         };
         match spans.get(1) {
-            Some(second) => self.write_two(first, second, bytes),
-            None => self.write_one(first, bytes),
+            Some(second) => {
+                let (front, back) = bytes.split_at(first.len as usize);
+                self.store(first, here.first, front);
+                self.store(second, here.second, back);
+            }
+            None => self.store(first, here.first, bytes),
         }
     }
 
     /// Reads the bytes of at most two stretches, one after another. A page that is not resident comes in,
     /// for which another may have to leave its frame; the first page stays while the second comes in. Where
-    /// the first fails the second is not tried.
+    /// the first fails the second is not tried. No pager is asked for more than that, and `Accessed` says
+    /// what is counted.
     ///
     /// An error is a pager's, whose count then rose or stood at its last value before. What is in `out` is
     /// unknown then. Each stretch lies in one page of a segment that is held and names the frame that the
@@ -261,21 +243,11 @@ impl<P: Pager> PageStore<P> {
         requires size { sum_by (λ (p : Stretch). p.len) spans.now ≡ length out.old }
         ensures bytes { OnOk result (out.new ≡ read_from (held self.old) spans.now) }
         ensures held { held self.new ≡ held self.old }
-        ensures cause { OnErr result (had_cause self.old.swap self.new.swap ≡ true) }
-        ensures quiet { All (IsResident self.old) spans.now → IfOk result (λ t. (t.ins ≡ 0) × (t.outs ≡ 0)) × IsOk result × (self.new.swap ≡ self.old.swap) }
-        ensures touched { IfOk result (λ t. (t.ins ≤ pages_among spans.now) × (t.outs ≤ pages_among spans.now) × (swapped_among self.old spans.now ≤ t.ins)) }
-        ensures resident { OnOk result (All (IsReferenced self.new) spans.now) }
-        ensures moved { MatchResult result (λ t. Moves t.moved.items self.old self.new × (length t.moved.items ≤ 4)) (λ e. Moves e.moved.items self.old self.new × (length e.moved.items ≤ 4)) }
-        ensures kept { Kept self.old self.new }
-        ensures counts { GoesOn self.old.swap self.new.swap }
-        ensures sizes { sizes self.new.swap ≡ sizes self.old.swap }
-        ensures count { length self.new.frames ≡ length self.old.frames }
-        ensures sound { IsSound self.new }
+        ensures access { Accessed spans.now self.old self.new result }
     {
-        let result = self.read_spans(spans, out);
-        // What is read of the store has a proof know what is true of it.
-        let _ = &self.segs;
-        result
+        let (here, touched) = self.bring(spans)?;
+        self.copy_spans(spans, here, out);
+        Ok(touched)
     }
 
     /// Replaces the bytes of at most two stretches, in their order, once all their pages are resident;
@@ -288,19 +260,31 @@ impl<P: Pager> PageStore<P> {
         requires size { sum_by (λ (p : Stretch). p.len) spans.now ≡ length bytes.now }
         ensures written { OnOk result (held self.new ≡ written (held self.old) spans.now bytes.now) }
         ensures same { OnErr result (held self.new ≡ held self.old) }
-        ensures cause { OnErr result (had_cause self.old.swap self.new.swap ≡ true) }
-        ensures quiet { All (IsResident self.old) spans.now → IfOk result (λ t. (t.ins ≡ 0) × (t.outs ≡ 0)) × IsOk result × (self.new.swap ≡ self.old.swap) }
-        ensures touched { IfOk result (λ t. (t.ins ≤ pages_among spans.now) × (t.outs ≤ pages_among spans.now) × (swapped_among self.old spans.now ≤ t.ins)) }
-        ensures resident { OnOk result (All (IsReferenced self.new) spans.now) }
-        ensures moved { MatchResult result (λ t. Moves t.moved.items self.old self.new × (length t.moved.items ≤ 4)) (λ e. Moves e.moved.items self.old self.new × (length e.moved.items ≤ 4)) }
-        ensures kept { Kept self.old self.new }
-        ensures counts { GoesOn self.old.swap self.new.swap }
-        ensures sizes { sizes self.new.swap ≡ sizes self.old.swap }
-        ensures count { length self.new.frames ≡ length self.old.frames }
-        ensures sound { IsSound self.new }
+        ensures access { Accessed spans.now self.old self.new result }
     {
-        let result = self.write_spans(spans, bytes);
-        let _ = &self.segs;
-        result
+        let (here, touched) = self.bring(spans)?;
+        self.store_spans(spans, here, bytes);
+        Ok(touched)
+    }
+
+    /// Adds to the eight little-endian bytes of at most two stretches, modulo 2^64, once all their pages are
+    /// resident; `old` is then the number that stood there, and unknown after an error. Pages come in once, as
+    /// for [`PageStore::read`], and on an error no byte of any segment has changed.
+    pub fn add(&mut self, spans: &[Span], more: u64, old: &mut u64) -> Result<Touched, PagerFailed>
+        requires few { length spans.now ≤ 2 }
+        requires fit { All (FitsPage (held self.old)) spans.now }
+        requires frames { All (λ (p : Stretch). p.frame ≡ frame_of self.old p.seg (page_of p)) spans.now }
+        requires size { sum_by (λ (p : Stretch). p.len) spans.now ≡ 8 }
+        ensures number { OnOk result (old.new ≡ number_in (held self.old) spans.now) }
+        ensures written { OnOk result (held self.new ≡ added (held self.old) spans.now more) }
+        ensures same { OnErr result (held self.new ≡ held self.old) }
+        ensures access { Accessed spans.now self.old self.new result }
+    {
+        let (here, touched) = self.bring(spans)?;
+        let mut bytes = [0; 8];
+        self.copy_spans(spans, here, &mut bytes);
+        *old = u64::from_le_bytes(bytes);
+        self.store_spans(spans, here, &old.wrapping_add(more).to_le_bytes());
+        Ok(touched)
     }
 }

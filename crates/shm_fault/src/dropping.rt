@@ -9,6 +9,7 @@ ghost use Rattle.shm_frames.specs.Frame.{frame_at};
 ghost use Rattle.shm_fault.specs.Segs.{HasPage, with_rec, no_page, rec_by, but};
 ghost use Rattle.shm_fault.specs.Store.{held, frame_of, disowned};
 ghost use Rattle.shm_fault.specs.Sound.{IsSound};
+ghost use Rattle.shm_fault.specs.Counting.{AtRest};
 ghost use Rattle.shm_fault.specs.Dropping.{emptied, Given, FrameThere, SlotThere, IsBlank};
 
 use crate::segments::PageRec;
@@ -54,6 +55,7 @@ impl<P: Pager> PageStore<P> {
         ensures slots { (k : Place) → disowned page.seg (owner_of self.new.swap k.area k.slot) ≡ disowned page.seg (owner_of self.old.swap k.area k.slot) }
         ensures size { length self.new.frames ≡ length self.old.frames }
         ensures steady { IsSteady self.old.swap self.new.swap }
+        ensures rest { AtRest self.old self.new }
         ensures nowhere { rec_by self.old.segs page ≡ no_page → self.new ≡ self.old }
     {
         let place = self.segs.page(page);
@@ -62,8 +64,8 @@ impl<P: Pager> PageStore<P> {
         self.segs.set_page(page, PageRec::NOWHERE);
     }
 
-    /// Takes a segment out, and its pages out of their frames and slots, which are free then. The other
-    /// segments' bytes stay, and where none of its pages was anywhere, so does all else. The segment is held.
+    /// Takes a segment out, and its pages out of their frames and slots, which are free then. No pager is
+    /// asked for a page, and nothing is counted. The other segments' bytes stay, and where none of its pages was anywhere, so does all else. The segment is held.
     pub fn drop_segment(&mut self, seg: u32)
         requires there { is_held (held self.old) seg ≡ true }
         ensures held { held self.new ≡ without (held self.old) seg }
@@ -73,6 +75,7 @@ impl<P: Pager> PageStore<P> {
         ensures counts { (total self.new.swap ≡ total self.old.swap) × GoesOn self.old.swap self.new.swap }
         ensures sizes { sizes self.new.swap ≡ sizes self.old.swap }
         ensures count { length self.new.frames ≡ length self.old.frames }
+        ensures rest { AtRest self.old self.new }
         ensures blank { IsBlank seg self.old → self.new ≡ record self.old { segs = but seg self.old.segs } }
         ensures sound { IsSound self.new }
     {

@@ -7,6 +7,7 @@ ghost use Rattle.shm_fault.specs.Store.{held, frame_of};
 ghost use Rattle.shm_fault.specs.Sound.{IsSound};
 ghost use Rattle.shm_fault.specs.Steps.{Kept};
 ghost use Rattle.shm_fault.specs.Goes.{Goes, Still};
+ghost use Rattle.shm_fault.specs.Counting.{raised};
 ghost use Rattle.shm_fault.specs.Flushing.{IsFlushed, may_flush, dirty_after};
 
 use crate::store::PageStore;
@@ -37,6 +38,8 @@ impl<P: Pager> PageStore<P> {
         ensures sum { report.new.written + report.new.failed ≡ report.old.written + report.old.failed + 1 }
         ensures failed { report.new.failed ≡ report.old.failed + (if dirty_after self.new frame then 1 else 0) }
         ensures counted { some_spent self.new.swap ≡ false → total self.new.swap ≡ total self.old.swap + (if dirty_after self.new frame then 1 else 0) }
+        ensures written_out { (n : ℕ) → self.old.outs ≡ raised n report.old.written → self.new.outs ≡ raised n report.new.written }
+        ensures rest { self.new ≡ record self.old { segs = self.new.segs; frames = self.new.frames; swap = self.new.swap; outs = self.new.outs } }
         ensures sound { IsSound self.new }
     {
         match self.page_out(frame) {
@@ -47,7 +50,7 @@ impl<P: Pager> PageStore<P> {
 
     /// Writes the first `n` dirty frames of segments that are not locked, by rising number, each to the
     /// slot of its page, as where that page has to go. A frame whose write failed stays dirty; it is one
-    /// of the `n`.
+    /// of the `n`. The clock's hand stays.
     pub fn flush(&mut self, n: u64) -> FlushReport
         ensures flushed { IsFlushed self.old self.new n result }
         ensures held { held self.new ≡ held self.old }

@@ -8,12 +8,12 @@ ghost use Rattle.shm_fault.specs.Store.{held, frame_of};
 ghost use Rattle.shm_fault.specs.Sound.{IsSound};
 ghost use Rattle.shm_fault.specs.Steps.{Kept};
 ghost use Rattle.shm_fault.specs.Goes.{Goes, Still};
+ghost use Rattle.shm_fault.specs.Counting.{AtRest};
 ghost use Rattle.shm_fault.specs.Moving.{SameOwned, IsRelocated, IsCleared};
 
 use crate::segments::PageRec;
 use crate::store::PageStore;
-use crate::touched::PagerFailed;
-use arrayvec::ArrayVec;
+use crate::touched::{PagerFailed, Touched};
 use shm_base::{FrameNo, PageRef, Slot};
 use shm_pager::{Pager, PagerFault, zeros};
 use shm_slots::Swap;
@@ -78,6 +78,7 @@ impl<P: Pager> PageStore<P> {
         ensures goes { Goes self.old self.new }
         ensures still { Still self.old self.new }
         ensures cleared { IsCleared slot self.old.swap self.new.swap }
+        ensures rest { AtRest self.old self.new }
         ensures sound { IsSound self.new }
     {
         self.swap.give_slot(slot);
@@ -98,6 +99,7 @@ impl<P: Pager> PageStore<P> {
         ensures goes { Goes self.old self.new }
         ensures still { Still self.old self.new }
         ensures cleared { OnOk result (IsCleared slot self.old.swap self.new.swap) }
+        ensures rest { AtRest self.old self.new }
         ensures cause { OnErr result (had_cause self.old.swap self.new.swap ≡ true) }
         ensures sound { IsSound self.new }
     {
@@ -123,6 +125,7 @@ impl<P: Pager> PageStore<P> {
         ensures goes { Goes self.old self.new }
         ensures still { Still self.old self.new }
         ensures cleared { OnOk result (IsCleared slot self.old.swap self.new.swap) }
+        ensures rest { AtRest self.old self.new }
         ensures cause { OnErr result (had_cause self.old.swap self.new.swap ≡ true) }
         ensures sound { IsSound self.new }
     {
@@ -151,7 +154,8 @@ impl<P: Pager> PageStore<P> {
         ensures sizes { OnErr result (sizes self.new.swap ≡ sizes self.old.swap) }
         ensures count { length self.new.frames ≡ length self.old.frames }
         ensures cause { OnErr result (had_cause self.old.swap self.new.swap ≡ true) }
-        ensures moved { IfErr result (λ e. e.moved.items ≡ []) }
+        ensures moved { IfErr result (λ e. e.touched.moved.items ≡ []) }
+        ensures rest { AtRest self.old self.new }
         ensures still { (s page : ℕ) → frame_of self.new s page ≡ frame_of self.old s page }
         ensures kept { Kept self.old self.new }
         ensures counts { GoesOn self.old.swap self.new.swap }
@@ -163,7 +167,7 @@ impl<P: Pager> PageStore<P> {
                 Ok(()) => {}
                 Err(_) => {
                     return Err(PagerFailed {
-                        moved: ArrayVec::new(),
+                        touched: Touched::none(),
                     });
                 }
             }

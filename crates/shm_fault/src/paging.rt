@@ -1,13 +1,15 @@
 //! Pages that come into a frame and leave it. Each step here keeps all bytes of all segments.
-ghost use Rattle.std.specs.Prelude.{◌≡◌, ◌≢◌, ◌⊎◌, ℕ, ◌+◌, ◌<◌, ◌≤◌, ◌^◌, Bool, true, false, not, if◌then◌else◌, [], length, set, Option, Some, None, is_ok, is_some, IfOk, IfErr, OnOk, OnErr, IsOk, IsSome, MatchOption};
+ghost use Rattle.std.specs.Prelude.{◌≡◌, ◌≢◌, ◌⊎◌, ℕ, ◌+◌, ◌<◌, ◌≤◌, ◌^◌, Bool, true, false, not, if◌then◌else◌, [], length, set, Option, Some, None, ◌&&◌, is_ok, is_some, IfOk, OnOk, OnErr, IsSome, MatchOption, MatchResult};
 ghost use Rattle.shm_base.specs.declared.paging.PageRef.{PageRef as Ref};
 ghost use Rattle.shm_slots.specs.View.{SameSlots, HasSlot, IsSwap, sizes};
 ghost use Rattle.shm_slots.specs.Cause.{had_cause, total, some_spent, GoesOn};
 ghost use Rattle.shm_frames.specs.Frame.{frame_at, no_frame, OwnedBelow};
-ghost use Rattle.shm_clock.specs.Clock.{may_go, listed, next, IsClockVictim};
+ghost use Rattle.shm_clock.specs.Clock.{may_go, listed, victim_of, next, IsClockVictim};
 ghost use Rattle.shm_fault.specs.Segs.{rec_by, HasPage, with_rec};
 ghost use Rattle.shm_fault.specs.Store.{StoreView, stored, is_swapped};
 ghost use Rattle.shm_fault.specs.Sound.{IsSound};
+ghost use Rattle.shm_fault.specs.Counting.{raised, one_if, CountsOn, victim_by, turned, hand_for_frame};
+ghost use Rattle.shm_fault.specs.Access.{Visited};
 ghost use Rattle.shm_fault.specs.Goes.{Goes, Still, StaysAway, Alike, Visits, MovesOn, referenced_at, unlocked, frame_by, same_ref};
 
 use crate::segments::{PageRec, Segments};
@@ -38,6 +40,7 @@ fn choose(
     requires few { length frames.old ≤ 4096 }
     requires one { listed (unlocked segs.now) pinned frames.old hand.old ≢ [] }
     ensures clock { IsClockVictim (may_go (unlocked segs.now) pinned frames.old) hand.old frames.old result frames.new }
+    ensures victim { result ≡ victim_of frames.old (listed (unlocked segs.now) pinned frames.old hand.old) }
     ensures hand { hand.new ≡ next (length frames.old) result }
 {
     let eligible = |page: PageRef| !segs.is_locked(page.seg);
@@ -115,6 +118,7 @@ impl<P: Pager> PageStore<P> {
         requires slot { (page : Ref) → (frame_at self.old.frames frame).owner ≡ Some page → (rec_by self.old.segs page).slot ≡ Some slot }
         ensures frames { self.new.frames ≡ set self.old.frames frame (record (frame_at self.old.frames frame) { dirty = not (is_ok result) }) }
         ensures rest { self.new ≡ record self.old { frames = self.new.frames; swap = self.new.swap; outs = self.new.outs } }
+        ensures outs { self.new.outs ≡ raised self.old.outs (one_if (is_ok result)) }
         ensures goes { Goes self.old self.new }
         ensures cause { OnErr result (had_cause self.old.swap self.new.swap ≡ true) }
         ensures counted { some_spent self.new.swap ≡ false → total self.new.swap ≡ total self.old.swap + (if is_ok result then 0 else 1) }
@@ -137,6 +141,8 @@ impl<P: Pager> PageStore<P> {
         requires owned { IsSome (frame_at self.old.frames frame).owner }
         requires dirty { (frame_at self.old.frames frame).dirty ≡ true }
         ensures frames { self.new.frames ≡ set self.old.frames frame (record (frame_at self.old.frames frame) { dirty = not (is_ok result) }) }
+        ensures rest { self.new ≡ record self.old { segs = self.new.segs; frames = self.new.frames; swap = self.new.swap; outs = self.new.outs } }
+        ensures outs { self.new.outs ≡ raised self.old.outs (one_if (is_ok result)) }
         ensures still { Still self.old self.new }
         ensures away { StaysAway self.old self.new }
         ensures goes { Goes self.old self.new }
@@ -185,17 +191,22 @@ impl<P: Pager> PageStore<P> {
         ensures alike { (f : ℕ) → Alike (frame_at self.old.frames f) (frame_at self.new.frames f) }
         ensures pin { (p : ℕ) → pinned ≡ Some p → frame_at self.new.frames p ≡ frame_at self.old.frames p }
         ensures rest { self.new ≡ record self.old { frames = self.new.frames; hand = self.new.hand } }
+        ensures victim { result ≡ victim_by self.old pinned }
+        ensures hand { self.new.hand ≡ turned self.old pinned }
         ensures goes { Goes self.old self.new }
     {
         choose(&self.segs, &mut self.frames, &mut self.hand, pinned)
     }
 
-    // Writes a frame if it is dirty, and tells whether it did.
+    // Writes a frame if it is dirty, and tells whether it was.
     fn clean(&mut self, frame: FrameNo) -> Result<bool, PagerFault>
         requires there { frame < length self.old.frames }
         requires owned { IsSome (frame_at self.old.frames frame).owner }
         ensures ok { OnOk result (self.new.frames ≡ set self.old.frames frame (record (frame_at self.old.frames frame) { dirty = false })) }
         ensures err { OnErr result (self.new.frames ≡ self.old.frames) }
+        ensures written { IfOk result (λ w. w ≡ (frame_at self.old.frames frame).dirty) }
+        ensures rest { self.new ≡ record self.old { segs = self.new.segs; frames = self.new.frames; swap = self.new.swap; outs = self.new.outs } }
+        ensures outs { self.new.outs ≡ raised self.old.outs (one_if (is_ok result && (frame_at self.old.frames frame).dirty)) }
         ensures still { Still self.old self.new }
         ensures away { StaysAway self.old self.new }
         ensures goes { Goes self.old self.new }
@@ -210,13 +221,17 @@ impl<P: Pager> PageStore<P> {
         }
     }
 
-    // Makes a frame free by having its page leave it. Where the page's write fails, the page stays.
+    // Makes a frame free by having its page leave it. Where the page's write fails, the page stays. The hand
+    // stands behind that frame then, also after a failure.
     fn evict(&mut self, pinned: Option<FrameNo>) -> Result<Evicted, PagerFault>
         requires full { OwnedBelow self.old.frames (length self.old.frames) }
         ensures visits { (r : Ref) → Visits r pinned self.old self.new }
         ensures gone { IfOk result (λ e. (s : Ref) → frame_by self.new s ≡ (if same_ref e.page s then None else frame_by self.old s)) }
         ensures free { IfOk result (λ e. (e.frame < length self.new.frames) × ((frame_at self.new.frames e.frame).owner ≡ None)) }
         ensures err { OnErr result (Still self.old self.new) }
+        ensures hand { self.new.hand ≡ turned self.old pinned }
+        ensures ins { self.new.ins ≡ self.old.ins }
+        ensures outs { MatchResult result (λ e. self.new.outs ≡ raised self.old.outs (one_if e.written)) (λ _. self.new.outs ≡ self.old.outs) }
         ensures cause { OnErr result (had_cause self.old.swap self.new.swap ≡ true) }
     {
         let frame = self.turn(pinned);
@@ -240,7 +255,8 @@ impl<P: Pager> PageStore<P> {
         requires slot { MatchOption slot (Unit {0}) (λ k. HasSlot self.old.swap k.area k.slot) }
         ensures bytes { OnOk result ((frame_at self.new.frames frame).bytes ≡ stored self.old.swap slot) }
         ensures swap { OnOk result (self.new.swap ≡ self.old.swap) }
-        ensures segs { self.new.segs ≡ self.old.segs }
+        ensures rest { self.new ≡ record self.old { frames = self.new.frames; swap = self.new.swap; ins = self.new.ins } }
+        ensures ins { self.new.ins ≡ raised self.old.ins (one_if (is_ok result && is_some slot)) }
         ensures free { (frame_at self.new.frames frame).owner ≡ None }
         ensures visits { (page : Ref) (pinned : Option ℕ) → Visits page pinned self.old self.new }
         ensures cause { OnErr result (had_cause self.old.swap self.new.swap ≡ true) }
@@ -263,7 +279,7 @@ impl<P: Pager> PageStore<P> {
         requires bytes { (frame_at self.old.frames frame).bytes ≡ stored self.old.swap (rec_by self.old.segs page).slot }
         ensures came { (s : Ref) → frame_by self.new s ≡ (if same_ref page s then Some frame else frame_by self.old s) }
         ensures bit { (frame_at self.new.frames frame).referenced ≡ true }
-        ensures swap { self.new.swap ≡ self.old.swap }
+        ensures rest { self.new ≡ record self.old { segs = self.new.segs; frames = self.new.frames } }
         ensures visits { (pinned : Option ℕ) → Visits page pinned self.old self.new }
     {
         let place = self.segs.page(page);
@@ -296,8 +312,10 @@ impl<P: Pager> PageStore<P> {
         ensures visits { (pinned : Option ℕ) → Visits page pinned self.old self.new }
         ensures moves { MovesOn touched.old.moved.items touched.new.moved.items self.old self.new }
         ensures few { length touched.new.moved.items ≤ length touched.old.moved.items + 1 }
-        ensures ins { OnOk result (touched.new.ins ≡ touched.old.ins + (if is_some (rec_by self.old.segs page).slot then 1 else 0)) }
+        ensures ins { touched.new.ins ≡ touched.old.ins + one_if (is_ok result && is_some (rec_by self.old.segs page).slot) }
         ensures outs { touched.new.outs ≡ touched.old.outs }
+        ensures counts { CountsOn touched.old touched.new self.old self.new }
+        ensures hand { self.new.hand ≡ self.old.hand }
         ensures cause { OnErr result (had_cause self.old.swap self.new.swap ≡ true) }
     {
         let place = self.segs.page(page);
@@ -326,6 +344,8 @@ impl<P: Pager> PageStore<P> {
         ensures few { length touched.new.moved.items ≤ length touched.old.moved.items + 1 }
         ensures ins { touched.new.ins ≡ touched.old.ins }
         ensures outs { touched.new.outs ≤ touched.old.outs + 1 }
+        ensures counts { CountsOn touched.old touched.new self.old self.new }
+        ensures hand { self.new.hand ≡ hand_for_frame self.old pinned }
         ensures cause { OnErr result (had_cause self.old.swap self.new.swap ≡ true) }
     {
         match self.frames.free_frame() {
@@ -356,8 +376,10 @@ impl<P: Pager> PageStore<P> {
         ensures visits { Visits page pinned self.old self.new }
         ensures moves { MovesOn touched.old.moved.items touched.new.moved.items self.old self.new }
         ensures few { length touched.new.moved.items ≤ length touched.old.moved.items + 2 }
-        ensures ins { OnOk result (touched.new.ins ≡ touched.old.ins + (if is_some (rec_by self.old.segs page).slot then 1 else 0)) }
+        ensures ins { touched.new.ins ≡ touched.old.ins + one_if (is_ok result && is_some (rec_by self.old.segs page).slot) }
         ensures outs { touched.new.outs ≤ touched.old.outs + 1 }
+        ensures counts { CountsOn touched.old touched.new self.old self.new }
+        ensures hand { self.new.hand ≡ hand_for_frame self.old pinned }
         ensures cause { OnErr result (had_cause self.old.swap self.new.swap ≡ true) }
     {
         match self.take_frame(pinned, touched) {
@@ -393,13 +415,7 @@ impl<P: Pager> PageStore<P> {
         requires room { length touched.old.moved.items ≤ 2 }
         requires small { (touched.old.ins < 2 ^ 32) × (touched.old.outs < 2 ^ 32) }
         ensures here { IfOk result (λ f. (frame_by self.new page ≡ Some f) × (referenced_at self.new f ≡ true)) }
-        ensures visits { Visits page pinned self.old self.new }
-        ensures moves { MovesOn touched.old.moved.items touched.new.moved.items self.old self.new }
-        ensures few { length touched.new.moved.items ≤ length touched.old.moved.items + 2 }
-        ensures ins { OnOk result (touched.new.ins ≡ touched.old.ins + (if is_swapped (rec_by self.old.segs page) then 1 else 0)) }
-        ensures outs { touched.new.outs ≤ touched.old.outs + 1 }
-        ensures quiet { IsSome known → IsOk result × (touched.new ≡ touched.old) × (self.new.segs ≡ self.old.segs) × (self.new.swap ≡ self.old.swap) }
-        ensures cause { OnErr result (had_cause self.old.swap self.new.swap ≡ true) }
+        ensures visited { Visited page pinned known self.old self.new touched.old touched.new (is_ok result) }
     {
         match known {
             Some(frame) => {

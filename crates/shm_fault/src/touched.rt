@@ -17,7 +17,7 @@ impl Default for Move {
     }
 }
 
-/// The pager reads and writes of an access that was done, and the pages that moved, in order.
+/// The pager reads and writes that were done for an access, and the pages that moved, in order.
 #[derive(Debug, Drop)]
 pub struct Touched {
     pub ins: u64,
@@ -25,10 +25,10 @@ pub struct Touched {
     pub moved: ArrayVec<Move, 4>,
 }
 
-/// A pager failed. Pages may have moved before; these are named, in order.
+/// A pager failed. What was read and written before is counted, and the pages that moved are named.
 #[derive(Debug, Drop)]
 pub struct PagerFailed {
-    pub moved: ArrayVec<Move, 4>,
+    pub touched: Touched,
 }
 
 /// The pages in frames, those of them that are dirty, the slots of the areas that are there, the slots

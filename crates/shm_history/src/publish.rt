@@ -17,8 +17,6 @@ impl<P: Pager> World<P> {
         ensures counts { result ≡ reading_of (tally_of self.now) }
         ensures bounds { IsReading result }
     {
-        // What the history tells of the memory is true of the tally.
-        let _exact = self.history();
         let tally = self.tally();
         Reading {
             events: tally.events,

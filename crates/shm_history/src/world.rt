@@ -99,7 +99,8 @@ impl<P: Pager> World<P> {
         ensures counted { AreCounted self.now.events self.now.memory.swap }
         ensures exact { IsExactly self.now.machine self.now.memory }
     {
-        self.system.is_exact();
+        // The memory that the system lends is exact.
+        let _ = self.system.store();
         self.history.as_slice()
     }
 
@@ -151,8 +152,8 @@ impl<P: Pager> World<P> {
         ensures room_kept { OnErr result (self.old.room ≤ self.new.room) }
     {
         make_room(&mut self.history)?;
-        // What is told here is true before the call.
-        self.system.is_exact();
+        // The memory that the system lends is exact, before the call too.
+        let _ = self.system.store();
         let copy = call.copied();
         let reply = self.system.call(pid, call)?;
         let answer = reply.copied();
@@ -176,9 +177,10 @@ impl<P: Pager> World<P> {
         self.system.flush(pages)
     }
 
-    /// The counts of the machine as they are, and of what its pagers did.
+    /// The counts of the machine as they are, and of what its pagers did. They keep their bounds.
     pub fn tally(&self) -> Tally
-        ensures { result ≡ tally_of self.now }
+        ensures counts { result ≡ tally_of self.now }
+        ensures exact { IsExactly self.now.machine self.now.memory }
     {
         self.system.tally()
     }

@@ -290,14 +290,17 @@ impl<T: Drop> IdTable<T> {
     }
 
     /// The identifier that the next row gets: that of the least index that no row holds and that is not worn
-    /// out. None where there is no such index.
-    pub fn next_id(&self) -> Option<ShmId>
-        ensures value { result ≡ option_map (id_at self.now) (free_index self.now) }
-        ensures index { IfSome result (λ id. free_index self.now ≡ Some (index_of id)) }
+    /// out. None where there is no such index. The table remembers how far it looked, so that the insert that
+    /// follows looks no further.
+    pub fn next_id(&mut self) -> Option<ShmId>
+        ensures value { result ≡ option_map (id_at self.old) (free_index self.old) }
+        ensures index { IfSome result (λ id. free_index self.old ≡ Some (index_of id)) }
+        ensures same { self.new ≡ self.old }
     {
         let Some(index) = free_from(&self.entries, self.first_free) else {
             return None;
         };
+        self.first_free = index;
         Some(id_of(index, sequence_at(&self.entries, index)))
     }
 
@@ -394,6 +397,15 @@ impl<T: Drop> IdTable<T> {
         self.entries[index].value_mut()
     }
 
+    /// The value of a live row, for writing. A write changes that row's value alone.
+    pub fn value_of(&mut self, id: ShmId) -> &mut T
+        requires live { IsOk (look self.old id) }
+        ensures* lends { sem 𝓛 (lends_at T.row self.entry (index_of id) result) }
+        ensures value { look self.old id ≡ Ok result.now }
+    {
+        self.value_mut(index_in(id))
+    }
+
     /// As `look`, for writing. A write changes that row's value alone.
     pub fn look_mut(&mut self, id: ShmId) -> Result<&mut T, LookRefused>
         ensures* lends { sem 𝓛 (lends_look T.row self.entry id result) }
@@ -403,7 +415,7 @@ impl<T: Drop> IdTable<T> {
         if let Err(refused) = self.look(id) {
             return Err(refused);
         }
-        Ok(self.value_mut(index_in(id)))
+        Ok(self.value_of(id))
     }
 
     /// Makes a live row's key 0, so that it is found no more.

@@ -1,6 +1,5 @@
 pub mod Swapping
 pub mod Running
-pub mod Resident
 pub mod Orphans
 pub mod Pieces
 pub mod Leaving

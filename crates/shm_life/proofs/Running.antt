@@ -56,17 +56,6 @@ among-next rs t u lost i d lt among fewer =
     let all : OrphansAmong (get_or lost i d ∷ drop (suc i) lost) rs t = subst (λ ids. OrphansAmong ids rs t) (drop-cons lost i d lt) among in
     fewer (drop (i + 1) lost) (subst (λ k. OrphansAmong (get_or lost i d ∷ drop k lost) rs t) next all)
 
--- what is referenced is resident
-referenced-resident : (m : StoreView) (p : Span) → IsReferenced m p → IsResident m p
-referenced-resident m p bit = by (frame_of m p.seg (page_of p)) bit
-  where
-    by : (o : Option ℕ) → bit_of m.frames o ≡ true → is_some o ≡ true
-    by None e = e
-    by (Some f) e = refl
-
-pub all-resident : (m : StoreView) (ps : List Span) → All (IsReferenced m) ps → All (IsResident m) ps
-all-resident m ps all = λ k d lt. referenced-resident m (get_or ps k d) (all k d lt)
-
 -- WHAT IS KNOWN OF A RESULT THAT WAS ASKED WHETHER IT IS AN ERROR
 
 pub done_fact : {A E : Type 0} (r : Result A E) (P : Type 0) → is_ok r ≡ true → OnOk r P → P

@@ -1,5 +1,5 @@
 //! Loads, stores and additions.
-ghost use Rattle.std.specs.Prelude.{◌≡◌, ◌≤◌, true, false, is_ok, length, MatchResult};
+ghost use Rattle.std.specs.Prelude.{◌≡◌, true, false, is_ok, length};
 ghost use Rattle.shm_base.specs.Access.{places, writable_places};
 ghost use Rattle.shm_base.specs.History.{is_failure};
 ghost use Rattle.shm_base.specs.Step as flat;
@@ -7,6 +7,7 @@ ghost use Rattle.shm_base.specs.declared.call.Call.TheVariants as call;
 ghost use Rattle.shm_attach.specs.Spaces.{seen, AreTrue};
 ghost use Rattle.shm_fault.specs.Store.{StoreView};
 ghost use Rattle.shm_fault.specs.Steps.{Moves};
+ghost use Rattle.shm_fault.specs.Access.{touched_of};
 ghost use Rattle.shm_life.specs.MachineView.{IsFailed, KeepsOn};
 ghost use Rattle.shm_life.specs.Tied.{IsCallerOf};
 
@@ -21,7 +22,7 @@ use shm_pager::Pager;
 fn note(spaces: &mut Spaces, access: Result<Touched, PagerFailed>) -> bool
     ensures done { result ≡ is_ok access }
     ensures runners { spaces.new.runners ≡ spaces.old.runners }
-    ensures translated { (m n : StoreView) → AreTrue spaces.old.translations m → MatchResult access (λ t. Moves t.moved.items m n × (length t.moved.items ≤ 4)) (λ e. Moves e.moved.items m n × (length e.moved.items ≤ 4)) → AreTrue spaces.new.translations n }
+    ensures translated { (m n : StoreView) → AreTrue spaces.old.translations m → Moves (touched_of access).moved.items m n → AreTrue spaces.new.translations n }
 {
     match access {
         Ok(touched) => {
@@ -29,7 +30,7 @@ fn note(spaces: &mut Spaces, access: Result<Touched, PagerFailed>) -> bool
             true
         }
         Err(failed) => {
-            spaces.note(failed.moved.as_slice());
+            spaces.note(failed.touched.moved.as_slice());
             false
         }
     }
@@ -44,7 +45,7 @@ impl<P: Pager> Machine<P> {
         ensures failed { is_failure (call.Load addr len) result ≡ true → IsFailed (flat.load self.old.flat (places (seen caller.now self.old.flat.runners).pieces addr len)) self.old self.new }
         ensures keeps { KeepsOn self.old.memory self.new.memory }
     {
-        let Ok(spans) = self.spaces.spans(caller.pid, addr, len.get() as u64, false) else {
+        let Ok(spans) = self.spaces.spans_of(caller, addr, len.get() as u64, false) else {
             return Reply::Refused(Errno::Sigsegv);
         };
         let mut bytes = [0; 64];
@@ -69,10 +70,7 @@ impl<P: Pager> Machine<P> {
         ensures keeps { KeepsOn self.old.memory self.new.memory }
     {
         let bytes = chunk.as_slice();
-        let Ok(spans) = self
-            .spaces
-            .spans(caller.pid, addr, bytes.len() as u64, true)
-        else {
+        let Ok(spans) = self.spaces.spans_of(caller, addr, bytes.len() as u64, true) else {
             return Reply::Refused(Errno::Sigsegv);
         };
         let written = self.segments.write(spans.as_slice(), bytes);
@@ -91,23 +89,13 @@ impl<P: Pager> Machine<P> {
         ensures failed { is_failure (call.Xadd addr add) result ≡ true → IsFailed (flat.xadd self.old.flat add (writable_places (seen caller.now self.old.flat.runners).pieces addr 8)) self.old self.new }
         ensures keeps { KeepsOn self.old.memory self.new.memory }
     {
-        let Ok(spans) = self.spaces.spans(caller.pid, addr, 8, true) else {
+        let Ok(spans) = self.spaces.spans_of(caller, addr, 8, true) else {
             return Reply::Refused(Errno::Sigsegv);
         };
-        let mut bytes = [0; 8];
-        let read = self.segments.read(spans.as_slice(), &mut bytes);
-        if !note(&mut self.spaces, read) {
+        let mut number = 0;
+        let added = self.segments.add(spans.as_slice(), add, &mut number);
+        if !note(&mut self.spaces, added) {
             return Reply::Refused(Errno::Sigbus);
-        }
-        let number = u64::from_le_bytes(bytes);
-        let sum = number.wrapping_add(add).to_le_bytes();
-        // The pages are resident now, perhaps in other frames, so that the write needs no pager.
-        let Ok(spans) = self.spaces.spans(caller.pid, addr, 8, true) else {
-            unreachable!()
-        };
-        let written = self.segments.write(spans.as_slice(), &sum);
-        if !note(&mut self.spaces, written) {
-            unreachable!()
         }
         Reply::Number(number)
     }

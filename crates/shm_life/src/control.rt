@@ -1,5 +1,5 @@
 //! shmctl: stat, set, rmid, lock and unlock.
-ghost use Rattle.std.specs.Prelude.{length, ◌≡◌, ℕ, ◌+◌, ◌&&◌, not, nat_lt, ◌%◌, IfOk, IfErr, IfSome, IfNone, None, Some};
+ghost use Rattle.std.specs.Prelude.{◌≡◌, ℕ, ◌+◌, ◌&&◌, not, nat_lt, ◌%◌, IfOk, IfErr, IfSome, IfNone, None, Some};
 ghost use Rattle.shm_base.specs.Identifier as flat_ids;
 ghost use Rattle.shm_base.specs.Permission as permission;
 ghost use Rattle.shm_base.specs.Segments.{locked};
@@ -8,7 +8,6 @@ ghost use Rattle.shm_base.specs.Step as flat;
 ghost use Rattle.shm_attach.specs.Spaces.{seen};
 ghost use Rattle.shm_segments.specs.Table.{IsFound, seen as segment_seen};
 ghost use Rattle.shm_life.specs.MachineView.{KeepsOn};
-ghost use Rattle.shm_life.specs.Listed.{segment_at};
 ghost use Rattle.shm_life.specs.Made.{status_bits};
 
 use crate::detach::sweep;
@@ -55,21 +54,6 @@ impl<P: Pager> Machine<P> {
             dtime: found.head.dtime,
             ctime: found.head.ctime,
         }
-    }
-
-    /// How many indexes were ever used.
-    pub(crate) fn indexes(&self) -> u32
-        ensures { result ≡ length self.now.flat.table }
-    {
-        self.segments.indexes()
-    }
-
-    /// The segment at an index, as stat shows it, with no permission test.
-    pub(crate) fn segment(&self, index: u32) -> Option<(ShmId, ShmidDs)>
-        ensures { result ≡ segment_at self.now.flat index }
-    {
-        let found = self.segments.at(index)?;
-        Some((found.id, self.shown(&found)))
     }
 
     /// Shows a segment (IPC_STAT): Einval or Eidrm for the identifier, Eacces without read permission.

@@ -122,7 +122,7 @@ impl<P: Pager> Machine<P> {
         {
             return Ok(Reply::Refused(Errno::Enospc));
         }
-        if reserved > self.segments.capacity() {
+        if reserved > self.segments.store().capacity() {
             return Ok(Reply::Refused(Errno::Enomem));
         }
         let head = new_head(time, caller, size, mode);

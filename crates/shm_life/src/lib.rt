@@ -7,7 +7,6 @@ mod control;
 mod detach;
 mod get;
 mod machine;
-mod paging;
 mod shown;
 mod start;
 mod swapoff;

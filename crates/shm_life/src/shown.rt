@@ -1,5 +1,6 @@
 //! What a system lends to whoever looks at it: its memory, and the pieces of its processes.
 ghost use Rattle.std.specs.Prelude.{◌≡◌};
+ghost use Rattle.shm_life.specs.MachineView.{IsExactly};
 
 use crate::system::System;
 use shm_attach::Spaces;
@@ -7,11 +8,13 @@ use shm_fault::PageStore;
 use shm_pager::Pager;
 
 impl<P: Pager> System<P> {
-    /// The pages of the segments, over frames and swap areas.
+    /// The pages of the segments, over frames and swap areas. They show the machine exactly, at all times.
     pub fn store(&self) -> &PageStore<P>
-        ensures { result.now ≡ self.now.memory }
+        ensures value { result.now ≡ self.now.memory }
+        ensures exact { IsExactly self.now.machine self.now.memory }
     {
-        self.machine.segments.store()
+        let machine = &self.machine;
+        machine.segments.store()
     }
 
     /// The processes, each with its address space.

@@ -24,10 +24,11 @@ impl<P: Pager> Machine<P> {
         if caller.cred.uid != 0 {
             return Reply::Refused(Errno::Eperm);
         }
-        let Some(size) = self.segments.area_size(area) else {
+        let store = self.segments.store();
+        let Some(size) = store.area_size(area) else {
             return Reply::Refused(Errno::Einval);
         };
-        if self.segments.capacity() < self.segments.reserved() + u64::from(size) {
+        if store.capacity() < self.segments.reserved() + u64::from(size) {
             return Reply::Refused(Errno::Enomem);
         }
         if self.segments.move_off(area).is_err() {

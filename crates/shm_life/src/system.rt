@@ -172,28 +172,37 @@ impl<P: Pager> System<P> {
         ensures flushed { IsFlushed self.old.memory self.new.memory n result }
         ensures keeps { KeepsOn self.old.memory self.new.memory }
     {
-        self.machine.flush(n)
+        self.machine.segments.flush(n)
     }
 
-    /// The counts of the machine as they are, and of what its pagers did.
+    /// The counts of the machine as they are, and of what its pagers did. They keep their bounds.
     pub fn tally(&self) -> Tally
-        ensures { Counts self.now.calls self.now.machine self.now.memory result }
+        ensures counts { Counts self.now.calls self.now.machine self.now.memory result }
+        ensures exact { IsExactly self.now.machine self.now.memory }
     {
-        self.machine.tally(self.calls)
-    }
-
-    /// Nothing is done: what is told is true at every time.
-    pub fn is_exact(&self)
-        ensures { IsExactly self.now.machine self.now.memory }
-    {
-        self.machine.is_exact();
+        let pages = self.store().tally();
+        let machine = &self.machine;
+        Tally {
+            events: self.calls,
+            segments: machine.segments.count(),
+            reserved: machine.segments.reserved(),
+            locked: machine.segments.locked(),
+            frames: machine.limits.frames(),
+            resident: pages.resident,
+            dirty: pages.dirty,
+            slots: pages.slots,
+            used: pages.used,
+            ins: pages.ins,
+            outs: pages.outs,
+            failures: pages.failures,
+        }
     }
 
     /// How many indexes of the table were ever used.
     pub fn indexes(&self) -> u32
         ensures { result ≡ length self.now.machine.table }
     {
-        self.machine.indexes()
+        self.machine.segments.indexes()
     }
 
     /// The segment at an index of the table as stat shows it, with no permission test. None only where no
@@ -201,6 +210,7 @@ impl<P: Pager> System<P> {
     pub fn segment(&self, index: u32) -> Option<(ShmId, ShmidDs)>
         ensures { result ≡ segment_at self.now.machine index }
     {
-        self.machine.segment(index)
+        let found = self.machine.segments.at(index)?;
+        Some((found.id, self.machine.shown(&found)))
     }
 }

@@ -2,7 +2,7 @@
 use Rattle.std.proofs.Common.{◌≡◌, ◌≢◌, ℕ, ◌%◌, ◌==◌, Bool, true, false, List, [], ◌∷◌, ◌++◌, length, Option, Some, None, is_some, option_map, refl, sym, ap, ◌∙◌, inl, inr, arith, eq-eqb, ne_eqb, true≢false}
 use Rattle.std.proofs.lemmas.Bool.{cases_eq, cases_Bool}
 use Rattle.std.proofs.lemmas.Option.{none-some}
-use Rattle.std.specs.Prelude.{All, Result, Ok, Err, OnErr}
+use Rattle.std.specs.Prelude.{All}
 use Rattle.shm_base.specs.declared.paging.Span.{Span}
 use Rattle.shm_base.specs.State.{Entry as FlatEntry}
 use Rattle.shm_ids.specs.declared.table.Entry.{Entry}
@@ -161,10 +161,6 @@ runs-written a b rows ps new agree fit is kept goes frames = record {
   goes_on = goes;
   frames = frames;
 }
-
-pub OnErr-map : {A E : Type 0} (r : Result A E) (P Q : Type 0) → OnErr r P → (P → Q) → OnErr r Q
-OnErr-map (Ok a) P Q e f = tt
-OnErr-map (Err x) P Q e f = f e
 
 -- NO SEGMENT
 

@@ -1,8 +1,9 @@
 -- Loads and stores over stretches, as the flat machine's table shows them.
-use Rattle.std.proofs.Common.{◌≡◌, ℕ, zero, suc, ◌+◌, ◌%◌, ◌≤◌, Bool, true, List, [], ◌∷◌, ◌++◌, length, set, take, drop, map, Option, Some, None, is_some, option_map, refl, sym, ap, ◌∙◌, arith, inl, inr}
+use Rattle.std.proofs.Common.{◌≡◌, ℕ, zero, suc, ◌+◌, ◌%◌, ◌^◌, ◌≤◌, Bool, true, false, List, [], ◌∷◌, ◌++◌, length, set, take, drop, map, Option, Some, None, is_some, option_map, refl, sym, ap, ◌∙◌, arith, inl, inr}
 use Rattle.std.proofs.lemmas.Bool.Decides.{eqb_tells}
 use Rattle.std.proofs.lemmas.Grind.{common_steps}
 use Rattle.std.proofs.lemmas.List.{set-get_or}
+use Rattle.std.specs.Int.{w64, from_le_bytes, to_le_bytes}
 use Rattle.std.specs.Prelude.{slice_set, slice_index, sum_by, All}
 use Rattle.shm_base.specs.Access.{Place, set_in, with_byte, entry_byte_set, stored, loaded, byte_at, bytes_at, bytes_at_entry}
 use Rattle.shm_base.specs.declared.paging.Span.{Span}
@@ -14,6 +15,8 @@ use Rattle.shm_base.specs.Spans.{run, span_places}
 use Rattle.shm_plain.specs.Held.{Held, find_held, bytes_of, bytes_in, pasted, written, FitsPage, read_from}
 use Rattle.shm_plain.proofs.Kept.{find_held-id, find-map}
 use Rattle.shm_plain.proofs.Pasted.{length-paste, pasted-keeps}
+use Rattle.shm_fault.specs.Adding as store
+use Rattle.shm_segments.specs.Table as table
 use Rattle.shm_segments.specs.declared.head.Head.{Head}
 use Rattle.shm_segments.specs.Joined.{segment_of, whole, joined, live, shape_held, Agree}
 use Rattle.shm_segments.proofs.Bytes.{put, puts, get, bytes_of-put_same, bytes_of-put_other, Each, each, each-pasted, len_of, written-same, get-spans}
@@ -100,6 +103,15 @@ pub load_shown : (hs : List Held) (rows : List (Entry Head)) (w : Bool) (ps : Li
 load_shown hs rows w ps agree fit =
     let fits = each (FitsPage hs) ps fit in
     loaded-joined (span_places w ps) hs rows (live-spans ps w hs rows agree fits) ∙ get-spans ps w hs fits
+
+-- an addition shows as one at the places
+pub add_shown : (hs : List Held) (rows : List (Entry Head)) (ps : List Span) (more : ℕ) → Agree hs rows → All (FitsPage hs) ps → sum_by len_of ps ≡ 8
+    → joined (store.added hs ps more) rows ≡ table.added (joined hs rows) (span_places false ps) more
+add_shown hs rows ps more agree fit size =
+    let number : table.number_at (joined hs rows) (span_places false ps) ≡ store.number_in hs ps = ap (from_le_bytes w64) (load_shown hs rows false ps agree fit) in
+    let new = to_le_bytes w64 ((store.number_in hs ps + more) % 2 ^ 64) in
+    let eight : length new ≡ 8 = refl in
+    rw number (sym (store_shown hs rows false ps new agree fit (size ∙ sym eight)))
 
 -- WHAT A STORE LEAVES
 

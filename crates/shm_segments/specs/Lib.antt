@@ -3,3 +3,4 @@ pub mod Table
 pub mod Kept
 pub mod Left
 pub mod View
+pub mod Lends

@@ -1,11 +1,12 @@
 -- Words on the flat machine's table that contracts cite.
-use Rattle.std.specs.Prelude.{slice_get, slice_set, replicate, option_map, ℤ, ◌≡◌, ◌≤◌, ◌<◌, ◌+◌, ◌*◌, ◌/◌, ◌%◌, ◌==◌, ℕ, pos, Bool, true, nat_lt, if◌then◌else◌, is_some, List, length, Option, Some, None}
+use Rattle.std.specs.Prelude.{slice_get, slice_set, replicate, option_map, ℤ, ◌≡◌, ◌≤◌, ◌<◌, ◌+◌, ◌*◌, ◌/◌, ◌%◌, ◌^◌, ◌==◌, ℕ, pos, Bool, true, nat_lt, if◌then◌else◌, is_some, List, length, Option, Some, None}
+use Rattle.std.specs.Int.{w64, from_le_bytes, to_le_bytes}
 use Rattle.shm_base.specs.declared.errno.Errno.{Errno}
 use Rattle.shm_base.specs.declared.errno.Errno.TheVariants.{Eidrm, Einval}
 use Rattle.shm_base.specs.declared.paging.Span.{Span}
 use Rattle.shm_base.specs.State.{Segment, Entry, pages_of}
 use Rattle.shm_base.specs.Identifier as flat
-use Rattle.shm_base.specs.Access.{bytes_at}
+use Rattle.shm_base.specs.Access.{Place, bytes_at, loaded, stored}
 use Rattle.shm_base.specs.Segments.{pages_held}
 use Rattle.shm_segments.specs.Joined.{segment_of}
 use Rattle.shm_segments.specs.declared.head.Head.{Head}
@@ -77,3 +78,11 @@ reowned n uid gid mode y = record y { perm = record y.perm { uid = uid; gid = gi
 
 abbrev pub relocked : Bool → Segment → Segment
 relocked b y = record y { locked = b }
+
+-- the little-endian number that stands at places
+abbrev pub number_at : List Entry → List Place → ℕ
+number_at table ps = from_le_bytes w64 (loaded table ps)
+
+-- the table with so much added to it, modulo 2^64
+abbrev pub added : List Entry → List Place → ℕ → List Entry
+added table ps more = stored table ps (to_le_bytes w64 ((number_at table ps + more) % 2 ^ 64))

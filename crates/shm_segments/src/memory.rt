@@ -1,42 +1,29 @@
 //! The bytes of the segments, and the pages that they lie in.
-ghost use Rattle.std.specs.Prelude.{◌≡◌, ◌≤◌, ◌+◌, ◌-◌, ◌^◌, ℕ, IsOk, IfOk, OnOk, OnErr, MatchResult, All, sum_by, length, min, set, None, true, false};
+ghost use Rattle.std.specs.Prelude.{◌≡◌, ◌≤◌, ◌+◌, ℕ, OnOk, OnErr, All, sum_by, length, set, None, true, false};
 ghost use Rattle.shm_base.specs.declared.paging.Span.{Span as Stretch};
 ghost use Rattle.shm_base.specs.Access.{loaded, stored};
 ghost use Rattle.shm_base.specs.Segments.{reserved};
 ghost use Rattle.shm_base.specs.Spans.{span_places, page_of};
-ghost use Rattle.shm_slots.specs.View.{slots, sizes, size_of, area_at};
-ghost use Rattle.shm_slots.specs.Cause.{had_cause, total};
-ghost use Rattle.shm_fault.specs.Store.{frame_of, resident, dirty, used, IsResident, IsReferenced};
-ghost use Rattle.shm_fault.specs.Steps.{Moves};
+ghost use Rattle.shm_slots.specs.View.{slots, sizes, area_at};
+ghost use Rattle.shm_slots.specs.Cause.{had_cause};
+ghost use Rattle.shm_fault.specs.Store.{frame_of};
+ghost use Rattle.shm_fault.specs.Access.{Accessed};
 ghost use Rattle.shm_fault.specs.Flushing.{IsFlushed};
-ghost use Rattle.shm_segments.specs.Table.{SpanFits};
-ghost use Rattle.shm_segments.specs.View.{Runs};
+ghost use Rattle.shm_segments.specs.Table.{SpanFits, number_at, added};
+ghost use Rattle.shm_segments.specs.View.{IsExact, Runs};
 
 use crate::segments::Segments;
 use shm_base::{FlushReport, Span};
-use shm_fault::{PageStore, PageTally, PagerFailed, Touched};
+use shm_fault::{PageStore, PagerFailed, Touched};
 use shm_pager::Pager;
 
 impl<P: Pager> Segments<P> {
-    /// The pages and their places.
+    /// The pages and their places. They are sound, and show the table, at all times.
     pub fn store(&self) -> &PageStore<P>
-        ensures { result.now ≡ self.now.memory }
+        ensures value { result.now ≡ self.now.memory }
+        ensures exact { IsExact self.now.table self.now.memory }
     {
         &self.store
-    }
-
-    /// The slots of the areas that are there.
-    pub fn capacity(&self) -> u64
-        ensures { result ≡ slots self.now.memory.swap }
-    {
-        self.store.capacity()
-    }
-
-    /// The slots of an area, if it is there.
-    pub fn area_size(&self, area: u32) -> Option<u32>
-        ensures { result ≡ size_of (area_at self.now.memory.swap area) }
-    {
-        self.store.area_size(area)
     }
 
     /// Copies the bytes of one or two spans, each with the frame that its page is in. Pages that are not
@@ -48,11 +35,7 @@ impl<P: Pager> Segments<P> {
         requires size { sum_by (λ (p : Stretch). p.len) spans.now ≡ length out.old }
         ensures bytes { OnOk result (out.new ≡ loaded self.old.table (span_places false spans.now)) }
         ensures table { self.new.table ≡ self.old.table }
-        ensures cause { OnErr result (had_cause self.old.memory.swap self.new.memory.swap ≡ true) }
-        ensures quiet { All (IsResident self.old.memory) spans.now → IsOk result }
-        ensures resident { OnOk result (All (IsReferenced self.new.memory) spans.now) }
-        ensures moved { MatchResult result (λ t. Moves t.moved.items self.old.memory self.new.memory × (length t.moved.items ≤ 4)) (λ e. Moves e.moved.items self.old.memory self.new.memory × (length e.moved.items ≤ 4)) }
-        ensures sizes { sizes self.new.memory.swap ≡ sizes self.old.memory.swap }
+        ensures access { Accessed spans.now self.old.memory self.new.memory result }
         ensures runs { Runs self.old.memory self.new.memory }
     {
         self.store.read(spans, out)
@@ -66,13 +49,26 @@ impl<P: Pager> Segments<P> {
         requires size { sum_by (λ (p : Stretch). p.len) spans.now ≡ length bytes.now }
         ensures written { OnOk result (self.new.table ≡ stored self.old.table (span_places false spans.now) bytes.now) }
         ensures same { OnErr result (self.new.table ≡ self.old.table) }
-        ensures cause { OnErr result (had_cause self.old.memory.swap self.new.memory.swap ≡ true) }
-        ensures quiet { All (IsResident self.old.memory) spans.now → IsOk result }
-        ensures moved { MatchResult result (λ t. Moves t.moved.items self.old.memory self.new.memory × (length t.moved.items ≤ 4)) (λ e. Moves e.moved.items self.old.memory self.new.memory × (length e.moved.items ≤ 4)) }
-        ensures sizes { sizes self.new.memory.swap ≡ sizes self.old.memory.swap }
+        ensures access { Accessed spans.now self.old.memory self.new.memory result }
         ensures runs { Runs self.old.memory self.new.memory }
     {
         self.store.write(spans, bytes)
+    }
+
+    /// Adds to the eight little-endian bytes of one or two spans, modulo 2^64; `old` is then the number that
+    /// stood there. Pages come in as for `read`, and on an error no byte has changed.
+    pub fn add(&mut self, spans: &[Span], more: u64, old: &mut u64) -> Result<Touched, PagerFailed>
+        requires few { length spans.now ≤ 2 }
+        requires fit { All (SpanFits self.old.table) spans.now }
+        requires frames { All (λ (p : Stretch). p.frame ≡ frame_of self.old.memory p.seg (page_of p)) spans.now }
+        requires size { sum_by (λ (p : Stretch). p.len) spans.now ≡ 8 }
+        ensures number { OnOk result (old.new ≡ number_at self.old.table (span_places false spans.now)) }
+        ensures written { OnOk result (self.new.table ≡ added self.old.table (span_places false spans.now) more) }
+        ensures same { OnErr result (self.new.table ≡ self.old.table) }
+        ensures access { Accessed spans.now self.old.memory self.new.memory result }
+        ensures runs { Runs self.old.memory self.new.memory }
+    {
+        self.store.add(spans, more, old)
     }
 
     /// Writes the first `n` dirty frames of segments that are not locked out to their slots.
@@ -99,18 +95,5 @@ impl<P: Pager> Segments<P> {
         ensures runs { Runs self.old.memory self.new.memory }
     {
         self.store.move_off(area)
-    }
-
-    /// The counts of the pages as they are, of the slots, and of what the pagers did.
-    pub fn tally(&self) -> PageTally
-        ensures resident { result.resident ≡ resident self.now.memory }
-        ensures dirty { result.dirty ≡ dirty self.now.memory }
-        ensures slots { result.slots ≡ slots self.now.memory.swap }
-        ensures used { result.used ≡ used self.now.memory }
-        ensures ins { result.ins ≡ self.now.memory.ins }
-        ensures outs { result.outs ≡ self.now.memory.outs }
-        ensures failures { result.failures ≡ min (total self.now.memory.swap) (2 ^ 64 - 1) }
-    {
-        self.store.tally()
     }
 }

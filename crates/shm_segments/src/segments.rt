@@ -7,11 +7,13 @@ ghost use Rattle.shm_base.specs.Segments.{locked as locked_pages};
 ghost use Rattle.shm_slots.specs.View.{slots, sizes, owner_of};
 ghost use Rattle.shm_fault.specs.Segs.{with_seg_lock};
 ghost use Rattle.shm_fault.specs.Store.{fresh_store, frame_of};
-ghost use Rattle.shm_segments.specs.View.{IsExact, Runs};
+ghost use Rattle.shm_segments.specs.View.{Runs};
+ghost use Rattle.shm_segments.specs.Lends.{lends_head};
+ghost use Rattle.std.specs.Borrow.{sem};
 ghost use Rattle.shm_segments.specs.Table.{IsFound, IsLive, look_of, refused_look, live, segment_in, made, destroyed, reowned, relocked};
 
 use crate::head::{Found, Head};
-use shm_base::{Errno, HostMemory, Perm, ShmId, pages_of};
+use shm_base::{Errno, HostMemory, ShmId, pages_of};
 use shm_fault::PageStore;
 use shm_ids::{IdTable, LookRefused};
 use shm_pager::Pager;
@@ -57,17 +59,6 @@ fn id_of(table: &IdTable<Head>, seg: u32) -> ShmId
     }
 }
 
-// The head of a live segment.
-fn head_of(table: &IdTable<Head>, seg: u32) -> Head
-    requires { is_some (live_row table.now seg) ≡ true }
-    ensures { look table.now (pos seg) ≡ Ok result }
-{
-    match table.look(id_of(table, seg)) {
-        Ok(head) => *head,
-        Err(_) => unreachable!(),
-    }
-}
-
 // The pages of a segment, if it is locked.
 fn pages_locked(head: &Head) -> u64
     ensures { result ≡ (if head.now.locked then flat.pages_of head.now.size else 0) }
@@ -94,24 +85,22 @@ fn found_under(table: &IdTable<Head>, id: ShmId) -> Found
     }
 }
 
-// Gives a live segment another head.
-fn replace(table: &mut IdTable<Head>, seg: u32, head: Head)
+// The head of a live segment, to be changed.
+fn head_mut(table: &mut IdTable<Head>, seg: u32) -> &mut Head
     requires { is_some (live_row table.old seg) ≡ true }
-    ensures { table.new ≡ with_value table.old (seg % 32768) head }
-{
-    match table.look_mut(id_of(table, seg)) {
-        Ok(old) => *old = head,
-        Err(_) => unreachable!(),
-    }
-}
-
-// Gives a live segment another head, and hides its key.
-fn replace_and_hide(table: &mut IdTable<Head>, seg: u32, head: Head)
-    requires { is_some (live_row table.old seg) ≡ true }
-    ensures { table.new ≡ with_key (with_value table.old (seg % 32768) head) (seg % 32768) 0 }
+    ensures* lends { sem 𝓛 (lends_head table.entry seg result) }
+    ensures value { look table.old (pos seg) ≡ Ok result.now }
 {
     let id = id_of(table, seg);
-    replace(table, seg, head);
+    table.value_of(id)
+}
+
+// Hides the key of a live segment.
+fn hide(table: &mut IdTable<Head>, seg: u32)
+    requires { is_some (live_row table.old seg) ≡ true }
+    ensures { table.new ≡ with_key table.old (seg % 32768) 0 }
+{
+    let id = id_of(table, seg);
     table.hide_key(id);
 }
 
@@ -155,13 +144,6 @@ impl<P: Pager> Segments<P> {
             reserved: 0,
             locked: 0,
         })
-    }
-
-    /// What is true of a table and its memory at every time.
-    pub fn is_exact(&self)
-        ensures { IsExact self.now.table self.now.memory }
-    {
-        let _ = &self.store;
     }
 
     /// The pages of all segments.
@@ -248,9 +230,11 @@ impl<P: Pager> Segments<P> {
         }
     }
 
-    /// Whether no index is free for another segment: each is held or worn out.
-    pub fn is_full(&self) -> bool
-        ensures { result ≡ is_none (flat_ids.free_index self.now.table) }
+    /// Whether no index is free for another segment: each is held or worn out. Where one is free the table
+    /// remembers it, and a creation looks no further.
+    pub fn is_full(&mut self) -> bool
+        ensures value { result ≡ is_none (flat_ids.free_index self.old.table) }
+        ensures same { self.new ≡ self.old }
     {
         self.table.next_id().is_none()
     }
@@ -306,13 +290,9 @@ impl<P: Pager> Segments<P> {
         requires { IsLive self.old.table seg }
         ensures { self.new ≡ record self.old { table = change self.old.table seg (attached time pid) } }
     {
-        let head = head_of(&self.table, seg);
-        let head = Head {
-            atime: time,
-            lpid: pid,
-            ..head
-        };
-        replace(&mut self.table, seg, head);
+        let head = head_mut(&mut self.table, seg);
+        head.atime = time;
+        head.lpid = pid;
     }
 
     /// Sets the time and the pid of a detach.
@@ -320,13 +300,9 @@ impl<P: Pager> Segments<P> {
         requires { IsLive self.old.table seg }
         ensures { self.new ≡ record self.old { table = change self.old.table seg (detached time pid) } }
     {
-        let head = head_of(&self.table, seg);
-        let head = Head {
-            dtime: time,
-            lpid: pid,
-            ..head
-        };
-        replace(&mut self.table, seg, head);
+        let head = head_mut(&mut self.table, seg);
+        head.dtime = time;
+        head.lpid = pid;
     }
 
     /// Gives the segment another owner and other permission bits, the low nine of a mode.
@@ -334,19 +310,11 @@ impl<P: Pager> Segments<P> {
         requires { IsLive self.old.table seg }
         ensures { self.new ≡ record self.old { table = change self.old.table seg (reowned time uid gid mode) } }
     {
-        let head = head_of(&self.table, seg);
-        let perm = Perm {
-            uid,
-            gid,
-            mode: mode % 512,
-            ..head.perm
-        };
-        let head = Head {
-            perm,
-            ctime: time,
-            ..head
-        };
-        replace(&mut self.table, seg, head);
+        let head = head_mut(&mut self.table, seg);
+        head.perm.uid = uid;
+        head.perm.gid = gid;
+        head.perm.mode = mode % 512;
+        head.ctime = time;
     }
 
     /// Marks the segment to be destroyed (SHM_DEST), and hides its key.
@@ -354,8 +322,8 @@ impl<P: Pager> Segments<P> {
         requires { IsLive self.old.table seg }
         ensures { self.new ≡ record self.old { table = change self.old.table seg marked } }
     {
-        let head = head_of(&self.table, seg);
-        replace_and_hide(&mut self.table, seg, Head { dest: true, ..head });
+        head_mut(&mut self.table, seg).dest = true;
+        hide(&mut self.table, seg);
     }
 
     /// Locks or unlocks the segment's pages (SHM_LOCKED).
@@ -367,10 +335,10 @@ impl<P: Pager> Segments<P> {
         ensures only { self.new.memory ≡ record self.old.memory { segs = map (with_seg_lock seg locked) self.old.memory.segs } }
         ensures still { (s page : ℕ) → frame_of self.new.memory s page ≡ frame_of self.old.memory s page }
     {
-        let old = head_of(&self.table, seg);
-        let head = Head { locked, ..old };
-        self.locked = self.locked - pages_locked(&old) + pages_locked(&head);
-        replace(&mut self.table, seg, head);
+        let head = head_mut(&mut self.table, seg);
+        let unlocked = self.locked - pages_locked(head);
+        head.locked = locked;
+        self.locked = unlocked + pages_locked(head);
         self.store.set_locked(seg, locked);
     }
 }

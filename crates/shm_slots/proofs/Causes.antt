@@ -5,10 +5,11 @@ use Rattle.std.proofs.lemmas.Bool.Decides.{eqb_tells}
 use Rattle.std.proofs.lemmas.List.Sums.{sum_by-cons}
 use Rattle.std.proofs.lemmas.Grind.{common_steps}
 use Rattle.shm_pager.specs.Pages.{last_count}
-use Rattle.shm_slots.specs.View.{AreaView, SwapView, no_area, rise, is_spent, NoneSpent}
+use Rattle.shm_slots.specs.View.{AreaView, SwapView, no_area, rise, is_spent_here, NoneSpent}
 use Rattle.shm_slots.specs.Cause.{some_spent, total, had_cause, GoesOn}
 
-rises-le : (xs ys : List AreaView) → length ys ≡ length xs
+-- counts that never fell, area by area
+pub rises-le : (xs ys : List AreaView) → length ys ≡ length xs
     → ((k : ℕ) → (get_or ys k no_area).start ≡ (get_or xs k no_area).start)
     → ((k : ℕ) → (get_or xs k no_area).failed ≤ (get_or ys k no_area).failed)
     → sum_by rise xs ≤ sum_by rise ys
@@ -25,7 +26,7 @@ pub total-le : (s t : SwapView) → GoesOn s t → total s ≤ total t
 unfolding total
 total-le s t goes = rises-le s.areas t.areas goes.areas goes.starts goes.counts
 
-none_spent : (xs : List AreaView) → ((k : ℕ) → k < length xs → (get_or xs k no_area).failed < last_count) → list_any is_spent xs ≡ false
+none_spent : (xs : List AreaView) → ((k : ℕ) → k < length xs → (get_or xs k no_area).failed < last_count) → list_any is_spent_here xs ≡ false
 none_spent [] below = refl
 none_spent (x ∷ xs) below = elim (eqb_tells x.failed last_count) [
   | inl w ↦ absurd (omega (arith, below 0, w.1))

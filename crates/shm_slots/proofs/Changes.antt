@@ -4,12 +4,12 @@ use Rattle.std.specs.List.{list_any}
 use Rattle.std.proofs.lemmas.List.{set_past, get_or_default, map-set}
 use Rattle.std.proofs.lemmas.List.Folds.{list_any_at}
 use Rattle.std.proofs.lemmas.List.Sums.{sum_by-set, sum-map}
-use Rattle.std.proofs.lemmas.Bool.{cases_eq, cases_lt, eq-eqb}
+use Rattle.std.proofs.lemmas.Bool.{cases_Bool, cases_eq, cases_lt, eq-eqb, false≢true}
 use Rattle.std.proofs.lemmas.Grind.{common_steps}
 use Rattle.std.proofs.lemmas.Bool.Decides.{eqb_tells}
 use Rattle.shm_base.specs.declared.paging.PageRef.{PageRef}
 use Rattle.shm_pager.specs.Pages.{last_count}
-use Rattle.shm_slots.specs.View.{AreaView, SwapView, area_at, no_area, rise, is_spent, size_of, sizes, with_owner, off, CountedFault, IsArea, IsSwap, SameSlots}
+use Rattle.shm_slots.specs.View.{AreaView, SwapView, area_at, no_area, rise, is_spent, is_spent_here, size_of, sizes, with_owner, off, HasSlot, CountedFault, IsArea, IsSwap, SameSlots}
 use Rattle.shm_slots.specs.Cause.{some_spent, total, had_cause, GoesOn, IsSteady}
 
 -- the areas with one of them changed
@@ -24,6 +24,13 @@ unspent_area : (a : AreaView) → IsArea a → not (is_spent a) ≡ true → a.f
 unspent_area a area flag = elim (eqb_tells a.failed last_count) [
   | inl w ↦ absurd (let h = ap not w.0 in search rules)
   | inr w ↦ omega (arith, area.countable, w.1)
+]
+
+-- an area that has a slot is there
+pub slot-here : (a : AreaView) → IsArea a → (slot : ℕ) → slot < length a.pages → a.here ≡ true
+slot-here a area slot lt = elim (cases_Bool a.here) [
+  | inl here ↦ here
+  | inr gone ↦ absurd (let none : length a.pages ≡ 0 = ap length (area.gone gone) in omega (arith, none, lt))
 ]
 
 -- one more area
@@ -87,11 +94,12 @@ module _ (s : SwapView) (i : ℕ) (was a : AreaView) (found : was ≡ get_or s.a
   areas_changed : IsSwap s → IsArea a → (flag : Bool) (k : ℕ) → IsArea (area_at (changed s i a flag) k)
   areas_changed swap area flag k = each_changed (λ b c. IsArea b → IsArea c) flag k (λ b h. h) (λ _. area) (swap.each k)
 
-  GoesOn-changed : (flag : Bool) → a.start ≡ was.start → was.failed ≤ a.failed → (flag ≡ true → s.never_spent ≡ true) → GoesOn s (changed s i a flag)
-  GoesOn-changed flag start counts falls = record {
+  GoesOn-changed : (flag : Bool) → a.start ≡ was.start → was.failed ≤ a.failed → (a.here ≡ true → was.here ≡ true) → (flag ≡ true → s.never_spent ≡ true) → GoesOn s (changed s i a flag)
+  GoesOn-changed flag start counts here falls = record {
     areas = length-set s.areas i a;
     starts = λ k. each_changed (λ b c. c.start ≡ b.start) flag k (λ b. refl) start;
     counts = λ k. each_changed (λ b c. b.failed ≤ c.failed) flag k (λ b. omega arith) counts;
+    here = λ k. each_changed (λ b c. c.here ≡ true → b.here ≡ true) flag k (λ b h. h) here;
     flag = falls;
   }
 
@@ -112,8 +120,8 @@ module _ (s : SwapView) (i : ℕ) (was a : AreaView) (found : was ≡ get_or s.a
         each_changed (λ b c. b.failed < last_count → c.failed < last_count) s.never_spent k (λ b h. h) (λ h. rw same h) (swap.unspent flag k within);
   }
 
-  GoesOn-kept : a.start ≡ was.start → a.failed ≡ was.failed → GoesOn s (changed s i a s.never_spent)
-  GoesOn-kept start failed = GoesOn-changed s.never_spent start (omega (arith, failed)) (λ flag. flag)
+  GoesOn-kept : a.start ≡ was.start → a.failed ≡ was.failed → (a.here ≡ true → was.here ≡ true) → GoesOn s (changed s i a s.never_spent)
+  GoesOn-kept start failed here = GoesOn-changed s.never_spent start (omega (arith, failed)) here (λ flag. flag)
 
   total-kept : a.start ≡ was.start → a.failed ≡ was.failed → (flag : Bool) → total (changed s i a flag) ≡ total s
   unfolding total
@@ -132,7 +140,7 @@ module _ (s : SwapView) (i : ℕ) (was a : AreaView) (found : was ≡ get_or s.a
         let failed = ap (λ (b : AreaView). b.failed) is in
         let owners = ap (λ (b : AreaView). length b.owners) is ∙ length-set was.owners slot owner in
         record {
-          goes_on = GoesOn-kept start failed;
+          goes_on = GoesOn-kept start failed (λ h. sym (ap (λ (b : AreaView). b.here) is) ∙ h);
           failures = total-kept start failed s.never_spent;
           same_sizes = sizes-changed swap area (ap (λ (b : AreaView). b.here) is) owners;
         }
@@ -152,23 +160,29 @@ module _ (s : SwapView) (i : ℕ) (was a : AreaView) (found : was ≡ get_or s.a
     start_asked : a.start ≡ was.start
     start_asked = ap (λ (b : AreaView). b.start) is
 
+    here_asked : a.here ≡ was.here
+    here_asked = ap (λ (b : AreaView). b.here) is
+
     pub GoesOn-asked : was.failed ≤ a.failed → GoesOn s (changed s i a (s.never_spent && not (is_spent a)))
-    GoesOn-asked counts = GoesOn-changed (s.never_spent && not (is_spent a)) start_asked counts (λ flag. (both_true s.never_spent (not (is_spent a)) flag).0)
+    GoesOn-asked counts = GoesOn-changed (s.never_spent && not (is_spent a)) start_asked counts (λ h. sym here_asked ∙ h) (λ flag. (both_true s.never_spent (not (is_spent a)) flag).0)
 
     pub sizes-asked : IsSwap s → IsArea a → map size_of (set s.areas i a) ≡ sizes s
-    sizes-asked swap area = sizes-changed swap area (ap (λ (b : AreaView). b.here) is) (ap (λ (b : AreaView). length b.owners) is)
+    sizes-asked swap area = sizes-changed swap area here_asked (ap (λ (b : AreaView). length b.owners) is)
 
     -- a fault of the area is a cause
-    pub had_cause-asked : (flag : Bool) → i < length s.areas → IsSwap s → CountedFault was a → had_cause s (changed s i a flag) ≡ true
+    pub had_cause-asked : (flag : Bool) (slot : ℕ) → HasSlot s i slot → IsSwap s → CountedFault was a → had_cause s (changed s i a flag) ≡ true
     unfolding total some_spent
-    had_cause-asked flag within swap (inl counted) =
+    had_cause-asked flag slot there swap (inl counted) =
+        let within = there.0 in
         let same = at_i within in
         let more : sum_by rise s.areas < sum_by rise (set s.areas i a) = omega (arith, sum_by-set rise s.areas i a no_area within, (swap.each i).begun, start_asked, counted, ap (λ (b : AreaView). b.start) same, ap (λ (b : AreaView). b.failed) same) in
         grind (arith, common_steps, more)
-    had_cause-asked flag within swap (inr spent) =
+    had_cause-asked flag slot there swap (inr spent) =
+        let within = there.0 in
         let same = at_i within in
         let last : (area_at s i).failed ≡ last_count = sym (ap (λ (b : AreaView). b.failed) same) ∙ spent.0 in
-        let some : list_any is_spent s.areas ≡ true = list_any_at is_spent s.areas i no_area within (eq-eqb (area_at s i).failed last_count last) in
+        let spent_here : is_spent_here (area_at s i) ≡ true = rw (eq-eqb (area_at s i).failed last_count last) (slot-here (area_at s i) (swap.each i) slot there.1) in
+        let some : list_any is_spent_here s.areas ≡ true = list_any_at is_spent_here s.areas i no_area within spent_here in
         grind (arith, common_steps, some)
 
   -- the count alone changed: the slots stayed
@@ -185,7 +199,7 @@ module _ (s : SwapView) (i : ℕ) (was a : AreaView) (found : was ≡ get_or s.a
     IsSwap-off swap area = IsSwap-kept swap area (ap (λ (b : AreaView). b.failed) is)
 
     pub GoesOn-off : GoesOn s (changed s i a s.never_spent)
-    GoesOn-off = GoesOn-kept (ap (λ (b : AreaView). b.start) is) (ap (λ (b : AreaView). b.failed) is)
+    GoesOn-off = GoesOn-kept (ap (λ (b : AreaView). b.start) is) (ap (λ (b : AreaView). b.failed) is) (λ h. absurd (false≢true (sym (ap (λ (b : AreaView). b.here) is) ∙ h)))
 
     pub total-off : (flag : Bool) → total (changed s i a flag) ≡ total s
     total-off flag = total-kept (ap (λ (b : AreaView). b.start) is) (ap (λ (b : AreaView). b.failed) is) flag

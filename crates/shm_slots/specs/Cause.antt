@@ -1,25 +1,26 @@
 -- Failures: their sum, which never falls, and what may cause a refusal.
 use Rattle.std.specs.Prelude.{ℕ, ◌≡◌, ◌≤◌, Bool, true, ◌||◌, nat_lt, length, sum_by}
 use Rattle.std.specs.List.{list_any}
-use Rattle.shm_slots.specs.View.{SwapView, area_at, rise, is_spent, sizes}
+use Rattle.shm_slots.specs.View.{SwapView, area_at, rise, is_spent_here, sizes}
 
--- some area's count stands at its last value
+-- some area that is there has its count at its last value
 unfoldable pub some_spent : SwapView → Bool
-some_spent s = list_any is_spent s.areas
+some_spent s = list_any is_spent_here s.areas
 
 -- how much all counts have risen
 unfoldable pub total : SwapView → ℕ
 total s = sum_by rise s.areas
 
--- a refusal has a cause: a count rose in the call, or one stood at its last value before
+-- a refusal has a cause: a count rose in the call, or that of an area that is there stood at its last value before
 abbrev pub had_cause : SwapView → SwapView → Bool
 had_cause before after = nat_lt (total before) (total after) || some_spent before
 
--- counts never fall, and an area that was spent once is never forgotten
+-- counts never fall, an area that is gone stays gone, and one that was spent once is never forgotten
 pub record GoesOn (before after : SwapView) : Type 0 where
   pub areas : length after.areas ≡ length before.areas
   pub starts : (area : ℕ) → (area_at after area).start ≡ (area_at before area).start
   pub counts : (area : ℕ) → (area_at before area).failed ≤ (area_at after area).failed
+  pub here : (area : ℕ) → (area_at after area).here ≡ true → (area_at before area).here ≡ true
   pub flag : after.never_spent ≡ true → before.never_spent ≡ true
 
 -- no area comes or goes, and no size and no count changes

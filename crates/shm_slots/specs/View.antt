@@ -41,6 +41,10 @@ rise a = a.failed - a.start
 abbrev pub is_spent : AreaView → Bool
 is_spent a = a.failed == last_count
 
+-- the area is there, and its count stands at its last value
+abbrev pub is_spent_here : AreaView → Bool
+is_spent_here a = is_spent a && a.here
+
 -- one more failure, or none since the area was spent; then nothing changed
 abbrev pub CountedFault : AreaView → AreaView → Type 0
 CountedFault before after = (after.failed ≡ before.failed + 1) ⊎ ((before.failed ≡ last_count) × (after ≡ before))

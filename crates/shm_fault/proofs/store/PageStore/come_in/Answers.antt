@@ -1,12 +1,14 @@
-use Rattle.std.proofs.Common.{◌≡◌, List, [], ◌∷◌, ◌++◌, Option, Some, None, refl, ap}
+use Rattle.std.proofs.Common.{◌≡◌, ◌∙◌, ◌+◌, arith, is_some, [], ◌∷◌, ◌++◌, Option, Some, None, refl, ap}
 use Rattle.std.specs.Prelude.{MatchOption}
 use Rattle.shm_base.specs.declared.paging.PageRef.{PageRef}
 use Rattle.shm_base.specs.declared.paging.Slot.{Slot}
 use Rattle.shm_slots.specs.View.{HasSlot}
 use Rattle.shm_fault.specs.declared.touched.Move.TheVariants.{Came}
-use Rattle.shm_fault.specs.Segs.{SegRec, rec_by, HasPage}
+use Rattle.shm_fault.specs.Segs.{rec_by, HasPage}
 use Rattle.shm_fault.specs.Store.{StoreView}
 use Rattle.shm_fault.proofs.Visits.{Visits-trans, moves-came, moves-still, moves-trans}
+use Rattle.shm_fault.specs.Counting.{one_if}
+use Rattle.shm_fault.proofs.Counting.{byte-one, counts-more}
 use Rattle.shm_fault.proofs.store.PageStore.come_in.Goals as goal
 
 slot_there : (s : StoreView) (r : PageRef) → ((k : Slot) → (rec_by s.segs r).slot ≡ Some k → HasSlot s.swap k.area k.slot) → (o : Option Slot) → (rec_by s.segs r).slot ≡ o → MatchOption o (Unit {0}) (λ k. HasSlot s.swap k.area k.slot)
@@ -23,7 +25,7 @@ load-requires-clause-slot g c =
     rw (c.page-place.ensures, ← c.self.view_is) (slot_there s c.args.page (λ k e. (tied.slot_owned k e).0) (rec_by s.segs c.args.page).slot refl)
 
 pub settle-requires-clause-has : goal.settle-requires-clause-has
-settle-requires-clause-has g c = rw c.load.ensures.segs c.requires.has
+settle-requires-clause-has g c = rw (ap (λ (v : StoreView). v.segs) c.load.ensures.rest) c.requires.has
 
 pub returns-in-Ok-clause-visits : goal.returns-in-Ok-clause-visits
 returns-in-Ok-clause-visits g c = λ pinned.
@@ -32,7 +34,7 @@ returns-in-Ok-clause-visits g c = λ pinned.
 pub returns-in-Ok-clause-moves : goal.returns-in-Ok-clause-moves
 returns-in-Ok-clause-moves g c =
     let ms = c.args.touched.now.moved.items in
-    let still = λ (r : PageRef). ap (λ (gs : List SegRec). (rec_by gs r).frame) c.load.ensures.segs in
+    let still = λ (r : PageRef). ap (λ (v : StoreView). (rec_by v.segs r).frame) c.load.ensures.rest in
     rw c.push.ensures.items
     (moves-trans ms ms (ms ++ Came c.args.page c.args.frame ∷ []) c.args.self.now c.load.new.self c.settle.new.self
     (moves-still ms c.args.self.now c.load.new.self still)
@@ -43,4 +45,10 @@ returns-in-Err-clause-visits g c = λ pinned. c.load.ensures.visits c.args.page 
 
 pub returns-in-Err-clause-moves : goal.returns-in-Err-clause-moves
 returns-in-Err-clause-moves g c =
-    moves-still c.args.touched.now.moved.items c.args.self.now c.load.new.self (λ (r : PageRef). ap (λ (gs : List SegRec). (rec_by gs r).frame) c.load.ensures.segs)
+    moves-still c.args.touched.now.moved.items c.args.self.now c.load.new.self (λ (r : PageRef). ap (λ (v : StoreView). (rec_by v.segs r).frame) c.load.ensures.rest)
+
+pub returns-in-Ok-clause-counts : goal.returns-in-Ok-clause-counts
+returns-in-Ok-clause-counts g c =
+    counts-more c.args.touched.now _ c.args.self.now c.settle.new.self (one_if (is_some c.page-place.result.slot)) 0
+    (ap (λ n. c.args.touched.now.ins + n) (c.from.ensures ∙ byte-one _ ∙ ap one_if c.is_some.ensures)) (ap (λ (v : StoreView). v.ins) c.settle.ensures.rest ∙ c.in-Ok.ensures.ins)
+    (omega arith) (ap (λ (v : StoreView). v.outs) c.settle.ensures.rest ∙ ap (λ (v : StoreView). v.outs) c.load.ensures.rest)

@@ -30,7 +30,7 @@ loop-page-preserved g c =
     let same = count-same c.args.self.now.segs c.loop-page.self.segs c.args.seg c.loop-page.invariant.shape in
     let has : c.loop-page.page < count_by_id c.loop-page.self.segs c.args.seg = omega (arith, same, count, c.loop-page-test.true) in
     let e = c.forget.ensures in
-    dropped-more c.args.seg c.loop-page.page c.args.self.now c.loop-page.self c.forget.new.self c.loop-page.invariant has e.segs e.held e.frames e.slots e.size e.steady e.nowhere
+    dropped-more c.args.seg c.loop-page.page c.args.self.now c.loop-page.self c.forget.new.self c.loop-page.invariant has e.segs e.held e.frames e.slots e.size e.steady e.rest e.nowhere
 
 pub invariant_of-self : goal.invariant_of-self
 invariant_of-self g c =

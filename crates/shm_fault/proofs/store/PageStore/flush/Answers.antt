@@ -27,7 +27,7 @@ loop-frame-preserved g c =
           let lt : c.loop-frame.report.written + c.loop-frame.report.failed < c.args.n = w.if-report-n.true in
           let may : may_flush t i ≡ true = sym w.is_flushable.ensures ∙ w.if-is_flushable.true in
           let e = w.flush_frame.ensures in
-          rw (w.self-is, w.report-is) (flushed-more c.args.n s i t c.loop-frame.report.written c.loop-frame.report.failed d w.flush_frame.new.self w.flush_frame.new.report.written w.flush_frame.new.report.failed lt may there e.frames e.goes e.still e.sound e.sum e.failed e.counted)
+          rw (w.self-is, w.report-is) (flushed-more c.args.n s i t c.loop-frame.report.written c.loop-frame.report.failed d w.flush_frame.new.self w.flush_frame.new.report.written w.flush_frame.new.report.failed lt may there e.frames e.goes e.still e.sound e.sum e.failed e.counted e.written_out e.rest)
       | else-report-n w ↦ rw (w.self-is, w.report-is) (elim w.else-report-n.branch [
         | else-report-n-via-then-report-n+else-is_flushable v ↦
             flushed-not c.args.n s i t c.loop-frame.report.written c.loop-frame.report.failed d (sym v.is_flushable.ensures ∙ v.if-is_flushable.false)

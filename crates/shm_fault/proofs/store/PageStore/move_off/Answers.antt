@@ -23,7 +23,7 @@ clear_slot-requires-clause-room g c =
 pub loop-slot-preserved : goal.loop-slot-preserved
 loop-slot-preserved g c =
     let e = c.clear_slot.ensures in
-    cleaned-more c.args.area c.loop-slot.slot c.args.self.now c.loop-slot.self c.clear_slot.new.self c.loop-slot.invariant e.sound e.goes e.still c.in-Ok.ensures.cleared
+    cleaned-more c.args.area c.loop-slot.slot c.args.self.now c.loop-slot.self c.clear_slot.new.self c.loop-slot.invariant e.sound e.goes e.still e.rest c.in-Ok.ensures.cleared
 
 pub returns-in-Err-clause-cause : goal.returns-in-Err-clause-cause
 returns-in-Err-clause-cause g c =

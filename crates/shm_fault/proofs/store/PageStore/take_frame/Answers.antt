@@ -1,5 +1,8 @@
 use Rattle.shm_fault.specs.Store.{StoreView}
 use Rattle.shm_fault.proofs.Visits.{moves-gone, moves-still}
+use Rattle.std.proofs.Common.{ap, ◌+◌, ◌∙◌, arith}
+use Rattle.shm_fault.specs.Counting.{one_if}
+use Rattle.shm_fault.proofs.Counting.{byte-one, counts-more}
 use Rattle.shm_fault.proofs.store.PageStore.take_frame.Goals as goal
 
 pub returns-in-Ok-clause-visits : goal.returns-in-Ok-clause-visits
@@ -19,3 +22,10 @@ returns-in-Err-clause-moves g c =
     let i = c.self.inside in
     let s : StoreView = record { segs = i.segs; frames = i.frames; hand = i.hand; swap = i.swap; ins = i.ins; outs = i.outs } in
     rw (← c.self.view_is) (moves-still c.args.touched.now.moved.items s c.evict.new.self c.in-Err.ensures.err)
+
+pub returns-in-Ok-clause-counts : goal.returns-in-Ok-clause-counts
+returns-in-Ok-clause-counts g c =
+    let i = c.self.inside in
+    let s : StoreView = record { segs = i.segs; frames = i.frames; hand = i.hand; swap = i.swap; ins = i.ins; outs = i.outs } in
+    rw (← c.self.view_is)
+    (counts-more c.args.touched.now _ s c.evict.new.self 0 (one_if c.in-Ok.evicted.written) (omega arith) c.evict.ensures.ins (ap (λ n. c.args.touched.now.outs + n) (c.from.ensures ∙ byte-one _)) c.in-Ok.ensures.outs)

@@ -1,13 +1,13 @@
-use Rattle.std.proofs.Common.{ap}
-use Rattle.shm_base.specs.declared.paging.PageRef.{PageRef}
-use Rattle.shm_fault.specs.Segs.{rec_by}
-use Rattle.shm_fault.specs.Store.{StoreView}
-use Rattle.shm_fault.proofs.Visits.{moves-still}
+use Rattle.std.proofs.Common.{sym, ◌∙◌}
+use Rattle.shm_fault.proofs.Bringing.{err_of}
+use Rattle.shm_fault.proofs.Visiting.{visited-touched, visited-fault}
 use Rattle.shm_fault.proofs.store.PageStore.visit.Goals as goal
 
-pub returns-in-Some-clause-visits : goal.returns-in-Some-clause-visits
-returns-in-Some-clause-visits g c = c.touch.ensures.visits c.args.pinned
+pub returns-in-Some-clause-visited : goal.returns-in-Some-clause-visited
+returns-in-Some-clause-visited g c =
+    rw c.in-Some.is (visited-touched c.args.page c.args.pinned c.in-Some.frame c.args.self.now c.touch.new.self c.args.touched.now (sym c.in-Some.is ∙ c.requires.known) (c.touch.ensures.visits c.args.pinned) c.touch.ensures.rest)
 
-pub returns-in-Some-clause-moves : goal.returns-in-Some-clause-moves
-returns-in-Some-clause-moves g c =
-    moves-still c.args.touched.now.moved.items c.args.self.now c.touch.new.self (λ (r : PageRef). ap (λ (v : StoreView). (rec_by v.segs r).frame) c.touch.ensures.rest)
+pub returns-in-None-clause-visited : goal.returns-in-None-clause-visited
+returns-in-None-clause-visited g c =
+    let e = c.fault.ensures in
+    rw c.in-None.is (visited-fault c.args.page c.args.pinned c.args.self.now c.fault.new.self c.args.touched.now c.fault.new.touched _ (sym c.requires.known ∙ c.in-None.is) e.visits e.moves e.few e.ins e.outs e.counts e.hand (err_of c.fault.result _ e.cause))

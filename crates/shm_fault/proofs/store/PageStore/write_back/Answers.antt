@@ -141,4 +141,4 @@ returns-in-Err-clause-counted g c =
     let some : IsSome (frame_at s.frames c.args.frame).owner = rw (← c.self.view_is) at c.requires.owned in
     let slot : (r : PageRef) → (frame_at s.frames c.args.frame).owner ≡ Some r → (rec_by s.segs r).slot ≡ Some c.args.slot = rw (← c.self.view_is) at c.requires.slot in
     let there = has s c.args.frame c.args.slot c.self.invariant some slot in
-    λ unspent. rw (← c.self.view_is) (total-fault s.swap c.write_slot.new.self c.args.slot there.0 (c.self.invariant.swap.each c.args.slot.area).begun c.write_slot.ensures.others c.in-Err.ensures.err unspent)
+    λ unspent. rw (← c.self.view_is) (total-fault s.swap c.write_slot.new.self c.args.slot c.self.invariant.swap there c.write_slot.ensures.others c.in-Err.ensures.err unspent)

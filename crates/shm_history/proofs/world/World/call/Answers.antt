@@ -15,4 +15,4 @@ invariant_of-self-2 g c =
     let counted : c.call.new.self.calls ≡ length old + 1 = c.in_ok-reply.ensures.counted ∙ ap (λ (n : ℕ). n + 1) c.self.invariant.0 in
     let moved : IsMove c.self.inside.system.machine (length old + 1) e c.call.new.self.machine = rw c.self.invariant.0 at c.in_ok-reply.ensures.move_of in
     rw (items, c.call.ensures.opening)
-    (counted ∙ sym (length-append old (e ∷ [])), history_more c.self.inside.system.opening old e _ _ c.self.invariant.1 moved, counted_more old e c.self.inside.system.memory.swap c.call.new.self.memory.swap c.call.ensures.keeps.goes_on c.is_exact.ensures.sound.swap.unspent c.in_ok-reply.ensures.cause c.self.invariant.2)
+    (counted ∙ sym (length-append old (e ∷ [])), history_more c.self.inside.system.opening old e _ _ c.self.invariant.1 moved, counted_more old e c.self.inside.system.memory.swap c.call.new.self.memory.swap c.call.ensures.keeps.goes_on c.store.ensures.exact.sound.swap.unspent c.in_ok-reply.ensures.cause c.self.invariant.2)

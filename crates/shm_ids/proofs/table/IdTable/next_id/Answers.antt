@@ -37,3 +37,8 @@ returns-clause-value g c =
     let signed : to_z w32 (of_z w32 c.id_of.result) ≡ c.id_of.result = search rules in
     let id : c.id_of.result ≡ id_at t c.in-Some.index = rw (← c.sequence_at.ensures) c.id_of.ensures in
     rw (← c.self.view_is, found, signed, id) refl
+
+pub invariant_of-self : goal.invariant_of-self
+invariant_of-self g c =
+    let f = fresh _ _ c.in-Some.index _ c.self.invariant.0 (sym c.free_from.ensures ∙ c.in-Some.is) in
+    (record { fits = c.self.invariant.0.fits; used = f.used; keyed = c.self.invariant.0.keyed }, c.self.invariant.1)

@@ -26,7 +26,7 @@ invariant_of-self g c =
       kept = rw (c.note.ensures.runners, c.read-read.ensures.table) c.self.invariant.kept;
       frames = c.read-read.ensures.runs.frames ∙ c.self.invariant.frames;
       room = c.self.invariant.room;
-      translated = c.note.ensures.translated c.self.inside.segments.memory c.read-read.new.self.memory c.self.invariant.translated c.read-read.ensures.moved;
+      translated = c.note.ensures.translated c.self.inside.segments.memory c.read-read.new.self.memory c.self.invariant.translated c.read-read.ensures.access.moved;
     }
 
 pub invariant_of-self-2 : goal.invariant_of-self-2
@@ -35,7 +35,7 @@ invariant_of-self-2 g c =
       kept = rw (c.note.ensures.runners, c.read-read.ensures.table) c.self.invariant.kept;
       frames = c.read-read.ensures.runs.frames ∙ c.self.invariant.frames;
       room = c.self.invariant.room;
-      translated = c.note.ensures.translated c.self.inside.segments.memory c.read-read.new.self.memory c.self.invariant.translated c.read-read.ensures.moved;
+      translated = c.note.ensures.translated c.self.inside.segments.memory c.read-read.new.self.memory c.self.invariant.translated c.read-read.ensures.access.moved;
     }
 
 pub returns-clause-step : goal.returns-clause-step
@@ -49,4 +49,4 @@ returns-clause-step g c = λ _.
     let want : wanted_in false (pieces_at rs caller.index) c.args.addr c.args.len ≡ Some (span_places false c.in-Ok.spans) = rw own at places in
     let out = done_fact c.read-read.result _ (sym c.note.ensures.done ∙ c.if-not-note.false) c.read-read.ensures.bytes in
     let bytes : c.in-Some.chunk ≡ loaded c.self.inside.segments.table (span_places false c.in-Ok.spans) = c.in-Some.ensures.value ∙ rw c.as_slice.ensures.value at out in
-    rw (← c.self.view_is, c.note.ensures.runners, c.read-read.ensures.table, c.read-read.ensures.sizes) (load-wanted m (pieces_at rs caller.index) c.args.addr c.args.len (span_places false c.in-Ok.spans) want ∙ ap (λ bs. gives m (Bytes bs)) (sym bytes))
+    rw (← c.self.view_is, c.note.ensures.runners, c.read-read.ensures.table, c.read-read.ensures.access.same_sizes) (load-wanted m (pieces_at rs caller.index) c.args.addr c.args.len (span_places false c.in-Ok.spans) want ∙ ap (λ bs. gives m (Bytes bs)) (sym bytes))

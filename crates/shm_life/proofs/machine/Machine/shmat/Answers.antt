@@ -117,7 +117,7 @@ invariant_of-self-2 g c =
     let sweeps : Sweeps (replaced rs caller (Live caller.cred) after) v c.sweep.new.segments.table = rw (table, runners) at c.sweep.ensures.sweeps in
     let none : OrphansAmong [] (replaced rs caller (Live caller.cred) after) c.sweep.new.segments.table = rw runners at c.sweep.ensures.none in
     let runs : Runs c.self.inside.segments.memory c.sweep.new.segments.memory = rw (c.attached.ensures, c.note_detached.ensures) at c.sweep.ensures.runs in
-    let attached_true : AreTrue c.attach.new.self.translations c.self.inside.segments.memory = rw c.store-store.ensures at (c.attach.ensures.translated (rw c.store-store.ensures c.self.invariant.translated)) in
+    let attached_true : AreTrue c.attach.new.self.translations c.self.inside.segments.memory = rw c.store-store.ensures.value at (c.attach.ensures.translated (rw c.store-store.ensures.value c.self.invariant.translated)) in
     record {
       kept = rw runners (going-kept limits t v rs caller (Live caller.cred) after k is same c.sweep.new.segments.table (placed-fits t c.args.flags p ps fits_there fits) sweeps none);
       frames = runs.frames ∙ c.self.invariant.frames;

@@ -27,7 +27,7 @@ invariant_of-self g c =
       kept = rw (c.note.ensures.runners, same) c.self.invariant.kept;
       frames = c.write-written.ensures.runs.frames ∙ c.self.invariant.frames;
       room = c.self.invariant.room;
-      translated = c.note.ensures.translated c.self.inside.segments.memory c.write-written.new.self.memory c.self.invariant.translated c.write-written.ensures.moved;
+      translated = c.note.ensures.translated c.self.inside.segments.memory c.write-written.new.self.memory c.self.invariant.translated c.write-written.ensures.access.moved;
     }
 
 pub invariant_of-self-2 : goal.invariant_of-self-2
@@ -39,7 +39,7 @@ invariant_of-self-2 g c =
       kept = rw (c.note.ensures.runners, written) (settled-table c.self.inside.limits t new c.self.inside.spaces.runners c.self.invariant.kept (stored-same (span_places false c.as_slice.result.now) c.as_slice-bytes.result.now t));
       frames = c.write-written.ensures.runs.frames ∙ c.self.invariant.frames;
       room = c.self.invariant.room;
-      translated = c.note.ensures.translated c.self.inside.segments.memory c.write-written.new.self.memory c.self.invariant.translated c.write-written.ensures.moved;
+      translated = c.note.ensures.translated c.self.inside.segments.memory c.write-written.new.self.memory c.self.invariant.translated c.write-written.ensures.access.moved;
     }
 
 pub returns-clause-step : goal.returns-clause-step
@@ -53,4 +53,4 @@ returns-clause-step g c = λ _.
     let want : wanted_in true (pieces_at rs caller.index) c.args.addr (length c.as_slice-bytes.result.now) ≡ Some (span_places false c.in-Ok.spans) = rw own at places in
     let step = store-wanted m (pieces_at rs caller.index) c.args.addr c.as_slice-bytes.result.now (span_places false c.in-Ok.spans) want in
     let written = done_fact c.write-written.result _ (sym c.note.ensures.done ∙ c.if-not-note.false) c.write-written.ensures.written in
-    rw (← c.self.view_is, ← c.as_slice-bytes.ensures.value) (step ∙ rw (c.note.ensures.runners, written, c.write-written.ensures.sizes, c.as_slice.ensures.value) refl)
+    rw (← c.self.view_is, ← c.as_slice-bytes.ensures.value) (step ∙ rw (c.note.ensures.runners, written, c.write-written.ensures.access.same_sizes, c.as_slice.ensures.value) refl)

@@ -14,8 +14,9 @@ returns-then-capacity-reserved-clause-step g c = λ _.
     let rs = c.self.inside.spaces.runners in
     let swap = c.self.inside.segments.memory.swap in
     let m : Machine = record { limits = c.self.inside.limits; areas = sizes swap; table = c.self.inside.segments.table; runners = rs } in
-    let size : size_of (area_at swap c.args.area) ≡ Some c.in-Some.size = sym c.area_size.ensures ∙ c.in-Some.is in
-    let few : slots (sizes swap) < reserved m.table + c.in-Some.size = omega (arith, c.if-capacity-reserved.true, c.from.ensures, c.reserved.ensures, c.capacity.ensures) in
+    let size : size_of (area_at swap c.args.area) ≡ Some c.in-Some.size = rw c.store-store.ensures.value at (sym c.area_size.ensures ∙ c.in-Some.is) in
+    let capacity : c.capacity.result ≡ slots (sizes swap) = rw c.store-store.ensures.value at c.capacity.ensures in
+    let few : slots (sizes swap) < reserved m.table + c.in-Some.size = omega (arith, c.if-capacity-reserved.true, c.from.ensures, c.reserved.ensures, capacity) in
     rw (← c.self.view_is) (off-few m (seen c.args.caller.now rs) c.args.area c.in-Some.size c.if-caller-ne0.false (is_there swap c.args.area c.in-Some.size size) few)
 
 pub returns-then-is_err-clause-failed : goal.returns-then-is_err-clause-failed
@@ -23,8 +24,9 @@ returns-then-is_err-clause-failed g c = λ _.
     let rs = c.self.inside.spaces.runners in
     let swap = c.self.inside.segments.memory.swap in
     let m : Machine = record { limits = c.self.inside.limits; areas = sizes swap; table = c.self.inside.segments.table; runners = rs } in
-    let size : size_of (area_at swap c.args.area) ≡ Some c.in-Some.size = sym c.area_size.ensures ∙ c.in-Some.is in
-    let room : reserved m.table + c.in-Some.size ≤ slots (sizes swap) = omega (arith, c.if-capacity-reserved.false, c.from.ensures, c.reserved.ensures, c.capacity.ensures) in
+    let size : size_of (area_at swap c.args.area) ≡ Some c.in-Some.size = rw c.store-store.ensures.value at (sym c.area_size.ensures ∙ c.in-Some.is) in
+    let capacity : c.capacity.result ≡ slots (sizes swap) = rw c.store-store.ensures.value at c.capacity.ensures in
+    let room : reserved m.table + c.in-Some.size ≤ slots (sizes swap) = omega (arith, c.if-capacity-reserved.false, c.from.ensures, c.reserved.ensures, capacity) in
     let done = off-done m (seen c.args.caller.now rs) c.args.area c.in-Some.size c.if-caller-ne0.false (is_there swap c.args.area c.in-Some.size size) room in
     let failed = sym c.is_err.ensures.value ∙ c.if-is_err.true in
     let e = c.move_off.ensures in
@@ -41,8 +43,9 @@ returns-clause-step g c = λ _.
     let rs = c.self.inside.spaces.runners in
     let swap = c.self.inside.segments.memory.swap in
     let m : Machine = record { limits = c.self.inside.limits; areas = sizes swap; table = c.self.inside.segments.table; runners = rs } in
-    let size : size_of (area_at swap c.args.area) ≡ Some c.in-Some.size = sym c.area_size.ensures ∙ c.in-Some.is in
-    let room : reserved m.table + c.in-Some.size ≤ slots (sizes swap) = omega (arith, c.if-capacity-reserved.false, c.from.ensures, c.reserved.ensures, c.capacity.ensures) in
+    let size : size_of (area_at swap c.args.area) ≡ Some c.in-Some.size = rw c.store-store.ensures.value at (sym c.area_size.ensures ∙ c.in-Some.is) in
+    let capacity : c.capacity.result ≡ slots (sizes swap) = rw c.store-store.ensures.value at c.capacity.ensures in
+    let room : reserved m.table + c.in-Some.size ≤ slots (sizes swap) = omega (arith, c.if-capacity-reserved.false, c.from.ensures, c.reserved.ensures, capacity) in
     let done = off-done m (seen c.args.caller.now rs) c.args.area c.in-Some.size c.if-caller-ne0.false (is_there swap c.args.area c.in-Some.size size) room in
     let e = c.move_off.ensures in
     let gone = ok_fact c.move_off.result _ (sym c.is_err.ensures.value ∙ c.if-is_err.false) e.gone in

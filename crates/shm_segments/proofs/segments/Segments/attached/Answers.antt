@@ -7,19 +7,19 @@ use Rattle.shm_fault.specs.Store.{held}
 use Rattle.shm_segments.proofs.Remembered.{view_of}
 use Rattle.shm_segments.proofs.segments.Segments.attached.Goals as goal
 
-pub head_of-head-requires : goal.head_of-head-requires
-head_of-head-requires g c = is_live-row (held c.self.inside.store) c.self.inside.table c.args.seg (rw (← c.self.view_is) at c.requires)
+pub head_mut-head-requires : goal.head_mut-head-requires
+head_mut-head-requires g c = is_live-row (held c.self.inside.store) c.self.inside.table c.args.seg (rw (← c.self.view_is) at c.requires)
 
 pub invariant_of-self : goal.invariant_of-self
 invariant_of-self g c =
-    let v = c.head_of-head.result in
+    let v = c.head_mut-head.result.now in
     let w = record v { atime = c.args.time; lpid = c.args.pid } in
-    let k = kept-value (held c.self.inside.store) c.self.inside.table c.self.inside.reserved c.self.inside.locked c.args.seg v w (attached c.args.time c.args.pid) c.self.invariant.kept c.head_of-head.ensures refl refl (λ key bs. refl) in
-    record { kept = rw c.replace.ensures k.kept; sound = c.self.invariant.sound }
+    let k = kept-value (held c.self.inside.store) c.self.inside.table c.self.inside.reserved c.self.inside.locked c.args.seg v w (attached c.args.time c.args.pid) c.self.invariant.kept c.head_mut-head.ensures.value refl refl (λ key bs. refl) in
+    record { kept = k.kept; sound = c.self.invariant.sound }
 
 pub returns : goal.returns
 returns g c =
-    let v = c.head_of-head.result in
+    let v = c.head_mut-head.result.now in
     let w = record v { atime = c.args.time; lpid = c.args.pid } in
-    let k = kept-value (held c.self.inside.store) c.self.inside.table c.self.inside.reserved c.self.inside.locked c.args.seg v w (attached c.args.time c.args.pid) c.self.invariant.kept c.head_of-head.ensures refl refl (λ key bs. refl) in
-    rw (c.replace.ensures, ← c.self.view_is) (ap (λ (t : List FlatEntry). view_of t c.self.inside.store) k.is)
+    let k = kept-value (held c.self.inside.store) c.self.inside.table c.self.inside.reserved c.self.inside.locked c.args.seg v w (attached c.args.time c.args.pid) c.self.invariant.kept c.head_mut-head.ensures.value refl refl (λ key bs. refl) in
+    rw (← c.self.view_is) (ap (λ (t : List FlatEntry). view_of t c.self.inside.store) k.is)

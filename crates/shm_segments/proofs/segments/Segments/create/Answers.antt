@@ -31,10 +31,10 @@ add_segment-requires-clause-new g c =
     rw seg new
 
 pub put-requires-clause-absent : goal.put-requires-clause-absent
-put-requires-clause-absent g c = key-absent (held c.self.inside.store) c.self.inside.table c.args.key (rw (← c.self.view_is) at c.requires.absent)
+put-requires-clause-absent g c = rw c.next_id.ensures.same (key-absent (held c.self.inside.store) c.self.inside.table c.args.key (rw (← c.self.view_is) at c.requires.absent))
 
 pub put-requires-clause-free : goal.put-requires-clause-free
-put-requires-clause-free g c = free-some (held c.self.inside.store) c.self.inside.table (rw (← c.self.view_is) at c.requires.free)
+put-requires-clause-free g c = rw c.next_id.ensures.same (free-some (held c.self.inside.store) c.self.inside.table (rw (← c.self.view_is) at c.requires.free))
 
 pub drop_segment-requires : goal.drop_segment-requires
 drop_segment-requires g c =
@@ -56,7 +56,7 @@ invariant_of-self-in-Err g c =
     let zeros : held c.add_segment.new.self ≡ with_zeros (held c.self.inside.store) (id_of c.self.inside.table next.i) (pages_of c.args.head.size) = rw (seg, c.pages_of-pages.ensures.value) at c.in_ok-add_segment.ensures.held in
     let rest : c.add_segment.new.self ≡ record c.self.inside.store { segs = c.self.inside.store.segs ++ new_seg (id_of c.self.inside.table next.i) (pages_of c.args.head.size) ∷ [] } = rw (seg, c.pages_of-pages.ensures.value) at c.in_ok-add_segment.ensures.rest in
     let dropped : c.drop_segment.new.self ≡ c.self.inside.store = undone c.self.inside.store c.add_segment.new.self c.drop_segment.new.self (id_of c.self.inside.table next.i) (pages_of c.args.head.size) c.self.invariant.sound new rest (rw seg at c.drop_segment.ensures.blank) in
-    rw (dropped, c.in-Err.ensures.err) c.self.invariant
+    rw (dropped, c.in-Err.ensures.err, c.next_id.ensures.same) c.self.invariant
 
 pub returns-in-Err-clause-err : goal.returns-in-Err-clause-err
 returns-in-Err-clause-err g c =
@@ -68,7 +68,7 @@ returns-in-Err-clause-err g c =
     let zeros : held c.add_segment.new.self ≡ with_zeros (held c.self.inside.store) (id_of c.self.inside.table next.i) (pages_of c.args.head.size) = rw (seg, c.pages_of-pages.ensures.value) at c.in_ok-add_segment.ensures.held in
     let rest : c.add_segment.new.self ≡ record c.self.inside.store { segs = c.self.inside.store.segs ++ new_seg (id_of c.self.inside.table next.i) (pages_of c.args.head.size) ∷ [] } = rw (seg, c.pages_of-pages.ensures.value) at c.in_ok-add_segment.ensures.rest in
     let dropped : c.drop_segment.new.self ≡ c.self.inside.store = undone c.self.inside.store c.add_segment.new.self c.drop_segment.new.self (id_of c.self.inside.table next.i) (pages_of c.args.head.size) c.self.invariant.sound new rest (rw seg at c.drop_segment.ensures.blank) in
-    rw (dropped, c.in-Err.ensures.err) c.self.view_is
+    rw (dropped, c.in-Err.ensures.err, c.next_id.ensures.same) c.self.view_is
 
 pub overflow_add-self : goal.overflow_add-self
 overflow_add-self g c =
@@ -86,7 +86,7 @@ invariant_of-self-in-Ok g c =
     let free = index-free c.self.inside.table next.i c.self.invariant.kept.agree.few next.found in
     let new : is_held (held c.self.inside.store) (id_of c.self.inside.table next.i) ≡ false = free-new (held c.self.inside.store) c.self.inside.table next.i c.self.invariant.kept.agree free in
     let zeros : held c.add_segment.new.self ≡ with_zeros (held c.self.inside.store) (id_of c.self.inside.table next.i) (pages_of c.args.head.size) = rw (seg, c.pages_of-pages.ensures.value) at c.in_ok-add_segment.ensures.held in
-    let more : Some (with_row c.self.inside.table next.i c.args.key c.args.head) ≡ Some c.put.new.table = rw next.found at c.in-Ok.ensures.ok in
+    let more : Some (with_row c.self.inside.table next.i c.args.key c.args.head) ≡ Some c.put.new.table = rw (c.next_id.ensures.same, next.found) at c.in-Ok.ensures.ok in
     let put : c.put.new.table ≡ with_row c.self.inside.table next.i c.args.key c.args.head = sym (cc more) in
     let k = kept-made (held c.self.inside.store) c.self.inside.table c.self.inside.reserved c.self.inside.locked next.i c.args.key c.args.head c.self.invariant.kept next.found c.requires.loose c.requires.size in
     record { kept = rw (zeros, put, c.pages_of-pages.ensures.value) k.kept; sound = c.add_segment.ensures.sound }
@@ -99,7 +99,7 @@ returns-in-Ok-clause-ok g c =
     let free = index-free c.self.inside.table next.i c.self.invariant.kept.agree.few next.found in
     let new : is_held (held c.self.inside.store) (id_of c.self.inside.table next.i) ≡ false = free-new (held c.self.inside.store) c.self.inside.table next.i c.self.invariant.kept.agree free in
     let zeros : held c.add_segment.new.self ≡ with_zeros (held c.self.inside.store) (id_of c.self.inside.table next.i) (pages_of c.args.head.size) = rw (seg, c.pages_of-pages.ensures.value) at c.in_ok-add_segment.ensures.held in
-    let more : Some (with_row c.self.inside.table next.i c.args.key c.args.head) ≡ Some c.put.new.table = rw next.found at c.in-Ok.ensures.ok in
+    let more : Some (with_row c.self.inside.table next.i c.args.key c.args.head) ≡ Some c.put.new.table = rw (c.next_id.ensures.same, next.found) at c.in-Ok.ensures.ok in
     let put : c.put.new.table ≡ with_row c.self.inside.table next.i c.args.key c.args.head = sym (cc more) in
     let k = kept-made (held c.self.inside.store) c.self.inside.table c.self.inside.reserved c.self.inside.locked next.i c.args.key c.args.head c.self.invariant.kept next.found c.requires.loose c.requires.size in
     rw (← c.self.view_is, seg, zeros, put)

@@ -13,7 +13,7 @@ pub read-requires-clause-fit : goal.read-requires-clause-fit
 read-requires-clause-fit g c = spans-fit (held c.self.inside.store) c.self.inside.table c.args.spans.now c.self.invariant.kept.agree (rw (← c.self.view_is) at c.requires.fit)
 
 pub invariant_of-self : goal.invariant_of-self
-invariant_of-self g c = record { kept = rw c.read.ensures.held c.self.invariant.kept; sound = c.read.ensures.sound }
+invariant_of-self g c = record { kept = rw c.read.ensures.held c.self.invariant.kept; sound = c.read.ensures.access.sound }
 
 pub returns-clause-bytes : goal.returns-clause-bytes
 returns-clause-bytes g c =
@@ -25,22 +25,10 @@ returns-clause-bytes g c =
 pub returns-clause-table : goal.returns-clause-table
 returns-clause-table g c = rw c.read.ensures.held (ap (λ (v : SegmentsView). v.table) c.self.view_is)
 
-pub returns-clause-cause : goal.returns-clause-cause
-returns-clause-cause g c = rw (← c.self.view_is) c.read.ensures.cause
-
-pub returns-clause-quiet : goal.returns-clause-quiet
-returns-clause-quiet g c = λ here. (c.read.ensures.quiet (rw (← c.self.view_is) at here)).1
-
-pub returns-clause-resident : goal.returns-clause-resident
-returns-clause-resident g c = c.read.ensures.resident
-
-pub returns-clause-moved : goal.returns-clause-moved
-returns-clause-moved g c = rw (← c.self.view_is) c.read.ensures.moved
-
-pub returns-clause-sizes : goal.returns-clause-sizes
-returns-clause-sizes g c = rw (← c.self.view_is) c.read.ensures.sizes
+pub returns-clause-access : goal.returns-clause-access
+returns-clause-access g c = rw (← c.self.view_is) c.read.ensures.access
 
 pub returns-clause-runs : goal.returns-clause-runs
 returns-clause-runs g c =
-    let e = c.read.ensures in
-    rw (← c.self.view_is) (runs-same c.self.inside.store c.read.new.self e.held e.kept e.counts e.count)
+    let e = c.read.ensures.access in
+    rw (← c.self.view_is) (runs-same c.self.inside.store c.read.new.self c.read.ensures.held e.kept e.counts e.size)

@@ -2,11 +2,11 @@ use Rattle.std.proofs.Common.{false, sym, ap, ◌∙◌, inl, inr}
 use Rattle.shm_base.specs.Access.{stored}
 use Rattle.shm_base.specs.Spans.{span_places}
 use Rattle.shm_fault.specs.Store.{held}
-use Rattle.shm_fault.proofs.Failures.{OnOk-map, either_way}
+use Rattle.shm_fault.proofs.Failures.{OnOk-map, OnErr-map, either_way}
 use Rattle.shm_segments.specs.View.{SegmentsView}
 use Rattle.shm_segments.proofs.Spanning.{spans-fit}
 use Rattle.shm_segments.proofs.Shown.{store_shown}
-use Rattle.shm_segments.proofs.Remembered.{OnErr-map, kept-written, runs-written, runs-same}
+use Rattle.shm_segments.proofs.Remembered.{kept-written, runs-written, runs-same}
 use Rattle.shm_segments.proofs.segments.Segments.write.Goals as goal
 
 pub write-requires-clause-fit : goal.write-requires-clause-fit
@@ -17,8 +17,8 @@ invariant_of-self g c =
     let k = c.self.invariant.kept in
     let fit = spans-fit (held c.self.inside.store) c.self.inside.table c.args.spans.now k.agree (rw (← c.self.view_is) at c.requires.fit) in
     elim (either_way c.write.result _ _ c.write.ensures.written c.write.ensures.same) [
-      | inl e ↦ record { kept = rw e (kept-written (held c.self.inside.store) c.self.inside.table c.self.inside.reserved c.self.inside.locked c.args.spans.now c.args.bytes.now k fit); sound = c.write.ensures.sound }
-      | inr e ↦ record { kept = rw e k; sound = c.write.ensures.sound }
+      | inl e ↦ record { kept = rw e (kept-written (held c.self.inside.store) c.self.inside.table c.self.inside.reserved c.self.inside.locked c.args.spans.now c.args.bytes.now k fit); sound = c.write.ensures.access.sound }
+      | inr e ↦ record { kept = rw e k; sound = c.write.ensures.access.sound }
     ]
 
 pub returns-clause-written : goal.returns-clause-written
@@ -33,25 +33,16 @@ returns-clause-written g c =
 pub returns-clause-same : goal.returns-clause-same
 returns-clause-same g c = OnErr-map c.write.result _ _ c.write.ensures.same (λ e. rw e (ap (λ (v : SegmentsView). v.table) c.self.view_is))
 
-pub returns-clause-cause : goal.returns-clause-cause
-returns-clause-cause g c = rw (← c.self.view_is) c.write.ensures.cause
-
-pub returns-clause-quiet : goal.returns-clause-quiet
-returns-clause-quiet g c = λ here. (c.write.ensures.quiet (rw (← c.self.view_is) at here)).1
-
-pub returns-clause-moved : goal.returns-clause-moved
-returns-clause-moved g c = rw (← c.self.view_is) c.write.ensures.moved
-
-pub returns-clause-sizes : goal.returns-clause-sizes
-returns-clause-sizes g c = rw (← c.self.view_is) c.write.ensures.sizes
+pub returns-clause-access : goal.returns-clause-access
+returns-clause-access g c = rw (← c.self.view_is) c.write.ensures.access
 
 pub returns-clause-runs : goal.returns-clause-runs
 returns-clause-runs g c =
     let k = c.self.invariant.kept in
-    let n = c.write.ensures in
+    let n = c.write.ensures.access in
     let fit = spans-fit (held c.self.inside.store) c.self.inside.table c.args.spans.now k.agree (rw (← c.self.view_is) at c.requires.fit) in
     rw (← c.self.view_is)
-    (elim (either_way c.write.result _ _ n.written n.same) [
-      | inl e ↦ runs-written c.self.inside.store c.write.new.self c.self.inside.table c.args.spans.now c.args.bytes.now k.agree fit e n.kept n.counts n.count
-      | inr e ↦ runs-same c.self.inside.store c.write.new.self e n.kept n.counts n.count
+    (elim (either_way c.write.result _ _ c.write.ensures.written c.write.ensures.same) [
+      | inl e ↦ runs-written c.self.inside.store c.write.new.self c.self.inside.table c.args.spans.now c.args.bytes.now k.agree fit e n.kept n.counts n.size
+      | inr e ↦ runs-same c.self.inside.store c.write.new.self e n.kept n.counts n.size
     ])

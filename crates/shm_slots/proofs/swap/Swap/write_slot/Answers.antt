@@ -1,6 +1,5 @@
-use Rattle.std.proofs.Common.{◌<◌, length, ap, arith}
 use Rattle.std.proofs.lemmas.Result.{IfErr-weaker}
-use Rattle.shm_slots.specs.View.{SwapView}
+use Rattle.shm_slots.specs.View.{SwapView, HasSlot}
 use Rattle.shm_slots.proofs.Changes.{IsSwap-asked, GoesOn-asked, sizes-asked, had_cause-asked}
 use Rattle.shm_slots.proofs.swap.Swap.write_slot.Goals as goal
 
@@ -22,5 +21,6 @@ returns-clause-sizes g c =
 
 pub returns-clause-cause : goal.returns-clause-cause
 returns-clause-cause g c =
-    let within : c.args.slot.area < length c.self.inside.areas.items = omega (arith, c.requires.0, ap (λ (s : SwapView). length s.areas) c.self.view_is) in
-    rw (← c.self.view_is) (IfErr-weaker c.write-result.result _ _ (λ _ fault. had_cause-asked _ _ _ _ c.index_mut-area.ensures.value _ _ c.write-result.ensures.rest _ within c.self.invariant fault.2) c.write-result.ensures.err)
+    let s : SwapView = record { areas = c.self.inside.areas.items; never_spent = c.self.inside.never_spent } in
+    let there : HasSlot s c.args.slot.area c.args.slot.slot = rw (← c.self.view_is) at c.requires in
+    rw (← c.self.view_is) (IfErr-weaker c.write-result.result _ _ (λ _ fault. had_cause-asked _ _ _ _ c.index_mut-area.ensures.value _ _ c.write-result.ensures.rest _ _ there c.self.invariant fault.2) c.write-result.ensures.err)

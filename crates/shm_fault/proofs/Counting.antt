@@ -1,0 +1,37 @@
+-- What steps count, one after another.
+use mir.Val.{bool_byte}
+use Rattle.std.proofs.Common.{◌≡◌, ℕ, zero, suc, ◌+◌, Bool, true, false, refl, ap, ◌∙◌, arith}
+use Rattle.shm_fault.specs.declared.touched.Touched.{Touched}
+use Rattle.shm_fault.specs.Store.{StoreView}
+use Rattle.shm_fault.specs.Counting.{one_more, raised, one_if, AtRest, CountsOn}
+
+pub raised-trans : (n a b : ℕ) → raised (raised n a) b ≡ raised n (a + b)
+raised-trans n zero b = let e : 0 + b ≡ b = omega arith in rw e refl
+raised-trans n (suc a) b = let e : suc a + b ≡ suc (a + b) = omega arith in rw e (raised-trans (one_more n) a b)
+
+-- a bit that is counted
+pub byte-one : (b : Bool) → bool_byte b ≡ one_if b
+byte-one true = refl
+byte-one false = refl
+
+-- a step that counted so many reads and so many writes
+pub counts-more : (u v : Touched) (s t : StoreView) (a b : ℕ) → v.ins ≡ u.ins + a → t.ins ≡ raised s.ins a → v.outs ≡ u.outs + b → t.outs ≡ raised s.outs b → CountsOn u v s t
+counts-more u v s t a b ins read_in outs written_out = record {
+  ins = λ n e. read_in ∙ ap (λ m. raised m a) e ∙ raised-trans n u.ins a ∙ ap (raised n) (sym-of ins);
+  outs = λ n e. written_out ∙ ap (λ m. raised m b) e ∙ raised-trans n u.outs b ∙ ap (raised n) (sym-of outs);
+}
+  where
+    sym-of : {x y : ℕ} → x ≡ y → y ≡ x
+    sym-of e = omega (arith, e)
+
+pub counts-still : (u : Touched) (s t : StoreView) → t.ins ≡ s.ins → t.outs ≡ s.outs → CountsOn u u s t
+counts-still u s t ins outs = record { ins = λ n e. ins ∙ e; outs = λ n e. outs ∙ e }
+
+pub counts-trans : (u v w : Touched) (s t z : StoreView) → CountsOn u v s t → CountsOn v w t z → CountsOn u w s z
+counts-trans u v w s t z a b = record { ins = λ n e. b.ins n (a.ins n e); outs = λ n e. b.outs n (a.outs n e) }
+
+pub AtRest-refl : (s : StoreView) → AtRest s s
+AtRest-refl s = record { hand = refl; ins = refl; outs = refl }
+
+pub AtRest-trans : (s t u : StoreView) → AtRest s t → AtRest t u → AtRest s u
+AtRest-trans s t u a b = record { hand = b.hand ∙ a.hand; ins = b.ins ∙ a.ins; outs = b.outs ∙ a.outs }

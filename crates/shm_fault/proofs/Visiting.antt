@@ -1,0 +1,45 @@
+-- Visits to pages, resident or not.
+use Rattle.std.proofs.Common.{◌≡◌, ℕ, ◌≤◌, ◌+◌, ◌&&◌, Bool, true, false, length, Option, Some, None, is_some, refl, sym, ap, arith}
+use Rattle.std.proofs.lemmas.Bool.{false≢true}
+use Rattle.shm_base.specs.declared.paging.PageRef.{PageRef}
+use Rattle.shm_slots.specs.Cause.{had_cause}
+use Rattle.shm_fault.specs.declared.touched.Touched.{Touched}
+use Rattle.shm_fault.specs.Segs.{rec_by}
+use Rattle.shm_fault.specs.Store.{StoreView, is_swapped}
+use Rattle.shm_fault.specs.Goes.{Visits, MovesOn, frame_by}
+use Rattle.shm_fault.specs.Counting.{one_if, CountsOn, hand_for_frame}
+use Rattle.shm_fault.specs.Access.{Visited}
+use Rattle.shm_fault.proofs.Counting.{counts-still}
+use Rattle.shm_fault.proofs.Visits.{moves-still}
+
+-- a resident page's frame was touched
+pub visited-touched : (r : PageRef) (pinned : Option ℕ) (f : ℕ) (s t : StoreView) (u : Touched) → Some f ≡ frame_by s r → Visits r pinned s t → t ≡ record s { frames = t.frames } → Visited r pinned (Some f) s t u u true
+visited-touched r pinned f s t u known visits rest =
+    let segs = ap (λ (v : StoreView). v.segs) rest in
+    record {
+      visits = visits;
+      moves = moves-still u.moved.items s t (λ q. rw segs refl);
+      few = omega arith;
+      ins = let none : is_swapped (rec_by s.segs r) ≡ false = rw (← known) refl in rw none (omega arith);
+      outs = omega arith;
+      counts = counts-still u s t (ap (λ (v : StoreView). v.ins) rest) (ap (λ (v : StoreView). v.outs) rest);
+      hand = ap (λ (v : StoreView). v.hand) rest;
+      quiet = λ e. (refl, refl, segs, ap (λ (v : StoreView). v.swap) rest);
+      cause = λ e. absurd (false≢true (sym e));
+    }
+
+-- a page that was not resident was brought in, or was not
+pub visited-fault : (r : PageRef) (pinned : Option ℕ) (s t : StoreView) (u v : Touched) (ok : Bool) → frame_by s r ≡ None → Visits r pinned s t → MovesOn u.moved.items v.moved.items s t → length v.moved.items ≤ length u.moved.items + 2
+    → v.ins ≡ u.ins + one_if (ok && is_some (rec_by s.segs r).slot) → v.outs ≤ u.outs + 1 → CountsOn u v s t → t.hand ≡ hand_for_frame s pinned → (ok ≡ false → had_cause s.swap t.swap ≡ true)
+    → Visited r pinned None s t u v ok
+visited-fault r pinned s t u v ok away visits moves few ins outs counts hand cause = record {
+  visits = visits;
+  moves = moves;
+  few = few;
+  ins = let same : is_swapped (rec_by s.segs r) ≡ is_some (rec_by s.segs r).slot = rw away refl in rw same ins;
+  outs = outs;
+  counts = counts;
+  hand = hand;
+  quiet = λ known. cc;
+  cause = cause;
+}
