@@ -8,3 +8,7 @@ pub mod Fates
 pub mod Removing
 pub mod Naming
 pub mod Piecing
+pub mod Inducting
+pub mod Handing
+pub mod Accessing
+pub mod Granting

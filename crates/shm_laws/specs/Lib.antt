@@ -3,4 +3,5 @@ pub mod Standing
 pub mod Removal
 pub mod Identity
 pub mod Pieces
+pub mod Leave
 pub mod Worked

@@ -1,12 +1,12 @@
 -- Worked histories, in which the laws say something. They are computed.
-use Rattle.std.specs.Prelude.{◌≡◌, ℕ, ◌+◌, pos, Bool, true, false, List, [], ◌∷◌, take, Some, option_map, slice_get}
-use Rattle.shm_base.specs.declared.errno.Errno.TheVariants.{Eidrm, Sigbus}
-use Rattle.shm_base.specs.declared.call.Call.TheVariants.{Rmid, Load, Store, Exec}
+use Rattle.std.specs.Prelude.{◌≡◌, ℕ, ◌+◌, pos, Bool, true, false, List, [], ◌∷◌, take, Option, Some, option_map, slice_get}
+use Rattle.shm_base.specs.declared.errno.Errno.TheVariants.{Eperm, Eacces, Eidrm, Sigbus, Sigsegv}
+use Rattle.shm_base.specs.declared.call.Call.TheVariants.{Set, Rmid, Load, Store, Fork, Exec}
 use Rattle.shm_base.specs.declared.call.Reply.TheVariants.{Addr, Bytes, Done, Refused}
 use Rattle.shm_base.specs.declared.call.Event.{Event}
-use Rattle.shm_base.specs.State.{Segment, Entry, Machine, Opening, start_of}
+use Rattle.shm_base.specs.State.{Segment, Entry, Piece, Runner, Machine, Opening, start_of}
 use Rattle.shm_base.specs.History.{IsHistory}
-use Rattle.shm_base.specs.Rows.{Answers, does, id, mode, shmget, shmat, stat, process}
+use Rattle.shm_base.specs.Rows.{Answers, does, id, mode, rdonly, shmget, shmat, stat, process, child}
 use Rattle.shm_base.specs.Identifier.{Look, Found, Removed, Invalid, look}
 use Rattle.shm_base.specs.Segments.{attach_count}
 use Rattle.shm_base.specs.Step.{step}
@@ -62,13 +62,16 @@ two_go =
     ∷ does 1 (shmget 0 4096 (mode 6 0 0) 0) (id 32768)
     ∷ []
 
--- where a history leads
+-- where so many of its events lead
 abbrev pub ends_from : ℕ → Machine → List Event → Machine
 ends_from n s [] = s
 ends_from n s (e ∷ es) = ends_from (n + 1) (step s n e.pid e.call).state es
 
+abbrev pub after : Opening → List Event → ℕ → Machine
+after o events n = ends_from 1 (start_of o) (take n events)
+
 abbrev pub after_two_go : ℕ → Machine
-after_two_go n = ends_from 1 (start_of opening) (take n two_go)
+after_two_go n = after opening two_go n
 
 -- it is legal; segment 0 is marked and has a piece before the exec, and is gone after it; segment 1 goes with its rmid;
 -- and what segment 0 was named by names none when its index is used again
@@ -86,3 +89,39 @@ PiecesWorked =
     (is_found (look (after_two_go 7).table (pos 0)) ≡ true)
     × (attach_count (after_two_go 7).runners 1 ≡ 0)
     × (attach_count (after_two_go 8).runners 0 ≡ 0)
+
+-- LEAVE: another user may read, its process attaches for reading and has a child; the segment's owner then takes leave back,
+-- which counts at the next shmat alone
+
+abbrev pub three : Opening
+three = record opening { processes = process 1 100 100 ∷ process 2 200 200 ∷ child 3 ∷ [] }
+
+abbrev pub others_read : List Event
+others_read =
+    does 1 (shmget 0 4096 (mode 6 0 4) 0) (id 0)
+    ∷ does 2 (shmat 0 0 0) (Refused Eacces)
+    ∷ does 2 (shmat 0 0 rdonly) (Addr 0x40000000)
+    ∷ does 2 (Fork 3) Done
+    ∷ does 3 (Store 0x40000000 (7 ∷ [])) (Refused Sigsegv)
+    ∷ does 3 (Rmid (pos 0)) (Refused Eperm)
+    ∷ does 1 (Set (pos 0) 100 100 (mode 6 0 0)) Done
+    ∷ does 3 (Load 0x40000000 1) (Bytes (0 ∷ []))
+    ∷ does 3 (shmat 0 0 rdonly) (Refused Eacces)
+    ∷ []
+
+abbrev pub pieces_now : Opening → List Event → ℕ → ℕ → Option (List Piece)
+pieces_now o events n k = option_map (λ (r : Runner). r.pieces) (slice_get (after o events n).runners k)
+
+abbrev pub read_only : Piece
+read_only = record { base = 0x40000000; seg = 0; first_page = 0; pages = 1; writable = false }
+
+-- it is legal; nobody has a piece before the shmat that was granted; the child has the piece of its parent, as read-only
+-- as that, and to the end
+abbrev pub LeaveWorked : Type 0
+LeaveWorked =
+    IsLegal three others_read
+    × (pieces_now three others_read 2 1 ≡ Some [])
+    × (pieces_now three others_read 3 1 ≡ Some (read_only ∷ []))
+    × (pieces_now three others_read 3 2 ≡ Some [])
+    × (pieces_now three others_read 4 2 ≡ Some (read_only ∷ []))
+    × (pieces_now three others_read 9 2 ≡ Some (read_only ∷ []))

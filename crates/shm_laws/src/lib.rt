@@ -2,12 +2,14 @@
 #![tactic(auto)]
 
 mod identity;
+mod leave;
 mod pieces;
 mod removal;
 mod replay;
 mod worked;
 
 pub use identity::named_once;
+pub use leave::kept_out;
 pub use pieces::pieces_stand;
 pub use removal::removed_in_time;
 pub use replay::replayed;

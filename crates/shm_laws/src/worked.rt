@@ -5,4 +5,5 @@ fn worked_histories()
     ensures replay { worked.ReplayWorked }
     ensures removal { worked.RemovalWorked }
     ensures pieces { worked.PiecesWorked }
+    ensures leave { worked.LeaveWorked }
 {}

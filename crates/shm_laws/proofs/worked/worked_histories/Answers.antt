@@ -1,5 +1,5 @@
 use Rattle.std.proofs.Common.{refl}
-use Rattle.shm_laws.specs.Worked.{opening, a_store_fails, two_go}
+use Rattle.shm_laws.specs.Worked.{opening, a_store_fails, two_go, three, others_read}
 use Rattle.shm_laws.proofs.Computing.{legal}
 use Rattle.shm_laws.proofs.worked.worked_histories.Goals as goal
 
@@ -9,4 +9,5 @@ returns c =
       replay = (legal opening a_store_fails (refl, (refl, (refl, (refl, (refl, refl))))), refl);
       removal = (legal opening two_go (refl, (refl, (refl, (refl, (refl, (refl, (refl, (refl, (refl, (refl, refl)))))))))), refl, refl, refl, refl, refl, refl);
       pieces = (refl, refl, refl);
+      leave = (legal three others_read (refl, (refl, (refl, (refl, (refl, (refl, (refl, (refl, (refl, refl))))))))), refl, refl, refl, refl, refl);
     }
