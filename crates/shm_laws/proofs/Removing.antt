@@ -7,12 +7,13 @@ use Rattle.shm_base.specs.declared.call.Event.{Event}
 use Rattle.shm_base.specs.State.{Segment, Runner, Machine, Opening, start_of, runner_at_start}
 use Rattle.shm_base.specs.Identifier.{identifier, look}
 use Rattle.shm_base.specs.Segments.{attach_count}
-use Rattle.shm_base.specs.History.{IsMove, LeadsFrom, IsHistory}
+use Rattle.shm_base.specs.History.{IsHistory}
 use Rattle.shm_segments.specs.Left.{orphan_in}
 use Rattle.shm_life.proofs.Sweeping.{left-parts}
-use Rattle.shm_laws.specs.Standing.{Stands, IsGone, MovesBy}
+use Rattle.shm_laws.specs.Standing.{Stands, IsGone}
 use Rattle.shm_laws.specs.Identity.{IsSame}
 use Rattle.shm_laws.specs.Removal.{MarkedHavePieces, IsDue, DestroysWhatIsDue, GoesWhenItMust}
+use Rattle.shm_laws.proofs.Inducting.{Keeps, each_move}
 use Rattle.shm_laws.proofs.Looks.{stands-at, at-stands, at-gone, not-both}
 use Rattle.shm_laws.proofs.Stepping.{Bare, Kind, removed}
 use Rattle.shm_laws.proofs.Fates.{IsSound, names, Stays, stays, sound-after, kind-move, removed-call}
@@ -125,7 +126,7 @@ module _ (s t : Machine) (e : Event) (sound : IsSound s) (k : Kind s (removed e.
 
 -- WHOLE HISTORIES
 
-one_move : (s : Machine) (n : ℕ) (e : Event) (t : Machine) → IsSound s → IsMove s n e t → IsSound t × DestroysWhatIsDue s e t
+one_move : Keeps IsSound DestroysWhatIsDue
 one_move s n e t sound m =
     let k = kind-move s n e t sound.bare m in
     let next = sound-after s t (removed e.call e.reply) k sound in (
@@ -137,15 +138,8 @@ one_move s n e t sound m =
       },
     )
 
-all_moves : (n : ℕ) (s : Machine) (es : List Event) (t : Machine) → IsSound s → LeadsFrom n s es t → IsSound t × MovesBy DestroysWhatIsDue n s es t
-all_moves n s [] t sound h = (subst IsSound (sym h) sound, h)
-all_moves n s (e ∷ es) t sound h =
-    let one = one_move s n e h.0 sound h.1 in
-    let more = all_moves (n + 1) h.0 es t one.0 h.2 in
-    (more.0, (h.0, h.1, one.1, more.1))
-
 -- of every legal history
 pub goes_when_it_must : (o : Opening) (events : List Event) (end : Machine) → IsHistory o events end → GoesWhenItMust o events end
 goes_when_it_must o events end h =
-    let all = all_moves 1 (start_of o) events end (sound-start o) h in
+    let all = each_move IsSound DestroysWhatIsDue one_move 1 (start_of o) events end (sound-start o) h in
     record { moves = all.1; marked = marked-pieces end all.0 }

@@ -10,7 +10,7 @@ use shm_pager::Pager;
 /// none; and a new segment gets an identifier that was never issued.
 pub fn named_once<P: Pager>(world: &World<P>) -> &[Event]
     ensures events { result.now ≡ world.now.events }
-    ensures law { NamesOneSegment world.now.opening world.now.events world.now.machine }
+    ensures law { NamesOneSegment world.now.opening result.now world.now.machine }
 {
     world.history()
 }

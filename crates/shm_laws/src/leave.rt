@@ -10,7 +10,7 @@ use shm_pager::Pager;
 /// each access stays inside the pieces of its process, and set, rmid, lock and unlock are done for owners alone.
 pub fn kept_out<P: Pager>(world: &World<P>) -> &[Event]
     ensures events { result.now ≡ world.now.events }
-    ensures law { NoWayIn world.now.opening world.now.events world.now.machine }
+    ensures law { NoWayIn world.now.opening result.now world.now.machine }
 {
     world.history()
 }

@@ -10,7 +10,7 @@ use shm_pager::Pager;
 /// has a piece of stands at all times.
 pub fn pieces_stand<P: Pager>(world: &World<P>) -> &[Event]
     ensures events { result.now ≡ world.now.events }
-    ensures law { PiecesAreOfSegments world.now.opening world.now.events world.now.machine }
+    ensures law { PiecesAreOfSegments world.now.opening result.now world.now.machine }
 {
     world.history()
 }

@@ -10,7 +10,7 @@ use shm_pager::Pager;
 /// takes its last piece while it is marked, and by no other; what is marked and stands has a piece at all times.
 pub fn removed_in_time<P: Pager>(world: &World<P>) -> &[Event]
     ensures events { result.now ≡ world.now.events }
-    ensures law { GoesWhenItMust world.now.opening world.now.events world.now.machine }
+    ensures law { GoesWhenItMust world.now.opening result.now world.now.machine }
 {
     world.history()
 }

@@ -10,7 +10,7 @@ use shm_pager::Pager;
 /// failed: these did nothing, and the others' replies and the end are as if they had asked for no byte.
 pub fn replayed<P: Pager>(world: &World<P>) -> &[Event]
     ensures events { result.now ≡ world.now.events }
-    ensures law { IsReplayed world.now.opening world.now.events world.now.machine }
+    ensures law { IsReplayed world.now.opening result.now world.now.machine }
 {
     world.history()
 }
