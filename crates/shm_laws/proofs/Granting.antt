@@ -11,9 +11,7 @@ use Rattle.shm_base.specs.declared.owner.Perm.{Perm}
 use Rattle.shm_base.specs.declared.call.Process.{Process}
 use Rattle.shm_base.specs.declared.call.Call.{Call}
 use Rattle.shm_base.specs.declared.call.Call.TheVariants.{Shmget, Shmat, Shmdt, Stat, Set, Rmid, Lock, Unlock, Load, Store, Xadd, Fork, Exec, Exit, Swapoff}
-use Rattle.shm_base.specs.declared.call.Reply.{Reply}
-use Rattle.shm_base.specs.declared.call.Reply.TheVariants.{Id, Addr, Bytes, Number, Done, Refused}
-use Rattle.shm_base.specs.declared.call.Reply.TheVariants as replies
+use Rattle.shm_base.specs.declared.call.Reply.TheVariants.{Done}
 use Rattle.shm_base.specs.declared.call.Event.{Event}
 use Rattle.shm_base.specs.declared.errno.Errno.TheVariants.{Eperm}
 use Rattle.shm_base.specs.Access.{Place, covers, end_of, place_by, places, writable_places}
@@ -22,7 +20,7 @@ use Rattle.shm_base.specs.State.{Segment, Piece, Live, Runner, Machine, Opening,
 use Rattle.shm_base.specs.Identifier.{Look, Found, Removed, Invalid, look}
 use Rattle.shm_base.specs.Space.{meets, part_below, part_above, parts, cut, inserted}
 use Rattle.shm_base.specs.Step.{Caller, Outcome, caller_of, acts, step_by, pieces_with, is_rdonly, refuses, controls, sets, removes, locks, unlocks, load, store, xadd}
-use Rattle.shm_base.specs.History.{is_refusal, is_failure, IsMove, IsHistory}
+use Rattle.shm_base.specs.History.{is_refusal, IsMove, IsHistory}
 use Rattle.shm_life.proofs.Pieces.{all-cons, all-head, all-tail, all-slice_set}
 use Rattle.shm_laws.specs.Standing.{Stands, Has, EachPiece}
 use Rattle.shm_laws.specs.Leave.{IsPart, IsGranted, IsInherited, GoesBack, Granted, Kept, Inherited, Reach, reach, StaysInside, controlled, IsOwner, OwnerAsks, KeepsOut, NoWayIn}
@@ -30,6 +28,7 @@ use Rattle.shm_laws.proofs.Accessing.{lies-in, place-of, writable-at, writable-p
 use Rattle.shm_laws.proofs.Handing.{CallerAt, caller-at, IsAligned, Attaches, Leaves, Forks, Hands, pick_by, hands-acts}
 use Rattle.shm_laws.proofs.Inducting.{each_move, at_all_times}
 use Rattle.shm_laws.proofs.Looks.{entry-found}
+use Rattle.shm_laws.proofs.Refusing.{failure-refusal}
 
 -- PARTS
 
@@ -245,34 +244,6 @@ goes_on o before s e t h now m =
     back pid p (inr (inr k)) = Granted before s e pid p h k
 
 -- WHO IS KEPT OUT
-
--- what names a failure is a refusal
-by_reply : (f : Reply → Bool) → ((n : ℤ) → f (Id n) ≡ false) → ((a : ℕ) → f (Addr a) ≡ false) → ((bs : List ℕ) → f (Bytes bs) ≡ false) → ((m : ℕ) → f (Number m) ≡ false)
-    → ((d : _) → f (replies.Stat d) ≡ false) → f Done ≡ false → (r : Reply) → f r ≡ true → is_refusal r ≡ true
-by_reply f id addr bytes number shown done (Id n) h = absurd (true≢false (sym h ∙ id n))
-by_reply f id addr bytes number shown done (Addr a) h = absurd (true≢false (sym h ∙ addr a))
-by_reply f id addr bytes number shown done (Bytes bs) h = absurd (true≢false (sym h ∙ bytes bs))
-by_reply f id addr bytes number shown done (Number m) h = absurd (true≢false (sym h ∙ number m))
-by_reply f id addr bytes number shown done (replies.Stat d) h = absurd (true≢false (sym h ∙ shown d))
-by_reply f id addr bytes number shown done Done h = absurd (true≢false (sym h ∙ done))
-by_reply f id addr bytes number shown done (Refused e) h = refl
-
-pub failure-refusal : (call : Call) (r : Reply) → is_failure call r ≡ true → is_refusal r ≡ true
-failure-refusal (Load a n) r h = by_reply (is_failure (Load a n)) (λ _. refl) (λ _. refl) (λ _. refl) (λ _. refl) (λ _. refl) refl r h
-failure-refusal (Store a bs) r h = by_reply (is_failure (Store a bs)) (λ _. refl) (λ _. refl) (λ _. refl) (λ _. refl) (λ _. refl) refl r h
-failure-refusal (Xadd a add) r h = by_reply (is_failure (Xadd a add)) (λ _. refl) (λ _. refl) (λ _. refl) (λ _. refl) (λ _. refl) refl r h
-failure-refusal (Swapoff area) r h = by_reply (is_failure (Swapoff area)) (λ _. refl) (λ _. refl) (λ _. refl) (λ _. refl) (λ _. refl) refl r h
-failure-refusal (Shmget key size mode flags) r h = absurd (true≢false (sym h))
-failure-refusal (Shmat id addr flags) r h = absurd (true≢false (sym h))
-failure-refusal (Shmdt addr) r h = absurd (true≢false (sym h))
-failure-refusal (Stat id) r h = absurd (true≢false (sym h))
-failure-refusal (Set id uid gid mode) r h = absurd (true≢false (sym h))
-failure-refusal (Rmid id) r h = absurd (true≢false (sym h))
-failure-refusal (Lock id) r h = absurd (true≢false (sym h))
-failure-refusal (Unlock id) r h = absurd (true≢false (sym h))
-failure-refusal (Fork child) r h = absurd (true≢false (sym h))
-failure-refusal Exec r h = absurd (true≢false (sym h))
-failure-refusal Exit r h = absurd (true≢false (sym h))
 
 module _ (s : Machine) (n pid : ℕ) (c : Caller) (live : caller_of s pid ≡ Some c) where
   abbrev At : Reach → Type 0

@@ -12,3 +12,5 @@ pub mod Inducting
 pub mod Handing
 pub mod Accessing
 pub mod Granting
+pub mod Refusing
+pub mod Putting

@@ -1,7 +1,8 @@
 -- An identifier names one segment.
-use Rattle.std.proofs.Common.{◌≡◌, ◌⊎◌, ℕ, ◌+◌, ◌/◌, ◌%◌, ◌<◌, ◌==◌, ◌&&◌, pos, List, [], ◌∷◌, Option, Some, None, slice_get, refl, sym, ap, subst, ◌∙◌, inl, inr, arith}
+use Rattle.std.proofs.Common.{◌≡◌, ◌⊎◌, ℕ, ◌+◌, ◌/◌, ◌%◌, ◌<◌, ◌==◌, ◌&&◌, pos, List, [], ◌∷◌, replicate, Option, Some, None, slice_get, refl, sym, ap, subst, ◌∙◌, inl, inr, arith}
 use Rattle.std.proofs.lemmas.Bool.{cases_Bool}
 use Rattle.std.proofs.lemmas.Option.{none-some}
+use Rattle.shm_base.specs.declared.call.Reply.TheVariants.{Id}
 use Rattle.shm_base.specs.declared.call.Event.{Event}
 use Rattle.shm_base.specs.State.{Segment, Entry, Runner, Machine, Opening, start_of}
 use Rattle.shm_base.specs.Identifier.{Invalid, identifier, destroyed_in, look}
@@ -10,15 +11,32 @@ use Rattle.shm_base.specs.History.{IsMove, LeadsFrom, IsHistory}
 use Rattle.shm_segments.specs.Table.{segment_in}
 use Rattle.shm_laws.specs.Standing.{Stands, IsGone, MovesBy, MomentsBy}
 use Rattle.shm_laws.specs.Identity.{IsSame, KeepsNames, NamesAnew, NamesOneSegment}
+use Rattle.shm_laws.specs.Writing.{Makes}
+use Rattle.shm_laws.proofs.Fresh.{IsEmpty}
 use Rattle.shm_laws.proofs.Turning.{same_refl, same_trans}
 use Rattle.shm_laws.proofs.Looks.{holds, bare_entry, stands-at, at-stands, at-gone, at-never, at-next, entry-gone}
-use Rattle.shm_laws.proofs.Stepping.{Kind, removed}
+use Rattle.shm_laws.proofs.Stepping.{overlay, Moved, removed}
 use Rattle.shm_laws.proofs.Fates.{IsSound, IsNew, stays, comes, sound-after, kind-move}
 use Rattle.shm_laws.proofs.Removing.{sound-start, stands-or-gone}
 
 -- ONE MOVE
 
-module _ (s t : Machine) (e : Event) (sound : IsSound s) (k : Kind s (removed e.call e.reply) t) (id : ℕ) where
+-- a segment that stood: so its bytes became what they are
+pub record Stood (s : Machine) (e : Event) (id : ℕ) (y : Segment) : Type 0 where
+  pub segment : Segment
+  pub stood : Stands s id segment
+  pub same : IsSame segment y
+  pub bytes : y.bytes ≡ overlay s e (id % 32768) segment.bytes
+
+-- one that was made
+pub record Made (s : Machine) (e : Event) (id : ℕ) (y : Segment) : Type 0 where
+  pub makes : Makes s e id
+  pub zeros : (n : ℕ) × (y.bytes ≡ replicate n 0)
+
+abbrev pub Before : Machine → Event → ℕ → Segment → Type 0
+Before s e id y = Stood s e id y ⊎ Made s e id y
+
+module _ (s t : Machine) (e : Event) (sound : IsSound s) (k : Moved s e t) (id : ℕ) where
   small : id % 32768 < 32768
   small = omega arith
 
@@ -31,10 +49,10 @@ module _ (s t : Machine) (e : Event) (sound : IsSound s) (k : Kind s (removed e.
 
   gone-entry : (d : ℕ) (p : Option Segment) → slice_get s.table (id % 32768) ≡ Some (record { destroyed = d; segment = p }) → id / 32768 < d → IsGone t id
   gone-entry d (Some x) is past =
-      let q = stays s t sound (id % 32768) small (removed e.call e.reply) d x k is in gone-swept t.runners d q.now past q.at
-  gone-entry d None is past = either (comes s t sound (id % 32768) small (removed e.call e.reply) d (bare_entry d) k is (inl refl))
+      let q = stays (overlay s e) (removed e.call e.reply) e.reply s t sound (id % 32768) small d x k is in gone-swept t.runners d q.now past q.at
+  gone-entry d None is past = either (comes (overlay s e) (removed e.call e.reply) e.reply s t sound (id % 32768) small d (bare_entry d) k is (inl refl))
     where
-      either : (slice_get t.table (id % 32768) ≡ bare_entry d) ⊎ IsNew d (slice_get t.table (id % 32768)) → IsGone t id
+      either : (slice_get t.table (id % 32768) ≡ bare_entry d) ⊎ IsNew (id % 32768) e.reply d (slice_get t.table (id % 32768)) → IsGone t id
       either (inl h) = at-gone t.table id d None h past
       either (inr h) = at-gone t.table id d (Some h.now) h.at past
 
@@ -43,37 +61,60 @@ module _ (s t : Machine) (e : Event) (sound : IsSound s) (k : Kind s (removed e.
       let g = entry-gone (id % 32768) (id / 32768) (slice_get s.table (id % 32768)) gone in
       gone-entry g.destroyed g.segment g.at g.past
 
-  abbrev Before : Segment → Type 0
-  Before y = ((x : Segment) × Stands s id x × IsSame x y) ⊎ (look s.table (pos id) ≡ Invalid)
-
-  was-swept : (d : ℕ) (x y z : Segment) → slice_get s.table (id % 32768) ≡ holds d x → IsSame x z → Some (swept_at (id % 32768) t.runners d (Some z)) ≡ holds (id / 32768) y → Before y
-  was-swept d x y z is same now =
+  was-swept : (d : ℕ) (x y z : Segment) → slice_get s.table (id % 32768) ≡ holds d x → IsSame x z → z.bytes ≡ overlay s e (id % 32768) x.bytes
+      → Some (swept_at (id % 32768) t.runners d (Some z)) ≡ holds (id / 32768) y → Before s e id y
+  was-swept d x y z is same bytes now =
       elim (cases_Bool (z.dest && (attach_count t.runners (identifier (id % 32768) d) == 0))) [
         | inl h ↦ absurd (none-some y (ap segment_in (rw h at now)))
         | inr h ↦
             (let left : holds d z ≡ holds (id / 32768) y = rw h at now in
             let count : d ≡ id / 32768 = ap destroyed_in left in
             let own : z ≡ y = cc (ap segment_in left) in
-            inl (x, at-stands s.table id x (is ∙ ap (λ n. holds n x) count), subst (IsSame x) own same))
+            inl (record {
+              segment = x;
+              stood = at-stands s.table id x (is ∙ ap (λ n. holds n x) count);
+              same = subst (IsSame x) own same;
+              bytes = ap (λ (w : Segment). w.bytes) (sym own) ∙ bytes;
+            }))
       ]
 
-  was-entry : (y : Segment) → slice_get t.table (id % 32768) ≡ holds (id / 32768) y → (d : ℕ) (p : Option Segment) → slice_get s.table (id % 32768) ≡ Some (record { destroyed = d; segment = p }) → Before y
-  was-entry y at d (Some x) is =
-      let q = stays s t sound (id % 32768) small (removed e.call e.reply) d x k is in was-swept d x y q.now is q.same (sym q.at ∙ at)
-  was-entry y at d None is = either (comes s t sound (id % 32768) small (removed e.call e.reply) d (bare_entry d) k is (inl refl))
+  -- a segment that is new
+  was-empty : (y : Segment) → slice_get t.table (id % 32768) ≡ holds (id / 32768) y → (d : ℕ) (o : Option Entry) → slice_get s.table (id % 32768) ≡ o → IsEmpty d o
+      → (o ≡ holds (id / 32768) y → ⊥) → (d ≡ id / 32768 → look s.table (pos id) ≡ Invalid) → Before s e id y
+  was-empty y at d o is empty other never = either (comes (overlay s e) (removed e.call e.reply) e.reply s t sound (id % 32768) small d o k is empty)
     where
-      either : (slice_get t.table (id % 32768) ≡ bare_entry d) ⊎ IsNew d (slice_get t.table (id % 32768)) → Before y
-      either (inl h) = absurd (none-some y (ap segment_in (sym h ∙ at)))
+      either : (slice_get t.table (id % 32768) ≡ o) ⊎ IsNew (id % 32768) e.reply d (slice_get t.table (id % 32768)) → Before s e id y
+      either (inl h) = absurd (other (sym h ∙ at))
       either (inr h) =
-          let count : d ≡ id / 32768 = ap destroyed_in (sym h.at ∙ at) in
-          inr (at-next s.table id (is ∙ ap bare_entry count))
+          let same : holds d h.now ≡ holds (id / 32768) y = sym h.at ∙ at in
+          let count : d ≡ id / 32768 = ap destroyed_in same in
+          let own : identifier (id % 32768) d ≡ id = omega (arith, count) in
+          let segment : h.now ≡ y = cc (ap segment_in same) in
+          inr (record {
+            makes = (never count, h.answer ∙ ap (λ n. Id (pos n)) own);
+            zeros = (h.zeros.0, ap (λ (w : Segment). w.bytes) (sym segment) ∙ h.zeros.1);
+          })
 
-  was-before : (y : Segment) → slice_get t.table (id % 32768) ≡ holds (id / 32768) y → (o : Option Entry) → slice_get s.table (id % 32768) ≡ o → Before y
-  was-before y at None is = inr (at-never s.table id is)
+  was-entry : (y : Segment) → slice_get t.table (id % 32768) ≡ holds (id / 32768) y → (d : ℕ) (p : Option Segment) → slice_get s.table (id % 32768) ≡ Some (record { destroyed = d; segment = p }) → Before s e id y
+  was-entry y at d (Some x) is =
+      let q = stays (overlay s e) (removed e.call e.reply) e.reply s t sound (id % 32768) small d x k is in was-swept d x y q.now is q.same q.bytes (sym q.at ∙ at)
+  was-entry y at d None is =
+      was-empty y at d (bare_entry d) is (inl refl) (λ h. none-some y (ap segment_in h)) (λ count. at-next s.table id (is ∙ ap bare_entry count))
+
+  was-before : (y : Segment) → slice_get t.table (id % 32768) ≡ holds (id / 32768) y → (o : Option Entry) → slice_get s.table (id % 32768) ≡ o → Before s e id y
+  was-before y at None is = was-empty y at 0 None is (inr (refl, refl)) (λ h. none-some _ h) (λ count. at-never s.table id is)
   was-before y at (Some x) is = was-entry y at x.destroyed x.segment is
 
-  named : (y : Segment) → Stands t id y → Before y
-  named y stands = was-before y (stands-at t.table id y stands) (slice_get s.table (id % 32768)) refl
+  -- what stands stood before, with bytes that became these, or was made
+  pub came-from : (y : Segment) → Stands t id y → Before s e id y
+  came-from y stands = was-before y (stands-at t.table id y stands) (slice_get s.table (id % 32768)) refl
+
+  named : (y : Segment) → Stands t id y → ((x : Segment) × Stands s id x × IsSame x y) ⊎ (look s.table (pos id) ≡ Invalid)
+  named y stands = by (came-from y stands)
+    where
+      by : Before s e id y → ((x : Segment) × Stands s id x × IsSame x y) ⊎ (look s.table (pos id) ≡ Invalid)
+      by (inl h) = inl (h.segment, h.stood, h.same)
+      by (inr h) = inr h.makes.0
 
 -- KEPT FROM ONE TIME TO ANOTHER
 
@@ -102,7 +143,7 @@ one_move : (s : Machine) (n : ℕ) (e : Event) (t : Machine) → IsSound s → I
 one_move s n e t sound m =
     let k = kind-move s n e t sound.bare m in
     record {
-      sound = sound-after s t (removed e.call e.reply) k sound;
+      sound = sound-after s e t k sound;
       kept = record { stands = λ id x stood. stands-or-gone s t e sound k id x stood; gone = λ id h. gone-on s t e sound k id h };
       new = record { new = λ id y stands. named s t e sound k id y stands };
     }

@@ -20,7 +20,7 @@ use Rattle.shm_laws.specs.Removal.{IsDue}
 use Rattle.shm_laws.specs.Pieces.{PiecesNameWhatStands, GivesPieces, PiecesAreOfSegments}
 use Rattle.shm_laws.proofs.Handing.{Attaches, Hands, caller-at, hands-acts}
 use Rattle.shm_laws.proofs.Inducting.{Keeps, each_move}
-use Rattle.shm_laws.proofs.Stepping.{Kind, removed}
+use Rattle.shm_laws.proofs.Stepping.{Moved, removed}
 use Rattle.shm_laws.proofs.Fates.{IsSound, sound-after, kind-move}
 use Rattle.shm_laws.proofs.Removing.{sound-start, just, stands-or-gone, same-runners}
 
@@ -125,7 +125,7 @@ first-move s n e t (inr x) = rw x.unchanged (λ id none. inl none)
 -- WHOLE HISTORIES
 
 -- what had pieces and was destroyed lost them
-pieces-after : (s t : Machine) (e : Event) → IsSound s → Kind s (removed e.call e.reply) t → PiecesNameWhatStands s → First s t.runners → PiecesNameWhatStands t
+pieces-after : (s t : Machine) (e : Event) → IsSound s → Moved s e t → PiecesNameWhatStands s → First s t.runners → PiecesNameWhatStands t
 pieces-after s t e sound k all first id some = by (cases_eq (attach_count s.runners id) 0)
   where
     on : (x : Segment) → Stands s id x → (y : Segment) × Stands t id y
@@ -160,7 +160,7 @@ whole-move s n e t now m =
     let k = kind-move s n e t now.sound.bare m in
     let first = first-move s n e t m in
     let next = pieces-after s t e now.sound k now.pieces first in
-    (record { sound = sound-after s t (removed e.call e.reply) k now.sound; pieces = next }, record { first = first; after = next })
+    (record { sound = sound-after s e t k now.sound; pieces = next }, record { first = first; after = next })
 
 none-start : (ps : List Process) (id : ℕ) → attach_count (map runner_at_start ps) id ≡ 0
 none-start [] id = refl

@@ -15,7 +15,7 @@ use Rattle.shm_laws.specs.Identity.{IsSame}
 use Rattle.shm_laws.specs.Removal.{MarkedHavePieces, IsDue, DestroysWhatIsDue, GoesWhenItMust}
 use Rattle.shm_laws.proofs.Inducting.{Keeps, each_move}
 use Rattle.shm_laws.proofs.Looks.{stands-at, at-stands, at-gone, not-both}
-use Rattle.shm_laws.proofs.Stepping.{Bare, Kind, removed}
+use Rattle.shm_laws.proofs.Stepping.{Bare, overlay, Moved, removed}
 use Rattle.shm_laws.proofs.Fates.{IsSound, names, Stays, stays, sound-after, kind-move, removed-call}
 
 -- WHERE A MACHINE STARTS
@@ -47,12 +47,12 @@ marked-pieces s sound id x stands dest =
 
 -- ONE SEGMENT IN ONE MOVE
 
-module _ (s t : Machine) (e : Event) (sound : IsSound s) (k : Kind s (removed e.call e.reply) t) (id : ℕ) (x : Segment) (stood : Stands s id x) where
+module _ (s t : Machine) (e : Event) (sound : IsSound s) (k : Moved s e t) (id : ℕ) (x : Segment) (stood : Stands s id x) where
   own : identifier (id % 32768) (id / 32768) ≡ id
   own = omega arith
 
-  after : Stays (id % 32768) t.runners (names (removed e.call e.reply) (identifier (id % 32768) (id / 32768))) (id / 32768) x (slice_get t.table (id % 32768))
-  after = stays s t sound (id % 32768) (omega arith) (removed e.call e.reply) (id / 32768) x k (stands-at s.table id x stood)
+  after : Stays (overlay s e (id % 32768)) (id % 32768) t.runners (names (removed e.call e.reply) (identifier (id % 32768) (id / 32768))) (id / 32768) x (slice_get t.table (id % 32768))
+  after = stays (overlay s e) (removed e.call e.reply) e.reply s t sound (id % 32768) (omega arith) (id / 32768) x k (stands-at s.table id x stood)
 
   by_name : names (removed e.call e.reply) id ≡ true → removed e.call e.reply ≡ Some id
   by_name h = at (removed e.call e.reply) refl h
@@ -64,9 +64,9 @@ module _ (s t : Machine) (e : Event) (sound : IsSound s) (k : Kind s (removed e.
   pub same-runners : removed e.call e.reply ≡ Some id → t.runners ≡ s.runners
   same-runners h = at k
     where
-      at : Kind s (removed e.call e.reply) t → t.runners ≡ s.runners
+      at : Moved s e t → t.runners ≡ s.runners
       at (inl (none, q)) = absurd (none-some id (sym none ∙ h))
-      at (inr q) = q.removes.runners
+      at (inr (no_byte, q)) = q.removes.runners
 
   -- it is swept
   abbrev goes : Bool
@@ -129,7 +129,7 @@ module _ (s t : Machine) (e : Event) (sound : IsSound s) (k : Kind s (removed e.
 one_move : Keeps IsSound DestroysWhatIsDue
 one_move s n e t sound m =
     let k = kind-move s n e t sound.bare m in
-    let next = sound-after s t (removed e.call e.reply) k sound in (
+    let next = sound-after s e t k sound in (
       next,
       record {
         just = λ id x stood gone. just s t e sound k id x stood gone;

@@ -4,4 +4,5 @@ pub mod Removal
 pub mod Identity
 pub mod Pieces
 pub mod Leave
+pub mod Writing
 pub mod Worked

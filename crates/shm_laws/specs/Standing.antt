@@ -1,5 +1,5 @@
 -- What stands under an identifier, who has which piece, and what each move of a history keeps.
-use Rattle.std.specs.Prelude.{◌≡◌, ℕ, ◌+◌, ◌%◌, pos, List, [], ◌∷◌, ◌++◌, All, Contains}
+use Rattle.std.specs.Prelude.{◌≡◌, ℕ, ◌+◌, ◌%◌, pos, List, [], ◌∷◌, ◌++◌, length, All, Contains}
 use Rattle.shm_base.specs.declared.call.Event.{Event}
 use Rattle.shm_base.specs.State.{Segment, Piece, Runner, Machine, Opening, start_of}
 use Rattle.shm_base.specs.Identifier.{Found, Removed, look}
@@ -53,3 +53,19 @@ pub record IsMoment (o : Opening) (events before : List Event) (s : Machine) : T
 -- at each moment of a whole history this holds of what came before, and of the machine
 abbrev pub Always : (List Event → Machine → Type 0) → Opening → List Event → Type 0
 Always law o events = (before : List Event) (s : Machine) → IsMoment o events before s → law before s
+
+-- a turn of the history: these of its events came before it, the machine was s, and the next event led to t
+pub record IsTurn (o : Opening) (events before : List Event) (s : Machine) (e : Event) (t : Machine) : Type 0 where
+  pub after : List Event
+  pub whole : before ++ e ∷ after ≡ events
+  pub leads : IsHistory o before s
+  pub move : IsMove s (length before + 1) e t
+
+-- at each turn of a whole history this holds of what came before, and of the move
+abbrev pub EachTurn : (List Event → Machine → Event → Machine → Type 0) → Opening → List Event → Type 0
+EachTurn law o events = (before : List Event) (s : Machine) (e : Event) (t : Machine) → IsTurn o events before s e t → law before s e t
+
+-- one of these events began it, and each one after that kept it up
+pub data Since (o : Opening) (begins keeps : Machine → Event → Type 0) : List Event → Type 0 where
+  Began : (before : List Event) (s : Machine) (e : Event) → IsHistory o before s → begins s e → Since o begins keeps (before ++ e ∷ [])
+  Lasted : (before : List Event) (s : Machine) (e : Event) → IsHistory o before s → keeps s e → Since o begins keeps before → Since o begins keeps (before ++ e ∷ [])
