@@ -95,7 +95,7 @@ each-has law s pid p each h =
     let own = All-contains (λ (r : Runner). All (law r.pid) r.pieces) s.runners h.process each h.is in
     subst (λ n. law n p) h.named (All-contains (law h.process.pid) h.process.pieces p own h.has)
 
-has-own : (s : Machine) (r : Runner) → Contains s.runners r → All (Has s r.pid) r.pieces
+pub has-own : (s : Machine) (r : Runner) → Contains s.runners r → All (Has s r.pid) r.pieces
 has-own s r is = λ k d lt. record { process = r; is = is; named = refl; has = Contains-get_or r.pieces k d lt }
 
 abbrev pub IsKept : Machine → ℕ → Piece → Type 0

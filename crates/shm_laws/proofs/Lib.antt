@@ -14,3 +14,5 @@ pub mod Accessing
 pub mod Granting
 pub mod Refusing
 pub mod Putting
+pub mod Fitting
+pub mod Remembering
