@@ -1,17 +1,19 @@
 -- Worked histories, in which the laws say something. They are computed.
-use Rattle.std.specs.Prelude.{◌≡◌, ℕ, ◌+◌, pos, Bool, true, false, List, [], ◌∷◌, take, Option, Some, option_map, slice_get}
+use Rattle.std.specs.Prelude.{◌≡◌, ℕ, ◌+◌, ◌*◌, ◌^◌, pos, Bool, true, false, List, [], ◌∷◌, take, Option, Some, option_map, slice_get}
 use Rattle.shm_base.specs.declared.errno.Errno.TheVariants.{Eperm, Eacces, Eidrm, Sigbus, Sigsegv}
-use Rattle.shm_base.specs.declared.call.Call.TheVariants.{Set, Rmid, Load, Store, Fork, Exec}
-use Rattle.shm_base.specs.declared.call.Reply.TheVariants.{Addr, Bytes, Done, Refused}
+use Rattle.shm_base.specs.declared.call.Call.TheVariants.{Set, Rmid, Load, Store, Xadd, Fork, Exec}
+use Rattle.shm_base.specs.declared.call.Reply.TheVariants.{Addr, Bytes, Number, Done, Refused}
 use Rattle.shm_base.specs.declared.call.Event.{Event}
 use Rattle.shm_base.specs.State.{Segment, Entry, Piece, Runner, Machine, Opening, start_of}
 use Rattle.shm_base.specs.History.{IsHistory}
 use Rattle.shm_base.specs.Rows.{Answers, does, id, mode, rdonly, shmget, shmat, stat, process, child}
 use Rattle.shm_base.specs.Identifier.{Look, Found, Removed, Invalid, look}
+use Rattle.shm_base.specs.Access.{bytes_at}
 use Rattle.shm_base.specs.Segments.{attach_count}
 use Rattle.shm_base.specs.Step.{step}
 use Rattle.shm_laws.specs.Standing.{IsGone}
 use Rattle.shm_laws.specs.Replay.{without_failures}
+use Rattle.shm_laws.specs.Writing.{IsByte}
 
 -- they are legal, and lead somewhere
 abbrev pub IsLegal : Opening → List Event → Type 0
@@ -125,3 +127,32 @@ LeaveWorked =
     × (pieces_now three others_read 3 2 ≡ Some [])
     × (pieces_now three others_read 4 2 ≡ Some (read_only ∷ []))
     × (pieces_now three others_read 9 2 ≡ Some (read_only ∷ []))
+
+-- THE LAST WRITER: a store over the seam of two segments, one over its last byte by another process, and an xadd
+
+abbrev pub two_write : List Event
+two_write =
+    does 1 (shmget 0 4096 (mode 6 0 0) 0) (id 0)
+    ∷ does 1 (shmget 0 4096 (mode 6 0 0) 0) (id 1)
+    ∷ does 1 (shmat 0 0 0) (Addr 0x40000000)
+    ∷ does 1 (shmat 1 0 0) (Addr 0x40001000)
+    ∷ does 2 (shmat 0 0 0) (Addr 0x40000000)
+    ∷ does 1 (Store 0x40000ffe (1 ∷ 2 ∷ 3 ∷ [])) Done
+    ∷ does 2 (Store 0x40000fff (9 ∷ [])) Done
+    ∷ does 2 (Xadd 0x40000ff8 256) (Number (2 ^ 48 + 9 * 2 ^ 56))
+    ∷ does 1 (Load 0x40000ff8 9) (Bytes (0 ∷ 1 ∷ 0 ∷ 0 ∷ 0 ∷ 0 ∷ 1 ∷ 9 ∷ 3 ∷ []))
+    ∷ []
+
+-- it is legal; the third byte of the first store is byte 0 of segment 1, and the byte of the second is the first store's
+-- second; its writer's byte is what stands there, what the xadd put before it is what the load shows, and a byte that
+-- nobody wrote is 0
+abbrev pub WritingWorked : Type 0
+WritingWorked =
+    IsLegal opening two_write
+    × IsByte (after opening two_write 5) 1 0x40001000 1 0
+    × IsByte (after opening two_write 5) 1 0x40000fff 0 4095
+    × IsByte (after opening two_write 6) 2 0x40000fff 0 4095
+    × (slice_get (bytes_at (after opening two_write 6).table 0) 4095 ≡ Some 2)
+    × (slice_get (bytes_at (after opening two_write 7).table 0) 4095 ≡ Some 9)
+    × (slice_get (bytes_at (after opening two_write 9).table 1) 0 ≡ Some 3)
+    × (slice_get (bytes_at (after opening two_write 9).table 1) 1 ≡ Some 0)

@@ -6,4 +6,5 @@ fn worked_histories()
     ensures removal { worked.RemovalWorked }
     ensures pieces { worked.PiecesWorked }
     ensures leave { worked.LeaveWorked }
+    ensures writing { worked.WritingWorked }
 {}
