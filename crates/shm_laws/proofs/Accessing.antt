@@ -49,6 +49,16 @@ place-of ps a (suc n) qs found k lt = by (place ps a) (places ps (a + 1) n) refl
         let m = more rs rest k (omega (arith, lt)) in
         record { spot = m.spot; at = ap (λ (xs : List Place). slice_get xs (suc k)) (sym is) ∙ m.at; is = ap (place ps) next ∙ m.is }
 
+-- there are as many
+pub places-length : (ps : List Piece) (a n : ℕ) (qs : List Place) → places ps a n ≡ Some qs → length qs ≡ n
+places-length ps a zero qs found = let same : [] ≡ qs = cc found in ap length (sym same)
+places-length ps a (suc n) qs found = by (place ps a) (places ps (a + 1) n) found (places-length ps (a + 1) n)
+  where
+    by : (o : Option Place) (r : Option (List Place)) → joined o r ≡ Some qs → ((rs : List Place) → r ≡ Some rs → length rs ≡ n) → length qs ≡ suc n
+    by None r whole more = absurd (none-some qs whole)
+    by (Some q) None whole more = absurd (none-some qs whole)
+    by (Some q) (Some rs) whole more = let is : q ∷ rs ≡ qs = cc whole in ap length (sym is) ∙ ap suc (more rs refl)
+
 pub writable-at : (qs : List Place) (k : ℕ) (q : Place) → all_writable qs ≡ true → slice_get qs k ≡ Some q → q.writable ≡ true
 writable-at [] k q all at = absurd (none-some q at)
 writable-at (p ∷ ps) zero q all at =

@@ -1,13 +1,15 @@
 -- Each piece lies within a segment that stands.
-use Rattle.std.proofs.Common.{◌≡◌, ◌⊎◌, ℕ, suc, zero, ◌+◌, ◌*◌, ◌/◌, ◌%◌, ◌<◌, ◌≤◌, ◌==◌, pos, List, [], ◌∷◌, length, get_or, Some, slice_get, refl, sym, ap, subst, ◌∙◌, inl, inr, arith, eq-eqb}
+use Rattle.std.proofs.Common.{◌≡◌, ◌⊎◌, ℕ, suc, zero, ◌+◌, ◌*◌, ◌/◌, ◌%◌, ◌<◌, ◌≤◌, true, List, [], ◌∷◌, length, get_or, Option, Some, None, slice_get, refl, sym, ap, subst, ◌∙◌, inl, inr, arith, eq-eqb}
 use Rattle.std.specs.Prelude.{All, Contains}
-use Rattle.std.proofs.lemmas.Option.{slice_get-get_or}
-use Rattle.std.proofs.lemmas.List.Elements.{All-weaker, Contains-get_or}
+use Rattle.std.proofs.lemmas.Option.{none-some, slice_get-get_or}
+use Rattle.std.proofs.lemmas.List.Elements.{All-contains, Contains-get_or}
 use Rattle.shm_base.specs.declared.call.Event.{Event}
 use Rattle.shm_base.specs.State.{Segment, Piece, Runner, Machine, Opening, start_of, pages_in}
 use Rattle.shm_base.specs.Identifier.{Invalid, Found, look, destroyed_in}
+use Rattle.shm_base.specs.Access.{Place, covers, place_by, place}
 use Rattle.shm_base.specs.Space.{pieces_of}
 use Rattle.shm_base.specs.Segments.{attach_count}
+use Rattle.shm_base.specs.Step.{Caller, caller_of}
 use Rattle.shm_base.specs.History.{IsMove}
 use Rattle.shm_attach.specs.Views.{one_if}
 use Rattle.shm_attach.proofs.Processes.{one_more}
@@ -16,7 +18,8 @@ use Rattle.shm_laws.specs.Standing.{Stands, Has, EachPiece}
 use Rattle.shm_laws.specs.Writing.{held_by, put}
 use Rattle.shm_laws.specs.Leave.{IsPart}
 use Rattle.shm_laws.proofs.Fates.{kind-move}
-use Rattle.shm_laws.proofs.Granting.{Given, Aligned, each-has, has-own, each-start, given-move, aligned-move}
+use Rattle.shm_laws.proofs.Accessing.{lies-in}
+use Rattle.shm_laws.proofs.Granting.{Given, Aligned, each-has, has-own, mine, each-start, given-move, aligned-move}
 use Rattle.shm_laws.proofs.Handing.{IsAligned}
 use Rattle.shm_laws.proofs.Looks.{holds, stands-at}
 use Rattle.shm_laws.proofs.Naming.{Before, came-from}
@@ -125,3 +128,23 @@ fit-move s n e t now m = record { whole = whole; aligned = aligned-move s n e t 
         let there = whole.pieces p.seg (has-count t r.pid p has) in
         let from = came-from s t e now.whole.sound (kind-move s n e t now.whole.sound.bare m) p.seg there.0 there.1 in
         fits-on s e t p there.0 (fits-given s e r.pid p now.fits (given k d lt j q le)) there.1 from
+
+-- THE PLACES OF A PROCESS
+
+-- a place lies in a piece of the process that fits
+pub record SpotFits (s : Machine) (pid a : ℕ) (q : Place) : Type 0 where
+  pub piece : Piece
+  pub has : Has s pid piece
+  pub fits : Fits s piece
+  pub covered : covers piece a ≡ true
+  pub spot : q ≡ place_by piece a
+
+pub spot-fits : (s : Machine) (pid a : ℕ) (q : Place) → AllFit s → place (held_by (caller_of s pid)) a ≡ Some q → SpotFits s pid a q
+spot-fits s pid a q fits found = by (caller_of s pid) refl found
+  where
+    by : (o : Option Caller) → caller_of s pid ≡ o → place (held_by o) a ≡ Some q → SpotFits s pid a q
+    by None is none = absurd (none-some q none)
+    by (Some c) is there =
+        let l = lies-in c.pieces a q there in
+        let has : Has s pid l.piece = All-contains (Has s pid) c.pieces l.piece (mine s pid c is) l.is in
+        record { piece = l.piece; has = has; fits = each-has (λ m r. Fits s r) s pid l.piece fits has; covered = l.covered; spot = l.spot }

@@ -16,3 +16,5 @@ pub mod Refusing
 pub mod Putting
 pub mod Fitting
 pub mod Remembering
+pub mod Veiling
+pub mod Isolating

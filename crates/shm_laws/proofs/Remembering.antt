@@ -19,10 +19,9 @@ use Rattle.shm_base.specs.Step.{Caller, Outcome, caller_of, acts, step_by, step,
 use Rattle.shm_base.specs.History.{is_refusal, IsMove, IsHistory}
 use Rattle.shm_laws.specs.Standing.{Stands, Has, EachPiece, Since, Began, Lasted}
 use Rattle.shm_laws.specs.Writing.{Put, put, held_by, IsByte, Writes, Spares, IsLast, Remembers, AreLast, Recalls, HasLastWriters}
-use Rattle.shm_laws.proofs.Accessing.{LiesIn, lies-in, PlaceOf, place-of, writable-parts}
+use Rattle.shm_laws.proofs.Accessing.{place-of, places-length, writable-parts}
 use Rattle.shm_laws.proofs.Fates.{kind-move}
-use Rattle.shm_laws.proofs.Fitting.{one-segment, one-index, Fits, AllFit, IsFit, fit-start, fit-move}
-use Rattle.shm_laws.proofs.Granting.{each-has, mine}
+use Rattle.shm_laws.proofs.Fitting.{one-index, Fits, AllFit, IsFit, fit-start, fit-move, spot-fits}
 use Rattle.shm_laws.proofs.Inducting.{always}
 use Rattle.shm_laws.proofs.Looks.{stands-at}
 use Rattle.shm_laws.proofs.Naming.{Before, came-from}
@@ -76,26 +75,12 @@ placed-move : (s : Machine) (n : ℕ) (e : Event) (t : Machine) → IsMove s n e
 placed-move s n e t (inl m) p puts = subst (λ (o : Outcome). PlacedBy (caller_of s e.pid) e.call o.reply) m (placed-by s n e.call (caller_of s e.pid)) p puts
 placed-move s n e t (inr x) p puts = absurd (none-some p (sym (failure-put e.call e.reply x.failure) ∙ puts))
 
--- THE PLACES OF A PROCESS
-
--- each lies in a piece that fits
-spot-fits : (s : Machine) (pid a : ℕ) (q : Place) → AllFit s → place (held_by (caller_of s pid)) a ≡ Some q
-    → (p : Piece) × Fits s p × (covers p a ≡ true) × (q ≡ place_by p a)
-spot-fits s pid a q fits found = by (caller_of s pid) refl found
-  where
-    by : (o : Option Caller) → caller_of s pid ≡ o → place (held_by o) a ≡ Some q → (p : Piece) × Fits s p × (covers p a ≡ true) × (q ≡ place_by p a)
-    by None is none = absurd (none-some q none)
-    by (Some c) is there =
-        let l = lies-in c.pieces a q there in
-        let has : Has s pid l.piece = All-contains (Has s pid) c.pieces l.piece (mine s pid c is) l.is in
-        (l.piece, each-has (λ m r. Fits s r) s pid l.piece fits has, l.covered, l.spot)
-
 -- at the index of a segment it is that segment's
 spot-names : (s : Machine) (pid a id : ℕ) (q : Place) (x : Segment) → AllFit s → place (held_by (caller_of s pid)) a ≡ Some q → Stands s id x → q.seg % 32768 ≡ id % 32768 → q.seg ≡ id
 spot-names s pid a id q x fits found stands index =
     let f = spot-fits s pid a q fits found in
-    let seg : q.seg ≡ f.0.seg = ap (λ (r : Place). r.seg) f.3 in
-    one-index s q.seg id f.1.segment x (subst (λ m. Stands s m f.1.segment) (sym seg) f.1.stands) stands index
+    let seg : q.seg ≡ f.piece.seg = ap (λ (r : Place). r.seg) f.spot in
+    one-index s q.seg id f.fits.segment x (subst (λ m. Stands s m f.fits.segment) (sym seg) f.fits.stands) stands index
 
 -- WHAT A MOVE DOES TO A BYTE
 
@@ -190,15 +175,6 @@ recollects o before s h =
 
 -- WHAT IS ANSWERED
 
-places-length : (ps : List Piece) (a n : ℕ) (qs : List Place) → places ps a n ≡ Some qs → length qs ≡ n
-places-length ps a zero qs found = let same : [] ≡ qs = cc found in ap length (sym same)
-places-length ps a (suc n) qs found = by (place ps a) (places ps (a + 1) n) found (places-length ps (a + 1) n)
-  where
-    by : (o : Option Place) (r : Option (List Place)) → joined o r ≡ Some qs → ((rs : List Place) → r ≡ Some rs → length rs ≡ n) → length qs ≡ suc n
-    by None r whole more = absurd (none-some qs whole)
-    by (Some q) None whole more = absurd (none-some qs whole)
-    by (Some q) (Some rs) whole more = let is : q ∷ rs ≡ qs = cc whole in ap length (sym is) ∙ ap suc (more rs refl)
-
 -- the byte at a place that fits
 byte-there : (s : Machine) (p : Piece) (a : ℕ) (f : Fits s p) → covers p a ≡ true
     → slice_get f.segment.bytes (4096 * p.first_page + (a - p.base)) ≡ Some (byte_at s.table (place_by p a))
@@ -222,17 +198,13 @@ recall-places o before s pid a len qs now found =
         let count = places-length (held_by (caller_of s pid)) a len qs found in
         let spot = place-of (held_by (caller_of s pid)) a len qs found k (omega (arith, within, long, count)) in
         let f = spot-fits s pid (a + k) spot.spot now.fit.fits spot.is in
-        let own : spot.spot ≡ place_by f.0 (a + k) = f.3 in
+        let p = f.piece in
+        let at = 4096 * p.first_page + ((a + k) - p.base) in
         let read : Some (byte_at s.table spot.spot) ≡ Some b = ap (option_map (byte_at s.table)) (sym spot.at) ∙ sym (slice_get-map (byte_at s.table) qs k) ∙ is in
-        let there : slice_get f.1.segment.bytes (4096 * f.0.first_page + ((a + k) - f.0.base)) ≡ Some (byte_at s.table spot.spot) =
-        subst (λ q. slice_get f.1.segment.bytes (4096 * f.0.first_page + ((a + k) - f.0.base)) ≡ Some (byte_at s.table q)) (sym own) (byte-there s f.0 (a + k) f.1 f.2) in
-        let value : slice_get f.1.segment.bytes (4096 * f.0.first_page + ((a + k) - f.0.base)) ≡ Some b = there ∙ read in
-        (
-          f.0.seg,
-          4096 * f.0.first_page + ((a + k) - f.0.base),
-          (f.0.writable, spot.is ∙ ap (λ (q : Place). Some q) own),
-          now.bytes f.0.seg (4096 * f.0.first_page + ((a + k) - f.0.base)) b f.1.segment f.1.stands value,
-        )
+        let there : slice_get f.fits.segment.bytes at ≡ Some (byte_at s.table spot.spot) =
+        subst (λ q. slice_get f.fits.segment.bytes at ≡ Some (byte_at s.table q)) (sym f.spot) (byte-there s p (a + k) f.fits f.covered) in
+        let value : slice_get f.fits.segment.bytes at ≡ Some b = there ∙ read in
+        (p.seg, at, (p.writable, spot.is ∙ ap (λ (q : Place). Some q) f.spot), now.bytes p.seg at b f.fits.segment f.fits.stands value)
 
 module _ (o : Opening) (before : List Event) (s : Machine) (n pid : ℕ) (now : Recollects o before s) where
   load-recalls : (a len : ℕ) (bytes : List ℕ) (c : Option Caller) → caller_of s pid ≡ c → (step_by s n (Load a len) c).reply ≡ Bytes bytes → AreLast o before s pid a len bytes

@@ -5,4 +5,5 @@ pub mod Identity
 pub mod Pieces
 pub mod Leave
 pub mod Writing
+pub mod Isolation
 pub mod Worked

@@ -2,6 +2,7 @@
 #![tactic(auto)]
 
 mod identity;
+mod isolation;
 mod leave;
 mod pieces;
 mod removal;
@@ -10,6 +11,7 @@ mod worked;
 mod writing;
 
 pub use identity::named_once;
+pub use isolation::isolated;
 pub use leave::kept_out;
 pub use pieces::pieces_stand;
 pub use removal::removed_in_time;
