@@ -1,9 +1,8 @@
 -- A call sees no byte that is hidden from its process.
 use Rattle.std.proofs.Common.{◌≡◌, ◌⊎◌, ℕ, suc, zero, ◌+◌, ◌-◌, ◌*◌, ◌/◌, ◌%◌, ◌^◌, ◌==◌, ◌&&◌, ◌<◌, ℤ, pos, Bool, true, false, not, nat_le, nat_lt, if◌then◌else◌, List, [], ◌∷◌, ◌++◌, length, replicate, Option, Some, None, slice_get, slice_set, refl, sym, ap, subst, ◌∙◌, inl, inr, arith}
-use Rattle.std.specs.Prelude.{Contains}
 use Rattle.std.specs.Int.{w64, to_le_bytes, from_le_bytes}
 use Rattle.std.proofs.lemmas.List.{length-replicate}
-use Rattle.std.proofs.lemmas.Option.{slice_get_within}
+use Rattle.std.proofs.lemmas.Option.{none-some, slice_get_within}
 use Rattle.shm_base.specs.declared.errno.Errno.{Errno}
 use Rattle.shm_base.specs.declared.errno.Errno.TheVariants.{Eperm, Enoent, Esrch, Enomem, Eacces, Eexist, Einval, Emfile, Enospc}
 use Rattle.shm_base.specs.declared.flags.GetFlags.{GetFlags}
@@ -21,19 +20,29 @@ use Rattle.shm_base.specs.Identifier.{Look, Found, Removed, Invalid, identifier,
 use Rattle.shm_base.specs.Space.{inside, occupied, cut_segments, choose, origin_of}
 use Rattle.shm_base.specs.Segments.{segment_count, reserved, locked, slots, change, attached, marked, detach_all, swept, after_detach}
 use Rattle.shm_base.specs.Step.{Outcome, gives, refuses, Caller, caller_of, with_pieces, with_end, segments_of, new_segment, creates_at, creates, gets, shmget, wants_creation, wants_no_other, pieces_with, attaches, attaches_chosen, attaches_fixed, attaches_found, shmat, is_rnd, is_remap, at_wish, detaches, forks, unborn_from, shown, stat, controls, sets, removes, locks, unlocks, load, store, xadd, number_at, takes_away, swapoff, acts, step_by, step}
-use Rattle.shm_base.specs.History.{is_refusal, IsMove, IsHistory}
-use Rattle.shm_laws.specs.Standing.{Has, IsMoment, MovesBy}
-use Rattle.shm_laws.specs.Isolation.{veiled, veiled_from, veil, DifferIn, HasNone, IsBlind, IsBlindOn, IsIsolated}
+use Rattle.shm_base.specs.History.{is_refusal, is_failure, IsMove, IsHistory}
+use Rattle.shm_laws.specs.Standing.{Has, IsMoment}
+use Rattle.shm_laws.specs.Leave.{Reach, reach}
+use Rattle.shm_laws.specs.Isolation.{veiled, veiled_from, veil, DifferIn, HasNone, HasNoOther, IsPrivate, IsAsked, SideBySide, IsBlind, IsBlindOn, IsIsolated}
 use Rattle.shm_laws.specs.Writing.{held_by}
 use Rattle.shm_laws.proofs.Accessing.{place-of, places-length, writable-parts}
 use Rattle.shm_laws.proofs.Fitting.{IsFit, fit-start, fit-move, spot-fits}
 use Rattle.shm_laws.proofs.Inducting.{always}
 use Rattle.shm_laws.proofs.Looks.{stands-at}
-use Rattle.shm_laws.proofs.Veiling.{veiled-pages, veiled_look, veiled-destroyed, reserved-veiled, locked-sum, count-veiled, free-veiled, find-veiled, look-veiled, change-veiled, detach-veiled, swept-veiled, made-veiled, Seen, loaded-veiled, stored-veiled}
+use Rattle.shm_laws.proofs.Replaying.{is-step, first-clear, rest-clear}
+use Rattle.shm_laws.proofs.Veiling.{veiled-pages, veiled_look, veiled-destroyed, reserved-veiled, locked-sum, count-veiled, free-veiled, find-veiled, look-veiled, change-veiled, detach-veiled, swept-veiled, made-veiled, Seen, Hid, loaded-veiled, stored-veiled, stored-hidden}
 
 -- the outcome with those bytes hidden
 abbrev out : (ℕ → Bool) → Outcome → Outcome
 out hidden o = record { reply = o.reply; state = veil hidden o.state }
+
+-- a place of an access is that of its address
+spot-at : (ps : List Piece) (a len : ℕ) (qs : List Place) → places ps a len ≡ Some qs → (k : ℕ) (q : Place) → slice_get qs k ≡ Some q → place ps (a + k) ≡ Some q
+spot-at ps a len qs found k q is =
+    let within = slice_get_within qs k q is in
+    let long = places-length ps a len qs found in
+    let spot = place-of ps a len qs found k (omega (arith, within, long)) in
+    spot.is ∙ sym spot.at ∙ is
 
 module _ (hidden : ℕ → Bool) (s : Machine) (n : ℕ) (c : Caller) where
   abbrev T : List Entry
@@ -185,11 +194,7 @@ module _ (hidden : ℕ → Bool) (s : Machine) (n : ℕ) (c : Caller) where
 
   module _ (clear : (a : ℕ) (q : Place) → place c.pieces a ≡ Some q → Seen hidden T q) where
     seen-places : (a len : ℕ) (qs : List Place) → places c.pieces a len ≡ Some qs → (k : ℕ) (q : Place) → slice_get qs k ≡ Some q → Seen hidden T q
-    seen-places a len qs found k q is =
-        let within = slice_get_within qs k q is in
-        let long = places-length c.pieces a len qs found in
-        let spot = place-of c.pieces a len qs found k (omega (arith, within, long)) in
-        clear (a + k) q (spot.is ∙ sym spot.at ∙ is)
+    seen-places a len qs found k q is = clear (a + k) q (spot-at c.pieces a len qs found k q is)
 
     out-load : (a len : ℕ) (o : Option (List Place)) → places c.pieces a len ≡ o → load B o ≡ out hidden (load s o)
     out-load a len None is = refl
@@ -245,18 +250,22 @@ out-by hidden s n call (Some c) sees = out-acts hidden s n c sees call
 out-step : (hidden : ℕ → Bool) (s : Machine) (n pid : ℕ) (call : Call) → Sees hidden s pid → step (veil hidden s) n pid call ≡ out hidden (step s n pid call)
 out-step hidden s n pid call sees = out-by hidden s n call (caller_of s pid) sees
 
--- who has no piece of what is hidden sees none of it
-sees-own : (hidden : ℕ → Bool) (s : Machine) (pid : ℕ) → IsFit s → HasNone hidden s pid → Sees hidden s pid
-sees-own hidden s pid fit none a q found =
+-- whether a place of the process is hidden is whether its piece's segment is
+spot-hidden : (hidden : ℕ → Bool) (s : Machine) (pid : ℕ) (b : Bool) → IsFit s → ((p : Piece) → Has s pid p → hidden p.seg ≡ b)
+    → (a : ℕ) (q : Place) → place (held_by (caller_of s pid)) a ≡ Some q → hidden (identifier (q.seg % 32768) (destroyed_at s.table (q.seg % 32768))) ≡ b
+spot-hidden hidden s pid b fit each a q found =
     let f = spot-fits s pid a q fit.fits found in
     let seg : q.seg ≡ f.piece.seg = ap (λ (r : Place). r.seg) f.spot in
     let count : destroyed_at s.table (q.seg % 32768) ≡ q.seg / 32768 =
     ap (λ m. destroyed_at s.table (m % 32768)) seg ∙ ap destroyed_in (stands-at s.table f.piece.seg f.fits.segment f.fits.stands) ∙ ap (λ m. m / 32768) (sym seg) in
     let own : identifier (q.seg % 32768) (destroyed_at s.table (q.seg % 32768)) ≡ q.seg = omega (arith, count) in
-    ap hidden (own ∙ seg) ∙ none f.piece f.has
+    ap hidden (own ∙ seg) ∙ each f.piece f.has
 
-sees-other : (hidden : ℕ → Bool) (s other : Machine) (pid : ℕ) → DifferIn hidden s other → Sees hidden s pid → Sees hidden other pid
-sees-other hidden s other pid differ sees a q found =
+-- and so it is in a machine that differs in what is hidden
+other-hidden : (hidden : ℕ → Bool) (s other : Machine) (pid : ℕ) (b : Bool) → DifferIn hidden s other
+    → ((a : ℕ) (q : Place) → place (held_by (caller_of s pid)) a ≡ Some q → hidden (identifier (q.seg % 32768) (destroyed_at s.table (q.seg % 32768))) ≡ b)
+    → (a : ℕ) (q : Place) → place (held_by (caller_of other pid)) a ≡ Some q → hidden (identifier (q.seg % 32768) (destroyed_at other.table (q.seg % 32768))) ≡ b
+other-hidden hidden s other pid b differ sees a q found =
     let runners : other.runners ≡ s.runners = ap (λ (m : Machine). m.runners) (sym differ) in
     let there : place (held_by (caller_of s pid)) a ≡ Some q = ap (λ rs. place (held_by (caller_of (record s { runners = rs }) pid)) a) (sym runners) ∙ found in
     let i = q.seg % 32768 in
@@ -267,14 +276,14 @@ sees-other hidden s other pid differ sees a q found =
 blind-step : (hidden : ℕ → Bool) (s other : Machine) (n pid : ℕ) (call : Call) → DifferIn hidden s other → Sees hidden s pid
     → out hidden (step s n pid call) ≡ out hidden (step other n pid call)
 blind-step hidden s other n pid call differ sees =
-    sym (out-step hidden s n pid call sees) ∙ ap (λ m. step m n pid call) differ ∙ out-step hidden other n pid call (sees-other hidden s other pid differ sees)
+    sym (out-step hidden s n pid call sees) ∙ ap (λ m. step m n pid call) differ ∙ out-step hidden other n pid call (other-hidden hidden s other pid false differ sees)
 
 pub blind-move : (s : Machine) (n : ℕ) (e : Event) (t : Machine) → IsFit s → IsMove s n e t → (hidden : ℕ → Bool) (other : Machine) → HasNone hidden s e.pid → DifferIn hidden s other
     → (after : Machine) × IsMove other n e after × DifferIn hidden t after
 blind-move s n e t fit m hidden other none differ = by m
   where
     same : out hidden (step s n e.pid e.call) ≡ out hidden (step other n e.pid e.call)
-    same = blind-step hidden s other n e.pid e.call differ (sees-own hidden s e.pid fit none)
+    same = blind-step hidden s other n e.pid e.call differ (spot-hidden hidden s e.pid false fit none)
 
     reply : (step other n e.pid e.call).reply ≡ (step s n e.pid e.call).reply
     reply = ap (λ (o : Outcome). o.reply) (sym same)
@@ -289,22 +298,102 @@ blind-move s n e t fit m hidden other none differ = by m
         let unchanged : t ≡ s = x.unchanged in
         (other, inr (record { failure = x.failure; instead = ap is_refusal reply ∙ x.instead; unchanged = refl }), ap (veil hidden) unchanged ∙ differ)
 
--- and has none of it there either
-none-other : (hidden : ℕ → Bool) (s other : Machine) (pid : ℕ) → DifferIn hidden s other → HasNone hidden s pid → HasNone hidden other pid
-none-other hidden s other pid differ none p has =
-    none p (record { process = has.process; is = subst (λ rs. Contains rs has.process) (ap (λ (m : Machine). m.runners) (sym differ)) has.is; named = has.named; has = has.has })
+-- WHAT IS PRIVATE
+
+abbrev Hides : (ℕ → Bool) → Machine → ℕ → Type 0
+Hides hidden s pid = (a : ℕ) (q : Place) → place (held_by (caller_of s pid)) a ≡ Some q → Hid hidden s.table q
+
+module _ (hidden : ℕ → Bool) (s : Machine) (n : ℕ) (c : Caller) (hid : (a : ℕ) (q : Place) → place c.pieces a ≡ Some q → Hid hidden s.table q) where
+  hid-places : (a len : ℕ) (qs : List Place) → places c.pieces a len ≡ Some qs → (k : ℕ) (q : Place) → slice_get qs k ≡ Some q → Hid hidden s.table q
+  hid-places a len qs found k q is = let spot = spot-at c.pieces a len qs found k q is in hid (a + k) q spot
+
+  private-store : (a len : ℕ) (vs : List ℕ) (qs : List Place) → writable_places c.pieces a len ≡ Some qs → veil hidden (record s { table = stored s.table qs vs }) ≡ veil hidden s
+  private-store a len vs qs is =
+      let found = (writable-parts (places c.pieces a len) qs is).0 in
+      λ j. record s { table = stored-hidden hidden s.table qs vs (hid-places a len qs found) j }
+
+  private-acts : (call : Call) (r : Reach) → reach call ≡ Some r → veil hidden (acts s n c call).state ≡ veil hidden s
+  private-acts (Load a len) r is = by (places c.pieces a len)
+    where
+      by : (o : Option (List Place)) → veil hidden (load s o).state ≡ veil hidden s
+      by None = refl
+      by (Some qs) = refl
+  private-acts (Store a bytes) r is = by (writable_places c.pieces a (length bytes)) refl
+    where
+      by : (o : Option (List Place)) → writable_places c.pieces a (length bytes) ≡ o → veil hidden (store s bytes o).state ≡ veil hidden s
+      by None found = refl
+      by (Some qs) found = private-store a (length bytes) bytes qs found
+  private-acts (Xadd a add) r is = by (writable_places c.pieces a 8) refl
+    where
+      by : (o : Option (List Place)) → writable_places c.pieces a 8 ≡ o → veil hidden (xadd s add o).state ≡ veil hidden s
+      by None found = refl
+      by (Some qs) found = private-store a 8 (to_le_bytes w64 ((number_at s qs + add) % 2 ^ 64)) qs found
+  private-acts (Shmget key size mode flags) r is = absurd (none-some r is)
+  private-acts (Shmat id addr flags) r is = absurd (none-some r is)
+  private-acts (Shmdt addr) r is = absurd (none-some r is)
+  private-acts (Stat id) r is = absurd (none-some r is)
+  private-acts (Set id uid gid mode) r is = absurd (none-some r is)
+  private-acts (Rmid id) r is = absurd (none-some r is)
+  private-acts (Lock id) r is = absurd (none-some r is)
+  private-acts (Unlock id) r is = absurd (none-some r is)
+  private-acts (Fork child) r is = absurd (none-some r is)
+  private-acts Exec r is = absurd (none-some r is)
+  private-acts Exit r is = absurd (none-some r is)
+  private-acts (Swapoff area) r is = absurd (none-some r is)
+
+private-by : (hidden : ℕ → Bool) (s : Machine) (n : ℕ) (call : Call) (r : Reach) (o : Option Caller) → reach call ≡ Some r
+    → ((a : ℕ) (q : Place) → place (held_by o) a ≡ Some q → Hid hidden s.table q) → veil hidden (step_by s n call o).state ≡ veil hidden s
+private-by hidden s n call r None is hid = refl
+private-by hidden s n call r (Some c) is hid = private-acts hidden s n c hid call r is
+
+-- an access to what is hidden leaves the rest
+private-move : (hidden : ℕ → Bool) (s : Machine) (n : ℕ) (e : Event) (t : Machine) (r : Reach) → reach e.call ≡ Some r → Hides hidden s e.pid → IsMove s n e t → DifferIn hidden t s
+private-move hidden s n e t r is hid (inl m) =
+    ap (λ (o : Outcome). veil hidden o.state) (sym m) ∙ private-by hidden s n e.call r (caller_of s e.pid) is hid
+private-move hidden s n e t r is hid (inr x) = ap (veil hidden) x.unchanged
 
 -- FROM A MOMENT ON
 
-abbrev Unseen : (ℕ → Bool) → Machine → Event → Machine → Type 0
-Unseen hidden u e v = HasNone hidden u e.pid
+abbrev Asks : (ℕ → Bool) → Machine → Event → Event → Type 0
+Asks hidden u e f = IsAsked hidden u e f ⊎ IsPrivate hidden u e f
+
+abbrev Alike : (ℕ → Bool) → Machine → Event → Event → Type 0
+Alike hidden u e f = (f ≡ e) ⊎ IsPrivate hidden u e f
+
+-- one turn of two that go side by side
+record OneTurn (hidden : ℕ → Bool) (s : Machine) (e f : Event) (u v : Machine) : Type 0 where
+  alike : Alike hidden s e f
+  differ : DifferIn hidden u v
+
+one-turn : (hidden : ℕ → Bool) (s other : Machine) (n : ℕ) (e f : Event) (u v : Machine) → IsFit s → DifferIn hidden s other → IsMove s n e u → IsMove other n f v
+    → is_failure e.call e.reply ≡ false → is_failure f.call f.reply ≡ false → Asks hidden s e f → OneTurn hidden s e f u v
+one-turn hidden s other n e f u v fit differ m k a b (inl asks) =
+    let left = is-step s n e u a m in
+    let right = is-step other n f v b k in
+    let same = blind-step hidden s other n e.pid e.call differ (spot-hidden hidden s e.pid false fit asks.none) in
+    let there : step other n f.pid f.call ≡ step other n e.pid e.call = λ j. step other n (asks.process j) (asks.call j) in
+    let both : out hidden (record { reply = f.reply; state = v }) ≡ out hidden (record { reply = e.reply; state = u }) =
+    ap (out hidden) (sym right ∙ there) ∙ sym same ∙ ap (out hidden) left in
+    record {
+      alike = inl (λ j. record { pid = asks.process j; call = asks.call j; reply = (both j).reply });
+      differ = sym (ap (λ (o : Outcome). o.state) both);
+    }
+one-turn hidden s other n e f u v fit differ m k a b (inr private) =
+    let hid = spot-hidden hidden s e.pid true fit private.own in
+    let hid' : Hides hidden other f.pid = subst (Hides hidden other) (sym private.process) (other-hidden hidden s other e.pid true differ hid) in
+    record {
+      alike = inr private;
+      differ = private-move hidden s n e u private.left.0 private.left.1 hid m ∙ differ ∙ sym (private-move hidden other n f v private.right.0 private.right.1 hid' k);
+    }
 
 blind-on : (n : ℕ) (s : Machine) (events : List Event) (t : Machine) → IsFit s → IsBlindOn n s events t
-blind-on n s [] t fit hidden other moves differ = (other, refl, ap (veil hidden) moves ∙ differ)
-blind-on n s (e ∷ es) t fit hidden other moves differ =
-    let one = blind-move s n e moves.0 fit moves.1 hidden other moves.2 differ in
-    let more = blind-on (n + 1) moves.0 es t (fit-move s n e moves.0 fit moves.1) hidden one.0 moves.3 one.2 in
-    (more.0, (one.0, one.1, none-other hidden s other e.pid differ moves.2, more.1), more.2)
+blind-on n s [] t fit hidden other [] after differ legal a b beside = (beside, ap (veil hidden) beside ∙ differ ∙ ap (veil hidden) (sym legal))
+blind-on n s [] t fit hidden other (f ∷ fs) after differ legal a b beside = absurd beside
+blind-on n s (e ∷ es) t fit hidden other [] after differ legal a b beside = absurd beside
+blind-on n s (e ∷ es) t fit hidden other (f ∷ fs) after differ legal a b beside =
+    let one = one-turn hidden s other n e f beside.0 legal.0 fit differ beside.1 legal.1 (first-clear e es a) (first-clear f fs b) beside.2 in
+    let more = blind-on (n + 1) beside.0 es t (fit-move s n e beside.0 fit beside.1) hidden legal.0 fs after one.differ legal.2 (rest-clear e es a) (rest-clear f fs b) beside.3 in
+    ((beside.0, beside.1, one.alike, more.0), more.1)
 
 fit-always : (o : Opening) (before : List Event) (s : Machine) → IsHistory o before s → IsFit s
 fit-always o before s h = always o (λ _ u. IsFit u) (λ before s e t _ now m. fit-move s (length before + 1) e t now m) (fit-start o) before s h

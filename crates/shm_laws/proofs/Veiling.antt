@@ -59,6 +59,12 @@ look-if : (c b : Bool) (l m : Look) → (if c then veiled_look b l else veiled_l
 look-if true b l m = refl
 look-if false b l m = refl
 
+-- what is set to what it is
+set-same : (t : List Entry) (i : ℕ) (e : Entry) → slice_get t i ≡ Some e → slice_set t i e ≡ t
+set-same [] i e is = refl
+set-same (x ∷ xs) zero e is = let same : x ≡ e = cc is in ap (λ y. y ∷ xs) (sym same)
+set-same (x ∷ xs) (suc i) e is = ap (λ ys. x ∷ ys) (set-same xs i e is)
+
 module _ (hidden : ℕ → Bool) where
   abbrev V : ℕ → List Entry → List Entry
   V k t = veiled_from hidden k t
@@ -255,3 +261,32 @@ module _ (hidden : ℕ → Bool) where
       ap (λ u. stored u qs vs) (byte-stored t q v (clear 0 q refl))
       ∙ stored-veiled (with_byte t q v) qs vs
       (λ k p is. ap (λ d. hidden (identifier (p.seg % 32768) d)) (destroyed-byte t q v (p.seg % 32768)) ∙ clear (suc k) p is)
+
+  -- BYTES THAT ARE HIDDEN
+
+  abbrev pub Hid : List Entry → Place → Type 0
+  Hid t q = hidden (identifier (q.seg % 32768) (destroyed_at t (q.seg % 32768))) ≡ true
+
+  byte-hidden : (t : List Entry) (q : Place) (v : ℕ) → Hid t q → V 0 (with_byte t q v) ≡ V 0 t
+  byte-hidden t q v hid = by (slice_get t (q.seg % 32768)) refl
+    where
+      entry : (d : ℕ) (o : Option Segment) → hidden (identifier (q.seg % 32768) d) ≡ true
+          → veiled_entry hidden (q.seg % 32768) (entry_byte_set q.at v (record { destroyed = d; segment = o })) ≡ veiled_entry hidden (q.seg % 32768) (record { destroyed = d; segment = o })
+      entry d None h = refl
+      entry d (Some x) h =
+          rw h (ap (λ (k : ℕ). record { destroyed = d; segment = Some (record x { bytes = replicate k 0 }) }) (length-slice_set x.bytes q.at v))
+
+      by : (o : Option Entry) → slice_get t (q.seg % 32768) ≡ o → V 0 (with_byte t q v) ≡ V 0 t
+      by None is = rw is refl
+      by (Some e) is =
+          let own : hidden (identifier (q.seg % 32768) e.destroyed) ≡ true = ap (λ o. hidden (identifier (q.seg % 32768) (destroyed_in o))) (sym is) ∙ hid in
+          rw is
+          (veiled-set0 (q.seg % 32768) t (entry_byte_set q.at v e) ∙ ap (slice_set (V 0 t) (q.seg % 32768)) (entry e.destroyed e.segment own)
+          ∙ set-same (V 0 t) (q.seg % 32768) (veiled_entry hidden (q.seg % 32768) e) (veiled-get t (q.seg % 32768) ∙ ap (option_map (veiled_entry hidden (q.seg % 32768))) is))
+
+  pub stored-hidden : (t : List Entry) (qs : List Place) (vs : List ℕ) → ((k : ℕ) (q : Place) → slice_get qs k ≡ Some q → Hid t q) → V 0 (stored t qs vs) ≡ V 0 t
+  stored-hidden t [] vs hid = refl
+  stored-hidden t (q ∷ qs) [] hid = refl
+  stored-hidden t (q ∷ qs) (v ∷ vs) hid =
+      stored-hidden (with_byte t q v) qs vs (λ k p is. ap (λ d. hidden (identifier (p.seg % 32768) d)) (destroyed-byte t q v (p.seg % 32768)) ∙ hid (suc k) p is)
+      ∙ byte-hidden t q v (hid 0 q refl)
