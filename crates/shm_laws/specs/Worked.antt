@@ -1,11 +1,11 @@
 -- Worked histories, in which the laws say something. They are computed.
-use Rattle.std.specs.Prelude.{◌≡◌, ℕ, ◌+◌, ◌*◌, ◌^◌, pos, Bool, true, false, List, [], ◌∷◌, take, Option, Some, option_map, slice_get}
+use Rattle.std.specs.Prelude.{◌≡◌, ℕ, ◌+◌, ◌*◌, ◌^◌, ◌==◌, pos, Bool, true, false, List, [], ◌∷◌, take, Option, Some, option_map, slice_get}
 use Rattle.shm_base.specs.declared.errno.Errno.TheVariants.{Eperm, Eacces, Eidrm, Sigbus, Sigsegv}
-use Rattle.shm_base.specs.declared.call.Call.TheVariants.{Set, Rmid, Load, Store, Xadd, Fork, Exec}
+use Rattle.shm_base.specs.declared.call.Call.TheVariants.{Shmdt, Set, Rmid, Load, Store, Xadd, Fork, Exec}
 use Rattle.shm_base.specs.declared.call.Reply.TheVariants.{Addr, Bytes, Number, Done, Refused}
 use Rattle.shm_base.specs.declared.call.Event.{Event}
 use Rattle.shm_base.specs.State.{Segment, Entry, Piece, Runner, Machine, Opening, start_of}
-use Rattle.shm_base.specs.History.{IsHistory}
+use Rattle.shm_base.specs.History.{IsHistory, own_part}
 use Rattle.shm_base.specs.Rows.{Answers, does, id, mode, rdonly, shmget, shmat, stat, process, child}
 use Rattle.shm_base.specs.Identifier.{Look, Found, Removed, Invalid, look}
 use Rattle.shm_base.specs.Access.{bytes_at}
@@ -14,6 +14,7 @@ use Rattle.shm_base.specs.Step.{step}
 use Rattle.shm_laws.specs.Standing.{IsGone}
 use Rattle.shm_laws.specs.Replay.{without_failures}
 use Rattle.shm_laws.specs.Writing.{IsByte}
+use Rattle.shm_laws.specs.Isolation.{DifferIn}
 
 -- they are legal, and lead somewhere
 abbrev pub IsLegal : Opening → List Event → Type 0
@@ -156,3 +157,27 @@ WritingWorked =
     × (slice_get (bytes_at (after opening two_write 7).table 0) 4095 ≡ Some 9)
     × (slice_get (bytes_at (after opening two_write 9).table 1) 0 ≡ Some 3)
     × (slice_get (bytes_at (after opening two_write 9).table 1) 1 ≡ Some 0)
+
+-- ISOLATION: process 2 stores one byte or another into its own segment and reads it back; process 1 has a piece of another
+
+abbrev pub stores_own : ℕ → List Event
+stores_own byte =
+    does 1 (shmget 0 4096 (mode 6 0 0) 0) (id 0)
+    ∷ does 2 (shmget 0 4096 (mode 6 0 0) 0) (id 1)
+    ∷ does 1 (shmat 0 0 0) (Addr 0x40000000)
+    ∷ does 2 (shmat 1 0 0) (Addr 0x40000000)
+    ∷ does 2 (Store 0x40000000 (byte ∷ [])) Done
+    ∷ does 1 (Load 0x40000000 1) (Bytes (0 ∷ []))
+    ∷ does 2 (Load 0x40000000 1) (Bytes (byte ∷ []))
+    ∷ does 1 (Shmdt 0x40000000) Done
+    ∷ []
+
+-- either is legal; the ends differ in the byte that was stored, and in bytes of segment 1 alone; and process 1 was told
+-- the same
+abbrev pub IsolationWorked : Type 0
+IsolationWorked =
+    IsLegal opening (stores_own 5) × IsLegal opening (stores_own 6)
+    × (slice_get (bytes_at (after opening (stores_own 5) 8).table 1) 0 ≡ Some 5)
+    × (slice_get (bytes_at (after opening (stores_own 6) 8).table 1) 0 ≡ Some 6)
+    × DifferIn (λ id. id == 1) (after opening (stores_own 5) 8) (after opening (stores_own 6) 8)
+    × (own_part 1 (stores_own 5) ≡ own_part 1 (stores_own 6))

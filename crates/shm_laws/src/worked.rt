@@ -7,4 +7,5 @@ fn worked_histories()
     ensures pieces { worked.PiecesWorked }
     ensures leave { worked.LeaveWorked }
     ensures writing { worked.WritingWorked }
+    ensures isolation { worked.IsolationWorked }
 {}
