@@ -22,36 +22,38 @@ use Rattle.shm_laws.proofs.Fresh.{IsEmpty, made-at}
 use Rattle.shm_laws.proofs.Looks.{holds, bare_entry, stands-at}
 use Rattle.shm_laws.specs.Writing.{put, held_by}
 use Rattle.shm_laws.proofs.Refusing.{failure-removed, failure-put}
-use Rattle.shm_laws.proofs.Stepping.{Bare, StillTo, SweepTo, MakeTo, RemoveTo, IsIdle, Kind, over_put, overlay, Moved, removed, removed_by, kind-acts, still}
+use Rattle.shm_laws.proofs.Stepping.{Bare, StillTo, SweepTo, MakeTo, RemoveTo, IsIdle, Kind, over_put, overlay, MadeBy, made_by, Moved, removed, removed_by, kind-acts, still}
 
 -- WHAT EACH MOVE IS
 
 kind-by : (s : Machine) (n : ℕ) (call : Call) (o : Option Caller) → Bare s.runners
-    → let r = step_by s n call o in Kind (over_put (held_by o) (put call r.reply)) s (removed call r.reply) r.reply r.state
-kind-by s n (Rmid (pos id)) None bare = still s _
-kind-by s n (Rmid (negsuc id)) None bare = still s _
-kind-by s n (Shmget key size mode flags) None bare = still s _
-kind-by s n (Shmat id addr flags) None bare = still s _
-kind-by s n (Shmdt addr) None bare = still s _
-kind-by s n (Stat id) None bare = still s _
-kind-by s n (Set id uid gid mode) None bare = still s _
-kind-by s n (Lock id) None bare = still s _
-kind-by s n (Unlock id) None bare = still s _
-kind-by s n (Load a len) None bare = still s _
-kind-by s n (Store a bytes) None bare = still s _
-kind-by s n (Xadd a add) None bare = still s _
-kind-by s n (Fork child) None bare = still s _
-kind-by s n Exec None bare = still s _
-kind-by s n Exit None bare = still s _
-kind-by s n (Swapoff area) None bare = still s _
-kind-by s n call (Some c) bare = kind-acts s n c call bare
+    → let r = step_by s n call o in Kind (over_put (held_by o) (put call r.reply)) (made_by o call) s (removed call r.reply) r.reply r.state
+kind-by s n (Rmid (pos id)) None bare = still _ s _
+kind-by s n (Rmid (negsuc id)) None bare = still _ s _
+kind-by s n (Shmget key size mode flags) None bare = still _ s _
+kind-by s n (Shmat id addr flags) None bare = still _ s _
+kind-by s n (Shmdt addr) None bare = still _ s _
+kind-by s n (Stat id) None bare = still _ s _
+kind-by s n (Set id uid gid mode) None bare = still _ s _
+kind-by s n (Lock id) None bare = still _ s _
+kind-by s n (Unlock id) None bare = still _ s _
+kind-by s n (Load a len) None bare = still _ s _
+kind-by s n (Store a bytes) None bare = still _ s _
+kind-by s n (Xadd a add) None bare = still _ s _
+kind-by s n (Fork child) None bare = still _ s _
+kind-by s n Exec None bare = still _ s _
+kind-by s n Exit None bare = still _ s _
+kind-by s n (Swapoff area) None bare = still _ s _
+kind-by s n call (Some c) bare =
+    kind-acts (MadeBy c call) s n c call bare
+    (λ key size mode flags asked k. record { key = key; mode = mode; flags = flags; asked = asked; process = refl; user = refl; group = refl })
 
 pub kind-move : (s : Machine) (n : ℕ) (e : Event) (t : Machine) → Bare s.runners → IsMove s n e t → Moved s e t
 kind-move s n e t bare (inl m) =
-    subst (λ (o : Outcome). Kind (over_put (held_by (caller_of s e.pid)) (put e.call o.reply)) s (removed e.call o.reply) o.reply o.state) m
+    subst (λ (o : Outcome). Kind (over_put (held_by (caller_of s e.pid)) (put e.call o.reply)) (made_by (caller_of s e.pid) e.call) s (removed e.call o.reply) o.reply o.state) m
     (kind-by s n e.call (caller_of s e.pid) bare)
 kind-move s n e t bare (inr x) =
-    rw (failure-removed e.call e.reply x.failure, failure-put e.call e.reply x.failure, x.unchanged) (still s e.reply)
+    rw (failure-removed e.call e.reply x.failure, failure-put e.call e.reply x.failure, x.unchanged) (still (made_by (caller_of s e.pid) e.call) s e.reply)
 
 -- WHICH CALL REMOVED
 
@@ -111,8 +113,9 @@ pub record Stays (over : List ℕ → List ℕ) (i : ℕ) (rs : List Runner) (b 
   pub at : after ≡ Some (swept_at i rs d (Some now))
 
 -- a new one
-pub record IsNew (i : ℕ) (reply : Reply) (d : ℕ) (after : Option Entry) : Type 0 where
+pub record IsNew (like : Segment → Type 0) (i : ℕ) (reply : Reply) (d : ℕ) (after : Option Entry) : Type 0 where
   pub now : Segment
+  pub made : like now
   pub answer : reply ≡ Id (pos (identifier i d))
   pub dest : now.dest ≡ false
   pub zeros : (n : ℕ) × (now.bytes ≡ replicate n 0)
@@ -159,7 +162,7 @@ swept-sound i rs d y =
       | inr h ↦ rw h h
     ]
 
-module _ (over : ℕ → List ℕ → List ℕ) (r : Option ℕ) (reply : Reply) (s t : Machine) (sound : IsSound s) (i : ℕ) (small : i < 32768) where
+module _ (over : ℕ → List ℕ → List ℕ) (like : Segment → Type 0) (r : Option ℕ) (reply : Reply) (s t : Machine) (sound : IsSound s) (i : ℕ) (small : i < 32768) where
   stays-still : (d : ℕ) (x : Segment) → StillTo over s t → slice_get s.table i ≡ holds d x → Stays (over i) i t.runners false d x (slice_get t.table i)
   stays-still d x k is =
       let u = k.turned i in
@@ -180,7 +183,7 @@ module _ (over : ℕ → List ℕ → List ℕ) (r : Option ℕ) (reply : Reply)
   holds-empty d e x o is (inl h) = none-some x (ap segment_in (sym h ∙ is))
   holds-empty d e x o is (inr h) = none-some _ (sym h.0 ∙ is)
 
-  stays-made : (d : ℕ) (x : Segment) → IsIdle over → MakeTo s reply t → slice_get s.table i ≡ holds d x → Stays (over i) i t.runners false d x (slice_get t.table i)
+  stays-made : (d : ℕ) (x : Segment) → IsIdle over → MakeTo like s reply t → slice_get s.table i ≡ holds d x → Stays (over i) i t.runners false d x (slice_get t.table i)
   stays-made d x none k is =
       let m = made-at s.table k.index k.segment k.free in
       elim (cases_eq k.index i) [
@@ -230,14 +233,14 @@ module _ (over : ℕ → List ℕ → List ℕ) (r : Option ℕ) (reply : Reply)
           })
 
   -- a segment that stood
-  pub stays : (d : ℕ) (x : Segment) → Kind over s r reply t → slice_get s.table i ≡ holds d x → Stays (over i) i t.runners (names r (identifier i d)) d x (slice_get t.table i)
+  pub stays : (d : ℕ) (x : Segment) → Kind over like s r reply t → slice_get s.table i ≡ holds d x → Stays (over i) i t.runners (names r (identifier i d)) d x (slice_get t.table i)
   stays d x (inl (none, inl k)) is = rw none (stays-still d x k is)
   stays d x (inl (none, inr (no_byte, inl k))) is = rw none (stays-swept d x no_byte k is)
   stays d x (inl (none, inr (no_byte, inr k))) is = rw none (stays-made d x no_byte k is)
   stays d x (inr (no_byte, k)) is = rw k.named (stays-removed d x k.id no_byte k.removes is)
 
   -- an index that held no segment
-  pub comes : (d : ℕ) (o : Option Entry) → Kind over s r reply t → slice_get s.table i ≡ o → IsEmpty d o → (slice_get t.table i ≡ o) ⊎ IsNew i reply d (slice_get t.table i)
+  pub comes : (d : ℕ) (o : Option Entry) → Kind over like s r reply t → slice_get s.table i ≡ o → IsEmpty d o → (slice_get t.table i ≡ o) ⊎ IsNew like i reply d (slice_get t.table i)
   comes d o (inl (none, inl k)) is empty = inl ((k.turned i).at ∙ ap (option_map (with_entry (k.turned i).turn)) is ∙ turned-empty (k.turned i).turn d o empty)
   comes d o (inl (none, inr (no_byte, inl k))) is empty =
       inl (ap (λ (es : List Entry). slice_get es i) k.table ∙ swept-get t.runners k.middle i
@@ -251,6 +254,7 @@ module _ (over : ℕ → List ℕ → List ℕ) (r : Option ℕ) (reply : Reply)
             (let count : m.destroyed ≡ d = same-count m.destroyed d o (subst (IsEmpty m.destroyed) (ap (slice_get s.table) h ∙ is) m.empty) empty in
             inr (record {
               now = k.segment;
+              made = k.made;
               answer = k.answer ∙ (λ j. Id (pos (identifier (h j) ((m.count ∙ count) j))));
               dest = k.fresh;
               zeros = k.zeros;
@@ -271,13 +275,13 @@ module _ (over : ℕ → List ℕ → List ℕ) (r : Option ℕ) (reply : Reply)
   stays-sound : (b : Bool) (d : ℕ) (x : Segment) → Stays (over i) i t.runners b d x (slice_get t.table i) → orphan t.runners t.table i ≡ false
   stays-sound b d x k = ap (orphan_in i t.runners) k.at ∙ swept-sound i t.runners d k.now
 
-  new-sound : (d : ℕ) → IsNew i reply d (slice_get t.table i) → orphan t.runners t.table i ≡ false
+  new-sound : (d : ℕ) → IsNew like i reply d (slice_get t.table i) → orphan t.runners t.table i ≡ false
   new-sound d k = ap (orphan_in i t.runners) k.at ∙ rw k.dest refl
 
-  orphan-after : Kind over s r reply t → (o : Option Entry) → slice_get s.table i ≡ o → orphan t.runners t.table i ≡ false
+  orphan-after : Kind over like s r reply t → (o : Option Entry) → slice_get s.table i ≡ o → orphan t.runners t.table i ≡ false
   orphan-after k None is = either (comes 0 None k is (inr (refl, refl)))
     where
-      either : (slice_get t.table i ≡ None) ⊎ IsNew i reply 0 (slice_get t.table i) → orphan t.runners t.table i ≡ false
+      either : (slice_get t.table i ≡ None) ⊎ IsNew like i reply 0 (slice_get t.table i) → orphan t.runners t.table i ≡ false
       either (inl h) = ap (orphan_in i t.runners) h
       either (inr h) = new-sound 0 h
   orphan-after k (Some e) is = in_entry e.destroyed e.segment is
@@ -286,7 +290,7 @@ module _ (over : ℕ → List ℕ → List ℕ) (r : Option ℕ) (reply : Reply)
       in_entry d (Some x) is = stays-sound (names r (identifier i d)) d x (stays d x k is)
       in_entry d None is = either (comes d (bare_entry d) k is (inl refl))
         where
-          either : (slice_get t.table i ≡ bare_entry d) ⊎ IsNew i reply d (slice_get t.table i) → orphan t.runners t.table i ≡ false
+          either : (slice_get t.table i ≡ bare_entry d) ⊎ IsNew like i reply d (slice_get t.table i) → orphan t.runners t.table i ≡ false
           either (inl h) = ap (orphan_in i t.runners) h
           either (inr h) = new-sound d h
 
@@ -299,6 +303,6 @@ bare-after s e t (inr (no_byte, k)) bare = rw k.removes.runners bare
 pub sound-after : (s : Machine) (e : Event) (t : Machine) → Moved s e t → IsSound s → IsSound t
 sound-after s e t k sound =
     record {
-      orphans = λ i small. orphan-after (overlay s e) (removed e.call e.reply) e.reply s t sound i small k (slice_get s.table i) refl;
+      orphans = λ i small. orphan-after (overlay s e) (made_by (caller_of s e.pid) e.call) (removed e.call e.reply) e.reply s t sound i small k (slice_get s.table i) refl;
       bare = bare-after s e t k sound.bare;
     }

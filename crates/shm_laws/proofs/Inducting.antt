@@ -5,7 +5,7 @@ use Rattle.shm_base.specs.declared.call.Event.{Event}
 use Rattle.shm_base.specs.State.{Machine, Opening, start_of}
 use Rattle.shm_base.specs.History.{IsMove, LeadsFrom, IsHistory}
 use Rattle.shm_history.proofs.Histories.{history_more}
-use Rattle.shm_laws.specs.Standing.{MovesBy, Always}
+use Rattle.shm_laws.specs.Standing.{MovesBy, Always, Since, Began, Lasted}
 
 -- what holds of a machine is kept by each move, and with it a law holds of the move
 abbrev pub Keeps : (Machine → Type 0) → (Machine → Event → Machine → Type 0) → Type 0
@@ -39,3 +39,9 @@ module _ (o : Opening) (holds : List Event → Machine → Type 0) (step : GoesO
   -- at each moment of a history
   pub at_all_times : holds [] (start_of o) → (events : List Event) → Always holds o events
   at_all_times first events before s m = always first before s m.leads
+
+-- what began as more began as less, and so did what kept it up
+pub since-map : (o : Opening) (a b : Machine → Event → Type 0) (f g : Machine → Event → Type 0) → ((s : Machine) (e : Event) → a s e → b s e) → ((s : Machine) (e : Event) → f s e → g s e)
+    → (before : List Event) → Since o a f before → Since o b g before
+since-map o a b f g begins keeps _ (Began before s e h x) = Began before s e h (begins s e x)
+since-map o a b f g begins keeps _ (Lasted before s e h x more) = Lasted before s e h (keeps s e x) (since-map o a b f g begins keeps before more)

@@ -1,21 +1,25 @@
 -- An identifier names one segment.
-use Rattle.std.proofs.Common.{◌≡◌, ◌⊎◌, ℕ, ◌+◌, ◌/◌, ◌%◌, ◌<◌, ◌==◌, ◌&&◌, pos, List, [], ◌∷◌, replicate, Option, Some, None, slice_get, refl, sym, ap, subst, ◌∙◌, inl, inr, arith}
+use Rattle.std.proofs.Common.{◌≡◌, ◌⊎◌, ℕ, ◌+◌, ◌/◌, ◌%◌, ◌<◌, ◌==◌, ◌&&◌, pos, List, [], ◌∷◌, ◌++◌, length, replicate, Option, Some, None, slice_get, refl, sym, ap, subst, ◌∙◌, inl, inr, arith}
 use Rattle.std.proofs.lemmas.Bool.{cases_Bool}
 use Rattle.std.proofs.lemmas.Option.{none-some}
+use Rattle.shm_base.specs.declared.call.Call.TheVariants.{Shmget}
 use Rattle.shm_base.specs.declared.call.Reply.TheVariants.{Id}
 use Rattle.shm_base.specs.declared.call.Event.{Event}
 use Rattle.shm_base.specs.State.{Segment, Entry, Runner, Machine, Opening, start_of}
 use Rattle.shm_base.specs.Identifier.{Invalid, identifier, destroyed_in, look}
 use Rattle.shm_base.specs.Segments.{attach_count, swept_at}
+use Rattle.shm_base.specs.Step.{Caller, caller_of}
 use Rattle.shm_base.specs.History.{IsMove, LeadsFrom, IsHistory}
 use Rattle.shm_segments.specs.Table.{segment_in}
-use Rattle.shm_laws.specs.Standing.{Stands, IsGone, MovesBy, MomentsBy}
-use Rattle.shm_laws.specs.Identity.{IsSame, KeepsNames, NamesAnew, NamesOneSegment}
+use Rattle.shm_laws.specs.Standing.{Stands, IsGone, MovesBy, MomentsBy, Since, Began, Lasted}
+use Rattle.shm_laws.specs.Identity.{IsSame, KeepsNames, NamesAnew, IsMadeBy, StandsAs, AreMade, NamesOneSegment}
 use Rattle.shm_laws.specs.Writing.{Makes}
 use Rattle.shm_laws.proofs.Fresh.{IsEmpty}
 use Rattle.shm_laws.proofs.Turning.{same_refl, same_trans}
+use Rattle.shm_laws.proofs.Handing.{caller-at}
+use Rattle.shm_laws.proofs.Inducting.{GoesOn, at_all_times, since-map}
 use Rattle.shm_laws.proofs.Looks.{holds, bare_entry, stands-at, at-stands, at-gone, at-never, at-next, entry-gone}
-use Rattle.shm_laws.proofs.Stepping.{overlay, Moved, removed}
+use Rattle.shm_laws.proofs.Stepping.{overlay, MadeBy, made_by, Moved, removed}
 use Rattle.shm_laws.proofs.Fates.{IsSound, IsNew, stays, comes, sound-after, kind-move}
 use Rattle.shm_laws.proofs.Removing.{sound-start, stands-or-gone}
 
@@ -32,6 +36,7 @@ pub record Stood (s : Machine) (e : Event) (id : ℕ) (y : Segment) : Type 0 whe
 pub record Made (s : Machine) (e : Event) (id : ℕ) (y : Segment) : Type 0 where
   pub makes : Makes s e id
   pub zeros : (n : ℕ) × (y.bytes ≡ replicate n 0)
+  pub made : made_by (caller_of s e.pid) e.call y
 
 abbrev pub Before : Machine → Event → ℕ → Segment → Type 0
 Before s e id y = Stood s e id y ⊎ Made s e id y
@@ -49,10 +54,10 @@ module _ (s t : Machine) (e : Event) (sound : IsSound s) (k : Moved s e t) (id :
 
   gone-entry : (d : ℕ) (p : Option Segment) → slice_get s.table (id % 32768) ≡ Some (record { destroyed = d; segment = p }) → id / 32768 < d → IsGone t id
   gone-entry d (Some x) is past =
-      let q = stays (overlay s e) (removed e.call e.reply) e.reply s t sound (id % 32768) small d x k is in gone-swept t.runners d q.now past q.at
-  gone-entry d None is past = either (comes (overlay s e) (removed e.call e.reply) e.reply s t sound (id % 32768) small d (bare_entry d) k is (inl refl))
+      let q = stays (overlay s e) (made_by (caller_of s e.pid) e.call) (removed e.call e.reply) e.reply s t sound (id % 32768) small d x k is in gone-swept t.runners d q.now past q.at
+  gone-entry d None is past = either (comes (overlay s e) (made_by (caller_of s e.pid) e.call) (removed e.call e.reply) e.reply s t sound (id % 32768) small d (bare_entry d) k is (inl refl))
     where
-      either : (slice_get t.table (id % 32768) ≡ bare_entry d) ⊎ IsNew (id % 32768) e.reply d (slice_get t.table (id % 32768)) → IsGone t id
+      either : (slice_get t.table (id % 32768) ≡ bare_entry d) ⊎ IsNew (made_by (caller_of s e.pid) e.call) (id % 32768) e.reply d (slice_get t.table (id % 32768)) → IsGone t id
       either (inl h) = at-gone t.table id d None h past
       either (inr h) = at-gone t.table id d (Some h.now) h.at past
 
@@ -81,9 +86,9 @@ module _ (s t : Machine) (e : Event) (sound : IsSound s) (k : Moved s e t) (id :
   -- a segment that is new
   was-empty : (y : Segment) → slice_get t.table (id % 32768) ≡ holds (id / 32768) y → (d : ℕ) (o : Option Entry) → slice_get s.table (id % 32768) ≡ o → IsEmpty d o
       → (o ≡ holds (id / 32768) y → ⊥) → (d ≡ id / 32768 → look s.table (pos id) ≡ Invalid) → Before s e id y
-  was-empty y at d o is empty other never = either (comes (overlay s e) (removed e.call e.reply) e.reply s t sound (id % 32768) small d o k is empty)
+  was-empty y at d o is empty other never = either (comes (overlay s e) (made_by (caller_of s e.pid) e.call) (removed e.call e.reply) e.reply s t sound (id % 32768) small d o k is empty)
     where
-      either : (slice_get t.table (id % 32768) ≡ o) ⊎ IsNew (id % 32768) e.reply d (slice_get t.table (id % 32768)) → Before s e id y
+      either : (slice_get t.table (id % 32768) ≡ o) ⊎ IsNew (made_by (caller_of s e.pid) e.call) (id % 32768) e.reply d (slice_get t.table (id % 32768)) → Before s e id y
       either (inl h) = absurd (other (sym h ∙ at))
       either (inr h) =
           let same : holds d h.now ≡ holds (id / 32768) y = sym h.at ∙ at in
@@ -93,11 +98,12 @@ module _ (s t : Machine) (e : Event) (sound : IsSound s) (k : Moved s e t) (id :
           inr (record {
             makes = (never count, h.answer ∙ ap (λ n. Id (pos n)) own);
             zeros = (h.zeros.0, ap (λ (w : Segment). w.bytes) (sym segment) ∙ h.zeros.1);
+            made = subst (made_by (caller_of s e.pid) e.call) segment h.made;
           })
 
   was-entry : (y : Segment) → slice_get t.table (id % 32768) ≡ holds (id / 32768) y → (d : ℕ) (p : Option Segment) → slice_get s.table (id % 32768) ≡ Some (record { destroyed = d; segment = p }) → Before s e id y
   was-entry y at d (Some x) is =
-      let q = stays (overlay s e) (removed e.call e.reply) e.reply s t sound (id % 32768) small d x k is in was-swept d x y q.now is q.same q.bytes (sym q.at ∙ at)
+      let q = stays (overlay s e) (made_by (caller_of s e.pid) e.call) (removed e.call e.reply) e.reply s t sound (id % 32768) small d x k is in was-swept d x y q.now is q.same q.bytes (sym q.at ∙ at)
   was-entry y at d None is =
       was-empty y at d (bare_entry d) is (inl refl) (λ h. none-some y (ap segment_in h)) (λ count. at-next s.table id (is ∙ ap bare_entry count))
 
@@ -162,8 +168,73 @@ all_moves n s (e ∷ es) t sound h =
     let now : KeepsNames s t = keeps-trans s h.0 t one.kept more.now in
     record { now = now; kept = (now, (h.0, h.1, more.kept)); new = (h.0, h.1, one.new, more.new) }
 
+-- WHO MADE IT
+
+made-now : (s : Machine) (e : Event) (id : ℕ) (y : Segment) → Made s e id y → IsMadeBy s e id y
+made-now s e id y m = by (caller_of s e.pid) refl m.made
+  where
+    by : (o : Option Caller) → caller_of s e.pid ≡ o → made_by o e.call y → IsMadeBy s e id y
+    by None is none = absurd none
+    by (Some c) is made =
+        let at = caller-at 0 e.pid s.runners c is in
+        record {
+          key = made.key;
+          mode = made.mode;
+          flags = made.flags;
+          call = made.asked;
+          reply = m.makes.1;
+          never = m.makes.0;
+          process = sym at.own ∙ sym made.process;
+          caller = c;
+          live = is;
+          user = made.user;
+          group = made.group;
+        }
+
+-- who made a segment made the same one
+made-same : (s : Machine) (e : Event) (id : ℕ) (x y : Segment) → IsSame x y → IsMadeBy s e id x → IsMadeBy s e id y
+made-same s e id x y same m =
+    record {
+      key = m.key;
+      mode = m.mode;
+      flags = m.flags;
+      call = m.call ∙ ap (λ n. Shmget m.key n m.mode m.flags) (sym same.size);
+      reply = m.reply;
+      never = m.never;
+      process = m.process ∙ sym same.cpid;
+      caller = m.caller;
+      live = m.live;
+      user = same.cuid ∙ m.user;
+      group = same.cgid ∙ m.group;
+    }
+
+since-same : (o : Opening) (before : List Event) (id : ℕ) (x y : Segment) → IsSame x y → Since o (λ u e. IsMadeBy u e id x) (λ u e. StandsAs u id x) before → Since o (λ u e. IsMadeBy u e id y) (λ u e. StandsAs u id y) before
+since-same o before id x y same since =
+    since-map o (λ u e. IsMadeBy u e id x) (λ u e. IsMadeBy u e id y) (λ u e. StandsAs u id x) (λ u e. StandsAs u id y)
+    (λ u e. made-same u e id x y same) (λ u e h. (h.0, h.1, same_trans h.0 x y h.2 same)) before since
+
+record Known (o : Opening) (before : List Event) (s : Machine) : Type 0 where
+  sound : IsSound s
+  made : AreMade o before s
+
+known-on : (o : Opening) → GoesOn o (Known o)
+known-on o before s e t h now m =
+    record { sound = (one_move s (length before + 1) e t now.sound m).sound; made = λ id y stands. from id y (came-from s t e now.sound (kind-move s (length before + 1) e t now.sound.bare m) id y stands) }
+  where
+    from : (id : ℕ) (y : Segment) → Before s e id y → Since o (λ u e. IsMadeBy u e id y) (λ u e. StandsAs u id y) (before ++ e ∷ [])
+    from id y (inr new) = Began before s e h (made-now s e id y new)
+    from id y (inl old) =
+        Lasted before s e h (old.segment, old.stood, old.same) (since-same o before id old.segment y old.same (now.made id old.segment old.stood))
+
+start-made : (o : Opening) → AreMade o [] (start_of o)
+start-made o id y stands = absurd (cc stands)
+
 -- of every legal history
 pub names_one_segment : (o : Opening) (events : List Event) (end : Machine) → IsHistory o events end → NamesOneSegment o events end
 names_one_segment o events end h =
     let all = all_moves 1 (start_of o) events end (sound-start o) h in
-    record { kept = all.kept; new = all.new }
+    record {
+      kept = all.kept;
+      new = all.new;
+      made = λ before s m. (at_all_times o (Known o) (known-on o) (record { sound = sound-start o; made = start-made o }) events before s m).made;
+    }

@@ -7,6 +7,7 @@ use Rattle.shm_base.specs.declared.call.Event.{Event}
 use Rattle.shm_base.specs.State.{Segment, Runner, Machine, Opening, start_of, runner_at_start}
 use Rattle.shm_base.specs.Identifier.{identifier, look}
 use Rattle.shm_base.specs.Segments.{attach_count}
+use Rattle.shm_base.specs.Step.{caller_of}
 use Rattle.shm_base.specs.History.{IsHistory}
 use Rattle.shm_segments.specs.Left.{orphan_in}
 use Rattle.shm_life.proofs.Sweeping.{left-parts}
@@ -15,7 +16,7 @@ use Rattle.shm_laws.specs.Identity.{IsSame}
 use Rattle.shm_laws.specs.Removal.{MarkedHavePieces, IsDue, DestroysWhatIsDue, GoesWhenItMust}
 use Rattle.shm_laws.proofs.Inducting.{Keeps, each_move}
 use Rattle.shm_laws.proofs.Looks.{stands-at, at-stands, at-gone, not-both}
-use Rattle.shm_laws.proofs.Stepping.{Bare, overlay, Moved, removed}
+use Rattle.shm_laws.proofs.Stepping.{Bare, overlay, made_by, Moved, removed}
 use Rattle.shm_laws.proofs.Fates.{IsSound, names, Stays, stays, sound-after, kind-move, removed-call}
 
 -- WHERE A MACHINE STARTS
@@ -52,7 +53,7 @@ module _ (s t : Machine) (e : Event) (sound : IsSound s) (k : Moved s e t) (id :
   own = omega arith
 
   after : Stays (overlay s e (id % 32768)) (id % 32768) t.runners (names (removed e.call e.reply) (identifier (id % 32768) (id / 32768))) (id / 32768) x (slice_get t.table (id % 32768))
-  after = stays (overlay s e) (removed e.call e.reply) e.reply s t sound (id % 32768) (omega arith) (id / 32768) x k (stands-at s.table id x stood)
+  after = stays (overlay s e) (made_by (caller_of s e.pid) e.call) (removed e.call e.reply) e.reply s t sound (id % 32768) (omega arith) (id / 32768) x k (stands-at s.table id x stood)
 
   by_name : names (removed e.call e.reply) id ≡ true → removed e.call e.reply ≡ Some id
   by_name h = at (removed e.call e.reply) refl h
