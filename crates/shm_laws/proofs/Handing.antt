@@ -159,10 +159,10 @@ module _ (s : Machine) (n : ℕ) (c : Caller) where
       let asked : Shmat (pos m) at flags ≡ Shmat (pos (identifier i (destroyed_at s.table i))) at flags = ap (λ k. Shmat (pos k) at flags) (sym own) in
       pick_by (Hands s c (Shmat (pos m) at flags)) (not (grants c.cred x.perm (at_wish flags))) _ _ (λ h. inl refl)
       (λ h.
-        let leave = not-false (grants c.cred x.perm (at_wish flags)) h in
-        pick (Hands s c (Shmat (pos m) at flags)) (addr == 0) _ _
-        (hands-chosen _ _ at flags x (choose c.pieces (pages_in x)) refl asked there leave)
-        (hands-fixed _ _ addr at flags x asked there leave))
+      let leave = not-false (grants c.cred x.perm (at_wish flags)) h in
+      pick (Hands s c (Shmat (pos m) at flags)) (addr == 0) _ _
+      (hands-chosen _ _ at flags x (choose c.pieces (pages_in x)) refl asked there leave)
+      (hands-fixed _ _ addr at flags x asked there leave))
 
   hands-look : (id : ℤ) (flags : AtFlags) (addr : ℕ) → Hands s c (Shmat id addr flags) (attaches_found s n c flags addr (look s.table id))
   hands-look (pos m) flags addr = hands-found m flags addr addr (look s.table (pos m)) refl
