@@ -1,5 +1,5 @@
 -- Each piece goes back to a shmat that was granted, and each move keeps out who has no leave.
-use Rattle.std.proofs.Common.{◌≡◌, ◌⊎◌, ℕ, ◌+◌, ◌-◌, ◌*◌, ◌/◌, ◌%◌, ◌<◌, ◌≤◌, ◌==◌, ◌&&◌, ◌||◌, ℤ, pos, negsuc, Bool, true, false, not, nat_lt, List, [], ◌∷◌, ◌++◌, length, map, get_or, Option, Some, None, slice_get, slice_set, refl, sym, ap, subst, ◌∙◌, inl, inr, arith, true≢false}
+use Rattle.std.proofs.Common.{◌≡◌, ◌⊎◌, ℕ, ◌+◌, ◌-◌, ◌*◌, ◌/◌, ◌%◌, ◌<◌, ◌≤◌, ◌==◌, ℤ, pos, negsuc, Bool, true, false, not, List, [], ◌∷◌, ◌++◌, length, get_or, Option, Some, None, slice_get, slice_set, refl, sym, ap, subst, ◌∙◌, inl, inr, arith, true≢false}
 use Rattle.std.specs.Prelude.{All, Contains}
 use Rattle.std.proofs.lemmas.Bool.{cases_Bool, cases_lt, lt-ltb, le-ltb, eqb-true, not-false}
 use Rattle.std.proofs.lemmas.Option.{none-some, slice_get_within, get_or_from_slice_get}
@@ -8,13 +8,12 @@ use Rattle.std.proofs.lemmas.List.Concat.{flat_map-cons}
 use Rattle.std.proofs.lemmas.Grind.{common_steps}
 use Rattle.shm_base.specs.declared.owner.Cred.{Cred}
 use Rattle.shm_base.specs.declared.owner.Perm.{Perm}
-use Rattle.shm_base.specs.declared.call.Process.{Process}
 use Rattle.shm_base.specs.declared.call.Call.{Call}
 use Rattle.shm_base.specs.declared.call.Call.TheVariants.{Shmget, Shmat, Shmdt, Stat, Set, Rmid, Lock, Unlock, Load, Store, Xadd, Fork, Exec, Exit, Swapoff}
 use Rattle.shm_base.specs.declared.call.Reply.TheVariants.{Done}
 use Rattle.shm_base.specs.declared.call.Event.{Event}
 use Rattle.shm_base.specs.declared.errno.Errno.TheVariants.{Eperm}
-use Rattle.shm_base.specs.Access.{Place, covers, end_of, place_by, places, writable_places}
+use Rattle.shm_base.specs.Access.{Place, covers, end_of, places, writable_places}
 use Rattle.shm_base.specs.Permission.{owns}
 use Rattle.shm_base.specs.State.{Segment, Piece, Live, Runner, Machine, Opening, start_of, runner_at_start, pages_in}
 use Rattle.shm_base.specs.Identifier.{Look, Found, Removed, Invalid, look}
@@ -22,8 +21,8 @@ use Rattle.shm_base.specs.Space.{meets, part_below, part_above, parts, cut, inse
 use Rattle.shm_base.specs.Step.{Caller, Outcome, caller_of, acts, step_by, pieces_with, is_rdonly, refuses, controls, sets, removes, locks, unlocks, load, store, xadd}
 use Rattle.shm_base.specs.History.{is_refusal, IsMove, IsHistory}
 use Rattle.shm_life.proofs.Pieces.{all-cons, all-head, all-tail, all-slice_set}
-use Rattle.shm_laws.specs.Standing.{Stands, Has, EachPiece}
-use Rattle.shm_laws.specs.Leave.{IsPart, IsGranted, IsInherited, GoesBack, Granted, Kept, Inherited, Reach, reach, StaysInside, controlled, IsOwner, OwnerAsks, KeepsOut, NoWayIn}
+use Rattle.shm_laws.specs.Standing.{Has, EachPiece}
+use Rattle.shm_laws.specs.Leave.{IsPart, IsGranted, IsInherited, GoesBack, Granted, Kept, Inherited, Reach, StaysInside, controlled, IsOwner, OwnerAsks, KeepsOut, NoWayIn}
 use Rattle.shm_laws.proofs.Accessing.{lies-in, place-of, writable-at, writable-parts}
 use Rattle.shm_laws.proofs.Handing.{CallerAt, caller-at, IsAligned, Attaches, Leaves, Forks, Hands, pick_by, hands-acts}
 use Rattle.shm_laws.proofs.Inducting.{each_move, at_all_times}
@@ -175,7 +174,7 @@ module _ (s : Machine) (pid : ℕ) (c : Caller) (is : caller_of s pid ≡ Some c
         own : All (Given s e c.pid) (pieces_with c k.seg k.segment k.flags k.base)
         own = rw there.own (all-inserted (Given s e pid) _ _ new left)
 
-    given-leaves : Leaves s c o → AllGiven s e o.state.runners
+    given-leaves : Leaves s c call o → AllGiven s e o.state.runners
     given-leaves k =
         rw k.runners
         (given-set c.index (record { pid = c.pid; life = k.life; pieces = _ })
@@ -188,7 +187,7 @@ module _ (s : Machine) (pid : ℕ) (c : Caller) (is : caller_of s pid ≡ Some c
         (All-weaker (Has s pid) (Given s e k.child) (λ p h. inr (inl (record { call = k.asked; reply = k.answer; parent = h }))) c.pieces mine))
 
     given-hands : Hands s c call o → AllGiven s e o.state.runners
-    given-hands (inl same) = rw same (kept-all s e)
+    given-hands (inl k) = rw k.runners (kept-all s e)
     given-hands (inr (inl k)) = given-attaches k
     given-hands (inr (inr (inl k))) = given-leaves k
     given-hands (inr (inr (inr k))) = given-forks k

@@ -1,10 +1,11 @@
 -- What each call does to the pieces of processes: nothing, or the caller attaches a segment, or loses pieces, or has a child.
-use Rattle.std.proofs.Common.{◌≡◌, ◌≢◌, ◌⊎◌, ℕ, suc, zero, ◌+◌, ◌-◌, ◌*◌, ◌/◌, ◌%◌, ◌==◌, ◌&&◌, ℤ, pos, negsuc, Bool, true, false, not, nat_le, nat_lt, if◌then◌else◌, List, [], ◌∷◌, length, map, get_or, Option, Some, None, slice_get, slice_set, refl, sym, ap, subst, ◌∙◌, inl, inr, arith, eq-eqb, ne_eqb}
+use Rattle.std.proofs.Common.{◌≡◌, ◌≢◌, ◌⊎◌, ℕ, suc, ◌+◌, ◌-◌, ◌*◌, ◌/◌, ◌%◌, ◌==◌, ◌&&◌, ℤ, pos, negsuc, Bool, true, false, not, nat_le, nat_lt, if◌then◌else◌, List, [], ◌∷◌, length, map, get_or, Option, Some, None, slice_get, slice_set, refl, sym, ap, subst, ◌∙◌, inl, inr, arith, eq-eqb, ne_eqb}
 use Rattle.std.specs.Prelude.{All, filter, find}
-use Rattle.std.proofs.lemmas.Bool.{cases_eq, cases_Bool, not-false}
+use Rattle.std.proofs.lemmas.Bool.{cases_eq, cases_Bool, not-false, not-true, and_parts}
 use Rattle.std.proofs.lemmas.Option.{none-some}
 use Rattle.std.proofs.lemmas.List.Elements.{All-map}
 use Rattle.shm_base.specs.declared.owner.Cred.{Cred}
+use Rattle.shm_base.specs.declared.errno.Errno.{Errno}
 use Rattle.shm_base.specs.declared.call.Call.{Call}
 use Rattle.shm_base.specs.declared.call.Call.TheVariants.{Shmget, Shmat, Shmdt, Stat, Set, Rmid, Lock, Unlock, Load, Store, Xadd, Fork, Exec, Exit, Swapoff}
 use Rattle.shm_base.specs.declared.call.Reply.TheVariants.{Addr, Done}
@@ -15,11 +16,13 @@ use Rattle.shm_base.specs.Access.{Place, places, writable_places, end_of}
 use Rattle.shm_base.specs.Permission.{grants, owns, wish_of}
 use Rattle.shm_base.specs.State.{Segment, Piece, Life, Unborn, Live, Ended, Runner, Machine, pages_of, pages_in}
 use Rattle.shm_base.specs.Identifier.{Look, Found, Removed, Invalid, identifier, destroyed_at, destroyed_in, free_index, find_key, look}
-use Rattle.shm_base.specs.Space.{inside, occupied, choose, is_gap, first_chosen, origin_of, is_named}
+use Rattle.shm_base.specs.Space.{inside, occupied, choose, is_gap, first_chosen, last_address, origin_of, is_named}
 use Rattle.shm_base.specs.Segments.{segment_count, reserved, locked, slots}
-use Rattle.shm_base.specs.Step.{creates_at, creates, gets, wants_no_other, wants_creation, stat, controls, sets, removes, locks, unlocks, load, store, xadd, takes_away, Caller, Outcome, caller_from, caller_of, acts, step_by, at_wish, is_rnd, is_remap, pieces_with, with_pieces, attaches, attaches_chosen, attaches_fixed, attaches_found, shmat, detaches, forks, unborn_from}
+use Rattle.shm_base.specs.History.{is_refusal}
+use Rattle.shm_base.specs.Step.{refuses, creates_at, creates, gets, wants_no_other, wants_creation, stat, controls, sets, removes, locks, unlocks, load, store, xadd, takes_away, Caller, Outcome, caller_from, acts, at_wish, is_rnd, is_remap, pieces_with, with_pieces, attaches, attaches_chosen, attaches_fixed, attaches_found, shmat, detaches, forks, unborn_from}
 use Rattle.shm_life.proofs.Pieces.{all-cons, all-head, all-tail}
 use Rattle.shm_laws.specs.Standing.{Stands}
+use Rattle.shm_laws.specs.Pieces.{hands_pieces}
 use Rattle.shm_laws.proofs.Looks.{entry-found}
 use Rattle.shm_laws.proofs.Stepping.{pick}
 
@@ -67,12 +70,21 @@ pub record Attaches (s : Machine) (c : Caller) (call : Call) (o : Outcome) : Typ
   pub stands : Stands s seg segment
   pub leave : grants c.cred segment.perm (at_wish flags) ≡ true
   pub page : All IsAligned c.pieces → base % 4096 ≡ 0
+  pub free : is_remap flags ≡ false → occupied c.pieces base (base + 4096 * pages_in segment) ≡ false
   pub answer : o.reply ≡ Addr base
   pub runners : o.state.runners ≡ with_pieces s.runners c (pieces_with c seg segment flags base)
 
-pub record Leaves (s : Machine) (c : Caller) (o : Outcome) : Type 0 where
+-- by a shmdt that named the piece, or all of them
+abbrev pub Takes : Caller → Call → (Piece → Bool) → Type 0
+Takes c call stays =
+    ((addr : ℕ) × (p : Piece) × (call ≡ Shmdt addr) × (origin_of addr c.pieces ≡ Some p) × (stays ≡ (λ q. not (is_named addr p.seg q))))
+    ⊎ (((call ≡ Exec) ⊎ (call ≡ Exit)) × (stays ≡ (λ q. false)))
+
+pub record Leaves (s : Machine) (c : Caller) (call : Call) (o : Outcome) : Type 0 where
   pub life : Life
   pub stays : Piece → Bool
+  pub taken : Takes c call stays
+  pub answer : o.reply ≡ Done
   pub runners : o.state.runners ≡ slice_set s.runners c.index (record { pid = c.pid; life = life; pieces = filter stays c.pieces })
 
 pub record Forks (s : Machine) (c : Caller) (call : Call) (o : Outcome) : Type 0 where
@@ -83,8 +95,13 @@ pub record Forks (s : Machine) (c : Caller) (call : Call) (o : Outcome) : Type 0
   pub unborn : unborn_from 0 child s.runners ≡ Some index
   pub runners : o.state.runners ≡ slice_set s.runners index (record { pid = child; life = Live c.cred; pieces = c.pieces })
 
+-- nothing, of a call that hands no pieces out, or of one that was refused
+pub record Rests (s : Machine) (call : Call) (o : Outcome) : Type 0 where
+  pub why : (hands_pieces call ≡ false) ⊎ (is_refusal o.reply ≡ true)
+  pub runners : o.state.runners ≡ s.runners
+
 abbrev pub Hands : Machine → Caller → Call → Outcome → Type 0
-Hands s c call o = (o.state.runners ≡ s.runners) ⊎ (Attaches s c call o ⊎ (Leaves s c o ⊎ Forks s c call o))
+Hands s c call o = Rests s call o ⊎ (Attaches s c call o ⊎ (Leaves s c call o ⊎ Forks s c call o))
 
 -- EACH CALL
 
@@ -108,18 +125,39 @@ chosen-page ps pages base found all =
     ends : (p : Piece) → IsAligned p → end_of p % 4096 ≡ 0
     ends p h = omega (arith, h)
 
-none-stay : (ps : List Piece) → [] ≡ filter (λ (p : Piece). false) ps
+find-passes : {X : Type 0} (test : X → Bool) (xs : List X) (x : X) → find test xs ≡ Some x → test x ≡ true
+find-passes test [] x found = absurd (none-some x found)
+find-passes test (y ∷ ys) x found =
+    elim (cases_Bool (test y)) [
+      | inl h ↦ (let same : Some y ≡ Some x = rw h at found in let is : y ≡ x = cc same in ap test (sym is) ∙ h)
+      | inr h ↦ find-passes test ys x (rw h at found)
+    ]
+
+-- what is chosen is free
+chosen-free : (ps : List Piece) (pages base : ℕ) → choose ps pages ≡ Some base → occupied ps base (base + 4096 * pages) ≡ false
+chosen-free ps pages base found =
+    let gap = find-passes (is_gap ps pages) (first_chosen ∷ map end_of ps) base found in
+    let last = and_parts (nat_le first_chosen base && nat_le (base + 4096 * pages) last_address) (not (occupied ps base (base + 4096 * pages))) gap in
+    not-true (occupied ps base (base + 4096 * pages)) last.1
+
+pub none-stay : (ps : List Piece) → [] ≡ filter (λ (p : Piece). false) ps
 none-stay [] = refl
 none-stay (p ∷ ps) = none-stay ps
 
 module _ (s : Machine) (n : ℕ) (c : Caller) where
-  same : (call : Call) (o : Outcome) → o.state.runners ≡ s.runners → Hands s c call o
-  same call o h = inl h
+  -- a refusal
+  refused : (call : Call) (e : Errno) → Hands s c call (refuses s e)
+  refused call e = inl (record { why = inr refl; runners = refl })
+
+  -- a call that hands no pieces out
+  rests : (call : Call) (o : Outcome) → hands_pieces call ≡ false → o.state.runners ≡ s.runners → Hands s c call o
+  rests call o why same = inl (record { why = inl why; runners = same })
 
   hands-attaches : (call : Call) (seg addr : ℕ) (flags : AtFlags) (x : Segment) (base : ℕ) → call ≡ Shmat (pos seg) addr flags → Stands s seg x
-      → grants c.cred x.perm (at_wish flags) ≡ true → (All IsAligned c.pieces → base % 4096 ≡ 0) → Hands s c call (attaches s n c seg x flags base)
-  hands-attaches call seg addr flags x base asked there leave page =
-      pick (Hands s c call) (nat_lt 256 (length (pieces_with c seg x flags base))) _ _ (inl refl)
+      → grants c.cred x.perm (at_wish flags) ≡ true → (All IsAligned c.pieces → base % 4096 ≡ 0)
+      → (is_remap flags ≡ false → occupied c.pieces base (base + 4096 * pages_in x) ≡ false) → Hands s c call (attaches s n c seg x flags base)
+  hands-attaches call seg addr flags x base asked there leave page free =
+      pick (Hands s c call) (nat_lt 256 (length (pieces_with c seg x flags base))) _ _ (refused _ _)
       (inr (inl (record {
         seg = seg;
         addr = addr;
@@ -130,34 +168,35 @@ module _ (s : Machine) (n : ℕ) (c : Caller) where
         stands = there;
         leave = leave;
         page = page;
+        free = free;
         answer = refl;
         runners = refl;
       })))
 
   hands-chosen : (call : Call) (seg addr : ℕ) (flags : AtFlags) (x : Segment) (o : Option ℕ) → choose c.pieces (pages_in x) ≡ o → call ≡ Shmat (pos seg) addr flags
       → Stands s seg x → grants c.cred x.perm (at_wish flags) ≡ true → Hands s c call (attaches_chosen s n c seg x flags o)
-  hands-chosen call seg addr flags x None is asked there leave = inl refl
+  hands-chosen call seg addr flags x None is asked there leave = refused _ _
   hands-chosen call seg addr flags x (Some base) is asked there leave =
-      hands-attaches call seg addr flags x base asked there leave (chosen-page c.pieces (pages_in x) base is)
+      hands-attaches call seg addr flags x base asked there leave (chosen-page c.pieces (pages_in x) base is) (λ plain. chosen-free c.pieces (pages_in x) base is)
 
   hands-fixed : (call : Call) (seg addr at : ℕ) (flags : AtFlags) (x : Segment) → call ≡ Shmat (pos seg) at flags → Stands s seg x → grants c.cred x.perm (at_wish flags) ≡ true
       → Hands s c call (attaches_fixed s n c seg x flags (addr - addr % 4096))
   hands-fixed call seg addr at flags x asked there leave =
       let base = addr - addr % 4096 in
-      pick (Hands s c call) (not (inside base (pages_in x))) _ _ (inl refl)
-      (pick (Hands s c call) (not (is_remap flags) && occupied c.pieces base (base + 4096 * pages_in x)) _ _ (inl refl)
-      (hands-attaches call seg at flags x base asked there leave (λ all. omega arith)))
+      pick (Hands s c call) (not (inside base (pages_in x))) _ _ (refused _ _)
+      (pick_by (Hands s c call) (not (is_remap flags) && occupied c.pieces base (base + 4096 * pages_in x)) _ _ (λ h. refused call _)
+      (λ h. hands-attaches call seg at flags x base asked there leave (λ all. omega arith) (λ plain. rw plain at h)))
 
   hands-found : (m : ℕ) (flags : AtFlags) (addr at : ℕ) (l : Look) → look s.table (pos m) ≡ l → Hands s c (Shmat (pos m) at flags) (attaches_found s n c flags addr l)
-  hands-found m flags addr at Invalid is = inl refl
-  hands-found m flags addr at Removed is = inl refl
+  hands-found m flags addr at Invalid is = refused _ _
+  hands-found m flags addr at Removed is = refused _ _
   hands-found m flags addr at (Found i x) is =
       let e = entry-found (m % 32768) (m / 32768) i x (slice_get s.table (m % 32768)) is in
       let count : destroyed_at s.table i ≡ m / 32768 = ap (destroyed_at s.table) e.0 ∙ ap destroyed_in e.1 in
       let own : identifier i (destroyed_at s.table i) ≡ m = omega (arith, e.0, count) in
       let there : Stands s (identifier i (destroyed_at s.table i)) x = rw own (is ∙ ap (λ k. Found k x) e.0) in
       let asked : Shmat (pos m) at flags ≡ Shmat (pos (identifier i (destroyed_at s.table i))) at flags = ap (λ k. Shmat (pos k) at flags) (sym own) in
-      pick_by (Hands s c (Shmat (pos m) at flags)) (not (grants c.cred x.perm (at_wish flags))) _ _ (λ h. inl refl)
+      pick_by (Hands s c (Shmat (pos m) at flags)) (not (grants c.cred x.perm (at_wish flags))) _ _ (λ h. refused _ _)
       (λ h.
       let leave = not-false (grants c.cred x.perm (at_wish flags)) h in
       pick (Hands s c (Shmat (pos m) at flags)) (addr == 0) _ _
@@ -166,27 +205,30 @@ module _ (s : Machine) (n : ℕ) (c : Caller) where
 
   hands-look : (id : ℤ) (flags : AtFlags) (addr : ℕ) → Hands s c (Shmat id addr flags) (attaches_found s n c flags addr (look s.table id))
   hands-look (pos m) flags addr = hands-found m flags addr addr (look s.table (pos m)) refl
-  hands-look (negsuc m) flags addr = inl refl
+  hands-look (negsuc m) flags addr = refused _ _
 
   hands-shmat : (id : ℤ) (addr : ℕ) (flags : AtFlags) → Hands s c (Shmat id addr flags) (shmat s n c id addr flags)
   hands-shmat id addr flags =
-      pick (Hands s c (Shmat id addr flags)) ((addr == 0) && is_remap flags) _ _ (inl refl)
-      (pick (Hands s c (Shmat id addr flags)) (not (addr % 4096 == 0) && not (is_rnd flags)) _ _ (inl refl) (hands-look id flags addr))
+      pick (Hands s c (Shmat id addr flags)) ((addr == 0) && is_remap flags) _ _ (refused _ _)
+      (pick (Hands s c (Shmat id addr flags)) (not (addr % 4096 == 0) && not (is_rnd flags)) _ _ (refused _ _) (hands-look id flags addr))
 
-  hands-detaches : (call : Call) (addr : ℕ) (o : Option Piece) → Hands s c call (detaches s n c addr o)
-  hands-detaches call addr None = inl refl
-  hands-detaches call addr (Some p) = inr (inr (inl (record { life = Live c.cred; stays = λ q. not (is_named addr p.seg q); runners = refl })))
+  hands-detaches : (addr : ℕ) (o : Option Piece) → origin_of addr c.pieces ≡ o → Hands s c (Shmdt addr) (detaches s n c addr o)
+  hands-detaches addr None is = refused _ _
+  hands-detaches addr (Some p) is =
+      inr (inr (inl (record { life = Live c.cred; stays = λ q. not (is_named addr p.seg q); taken = inl (addr, p, refl, is, refl); answer = refl; runners = refl })))
 
-  hands-all : (call : Call) (o : Outcome) (life : Life) → o.state.runners ≡ slice_set s.runners c.index (record { pid = c.pid; life = life; pieces = [] }) → Hands s c call o
-  hands-all call o life is =
+  hands-all : (call : Call) (o : Outcome) (life : Life) → (call ≡ Exec) ⊎ (call ≡ Exit) → o.reply ≡ Done → o.state.runners ≡ slice_set s.runners c.index (record { pid = c.pid; life = life; pieces = [] }) → Hands s c call o
+  hands-all call o life which done is =
       inr (inr (inl (record {
         life = life;
         stays = λ q. false;
+        taken = inr (which, refl);
+        answer = done;
         runners = is ∙ ap (λ ps. slice_set s.runners c.index (record { pid = c.pid; life = life; pieces = ps })) (none-stay c.pieces);
       })))
 
   hands-forks : (child : ℕ) (o : Option ℕ) → unborn_from 0 child s.runners ≡ o → Hands s c (Fork child) (forks s c child o)
-  hands-forks child None is = inl refl
+  hands-forks child None is = refused _ _
   hands-forks child (Some i) is = inr (inr (inr (record { child = child; index = i; asked = refl; answer = refl; unborn = is; runners = refl })))
 
   -- the other calls leave the pieces of all processes
@@ -241,18 +283,18 @@ module _ (s : Machine) (n : ℕ) (c : Caller) where
   same-takes area (Some (Some k)) = pick Leave (nat_lt (slots (slice_set s.areas area None)) (reserved s.table)) _ _ refl refl
 
   pub hands-acts : (call : Call) → Hands s c call (acts s n c call)
-  hands-acts (Shmget key size mode flags) = inl (pick Leave (key == 0) _ _ (same-creates 0 size mode) (same-gets key size mode flags (find_key s.table key)))
+  hands-acts (Shmget key size mode flags) = rests _ _ refl (pick Leave (key == 0) _ _ (same-creates 0 size mode) (same-gets key size mode flags (find_key s.table key)))
   hands-acts (Shmat id addr flags) = hands-shmat id addr flags
-  hands-acts (Shmdt addr) = hands-detaches (Shmdt addr) addr (origin_of addr c.pieces)
-  hands-acts (Stat id) = inl (same-stat (look s.table id))
-  hands-acts (Set id uid gid mode) = inl (same-controls (sets s n uid gid mode) (λ i x. refl) (look s.table id))
-  hands-acts (Rmid id) = inl (same-controls (removes s) (λ i x. refl) (look s.table id))
-  hands-acts (Lock id) = inl (same-controls (locks s) same-locks (look s.table id))
-  hands-acts (Unlock id) = inl (same-controls (unlocks s) (λ i x. refl) (look s.table id))
-  hands-acts (Load a len) = inl (same-load (places c.pieces a len))
-  hands-acts (Store a bytes) = inl (same-store bytes (writable_places c.pieces a (length bytes)))
-  hands-acts (Xadd a add) = inl (same-xadd add (writable_places c.pieces a 8))
+  hands-acts (Shmdt addr) = hands-detaches addr (origin_of addr c.pieces) refl
+  hands-acts (Stat id) = rests _ _ refl (same-stat (look s.table id))
+  hands-acts (Set id uid gid mode) = rests _ _ refl (same-controls (sets s n uid gid mode) (λ i x. refl) (look s.table id))
+  hands-acts (Rmid id) = rests _ _ refl (same-controls (removes s) (λ i x. refl) (look s.table id))
+  hands-acts (Lock id) = rests _ _ refl (same-controls (locks s) same-locks (look s.table id))
+  hands-acts (Unlock id) = rests _ _ refl (same-controls (unlocks s) (λ i x. refl) (look s.table id))
+  hands-acts (Load a len) = rests _ _ refl (same-load (places c.pieces a len))
+  hands-acts (Store a bytes) = rests _ _ refl (same-store bytes (writable_places c.pieces a (length bytes)))
+  hands-acts (Xadd a add) = rests _ _ refl (same-xadd add (writable_places c.pieces a 8))
   hands-acts (Fork child) = hands-forks child (unborn_from 0 child s.runners) refl
-  hands-acts Exec = hands-all Exec _ (Live c.cred) refl
-  hands-acts Exit = hands-all Exit _ Ended refl
-  hands-acts (Swapoff area) = inl (pick Leave (not (c.cred.uid == 0)) _ _ refl (same-takes area (slice_get s.areas area)))
+  hands-acts Exec = hands-all Exec _ (Live c.cred) (inl refl) refl refl
+  hands-acts Exit = hands-all Exit _ Ended (inr refl) refl refl
+  hands-acts (Swapoff area) = rests _ _ refl (pick Leave (not (c.cred.uid == 0)) _ _ refl (same-takes area (slice_get s.areas area)))

@@ -18,3 +18,4 @@ pub mod Fitting
 pub mod Remembering
 pub mod Veiling
 pub mod Isolating
+pub mod Counting

@@ -19,7 +19,7 @@ use Rattle.shm_laws.proofs.Turning.{same_refl, same_trans}
 use Rattle.shm_laws.proofs.Handing.{caller-at}
 use Rattle.shm_laws.proofs.Inducting.{GoesOn, at_all_times, since-map}
 use Rattle.shm_laws.proofs.Looks.{holds, bare_entry, stands-at, at-stands, at-gone, at-never, at-next, entry-gone}
-use Rattle.shm_laws.proofs.Stepping.{overlay, MadeBy, made_by, Moved, removed}
+use Rattle.shm_laws.proofs.Stepping.{overlay, made_by, Moved, removed}
 use Rattle.shm_laws.proofs.Fates.{IsSound, IsNew, stays, comes, sound-after, kind-move}
 use Rattle.shm_laws.proofs.Removing.{sound-start, stands-or-gone}
 

@@ -1,5 +1,5 @@
 -- What a piece names stands.
-use Rattle.std.proofs.Common.{◌≡◌, ◌≢◌, ◌⊎◌, ℕ, suc, zero, ◌+◌, ◌*◌, ◌≤◌, not, List, [], ◌∷◌, length, map, Option, Some, None, slice_get, slice_set, refl, sym, ap, subst, ◌∙◌, inl, inr, arith, eq-eqb, ne_eqb}
+use Rattle.std.proofs.Common.{◌≡◌, ◌≢◌, ◌⊎◌, ℕ, suc, zero, ◌+◌, ◌*◌, ◌≤◌, not, List, [], ◌∷◌, length, map, Option, Some, None, slice_get, slice_set, refl, ap, subst, inl, inr, arith, eq-eqb, ne_eqb}
 use Rattle.std.proofs.lemmas.Bool.{cases_eq}
 use Rattle.std.specs.Prelude.{filter}
 use Rattle.std.proofs.lemmas.List.Sums.{sum_by-cons}
@@ -17,7 +17,8 @@ use Rattle.shm_segments.proofs.Entries.{sum-set}
 use Rattle.shm_laws.specs.Standing.{Stands, IsGone}
 use Rattle.shm_laws.specs.Identity.{IsSame}
 use Rattle.shm_laws.specs.Removal.{IsDue}
-use Rattle.shm_laws.specs.Pieces.{PiecesNameWhatStands, GivesPieces, PiecesAreOfSegments}
+use Rattle.shm_laws.specs.Pieces.{PiecesNameWhatStands, GivesPieces, CountsPieces, PiecesAreOfSegments}
+use Rattle.shm_laws.proofs.Counting.{counts-move}
 use Rattle.shm_laws.proofs.Handing.{Attaches, Hands, caller-at, hands-acts}
 use Rattle.shm_laws.proofs.Inducting.{Keeps, each_move}
 use Rattle.shm_laws.proofs.Stepping.{Moved, removed}
@@ -105,7 +106,7 @@ module _ (s : Machine) (c : Caller) (mine : (id : ℕ) → attach_count s.runner
               inl (omega (arith, left, more, zero))
 
   first-hands : (call : Call) (o : Outcome) → Hands s c call o → Gives o
-  first-hands call o (inl same) = rw same stays
+  first-hands call o (inl k) = rw k.runners stays
   first-hands call o (inr (inl k)) = first-attaches call o k
   first-hands call o (inr (inr (inl k))) =
       rw k.runners
@@ -177,4 +178,5 @@ whole-start o =
 pub pieces_are_of_segments : (o : Opening) (events : List Event) (end : Machine) → IsHistory o events end → PiecesAreOfSegments o events end
 pieces_are_of_segments o events end h =
     let all = each_move IsWhole GivesPieces whole-move 1 (start_of o) events end (whole-start o) h in
-    record { moves = all.1; pieces = all.0.pieces }
+    let counts = each_move IsWhole CountsPieces (λ s n e t now m. ((whole-move s n e t now m).0, counts-move s n e t now.sound.bare m)) 1 (start_of o) events end (whole-start o) h in
+    record { moves = all.1; pieces = all.0.pieces; counts = counts.1 }

@@ -13,6 +13,7 @@ use Rattle.shm_base.specs.Segments.{attach_count}
 use Rattle.shm_base.specs.Step.{step}
 use Rattle.shm_laws.specs.Standing.{IsGone}
 use Rattle.shm_laws.specs.Replay.{without_failures}
+use Rattle.shm_laws.specs.Pieces.{held}
 use Rattle.shm_laws.specs.Writing.{IsByte}
 use Rattle.shm_laws.specs.Isolation.{DifferIn}
 
@@ -86,11 +87,14 @@ RemovalWorked =
     × IsGone (after_two_go 5) 1 × IsGone (after_two_go 8) 0 × IsGone (after_two_go 10) 0
     × (is_found (look (after_two_go 10).table (pos 32768)) ≡ true)
 
--- PIECES: process 2 has one of segment 0, which stands, and none of segment 1, which is gone
+-- PIECES: process 2 has one of segment 0, which stands, from its shmat to its exec, and none of segment 1, which is gone
 abbrev pub PiecesWorked : Type 0
 PiecesWorked =
     (is_found (look (after_two_go 7).table (pos 0)) ≡ true)
     × (attach_count (after_two_go 7).runners 1 ≡ 0)
+    × (attach_count (after_two_go 2).runners 0 ≡ 0)
+    × (attach_count (after_two_go 3).runners 0 ≡ 1)
+    × (held (after_two_go 7) 2 0 ≡ 1)
     × (attach_count (after_two_go 8).runners 0 ≡ 0)
 
 -- LEAVE: another user may read, its process attaches for reading and has a child; the segment's owner then takes leave back,
