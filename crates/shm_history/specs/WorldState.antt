@@ -1,5 +1,5 @@
 -- What contracts see of a world: its opening, its history, the flat machine at its end, and its memory.
-use Rattle.std.specs.Prelude.{◌≡◌, ◌<◌, ◌≤◌, ◌+◌, ◌-◌, ◌^◌, ℕ, true, List, [], ◌∷◌, ◌++◌, length, map, min, take, count_by}
+use Rattle.std.specs.Prelude.{◌≡◌, ◌<◌, ◌≤◌, ◌+◌, ◌-◌, ◌^◌, ℕ, true, false, List, [], ◌∷◌, ◌++◌, length, map, min, take, count_by}
 use Rattle.std.specs.List.{flat_map}
 use Rattle.shm_base.specs.declared.call.Step.{Step}
 use Rattle.shm_base.specs.declared.call.Step.TheVariants as steps
@@ -8,7 +8,8 @@ use Rattle.shm_base.specs.declared.call.Call.{Call}
 use Rattle.shm_base.specs.declared.call.Reply.{Reply}
 use Rattle.shm_base.specs.declared.call.Event.{Event}
 use Rattle.shm_base.specs.declared.paging.FlushReport.{FlushReport}
-use Rattle.shm_base.specs.History.{IsMove, is_failure}
+use Rattle.shm_base.specs.History.{IsMove, is_failure, is_refusal}
+use Rattle.shm_base.specs.Step.{step}
 use Rattle.shm_base.specs.State.{Opening, Machine}
 use Rattle.shm_base.specs.Segments.{segment_count, reserved, locked}
 use Rattle.shm_base.specs.declared.paging.Tally.{Tally}
@@ -17,6 +18,7 @@ use Rattle.shm_slots.specs.Cause.{total, had_cause}
 use Rattle.shm_fault.specs.Store.{StoreView, resident, dirty, used}
 use Rattle.shm_fault.specs.Flushing.{IsFlushed}
 use Rattle.shm_life.specs.MachineView.{KeepsOn}
+use Rattle.shm_life.specs.SystemState.{TakesNoMemory}
 
 pub record WorldState : Type 0 where
   pub opening : Opening
@@ -55,6 +57,7 @@ pub record IsCalled (before : WorldState) (pid : ℕ) (call : Call) (reply : Rep
   pub cause : is_failure call reply ≡ true → had_cause before.memory.swap after.memory.swap ≡ true
   pub keeps : KeepsOn before.memory after.memory
   pub opening : after.opening ≡ before.opening
+  pub room : before.room ≤ after.room + 1
 
 -- a flush round changes the memory alone
 pub record IsRound (before : WorldState) (pages : ℕ) (report : FlushReport) (after : WorldState) : Type 0 where
@@ -70,11 +73,29 @@ IsRun before (Flush pages) after = (report : FlushReport) × IsRound before page
 -- the steps lead from one world to the other, each from where the one before it led
 abbrev pub RunTo : WorldState → List Step → WorldState → Type 0
 RunTo before [] after = after ≡ before
-RunTo before (step ∷ more) after = (next : WorldState) × IsRun before step next × RunTo next more after
+RunTo before (one ∷ more) after = (next : WorldState) × IsRun before one next × RunTo next more after
 
--- the first so many of the steps were run, not all of them, and after them nothing but the room changed
+-- a step that may find no memory: a call, and where room is left one that takes memory and that the flat machine does not refuse
+abbrev pub MayStop : WorldState → Step → Type 0
+MayStop w (steps.Call pid call) = 0 < w.room → (TakesNoMemory call → ⊥) × (is_refusal (step w.machine (length w.events + 1) pid call).reply ≡ false)
+MayStop w (Flush pages) = ⊥
+
+-- the steps before one that may stop were run, and after them nothing but the room changed
 abbrev pub StopsIn : WorldState → List Step → WorldState → Type 0
-StopsIn before steps after = (n : ℕ) × (last : WorldState) × (n < length steps) × RunTo before (take n steps) last × (after ≡ record last { room = after.room })
+StopsIn before steps after =
+    (done : List Step)
+    × (stop : Step)
+    × (left : List Step)
+    × (last : WorldState)
+    × (steps ≡ done ++ stop ∷ left)
+    × RunTo before done last
+    × MayStop last stop
+    × (after ≡ record last { room = after.room })
+
+-- a step that asks for no memory where room is left
+abbrev pub StepTakesNone : Step → Type 0
+StepTakesNone (steps.Call pid call) = TakesNoMemory call
+StepTakesNone (Flush pages) = Unit {0}
 
 -- the counts of a world
 abbrev pub tally_of : WorldState → Tally

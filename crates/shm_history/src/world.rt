@@ -2,7 +2,7 @@
 //!
 //! The rule that the type keeps: the history is legal on the flat machine from the opening, and leads
 //! to the machine that the system shows. A call and its reply are recorded together or not at all.
-ghost use Rattle.std.specs.Prelude.{◌≡◌, ℕ, ◌+◌, ◌-◌, ◌^◌, ◌<◌, ◌≤◌, List, [], ◌∷◌, ◌++◌, length, drop, vec_len, vec_capacity, IfOk, OnOk, OnErr, IsOk, true, false};
+ghost use Rattle.std.specs.Prelude.{◌≡◌, ℕ, ◌+◌, ◌-◌, ◌^◌, ◌<◌, ◌≤◌, List, [], ◌∷◌, ◌++◌, length, drop, vec_len, vec_capacity, IfOk, OnOk, OnErr, IsOk, All, true, false};
 ghost use Rattle.shm_base.specs.State.{start_of};
 ghost use Rattle.shm_base.specs.History.{IsHistory, IsMove, is_failure, is_refusal};
 ghost use Rattle.shm_base.specs.Step.{step};
@@ -12,7 +12,7 @@ ghost use Rattle.shm_fault.specs.Flushing.{IsFlushed};
 ghost use Rattle.shm_life.specs.MachineView.{IsExactly, KeepsOn};
 ghost use Rattle.shm_life.specs.SystemState.{TakesNoMemory};
 ghost use Rattle.shm_life.specs.Listed.{segment_at};
-ghost use Rattle.shm_history.specs.WorldState.{event, tally_of, AreCounted, calls_of, step_calls, IsRun, RunTo, StopsIn};
+ghost use Rattle.shm_history.specs.WorldState.{event, tally_of, AreCounted, calls_of, step_calls, IsRun, RunTo, MayStop, StopsIn, StepTakesNone};
 
 use shm_base::{Call, Event, FlushReport, HostMemory, Reply, ShmId, ShmidDs, Step, Tally};
 use shm_life::{Opening, System};
@@ -174,10 +174,11 @@ impl<P: Pager> World<P> {
         self.system.tally()
     }
 
-    // One step. Want of memory changes nothing but the room.
+    // One step. Want of memory changes nothing but the room, and comes only at a step that may find none.
     fn run_step(&mut self, step: &Step) -> Result<(), HostMemory>
         ensures ran { OnOk result (IsRun self.old step.now self.new) }
         ensures stopped { OnErr result (self.new ≡ record self.old { room = self.new.room }) }
+        ensures may_stop { OnErr result (MayStop self.old step.now) }
     {
         match step {
             Step::Call(pid, call) => {
@@ -190,10 +191,12 @@ impl<P: Pager> World<P> {
         Ok(())
     }
 
-    /// Runs the steps in order. It stops at the first want of memory, and the steps before it stand.
+    /// Runs the steps in order. It stops at the first want of memory, and the steps before it stand. With room for
+    /// every call, and no call that takes memory, it runs them all.
     pub fn run_steps(&mut self, steps: &[Step]) -> Result<(), HostMemory>
         ensures steps { OnOk result (RunTo self.old steps.now self.new) }
         ensures stopped { OnErr result (StopsIn self.old steps.now self.new) }
+        ensures no_memory { All StepTakesNone steps.now → length (step_calls steps.now) ≤ self.old.room → IsOk result }
         ensures ran { OnOk result (calls_of self.new.events ≡ calls_of self.old.events ++ step_calls steps.now) }
         ensures part { IsPrefix (calls_of self.new.events) (calls_of self.old.events ++ step_calls steps.now) }
         ensures kept { self.new.events ≡ self.old.events ++ drop (length self.old.events) self.new.events }

@@ -5,7 +5,8 @@ use Rattle.shm_base.specs.declared.call.Call.TheVariants.{Shmget, Shmat, Shmdt, 
 use Rattle.shm_base.specs.declared.call.Reply.{Reply}
 use Rattle.shm_base.specs.declared.call.Reply.TheVariants as replies
 use Rattle.shm_base.specs.declared.call.Reply.TheVariants.{Id, Addr, Bytes, Number, Done}
-use Rattle.shm_base.specs.History.{IsMove, is_failure}
+use Rattle.shm_base.specs.History.{IsMove, is_failure, is_refusal}
+use Rattle.shm_base.specs.Step.{step}
 use Rattle.shm_base.specs.declared.paging.FlushReport.{FlushReport}
 use Rattle.shm_fault.specs.Flushing.{IsFlushed}
 use Rattle.shm_slots.specs.Cause.{had_cause}
@@ -27,11 +28,12 @@ pub record Moves (before : SystemState) (pid : ℕ) (call : Call) (reply : Reply
   pub opening : after.opening ≡ before.opening
   pub keeps : KeepsOn before.memory after.memory
 
--- what a call answers, and what it leaves of a machine
+-- what a call answers, and what it leaves of a machine; memory is wanted only where the flat machine refuses nothing
 abbrev pub Answered : SystemState → ℕ → Call → Result Reply Refusal → SystemState → Type 0
 Answered before pid call (Ok reply) after = Moves before pid call reply after
 Answered before pid call (Err (Refused errno)) after = Moves before pid call (replies.Refused errno) after
-Answered before pid call (Err HostMemory) after = (before.calls < most_calls) × (TakesNoMemory call → ⊥) × (after ≡ before)
+Answered before pid call (Err HostMemory) after =
+  (before.calls < most_calls) × (TakesNoMemory call → ⊥) × (is_refusal (step before.machine (before.calls + 1) pid call).reply ≡ false) × (after ≡ before)
 Answered before pid call (Err Spent) after = (before.calls ≡ most_calls) × (after ≡ before)
 
 -- whether a reply that is no refusal is of the call's kind

@@ -1,11 +1,8 @@
 //! The usage: the counts of a machine, in three lines.
 ghost use Rattle.std.specs.Prelude.{◌≡◌, IfOk, string_bytes};
-ghost use Rattle.shm_history.specs.WorldState.{tally_of};
 ghost use Rattle.shm_print.specs.Usage as usage;
 
 use shm_base::Tally;
-use shm_history::World;
-use shm_pager::Pager;
 use std::alloc::{AllocError, Global};
 
 fn counts_line(alloc: Global, tally: &Tally) -> Result<String, AllocError>
@@ -42,11 +39,4 @@ pub fn usage_text(alloc: Global, tally: &Tally) -> Result<String, AllocError>
     let memory = memory_line(alloc, tally)?;
     let moves = moves_line(alloc, tally)?;
     format!(in alloc; "{counts}{memory}{moves}")
-}
-
-/// The usage of a world as it is.
-pub fn usage<P: Pager>(alloc: Global, world: &World<P>) -> Result<String, AllocError>
-    ensures { IfOk result (λ s. string_bytes s ≡ usage.usage_text (tally_of world.now)) }
-{
-    usage_text(alloc, &world.tally())
 }

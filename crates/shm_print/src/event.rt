@@ -1,32 +1,45 @@
 //! The printed text of events and replies.
-ghost use Rattle.std.specs.Prelude.{◌≡◌, ◌++◌, IfOk, OnOk, string_bytes, decimal, codes};
+ghost use Rattle.std.specs.Prelude.{◌≡◌, ◌≤◌, ◌++◌, length, IfOk, OnOk, string_bytes, decimal, codes};
 ghost use Rattle.hex.specs.Hex.{encode_lower};
 ghost use Rattle.shm_print.specs.Text as printed;
 
-use crate::words::{Address, AtWord, GetWord, Key, Mode, StatusWord};
+use crate::digits::push_digits;
+use crate::words::{AtWord, GetWord, Key, Mode, StatusWord};
 use itoa::Buffer;
 use shm_base::{Call, Event, Perm, Reply, ShmidDs};
 use std::alloc::{AllocError, Global};
 
-// Puts a number in decimal and a space behind a text.
+// Puts a number in decimal behind a text.
 fn push_number(text: &mut String, number: u64) -> Result<(), AllocError>
-    ensures { OnOk result (string_bytes text.new ≡ string_bytes text.old ++ (decimal number ++ codes " ")) }
+    ensures { OnOk result (string_bytes text.new ≡ string_bytes text.old ++ decimal number) }
 {
-    let mut digits = Buffer::new();
-    text.push_str(digits.format(number))?;
-    text.push_str(" ")
+    text.push_str(Buffer::new().format(number))
+}
+
+// Puts an address behind a text.
+fn push_address(text: &mut String, addr: u64) -> Result<(), AllocError>
+    ensures { OnOk result (string_bytes text.new ≡ string_bytes text.old ++ printed.address_text addr) }
+{
+    if addr == 0 {
+        return text.push_str("null");
+    }
+    text.push_str("0x")?;
+    push_digits(text, addr)
 }
 
 // Puts bytes behind a text, two digits each.
-fn push_bytes(alloc: Global, text: &mut String, bytes: &[u8]) -> Result<(), AllocError>
+fn push_bytes(text: &mut String, bytes: &[u8]) -> Result<(), AllocError>
+    requires { length bytes.now ≤ 64 }
     ensures { OnOk result (string_bytes text.new ≡ string_bytes text.old ++ encode_lower bytes.now) }
 {
-    let digits = hex::encode(alloc, bytes)?;
-    text.push_str(&digits)
+    let mut room = [0u8; 128];
+    let digits = &mut room[..2 * bytes.len()];
+    hex::encode_to_slice(bytes, digits).unwrap();
+    text.push_str(str::from_utf8(digits).unwrap())
 }
 
 // Puts the word of a call and its arguments behind a text.
-fn push_call(alloc: Global, text: &mut String, call: &Call) -> Result<(), AllocError>
+fn push_call(text: &mut String, call: &Call) -> Result<(), AllocError>
     ensures { OnOk result (string_bytes text.new ≡ string_bytes text.old ++ printed.call_text call.now) }
 {
     match call {
@@ -40,12 +53,14 @@ fn push_call(alloc: Global, text: &mut String, call: &Call) -> Result<(), AllocE
             write!(text, "shmget {key} {size} {mode}{flags}")
         }
         Call::Shmat { id, addr, flags } => {
-            let (addr, flags) = (Address(*addr), AtWord(*flags));
-            write!(text, "shmat {id} {addr} {flags}")
+            let flags = AtWord(*flags);
+            write!(text, "shmat {id} ")?;
+            push_address(text, *addr)?;
+            write!(text, " {flags}")
         }
         Call::Shmdt { addr } => {
-            let addr = Address(*addr);
-            write!(text, "shmdt {addr}")
+            text.push_str("shmdt ")?;
+            push_address(text, *addr)
         }
         Call::Stat { id } => write!(text, "stat {id}"),
         Call::Set { id, uid, gid, mode } => {
@@ -56,17 +71,22 @@ fn push_call(alloc: Global, text: &mut String, call: &Call) -> Result<(), AllocE
         Call::Lock { id } => write!(text, "lock {id}"),
         Call::Unlock { id } => write!(text, "unlock {id}"),
         Call::Load { addr, len } => {
-            let (addr, len) = (Address(*addr), len.get());
-            write!(text, "load {addr} {len}")
+            text.push_str("load ")?;
+            push_address(text, *addr)?;
+            text.push_str(" ")?;
+            push_number(text, len.get() as u64)
         }
         Call::Store { addr, chunk } => {
-            let addr = Address(*addr);
-            write!(text, "store {addr} ")?;
-            push_bytes(alloc, text, chunk.as_slice())
+            text.push_str("store ")?;
+            push_address(text, *addr)?;
+            text.push_str(" ")?;
+            push_bytes(text, chunk.as_slice())
         }
         Call::Xadd { addr, add } => {
-            let addr = Address(*addr);
-            write!(text, "xadd {addr} {add}")
+            text.push_str("xadd ")?;
+            push_address(text, *addr)?;
+            text.push_str(" ")?;
+            push_number(text, *add)
         }
         Call::Fork { child } => write!(text, "fork {child}"),
         Call::Exec => text.push_str("exec"),
@@ -108,38 +128,39 @@ fn push_stat(text: &mut String, shown: &ShmidDs) -> Result<(), AllocError>
 }
 
 // Puts a reply behind a text.
-fn push_reply(alloc: Global, text: &mut String, reply: &Reply) -> Result<(), AllocError>
+fn push_reply(text: &mut String, reply: &Reply) -> Result<(), AllocError>
     ensures { OnOk result (string_bytes text.new ≡ string_bytes text.old ++ printed.reply_text reply.now) }
 {
     match reply {
         Reply::Id(id) => write!(text, "{id}"),
-        Reply::Addr(addr) => {
-            let addr = Address(*addr);
-            write!(text, "{addr}")
-        }
-        Reply::Bytes(chunk) => push_bytes(alloc, text, chunk.as_slice()),
-        Reply::Number(number) => write!(text, "{number}"),
+        Reply::Addr(addr) => push_address(text, *addr),
+        Reply::Bytes(chunk) => push_bytes(text, chunk.as_slice()),
+        Reply::Number(number) => push_number(text, *number),
         Reply::Stat(shown) => push_stat(text, shown),
         Reply::Done => text.push_str("ok"),
         Reply::Refused(errno) => write!(text, "{errno}"),
     }
 }
 
-/// Puts the line of an event behind a text: its place in the history from 1, the process, the call and the
-/// reply. Where memory is refused a part of the line may stand there.
-pub fn push_event(
-    alloc: Global,
-    text: &mut String,
-    place: u64,
-    event: &Event,
-) -> Result<(), AllocError>
-    ensures { OnOk result (string_bytes text.new ≡ string_bytes text.old ++ printed.event_text place event.now) }
+// Puts the place of an event and its process behind a text.
+fn push_place(text: &mut String, place: u64, pid: u32) -> Result<(), AllocError>
+    ensures { OnOk result (string_bytes text.new ≡ string_bytes text.old ++ (decimal place ++ (codes " " ++ (decimal pid ++ codes " ")))) }
 {
     push_number(text, place)?;
-    push_number(text, u64::from(event.pid))?;
-    push_call(alloc, text, &event.call)?;
+    text.push_str(" ")?;
+    push_number(text, u64::from(pid))?;
+    text.push_str(" ")
+}
+
+/// Puts the line of an event behind a text: its place in the history from 1, the process, the call and the
+/// reply. Where memory is refused a part of the line may stand there.
+pub fn push_event(text: &mut String, place: u64, event: &Event) -> Result<(), AllocError>
+    ensures { OnOk result (string_bytes text.new ≡ string_bytes text.old ++ printed.event_text place event.now) }
+{
+    push_place(text, place, event.pid)?;
+    push_call(text, &event.call)?;
     text.push_str(" = ")?;
-    push_reply(alloc, text, &event.reply)?;
+    push_reply(text, &event.reply)?;
     text.push_str("\n")
 }
 
@@ -148,7 +169,7 @@ pub fn call_text(alloc: Global, call: &Call) -> Result<String, AllocError>
     ensures { IfOk result (λ s. string_bytes s ≡ printed.call_text call.now) }
 {
     let mut text = String::new(alloc);
-    push_call(alloc, &mut text, call)?;
+    push_call(&mut text, call)?;
     Ok(text)
 }
 
@@ -158,7 +179,7 @@ pub fn reply_text(alloc: Global, reply: &Reply) -> Result<String, AllocError>
     ensures { IfOk result (λ s. string_bytes s ≡ printed.reply_text reply.now) }
 {
     let mut text = String::new(alloc);
-    push_reply(alloc, &mut text, reply)?;
+    push_reply(&mut text, reply)?;
     Ok(text)
 }
 
@@ -167,6 +188,6 @@ pub fn event_text(alloc: Global, place: u64, event: &Event) -> Result<String, Al
     ensures { IfOk result (λ s. string_bytes s ≡ printed.event_text place event.now) }
 {
     let mut text = String::new(alloc);
-    push_event(alloc, &mut text, place, event)?;
+    push_event(&mut text, place, event)?;
     Ok(text)
 }

@@ -1,11 +1,12 @@
-//! The printed text: a line for each event, the listing of the segments, and the usage.
+//! The printed text of values: the line of an event, the lines of a listing, and the usage.
 #![tactic(auto)]
 
 mod counts;
+mod digits;
 mod event;
 mod lines;
 mod words;
 
-pub use counts::{usage, usage_text};
+pub use counts::usage_text;
 pub use event::{call_text, event_text, push_event, reply_text};
-pub use lines::{listing, segment_line};
+pub use lines::{header_line, segment_line};

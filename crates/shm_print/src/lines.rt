@@ -1,11 +1,9 @@
-//! The listing: a header, and a line for each segment by rising index.
-ghost use Rattle.std.specs.Prelude.{◌≡◌, ◌++◌, IfOk, OnOk, string_bytes};
+//! The lines of a listing: its header, and the line of a segment.
+ghost use Rattle.std.specs.Prelude.{◌≡◌, IfOk, string_bytes};
 ghost use Rattle.shm_print.specs.Listing as listing;
 
 use crate::words::{Key, Mode, StatusWord};
 use shm_base::{ShmId, ShmidDs};
-use shm_history::World;
-use shm_pager::Pager;
 use std::alloc::{AllocError, Global};
 
 /// How many places a cell has.
@@ -22,8 +20,8 @@ fn cell(mut text: String) -> Result<String, AllocError>
     Ok(text)
 }
 
-/// The header of the listing.
-pub(crate) fn header_line(alloc: Global) -> Result<String, AllocError>
+/// The header of a listing.
+pub fn header_line(alloc: Global) -> Result<String, AllocError>
     ensures { IfOk result (λ s. string_bytes s ≡ listing.header_line) }
 {
     format!(in alloc; "key        shmid      owner      perms      bytes      nattch     status\n")
@@ -43,31 +41,4 @@ pub fn segment_line(alloc: Global, id: ShmId, shown: &ShmidDs) -> Result<String,
     let bytes = cell(format!(in alloc; "{size}")?)?;
     let attached = cell(format!(in alloc; "{nattch}")?)?;
     format!(in alloc; "{key}{shmid}{owner}{perms}{bytes}{attached}{status}\n")
-}
-
-// Puts the line of a segment behind a text, where there is one.
-fn push_line(
-    alloc: Global,
-    text: &mut String,
-    segment: Option<(ShmId, ShmidDs)>,
-) -> Result<(), AllocError>
-    ensures { OnOk result (string_bytes text.new ≡ string_bytes text.old ++ listing.line_shown segment) }
-{
-    if let Some((id, shown)) = segment {
-        let line = segment_line(alloc, id, &shown)?;
-        text.push_str(&line)?;
-    }
-    Ok(())
-}
-
-/// The listing of a machine: the header, and a line for each segment by rising index, those included that
-/// are marked for removal.
-pub fn listing<P: Pager>(alloc: Global, world: &World<P>) -> Result<String, AllocError>
-    ensures { IfOk result (λ s. string_bytes s ≡ listing.listing_of world.now.machine) }
-{
-    let mut text = header_line(alloc)?;
-    for index in 0..world.indexes() {
-        push_line(alloc, &mut text, world.segment(index))?;
-    }
-    Ok(text)
 }

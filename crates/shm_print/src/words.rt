@@ -1,27 +1,10 @@
-//! The words of the printed lines: addresses, keys, modes, flags and marks.
+//! The words of the printed lines: keys, modes, flags and marks.
 ghost use Rattle.std.specs.Prelude.{Some};
 ghost use Rattle.shm_print.specs.Text as text;
 
 use bitflags::Flags;
 use shm_base::{AtFlags, GetFlags, Status};
 use std::fmt;
-
-/// An address: `null` for 0.
-#[derive(Clone, Copy)]
-pub(crate) struct Address(pub(crate) u64);
-
-impl fmt::Display for Address {
-    ghost output = { λ a. Some (text.address_text a.0) };
-
-    fn fmt<W: fmt::Write>(&self, f: &mut fmt::Formatter<W>) -> fmt::Result {
-        let address = self.0;
-        if address == 0 {
-            write!(f, "null")
-        } else {
-            write!(f, "0x{address:x}")
-        }
-    }
-}
 
 /// A key: eight digits.
 #[derive(Clone, Copy)]

@@ -4,12 +4,13 @@ use Rattle.std.specs.List.{list_any}
 use Rattle.shm_base.specs.History.{IsHistory, own_part}
 use Rattle.shm_base.specs.State.{Opening}
 use Rattle.shm_base.specs.declared.call.Call.{Call}
-use Rattle.shm_base.specs.declared.call.Call.TheVariants.{Shmget, Shmat, Fork, Exit}
+use Rattle.shm_base.specs.declared.call.Call.TheVariants.{Fork, Exit}
 use Rattle.shm_base.specs.declared.call.Reply.{Reply}
 use Rattle.shm_base.specs.declared.call.Reply.TheVariants.{Done, Refused}
 use Rattle.shm_base.specs.declared.call.Event.{Event}
 use Rattle.shm_base.specs.declared.call.Process.{Process}
 use Rattle.shm_base.specs.declared.errno.Errno.TheVariants.{Esrch}
+use Rattle.shm_life.specs.SystemState.{takes_memory}
 use Rattle.shm_history.specs.WorldState.{WorldState, event}
 use Rattle.shm_text.specs.Form.{CommandView}
 use Rattle.shm_text.specs.Script.{ScriptView}
@@ -89,15 +90,9 @@ HasLines script history t =
     Follows no_values (commands_of t.pid script.lines) t.entries.items
     ⊎ ((is_child t.pid script.processes ≡ true) × (t.entries.items ≡ []) × (is_forked t.pid history ≡ false))
 
--- the calls that may be marked for want of memory
-abbrev pub may_want : Call → Bool
-may_want (Shmget key size mode flags) = true
-may_want (Shmat id addr flags) = true
-may_want (Fork child) = true
-may_want _ = false
-
+-- only a call that may take memory is marked for want of it
 abbrev pub FitsMark : Entry → Type 0
-FitsMark e = e.answer ≡ HostMemory → may_want e.call ≡ true
+FitsMark e = e.answer ≡ HostMemory → takes_memory e.call ≡ true
 
 -- What holds of one transcript. Without its marked entries it is its process's own part of the history
 pub record IsTranscript (script : ScriptView) (history : List Event) (t : Transcript) : Type 0 where

@@ -177,7 +177,7 @@ fn is_fork_of(event: &Event, child: u32) -> bool
     }
 }
 
-// Whether only calls that may want memory are marked.
+// Whether only calls that may take memory are marked.
 fn fit(entries: &[Entry]) -> bool
     ensures { IsTrue result ↔ All FitsMark entries.now }
 {
@@ -189,7 +189,7 @@ fn fits(entry: &Entry) -> bool
 {
     match (&entry.call, &entry.answer) {
         (_, Answer::Reply(_)) => true,
-        (Call::Shmget { .. } | Call::Shmat { .. } | Call::Fork { .. }, Answer::HostMemory) => true,
+        (Call::Shmget { .. } | Call::Shmat { .. }, Answer::HostMemory) => true,
         _ => false,
     }
 }

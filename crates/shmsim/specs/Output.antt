@@ -8,7 +8,7 @@ use Rattle.shm_life.specs.declared.start.StartError.{StartError}
 use Rattle.shm_life.specs.Start.{start_error, number_of}
 use Rattle.shm_text.specs.Script.{ScriptView}
 use Rattle.shm_text.specs.Reading.{script_of}
-use Rattle.shm_print.specs.Listing.{listing_of}
+use Rattle.shm_report.specs.Listing.{listing_of}
 use Rattle.shm_print.specs.Text.{events_text}
 use Rattle.shm_print.specs.Usage.{usage_text}
 use Rattle.shm_life.specs.MachineView.{IsExactly}

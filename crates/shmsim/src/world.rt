@@ -10,7 +10,8 @@ use crate::fault::{RunFault, stopped};
 use shm_base::Event;
 use shm_history::{System, World};
 use shm_pager::Pager;
-use shm_print::{listing, push_event, usage};
+use shm_print::push_event;
+use shm_report::{listing, usage};
 use shm_text::Script;
 use std::alloc::{AllocError, Global};
 use std::io::Write;
@@ -39,7 +40,7 @@ fn history_text(alloc: Global, history: &[Event]) -> Result<String, AllocError>
     let mut text = String::new(alloc);
     let mut place = 1u64;
     for event in history {
-        push_event(alloc, &mut text, place, event)?;
+        push_event(&mut text, place, event)?;
         place += 1;
     }
     Ok(text)

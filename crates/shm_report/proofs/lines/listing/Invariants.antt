@@ -1,7 +1,7 @@
 use Rattle.std.proofs.Common.{◌≡◌, ◌++◌, length, drop}
 use Rattle.std.specs.Prelude.{string_bytes}
-use Rattle.shm_print.specs.Listing.{lines_from, listing_of}
-use Rattle.shm_print.proofs.lines.listing.Given as goal
+use Rattle.shm_report.specs.Listing.{lines_from, listing_of}
+use Rattle.shm_report.proofs.lines.listing.Given as goal
 
 -- the text and the lines of the indexes that are left make the listing
 abbrev pub invariant-loop-index : goal.invariant-loop-index

@@ -1,8 +1,8 @@
 use Rattle.std.proofs.Common.{rules, arith, ◌≡◌, ◌<◌, ◌+◌, ◌∙◌, ap, sym, ◌++◌, length, drop, string_bytes, append_assoc}
 use Rattle.shm_life.specs.Listed.{segment_at}
-use Rattle.shm_print.specs.Listing.{line_shown, lines_from}
-use Rattle.shm_print.proofs.Rows.{lines_from-next}
-use Rattle.shm_print.proofs.lines.listing.Goals as goal
+use Rattle.shm_report.specs.Listing.{line_shown, lines_from}
+use Rattle.shm_report.proofs.Rows.{lines_from-next}
+use Rattle.shm_report.proofs.lines.listing.Goals as goal
 
 pub loop-index-preserved : goal.loop-index-preserved
 loop-index-preserved g c =

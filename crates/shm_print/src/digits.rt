@@ -1,0 +1,47 @@
+//! Hexadecimal digits, put behind a text.
+ghost use Rattle.std.specs.Prelude.{◌≡◌, ◌<◌, ◌≤◌, ◌++◌, OnOk, false, string_bytes, length, drop};
+ghost use Rattle.std.specs.Fmt.{digits, digit_glyph};
+
+use std::alloc::AllocError;
+
+/// As many digits as 64 bits can have in any base.
+const MOST: usize = 64;
+
+// The digit of a number below 16.
+fn digit(number: u64) -> u8
+    requires { number < 16 }
+    ensures { result ≡ digit_glyph false number }
+{
+    if number < 10 {
+        b'0' + number as u8
+    } else {
+        b'a' + (number as u8 - 10)
+    }
+}
+
+// Puts the digits of a number at the end of the room, and returns where they begin.
+fn fill_digits(number: u64, room: &mut [u8; MOST]) -> usize
+    ensures start { result ≤ MOST }
+    ensures digits { drop result room.new ≡ digits 16 false number }
+{
+    let mut at = MOST;
+    let mut left = number;
+    while at > 0 {
+        at -= 1;
+        room[at] = digit(left % 16);
+        left /= 16;
+        if left == 0 {
+            return at;
+        }
+    }
+    at
+}
+
+/// Puts the hexadecimal digits of a number behind a text, without leading zeros.
+pub(crate) fn push_digits(text: &mut String, number: u64) -> Result<(), AllocError>
+    ensures { OnOk result (string_bytes text.new ≡ string_bytes text.old ++ digits 16 false number) }
+{
+    let mut room = [0u8; MOST];
+    let start = fill_digits(number, &mut room);
+    text.push_str(str::from_utf8(&room[start..]).unwrap())
+}

@@ -1,0 +1,14 @@
+ghost use Rattle.std.specs.Prelude.{◌≡◌, IfOk, string_bytes};
+ghost use Rattle.shm_history.specs.WorldState.{tally_of};
+ghost use Rattle.shm_print.specs.Usage.{usage_text};
+
+use shm_history::World;
+use shm_pager::Pager;
+use std::alloc::{AllocError, Global};
+
+/// The usage of a world as it is, in three lines.
+pub fn usage<P: Pager>(alloc: Global, world: &World<P>) -> Result<String, AllocError>
+    ensures { IfOk result (λ s. string_bytes s ≡ usage_text (tally_of world.now)) }
+{
+    shm_print::usage_text(alloc, &world.tally())
+}
