@@ -218,6 +218,7 @@ record Known (o : Opening) (before : List Event) (s : Machine) : Type 0 where
   made : AreMade o before s
 
 known-on : (o : Opening) → GoesOn o (Known o)
+unfolding AreMade
 known-on o before s e t h now m =
     record { sound = (one_move s (length before + 1) e t now.sound m).sound; made = λ id y stands. from id y (came-from s t e now.sound (kind-move s (length before + 1) e t now.sound.bare m) id y stands) }
   where
@@ -227,6 +228,7 @@ known-on o before s e t h now m =
         Lasted before s e h (old.segment, old.stood, old.same) (since-same o before id old.segment y old.same (now.made id old.segment old.stood))
 
 start-made : (o : Opening) → AreMade o [] (start_of o)
+unfolding AreMade
 start-made o id y stands = absurd (cc stands)
 
 -- of every legal history

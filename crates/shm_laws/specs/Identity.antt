@@ -45,7 +45,7 @@ abbrev pub StandsAs : Machine → ℕ → Segment → Type 0
 StandsAs s id y = (x : Segment) × Stands s id x × IsSame x y
 
 -- each segment that stands was made by one of these events, and has stood since
-abbrev pub AreMade : Opening → List Event → Machine → Type 0
+unfoldable pub AreMade : Opening → List Event → Machine → Type 0
 AreMade o before s = (id : ℕ) (y : Segment) → Stands s id y → Since o (λ u e. IsMadeBy u e id y) (λ u e. StandsAs u id y) before
 
 -- THE LAW. From each moment of the history on to its end names are kept, and a new segment gets an identifier that

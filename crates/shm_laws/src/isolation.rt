@@ -9,8 +9,8 @@ use shm_pager::Pager;
 /// The history of the world. In it no reply and no byte that is seen depends on the bytes of segments of which the process
 /// that calls has no piece: had these been others, each call would have been answered the same.
 pub fn isolated<P: Pager>(world: &World<P>) -> &[Event]
-    ensures events { result.now ≡ world.now.events }
     ensures law { IsIsolated world.now.opening result.now world.now.machine }
+    ensures events { result.now ≡ world.now.events }
 {
     world.history()
 }

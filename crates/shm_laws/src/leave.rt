@@ -9,8 +9,8 @@ use shm_pager::Pager;
 /// The history of the world. In it each piece of a process goes back, through forks alone, to a shmat that was granted;
 /// each access stays inside the pieces of its process, and set, rmid, lock and unlock are done for owners alone.
 pub fn kept_out<P: Pager>(world: &World<P>) -> &[Event]
-    ensures events { result.now ≡ world.now.events }
     ensures law { NoWayIn world.now.opening result.now world.now.machine }
+    ensures events { result.now ≡ world.now.events }
 {
     world.history()
 }

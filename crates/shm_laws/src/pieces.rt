@@ -10,8 +10,8 @@ use shm_pager::Pager;
 /// has a piece of stands at all times. What stat shows is how many pieces of the segment all processes have; a shmat adds
 /// one, a fork as many as the parent has, and what is detached is subtracted.
 pub fn pieces_stand<P: Pager>(world: &World<P>) -> &[Event]
-    ensures events { result.now ≡ world.now.events }
     ensures law { PiecesAreOfSegments world.now.opening result.now world.now.machine }
+    ensures events { result.now ≡ world.now.events }
 {
     world.history()
 }
