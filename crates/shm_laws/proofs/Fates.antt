@@ -1,5 +1,5 @@
 -- What becomes of each index of the table in a step, and of what is kept.
-use Rattle.std.proofs.Common.{◌≡◌, ◌≢◌, ◌⊎◌, ℕ, ◌/◌, ◌%◌, ◌<◌, ◌≤◌, ◌==◌, ◌&&◌, ◌||◌, pos, negsuc, Bool, true, false, List, Option, Some, None, slice_get, refl, sym, ap, subst, ◌∙◌, inl, inr, arith, eq-eqb, ne_eqb, true≢false}
+use Rattle.std.proofs.Common.{◌≡◌, ◌≢◌, ◌⊎◌, ℕ, ◌/◌, ◌%◌, ◌<◌, ◌≤◌, ◌==◌, ◌&&◌, ◌||◌, pos, negsuc, Bool, true, false, List, replicate, Option, Some, None, slice_get, refl, sym, ap, subst, ◌∙◌, inl, inr, arith, eq-eqb, ne_eqb, true≢false}
 use Rattle.std.specs.Prelude.{option_map}
 use Rattle.std.proofs.lemmas.Bool.{cases_Bool, cases_eq}
 use Rattle.std.proofs.lemmas.Option.{none-some}
@@ -13,58 +13,47 @@ use Rattle.shm_base.specs.State.{Segment, Entry, Runner, Machine}
 use Rattle.shm_base.specs.Identifier.{identifier, destroyed_in, with_segment}
 use Rattle.shm_base.specs.Segments.{attach_count, with_entry, marked, change, swept_at}
 use Rattle.shm_base.specs.Step.{Outcome, Caller, step_by, caller_of}
-use Rattle.shm_base.specs.History.{is_failure, IsMove}
+use Rattle.shm_base.specs.History.{IsMove}
 use Rattle.shm_segments.specs.Table.{segment_in}
 use Rattle.shm_segments.specs.Left.{orphan_in, orphan}
 use Rattle.shm_laws.specs.Identity.{IsSame}
 use Rattle.shm_laws.proofs.Turning.{same_refl, set_in-here, set_in-there, swept_entry, swept-get}
 use Rattle.shm_laws.proofs.Fresh.{IsEmpty, made-at}
 use Rattle.shm_laws.proofs.Looks.{holds, bare_entry, stands-at}
-use Rattle.shm_laws.proofs.Stepping.{Bare, StillTo, SweepTo, MakeTo, RemoveTo, Kind, removed, removed_by, kind-acts, still}
+use Rattle.shm_laws.specs.Writing.{put, held_by}
+use Rattle.shm_laws.proofs.Refusing.{failure-removed, failure-put}
+use Rattle.shm_laws.proofs.Stepping.{Bare, StillTo, SweepTo, MakeTo, RemoveTo, IsIdle, Kind, over_put, overlay, MadeBy, made_by, Moved, removed, removed_by, kind-acts, still}
 
 -- WHAT EACH MOVE IS
 
-kind-by : (s : Machine) (n : ℕ) (call : Call) (o : Option Caller) → Bare s.runners → Kind s (removed call (step_by s n call o).reply) (step_by s n call o).state
-kind-by s n (Rmid (pos id)) None bare = still s
-kind-by s n (Rmid (negsuc id)) None bare = still s
-kind-by s n (Shmget key size mode flags) None bare = still s
-kind-by s n (Shmat id addr flags) None bare = still s
-kind-by s n (Shmdt addr) None bare = still s
-kind-by s n (Stat id) None bare = still s
-kind-by s n (Set id uid gid mode) None bare = still s
-kind-by s n (Lock id) None bare = still s
-kind-by s n (Unlock id) None bare = still s
-kind-by s n (Load a len) None bare = still s
-kind-by s n (Store a bytes) None bare = still s
-kind-by s n (Xadd a add) None bare = still s
-kind-by s n (Fork child) None bare = still s
-kind-by s n Exec None bare = still s
-kind-by s n Exit None bare = still s
-kind-by s n (Swapoff area) None bare = still s
-kind-by s n call (Some c) bare = kind-acts s n c call bare
+kind-by : (s : Machine) (n : ℕ) (call : Call) (o : Option Caller) → Bare s.runners
+    → let r = step_by s n call o in Kind (over_put (held_by o) (put call r.reply)) (made_by o call) s (removed call r.reply) r.reply r.state
+kind-by s n (Rmid (pos id)) None bare = still _ s _
+kind-by s n (Rmid (negsuc id)) None bare = still _ s _
+kind-by s n (Shmget key size mode flags) None bare = still _ s _
+kind-by s n (Shmat id addr flags) None bare = still _ s _
+kind-by s n (Shmdt addr) None bare = still _ s _
+kind-by s n (Stat id) None bare = still _ s _
+kind-by s n (Set id uid gid mode) None bare = still _ s _
+kind-by s n (Lock id) None bare = still _ s _
+kind-by s n (Unlock id) None bare = still _ s _
+kind-by s n (Load a len) None bare = still _ s _
+kind-by s n (Store a bytes) None bare = still _ s _
+kind-by s n (Xadd a add) None bare = still _ s _
+kind-by s n (Fork child) None bare = still _ s _
+kind-by s n Exec None bare = still _ s _
+kind-by s n Exit None bare = still _ s _
+kind-by s n (Swapoff area) None bare = still _ s _
+kind-by s n call (Some c) bare =
+    kind-acts (MadeBy c call) s n c call bare
+    (λ key size mode flags asked k. record { key = key; mode = mode; flags = flags; asked = asked; process = refl; user = refl; group = refl })
 
-failure-removed : (call : Call) (reply : Reply) → is_failure call reply ≡ true → removed call reply ≡ None
-failure-removed (Rmid id) reply h = absurd (true≢false (sym h))
-failure-removed (Shmget key size mode flags) reply h = refl
-failure-removed (Shmat id addr flags) reply h = refl
-failure-removed (Shmdt addr) reply h = refl
-failure-removed (Stat id) reply h = refl
-failure-removed (Set id uid gid mode) reply h = refl
-failure-removed (Lock id) reply h = refl
-failure-removed (Unlock id) reply h = refl
-failure-removed (Load a len) reply h = refl
-failure-removed (Store a bytes) reply h = refl
-failure-removed (Xadd a add) reply h = refl
-failure-removed (Fork child) reply h = refl
-failure-removed Exec reply h = refl
-failure-removed Exit reply h = refl
-failure-removed (Swapoff area) reply h = refl
-
-pub kind-move : (s : Machine) (n : ℕ) (e : Event) (t : Machine) → Bare s.runners → IsMove s n e t → Kind s (removed e.call e.reply) t
+pub kind-move : (s : Machine) (n : ℕ) (e : Event) (t : Machine) → Bare s.runners → IsMove s n e t → Moved s e t
 kind-move s n e t bare (inl m) =
-    subst (λ (o : Outcome). Kind s (removed e.call o.reply) o.state) m (kind-by s n e.call (caller_of s e.pid) bare)
+    subst (λ (o : Outcome). Kind (over_put (held_by (caller_of s e.pid)) (put e.call o.reply)) (made_by (caller_of s e.pid) e.call) s (removed e.call o.reply) o.reply o.state) m
+    (kind-by s n e.call (caller_of s e.pid) bare)
 kind-move s n e t bare (inr x) =
-    rw (failure-removed e.call e.reply x.failure, x.unchanged) (still s)
+    rw (failure-removed e.call e.reply x.failure, failure-put e.call e.reply x.failure, x.unchanged) (still (made_by (caller_of s e.pid) e.call) s e.reply)
 
 -- WHICH CALL REMOVED
 
@@ -116,16 +105,20 @@ names None id = false
 names (Some n) id = n == id
 
 -- a segment that stood: it is swept as it is now, which is as it was but for a mark
-pub record Stays (i : ℕ) (rs : List Runner) (b : Bool) (d : ℕ) (x : Segment) (after : Option Entry) : Type 0 where
+pub record Stays (over : List ℕ → List ℕ) (i : ℕ) (rs : List Runner) (b : Bool) (d : ℕ) (x : Segment) (after : Option Entry) : Type 0 where
   pub now : Segment
   pub same : IsSame x now
   pub dest : now.dest ≡ (b || x.dest)
+  pub bytes : now.bytes ≡ over x.bytes
   pub at : after ≡ Some (swept_at i rs d (Some now))
 
 -- a new one
-pub record IsNew (d : ℕ) (after : Option Entry) : Type 0 where
+pub record IsNew (like : Segment → Type 0) (i : ℕ) (reply : Reply) (d : ℕ) (after : Option Entry) : Type 0 where
   pub now : Segment
+  pub made : like now
+  pub answer : reply ≡ Id (pos (identifier i d))
   pub dest : now.dest ≡ false
+  pub zeros : (n : ℕ) × (now.bytes ≡ replicate n 0)
   pub at : after ≡ holds d now
 
 left-less : (b : Bool) (m k : ℕ) → b && (m == 0) ≡ false → m ≤ k → b && (k == 0) ≡ false
@@ -139,12 +132,13 @@ left-less true m k h le =
 pub not-left : (i : ℕ) (rs : List Runner) (d : ℕ) (y : Segment) → y.dest && (attach_count rs (identifier i d) == 0) ≡ false → holds d y ≡ Some (swept_at i rs d (Some y))
 not-left i rs d y h = rw h refl
 
-stays-same : (s t : Machine) (i d : ℕ) (x y : Segment) → orphan s.runners s.table i ≡ false → slice_get s.table i ≡ holds d x → IsSame x y → y.dest ≡ x.dest
-    → ((id : ℕ) → attach_count s.runners id ≤ attach_count t.runners id) → slice_get t.table i ≡ holds d y → Stays i t.runners false d x (slice_get t.table i)
-stays-same s t i d x y none is same dest grows at =
+stays-same : (over : List ℕ → List ℕ) (s t : Machine) (i d : ℕ) (x y : Segment) → orphan s.runners s.table i ≡ false → slice_get s.table i ≡ holds d x → IsSame x y
+    → y.dest ≡ x.dest → y.bytes ≡ over x.bytes
+    → ((id : ℕ) → attach_count s.runners id ≤ attach_count t.runners id) → slice_get t.table i ≡ holds d y → Stays over i t.runners false d x (slice_get t.table i)
+stays-same over s t i d x y none is same dest bytes grows at =
     let was : x.dest && (attach_count s.runners (identifier i d) == 0) ≡ false = rw is at none in
     let now : y.dest && (attach_count t.runners (identifier i d) == 0) ≡ false = rw dest (left-less x.dest _ _ was (grows (identifier i d))) in
-    record { now = y; same = same; dest = dest; at = at ∙ not-left i t.runners d y now }
+    record { now = y; same = same; dest = dest; bytes = bytes; at = at ∙ not-left i t.runners d y now }
 
 turned-empty : (f : Segment → Segment) (d : ℕ) (o : Option Entry) → IsEmpty d o → option_map (with_entry f) o ≡ o
 turned-empty f d o (inl h) = rw h refl
@@ -168,19 +162,20 @@ swept-sound i rs d y =
       | inr h ↦ rw h h
     ]
 
-module _ (s t : Machine) (sound : IsSound s) (i : ℕ) (small : i < 32768) where
-  stays-still : (d : ℕ) (x : Segment) → StillTo s t → slice_get s.table i ≡ holds d x → Stays i t.runners false d x (slice_get t.table i)
+module _ (over : ℕ → List ℕ → List ℕ) (like : Segment → Type 0) (r : Option ℕ) (reply : Reply) (s t : Machine) (sound : IsSound s) (i : ℕ) (small : i < 32768) where
+  stays-still : (d : ℕ) (x : Segment) → StillTo over s t → slice_get s.table i ≡ holds d x → Stays (over i) i t.runners false d x (slice_get t.table i)
   stays-still d x k is =
       let u = k.turned i in
-      stays-same s t i d x (u.turn x) (sound.orphans i small) is (u.same x) (u.dest x) k.grows (u.at ∙ ap (option_map (with_entry u.turn)) is)
+      stays-same (over i) s t i d x (u.turn x) (sound.orphans i small) is (u.same x) (u.dest x) (u.bytes x) k.grows (u.at ∙ ap (option_map (with_entry u.turn)) is)
 
-  stays-swept : (d : ℕ) (x : Segment) → SweepTo s t → slice_get s.table i ≡ holds d x → Stays i t.runners false d x (slice_get t.table i)
-  stays-swept d x k is =
+  stays-swept : (d : ℕ) (x : Segment) → IsIdle over → SweepTo s t → slice_get s.table i ≡ holds d x → Stays (over i) i t.runners false d x (slice_get t.table i)
+  stays-swept d x none k is =
       let u = k.turned i in
       record {
         now = u.turn x;
         same = u.same x;
         dest = u.dest x;
+        bytes = u.bytes x ∙ sym (none i x.bytes);
         at = ap (λ (es : List Entry). slice_get es i) k.table ∙ swept-get t.runners k.middle i ∙ ap (option_map (swept_entry i t.runners)) (u.at ∙ ap (option_map (with_entry u.turn)) is);
       }
 
@@ -188,13 +183,13 @@ module _ (s t : Machine) (sound : IsSound s) (i : ℕ) (small : i < 32768) where
   holds-empty d e x o is (inl h) = none-some x (ap segment_in (sym h ∙ is))
   holds-empty d e x o is (inr h) = none-some _ (sym h.0 ∙ is)
 
-  stays-made : (d : ℕ) (x : Segment) → MakeTo s t → slice_get s.table i ≡ holds d x → Stays i t.runners false d x (slice_get t.table i)
-  stays-made d x k is =
+  stays-made : (d : ℕ) (x : Segment) → IsIdle over → MakeTo like s reply t → slice_get s.table i ≡ holds d x → Stays (over i) i t.runners false d x (slice_get t.table i)
+  stays-made d x none k is =
       let m = made-at s.table k.index k.segment k.free in
       elim (cases_eq k.index i) [
         | inl h ↦ absurd (holds-empty d m.destroyed x (slice_get s.table k.index) (rw h is) m.empty)
         | inr apart ↦
-            stays-same s t i d x x (sound.orphans i small) is (same_refl x) refl (λ id. rw k.runners (omega arith))
+            stays-same (over i) s t i d x x (sound.orphans i small) is (same_refl x) refl (sym (none i x.bytes)) (λ id. rw k.runners (omega arith))
             (ap (λ (es : List Entry). slice_get es i) k.table ∙ m.there i apart ∙ is)
       ]
 
@@ -203,13 +198,13 @@ module _ (s t : Machine) (sound : IsSound s) (i : ℕ) (small : i < 32768) where
       let twice : (id % 32768) % 32768 ≡ i = omega (arith, here) in
       rw twice (set_in-here s.table i (with_entry marked) (slice_get s.table i) refl ∙ ap (option_map (with_entry marked)) is)
 
-  stays-removed : (d : ℕ) (x : Segment) (id : ℕ) → RemoveTo s t id → slice_get s.table i ≡ holds d x → Stays i t.runners (id == identifier i d) d x (slice_get t.table i)
-  stays-removed d x id k is = by (cases_eq (id % 32768) i)
+  stays-removed : (d : ℕ) (x : Segment) (id : ℕ) → IsIdle over → RemoveTo s t id → slice_get s.table i ≡ holds d x → Stays (over i) i t.runners (id == identifier i d) d x (slice_get t.table i)
+  stays-removed d x id none k is = by (cases_eq (id % 32768) i)
     where
       after : slice_get t.table i ≡ option_map (swept_entry i t.runners) (slice_get (change s.table (id % 32768) marked) i)
       after = rw k.runners (ap (λ (es : List Entry). slice_get es i) k.table ∙ swept-get s.runners (change s.table (id % 32768) marked) i)
 
-      by : (id % 32768 ≡ i) ⊎ (id % 32768 ≢ i) → Stays i t.runners (id == identifier i d) d x (slice_get t.table i)
+      by : (id % 32768 ≡ i) ⊎ (id % 32768 ≢ i) → Stays (over i) i t.runners (id == identifier i d) d x (slice_get t.table i)
       by (inl here) =
           let there : holds (id / 32768) k.segment ≡ holds d x = sym (stays-found) ∙ is in
           let count : id / 32768 ≡ d = ap destroyed_in there in
@@ -219,6 +214,7 @@ module _ (s t : Machine) (sound : IsSound s) (i : ℕ) (small : i < 32768) where
             now = marked x;
             same = record { size = refl; cpid = refl; cuid = refl; cgid = refl };
             dest = refl;
+            bytes = sym (none i x.bytes);
             at = after ∙ ap (option_map (swept_entry i t.runners)) (marked-at id d x here is);
           })
         where
@@ -232,33 +228,41 @@ module _ (s t : Machine) (sound : IsSound s) (i : ℕ) (small : i < 32768) where
             now = x;
             same = same_refl x;
             dest = refl;
+            bytes = sym (none i x.bytes);
             at = after ∙ ap (option_map (swept_entry i t.runners)) (set_in-there s.table _ i (with_entry marked) _ twice ∙ is);
           })
 
   -- a segment that stood
-  pub stays : (r : Option ℕ) (d : ℕ) (x : Segment) → Kind s r t → slice_get s.table i ≡ holds d x → Stays i t.runners (names r (identifier i d)) d x (slice_get t.table i)
-  stays r d x (inl (none, inl k)) is = rw none (stays-still d x k is)
-  stays r d x (inl (none, inr (inl k))) is = rw none (stays-swept d x k is)
-  stays r d x (inl (none, inr (inr k))) is = rw none (stays-made d x k is)
-  stays r d x (inr k) is = rw k.named (stays-removed d x k.id k.removes is)
+  pub stays : (d : ℕ) (x : Segment) → Kind over like s r reply t → slice_get s.table i ≡ holds d x → Stays (over i) i t.runners (names r (identifier i d)) d x (slice_get t.table i)
+  stays d x (inl (none, inl k)) is = rw none (stays-still d x k is)
+  stays d x (inl (none, inr (no_byte, inl k))) is = rw none (stays-swept d x no_byte k is)
+  stays d x (inl (none, inr (no_byte, inr k))) is = rw none (stays-made d x no_byte k is)
+  stays d x (inr (no_byte, k)) is = rw k.named (stays-removed d x k.id no_byte k.removes is)
 
   -- an index that held no segment
-  pub comes : (r : Option ℕ) (d : ℕ) (o : Option Entry) → Kind s r t → slice_get s.table i ≡ o → IsEmpty d o → (slice_get t.table i ≡ o) ⊎ IsNew d (slice_get t.table i)
-  comes r d o (inl (none, inl k)) is empty = inl ((k.turned i).at ∙ ap (option_map (with_entry (k.turned i).turn)) is ∙ turned-empty (k.turned i).turn d o empty)
-  comes r d o (inl (none, inr (inl k))) is empty =
+  pub comes : (d : ℕ) (o : Option Entry) → Kind over like s r reply t → slice_get s.table i ≡ o → IsEmpty d o → (slice_get t.table i ≡ o) ⊎ IsNew like i reply d (slice_get t.table i)
+  comes d o (inl (none, inl k)) is empty = inl ((k.turned i).at ∙ ap (option_map (with_entry (k.turned i).turn)) is ∙ turned-empty (k.turned i).turn d o empty)
+  comes d o (inl (none, inr (no_byte, inl k))) is empty =
       inl (ap (λ (es : List Entry). slice_get es i) k.table ∙ swept-get t.runners k.middle i
       ∙ ap (option_map (swept_entry i t.runners)) ((k.turned i).at ∙ ap (option_map (with_entry (k.turned i).turn)) is ∙ turned-empty (k.turned i).turn d o empty)
       ∙ swept-empty i t.runners d o empty)
-  comes r d o (inl (none, inr (inr k))) is empty =
+  comes d o (inl (none, inr (no_byte, inr k))) is empty =
       let m = made-at s.table k.index k.segment k.free in
       let table = ap (λ (es : List Entry). slice_get es i) k.table in
       elim (cases_eq k.index i) [
         | inl h ↦
             (let count : m.destroyed ≡ d = same-count m.destroyed d o (subst (IsEmpty m.destroyed) (ap (slice_get s.table) h ∙ is) m.empty) empty in
-            inr (record { now = k.segment; dest = k.fresh; at = table ∙ sym (ap (slice_get (with_segment s.table k.index k.segment)) h) ∙ m.here ∙ ap (λ c. holds c k.segment) count }))
+            inr (record {
+              now = k.segment;
+              made = k.made;
+              answer = k.answer ∙ (λ j. Id (pos (identifier (h j) ((m.count ∙ count) j))));
+              dest = k.fresh;
+              zeros = k.zeros;
+              at = table ∙ sym (ap (slice_get (with_segment s.table k.index k.segment)) h) ∙ m.here ∙ ap (λ c. holds c k.segment) count;
+            }))
         | inr apart ↦ inl (table ∙ m.there i apart ∙ is)
       ]
-  comes r d o (inr k) is empty =
+  comes d o (inr (no_byte, k)) is empty =
       inl (ap (λ (es : List Entry). slice_get es i) k.removes.table ∙ swept-get s.runners (change s.table (k.id % 32768) marked) i
       ∙ ap (option_map (swept_entry i s.runners)) (marked-empty (cases_eq ((k.id % 32768) % 32768) i)) ∙ swept-empty i s.runners d o empty)
     where
@@ -268,34 +272,37 @@ module _ (s t : Machine) (sound : IsSound s) (i : ℕ) (small : i < 32768) where
 
   -- WHAT IS KEPT STAYS SO
 
-  stays-sound : (b : Bool) (d : ℕ) (x : Segment) → Stays i t.runners b d x (slice_get t.table i) → orphan t.runners t.table i ≡ false
+  stays-sound : (b : Bool) (d : ℕ) (x : Segment) → Stays (over i) i t.runners b d x (slice_get t.table i) → orphan t.runners t.table i ≡ false
   stays-sound b d x k = ap (orphan_in i t.runners) k.at ∙ swept-sound i t.runners d k.now
 
-  new-sound : (d : ℕ) → IsNew d (slice_get t.table i) → orphan t.runners t.table i ≡ false
+  new-sound : (d : ℕ) → IsNew like i reply d (slice_get t.table i) → orphan t.runners t.table i ≡ false
   new-sound d k = ap (orphan_in i t.runners) k.at ∙ rw k.dest refl
 
-  orphan-after : (r : Option ℕ) → Kind s r t → (o : Option Entry) → slice_get s.table i ≡ o → orphan t.runners t.table i ≡ false
-  orphan-after r k None is = either (comes r 0 None k is (inr (refl, refl)))
+  orphan-after : Kind over like s r reply t → (o : Option Entry) → slice_get s.table i ≡ o → orphan t.runners t.table i ≡ false
+  orphan-after k None is = either (comes 0 None k is (inr (refl, refl)))
     where
-      either : (slice_get t.table i ≡ None) ⊎ IsNew 0 (slice_get t.table i) → orphan t.runners t.table i ≡ false
+      either : (slice_get t.table i ≡ None) ⊎ IsNew like i reply 0 (slice_get t.table i) → orphan t.runners t.table i ≡ false
       either (inl h) = ap (orphan_in i t.runners) h
       either (inr h) = new-sound 0 h
-  orphan-after r k (Some e) is = in_entry e.destroyed e.segment is
+  orphan-after k (Some e) is = in_entry e.destroyed e.segment is
     where
       in_entry : (d : ℕ) (p : Option Segment) → slice_get s.table i ≡ Some (record { destroyed = d; segment = p }) → orphan t.runners t.table i ≡ false
-      in_entry d (Some x) is = stays-sound (names r (identifier i d)) d x (stays r d x k is)
-      in_entry d None is = either (comes r d (bare_entry d) k is (inl refl))
+      in_entry d (Some x) is = stays-sound (names r (identifier i d)) d x (stays d x k is)
+      in_entry d None is = either (comes d (bare_entry d) k is (inl refl))
         where
-          either : (slice_get t.table i ≡ bare_entry d) ⊎ IsNew d (slice_get t.table i) → orphan t.runners t.table i ≡ false
+          either : (slice_get t.table i ≡ bare_entry d) ⊎ IsNew like i reply d (slice_get t.table i) → orphan t.runners t.table i ≡ false
           either (inl h) = ap (orphan_in i t.runners) h
           either (inr h) = new-sound d h
 
-bare-after : (s t : Machine) (r : Option ℕ) → Kind s r t → Bare s.runners → Bare t.runners
-bare-after s t r (inl (none, inl k)) bare = k.bare bare
-bare-after s t r (inl (none, inr (inl k))) bare = k.bare bare
-bare-after s t r (inl (none, inr (inr k))) bare = rw k.runners bare
-bare-after s t r (inr k) bare = rw k.removes.runners bare
+bare-after : (s : Machine) (e : Event) (t : Machine) → Moved s e t → Bare s.runners → Bare t.runners
+bare-after s e t (inl (none, inl k)) bare = k.bare bare
+bare-after s e t (inl (none, inr (no_byte, inl k))) bare = k.bare bare
+bare-after s e t (inl (none, inr (no_byte, inr k))) bare = rw k.runners bare
+bare-after s e t (inr (no_byte, k)) bare = rw k.removes.runners bare
 
-pub sound-after : (s t : Machine) (r : Option ℕ) → Kind s r t → IsSound s → IsSound t
-sound-after s t r k sound =
-    record { orphans = λ i small. orphan-after s t sound i small r k (slice_get s.table i) refl; bare = bare-after s t r k sound.bare }
+pub sound-after : (s : Machine) (e : Event) (t : Machine) → Moved s e t → IsSound s → IsSound t
+sound-after s e t k sound =
+    record {
+      orphans = λ i small. orphan-after (overlay s e) (made_by (caller_of s e.pid) e.call) (removed e.call e.reply) e.reply s t sound i small k (slice_get s.table i) refl;
+      bare = bare-after s e t k sound.bare;
+    }

@@ -8,3 +8,14 @@ pub mod Fates
 pub mod Removing
 pub mod Naming
 pub mod Piecing
+pub mod Inducting
+pub mod Handing
+pub mod Accessing
+pub mod Granting
+pub mod Refusing
+pub mod Putting
+pub mod Fitting
+pub mod Remembering
+pub mod Veiling
+pub mod Isolating
+pub mod Counting

@@ -1,24 +1,47 @@
 -- An identifier names one segment.
-use Rattle.std.proofs.Common.{◌≡◌, ◌⊎◌, ℕ, ◌+◌, ◌/◌, ◌%◌, ◌<◌, ◌==◌, ◌&&◌, pos, List, [], ◌∷◌, Option, Some, None, slice_get, refl, sym, ap, subst, ◌∙◌, inl, inr, arith}
+use Rattle.std.proofs.Common.{◌≡◌, ◌⊎◌, ℕ, ◌+◌, ◌/◌, ◌%◌, ◌<◌, ◌==◌, ◌&&◌, pos, List, [], ◌∷◌, ◌++◌, length, replicate, Option, Some, None, slice_get, refl, sym, ap, subst, ◌∙◌, inl, inr, arith}
 use Rattle.std.proofs.lemmas.Bool.{cases_Bool}
 use Rattle.std.proofs.lemmas.Option.{none-some}
+use Rattle.shm_base.specs.declared.call.Call.TheVariants.{Shmget}
+use Rattle.shm_base.specs.declared.call.Reply.TheVariants.{Id}
 use Rattle.shm_base.specs.declared.call.Event.{Event}
 use Rattle.shm_base.specs.State.{Segment, Entry, Runner, Machine, Opening, start_of}
 use Rattle.shm_base.specs.Identifier.{Invalid, identifier, destroyed_in, look}
 use Rattle.shm_base.specs.Segments.{attach_count, swept_at}
+use Rattle.shm_base.specs.Step.{Caller, caller_of}
 use Rattle.shm_base.specs.History.{IsMove, LeadsFrom, IsHistory}
 use Rattle.shm_segments.specs.Table.{segment_in}
-use Rattle.shm_laws.specs.Standing.{Stands, IsGone, MovesBy, MomentsBy}
-use Rattle.shm_laws.specs.Identity.{IsSame, KeepsNames, NamesAnew, NamesOneSegment}
+use Rattle.shm_laws.specs.Standing.{Stands, IsGone, MovesBy, MomentsBy, Since, Began, Lasted}
+use Rattle.shm_laws.specs.Identity.{IsSame, KeepsNames, NamesAnew, IsMadeBy, StandsAs, AreMade, NamesOneSegment}
+use Rattle.shm_laws.specs.Writing.{Makes}
+use Rattle.shm_laws.proofs.Fresh.{IsEmpty}
 use Rattle.shm_laws.proofs.Turning.{same_refl, same_trans}
+use Rattle.shm_laws.proofs.Handing.{caller-at}
+use Rattle.shm_laws.proofs.Inducting.{GoesOn, at_all_times, since-map}
 use Rattle.shm_laws.proofs.Looks.{holds, bare_entry, stands-at, at-stands, at-gone, at-never, at-next, entry-gone}
-use Rattle.shm_laws.proofs.Stepping.{Kind, removed}
+use Rattle.shm_laws.proofs.Stepping.{overlay, made_by, Moved, removed}
 use Rattle.shm_laws.proofs.Fates.{IsSound, IsNew, stays, comes, sound-after, kind-move}
 use Rattle.shm_laws.proofs.Removing.{sound-start, stands-or-gone}
 
 -- ONE MOVE
 
-module _ (s t : Machine) (e : Event) (sound : IsSound s) (k : Kind s (removed e.call e.reply) t) (id : ℕ) where
+-- a segment that stood: so its bytes became what they are
+pub record Stood (s : Machine) (e : Event) (id : ℕ) (y : Segment) : Type 0 where
+  pub segment : Segment
+  pub stood : Stands s id segment
+  pub same : IsSame segment y
+  pub bytes : y.bytes ≡ overlay s e (id % 32768) segment.bytes
+
+-- one that was made
+pub record Made (s : Machine) (e : Event) (id : ℕ) (y : Segment) : Type 0 where
+  pub makes : Makes s e id
+  pub zeros : (n : ℕ) × (y.bytes ≡ replicate n 0)
+  pub made : made_by (caller_of s e.pid) e.call y
+
+abbrev pub Before : Machine → Event → ℕ → Segment → Type 0
+Before s e id y = Stood s e id y ⊎ Made s e id y
+
+module _ (s t : Machine) (e : Event) (sound : IsSound s) (k : Moved s e t) (id : ℕ) where
   small : id % 32768 < 32768
   small = omega arith
 
@@ -31,10 +54,10 @@ module _ (s t : Machine) (e : Event) (sound : IsSound s) (k : Kind s (removed e.
 
   gone-entry : (d : ℕ) (p : Option Segment) → slice_get s.table (id % 32768) ≡ Some (record { destroyed = d; segment = p }) → id / 32768 < d → IsGone t id
   gone-entry d (Some x) is past =
-      let q = stays s t sound (id % 32768) small (removed e.call e.reply) d x k is in gone-swept t.runners d q.now past q.at
-  gone-entry d None is past = either (comes s t sound (id % 32768) small (removed e.call e.reply) d (bare_entry d) k is (inl refl))
+      let q = stays (overlay s e) (made_by (caller_of s e.pid) e.call) (removed e.call e.reply) e.reply s t sound (id % 32768) small d x k is in gone-swept t.runners d q.now past q.at
+  gone-entry d None is past = either (comes (overlay s e) (made_by (caller_of s e.pid) e.call) (removed e.call e.reply) e.reply s t sound (id % 32768) small d (bare_entry d) k is (inl refl))
     where
-      either : (slice_get t.table (id % 32768) ≡ bare_entry d) ⊎ IsNew d (slice_get t.table (id % 32768)) → IsGone t id
+      either : (slice_get t.table (id % 32768) ≡ bare_entry d) ⊎ IsNew (made_by (caller_of s e.pid) e.call) (id % 32768) e.reply d (slice_get t.table (id % 32768)) → IsGone t id
       either (inl h) = at-gone t.table id d None h past
       either (inr h) = at-gone t.table id d (Some h.now) h.at past
 
@@ -43,37 +66,61 @@ module _ (s t : Machine) (e : Event) (sound : IsSound s) (k : Kind s (removed e.
       let g = entry-gone (id % 32768) (id / 32768) (slice_get s.table (id % 32768)) gone in
       gone-entry g.destroyed g.segment g.at g.past
 
-  abbrev Before : Segment → Type 0
-  Before y = ((x : Segment) × Stands s id x × IsSame x y) ⊎ (look s.table (pos id) ≡ Invalid)
-
-  was-swept : (d : ℕ) (x y z : Segment) → slice_get s.table (id % 32768) ≡ holds d x → IsSame x z → Some (swept_at (id % 32768) t.runners d (Some z)) ≡ holds (id / 32768) y → Before y
-  was-swept d x y z is same now =
+  was-swept : (d : ℕ) (x y z : Segment) → slice_get s.table (id % 32768) ≡ holds d x → IsSame x z → z.bytes ≡ overlay s e (id % 32768) x.bytes
+      → Some (swept_at (id % 32768) t.runners d (Some z)) ≡ holds (id / 32768) y → Before s e id y
+  was-swept d x y z is same bytes now =
       elim (cases_Bool (z.dest && (attach_count t.runners (identifier (id % 32768) d) == 0))) [
         | inl h ↦ absurd (none-some y (ap segment_in (rw h at now)))
         | inr h ↦
             (let left : holds d z ≡ holds (id / 32768) y = rw h at now in
             let count : d ≡ id / 32768 = ap destroyed_in left in
             let own : z ≡ y = cc (ap segment_in left) in
-            inl (x, at-stands s.table id x (is ∙ ap (λ n. holds n x) count), subst (IsSame x) own same))
+            inl (record {
+              segment = x;
+              stood = at-stands s.table id x (is ∙ ap (λ n. holds n x) count);
+              same = subst (IsSame x) own same;
+              bytes = ap (λ (w : Segment). w.bytes) (sym own) ∙ bytes;
+            }))
       ]
 
-  was-entry : (y : Segment) → slice_get t.table (id % 32768) ≡ holds (id / 32768) y → (d : ℕ) (p : Option Segment) → slice_get s.table (id % 32768) ≡ Some (record { destroyed = d; segment = p }) → Before y
-  was-entry y at d (Some x) is =
-      let q = stays s t sound (id % 32768) small (removed e.call e.reply) d x k is in was-swept d x y q.now is q.same (sym q.at ∙ at)
-  was-entry y at d None is = either (comes s t sound (id % 32768) small (removed e.call e.reply) d (bare_entry d) k is (inl refl))
+  -- a segment that is new
+  was-empty : (y : Segment) → slice_get t.table (id % 32768) ≡ holds (id / 32768) y → (d : ℕ) (o : Option Entry) → slice_get s.table (id % 32768) ≡ o → IsEmpty d o
+      → (o ≡ holds (id / 32768) y → ⊥) → (d ≡ id / 32768 → look s.table (pos id) ≡ Invalid) → Before s e id y
+  was-empty y at d o is empty other never = either (comes (overlay s e) (made_by (caller_of s e.pid) e.call) (removed e.call e.reply) e.reply s t sound (id % 32768) small d o k is empty)
     where
-      either : (slice_get t.table (id % 32768) ≡ bare_entry d) ⊎ IsNew d (slice_get t.table (id % 32768)) → Before y
-      either (inl h) = absurd (none-some y (ap segment_in (sym h ∙ at)))
+      either : (slice_get t.table (id % 32768) ≡ o) ⊎ IsNew (made_by (caller_of s e.pid) e.call) (id % 32768) e.reply d (slice_get t.table (id % 32768)) → Before s e id y
+      either (inl h) = absurd (other (sym h ∙ at))
       either (inr h) =
-          let count : d ≡ id / 32768 = ap destroyed_in (sym h.at ∙ at) in
-          inr (at-next s.table id (is ∙ ap bare_entry count))
+          let same : holds d h.now ≡ holds (id / 32768) y = sym h.at ∙ at in
+          let count : d ≡ id / 32768 = ap destroyed_in same in
+          let own : identifier (id % 32768) d ≡ id = omega (arith, count) in
+          let segment : h.now ≡ y = cc (ap segment_in same) in
+          inr (record {
+            makes = (never count, h.answer ∙ ap (λ n. Id (pos n)) own);
+            zeros = (h.zeros.0, ap (λ (w : Segment). w.bytes) (sym segment) ∙ h.zeros.1);
+            made = subst (made_by (caller_of s e.pid) e.call) segment h.made;
+          })
 
-  was-before : (y : Segment) → slice_get t.table (id % 32768) ≡ holds (id / 32768) y → (o : Option Entry) → slice_get s.table (id % 32768) ≡ o → Before y
-  was-before y at None is = inr (at-never s.table id is)
+  was-entry : (y : Segment) → slice_get t.table (id % 32768) ≡ holds (id / 32768) y → (d : ℕ) (p : Option Segment) → slice_get s.table (id % 32768) ≡ Some (record { destroyed = d; segment = p }) → Before s e id y
+  was-entry y at d (Some x) is =
+      let q = stays (overlay s e) (made_by (caller_of s e.pid) e.call) (removed e.call e.reply) e.reply s t sound (id % 32768) small d x k is in was-swept d x y q.now is q.same q.bytes (sym q.at ∙ at)
+  was-entry y at d None is =
+      was-empty y at d (bare_entry d) is (inl refl) (λ h. none-some y (ap segment_in h)) (λ count. at-next s.table id (is ∙ ap bare_entry count))
+
+  was-before : (y : Segment) → slice_get t.table (id % 32768) ≡ holds (id / 32768) y → (o : Option Entry) → slice_get s.table (id % 32768) ≡ o → Before s e id y
+  was-before y at None is = was-empty y at 0 None is (inr (refl, refl)) (λ h. none-some _ h) (λ count. at-never s.table id is)
   was-before y at (Some x) is = was-entry y at x.destroyed x.segment is
 
-  named : (y : Segment) → Stands t id y → Before y
-  named y stands = was-before y (stands-at t.table id y stands) (slice_get s.table (id % 32768)) refl
+  -- what stands stood before, with bytes that became these, or was made
+  pub came-from : (y : Segment) → Stands t id y → Before s e id y
+  came-from y stands = was-before y (stands-at t.table id y stands) (slice_get s.table (id % 32768)) refl
+
+  named : (y : Segment) → Stands t id y → ((x : Segment) × Stands s id x × IsSame x y) ⊎ (look s.table (pos id) ≡ Invalid)
+  named y stands = by (came-from y stands)
+    where
+      by : Before s e id y → ((x : Segment) × Stands s id x × IsSame x y) ⊎ (look s.table (pos id) ≡ Invalid)
+      by (inl h) = inl (h.segment, h.stood, h.same)
+      by (inr h) = inr h.makes.0
 
 -- KEPT FROM ONE TIME TO ANOTHER
 
@@ -102,7 +149,7 @@ one_move : (s : Machine) (n : ℕ) (e : Event) (t : Machine) → IsSound s → I
 one_move s n e t sound m =
     let k = kind-move s n e t sound.bare m in
     record {
-      sound = sound-after s t (removed e.call e.reply) k sound;
+      sound = sound-after s e t k sound;
       kept = record { stands = λ id x stood. stands-or-gone s t e sound k id x stood; gone = λ id h. gone-on s t e sound k id h };
       new = record { new = λ id y stands. named s t e sound k id y stands };
     }
@@ -121,8 +168,75 @@ all_moves n s (e ∷ es) t sound h =
     let now : KeepsNames s t = keeps-trans s h.0 t one.kept more.now in
     record { now = now; kept = (now, (h.0, h.1, more.kept)); new = (h.0, h.1, one.new, more.new) }
 
+-- WHO MADE IT
+
+made-now : (s : Machine) (e : Event) (id : ℕ) (y : Segment) → Made s e id y → IsMadeBy s e id y
+made-now s e id y m = by (caller_of s e.pid) refl m.made
+  where
+    by : (o : Option Caller) → caller_of s e.pid ≡ o → made_by o e.call y → IsMadeBy s e id y
+    by None is none = absurd none
+    by (Some c) is made =
+        let at = caller-at 0 e.pid s.runners c is in
+        record {
+          key = made.key;
+          mode = made.mode;
+          flags = made.flags;
+          call = made.asked;
+          reply = m.makes.1;
+          never = m.makes.0;
+          process = sym at.own ∙ sym made.process;
+          caller = c;
+          live = is;
+          user = made.user;
+          group = made.group;
+        }
+
+-- who made a segment made the same one
+made-same : (s : Machine) (e : Event) (id : ℕ) (x y : Segment) → IsSame x y → IsMadeBy s e id x → IsMadeBy s e id y
+made-same s e id x y same m =
+    record {
+      key = m.key;
+      mode = m.mode;
+      flags = m.flags;
+      call = m.call ∙ ap (λ n. Shmget m.key n m.mode m.flags) (sym same.size);
+      reply = m.reply;
+      never = m.never;
+      process = m.process ∙ sym same.cpid;
+      caller = m.caller;
+      live = m.live;
+      user = same.cuid ∙ m.user;
+      group = same.cgid ∙ m.group;
+    }
+
+since-same : (o : Opening) (before : List Event) (id : ℕ) (x y : Segment) → IsSame x y → Since o (λ u e. IsMadeBy u e id x) (λ u e. StandsAs u id x) before → Since o (λ u e. IsMadeBy u e id y) (λ u e. StandsAs u id y) before
+since-same o before id x y same since =
+    since-map o (λ u e. IsMadeBy u e id x) (λ u e. IsMadeBy u e id y) (λ u e. StandsAs u id x) (λ u e. StandsAs u id y)
+    (λ u e. made-same u e id x y same) (λ u e h. (h.0, h.1, same_trans h.0 x y h.2 same)) before since
+
+record Known (o : Opening) (before : List Event) (s : Machine) : Type 0 where
+  sound : IsSound s
+  made : AreMade o before s
+
+known-on : (o : Opening) → GoesOn o (Known o)
+unfolding AreMade
+known-on o before s e t h now m =
+    record { sound = (one_move s (length before + 1) e t now.sound m).sound; made = λ id y stands. from id y (came-from s t e now.sound (kind-move s (length before + 1) e t now.sound.bare m) id y stands) }
+  where
+    from : (id : ℕ) (y : Segment) → Before s e id y → Since o (λ u e. IsMadeBy u e id y) (λ u e. StandsAs u id y) (before ++ e ∷ [])
+    from id y (inr new) = Began before s e h (made-now s e id y new)
+    from id y (inl old) =
+        Lasted before s e h (old.segment, old.stood, old.same) (since-same o before id old.segment y old.same (now.made id old.segment old.stood))
+
+start-made : (o : Opening) → AreMade o [] (start_of o)
+unfolding AreMade
+start-made o id y stands = absurd (cc stands)
+
 -- of every legal history
 pub names_one_segment : (o : Opening) (events : List Event) (end : Machine) → IsHistory o events end → NamesOneSegment o events end
 names_one_segment o events end h =
     let all = all_moves 1 (start_of o) events end (sound-start o) h in
-    record { kept = all.kept; new = all.new }
+    record {
+      kept = all.kept;
+      new = all.new;
+      made = λ before s m. (at_all_times o (Known o) (known-on o) (record { sound = sound-start o; made = start-made o }) events before s m).made;
+    }

@@ -1,5 +1,5 @@
 -- Each move destroys what is due, and what is marked has a piece.
-use Rattle.std.proofs.Common.{◌≡◌, ◌⊎◌, ℕ, suc, zero, ◌+◌, ◌/◌, ◌%◌, ◌≤◌, ◌==◌, ◌&&◌, ◌||◌, pos, Bool, true, false, List, [], ◌∷◌, map, Option, Some, None, slice_get, refl, sym, ap, subst, ◌∙◌, inl, inr, arith, eq-eqb, true≢false}
+use Rattle.std.proofs.Common.{◌≡◌, ◌⊎◌, ℕ, suc, zero, ◌+◌, ◌/◌, ◌%◌, ◌≤◌, ◌==◌, ◌&&◌, ◌||◌, pos, Bool, true, false, List, [], ◌∷◌, map, Option, Some, None, slice_get, refl, sym, ap, ◌∙◌, inl, inr, arith, eq-eqb, true≢false}
 use Rattle.std.proofs.lemmas.Bool.{cases_Bool, cases_eq, eqb-true}
 use Rattle.std.proofs.lemmas.Option.{none-some}
 use Rattle.shm_base.specs.declared.call.Process.{Process}
@@ -7,14 +7,16 @@ use Rattle.shm_base.specs.declared.call.Event.{Event}
 use Rattle.shm_base.specs.State.{Segment, Runner, Machine, Opening, start_of, runner_at_start}
 use Rattle.shm_base.specs.Identifier.{identifier, look}
 use Rattle.shm_base.specs.Segments.{attach_count}
-use Rattle.shm_base.specs.History.{IsMove, LeadsFrom, IsHistory}
+use Rattle.shm_base.specs.Step.{caller_of}
+use Rattle.shm_base.specs.History.{IsHistory}
 use Rattle.shm_segments.specs.Left.{orphan_in}
 use Rattle.shm_life.proofs.Sweeping.{left-parts}
-use Rattle.shm_laws.specs.Standing.{Stands, IsGone, MovesBy}
+use Rattle.shm_laws.specs.Standing.{Stands, IsGone}
 use Rattle.shm_laws.specs.Identity.{IsSame}
 use Rattle.shm_laws.specs.Removal.{MarkedHavePieces, IsDue, DestroysWhatIsDue, GoesWhenItMust}
+use Rattle.shm_laws.proofs.Inducting.{Keeps, each_move}
 use Rattle.shm_laws.proofs.Looks.{stands-at, at-stands, at-gone, not-both}
-use Rattle.shm_laws.proofs.Stepping.{Bare, Kind, removed}
+use Rattle.shm_laws.proofs.Stepping.{Bare, overlay, made_by, Moved, removed}
 use Rattle.shm_laws.proofs.Fates.{IsSound, names, Stays, stays, sound-after, kind-move, removed-call}
 
 -- WHERE A MACHINE STARTS
@@ -46,12 +48,12 @@ marked-pieces s sound id x stands dest =
 
 -- ONE SEGMENT IN ONE MOVE
 
-module _ (s t : Machine) (e : Event) (sound : IsSound s) (k : Kind s (removed e.call e.reply) t) (id : ℕ) (x : Segment) (stood : Stands s id x) where
+module _ (s t : Machine) (e : Event) (sound : IsSound s) (k : Moved s e t) (id : ℕ) (x : Segment) (stood : Stands s id x) where
   own : identifier (id % 32768) (id / 32768) ≡ id
   own = omega arith
 
-  after : Stays (id % 32768) t.runners (names (removed e.call e.reply) (identifier (id % 32768) (id / 32768))) (id / 32768) x (slice_get t.table (id % 32768))
-  after = stays s t sound (id % 32768) (omega arith) (removed e.call e.reply) (id / 32768) x k (stands-at s.table id x stood)
+  after : Stays (overlay s e (id % 32768)) (id % 32768) t.runners (names (removed e.call e.reply) (identifier (id % 32768) (id / 32768))) (id / 32768) x (slice_get t.table (id % 32768))
+  after = stays (overlay s e) (made_by (caller_of s e.pid) e.call) (removed e.call e.reply) e.reply s t sound (id % 32768) (omega arith) (id / 32768) x k (stands-at s.table id x stood)
 
   by_name : names (removed e.call e.reply) id ≡ true → removed e.call e.reply ≡ Some id
   by_name h = at (removed e.call e.reply) refl h
@@ -63,9 +65,9 @@ module _ (s t : Machine) (e : Event) (sound : IsSound s) (k : Kind s (removed e.
   pub same-runners : removed e.call e.reply ≡ Some id → t.runners ≡ s.runners
   same-runners h = at k
     where
-      at : Kind s (removed e.call e.reply) t → t.runners ≡ s.runners
+      at : Moved s e t → t.runners ≡ s.runners
       at (inl (none, q)) = absurd (none-some id (sym none ∙ h))
-      at (inr q) = q.removes.runners
+      at (inr (no_byte, q)) = q.removes.runners
 
   -- it is swept
   abbrev goes : Bool
@@ -125,10 +127,10 @@ module _ (s t : Machine) (e : Event) (sound : IsSound s) (k : Kind s (removed e.
 
 -- WHOLE HISTORIES
 
-one_move : (s : Machine) (n : ℕ) (e : Event) (t : Machine) → IsSound s → IsMove s n e t → IsSound t × DestroysWhatIsDue s e t
+one_move : Keeps IsSound DestroysWhatIsDue
 one_move s n e t sound m =
     let k = kind-move s n e t sound.bare m in
-    let next = sound-after s t (removed e.call e.reply) k sound in (
+    let next = sound-after s e t k sound in (
       next,
       record {
         just = λ id x stood gone. just s t e sound k id x stood gone;
@@ -137,15 +139,8 @@ one_move s n e t sound m =
       },
     )
 
-all_moves : (n : ℕ) (s : Machine) (es : List Event) (t : Machine) → IsSound s → LeadsFrom n s es t → IsSound t × MovesBy DestroysWhatIsDue n s es t
-all_moves n s [] t sound h = (subst IsSound (sym h) sound, h)
-all_moves n s (e ∷ es) t sound h =
-    let one = one_move s n e h.0 sound h.1 in
-    let more = all_moves (n + 1) h.0 es t one.0 h.2 in
-    (more.0, (h.0, h.1, one.1, more.1))
-
 -- of every legal history
 pub goes_when_it_must : (o : Opening) (events : List Event) (end : Machine) → IsHistory o events end → GoesWhenItMust o events end
 goes_when_it_must o events end h =
-    let all = all_moves 1 (start_of o) events end (sound-start o) h in
+    let all = each_move IsSound DestroysWhatIsDue one_move 1 (start_of o) events end (sound-start o) h in
     record { moves = all.1; marked = marked-pieces end all.0 }

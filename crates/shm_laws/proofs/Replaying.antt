@@ -88,7 +88,7 @@ step-clear s n pid call = by-clear s n call (caller_of s pid)
 -- ONE MOVE
 
 -- a move that is no failure is a step
-is-step : (s : Machine) (n : ℕ) (e : Event) (t : Machine) → is_failure e.call e.reply ≡ false → IsMove s n e t → IsStep s n e t
+pub is-step : (s : Machine) (n : ℕ) (e : Event) (t : Machine) → is_failure e.call e.reply ≡ false → IsMove s n e t → IsStep s n e t
 is-step s n e t clear (inl m) = m
 is-step s n e t clear (inr x) = absurd (true≢false (sym x.failure ∙ clear))
 
@@ -128,10 +128,10 @@ no_count : (b : Bool) (n : ℕ) → cond b 1 0 + n ≡ 0 → b ≡ false
 no_count true n none = absurd (omega (arith, none))
 no_count false n none = refl
 
-first-clear : (e : Event) (es : List Event) → failures_in (e ∷ es) ≡ 0 → is_failure e.call e.reply ≡ false
+pub first-clear : (e : Event) (es : List Event) → failures_in (e ∷ es) ≡ 0 → is_failure e.call e.reply ≡ false
 first-clear e es none = no_count (is_failure e.call e.reply) (failures_in es) (sym (failures-cons e es) ∙ none)
 
-rest-clear : (e : Event) (es : List Event) → failures_in (e ∷ es) ≡ 0 → failures_in es ≡ 0
+pub rest-clear : (e : Event) (es : List Event) → failures_in (e ∷ es) ≡ 0 → failures_in es ≡ 0
 rest-clear e es none = let more = failures-cons e es in omega (arith, none, more)
 
 all-clear : (es : List Event) → failures_in (without_failures es) ≡ 0

@@ -1,5 +1,5 @@
 -- The four kinds of step on the segments: still, a sweep after a detach, a creation, a removal.
-use Rattle.std.proofs.Common.{◌≡◌, ◌⊎◌, ℕ, suc, zero, ◌+◌, ◌*◌, ◌%◌, ◌^◌, ◌≤◌, ◌==◌, ◌&&◌, ℤ, pos, negsuc, Bool, true, false, not, nat_le, nat_lt, if◌then◌else◌, List, [], ◌∷◌, length, get_or, Option, Some, None, slice_get, slice_set, refl, sym, ap, ◌∙◌, inl, inr, arith}
+use Rattle.std.proofs.Common.{◌≡◌, ◌⊎◌, ℕ, suc, zero, ◌+◌, ◌*◌, ◌%◌, ◌^◌, ◌≤◌, ◌==◌, ◌&&◌, ℤ, pos, negsuc, Bool, true, false, not, nat_le, nat_lt, if◌then◌else◌, List, [], ◌∷◌, length, replicate, get_or, Option, Some, None, slice_get, slice_set, refl, sym, ap, subst, ◌∙◌, inl, inr, arith}
 use Rattle.std.specs.Int.{w64, to_le_bytes}
 use Rattle.std.proofs.lemmas.Option.{slice_get-get_or}
 use Rattle.shm_base.specs.declared.errno.Errno.TheVariants.{Emfile}
@@ -8,20 +8,23 @@ use Rattle.shm_base.specs.declared.flags.AtFlags.{AtFlags}
 use Rattle.shm_base.specs.declared.call.Call.{Call}
 use Rattle.shm_base.specs.declared.call.Call.TheVariants.{Shmget, Shmat, Shmdt, Stat, Set, Rmid, Lock, Unlock, Load, Store, Xadd, Fork, Exec, Exit, Swapoff}
 use Rattle.shm_base.specs.declared.call.Reply.{Reply}
-use Rattle.shm_base.specs.declared.call.Reply.TheVariants.{Done, Addr}
+use Rattle.shm_base.specs.declared.call.Reply.TheVariants.{Id, Done, Addr}
+use Rattle.shm_base.specs.declared.call.Event.{Event}
 use Rattle.shm_base.specs.Bounds.{within}
 use Rattle.shm_base.specs.Permission.{grants, owns, wish_of}
-use Rattle.shm_base.specs.Access.{Place, places, writable_places}
+use Rattle.shm_base.specs.Access.{Place, places, writable_places, stored}
 use Rattle.shm_base.specs.State.{Segment, Entry, Piece, Unborn, Live, Ended, Runner, Machine, pages_of, pages_in}
-use Rattle.shm_base.specs.Identifier.{Look, Found, Removed, Invalid, free_index, with_segment, look, find_key}
+use Rattle.shm_base.specs.Identifier.{Look, Found, Removed, Invalid, identifier, destroyed_at, free_index, with_segment, look, find_key}
 use Rattle.shm_base.specs.Space.{inside, occupied, cut_segments, origin_of}
 use Rattle.shm_base.specs.Segments.{attach_count, segment_count, reserved, locked, slots, change, attached, marked, detach_all, swept}
-use Rattle.shm_base.specs.Step.{Outcome, gives, refuses, segments_of, Caller, acts, new_segment, creates_at, creates, gets, shmget, wants_creation, wants_no_other, is_rnd, is_remap, at_wish, attaches, attaches_chosen, attaches_fixed, attaches_found, shmat, pieces_with, with_pieces, detaches, forks, unborn_from, stat, controls, sets, removes, locks, unlocks, load, store, xadd, number_at, takes_away, swapoff}
+use Rattle.shm_base.specs.Step.{Outcome, gives, refuses, segments_of, Caller, caller_of, acts, new_segment, creates_at, creates, gets, shmget, wants_creation, wants_no_other, is_rnd, is_remap, at_wish, attaches, attaches_chosen, attaches_fixed, attaches_found, shmat, pieces_with, with_pieces, detaches, forks, unborn_from, stat, controls, sets, removes, locks, unlocks, load, store, xadd, number_at, takes_away, swapoff}
 use Rattle.shm_attach.proofs.Callers.{first_runner, child_at}
 use Rattle.shm_attach.specs.Spaces.{life_in}
 use Rattle.shm_life.proofs.Leaving.{keeps-set}
 use Rattle.shm_laws.specs.Identity.{IsSame}
-use Rattle.shm_laws.proofs.Turning.{Turned, turned-refl, turned-trans, turned-change, turned-detach, turned-stored}
+use Rattle.shm_laws.specs.Writing.{Put, put, held_by}
+use Rattle.shm_laws.proofs.Accessing.{writable-parts}
+use Rattle.shm_laws.proofs.Turning.{Turned, unchanged, puts_in, turned-refl, turned-trans, turned-change, turned-detach, turned-stored}
 use Rattle.shm_laws.proofs.Looks.{entry-found}
 
 -- PROCESSES THAT ARE NOT BORN HAVE NO PIECES
@@ -44,23 +47,26 @@ bare-set (r ∷ rs) (suc i) x h born = at (bare-set rs i x (λ k q. h (suc k) q)
 
 -- THE KINDS
 
--- no segment comes or goes, and none loses a piece
-pub record StillTo (s t : Machine) : Type 0 where
-  pub turned : (i : ℕ) → Turned s.table t.table i
+-- no segment comes or goes, and none loses a piece; the bytes at each index become these
+pub record StillTo (over : ℕ → List ℕ → List ℕ) (s t : Machine) : Type 0 where
+  pub turned : (i : ℕ) → Turned (over i) s.table t.table i
   pub grows : (id : ℕ) → attach_count s.runners id ≤ attach_count t.runners id
   pub bare : Bare s.runners → Bare t.runners
 
 pub record SweepTo (s t : Machine) : Type 0 where
   pub middle : List Entry
-  pub turned : (i : ℕ) → Turned s.table middle i
+  pub turned : (i : ℕ) → Turned unchanged s.table middle i
   pub table : t.table ≡ swept t.runners middle
   pub bare : Bare s.runners → Bare t.runners
 
-pub record MakeTo (s t : Machine) : Type 0 where
+pub record MakeTo (like : Segment → Type 0) (s : Machine) (reply : Reply) (t : Machine) : Type 0 where
   pub index : ℕ
   pub segment : Segment
   pub free : free_index s.table ≡ Some index
+  pub answer : reply ≡ Id (pos (identifier index (destroyed_at s.table index)))
   pub fresh : segment.dest ≡ false
+  pub zeros : (n : ℕ) × (segment.bytes ≡ replicate n 0)
+  pub made : like segment
   pub table : t.table ≡ with_segment s.table index segment
   pub runners : t.runners ≡ s.runners
 
@@ -88,23 +94,59 @@ pub record RemovesBy (s : Machine) (r : Option ℕ) (t : Machine) : Type 0 where
   pub named : r ≡ Some id
   pub removes : RemoveTo s t id
 
-abbrev pub Kind : Machine → Option ℕ → Machine → Type 0
-Kind s r t = ((r ≡ None) × (StillTo s t ⊎ (SweepTo s t ⊎ MakeTo s t))) ⊎ RemovesBy s r t
+-- no byte is put
+abbrev pub idle : ℕ → List ℕ → List ℕ
+idle i bytes = bytes
+
+abbrev pub IsIdle : (ℕ → List ℕ → List ℕ) → Type 0
+IsIdle over = (i : ℕ) (bytes : List ℕ) → over i bytes ≡ bytes
+
+-- so the bytes change, and so a segment is that is made
+abbrev pub Kind : (ℕ → List ℕ → List ℕ) → (Segment → Type 0) → Machine → Option ℕ → Reply → Machine → Type 0
+Kind over like s r reply t = ((r ≡ None) × (StillTo over s t ⊎ (IsIdle over × (SweepTo s t ⊎ MakeTo like s reply t)))) ⊎ (IsIdle over × RemovesBy s r t)
+
+-- what becomes of the bytes at each index, where these are put from an address on
+abbrev over_places : Option (List Place) → List ℕ → ℕ → List ℕ → List ℕ
+over_places None vs i bytes = bytes
+over_places (Some qs) vs i bytes = puts_in i qs vs bytes
+
+abbrev pub over_put : List Piece → Option Put → ℕ → List ℕ → List ℕ
+over_put ps None i bytes = bytes
+over_put ps (Some p) i bytes = over_places (places ps p.from (length p.bytes)) p.bytes i bytes
+
+abbrev pub overlay : Machine → Event → ℕ → List ℕ → List ℕ
+overlay s e = over_put (held_by (caller_of s e.pid)) (put e.call e.reply)
+
+-- what is made by a call, and by whom
+pub record MadeBy (c : Caller) (call : Call) (y : Segment) : Type 0 where
+  pub key : ℕ
+  pub mode : ℕ
+  pub flags : GetFlags
+  pub asked : call ≡ Shmget key y.size mode flags
+  pub process : y.cpid ≡ c.pid
+  pub user : y.perm.cuid ≡ c.cred.uid
+  pub group : y.perm.cgid ≡ c.cred.gid
+
+abbrev pub made_by : Option Caller → Call → Segment → Type 0
+made_by None call y = ⊥
+made_by (Some c) call y = MadeBy c call y
+
+-- what a move is
+abbrev pub Moved : Machine → Event → Machine → Type 0
+Moved s e t = Kind (overlay s e) (made_by (caller_of s e.pid) e.call) s (removed e.call e.reply) e.reply t
 
 -- WHERE NO SEGMENT IS REMOVED
 
-abbrev Plain : Machine → Outcome → Type 0
-Plain s o = Kind s None o.state
+pub still : (like : Segment → Type 0) (s : Machine) (reply : Reply) → Kind idle like s None reply s
+still like s reply = inl (refl, inl (record { turned = turned-refl s.table; grows = λ id. omega arith; bare = λ h. h }))
 
-pub still : (s : Machine) → Kind s None s
-still s = inl (refl, inl (record { turned = turned-refl s.table; grows = λ id. omega arith; bare = λ h. h }))
-
-quiet : (s t : Machine) → ((i : ℕ) → Turned s.table t.table i) → t.runners ≡ s.runners → Kind s None t
-quiet s t turned same =
+quiet : (over : ℕ → List ℕ → List ℕ) (like : Segment → Type 0) (s : Machine) (reply : Reply) (t : Machine) → ((i : ℕ) → Turned (over i) s.table t.table i) → t.runners ≡ s.runners → Kind over like s None reply t
+quiet over like s reply t turned same =
     inl (refl, inl (record { turned = turned; grows = λ id. rw same (omega arith); bare = λ h. rw same h }))
 
-sweeps : (s t : Machine) (middle : List Entry) → ((i : ℕ) → Turned s.table middle i) → t.table ≡ swept t.runners middle → (Bare s.runners → Bare t.runners) → Kind s None t
-sweeps s t middle turned table bare = inl (refl, inr (inl (record { middle = middle; turned = turned; table = table; bare = bare })))
+sweeps : (like : Segment → Type 0) (s : Machine) (reply : Reply) (t : Machine) (middle : List Entry) → ((i : ℕ) → Turned unchanged s.table middle i) → t.table ≡ swept t.runners middle
+    → (Bare s.runners → Bare t.runners) → Kind idle like s None reply t
+sweeps like s reply t middle turned table bare = inl (refl, inr (λ i bytes. refl, inl (record { middle = middle; turned = turned; table = table; bare = bare })))
 
 pub pick : (P : Outcome → Type 0) (b : Bool) (o p : Outcome) → P o → P p → P (if b then o else p)
 pick P true o p h k = h
@@ -116,24 +158,43 @@ same_head x y a b c d = record { size = a; cpid = b; cuid = c; cgid = d }
 living : (c : Caller) (ps : List Piece) (rs : List Runner) → Bare rs → Bare (with_pieces rs c ps)
 living c ps rs h = bare-set rs c.index (record { pid = c.pid; life = Live c.cred; pieces = ps }) h (λ (e : Live c.cred ≡ Unborn). cc e)
 
-module _ (s : Machine) (n : ℕ) (c : Caller) where
-  kind-creates_at : (key size mode : ℕ) (o : Option ℕ) → free_index s.table ≡ o → Plain s (creates_at s n c key size mode o)
-  kind-creates_at key size mode None is = still s
-  kind-creates_at key size mode (Some i) is =
-      pick (Plain s) (nat_lt (slots s.areas) (reserved s.table + pages_of size)) _ _ (still s)
-      (inl (refl, inr (inr (record { index = i; segment = new_segment n c key size mode; free = is; fresh = refl; table = refl; runners = refl }))))
+module _ (like : Segment → Type 0) (s : Machine) (n : ℕ) (c : Caller) where
+  abbrev Plain : Machine → Outcome → Type 0
+  Plain u o = Kind idle like u None o.reply o.state
 
-  kind-creates : (key size mode : ℕ) → Plain s (creates s n c key size mode)
-  kind-creates key size mode =
-      pick (Plain s) (not (within 1 s.limits.shmmax size)) _ _ (still s) (pick (Plain s) (nat_lt s.limits.shmall (reserved s.table + pages_of size)) _ _ (still s) (pick (Plain s) (nat_le s.limits.shmmni (segment_count s.table)) _ _ (still s) (kind-creates_at key size mode (free_index s.table) refl)))
+  kind-creates_at : (key size mode : ℕ) (o : Option ℕ) → like (new_segment n c key size mode) → free_index s.table ≡ o → Plain s (creates_at s n c key size mode o)
+  kind-creates_at key size mode None made is = still like s _
+  kind-creates_at key size mode (Some i) made is =
+      pick (Plain s) (nat_lt (slots s.areas) (reserved s.table + pages_of size)) _ _ (still like s _)
+      (inl (
+        refl,
+        inr (
+          λ j bytes. refl,
+          inr (record {
+            index = i;
+            segment = new_segment n c key size mode;
+            free = is;
+            answer = refl;
+            fresh = refl;
+            zeros = (4096 * pages_of size, refl);
+            made = made;
+            table = refl;
+            runners = refl;
+          }),
+        ),
+      ))
 
-  kind-gets : (key size mode : ℕ) (flags : GetFlags) (l : Look) → Plain s (gets s n c key size mode flags l)
-  kind-gets key size mode flags (Found i x) = pick (Plain s) (wants_no_other flags) _ _ (still s) (pick (Plain s) (nat_lt x.size size) _ _ (still s) (pick (Plain s) (not (grants c.cred x.perm (wish_of mode))) _ _ (still s) (still s)))
-  kind-gets key size mode flags Removed = pick (Plain s) (wants_creation flags) _ _ (kind-creates key size mode) (still s)
-  kind-gets key size mode flags Invalid = pick (Plain s) (wants_creation flags) _ _ (kind-creates key size mode) (still s)
+  kind-creates : (key size mode : ℕ) → like (new_segment n c key size mode) → Plain s (creates s n c key size mode)
+  kind-creates key size mode made =
+      pick (Plain s) (not (within 1 s.limits.shmmax size)) _ _ (still like s _) (pick (Plain s) (nat_lt s.limits.shmall (reserved s.table + pages_of size)) _ _ (still like s _) (pick (Plain s) (nat_le s.limits.shmmni (segment_count s.table)) _ _ (still like s _) (kind-creates_at key size mode (free_index s.table) made refl)))
 
-  kind-shmget : (key size mode : ℕ) (flags : GetFlags) → Plain s (shmget s n c key size mode flags)
-  kind-shmget key size mode flags = pick (Plain s) (key == 0) _ _ (kind-creates 0 size mode) (kind-gets key size mode flags (find_key s.table key))
+  kind-gets : (key size mode : ℕ) (flags : GetFlags) (l : Look) → like (new_segment n c key size mode) → Plain s (gets s n c key size mode flags l)
+  kind-gets key size mode flags (Found i x) made = pick (Plain s) (wants_no_other flags) _ _ (still like s _) (pick (Plain s) (nat_lt x.size size) _ _ (still like s _) (pick (Plain s) (not (grants c.cred x.perm (wish_of mode))) _ _ (still like s _) (still like s _)))
+  kind-gets key size mode flags Removed made = pick (Plain s) (wants_creation flags) _ _ (kind-creates key size mode made) (still like s _)
+  kind-gets key size mode flags Invalid made = pick (Plain s) (wants_creation flags) _ _ (kind-creates key size mode made) (still like s _)
+
+  kind-shmget : (key size mode : ℕ) (flags : GetFlags) → ((k : ℕ) → like (new_segment n c k size mode)) → Plain s (shmget s n c key size mode flags)
+  kind-shmget key size mode flags made = pick (Plain s) (key == 0) _ _ (kind-creates 0 size mode (made 0)) (kind-gets key size mode flags (find_key s.table key) (made key))
 
   kind-attaches : (id : ℕ) (x : Segment) (flags : AtFlags) (base : ℕ) → Plain s (attaches s n c id x flags base)
   kind-attaches id x flags base =
@@ -141,33 +202,33 @@ module _ (s : Machine) (n : ℕ) (c : Caller) where
       let old : List Entry = detach_all n c.pid s.table lost in
       let rs : List Runner = with_pieces s.runners c (pieces_with c id x flags base) in
       let after : Machine = record s { table = swept rs (change old id (attached n c.pid)); runners = rs } in
-      pick (Plain s) (nat_lt 256 (length (pieces_with c id x flags base))) (refuses s Emfile) (gives after (Addr base)) (still s)
-      (sweeps s after (change old id (attached n c.pid))
-      (λ i. turned-trans s.table old (change old id (attached n c.pid)) i (turned-detach n c.pid lost s.table i) (turned-change (attached n c.pid) (λ y. same_head y (attached n c.pid y) refl refl refl refl) (λ y. refl) old id i))
+      pick (Plain s) (nat_lt 256 (length (pieces_with c id x flags base))) (refuses s Emfile) (gives after (Addr base)) (still like s _)
+      (sweeps like s (Addr base) after (change old id (attached n c.pid))
+      (λ i. turned-trans unchanged unchanged s.table old (change old id (attached n c.pid)) i (turned-detach n c.pid lost s.table i) (turned-change (attached n c.pid) (λ y. same_head y (attached n c.pid y) refl refl refl refl) (λ y. refl) (λ y. refl) old id i))
       refl (living c (pieces_with c id x flags base) s.runners))
 
   kind-chosen : (id : ℕ) (x : Segment) (flags : AtFlags) (o : Option ℕ) → Plain s (attaches_chosen s n c id x flags o)
-  kind-chosen id x flags None = still s
+  kind-chosen id x flags None = still like s _
   kind-chosen id x flags (Some base) = kind-attaches id x flags base
 
   kind-fixed : (id : ℕ) (x : Segment) (flags : AtFlags) (base : ℕ) → Plain s (attaches_fixed s n c id x flags base)
-  kind-fixed id x flags base = pick (Plain s) (not (inside base (pages_in x))) _ _ (still s) (pick (Plain s) (not (is_remap flags) && occupied c.pieces base (base + 4096 * pages_in x)) _ _ (still s) (kind-attaches id x flags base))
+  kind-fixed id x flags base = pick (Plain s) (not (inside base (pages_in x))) _ _ (still like s _) (pick (Plain s) (not (is_remap flags) && occupied c.pieces base (base + 4096 * pages_in x)) _ _ (still like s _) (kind-attaches id x flags base))
 
   kind-found : (flags : AtFlags) (addr : ℕ) (l : Look) → Plain s (attaches_found s n c flags addr l)
-  kind-found flags addr Invalid = still s
-  kind-found flags addr Removed = still s
+  kind-found flags addr Invalid = still like s _
+  kind-found flags addr Removed = still like s _
   kind-found flags addr (Found i x) =
-      pick (Plain s) (not (grants c.cred x.perm (at_wish flags))) _ _ (still s) (pick (Plain s) (addr == 0) _ _ (kind-chosen _ x flags _) (kind-fixed _ x flags _))
+      pick (Plain s) (not (grants c.cred x.perm (at_wish flags))) _ _ (still like s _) (pick (Plain s) (addr == 0) _ _ (kind-chosen _ x flags _) (kind-fixed _ x flags _))
 
   kind-shmat : (id : ℤ) (addr : ℕ) (flags : AtFlags) → Plain s (shmat s n c id addr flags)
-  kind-shmat id addr flags = pick (Plain s) ((addr == 0) && is_remap flags) _ _ (still s) (pick (Plain s) (not (addr % 4096 == 0) && not (is_rnd flags)) _ _ (still s) (kind-found flags addr (look s.table id)))
+  kind-shmat id addr flags = pick (Plain s) ((addr == 0) && is_remap flags) _ _ (still like s _) (pick (Plain s) (not (addr % 4096 == 0) && not (is_rnd flags)) _ _ (still like s _) (kind-found flags addr (look s.table id)))
 
   kind-detaches : (addr : ℕ) (o : Option Piece) → Plain s (detaches s n c addr o)
-  kind-detaches addr None = still s
-  kind-detaches addr (Some p) = sweeps s _ _ (turned-detach n c.pid (p.seg ∷ []) s.table) refl (living c _ s.runners)
+  kind-detaches addr None = still like s _
+  kind-detaches addr (Some p) = sweeps like s _ _ _ (turned-detach n c.pid (p.seg ∷ []) s.table) refl (living c _ s.runners)
 
   kind-forks : (child : ℕ) (o : Option ℕ) → Bare s.runners → unborn_from 0 child s.runners ≡ o → Plain s (forks s c child o)
-  kind-forks child None bare is = still s
+  kind-forks child None bare is = still like s _
   kind-forks child (Some i) bare is =
       let k = child_at child i s.runners is in
       let old : Runner = get_or s.runners i first_runner in
@@ -185,73 +246,85 @@ module _ (s : Machine) (n : ℕ) (c : Caller) where
       )
 
   kind-stat : (l : Look) → Plain s (stat s c l)
-  kind-stat Invalid = still s
-  kind-stat Removed = still s
-  kind-stat (Found i x) = pick (Plain s) (not (grants c.cred x.perm (record { read = true; write = false }))) _ _ (still s) (still s)
+  kind-stat Invalid = still like s _
+  kind-stat Removed = still like s _
+  kind-stat (Found i x) = pick (Plain s) (not (grants c.cred x.perm (record { read = true; write = false }))) _ _ (still like s _) (still like s _)
 
   kind-controls : (act : ℕ → Segment → Outcome) → ((i : ℕ) (x : Segment) → Plain s (act i x)) → (l : Look) → Plain s (controls s c act l)
-  kind-controls act acts Invalid = still s
-  kind-controls act acts Removed = still s
-  kind-controls act acts (Found i x) = pick (Plain s) (not (owns c.cred x.perm)) _ _ (still s) (acts i x)
+  kind-controls act acts Invalid = still like s _
+  kind-controls act acts Removed = still like s _
+  kind-controls act acts (Found i x) = pick (Plain s) (not (owns c.cred x.perm)) _ _ (still like s _) (acts i x)
 
   kind-sets : (uid gid mode i : ℕ) (x : Segment) → Plain s (sets s n uid gid mode i x)
   kind-sets uid gid mode i x =
-      quiet s _ (turned-change (λ (y : Segment). record y { perm = record y.perm { uid = uid; gid = gid; mode = mode % 512 }; ctime = n }) (λ y. same_head y _ refl refl refl refl) (λ y. refl) s.table i) refl
+      quiet idle like s _ _ (turned-change (λ (y : Segment). record y { perm = record y.perm { uid = uid; gid = gid; mode = mode % 512 }; ctime = n }) (λ y. same_head y _ refl refl refl refl) (λ y. refl) (λ y. refl) s.table i) refl
 
   kind-locks : (i : ℕ) (x : Segment) → Plain s (locks s i x)
-  kind-locks i x = pick (Plain s) (not x.locked && nat_lt s.limits.memlock (locked s.table + pages_in x)) _ _ (still s) (quiet s _ (turned-change (λ (y : Segment). record y { locked = true }) (λ y. same_head y _ refl refl refl refl) (λ y. refl) s.table i) refl)
+  kind-locks i x = pick (Plain s) (not x.locked && nat_lt s.limits.memlock (locked s.table + pages_in x)) _ _ (still like s _) (quiet idle like s _ _ (turned-change (λ (y : Segment). record y { locked = true }) (λ y. same_head y _ refl refl refl refl) (λ y. refl) (λ y. refl) s.table i) refl)
 
   kind-unlocks : (i : ℕ) (x : Segment) → Plain s (unlocks s i x)
-  kind-unlocks i x = quiet s _ (turned-change (λ (y : Segment). record y { locked = false }) (λ y. same_head y _ refl refl refl refl) (λ y. refl) s.table i) refl
+  kind-unlocks i x = quiet idle like s _ _ (turned-change (λ (y : Segment). record y { locked = false }) (λ y. same_head y _ refl refl refl refl) (λ y. refl) (λ y. refl) s.table i) refl
 
   kind-load : (o : Option (List Place)) → Plain s (load s o)
-  kind-load None = still s
-  kind-load (Some ps) = still s
+  kind-load None = still like s _
+  kind-load (Some ps) = still like s _
 
-  kind-store : (bytes : List ℕ) (o : Option (List Place)) → Plain s (store s bytes o)
-  kind-store bytes None = still s
-  kind-store bytes (Some ps) = quiet s _ (turned-stored ps bytes s.table) refl
+  abbrev Puts : Call → Outcome → Type 0
+  Puts call o = Kind (over_put c.pieces (put call o.reply)) like s None o.reply o.state
 
-  kind-xadd : (add : ℕ) (o : Option (List Place)) → Plain s (xadd s add o)
-  kind-xadd add None = still s
-  kind-xadd add (Some ps) = quiet s _ (turned-stored ps (to_le_bytes w64 ((number_at s ps + add) % 2 ^ 64)) s.table) refl
+  turned-put : (a : ℕ) (vs : List ℕ) (qs : List Place) → places c.pieces a (length vs) ≡ Some qs
+      → (i : ℕ) → Turned (over_put c.pieces (Some (record { from = a; bytes = vs })) i) s.table (stored s.table qs vs) i
+  turned-put a vs qs is i = subst (λ o. Turned (over_places o vs i) s.table (stored s.table qs vs) i) (sym is) (turned-stored qs vs s.table i)
+
+  kind-store : (a : ℕ) (bytes : List ℕ) (o : Option (List Place)) → writable_places c.pieces a (length bytes) ≡ o → Puts (Store a bytes) (store s bytes o)
+  kind-store a bytes None is = still like s _
+  kind-store a bytes (Some qs) is = quiet _ like s _ _ (turned-put a bytes qs (writable-parts (places c.pieces a (length bytes)) qs is).0) refl
+
+  kind-xadd : (a add : ℕ) (o : Option (List Place)) → writable_places c.pieces a 8 ≡ o → Puts (Xadd a add) (xadd s add o)
+  kind-xadd a add None is = still like s _
+  kind-xadd a add (Some qs) is =
+      quiet _ like s _ _ (turned-put a (to_le_bytes w64 ((number_at s qs + add) % 2 ^ 64)) qs (writable-parts (places c.pieces a 8) qs is).0) refl
 
   kind-takes : (area : ℕ) (o : Option (Option ℕ)) → Plain s (takes_away s area o)
-  kind-takes area None = still s
-  kind-takes area (Some None) = still s
-  kind-takes area (Some (Some k)) = pick (Plain s) (nat_lt (slots (slice_set s.areas area None)) (reserved s.table)) _ _ (still s) (quiet s _ (turned-refl s.table) refl)
+  kind-takes area None = still like s _
+  kind-takes area (Some None) = still like s _
+  kind-takes area (Some (Some k)) = pick (Plain s) (nat_lt (slots (slice_set s.areas area None)) (reserved s.table)) _ _ (still like s _) (quiet idle like s _ _ (turned-refl s.table) refl)
 
   kind-swapoff : (area : ℕ) → Plain s (swapoff s c area)
-  kind-swapoff area = pick (Plain s) (not (c.cred.uid == 0)) _ _ (still s) (kind-takes area (slice_get s.areas area))
+  kind-swapoff area = pick (Plain s) (not (c.cred.uid == 0)) _ _ (still like s _) (kind-takes area (slice_get s.areas area))
 
   -- a removal
-  kind-rmid : (id : ℕ) (l : Look) → look s.table (pos id) ≡ l → let o = controls s c (removes s) l in Kind s (removed_by o.reply (pos id)) o.state
-  kind-rmid id Invalid is = still s
-  kind-rmid id Removed is = still s
+  kind-rmid : (id : ℕ) (l : Look) → look s.table (pos id) ≡ l → let o = controls s c (removes s) l in Kind idle like s (removed_by o.reply (pos id)) o.reply o.state
+  kind-rmid id Invalid is = still like s _
+  kind-rmid id Removed is = still like s _
   kind-rmid id (Found i x) is =
       let at : i ≡ id % 32768 = (entry-found _ _ i x (slice_get s.table (id % 32768)) is).0 in
-      pick (λ o. Kind s (removed_by o.reply (pos id)) o.state) (not (owns c.cred x.perm)) _ _ (still s)
-      (inr (record {
-        id = id;
-        named = refl;
-        removes = record { segment = x; found = is ∙ ap (λ k. Found k x) at; table = ap (λ k. swept s.runners (change s.table k marked)) at; runners = refl };
-      }))
+      pick (λ o. Kind idle like s (removed_by o.reply (pos id)) o.reply o.state) (not (owns c.cred x.perm)) _ _ (still like s _)
+      (inr (
+        λ j bytes. refl,
+        record {
+          id = id;
+          named = refl;
+          removes = record { segment = x; found = is ∙ ap (λ k. Found k x) at; table = ap (λ k. swept s.runners (change s.table k marked)) at; runners = refl };
+        },
+      ))
 
   -- each call
-  pub kind-acts : (call : Call) → Bare s.runners → let o = acts s n c call in Kind s (removed call o.reply) o.state
-  kind-acts (Shmget key size mode flags) bare = kind-shmget key size mode flags
-  kind-acts (Shmat id addr flags) bare = kind-shmat id addr flags
-  kind-acts (Shmdt addr) bare = kind-detaches addr (origin_of addr c.pieces)
-  kind-acts (Stat id) bare = kind-stat (look s.table id)
-  kind-acts (Set id uid gid mode) bare = kind-controls (sets s n uid gid mode) (kind-sets uid gid mode) (look s.table id)
-  kind-acts (Rmid (pos id)) bare = kind-rmid id (look s.table (pos id)) refl
-  kind-acts (Rmid (negsuc id)) bare = still s
-  kind-acts (Lock id) bare = kind-controls (locks s) kind-locks (look s.table id)
-  kind-acts (Unlock id) bare = kind-controls (unlocks s) kind-unlocks (look s.table id)
-  kind-acts (Load a len) bare = kind-load (places c.pieces a len)
-  kind-acts (Store a bytes) bare = kind-store bytes (writable_places c.pieces a (length bytes))
-  kind-acts (Xadd a add) bare = kind-xadd add (writable_places c.pieces a 8)
-  kind-acts (Fork child) bare = kind-forks child (unborn_from 0 child s.runners) bare refl
-  kind-acts Exec bare = sweeps s _ _ (turned-detach n c.pid (segments_of c) s.table) refl (living c [] s.runners)
-  kind-acts Exit bare = sweeps s _ _ (turned-detach n c.pid (segments_of c) s.table) refl (λ h. bare-set s.runners c.index (record { pid = c.pid; life = Ended; pieces = [] }) h (λ (e : Ended ≡ Unborn). cc e))
-  kind-acts (Swapoff area) bare = kind-swapoff area
+  pub kind-acts : (call : Call) → Bare s.runners → ((key size mode : ℕ) (flags : GetFlags) → call ≡ Shmget key size mode flags → (k : ℕ) → like (new_segment n c k size mode))
+      → let o = acts s n c call in Kind (over_put c.pieces (put call o.reply)) like s (removed call o.reply) o.reply o.state
+  kind-acts (Shmget key size mode flags) bare made = kind-shmget key size mode flags (made key size mode flags refl)
+  kind-acts (Shmat id addr flags) bare made = kind-shmat id addr flags
+  kind-acts (Shmdt addr) bare made = kind-detaches addr (origin_of addr c.pieces)
+  kind-acts (Stat id) bare made = kind-stat (look s.table id)
+  kind-acts (Set id uid gid mode) bare made = kind-controls (sets s n uid gid mode) (kind-sets uid gid mode) (look s.table id)
+  kind-acts (Rmid (pos id)) bare made = kind-rmid id (look s.table (pos id)) refl
+  kind-acts (Rmid (negsuc id)) bare made = still like s _
+  kind-acts (Lock id) bare made = kind-controls (locks s) kind-locks (look s.table id)
+  kind-acts (Unlock id) bare made = kind-controls (unlocks s) kind-unlocks (look s.table id)
+  kind-acts (Load a len) bare made = kind-load (places c.pieces a len)
+  kind-acts (Store a bytes) bare made = kind-store a bytes (writable_places c.pieces a (length bytes)) refl
+  kind-acts (Xadd a add) bare made = kind-xadd a add (writable_places c.pieces a 8) refl
+  kind-acts (Fork child) bare made = kind-forks child (unborn_from 0 child s.runners) bare refl
+  kind-acts Exec bare made = sweeps like s _ _ _ (turned-detach n c.pid (segments_of c) s.table) refl (living c [] s.runners)
+  kind-acts Exit bare made = sweeps like s _ _ _ (turned-detach n c.pid (segments_of c) s.table) refl (λ h. bare-set s.runners c.index (record { pid = c.pid; life = Ended; pieces = [] }) h (λ (e : Ended ≡ Unborn). cc e))
+  kind-acts (Swapoff area) bare made = kind-swapoff area

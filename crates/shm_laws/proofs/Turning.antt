@@ -1,5 +1,5 @@
--- Changes of a table that keep what a segment was made as, and its mark.
-use Rattle.std.proofs.Common.{◌≡◌, ◌≢◌, ◌⊎◌, ℕ, suc, zero, ◌+◌, ◌%◌, List, [], ◌∷◌, Option, Some, None, slice_get, refl, sym, ap, ◌∙◌, inl, inr, arith}
+-- Changes of a table that keep what a segment was made as, and its mark; and what becomes of its bytes.
+use Rattle.std.proofs.Common.{◌≡◌, ◌≢◌, ◌⊎◌, ℕ, suc, zero, ◌+◌, ◌%◌, ◌==◌, if◌then◌else◌, List, [], ◌∷◌, Option, Some, None, slice_get, slice_set, refl, sym, ap, subst, ◌∙◌, inl, inr, arith, eq-eqb, ne_eqb}
 use Rattle.std.specs.Prelude.{option_map}
 use Rattle.std.proofs.lemmas.Bool.{cases_eq}
 use Rattle.shm_base.specs.State.{Segment, Entry, Runner}
@@ -14,11 +14,12 @@ same_refl x = record { size = refl; cpid = refl; cuid = refl; cgid = refl }
 pub same_trans : (x y z : Segment) → IsSame x y → IsSame y z → IsSame x z
 same_trans x y z a b = record { size = b.size ∙ a.size; cpid = b.cpid ∙ a.cpid; cuid = b.cuid ∙ a.cuid; cgid = b.cgid ∙ a.cgid }
 
--- what stands at an index is changed so
-pub record Turned (t u : List Entry) (i : ℕ) : Type 0 where
+-- what stands at an index is changed so, and its bytes become these
+pub record Turned (over : List ℕ → List ℕ) (t u : List Entry) (i : ℕ) : Type 0 where
   pub turn : Segment → Segment
   pub same : (x : Segment) → IsSame x (turn x)
   pub dest : (x : Segment) → (turn x).dest ≡ x.dest
+  pub bytes : (x : Segment) → (turn x).bytes ≡ over x.bytes
   pub at : slice_get u i ≡ option_map (with_entry turn) (slice_get t i)
 
 map-none : (o : Option Segment) → option_map (λ x. x) o ≡ o
@@ -37,18 +38,26 @@ entry-twice : (f g : Segment → Segment) (o : Option Entry) → option_map (wit
 entry-twice f g None = refl
 entry-twice f g (Some e) = ap (λ (p : Option Segment). Some (record { destroyed = e.destroyed; segment = p })) (map-twice f g e.segment)
 
-pub turned-as : (t u : List Entry) (i : ℕ) → slice_get u i ≡ slice_get t i → Turned t u i
-turned-as t u i is = record { turn = λ x. x; same = same_refl; dest = λ x. refl; at = is ∙ sym (entry-none (slice_get t i)) }
+turned-over : (f g : List ℕ → List ℕ) (t u : List Entry) (i : ℕ) → ((bytes : List ℕ) → f bytes ≡ g bytes) → Turned f t u i → Turned g t u i
+turned-over f g t u i alike a = record { turn = a.turn; same = a.same; dest = a.dest; bytes = λ x. a.bytes x ∙ alike x.bytes; at = a.at }
 
-pub turned-refl : (t : List Entry) (i : ℕ) → Turned t t i
+-- they stay
+abbrev pub unchanged : List ℕ → List ℕ
+unchanged bytes = bytes
+
+pub turned-as : (t u : List Entry) (i : ℕ) → slice_get u i ≡ slice_get t i → Turned unchanged t u i
+turned-as t u i is = record { turn = λ x. x; same = same_refl; dest = λ x. refl; bytes = λ x. refl; at = is ∙ sym (entry-none (slice_get t i)) }
+
+pub turned-refl : (t : List Entry) (i : ℕ) → Turned unchanged t t i
 turned-refl t i = turned-as t t i refl
 
-pub turned-trans : (t u v : List Entry) (i : ℕ) → Turned t u i → Turned u v i → Turned t v i
-turned-trans t u v i a b =
+pub turned-trans : (f g : List ℕ → List ℕ) (t u v : List Entry) (i : ℕ) → Turned f t u i → Turned g u v i → Turned (λ bytes. g (f bytes)) t v i
+turned-trans f g t u v i a b =
     record {
       turn = λ x. b.turn (a.turn x);
       same = λ x. same_trans x (a.turn x) (b.turn (a.turn x)) (a.same x) (b.same (a.turn x));
       dest = λ x. b.dest (a.turn x) ∙ a.dest x;
+      bytes = λ x. b.bytes (a.turn x) ∙ ap g (a.bytes x);
       at = b.at ∙ ap (option_map (with_entry b.turn)) a.at ∙ entry-twice a.turn b.turn (slice_get t i);
     }
 
@@ -63,32 +72,59 @@ set_in-there t k i g None apart = refl
 set_in-there t k i g (Some e) apart = get-set_other t k i (g e) apart
 
 module _ (f : Segment → Segment) (same : (x : Segment) → IsSame x (f x)) (dest : (x : Segment) → (f x).dest ≡ x.dest) where
-  pub turned-in : (t : List Entry) (k i : ℕ) → Turned t (set_in t k (with_entry f) (slice_get t k)) i
-  turned-in t k i = by (cases_eq k i)
-    where
-      by : (k ≡ i) ⊎ (k ≢ i) → Turned t (set_in t k (with_entry f) (slice_get t k)) i
-      by (inl h) = rw (← h) (record { turn = f; same = same; dest = dest; at = set_in-here t k (with_entry f) (slice_get t k) refl })
-      by (inr apart) = turned-as t (set_in t k (with_entry f) (slice_get t k)) i (set_in-there t k i (with_entry f) (slice_get t k) apart)
+  turned-here : (over : List ℕ → List ℕ) (t : List Entry) (k : ℕ) → ((x : Segment) → (f x).bytes ≡ over x.bytes) → Turned over t (set_in t k (with_entry f) (slice_get t k)) k
+  turned-here over t k bytes = record { turn = f; same = same; dest = dest; bytes = bytes; at = set_in-here t k (with_entry f) (slice_get t k) refl }
 
-  pub turned-change : (t : List Entry) (id i : ℕ) → Turned t (change t id f) i
-  turned-change t id i = turned-in t (id % 32768) i
+  turned-there : (t : List Entry) (k i : ℕ) → k ≢ i → Turned unchanged t (set_in t k (with_entry f) (slice_get t k)) i
+  turned-there t k i apart = turned-as t (set_in t k (with_entry f) (slice_get t k)) i (set_in-there t k i (with_entry f) (slice_get t k) apart)
+
+  pub turned-change : ((x : Segment) → (f x).bytes ≡ x.bytes) → (t : List Entry) (id i : ℕ) → Turned unchanged t (change t id f) i
+  turned-change bytes t id i = by (cases_eq (id % 32768) i)
+    where
+      by : (id % 32768 ≡ i) ⊎ (id % 32768 ≢ i) → Turned unchanged t (change t id f) i
+      by (inl h) = rw (← h) (turned-here unchanged t (id % 32768) bytes)
+      by (inr apart) = turned-there t (id % 32768) i apart
 
 -- MANY
 
-pub turned-detach : (n pid : ℕ) (ids : List ℕ) (t : List Entry) (i : ℕ) → Turned t (detach_all n pid t ids) i
+pub turned-detach : (n pid : ℕ) (ids : List ℕ) (t : List Entry) (i : ℕ) → Turned unchanged t (detach_all n pid t ids) i
 turned-detach n pid [] t i = turned-refl t i
 turned-detach n pid (id ∷ ids) t i =
-    turned-trans t (change t id (detached n pid)) (detach_all n pid (change t id (detached n pid)) ids) i
-    (turned-change (detached n pid) (λ x. record { size = refl; cpid = refl; cuid = refl; cgid = refl }) (λ x. refl) t id i)
+    turned-trans unchanged unchanged t (change t id (detached n pid)) (detach_all n pid (change t id (detached n pid)) ids) i
+    (turned-change (detached n pid) (λ x. record { size = refl; cpid = refl; cuid = refl; cgid = refl }) (λ x. refl) (λ x. refl) t id i)
     (turned-detach n pid ids (change t id (detached n pid)) i)
 
-pub turned-stored : (ps : List Place) (bs : List ℕ) (t : List Entry) (i : ℕ) → Turned t (stored t ps bs) i
-turned-stored [] bs t i = turned-refl t i
+-- one byte that is put, if it is one of the index's
+abbrev pub byte_in : ℕ → Place → ℕ → List ℕ → List ℕ
+byte_in i p v bytes = if p.seg % 32768 == i then slice_set bytes p.at v else bytes
+
+-- and many of them, in their order
+abbrev pub puts_in : ℕ → List Place → List ℕ → List ℕ → List ℕ
+puts_in i [] vs bytes = bytes
+puts_in i (p ∷ ps) [] bytes = bytes
+puts_in i (p ∷ ps) (v ∷ vs) bytes = puts_in i ps vs (byte_in i p v bytes)
+
+pub turned-byte : (p : Place) (v : ℕ) (t : List Entry) (i : ℕ) → Turned (byte_in i p v) t (with_byte t p v) i
+turned-byte p v t i = by (cases_eq (p.seg % 32768) i)
+  where
+    same : (x : Segment) → IsSame x (byte_set p.at v x)
+    same x = record { size = refl; cpid = refl; cuid = refl; cgid = refl }
+
+    by : (p.seg % 32768 ≡ i) ⊎ (p.seg % 32768 ≢ i) → Turned (byte_in i p v) t (with_byte t p v) i
+    by (inl h) =
+        turned-over (λ bytes. slice_set bytes p.at v) (byte_in i p v) t (with_byte t p v) i (λ bytes. rw (eq-eqb (p.seg % 32768) i h) refl)
+        (subst (Turned (λ bytes. slice_set bytes p.at v) t (with_byte t p v)) h
+        (turned-here (byte_set p.at v) same (λ x. refl) (λ bytes. slice_set bytes p.at v) t (p.seg % 32768) (λ x. refl)))
+    by (inr apart) =
+        turned-over unchanged (byte_in i p v) t (with_byte t p v) i (λ bytes. rw (ne_eqb (p.seg % 32768) i apart) refl)
+        (turned-there (byte_set p.at v) same (λ x. refl) t (p.seg % 32768) i apart)
+
+pub turned-stored : (ps : List Place) (vs : List ℕ) (t : List Entry) (i : ℕ) → Turned (puts_in i ps vs) t (stored t ps vs) i
+turned-stored [] vs t i = turned-refl t i
 turned-stored (p ∷ ps) [] t i = turned-refl t i
-turned-stored (p ∷ ps) (b ∷ bs) t i =
-    turned-trans t (with_byte t p b) (stored (with_byte t p b) ps bs) i
-    (turned-in (byte_set p.at b) (λ x. record { size = refl; cpid = refl; cuid = refl; cgid = refl }) (λ x. refl) t (p.seg % 32768) i)
-    (turned-stored ps bs (with_byte t p b) i)
+turned-stored (p ∷ ps) (v ∷ vs) t i =
+    turned-trans (byte_in i p v) (puts_in i ps vs) t (with_byte t p v) (stored (with_byte t p v) ps vs) i
+    (turned-byte p v t i) (turned-stored ps vs (with_byte t p v) i)
 
 -- THE SWEEP
 

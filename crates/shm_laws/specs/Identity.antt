@@ -1,9 +1,13 @@
 -- Identity: an identifier names one segment, and never another.
-use Rattle.std.specs.Prelude.{◌≡◌, ◌⊎◌, ℕ, pos, List}
+use Rattle.std.specs.Prelude.{◌≡◌, ◌⊎◌, ℕ, pos, List, Some}
+use Rattle.shm_base.specs.declared.flags.GetFlags.{GetFlags}
+use Rattle.shm_base.specs.declared.call.Call.TheVariants.{Shmget}
+use Rattle.shm_base.specs.declared.call.Reply.TheVariants.{Id}
 use Rattle.shm_base.specs.declared.call.Event.{Event}
 use Rattle.shm_base.specs.State.{Segment, Machine, Opening}
 use Rattle.shm_base.specs.Identifier.{Invalid, look}
-use Rattle.shm_laws.specs.Standing.{Stands, IsGone, EachMove, EachMoment}
+use Rattle.shm_base.specs.Step.{Caller, caller_of}
+use Rattle.shm_laws.specs.Standing.{Stands, IsGone, EachMove, EachMoment, Always, Since}
 
 -- the same segment: as large, made by the same process and the same user
 pub record IsSame (x y : Segment) : Type 0 where
@@ -21,8 +25,32 @@ pub record KeepsNames (s later : Machine) : Type 0 where
 pub record NamesAnew (s : Machine) (e : Event) (t : Machine) : Type 0 where
   pub new : (id : ℕ) (y : Segment) → Stands t id y → ((x : Segment) × Stands s id x × IsSame x y) ⊎ (look s.table (pos id) ≡ Invalid)
 
+-- the event made the segment: a shmget for its size, of its creating process, that was answered with its identifier, which
+-- was never issued; and the process had the user and group of its creator
+pub record IsMadeBy (s : Machine) (e : Event) (id : ℕ) (y : Segment) : Type 0 where
+  pub key : ℕ
+  pub mode : ℕ
+  pub flags : GetFlags
+  pub call : e.call ≡ Shmget key y.size mode flags
+  pub reply : e.reply ≡ Id (pos id)
+  pub never : look s.table (pos id) ≡ Invalid
+  pub process : e.pid ≡ y.cpid
+  pub caller : Caller
+  pub live : caller_of s e.pid ≡ Some caller
+  pub user : y.perm.cuid ≡ caller.cred.uid
+  pub group : y.perm.cgid ≡ caller.cred.gid
+
+-- the segment stood
+abbrev pub StandsAs : Machine → ℕ → Segment → Type 0
+StandsAs s id y = (x : Segment) × Stands s id x × IsSame x y
+
+-- each segment that stands was made by one of these events, and has stood since
+unfoldable pub AreMade : Opening → List Event → Machine → Type 0
+AreMade o before s = (id : ℕ) (y : Segment) → Stands s id y → Since o (λ u e. IsMadeBy u e id y) (λ u e. StandsAs u id y) before
+
 -- THE LAW. From each moment of the history on to its end names are kept, and a new segment gets an identifier that
--- was never issued
+-- was never issued; and at each moment what stands was made so
 pub record NamesOneSegment (o : Opening) (events : List Event) (end : Machine) : Type 0 where
   pub kept : EachMoment KeepsNames o events end
   pub new : EachMove NamesAnew o events end
+  pub made : Always (AreMade o) o events

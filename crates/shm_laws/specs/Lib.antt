@@ -3,4 +3,7 @@ pub mod Standing
 pub mod Removal
 pub mod Identity
 pub mod Pieces
+pub mod Leave
+pub mod Writing
+pub mod Isolation
 pub mod Worked

@@ -1,9 +1,20 @@
--- Pieces: what a piece names stands.
-use Rattle.std.specs.Prelude.{◌≡◌, ◌≤◌, ◌⊎◌, ℕ, List}
+-- Pieces: what a piece names stands, and each is counted.
+use Rattle.std.specs.Prelude.{◌≡◌, ◌≢◌, ◌≤◌, ◌<◌, ◌⊎◌, ℕ, ◌+◌, ◌==◌, ℤ, pos, Bool, true, false, if◌then◌else◌, List}
+use Rattle.shm_base.specs.declared.flags.AtFlags.{AtFlags}
+use Rattle.shm_base.specs.declared.call.ShmidDs.{ShmidDs}
+use Rattle.shm_base.specs.declared.call.Call.{Call}
+use Rattle.shm_base.specs.declared.call.Call.TheVariants.{Shmat, Shmdt, Fork, Exec, Exit}
+use Rattle.shm_base.specs.declared.call.Call.TheVariants as calls
+use Rattle.shm_base.specs.declared.call.Reply.TheVariants.{Addr, Done}
+use Rattle.shm_base.specs.declared.call.Reply.TheVariants as replies
 use Rattle.shm_base.specs.declared.call.Event.{Event}
 use Rattle.shm_base.specs.State.{Segment, Machine, Opening}
+use Rattle.shm_base.specs.Space.{pieces_of}
 use Rattle.shm_base.specs.Segments.{attach_count}
+use Rattle.shm_base.specs.Step.{caller_of, is_remap}
+use Rattle.shm_base.specs.History.{is_refusal}
 use Rattle.shm_laws.specs.Standing.{Stands, EachMove}
+use Rattle.shm_laws.specs.Writing.{held_by}
 
 -- a segment that a process has a piece of stands
 abbrev pub PiecesNameWhatStands : Machine → Type 0
@@ -14,7 +25,36 @@ pub record GivesPieces (s : Machine) (e : Event) (t : Machine) : Type 0 where
   pub first : (id : ℕ) → attach_count s.runners id ≡ 0 → (attach_count t.runners id ≡ 0) ⊎ ((x : Segment) × Stands s id x)
   pub after : PiecesNameWhatStands t
 
--- THE LAW. So does each move, and so it is at the end
+-- how many pieces of the segment the process has
+abbrev pub held : Machine → ℕ → ℕ → ℕ
+held s pid id = pieces_of id (held_by (caller_of s pid))
+
+-- whether the call may change who has which piece
+abbrev pub hands_pieces : Call → Bool
+hands_pieces (Shmat id addr flags) = true
+hands_pieces (Shmdt addr) = true
+hands_pieces (Fork child) = true
+hands_pieces Exec = true
+hands_pieces Exit = true
+hands_pieces _ = false
+
+-- what stat shows is how many pieces there are; a shmat that takes no other's place adds one, and changes no other
+-- count; a fork adds as many as the parent has; exec and exit take as many as the process has; a shmdt takes pieces of one
+-- segment; and nothing else changes a count
+pub record CountsPieces (s : Machine) (e : Event) (t : Machine) : Type 0 where
+  pub shown : (id : ℤ) (d : ShmidDs) → e.call ≡ calls.Stat id → e.reply ≡ replies.Stat d → (n : ℕ) × (id ≡ pos n) × (d.nattch ≡ attach_count s.runners n)
+  pub attached :
+      (id addr base : ℕ) (flags : AtFlags) → e.call ≡ Shmat (pos id) addr flags → e.reply ≡ Addr base → is_remap flags ≡ false
+      → (k : ℕ) → attach_count t.runners k ≡ attach_count s.runners k + (if id == k then 1 else 0)
+  pub forked : (child : ℕ) → e.call ≡ Fork child → e.reply ≡ Done → (k : ℕ) → attach_count t.runners k ≡ attach_count s.runners k + held s e.pid k
+  pub left : (e.call ≡ Exec) ⊎ (e.call ≡ Exit) → e.reply ≡ Done → (k : ℕ) → attach_count t.runners k + held s e.pid k ≡ attach_count s.runners k
+  pub detached :
+      (addr : ℕ) → e.call ≡ Shmdt addr → e.reply ≡ Done
+      → (id : ℕ) × (attach_count t.runners id < attach_count s.runners id) × ((k : ℕ) → k ≢ id → attach_count t.runners k ≡ attach_count s.runners k)
+  pub quiet : (hands_pieces e.call ≡ false) ⊎ (is_refusal e.reply ≡ true) → (k : ℕ) → attach_count t.runners k ≡ attach_count s.runners k
+
+-- THE LAW. So does each move, and so it is at the end; and each move counts
 pub record PiecesAreOfSegments (o : Opening) (events : List Event) (end : Machine) : Type 0 where
   pub moves : EachMove GivesPieces o events end
   pub pieces : PiecesNameWhatStands end
+  pub counts : EachMove CountsPieces o events end

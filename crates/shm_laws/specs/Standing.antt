@@ -1,9 +1,9 @@
--- What stands under an identifier, and what each move of a history keeps.
-use Rattle.std.specs.Prelude.{◌≡◌, ℕ, ◌+◌, ◌%◌, pos, List, [], ◌∷◌}
+-- What stands under an identifier, who has which piece, and what each move of a history keeps.
+use Rattle.std.specs.Prelude.{◌≡◌, ℕ, ◌+◌, ◌%◌, pos, List, [], ◌∷◌, ◌++◌, length, All, Contains}
 use Rattle.shm_base.specs.declared.call.Event.{Event}
-use Rattle.shm_base.specs.State.{Segment, Machine, Opening, start_of}
+use Rattle.shm_base.specs.State.{Segment, Piece, Runner, Machine, Opening, start_of}
 use Rattle.shm_base.specs.Identifier.{Found, Removed, look}
-use Rattle.shm_base.specs.History.{IsMove}
+use Rattle.shm_base.specs.History.{IsMove, IsHistory}
 
 -- the segment stands under the identifier
 abbrev pub Stands : Machine → ℕ → Segment → Type 0
@@ -12,6 +12,17 @@ Stands s id x = look s.table (pos id) ≡ Found (id % 32768) x
 -- the identifier is a destroyed segment's
 abbrev pub IsGone : Machine → ℕ → Type 0
 IsGone s id = look s.table (pos id) ≡ Removed
+
+-- the process has the piece
+pub record Has (s : Machine) (pid : ℕ) (p : Piece) : Type 0 where
+  pub process : Runner
+  pub is : Contains s.runners process
+  pub named : process.pid ≡ pid
+  pub has : Contains process.pieces p
+
+-- of each piece that a process has this holds
+abbrev pub EachPiece : (ℕ → Piece → Type 0) → Machine → Type 0
+EachPiece law s = All (λ (r : Runner). All (law r.pid) r.pieces) s.runners
 
 -- the events, the first at place n, lead from s to t, and of each move this holds, from the state before it to the
 -- one after it
@@ -32,3 +43,29 @@ MomentsBy law n s (e ∷ es) t = law s t × ((u : Machine) × IsMove s n e u × 
 -- so it is with each moment of a whole history and its end
 abbrev pub EachMoment : (Machine → Machine → Type 0) → Opening → List Event → Machine → Type 0
 EachMoment law o events end = MomentsBy law 1 (start_of o) events end
+
+-- a moment of the history: these of its events came before it, and the machine is s
+pub record IsMoment (o : Opening) (events before : List Event) (s : Machine) : Type 0 where
+  pub after : List Event
+  pub whole : before ++ after ≡ events
+  pub leads : IsHistory o before s
+
+-- at each moment of a whole history this holds of what came before, and of the machine
+abbrev pub Always : (List Event → Machine → Type 0) → Opening → List Event → Type 0
+Always law o events = (before : List Event) (s : Machine) → IsMoment o events before s → law before s
+
+-- a turn of the history: these of its events came before it, the machine was s, and the next event led to t
+pub record IsTurn (o : Opening) (events before : List Event) (s : Machine) (e : Event) (t : Machine) : Type 0 where
+  pub after : List Event
+  pub whole : before ++ e ∷ after ≡ events
+  pub leads : IsHistory o before s
+  pub move : IsMove s (length before + 1) e t
+
+-- at each turn of a whole history this holds of what came before, and of the move
+abbrev pub EachTurn : (List Event → Machine → Event → Machine → Type 0) → Opening → List Event → Type 0
+EachTurn law o events = (before : List Event) (s : Machine) (e : Event) (t : Machine) → IsTurn o events before s e t → law before s e t
+
+-- one of these events began it, and each one after that kept it up
+pub data Since (o : Opening) (begins keeps : Machine → Event → Type 0) : List Event → Type 0 where
+  Began : (before : List Event) (s : Machine) (e : Event) → IsHistory o before s → begins s e → Since o begins keeps (before ++ e ∷ [])
+  Lasted : (before : List Event) (s : Machine) (e : Event) → IsHistory o before s → keeps s e → Since o begins keeps before → Since o begins keeps (before ++ e ∷ [])

@@ -1,17 +1,21 @@
 -- Worked histories, in which the laws say something. They are computed.
-use Rattle.std.specs.Prelude.{◌≡◌, ℕ, ◌+◌, pos, Bool, true, false, List, [], ◌∷◌, take, Some, option_map, slice_get}
-use Rattle.shm_base.specs.declared.errno.Errno.TheVariants.{Eidrm, Sigbus}
-use Rattle.shm_base.specs.declared.call.Call.TheVariants.{Rmid, Load, Store, Exec}
-use Rattle.shm_base.specs.declared.call.Reply.TheVariants.{Addr, Bytes, Done, Refused}
+use Rattle.std.specs.Prelude.{◌≡◌, ℕ, ◌+◌, ◌*◌, ◌^◌, ◌==◌, pos, Bool, true, false, List, [], ◌∷◌, take, Option, Some, option_map, slice_get}
+use Rattle.shm_base.specs.declared.errno.Errno.TheVariants.{Eperm, Eacces, Eidrm, Sigbus, Sigsegv}
+use Rattle.shm_base.specs.declared.call.Call.TheVariants.{Shmdt, Set, Rmid, Load, Store, Xadd, Fork, Exec}
+use Rattle.shm_base.specs.declared.call.Reply.TheVariants.{Addr, Bytes, Number, Done, Refused}
 use Rattle.shm_base.specs.declared.call.Event.{Event}
-use Rattle.shm_base.specs.State.{Segment, Entry, Machine, Opening, start_of}
-use Rattle.shm_base.specs.History.{IsHistory}
-use Rattle.shm_base.specs.Rows.{Answers, does, id, mode, shmget, shmat, stat, process}
+use Rattle.shm_base.specs.State.{Segment, Entry, Piece, Runner, Machine, Opening, start_of}
+use Rattle.shm_base.specs.History.{IsHistory, own_part}
+use Rattle.shm_base.specs.Rows.{Answers, does, id, mode, rdonly, shmget, shmat, stat, process, child}
 use Rattle.shm_base.specs.Identifier.{Look, Found, Removed, Invalid, look}
+use Rattle.shm_base.specs.Access.{bytes_at}
 use Rattle.shm_base.specs.Segments.{attach_count}
 use Rattle.shm_base.specs.Step.{step}
 use Rattle.shm_laws.specs.Standing.{IsGone}
 use Rattle.shm_laws.specs.Replay.{without_failures}
+use Rattle.shm_laws.specs.Pieces.{held}
+use Rattle.shm_laws.specs.Writing.{IsByte}
+use Rattle.shm_laws.specs.Isolation.{DifferIn}
 
 -- they are legal, and lead somewhere
 abbrev pub IsLegal : Opening → List Event → Type 0
@@ -62,13 +66,16 @@ two_go =
     ∷ does 1 (shmget 0 4096 (mode 6 0 0) 0) (id 32768)
     ∷ []
 
--- where a history leads
+-- where so many of its events lead
 abbrev pub ends_from : ℕ → Machine → List Event → Machine
 ends_from n s [] = s
 ends_from n s (e ∷ es) = ends_from (n + 1) (step s n e.pid e.call).state es
 
+abbrev pub after : Opening → List Event → ℕ → Machine
+after o events n = ends_from 1 (start_of o) (take n events)
+
 abbrev pub after_two_go : ℕ → Machine
-after_two_go n = ends_from 1 (start_of opening) (take n two_go)
+after_two_go n = after opening two_go n
 
 -- it is legal; segment 0 is marked and has a piece before the exec, and is gone after it; segment 1 goes with its rmid;
 -- and what segment 0 was named by names none when its index is used again
@@ -80,9 +87,101 @@ RemovalWorked =
     × IsGone (after_two_go 5) 1 × IsGone (after_two_go 8) 0 × IsGone (after_two_go 10) 0
     × (is_found (look (after_two_go 10).table (pos 32768)) ≡ true)
 
--- PIECES: process 2 has one of segment 0, which stands, and none of segment 1, which is gone
+-- PIECES: process 2 has one of segment 0, which stands, from its shmat to its exec, and none of segment 1, which is gone
 abbrev pub PiecesWorked : Type 0
 PiecesWorked =
     (is_found (look (after_two_go 7).table (pos 0)) ≡ true)
     × (attach_count (after_two_go 7).runners 1 ≡ 0)
+    × (attach_count (after_two_go 2).runners 0 ≡ 0)
+    × (attach_count (after_two_go 3).runners 0 ≡ 1)
+    × (held (after_two_go 7) 2 0 ≡ 1)
     × (attach_count (after_two_go 8).runners 0 ≡ 0)
+
+-- LEAVE: another user may read, its process attaches for reading and has a child; the segment's owner then takes leave back,
+-- which counts at the next shmat alone
+
+abbrev pub three : Opening
+three = record opening { processes = process 1 100 100 ∷ process 2 200 200 ∷ child 3 ∷ [] }
+
+abbrev pub others_read : List Event
+others_read =
+    does 1 (shmget 0 4096 (mode 6 0 4) 0) (id 0)
+    ∷ does 2 (shmat 0 0 0) (Refused Eacces)
+    ∷ does 2 (shmat 0 0 rdonly) (Addr 0x40000000)
+    ∷ does 2 (Fork 3) Done
+    ∷ does 3 (Store 0x40000000 (7 ∷ [])) (Refused Sigsegv)
+    ∷ does 3 (Rmid (pos 0)) (Refused Eperm)
+    ∷ does 1 (Set (pos 0) 100 100 (mode 6 0 0)) Done
+    ∷ does 3 (Load 0x40000000 1) (Bytes (0 ∷ []))
+    ∷ does 3 (shmat 0 0 rdonly) (Refused Eacces)
+    ∷ []
+
+abbrev pub pieces_now : Opening → List Event → ℕ → ℕ → Option (List Piece)
+pieces_now o events n k = option_map (λ (r : Runner). r.pieces) (slice_get (after o events n).runners k)
+
+abbrev pub read_only : Piece
+read_only = record { base = 0x40000000; seg = 0; first_page = 0; pages = 1; writable = false }
+
+-- it is legal; nobody has a piece before the shmat that was granted; the child has the piece of its parent, as read-only
+-- as that, and to the end
+abbrev pub LeaveWorked : Type 0
+LeaveWorked =
+    IsLegal three others_read
+    × (pieces_now three others_read 2 1 ≡ Some [])
+    × (pieces_now three others_read 3 1 ≡ Some (read_only ∷ []))
+    × (pieces_now three others_read 3 2 ≡ Some [])
+    × (pieces_now three others_read 4 2 ≡ Some (read_only ∷ []))
+    × (pieces_now three others_read 9 2 ≡ Some (read_only ∷ []))
+
+-- THE LAST WRITER: a store over the seam of two segments, one over its last byte by another process, and an xadd
+
+abbrev pub two_write : List Event
+two_write =
+    does 1 (shmget 0 4096 (mode 6 0 0) 0) (id 0)
+    ∷ does 1 (shmget 0 4096 (mode 6 0 0) 0) (id 1)
+    ∷ does 1 (shmat 0 0 0) (Addr 0x40000000)
+    ∷ does 1 (shmat 1 0 0) (Addr 0x40001000)
+    ∷ does 2 (shmat 0 0 0) (Addr 0x40000000)
+    ∷ does 1 (Store 0x40000ffe (1 ∷ 2 ∷ 3 ∷ [])) Done
+    ∷ does 2 (Store 0x40000fff (9 ∷ [])) Done
+    ∷ does 2 (Xadd 0x40000ff8 256) (Number (2 ^ 48 + 9 * 2 ^ 56))
+    ∷ does 1 (Load 0x40000ff8 9) (Bytes (0 ∷ 1 ∷ 0 ∷ 0 ∷ 0 ∷ 0 ∷ 1 ∷ 9 ∷ 3 ∷ []))
+    ∷ []
+
+-- it is legal; the third byte of the first store is byte 0 of segment 1, and the byte of the second is the first store's
+-- second; its writer's byte is what stands there, what the xadd put before it is what the load shows, and a byte that
+-- nobody wrote is 0
+abbrev pub WritingWorked : Type 0
+WritingWorked =
+    IsLegal opening two_write
+    × IsByte (after opening two_write 5) 1 0x40001000 1 0
+    × IsByte (after opening two_write 5) 1 0x40000fff 0 4095
+    × IsByte (after opening two_write 6) 2 0x40000fff 0 4095
+    × (slice_get (bytes_at (after opening two_write 6).table 0) 4095 ≡ Some 2)
+    × (slice_get (bytes_at (after opening two_write 7).table 0) 4095 ≡ Some 9)
+    × (slice_get (bytes_at (after opening two_write 9).table 1) 0 ≡ Some 3)
+    × (slice_get (bytes_at (after opening two_write 9).table 1) 1 ≡ Some 0)
+
+-- ISOLATION: process 2 stores one byte or another into its own segment and reads it back; process 1 has a piece of another
+
+abbrev pub stores_own : ℕ → List Event
+stores_own byte =
+    does 1 (shmget 0 4096 (mode 6 0 0) 0) (id 0)
+    ∷ does 2 (shmget 0 4096 (mode 6 0 0) 0) (id 1)
+    ∷ does 1 (shmat 0 0 0) (Addr 0x40000000)
+    ∷ does 2 (shmat 1 0 0) (Addr 0x40000000)
+    ∷ does 2 (Store 0x40000000 (byte ∷ [])) Done
+    ∷ does 1 (Load 0x40000000 1) (Bytes (0 ∷ []))
+    ∷ does 2 (Load 0x40000000 1) (Bytes (byte ∷ []))
+    ∷ does 1 (Shmdt 0x40000000) Done
+    ∷ []
+
+-- either is legal; the ends differ in the byte that was stored, and in bytes of segment 1 alone; and process 1 was told
+-- the same
+abbrev pub IsolationWorked : Type 0
+IsolationWorked =
+    IsLegal opening (stores_own 5) × IsLegal opening (stores_own 6)
+    × (slice_get (bytes_at (after opening (stores_own 5) 8).table 1) 0 ≡ Some 5)
+    × (slice_get (bytes_at (after opening (stores_own 6) 8).table 1) 0 ≡ Some 6)
+    × DifferIn (λ id. id == 1) (after opening (stores_own 5) 8) (after opening (stores_own 6) 8)
+    × (own_part 1 (stores_own 5) ≡ own_part 1 (stores_own 6))

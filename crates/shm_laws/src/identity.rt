@@ -9,8 +9,8 @@ use shm_pager::Pager;
 /// The history of the world. In it an identifier that names a segment names that one until it is destroyed, and then
 /// none; and a new segment gets an identifier that was never issued.
 pub fn named_once<P: Pager>(world: &World<P>) -> &[Event]
+    ensures law { NamesOneSegment world.now.opening result.now world.now.machine }
     ensures events { result.now ≡ world.now.events }
-    ensures law { NamesOneSegment world.now.opening world.now.events world.now.machine }
 {
     world.history()
 }

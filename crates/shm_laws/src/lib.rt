@@ -2,12 +2,18 @@
 #![tactic(auto)]
 
 mod identity;
+mod isolation;
+mod leave;
 mod pieces;
 mod removal;
 mod replay;
 mod worked;
+mod writing;
 
 pub use identity::named_once;
+pub use isolation::isolated;
+pub use leave::kept_out;
 pub use pieces::pieces_stand;
 pub use removal::removed_in_time;
 pub use replay::replayed;
+pub use writing::last_written;

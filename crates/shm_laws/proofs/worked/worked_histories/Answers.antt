@@ -1,5 +1,5 @@
-use Rattle.std.proofs.Common.{refl}
-use Rattle.shm_laws.specs.Worked.{opening, a_store_fails, two_go}
+use Rattle.std.proofs.Common.{true, refl}
+use Rattle.shm_laws.specs.Worked.{opening, a_store_fails, two_go, three, others_read, two_write, stores_own}
 use Rattle.shm_laws.proofs.Computing.{legal}
 use Rattle.shm_laws.proofs.worked.worked_histories.Goals as goal
 
@@ -8,5 +8,8 @@ returns c =
     record {
       replay = (legal opening a_store_fails (refl, (refl, (refl, (refl, (refl, refl))))), refl);
       removal = (legal opening two_go (refl, (refl, (refl, (refl, (refl, (refl, (refl, (refl, (refl, (refl, refl)))))))))), refl, refl, refl, refl, refl, refl);
-      pieces = (refl, refl, refl);
+      pieces = (refl, refl, refl, refl, refl, refl);
+      leave = (legal three others_read (refl, (refl, (refl, (refl, (refl, (refl, (refl, (refl, (refl, refl))))))))), refl, refl, refl, refl, refl);
+      isolation = (legal opening (stores_own 5) (refl, (refl, (refl, (refl, (refl, (refl, (refl, (refl, refl)))))))), legal opening (stores_own 6) (refl, (refl, (refl, (refl, (refl, (refl, (refl, (refl, refl)))))))), refl, refl, refl, refl);
+      writing = (legal opening two_write (refl, (refl, (refl, (refl, (refl, (refl, (refl, (refl, (refl, refl))))))))), (true, refl), (true, refl), (true, refl), refl, refl, refl, refl);
     }

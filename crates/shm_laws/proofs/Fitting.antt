@@ -1,0 +1,149 @@
+-- Each piece lies within a segment that stands.
+use Rattle.std.proofs.Common.{◌≡◌, ℕ, suc, zero, ◌+◌, ◌*◌, ◌/◌, ◌%◌, ◌≤◌, true, List, [], ◌∷◌, length, get_or, Option, Some, None, slice_get, refl, sym, ap, subst, ◌∙◌, inl, inr, arith, eq-eqb}
+use Rattle.std.specs.Prelude.{Contains}
+use Rattle.std.proofs.lemmas.Option.{none-some, slice_get-get_or}
+use Rattle.std.proofs.lemmas.List.Elements.{All-contains, Contains-get_or}
+use Rattle.shm_base.specs.declared.call.Event.{Event}
+use Rattle.shm_base.specs.State.{Segment, Piece, Runner, Machine, Opening, start_of}
+use Rattle.shm_base.specs.Identifier.{Invalid, Found, destroyed_in}
+use Rattle.shm_base.specs.Access.{Place, covers, place_by, place}
+use Rattle.shm_base.specs.Space.{pieces_of}
+use Rattle.shm_base.specs.Segments.{attach_count}
+use Rattle.shm_base.specs.Step.{Caller, caller_of}
+use Rattle.shm_base.specs.History.{IsMove}
+use Rattle.shm_attach.specs.Views.{one_if}
+use Rattle.shm_attach.proofs.Processes.{one_more}
+use Rattle.shm_segments.specs.Table.{segment_in}
+use Rattle.shm_laws.specs.Standing.{Stands, Has, EachPiece}
+use Rattle.shm_laws.specs.Writing.{held_by, put}
+use Rattle.shm_laws.proofs.Fates.{kind-move}
+use Rattle.shm_laws.proofs.Accessing.{lies-in}
+use Rattle.shm_laws.proofs.Granting.{Given, Aligned, each-has, has-own, mine, each-start, given-move, aligned-move}
+use Rattle.shm_laws.proofs.Handing.{IsAligned}
+use Rattle.shm_laws.proofs.Looks.{holds, stands-at}
+use Rattle.shm_laws.proofs.Naming.{Before, came-from}
+use Rattle.shm_laws.proofs.Piecing.{IsWhole, runner-count, whole-move, whole-start}
+use Rattle.shm_laws.proofs.Putting.{over-length}
+
+-- ONE SEGMENT UNDER ONE IDENTIFIER
+
+pub one-segment : (s : Machine) (id : ℕ) (x y : Segment) → Stands s id x → Stands s id y → x ≡ y
+one-segment s id x y a b =
+    let same : holds (id / 32768) x ≡ holds (id / 32768) y = sym (stands-at s.table id x a) ∙ stands-at s.table id y b in
+    cc (ap segment_in same)
+
+-- two segments at one index are one
+pub one-index : (s : Machine) (a b : ℕ) (x y : Segment) → Stands s a x → Stands s b y → a % 32768 ≡ b % 32768 → a ≡ b
+one-index s a b x y h k same =
+    let both : holds (a / 32768) x ≡ holds (b / 32768) y =
+    sym (stands-at s.table a x h) ∙ ap (λ n. slice_get s.table n) same ∙ stands-at s.table b y k in
+    let count : a / 32768 ≡ b / 32768 = ap destroyed_in both in
+    omega (arith, same, count)
+
+-- WHO HAS A PIECE IS COUNTED
+
+piece-count : (ps : List Piece) (k : ℕ) (p : Piece) → slice_get ps k ≡ Some p → 1 ≤ pieces_of p.seg ps
+piece-count [] k p is = absurd (cc is)
+piece-count (q ∷ qs) zero p is =
+    let same : q ≡ p = cc is in
+    let seg : q.seg ≡ p.seg = ap (λ (r : Piece). r.seg) same in
+    let more = one_more p.seg q qs in
+    let one : one_if p.seg q.seg ≡ 1 = rw (eq-eqb q.seg p.seg seg) refl in
+    omega (arith, more, one)
+piece-count (q ∷ qs) (suc k) p is =
+    let more = one_more p.seg q qs in
+    let rest = piece-count qs k p is in
+    omega (arith, more, rest)
+
+pub contained : {X : Type 0} (xs : List X) (x : X) (h : Contains xs x) → slice_get xs h.0 ≡ Some x
+contained xs x h = slice_get-get_or xs h.0 x h.1 ∙ ap (λ y. Some y) h.2
+
+pub has-count : (s : Machine) (pid : ℕ) (p : Piece) → Has s pid p → 1 ≤ attach_count s.runners p.seg
+has-count s pid p h =
+    let own = piece-count h.process.pieces h.has.0 p (contained h.process.pieces p h.has) in
+    let all = runner-count s.runners h.is.0 h.process p.seg (contained s.runners h.process h.is) in
+    omega (arith, own, all)
+
+-- WITHIN ITS SEGMENT
+
+pub record Fits (s : Machine) (p : Piece) : Type 0 where
+  pub segment : Segment
+  pub stands : Stands s p.seg segment
+  pub within : 4096 * (p.first_page + p.pages) ≤ length segment.bytes
+
+abbrev pub AllFit : Machine → Type 0
+AllFit s = EachPiece (λ pid p. Fits s p) s
+
+fits-given : (s : Machine) (e : Event) (pid : ℕ) (p : Piece) → AllFit s → Given s e pid p → Fits s p
+fits-given s e pid p all (inl h) =
+    let part = h.2 in
+    let old = each-has (λ n q. Fits s q) s pid h.0 all h.1 in
+    record {
+      segment = old.segment;
+      stands = subst (λ n. Stands s n old.segment) (sym part.seg) old.stands;
+      within = let pages = part.pages in let from = part.from in let to = part.to in let within = old.within in omega (arith, pages, from, to, within);
+    }
+fits-given s e pid p all (inr (inl h)) = each-has (λ n q. Fits s q) s e.pid p all h.parent
+fits-given s e pid p all (inr (inr h)) =
+    record {
+      segment = h.segment;
+      stands = h.stands;
+      within = let first = h.whole.0 in let pages = h.whole.1 in omega (arith, first, pages);
+    }
+
+-- what fitted, and stands on, fits
+fits-on : (s : Machine) (e : Event) (t : Machine) (p : Piece) (y : Segment) → Fits s p → Stands t p.seg y → Before s e p.seg y → Fits t p
+fits-on s e t p y old stands (inr new) = let no : Invalid ≡ Found (p.seg % 32768) old.segment = sym new.makes.0 ∙ old.stands in absurd (cc no)
+fits-on s e t p y old stands (inl h) =
+    let same : old.segment ≡ h.segment = one-segment s p.seg old.segment h.segment old.stands h.stood in
+    let long : length y.bytes ≡ length h.segment.bytes = ap length h.bytes ∙ over-length _ (put e.call e.reply) (p.seg % 32768) h.segment.bytes in
+    let was : length old.segment.bytes ≡ length h.segment.bytes = ap (λ (x : Segment). length x.bytes) same in
+    record { segment = y; stands = stands; within = let within = old.within in omega (arith, within, long, was) }
+
+-- WHAT HOLDS OF A MACHINE AT ALL TIMES
+
+pub record IsFit (s : Machine) : Type 0 where
+  pub whole : IsWhole s
+  pub aligned : Aligned s
+  pub fits : AllFit s
+
+pub fit-start : (o : Opening) → IsFit (start_of o)
+fit-start o = record { whole = whole-start o; aligned = each-start (λ pid p. IsAligned p) o; fits = each-start (λ pid p. Fits (start_of o) p) o }
+
+pub fit-move : (s : Machine) (n : ℕ) (e : Event) (t : Machine) → IsFit s → IsMove s n e t → IsFit t
+fit-move s n e t now m = record { whole = whole; aligned = aligned-move s n e t now.aligned m; fits = fits }
+  where
+    whole : IsWhole t
+    whole = (whole-move s n e t now.whole m).0
+
+    given : EachPiece (Given s e) t
+    given = given-move s n e t now.aligned m
+
+    fits : AllFit t
+    fits k d lt j q le =
+        let r : Runner = get_or t.runners k d in
+        let p : Piece = get_or r.pieces j q in
+        let has : Has t r.pid p = has-own t r (Contains-get_or t.runners k d lt) j q le in
+        let there = whole.pieces p.seg (has-count t r.pid p has) in
+        let from = came-from s t e now.whole.sound (kind-move s n e t now.whole.sound.bare m) p.seg there.0 there.1 in
+        fits-on s e t p there.0 (fits-given s e r.pid p now.fits (given k d lt j q le)) there.1 from
+
+-- THE PLACES OF A PROCESS
+
+-- a place lies in a piece of the process that fits
+pub record SpotFits (s : Machine) (pid a : ℕ) (q : Place) : Type 0 where
+  pub piece : Piece
+  pub has : Has s pid piece
+  pub fits : Fits s piece
+  pub covered : covers piece a ≡ true
+  pub spot : q ≡ place_by piece a
+
+pub spot-fits : (s : Machine) (pid a : ℕ) (q : Place) → AllFit s → place (held_by (caller_of s pid)) a ≡ Some q → SpotFits s pid a q
+spot-fits s pid a q fits found = by (caller_of s pid) refl found
+  where
+    by : (o : Option Caller) → caller_of s pid ≡ o → place (held_by o) a ≡ Some q → SpotFits s pid a q
+    by None is none = absurd (none-some q none)
+    by (Some c) is there =
+        let l = lies-in c.pieces a q there in
+        let has : Has s pid l.piece = All-contains (Has s pid) c.pieces l.piece (mine s pid c is) l.is in
+        record { piece = l.piece; has = has; fits = each-has (λ m r. Fits s r) s pid l.piece fits has; covered = l.covered; spot = l.spot }

@@ -1,0 +1,383 @@
+-- Each piece goes back to a shmat that was granted, and each move keeps out who has no leave.
+use Rattle.std.proofs.Common.{◌≡◌, ◌⊎◌, ℕ, ◌+◌, ◌-◌, ◌*◌, ◌/◌, ◌%◌, ◌<◌, ◌≤◌, ◌==◌, ℤ, pos, negsuc, Bool, true, false, not, List, [], ◌∷◌, ◌++◌, length, get_or, Option, Some, None, slice_get, slice_set, refl, sym, ap, subst, ◌∙◌, inl, inr, arith, true≢false}
+use Rattle.std.specs.Prelude.{All, Contains}
+use Rattle.std.proofs.lemmas.Bool.{cases_Bool, cases_lt, lt-ltb, le-ltb, eqb-true, not-false}
+use Rattle.std.proofs.lemmas.Option.{none-some, slice_get_within, get_or_from_slice_get}
+use Rattle.std.proofs.lemmas.List.Elements.{All-nil, All-append, All-filter, All-map, All-weaker, All-contains, Contains-get_or}
+use Rattle.std.proofs.lemmas.List.Concat.{flat_map-cons}
+use Rattle.std.proofs.lemmas.Grind.{common_steps}
+use Rattle.shm_base.specs.declared.owner.Cred.{Cred}
+use Rattle.shm_base.specs.declared.owner.Perm.{Perm}
+use Rattle.shm_base.specs.declared.call.Call.{Call}
+use Rattle.shm_base.specs.declared.call.Call.TheVariants.{Shmget, Shmat, Shmdt, Stat, Set, Rmid, Lock, Unlock, Load, Store, Xadd, Fork, Exec, Exit, Swapoff}
+use Rattle.shm_base.specs.declared.call.Reply.TheVariants.{Done}
+use Rattle.shm_base.specs.declared.call.Event.{Event}
+use Rattle.shm_base.specs.declared.errno.Errno.TheVariants.{Eperm}
+use Rattle.shm_base.specs.Access.{Place, covers, end_of, places, writable_places}
+use Rattle.shm_base.specs.Permission.{owns}
+use Rattle.shm_base.specs.State.{Segment, Piece, Live, Runner, Machine, Opening, start_of, runner_at_start, pages_in}
+use Rattle.shm_base.specs.Identifier.{Look, Found, Removed, Invalid, look}
+use Rattle.shm_base.specs.Space.{meets, part_below, part_above, parts, cut, inserted}
+use Rattle.shm_base.specs.Step.{Caller, Outcome, caller_of, acts, step_by, pieces_with, is_rdonly, refuses, controls, sets, removes, locks, unlocks, load, store, xadd}
+use Rattle.shm_base.specs.History.{is_refusal, IsMove, IsHistory}
+use Rattle.shm_life.proofs.Pieces.{all-cons, all-head, all-tail, all-slice_set}
+use Rattle.shm_laws.specs.Standing.{Has, EachPiece}
+use Rattle.shm_laws.specs.Leave.{IsPart, IsGranted, IsInherited, GoesBack, Granted, Kept, Inherited, Reach, StaysInside, controlled, IsOwner, OwnerAsks, KeepsOut, NoWayIn}
+use Rattle.shm_laws.proofs.Accessing.{lies-in, place-of, writable-at, writable-parts}
+use Rattle.shm_laws.proofs.Handing.{CallerAt, caller-at, IsAligned, Attaches, Leaves, Forks, Hands, pick_by, hands-acts}
+use Rattle.shm_laws.proofs.Inducting.{each_move, at_all_times}
+use Rattle.shm_laws.proofs.Looks.{entry-found}
+use Rattle.shm_laws.proofs.Refusing.{failure-refusal}
+
+-- PARTS
+
+part_refl : (p : Piece) → IsPart p p
+part_refl p = record { seg = refl; writable = refl; pages = refl; from = omega arith; to = omega arith }
+
+module _ (from to : ℕ) (page_from : from % 4096 ≡ 0) (page_to : to % 4096 ≡ 0) where
+  below-parts : (p : Piece) → IsAligned p → meets from to p ≡ true → All (λ q. IsPart q p) (part_below from p)
+  below-parts p page m = by (cases_lt p.base from)
+    where
+      inside : from < end_of p
+      inside = grind (arith, common_steps, m)
+
+      part : p.base < from → IsPart (record p { pages = (from - p.base) / 4096 }) p
+      part l = record { seg = refl; writable = refl; pages = refl; from = omega arith; to = omega (arith, inside, l) }
+
+      by : (p.base < from) ⊎ (from ≤ p.base) → All (λ q. IsPart q p) (part_below from p)
+      by (inl l) = rw (lt-ltb p.base from l) (all-cons (λ q. IsPart q p) (record p { pages = (from - p.base) / 4096 }) [] (part l) (All-nil (λ q. IsPart q p)))
+      by (inr n) = rw (le-ltb p.base from n) (All-nil (λ q. IsPart q p))
+
+  above-parts : (p : Piece) → IsAligned p → meets from to p ≡ true → All (λ q. IsPart q p) (part_above to p)
+  above-parts p page m = by (cases_lt to (end_of p))
+    where
+      before : p.base < to
+      before = grind (arith, common_steps, m)
+
+      rest : Piece
+      rest = record p { base = to; first_page = p.first_page + (to - p.base) / 4096; pages = (end_of p - to) / 4096 }
+
+      part : to < end_of p → IsPart (record p { base = to; first_page = p.first_page + (to - p.base) / 4096; pages = (end_of p - to) / 4096 }) p
+      part l = record { seg = refl; writable = refl; pages = omega (arith, before, page, page_to); from = omega (arith, before); to = omega (arith, l) }
+
+      by : (to < end_of p) ⊎ (end_of p ≤ to) → All (λ q. IsPart q p) (part_above to p)
+      by (inl l) =
+          rw (lt-ltb to (end_of p) l)
+          (all-cons (λ q. IsPart q p) (record p { base = to; first_page = p.first_page + (to - p.base) / 4096; pages = (end_of p - to) / 4096 }) [] (part l) (All-nil (λ q. IsPart q p)))
+      by (inr n) = rw (le-ltb to (end_of p) n) (All-nil (λ q. IsPart q p))
+
+  all-parts : (p : Piece) → IsAligned p → All (λ q. IsPart q p) (parts from to p)
+  all-parts p page =
+      elim (cases_Bool (meets from to p)) [
+        | inl m ↦ rw m (All-append (λ q. IsPart q p) (part_below from p) (part_above to p) (below-parts p page m) (above-parts p page m))
+        | inr m ↦ rw m (all-cons (λ q. IsPart q p) p [] (part_refl p) (All-nil (λ q. IsPart q p)))
+      ]
+
+all-cut : (P Q : Piece → Type 0) (from to : ℕ) → ((p : Piece) → P p → All Q (parts from to p)) → (ps : List Piece) → All P ps → All Q (cut from to ps)
+all-cut P Q from to each [] h = All-nil Q
+all-cut P Q from to each (p ∷ ps) h =
+    rw (flat_map-cons (parts from to) p ps)
+    (All-append Q (parts from to p) (cut from to ps) (each p (all-head P p ps h)) (all-cut P Q from to each ps (all-tail P p ps h)))
+
+all-inserted : (P : Piece → Type 0) (p : Piece) (ps : List Piece) → P p → All P ps → All P (inserted p ps)
+all-inserted P p [] h hs = all-cons P p [] h hs
+all-inserted P p (q ∷ qs) h hs =
+    elim (cases_lt p.base q.base) [
+      | inl l ↦ rw (lt-ltb p.base q.base l) (all-cons P p (q ∷ qs) h hs)
+      | inr n ↦ rw (le-ltb p.base q.base n) (all-cons P q (inserted p qs) (all-head P q qs hs) (all-inserted P p qs h (all-tail P q qs hs)))
+    ]
+
+-- WHERE A PIECE COMES FROM IN A MOVE
+
+pub each-has : (law : ℕ → Piece → Type 0) (s : Machine) (pid : ℕ) (p : Piece) → EachPiece law s → Has s pid p → law pid p
+each-has law s pid p each h =
+    let own = All-contains (λ (r : Runner). All (law r.pid) r.pieces) s.runners h.process each h.is in
+    subst (λ n. law n p) h.named (All-contains (law h.process.pid) h.process.pieces p own h.has)
+
+pub has-own : (s : Machine) (r : Runner) → Contains s.runners r → All (Has s r.pid) r.pieces
+has-own s r is = λ k d lt. record { process = r; is = is; named = refl; has = Contains-get_or r.pieces k d lt }
+
+abbrev pub IsKept : Machine → ℕ → Piece → Type 0
+IsKept s pid p = (q : Piece) × Has s pid q × IsPart p q
+
+abbrev pub Given : Machine → Event → ℕ → Piece → Type 0
+Given s e pid p = IsKept s pid p ⊎ (IsInherited s e pid p ⊎ IsGranted s e pid p)
+
+abbrev AllGiven : Machine → Event → List Runner → Type 0
+AllGiven s e rs = All (λ (r : Runner). All (Given s e r.pid) r.pieces) rs
+
+abbrev pub Aligned : Machine → Type 0
+Aligned s = EachPiece (λ pid p. IsAligned p) s
+
+kept-all : (s : Machine) (e : Event) → AllGiven s e s.runners
+kept-all s e = λ k d lt.
+    let r = get_or s.runners k d in
+    All-weaker (Has s r.pid) (Given s e r.pid) (λ p h. inl (p, h, part_refl p)) r.pieces (has-own s r (Contains-get_or s.runners k d lt))
+
+module _ (s : Machine) (pid : ℕ) (c : Caller) (is : caller_of s pid ≡ Some c) where
+  abbrev me : Runner
+  me = record { pid = pid; life = Live c.cred; pieces = c.pieces }
+
+  there : CallerAt 0 pid s.runners c
+  there = caller-at 0 pid s.runners c is
+
+  pub me-is : Contains s.runners me
+  me-is = (there.place, slice_get_within s.runners there.place me there.there, get_or_from_slice_get s.runners there.place me me there.there)
+
+  pub mine : All (Has s pid) c.pieces
+  mine = has-own s me me-is
+
+  module _ (call : Call) (o : Outcome) (aligned : Aligned s) where
+    abbrev e : Event
+    e = record { pid = pid; call = call; reply = o.reply }
+
+    pages : All IsAligned c.pieces
+    pages = All-contains (λ (r : Runner). All IsAligned r.pieces) s.runners me aligned me-is
+
+    given-set : (i : ℕ) (r : Runner) → All (Given s e r.pid) r.pieces → AllGiven s e (slice_set s.runners i r)
+    given-set i r own = all-slice_set (λ (q : Runner). All (Given s e q.pid) q.pieces) s.runners i r (kept-all s e) own
+
+    given-attaches : Attaches s c call o → AllGiven s e o.state.runners
+    given-attaches k = rw k.runners (given-set c.index (record { pid = c.pid; life = Live c.cred; pieces = pieces_with c k.seg k.segment k.flags k.base }) own)
+      where
+        new : Given s e pid (record { base = k.base; seg = k.seg; first_page = 0; pages = pages_in k.segment; writable = not (is_rdonly k.flags) })
+        new =
+            inr (inr (record {
+              own = refl;
+              addr = k.addr;
+              flags = k.flags;
+              call = k.asked;
+              reply = k.answer;
+              asked = refl;
+              caller = c;
+              live = is;
+              segment = k.segment;
+              stands = k.stands;
+              leave = k.leave;
+              page = k.page pages;
+              whole = (refl, refl);
+            }))
+
+        to : ℕ
+        to = k.base + 4096 * pages_in k.segment
+
+        page_to : (k.base + 4096 * pages_in k.segment) % 4096 ≡ 0
+        page_to = let page = k.page pages in omega (arith, page)
+
+        left : All (Given s e pid) (cut k.base (k.base + 4096 * pages_in k.segment) c.pieces)
+        left =
+            all-cut (λ p. Has s pid p × IsAligned p) (Given s e pid) k.base (k.base + 4096 * pages_in k.segment)
+            (λ p h. All-weaker (λ q. IsPart q p) (Given s e pid) (λ q part. inl (p, h.0, part)) (parts k.base (k.base + 4096 * pages_in k.segment) p)
+            (all-parts k.base (k.base + 4096 * pages_in k.segment) (k.page pages) page_to p h.1))
+            c.pieces (λ j d lt. (mine j d lt, pages j d lt))
+
+        own : All (Given s e c.pid) (pieces_with c k.seg k.segment k.flags k.base)
+        own = rw there.own (all-inserted (Given s e pid) _ _ new left)
+
+    given-leaves : Leaves s c call o → AllGiven s e o.state.runners
+    given-leaves k =
+        rw k.runners
+        (given-set c.index (record { pid = c.pid; life = k.life; pieces = _ })
+        (rw there.own (All-filter k.stays (Given s e pid) c.pieces (All-weaker (Has s pid) (Given s e pid) (λ p h. inl (p, h, part_refl p)) c.pieces mine))))
+
+    given-forks : Forks s c call o → AllGiven s e o.state.runners
+    given-forks k =
+        rw k.runners
+        (given-set k.index (record { pid = k.child; life = Live c.cred; pieces = c.pieces })
+        (All-weaker (Has s pid) (Given s e k.child) (λ p h. inr (inl (record { call = k.asked; reply = k.answer; parent = h }))) c.pieces mine))
+
+    given-hands : Hands s c call o → AllGiven s e o.state.runners
+    given-hands (inl k) = rw k.runners (kept-all s e)
+    given-hands (inr (inl k)) = given-attaches k
+    given-hands (inr (inr (inl k))) = given-leaves k
+    given-hands (inr (inr (inr k))) = given-forks k
+
+given-by : (s : Machine) (n pid : ℕ) (call : Call) (o : Option Caller) → caller_of s pid ≡ o → Aligned s
+    → let r = step_by s n call o in AllGiven s (record { pid = pid; call = call; reply = r.reply }) r.state.runners
+given-by s n pid call None is aligned = kept-all s _
+given-by s n pid call (Some c) is aligned = given-hands s pid c is call (acts s n c call) aligned (hands-acts s n c call)
+
+pub given-move : (s : Machine) (n : ℕ) (e : Event) (t : Machine) → Aligned s → IsMove s n e t → EachPiece (Given s e) t
+given-move s n e t aligned (inl m) =
+    subst (λ (o : Outcome). AllGiven s (record { pid = e.pid; call = e.call; reply = o.reply }) o.state.runners) m (given-by s n e.pid e.call (caller_of s e.pid) refl aligned)
+given-move s n e t aligned (inr x) = rw x.unchanged (kept-all s e)
+
+-- what is given holds where it held of what it is given from
+each-given : (law next : ℕ → Piece → Type 0) (s : Machine) (e : Event) (t : Machine)
+    → ((pid : ℕ) (p : Piece) → Given s e pid p → next pid p) → EachPiece (Given s e) t → EachPiece next t
+each-given law next s e t each given =
+    All-weaker (λ (r : Runner). All (Given s e r.pid) r.pieces) (λ (r : Runner). All (next r.pid) r.pieces)
+    (λ r all. All-weaker (Given s e r.pid) (next r.pid) (each r.pid) r.pieces all) t.runners given
+
+part-page : (p q : Piece) → IsPart p q → IsAligned q → IsAligned p
+part-page p q part page = let pages = part.pages in let from = part.from in omega (arith, pages, from, page)
+
+pub aligned-move : (s : Machine) (n : ℕ) (e : Event) (t : Machine) → Aligned s → IsMove s n e t → Aligned t
+aligned-move s n e t aligned m = each-given (λ pid p. IsAligned p) (λ pid p. IsAligned p) s e t page (given-move s n e t aligned m)
+  where
+    page : (pid : ℕ) (p : Piece) → Given s e pid p → IsAligned p
+    page pid p (inl h) = part-page p h.0 h.2 (each-has (λ pid q. IsAligned q) s pid h.0 aligned h.1)
+    page pid p (inr (inl h)) = each-has (λ pid q. IsAligned q) s e.pid p aligned h.parent
+    page pid p (inr (inr h)) = h.page
+
+-- WHOLE HISTORIES
+
+pub each-start : (law : ℕ → Piece → Type 0) (o : Opening) → EachPiece law (start_of o)
+each-start law o =
+    All-map (λ (r : Runner). All (law r.pid) r.pieces) runner_at_start o.processes (λ k d lt. All-nil (law (get_or o.processes k d).pid))
+
+record GoesBackAll (o : Opening) (before : List Event) (s : Machine) : Type 0 where
+  aligned : Aligned s
+  back : EachPiece (GoesBack o before) s
+
+goes_on : (o : Opening) (before : List Event) (s : Machine) (e : Event) (t : Machine) → IsHistory o before s → GoesBackAll o before s → IsMove s (length before + 1) e t → GoesBackAll o (before ++ e ∷ []) t
+goes_on o before s e t h now m =
+    record {
+      aligned = aligned-move s (length before + 1) e t now.aligned m;
+      back = each-given (GoesBack o before) (GoesBack o (before ++ e ∷ [])) s e t back (given-move s (length before + 1) e t now.aligned m);
+    }
+  where
+    back : (pid : ℕ) (p : Piece) → Given s e pid p → GoesBack o (before ++ e ∷ []) pid p
+    back pid p (inl k) = Kept before s e pid p k.0 h k.1 k.2 (each-has (GoesBack o before) s pid k.0 now.back k.1)
+    back pid p (inr (inl k)) = Inherited before s e pid p h k (each-has (GoesBack o before) s e.pid p now.back k.parent)
+    back pid p (inr (inr k)) = Granted before s e pid p h k
+
+-- WHO IS KEPT OUT
+
+module _ (s : Machine) (n pid : ℕ) (c : Caller) (live : caller_of s pid ≡ Some c) where
+  abbrev At : Reach → Type 0
+  At r = (k : ℕ) → k < r.len → (p : Piece) × Has s pid p × (covers p (r.from + k) ≡ true) × (r.writes ≡ true → p.writable ≡ true)
+
+  -- one address of an access
+  lies : (a len : ℕ) (w : Bool) (qs : List Place) → places c.pieces a len ≡ Some qs → ((k : ℕ) (q : Place) → slice_get qs k ≡ Some q → w ≡ true → q.writable ≡ true)
+      → (r : Reach) → Some (record { from = a; len = len; writes = w }) ≡ Some r → (k : ℕ) → k < r.len
+      → (p : Piece) × Has s pid p × (covers p (r.from + k) ≡ true) × (r.writes ≡ true → p.writable ≡ true)
+  lies a len w qs found may r is k lt = subst At (cc is) at k lt
+    where
+      at : At (record { from = a; len = len; writes = w })
+      at k lt =
+          let spot = place-of c.pieces a len qs found k lt in
+          let l = lies-in c.pieces (a + k) spot.spot spot.is in
+          let has : Has s pid l.piece = All-contains (Has s pid) c.pieces l.piece (mine s pid c live) l.is in
+          (l.piece, has, l.covered, λ h. ap (λ (q : Place). q.writable) (sym l.spot) ∙ may k spot.spot spot.at h)
+
+  abbrev Inside : Call → Outcome → Type 0
+  Inside call o = StaysInside s (record { pid = pid; call = call; reply = o.reply })
+
+  inside-load : (a len : ℕ) (o : Option (List Place)) → places c.pieces a len ≡ o → Inside (Load a len) (load s o)
+  inside-load a len None is clear r reached k lt = absurd (true≢false clear)
+  inside-load a len (Some qs) is clear r reached k lt = lies a len false qs is (λ k q at w. absurd (true≢false (sym w))) r reached k lt
+
+  inside-store : (a : ℕ) (bytes : List ℕ) (o : Option (List Place)) → writable_places c.pieces a (length bytes) ≡ o → Inside (Store a bytes) (store s bytes o)
+  inside-store a bytes None is clear r reached k lt = absurd (true≢false clear)
+  inside-store a bytes (Some qs) is clear r reached k lt =
+      let both = writable-parts (places c.pieces a (length bytes)) qs is in
+      lies a (length bytes) true qs both.0 (λ j q at w. writable-at qs j q both.1 at) r reached k lt
+
+  inside-xadd : (a add : ℕ) (o : Option (List Place)) → writable_places c.pieces a 8 ≡ o → Inside (Xadd a add) (xadd s add o)
+  inside-xadd a add None is clear r reached k lt = absurd (true≢false clear)
+  inside-xadd a add (Some qs) is clear r reached k lt =
+      let both = writable-parts (places c.pieces a 8) qs is in
+      lies a 8 true qs both.0 (λ j q at w. writable-at qs j q both.1 at) r reached k lt
+
+  inside-acts : (call : Call) → Inside call (acts s n c call)
+  inside-acts (Load a len) clear r reached k lt = inside-load a len (places c.pieces a len) refl clear r reached k lt
+  inside-acts (Store a bytes) clear r reached k lt = inside-store a bytes (writable_places c.pieces a (length bytes)) refl clear r reached k lt
+  inside-acts (Xadd a add) clear r reached k lt = inside-xadd a add (writable_places c.pieces a 8) refl clear r reached k lt
+  inside-acts (Shmget key size mode flags) clear r reached k lt = absurd (none-some r reached)
+  inside-acts (Shmat id addr flags) clear r reached k lt = absurd (none-some r reached)
+  inside-acts (Shmdt addr) clear r reached k lt = absurd (none-some r reached)
+  inside-acts (Stat id) clear r reached k lt = absurd (none-some r reached)
+  inside-acts (Set id uid gid mode) clear r reached k lt = absurd (none-some r reached)
+  inside-acts (Rmid id) clear r reached k lt = absurd (none-some r reached)
+  inside-acts (Lock id) clear r reached k lt = absurd (none-some r reached)
+  inside-acts (Unlock id) clear r reached k lt = absurd (none-some r reached)
+  inside-acts (Fork child) clear r reached k lt = absurd (none-some r reached)
+  inside-acts Exec clear r reached k lt = absurd (none-some r reached)
+  inside-acts Exit clear r reached k lt = absurd (none-some r reached)
+  inside-acts (Swapoff area) clear r reached k lt = absurd (none-some r reached)
+
+  -- who owns it
+  owner-of : (cred : Cred) (perm : Perm) → owns cred perm ≡ true → IsOwner cred perm
+  owner-of cred perm own =
+      elim (cases_Bool (cred.uid == 0)) [
+        | inl h ↦ inl (eqb-true cred.uid 0 h)
+        | inr h ↦
+            elim (cases_Bool (cred.uid == perm.uid)) [
+              | inl k ↦ inr (inl (eqb-true cred.uid perm.uid k))
+              | inr k ↦ inr (inr (eqb-true cred.uid perm.cuid (rw (h, k) at own)))
+            ]
+      ]
+
+  asks-found : (m : ℕ) (act : ℕ → Segment → Outcome) (l : Look) → look s.table (pos m) ≡ l → (controls s c act l).reply ≡ Done → OwnerAsks s pid (pos m)
+  asks-found m act Invalid is done = absurd (cc done)
+  asks-found m act Removed is done = absurd (cc done)
+  asks-found m act (Found i x) is done =
+      let e = entry-found (m % 32768) (m / 32768) i x (slice_get s.table (m % 32768)) is in
+      pick_by (λ o. o.reply ≡ Done → OwnerAsks s pid (pos m)) (not (owns c.cred x.perm)) (refuses s Eperm) (act i x)
+      (λ h refused. absurd (cc refused))
+      (λ h ok. record {
+        caller = c;
+        live = live;
+        number = m;
+        named = refl;
+        segment = x;
+        stands = is ∙ ap (λ k. Found k x) e.0;
+        owner = owner-of c.cred x.perm (not-false (owns c.cred x.perm) h);
+      })
+      done
+
+  asks : (id : ℤ) (act : ℕ → Segment → Outcome) → (controls s c act (look s.table id)).reply ≡ Done → OwnerAsks s pid id
+  asks (pos m) act done = asks-found m act (look s.table (pos m)) refl done
+  asks (negsuc m) act done = absurd (cc done)
+
+  abbrev Asks : Call → Outcome → Type 0
+  Asks call o = (id : ℤ) → controlled call ≡ Some id → o.reply ≡ Done → OwnerAsks s pid id
+
+  asked : (own : ℤ) (act : ℕ → Segment → Outcome) → (id : ℤ) → Some own ≡ Some id → (controls s c act (look s.table own)).reply ≡ Done → OwnerAsks s pid id
+  asked own act id is done = let same : own ≡ id = cc is in subst (OwnerAsks s pid) same (asks own act done)
+
+  asks-acts : (call : Call) → Asks call (acts s n c call)
+  asks-acts (Set own uid gid mode) id is done = asked own (sets s n uid gid mode) id is done
+  asks-acts (Rmid own) id is done = asked own (removes s) id is done
+  asks-acts (Lock own) id is done = asked own (locks s) id is done
+  asks-acts (Unlock own) id is done = asked own (unlocks s) id is done
+  asks-acts (Load a len) id is done = absurd (none-some id is)
+  asks-acts (Store a bytes) id is done = absurd (none-some id is)
+  asks-acts (Xadd a add) id is done = absurd (none-some id is)
+  asks-acts (Shmget key size mode flags) id is done = absurd (none-some id is)
+  asks-acts (Shmat z addr flags) id is done = absurd (none-some id is)
+  asks-acts (Shmdt addr) id is done = absurd (none-some id is)
+  asks-acts (Stat z) id is done = absurd (none-some id is)
+  asks-acts (Fork child) id is done = absurd (none-some id is)
+  asks-acts Exec id is done = absurd (none-some id is)
+  asks-acts Exit id is done = absurd (none-some id is)
+  asks-acts (Swapoff area) id is done = absurd (none-some id is)
+
+abbrev Out : Machine → ℕ → Call → Outcome → Type 0
+Out s pid call o = StaysInside s (record { pid = pid; call = call; reply = o.reply }) × ((id : ℤ) → controlled call ≡ Some id → o.reply ≡ Done → OwnerAsks s pid id)
+
+out-by : (s : Machine) (n pid : ℕ) (call : Call) (o : Option Caller) → caller_of s pid ≡ o → Out s pid call (step_by s n call o)
+out-by s n pid call None is = (λ clear r reached k lt. absurd (true≢false clear), λ id is done. absurd (cc done))
+out-by s n pid call (Some c) is = (inside-acts s n pid c is call, asks-acts s n pid c is call)
+
+keeps-out : (s : Machine) (n : ℕ) (e : Event) (t : Machine) → IsMove s n e t → KeepsOut s e t
+keeps-out s n e t (inl m) =
+    let both = subst (λ (o : Outcome). Out s e.pid e.call o) m (out-by s n e.pid e.call (caller_of s e.pid) refl) in
+    record { inside = both.0; owner = both.1 }
+keeps-out s n e t (inr x) =
+    let refused = failure-refusal e.call e.reply x.failure in
+    record {
+      inside = λ clear r reached k lt. absurd (true≢false (sym refused ∙ clear));
+      owner = λ id is done. absurd (true≢false (sym refused ∙ ap is_refusal done));
+    }
+
+-- of every legal history
+pub no_way_in : (o : Opening) (events : List Event) (end : Machine) → IsHistory o events end → NoWayIn o events end
+no_way_in o events end h =
+    let first : GoesBackAll o [] (start_of o) = record { aligned = each-start (λ pid p. IsAligned p) o; back = each-start (GoesBack o []) o } in
+    let moves = each_move (λ s. Unit {0}) KeepsOut (λ s n e t now m. (tt, keeps-out s n e t m)) 1 (start_of o) events end tt h in
+    record {
+      pieces = λ before s m. (at_all_times o (GoesBackAll o) (goes_on o) first events before s m).back;
+      moves = moves.1;
+    }

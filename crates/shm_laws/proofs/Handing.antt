@@ -1,0 +1,300 @@
+-- What each call does to the pieces of processes: nothing, or the caller attaches a segment, or loses pieces, or has a child.
+use Rattle.std.proofs.Common.{◌≡◌, ◌≢◌, ◌⊎◌, ℕ, suc, ◌+◌, ◌-◌, ◌*◌, ◌/◌, ◌%◌, ◌==◌, ◌&&◌, ℤ, pos, negsuc, Bool, true, false, not, nat_le, nat_lt, if◌then◌else◌, List, [], ◌∷◌, length, map, get_or, Option, Some, None, slice_get, slice_set, refl, sym, ap, subst, ◌∙◌, inl, inr, arith, eq-eqb, ne_eqb}
+use Rattle.std.specs.Prelude.{All, filter, find}
+use Rattle.std.proofs.lemmas.Bool.{cases_eq, cases_Bool, not-false, not-true, and_parts}
+use Rattle.std.proofs.lemmas.Option.{none-some}
+use Rattle.std.proofs.lemmas.List.Elements.{All-map}
+use Rattle.shm_base.specs.declared.owner.Cred.{Cred}
+use Rattle.shm_base.specs.declared.errno.Errno.{Errno}
+use Rattle.shm_base.specs.declared.call.Call.{Call}
+use Rattle.shm_base.specs.declared.call.Call.TheVariants.{Shmget, Shmat, Shmdt, Stat, Set, Rmid, Lock, Unlock, Load, Store, Xadd, Fork, Exec, Exit, Swapoff}
+use Rattle.shm_base.specs.declared.call.Reply.TheVariants.{Addr, Done}
+use Rattle.shm_base.specs.declared.flags.AtFlags.{AtFlags}
+use Rattle.shm_base.specs.declared.flags.GetFlags.{GetFlags}
+use Rattle.shm_base.specs.Bounds.{within}
+use Rattle.shm_base.specs.Access.{Place, places, writable_places, end_of}
+use Rattle.shm_base.specs.Permission.{grants, owns, wish_of}
+use Rattle.shm_base.specs.State.{Segment, Piece, Life, Unborn, Live, Ended, Runner, Machine, pages_of, pages_in}
+use Rattle.shm_base.specs.Identifier.{Look, Found, Removed, Invalid, identifier, destroyed_at, destroyed_in, free_index, find_key, look}
+use Rattle.shm_base.specs.Space.{inside, occupied, choose, is_gap, first_chosen, last_address, origin_of, is_named}
+use Rattle.shm_base.specs.Segments.{segment_count, reserved, locked, slots}
+use Rattle.shm_base.specs.History.{is_refusal}
+use Rattle.shm_base.specs.Step.{refuses, creates_at, creates, gets, wants_no_other, wants_creation, stat, controls, sets, removes, locks, unlocks, load, store, xadd, takes_away, Caller, Outcome, caller_from, acts, at_wish, is_rnd, is_remap, pieces_with, with_pieces, attaches, attaches_chosen, attaches_fixed, attaches_found, shmat, detaches, forks, unborn_from}
+use Rattle.shm_life.proofs.Pieces.{all-cons, all-head, all-tail}
+use Rattle.shm_laws.specs.Standing.{Stands}
+use Rattle.shm_laws.specs.Pieces.{hands_pieces}
+use Rattle.shm_laws.proofs.Looks.{entry-found}
+use Rattle.shm_laws.proofs.Stepping.{pick}
+
+-- THE CALLER
+
+-- a caller is a live process, and has its pieces
+pub record CallerAt (n pid : ℕ) (rs : List Runner) (c : Caller) : Type 0 where
+  pub place : ℕ
+  pub at : n + place ≡ c.index
+  pub own : c.pid ≡ pid
+  pub there : slice_get rs place ≡ Some (record { pid = pid; life = Live c.cred; pieces = c.pieces })
+
+caller_first : (n pid : ℕ) (r : Runner) (rs : List Runner) (c : Caller) (cred : Cred) → r.pid ≡ pid → r.life ≡ Live cred
+    → Some (record { index = n; pid = pid; cred = cred; pieces = r.pieces }) ≡ Some c → CallerAt n pid (r ∷ rs) c
+caller_first n pid r rs c cred same live found =
+    let whole : Some r ≡ Some (record { pid = pid; life = Live cred; pieces = r.pieces }) =
+    ap (λ p. Some (record { pid = p; life = r.life; pieces = r.pieces })) same ∙ ap (λ l. Some (record { pid = pid; life = l; pieces = r.pieces })) live in
+    let is : record { index = n; pid = pid; cred = cred; pieces = r.pieces } ≡ c = cc found in
+    subst (CallerAt n pid (r ∷ rs)) is (record { place = 0; at = omega arith; own = refl; there = whole })
+
+pub caller-at : (n pid : ℕ) (rs : List Runner) (c : Caller) → caller_from n pid rs ≡ Some c → CallerAt n pid rs c
+caller-at n pid [] c found = absurd (none-some c found)
+caller-at n pid (r ∷ rs) c found = by (cases_eq r.pid pid) r.life refl (caller-at (n + 1) pid rs c)
+  where
+    by : (r.pid ≡ pid) ⊎ (r.pid ≢ pid) → (l : Life) → r.life ≡ l → (caller_from (n + 1) pid rs ≡ Some c → CallerAt (n + 1) pid rs c) → CallerAt n pid (r ∷ rs) c
+    by (inr other) l is more =
+        let s = more (rw (ne_eqb r.pid pid other) at found) in
+        record { place = suc s.place; at = omega (arith, s.at); own = s.own; there = s.there }
+    by (inl same) Unborn is more = absurd (none-some c (rw (eq-eqb r.pid pid same, is) at found))
+    by (inl same) Ended is more = absurd (none-some c (rw (eq-eqb r.pid pid same, is) at found))
+    by (inl same) (Live cred) is more = caller_first n pid r rs c cred same is (rw (eq-eqb r.pid pid same, is) at found)
+
+-- FOUR THINGS
+
+abbrev pub IsAligned : Piece → Type 0
+IsAligned p = p.base % 4096 ≡ 0
+
+pub record Attaches (s : Machine) (c : Caller) (call : Call) (o : Outcome) : Type 0 where
+  pub seg : ℕ
+  pub addr : ℕ
+  pub flags : AtFlags
+  pub base : ℕ
+  pub segment : Segment
+  pub asked : call ≡ Shmat (pos seg) addr flags
+  pub stands : Stands s seg segment
+  pub leave : grants c.cred segment.perm (at_wish flags) ≡ true
+  pub page : All IsAligned c.pieces → base % 4096 ≡ 0
+  pub free : is_remap flags ≡ false → occupied c.pieces base (base + 4096 * pages_in segment) ≡ false
+  pub answer : o.reply ≡ Addr base
+  pub runners : o.state.runners ≡ with_pieces s.runners c (pieces_with c seg segment flags base)
+
+-- by a shmdt that named the piece, or all of them
+abbrev pub Takes : Caller → Call → (Piece → Bool) → Type 0
+Takes c call stays =
+    ((addr : ℕ) × (p : Piece) × (call ≡ Shmdt addr) × (origin_of addr c.pieces ≡ Some p) × (stays ≡ (λ q. not (is_named addr p.seg q))))
+    ⊎ (((call ≡ Exec) ⊎ (call ≡ Exit)) × (stays ≡ (λ q. false)))
+
+pub record Leaves (s : Machine) (c : Caller) (call : Call) (o : Outcome) : Type 0 where
+  pub life : Life
+  pub stays : Piece → Bool
+  pub taken : Takes c call stays
+  pub answer : o.reply ≡ Done
+  pub runners : o.state.runners ≡ slice_set s.runners c.index (record { pid = c.pid; life = life; pieces = filter stays c.pieces })
+
+pub record Forks (s : Machine) (c : Caller) (call : Call) (o : Outcome) : Type 0 where
+  pub child : ℕ
+  pub index : ℕ
+  pub asked : call ≡ Fork child
+  pub answer : o.reply ≡ Done
+  pub unborn : unborn_from 0 child s.runners ≡ Some index
+  pub runners : o.state.runners ≡ slice_set s.runners index (record { pid = child; life = Live c.cred; pieces = c.pieces })
+
+-- nothing, of a call that hands no pieces out, or of one that was refused
+pub record Rests (s : Machine) (call : Call) (o : Outcome) : Type 0 where
+  pub why : (hands_pieces call ≡ false) ⊎ (is_refusal o.reply ≡ true)
+  pub runners : o.state.runners ≡ s.runners
+
+abbrev pub Hands : Machine → Caller → Call → Outcome → Type 0
+Hands s c call o = Rests s call o ⊎ (Attaches s c call o ⊎ (Leaves s c call o ⊎ Forks s c call o))
+
+-- EACH CALL
+
+pub pick_by : (P : Outcome → Type 0) (b : Bool) (o p : Outcome) → (b ≡ true → P o) → (b ≡ false → P p) → P (if b then o else p)
+pick_by P true o p h k = h refl
+pick_by P false o p h k = k refl
+
+find-all : {X : Type 0} (P : X → Type 0) (test : X → Bool) (xs : List X) (x : X) → find test xs ≡ Some x → All P xs → P x
+find-all P test [] x found all = absurd (none-some x found)
+find-all P test (y ∷ ys) x found all =
+    elim (cases_Bool (test y)) [
+      | inl h ↦ (let same : Some y ≡ Some x = rw h at found in let is : y ≡ x = cc same in subst P is (all-head P y ys all))
+      | inr h ↦ find-all P test ys x (rw h at found) (all-tail P y ys all)
+    ]
+
+chosen-page : (ps : List Piece) (pages base : ℕ) → choose ps pages ≡ Some base → All IsAligned ps → base % 4096 ≡ 0
+chosen-page ps pages base found all =
+    find-all (λ a. a % 4096 ≡ 0) (is_gap ps pages) (first_chosen ∷ map end_of ps) base found
+    (all-cons (λ a. a % 4096 ≡ 0) first_chosen (map end_of ps) refl (All-map (λ a. a % 4096 ≡ 0) end_of ps (λ k d lt. ends (get_or ps k d) (all k d lt))))
+  where
+    ends : (p : Piece) → IsAligned p → end_of p % 4096 ≡ 0
+    ends p h = omega (arith, h)
+
+find-passes : {X : Type 0} (test : X → Bool) (xs : List X) (x : X) → find test xs ≡ Some x → test x ≡ true
+find-passes test [] x found = absurd (none-some x found)
+find-passes test (y ∷ ys) x found =
+    elim (cases_Bool (test y)) [
+      | inl h ↦ (let same : Some y ≡ Some x = rw h at found in let is : y ≡ x = cc same in ap test (sym is) ∙ h)
+      | inr h ↦ find-passes test ys x (rw h at found)
+    ]
+
+-- what is chosen is free
+chosen-free : (ps : List Piece) (pages base : ℕ) → choose ps pages ≡ Some base → occupied ps base (base + 4096 * pages) ≡ false
+chosen-free ps pages base found =
+    let gap = find-passes (is_gap ps pages) (first_chosen ∷ map end_of ps) base found in
+    let last = and_parts (nat_le first_chosen base && nat_le (base + 4096 * pages) last_address) (not (occupied ps base (base + 4096 * pages))) gap in
+    not-true (occupied ps base (base + 4096 * pages)) last.1
+
+pub none-stay : (ps : List Piece) → [] ≡ filter (λ (p : Piece). false) ps
+none-stay [] = refl
+none-stay (p ∷ ps) = none-stay ps
+
+module _ (s : Machine) (n : ℕ) (c : Caller) where
+  -- a refusal
+  refused : (call : Call) (e : Errno) → Hands s c call (refuses s e)
+  refused call e = inl (record { why = inr refl; runners = refl })
+
+  -- a call that hands no pieces out
+  rests : (call : Call) (o : Outcome) → hands_pieces call ≡ false → o.state.runners ≡ s.runners → Hands s c call o
+  rests call o why same = inl (record { why = inl why; runners = same })
+
+  hands-attaches : (call : Call) (seg addr : ℕ) (flags : AtFlags) (x : Segment) (base : ℕ) → call ≡ Shmat (pos seg) addr flags → Stands s seg x
+      → grants c.cred x.perm (at_wish flags) ≡ true → (All IsAligned c.pieces → base % 4096 ≡ 0)
+      → (is_remap flags ≡ false → occupied c.pieces base (base + 4096 * pages_in x) ≡ false) → Hands s c call (attaches s n c seg x flags base)
+  hands-attaches call seg addr flags x base asked there leave page free =
+      pick (Hands s c call) (nat_lt 256 (length (pieces_with c seg x flags base))) _ _ (refused _ _)
+      (inr (inl (record {
+        seg = seg;
+        addr = addr;
+        flags = flags;
+        base = base;
+        segment = x;
+        asked = asked;
+        stands = there;
+        leave = leave;
+        page = page;
+        free = free;
+        answer = refl;
+        runners = refl;
+      })))
+
+  hands-chosen : (call : Call) (seg addr : ℕ) (flags : AtFlags) (x : Segment) (o : Option ℕ) → choose c.pieces (pages_in x) ≡ o → call ≡ Shmat (pos seg) addr flags
+      → Stands s seg x → grants c.cred x.perm (at_wish flags) ≡ true → Hands s c call (attaches_chosen s n c seg x flags o)
+  hands-chosen call seg addr flags x None is asked there leave = refused _ _
+  hands-chosen call seg addr flags x (Some base) is asked there leave =
+      hands-attaches call seg addr flags x base asked there leave (chosen-page c.pieces (pages_in x) base is) (λ plain. chosen-free c.pieces (pages_in x) base is)
+
+  hands-fixed : (call : Call) (seg addr at : ℕ) (flags : AtFlags) (x : Segment) → call ≡ Shmat (pos seg) at flags → Stands s seg x → grants c.cred x.perm (at_wish flags) ≡ true
+      → Hands s c call (attaches_fixed s n c seg x flags (addr - addr % 4096))
+  hands-fixed call seg addr at flags x asked there leave =
+      let base = addr - addr % 4096 in
+      pick (Hands s c call) (not (inside base (pages_in x))) _ _ (refused _ _)
+      (pick_by (Hands s c call) (not (is_remap flags) && occupied c.pieces base (base + 4096 * pages_in x)) _ _ (λ h. refused call _)
+      (λ h. hands-attaches call seg at flags x base asked there leave (λ all. omega arith) (λ plain. rw plain at h)))
+
+  hands-found : (m : ℕ) (flags : AtFlags) (addr at : ℕ) (l : Look) → look s.table (pos m) ≡ l → Hands s c (Shmat (pos m) at flags) (attaches_found s n c flags addr l)
+  hands-found m flags addr at Invalid is = refused _ _
+  hands-found m flags addr at Removed is = refused _ _
+  hands-found m flags addr at (Found i x) is =
+      let e = entry-found (m % 32768) (m / 32768) i x (slice_get s.table (m % 32768)) is in
+      let count : destroyed_at s.table i ≡ m / 32768 = ap (destroyed_at s.table) e.0 ∙ ap destroyed_in e.1 in
+      let own : identifier i (destroyed_at s.table i) ≡ m = omega (arith, e.0, count) in
+      let there : Stands s (identifier i (destroyed_at s.table i)) x = rw own (is ∙ ap (λ k. Found k x) e.0) in
+      let asked : Shmat (pos m) at flags ≡ Shmat (pos (identifier i (destroyed_at s.table i))) at flags = ap (λ k. Shmat (pos k) at flags) (sym own) in
+      pick_by (Hands s c (Shmat (pos m) at flags)) (not (grants c.cred x.perm (at_wish flags))) _ _ (λ h. refused _ _)
+      (λ h.
+      let leave = not-false (grants c.cred x.perm (at_wish flags)) h in
+      pick (Hands s c (Shmat (pos m) at flags)) (addr == 0) _ _
+      (hands-chosen _ _ at flags x (choose c.pieces (pages_in x)) refl asked there leave)
+      (hands-fixed _ _ addr at flags x asked there leave))
+
+  hands-look : (id : ℤ) (flags : AtFlags) (addr : ℕ) → Hands s c (Shmat id addr flags) (attaches_found s n c flags addr (look s.table id))
+  hands-look (pos m) flags addr = hands-found m flags addr addr (look s.table (pos m)) refl
+  hands-look (negsuc m) flags addr = refused _ _
+
+  hands-shmat : (id : ℤ) (addr : ℕ) (flags : AtFlags) → Hands s c (Shmat id addr flags) (shmat s n c id addr flags)
+  hands-shmat id addr flags =
+      pick (Hands s c (Shmat id addr flags)) ((addr == 0) && is_remap flags) _ _ (refused _ _)
+      (pick (Hands s c (Shmat id addr flags)) (not (addr % 4096 == 0) && not (is_rnd flags)) _ _ (refused _ _) (hands-look id flags addr))
+
+  hands-detaches : (addr : ℕ) (o : Option Piece) → origin_of addr c.pieces ≡ o → Hands s c (Shmdt addr) (detaches s n c addr o)
+  hands-detaches addr None is = refused _ _
+  hands-detaches addr (Some p) is =
+      inr (inr (inl (record { life = Live c.cred; stays = λ q. not (is_named addr p.seg q); taken = inl (addr, p, refl, is, refl); answer = refl; runners = refl })))
+
+  hands-all : (call : Call) (o : Outcome) (life : Life) → (call ≡ Exec) ⊎ (call ≡ Exit) → o.reply ≡ Done → o.state.runners ≡ slice_set s.runners c.index (record { pid = c.pid; life = life; pieces = [] }) → Hands s c call o
+  hands-all call o life which done is =
+      inr (inr (inl (record {
+        life = life;
+        stays = λ q. false;
+        taken = inr (which, refl);
+        answer = done;
+        runners = is ∙ ap (λ ps. slice_set s.runners c.index (record { pid = c.pid; life = life; pieces = ps })) (none-stay c.pieces);
+      })))
+
+  hands-forks : (child : ℕ) (o : Option ℕ) → unborn_from 0 child s.runners ≡ o → Hands s c (Fork child) (forks s c child o)
+  hands-forks child None is = refused _ _
+  hands-forks child (Some i) is = inr (inr (inr (record { child = child; index = i; asked = refl; answer = refl; unborn = is; runners = refl })))
+
+  -- the other calls leave the pieces of all processes
+
+  abbrev Leave : Outcome → Type 0
+  Leave o = o.state.runners ≡ s.runners
+
+  same-creates_at : (key size mode : ℕ) (o : Option ℕ) → Leave (creates_at s n c key size mode o)
+  same-creates_at key size mode None = refl
+  same-creates_at key size mode (Some i) = pick Leave (nat_lt (slots s.areas) (reserved s.table + pages_of size)) _ _ refl refl
+
+  same-creates : (key size mode : ℕ) → Leave (creates s n c key size mode)
+  same-creates key size mode =
+      pick Leave (not (within 1 s.limits.shmmax size)) _ _ refl
+      (pick Leave (nat_lt s.limits.shmall (reserved s.table + pages_of size)) _ _ refl
+      (pick Leave (nat_le s.limits.shmmni (segment_count s.table)) _ _ refl (same-creates_at key size mode (free_index s.table))))
+
+  same-gets : (key size mode : ℕ) (flags : GetFlags) (l : Look) → Leave (gets s n c key size mode flags l)
+  same-gets key size mode flags (Found i x) =
+      pick Leave (wants_no_other flags) _ _ refl (pick Leave (nat_lt x.size size) _ _ refl (pick Leave (not (grants c.cred x.perm (wish_of mode))) _ _ refl refl))
+  same-gets key size mode flags Removed = pick Leave (wants_creation flags) _ _ (same-creates key size mode) refl
+  same-gets key size mode flags Invalid = pick Leave (wants_creation flags) _ _ (same-creates key size mode) refl
+
+  same-stat : (l : Look) → Leave (stat s c l)
+  same-stat Invalid = refl
+  same-stat Removed = refl
+  same-stat (Found i x) = pick Leave (not (grants c.cred x.perm (record { read = true; write = false }))) _ _ refl refl
+
+  same-controls : (act : ℕ → Segment → Outcome) → ((i : ℕ) (x : Segment) → Leave (act i x)) → (l : Look) → Leave (controls s c act l)
+  same-controls act acts Invalid = refl
+  same-controls act acts Removed = refl
+  same-controls act acts (Found i x) = pick Leave (not (owns c.cred x.perm)) _ _ refl (acts i x)
+
+  same-locks : (i : ℕ) (x : Segment) → Leave (locks s i x)
+  same-locks i x = pick Leave (not x.locked && nat_lt s.limits.memlock (locked s.table + pages_in x)) _ _ refl refl
+
+  same-load : (o : Option (List Place)) → Leave (load s o)
+  same-load None = refl
+  same-load (Some ps) = refl
+
+  same-store : (bytes : List ℕ) (o : Option (List Place)) → Leave (store s bytes o)
+  same-store bytes None = refl
+  same-store bytes (Some ps) = refl
+
+  same-xadd : (add : ℕ) (o : Option (List Place)) → Leave (xadd s add o)
+  same-xadd add None = refl
+  same-xadd add (Some ps) = refl
+
+  same-takes : (area : ℕ) (o : Option (Option ℕ)) → Leave (takes_away s area o)
+  same-takes area None = refl
+  same-takes area (Some None) = refl
+  same-takes area (Some (Some k)) = pick Leave (nat_lt (slots (slice_set s.areas area None)) (reserved s.table)) _ _ refl refl
+
+  pub hands-acts : (call : Call) → Hands s c call (acts s n c call)
+  hands-acts (Shmget key size mode flags) = rests _ _ refl (pick Leave (key == 0) _ _ (same-creates 0 size mode) (same-gets key size mode flags (find_key s.table key)))
+  hands-acts (Shmat id addr flags) = hands-shmat id addr flags
+  hands-acts (Shmdt addr) = hands-detaches addr (origin_of addr c.pieces) refl
+  hands-acts (Stat id) = rests _ _ refl (same-stat (look s.table id))
+  hands-acts (Set id uid gid mode) = rests _ _ refl (same-controls (sets s n uid gid mode) (λ i x. refl) (look s.table id))
+  hands-acts (Rmid id) = rests _ _ refl (same-controls (removes s) (λ i x. refl) (look s.table id))
+  hands-acts (Lock id) = rests _ _ refl (same-controls (locks s) same-locks (look s.table id))
+  hands-acts (Unlock id) = rests _ _ refl (same-controls (unlocks s) (λ i x. refl) (look s.table id))
+  hands-acts (Load a len) = rests _ _ refl (same-load (places c.pieces a len))
+  hands-acts (Store a bytes) = rests _ _ refl (same-store bytes (writable_places c.pieces a (length bytes)))
+  hands-acts (Xadd a add) = rests _ _ refl (same-xadd add (writable_places c.pieces a 8))
+  hands-acts (Fork child) = hands-forks child (unborn_from 0 child s.runners) refl
+  hands-acts Exec = hands-all Exec _ (Live c.cred) (inl refl) refl refl
+  hands-acts Exit = hands-all Exit _ Ended (inr refl) refl refl
+  hands-acts (Swapoff area) = rests _ _ refl (pick Leave (not (c.cred.uid == 0)) _ _ refl (same-takes area (slice_get s.areas area)))

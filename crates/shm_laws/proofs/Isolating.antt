@@ -1,0 +1,407 @@
+-- A call sees no byte that is hidden from its process.
+use Rattle.std.proofs.Common.{◌≡◌, ◌⊎◌, ℕ, ◌+◌, ◌-◌, ◌*◌, ◌/◌, ◌%◌, ◌^◌, ◌==◌, ◌&&◌, ℤ, pos, Bool, true, false, not, nat_le, nat_lt, if◌then◌else◌, List, [], ◌∷◌, length, replicate, Option, Some, None, slice_get, slice_set, refl, sym, ap, subst, ◌∙◌, inl, inr, arith}
+use Rattle.std.specs.Int.{w64, to_le_bytes, from_le_bytes}
+use Rattle.std.proofs.lemmas.List.{length-replicate}
+use Rattle.std.proofs.lemmas.Option.{none-some, slice_get_within}
+use Rattle.shm_base.specs.declared.errno.Errno.{Errno}
+use Rattle.shm_base.specs.declared.errno.Errno.TheVariants.{Eperm, Enoent, Enomem, Eacces, Eexist, Einval, Emfile, Enospc}
+use Rattle.shm_base.specs.declared.flags.GetFlags.{GetFlags}
+use Rattle.shm_base.specs.declared.flags.AtFlags.{AtFlags}
+use Rattle.shm_base.specs.declared.call.Call.{Call}
+use Rattle.shm_base.specs.declared.call.Call.TheVariants.{Shmget, Shmat, Shmdt, Stat, Set, Rmid, Lock, Unlock, Load, Store, Xadd, Fork, Exec, Exit, Swapoff}
+use Rattle.shm_base.specs.declared.call.Reply.TheVariants.{Id, Addr, Bytes, Number, Done}
+use Rattle.shm_base.specs.declared.call.Reply.TheVariants as replies
+use Rattle.shm_base.specs.declared.call.Event.{Event}
+use Rattle.shm_base.specs.Bounds.{within}
+use Rattle.shm_base.specs.Access.{Place, place, places, writable_places, stored}
+use Rattle.shm_base.specs.Permission.{grants, owns, wish_of}
+use Rattle.shm_base.specs.State.{Segment, Entry, Piece, Runner, Machine, Opening, pages_of, pages_in}
+use Rattle.shm_base.specs.Identifier.{Look, Found, Removed, Invalid, identifier, destroyed_in, destroyed_at, free_index, find_key, look}
+use Rattle.shm_base.specs.Space.{inside, occupied, cut_segments, choose, origin_of}
+use Rattle.shm_base.specs.Segments.{slots, change, attached, marked, detach_all, swept, after_detach}
+use Rattle.shm_base.specs.Step.{Outcome, gives, refuses, Caller, caller_of, with_pieces, with_end, segments_of, new_segment, creates_at, creates, gets, shmget, wants_creation, wants_no_other, pieces_with, attaches, attaches_chosen, attaches_fixed, attaches_found, shmat, is_rnd, is_remap, at_wish, detaches, forks, unborn_from, shown, stat, controls, sets, removes, locks, unlocks, load, store, xadd, number_at, takes_away, acts, step_by, step}
+use Rattle.shm_base.specs.History.{is_refusal, is_failure, IsMove, IsHistory}
+use Rattle.shm_laws.specs.Standing.{Has}
+use Rattle.shm_laws.specs.Leave.{Reach, reach}
+use Rattle.shm_laws.specs.Isolation.{veiled, veiled_from, veil, DifferIn, HasNone, IsPrivate, IsAsked, IsBlindOn, IsIsolated}
+use Rattle.shm_laws.specs.Writing.{held_by}
+use Rattle.shm_laws.proofs.Accessing.{place-of, places-length, writable-parts}
+use Rattle.shm_laws.proofs.Fitting.{IsFit, fit-start, fit-move, spot-fits}
+use Rattle.shm_laws.proofs.Inducting.{always}
+use Rattle.shm_laws.proofs.Looks.{stands-at}
+use Rattle.shm_laws.proofs.Replaying.{is-step, first-clear, rest-clear}
+use Rattle.shm_laws.proofs.Veiling.{veiled-pages, veiled_look, veiled-destroyed, reserved-veiled, locked-sum, count-veiled, free-veiled, find-veiled, look-veiled, change-veiled, detach-veiled, swept-veiled, made-veiled, Seen, Hid, loaded-veiled, stored-veiled, stored-hidden}
+
+-- the outcome with those bytes hidden
+abbrev out : (ℕ → Bool) → Outcome → Outcome
+out hidden o = record { reply = o.reply; state = veil hidden o.state }
+
+-- a place of an access is that of its address
+spot-at : (ps : List Piece) (a len : ℕ) (qs : List Place) → places ps a len ≡ Some qs → (k : ℕ) (q : Place) → slice_get qs k ≡ Some q → place ps (a + k) ≡ Some q
+spot-at ps a len qs found k q is =
+    let within = slice_get_within qs k q is in
+    let long = places-length ps a len qs found in
+    let spot = place-of ps a len qs found k (omega (arith, within, long)) in
+    spot.is ∙ sym spot.at ∙ is
+
+module _ (hidden : ℕ → Bool) (s : Machine) (n : ℕ) (c : Caller) where
+  abbrev T : List Entry
+  T = s.table
+
+  abbrev V : List Entry → List Entry
+  V t = veiled_from hidden 0 t
+
+  abbrev B : Machine
+  B = veil hidden s
+
+  -- both refuse, or both go on
+  both : (b d : Bool) (o p x y : Outcome) → b ≡ d → o ≡ out hidden x → p ≡ out hidden y → (if b then o else p) ≡ out hidden (if d then x else y)
+  both b true o p x y same h k = rw same h
+  both b false o p x y same h k = rw same k
+
+  -- a test that refuses, or goes on
+  tests : (e : Errno) (b d : Bool) (p y : Outcome) → b ≡ d → p ≡ out hidden y → (if b then refuses B e else p) ≡ out hidden (if d then refuses s e else y)
+  tests e b d p y same k = both b d (refuses B e) p (refuses s e) y same refl k
+
+  -- SHMGET
+
+  new-zeros : (key size mode : ℕ) (b : Bool) → veiled b (new_segment n c key size mode) ≡ new_segment n c key size mode
+  new-zeros key size mode true = ap (λ (k : ℕ). record (new_segment n c key size mode) { bytes = replicate k 0 }) (length-replicate (4096 * pages_of size) 0)
+  new-zeros key size mode false = refl
+
+  out-creates_at : (key size mode : ℕ) (o : Option ℕ) → creates_at B n c key size mode o ≡ out hidden (creates_at s n c key size mode o)
+  out-creates_at key size mode None = refl
+  out-creates_at key size mode (Some i) =
+      tests Enomem _ _ _ _ (ap (λ r. nat_lt (slots s.areas) (r + pages_of size)) (reserved-veiled hidden T))
+      (λ j. record {
+        reply = Id (pos (identifier i (veiled-destroyed hidden T i j)));
+        state = record s { table = made-veiled hidden T i (new_segment n c key size mode) (new-zeros key size mode) j };
+      })
+
+  out-creates : (key size mode : ℕ) → creates B n c key size mode ≡ out hidden (creates s n c key size mode)
+  out-creates key size mode =
+      tests Einval (not (within 1 s.limits.shmmax size)) _ _ _ refl
+      (tests Enospc _ _ _ _ (ap (λ r. nat_lt s.limits.shmall (r + pages_of size)) (reserved-veiled hidden T))
+      (tests Enospc _ _ _ _ (ap (nat_le s.limits.shmmni) (count-veiled hidden T))
+      (ap (creates_at B n c key size mode) (free-veiled hidden 0 0 T) ∙ out-creates_at key size mode (free_index T))))
+
+  out-gets : (key size mode : ℕ) (flags : GetFlags) (b : Bool) (l : Look) → gets B n c key size mode flags (veiled_look b l) ≡ out hidden (gets s n c key size mode flags l)
+  out-gets key size mode flags b (Found i x) =
+      tests Eexist (wants_no_other flags) _ _ _ refl
+      (tests Einval (nat_lt x.size size) _ _ _ refl
+      (tests Eacces (not (grants c.cred x.perm (wish_of mode))) _ _ _ refl (λ j. record { reply = Id (pos (identifier i (veiled-destroyed hidden T i j))); state = B })))
+  out-gets key size mode flags b Removed = both (wants_creation flags) _ _ _ _ (refuses s Enoent) refl (out-creates key size mode) refl
+  out-gets key size mode flags b Invalid = both (wants_creation flags) _ _ _ _ (refuses s Enoent) refl (out-creates key size mode) refl
+
+  out-shmget : (key size mode : ℕ) (flags : GetFlags) → shmget B n c key size mode flags ≡ out hidden (shmget s n c key size mode flags)
+  out-shmget key size mode flags =
+      let f = find-veiled hidden key T in
+      both (key == 0) _ _ _ _ _ refl (out-creates 0 size mode) (ap (gets B n c key size mode flags) f.1 ∙ out-gets key size mode flags f.0 (find_key T key))
+
+  -- SHMAT
+
+  out-attaches : (b : Bool) (id : ℕ) (x : Segment) (flags : AtFlags) (base : ℕ) → attaches B n c id (veiled b x) flags base ≡ out hidden (attaches s n c id x flags base)
+  out-attaches b id x flags base =
+      rw (veiled-pages b x)
+      (tests Emfile (nat_lt 256 (length (pieces_with c id x flags base))) _ _ _ refl (λ j. record { reply = Addr base; state = record s { table = table j; runners = rs } }))
+    where
+      rs : List Runner
+      rs = with_pieces s.runners c (pieces_with c id x flags base)
+
+      lost : List ℕ
+      lost = cut_segments base (base + 4096 * pages_in x) c.pieces
+
+      table : swept rs (change (detach_all n c.pid (V T) lost) id (attached n c.pid)) ≡ V (swept rs (change (detach_all n c.pid T lost) id (attached n c.pid)))
+      table =
+          ap (λ t. swept rs (change t id (attached n c.pid))) (detach-veiled hidden n c.pid lost T)
+          ∙ ap (swept rs) (change-veiled hidden (attached n c.pid) (λ b x. refl) (detach_all n c.pid T lost) id)
+          ∙ swept-veiled hidden 0 rs (change (detach_all n c.pid T lost) id (attached n c.pid))
+
+  out-chosen : (b : Bool) (id : ℕ) (x : Segment) (flags : AtFlags) (o : Option ℕ) → attaches_chosen B n c id (veiled b x) flags o ≡ out hidden (attaches_chosen s n c id x flags o)
+  out-chosen b id x flags None = refl
+  out-chosen b id x flags (Some base) = out-attaches b id x flags base
+
+  out-fixed : (b : Bool) (id : ℕ) (x : Segment) (flags : AtFlags) (base : ℕ) → attaches_fixed B n c id (veiled b x) flags base ≡ out hidden (attaches_fixed s n c id x flags base)
+  out-fixed b id x flags base =
+      tests Einval _ _ _ _ (ap (λ p. not (inside base p)) (veiled-pages b x))
+      (tests Einval _ _ _ _ (ap (λ p. not (is_remap flags) && occupied c.pieces base (base + 4096 * p)) (veiled-pages b x)) (out-attaches b id x flags base))
+
+  out-found : (flags : AtFlags) (addr : ℕ) (b : Bool) (l : Look) → attaches_found B n c flags addr (veiled_look b l) ≡ out hidden (attaches_found s n c flags addr l)
+  out-found flags addr b Invalid = refl
+  out-found flags addr b Removed = refl
+  out-found flags addr b (Found i x) =
+      let same = veiled-destroyed hidden T i in
+      tests Eacces (not (grants c.cred x.perm (at_wish flags))) _ _ _ refl
+      (both (addr == 0) _ _ _ _ _ refl
+      (ap (λ d. attaches_chosen B n c (identifier i d) (veiled b x) flags (choose c.pieces (pages_in (veiled b x)))) same
+      ∙ ap (λ p. attaches_chosen B n c (identifier i (destroyed_at T i)) (veiled b x) flags (choose c.pieces p)) (veiled-pages b x)
+      ∙ out-chosen b (identifier i (destroyed_at T i)) x flags (choose c.pieces (pages_in x)))
+      (ap (λ d. attaches_fixed B n c (identifier i d) (veiled b x) flags (addr - addr % 4096)) same ∙ out-fixed b (identifier i (destroyed_at T i)) x flags (addr - addr % 4096)))
+
+  out-shmat : (id : ℤ) (addr : ℕ) (flags : AtFlags) → shmat B n c id addr flags ≡ out hidden (shmat s n c id addr flags)
+  out-shmat id addr flags =
+      let l = look-veiled hidden T id in
+      tests Einval ((addr == 0) && is_remap flags) _ _ _ refl
+      (tests Einval (not (addr % 4096 == 0) && not (is_rnd flags)) _ _ _ refl (ap (attaches_found B n c flags addr) l.1 ∙ out-found flags addr l.0 (look T id)))
+
+  -- DETACHING, FORK AND CONTROL
+
+  out-after : (rs : List Runner) (lost : List ℕ) → gives (after_detach B n c.pid rs lost) Done ≡ out hidden (gives (after_detach s n c.pid rs lost) Done)
+  out-after rs lost =
+      let table : swept rs (detach_all n c.pid (V T) lost) ≡ V (swept rs (detach_all n c.pid T lost)) =
+      ap (swept rs) (detach-veiled hidden n c.pid lost T) ∙ swept-veiled hidden 0 rs (detach_all n c.pid T lost) in
+      λ j. record { reply = Done; state = record s { table = table j; runners = rs } }
+
+  out-detaches : (addr : ℕ) (o : Option Piece) → detaches B n c addr o ≡ out hidden (detaches s n c addr o)
+  out-detaches addr None = refl
+  out-detaches addr (Some p) = out-after _ (p.seg ∷ [])
+
+  out-forks : (child : ℕ) (o : Option ℕ) → forks B c child o ≡ out hidden (forks s c child o)
+  out-forks child None = refl
+  out-forks child (Some i) = refl
+
+  out-stat : (b : Bool) (l : Look) → stat B c (veiled_look b l) ≡ out hidden (stat s c l)
+  out-stat b Invalid = refl
+  out-stat b Removed = refl
+  out-stat b (Found i x) =
+      tests Eacces (not (grants c.cred x.perm (record { read = true; write = false }))) _ _ _ refl
+      (λ j. record { reply = replies.Stat (shown s (identifier i (veiled-destroyed hidden T i j)) x); state = B })
+
+  out-changed : (i : ℕ) (f : Segment → Segment) → ((b : Bool) (x : Segment) → f (veiled b x) ≡ veiled b (f x))
+      → gives (record B { table = change (V T) i f }) Done ≡ out hidden (gives (record s { table = change T i f }) Done)
+  out-changed i f same = λ j. record { reply = Done; state = record s { table = change-veiled hidden f same T i j } }
+
+  out-controls : (f g : ℕ → Segment → Outcome) → ((b : Bool) (i : ℕ) (x : Segment) → f i (veiled b x) ≡ out hidden (g i x)) → (b : Bool) (l : Look) → controls B c f (veiled_look b l) ≡ out hidden (controls s c g l)
+  out-controls f g acts b Invalid = refl
+  out-controls f g acts b Removed = refl
+  out-controls f g acts b (Found i x) = tests Eperm (not (owns c.cred x.perm)) _ _ _ refl (acts b i x)
+
+  out-removes : (b : Bool) (i : ℕ) (x : Segment) → removes B i (veiled b x) ≡ out hidden (removes s i x)
+  out-removes b i x =
+      let table : swept s.runners (change (V T) i marked) ≡ V (swept s.runners (change T i marked)) =
+      ap (swept s.runners) (change-veiled hidden marked (λ b x. refl) T i) ∙ swept-veiled hidden 0 s.runners (change T i marked) in
+      λ j. record { reply = Done; state = record s { table = table j } }
+
+  out-locks : (b : Bool) (i : ℕ) (x : Segment) → locks B i (veiled b x) ≡ out hidden (locks s i x)
+  out-locks b i x =
+      tests Enomem _ _ _ _ (λ j. not x.locked && nat_lt s.limits.memlock (locked-sum hidden T j + veiled-pages b x j))
+      (out-changed i (λ (y : Segment). record y { locked = true }) (λ b x. refl))
+
+  out-look : (f g : ℕ → Segment → Outcome) → ((b : Bool) (i : ℕ) (x : Segment) → f i (veiled b x) ≡ out hidden (g i x)) → (id : ℤ) → controls B c f (look (V T) id) ≡ out hidden (controls s c g (look T id))
+  out-look f g acts id = let l = look-veiled hidden T id in ap (controls B c f) l.1 ∙ out-controls f g acts l.0 (look T id)
+
+  -- ACCESSES, IN PIECES OF WHAT IS SEEN
+
+  module _ (clear : (a : ℕ) (q : Place) → place c.pieces a ≡ Some q → Seen hidden T q) where
+    seen-places : (a len : ℕ) (qs : List Place) → places c.pieces a len ≡ Some qs → (k : ℕ) (q : Place) → slice_get qs k ≡ Some q → Seen hidden T q
+    seen-places a len qs found k q is = clear (a + k) q (spot-at c.pieces a len qs found k q is)
+
+    out-load : (a len : ℕ) (o : Option (List Place)) → places c.pieces a len ≡ o → load B o ≡ out hidden (load s o)
+    out-load a len None is = refl
+    out-load a len (Some qs) is = λ j. record { reply = Bytes (loaded-veiled hidden T qs (seen-places a len qs is) j); state = B }
+
+    out-store : (a : ℕ) (bytes : List ℕ) (o : Option (List Place)) → writable_places c.pieces a (length bytes) ≡ o → store B bytes o ≡ out hidden (store s bytes o)
+    out-store a bytes None is = refl
+    out-store a bytes (Some qs) is =
+        let found = (writable-parts (places c.pieces a (length bytes)) qs is).0 in
+        λ j. record { reply = Done; state = record s { table = stored-veiled hidden T qs bytes (seen-places a (length bytes) qs found) j } }
+
+    out-xadd : (a add : ℕ) (o : Option (List Place)) → writable_places c.pieces a 8 ≡ o → xadd B add o ≡ out hidden (xadd s add o)
+    out-xadd a add None is = refl
+    out-xadd a add (Some qs) is =
+        let seen = seen-places a 8 qs (writable-parts (places c.pieces a 8) qs is).0 in
+        let old : number_at B qs ≡ number_at s qs = ap (from_le_bytes w64) (loaded-veiled hidden T qs seen) in
+        ap (λ m. gives (record B { table = stored (V T) qs (to_le_bytes w64 ((m + add) % 2 ^ 64)) }) (Number m)) old
+        ∙ (λ j. record { reply = Number (number_at s qs); state = record s { table = stored-veiled hidden T qs (to_le_bytes w64 ((number_at s qs + add) % 2 ^ 64)) seen j } })
+
+    out-takes : (area : ℕ) (o : Option (Option ℕ)) → takes_away B area o ≡ out hidden (takes_away s area o)
+    out-takes area None = refl
+    out-takes area (Some None) = refl
+    out-takes area (Some (Some k)) = tests Enomem _ _ _ _ (ap (nat_lt (slots (slice_set s.areas area None))) (reserved-veiled hidden T)) refl
+
+    out-acts : (call : Call) → acts B n c call ≡ out hidden (acts s n c call)
+    out-acts (Shmget key size mode flags) = out-shmget key size mode flags
+    out-acts (Shmat id addr flags) = out-shmat id addr flags
+    out-acts (Shmdt addr) = out-detaches addr (origin_of addr c.pieces)
+    out-acts (Stat id) = let l = look-veiled hidden T id in ap (stat B c) l.1 ∙ out-stat l.0 (look T id)
+    out-acts (Set id uid gid mode) = out-look (sets B n uid gid mode) (sets s n uid gid mode) (λ b i x. out-changed i _ (λ b x. refl)) id
+    out-acts (Rmid id) = out-look (removes B) (removes s) out-removes id
+    out-acts (Lock id) = out-look (locks B) (locks s) out-locks id
+    out-acts (Unlock id) = out-look (unlocks B) (unlocks s) (λ b i x. out-changed i (λ (y : Segment). record y { locked = false }) (λ b x. refl)) id
+    out-acts (Load a len) = out-load a len (places c.pieces a len) refl
+    out-acts (Store a bytes) = out-store a bytes (writable_places c.pieces a (length bytes)) refl
+    out-acts (Xadd a add) = out-xadd a add (writable_places c.pieces a 8) refl
+    out-acts (Fork child) = out-forks child (unborn_from 0 child s.runners)
+    out-acts Exec = out-after (with_pieces s.runners c []) (segments_of c)
+    out-acts Exit = out-after (with_end s.runners c) (segments_of c)
+    out-acts (Swapoff area) = tests Eperm (not (c.cred.uid == 0)) _ _ _ refl (out-takes area (slice_get s.areas area))
+
+-- ONE TURN
+
+-- where a process sees no hidden byte
+abbrev Sees : (ℕ → Bool) → Machine → ℕ → Type 0
+Sees hidden s pid = (a : ℕ) (q : Place) → place (held_by (caller_of s pid)) a ≡ Some q → Seen hidden s.table q
+
+out-by : (hidden : ℕ → Bool) (s : Machine) (n : ℕ) (call : Call) (o : Option Caller) → ((a : ℕ) (q : Place) → place (held_by o) a ≡ Some q → Seen hidden s.table q)
+    → step_by (veil hidden s) n call o ≡ out hidden (step_by s n call o)
+out-by hidden s n call None sees = refl
+out-by hidden s n call (Some c) sees = out-acts hidden s n c sees call
+
+out-step : (hidden : ℕ → Bool) (s : Machine) (n pid : ℕ) (call : Call) → Sees hidden s pid → step (veil hidden s) n pid call ≡ out hidden (step s n pid call)
+out-step hidden s n pid call sees = out-by hidden s n call (caller_of s pid) sees
+
+-- whether a place of the process is hidden is whether its piece's segment is
+spot-hidden : (hidden : ℕ → Bool) (s : Machine) (pid : ℕ) (b : Bool) → IsFit s → ((p : Piece) → Has s pid p → hidden p.seg ≡ b)
+    → (a : ℕ) (q : Place) → place (held_by (caller_of s pid)) a ≡ Some q → hidden (identifier (q.seg % 32768) (destroyed_at s.table (q.seg % 32768))) ≡ b
+spot-hidden hidden s pid b fit each a q found =
+    let f = spot-fits s pid a q fit.fits found in
+    let seg : q.seg ≡ f.piece.seg = ap (λ (r : Place). r.seg) f.spot in
+    let count : destroyed_at s.table (q.seg % 32768) ≡ q.seg / 32768 =
+    ap (λ m. destroyed_at s.table (m % 32768)) seg ∙ ap destroyed_in (stands-at s.table f.piece.seg f.fits.segment f.fits.stands) ∙ ap (λ m. m / 32768) (sym seg) in
+    let own : identifier (q.seg % 32768) (destroyed_at s.table (q.seg % 32768)) ≡ q.seg = omega (arith, count) in
+    ap hidden (own ∙ seg) ∙ each f.piece f.has
+
+-- and so it is in a machine that differs in what is hidden
+other-hidden : (hidden : ℕ → Bool) (s other : Machine) (pid : ℕ) (b : Bool) → DifferIn hidden s other
+    → ((a : ℕ) (q : Place) → place (held_by (caller_of s pid)) a ≡ Some q → hidden (identifier (q.seg % 32768) (destroyed_at s.table (q.seg % 32768))) ≡ b)
+    → (a : ℕ) (q : Place) → place (held_by (caller_of other pid)) a ≡ Some q → hidden (identifier (q.seg % 32768) (destroyed_at other.table (q.seg % 32768))) ≡ b
+other-hidden hidden s other pid b differ sees a q found =
+    let runners : other.runners ≡ s.runners = ap (λ (m : Machine). m.runners) (sym differ) in
+    let there : place (held_by (caller_of s pid)) a ≡ Some q = ap (λ rs. place (held_by (caller_of (record s { runners = rs }) pid)) a) (sym runners) ∙ found in
+    let i = q.seg % 32768 in
+    let count : destroyed_at other.table i ≡ destroyed_at s.table i =
+    sym (veiled-destroyed hidden other.table i) ∙ ap (λ (m : Machine). destroyed_at m.table i) (sym differ) ∙ veiled-destroyed hidden s.table i in
+    ap (λ d. hidden (identifier i d)) count ∙ sees a q there
+
+blind-step : (hidden : ℕ → Bool) (s other : Machine) (n pid : ℕ) (call : Call) → DifferIn hidden s other → Sees hidden s pid
+    → out hidden (step s n pid call) ≡ out hidden (step other n pid call)
+blind-step hidden s other n pid call differ sees =
+    sym (out-step hidden s n pid call sees) ∙ ap (λ m. step m n pid call) differ ∙ out-step hidden other n pid call (other-hidden hidden s other pid false differ sees)
+
+pub blind-move : (s : Machine) (n : ℕ) (e : Event) (t : Machine) → IsFit s → IsMove s n e t → (hidden : ℕ → Bool) (other : Machine) → HasNone hidden s e.pid → DifferIn hidden s other
+    → (after : Machine) × IsMove other n e after × DifferIn hidden t after
+blind-move s n e t fit m hidden other none differ = by m
+  where
+    same : out hidden (step s n e.pid e.call) ≡ out hidden (step other n e.pid e.call)
+    same = blind-step hidden s other n e.pid e.call differ (spot-hidden hidden s e.pid false fit none)
+
+    reply : (step other n e.pid e.call).reply ≡ (step s n e.pid e.call).reply
+    reply = ap (λ (o : Outcome). o.reply) (sym same)
+
+    by : IsMove s n e t → (after : Machine) × IsMove other n e after × DifferIn hidden t after
+    by (inl step_to) =
+        let told : (step other n e.pid e.call).reply ≡ e.reply = reply ∙ ap (λ (o : Outcome). o.reply) step_to in
+        let there : veil hidden t ≡ veil hidden (step other n e.pid e.call).state =
+        ap (λ (o : Outcome). veil hidden o.state) (sym step_to) ∙ ap (λ (o : Outcome). o.state) same in
+        ((step other n e.pid e.call).state, inl (λ j. record { reply = told j; state = (step other n e.pid e.call).state }), there)
+    by (inr x) =
+        let unchanged : t ≡ s = x.unchanged in
+        (other, inr (record { failure = x.failure; instead = ap is_refusal reply ∙ x.instead; unchanged = refl }), ap (veil hidden) unchanged ∙ differ)
+
+-- WHAT IS PRIVATE
+
+abbrev Hides : (ℕ → Bool) → Machine → ℕ → Type 0
+Hides hidden s pid = (a : ℕ) (q : Place) → place (held_by (caller_of s pid)) a ≡ Some q → Hid hidden s.table q
+
+module _ (hidden : ℕ → Bool) (s : Machine) (n : ℕ) (c : Caller) (hid : (a : ℕ) (q : Place) → place c.pieces a ≡ Some q → Hid hidden s.table q) where
+  hid-places : (a len : ℕ) (qs : List Place) → places c.pieces a len ≡ Some qs → (k : ℕ) (q : Place) → slice_get qs k ≡ Some q → Hid hidden s.table q
+  hid-places a len qs found k q is = let spot = spot-at c.pieces a len qs found k q is in hid (a + k) q spot
+
+  private-store : (a len : ℕ) (vs : List ℕ) (qs : List Place) → writable_places c.pieces a len ≡ Some qs → veil hidden (record s { table = stored s.table qs vs }) ≡ veil hidden s
+  private-store a len vs qs is =
+      let found = (writable-parts (places c.pieces a len) qs is).0 in
+      λ j. record s { table = stored-hidden hidden s.table qs vs (hid-places a len qs found) j }
+
+  private-acts : (call : Call) (r : Reach) → reach call ≡ Some r → veil hidden (acts s n c call).state ≡ veil hidden s
+  private-acts (Load a len) r is = by (places c.pieces a len)
+    where
+      by : (o : Option (List Place)) → veil hidden (load s o).state ≡ veil hidden s
+      by None = refl
+      by (Some qs) = refl
+  private-acts (Store a bytes) r is = by (writable_places c.pieces a (length bytes)) refl
+    where
+      by : (o : Option (List Place)) → writable_places c.pieces a (length bytes) ≡ o → veil hidden (store s bytes o).state ≡ veil hidden s
+      by None found = refl
+      by (Some qs) found = private-store a (length bytes) bytes qs found
+  private-acts (Xadd a add) r is = by (writable_places c.pieces a 8) refl
+    where
+      by : (o : Option (List Place)) → writable_places c.pieces a 8 ≡ o → veil hidden (xadd s add o).state ≡ veil hidden s
+      by None found = refl
+      by (Some qs) found = private-store a 8 (to_le_bytes w64 ((number_at s qs + add) % 2 ^ 64)) qs found
+  private-acts (Shmget key size mode flags) r is = absurd (none-some r is)
+  private-acts (Shmat id addr flags) r is = absurd (none-some r is)
+  private-acts (Shmdt addr) r is = absurd (none-some r is)
+  private-acts (Stat id) r is = absurd (none-some r is)
+  private-acts (Set id uid gid mode) r is = absurd (none-some r is)
+  private-acts (Rmid id) r is = absurd (none-some r is)
+  private-acts (Lock id) r is = absurd (none-some r is)
+  private-acts (Unlock id) r is = absurd (none-some r is)
+  private-acts (Fork child) r is = absurd (none-some r is)
+  private-acts Exec r is = absurd (none-some r is)
+  private-acts Exit r is = absurd (none-some r is)
+  private-acts (Swapoff area) r is = absurd (none-some r is)
+
+private-by : (hidden : ℕ → Bool) (s : Machine) (n : ℕ) (call : Call) (r : Reach) (o : Option Caller) → reach call ≡ Some r
+    → ((a : ℕ) (q : Place) → place (held_by o) a ≡ Some q → Hid hidden s.table q) → veil hidden (step_by s n call o).state ≡ veil hidden s
+private-by hidden s n call r None is hid = refl
+private-by hidden s n call r (Some c) is hid = private-acts hidden s n c hid call r is
+
+-- an access to what is hidden leaves the rest
+private-move : (hidden : ℕ → Bool) (s : Machine) (n : ℕ) (e : Event) (t : Machine) (r : Reach) → reach e.call ≡ Some r → Hides hidden s e.pid → IsMove s n e t → DifferIn hidden t s
+private-move hidden s n e t r is hid (inl m) =
+    ap (λ (o : Outcome). veil hidden o.state) (sym m) ∙ private-by hidden s n e.call r (caller_of s e.pid) is hid
+private-move hidden s n e t r is hid (inr x) = ap (veil hidden) x.unchanged
+
+-- FROM A MOMENT ON
+
+abbrev Asks : (ℕ → Bool) → Machine → Event → Event → Type 0
+Asks hidden u e f = IsAsked hidden u e f ⊎ IsPrivate hidden u e f
+
+abbrev Alike : (ℕ → Bool) → Machine → Event → Event → Type 0
+Alike hidden u e f = (f ≡ e) ⊎ IsPrivate hidden u e f
+
+-- one turn of two that go side by side
+record OneTurn (hidden : ℕ → Bool) (s : Machine) (e f : Event) (u v : Machine) : Type 0 where
+  alike : Alike hidden s e f
+  differ : DifferIn hidden u v
+
+one-turn : (hidden : ℕ → Bool) (s other : Machine) (n : ℕ) (e f : Event) (u v : Machine) → IsFit s → DifferIn hidden s other → IsMove s n e u → IsMove other n f v
+    → is_failure e.call e.reply ≡ false → is_failure f.call f.reply ≡ false → Asks hidden s e f → OneTurn hidden s e f u v
+one-turn hidden s other n e f u v fit differ m k a b (inl asks) =
+    let left = is-step s n e u a m in
+    let right = is-step other n f v b k in
+    let same = blind-step hidden s other n e.pid e.call differ (spot-hidden hidden s e.pid false fit asks.none) in
+    let there : step other n f.pid f.call ≡ step other n e.pid e.call = λ j. step other n (asks.process j) (asks.call j) in
+    let both : out hidden (record { reply = f.reply; state = v }) ≡ out hidden (record { reply = e.reply; state = u }) =
+    ap (out hidden) (sym right ∙ there) ∙ sym same ∙ ap (out hidden) left in
+    record {
+      alike = inl (λ j. record { pid = asks.process j; call = asks.call j; reply = (both j).reply });
+      differ = sym (ap (λ (o : Outcome). o.state) both);
+    }
+one-turn hidden s other n e f u v fit differ m k a b (inr private) =
+    let hid = spot-hidden hidden s e.pid true fit private.own in
+    let hid' : Hides hidden other f.pid = subst (Hides hidden other) (sym private.process) (other-hidden hidden s other e.pid true differ hid) in
+    record {
+      alike = inr private;
+      differ = private-move hidden s n e u private.left.0 private.left.1 hid m ∙ differ ∙ sym (private-move hidden other n f v private.right.0 private.right.1 hid' k);
+    }
+
+blind-on : (n : ℕ) (s : Machine) (events : List Event) (t : Machine) → IsFit s → IsBlindOn n s events t
+blind-on n s [] t fit hidden other [] after differ legal a b beside = (beside, ap (veil hidden) beside ∙ differ ∙ ap (veil hidden) (sym legal))
+blind-on n s [] t fit hidden other (f ∷ fs) after differ legal a b beside = absurd beside
+blind-on n s (e ∷ es) t fit hidden other [] after differ legal a b beside = absurd beside
+blind-on n s (e ∷ es) t fit hidden other (f ∷ fs) after differ legal a b beside =
+    let one = one-turn hidden s other n e f beside.0 legal.0 fit differ beside.1 legal.1 (first-clear e es a) (first-clear f fs b) beside.2 in
+    let more = blind-on (n + 1) beside.0 es t (fit-move s n e beside.0 fit beside.1) hidden legal.0 fs after one.differ legal.2 (rest-clear e es a) (rest-clear f fs b) beside.3 in
+    ((beside.0, beside.1, one.alike, more.0), more.1)
+
+fit-always : (o : Opening) (before : List Event) (s : Machine) → IsHistory o before s → IsFit s
+fit-always o before s h = always o (λ _ u. IsFit u) (λ before s e t _ now m. fit-move s (length before + 1) e t now m) (fit-start o) before s h
+
+-- of every legal history
+pub is_isolated : (o : Opening) (events : List Event) (end : Machine) → IsHistory o events end → IsIsolated o events end
+is_isolated o events end h =
+    record {
+      turns = λ before s e t turn hidden other none differ. blind-move s (length before + 1) e t (fit-always o before s turn.leads) turn.move hidden other none differ;
+      onwards = λ before s m. blind-on (length before + 1) s m.after end (fit-always o before s m.leads);
+    }

@@ -1,0 +1,252 @@
+-- Each byte is that of its last writer, and so is each byte that an event answers.
+use Rattle.std.proofs.Common.{◌≡◌, ◌⊎◌, ℕ, ◌+◌, ◌-◌, ◌*◌, ◌%◌, ◌<◌, ◌≤◌, ◌^◌, true, false, List, [], ◌∷◌, ◌++◌, length, get_or, Option, Some, None, slice_get, refl, sym, ap, subst, ◌∙◌, inl, inr, arith, true≢false}
+use Rattle.std.specs.Int.{w64, to_le_bytes, from_le_bytes}
+use Rattle.std.specs.Prelude.{option_map}
+use Rattle.std.proofs.lemmas.List.{length-map}
+use Rattle.std.proofs.lemmas.Grind.{common_steps}
+use Rattle.std.proofs.lemmas.Option.{none-some, slice_get-map, slice_get-get_or, slice_get_within}
+use Rattle.shm_base.specs.declared.errno.Errno.TheVariants.{Esrch}
+use Rattle.shm_base.specs.declared.call.Call.{Call}
+use Rattle.shm_base.specs.declared.call.Call.TheVariants.{Shmget, Shmat, Shmdt, Stat, Set, Rmid, Lock, Unlock, Load, Store, Xadd, Fork, Exec, Exit, Swapoff}
+use Rattle.shm_base.specs.declared.call.Reply.{Reply}
+use Rattle.shm_base.specs.declared.call.Reply.TheVariants.{Bytes, Number}
+use Rattle.shm_base.specs.declared.call.Event.{Event}
+use Rattle.shm_base.specs.State.{Segment, Piece, Machine, Opening, start_of}
+use Rattle.shm_base.specs.Access.{Place, covers, end_of, place_by, place, places, writable_places, bytes_at, bytes_at_entry, byte_at, loaded}
+use Rattle.shm_base.specs.Step.{Caller, Outcome, caller_of, acts, step_by, step, load, store, xadd, number_at}
+use Rattle.shm_base.specs.History.{is_refusal, IsMove, IsHistory}
+use Rattle.shm_laws.specs.Standing.{Stands, Began, Lasted}
+use Rattle.shm_laws.specs.Writing.{Put, put, held_by, IsByte, Writes, Spares, IsLast, Remembers, AreLast, Recalls, HasLastWriters}
+use Rattle.shm_laws.proofs.Accessing.{place-of, places-length, writable-parts}
+use Rattle.shm_laws.proofs.Fates.{kind-move}
+use Rattle.shm_laws.proofs.Fitting.{one-index, Fits, AllFit, IsFit, fit-start, fit-move, spot-fits}
+use Rattle.shm_laws.proofs.Inducting.{always}
+use Rattle.shm_laws.proofs.Looks.{stands-at}
+use Rattle.shm_laws.proofs.Naming.{Before, came-from}
+use Rattle.shm_laws.proofs.Putting.{IsSpot, Hit, Miss, byte-after, zero-byte}
+use Rattle.shm_laws.proofs.Refusing.{failure-refusal, failure-put, refused-put}
+use Rattle.shm_laws.proofs.Stepping.{over_put, overlay}
+
+-- WHAT PUTS HAS PLACES
+
+module _ (s : Machine) (n : ℕ) (c : Caller) where
+  abbrev Placed : Call → Outcome → Type 0
+  Placed call o = (p : Put) → put call o.reply ≡ Some p → (qs : List Place) × (places c.pieces p.from (length p.bytes) ≡ Some qs)
+
+  placed-store : (a : ℕ) (bytes : List ℕ) (o : Option (List Place)) → writable_places c.pieces a (length bytes) ≡ o → Placed (Store a bytes) (store s bytes o)
+  placed-store a bytes None is p puts = absurd (none-some p puts)
+  placed-store a bytes (Some qs) is p puts =
+      let same : record { from = a; bytes = bytes } ≡ p = cc puts in
+      (qs, ap (λ (q : Put). places c.pieces q.from (length q.bytes)) (sym same) ∙ (writable-parts (places c.pieces a (length bytes)) qs is).0)
+
+  placed-xadd : (a add : ℕ) (o : Option (List Place)) → writable_places c.pieces a 8 ≡ o → Placed (Xadd a add) (xadd s add o)
+  placed-xadd a add None is p puts = absurd (none-some p puts)
+  placed-xadd a add (Some qs) is p puts =
+      let same : record { from = a; bytes = to_le_bytes w64 ((number_at s qs + add) % 2 ^ 64) } ≡ p = cc puts in
+      (qs, ap (λ (q : Put). places c.pieces q.from (length q.bytes)) (sym same) ∙ (writable-parts (places c.pieces a 8) qs is).0)
+
+  placed-acts : (call : Call) → Placed call (acts s n c call)
+  placed-acts (Store a bytes) p puts = placed-store a bytes (writable_places c.pieces a (length bytes)) refl p puts
+  placed-acts (Xadd a add) p puts = placed-xadd a add (writable_places c.pieces a 8) refl p puts
+  placed-acts (Load a len) p puts = absurd (none-some p puts)
+  placed-acts (Swapoff area) p puts = absurd (none-some p puts)
+  placed-acts (Shmget key size mode flags) p puts = absurd (none-some p puts)
+  placed-acts (Shmat id addr flags) p puts = absurd (none-some p puts)
+  placed-acts (Shmdt addr) p puts = absurd (none-some p puts)
+  placed-acts (Stat id) p puts = absurd (none-some p puts)
+  placed-acts (Set id uid gid mode) p puts = absurd (none-some p puts)
+  placed-acts (Rmid id) p puts = absurd (none-some p puts)
+  placed-acts (Lock id) p puts = absurd (none-some p puts)
+  placed-acts (Unlock id) p puts = absurd (none-some p puts)
+  placed-acts (Fork child) p puts = absurd (none-some p puts)
+  placed-acts Exec p puts = absurd (none-some p puts)
+  placed-acts Exit p puts = absurd (none-some p puts)
+
+abbrev PlacedBy : Option Caller → Call → Reply → Type 0
+PlacedBy o call reply = (p : Put) → put call reply ≡ Some p → (qs : List Place) × (places (held_by o) p.from (length p.bytes) ≡ Some qs)
+
+placed-by : (s : Machine) (n : ℕ) (call : Call) (o : Option Caller) → PlacedBy o call (step_by s n call o).reply
+placed-by s n call None p puts = absurd (none-some p (sym (refused-put call Esrch) ∙ puts))
+placed-by s n call (Some c) p puts = placed-acts s n c call p puts
+
+placed-move : (s : Machine) (n : ℕ) (e : Event) (t : Machine) → IsMove s n e t → PlacedBy (caller_of s e.pid) e.call e.reply
+placed-move s n e t (inl m) p puts = subst (λ (o : Outcome). PlacedBy (caller_of s e.pid) e.call o.reply) m (placed-by s n e.call (caller_of s e.pid)) p puts
+placed-move s n e t (inr x) p puts = absurd (none-some p (sym (failure-put e.call e.reply x.failure) ∙ puts))
+
+-- at the index of a segment it is that segment's
+spot-names : (s : Machine) (pid a id : ℕ) (q : Place) (x : Segment) → AllFit s → place (held_by (caller_of s pid)) a ≡ Some q → Stands s id x → q.seg % 32768 ≡ id % 32768 → q.seg ≡ id
+spot-names s pid a id q x fits found stands index =
+    let f = spot-fits s pid a q fits found in
+    let seg : q.seg ≡ f.piece.seg = ap (λ (r : Place). r.seg) f.spot in
+    one-index s q.seg id f.fits.segment x (subst (λ m. Stands s m f.fits.segment) (sym seg) f.fits.stands) stands index
+
+-- WHAT A MOVE DOES TO A BYTE
+
+module _ (s : Machine) (n : ℕ) (e : Event) (t : Machine) (fits : AllFit s) (m : IsMove s n e t) (id at b : ℕ) (x : Segment) (stands : Stands s id x) where
+  abbrev Touched : Type 0
+  Touched = Writes s e id at b ⊎ (Spares s e id at × (slice_get x.bytes at ≡ Some b))
+
+  module _ (p : Put) (puts : put e.call e.reply ≡ Some p) (qs : List Place) (found : places (held_by (caller_of s e.pid)) p.from (length p.bytes) ≡ Some qs) where
+    -- an address that is the byte has a place that is
+    spot-of : (k : ℕ) → k < length p.bytes → IsByte s e.pid (p.from + k) id at → (q : Place) × (slice_get qs k ≡ Some q) × IsSpot (id % 32768) at q
+    spot-of k lt here =
+        let o = place-of (held_by (caller_of s e.pid)) p.from (length p.bytes) qs found k lt in
+        let same : Some o.spot ≡ Some (record { seg = id; at = at; writable = here.0 }) = sym o.is ∙ here.1 in
+        let is : o.spot ≡ record { seg = id; at = at; writable = here.0 } = cc same in
+        (o.spot, o.at, record { index = ap (λ (q : Place). q.seg % 32768) is; here = ap (λ (q : Place). q.at) is })
+
+    -- and a place that is the byte has an address
+    byte-of : (k : ℕ) (q : Place) → k < length p.bytes → slice_get qs k ≡ Some q → IsSpot (id % 32768) at q → IsByte s e.pid (p.from + k) id at
+    byte-of k q lt is spot =
+        let o = place-of (held_by (caller_of s e.pid)) p.from (length p.bytes) qs found k lt in
+        let own : Some o.spot ≡ Some q = sym o.at ∙ is in
+        let there : place (held_by (caller_of s e.pid)) (p.from + k) ≡ Some q = o.is ∙ own in
+        let name : q.seg ≡ id = spot-names s e.pid (p.from + k) id q x fits there stands spot.index in
+        (q.writable, there ∙ (λ j. Some (record { seg = name j; at = spot.here j; writable = q.writable })))
+
+    hit-writes : Hit (id % 32768) at b qs p.bytes → Writes s e id at b
+    hit-writes h =
+        record {
+          what = p;
+          puts = puts;
+          k = h.k;
+          byte = h.byte;
+          here = byte-of h.k h.spot (slice_get_within p.bytes h.k b h.byte) h.is h.hits;
+          last = λ j gt lt here. let s = spot-of j lt here in h.last j s.0 gt lt s.1 s.2;
+        }
+
+    miss-spares : Miss (id % 32768) at qs p.bytes → Spares s e id at
+    miss-spares miss other says k lt here =
+        let same : other ≡ p = cc (sym says ∙ puts) in
+        let lt' : k < length p.bytes = subst (λ (r : Put). k < length r.bytes) same lt in
+        let here' : IsByte s e.pid (p.from + k) id at = subst (λ (r : Put). IsByte s e.pid (r.from + k) id at) same here in
+        let s = spot-of k lt' here' in
+        miss k s.0 lt' s.1 s.2
+
+  touched-by : (o : Option Put) → put e.call e.reply ≡ o → slice_get (over_put (held_by (caller_of s e.pid)) o (id % 32768) x.bytes) at ≡ Some b → Touched
+  touched-by None is h = inr (λ other says k lt here. none-some other (sym is ∙ says), h)
+  touched-by (Some p) is h =
+      let l = placed-move s n e t m p is in
+      let now : slice_get (over_put (held_by (caller_of s e.pid)) (Some p) (id % 32768) x.bytes) at ≡ Some b = h in
+      either l (byte-after (id % 32768) at b l.0 p.bytes x.bytes (rw l.1 at now))
+    where
+      either : (l : (qs : List Place) × (places (held_by (caller_of s e.pid)) p.from (length p.bytes) ≡ Some qs))
+          → Hit (id % 32768) at b l.0 p.bytes ⊎ (Miss (id % 32768) at l.0 p.bytes × (slice_get x.bytes at ≡ Some b)) → Touched
+      either l (inl hit) = inl (hit-writes p is l.0 l.1 hit)
+      either l (inr miss) = inr (miss-spares p is l.0 l.1 miss.0, miss.1)
+
+  touched : slice_get (overlay s e (id % 32768) x.bytes) at ≡ Some b → Touched
+  touched h = touched-by (put e.call e.reply) refl h
+
+-- AT ALL TIMES
+
+pub record Recollects (o : Opening) (before : List Event) (s : Machine) : Type 0 where
+  pub fit : IsFit s
+  pub bytes : Remembers o before s
+
+remembers-on : (o : Opening) (before : List Event) (s : Machine) (e : Event) (t : Machine) → IsHistory o before s → Recollects o before s → IsMove s (length before + 1) e t → Remembers o (before ++ e ∷ []) t
+remembers-on o before s e t h now m id at b y stands is =
+    from (came-from s t e now.fit.whole.sound (kind-move s (length before + 1) e t now.fit.whole.sound.bare m) id y stands)
+  where
+    from : Before s e id y → IsLast o (before ++ e ∷ []) id at b
+    from (inr new) =
+        inr (zero-byte new.zeros.0 at b (ap (λ bs. slice_get bs at) (sym new.zeros.1) ∙ is), Began before s e h new.makes)
+    from (inl old) = what (touched s (length before + 1) e t now.fit.fits m id at b old.segment old.stood (ap (λ bs. slice_get bs at) (sym old.bytes) ∙ is))
+      where
+        kept : Spares s e id at → IsLast o before id at b → IsLast o (before ++ e ∷ []) id at b
+        kept spares (inl since) = inl (Lasted before s e h spares since)
+        kept spares (inr since) = inr (since.0, Lasted before s e h spares since.1)
+
+        what : Writes s e id at b ⊎ (Spares s e id at × (slice_get old.segment.bytes at ≡ Some b)) → IsLast o (before ++ e ∷ []) id at b
+        what (inl writes) = inl (Began before s e h writes)
+        what (inr spared) = kept spared.0 (now.bytes id at b old.segment old.stood spared.1)
+
+recollects-on : (o : Opening) (before : List Event) (s : Machine) (e : Event) (t : Machine) → IsHistory o before s → Recollects o before s → IsMove s (length before + 1) e t → Recollects o (before ++ e ∷ []) t
+recollects-on o before s e t h now m = record { fit = fit-move s (length before + 1) e t now.fit m; bytes = remembers-on o before s e t h now m }
+
+start-found : (o : Opening) (id : ℕ) (x : Segment) → Stands (start_of o) id x → ⊥
+start-found o id x stands = cc stands
+
+recollects : (o : Opening) (before : List Event) (s : Machine) → IsHistory o before s → Recollects o before s
+recollects o before s h =
+    always o (Recollects o) (recollects-on o) (record { fit = fit-start o; bytes = λ id at b x stands is. absurd (start-found o id x stands) }) before s h
+
+-- WHAT IS ANSWERED
+
+-- the byte at a place that fits
+byte-there : (s : Machine) (p : Piece) (a : ℕ) (f : Fits s p) → covers p a ≡ true
+    → slice_get f.segment.bytes (4096 * p.first_page + (a - p.base)) ≡ Some (byte_at s.table (place_by p a))
+byte-there s p a f covered =
+    let above : p.base ≤ a = grind (arith, common_steps, covered) in
+    let below : a < end_of p = grind (arith, common_steps, covered) in
+    let within = f.within in
+    let at = 4096 * p.first_page + (a - p.base) in
+    let there : bytes_at s.table p.seg ≡ f.segment.bytes = ap bytes_at_entry (stands-at s.table p.seg f.segment f.stands) in
+    slice_get-get_or f.segment.bytes at 0 (omega (arith, above, below, within)) ∙ ap (λ bs. Some (get_or bs at 0)) (sym there)
+
+recall-places : (o : Opening) (before : List Event) (s : Machine) (pid a len : ℕ) (qs : List Place) → Recollects o before s
+    → places (held_by (caller_of s pid)) a len ≡ Some qs → AreLast o before s pid a len (loaded s.table qs)
+recall-places o before s pid a len qs now found =
+    record { long = length-map qs (byte_at s.table) ∙ places-length (held_by (caller_of s pid)) a len qs found; each = each }
+  where
+    each : (k b : ℕ) → slice_get (loaded s.table qs) k ≡ Some b → (id : ℕ) × (at : ℕ) × IsByte s pid (a + k) id at × IsLast o before id at b
+    each k b is =
+        let within = slice_get_within (loaded s.table qs) k b is in
+        let long = length-map qs (byte_at s.table) in
+        let count = places-length (held_by (caller_of s pid)) a len qs found in
+        let spot = place-of (held_by (caller_of s pid)) a len qs found k (omega (arith, within, long, count)) in
+        let f = spot-fits s pid (a + k) spot.spot now.fit.fits spot.is in
+        let p = f.piece in
+        let at = 4096 * p.first_page + ((a + k) - p.base) in
+        let read : Some (byte_at s.table spot.spot) ≡ Some b = ap (option_map (byte_at s.table)) (sym spot.at) ∙ sym (slice_get-map (byte_at s.table) qs k) ∙ is in
+        let there : slice_get f.fits.segment.bytes at ≡ Some (byte_at s.table spot.spot) =
+        subst (λ q. slice_get f.fits.segment.bytes at ≡ Some (byte_at s.table q)) (sym f.spot) (byte-there s p (a + k) f.fits f.covered) in
+        let value : slice_get f.fits.segment.bytes at ≡ Some b = there ∙ read in
+        (p.seg, at, (p.writable, spot.is ∙ ap (λ (q : Place). Some q) f.spot), now.bytes p.seg at b f.fits.segment f.fits.stands value)
+
+module _ (o : Opening) (before : List Event) (s : Machine) (n pid : ℕ) (now : Recollects o before s) where
+  load-recalls : (a len : ℕ) (bytes : List ℕ) (c : Option Caller) → caller_of s pid ≡ c → (step_by s n (Load a len) c).reply ≡ Bytes bytes → AreLast o before s pid a len bytes
+  load-recalls a len bytes None is answer = absurd (cc answer)
+  load-recalls a len bytes (Some c) is answer = by (places c.pieces a len) refl answer
+    where
+      by : (r : Option (List Place)) → places c.pieces a len ≡ r → (load s r).reply ≡ Bytes bytes → AreLast o before s pid a len bytes
+      by None found refused = absurd (cc refused)
+      by (Some qs) found told =
+          let same : loaded s.table qs ≡ bytes = cc told in
+          subst (AreLast o before s pid a len) same (recall-places o before s pid a len qs now (ap (λ h. places (held_by h) a len) is ∙ found))
+
+  xadd-recalls : (a add old : ℕ) (c : Option Caller) → caller_of s pid ≡ c → (step_by s n (Xadd a add) c).reply ≡ Number old
+      → (bytes : List ℕ) × (old ≡ from_le_bytes w64 bytes) × AreLast o before s pid a 8 bytes
+  xadd-recalls a add old None is answer = absurd (cc answer)
+  xadd-recalls a add old (Some c) is answer = by (writable_places c.pieces a 8) refl answer
+    where
+      by : (r : Option (List Place)) → writable_places c.pieces a 8 ≡ r → (xadd s add r).reply ≡ Number old → (bytes : List ℕ) × (old ≡ from_le_bytes w64 bytes) × AreLast o before s pid a 8 bytes
+      by None found refused = absurd (cc refused)
+      by (Some qs) found told =
+          let same : number_at s qs ≡ old = cc told in
+          let there = (writable-parts (places c.pieces a 8) qs found).0 in
+          (loaded s.table qs, sym same, recall-places o before s pid a 8 qs now (ap (λ h. places (held_by h) a 8) is ∙ there))
+
+-- the reply of a move that is no failure
+reply-of : (s : Machine) (n : ℕ) (e : Event) (t : Machine) → is_refusal e.reply ≡ false → IsMove s n e t → (step s n e.pid e.call).reply ≡ e.reply
+reply-of s n e t clear (inl m) = ap (λ (o : Outcome). o.reply) m
+reply-of s n e t clear (inr x) = absurd (true≢false (sym (failure-refusal e.call e.reply x.failure) ∙ clear))
+
+recalls : (o : Opening) (before : List Event) (s : Machine) (n : ℕ) (e : Event) (t : Machine) → Recollects o before s → IsMove s n e t → Recalls o before s e t
+recalls o before s n e t now m =
+    record {
+      load = λ a len bytes asked told.
+          load-recalls o before s n e.pid now a len bytes (caller_of s e.pid) refl
+          (ap (λ call. (step s n e.pid call).reply) (sym asked) ∙ reply-of s n e t (ap is_refusal told) m ∙ told);
+      xadd = λ a add old asked told.
+          xadd-recalls o before s n e.pid now a add old (caller_of s e.pid) refl
+          (ap (λ call. (step s n e.pid call).reply) (sym asked) ∙ reply-of s n e t (ap is_refusal told) m ∙ told);
+    }
+
+-- of every legal history
+pub has_last_writers : (o : Opening) (events : List Event) (end : Machine) → IsHistory o events end → HasLastWriters o events end
+has_last_writers o events end h =
+    record {
+      bytes = λ before s m. (recollects o before s m.leads).bytes;
+      replies = λ before s e t turn. recalls o before s (length before + 1) e t (recollects o before s turn.leads) turn.move;
+    }

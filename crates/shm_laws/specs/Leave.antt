@@ -1,0 +1,104 @@
+-- Leave: nobody gets at a segment without it.
+use Rattle.std.specs.Prelude.{◌≡◌, ◌≤◌, ◌<◌, ◌⊎◌, ℕ, ◌+◌, ◌*◌, ◌%◌, ℤ, pos, Bool, true, false, not, List, [], ◌∷◌, ◌++◌, length, Option, Some, None}
+use Rattle.shm_base.specs.declared.owner.Cred.{Cred}
+use Rattle.shm_base.specs.declared.owner.Perm.{Perm}
+use Rattle.shm_base.specs.declared.flags.AtFlags.{AtFlags}
+use Rattle.shm_base.specs.declared.call.Call.{Call}
+use Rattle.shm_base.specs.declared.call.Call.TheVariants.{Shmat, Set, Rmid, Lock, Unlock, Load, Store, Xadd, Fork}
+use Rattle.shm_base.specs.declared.call.Reply.TheVariants.{Addr, Done}
+use Rattle.shm_base.specs.declared.call.Event.{Event}
+use Rattle.shm_base.specs.State.{Segment, Piece, Machine, Opening, pages_in}
+use Rattle.shm_base.specs.Permission.{grants}
+use Rattle.shm_base.specs.Access.{end_of, covers}
+use Rattle.shm_base.specs.Step.{Caller, caller_of, is_rdonly}
+use Rattle.shm_base.specs.History.{is_refusal, IsHistory}
+use Rattle.shm_laws.specs.Standing.{Stands, Has, EachPiece, EachMove, Always}
+
+-- p is a part of q: it has at each of its addresses the page that q has there, and is as writable
+pub record IsPart (p q : Piece) : Type 0 where
+  pub seg : p.seg ≡ q.seg
+  pub writable : p.writable ≡ q.writable
+  pub pages : p.base + 4096 * q.first_page ≡ q.base + 4096 * p.first_page
+  pub from : q.base ≤ p.base
+  pub to : end_of p ≤ end_of q
+
+-- the event is a shmat of the process that was answered with the piece, the whole segment at a page, and it was granted
+-- reading, and writing where the piece is writable
+pub record IsGranted (s : Machine) (e : Event) (pid : ℕ) (p : Piece) : Type 0 where
+  pub own : e.pid ≡ pid
+  pub addr : ℕ
+  pub flags : AtFlags
+  pub call : e.call ≡ Shmat (pos p.seg) addr flags
+  pub reply : e.reply ≡ Addr p.base
+  pub asked : p.writable ≡ not (is_rdonly flags)
+  pub caller : Caller
+  pub live : caller_of s pid ≡ Some caller
+  pub segment : Segment
+  pub stands : Stands s p.seg segment
+  pub leave : grants caller.cred segment.perm (record { read = true; write = p.writable }) ≡ true
+  pub page : p.base % 4096 ≡ 0
+  pub whole : (p.first_page ≡ 0) × (p.pages ≡ pages_in segment)
+
+-- the event is a fork that made the process a child, and its parent had the piece
+pub record IsInherited (s : Machine) (e : Event) (pid : ℕ) (p : Piece) : Type 0 where
+  pub call : e.call ≡ Fork pid
+  pub reply : e.reply ≡ Done
+  pub parent : Has s e.pid p
+
+-- A process that has a piece after these events: the last of them granted it, or the process had it before that, or a
+-- piece that it is a part of, or it was born of one that had it. What was had before goes back in the same way
+pub data GoesBack (o : Opening) : List Event → ℕ → Piece → Type 0 where
+  Granted : (before : List Event) (s : Machine) (e : Event) (pid : ℕ) (p : Piece) → IsHistory o before s → IsGranted s e pid p → GoesBack o (before ++ e ∷ []) pid p
+  Kept :
+      (before : List Event) (s : Machine) (e : Event) (pid : ℕ) (p q : Piece) → IsHistory o before s → Has s pid q → IsPart p q → GoesBack o before pid q → GoesBack o (before ++ e ∷ []) pid p
+  Inherited :
+      (before : List Event) (s : Machine) (e : Event) (pid : ℕ) (p : Piece) → IsHistory o before s → IsInherited s e pid p → GoesBack o before e.pid p → GoesBack o (before ++ e ∷ []) pid p
+
+-- the bytes that an access is of, from an address on
+pub record Reach : Type 0 where
+  pub from : ℕ
+  pub len : ℕ
+  pub writes : Bool
+
+abbrev pub reach : Call → Option Reach
+reach (Load addr len) = Some (record { from = addr; len = len; writes = false })
+reach (Store addr bytes) = Some (record { from = addr; len = length bytes; writes = true })
+reach (Xadd addr add) = Some (record { from = addr; len = 8; writes = true })
+reach _ = None
+
+-- where it was not refused each of them lies in a piece of the process, a writable one where it was written
+abbrev pub StaysInside : Machine → Event → Type 0
+StaysInside s e =
+    is_refusal e.reply ≡ false → (r : Reach) → reach e.call ≡ Some r → (k : ℕ) → k < r.len
+    → (p : Piece) × Has s e.pid p × (covers p (r.from + k) ≡ true) × (r.writes ≡ true → p.writable ≡ true)
+
+-- which segment a call would change or remove
+abbrev pub controlled : Call → Option ℤ
+controlled (Set id uid gid mode) = Some id
+controlled (Rmid id) = Some id
+controlled (Lock id) = Some id
+controlled (Unlock id) = Some id
+controlled _ = None
+
+-- its owner, its creator, or user 0
+abbrev pub IsOwner : Cred → Perm → Type 0
+IsOwner cred perm = (cred.uid ≡ 0) ⊎ ((cred.uid ≡ perm.uid) ⊎ (cred.uid ≡ perm.cuid))
+
+pub record OwnerAsks (s : Machine) (pid : ℕ) (id : ℤ) : Type 0 where
+  pub caller : Caller
+  pub live : caller_of s pid ≡ Some caller
+  pub number : ℕ
+  pub named : id ≡ pos number
+  pub segment : Segment
+  pub stands : Stands s number segment
+  pub owner : IsOwner caller.cred segment.perm
+
+-- a move reaches no byte outside the pieces of its process, and set, rmid, lock and unlock are done for owners alone
+pub record KeepsOut (s : Machine) (e : Event) (t : Machine) : Type 0 where
+  pub inside : StaysInside s e
+  pub owner : (id : ℤ) → controlled e.call ≡ Some id → e.reply ≡ Done → OwnerAsks s e.pid id
+
+-- THE LAW. At each moment each piece goes back to a shmat that was granted, and each move keeps out who has no leave
+pub record NoWayIn (o : Opening) (events : List Event) (end : Machine) : Type 0 where
+  pub pieces : Always (λ before s. EachPiece (GoesBack o before) s) o events
+  pub moves : EachMove KeepsOut o events end

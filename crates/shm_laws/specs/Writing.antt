@@ -1,0 +1,81 @@
+-- The last writer: a byte is what the last event that wrote it put there, or 0 since its segment was made.
+use Rattle.std.specs.Prelude.{◌≡◌, ◌<◌, ◌⊎◌, ℕ, ◌+◌, ◌%◌, ◌^◌, pos, Bool, List, [], length, Option, Some, None, slice_get}
+use Rattle.std.specs.Int.{w64, to_le_bytes, from_le_bytes}
+use Rattle.shm_base.specs.declared.call.Call.{Call}
+use Rattle.shm_base.specs.declared.call.Call.TheVariants.{Load, Store, Xadd}
+use Rattle.shm_base.specs.declared.call.Reply.{Reply}
+use Rattle.shm_base.specs.declared.call.Reply.TheVariants.{Id, Bytes, Number, Done}
+use Rattle.shm_base.specs.declared.call.Event.{Event}
+use Rattle.shm_base.specs.State.{Segment, Piece, Machine, Opening}
+use Rattle.shm_base.specs.Access.{place}
+use Rattle.shm_base.specs.Identifier.{Invalid, look}
+use Rattle.shm_base.specs.Step.{Caller, caller_of}
+use Rattle.shm_laws.specs.Standing.{Stands, Since, Always, EachTurn}
+
+-- WHAT AN EVENT WRITES
+
+-- bytes, and the address of the first
+pub record Put : Type 0 where
+  pub from : ℕ
+  pub bytes : List ℕ
+
+-- what a store or an xadd puts where, if it was answered. Nothing else puts anything
+abbrev pub put : Call → Reply → Option Put
+put (Store addr bytes) Done = Some (record { from = addr; bytes = bytes })
+put (Xadd addr add) (Number old) = Some (record { from = addr; bytes = to_le_bytes w64 ((old + add) % 2 ^ 64) })
+put _ _ = None
+
+-- the pieces of a caller, none where there is no such process
+abbrev pub held_by : Option Caller → List Piece
+held_by None = []
+held_by (Some c) = c.pieces
+
+-- the address is, for the process, byte `at` of the segment
+abbrev pub IsByte : Machine → ℕ → ℕ → ℕ → ℕ → Type 0
+IsByte s pid addr id at = (w : Bool) × (place (held_by (caller_of s pid)) addr ≡ Some (record { seg = id; at = at; writable = w }))
+
+-- the event puts b there, and nothing there behind it
+pub record Writes (s : Machine) (e : Event) (id at b : ℕ) : Type 0 where
+  pub what : Put
+  pub puts : put e.call e.reply ≡ Some what
+  pub k : ℕ
+  pub byte : slice_get what.bytes k ≡ Some b
+  pub here : IsByte s e.pid (what.from + k) id at
+  pub last : (j : ℕ) → k < j → j < length what.bytes → IsByte s e.pid (what.from + j) id at → ⊥
+
+-- the event puts nothing there
+abbrev pub Spares : Machine → Event → ℕ → ℕ → Type 0
+Spares s e id at = (what : Put) → put e.call e.reply ≡ Some what → (k : ℕ) → k < length what.bytes → IsByte s e.pid (what.from + k) id at → ⊥
+
+-- the event made the segment: its identifier was never issued, and is the answer
+abbrev pub Makes : Machine → Event → ℕ → Type 0
+Makes s e id = (look s.table (pos id) ≡ Invalid) × (e.reply ≡ Id (pos id))
+
+-- WHO WROTE IT LAST
+
+-- after these events byte `at` of the segment is b: an event wrote b there, and no later one wrote there; or b is 0, and no
+-- event wrote there since the one that made the segment
+abbrev pub IsLast : Opening → List Event → ℕ → ℕ → ℕ → Type 0
+IsLast o before id at b =
+    Since o (λ s e. Writes s e id at b) (λ s e. Spares s e id at) before
+    ⊎ ((b ≡ 0) × Since o (λ s e. Makes s e id) (λ s e. Spares s e id at) before)
+
+-- so it is with each byte of each segment that stands
+abbrev pub Remembers : Opening → List Event → Machine → Type 0
+Remembers o before s = (id at b : ℕ) (x : Segment) → Stands s id x → slice_get x.bytes at ≡ Some b → IsLast o before id at b
+
+-- as many bytes, and each of them the last that was written where its address is
+pub record AreLast (o : Opening) (before : List Event) (s : Machine) (pid addr len : ℕ) (bytes : List ℕ) : Type 0 where
+  pub long : length bytes ≡ len
+  pub each : (k b : ℕ) → slice_get bytes k ≡ Some b → (id : ℕ) × (at : ℕ) × IsByte s pid (addr + k) id at × IsLast o before id at b
+
+-- a load answers the bytes that were written last, and an xadd their number
+pub record Recalls (o : Opening) (before : List Event) (s : Machine) (e : Event) (t : Machine) : Type 0 where
+  pub load : (addr len : ℕ) (bytes : List ℕ) → e.call ≡ Load addr len → e.reply ≡ Bytes bytes → AreLast o before s e.pid addr len bytes
+  pub xadd :
+      (addr add old : ℕ) → e.call ≡ Xadd addr add → e.reply ≡ Number old → (bytes : List ℕ) × (old ≡ from_le_bytes w64 bytes) × AreLast o before s e.pid addr 8 bytes
+
+-- THE LAW. At each moment each byte is that of its last writer, and so is each byte that an event answers
+pub record HasLastWriters (o : Opening) (events : List Event) (end : Machine) : Type 0 where
+  pub bytes : Always (Remembers o) o events
+  pub replies : EachTurn (Recalls o) o events

@@ -1,0 +1,16 @@
+ghost use Rattle.std.specs.Prelude.{◌≡◌};
+ghost use Rattle.shm_laws.specs.Leave.{NoWayIn};
+
+use shm_base::Event;
+use shm_history::World;
+use shm_pager::Pager;
+
+#[tactic(auto, using(crate::proofs::Granting::no_way_in))]
+/// The history of the world. In it each piece of a process goes back, through forks alone, to a shmat that was granted;
+/// each access stays inside the pieces of its process, and set, rmid, lock and unlock are done for owners alone.
+pub fn kept_out<P: Pager>(world: &World<P>) -> &[Event]
+    ensures law { NoWayIn world.now.opening result.now world.now.machine }
+    ensures events { result.now ≡ world.now.events }
+{
+    world.history()
+}
