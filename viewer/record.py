@@ -1,6 +1,7 @@
 """Reads the record of a run, as `shmview` writes it, and says what each step changed."""
 
 from dataclasses import dataclass, field
+from functools import cached_property
 
 
 @dataclass
@@ -17,9 +18,11 @@ class Step:
     slots: dict = field(default_factory=dict)       # (area, slot): page
     failures: int = 0
 
+    @cached_property
     def frame_of(self):
         return {page: frame for frame, (page, _, _) in self.frames.items()}
 
+    @cached_property
     def slot_of(self):
         return {page: slot for slot, page in self.slots.items()}
 
@@ -105,17 +108,17 @@ def say_processes(before, after):
 
 def left(page, before, after):
     """Where a page is that left its frame."""
-    slot = after.slot_of().get(page)
+    frame, slot = before.frame_of[page], after.slot_of.get(page)
     if slot is None:
-        return f"{named(page)} left its frame and is zeros"
-    if before.frames[before.frame_of()[page]][2]:
+        return f"{named(page)}, never stored into, left frame {frame}"
+    if before.frames[frame][2]:
         return f"{named(page)} went to {placed(slot, after)}"
     return f"{named(page)} was clean and stays in {placed(slot, after)}"
 
 
 def came(page, frame, other, before):
     """A page in a frame; its segment is not named again behind a page of the same."""
-    slot = before.slot_of().get(page)
+    slot = before.slot_of.get(page)
     name = f"page {page[1]}" if other and other[0] == page[0] else named(page)
     return f"frame {frame} taken for {name}" + (f", read from {placed(slot, before)}" if slot else "")
 
@@ -140,7 +143,7 @@ def say_bits(before, after):
         old = before.frames.get(frame)
         was_dirty = bool(old and old[0] == page and old[2])
         if was_dirty and not dirty:
-            written.append((page, after.slot_of().get(page)))
+            written.append((page, after.slot_of.get(page)))
         if dirty and not was_dirty:
             changed.append(page)
     for page, slot in written:
@@ -162,8 +165,8 @@ def say_areas(before, after):
     for at, (was, is_there) in enumerate(zip(before.areas, after.areas)):
         if was and not is_there:
             yield f"swap area {at} is gone"
-    now = after.slot_of()
-    for page, slot in before.slot_of().items():
+    now = after.slot_of
+    for page, slot in before.slot_of.items():
         if page in now and now[page] != slot:
             yield f"{named(page)} moved from {placed(slot, before)} to {placed(now[page], after)}"
         elif page not in now and page[0] in after.segments:
