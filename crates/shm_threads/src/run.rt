@@ -83,11 +83,31 @@ pub(crate) fn run_with<R: Threads + Wait + Sync, G: Gate, P: Pager + Send>(
     ensures outcome { IfOk result (λ r. IsOutcome script.now world.opening r.0.world r.0.transcripts.items) }
     ensures cell { IfOk result (λ r. cell_of r.1 ≡ cell_of keeper) }
 {
+    let start = prepared(alloc, &mut world, script)?;
+    run_prepared(rt, world, start, keeper, script, gate, refused_from)
+}
+
+// A run on a world that has room for an event of each line, with all else that a run takes memory for.
+fn run_prepared<R: Threads + Wait + Sync, G: Gate, P: Pager + Send>(
+    rt: &R,
+    world: World<P>,
+    start: Start,
+    keeper: Option<Keeper>,
+    script: &Script,
+    gate: &G,
+    refused_from: usize,
+) -> Result<(Outcome<P>, Option<Keeper>), RunError>
+    requires opening { start.opening ≡ world.opening }
+    requires plan { IsPlan script.now.lines start.plan.jobs start.plan.handles start.plan.transcripts }
+    requires room { length script.now.lines ≤ world.room }
+    ensures outcome { IfOk result (λ r. IsOutcome script.now world.opening r.0.world r.0.transcripts.items) }
+    ensures cell { IfOk result (λ r. cell_of r.1 ≡ cell_of keeper) }
+{
     let Start {
         opening,
         processes,
         plan,
-    } = prepared(alloc, &mut world, script)?;
+    } = start;
     let shared = Shared::new(world, processes);
     let run = run_all(rt, &shared, keeper, script, gate, plan, refused_from);
     let world = shared.into_world();
