@@ -29,7 +29,7 @@ use Rattle.shm_laws.proofs.Accessing.{place-of, places-length, writable-parts}
 use Rattle.shm_laws.proofs.Fitting.{IsFit, fit-start, fit-move, spot-fits}
 use Rattle.shm_laws.proofs.Inducting.{always}
 use Rattle.shm_laws.proofs.Looks.{stands-at}
-use Rattle.shm_laws.proofs.Replaying.{is-step, first-clear, rest-clear}
+use Rattle.shm_history.proofs.Clear.{clear_step, first_clear, rest_clear}
 use Rattle.shm_laws.proofs.Veiling.{veiled-pages, veiled_look, veiled-destroyed, reserved-veiled, locked-sum, count-veiled, free-veiled, find-veiled, look-veiled, change-veiled, detach-veiled, swept-veiled, made-veiled, Seen, Hid, loaded-veiled, stored-veiled, stored-hidden}
 
 -- the outcome with those bytes hidden
@@ -368,8 +368,8 @@ record OneTurn (hidden : ℕ → Bool) (s : Machine) (e f : Event) (u v : Machin
 one-turn : (hidden : ℕ → Bool) (s other : Machine) (n : ℕ) (e f : Event) (u v : Machine) → IsFit s → DifferIn hidden s other → IsMove s n e u → IsMove other n f v
     → is_failure e.call e.reply ≡ false → is_failure f.call f.reply ≡ false → Asks hidden s e f → OneTurn hidden s e f u v
 one-turn hidden s other n e f u v fit differ m k a b (inl asks) =
-    let left = is-step s n e u a m in
-    let right = is-step other n f v b k in
+    let left = clear_step s n e u a m in
+    let right = clear_step other n f v b k in
     let same = blind-step hidden s other n e.pid e.call differ (spot-hidden hidden s e.pid false fit asks.none) in
     let there : step other n f.pid f.call ≡ step other n e.pid e.call = λ j. step other n (asks.process j) (asks.call j) in
     let both : out hidden (record { reply = f.reply; state = v }) ≡ out hidden (record { reply = e.reply; state = u }) =
@@ -391,8 +391,8 @@ blind-on n s [] t fit hidden other [] after differ legal a b beside = (beside, a
 blind-on n s [] t fit hidden other (f ∷ fs) after differ legal a b beside = absurd beside
 blind-on n s (e ∷ es) t fit hidden other [] after differ legal a b beside = absurd beside
 blind-on n s (e ∷ es) t fit hidden other (f ∷ fs) after differ legal a b beside =
-    let one = one-turn hidden s other n e f beside.0 legal.0 fit differ beside.1 legal.1 (first-clear e es a) (first-clear f fs b) beside.2 in
-    let more = blind-on (n + 1) beside.0 es t (fit-move s n e beside.0 fit beside.1) hidden legal.0 fs after one.differ legal.2 (rest-clear e es a) (rest-clear f fs b) beside.3 in
+    let one = one-turn hidden s other n e f beside.0 legal.0 fit differ beside.1 legal.1 (first_clear e es a) (first_clear f fs b) beside.2 in
+    let more = blind-on (n + 1) beside.0 es t (fit-move s n e beside.0 fit beside.1) hidden legal.0 fs after one.differ legal.2 (rest_clear e es a) (rest_clear f fs b) beside.3 in
     ((beside.0, beside.1, one.alike, more.0), more.1)
 
 fit-always : (o : Opening) (before : List Event) (s : Machine) → IsHistory o before s → IsFit s

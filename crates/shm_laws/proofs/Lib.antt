@@ -19,3 +19,4 @@ pub mod Remembering
 pub mod Veiling
 pub mod Isolating
 pub mod Counting
+pub mod Keeping

@@ -1,7 +1,6 @@
 -- Of legal histories without failures there is one for each opening and calls.
-use Rattle.std.proofs.Common.{◌≡◌, ℕ, ◌+◌, Bool, true, false, cond, ◌==◌, drop, List, [], ◌∷◌, Option, Some, None, nat_lt, slice_get, slice_set, refl, sym, ap, ◌∙◌, subst, arith, inl, inr, true≢false}
+use Rattle.std.proofs.Common.{◌≡◌, ℕ, ◌+◌, true, false, ◌==◌, drop, List, [], ◌∷◌, Option, Some, None, nat_lt, slice_get, slice_set, refl, sym, ap, ◌∙◌, subst, arith, inl, inr, true≢false}
 use Rattle.std.proofs.lemmas.Bool.{cases_Bool}
-use Rattle.std.proofs.lemmas.Grind.{common_steps}
 use Rattle.shm_base.specs.declared.call.Call.{Call}
 use Rattle.shm_base.specs.declared.call.Call.TheVariants.{Shmget, Shmat, Shmdt, Stat, Set, Rmid, Lock, Unlock, Load, Store, Xadd, Fork, Exec, Exit, Swapoff}
 use Rattle.shm_base.specs.declared.call.Reply.TheVariants.{Bytes}
@@ -10,8 +9,9 @@ use Rattle.shm_base.specs.Access.{Place}
 use Rattle.shm_base.specs.State.{Machine, Opening, start_of}
 use Rattle.shm_base.specs.Segments.{slots, reserved}
 use Rattle.shm_base.specs.Step.{Caller, Outcome, acts, step_by, step, caller_of, load, store, xadd, swapoff, takes_away}
-use Rattle.shm_base.specs.History.{is_refusal, is_failure, IsStep, IsExcused, IsMove, LeadsFrom, IsHistory}
+use Rattle.shm_base.specs.History.{is_refusal, is_failure, IsExcused, IsMove, LeadsFrom, IsHistory}
 use Rattle.shm_history.specs.WorldState.{calls_of, failures_in}
+use Rattle.shm_history.proofs.Clear.{clear_step, failures-cons, first_clear, rest_clear}
 use Rattle.shm_laws.specs.Replay.{undone, without_failures, IsReplayed}
 
 -- THE STEP NAMES NO FAILURE
@@ -87,11 +87,6 @@ step-clear s n pid call = by-clear s n call (caller_of s pid)
 
 -- ONE MOVE
 
--- a move that is no failure is a step
-pub is-step : (s : Machine) (n : ℕ) (e : Event) (t : Machine) → is_failure e.call e.reply ≡ false → IsMove s n e t → IsStep s n e t
-is-step s n e t clear (inl m) = m
-is-step s n e t clear (inr x) = absurd (true≢false (sym x.failure ∙ clear))
-
 -- and a failure is excused
 is-excused : (s : Machine) (n : ℕ) (e : Event) (t : Machine) → is_failure e.call e.reply ≡ true → IsMove s n e t → IsExcused s n e t
 is-excused s n e t failed (inr x) = x
@@ -121,26 +116,13 @@ undone-clear e =
 
 -- WHOLE HISTORIES
 
-failures-cons : (e : Event) (es : List Event) → failures_in (e ∷ es) ≡ cond (is_failure e.call e.reply) 1 0 + failures_in es
-failures-cons e es = grind (arith, common_steps)
-
-no_count : (b : Bool) (n : ℕ) → cond b 1 0 + n ≡ 0 → b ≡ false
-no_count true n none = absurd (omega (arith, none))
-no_count false n none = refl
-
-pub first-clear : (e : Event) (es : List Event) → failures_in (e ∷ es) ≡ 0 → is_failure e.call e.reply ≡ false
-first-clear e es none = no_count (is_failure e.call e.reply) (failures_in es) (sym (failures-cons e es) ∙ none)
-
-pub rest-clear : (e : Event) (es : List Event) → failures_in (e ∷ es) ≡ 0 → failures_in es ≡ 0
-rest-clear e es none = let more = failures-cons e es in omega (arith, none, more)
-
 all-clear : (es : List Event) → failures_in (without_failures es) ≡ 0
 all-clear [] = refl
 all-clear (e ∷ es) = let rest = all-clear es in failures-cons (undone e) (without_failures es) ∙ rw (undone-clear e) (omega (arith, rest))
 
 none-undone : (es : List Event) → failures_in es ≡ 0 → without_failures es ≡ es
 none-undone [] none = refl
-none-undone (e ∷ es) none = rw (first-clear e es none) (ap (λ xs. e ∷ xs) (none-undone es (rest-clear e es none)))
+none-undone (e ∷ es) none = rw (first_clear e es none) (ap (λ xs. e ∷ xs) (none-undone es (rest_clear e es none)))
 
 leads-undone : (n : ℕ) (s : Machine) (es : List Event) (t : Machine) → LeadsFrom n s es t → LeadsFrom n s (without_failures es) t
 leads-undone n s [] t h = h
@@ -159,14 +141,14 @@ one-way n s (e ∷ es) (f ∷ fs) t u h k a b same =
     let pids : e.pid ≡ f.pid = ap (λ (p : ℕ × Call). p.0) asked in
     let calls : e.call ≡ f.call = ap (λ (p : ℕ × Call). p.1) asked in
     let rest : calls_of es ≡ calls_of fs = ap (drop 1) same in
-    let left = is-step s n e h.0 (first-clear e es a) h.1 in
-    let right = is-step s n f k.0 (first-clear f fs b) k.1 in
+    let left = clear_step s n e h.0 (first_clear e es a) h.1 in
+    let right = clear_step s n f k.0 (first_clear f fs b) k.1 in
     let both : record { reply = e.reply; state = h.0 } ≡ record { reply = f.reply; state = k.0 } =
     sym left ∙ ap (λ (p : ℕ × Call). step s n p.0 p.1) (λ i. (pids i, calls i)) ∙ right in
     let replies : e.reply ≡ f.reply = ap (λ (o : Outcome). o.reply) both in
     let states : k.0 ≡ h.0 = sym (ap (λ (o : Outcome). o.state) both) in
     let first : e ≡ f = λ i. record { pid = pids i; call = calls i; reply = replies i } in
-    let more = one-way (n + 1) h.0 es fs t u h.2 (subst (λ v. LeadsFrom (n + 1) v fs u) states k.2) (rest-clear e es a) (rest-clear f fs b) rest in
+    let more = one-way (n + 1) h.0 es fs t u h.2 (subst (λ v. LeadsFrom (n + 1) v fs u) states k.2) (rest_clear e es a) (rest_clear f fs b) rest in
     ((λ i. first i ∷ more.0 i), more.1)
 
 -- every legal history is replayed

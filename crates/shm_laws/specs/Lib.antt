@@ -6,4 +6,5 @@ pub mod Pieces
 pub mod Leave
 pub mod Writing
 pub mod Isolation
+pub mod Lawful
 pub mod Worked

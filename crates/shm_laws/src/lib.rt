@@ -3,6 +3,7 @@
 
 mod identity;
 mod isolation;
+mod laws;
 mod leave;
 mod pieces;
 mod removal;
@@ -12,6 +13,7 @@ mod writing;
 
 pub use identity::named_once;
 pub use isolation::isolated;
+pub use laws::lawful;
 pub use leave::kept_out;
 pub use pieces::pieces_stand;
 pub use removal::removed_in_time;

@@ -7,6 +7,7 @@ use Rattle.shm_life.specs.declared.start.StartError.{StartError}
 use Rattle.shm_life.specs.Start.{start_error, number_of}
 use Rattle.shm_life.specs.MachineView.{IsExactly}
 use Rattle.shm_history.specs.WorldState.{WorldState, AreCounted}
+use Rattle.shm_laws.specs.Lawful.{IsLawful}
 use Rattle.shm_text.specs.Script.{ScriptView}
 use Rattle.shm_text.specs.Reading.{script_of}
 use Rattle.shm_program.specs.declared.fault.RunFault.{RunFault}
@@ -15,12 +16,13 @@ use Rattle.shm_program.specs.declared.fault.RunFault.TheVariants.{Script, StartR
 abbrev pub opening_of : ScriptView → List ℕ → Opening
 opening_of script areas = record { limits = script.limits; areas = areas; processes = script.processes }
 
--- the history of a world is legal, its memory shows the machine at its end exactly, and the failures that it names
--- were counted
+-- the history of a world is legal and keeps all laws, its memory shows the machine at its end exactly, and the failures
+-- that it names were counted
 pub record IsSound (w : WorldState) : Type 0 where
   pub legal : IsHistory w.opening w.events w.machine
   pub counted : AreCounted w.events w.memory.swap
   pub exact : IsExactly w.machine w.memory
+  pub laws : IsLawful w.opening w.events w.machine
 
 -- a world as a script opens it: its start was not refused
 pub record IsOpening (script : ScriptView) (opening : Opening) : Type 0 where

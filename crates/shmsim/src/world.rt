@@ -7,6 +7,7 @@ ghost use Rattle.shmsim.specs.Output.{world_text};
 
 use shm_base::Event;
 use shm_history::World;
+use shm_laws::lawful;
 use shm_pager::Pager;
 use shm_print::push_event;
 use shm_program::{RunFault, write_output};
@@ -32,7 +33,7 @@ fn world_text<P: Pager>(alloc: Global, world: &World<P>) -> Result<String, Alloc
     ensures text { IfOk result (λ text. string_bytes text ≡ world_text world.now) }
     ensures sound { IsSound world.now }
 {
-    let mut text = history_text(alloc, world.history())?;
+    let mut text = history_text(alloc, lawful(world))?;
     text.push_str(&listing(alloc, world)?)?;
     text.push_str(&usage(alloc, world)?)?;
     Ok(text)

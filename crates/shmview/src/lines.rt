@@ -8,6 +8,7 @@ ghost use Rattle.shmview.specs.Record.{HasRun, Leads, shown_text};
 use crate::steps::Steps;
 use shm_base::{Event, HostMemory};
 use shm_history::World;
+use shm_laws::lawful;
 use shm_pager::Pager;
 use shm_program::Values;
 use shm_text::{Line, Script};
@@ -51,7 +52,7 @@ fn push_shown<P: Pager>(
     ensures sound { IsSound world.now }
 {
     // What the history tells is true of each world that is shown.
-    let _sound = world.history();
+    let _sound = lawful(world);
     if steps.is_among(number) {
         push_step(alloc, text, number, action, world)?;
     }
