@@ -29,9 +29,9 @@ loop-line-preserved g c =
     let split : drop i ls ≡ line ∷ drop (i + 1) ls = drop_more ls i line (grind (arith, common_steps)) ∙ ap (λ (l : Line). l ∷ drop (i + 1) ls) here in
     let run : HasRun hs w line action c.run_line.new.values next = c.in_ok-action.ensures in
     let text = string_bytes c.loop-line.text in
-    let pushed : string_bytes c.push_shown.new.text ≡ text ++ shown_text steps n action next = c.in_ok-push_shown.ensures in record {
+    let pushed : string_bytes c.push_shown.new.text ≡ text ++ shown_text steps n action next = c.in_ok-push_shown.ensures.text in record {
       leads = λ more leads.
-          let step : Leads steps hs n w (drop i ls) (shown_text steps n action next ++ more) = subst (λ (left : List Line). Leads steps hs n w left (shown_text steps n action next ++ more)) (sym split) (one_more steps hs c.run_line.new.values n w next line (drop (i + 1) ls) action more run leads) in
+          let step : Leads steps hs n w (drop i ls) (shown_text steps n action next ++ more) = subst (λ (left : List Line). Leads steps hs n w left (shown_text steps n action next ++ more)) (sym split) (one_more steps hs c.run_line.new.values n w next line (drop (i + 1) ls) action more run c.push_shown.ensures.sound leads) in
           let (rest, whole, same) = c.loop-line.invariant.leads (shown_text steps n action next ++ more) step in
           (rest, whole, ap (λ t. t ++ more) pushed ∙ append_assoc text (shown_text steps n action next) more ∙ same);
       count = ap (λ k. k + 1) c.loop-line.invariant.count;
