@@ -111,11 +111,7 @@ impl<P: Pager> PageStore<P> {
     }
 
     // Brings in the pages of at most two stretches.
-    fn bring_spans(
-        &mut self,
-        spans: &[Span],
-        touched: &mut Touched,
-    ) -> Result<InFrames, PagerFault>
+    fn bring_spans(&mut self, spans: &[Span], touched: &mut Touched) -> Result<InFrames, PagerFault>
         requires few { length spans.now ≤ 2 }
         requires fit { All (FitsPage (held self.old)) spans.now }
         requires frames { All (λ (p : Stretch). p.frame ≡ frame_of self.old p.seg (page_of p)) spans.now }
