@@ -1,5 +1,5 @@
 -- Where no pager failed, a script's history is the one that it makes of the flat machine.
-use Rattle.std.proofs.Common.{arith, inl, inr, ◌≡◌, ℕ, ◌+◌, ◌≤◌, ◌++◌, Bool, true, false, List, [], ◌∷◌, Some, map, refl, sym, ap, subst, ◌∙◌, true≢false, append_assoc}
+use Rattle.std.proofs.Common.{arith, inl, inr, ◌≡◌, ℕ, ◌+◌, ◌≤◌, ◌++◌, Bool, true, false, List, [], ◌∷◌, Some, map, refl, sym, ap, subst, ◌∙◌, true≢false}
 use Rattle.shm_base.specs.declared.call.Event.{Event}
 use Rattle.shm_base.specs.State.{Machine, Opening, start_of}
 use Rattle.shm_base.specs.Step.{Outcome, step}
@@ -53,4 +53,3 @@ flat_printed script areas w is follows unspent clear =
     let usage = usage_text (tally_of w) in
     ap (λ (es : List Event). events_text 1 es ++ listing_of w.machine ++ usage) flat.0
     ∙ ap (λ (m : Machine). events_text 1 (flat_events 1 (start_of (opening_of script areas)) hs script.lines) ++ listing_of m ++ usage) flat.1
-    ∙ sym (append_assoc (events_text 1 (flat_events 1 (start_of (opening_of script areas)) hs script.lines)) (listing_of (flat_end 1 (start_of (opening_of script areas)) hs script.lines)) usage)
