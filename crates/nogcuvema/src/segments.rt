@@ -13,7 +13,6 @@ use shm_base::{AtFlags, GetFlags};
 use shm_machine::Machine;
 use std::alloc::Global;
 
-#[tactic(auto, using(crate::proofs::Answering::refused))]
 fn get(
     machine: &mut Machine,
     pid: u32,
