@@ -11,6 +11,7 @@ use crate::steps::{MOST, Steps};
 use crate::stop::Stop;
 use shm_base::HostMemory;
 use shm_history::World;
+use shm_laws::lawful;
 use shm_pager::Pager;
 use shm_program::{RunFault, open_world, whole_script, write_output};
 use shm_text::Script;
@@ -91,7 +92,7 @@ fn view_in<W: Write, P: Pager>(
     ensures silent { IfErr result (λ s. WritesNothing s (W.contents writer.old) (W.contents writer.new)) }
 {
     // What is told here of the world is true before its first step.
-    let _sound = world.history();
+    let _sound = lawful(world);
     match record(alloc, Steps::asked(asked), world, script) {
         Ok(text) => write_text(writer, text.as_bytes()),
         Err(HostMemory) => Err(Stop::Fault(RunFault::HostMemory)),
