@@ -33,7 +33,7 @@ abbrev pub Answered : SystemState → ℕ → Call → Result Reply Refusal → 
 Answered before pid call (Ok reply) after = Moves before pid call reply after
 Answered before pid call (Err (Refused errno)) after = Moves before pid call (replies.Refused errno) after
 Answered before pid call (Err HostMemory) after =
-  (before.calls < most_calls) × (TakesNoMemory call → ⊥) × (is_refusal (step before.machine (before.calls + 1) pid call).reply ≡ false) × (after ≡ before)
+    (before.calls < most_calls) × (TakesNoMemory call → ⊥) × (is_refusal (step before.machine (before.calls + 1) pid call).reply ≡ false) × (after ≡ before)
 Answered before pid call (Err Spent) after = (before.calls ≡ most_calls) × (after ≡ before)
 
 -- whether a reply that is no refusal is of the call's kind

@@ -32,10 +32,7 @@ fn errors_are_told(rt: HostRuntime) {
         ),
         (text_of(alloc, &MirrorCause::HostMemory), "out of memory"),
         (text_of(alloc, &PagerFault), "a pager failed"),
-        (
-            text_of(alloc, &Segv),
-            "address not mapped, or not writable",
-        ),
+        (text_of(alloc, &Segv), "address not mapped, or not writable"),
     ];
     for (text, want) in texts {
         assert!(rt; text.is_ok_and(|t| t.as_str() == want));
