@@ -22,4 +22,4 @@ returns-in-Ok g c =
     let p = c.args.pair.now in
     let s = p.paged in
     let fit : All (FitsPage (held s)) c.name_frames.new.spans = rw c.name_frames.ensures (access-named s s c.args.spans.now _ c.requires.spans refl).fit in
-    record { alike = alike-written s p.plain p.rows.items c.requires.alike c.write.new.self c.write-in-Ok.new.self c.name_frames.new.spans c.args.bytes.now fit c.in-Ok.ensures.written c.write-in-Ok.ensures c.in-Ok.ensures.count }
+    record { alike = alike-written s p.plain p.rows.items c.requires.alike c.write.new.self c.write-in-Ok.new.self c.name_frames.new.spans c.args.bytes.now fit c.in-Ok.ensures.written c.write-in-Ok.ensures c.in-Ok.ensures.access.size }
