@@ -3,7 +3,7 @@ ghost use Rattle.std.specs.Prelude.{◌≡◌};
 ghost use Rattle.nogcuvema.specs.Shown.{shown_by, index_of, tally_by, report_by};
 
 use bitflags::Flags;
-use shm_base::{FlushReport, ShmidDs, Tally};
+use shm_base::{FlushReport, INDEXES, ShmidDs, Tally};
 
 /// The limits of a machine.
 #[repr(C)]
@@ -75,7 +75,7 @@ pub(crate) fn index_of(id: i32) -> u32
     ensures { result ≡ index_of id }
 {
     match u32::try_from(id) {
-        Ok(id) => id % 32768,
+        Ok(id) => id % INDEXES,
         Err(_) => 0,
     }
 }

@@ -6,6 +6,7 @@ ghost use Rattle.shm_base.specs.Space as flat;
 ghost use Rattle.shm_areas.specs.Arranged.{bare, bare_all, Arranged, IsFit};
 ghost use Rattle.shm_areas.specs.Edit.{kept_below, kept_above, kept_cut, IsCut, left_by};
 
+use shm_base::PAGE_SIZE;
 use crate::piece::Piece;
 use crate::search::run_in;
 
@@ -29,7 +30,7 @@ fn part_below(piece: &Piece, from: u64) -> Option<Piece>
         return None;
     }
     Some(Piece {
-        pages: ((from - piece.base) / 4096) as u32,
+        pages: ((from - piece.base) / PAGE_SIZE) as u32,
         ..*piece
     })
 }
@@ -46,8 +47,8 @@ fn part_above(piece: &Piece, to: u64) -> Option<Piece>
     }
     Some(Piece {
         base: to,
-        first_page: piece.first_page + ((to - piece.base) / 4096) as u32,
-        pages: ((end - to) / 4096) as u32,
+        first_page: piece.first_page + ((to - piece.base) / PAGE_SIZE) as u32,
+        pages: ((end - to) / PAGE_SIZE) as u32,
         ..*piece
     })
 }

@@ -1,3 +1,4 @@
+use shm_base::PAGE_SIZE;
 use std::marker::Model;
 
 /// An attached run of pages of a segment. Its translations lie under the key.
@@ -41,7 +42,7 @@ impl Piece {
         requires { IsFit (bare self.now) }
         ensures { result ≡ flat.end_of (bare self.now) }
     {
-        self.base + 4096 * self.pages as u64
+        self.base + PAGE_SIZE * self.pages as u64
     }
 
     /// How many parts of a piece with a page in a range lie outside it.
@@ -57,6 +58,6 @@ impl Piece {
     pub fn has_origin(&self, addr: u64) -> bool
         ensures { result ≡ has_origin addr (bare self.now) }
     {
-        self.base as u128 == addr as u128 + 4096 * self.first_page as u128
+        self.base as u128 == addr as u128 + PAGE_SIZE as u128 * self.first_page as u128
     }
 }

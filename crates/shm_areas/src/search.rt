@@ -6,6 +6,7 @@ ghost use Rattle.shm_areas.specs.Gap.{gap_from};
 ghost use Rattle.shm_areas.specs.Met.{IsRun};
 ghost use Rattle.shm_areas.specs.declared.piece.Piece.{Piece as Stored};
 
+use shm_base::{END_ADDRESS, FIRST_GAP, PAGE_SIZE};
 use crate::piece::Piece;
 
 /// Pieces side by side: the place of the first, and the place behind the last.
@@ -79,15 +80,15 @@ pub(crate) fn least_gap(pieces: &[Piece], pages: u32) -> Option<u64>
     requires arranged { Arranged flat.lowest_address (bare_all pieces.now) }
     ensures { result ≡ gap_from pages flat.first_chosen (bare_all pieces.now) }
 {
-    let size = 4096 * pages as u64;
-    let mut base = 0x40000000;
+    let size = PAGE_SIZE * pages as u64;
+    let mut base = FIRST_GAP;
     for piece in pieces {
         if base + size <= piece.base {
             return Some(base);
         }
         base = base.max(piece.end());
     }
-    if base + size <= 0x7ffffffff000 {
+    if base + size <= END_ADDRESS {
         Some(base)
     } else {
         None

@@ -13,7 +13,7 @@ use crate::cut::{count_left, cut_of, replace};
 use crate::piece::{Piece, Place};
 use crate::search::{count_below, count_to, least_gap, piece_in, run_in};
 use bitflags::Flags;
-use shm_base::{AtFlags, Errno, HostMemory};
+use shm_base::{AtFlags, END_ADDRESS, Errno, HostMemory, LOWEST_ADDRESS, PAGE_SIZE};
 use std::alloc::Global;
 use std::marker::Model;
 
@@ -77,7 +77,7 @@ impl Space {
         };
         Some(Place {
             seg: piece.seg,
-            at: 4096 * piece.first_page as u64 + (addr - piece.base),
+            at: PAGE_SIZE * piece.first_page as u64 + (addr - piece.base),
             writable: piece.writable,
         })
     }
@@ -100,12 +100,12 @@ impl Space {
         requires { (1 ≤ pages) × (pages ≤ 4096) }
         ensures { result ≡ fixed (bare_all self.now) addr pages flags }
     {
-        let base = addr - addr % 4096;
-        if base < 0x10000 || base > 0x7ffffffff000 {
+        let base = addr - addr % PAGE_SIZE;
+        if base < LOWEST_ADDRESS || base > END_ADDRESS {
             return Err(Errno::Einval);
         }
-        let end = base + 4096 * pages as u64;
-        if end > 0x7ffffffff000 {
+        let end = base + PAGE_SIZE * pages as u64;
+        if end > END_ADDRESS {
             return Err(Errno::Einval);
         }
         if !flags.contains(AtFlags::REMAP) && self.is_occupied(base, end) {

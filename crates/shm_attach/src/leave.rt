@@ -5,15 +5,11 @@ ghost use Rattle.shm_base.specs.Step.{with_pieces, with_end, segments_of};
 ghost use Rattle.shm_fault.specs.Store.{StoreView};
 ghost use Rattle.shm_attach.specs.Spaces.{pieces_at, seen, IsCaller, AreTrue};
 
+use shm_base::{END_ADDRESS, LOWEST_ADDRESS};
 use crate::changes::{set_life_at, take_at, take_range};
 use crate::lost::Lost;
 use crate::process::{Caller, Life};
 use crate::spaces::Spaces;
-
-/// All addresses that a piece may have.
-const LOWEST: u64 = 0x10000;
-
-const END: u64 = 0x7ffffffff000;
 
 impl Spaces {
     /// Takes out the pieces of a segment that would begin at the address: those that are left of an attach. It
@@ -39,8 +35,8 @@ impl Spaces {
             &mut self.processes,
             &mut self.tables,
             caller.index,
-            LOWEST,
-            END,
+            LOWEST_ADDRESS,
+            END_ADDRESS,
         )
     }
 

@@ -14,7 +14,7 @@ ghost use Rattle.std.specs.Borrow.{Lends, sem};
 
 use crate::rows::Rows;
 use indexmap::IndexMap;
-use shm_base::ShmId;
+use shm_base::{INDEXES, ShmId};
 use std::alloc::{AllocError, Global};
 use std::marker::Model;
 use thiserror::Error;
@@ -95,7 +95,7 @@ fn free_from<T>(entries: &Vec<Entry<T>>, first: usize) -> Option<usize>
         }
     }
     let len = entries.len();
-    if len < 32768 { Some(len) } else { None }
+    if len < INDEXES as usize { Some(len) } else { None }
 }
 
 pub(crate) fn id_of(index: usize, sequence: u32) -> ShmId
@@ -103,7 +103,7 @@ pub(crate) fn id_of(index: usize, sequence: u32) -> ShmId
     requires sequence { sequence < 65536 }
     ensures { result ≡ pos (identifier index sequence) }
 {
-    (index as u32 + 32768 * sequence) as i32
+    (index as u32 + INDEXES * sequence) as i32
 }
 
 // Makes room for a row at `index`.
@@ -184,7 +184,7 @@ fn sequence_at<T>(entries: &Vec<Entry<T>>, index: usize) -> u32
 fn index_in(id: ShmId) -> usize
     ensures { result ≡ index_of id }
 {
-    if id < 0 { 0 } else { id as usize % 32768 }
+    if id < 0 { 0 } else { id as usize % INDEXES as usize }
 }
 
 // Sets the key at an index to 0, and returns the one that was there.
@@ -371,8 +371,8 @@ impl<T: Drop> IdTable<T> {
         if id < 0 {
             return Err(LookRefused::Invalid);
         }
-        match self.entries.get(id as usize % 32768) {
-            Some(entry) => entry.look(id as u32 / 32768),
+        match self.entries.get(id as usize % INDEXES as usize) {
+            Some(entry) => entry.look(id as u32 / INDEXES),
             None => Err(LookRefused::Invalid),
         }
     }

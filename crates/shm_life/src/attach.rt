@@ -14,7 +14,7 @@ use crate::detach::{note_detached, sweep};
 use crate::machine::Machine;
 use bitflags::Flags;
 use shm_attach::Caller;
-use shm_base::{AtFlags, Errno, HostMemory, PAGE_SIZE, Reply, ShmId, Want, grants};
+use shm_base::{AtFlags, Errno, HostMemory, MOST_PIECES, PAGE_SIZE, Reply, ShmId, Want, grants};
 use shm_pager::Pager;
 
 /// Whether a null address comes with SHM_REMAP, or another is unaligned without SHM_RND (shmop(2)).
@@ -77,7 +77,7 @@ impl<P: Pager> Machine<P> {
             Ok(base) => base,
             Err(errno) => return Err(errno),
         };
-        if space.count_outside(base, base + PAGE_SIZE * pages as u64) >= 256 {
+        if space.count_outside(base, base + PAGE_SIZE * pages as u64) >= MOST_PIECES {
             return Err(Errno::Emfile);
         }
         Ok(Placed { seg, pages, base })

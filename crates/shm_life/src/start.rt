@@ -2,7 +2,7 @@
 ghost use Rattle.std.specs.Prelude.{◌≡◌, length, map};
 ghost use Rattle.shm_life.specs.Start.{start_error, are_sizes, has_pid, are_pids, number_of};
 
-use shm_base::Process;
+use shm_base::{LAST_PID, MOST_AREAS, MOST_PROCESSES, MOST_SLOTS, Process};
 use shm_pager::Pager;
 use thiserror::Error;
 
@@ -44,7 +44,7 @@ fn are_sizes_sound<P: Pager>(pagers: &[P]) -> bool
 {
     for pager in pagers {
         let slots = pager.slots();
-        if slots < 1 || slots > 65536 {
+        if slots < 1 || slots > MOST_SLOTS {
             return false;
         }
     }
@@ -62,7 +62,7 @@ fn are_pids_sound(processes: &[Process]) -> bool
 {
     for (index, process) in processes.iter().enumerate() {
         if process.pid < 1
-            || process.pid > 2147483647
+            || process.pid > LAST_PID
             || has_pid(&processes[index + 1..], process.pid)
         {
             return false;
@@ -75,13 +75,13 @@ fn are_pids_sound(processes: &[Process]) -> bool
 pub(crate) fn first_error<P: Pager>(pagers: &[P], processes: &[Process]) -> Option<StartError>
     ensures { result ≡ start_error (map (λ p. length (P.content p)) pagers.now) processes.now }
 {
-    if pagers.is_empty() || pagers.len() > 8 {
+    if pagers.is_empty() || pagers.len() > MOST_AREAS {
         return Some(StartError::Areas);
     }
     if !are_sizes_sound(pagers) {
         return Some(StartError::AreaSize);
     }
-    if processes.len() > 64 {
+    if processes.len() > MOST_PROCESSES {
         return Some(StartError::Processes);
     }
     if !are_pids_sound(processes) {

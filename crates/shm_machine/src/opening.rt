@@ -6,7 +6,7 @@ ghost use Rattle.shm_machine.specs.Areas.{blank, pages_in, failed_in, IsOfKind};
 ghost use Rattle.shm_machine.specs.Opened.{is_at, calls_at, sizes_of};
 
 use crate::area::{AreaKind, AreaPager, Failing};
-use shm_base::HostMemory;
+use shm_base::{HostMemory, MOST_SLOTS};
 use std::alloc::Global;
 
 /// A swap area: its kind, and how many slots it has. Each side of a mirror has as many.
@@ -112,7 +112,7 @@ pub(crate) fn are_sizes_sound(areas: &[Area]) -> bool
     ensures { result ≡ are_sizes (sizes_of areas.now) }
 {
     for area in areas {
-        if area.slots < 1 || area.slots > 65536 {
+        if area.slots < 1 || area.slots > MOST_SLOTS {
             return false;
         }
     }

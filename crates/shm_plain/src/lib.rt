@@ -1,10 +1,3 @@
-//! Segments as plain lists of bytes: a store that pages nothing out.
-//!
-//! It answers the calls of the paged store, by the same clauses on the bytes, and so stands in for it
-//! where no page is to move.
+//! Segments as plain lists of bytes: the words in which the page store, and what stands on it, is described, and what
+//! follows from them. It has no code.
 #![tactic(auto)]
-
-mod segment;
-mod store;
-
-pub use store::PlainStore;

@@ -4,13 +4,11 @@ ghost use Rattle.std.specs.Io.KnownBytes.{Appends, Consumes, IsAtEnd};
 ghost use Rattle.shm_text.specs.Reading.{script_of};
 ghost use Rattle.shm_program.specs.Runs.{IsCause, is_serial};
 
+use shm_base::LONGEST_SCRIPT;
 use crate::fault::{RunFault, refused};
 use shm_text::{Script, read_script};
 use std::alloc::Global;
 use std::io::{ErrorKind, Read, Write};
-
-/// The longest input that a script may have.
-const LONGEST: usize = 1_048_576;
 
 /// How often a reader is asked at most, interruptions included.
 const ASKS: u32 = 2_097_152;
@@ -25,20 +23,20 @@ enum ReadFault {
 /// Reads all there is, up to one byte more than the longest script.
 fn read_input<R: Read>(alloc: Global, reader: &mut R) -> Result<Vec<u8>, ReadFault>
     ensures taken { IfOk result (λ v. Consumes (R.remaining reader.old) (R.remaining reader.new) v.items) }
-    ensures whole { IfOk result (λ v. length v.items ≤ LONGEST → IsAtEnd (R.remaining reader.new)) }
-    ensures bound { IfOk result (λ v. length v.items ≤ LONGEST + 1) }
+    ensures whole { IfOk result (λ v. length v.items ≤ LONGEST_SCRIPT → IsAtEnd (R.remaining reader.new)) }
+    ensures bound { IfOk result (λ v. length v.items ≤ LONGEST_SCRIPT + 1) }
 {
     let mut input = Vec::new(alloc);
     let mut buffer = [0u8; 4096];
     for _ in 0..ASKS {
-        let room = (LONGEST + 1 - input.len()).min(4096);
+        let room = (LONGEST_SCRIPT + 1 - input.len()).min(4096);
         match reader.read(&mut buffer[..room]) {
             Ok(0) => return Ok(input),
             Ok(count) => {
                 if input.extend_from_slice(&buffer[..count]).is_err() {
                     return Err(ReadFault::Memory);
                 }
-                if input.len() == LONGEST + 1 {
+                if input.len() == LONGEST_SCRIPT + 1 {
                     return Ok(input);
                 }
             }

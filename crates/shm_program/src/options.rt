@@ -3,6 +3,7 @@ ghost use Rattle.std.specs.Prelude.{◌≡◌, ◌≤◌, ◌<◌, ◌+◌, leng
 ghost use Rattle.shm_program.specs.Options.{slots_of, placed, area_by, fuse_by, colon, swap_of};
 ghost use Rattle.shm_text.specs.Number.{decimal_of};
 
+use shm_base::MOST_SLOTS;
 use shm_text::read_decimal;
 
 /// A swap area: its kind, its slots (1 to 65536), and of a fuse the place, from 1, of the read or the write
@@ -20,7 +21,7 @@ fn slots_of(word: &[u8]) -> Option<u32>
     ensures { result ≡ slots_of word.now }
 {
     let slots = read_decimal(word)?;
-    if slots < 1 || slots > 65536 {
+    if slots < 1 || slots > MOST_SLOTS {
         return None;
     }
     Some(slots as u32)

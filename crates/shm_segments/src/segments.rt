@@ -13,7 +13,7 @@ ghost use Rattle.std.specs.Borrow.{sem};
 ghost use Rattle.shm_segments.specs.Table.{IsFound, IsLive, look_of, refused_look, live, segment_in, made, destroyed, reowned, relocked};
 
 use crate::head::{Found, Head};
-use shm_base::{Errno, HostMemory, ShmId, pages_of};
+use shm_base::{Errno, HostMemory, INDEXES, ShmId, pages_of};
 use shm_fault::PageStore;
 use shm_ids::{IdTable, LookRefused};
 use shm_pager::Pager;
@@ -53,7 +53,7 @@ fn id_of(table: &IdTable<Head>, seg: u32) -> ShmId
     ensures id { result ≡ pos seg }
     ensures live { IsOk (look table.now (pos seg)) }
 {
-    match table.row_at(seg as usize % 32768) {
+    match table.row_at(seg as usize % INDEXES as usize) {
         Some((id, _, _)) => id,
         None => unreachable!(),
     }
@@ -197,7 +197,7 @@ impl<P: Pager> Segments<P> {
         ensures seg { IfSome result (λ f. f.seg ≡ seg) }
         ensures none { IfNone result (live self.now.table seg ≡ None) }
     {
-        match self.at(seg % 32768) {
+        match self.at(seg % INDEXES) {
             Some(found) if found.seg == seg => Some(found),
             _ => None,
         }

@@ -2,7 +2,7 @@ ghost use Rattle.std.specs.Prelude.{◌≡◌, ◌≤◌, [], None, IfOk};
 ghost use Rattle.shm_plain.specs.Held.{with_zeros};
 
 use shm_base::{HostMemory, Span};
-use shm_plain::PlainStore;
+use shm_twin::PlainStore;
 use std::alloc::Global;
 
 fn stretch(seg: u32, at: u64, len: u64) -> Span

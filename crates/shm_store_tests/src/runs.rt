@@ -11,7 +11,7 @@ use crate::paging::{add_segment, fuse, is_area};
 use shm_base::{HostMemory, Span};
 use shm_fault::{PageStore, PageTally, Touched};
 use shm_pager::{FusePager, MirrorPager, Pager, RamPager};
-use shm_plain::PlainStore;
+use shm_twin::PlainStore;
 use shm_slots::Swap;
 use std::alloc::Global;
 use std::marker::Model;

@@ -11,10 +11,7 @@ use crate::operand::{
 };
 use crate::script::{LineAddr, LineCall, LineId};
 use crate::words::Words;
-use shm_base::AccessLen;
-
-/// The largest pid.
-pub(crate) const LAST_PID: u32 = 2_147_483_647;
+use shm_base::{AccessLen, LAST_PID};
 
 /// The largest number of a swap area.
 const LAST_AREA: u32 = 7;

@@ -3,17 +3,14 @@ ghost use Rattle.std.specs.Prelude.{◌≡◌, ◌<◌, ◌≤◌, length, true,
 ghost use Rattle.shm_text.specs.Form.{is_pid};
 ghost use Rattle.shm_text.specs.Reading.{limits_item, process_item, child_item, declared, declaration, taker, known, known_child, declared_pid, command, flush_item, command_item, body_item, words_item, line_item, is_skipped, is_wordless, HasPlace, HasPlaceFor, IsLimits, IsLine};
 
-use crate::calls::{LAST_PID, call_words};
+use crate::calls::call_words;
 use crate::fault::FaultKind;
 use crate::number::Number;
 use crate::operand::{any, first_letter, ranged, wanted};
 use crate::reading::Seen;
 use crate::script::{Command, FlushLine, Item, Line, LineCall, Variable};
 use crate::words::{Words, all_allowed};
-use shm_base::{Cred, Limits, Process};
-
-/// The most command lines of a script.
-const MOST_COMMANDS: u32 = 100_000;
+use shm_base::{Cred, LAST_PID, Limits, MOST_COMMANDS, MOST_FLUSHED, Process};
 
 #[tactic(auto, unfolding(crate::specs::Reading::limits_item))]
 fn limits_item(words: &Words<'_>) -> Result<Item, FaultKind>
@@ -175,7 +172,7 @@ fn flush_item(words: &Words<'_>) -> Result<Item, FaultKind>
         return Err(FaultKind::BadLine);
     }
     let pages = wanted(words.at(2))?;
-    let pages = ranged(pages, 1, 4096)?;
+    let pages = ranged(pages, 1, MOST_FLUSHED)?;
     Ok(Item::Line(Line::Flush(flush_line(pages))))
 }
 

@@ -9,7 +9,7 @@ use crate::fault::FaultKind;
 use crate::number::{Number, read_number};
 use crate::script::{LineAddr, LineId, Variable};
 use bitflags::Flags;
-use shm_base::{AtFlags, Chunk, GetFlags};
+use shm_base::{AtFlags, Chunk, GetFlags, LAST_ID};
 
 /// An identifier before its range is tested.
 #[derive(Clone, Copy)]
@@ -91,7 +91,7 @@ pub(crate) fn ranged_id(word: IdWord) -> Result<LineId, FaultKind>
 {
     match word {
         IdWord::Literal(number) => {
-            let number = ranged(number, 0, 2147483647)?;
+            let number = ranged(number, 0, LAST_ID)?;
             Ok(LineId::Number(number))
         }
         IdWord::Letter(var) => Ok(LineId::Var(var)),

@@ -10,7 +10,7 @@ use crate::lines::Lines;
 use crate::script::{Item, Line, Script};
 use crate::words::all_allowed;
 use arrayvec::ArrayVec;
-use shm_base::{Limits, Process};
+use shm_base::{LONGEST_SCRIPT, Limits, Process};
 use std::alloc::{AllocError, Global};
 use std::marker::Model;
 
@@ -82,9 +82,6 @@ impl Seen {
     }
 }
 
-/// The longest script.
-const LONGEST: usize = 1_048_576;
-
 /// What a script says, or its first fault. Want of memory is answered only where the script has no fault.
 /// A script has at most 1,048,576 bytes.
 #[tactic(auto, unfolding(crate::specs::Reading::script_of))]
@@ -92,7 +89,7 @@ pub fn read_script(alloc: Global, bytes: &[u8]) -> Result<Script, ReadRefused>
     ensures read { IfOk result (λ script. script_of bytes.now ≡ Ok script) }
     ensures fault { IfErr result (λ e. IsFaultOf e (script_of bytes.now)) }
 {
-    if bytes.len() > LONGEST {
+    if bytes.len() > LONGEST_SCRIPT {
         return Err(ReadRefused::Fault(ScriptFault {
             line: 0,
             kind: FaultKind::TooLong,
@@ -140,7 +137,7 @@ const NO_LIMITS: ScriptFault = ScriptFault {
 
 /// The first fault of a text's lines, or want of memory where they have none.
 fn fault_or_memory(bytes: &[u8]) -> ReadRefused
-    requires { length bytes.now ≤ LONGEST }
+    requires { length bytes.now ≤ LONGEST_SCRIPT }
     ensures { IsFaultOf result (told (lines_of bytes.now)) }
 {
     match first_fault(bytes) {
@@ -151,7 +148,7 @@ fn fault_or_memory(bytes: &[u8]) -> ReadRefused
 
 /// The first fault of a text's lines. Takes no memory.
 fn first_fault(bytes: &[u8]) -> Option<ScriptFault>
-    requires { length bytes.now ≤ LONGEST }
+    requires { length bytes.now ≤ LONGEST_SCRIPT }
     ensures { MatchOption result (IsOk (told (lines_of bytes.now))) (λ f. told (lines_of bytes.now) ≡ Err f) }
 {
     let mut seen = Seen::new();
@@ -190,7 +187,7 @@ fn keep(
 
 /// What the lines of a text say, or the first fault. Where memory is wanting, nothing is known of the lines.
 fn read_lines(alloc: Global, bytes: &[u8]) -> Result<Script, ReadRefused>
-    requires { length bytes.now ≤ LONGEST }
+    requires { length bytes.now ≤ LONGEST_SCRIPT }
     ensures read { IfOk result (λ script. told (lines_of bytes.now) ≡ Ok script) }
     ensures fault { IfErr result (λ e. IsFound e (told (lines_of bytes.now))) }
 {

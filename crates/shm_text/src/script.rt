@@ -1,7 +1,7 @@
 //! What a script says, by its types.
 ghost use Rattle.std.specs.Prelude.{◌≡◌, ◌≤◌, ◌↔◌, IsSome, IfSome};
 
-use shm_base::{AccessLen, AtFlags, Chunk, GetFlags, Limits, Process};
+use shm_base::{AccessLen, AtFlags, Chunk, GetFlags, Limits, MOST_FLUSHED, Process};
 use std::marker::Model;
 
 /// A variable of a process: one letter, a to z. It is seen as its letter's byte.
@@ -190,7 +190,7 @@ impl FlushLine {
         ensures which { IsSome result ↔ (1 ≤ pages) × (pages ≤ 4096) }
         ensures value { IfSome result (λ f. f ≡ pages) }
     {
-        if pages < 1 || pages > 4096 {
+        if pages < 1 || pages > MOST_FLUSHED as u64 {
             return None;
         }
         Some(FlushLine {

@@ -6,7 +6,7 @@ ghost use Rattle.shm_text.specs.Form.{is_id};
 ghost use Rattle.shm_text.specs.Variables.{no_values, value_at, id_of, id_from, addr_of, addr_from, call_of, number_in, values_after};
 
 use crate::script::{Command, LineAddr, LineCall, LineId, Variable};
-use shm_base::{Call, Reply, ShmId};
+use shm_base::{Call, LAST_ID, Reply, ShmId};
 use std::marker::Model;
 
 /// The 26 variables of one process. Each is a number, or -1, which stands for a refusal or want of memory;
@@ -44,7 +44,7 @@ fn id_in(value: Option<u64>) -> ShmId
     ensures { result ≡ id_from value }
 {
     match value {
-        Some(number) if number <= 2147483647 => number as i32,
+        Some(number) if number <= LAST_ID as u64 => number as i32,
         _ => -1,
     }
 }

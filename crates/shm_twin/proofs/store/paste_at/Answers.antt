@@ -1,7 +1,7 @@
 use Rattle.std.proofs.Common.{◌≡◌, map, set}
 use Rattle.shm_plain.specs.Held.{pasted}
 use Rattle.shm_plain.proofs.Pasted.{pasted-set, apart-pasted}
-use Rattle.shm_plain.proofs.store.paste_at.Goals as goal
+use Rattle.shm_twin.proofs.store.paste_at.Goals as goal
 
 pub returns-clause-pasted : goal.returns-clause-pasted
 returns-clause-pasted c =

@@ -1,7 +1,7 @@
 use Rattle.std.proofs.Common.{◌≡◌, false, ap}
 use Rattle.shm_plain.specs.Held.{Held, is_held}
 use Rattle.shm_plain.proofs.Kept.{apart-push}
-use Rattle.shm_plain.proofs.store.PlainStore.add_segment.Goals as goal
+use Rattle.shm_twin.proofs.store.PlainStore.add_segment.Goals as goal
 
 pub invariant_of-self-2 : goal.invariant_of-self-2
 invariant_of-self-2 c =

@@ -3,7 +3,7 @@ use Rattle.std.specs.Prelude.{sum_by, All}
 use Rattle.shm_base.specs.declared.paging.Span.{Span}
 use Rattle.shm_plain.specs.Held.{FitsPage, written}
 use Rattle.shm_plain.specs.Apart.{AreApart}
-use Rattle.shm_plain.proofs.store.PlainStore.write.Given as goal
+use Rattle.shm_twin.proofs.store.PlainStore.write.Given as goal
 
 -- what is left to be written leads to the whole
 abbrev pub invariant-loop-span : goal.invariant-loop-span

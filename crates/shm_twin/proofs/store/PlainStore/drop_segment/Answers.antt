@@ -2,7 +2,7 @@ use Rattle.std.proofs.Common.{◌≡◌, ◌==◌, not, rules, ap, ◌∙◌}
 use Rattle.std.proofs.lemmas.Fn.{filter_same}
 use Rattle.shm_plain.specs.Held.{Held, without}
 use Rattle.shm_plain.proofs.Kept.{apart-without}
-use Rattle.shm_plain.proofs.store.PlainStore.drop_segment.Goals as goal
+use Rattle.shm_twin.proofs.store.PlainStore.drop_segment.Goals as goal
 
 pub returns : goal.returns
 returns c =

@@ -1,6 +1,6 @@
 use Rattle.std.proofs.Common.{◌≡◌, drop}
 use Rattle.shm_plain.specs.Held.{find_held}
-use Rattle.shm_plain.proofs.store.index_of.Given as goal
+use Rattle.shm_twin.proofs.store.index_of.Given as goal
 
 -- the segment is not among those that were seen
 abbrev pub invariant-loop-index : goal.invariant-loop-index

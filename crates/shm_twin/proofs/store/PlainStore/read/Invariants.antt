@@ -2,7 +2,7 @@ use Rattle.std.proofs.Common.{◌≡◌, ◌+◌, ◌++◌, length, take, drop}
 use Rattle.std.specs.Prelude.{sum_by}
 use Rattle.shm_base.specs.declared.paging.Span.{Span}
 use Rattle.shm_plain.specs.Held.{read_from}
-use Rattle.shm_plain.proofs.store.PlainStore.read.Given as goal
+use Rattle.shm_twin.proofs.store.PlainStore.read.Given as goal
 
 -- what is read and what is left to be read are all that is asked for
 abbrev pub invariant-loop-span : goal.invariant-loop-span

@@ -1,7 +1,7 @@
 use Rattle.std.proofs.Common.{◌≡◌, set, ap, ◌∙◌}
 use Rattle.shm_plain.specs.Held.{with_lock}
 use Rattle.shm_plain.proofs.Kept.{lock-set, apart-lock}
-use Rattle.shm_plain.proofs.store.PlainStore.set_locked.Goals as goal
+use Rattle.shm_twin.proofs.store.PlainStore.set_locked.Goals as goal
 
 pub returns : goal.returns
 returns c =

@@ -1,6 +1,6 @@
 use Rattle.std.proofs.Common.{◌≡◌, ◌<◌, length, get_or, sym, ◌∙◌}
 use Rattle.shm_plain.proofs.Kept.{found_here}
-use Rattle.shm_plain.proofs.store.index_of.Goals as goal
+use Rattle.shm_twin.proofs.store.index_of.Goals as goal
 
 pub returns-then-id-seg-clause-found : goal.returns-then-id-seg-clause-found
 returns-then-id-seg-clause-found c =

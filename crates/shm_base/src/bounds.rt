@@ -1,0 +1,40 @@
+//! The bounds of the profile, each in one place.
+
+/// The lowest address at which a piece may be attached.
+pub const LOWEST_ADDRESS: u64 = 0x10000;
+
+/// Where the search for a gap begins, for a null address.
+pub const FIRST_GAP: u64 = 0x4000_0000;
+
+/// The end of what may be attached: the first address behind it.
+pub const END_ADDRESS: u64 = 0x7fff_ffff_f000;
+
+/// How many indexes a table of segments may have. An identifier is its index and so often a sequence number.
+pub const INDEXES: u32 = 32768;
+
+/// The largest identifier.
+pub const LAST_ID: u32 = 2_147_483_647;
+
+/// The largest pid.
+pub const LAST_PID: u32 = 2_147_483_647;
+
+/// The most processes of a machine.
+pub const MOST_PROCESSES: usize = 64;
+
+/// The most pieces of a process.
+pub const MOST_PIECES: usize = 256;
+
+/// The most swap areas of a machine.
+pub const MOST_AREAS: usize = 8;
+
+/// The most slots of a swap area.
+pub const MOST_SLOTS: u32 = 65536;
+
+/// The most pages that a flush line of a script asks for.
+pub const MOST_FLUSHED: u32 = 4096;
+
+/// The most bytes of a script.
+pub const LONGEST_SCRIPT: usize = 1_048_576;
+
+/// The most command and flush lines of a script.
+pub const MOST_COMMANDS: u32 = 100_000;
