@@ -51,14 +51,14 @@ def all_below(below, crate):
 
 
 def lines(crate):
-    """Returns how much there is to prove, in lines."""
-    found = 0
+    """Returns about how much there is to prove, in lines of code: a function costs more than a lemma."""
+    found = 0.0
     for at, folders, files in os.walk(f"{TOP}/crates/{crate}"):
         folders[:] = [it for it in folders if it != "out"]
         for name in files:
             if name.endswith((".rt", ".antt")):
                 with open(f"{at}/{name}", "rb") as file:
-                    found += file.read().count(b"\n")
+                    found += file.read().count(b"\n") / (1 if name.endswith(".rt") else 4)
     return found
 
 

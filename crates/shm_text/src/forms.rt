@@ -9,7 +9,7 @@ use crate::number::Number;
 use crate::operand::{any, first_letter, ranged, wanted};
 use crate::reading::Seen;
 use crate::script::{Command, FlushLine, Item, Line, LineCall, Variable};
-use crate::words::{Words, all_allowed};
+use crate::words::Words;
 use shm_base::{Cred, LAST_PID, Limits, MOST_COMMANDS, MOST_FLUSHED, Process};
 
 #[tactic(auto, unfolding(crate::specs::Reading::limits_item))]
@@ -233,7 +233,9 @@ fn is_skipped(words: &Words<'_>) -> bool
 pub(crate) fn is_wordless(line: &[u8]) -> bool
     ensures { result ≡ is_wordless line.now }
 {
-    is_skipped(&Words::of(line))
+    let mut words = Words::none();
+    words.take(line);
+    is_skipped(&words)
 }
 
 /// What a line says, with what the lines above it said.
@@ -242,10 +244,10 @@ pub(crate) fn line_item(seen: &Seen, line: &[u8]) -> Result<Option<Item>, FaultK
     ensures value { result ≡ line_item seen.now line.now }
     ensures place { IfOk result (λ item. HasPlaceFor seen.now item) }
 {
-    if !all_allowed(line) {
+    let mut words = Words::none();
+    if !words.take(line) {
         return Err(FaultKind::BadByte);
     }
-    let words = Words::of(line);
     if is_skipped(&words) {
         return Ok(None);
     }

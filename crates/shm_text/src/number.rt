@@ -1,6 +1,6 @@
 //! Numbers of a script.
 
-ghost use Rattle.std.specs.Prelude.{◌≡◌, ◌≤◌, ◌<◌, ◌+◌, ◌*◌, ℕ, length};
+ghost use Rattle.std.specs.Prelude.{◌≡◌, ◌≤◌, ◌<◌, ◌+◌, ◌*◌, ℕ, length, MatchOption, None, Some};
 ghost use Rattle.shm_text.specs.Number.{numeral, number_of, number_from, decimal_of};
 
 /// A number, or any that passes the largest of 64 bits.
@@ -10,9 +10,46 @@ pub enum Number {
     TooLarge,
 }
 
+/// So many digits of any base spell a number of 64 bits.
+const SHORT: usize = 15;
+
+/// The number that a few digits of a base spell.
+#[inline(always)]
+fn few_digits(word: &[u8], radix: u32) -> Option<u64>
+    requires few { length word.now ≤ SHORT }
+    requires low { 2 ≤ radix }
+    requires high { radix ≤ 16 }
+    ensures { MatchOption result (numeral radix word.now ≡ None) (λ n. numeral radix word.now ≡ Some (Number.Fits n)) }
+{
+    if word.is_empty() {
+        return None;
+    }
+    let mut value = 0u64;
+    for byte in word {
+        let digit = (*byte as char).to_digit(radix)?;
+        value = value * radix as u64 + digit as u64;
+    }
+    Some(value)
+}
+
 /// The number that digits of a base spell.
 #[inline(always)]
 pub(crate) fn digits(word: &[u8], radix: u32) -> Option<Number>
+    requires low { 2 ≤ radix }
+    requires high { radix ≤ 16 }
+    ensures { result ≡ numeral radix word.now }
+{
+    if word.len() > SHORT {
+        return many_digits(word, radix);
+    }
+    match few_digits(word, radix) {
+        Some(number) => Some(Number::Fits(number)),
+        None => None,
+    }
+}
+
+/// The number that any digits of a base spell.
+fn many_digits(word: &[u8], radix: u32) -> Option<Number>
     requires low { 2 ≤ radix }
     requires high { radix ≤ 16 }
     ensures { result ≡ numeral radix word.now }

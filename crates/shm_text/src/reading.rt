@@ -1,5 +1,5 @@
 //! Reads a script, line by line from the top.
-ghost use Rattle.std.specs.Prelude.{◌≡◌, ◌<◌, ◌≤◌, ◌++◌, [], IfOk, OnOk, IsOk, IfErr, Ok, Err, length, not, MatchOption, nat_le, is_some};
+ghost use Rattle.std.specs.Prelude.{◌≡◌, ◌<◌, ◌≤◌, ◌++◌, [], IfOk, OnOk, IsOk, IfErr, Ok, Err, length, not, MatchOption, nat_le, is_some, ◌==◌, min, count_by};
 ghost use Rattle.std.specs.List.{list_all};
 ghost use Rattle.shm_text.specs.Reading.{told, script_of, without_words, is_wordless, nothing, seen_next, with_item, processes_in, lines_in, is_declared, IsFaultOf, IsFound, HasPlaceFor};
 ghost use Rattle.shm_text.specs.Words.{lines_of};
@@ -8,9 +8,9 @@ use crate::fault::{FaultKind, ReadRefused, ScriptFault};
 use crate::forms::{is_wordless, line_item};
 use crate::lines::Lines;
 use crate::script::{Item, Line, Script};
-use crate::words::all_allowed;
+use crate::words::Words;
 use arrayvec::ArrayVec;
-use shm_base::{LONGEST_SCRIPT, Limits, Process};
+use shm_base::{LONGEST_SCRIPT, Limits, MOST_COMMANDS, Process};
 use std::alloc::{AllocError, Global};
 use std::marker::Model;
 
@@ -123,7 +123,7 @@ fn without_words(bytes: &[u8]) -> ScriptFault
     ensures { result ≡ without_words (lines_of bytes.now) }
 {
     let kind = match Lines::of(bytes).next() {
-        Some(line) if !all_allowed(line) => FaultKind::BadByte,
+        Some(line) if !Words::none().take(line) => FaultKind::BadByte,
         _ => FaultKind::NoLimits,
     };
     ScriptFault { line: 1, kind }
@@ -168,6 +168,17 @@ fn first_fault(bytes: &[u8]) -> Option<ScriptFault>
     }
 }
 
+// For how many lines room is made at once: as many as there are, so that none has to move, and as a script may have.
+fn room_wanted(bytes: &[u8]) -> usize
+    ensures { result ≡ min (count_by (λ b. b == 10) bytes.now) 100000 }
+{
+    bytes
+        .iter()
+        .filter(|byte| **byte == b'\n')
+        .count()
+        .min(MOST_COMMANDS as usize)
+}
+
 // Puts what a line said behind what the lines above it said.
 fn keep(
     processes: &mut Vec<Process>,
@@ -194,6 +205,9 @@ fn read_lines(alloc: Global, bytes: &[u8]) -> Result<Script, ReadRefused>
     let mut seen = Seen::new();
     let mut processes = Vec::new(alloc);
     let mut kept = Vec::new(alloc);
+    if kept.reserve(room_wanted(bytes)).is_err() {
+        return Err(ReadRefused::HostMemory);
+    }
     let mut lines = Lines::of(bytes);
     let mut number = 1u32;
     while let Some(line) = lines.next() {

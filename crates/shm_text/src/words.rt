@@ -1,9 +1,9 @@
 //! Lines of a script, and their words.
 
-ghost use Rattle.std.specs.Prelude.{◌≡◌, ◌<◌, ◌==◌, ℕ, List, length, take};
+ghost use Rattle.std.specs.Prelude.{◌≡◌, ◌<◌, ◌++◌, ◌&&◌, not, ℕ, List, [], length, take};
 ghost use Rattle.std.specs.List.{list_all};
 ghost use Rattle.std.specs.Str.{bytes_eq};
-ghost use Rattle.shm_text.specs.Words.{is_allowed, words_of, texts, word_at};
+ghost use Rattle.shm_text.specs.Words.{is_allowed, is_space, words_of, with_word, texts, word_at};
 
 use arrayvec::ArrayVec;
 use std::marker::Model;
@@ -11,18 +11,19 @@ use std::marker::Model;
 /// One word more than a line of any form has.
 pub(crate) const MOST: usize = 8;
 
-// Whether a byte is a tab. It stands apart, since hardly any byte is asked: the loops that ask stay short.
-#[inline(never)]
-fn is_tab(byte: u8) -> bool
-    ensures { result ≡ (byte == 9) }
+// Whether a byte is allowed and no space.
+#[inline(always)]
+fn is_of_word(byte: u8) -> bool
+    ensures { result ≡ is_allowed byte && not (is_space byte) }
 {
-    byte == b'\t'
+    byte > b' ' && byte <= b'~'
 }
 
-pub(crate) fn all_allowed(line: &[u8]) -> bool
-    ensures { result ≡ list_all is_allowed line.now }
+#[inline(always)]
+fn is_space(byte: u8) -> bool
+    ensures { result ≡ is_space byte }
 {
-    line.iter().all(|b| (*b >= 32 && *b <= 126) || is_tab(*b))
+    byte == b' ' || byte == b'\t'
 }
 
 /// The first words of a line.
@@ -38,19 +39,53 @@ impl<'a> Model for Words<'a> {
 }
 
 impl<'a> Words<'a> {
-    pub(crate) fn of(line: &'a [u8]) -> Words<'a>
-        ensures { result ≡ take MOST (words_of line.now) }
+    /// No words.
+    #[inline(always)]
+    pub(crate) fn none() -> Words<'a>
+        ensures { result ≡ [] }
     {
-        let mut found: ArrayVec<&'a [u8], MOST> = ArrayVec::new();
-        for word in line
-            .split(|b| *b == b' ' || (*b < b' ' && is_tab(*b)))
-            .filter(|w| !w.is_empty())
-        {
-            if found.try_push(word).is_err() {
-                return Words { found };
-            }
+        Words {
+            found: ArrayVec::new(),
         }
-        Words { found }
+    }
+
+    // Puts a word behind the others, where it has bytes and there is room.
+    #[inline(always)]
+    fn keep(&mut self, word: &'a [u8])
+        ensures { self.new ≡ take MOST (self.old ++ with_word word.now) }
+    {
+        if self.found.is_full() {
+            return;
+        }
+        if word.is_empty() {
+            return;
+        }
+        self.found.push(word);
+    }
+
+    /// Takes the first words of a line where there are none, and answers whether each of its bytes is allowed. Every
+    /// byte is looked at once.
+    #[inline(always)]
+    pub(crate) fn take(&mut self, line: &'a [u8]) -> bool
+        requires { self.old ≡ [] }
+        ensures words { self.new ≡ take MOST (words_of line.now) }
+        ensures allowed { result ≡ list_all is_allowed line.now }
+    {
+        let mut allowed = true;
+        let mut start = 0;
+        for at in 0..line.len() {
+            if is_of_word(line[at]) {
+                continue;
+            }
+            if is_space(line[at]) {
+                self.keep(&line[start..at]);
+                start = at + 1;
+                continue;
+            }
+            allowed = false;
+        }
+        self.keep(&line[start..]);
+        allowed
     }
 
     pub(crate) fn len(&self) -> usize

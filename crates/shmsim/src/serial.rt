@@ -32,7 +32,7 @@ pub fn run_serial<R: Read, W: Write, P: Pager>(
     ensures silent { IfErr result (λ f. IsSilent f (W.contents writer.old) (W.contents writer.new)) }
 {
     match whole_script(alloc, reader) {
-        Ok(script) => run_script(alloc, writer, &script, pagers),
+        Ok(script) => run_script(alloc, writer, script, pagers),
         Err(fault) => Err(fault),
     }
 }
@@ -41,34 +41,36 @@ pub fn run_serial<R: Read, W: Write, P: Pager>(
 fn run_script<W: Write, P: Pager>(
     alloc: Global,
     writer: &mut W,
-    script: &Script,
+    script: Script,
     pagers: Vec<P>,
 ) -> Result<(), RunFault>
-    ensures ok { OnOk result (Writes (IsOutput script.now (map (λ p. length (P.content p)) pagers.items)) (W.contents writer.old) (W.contents writer.new)) }
-    ensures cause { IfErr result (λ f. IsCauseIn f (map (λ p. length (P.content p)) pagers.items) script.now) }
+    ensures ok { OnOk result (Writes (IsOutput script (map (λ p. length (P.content p)) pagers.items)) (W.contents writer.old) (W.contents writer.new)) }
+    ensures cause { IfErr result (λ f. IsCauseIn f (map (λ p. length (P.content p)) pagers.items) script) }
     ensures serial { IfErr result (λ f. is_serial f ≡ true) }
     ensures silent { IfErr result (λ f. IsSilent f (W.contents writer.old) (W.contents writer.new)) }
 {
-    match open_world(alloc, script, pagers) {
+    match open_world(alloc, &script, pagers) {
         Ok(mut world) => run_in(alloc, writer, &mut world, script),
         Err(fault) => Err(fault),
     }
 }
 
-// Runs a script in a world that it opened, and writes what is printed of it.
+// Runs a script in a world that it opened, and writes what is printed of it. The script's memory is given back before.
 fn run_in<W: Write, P: Pager>(
     alloc: Global,
     writer: &mut W,
     world: &mut World<P>,
-    script: &Script,
+    script: Script,
 ) -> Result<(), RunFault>
     requires events { world.old.events ≡ [] }
-    requires opened { IsOpening script.now world.old.opening }
-    ensures ok { OnOk result (Writes (IsOutput script.now world.old.opening.areas) (W.contents writer.old) (W.contents writer.new)) }
+    requires opened { IsOpening script world.old.opening }
+    ensures ok { OnOk result (Writes (IsOutput script world.old.opening.areas) (W.contents writer.old) (W.contents writer.new)) }
     ensures fault { IfErr result (λ f. (f ≡ RunFault.HostMemory) ⊎ (f ≡ RunFault.WriteFailed)) }
     ensures silent { IfErr result (λ f. IsSilent f (W.contents writer.old) (W.contents writer.new)) }
 {
-    match run_lines(alloc, world, script) {
+    let ran = run_lines(alloc, world, &script);
+    drop(script);
+    match ran {
         Ok(()) => write_world(alloc, writer, world),
         Err(HostMemory) => Err(RunFault::HostMemory),
     }

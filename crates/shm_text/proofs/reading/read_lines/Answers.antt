@@ -13,7 +13,7 @@ loop-line-init c = record {
       subst (λ (s : SeenView). Goes (items_of 1 nothing (lines_of c.args.bytes.now)) 1 s c.of-lines.result []) (sym c.new-seen.ensures) (starts {n = 1} {seen = nothing} (lines_of c.args.bytes.now) c.of-lines.result c.of-lines.ensures),
       sym (ap (λ (s : SeenView). s.limits) c.new-seen.ensures),
       c.new-processes.ensures.items,
-      c.new-kept.ensures.items,
+      c.reserve.ensures.items ∙ c.new-kept.ensures.items,
     ),
   );
   count = omega (arith, length-lines_of-le c.args.bytes.now, ap length c.of-lines.ensures);

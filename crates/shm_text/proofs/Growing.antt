@@ -1,0 +1,28 @@
+-- How far a number grows by a digit.
+use Rattle.std.proofs.Common.{arith, ◌≡◌, ◌≤◌, ◌<◌, ◌+◌, ◌*◌, ◌^◌, ◌∙◌, ap, refl, ℕ, pow-add}
+use Rattle.std.proofs.Math.Pow.{pow_mono}
+use Rattle.std.proofs.Math.Nat.{mul-le-mul}
+use Rattle.std.proofs.lemmas.Bool.{lt-ltb}
+use Rattle.shm_text.specs.Number.{number_from}
+use Rattle.shm_text.specs.declared.number.Number.TheVariants.{Fits}
+
+-- a digit more, of a base of 16 at most
+grown_by : (v r d p : ℕ) → v < p → r ≤ 16 → d < r → v * r + d < p * 16
+grown_by v r d p small low digit =
+    let product : (v + 1) * r ≤ p * 16 = mul-le-mul (omega arith) low in
+    omega (arith, product)
+
+pub grown : (v r d i : ℕ) → v < 2 ^ (4 * i) → r ≤ 16 → d < r → v * r + d < 2 ^ (4 * (i + 1))
+grown v r d i small low digit =
+    let more : 2 ^ (4 * (i + 1)) ≡ 2 ^ (4 * i) * 16 = ap (λ n. 2 ^ n) (omega arith) ∙ pow-add 2 (4 * i) 4 in
+    rw more (grown_by v r d (2 ^ (4 * i)) small low digit)
+
+-- a number of 15 digits at most fits 64 bits
+pub fits : (v i : ℕ) → v < 2 ^ (4 * i) → i ≤ 15 → v < 2 ^ 64
+fits v i small few =
+    let most : 2 ^ (4 * i) ≤ 2 ^ 60 = pow_mono {i = 4 * i} {j = 60} (omega arith) in
+    omega (arith, most, small)
+
+-- such a number is kept as it is
+pub kept : (n v : ℕ) → v ≡ n → v < 2 ^ 64 → number_from n ≡ Fits v
+kept n v is small = rw (← is, lt-ltb v (2 ^ 64) small) refl

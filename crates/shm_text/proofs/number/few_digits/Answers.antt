@@ -1,0 +1,56 @@
+use Rattle.std.proofs.Common.{rules, arith, ◌≡◌, ◌<◌, ◌+◌, ◌*◌, ◌^◌, ap, sym, subst, length, take, get_or, true, Some}
+use Rattle.std.specs.Prelude.{All, not, ◌==◌}
+use Rattle.std.specs.Char.{is_digit, digit_value}
+use Rattle.std.specs.List.{list_all}
+use Rattle.std.specs.Str.Parse.{digits_value}
+use Rattle.std.proofs.lemmas.Bool.{lt-ltb}
+use Rattle.std.proofs.lemmas.Int.Digits.{digits_value_more}
+use Rattle.std.proofs.lemmas.List.{take_all}
+use Rattle.std.proofs.lemmas.List.Elements.{All-more}
+use Rattle.std.proofs.lemmas.List.Sums.{list_all-from_AllPass}
+use Rattle.shm_text.proofs.Growing.{grown, fits, kept}
+use Rattle.shm_text.proofs.number.few_digits.Goals as goal
+use Rattle.shm_text.proofs.number.few_digits.Goals.{In_ok-digit}
+
+-- the digit, and the number with it
+small_digit : (c : In_ok-digit) → digit_value (get_or c.args.word.now c.loop-byte.byte-index 0) < c.args.radix
+small_digit c = search rules
+
+next_small : (c : In_ok-digit) → c.loop-byte.value * c.args.radix + c.in_ok-digit.digit < 2 ^ (4 * (c.loop-byte.byte-index + 1))
+next_small c =
+    let is : c.in_ok-digit.digit ≡ digit_value (get_or c.args.word.now c.loop-byte.byte-index 0) = search rules in
+    grown c.loop-byte.value c.args.radix c.in_ok-digit.digit c.loop-byte.byte-index c.loop-byte.invariant.small c.requires.high (rw is (small_digit c))
+
+next_fits : (c : In_ok-digit) → c.loop-byte.value * c.args.radix + c.in_ok-digit.digit < 2 ^ 64
+next_fits c = fits _ (c.loop-byte.byte-index + 1) (next_small c) (omega (arith, c.requires.few))
+
+pub overflow_mul-value : goal.overflow_mul-value
+overflow_mul-value c = omega (arith, next_fits c)
+
+pub overflow_add-value : goal.overflow_add-value
+overflow_add-value c = omega (arith, next_fits c)
+
+pub loop-byte-preserved : goal.loop-byte-preserved
+loop-byte-preserved c =
+    let i = c.loop-byte.byte-index in
+    let word = c.args.word.now in
+    let radix = c.args.radix in
+    let within : i < length word = omega arith in
+    let is : c.in_ok-digit.digit ≡ digit_value (get_or word i 0) = search rules in
+    record {
+      digits = All-more (λ b. is_digit b radix ≡ true) word i 0 within c.loop-byte.invariant.digits (lt-ltb _ _ (small_digit c));
+      value = rw (is, c.loop-byte.invariant.value) (sym (digits_value_more radix word i within));
+      small = next_small c;
+    }
+
+-- all bytes are digits
+pub returns : goal.returns
+returns c =
+    let word = c.args.word.now in
+    let radix = c.args.radix in
+    let whole : take c.loop-byte.byte-index word ≡ word = take_all c.loop-byte.byte-index word (omega (arith, c.loop-byte-test.false)) in
+    let digits : list_all (λ b. is_digit b radix) word ≡ true =
+    list_all-from_AllPass (λ b. is_digit b radix) word (subst (All (λ b. is_digit b radix ≡ true)) whole c.loop-byte.invariant.digits) in
+    let some : (not (length word == 0)) ≡ true = search rules in
+    let value : c.loop-byte.value ≡ digits_value radix word = rw whole at c.loop-byte.invariant.value in
+    rw (some, digits) (ap Some (kept (digits_value radix word) c.loop-byte.value value (omega arith)))
