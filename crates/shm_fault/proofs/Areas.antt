@@ -145,6 +145,9 @@ still-with s r p has same q = elim (cases_ref r q) [
 ]
 
 -- a resident page gives its slot back
+abbrev pub gave_back : StoreView → PageRef → ℕ → SwapView → StoreView
+gave_back s r f u = record s { segs = with_rec s.segs r (record { frame = Some f; slot = None }); frames = set s.frames f (record (frame_at s.frames f) { dirty = true }); swap = u }
+
 module _ (s : StoreView) (sound : IsSound s) (r : PageRef) (f : ℕ) (k : Slot) (u : SwapView) (place : rec_by s.segs r ≡ record { frame = Some f; slot = Some k }) (given : u ≡ without_slot s.swap k (page_in u k.area k.slot)) where
   at_frame : (rec_by s.segs r).frame ≡ Some f
   at_frame = ap (λ (p : PageRec). p.frame) place
@@ -152,8 +155,7 @@ module _ (s : StoreView) (sound : IsSound s) (r : PageRef) (f : ℕ) (k : Slot) 
   at_slot : (rec_by s.segs r).slot ≡ Some k
   at_slot = ap (λ (p : PageRec). p.slot) place
 
-  pub keeps-back : IsSwap u → IsSteady s.swap u
-      → Keeps s (record s { segs = with_rec s.segs r (record { frame = Some f; slot = None }); frames = set s.frames f (record (frame_at s.frames f) { dirty = true }); swap = u })
+  pub keeps-back : IsSwap u → IsSteady s.swap u → Keeps s (gave_back s r f u)
   keeps-back is steady =
       let has : HasPage s.segs r = has-frame s.segs r f at_frame in
       let tie-s : IsTied s r = sound.tied.pages r has in

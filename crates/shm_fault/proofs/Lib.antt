@@ -18,3 +18,4 @@ pub mod Bringing
 pub mod Whole
 pub mod Drops
 pub mod Areas
+pub mod Seen
