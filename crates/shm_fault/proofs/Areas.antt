@@ -137,17 +137,7 @@ cleared-relocated page from to s t is = record {
       ];
 }
 
--- no page's frame changed
-pub still-with : (s : StoreView) (r : PageRef) (p : PageRec) → HasPage s.segs r → p.frame ≡ (rec_by s.segs r).frame → (q : PageRef) → (rec_by (with_rec s.segs r p) q).frame ≡ (rec_by s.segs q).frame
-still-with s r p has same q = elim (cases_ref r q) [
-  | inl e ↦ rw e (ap (λ (x : PageRec). x.frame) (rec-with s.segs r p has) ∙ same)
-  | inr off ↦ ap (λ (x : PageRec). x.frame) (rec-with_other s.segs r q p off)
-]
-
 -- a resident page gives its slot back
-abbrev pub gave_back : StoreView → PageRef → ℕ → SwapView → StoreView
-gave_back s r f u = record s { segs = with_rec s.segs r (record { frame = Some f; slot = None }); frames = set s.frames f (record (frame_at s.frames f) { dirty = true }); swap = u }
-
 module _ (s : StoreView) (sound : IsSound s) (r : PageRef) (f : ℕ) (k : Slot) (u : SwapView) (place : rec_by s.segs r ≡ record { frame = Some f; slot = Some k }) (given : u ≡ without_slot s.swap k (page_in u k.area k.slot)) where
   at_frame : (rec_by s.segs r).frame ≡ Some f
   at_frame = ap (λ (p : PageRec). p.frame) place
@@ -155,7 +145,8 @@ module _ (s : StoreView) (sound : IsSound s) (r : PageRef) (f : ℕ) (k : Slot) 
   at_slot : (rec_by s.segs r).slot ≡ Some k
   at_slot = ap (λ (p : PageRec). p.slot) place
 
-  pub keeps-back : IsSwap u → IsSteady s.swap u → Keeps s (gave_back s r f u)
+  pub keeps-back : IsSwap u → IsSteady s.swap u
+      → Keeps s (record s { segs = with_rec s.segs r (record { frame = Some f; slot = None }); frames = set s.frames f (record (frame_at s.frames f) { dirty = true }); swap = u })
   keeps-back is steady =
       let has : HasPage s.segs r = has-frame s.segs r f at_frame in
       let tie-s : IsTied s r = sound.tied.pages r has in

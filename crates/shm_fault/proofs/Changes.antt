@@ -12,8 +12,8 @@ use Rattle.shm_fault.specs.declared.segments.PageRec.{PageRec}
 use Rattle.shm_fault.specs.Segs.{rec_by, count_by_id, HasPage, with_rec}
 use Rattle.shm_fault.specs.Store.{StoreView, stored, bytes_by, page_bytes}
 use Rattle.shm_fault.specs.Sound.{IsTied, IsSound}
-use Rattle.shm_fault.specs.Goes.{Alike, Goes}
-use Rattle.shm_fault.proofs.Pages.{outlines-with, rec-with, rec-with_other, other, other-false, other-true, has-frame, rec-past}
+use Rattle.shm_fault.specs.Goes.{Alike, Goes, Still, StaysAway}
+use Rattle.shm_fault.proofs.Pages.{outlines-with, rec-with, rec-with_other, still-with, cases_ref, other, other-false, other-true, has-frame, rec-past}
 use Rattle.shm_fault.proofs.Slots.{OnlySlot, OnlySlot-owner, owner-set, cases_slot}
 use Rattle.shm_fault.proofs.Ties.{Alike-refl, Touches, IsOwn, IsOwn-none, IsOwn-some, set_alike, set_owners, set_free, only_slots, only_owners, bytes_touched}
 use Rattle.shm_fault.proofs.Bytes.{bytes_at}
@@ -162,6 +162,13 @@ module _ (s : StoreView) (sound : IsSound s) (r : PageRef) (f : ℕ) (k : Slot) 
       ]
 
 -- a page in a dirty frame gets a slot
+pub record Takes (f : ℕ) (k : Slot) (s t : StoreView) : Type 0 where
+  pub sound : IsSound t
+  pub goes : Goes s t
+  pub slot : (q : PageRef) → (frame_at s.frames f).owner ≡ Some q → (rec_by t.segs q).slot ≡ Some k
+  pub still : Still s t
+  pub away : StaysAway s t
+
 module _ (s : StoreView) (sound : IsSound s) (r : PageRef) (f : ℕ) (k : Slot)
     (owned : (frame_at s.frames f).owner ≡ Some r) (dirty : (frame_at s.frames f).dirty ≡ true) (none : (rec_by s.segs r).slot ≡ None)
     (there : HasSlot s.swap k.area k.slot) (free : owner_of s.swap k.area k.slot ≡ None) where
@@ -171,7 +178,7 @@ module _ (s : StoreView) (sound : IsSound s) (r : PageRef) (f : ℕ) (k : Slot)
   tie-ts : IsTied s r
   tie-ts = sound.tied.pages r has-ts
 
-  pub keeps-take : IsSwap (with_slot_owner s.swap k (Some r)) → sizes (with_slot_owner s.swap k (Some r)) ≡ sizes s.swap → GoesOn s.swap (with_slot_owner s.swap k (Some r))
+  keeps-take : IsSwap (with_slot_owner s.swap k (Some r)) → sizes (with_slot_owner s.swap k (Some r)) ≡ sizes s.swap → GoesOn s.swap (with_slot_owner s.swap k (Some r))
       → Keeps s (record s { segs = with_rec s.segs r (record { frame = (rec_by s.segs r).frame; slot = Some k }); swap = with_slot_owner s.swap k (Some r) })
   keeps-take is same goes_on =
       let p : PageRec = record { frame = (rec_by s.segs r).frame; slot = Some k } in
@@ -213,6 +220,23 @@ module _ (s : StoreView) (sound : IsSound s) (r : PageRef) (f : ℕ) (k : Slot)
         whole = rw bytes tie-ts.whole;
       } in
       keeps-one s t sound r has-ts to is same sound.hand goes_on tie bytes
+
+  pub takes : IsSwap (with_slot_owner s.swap k (Some r)) → sizes (with_slot_owner s.swap k (Some r)) ≡ sizes s.swap → GoesOn s.swap (with_slot_owner s.swap k (Some r))
+      → Takes f k s (record s { segs = with_rec s.segs r (record { frame = (rec_by s.segs r).frame; slot = Some k }); swap = with_slot_owner s.swap k (Some r) })
+  takes is same goes_on =
+      let p : PageRec = record { frame = (rec_by s.segs r).frame; slot = Some k } in
+      let keeps = keeps-take is same goes_on in
+      let at_frame : (rec_by s.segs r).frame ≡ Some f = tie-ts.owner_resident f owned in
+      record {
+        sound = keeps.sound;
+        goes = keeps.goes;
+        slot = λ q e. let one : q ≡ r = some_same r q (frame_at s.frames f).owner owned e in rw (one, rec-with s.segs r p has-ts) refl;
+        still = still-with s.segs r p has-ts refl;
+        away = λ q none. elim (cases_ref r q) [
+          | inl one ↦ absurd (let h : (rec_by s.segs r).frame ≡ None = rw one at none in cc)
+          | inr off ↦ rec-with_other s.segs r q p off
+        ];
+      }
 
 -- a page in a clean frame leaves it
 module _ (s : StoreView) (sound : IsSound s) (r : PageRef) (f : ℕ) (bytes : List ℕ) (owned : (frame_at s.frames f).owner ≡ Some r) (clean : (frame_at s.frames f).dirty ≡ false) where

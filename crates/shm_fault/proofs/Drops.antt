@@ -136,8 +136,15 @@ given-slots s sound r has u (Some j) e given =
     rw given g
 
 -- a page is nowhere from now on
+pub record Forgets (r : PageRef) (s t : StoreView) : Type 0 where
+  pub sound : IsSound t
+  pub bytes : without (held t) r.seg ≡ without (held s) r.seg
+  pub frames : (f : ℕ) → disowned r.seg (frame_at t.frames f).owner ≡ disowned r.seg (frame_at s.frames f).owner
+  pub slots : (k : Slot) → disowned r.seg (owner_of t.swap k.area k.slot) ≡ disowned r.seg (owner_of s.swap k.area k.slot)
+  pub size : length t.frames ≡ length s.frames
+
 module _ (s : StoreView) (sound : IsSound s) (r : PageRef) (has : HasPage s.segs r) (u : SwapView) (given : Given s.swap (rec_by s.segs r).slot u) where
-  abbrev pub forgotten : StoreView
+  abbrev forgotten : StoreView
   forgotten = record s { segs = with_rec s.segs r no_page; frames = emptied s.frames (rec_by s.segs r).frame; swap = u }
 
   fr : EmptiedFrames s r (emptied s.frames (rec_by s.segs r).frame)
@@ -159,16 +166,7 @@ module _ (s : StoreView) (sound : IsSound s) (r : PageRef) (has : HasPage s.segs
     slot_owners = sl.owners;
   }
 
-  pub frames-forgotten : (f : ℕ) → disowned r.seg (frame_at (emptied s.frames (rec_by s.segs r).frame) f).owner ≡ disowned r.seg (frame_at s.frames f).owner
-  frames-forgotten = fr.kept
-
-  pub size-forgotten : length (emptied s.frames (rec_by s.segs r).frame) ≡ length s.frames
-  size-forgotten = fr.size
-
-  pub slots-forgotten : (k : Slot) → disowned r.seg (owner_of u k.area k.slot) ≡ disowned r.seg (owner_of s.swap k.area k.slot)
-  slots-forgotten = sl.kept
-
-  pub sound-forgotten : IsSwap u → IsSteady s.swap u → IsSound forgotten
+  sound-forgotten : IsSwap u → IsSteady s.swap u → IsSound forgotten
   unfolding zero_page
   sound-forgotten is steady =
       let at : rec_by (with_rec s.segs r no_page) r ≡ no_page = rec-with s.segs r no_page has in
@@ -182,7 +180,7 @@ module _ (s : StoreView) (sound : IsSound s) (r : PageRef) (has : HasPage s.segs
       } in
       sound-one s forgotten sound r has to-forgotten is steady.same_sizes (rw fr.size sound.hand) steady.goes_on tie
 
-  pub held-forgotten : without (held forgotten) r.seg ≡ without (held s) r.seg
+  held-forgotten : without (held forgotten) r.seg ≡ without (held s) r.seg
   held-forgotten =
       let apart = apart-same s.segs (with_rec s.segs r no_page) (outlines-with s.segs r no_page) sound.apart in
       ap (λ hs. without hs r.seg) (held-is forgotten apart ∙ ap (held_of (bytes_at forgotten)) (outlines-with s.segs r no_page))
@@ -206,6 +204,9 @@ module _ (s : StoreView) (sound : IsSound s) (r : PageRef) (has : HasPage s.segs
             let rest = without-ext b c gs id same in
             rw (ne_eqb g.id id n) (let h : held_one b (outline g) ≡ held_one c (outline g) = ap (λ bs. record { id = g.id; locked = g.locked; bytes = bs }) here in cc)
       ]
+
+  pub forgets : IsSwap u → IsSteady s.swap u → Forgets r s (record s { segs = with_rec s.segs r no_page; frames = emptied s.frames (rec_by s.segs r).frame; swap = u })
+  forgets is steady = record { sound = sound-forgotten is steady; bytes = held-forgotten; frames = fr.kept; slots = sl.kept; size = fr.size }
 
 IsSteady-refl : (s : SwapView) → IsSteady s s
 IsSteady-refl s = record { goes_on = GoesOn-refl s; failures = refl; same_sizes = refl }

@@ -19,3 +19,4 @@ pub mod Whole
 pub mod Drops
 pub mod Areas
 pub mod Seen
+pub mod Puts

@@ -171,6 +171,13 @@ rec-with_other gs r q p off = by (find_seg gs q.seg) refl
           | inr n ↦ rw (find-with gs r p q.seg, e, ne_eqb g.id r.seg n) refl
         ]
 
+-- no page's frame changed
+pub still-with : (gs : List SegRec) (r : PageRef) (p : PageRec) → HasPage gs r → p.frame ≡ (rec_by gs r).frame → (q : PageRef) → (rec_by (with_rec gs r p) q).frame ≡ (rec_by gs q).frame
+still-with gs r p has same q = elim (cases_ref r q) [
+  | inl e ↦ rw e (ap (λ (x : PageRec). x.frame) (rec-with gs r p has) ∙ same)
+  | inr off ↦ ap (λ (x : PageRec). x.frame) (rec-with_other gs r q p off)
+]
+
 -- a page that is somewhere is there
 pub has-somewhere : (gs : List SegRec) (r : PageRef) → rec_by gs r ≢ no_page → HasPage gs r
 has-somewhere gs r n = by (find_seg gs r.seg) refl

@@ -2,9 +2,9 @@ use Rattle.std.proofs.Common.{◌≡◌, None, Some, refl, ap}
 use Rattle.shm_fault.specs.declared.segments.PageRec.{PageRec}
 use Rattle.shm_fault.specs.Segs.{rec_by, HasPage}
 use Rattle.shm_fault.proofs.Seen.{seen}
-use Rattle.shm_fault.proofs.Pages.{has-slot}
+use Rattle.shm_fault.proofs.Pages.{has-slot, still-with}
 use Rattle.shm_fault.proofs.Changes.{Keeps}
-use Rattle.shm_fault.proofs.Areas.{keeps-back, still-with}
+use Rattle.shm_fault.proofs.Areas.{keeps-back}
 use Rattle.shm_fault.proofs.store.PageStore.give_back.Given as given
 use Rattle.shm_fault.proofs.store.PageStore.give_back.Goals as goal
 use Rattle.shm_fault.proofs.store.PageStore.give_back.Goals.{After-self, After-set_page}
@@ -38,7 +38,7 @@ returns-clause-goes g c = rw (← c.self.view_is) (kept g c).goes
 pub returns-clause-still : goal.returns-clause-still
 returns-clause-still g c =
     let o = (goal.at.returns-clause-still g c).After-self in
-    rw (c.set_page.ensures, ← c.self.view_is) (still-with (seen c.self.inside) c.args.page (record { frame = Some c.args.frame; slot = None }) (has g o) (rw (place g o) refl))
+    rw (c.set_page.ensures, ← c.self.view_is) (still-with c.self.inside.segs c.args.page (record { frame = Some c.args.frame; slot = None }) (has g o) (rw (place g o) refl))
 
 pub returns-clause-sound : goal.returns-clause-sound
 returns-clause-sound g c = (kept g c).sound
