@@ -274,7 +274,7 @@ module _ (s : StoreView) (sound : IsSound s) (u : SwapView) (owned : SameOwned s
 
 -- an area none of whose slots is owned goes
 module _ (s : StoreView) (sound : IsSound s) (area : ℕ) (here : (area_at s.swap area).here ≡ true) (free : (j : ℕ) → owner_of s.swap area j ≡ None) where
-  abbrev pub without_area : StoreView
+  abbrev without_area : StoreView
   without_area = record s { swap = with_area s.swap area (off (area_at s.swap area)) }
 
   area-other : (k : Slot) → k.area ≢ area → area_at (with_area s.swap area (off (area_at s.swap area))) k.area ≡ area_at s.swap k.area
@@ -320,10 +320,10 @@ module _ (s : StoreView) (sound : IsSound s) (area : ℕ) (here : (area_at s.swa
     free = sound.tied.free;
   }
 
-  pub held-off : held without_area ≡ held s
+  held-off : held without_area ≡ held s
   held-off = held-same s without_area sound.apart sound.apart refl (λ r has. bytes-off r (sound.tied.pages r has) (rec_by s.segs r).frame)
 
-  pub sound-off : IsSwap (with_area s.swap area (off (area_at s.swap area))) → sizes (with_area s.swap area (off (area_at s.swap area))) ≡ set (sizes s.swap) area None
+  sound-off : IsSwap (with_area s.swap area (off (area_at s.swap area))) → sizes (with_area s.swap area (off (area_at s.swap area))) ≡ set (sizes s.swap) area None
       → pages_held (held s) + length (area_at s.swap area).pages ≤ slots s.swap → IsSound without_area
   sound-off is same room =
       let lt : area < length (sizes s.swap) = rw (length-map s.swap.areas size_of) (here-lt s.swap area here) in
@@ -358,15 +358,8 @@ cleaned-more area n s t u d sound goes still rest cleared = record {
   ];
 }
 
--- all slots are free once those that the area has are
-pub cleaned-all : (area n : ℕ) (s t : StoreView) → IsCleaned area n s t → length (area_at t.swap area).pages ≤ n → (slot : ℕ) → owner_of t.swap area slot ≡ None
-cleaned-all area n s t d le slot = elim (cases_lt slot n) [
-  | inl lt ↦ d.free slot lt
-  | inr past ↦ get_or_past (area_at t.swap area).owners slot None (omega (arith, past, le, (d.sound.swap.each area).owned))
-]
-
 module _ (area n : ℕ) (s t : StoreView) (d : IsCleaned area n s t) (here : (area_at s.swap area).here ≡ true) where
-  pub cleaned-here : ((area_at t.swap area).here ≡ true) × (length (area_at t.swap area).pages ≡ length (area_at s.swap area).pages)
+  cleaned-here : ((area_at t.swap area).here ≡ true) × (length (area_at t.swap area).pages ≡ length (area_at s.swap area).pages)
   cleaned-here = pages-same s.swap t.swap area d.goes.same_sizes here
 
   pub cleaned-there : n < length (area_at s.swap area).pages → HasSlot t.swap area n
@@ -378,3 +371,17 @@ module _ (area n : ℕ) (s t : StoreView) (d : IsCleaned area n s t) (here : (ar
       let all : pages_held (held t) ≡ pages_held (held s) = ap pages_held d.goes.bytes in
       let sum : slots t.swap ≡ slots s.swap = ap (λ l. sum_by slots_in l) d.goes.same_sizes in
       omega (arith, room, same, all, sum)
+
+  -- the area goes once the slots that it has are free
+  module _ (all : length (area_at s.swap area).pages ≤ n) where
+    pub cleaned-free : (slot : ℕ) → owner_of t.swap area slot ≡ None
+    cleaned-free slot = elim (cases_lt slot n) [
+      | inl lt ↦ d.free slot lt
+      | inr past ↦ get_or_past (area_at t.swap area).owners slot None (let same = cleaned-here.1 in omega (arith, past, all, same, (d.sound.swap.each area).owned))
+    ]
+
+    pub cleaned-off : (u : SwapView) → u ≡ with_area t.swap area (off (area_at t.swap area)) → IsSwap u → sizes u ≡ set (sizes t.swap) area None
+        → pages_held (held s) + length (area_at s.swap area).pages ≤ slots s.swap → IsSound (record t { swap = u }) × (held (record t { swap = u }) ≡ held s)
+    cleaned-off u gone is sized room =
+        let sized₁ : sizes (with_area t.swap area (off (area_at t.swap area))) ≡ set (sizes t.swap) area None = rw gone at sized in
+        rw gone (sound-off t d.sound area cleaned-here.0 cleaned-free (rw gone at is) sized₁ (cleaned-room room), held-off t d.sound area cleaned-here.0 cleaned-free ∙ d.goes.bytes)

@@ -15,13 +15,13 @@ use Rattle.shm_fault.specs.Segs.{SegRec, AreApart, rec_at, but, no_page, find_se
 use Rattle.shm_fault.specs.Store.{StoreView, held_by, held, disowned}
 use Rattle.shm_fault.specs.Sound.{IsTied, IsSound}
 use Rattle.shm_fault.specs.Goes.{outline, outlines, Alike}
-use Rattle.shm_fault.specs.Dropping.{emptied, Given, Dropped}
+use Rattle.shm_fault.specs.Dropping.{emptied, Given, IsBlank, Dropped}
 use Rattle.shm_fault.proofs.Entries.{apart-filter}
 use Rattle.shm_fault.specs.Counting.{AtRest}
 use Rattle.shm_fault.proofs.Counting.{AtRest-refl, AtRest-trans}
 use Rattle.shm_fault.proofs.Sound.{IsSound-from, GoesOn-refl, GoesOn-trans}
 use Rattle.std.proofs.lemmas.List.Sums.{sum_by-cons}
-use Rattle.shm_fault.proofs.Pages.{outlines-with, rec-with, rec-with_other, rec-past, apart-same, other, other-true}
+use Rattle.shm_fault.proofs.Pages.{outlines-with, rec-with, rec-with_other, rec-past, count-same, apart-same, other, other-true}
 use Rattle.shm_fault.proofs.Slots.{OnlySlot, OnlySlot-given, owner-given, cases_slot}
 use Rattle.shm_fault.proofs.Ties.{Alike-refl, Touches, IsOwn, IsOwn-none, IsOwn-some, set_alike, set_owners, set_free, only_slots, only_owners, bytes_touched}
 use Rattle.shm_fault.proofs.Bytes.{joined, held_one, held_of, bytes_at, held-is, joined-ext}
@@ -253,6 +253,14 @@ dropped-more seg n s t u d has segs bytes frames slots size steady rest same =
     }
 
 -- a segment all of whose pages are nowhere is taken out
+pub record IsDropped (seg : ℕ) (s t : StoreView) : Type 0 where
+  pub sound : IsSound t
+  pub bytes : held t ≡ without (held s) seg
+  pub frames : (f : ℕ) → (frame_at t.frames f).owner ≡ disowned seg (frame_at s.frames f).owner
+  pub slots : (k : Slot) → owner_of t.swap k.area k.slot ≡ disowned seg (owner_of s.swap k.area k.slot)
+  pub still : (q : PageRef) → q.seg ≢ seg → rec_by t.segs q ≡ rec_by s.segs q
+  pub blank : IsBlank seg s → t ≡ record s { segs = but seg s.segs }
+
 find-but : (gs : List SegRec) (id k : ℕ) → k ≢ id → find_seg (but id gs) k ≡ find_seg gs k
 find-but [] id k n = refl
 find-but (g ∷ gs) id k n = elim (cases_eq g.id id) [
@@ -287,12 +295,12 @@ held-but-list frames swap (g ∷ gs) id = elim (cases_eq g.id id) [
   | inr m ↦ rw (ne_eqb g.id id m) (ap (λ hs. held_by frames swap g ∷ hs) (held-but-list frames swap gs id))
 ]
 
-pub held-but : (t : StoreView) (id : ℕ) → held (record t { segs = but id t.segs }) ≡ without (held t) id
+held-but : (t : StoreView) (id : ℕ) → held (record t { segs = but id t.segs }) ≡ without (held t) id
 unfolding held
 held-but t id = held-but-list t.frames t.swap t.segs id
 
 module _ (t : StoreView) (sound : IsSound t) (id : ℕ) (gone : (page : ℕ) → page < count_by_id t.segs id → rec_by t.segs (record { seg = id; page = page }) ≡ no_page) where
-  pub rec-but : (q : PageRef) → q.seg ≢ id → rec_by (but id t.segs) q ≡ rec_by t.segs q
+  rec-but : (q : PageRef) → q.seg ≢ id → rec_by (but id t.segs) q ≡ rec_by t.segs q
   rec-but q n = rw (find-but t.segs id q.seg n) refl
 
   count-but : (q : PageRef) → q.seg ≢ id → count_by_id (but id t.segs) q.seg ≡ count_by_id t.segs q.seg
@@ -316,21 +324,21 @@ module _ (t : StoreView) (sound : IsSound t) (id : ℕ) (gone : (page : ℕ) →
       let none : (rec_by t.segs q).slot ≡ None = ap (λ (x : PageRef). (rec_by t.segs x).slot) l ∙ ap (λ (p : PageRec). p.slot) (gone q.page lt) in
       cc
 
-  pub frames-but : (f : ℕ) → (frame_at t.frames f).owner ≡ disowned id (frame_at t.frames f).owner
+  frames-but : (f : ℕ) → (frame_at t.frames f).owner ≡ disowned id (frame_at t.frames f).owner
   frames-but f = by (frame_at t.frames f).owner refl
     where
       by : (o : Option PageRef) → (frame_at t.frames f).owner ≡ o → o ≡ disowned id o
       by None e = refl
       by (Some q) e = rw (ne_eqb q.seg id (frame-other f q e)) refl
 
-  pub slots-but : (k : Slot) → owner_of t.swap k.area k.slot ≡ disowned id (owner_of t.swap k.area k.slot)
+  slots-but : (k : Slot) → owner_of t.swap k.area k.slot ≡ disowned id (owner_of t.swap k.area k.slot)
   slots-but k = by (owner_of t.swap k.area k.slot) refl
     where
       by : (o : Option PageRef) → owner_of t.swap k.area k.slot ≡ o → o ≡ disowned id o
       by None e = refl
       by (Some q) e = rw (ne_eqb q.seg id (slot-other k q e)) refl
 
-  pub sound-but : IsSound (record t { segs = but id t.segs })
+  sound-but : IsSound (record t { segs = but id t.segs })
   sound-but =
       let u : StoreView = record t { segs = but id t.segs } in
       IsSound-from u
@@ -355,3 +363,16 @@ module _ (t : StoreView) (sound : IsSound t) (id : ℕ) (gone : (page : ℕ) →
       (apart-filter t.segs id sound.apart) sound.frames sound.swap sound.hand
       (let sum = sum-but pages_of t.segs id in omega (arith, sum, sound.capacity))
       (let sum = sum-but locked_pages t.segs id in omega (arith, sum, sound.locked))
+
+pub drops : (seg n : ℕ) (s t : StoreView) → IsSound t → Dropped seg n s t → count_by_id s.segs seg ≤ n → IsDropped seg s (record t { segs = but seg t.segs })
+drops seg n s t sound d all =
+    let same = count-same s.segs t.segs seg d.shape in
+    let gone : (page : ℕ) → page < count_by_id t.segs seg → rec_by t.segs (record { seg = seg; page = page }) ≡ no_page = λ page lt. d.done page (omega (arith, lt, same, all)) in
+    record {
+      sound = sound-but t sound seg gone;
+      bytes = held-but t seg ∙ d.bytes;
+      frames = λ f. frames-but t sound seg gone f ∙ d.frames f;
+      slots = λ k. slots-but t sound seg gone k ∙ d.slots k;
+      still = λ q ne. rec-but t sound seg gone q ne ∙ d.still q ne;
+      blank = λ blank. ap (λ (v : StoreView). record v { segs = but seg v.segs }) (d.nothing blank);
+    }
