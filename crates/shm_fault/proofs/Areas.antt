@@ -10,7 +10,7 @@ use Rattle.shm_slots.specs.Owners.{used_count}
 use Rattle.shm_slots.specs.View.{AreaView, SwapView, no_area, area_at, with_area, off, HasSlot, IsSwap, IsFirstFree, SameSlots, OneArea, WriteFault, owner_of, page_in, size_of, sizes, slots, slots_in, used_in, used_slots, with_slot_owner, with_slot_page, without_slot}
 use Rattle.shm_slots.specs.Cause.{GoesOn, IsSteady, had_cause}
 use Rattle.shm_frames.specs.Frame.{Frame, no_frame, frame_at}
-use Rattle.shm_fault.specs.declared.segments.PageRec.{PageRec}
+use Rattle.shm_fault.specs.declared.page_tables.PageRec.{PageRec}
 use Rattle.shm_fault.specs.Segs.{rec_by, HasPage, with_rec}
 use Rattle.shm_fault.specs.Store.{StoreView, held, stored, bytes_by, page_bytes}
 use Rattle.shm_fault.specs.Sound.{IsTied, Tied, IsSound}
@@ -19,14 +19,14 @@ use Rattle.shm_fault.specs.Counting.{AtRest}
 use Rattle.shm_fault.specs.Moving.{SameOwned, IsRelocated, IsCleared}
 use Rattle.shm_fault.proofs.Pages.{outlines-with, rec-with, rec-with_other, other, other_ne, cases_ref, has-frame, has-slot}
 use Rattle.shm_fault.proofs.Slots.{OnlySlot, OnlySlot-trans, OnlySlot-owner, OnlySlot-page, OnlySlot-given, OnlySlot-fault, page-written, owner-written, owner-set, owner-given, cases_slot}
-use Rattle.shm_fault.proofs.Ties.{Alike-refl, Touches, IsOwn, IsOwn-some, set_alike, set_owners, set_free}
+use Rattle.shm_fault.proofs.Ties.{SlotsApart, Touches, IsOwn, IsOwn-some, segs-same, segs-with, frames-same, frames-set}
 use Rattle.shm_fault.proofs.Bytes.{bytes_at, held-same}
 use Rattle.shm_fault.proofs.Tally.{used-slots}
 use Rattle.shm_fault.proofs.Whole.{pages_held-is}
 use Rattle.shm_fault.proofs.Failures.{size-at, pages-same, spent-cause, cause-before, cause-more}
 use Rattle.shm_fault.proofs.Sound.{IsSound-from, sound-touched, goes-touched, Goes-refl, Goes-trans}
 use Rattle.shm_fault.proofs.Counting.{AtRest-refl, AtRest-trans}
-use Rattle.shm_fault.proofs.Changes.{Keeps, keeps-one, some_same, bytes_by-some}
+use Rattle.shm_fault.proofs.Changes.{Keeps, every, keeps-every, keeps-one, some_same, bytes_by-some}
 use Rattle.shm_fault.proofs.Drops.{GivenSlots, given-slots}
 
 pub here-lt : (s : SwapView) (area : ℕ) → (area_at s area).here ≡ true → area < length s.areas
@@ -160,15 +160,9 @@ module _ (s : StoreView) (sound : IsSound s) (r : PageRef) (f : ℕ) (k : Slot) 
       let now : IsOwn r x.owner = IsOwn-some r x.owner own.1 in
       let sl : GivenSlots s r u = given-slots s sound r has u (Some k) at_slot given in
       let to : Touches (other r) s t = record {
-        shape = outlines-with s.segs r p;
-        recs = λ q e. rec-with_other s.segs r q p e;
-        size = length-set s.frames f x;
-        frames = set_alike r s.frames f x was now;
-        owners = set_owners r s.frames f x was now;
-        free = set_free r s.frames f x was now (λ none. let o = own.1 in cc) sound.tied.free;
-        has = sl.has;
-        slots = sl.slots;
-        slot_owners = sl.owners;
+        segs = segs-with s.segs r p;
+        frames = frames-set r s.frames f x was now (λ none. let o = own.1 in cc) sound.tied.free;
+        slots = sl.apart;
       } in
       let same : bytes_at t r ≡ bytes_at s r =
       ap (page_bytes t.frames t.swap) at ∙ ap (λ (y : Frame). y.bytes) set_at ∙ sym (bytes_by-some s.frames s.swap (rec_by s.segs r).frame (rec_by s.segs r).slot f at_frame) in
@@ -209,16 +203,10 @@ module _ (s : StoreView) (sound : IsSound s) (r : PageRef) (from to : Slot) (u :
       let own = (tie-s.slot_owned from was_in).1 in
       let not_from : (k : Slot) (q : PageRef) → other r q ≡ true → owner_of s.swap k.area k.slot ≡ Some q → k ≢ from = λ k q off o e. other_ne r q off (some_same r q (owner_of s.swap from.area from.slot) own (rw e at o)) in
       let not_to : (k : Slot) (q : PageRef) → owner_of s.swap k.area k.slot ≡ Some q → k ≢ to = λ k q o e. (let h : owner_of s.swap to.area to.slot ≡ Some q = rw e at o in let f = is.first.free in cc) in
-      let touched : Touches (other r) s t = record {
-        shape = outlines-with s.segs r p;
-        recs = λ q e. rec-with_other s.segs r q p e;
-        size = refl;
-        frames = λ g q e o. Alike-refl (frame_at s.frames g);
-        owners = λ g q e o. o;
-        free = sound.tied.free;
+      let slots : SlotsApart (other r) s.swap u = record {
         has = is.has;
-        slots = λ k q off o. (is.owners k (not_from k q off o) (not_to k q o) ∙ o, is.pages k (not_from k q off o) (not_to k q o));
-        slot_owners = λ k q off o. elim (cases_slot k to) [
+        kept = λ k q off o. (is.owners k (not_from k q off o) (not_to k q o) ∙ o, is.pages k (not_from k q off o) (not_to k q o));
+        owners = λ k q off o. elim (cases_slot k to) [
           | inl e ↦ absurd (other_ne r q off (some_same r q (owner_of u to.area to.slot) is.owner (rw e at o)))
           | inr n ↦ elim (cases_slot k from) [
             | inl e ↦ absurd (let h : owner_of u from.area from.slot ≡ Some q = rw e at o in let g = is.gone in cc)
@@ -245,32 +233,13 @@ module _ (s : StoreView) (sound : IsSound s) (r : PageRef) (from to : Slot) (u :
         clean = λ g e d. let h : None ≡ Some g = rw at at e in cc;
         whole = rw same tie-s.whole;
       } in
-      keeps-one s t sound r has touched sw sized sound.hand goes_on tie same
+      keeps-one s t sound r has (record { segs = segs-with s.segs r p; frames = frames-same s.frames sound.tied.free; slots = slots }) sw sized sound.hand goes_on tie same
 
 -- no page moves, and no owned slot changes
-module _ (s : StoreView) (sound : IsSound s) (u : SwapView) (owned : SameOwned s.swap u) where
-  each_page : PageRef → Bool
-  each_page q = true
-
-  pub keeps-owned : IsSwap u → sizes u ≡ sizes s.swap → GoesOn s.swap u → Keeps s (record s { swap = u })
-  unfolding each_page
-  keeps-owned is same goes_on =
-      let t : StoreView = record s { swap = u } in
-      let to : Touches each_page s t = record {
-        shape = refl;
-        recs = λ q e. refl;
-        size = refl;
-        frames = λ g q e o. Alike-refl (frame_at s.frames g);
-        owners = λ g q e o. o;
-        free = sound.tied.free;
-        has = owned.has;
-        slots = λ k q e o. (owned.owners k ∙ o, owned.pages k q o);
-        slot_owners = λ k q e o. sym (owned.owners k) ∙ o;
-      } in
-      record {
-        sound = sound-touched each_page s t sound to is same sound.hand (λ q n h. cc) (λ g q n h. cc) (λ k q n h. cc);
-        goes = goes-touched each_page s t sound to is same sound.hand (λ q n h. cc) (λ g q n h. cc) (λ k q n h. cc) goes_on (λ q n h. cc);
-      }
+pub keeps-owned : (s : StoreView) → IsSound s → (u : SwapView) → SameOwned s.swap u → IsSwap u → sizes u ≡ sizes s.swap → GoesOn s.swap u → Keeps s (record s { swap = u })
+keeps-owned s sound u owned is same goes_on =
+    let slots : SlotsApart every s.swap u = record { has = owned.has; kept = λ k q e o. (owned.owners k ∙ o, owned.pages k q o); owners = λ k q e o. sym (owned.owners k) ∙ o } in
+    keeps-every s (record s { swap = u }) sound (record { segs = segs-same s.segs; frames = frames-same s.frames sound.tied.free; slots = slots }) is same sound.hand goes_on
 
 -- an area none of whose slots is owned goes
 module _ (s : StoreView) (sound : IsSound s) (area : ℕ) (here : (area_at s.swap area).here ≡ true) (free : (j : ℕ) → owner_of s.swap area j ≡ None) where

@@ -10,7 +10,7 @@ use Rattle.shm_pager.specs.Pages.{zero_page}
 use Rattle.shm_slots.specs.View.{SwapView, HasSlot, owner_of, page_in, without_slot, IsSwap}
 use Rattle.shm_slots.specs.Cause.{IsSteady}
 use Rattle.shm_frames.specs.Frame.{Frame, no_frame, frame_at}
-use Rattle.shm_fault.specs.declared.segments.PageRec.{PageRec}
+use Rattle.shm_fault.specs.declared.page_tables.PageRec.{PageRec}
 use Rattle.shm_fault.specs.Segs.{SegRec, AreApart, rec_at, but, no_page, find_seg, rec_by, count_by_id, HasPage, with_rec, pages_of, locked_pages}
 use Rattle.shm_fault.specs.Store.{StoreView, held_by, held, disowned}
 use Rattle.shm_fault.specs.Sound.{IsTied, IsSound}
@@ -23,7 +23,7 @@ use Rattle.shm_fault.proofs.Sound.{IsSound-from, GoesOn-refl, GoesOn-trans}
 use Rattle.std.proofs.lemmas.List.Sums.{sum_by-cons}
 use Rattle.shm_fault.proofs.Pages.{outlines-with, rec-with, rec-with_other, rec-past, count-same, apart-same, other, other-true}
 use Rattle.shm_fault.proofs.Slots.{OnlySlot, OnlySlot-given, owner-given, cases_slot}
-use Rattle.shm_fault.proofs.Ties.{Alike-refl, Touches, IsOwn, IsOwn-none, IsOwn-some, set_alike, set_owners, set_free, only_slots, only_owners, bytes_touched}
+use Rattle.shm_fault.proofs.Ties.{FramesApart, SlotsApart, Touches, IsOwn, IsOwn-none, IsOwn-some, segs-with, frames-set, frames-same, slots-only, slots-same, bytes_touched, tied-segs}
 use Rattle.shm_fault.proofs.Bytes.{joined, held_one, held_of, bytes_at, held-is, joined-ext}
 use Rattle.shm_fault.proofs.Changes.{sound-one, some_same}
 
@@ -55,10 +55,7 @@ with-same gs r apart = with-is gs r (rec_by gs r) apart refl
 
 -- what becomes of the frames, of the page's own first
 record EmptiedFrames (s : StoreView) (r : PageRef) (frames : List Frame) : Type 0 where
-  size : length frames ≡ length s.frames
-  alike : (f : ℕ) (q : PageRef) → other r q ≡ true → (frame_at s.frames f).owner ≡ Some q → Alike (frame_at s.frames f) (frame_at frames f)
-  owners : (f : ℕ) (q : PageRef) → other r q ≡ true → (frame_at frames f).owner ≡ Some q → (frame_at s.frames f).owner ≡ Some q
-  free : (f : ℕ) → (frame_at frames f).owner ≡ None → (frame_at frames f).dirty ≡ false
+  apart : FramesApart (other r) s.frames frames
   none : (f : ℕ) → (frame_at frames f).owner ≡ Some r → ⊥
   kept : (f : ℕ) → disowned r.seg (frame_at frames f).owner ≡ disowned r.seg (frame_at s.frames f).owner
 
@@ -67,10 +64,7 @@ disowned-own r = rw (eq-eqb r.seg r.seg refl) refl
 
 emptied-frames : (s : StoreView) → IsSound s → (r : PageRef) → HasPage s.segs r → (o : Option ℕ) → (rec_by s.segs r).frame ≡ o → EmptiedFrames s r (emptied s.frames o)
 emptied-frames s sound r has None e = record {
-  size = refl;
-  alike = λ f q off h. Alike-refl (frame_at s.frames f);
-  owners = λ f q off h. h;
-  free = sound.tied.free;
+  apart = frames-same s.frames sound.tied.free;
   none = λ f h. let k : (rec_by s.segs r).frame ≡ Some f = (sound.tied.pages r has).owner_resident f h in cc;
   kept = λ f. refl;
 }
@@ -82,10 +76,7 @@ emptied-frames s sound r has (Some g) e =
     let now : IsOwn r x.owner = IsOwn-none r x.owner refl in
     let set_at : frame_at (set s.frames g x) g ≡ x = get_or-set_same s.frames g x no_frame own.0 in
     record {
-      size = length-set s.frames g x;
-      alike = set_alike r s.frames g x was now;
-      owners = set_owners r s.frames g x was now;
-      free = set_free r s.frames g x was now (λ none. refl) sound.tied.free;
+      apart = frames-set r s.frames g x was now (λ none. refl) sound.tied.free;
       none = λ f h. elim (cases_eq f g) [
         | inl q ↦ let k : None ≡ Some r = rw (q, set_at) at h in cc
         | inr n ↦ n (some_same g f (rec_by s.segs r).frame e (tie.owner_resident f (rw (get_or-set_other s.frames g f x no_frame n) at h)))
@@ -97,17 +88,13 @@ emptied-frames s sound r has (Some g) e =
     }
 
 pub record GivenSlots (s : StoreView) (r : PageRef) (u : SwapView) : Type 0 where
-  pub has : (k : Slot) → HasSlot s.swap k.area k.slot → HasSlot u k.area k.slot
-  pub slots : (k : Slot) (q : PageRef) → other r q ≡ true → owner_of s.swap k.area k.slot ≡ Some q → (owner_of u k.area k.slot ≡ Some q) × (page_in u k.area k.slot ≡ page_in s.swap k.area k.slot)
-  pub owners : (k : Slot) (q : PageRef) → other r q ≡ true → owner_of u k.area k.slot ≡ Some q → owner_of s.swap k.area k.slot ≡ Some q
+  pub apart : SlotsApart (other r) s.swap u
   pub none : (k : Slot) → owner_of u k.area k.slot ≡ Some r → ⊥
   pub kept : (k : Slot) → disowned r.seg (owner_of u k.area k.slot) ≡ disowned r.seg (owner_of s.swap k.area k.slot)
 
 pub given-slots : (s : StoreView) → IsSound s → (r : PageRef) → HasPage s.segs r → (u : SwapView) → (o : Option Slot) → (rec_by s.segs r).slot ≡ o → Given s.swap o u → GivenSlots s r u
 given-slots s sound r has u None e given = rw given (record {
-  has = λ k h. h;
-  slots = λ k q off h. (h, refl);
-  owners = λ k q off h. h;
+  apart = slots-same s.swap;
   none = λ k h. let i : (rec_by s.segs r).slot ≡ Some k = (sound.tied.pages r has).owner_stored k h in cc;
   kept = λ k. refl;
 })
@@ -121,9 +108,7 @@ given-slots s sound r has u (Some j) e given =
     let was : IsOwn r (owner_of s.swap j.area j.slot) = IsOwn-some r (owner_of s.swap j.area j.slot) own.1 in
     let now : IsOwn r (owner_of v j.area j.slot) = IsOwn-none r (owner_of v j.area j.slot) now₀ in
     let g : GivenSlots s r v = record {
-      has = only.has;
-      slots = only_slots r j s.swap v only was now;
-      owners = only_owners r j s.swap v only was now;
+      apart = slots-only r j s.swap v only was now;
       none = λ k h. elim (cases_slot k j) [
         | inl q ↦ let i : owner_of v j.area j.slot ≡ Some r = rw q at h in cc
         | inr n ↦ n (some_same j k (rec_by s.segs r).slot e (tie.owner_stored k (sym (only.owners k n) ∙ h)))
@@ -154,17 +139,7 @@ module _ (s : StoreView) (sound : IsSound s) (r : PageRef) (has : HasPage s.segs
   sl = given-slots s sound r has u (rec_by s.segs r).slot refl given
 
   to-forgotten : Touches (other r) s forgotten
-  to-forgotten = record {
-    shape = outlines-with s.segs r no_page;
-    recs = λ q e. rec-with_other s.segs r q no_page e;
-    size = fr.size;
-    frames = fr.alike;
-    owners = fr.owners;
-    free = fr.free;
-    has = sl.has;
-    slots = sl.slots;
-    slot_owners = sl.owners;
-  }
+  to-forgotten = record { segs = segs-with s.segs r no_page; frames = fr.apart; slots = sl.apart }
 
   sound-forgotten : IsSwap u → IsSteady s.swap u → IsSound forgotten
   unfolding zero_page
@@ -178,7 +153,7 @@ module _ (s : StoreView) (sound : IsSound s) (r : PageRef) (has : HasPage s.segs
         clean = λ f e d. let h : None ≡ Some f = rw at at e in cc;
         whole = rw at (length-replicate {A = ℕ} 4096 0);
       } in
-      sound-one s forgotten sound r has to-forgotten is steady.same_sizes (rw fr.size sound.hand) steady.goes_on tie
+      sound-one s forgotten sound r has to-forgotten is steady.same_sizes (rw fr.apart.size sound.hand) steady.goes_on tie
 
   held-forgotten : without (held forgotten) r.seg ≡ without (held s) r.seg
   held-forgotten =
@@ -206,7 +181,7 @@ module _ (s : StoreView) (sound : IsSound s) (r : PageRef) (has : HasPage s.segs
       ]
 
   pub forgets : IsSwap u → IsSteady s.swap u → Forgets r s (record s { segs = with_rec s.segs r no_page; frames = emptied s.frames (rec_by s.segs r).frame; swap = u })
-  forgets is steady = record { sound = sound-forgotten is steady; bytes = held-forgotten; frames = fr.kept; slots = sl.kept; size = fr.size }
+  forgets is steady = record { sound = sound-forgotten is steady; bytes = held-forgotten; frames = fr.kept; slots = sl.kept; size = fr.apart.size }
 
 IsSteady-refl : (s : SwapView) → IsSteady s s
 IsSteady-refl s = record { goes_on = GoesOn-refl s; failures = refl; same_sizes = refl }
@@ -346,15 +321,7 @@ module _ (t : StoreView) (sound : IsSound t) (id : ℕ) (gone : (page : ℕ) →
         pages = λ q has. elim (cases_eq q.seg id) [
           | inl e ↦ absurd (let none : find_seg (but id t.segs) q.seg ≡ None = rw e (find-out t.segs id) in let no_count : q.page < 0 = rw none at has in omega arith)
           | inr n ↦
-              let tie = sound.tied.pages q (rw (count-but q n) at has) in
-              record {
-                frame_owned = λ f e. tie.frame_owned f (rw (rec-but q n) at e);
-                owner_resident = λ f e. rw (rec-but q n) (tie.owner_resident f e);
-                slot_owned = λ k e. tie.slot_owned k (rw (rec-but q n) at e);
-                owner_stored = λ k e. rw (rec-but q n) (tie.owner_stored k e);
-                clean = λ f e d. rw (rec-but q n) (tie.clean f (rw (rec-but q n) at e) d);
-                whole = rw (rec-but q n) tie.whole;
-              }
+              tied-segs t (but id t.segs) q (rec-but q n) (sound.tied.pages q (rw (count-but q n) at has))
         ];
         owners = λ f q e. rw (count-but q (frame-other f q e)) (sound.tied.owners f q e);
         slot_owners = λ k q e. rw (count-but q (slot-other k q e)) (sound.tied.slot_owners k q e);

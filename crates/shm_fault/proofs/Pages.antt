@@ -6,9 +6,9 @@ use Rattle.std.proofs.lemmas.List.{get_or_past}
 use Rattle.std.proofs.lemmas.List.Sums.{sum_by-cons}
 use Rattle.shm_base.specs.declared.paging.Slot.{Slot}
 use Rattle.shm_base.specs.declared.paging.PageRef.{PageRef}
-use Rattle.shm_fault.specs.declared.segments.PageRec.{PageRec}
+use Rattle.shm_fault.specs.declared.page_tables.PageRec.{PageRec}
 use Rattle.shm_fault.specs.Goes.{Outline, outline, outlines, same_ref}
-use Rattle.shm_fault.specs.Segs.{SegRec, no_page, find_seg, AreApart, rec_by, count_in, count_by_id, HasPage, lock_in, locked_by, seg_with, with_rec, pages_of, locked_pages}
+use Rattle.shm_fault.specs.Segs.{SegRec, no_page, rec_at, find_seg, AreApart, rec_by, count_in, count_by_id, HasPage, lock_in, locked_by, seg_with, with_rec, pages_of, locked_pages}
 
 -- the name of another page
 abbrev pub other : PageRef → PageRef → Bool
@@ -145,6 +145,23 @@ find-id (h ∷ gs) id g e = elim (cases_eq h.id id) [
   | inl q ↦ let s : Some h ≡ Some g = rw (eq-eqb h.id id q) at e in let t : h ≡ g = cc in rw (← t) q
   | inr n ↦ find-id gs id g (rw (ne_eqb h.id id n) at e)
 ]
+
+-- the pages of the first segment of a list
+pub has-head : (g : SegRec) (gs : List SegRec) (j : ℕ) → j < length g.pages → HasPage (g ∷ gs) (record { seg = g.id; page = j })
+has-head g gs j lt = rw (eq-eqb g.id g.id refl) lt
+
+pub rec-head : (g : SegRec) (gs : List SegRec) (j : ℕ) → rec_by (g ∷ gs) (record { seg = g.id; page = j }) ≡ rec_at g.pages j
+rec-head g gs j = rw (eq-eqb g.id g.id refl) refl
+
+-- and those of the rest
+pub not-head : (g : SegRec) (gs : List SegRec) → AreApart (g ∷ gs) → (r : PageRef) → HasPage gs r → g.id ≢ r.seg
+not-head g gs apart r has e = let none : find_seg gs r.seg ≡ None = rw e at apart.0 in let no_count : r.page < 0 = rw none at has in absurd (omega arith)
+
+pub has-tail : (g : SegRec) (gs : List SegRec) → AreApart (g ∷ gs) → (r : PageRef) → HasPage gs r → HasPage (g ∷ gs) r
+has-tail g gs apart r has = rw (ne_eqb g.id r.seg (not-head g gs apart r has)) has
+
+pub rec-tail : (g : SegRec) (gs : List SegRec) → AreApart (g ∷ gs) → (r : PageRef) → HasPage gs r → rec_by (g ∷ gs) r ≡ rec_by gs r
+rec-tail g gs apart r has = rw (ne_eqb g.id r.seg (not-head g gs apart r has)) refl
 
 -- where the page is that was set
 pub rec-with : (gs : List SegRec) (r : PageRef) (p : PageRec) → HasPage gs r → rec_by (with_rec gs r p) r ≡ p

@@ -61,17 +61,17 @@ module _ (off : PageRef → Bool) (s t : StoreView) (sound : IsSound s) (to : To
   pub sound-touched : IsSound t
   sound-touched = IsSound-from t
       (tied_touched off s t to sound.tied here own_frame own_slot)
-      (apart-same s.segs t.segs to.shape sound.apart)
-      (rw to.size sound.frames)
+      (apart-same s.segs t.segs to.segs.shape sound.apart)
+      (rw to.frames.size sound.frames)
       swap hand
-      (let p = sum_pages-same s.segs t.segs to.shape in let z : slots t.swap ≡ slots s.swap = ap (λ l. sum_by slots_in l) same in omega (arith, p, z, sound.capacity))
-      (let p = sum_locked-same s.segs t.segs to.shape in omega (arith, p, to.size, sound.locked))
+      (let p = sum_pages-same s.segs t.segs to.segs.shape in let z : slots t.swap ≡ slots s.swap = ap (λ l. sum_by slots_in l) same in omega (arith, p, z, sound.capacity))
+      (let p = sum_locked-same s.segs t.segs to.segs.shape in omega (arith, p, to.frames.size, sound.locked))
 
   pub goes-touched : GoesOn s.swap t.swap → ((q : PageRef) → off q ≡ false → HasPage s.segs q → bytes_at t q ≡ bytes_at s q) → Goes s t
   goes-touched goes_on bytes = record {
-    bytes = held-same s t sound.apart (apart-same s.segs t.segs to.shape sound.apart) to.shape (λ q has. elim (cases_Bool (off q)) [ inl is ↦ bytes_touched off s t to q is (sound.tied.pages q has) | inr on ↦ bytes q on has ]);
-    shape = to.shape;
-    size = to.size;
+    bytes = held-same s t sound.apart (apart-same s.segs t.segs to.segs.shape sound.apart) to.segs.shape (λ q has. elim (cases_Bool (off q)) [ inl is ↦ bytes_touched off s t to q is (sound.tied.pages q has) | inr on ↦ bytes q on has ]);
+    shape = to.segs.shape;
+    size = to.frames.size;
     goes_on = goes_on;
     same_sizes = same;
     spent = spent-cause s.swap t.swap sound.swap goes_on;

@@ -12,7 +12,7 @@ use Rattle.shm_fault.specs.Segs.{SegRec, find_seg, AreApart, count_by_id, HasPag
 use Rattle.shm_fault.specs.Store.{StoreView, page_of, held, ref_of}
 use Rattle.shm_fault.specs.Sound.{IsSound}
 use Rattle.shm_fault.specs.Goes.{outline, outlines, frame_by}
-use Rattle.shm_fault.proofs.Pages.{find-id}
+use Rattle.shm_fault.proofs.Pages.{find-id, has-tail}
 use Rattle.shm_fault.proofs.Bytes.{joined, held_one, held_of, bytes_at, held-is, joined-read, joined-paste, joined-ext, length-joined}
 
 find-held : (b : PageRef → List ℕ) (gs : List SegRec) (id : ℕ) → find_held (held_of b (outlines gs)) id ≡ option_map (λ (g : SegRec). held_one b (outline g)) (find_seg gs id)
@@ -93,10 +93,7 @@ pasted-list b c (g ∷ gs) r off new apart whole has fits here others = elim (ca
       rw (eq-eqb g.id r.seg e) (let h : held_one c (outline g) ≡ record { id = g.id; locked = g.locked; bytes = paste (joined b g.id 0 (length g.pages)) (4096 * r.page + off) new } = ap (λ bs. record { id = g.id; locked = g.locked; bytes = bs }) head in cc)
   | inr n ↦
       let head : joined c g.id 0 (length g.pages) ≡ joined b g.id 0 (length g.pages) = joined-ext c b g.id 0 (length g.pages) (λ j l. others (record { seg = g.id; page = 0 + j }) (λ same. n (ap (λ (q : PageRef). q.seg) same))) in
-      let rest = pasted-list b c gs r off new apart.1 (λ q there. elim (cases_eq g.id q.seg) [
-        | inl f ↦ absurd (let none : find_seg gs q.seg ≡ None = rw f at apart.0 in let no_count : q.page < 0 = rw none at there in omega arith)
-        | inr m ↦ whole q (rw (ne_eqb g.id q.seg m) there)
-      ]) (rw (ne_eqb g.id r.seg n) at has) fits here others in
+      let rest = pasted-list b c gs r off new apart.1 (λ q there. whole q (has-tail g gs apart q there)) (rw (ne_eqb g.id r.seg n) at has) fits here others in
       rw (ne_eqb g.id r.seg n) (let h : held_one c (outline g) ≡ held_one b (outline g) = ap (λ bs. record { id = g.id; locked = g.locked; bytes = bs }) head in cc)
 ]
   where

@@ -4,7 +4,7 @@ use Rattle.std.proofs.lemmas.Bool.{cases_Bool, cases_eq, cases_lt, and_parts, eq
 use Rattle.shm_base.specs.declared.paging.PageRef.{PageRef}
 use Rattle.shm_frames.specs.Frame.{Frame, no_frame, frame_at}
 use Rattle.shm_clock.specs.Clock.{may_go, owner_passes, is_pinned}
-use Rattle.shm_fault.specs.declared.segments.PageRec.{PageRec}
+use Rattle.shm_fault.specs.declared.page_tables.PageRec.{PageRec}
 use Rattle.shm_fault.specs.Segs.{SegRec, rec_by, HasPage, with_rec, locked_by}
 use Rattle.shm_slots.specs.View.{SwapView, IsSwap, SameSlots, sizes}
 use Rattle.shm_slots.specs.Cause.{GoesOn}
@@ -17,8 +17,8 @@ use Rattle.shm_fault.specs.Steps.{is_page, moved}
 use Rattle.shm_fault.proofs.Ties.{Alike-refl}
 use Rattle.std.proofs.lemmas.List.{set_past}
 use Rattle.shm_fault.proofs.Pages.{rec-with, rec-with_other, cases_ref, other, other_ne, other-true, has-frame}
-use Rattle.shm_fault.proofs.Sound.{frame-own, GoesOn-refl, Goes-refl, Goes-trans, KeepsLocked-trans}
-use Rattle.shm_fault.proofs.Changes.{Keeps, some_same, keeps-alike, keeps-load, keeps-settle, SameSlots-refl}
+use Rattle.shm_fault.proofs.Sound.{frame-own, Goes-refl, Goes-trans, KeepsLocked-trans}
+use Rattle.shm_fault.proofs.Changes.{Keeps, some_same, keeps-alike, keeps-load, keeps-settle}
 
 pub Visits-trans : (r : PageRef) (pinned : Option ℕ) (s t u : StoreView) → Visits r pinned s t → Visits r pinned t u → Visits r pinned s u
 Visits-trans r pinned s t u a b = record {
@@ -223,7 +223,7 @@ step-touch s sound f lt =
     let x : Frame = record (frame_at s.frames f) { referenced = true } in
     let size = length-set s.frames f x in
     let alike = alike-set s.frames f x (record { owner = refl; bytes = refl; dirty = refl }) in
-    let keeps = keeps-alike s sound (set s.frames f x) s.hand s.swap s.ins s.outs size alike (SameSlots-refl s.swap) sound.swap refl (rw size sound.hand) (GoesOn-refl s.swap) in
+    let keeps = keeps-alike s sound (set s.frames f x) s.hand size alike (rw size sound.hand) in
     record {
       sound = keeps.sound;
       visits = λ r pinned. record {

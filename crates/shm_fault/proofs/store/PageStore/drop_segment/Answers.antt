@@ -1,5 +1,5 @@
 use Rattle.std.proofs.Common.{◌≡◌, ap, arith}
-use Rattle.shm_fault.specs.declared.segments.PageRec.{PageRec}
+use Rattle.shm_fault.specs.declared.page_tables.PageRec.{PageRec}
 use Rattle.shm_fault.specs.Segs.{count_by_id, HasPage}
 use Rattle.shm_fault.specs.Store.{frame_of}
 use Rattle.shm_fault.specs.Dropping.{Dropped}

@@ -1,12 +1,11 @@
-use Rattle.std.proofs.Common.{length, refl}
+use Rattle.std.proofs.Common.{length}
 use Rattle.shm_clock.specs.Clock.{may_go}
 use Rattle.shm_clock.proofs.Eligible.{two_eligible}
 use Rattle.shm_frames.specs.Frame.{OwnedBelow}
 use Rattle.shm_fault.specs.Goes.{unlocked}
 use Rattle.shm_fault.proofs.Seen.{seen}
 use Rattle.shm_fault.proofs.Clock.{clock-alike, next-lt, two_unlocked}
-use Rattle.shm_fault.proofs.Sound.{GoesOn-refl}
-use Rattle.shm_fault.proofs.Changes.{Keeps, keeps-alike, SameSlots-refl}
+use Rattle.shm_fault.proofs.Changes.{Keeps, keeps-alike}
 use Rattle.shm_fault.proofs.store.PageStore.turn.Given as given
 use Rattle.shm_fault.proofs.store.PageStore.turn.Goals as goal
 use Rattle.shm_fault.proofs.store.PageStore.turn.Goals.{After-choose}
@@ -17,7 +16,7 @@ kept g c =
     let clock = c.choose.ensures.clock in
     let alike = clock-alike (may_go (unlocked i.segs) c.args.pinned i.frames) i.hand i.frames c.choose.result c.choose.new.frames clock in
     let hand = next-lt i.frames c.choose.new.frames c.choose.result clock.size clock.there c.choose.ensures.hand in
-    keeps-alike (seen i) c.self.invariant c.choose.new.frames c.choose.new.hand i.swap i.ins i.outs clock.size alike (SameSlots-refl i.swap) c.self.invariant.swap refl hand (GoesOn-refl i.swap)
+    keeps-alike (seen i) c.self.invariant c.choose.new.frames c.choose.new.hand clock.size alike hand
 
 pub choose-requires-clause-one : goal.choose-requires-clause-one
 choose-requires-clause-one g c =
