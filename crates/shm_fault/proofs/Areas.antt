@@ -7,7 +7,7 @@ use Rattle.shm_base.specs.declared.paging.PageRef.{PageRef}
 use Rattle.shm_base.specs.declared.paging.Slot.{Slot}
 use Rattle.shm_plain.specs.Held.{pages_held}
 use Rattle.shm_slots.specs.Owners.{used_count}
-use Rattle.shm_slots.specs.View.{AreaView, SwapView, no_area, area_at, with_area, off, HasSlot, IsSwap, IsFirstFree, SameSlots, OneArea, WriteFault, owner_of, page_in, size_of, sizes, slots, slots_in, used_in, used_slots, with_slot_owner, with_slot_page, without_slot}
+use Rattle.shm_slots.specs.View.{AreaView, SwapView, no_area, area_at, with_area, off, HasSlot, IsSwap, IsFirstFree, OneArea, WriteFault, owner_of, page_in, size_of, sizes, slots, slots_in, used_in, used_slots, with_slot_owner, with_slot_page, without_slot}
 use Rattle.shm_slots.specs.Cause.{GoesOn, IsSteady, had_cause}
 use Rattle.shm_frames.specs.Frame.{Frame, no_frame, frame_at}
 use Rattle.shm_fault.specs.declared.page_tables.PageRec.{PageRec}
@@ -17,15 +17,15 @@ use Rattle.shm_fault.specs.Sound.{IsTied, Tied, IsSound}
 use Rattle.shm_fault.specs.Goes.{Goes, Still}
 use Rattle.shm_fault.specs.Counting.{AtRest}
 use Rattle.shm_fault.specs.Moving.{SameOwned, IsRelocated, IsCleared}
-use Rattle.shm_fault.proofs.Pages.{outlines-with, rec-with, rec-with_other, other, other_ne, cases_ref, has-frame, has-slot}
+use Rattle.shm_fault.proofs.Pages.{rec-with, other, other_ne, has-frame, has-slot}
 use Rattle.shm_fault.proofs.Slots.{OnlySlot, OnlySlot-trans, OnlySlot-owner, OnlySlot-page, OnlySlot-given, OnlySlot-fault, page-written, owner-written, owner-set, owner-given, cases_slot}
 use Rattle.shm_fault.proofs.Ties.{SlotsApart, Touches, IsOwn, IsOwn-some, segs-same, segs-with, frames-same, frames-set}
 use Rattle.shm_fault.proofs.Bytes.{bytes_at, held-same}
 use Rattle.shm_fault.proofs.Tally.{used-slots}
 use Rattle.shm_fault.proofs.Whole.{pages_held-is}
 use Rattle.shm_fault.proofs.Failures.{size-at, pages-same, spent-cause, cause-before, cause-more}
-use Rattle.shm_fault.proofs.Sound.{IsSound-from, sound-touched, goes-touched, Goes-refl, Goes-trans}
-use Rattle.shm_fault.proofs.Counting.{AtRest-refl, AtRest-trans}
+use Rattle.shm_fault.proofs.Sound.{IsSound-from, Goes-trans}
+use Rattle.shm_fault.proofs.Counting.{AtRest-trans}
 use Rattle.shm_fault.proofs.Changes.{Keeps, every, keeps-every, keeps-one, some_same, bytes_by-some}
 use Rattle.shm_fault.proofs.Drops.{GivenSlots, given-slots}
 
@@ -57,24 +57,6 @@ has-room s sound k r own room =
     let same = used-slots s sound.apart sound.tied in
     let one = count-one (area_at s.swap k.area).owners k.slot r own in
     omega (arith, all, few, same, one, room)
-
-pub slot-there : (s : StoreView) → IsSound s → (k : Slot) (r : PageRef) → owner_of s.swap k.area k.slot ≡ Some r → (rec_by s.segs r).slot ≡ Some k
-slot-there s sound k r own = (sound.tied.pages r (sound.tied.slot_owners k r own)).owner_stored k own
-
--- a slot was given back
-pub cleared-given : (k : Slot) (s : SwapView) (page : List ℕ) → IsSwap s → HasSlot s k.area k.slot → IsCleared k s (without_slot s k page)
-cleared-given k s page swap has =
-    let only : OnlySlot k s (without_slot s k page) = OnlySlot-given k s page in
-    let gone = owner-given k s page has.0 (omega (arith, has.1, (swap.each k.area).owned)) in
-    record {
-      free = gone;
-      rest = λ slot e.
-          let j : Slot = record { area = k.area; slot = slot } in
-          elim (cases_slot j k) [
-            | inl q ↦ let same : slot ≡ k.slot = ap (λ (x : Slot). x.slot) q in rw same gone
-            | inr n ↦ only.owners j n ∙ e
-          ];
-    }
 
 -- a page was written to another slot, and its old one given back
 pub relocated : (page : PageRef) (from to : Slot) (s : SwapView) (bytes last : List ℕ) → IsSwap s → IsSwap (with_slot_page (with_slot_owner s to (Some page)) to bytes) → HasSlot s from.area from.slot → IsFirstFree s (Some from.area) to
@@ -114,13 +96,6 @@ relocated-not page from to s u last swap sound first one fault =
       owners = λ k. elim (cases_slot k to) [ inl q ↦ rw q (gone ∙ sym first.free) | inr n ↦ only.owners k n ];
       pages = λ k q e. only.pages k (λ same. let h : owner_of s to.area to.slot ≡ Some q = rw same at e in let f = first.free in cc);
     }
-
-pub SameOwned-same : (s t : SwapView) → SameSlots s t → SameOwned s t
-SameOwned-same s t same = record {
-  has = λ k h. (rw same.areas h.0, rw (same.pages k.area) h.1);
-  owners = λ k. ap (λ os. get_or os k.slot None) (same.owners k.area);
-  pages = λ k q e. ap (λ ps. get_or ps k.slot []) (same.pages k.area);
-}
 
 -- a cause in the middle of steps that count no failure
 pub cause-within : (s t u v : SwapView) → IsSwap s → IsSteady s t → GoesOn t u → IsSteady u v → had_cause t u ≡ true → had_cause s v ≡ true
@@ -311,9 +286,6 @@ pub record IsCleaned (area n : ℕ) (s t : StoreView) : Type 0 where
   pub still : Still s t
   pub rest : AtRest s t
   pub free : (slot : ℕ) → slot < n → owner_of t.swap area slot ≡ None
-
-pub cleaned-none : (area : ℕ) (s : StoreView) → IsSound s → IsCleaned area 0 s s
-cleaned-none area s sound = record { sound = sound; goes = Goes-refl s; still = λ q. refl; rest = AtRest-refl s; free = λ slot lt. absurd (omega arith) }
 
 pub cleaned-more : (area n : ℕ) (s t u : StoreView) → IsCleaned area n s t → IsSound u → Goes t u → Still t u → AtRest t u → IsCleared (record { area = area; slot = n }) t.swap u.swap → IsCleaned area (n + 1) s u
 cleaned-more area n s t u d sound goes still rest cleared = record {

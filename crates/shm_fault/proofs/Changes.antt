@@ -13,7 +13,7 @@ use Rattle.shm_fault.specs.Segs.{rec_by, count_by_id, HasPage, with_rec}
 use Rattle.shm_fault.specs.Store.{StoreView, stored, bytes_by, page_bytes}
 use Rattle.shm_fault.specs.Sound.{IsTied, IsSound}
 use Rattle.shm_fault.specs.Goes.{Alike, Goes, Still, StaysAway}
-use Rattle.shm_fault.proofs.Pages.{outlines-with, rec-with, rec-with_other, still-with, cases_ref, other, other-false, other-true, has-frame, rec-past}
+use Rattle.shm_fault.proofs.Pages.{rec-with, rec-with_other, still-with, cases_ref, other, other-false, other-true, has-frame, rec-past}
 use Rattle.shm_fault.proofs.Slots.{OnlySlot, OnlySlot-owner, owner-set, cases_slot}
 use Rattle.shm_fault.proofs.Ties.{Alike-refl, FramesApart, SlotsApart, Touches, IsOwn, IsOwn-none, IsOwn-some, segs-same, segs-with, frames-same, frames-set, slots-same, slots-only, bytes_touched}
 use Rattle.shm_fault.proofs.Bytes.{bytes_at}
@@ -358,9 +358,6 @@ module _ (s : StoreView) (sound : IsSound s) (r : PageRef) (f : ℕ) (x : Frame)
 
   pub bytes-stored : page_bytes (set s.frames f x) s.swap (rec_by s.segs r) ≡ x.bytes
   bytes-stored = bytes_by-some (set s.frames f x) s.swap (rec_by s.segs r).frame (rec_by s.segs r).slot f at_frame ∙ ap (λ (y : Frame). y.bytes) set-st
-
-  pub bytes-was : page_bytes s.frames s.swap (rec_by s.segs r) ≡ (frame_at s.frames f).bytes
-  bytes-was = bytes_by-some s.frames s.swap (rec_by s.segs r).frame (rec_by s.segs r).slot f at_frame
 
   bytes-there : (q : PageRef) → HasPage s.segs q → other r q ≡ true → page_bytes (set s.frames f x) s.swap (rec_by s.segs q) ≡ page_bytes s.frames s.swap (rec_by s.segs q)
   bytes-there q there off = bytes_touched (other r) s (record s { frames = set s.frames f x }) to-st q off (sound.tied.pages q there)

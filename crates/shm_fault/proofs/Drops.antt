@@ -1,5 +1,5 @@
 -- A page that leaves its frame and its slot for good.
-use Rattle.std.proofs.Common.{◌≡◌, ◌≢◌, ℕ, zero, suc, ◌<◌, ◌≤◌, ◌+◌, true, false, List, [], ◌∷◌, length, set, map, sum_by, Option, Some, None, refl, sym, ap, ◌∙◌, inl, inr, arith, length-set, get_or-set_same, get_or-set_other}
+use Rattle.std.proofs.Common.{◌≡◌, ◌≢◌, ℕ, zero, suc, ◌<◌, ◌≤◌, ◌+◌, true, List, [], ◌∷◌, length, set, map, sum_by, Option, Some, None, refl, sym, ap, ◌∙◌, inl, inr, arith, get_or-set_same, get_or-set_other}
 use Rattle.std.proofs.lemmas.Bool.{cases_eq, cases_lt, eq-eqb, ne_eqb}
 use Rattle.std.proofs.lemmas.Option.{none-some}
 use Rattle.std.proofs.lemmas.List.{length-replicate}
@@ -7,19 +7,19 @@ use Rattle.shm_base.specs.declared.paging.PageRef.{PageRef}
 use Rattle.shm_base.specs.declared.paging.Slot.{Slot}
 use Rattle.shm_plain.specs.Held.{without}
 use Rattle.shm_pager.specs.Pages.{zero_page}
-use Rattle.shm_slots.specs.View.{SwapView, HasSlot, owner_of, page_in, without_slot, IsSwap}
+use Rattle.shm_slots.specs.View.{SwapView, owner_of, page_in, without_slot, IsSwap}
 use Rattle.shm_slots.specs.Cause.{IsSteady}
 use Rattle.shm_frames.specs.Frame.{Frame, no_frame, frame_at}
 use Rattle.shm_fault.specs.declared.page_tables.PageRec.{PageRec}
 use Rattle.shm_fault.specs.Segs.{SegRec, AreApart, rec_at, but, no_page, find_seg, rec_by, count_by_id, HasPage, with_rec, pages_of, locked_pages}
 use Rattle.shm_fault.specs.Store.{StoreView, held_by, held, disowned}
 use Rattle.shm_fault.specs.Sound.{IsTied, IsSound}
-use Rattle.shm_fault.specs.Goes.{outline, outlines, Alike}
+use Rattle.shm_fault.specs.Goes.{outline, outlines}
 use Rattle.shm_fault.specs.Dropping.{emptied, Given, IsBlank, Dropped}
 use Rattle.shm_fault.proofs.Entries.{apart-filter}
 use Rattle.shm_fault.specs.Counting.{AtRest}
-use Rattle.shm_fault.proofs.Counting.{AtRest-refl, AtRest-trans}
-use Rattle.shm_fault.proofs.Sound.{IsSound-from, GoesOn-refl, GoesOn-trans}
+use Rattle.shm_fault.proofs.Counting.{AtRest-trans}
+use Rattle.shm_fault.proofs.Sound.{IsSound-from, GoesOn-trans}
 use Rattle.std.proofs.lemmas.List.Sums.{sum_by-cons}
 use Rattle.shm_fault.proofs.Pages.{outlines-with, rec-with, rec-with_other, rec-past, count-same, apart-same, other, other-true}
 use Rattle.shm_fault.proofs.Slots.{OnlySlot, OnlySlot-given, owner-given, cases_slot}
@@ -183,25 +183,8 @@ module _ (s : StoreView) (sound : IsSound s) (r : PageRef) (has : HasPage s.segs
   pub forgets : IsSwap u → IsSteady s.swap u → Forgets r s (record s { segs = with_rec s.segs r no_page; frames = emptied s.frames (rec_by s.segs r).frame; swap = u })
   forgets is steady = record { sound = sound-forgotten is steady; bytes = held-forgotten; frames = fr.kept; slots = sl.kept; size = fr.apart.size }
 
-IsSteady-refl : (s : SwapView) → IsSteady s s
-IsSteady-refl s = record { goes_on = GoesOn-refl s; failures = refl; same_sizes = refl }
-
 IsSteady-trans : (s t u : SwapView) → IsSteady s t → IsSteady t u → IsSteady s u
 IsSteady-trans s t u a b = record { goes_on = GoesOn-trans s t u a.goes_on b.goes_on; failures = b.failures ∙ a.failures; same_sizes = b.same_sizes ∙ a.same_sizes }
-
-pub dropped-none : (seg : ℕ) (s : StoreView) → Dropped seg 0 s s
-dropped-none seg s = record {
-  shape = refl;
-  bytes = refl;
-  frames = λ f. refl;
-  slots = λ k. refl;
-  size = refl;
-  steady = IsSteady-refl s.swap;
-  still = λ q n. refl;
-  done = λ page lt. absurd (omega arith);
-  rest = AtRest-refl s;
-  nothing = λ blank. refl;
-}
 
 -- one page more
 pub dropped-more : (seg n : ℕ) (s t u : StoreView) → Dropped seg n s t → HasPage t.segs (record { seg = seg; page = n }) → u.segs ≡ with_rec t.segs (record { seg = seg; page = n }) no_page

@@ -12,12 +12,6 @@ use Rattle.shm_fault.specs.Entries.{seg_view, segs_view, key_at}
 abbrev pub edit_at : ℕ → (SegRec → SegRec) → SegRec → SegRec
 edit_at id f g = cond (eqb g.id id) (f g) g
 
-eqb_comm : (a b : ℕ) → eqb a b ≡ eqb b a
-eqb_comm a b = elim (cases_eq a b) [
-  | inl e ↦ rw (eq-eqb a b e, eq-eqb b a (sym e)) refl
-  | inr n ↦ rw (ne_eqb a b n, ne_eqb b a (λ e. n (sym e))) refl
-]
-
 abbrev pub seg_of : ℕ → PageTable → SegRec
 seg_of id s = seg_view (id, s)
 

@@ -92,29 +92,23 @@ apart-same (g ∷ gs) (h ∷ hs) e apart =
     let i : h.id ≡ g.id = ap (λ (o : Outline). o.id) a in
     (rw i (none-same gs hs g.id b apart.0), apart-same gs hs b apart.1)
 
+-- what each segment weighs by its outline, summed up
+sum-same : (weigh : Outline → ℕ) (h : SegRec → ℕ) → ((g : SegRec) → h g ≡ weigh (outline g)) → (gs hs : List SegRec) → outlines hs ≡ outlines gs → sum_by h hs ≡ sum_by h gs
+sum-same weigh h is [] [] e = refl
+sum-same weigh h is (g ∷ gs) [] e = cc
+sum-same weigh h is [] (k ∷ ks) e = cc
+sum-same weigh h is (g ∷ gs) (k ∷ ks) e =
+    let a : outline k ≡ outline g = cc in
+    let b : outlines ks ≡ outlines gs = cc in
+    let one : h k ≡ h g = is k ∙ ap weigh a ∙ sym (is g) in
+    let rest = sum-same weigh h is gs ks b in
+    omega (arith, one, rest, sum_by-cons h k ks, sum_by-cons h g gs)
+
 pub sum_pages-same : (gs hs : List SegRec) → outlines hs ≡ outlines gs → sum_by pages_of hs ≡ sum_by pages_of gs
-sum_pages-same [] [] e = refl
-sum_pages-same (g ∷ gs) [] e = cc
-sum_pages-same [] (h ∷ hs) e = cc
-sum_pages-same (g ∷ gs) (h ∷ hs) e =
-    let a : outline h ≡ outline g = cc in
-    let b : outlines hs ≡ outlines gs = cc in
-    let i : length h.pages ≡ length g.pages = ap (λ (o : Outline). o.count) a in
-    let rest = sum_pages-same gs hs b in
-    omega (arith, i, rest, sum_by-cons pages_of h hs, sum_by-cons pages_of g gs)
+sum_pages-same gs hs e = sum-same (λ o. o.count) pages_of (λ g. refl) gs hs e
 
 pub sum_locked-same : (gs hs : List SegRec) → outlines hs ≡ outlines gs → sum_by locked_pages hs ≡ sum_by locked_pages gs
-sum_locked-same [] [] e = refl
-sum_locked-same (g ∷ gs) [] e = cc
-sum_locked-same [] (h ∷ hs) e = cc
-sum_locked-same (g ∷ gs) (h ∷ hs) e =
-    let a : outline h ≡ outline g = cc in
-    let b : outlines hs ≡ outlines gs = cc in
-    let i : length h.pages ≡ length g.pages = ap (λ (o : Outline). o.count) a in
-    let l : h.locked ≡ g.locked = ap (λ (o : Outline). o.locked) a in
-    let one : locked_pages h ≡ locked_pages g = rw (l, i) refl in
-    let rest = sum_locked-same gs hs b in
-    omega (arith, one, rest, sum_by-cons locked_pages h hs, sum_by-cons locked_pages g gs)
+sum_locked-same gs hs e = sum-same (λ o. cond o.locked o.count 0) locked_pages (λ g. refl) gs hs e
 
 outline-seg_with : (r : PageRef) (p : PageRec) (g : SegRec) → outline (seg_with r p g) ≡ outline g
 outline-seg_with r p g = elim (cases_Bool (eqb g.id r.seg)) [

@@ -9,7 +9,7 @@ use Rattle.shm_plain.specs.Held.{find_held, bytes_of, is_held, FitsPage, span_by
 use Rattle.shm_slots.specs.View.{AreaView, IsArea, slots_in, size_of, no_area}
 use Rattle.shm_frames.specs.Frame.{frame_at}
 use Rattle.shm_fault.specs.Segs.{SegRec, find_seg, AreApart, count_by_id, HasPage, pages_of}
-use Rattle.shm_fault.specs.Store.{StoreView, page_of, held, ref_of}
+use Rattle.shm_fault.specs.Store.{StoreView, held, ref_of}
 use Rattle.shm_fault.specs.Sound.{IsSound}
 use Rattle.shm_fault.specs.Goes.{outline, outlines, frame_by}
 use Rattle.shm_fault.proofs.Pages.{find-id, has-tail}
@@ -52,16 +52,6 @@ module _ (s : StoreView) (sound : IsSound s) where
   fits-has p fit =
       let len = length-in p.seg in
       omega (arith, len, fit.1, fit.2)
-
-  -- a stretch in a page that is there fits it
-  pub has-fits : (p : Span) → HasPage s.segs (ref_of p) → 0 < p.len → p.at % 4096 + p.len ≤ 4096 → FitsPage (held s) p
-  has-fits p has some fits =
-      let len = length-in p.seg in
-      (held-in p.seg ∙ by (find_seg s.segs p.seg) refl, omega (arith, len, has, fits), some, omega (arith, fits))
-    where
-      by : (o : Option SegRec) → find_seg s.segs p.seg ≡ o → is_some o ≡ true
-      by None e = absurd (let h : page_of p < 0 = rw e at has in omega arith)
-      by (Some g) e = refl
 
   pub span-read : (p : Span) (f : ℕ) → FitsPage (held s) p → frame_by s (ref_of p) ≡ Some f → span_bytes (held s) p ≡ take p.len (drop (p.at % 4096) (frame_at s.frames f).bytes)
   span-read p f fit at =

@@ -17,8 +17,8 @@ use Rattle.shm_fault.specs.Steps.{is_page, moved}
 use Rattle.shm_fault.proofs.Ties.{Alike-refl}
 use Rattle.std.proofs.lemmas.List.{set_past}
 use Rattle.shm_fault.proofs.Pages.{rec-with, rec-with_other, cases_ref, other, other_ne, other-true, has-frame}
-use Rattle.shm_fault.proofs.Sound.{frame-own, Goes-refl, Goes-trans, KeepsLocked-trans}
-use Rattle.shm_fault.proofs.Changes.{Keeps, some_same, keeps-alike, keeps-load, keeps-settle}
+use Rattle.shm_fault.proofs.Sound.{frame-own, Goes-trans, KeepsLocked-trans}
+use Rattle.shm_fault.proofs.Changes.{some_same, keeps-alike, keeps-load, keeps-settle}
 
 pub Visits-trans : (r : PageRef) (pinned : Option ℕ) (s t u : StoreView) → Visits r pinned s t → Visits r pinned t u → Visits r pinned s u
 Visits-trans r pinned s t u a b = record {
@@ -205,9 +205,6 @@ moves-trans ms ns os s t u a c b led = c b (a b led)
 -- a step that visits no page
 pub visits-away : (pinned : Option ℕ) (s t : StoreView) → ((r : PageRef) → Visits r pinned s t) → StaysAway s t
 visits-away pinned s t all q e = (all (record { seg = q.seg; page = suc q.page })).away q (λ same. absurd (let h : q.page ≡ suc q.page = ap (λ (r : PageRef). r.page) same in omega arith)) e
-
-pub visits-any : (r : PageRef) (pinned : Option ℕ) (s : StoreView) → Visits r pinned s s
-visits-any r pinned s = record { goes = Goes-refl s; kept = λ q locked e. e; away = λ q n e. refl; pin = λ p q is at. (at, λ bit. bit) }
 
 alike-set : (frames : List Frame) (f : ℕ) (x : Frame) → Alike (frame_at frames f) x → (g : ℕ) → Alike (frame_at frames g) (frame_at (set frames f x) g)
 alike-set frames f x like g = by (cases_eq g f) (cases_lt f (length frames))

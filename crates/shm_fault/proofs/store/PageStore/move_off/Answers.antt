@@ -1,5 +1,5 @@
-use Rattle.std.proofs.Common.{◌≡◌, ℕ, length, Some, None, refl, ◌∙◌, arith}
-use Rattle.shm_slots.specs.View.{area_at, owner_of, size_of}
+use Rattle.std.proofs.Common.{◌≡◌, length, Some, refl, ◌∙◌, arith}
+use Rattle.shm_slots.specs.View.{area_at, size_of}
 use Rattle.shm_fault.specs.Store.{held, frame_of}
 use Rattle.shm_fault.specs.Sound.{IsSound}
 use Rattle.shm_fault.specs.Goes.{Still}
