@@ -7,26 +7,26 @@ use Rattle.shm_base.specs.declared.paging.PageRef.{PageRef}
 use Rattle.shm_base.specs.declared.paging.Slot.{Slot}
 use Rattle.shm_plain.specs.Held.{pages_held}
 use Rattle.shm_slots.specs.Owners.{used_count}
-use Rattle.shm_slots.specs.View.{AreaView, SwapView, no_area, area_at, with_area, off, HasSlot, IsSwap, IsFirstFree, SameSlots, OneArea, WriteFault, owner_of, page_in, size_of, sizes, slots, slots_in, used_in, used_slots, with_slot_owner, with_slot_page, without_slot}
+use Rattle.shm_slots.specs.View.{AreaView, SwapView, no_area, area_at, with_area, off, HasSlot, IsSwap, IsFirstFree, OneArea, WriteFault, owner_of, page_in, size_of, sizes, slots, slots_in, used_in, used_slots, with_slot_owner, with_slot_page, without_slot}
 use Rattle.shm_slots.specs.Cause.{GoesOn, IsSteady, had_cause}
 use Rattle.shm_frames.specs.Frame.{Frame, no_frame, frame_at}
-use Rattle.shm_fault.specs.declared.segments.PageRec.{PageRec}
+use Rattle.shm_fault.specs.declared.page_tables.PageRec.{PageRec}
 use Rattle.shm_fault.specs.Segs.{rec_by, HasPage, with_rec}
 use Rattle.shm_fault.specs.Store.{StoreView, held, stored, bytes_by, page_bytes}
 use Rattle.shm_fault.specs.Sound.{IsTied, Tied, IsSound}
 use Rattle.shm_fault.specs.Goes.{Goes, Still}
 use Rattle.shm_fault.specs.Counting.{AtRest}
 use Rattle.shm_fault.specs.Moving.{SameOwned, IsRelocated, IsCleared}
-use Rattle.shm_fault.proofs.Pages.{outlines-with, rec-with, rec-with_other, other, other_ne, cases_ref, has-frame, has-slot}
+use Rattle.shm_fault.proofs.Pages.{rec-with, other, other_ne, has-frame, has-slot}
 use Rattle.shm_fault.proofs.Slots.{OnlySlot, OnlySlot-trans, OnlySlot-owner, OnlySlot-page, OnlySlot-given, OnlySlot-fault, page-written, owner-written, owner-set, owner-given, cases_slot}
-use Rattle.shm_fault.proofs.Ties.{Alike-refl, Touches, IsOwn, IsOwn-some, set_alike, set_owners, set_free}
+use Rattle.shm_fault.proofs.Ties.{SlotsApart, Touches, IsOwn, IsOwn-some, segs-same, segs-with, frames-same, frames-set}
 use Rattle.shm_fault.proofs.Bytes.{bytes_at, held-same}
 use Rattle.shm_fault.proofs.Tally.{used-slots}
 use Rattle.shm_fault.proofs.Whole.{pages_held-is}
 use Rattle.shm_fault.proofs.Failures.{size-at, pages-same, spent-cause, cause-before, cause-more}
-use Rattle.shm_fault.proofs.Sound.{IsSound-from, sound-touched, goes-touched, Goes-refl, Goes-trans}
-use Rattle.shm_fault.proofs.Counting.{AtRest-refl, AtRest-trans}
-use Rattle.shm_fault.proofs.Changes.{Keeps, keeps-one, some_same, bytes_by-some}
+use Rattle.shm_fault.proofs.Sound.{IsSound-from, Goes-trans}
+use Rattle.shm_fault.proofs.Counting.{AtRest-trans}
+use Rattle.shm_fault.proofs.Changes.{Keeps, every, keeps-every, keeps-one, some_same, bytes_by-some}
 use Rattle.shm_fault.proofs.Drops.{GivenSlots, given-slots}
 
 pub here-lt : (s : SwapView) (area : ℕ) → (area_at s area).here ≡ true → area < length s.areas
@@ -57,24 +57,6 @@ has-room s sound k r own room =
     let same = used-slots s sound.apart sound.tied in
     let one = count-one (area_at s.swap k.area).owners k.slot r own in
     omega (arith, all, few, same, one, room)
-
-pub slot-there : (s : StoreView) → IsSound s → (k : Slot) (r : PageRef) → owner_of s.swap k.area k.slot ≡ Some r → (rec_by s.segs r).slot ≡ Some k
-slot-there s sound k r own = (sound.tied.pages r (sound.tied.slot_owners k r own)).owner_stored k own
-
--- a slot was given back
-pub cleared-given : (k : Slot) (s : SwapView) (page : List ℕ) → IsSwap s → HasSlot s k.area k.slot → IsCleared k s (without_slot s k page)
-cleared-given k s page swap has =
-    let only : OnlySlot k s (without_slot s k page) = OnlySlot-given k s page in
-    let gone = owner-given k s page has.0 (omega (arith, has.1, (swap.each k.area).owned)) in
-    record {
-      free = gone;
-      rest = λ slot e.
-          let j : Slot = record { area = k.area; slot = slot } in
-          elim (cases_slot j k) [
-            | inl q ↦ let same : slot ≡ k.slot = ap (λ (x : Slot). x.slot) q in rw same gone
-            | inr n ↦ only.owners j n ∙ e
-          ];
-    }
 
 -- a page was written to another slot, and its old one given back
 pub relocated : (page : PageRef) (from to : Slot) (s : SwapView) (bytes last : List ℕ) → IsSwap s → IsSwap (with_slot_page (with_slot_owner s to (Some page)) to bytes) → HasSlot s from.area from.slot → IsFirstFree s (Some from.area) to
@@ -115,13 +97,6 @@ relocated-not page from to s u last swap sound first one fault =
       pages = λ k q e. only.pages k (λ same. let h : owner_of s to.area to.slot ≡ Some q = rw same at e in let f = first.free in cc);
     }
 
-pub SameOwned-same : (s t : SwapView) → SameSlots s t → SameOwned s t
-SameOwned-same s t same = record {
-  has = λ k h. (rw same.areas h.0, rw (same.pages k.area) h.1);
-  owners = λ k. ap (λ os. get_or os k.slot None) (same.owners k.area);
-  pages = λ k q e. ap (λ ps. get_or ps k.slot []) (same.pages k.area);
-}
-
 -- a cause in the middle of steps that count no failure
 pub cause-within : (s t u v : SwapView) → IsSwap s → IsSteady s t → GoesOn t u → IsSteady u v → had_cause t u ≡ true → had_cause s v ≡ true
 cause-within s t u v swap a g b e = cause-more s u v b.goes_on (cause-before s t u (spent-cause s t swap a.goes_on) a.goes_on g e)
@@ -136,13 +111,6 @@ cleared-relocated page from to s t is = record {
         | inr n ↦ is.owners j n (λ q. is.first.outside (ap (λ (x : Slot). Some x.area) q)) ∙ e
       ];
 }
-
--- no page's frame changed
-pub still-with : (s : StoreView) (r : PageRef) (p : PageRec) → HasPage s.segs r → p.frame ≡ (rec_by s.segs r).frame → (q : PageRef) → (rec_by (with_rec s.segs r p) q).frame ≡ (rec_by s.segs q).frame
-still-with s r p has same q = elim (cases_ref r q) [
-  | inl e ↦ rw e (ap (λ (x : PageRec). x.frame) (rec-with s.segs r p has) ∙ same)
-  | inr off ↦ ap (λ (x : PageRec). x.frame) (rec-with_other s.segs r q p off)
-]
 
 -- a resident page gives its slot back
 module _ (s : StoreView) (sound : IsSound s) (r : PageRef) (f : ℕ) (k : Slot) (u : SwapView) (place : rec_by s.segs r ≡ record { frame = Some f; slot = Some k }) (given : u ≡ without_slot s.swap k (page_in u k.area k.slot)) where
@@ -167,15 +135,9 @@ module _ (s : StoreView) (sound : IsSound s) (r : PageRef) (f : ℕ) (k : Slot) 
       let now : IsOwn r x.owner = IsOwn-some r x.owner own.1 in
       let sl : GivenSlots s r u = given-slots s sound r has u (Some k) at_slot given in
       let to : Touches (other r) s t = record {
-        shape = outlines-with s.segs r p;
-        recs = λ q e. rec-with_other s.segs r q p e;
-        size = length-set s.frames f x;
-        frames = set_alike r s.frames f x was now;
-        owners = set_owners r s.frames f x was now;
-        free = set_free r s.frames f x was now (λ none. let o = own.1 in cc) sound.tied.free;
-        has = sl.has;
-        slots = sl.slots;
-        slot_owners = sl.owners;
+        segs = segs-with s.segs r p;
+        frames = frames-set r s.frames f x was now (λ none. let o = own.1 in cc) sound.tied.free;
+        slots = sl.apart;
       } in
       let same : bytes_at t r ≡ bytes_at s r =
       ap (page_bytes t.frames t.swap) at ∙ ap (λ (y : Frame). y.bytes) set_at ∙ sym (bytes_by-some s.frames s.swap (rec_by s.segs r).frame (rec_by s.segs r).slot f at_frame) in
@@ -216,16 +178,10 @@ module _ (s : StoreView) (sound : IsSound s) (r : PageRef) (from to : Slot) (u :
       let own = (tie-s.slot_owned from was_in).1 in
       let not_from : (k : Slot) (q : PageRef) → other r q ≡ true → owner_of s.swap k.area k.slot ≡ Some q → k ≢ from = λ k q off o e. other_ne r q off (some_same r q (owner_of s.swap from.area from.slot) own (rw e at o)) in
       let not_to : (k : Slot) (q : PageRef) → owner_of s.swap k.area k.slot ≡ Some q → k ≢ to = λ k q o e. (let h : owner_of s.swap to.area to.slot ≡ Some q = rw e at o in let f = is.first.free in cc) in
-      let touched : Touches (other r) s t = record {
-        shape = outlines-with s.segs r p;
-        recs = λ q e. rec-with_other s.segs r q p e;
-        size = refl;
-        frames = λ g q e o. Alike-refl (frame_at s.frames g);
-        owners = λ g q e o. o;
-        free = sound.tied.free;
+      let slots : SlotsApart (other r) s.swap u = record {
         has = is.has;
-        slots = λ k q off o. (is.owners k (not_from k q off o) (not_to k q o) ∙ o, is.pages k (not_from k q off o) (not_to k q o));
-        slot_owners = λ k q off o. elim (cases_slot k to) [
+        kept = λ k q off o. (is.owners k (not_from k q off o) (not_to k q o) ∙ o, is.pages k (not_from k q off o) (not_to k q o));
+        owners = λ k q off o. elim (cases_slot k to) [
           | inl e ↦ absurd (other_ne r q off (some_same r q (owner_of u to.area to.slot) is.owner (rw e at o)))
           | inr n ↦ elim (cases_slot k from) [
             | inl e ↦ absurd (let h : owner_of u from.area from.slot ≡ Some q = rw e at o in let g = is.gone in cc)
@@ -252,36 +208,17 @@ module _ (s : StoreView) (sound : IsSound s) (r : PageRef) (from to : Slot) (u :
         clean = λ g e d. let h : None ≡ Some g = rw at at e in cc;
         whole = rw same tie-s.whole;
       } in
-      keeps-one s t sound r has touched sw sized sound.hand goes_on tie same
+      keeps-one s t sound r has (record { segs = segs-with s.segs r p; frames = frames-same s.frames sound.tied.free; slots = slots }) sw sized sound.hand goes_on tie same
 
 -- no page moves, and no owned slot changes
-module _ (s : StoreView) (sound : IsSound s) (u : SwapView) (owned : SameOwned s.swap u) where
-  each_page : PageRef → Bool
-  each_page q = true
-
-  pub keeps-owned : IsSwap u → sizes u ≡ sizes s.swap → GoesOn s.swap u → Keeps s (record s { swap = u })
-  unfolding each_page
-  keeps-owned is same goes_on =
-      let t : StoreView = record s { swap = u } in
-      let to : Touches each_page s t = record {
-        shape = refl;
-        recs = λ q e. refl;
-        size = refl;
-        frames = λ g q e o. Alike-refl (frame_at s.frames g);
-        owners = λ g q e o. o;
-        free = sound.tied.free;
-        has = owned.has;
-        slots = λ k q e o. (owned.owners k ∙ o, owned.pages k q o);
-        slot_owners = λ k q e o. sym (owned.owners k) ∙ o;
-      } in
-      record {
-        sound = sound-touched each_page s t sound to is same sound.hand (λ q n h. cc) (λ g q n h. cc) (λ k q n h. cc);
-        goes = goes-touched each_page s t sound to is same sound.hand (λ q n h. cc) (λ g q n h. cc) (λ k q n h. cc) goes_on (λ q n h. cc);
-      }
+pub keeps-owned : (s : StoreView) → IsSound s → (u : SwapView) → SameOwned s.swap u → IsSwap u → sizes u ≡ sizes s.swap → GoesOn s.swap u → Keeps s (record s { swap = u })
+keeps-owned s sound u owned is same goes_on =
+    let slots : SlotsApart every s.swap u = record { has = owned.has; kept = λ k q e o. (owned.owners k ∙ o, owned.pages k q o); owners = λ k q e o. sym (owned.owners k) ∙ o } in
+    keeps-every s (record s { swap = u }) sound (record { segs = segs-same s.segs; frames = frames-same s.frames sound.tied.free; slots = slots }) is same sound.hand goes_on
 
 -- an area none of whose slots is owned goes
 module _ (s : StoreView) (sound : IsSound s) (area : ℕ) (here : (area_at s.swap area).here ≡ true) (free : (j : ℕ) → owner_of s.swap area j ≡ None) where
-  abbrev pub without_area : StoreView
+  abbrev without_area : StoreView
   without_area = record s { swap = with_area s.swap area (off (area_at s.swap area)) }
 
   area-other : (k : Slot) → k.area ≢ area → area_at (with_area s.swap area (off (area_at s.swap area))) k.area ≡ area_at s.swap k.area
@@ -327,10 +264,10 @@ module _ (s : StoreView) (sound : IsSound s) (area : ℕ) (here : (area_at s.swa
     free = sound.tied.free;
   }
 
-  pub held-off : held without_area ≡ held s
+  held-off : held without_area ≡ held s
   held-off = held-same s without_area sound.apart sound.apart refl (λ r has. bytes-off r (sound.tied.pages r has) (rec_by s.segs r).frame)
 
-  pub sound-off : IsSwap (with_area s.swap area (off (area_at s.swap area))) → sizes (with_area s.swap area (off (area_at s.swap area))) ≡ set (sizes s.swap) area None
+  sound-off : IsSwap (with_area s.swap area (off (area_at s.swap area))) → sizes (with_area s.swap area (off (area_at s.swap area))) ≡ set (sizes s.swap) area None
       → pages_held (held s) + length (area_at s.swap area).pages ≤ slots s.swap → IsSound without_area
   sound-off is same room =
       let lt : area < length (sizes s.swap) = rw (length-map s.swap.areas size_of) (here-lt s.swap area here) in
@@ -350,9 +287,6 @@ pub record IsCleaned (area n : ℕ) (s t : StoreView) : Type 0 where
   pub rest : AtRest s t
   pub free : (slot : ℕ) → slot < n → owner_of t.swap area slot ≡ None
 
-pub cleaned-none : (area : ℕ) (s : StoreView) → IsSound s → IsCleaned area 0 s s
-cleaned-none area s sound = record { sound = sound; goes = Goes-refl s; still = λ q. refl; rest = AtRest-refl s; free = λ slot lt. absurd (omega arith) }
-
 pub cleaned-more : (area n : ℕ) (s t u : StoreView) → IsCleaned area n s t → IsSound u → Goes t u → Still t u → AtRest t u → IsCleared (record { area = area; slot = n }) t.swap u.swap → IsCleaned area (n + 1) s u
 cleaned-more area n s t u d sound goes still rest cleared = record {
   sound = sound;
@@ -365,15 +299,8 @@ cleaned-more area n s t u d sound goes still rest cleared = record {
   ];
 }
 
--- all slots are free once those that the area has are
-pub cleaned-all : (area n : ℕ) (s t : StoreView) → IsCleaned area n s t → length (area_at t.swap area).pages ≤ n → (slot : ℕ) → owner_of t.swap area slot ≡ None
-cleaned-all area n s t d le slot = elim (cases_lt slot n) [
-  | inl lt ↦ d.free slot lt
-  | inr past ↦ get_or_past (area_at t.swap area).owners slot None (omega (arith, past, le, (d.sound.swap.each area).owned))
-]
-
 module _ (area n : ℕ) (s t : StoreView) (d : IsCleaned area n s t) (here : (area_at s.swap area).here ≡ true) where
-  pub cleaned-here : ((area_at t.swap area).here ≡ true) × (length (area_at t.swap area).pages ≡ length (area_at s.swap area).pages)
+  cleaned-here : ((area_at t.swap area).here ≡ true) × (length (area_at t.swap area).pages ≡ length (area_at s.swap area).pages)
   cleaned-here = pages-same s.swap t.swap area d.goes.same_sizes here
 
   pub cleaned-there : n < length (area_at s.swap area).pages → HasSlot t.swap area n
@@ -385,3 +312,17 @@ module _ (area n : ℕ) (s t : StoreView) (d : IsCleaned area n s t) (here : (ar
       let all : pages_held (held t) ≡ pages_held (held s) = ap pages_held d.goes.bytes in
       let sum : slots t.swap ≡ slots s.swap = ap (λ l. sum_by slots_in l) d.goes.same_sizes in
       omega (arith, room, same, all, sum)
+
+  -- the area goes once the slots that it has are free
+  module _ (all : length (area_at s.swap area).pages ≤ n) where
+    pub cleaned-free : (slot : ℕ) → owner_of t.swap area slot ≡ None
+    cleaned-free slot = elim (cases_lt slot n) [
+      | inl lt ↦ d.free slot lt
+      | inr past ↦ get_or_past (area_at t.swap area).owners slot None (let same = cleaned-here.1 in omega (arith, past, all, same, (d.sound.swap.each area).owned))
+    ]
+
+    pub cleaned-off : (u : SwapView) → u ≡ with_area t.swap area (off (area_at t.swap area)) → IsSwap u → sizes u ≡ set (sizes t.swap) area None
+        → pages_held (held s) + length (area_at s.swap area).pages ≤ slots s.swap → IsSound (record t { swap = u }) × (held (record t { swap = u }) ≡ held s)
+    cleaned-off u gone is sized room =
+        let sized₁ : sizes (with_area t.swap area (off (area_at t.swap area))) ≡ set (sizes t.swap) area None = rw gone at sized in
+        rw gone (sound-off t d.sound area cleaned-here.0 cleaned-free (rw gone at is) sized₁ (cleaned-room room), held-off t d.sound area cleaned-here.0 cleaned-free ∙ d.goes.bytes)

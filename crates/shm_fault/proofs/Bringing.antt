@@ -1,5 +1,5 @@
 -- What an access leaves, put together from the visits to its pages.
-use Rattle.std.proofs.Common.{◌≡◌, ◌≢◌, ℕ, zero, suc, map, ◌<◌, ◌≤◌, ◌+◌, Bool, true, false, not, ◌&&◌, ◌||◌, cond, eqb, List, [], ◌∷◌, length, get_or, subst, Option, Some, None, is_some, Result, Ok, Err, is_ok, OnOk, OnErr, refl, sym, ap, ◌∙◌, inl, inr, arith}
+use Rattle.std.proofs.Common.{◌≡◌, ◌≢◌, ℕ, zero, suc, map, ◌<◌, ◌≤◌, ◌+◌, Bool, true, false, not, ◌&&◌, ◌||◌, cond, eqb, List, [], ◌∷◌, length, get_or, subst, Option, Some, None, is_some, Result, Ok, Err, is_ok, OnErr, refl, sym, ap, ◌∙◌, inl, inr, arith}
 use Rattle.std.specs.Prelude.{All, IsSome, slice_get}
 use Rattle.std.proofs.lemmas.Bool.{cases_eq, ne_eqb, and_parts, eqb-true, eq-eqb, false≢true}
 use Rattle.shm_base.specs.declared.paging.PageRef.{PageRef}
@@ -7,7 +7,7 @@ use Rattle.shm_base.specs.declared.paging.Span.{Span}
 use Rattle.shm_plain.specs.Held.{is_locked}
 use Rattle.shm_slots.specs.View.{SwapView}
 use Rattle.shm_frames.specs.Frame.{Frame}
-use Rattle.shm_fault.specs.declared.segments.PageRec.{PageRec}
+use Rattle.shm_fault.specs.declared.page_tables.PageRec.{PageRec}
 use Rattle.shm_fault.specs.declared.touched.Move.{Move}
 use Rattle.shm_fault.specs.declared.touched.Touched.{Touched}
 use Rattle.shm_fault.specs.Segs.{SegRec, rec_by, locked_by}
@@ -19,12 +19,8 @@ use Rattle.shm_fault.specs.declared.touched.PagerFailed.{PagerFailed}
 use Rattle.shm_fault.specs.Sound.{IsSound}
 use Rattle.shm_fault.specs.Counting.{raised, one_if, hand_after}
 use Rattle.shm_fault.specs.Access.{Visited, IsIn, AreIn, Brings, Accessed}
-use Rattle.shm_fault.proofs.Sound.{Goes-refl, Goes-trans, KeepsLocked-trans, cause-after}
+use Rattle.shm_fault.proofs.Sound.{Goes-trans, KeepsLocked-trans, cause-after}
 use Rattle.shm_fault.proofs.Visits.{moves-trans}
-
-pub ok_of : {A E : Type 0} (r : Result A E) (P : Type 0) → OnOk r P → is_ok r ≡ true → P
-ok_of (Ok a) P h e = h
-ok_of (Err x) P h e = absurd (false≢true e)
 
 pub err_of : {A E : Type 0} (r : Result A E) (P : Type 0) → OnErr r P → is_ok r ≡ false → P
 err_of (Ok a) P h e = absurd (false≢true (sym e))
@@ -253,23 +249,6 @@ brings-not p q s t u v none w =
       cause = w.cause;
     }
 
--- nothing was asked for
-pub brings-none : (s : StoreView) (u : Touched) → IsNone u → Brings [] s s u true
-brings-none s u none = record {
-  goes = Goes-refl s;
-  kept = λ r locked e. e;
-  moves = λ seg page. rw none.0 refl;
-  few = let z : length u.moved.items ≡ 0 = rw none.0 refl in omega (arith, z);
-  ins_few = omega (arith, none.1);
-  outs_few = omega (arith, none.2);
-  read_in = rw none.1 refl;
-  written_out = rw none.2 refl;
-  turns = record { still = λ all. refl; one = λ p e. cc };
-  swapped = λ e. omega arith;
-  quiet = λ all. (refl, refl, none.1, none.2);
-  cause = λ e. absurd (false≢true (sym e));
-}
-
 lock-held : (frames : List Frame) (swap : SwapView) (gs : List SegRec) (id : ℕ) → is_locked (map (held_by frames swap) gs) id ≡ locked_by gs id
 lock-held frames swap [] id = refl
 lock-held frames swap (g ∷ gs) id = elim (cases_eq g.id id) [
@@ -364,22 +343,6 @@ accessed-not ps s t e sound b = record {
   size = b.goes.size;
   sound = sound;
 }
-
--- the stretches of a list of at most two
-pub list-none : (ps : List Span) → None ≡ slice_get ps 0 → ps ≡ []
-list-none [] e = refl
-list-none (p ∷ ps) e = cc
-
-pub list-one : (ps : List Span) (p : Span) → Some p ≡ slice_get ps 0 → None ≡ slice_get ps 1 → ps ≡ p ∷ []
-list-one [] p e f = cc
-list-one (q ∷ []) p e f = let h : q ≡ p = cc in rw h refl
-list-one (q ∷ r ∷ rs) p e f = cc
-
-pub list-two : (ps : List Span) (p q : Span) → length ps ≤ 2 → Some p ≡ slice_get ps 0 → Some q ≡ slice_get ps 1 → ps ≡ p ∷ q ∷ []
-list-two [] p q le e f = cc
-list-two (x ∷ []) p q le e f = cc
-list-two (x ∷ y ∷ []) p q le e f = let h : x ≡ p = cc in let k : y ≡ q = cc in rw (h, k) refl
-list-two (x ∷ y ∷ z ∷ zs) p q le e f = absurd (omega arith)
 
 -- each stretch names its page's frame
 pub first_frame : (s : StoreView) (ps : List Span) (p : Span) → Some p ≡ slice_get ps 0 → All (λ (q : Span). q.frame ≡ frame_of s q.seg (page_of q)) ps → p.frame ≡ frame_by s (ref_of p)

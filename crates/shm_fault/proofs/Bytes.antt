@@ -1,16 +1,17 @@
 -- The bytes of segments, from those of their pages.
-use Rattle.std.proofs.Common.{◌≡◌, ◌≢◌, ℕ, zero, suc, ◌<◌, ◌≤◌, ◌+◌, ◌-◌, ◌*◌, List, [], ◌∷◌, ◌++◌, map, length, take, drop, None, refl, sym, ap, ◌∙◌, inl, inr, arith, append_assoc, length-append, length-take, length-drop}
+use Rattle.std.proofs.Common.{◌≡◌, ◌≢◌, ℕ, zero, suc, ◌<◌, ◌≤◌, ◌+◌, ◌-◌, ◌*◌, List, [], ◌∷◌, ◌++◌, map, length, take, drop, refl, sym, ap, ◌∙◌, inl, inr, arith, append_assoc, length-append, length-take, length-drop}
 use Rattle.std.specs.List.{flat_map}
-use Rattle.std.proofs.lemmas.Bool.{cases_eq, eq-eqb, ne_eqb}
+use Rattle.std.proofs.lemmas.Bool.{cases_eq}
 use Rattle.std.proofs.lemmas.List.{take-append-le, drop-append-le}
 use Rattle.shm_base.specs.declared.paging.PageRef.{PageRef}
 use Rattle.shm_plain.specs.Held.{Held, paste}
 use Rattle.shm_slots.specs.View.{SwapView}
 use Rattle.shm_frames.specs.Frame.{Frame}
-use Rattle.shm_fault.specs.declared.segments.PageRec.{PageRec}
-use Rattle.shm_fault.specs.Segs.{SegRec, rec_at, find_seg, AreApart, rec_by, HasPage}
+use Rattle.shm_fault.specs.declared.page_tables.PageRec.{PageRec}
+use Rattle.shm_fault.specs.Segs.{SegRec, rec_at, AreApart, rec_by, HasPage}
 use Rattle.shm_fault.specs.Store.{StoreView, page_bytes, held_by, held}
 use Rattle.shm_fault.specs.Goes.{Outline, outline, outlines}
+use Rattle.shm_fault.proofs.Pages.{has-head, rec-head, has-tail, rec-tail}
 
 -- the bytes of so many pages of a segment, from page i on, joined
 unfoldable pub joined : (PageRef → List ℕ) → ℕ → ℕ → ℕ → List ℕ
@@ -43,11 +44,8 @@ held_of-ext b c [] apart same = refl
 held_of-ext b c (g ∷ gs) apart same =
     let here : joined b g.id 0 (length g.pages) ≡ joined c g.id 0 (length g.pages) = joined-ext b c g.id 0 (length g.pages) (λ j l.
     let z : 0 + j ≡ j = omega arith in
-    rw z (same (record { seg = g.id; page = j }) (rw (eq-eqb g.id g.id refl) l))) in
-    let rest : held_of b (outlines gs) ≡ held_of c (outlines gs) = held_of-ext b c gs apart.1 (λ r has. elim (cases_eq g.id r.seg) [
-      | inl e ↦ absurd (let none : find_seg gs r.seg ≡ None = rw e at apart.0 in let no_count : r.page < 0 = rw none at has in omega arith)
-      | inr n ↦ same r (rw (ne_eqb g.id r.seg n) has)
-    ]) in
+    rw z (same (record { seg = g.id; page = j }) (has-head g gs j l))) in
+    let rest : held_of b (outlines gs) ≡ held_of c (outlines gs) = held_of-ext b c gs apart.1 (λ r has. same r (has-tail g gs apart r has)) in
     let one : held_one b (outline g) ≡ held_one c (outline g) = ap (λ bs. record { id = g.id; locked = g.locked; bytes = bs }) here in
     cc
 
@@ -67,12 +65,8 @@ held-list frames swap [] b apart is = refl
 held-list frames swap (g ∷ gs) b apart is =
     let here : flat_map (page_bytes frames swap) g.pages ≡ joined b g.id 0 (length g.pages) = joined-pages frames swap g.id 0 g.pages b (λ j l.
     let z : 0 + j ≡ j = omega arith in
-    let e = is (record { seg = g.id; page = j }) (rw (eq-eqb g.id g.id refl) l) in
-    rw z (rw (eq-eqb g.id g.id refl) at e)) in
-    let rest : map (held_by frames swap) gs ≡ held_of b (outlines gs) = held-list frames swap gs b apart.1 (λ r has. elim (cases_eq g.id r.seg) [
-      | inl e ↦ absurd (let none : find_seg gs r.seg ≡ None = rw e at apart.0 in let no_count : r.page < 0 = rw none at has in omega arith)
-      | inr n ↦ rw (ne_eqb g.id r.seg n) at (is r (rw (ne_eqb g.id r.seg n) has))
-    ]) in
+    rw z (rw (rec-head g gs j) at (is (record { seg = g.id; page = j }) (has-head g gs j l)))) in
+    let rest : map (held_by frames swap) gs ≡ held_of b (outlines gs) = held-list frames swap gs b apart.1 (λ r has. rw (rec-tail g gs apart r has) at (is r (has-tail g gs apart r has))) in
     let one : held_by frames swap g ≡ held_one b (outline g) = ap (λ bs. record { id = g.id; locked = g.locked; bytes = bs }) here in
     cc
 

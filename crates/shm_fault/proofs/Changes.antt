@@ -8,14 +8,14 @@ use Rattle.shm_base.specs.declared.paging.Slot.{Slot}
 use Rattle.shm_slots.specs.View.{SwapView, IsSwap, sizes, owner_of, page_in, HasSlot, SameSlots, with_slot_owner}
 use Rattle.shm_slots.specs.Cause.{GoesOn}
 use Rattle.shm_frames.specs.Frame.{Frame, no_frame, frame_at}
-use Rattle.shm_fault.specs.declared.segments.PageRec.{PageRec}
+use Rattle.shm_fault.specs.declared.page_tables.PageRec.{PageRec}
 use Rattle.shm_fault.specs.Segs.{rec_by, count_by_id, HasPage, with_rec}
 use Rattle.shm_fault.specs.Store.{StoreView, stored, bytes_by, page_bytes}
 use Rattle.shm_fault.specs.Sound.{IsTied, IsSound}
-use Rattle.shm_fault.specs.Goes.{Alike, Goes}
-use Rattle.shm_fault.proofs.Pages.{outlines-with, rec-with, rec-with_other, other, other-false, other-true, has-frame, rec-past}
+use Rattle.shm_fault.specs.Goes.{Alike, Goes, Still, StaysAway}
+use Rattle.shm_fault.proofs.Pages.{rec-with, rec-with_other, still-with, cases_ref, other, other-false, other-true, has-frame, rec-past}
 use Rattle.shm_fault.proofs.Slots.{OnlySlot, OnlySlot-owner, owner-set, cases_slot}
-use Rattle.shm_fault.proofs.Ties.{Alike-refl, Touches, IsOwn, IsOwn-none, IsOwn-some, set_alike, set_owners, set_free, only_slots, only_owners, bytes_touched}
+use Rattle.shm_fault.proofs.Ties.{Alike-refl, FramesApart, SlotsApart, Touches, IsOwn, IsOwn-none, IsOwn-some, segs-same, segs-with, frames-same, frames-set, slots-same, slots-only, bytes_touched}
 use Rattle.shm_fault.proofs.Bytes.{bytes_at}
 use Rattle.shm_fault.proofs.Sound.{sound-touched, goes-touched, GoesOn-refl}
 
@@ -62,38 +62,35 @@ module _ (s t : StoreView) (sound : IsSound s) (r : PageRef) (has : HasPage s.se
     goes = goes-touched (other r) s t sound to swap same hand here own_frame own_slot goes_on (λ q on h. let e = other-false r q on in rw e bytes);
   }
 
--- no page is touched: frames are alike, and slots as they were
-module _ (s : StoreView) (sound : IsSound s) (frames : List Frame) (hand : ℕ) (swap : SwapView) (ins outs : ℕ) (size : length frames ≡ length s.frames) (alike : (f : ℕ) → Alike (frame_at s.frames f) (frame_at frames f)) (kept : SameSlots s.swap swap) where
-  after-alike : StoreView
-  after-alike = record { segs = s.segs; frames = frames; hand = hand; swap = swap; ins = ins; outs = outs }
+-- no page is touched
+pub every : PageRef → Bool
+every q = true
 
-  any : PageRef → Bool
-  any q = true
+pub keeps-every : (s t : StoreView) → IsSound s → Touches every s t → IsSwap t.swap → sizes t.swap ≡ sizes s.swap → t.hand < length t.frames → GoesOn s.swap t.swap → Keeps s t
+unfolding every
+keeps-every s t sound to is same hand goes_on = record {
+  sound = sound-touched every s t sound to is same hand (λ q n h. cc) (λ f q n h. cc) (λ k q n h. cc);
+  goes = goes-touched every s t sound to is same hand (λ q n h. cc) (λ f q n h. cc) (λ k q n h. cc) goes_on (λ q n h. cc);
+}
 
-  to-alike : Touches any s (record { segs = s.segs; frames = frames; hand = hand; swap = swap; ins = ins; outs = outs })
-  to-alike = record {
-    shape = refl;
-    recs = λ q e. refl;
-    size = size;
-    frames = λ f q e o. alike f;
-    owners = λ f q e o. sym (alike f).owner ∙ o;
-    free = λ f e. (alike f).dirty ∙ sound.tied.free f (sym (alike f).owner ∙ e);
-    has = λ k h. (rw kept.areas h.0, rw (kept.pages k.area) h.1);
-    slots = λ k q e o. (ap (λ os. get_or os k.slot None) (kept.owners k.area) ∙ o, ap (λ ps. get_or ps k.slot []) (kept.pages k.area));
-    slot_owners = λ k q e o. sym (ap (λ os. get_or os k.slot None) (kept.owners k.area)) ∙ o;
-  }
+pub slots-kept : {off : PageRef → Bool} (s u : SwapView) → SameSlots s u → SlotsApart off s u
+slots-kept s u kept = record {
+  has = λ k h. (rw kept.areas h.0, rw (kept.pages k.area) h.1);
+  kept = λ k q e o. (ap (λ os. get_or os k.slot None) (kept.owners k.area) ∙ o, ap (λ ps. get_or ps k.slot []) (kept.pages k.area));
+  owners = λ k q e o. sym (ap (λ os. get_or os k.slot None) (kept.owners k.area)) ∙ o;
+}
 
-  pub keeps-alike : IsSwap swap → sizes swap ≡ sizes s.swap → hand < length frames → GoesOn s.swap swap → Keeps s (record { segs = s.segs; frames = frames; hand = hand; swap = swap; ins = ins; outs = outs })
-  unfolding any
-  keeps-alike is same on goes_on =
-      let t : StoreView = record { segs = s.segs; frames = frames; hand = hand; swap = swap; ins = ins; outs = outs } in
-      record {
-        sound = sound-touched any s t sound to-alike is same on (λ q n h. cc) (λ f q n h. cc) (λ k q n h. cc);
-        goes = goes-touched any s t sound to-alike is same on (λ q n h. cc) (λ f q n h. cc) (λ k q n h. cc) goes_on (λ q n h. cc);
-      }
-
-pub SameSlots-refl : (s : SwapView) → SameSlots s s
-SameSlots-refl s = record { areas = refl; pages = λ a. refl; owners = λ a. refl }
+-- frames are alike, and all else but the hand is as it was
+pub keeps-alike : (s : StoreView) → IsSound s → (frames : List Frame) (hand : ℕ) → length frames ≡ length s.frames → ((f : ℕ) → Alike (frame_at s.frames f) (frame_at frames f)) → hand < length frames
+    → Keeps s (record s { frames = frames; hand = hand })
+keeps-alike s sound frames hand size alike on =
+    let apart : FramesApart every s.frames frames = record {
+      size = size;
+      alike = λ f q e o. alike f;
+      owners = λ f q e o. sym (alike f).owner ∙ o;
+      free = λ f e. (alike f).dirty ∙ sound.tied.free f (sym (alike f).owner ∙ e);
+    } in
+    keeps-every s (record s { frames = frames; hand = hand }) sound (record { segs = segs-same s.segs; frames = apart; slots = slots-same s.swap }) sound.swap refl on (GoesOn-refl s.swap)
 
 -- a resident page's frame was written to its slot, or the try failed
 module _ (s : StoreView) (sound : IsSound s) (r : PageRef) (f : ℕ) (k : Slot) (x : Frame) (u : SwapView) (ins outs : ℕ)
@@ -127,15 +124,9 @@ module _ (s : StoreView) (sound : IsSound s) (r : PageRef) (f : ℕ) (k : Slot) 
       let slot_was : IsOwn r (owner_of s.swap k.area k.slot) = IsOwn-some r (owner_of s.swap k.area k.slot) own-wb in
       let slot_now : IsOwn r (owner_of u k.area k.slot) = IsOwn-some r (owner_of u k.area k.slot) (owner ∙ own-wb) in
       let to : Touches (other r) s t = record {
-        shape = refl;
-        recs = λ q e. refl;
-        size = length-set s.frames f x;
-        frames = set_alike r s.frames f x was now;
-        owners = set_owners r s.frames f x was now;
-        free = set_free r s.frames f x was now (λ none. cc) sound.tied.free;
-        has = only.has;
-        slots = only_slots r k s.swap u only slot_was slot_now;
-        slot_owners = only_owners r k s.swap u only slot_was slot_now;
+        segs = segs-same s.segs;
+        frames = frames-set r s.frames f x was now (λ none. cc) sound.tied.free;
+        slots = slots-only r k s.swap u only slot_was slot_now;
       } in
       let bytes : page_bytes t.frames t.swap (rec_by s.segs r) ≡ page_bytes s.frames s.swap (rec_by s.segs r) =
       bytes_by-some t.frames t.swap (rec_by s.segs r).frame (rec_by s.segs r).slot f at-wb ∙ ap (λ (y : Frame). y.bytes) set-wb ∙ x_bytes ∙ sym (bytes_by-some s.frames s.swap (rec_by s.segs r).frame (rec_by s.segs r).slot f at-wb) in
@@ -162,6 +153,13 @@ module _ (s : StoreView) (sound : IsSound s) (r : PageRef) (f : ℕ) (k : Slot) 
       ]
 
 -- a page in a dirty frame gets a slot
+pub record Takes (f : ℕ) (k : Slot) (s t : StoreView) : Type 0 where
+  pub sound : IsSound t
+  pub goes : Goes s t
+  pub slot : (q : PageRef) → (frame_at s.frames f).owner ≡ Some q → (rec_by t.segs q).slot ≡ Some k
+  pub still : Still s t
+  pub away : StaysAway s t
+
 module _ (s : StoreView) (sound : IsSound s) (r : PageRef) (f : ℕ) (k : Slot)
     (owned : (frame_at s.frames f).owner ≡ Some r) (dirty : (frame_at s.frames f).dirty ≡ true) (none : (rec_by s.segs r).slot ≡ None)
     (there : HasSlot s.swap k.area k.slot) (free : owner_of s.swap k.area k.slot ≡ None) where
@@ -171,7 +169,7 @@ module _ (s : StoreView) (sound : IsSound s) (r : PageRef) (f : ℕ) (k : Slot)
   tie-ts : IsTied s r
   tie-ts = sound.tied.pages r has-ts
 
-  pub keeps-take : IsSwap (with_slot_owner s.swap k (Some r)) → sizes (with_slot_owner s.swap k (Some r)) ≡ sizes s.swap → GoesOn s.swap (with_slot_owner s.swap k (Some r))
+  keeps-take : IsSwap (with_slot_owner s.swap k (Some r)) → sizes (with_slot_owner s.swap k (Some r)) ≡ sizes s.swap → GoesOn s.swap (with_slot_owner s.swap k (Some r))
       → Keeps s (record s { segs = with_rec s.segs r (record { frame = (rec_by s.segs r).frame; slot = Some k }); swap = with_slot_owner s.swap k (Some r) })
   keeps-take is same goes_on =
       let p : PageRec = record { frame = (rec_by s.segs r).frame; slot = Some k } in
@@ -184,15 +182,9 @@ module _ (s : StoreView) (sound : IsSound s) (r : PageRef) (f : ℕ) (k : Slot)
       let slot_was : IsOwn r (owner_of s.swap k.area k.slot) = IsOwn-none r (owner_of s.swap k.area k.slot) free in
       let slot_now : IsOwn r (owner_of u k.area k.slot) = IsOwn-some r (owner_of u k.area k.slot) own in
       let to : Touches (other r) s t = record {
-        shape = outlines-with s.segs r p;
-        recs = λ q e. rec-with_other s.segs r q p e;
-        size = refl;
-        frames = λ g q e o. Alike-refl (frame_at s.frames g);
-        owners = λ g q e o. o;
-        free = sound.tied.free;
-        has = only.has;
-        slots = only_slots r k s.swap u only slot_was slot_now;
-        slot_owners = only_owners r k s.swap u only slot_was slot_now;
+        segs = segs-with s.segs r p;
+        frames = frames-same s.frames sound.tied.free;
+        slots = slots-only r k s.swap u only slot_was slot_now;
       } in
       let bytes : bytes_at t r ≡ bytes_at s r =
       ap (page_bytes t.frames t.swap) at ∙ bytes_by-some s.frames u (rec_by s.segs r).frame (Some k) f at_frame ∙ sym (bytes_by-some s.frames s.swap (rec_by s.segs r).frame (rec_by s.segs r).slot f at_frame) in
@@ -214,6 +206,23 @@ module _ (s : StoreView) (sound : IsSound s) (r : PageRef) (f : ℕ) (k : Slot)
       } in
       keeps-one s t sound r has-ts to is same sound.hand goes_on tie bytes
 
+  pub takes : IsSwap (with_slot_owner s.swap k (Some r)) → sizes (with_slot_owner s.swap k (Some r)) ≡ sizes s.swap → GoesOn s.swap (with_slot_owner s.swap k (Some r))
+      → Takes f k s (record s { segs = with_rec s.segs r (record { frame = (rec_by s.segs r).frame; slot = Some k }); swap = with_slot_owner s.swap k (Some r) })
+  takes is same goes_on =
+      let p : PageRec = record { frame = (rec_by s.segs r).frame; slot = Some k } in
+      let keeps = keeps-take is same goes_on in
+      let at_frame : (rec_by s.segs r).frame ≡ Some f = tie-ts.owner_resident f owned in
+      record {
+        sound = keeps.sound;
+        goes = keeps.goes;
+        slot = λ q e. let one : q ≡ r = some_same r q (frame_at s.frames f).owner owned e in rw (one, rec-with s.segs r p has-ts) refl;
+        still = still-with s.segs r p has-ts refl;
+        away = λ q none. elim (cases_ref r q) [
+          | inl one ↦ absurd (let h : (rec_by s.segs r).frame ≡ None = rw one at none in cc)
+          | inr off ↦ rec-with_other s.segs r q p off
+        ];
+      }
+
 -- a page in a clean frame leaves it
 module _ (s : StoreView) (sound : IsSound s) (r : PageRef) (f : ℕ) (bytes : List ℕ) (owned : (frame_at s.frames f).owner ≡ Some r) (clean : (frame_at s.frames f).dirty ≡ false) where
   pub keeps-leave : Keeps s (record s { segs = with_rec s.segs r (record { frame = None; slot = (rec_by s.segs r).slot }); frames = set s.frames f (record no_frame { bytes = bytes }) })
@@ -229,15 +238,9 @@ module _ (s : StoreView) (sound : IsSound s) (r : PageRef) (f : ℕ) (bytes : Li
       let was : IsOwn r (frame_at s.frames f).owner = IsOwn-some r (frame_at s.frames f).owner owned in
       let now : IsOwn r x.owner = IsOwn-none r x.owner refl in
       let to : Touches (other r) s t = record {
-        shape = outlines-with s.segs r p;
-        recs = λ q e. rec-with_other s.segs r q p e;
-        size = length-set s.frames f x;
-        frames = set_alike r s.frames f x was now;
-        owners = set_owners r s.frames f x was now;
-        free = set_free r s.frames f x was now (λ none. refl) sound.tied.free;
-        has = λ k h. h;
-        slots = λ k q e o. (o, refl);
-        slot_owners = λ k q e o. o;
+        segs = segs-with s.segs r p;
+        frames = frames-set r s.frames f x was now (λ none. refl) sound.tied.free;
+        slots = slots-same s.swap;
       } in
       let same : bytes_at t r ≡ bytes_at s r =
       ap (page_bytes t.frames t.swap) at ∙ sym (tie-s.clean f at_frame clean) ∙ sym (bytes_by-some s.frames s.swap (rec_by s.segs r).frame (rec_by s.segs r).slot f at_frame) in
@@ -268,15 +271,9 @@ module _ (s : StoreView) (sound : IsSound s) (r : PageRef) (f : ℕ) (has : HasP
       let was : IsOwn r (frame_at s.frames f).owner = IsOwn-none r (frame_at s.frames f).owner free in
       let now : IsOwn r x.owner = IsOwn-some r x.owner refl in
       let to : Touches (other r) s t = record {
-        shape = outlines-with s.segs r p;
-        recs = λ q e. rec-with_other s.segs r q p e;
-        size = length-set s.frames f x;
-        frames = set_alike r s.frames f x was now;
-        owners = set_owners r s.frames f x was now;
-        free = set_free r s.frames f x was now (λ none. cc) sound.tied.free;
-        has = λ k h. h;
-        slots = λ k q e o. (o, refl);
-        slot_owners = λ k q e o. o;
+        segs = segs-with s.segs r p;
+        frames = frames-set r s.frames f x was now (λ none. cc) sound.tied.free;
+        slots = slots-same s.swap;
       } in
       let same : bytes_at t r ≡ bytes_at s r =
       ap (page_bytes t.frames t.swap) at ∙ ap (λ (y : Frame). y.bytes) set_at ∙ bytes ∙ sym (bytes_by-none s.frames s.swap (rec_by s.segs r).frame (rec_by s.segs r).slot away) in
@@ -301,32 +298,20 @@ module _ (s : StoreView) (sound : IsSound s) (r : PageRef) (f : ℕ) (has : HasP
 
 -- a free frame gets other bytes
 module _ (s : StoreView) (sound : IsSound s) (f : ℕ) (bytes : List ℕ) (free : (frame_at s.frames f).owner ≡ None) (u : SwapView) (ins : ℕ) (kept : SameSlots s.swap u) where
-  every : PageRef → Bool
-  every q = true
-
   pub keeps-load : IsSwap u → sizes u ≡ sizes s.swap → GoesOn s.swap u → Keeps s (record { segs = s.segs; frames = set s.frames f (record (frame_at s.frames f) { bytes = bytes }); hand = s.hand; swap = u; ins = ins; outs = s.outs })
-  unfolding every
   keeps-load is same goes_on =
       let x : Frame = record (frame_at s.frames f) { bytes = bytes } in
       let t : StoreView = record { segs = s.segs; frames = set s.frames f x; hand = s.hand; swap = u; ins = ins; outs = s.outs } in
-      let to : Touches every s t = record {
-        shape = refl;
-        recs = λ q e. refl;
+      let apart : FramesApart every s.frames t.frames = record {
         size = length-set s.frames f x;
-        frames = λ g q e o. elim (cases_eq g f) [
+        alike = λ g q e o. elim (cases_eq g f) [
           | inl same ↦ absurd (let h : (frame_at s.frames f).owner ≡ Some q = rw same at o in cc)
           | inr n ↦ rw (get_or-set_other s.frames f g x no_frame n) (Alike-refl (frame_at s.frames g))
         ];
         owners = λ g q e o. owners g q o (cases_eq g f) (cases_lt f (length s.frames));
         free = λ g e. frees g e (cases_eq g f) (cases_lt f (length s.frames));
-        has = λ k h. (rw kept.areas h.0, rw (kept.pages k.area) h.1);
-        slots = λ k q e o. (ap (λ os. get_or os k.slot None) (kept.owners k.area) ∙ o, ap (λ ps. get_or ps k.slot []) (kept.pages k.area));
-        slot_owners = λ k q e o. sym (ap (λ os. get_or os k.slot None) (kept.owners k.area)) ∙ o;
       } in
-      record {
-        sound = sound-touched every s t sound to is same (rw (length-set s.frames f x) sound.hand) (λ q n h. cc) (λ g q n h. cc) (λ k q n h. cc);
-        goes = goes-touched every s t sound to is same (rw (length-set s.frames f x) sound.hand) (λ q n h. cc) (λ g q n h. cc) (λ k q n h. cc) goes_on (λ q n h. cc);
-      }
+      keeps-every s t sound (record { segs = segs-same s.segs; frames = apart; slots = slots-kept s.swap u kept }) is same (rw (length-set s.frames f x) sound.hand) goes_on
     where
       owners : (g : ℕ) (q : PageRef) → (frame_at (set s.frames f (record (frame_at s.frames f) { bytes = bytes })) g).owner ≡ Some q → (g ≡ f) ⊎ (g ≢ f) → (f < length s.frames) ⊎ (length s.frames ≤ f) → (frame_at s.frames g).owner ≡ Some q
       owners g q o (inr n) c = rw (get_or-set_other s.frames f g (record (frame_at s.frames f) { bytes = bytes }) no_frame n) at o
@@ -363,15 +348,9 @@ module _ (s : StoreView) (sound : IsSound s) (r : PageRef) (f : ℕ) (x : Frame)
       let was : IsOwn r (frame_at s.frames f).owner = IsOwn-some r (frame_at s.frames f).owner own-st in
       let now : IsOwn r x.owner = IsOwn-some r x.owner (x_owner ∙ own-st) in
       record {
-        shape = refl;
-        recs = λ q e. refl;
-        size = length-set s.frames f x;
-        frames = set_alike r s.frames f x was now;
-        owners = set_owners r s.frames f x was now;
-        free = set_free r s.frames f x was now (λ none. cc (none, x_owner, own-st)) sound.tied.free;
-        has = λ k h. h;
-        slots = λ k q e o. (o, refl);
-        slot_owners = λ k q e o. o;
+        segs = segs-same s.segs;
+        frames = frames-set r s.frames f x was now (λ none. cc (none, x_owner, own-st)) sound.tied.free;
+        slots = slots-same s.swap;
       }
 
   set-st : frame_at (set s.frames f x) f ≡ x
@@ -379,9 +358,6 @@ module _ (s : StoreView) (sound : IsSound s) (r : PageRef) (f : ℕ) (x : Frame)
 
   pub bytes-stored : page_bytes (set s.frames f x) s.swap (rec_by s.segs r) ≡ x.bytes
   bytes-stored = bytes_by-some (set s.frames f x) s.swap (rec_by s.segs r).frame (rec_by s.segs r).slot f at_frame ∙ ap (λ (y : Frame). y.bytes) set-st
-
-  pub bytes-was : page_bytes s.frames s.swap (rec_by s.segs r) ≡ (frame_at s.frames f).bytes
-  bytes-was = bytes_by-some s.frames s.swap (rec_by s.segs r).frame (rec_by s.segs r).slot f at_frame
 
   bytes-there : (q : PageRef) → HasPage s.segs q → other r q ≡ true → page_bytes (set s.frames f x) s.swap (rec_by s.segs q) ≡ page_bytes s.frames s.swap (rec_by s.segs q)
   bytes-there q there off = bytes_touched (other r) s (record s { frames = set s.frames f x }) to-st q off (sound.tied.pages q there)

@@ -27,11 +27,5 @@ counts-more u v s t a b ins read_in outs written_out = record {
 pub counts-still : (u : Touched) (s t : StoreView) → t.ins ≡ s.ins → t.outs ≡ s.outs → CountsOn u u s t
 counts-still u s t ins outs = record { ins = λ n e. ins ∙ e; outs = λ n e. outs ∙ e }
 
-pub counts-trans : (u v w : Touched) (s t z : StoreView) → CountsOn u v s t → CountsOn v w t z → CountsOn u w s z
-counts-trans u v w s t z a b = record { ins = λ n e. b.ins n (a.ins n e); outs = λ n e. b.outs n (a.outs n e) }
-
-pub AtRest-refl : (s : StoreView) → AtRest s s
-AtRest-refl s = record { hand = refl; ins = refl; outs = refl }
-
 pub AtRest-trans : (s t u : StoreView) → AtRest s t → AtRest t u → AtRest s u
 AtRest-trans s t u a b = record { hand = b.hand ∙ a.hand; ins = b.ins ∙ a.ins; outs = b.outs ∙ a.outs }

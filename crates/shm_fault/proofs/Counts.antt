@@ -4,9 +4,9 @@ use Rattle.std.specs.Prelude.{count_by}
 use Rattle.std.proofs.lemmas.Bool.{cases_eq, cases_lt, eq-eqb, ne_eqb, le-leb, lt-leb}
 use Rattle.std.proofs.lemmas.List.Sums.{sum_by-cons}
 use Rattle.shm_base.specs.declared.paging.PageRef.{PageRef}
-use Rattle.shm_fault.specs.declared.segments.PageRec.{PageRec}
-use Rattle.shm_fault.specs.Segs.{SegRec, rec_at, find_seg, AreApart, rec_by, HasPage, locked_by, pages_of, locked_pages}
-use Rattle.shm_fault.proofs.Pages.{other, other-self, other-true}
+use Rattle.shm_fault.specs.declared.page_tables.PageRec.{PageRec}
+use Rattle.shm_fault.specs.Segs.{SegRec, rec_at, AreApart, rec_by, HasPage, locked_by, pages_of, locked_pages}
+use Rattle.shm_fault.proofs.Pages.{has-head, rec-head, not-head, has-tail, rec-tail, other, other-self, other-true}
 
 -- the sum over all pages of what each weighs, by its name and its place
 pub weigh_from : (PageRef → PageRec → ℕ) → ℕ → ℕ → List PageRec → ℕ
@@ -27,23 +27,14 @@ module _ (h k : PageRef → PageRec → ℕ) where
       let rest = from-ext id (suc i) ps (λ j l. let s : i + suc j ≡ suc i + j = omega arith in rw s at (same (suc j) (omega arith))) in
       omega (arith, here, rest)
 
-  head-page : (g : SegRec) (gs : List SegRec) (j : ℕ) → rec_by (g ∷ gs) (record { seg = g.id; page = j }) ≡ rec_at g.pages j
-  head-page g gs j = rw (eq-eqb g.id g.id refl) refl
-
   pub weigh-ext : (gs : List SegRec) → AreApart gs → ((r : PageRef) → HasPage gs r → h r (rec_by gs r) ≡ k r (rec_by gs r)) → weigh h gs ≡ weigh k gs
   unfolding weigh
   weigh-ext [] apart same = refl
   weigh-ext (g ∷ gs) apart same =
       let here : weigh_from h g.id 0 g.pages ≡ weigh_from k g.id 0 g.pages = from-ext g.id 0 g.pages (λ j l.
       let z : 0 + j ≡ j = omega arith in
-      let there : HasPage (g ∷ gs) (record { seg = g.id; page = j }) = rw (eq-eqb g.id g.id refl) l in
-      rw z (rw (head-page g gs j) at (same (record { seg = g.id; page = j }) there))) in
-      let rest : weigh h gs ≡ weigh k gs = weigh-ext gs apart.1 (λ r has. elim (cases_eq g.id r.seg) [
-        | inl e ↦ absurd (let none : find_seg gs r.seg ≡ None = rw e at apart.0 in let no_count : r.page < 0 = rw none at has in omega arith)
-        | inr n ↦
-            let there : HasPage (g ∷ gs) r = rw (ne_eqb g.id r.seg n) has in
-            rw (ne_eqb g.id r.seg n) at (same r there)
-      ]) in
+      rw z (rw (rec-head g gs j) at (same (record { seg = g.id; page = j }) (has-head g gs j l)))) in
+      let rest : weigh h gs ≡ weigh k gs = weigh-ext gs apart.1 (λ r has. rw (rec-tail g gs apart r has) at (same r (has-tail g gs apart r has))) in
       omega (arith, here, rest)
 
   from-sum : (id i : ℕ) (ps : List PageRec) → weigh_from (λ r p. h r p + k r p) id i ps ≡ weigh_from h id i ps + weigh_from k id i ps
@@ -99,20 +90,16 @@ module _ (h : PageRef → PageRec → ℕ) (r : PageRef) where
         let here : weigh_from h g.id 0 g.pages ≡ h r (rec_at g.pages r.page) = rw e (from-one 0 r.page g.pages (omega arith) lt (λ m l n.
         let off = void (record { seg = r.seg; page = m }) (rw (eq-eqb g.id r.seg e) l) (λ same. n (ap (λ (x : PageRef). x.page) same)) in
         rw z (rw (eq-eqb g.id r.seg e) at off))) in
-        let rest : weigh h gs ≡ 0 = weigh-zero h gs apart.1 (λ q there. elim (cases_eq g.id q.seg) [
-          | inl f ↦ absurd (let none : find_seg gs q.seg ≡ None = rw f at apart.0 in let no_count : q.page < 0 = rw none at there in omega arith)
-          | inr n ↦ rw (ne_eqb g.id q.seg n) at (void q (rw (ne_eqb g.id q.seg n) there) (λ same. n (e ∙ sym (ap (λ (x : PageRef). x.seg) same))))
-        ]) in
+        let rest : weigh h gs ≡ 0 = weigh-zero h gs apart.1 (λ q there.
+        let ne : q ≢ r = λ same. not-head g gs apart q there (e ∙ sym (ap (λ (x : PageRef). x.seg) same)) in
+        rw (rec-tail g gs apart q there) at (void q (has-tail g gs apart q there) ne)) in
         rw (eq-eqb g.id r.seg e) (omega (arith, here, rest))
     | inr n ↦
         let here : weigh_from h g.id 0 g.pages ≡ 0 = from-ext h nothing g.id 0 g.pages (λ m l.
         let z : 0 + m ≡ m = omega arith in
-        let off = void (record { seg = g.id; page = m }) (rw (eq-eqb g.id g.id refl) l) (λ same. n (ap (λ (x : PageRef). x.seg) same)) in
-        rw z (rw (eq-eqb g.id g.id refl) at off)) ∙ from-nothing g.id 0 g.pages in
-        let rest = weigh-one gs apart.1 (rw (ne_eqb g.id r.seg n) at has) (λ q there m. elim (cases_eq g.id q.seg) [
-          | inl f ↦ absurd (let none : find_seg gs q.seg ≡ None = rw f at apart.0 in let no_count : q.page < 0 = rw none at there in omega arith)
-          | inr o ↦ rw (ne_eqb g.id q.seg o) at (void q (rw (ne_eqb g.id q.seg o) there) m)
-        ]) in
+        let off = void (record { seg = g.id; page = m }) (has-head g gs m l) (λ same. n (ap (λ (x : PageRef). x.seg) same)) in
+        rw z (rw (rec-head g gs m) at off)) ∙ from-nothing g.id 0 g.pages in
+        let rest = weigh-one gs apart.1 (rw (ne_eqb g.id r.seg n) at has) (λ q there m. rw (rec-tail g gs apart q there) at (void q (has-tail g gs apart q there) m)) in
         rw (ne_eqb g.id r.seg n) (omega (arith, here, rest))
   ]
 
@@ -190,14 +177,8 @@ weigh-le h k [] apart le = omega arith
 weigh-le h k (g ∷ gs) apart le =
     let here : weigh_from h g.id 0 g.pages ≤ weigh_from k g.id 0 g.pages = from-le h k g.id 0 g.pages (λ j l.
     let z : 0 + j ≡ j = omega arith in
-    let there : HasPage (g ∷ gs) (record { seg = g.id; page = j }) = rw (eq-eqb g.id g.id refl) l in
-    rw z (rw (eq-eqb g.id g.id refl) at (le (record { seg = g.id; page = j }) there))) in
-    let rest : weigh h gs ≤ weigh k gs = weigh-le h k gs apart.1 (λ r has. elim (cases_eq g.id r.seg) [
-      | inl e ↦ absurd (let none : find_seg gs r.seg ≡ None = rw e at apart.0 in let no_count : r.page < 0 = rw none at has in omega arith)
-      | inr n ↦
-          let there : HasPage (g ∷ gs) r = rw (ne_eqb g.id r.seg n) has in
-          rw (ne_eqb g.id r.seg n) at (le r there)
-    ]) in
+    rw z (rw (rec-head g gs j) at (le (record { seg = g.id; page = j }) (has-head g gs j l)))) in
+    let rest : weigh h gs ≤ weigh k gs = weigh-le h k gs apart.1 (λ r has. rw (rec-tail g gs apart r has) at (le r (has-tail g gs apart r has))) in
     omega (arith, here, rest)
 
 -- all pages weigh no less than one of them
@@ -247,10 +228,7 @@ weigh-locked (g ∷ gs) apart =
     from-ext (λ r p. cond (locked_by (g ∷ gs) r.seg) 1 0) (λ r p. cond g.locked 1 0) g.id 0 g.pages (λ j l. rw (eq-eqb g.id g.id refl) refl)
     ∙ from-const (cond g.locked 1 0) g.id 0 g.pages ∙ by g.locked in
     let rest : weigh (λ r p. cond (locked_by (g ∷ gs) r.seg) 1 0) gs ≡ sum_by locked_pages gs =
-    weigh-ext (λ r p. cond (locked_by (g ∷ gs) r.seg) 1 0) (λ r p. cond (locked_by gs r.seg) 1 0) gs apart.1 (λ r has. elim (cases_eq g.id r.seg) [
-      | inl e ↦ absurd (let none : find_seg gs r.seg ≡ None = rw e at apart.0 in let no_count : r.page < 0 = rw none at has in omega arith)
-      | inr n ↦ rw (ne_eqb g.id r.seg n) refl
-    ])
+    weigh-ext (λ r p. cond (locked_by (g ∷ gs) r.seg) 1 0) (λ r p. cond (locked_by gs r.seg) 1 0) gs apart.1 (λ r has. rw (ne_eqb g.id r.seg (not-head g gs apart r has)) refl)
     ∙ weigh-locked gs apart.1 in
     omega (arith, here, rest, sum_by-cons locked_pages g gs)
   where

@@ -1,5 +1,5 @@
 -- A page that leaves its frame and its slot for good.
-use Rattle.std.proofs.Common.{◌≡◌, ◌≢◌, ℕ, zero, suc, ◌<◌, ◌≤◌, ◌+◌, true, false, List, [], ◌∷◌, length, set, map, sum_by, Option, Some, None, refl, sym, ap, ◌∙◌, inl, inr, arith, length-set, get_or-set_same, get_or-set_other}
+use Rattle.std.proofs.Common.{◌≡◌, ◌≢◌, ℕ, zero, suc, ◌<◌, ◌≤◌, ◌+◌, true, List, [], ◌∷◌, length, set, map, sum_by, Option, Some, None, refl, sym, ap, ◌∙◌, inl, inr, arith, get_or-set_same, get_or-set_other}
 use Rattle.std.proofs.lemmas.Bool.{cases_eq, cases_lt, eq-eqb, ne_eqb}
 use Rattle.std.proofs.lemmas.Option.{none-some}
 use Rattle.std.proofs.lemmas.List.{length-replicate}
@@ -7,23 +7,23 @@ use Rattle.shm_base.specs.declared.paging.PageRef.{PageRef}
 use Rattle.shm_base.specs.declared.paging.Slot.{Slot}
 use Rattle.shm_plain.specs.Held.{without}
 use Rattle.shm_pager.specs.Pages.{zero_page}
-use Rattle.shm_slots.specs.View.{SwapView, HasSlot, owner_of, page_in, without_slot, IsSwap}
+use Rattle.shm_slots.specs.View.{SwapView, owner_of, page_in, without_slot, IsSwap}
 use Rattle.shm_slots.specs.Cause.{IsSteady}
 use Rattle.shm_frames.specs.Frame.{Frame, no_frame, frame_at}
-use Rattle.shm_fault.specs.declared.segments.PageRec.{PageRec}
+use Rattle.shm_fault.specs.declared.page_tables.PageRec.{PageRec}
 use Rattle.shm_fault.specs.Segs.{SegRec, AreApart, rec_at, but, no_page, find_seg, rec_by, count_by_id, HasPage, with_rec, pages_of, locked_pages}
 use Rattle.shm_fault.specs.Store.{StoreView, held_by, held, disowned}
 use Rattle.shm_fault.specs.Sound.{IsTied, IsSound}
-use Rattle.shm_fault.specs.Goes.{outline, outlines, Alike}
-use Rattle.shm_fault.specs.Dropping.{emptied, Given, Dropped}
+use Rattle.shm_fault.specs.Goes.{outline, outlines}
+use Rattle.shm_fault.specs.Dropping.{emptied, Given, IsBlank, Dropped}
 use Rattle.shm_fault.proofs.Entries.{apart-filter}
 use Rattle.shm_fault.specs.Counting.{AtRest}
-use Rattle.shm_fault.proofs.Counting.{AtRest-refl, AtRest-trans}
-use Rattle.shm_fault.proofs.Sound.{IsSound-from, GoesOn-refl, GoesOn-trans}
+use Rattle.shm_fault.proofs.Counting.{AtRest-trans}
+use Rattle.shm_fault.proofs.Sound.{IsSound-from, GoesOn-trans}
 use Rattle.std.proofs.lemmas.List.Sums.{sum_by-cons}
-use Rattle.shm_fault.proofs.Pages.{outlines-with, rec-with, rec-with_other, rec-past, apart-same, other, other-true}
+use Rattle.shm_fault.proofs.Pages.{outlines-with, rec-with, rec-with_other, rec-past, count-same, apart-same, other, other-true}
 use Rattle.shm_fault.proofs.Slots.{OnlySlot, OnlySlot-given, owner-given, cases_slot}
-use Rattle.shm_fault.proofs.Ties.{Alike-refl, Touches, IsOwn, IsOwn-none, IsOwn-some, set_alike, set_owners, set_free, only_slots, only_owners, bytes_touched}
+use Rattle.shm_fault.proofs.Ties.{FramesApart, SlotsApart, Touches, IsOwn, IsOwn-none, IsOwn-some, segs-with, frames-set, frames-same, slots-only, slots-same, bytes_touched, tied-segs}
 use Rattle.shm_fault.proofs.Bytes.{joined, held_one, held_of, bytes_at, held-is, joined-ext}
 use Rattle.shm_fault.proofs.Changes.{sound-one, some_same}
 
@@ -55,10 +55,7 @@ with-same gs r apart = with-is gs r (rec_by gs r) apart refl
 
 -- what becomes of the frames, of the page's own first
 record EmptiedFrames (s : StoreView) (r : PageRef) (frames : List Frame) : Type 0 where
-  size : length frames ≡ length s.frames
-  alike : (f : ℕ) (q : PageRef) → other r q ≡ true → (frame_at s.frames f).owner ≡ Some q → Alike (frame_at s.frames f) (frame_at frames f)
-  owners : (f : ℕ) (q : PageRef) → other r q ≡ true → (frame_at frames f).owner ≡ Some q → (frame_at s.frames f).owner ≡ Some q
-  free : (f : ℕ) → (frame_at frames f).owner ≡ None → (frame_at frames f).dirty ≡ false
+  apart : FramesApart (other r) s.frames frames
   none : (f : ℕ) → (frame_at frames f).owner ≡ Some r → ⊥
   kept : (f : ℕ) → disowned r.seg (frame_at frames f).owner ≡ disowned r.seg (frame_at s.frames f).owner
 
@@ -67,10 +64,7 @@ disowned-own r = rw (eq-eqb r.seg r.seg refl) refl
 
 emptied-frames : (s : StoreView) → IsSound s → (r : PageRef) → HasPage s.segs r → (o : Option ℕ) → (rec_by s.segs r).frame ≡ o → EmptiedFrames s r (emptied s.frames o)
 emptied-frames s sound r has None e = record {
-  size = refl;
-  alike = λ f q off h. Alike-refl (frame_at s.frames f);
-  owners = λ f q off h. h;
-  free = sound.tied.free;
+  apart = frames-same s.frames sound.tied.free;
   none = λ f h. let k : (rec_by s.segs r).frame ≡ Some f = (sound.tied.pages r has).owner_resident f h in cc;
   kept = λ f. refl;
 }
@@ -82,10 +76,7 @@ emptied-frames s sound r has (Some g) e =
     let now : IsOwn r x.owner = IsOwn-none r x.owner refl in
     let set_at : frame_at (set s.frames g x) g ≡ x = get_or-set_same s.frames g x no_frame own.0 in
     record {
-      size = length-set s.frames g x;
-      alike = set_alike r s.frames g x was now;
-      owners = set_owners r s.frames g x was now;
-      free = set_free r s.frames g x was now (λ none. refl) sound.tied.free;
+      apart = frames-set r s.frames g x was now (λ none. refl) sound.tied.free;
       none = λ f h. elim (cases_eq f g) [
         | inl q ↦ let k : None ≡ Some r = rw (q, set_at) at h in cc
         | inr n ↦ n (some_same g f (rec_by s.segs r).frame e (tie.owner_resident f (rw (get_or-set_other s.frames g f x no_frame n) at h)))
@@ -97,17 +88,13 @@ emptied-frames s sound r has (Some g) e =
     }
 
 pub record GivenSlots (s : StoreView) (r : PageRef) (u : SwapView) : Type 0 where
-  pub has : (k : Slot) → HasSlot s.swap k.area k.slot → HasSlot u k.area k.slot
-  pub slots : (k : Slot) (q : PageRef) → other r q ≡ true → owner_of s.swap k.area k.slot ≡ Some q → (owner_of u k.area k.slot ≡ Some q) × (page_in u k.area k.slot ≡ page_in s.swap k.area k.slot)
-  pub owners : (k : Slot) (q : PageRef) → other r q ≡ true → owner_of u k.area k.slot ≡ Some q → owner_of s.swap k.area k.slot ≡ Some q
+  pub apart : SlotsApart (other r) s.swap u
   pub none : (k : Slot) → owner_of u k.area k.slot ≡ Some r → ⊥
   pub kept : (k : Slot) → disowned r.seg (owner_of u k.area k.slot) ≡ disowned r.seg (owner_of s.swap k.area k.slot)
 
 pub given-slots : (s : StoreView) → IsSound s → (r : PageRef) → HasPage s.segs r → (u : SwapView) → (o : Option Slot) → (rec_by s.segs r).slot ≡ o → Given s.swap o u → GivenSlots s r u
 given-slots s sound r has u None e given = rw given (record {
-  has = λ k h. h;
-  slots = λ k q off h. (h, refl);
-  owners = λ k q off h. h;
+  apart = slots-same s.swap;
   none = λ k h. let i : (rec_by s.segs r).slot ≡ Some k = (sound.tied.pages r has).owner_stored k h in cc;
   kept = λ k. refl;
 })
@@ -121,9 +108,7 @@ given-slots s sound r has u (Some j) e given =
     let was : IsOwn r (owner_of s.swap j.area j.slot) = IsOwn-some r (owner_of s.swap j.area j.slot) own.1 in
     let now : IsOwn r (owner_of v j.area j.slot) = IsOwn-none r (owner_of v j.area j.slot) now₀ in
     let g : GivenSlots s r v = record {
-      has = only.has;
-      slots = only_slots r j s.swap v only was now;
-      owners = only_owners r j s.swap v only was now;
+      apart = slots-only r j s.swap v only was now;
       none = λ k h. elim (cases_slot k j) [
         | inl q ↦ let i : owner_of v j.area j.slot ≡ Some r = rw q at h in cc
         | inr n ↦ n (some_same j k (rec_by s.segs r).slot e (tie.owner_stored k (sym (only.owners k n) ∙ h)))
@@ -136,8 +121,15 @@ given-slots s sound r has u (Some j) e given =
     rw given g
 
 -- a page is nowhere from now on
+pub record Forgets (r : PageRef) (s t : StoreView) : Type 0 where
+  pub sound : IsSound t
+  pub bytes : without (held t) r.seg ≡ without (held s) r.seg
+  pub frames : (f : ℕ) → disowned r.seg (frame_at t.frames f).owner ≡ disowned r.seg (frame_at s.frames f).owner
+  pub slots : (k : Slot) → disowned r.seg (owner_of t.swap k.area k.slot) ≡ disowned r.seg (owner_of s.swap k.area k.slot)
+  pub size : length t.frames ≡ length s.frames
+
 module _ (s : StoreView) (sound : IsSound s) (r : PageRef) (has : HasPage s.segs r) (u : SwapView) (given : Given s.swap (rec_by s.segs r).slot u) where
-  abbrev pub forgotten : StoreView
+  abbrev forgotten : StoreView
   forgotten = record s { segs = with_rec s.segs r no_page; frames = emptied s.frames (rec_by s.segs r).frame; swap = u }
 
   fr : EmptiedFrames s r (emptied s.frames (rec_by s.segs r).frame)
@@ -147,28 +139,9 @@ module _ (s : StoreView) (sound : IsSound s) (r : PageRef) (has : HasPage s.segs
   sl = given-slots s sound r has u (rec_by s.segs r).slot refl given
 
   to-forgotten : Touches (other r) s forgotten
-  to-forgotten = record {
-    shape = outlines-with s.segs r no_page;
-    recs = λ q e. rec-with_other s.segs r q no_page e;
-    size = fr.size;
-    frames = fr.alike;
-    owners = fr.owners;
-    free = fr.free;
-    has = sl.has;
-    slots = sl.slots;
-    slot_owners = sl.owners;
-  }
+  to-forgotten = record { segs = segs-with s.segs r no_page; frames = fr.apart; slots = sl.apart }
 
-  pub frames-forgotten : (f : ℕ) → disowned r.seg (frame_at (emptied s.frames (rec_by s.segs r).frame) f).owner ≡ disowned r.seg (frame_at s.frames f).owner
-  frames-forgotten = fr.kept
-
-  pub size-forgotten : length (emptied s.frames (rec_by s.segs r).frame) ≡ length s.frames
-  size-forgotten = fr.size
-
-  pub slots-forgotten : (k : Slot) → disowned r.seg (owner_of u k.area k.slot) ≡ disowned r.seg (owner_of s.swap k.area k.slot)
-  slots-forgotten = sl.kept
-
-  pub sound-forgotten : IsSwap u → IsSteady s.swap u → IsSound forgotten
+  sound-forgotten : IsSwap u → IsSteady s.swap u → IsSound forgotten
   unfolding zero_page
   sound-forgotten is steady =
       let at : rec_by (with_rec s.segs r no_page) r ≡ no_page = rec-with s.segs r no_page has in
@@ -180,9 +153,9 @@ module _ (s : StoreView) (sound : IsSound s) (r : PageRef) (has : HasPage s.segs
         clean = λ f e d. let h : None ≡ Some f = rw at at e in cc;
         whole = rw at (length-replicate {A = ℕ} 4096 0);
       } in
-      sound-one s forgotten sound r has to-forgotten is steady.same_sizes (rw fr.size sound.hand) steady.goes_on tie
+      sound-one s forgotten sound r has to-forgotten is steady.same_sizes (rw fr.apart.size sound.hand) steady.goes_on tie
 
-  pub held-forgotten : without (held forgotten) r.seg ≡ without (held s) r.seg
+  held-forgotten : without (held forgotten) r.seg ≡ without (held s) r.seg
   held-forgotten =
       let apart = apart-same s.segs (with_rec s.segs r no_page) (outlines-with s.segs r no_page) sound.apart in
       ap (λ hs. without hs r.seg) (held-is forgotten apart ∙ ap (held_of (bytes_at forgotten)) (outlines-with s.segs r no_page))
@@ -207,25 +180,11 @@ module _ (s : StoreView) (sound : IsSound s) (r : PageRef) (has : HasPage s.segs
             rw (ne_eqb g.id id n) (let h : held_one b (outline g) ≡ held_one c (outline g) = ap (λ bs. record { id = g.id; locked = g.locked; bytes = bs }) here in cc)
       ]
 
-IsSteady-refl : (s : SwapView) → IsSteady s s
-IsSteady-refl s = record { goes_on = GoesOn-refl s; failures = refl; same_sizes = refl }
+  pub forgets : IsSwap u → IsSteady s.swap u → Forgets r s (record s { segs = with_rec s.segs r no_page; frames = emptied s.frames (rec_by s.segs r).frame; swap = u })
+  forgets is steady = record { sound = sound-forgotten is steady; bytes = held-forgotten; frames = fr.kept; slots = sl.kept; size = fr.apart.size }
 
 IsSteady-trans : (s t u : SwapView) → IsSteady s t → IsSteady t u → IsSteady s u
 IsSteady-trans s t u a b = record { goes_on = GoesOn-trans s t u a.goes_on b.goes_on; failures = b.failures ∙ a.failures; same_sizes = b.same_sizes ∙ a.same_sizes }
-
-pub dropped-none : (seg : ℕ) (s : StoreView) → Dropped seg 0 s s
-dropped-none seg s = record {
-  shape = refl;
-  bytes = refl;
-  frames = λ f. refl;
-  slots = λ k. refl;
-  size = refl;
-  steady = IsSteady-refl s.swap;
-  still = λ q n. refl;
-  done = λ page lt. absurd (omega arith);
-  rest = AtRest-refl s;
-  nothing = λ blank. refl;
-}
 
 -- one page more
 pub dropped-more : (seg n : ℕ) (s t u : StoreView) → Dropped seg n s t → HasPage t.segs (record { seg = seg; page = n }) → u.segs ≡ with_rec t.segs (record { seg = seg; page = n }) no_page
@@ -252,6 +211,14 @@ dropped-more seg n s t u d has segs bytes frames slots size steady rest same =
     }
 
 -- a segment all of whose pages are nowhere is taken out
+pub record IsDropped (seg : ℕ) (s t : StoreView) : Type 0 where
+  pub sound : IsSound t
+  pub bytes : held t ≡ without (held s) seg
+  pub frames : (f : ℕ) → (frame_at t.frames f).owner ≡ disowned seg (frame_at s.frames f).owner
+  pub slots : (k : Slot) → owner_of t.swap k.area k.slot ≡ disowned seg (owner_of s.swap k.area k.slot)
+  pub still : (q : PageRef) → q.seg ≢ seg → rec_by t.segs q ≡ rec_by s.segs q
+  pub blank : IsBlank seg s → t ≡ record s { segs = but seg s.segs }
+
 find-but : (gs : List SegRec) (id k : ℕ) → k ≢ id → find_seg (but id gs) k ≡ find_seg gs k
 find-but [] id k n = refl
 find-but (g ∷ gs) id k n = elim (cases_eq g.id id) [
@@ -286,12 +253,12 @@ held-but-list frames swap (g ∷ gs) id = elim (cases_eq g.id id) [
   | inr m ↦ rw (ne_eqb g.id id m) (ap (λ hs. held_by frames swap g ∷ hs) (held-but-list frames swap gs id))
 ]
 
-pub held-but : (t : StoreView) (id : ℕ) → held (record t { segs = but id t.segs }) ≡ without (held t) id
+held-but : (t : StoreView) (id : ℕ) → held (record t { segs = but id t.segs }) ≡ without (held t) id
 unfolding held
 held-but t id = held-but-list t.frames t.swap t.segs id
 
 module _ (t : StoreView) (sound : IsSound t) (id : ℕ) (gone : (page : ℕ) → page < count_by_id t.segs id → rec_by t.segs (record { seg = id; page = page }) ≡ no_page) where
-  pub rec-but : (q : PageRef) → q.seg ≢ id → rec_by (but id t.segs) q ≡ rec_by t.segs q
+  rec-but : (q : PageRef) → q.seg ≢ id → rec_by (but id t.segs) q ≡ rec_by t.segs q
   rec-but q n = rw (find-but t.segs id q.seg n) refl
 
   count-but : (q : PageRef) → q.seg ≢ id → count_by_id (but id t.segs) q.seg ≡ count_by_id t.segs q.seg
@@ -315,21 +282,21 @@ module _ (t : StoreView) (sound : IsSound t) (id : ℕ) (gone : (page : ℕ) →
       let none : (rec_by t.segs q).slot ≡ None = ap (λ (x : PageRef). (rec_by t.segs x).slot) l ∙ ap (λ (p : PageRec). p.slot) (gone q.page lt) in
       cc
 
-  pub frames-but : (f : ℕ) → (frame_at t.frames f).owner ≡ disowned id (frame_at t.frames f).owner
+  frames-but : (f : ℕ) → (frame_at t.frames f).owner ≡ disowned id (frame_at t.frames f).owner
   frames-but f = by (frame_at t.frames f).owner refl
     where
       by : (o : Option PageRef) → (frame_at t.frames f).owner ≡ o → o ≡ disowned id o
       by None e = refl
       by (Some q) e = rw (ne_eqb q.seg id (frame-other f q e)) refl
 
-  pub slots-but : (k : Slot) → owner_of t.swap k.area k.slot ≡ disowned id (owner_of t.swap k.area k.slot)
+  slots-but : (k : Slot) → owner_of t.swap k.area k.slot ≡ disowned id (owner_of t.swap k.area k.slot)
   slots-but k = by (owner_of t.swap k.area k.slot) refl
     where
       by : (o : Option PageRef) → owner_of t.swap k.area k.slot ≡ o → o ≡ disowned id o
       by None e = refl
       by (Some q) e = rw (ne_eqb q.seg id (slot-other k q e)) refl
 
-  pub sound-but : IsSound (record t { segs = but id t.segs })
+  sound-but : IsSound (record t { segs = but id t.segs })
   sound-but =
       let u : StoreView = record t { segs = but id t.segs } in
       IsSound-from u
@@ -337,15 +304,7 @@ module _ (t : StoreView) (sound : IsSound t) (id : ℕ) (gone : (page : ℕ) →
         pages = λ q has. elim (cases_eq q.seg id) [
           | inl e ↦ absurd (let none : find_seg (but id t.segs) q.seg ≡ None = rw e (find-out t.segs id) in let no_count : q.page < 0 = rw none at has in omega arith)
           | inr n ↦
-              let tie = sound.tied.pages q (rw (count-but q n) at has) in
-              record {
-                frame_owned = λ f e. tie.frame_owned f (rw (rec-but q n) at e);
-                owner_resident = λ f e. rw (rec-but q n) (tie.owner_resident f e);
-                slot_owned = λ k e. tie.slot_owned k (rw (rec-but q n) at e);
-                owner_stored = λ k e. rw (rec-but q n) (tie.owner_stored k e);
-                clean = λ f e d. rw (rec-but q n) (tie.clean f (rw (rec-but q n) at e) d);
-                whole = rw (rec-but q n) tie.whole;
-              }
+              tied-segs t (but id t.segs) q (rec-but q n) (sound.tied.pages q (rw (count-but q n) at has))
         ];
         owners = λ f q e. rw (count-but q (frame-other f q e)) (sound.tied.owners f q e);
         slot_owners = λ k q e. rw (count-but q (slot-other k q e)) (sound.tied.slot_owners k q e);
@@ -354,3 +313,16 @@ module _ (t : StoreView) (sound : IsSound t) (id : ℕ) (gone : (page : ℕ) →
       (apart-filter t.segs id sound.apart) sound.frames sound.swap sound.hand
       (let sum = sum-but pages_of t.segs id in omega (arith, sum, sound.capacity))
       (let sum = sum-but locked_pages t.segs id in omega (arith, sum, sound.locked))
+
+pub drops : (seg n : ℕ) (s t : StoreView) → IsSound t → Dropped seg n s t → count_by_id s.segs seg ≤ n → IsDropped seg s (record t { segs = but seg t.segs })
+drops seg n s t sound d all =
+    let same = count-same s.segs t.segs seg d.shape in
+    let gone : (page : ℕ) → page < count_by_id t.segs seg → rec_by t.segs (record { seg = seg; page = page }) ≡ no_page = λ page lt. d.done page (omega (arith, lt, same, all)) in
+    record {
+      sound = sound-but t sound seg gone;
+      bytes = held-but t seg ∙ d.bytes;
+      frames = λ f. frames-but t sound seg gone f ∙ d.frames f;
+      slots = λ k. slots-but t sound seg gone k ∙ d.slots k;
+      still = λ q ne. rec-but t sound seg gone q ne ∙ d.still q ne;
+      blank = λ blank. ap (λ (v : StoreView). record v { segs = but seg v.segs }) (d.nothing blank);
+    }

@@ -1,8 +1,8 @@
 -- A flush, frame after frame.
 use Rattle.std.proofs.Common.{◌≡◌, ◌≢◌, ℕ, zero, suc, ◌<◌, ◌≤◌, ◌+◌, Bool, true, false, not, cond, ◌&&◌, List, [], ◌∷◌, ◌++◌, length, set, take, filter, Option, Some, None, refl, sym, ap, ◌∙◌, inl, inr, arith, append-nil, get_or-set_same, get_or-set_other}
-use Rattle.std.specs.Prelude.{IsSome, min, count_by, Contains}
+use Rattle.std.specs.Prelude.{min, count_by, Contains}
 use Rattle.std.specs.List.{range_with_len}
-use Rattle.std.proofs.lemmas.Bool.{cases_eq, and_parts}
+use Rattle.std.proofs.lemmas.Bool.{cases_eq}
 use Rattle.std.proofs.lemmas.List.{length-take}
 use Rattle.std.proofs.lemmas.List.Elements.{filter-append, Contains-push, Contains-append_left}
 use Rattle.std.proofs.lemmas.List.Sums.{sum_by-cons}
@@ -127,19 +127,6 @@ may-same n s i t written failed d = rw (d.ahead i (omega arith)) (by (frame_at s
     by : (o : Option PageRef) → ((frame_at s.frames i).dirty && owner_unlocked t o) ≡ ((frame_at s.frames i).dirty && owner_unlocked s o)
     by None = refl
     by (Some r) = rw d.goes.bytes refl
-
-pub record MayFlush (s : StoreView) (i : ℕ) : Type 0 where
-  pub dirty : (frame_at s.frames i).dirty ≡ true
-  pub owned : IsSome (frame_at s.frames i).owner
-
-pub may-parts : (s : StoreView) (i : ℕ) → may_flush s i ≡ true → MayFlush s i
-may-parts s i e =
-    let parts = and_parts (frame_at s.frames i).dirty (owner_unlocked s (frame_at s.frames i).owner) e in
-    record { dirty = parts.0; owned = by (frame_at s.frames i).owner parts.1 }
-  where
-    by : (o : Option PageRef) → owner_unlocked s o ≡ true → IsSome o
-    by None h = cc
-    by (Some r) h = refl
 
 module _ (n : ℕ) (s : StoreView) (i : ℕ) (t : StoreView) (written failed : ℕ) (d : Flushed n s i t written failed) where
   skipped : take n (due s (i + 1)) ≡ take n (due s i) → Flushed n s (i + 1) t written failed

@@ -18,3 +18,5 @@ pub mod Bringing
 pub mod Whole
 pub mod Drops
 pub mod Areas
+pub mod Seen
+pub mod Puts

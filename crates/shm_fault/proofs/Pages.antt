@@ -6,9 +6,9 @@ use Rattle.std.proofs.lemmas.List.{get_or_past}
 use Rattle.std.proofs.lemmas.List.Sums.{sum_by-cons}
 use Rattle.shm_base.specs.declared.paging.Slot.{Slot}
 use Rattle.shm_base.specs.declared.paging.PageRef.{PageRef}
-use Rattle.shm_fault.specs.declared.segments.PageRec.{PageRec}
+use Rattle.shm_fault.specs.declared.page_tables.PageRec.{PageRec}
 use Rattle.shm_fault.specs.Goes.{Outline, outline, outlines, same_ref}
-use Rattle.shm_fault.specs.Segs.{SegRec, no_page, find_seg, AreApart, rec_by, count_in, count_by_id, HasPage, lock_in, locked_by, seg_with, with_rec, pages_of, locked_pages}
+use Rattle.shm_fault.specs.Segs.{SegRec, no_page, rec_at, find_seg, AreApart, rec_by, count_in, count_by_id, HasPage, lock_in, locked_by, seg_with, with_rec, pages_of, locked_pages}
 
 -- the name of another page
 abbrev pub other : PageRef → PageRef → Bool
@@ -92,29 +92,23 @@ apart-same (g ∷ gs) (h ∷ hs) e apart =
     let i : h.id ≡ g.id = ap (λ (o : Outline). o.id) a in
     (rw i (none-same gs hs g.id b apart.0), apart-same gs hs b apart.1)
 
+-- what each segment weighs by its outline, summed up
+sum-same : (weigh : Outline → ℕ) (h : SegRec → ℕ) → ((g : SegRec) → h g ≡ weigh (outline g)) → (gs hs : List SegRec) → outlines hs ≡ outlines gs → sum_by h hs ≡ sum_by h gs
+sum-same weigh h is [] [] e = refl
+sum-same weigh h is (g ∷ gs) [] e = cc
+sum-same weigh h is [] (k ∷ ks) e = cc
+sum-same weigh h is (g ∷ gs) (k ∷ ks) e =
+    let a : outline k ≡ outline g = cc in
+    let b : outlines ks ≡ outlines gs = cc in
+    let one : h k ≡ h g = is k ∙ ap weigh a ∙ sym (is g) in
+    let rest = sum-same weigh h is gs ks b in
+    omega (arith, one, rest, sum_by-cons h k ks, sum_by-cons h g gs)
+
 pub sum_pages-same : (gs hs : List SegRec) → outlines hs ≡ outlines gs → sum_by pages_of hs ≡ sum_by pages_of gs
-sum_pages-same [] [] e = refl
-sum_pages-same (g ∷ gs) [] e = cc
-sum_pages-same [] (h ∷ hs) e = cc
-sum_pages-same (g ∷ gs) (h ∷ hs) e =
-    let a : outline h ≡ outline g = cc in
-    let b : outlines hs ≡ outlines gs = cc in
-    let i : length h.pages ≡ length g.pages = ap (λ (o : Outline). o.count) a in
-    let rest = sum_pages-same gs hs b in
-    omega (arith, i, rest, sum_by-cons pages_of h hs, sum_by-cons pages_of g gs)
+sum_pages-same gs hs e = sum-same (λ o. o.count) pages_of (λ g. refl) gs hs e
 
 pub sum_locked-same : (gs hs : List SegRec) → outlines hs ≡ outlines gs → sum_by locked_pages hs ≡ sum_by locked_pages gs
-sum_locked-same [] [] e = refl
-sum_locked-same (g ∷ gs) [] e = cc
-sum_locked-same [] (h ∷ hs) e = cc
-sum_locked-same (g ∷ gs) (h ∷ hs) e =
-    let a : outline h ≡ outline g = cc in
-    let b : outlines hs ≡ outlines gs = cc in
-    let i : length h.pages ≡ length g.pages = ap (λ (o : Outline). o.count) a in
-    let l : h.locked ≡ g.locked = ap (λ (o : Outline). o.locked) a in
-    let one : locked_pages h ≡ locked_pages g = rw (l, i) refl in
-    let rest = sum_locked-same gs hs b in
-    omega (arith, one, rest, sum_by-cons locked_pages h hs, sum_by-cons locked_pages g gs)
+sum_locked-same gs hs e = sum-same (λ o. cond o.locked o.count 0) locked_pages (λ g. refl) gs hs e
 
 outline-seg_with : (r : PageRef) (p : PageRec) (g : SegRec) → outline (seg_with r p g) ≡ outline g
 outline-seg_with r p g = elim (cases_Bool (eqb g.id r.seg)) [
@@ -146,6 +140,23 @@ find-id (h ∷ gs) id g e = elim (cases_eq h.id id) [
   | inr n ↦ find-id gs id g (rw (ne_eqb h.id id n) at e)
 ]
 
+-- the pages of the first segment of a list
+pub has-head : (g : SegRec) (gs : List SegRec) (j : ℕ) → j < length g.pages → HasPage (g ∷ gs) (record { seg = g.id; page = j })
+has-head g gs j lt = rw (eq-eqb g.id g.id refl) lt
+
+pub rec-head : (g : SegRec) (gs : List SegRec) (j : ℕ) → rec_by (g ∷ gs) (record { seg = g.id; page = j }) ≡ rec_at g.pages j
+rec-head g gs j = rw (eq-eqb g.id g.id refl) refl
+
+-- and those of the rest
+pub not-head : (g : SegRec) (gs : List SegRec) → AreApart (g ∷ gs) → (r : PageRef) → HasPage gs r → g.id ≢ r.seg
+not-head g gs apart r has e = let none : find_seg gs r.seg ≡ None = rw e at apart.0 in let no_count : r.page < 0 = rw none at has in absurd (omega arith)
+
+pub has-tail : (g : SegRec) (gs : List SegRec) → AreApart (g ∷ gs) → (r : PageRef) → HasPage gs r → HasPage (g ∷ gs) r
+has-tail g gs apart r has = rw (ne_eqb g.id r.seg (not-head g gs apart r has)) has
+
+pub rec-tail : (g : SegRec) (gs : List SegRec) → AreApart (g ∷ gs) → (r : PageRef) → HasPage gs r → rec_by (g ∷ gs) r ≡ rec_by gs r
+rec-tail g gs apart r has = rw (ne_eqb g.id r.seg (not-head g gs apart r has)) refl
+
 -- where the page is that was set
 pub rec-with : (gs : List SegRec) (r : PageRef) (p : PageRec) → HasPage gs r → rec_by (with_rec gs r p) r ≡ p
 rec-with gs r p has = by (find_seg gs r.seg) refl has
@@ -170,6 +181,13 @@ rec-with_other gs r q p off = by (find_seg gs q.seg) refl
               rw (find-with gs r p q.seg, e, eq-eqb g.id r.seg same) (get_or-set_other g.pages r.page q.page p no_page ne)
           | inr n ↦ rw (find-with gs r p q.seg, e, ne_eqb g.id r.seg n) refl
         ]
+
+-- no page's frame changed
+pub still-with : (gs : List SegRec) (r : PageRef) (p : PageRec) → HasPage gs r → p.frame ≡ (rec_by gs r).frame → (q : PageRef) → (rec_by (with_rec gs r p) q).frame ≡ (rec_by gs q).frame
+still-with gs r p has same q = elim (cases_ref r q) [
+  | inl e ↦ rw e (ap (λ (x : PageRec). x.frame) (rec-with gs r p has) ∙ same)
+  | inr off ↦ ap (λ (x : PageRec). x.frame) (rec-with_other gs r q p off)
+]
 
 -- a page that is somewhere is there
 pub has-somewhere : (gs : List SegRec) (r : PageRef) → rec_by gs r ≢ no_page → HasPage gs r

@@ -4,7 +4,7 @@ use Rattle.std.proofs.lemmas.Bool.{cases_eq, cases_lt}
 use Rattle.std.proofs.lemmas.List.{set_past}
 use Rattle.shm_base.specs.declared.paging.PageRef.{PageRef}
 use Rattle.shm_base.specs.declared.paging.Slot.{Slot}
-use Rattle.shm_slots.specs.View.{AreaView, SwapView, no_area, area_at, with_page, with_owner, HasSlot, owner_of, page_in, with_slot_page, with_slot_owner, without_slot, SameSlots, OneArea, WriteFault}
+use Rattle.shm_slots.specs.View.{AreaView, SwapView, no_area, area_at, with_page, with_owner, HasSlot, owner_of, page_in, with_slot_page, with_slot_owner, without_slot, OneArea, WriteFault}
 
 -- one slot may have another page and another owner; nothing else changed
 pub record OnlySlot (k : Slot) (s t : SwapView) : Type 0 where
@@ -17,13 +17,6 @@ OnlySlot-trans k s t u a b = record {
   has = λ j h. b.has j (a.has j h);
   pages = λ j n. b.pages j n ∙ a.pages j n;
   owners = λ j n. b.owners j n ∙ a.owners j n;
-}
-
-pub OnlySlot-same : (k : Slot) (s t : SwapView) → SameSlots s t → OnlySlot k s t
-OnlySlot-same k s t same = record {
-  has = λ j h. (rw same.areas h.0, rw (same.pages j.area) h.1);
-  pages = λ j n. ap (λ ps. get_or ps j.slot []) (same.pages j.area);
-  owners = λ j n. ap (λ os. get_or os j.slot None) (same.owners j.area);
 }
 
 -- the area of one slot was set, with that slot's page and owner alone changed
@@ -100,10 +93,6 @@ owner-set k s owner area slot =
 pub owner-given : (k : Slot) (s : SwapView) (page : List ℕ) → k.area < length s.areas → k.slot < length (area_at s k.area).owners → owner_of (without_slot s k page) k.area k.slot ≡ None
 owner-given k s page area slot =
     rw (get_or-set_same s.areas k.area (with_page (with_owner (area_at s k.area) k.slot None) k.slot page) no_area area) (get_or-set_same (area_at s k.area).owners k.slot None None slot)
-
--- slots by their names
-abbrev pub slot_ne : Slot → Slot → Type 0
-slot_ne j k = (j.area ≡ k.area → j.slot ≡ k.slot → ⊥)
 
 pub cases_slot : (j k : Slot) → (j ≡ k) ⊎ (j ≢ k)
 cases_slot j k = by (cases_eq j.area k.area) (cases_eq j.slot k.slot)

@@ -8,11 +8,11 @@ use Rattle.shm_base.specs.declared.paging.Slot.{Slot}
 use Rattle.shm_slots.specs.View.{SwapView, IsSwap, slots, sizes, slots_in, owner_of}
 use Rattle.shm_slots.specs.Cause.{GoesOn, total, some_spent, had_cause}
 use Rattle.shm_frames.specs.Frame.{Frame, frame_at}
-use Rattle.shm_fault.specs.Segs.{SegRec, HasPage, AreApart, pages_of, locked_pages}
+use Rattle.shm_fault.specs.Segs.{SegRec, rec_by, HasPage, AreApart, pages_of, locked_pages}
 use Rattle.shm_fault.specs.Store.{StoreView, has_frame, has_slot, dirty_in, is_dirty_page}
 use Rattle.shm_fault.specs.Sound.{IsTied, Tied, IsSound}
 use Rattle.shm_fault.specs.Goes.{outlines, Goes, Still, KeepsLocked}
-use Rattle.shm_fault.proofs.Pages.{apart-same, sum_pages-same, sum_locked-same, locked-same}
+use Rattle.shm_fault.proofs.Pages.{has-frame, apart-same, sum_pages-same, sum_locked-same, locked-same}
 use Rattle.shm_fault.proofs.Ties.{Touches, tied_touched, bytes_touched}
 use Rattle.shm_fault.proofs.Tally.{resident-frames}
 use Rattle.shm_fault.proofs.Bytes.{bytes_at, held-same}
@@ -28,6 +28,10 @@ count-le p q (x ∷ xs) both =
 sum-le : {X : Type 0} (f h : X → ℕ) (xs : List X) → ((x : X) → f x ≤ h x) → sum_by f xs ≤ sum_by h xs
 sum-le f h [] le = omega arith
 sum-le f h (x ∷ xs) le = let rest = sum-le f h xs le in let here = le x in omega (arith, here, rest, sum_by-cons f x xs, sum_by-cons h x xs)
+
+-- a page and the frame that it is in
+pub frame-own : (s : StoreView) → IsSound s → (r : PageRef) (f : ℕ) → (rec_by s.segs r).frame ≡ Some f → (f < length s.frames) × ((frame_at s.frames f).owner ≡ Some r)
+frame-own s sound r f at = (sound.tied.pages r (has-frame s.segs r f at)).frame_owned f at
 
 -- the counts follow from the rest
 pub IsSound-from : (s : StoreView) → Tied s → AreApart s.segs → (2 ≤ length s.frames) × (length s.frames ≤ 4096) → IsSwap s.swap → s.hand < length s.frames
@@ -57,17 +61,17 @@ module _ (off : PageRef → Bool) (s t : StoreView) (sound : IsSound s) (to : To
   pub sound-touched : IsSound t
   sound-touched = IsSound-from t
       (tied_touched off s t to sound.tied here own_frame own_slot)
-      (apart-same s.segs t.segs to.shape sound.apart)
-      (rw to.size sound.frames)
+      (apart-same s.segs t.segs to.segs.shape sound.apart)
+      (rw to.frames.size sound.frames)
       swap hand
-      (let p = sum_pages-same s.segs t.segs to.shape in let z : slots t.swap ≡ slots s.swap = ap (λ l. sum_by slots_in l) same in omega (arith, p, z, sound.capacity))
-      (let p = sum_locked-same s.segs t.segs to.shape in omega (arith, p, to.size, sound.locked))
+      (let p = sum_pages-same s.segs t.segs to.segs.shape in let z : slots t.swap ≡ slots s.swap = ap (λ l. sum_by slots_in l) same in omega (arith, p, z, sound.capacity))
+      (let p = sum_locked-same s.segs t.segs to.segs.shape in omega (arith, p, to.frames.size, sound.locked))
 
   pub goes-touched : GoesOn s.swap t.swap → ((q : PageRef) → off q ≡ false → HasPage s.segs q → bytes_at t q ≡ bytes_at s q) → Goes s t
   goes-touched goes_on bytes = record {
-    bytes = held-same s t sound.apart (apart-same s.segs t.segs to.shape sound.apart) to.shape (λ q has. elim (cases_Bool (off q)) [ inl is ↦ bytes_touched off s t to q is (sound.tied.pages q has) | inr on ↦ bytes q on has ]);
-    shape = to.shape;
-    size = to.size;
+    bytes = held-same s t sound.apart (apart-same s.segs t.segs to.segs.shape sound.apart) to.segs.shape (λ q has. elim (cases_Bool (off q)) [ inl is ↦ bytes_touched off s t to q is (sound.tied.pages q has) | inr on ↦ bytes q on has ]);
+    shape = to.segs.shape;
+    size = to.frames.size;
     goes_on = goes_on;
     same_sizes = same;
     spent = spent-cause s.swap t.swap sound.swap goes_on;

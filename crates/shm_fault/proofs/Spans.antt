@@ -9,10 +9,10 @@ use Rattle.shm_plain.specs.Held.{find_held, bytes_of, is_held, FitsPage, span_by
 use Rattle.shm_slots.specs.View.{AreaView, IsArea, slots_in, size_of, no_area}
 use Rattle.shm_frames.specs.Frame.{frame_at}
 use Rattle.shm_fault.specs.Segs.{SegRec, find_seg, AreApart, count_by_id, HasPage, pages_of}
-use Rattle.shm_fault.specs.Store.{StoreView, page_of, held, ref_of}
+use Rattle.shm_fault.specs.Store.{StoreView, held, ref_of}
 use Rattle.shm_fault.specs.Sound.{IsSound}
 use Rattle.shm_fault.specs.Goes.{outline, outlines, frame_by}
-use Rattle.shm_fault.proofs.Pages.{find-id}
+use Rattle.shm_fault.proofs.Pages.{find-id, has-tail}
 use Rattle.shm_fault.proofs.Bytes.{joined, held_one, held_of, bytes_at, held-is, joined-read, joined-paste, joined-ext, length-joined}
 
 find-held : (b : PageRef → List ℕ) (gs : List SegRec) (id : ℕ) → find_held (held_of b (outlines gs)) id ≡ option_map (λ (g : SegRec). held_one b (outline g)) (find_seg gs id)
@@ -53,16 +53,6 @@ module _ (s : StoreView) (sound : IsSound s) where
       let len = length-in p.seg in
       omega (arith, len, fit.1, fit.2)
 
-  -- a stretch in a page that is there fits it
-  pub has-fits : (p : Span) → HasPage s.segs (ref_of p) → 0 < p.len → p.at % 4096 + p.len ≤ 4096 → FitsPage (held s) p
-  has-fits p has some fits =
-      let len = length-in p.seg in
-      (held-in p.seg ∙ by (find_seg s.segs p.seg) refl, omega (arith, len, has, fits), some, omega (arith, fits))
-    where
-      by : (o : Option SegRec) → find_seg s.segs p.seg ≡ o → is_some o ≡ true
-      by None e = absurd (let h : page_of p < 0 = rw e at has in omega arith)
-      by (Some g) e = refl
-
   pub span-read : (p : Span) (f : ℕ) → FitsPage (held s) p → frame_by s (ref_of p) ≡ Some f → span_bytes (held s) p ≡ take p.len (drop (p.at % 4096) (frame_at s.frames f).bytes)
   span-read p f fit at =
       let has = fits-has p fit in
@@ -93,10 +83,7 @@ pasted-list b c (g ∷ gs) r off new apart whole has fits here others = elim (ca
       rw (eq-eqb g.id r.seg e) (let h : held_one c (outline g) ≡ record { id = g.id; locked = g.locked; bytes = paste (joined b g.id 0 (length g.pages)) (4096 * r.page + off) new } = ap (λ bs. record { id = g.id; locked = g.locked; bytes = bs }) head in cc)
   | inr n ↦
       let head : joined c g.id 0 (length g.pages) ≡ joined b g.id 0 (length g.pages) = joined-ext c b g.id 0 (length g.pages) (λ j l. others (record { seg = g.id; page = 0 + j }) (λ same. n (ap (λ (q : PageRef). q.seg) same))) in
-      let rest = pasted-list b c gs r off new apart.1 (λ q there. elim (cases_eq g.id q.seg) [
-        | inl f ↦ absurd (let none : find_seg gs q.seg ≡ None = rw f at apart.0 in let no_count : q.page < 0 = rw none at there in omega arith)
-        | inr m ↦ whole q (rw (ne_eqb g.id q.seg m) there)
-      ]) (rw (ne_eqb g.id r.seg n) at has) fits here others in
+      let rest = pasted-list b c gs r off new apart.1 (λ q there. whole q (has-tail g gs apart q there)) (rw (ne_eqb g.id r.seg n) at has) fits here others in
       rw (ne_eqb g.id r.seg n) (let h : held_one c (outline g) ≡ held_one b (outline g) = ap (λ bs. record { id = g.id; locked = g.locked; bytes = bs }) head in cc)
 ]
   where

@@ -1,64 +1,99 @@
 -- A change that touches few pages keeps all others tied, and their bytes.
-use Rattle.std.proofs.Common.{◌≡◌, ◌≢◌, ◌⊎◌, ℕ, ◌<◌, ◌≤◌, Bool, true, false, List, length, set, Option, Some, None, refl, sym, ◌∙◌, inl, inr, get_or-set_same, get_or-set_other}
+use Rattle.std.proofs.Common.{◌≡◌, ◌≢◌, ◌⊎◌, ℕ, ◌<◌, ◌≤◌, Bool, true, false, List, length, set, Option, Some, None, refl, sym, ◌∙◌, inl, inr, length-set, get_or-set_same, get_or-set_other}
 use Rattle.std.proofs.lemmas.Bool.{cases_Bool, cases_eq, cases_lt}
 use Rattle.std.proofs.lemmas.List.{set_past}
 use Rattle.shm_base.specs.declared.paging.PageRef.{PageRef}
 use Rattle.shm_base.specs.declared.paging.Slot.{Slot}
 use Rattle.shm_slots.specs.View.{SwapView, HasSlot, owner_of, page_in}
 use Rattle.shm_frames.specs.Frame.{Frame, no_frame, frame_at}
-use Rattle.shm_fault.specs.Segs.{rec_by, HasPage}
+use Rattle.shm_fault.specs.declared.page_tables.PageRec.{PageRec}
+use Rattle.shm_fault.specs.Segs.{SegRec, rec_by, HasPage, with_rec}
 use Rattle.shm_fault.specs.Store.{StoreView, stored, bytes_by, page_bytes}
 use Rattle.shm_fault.specs.Sound.{IsTied, Tied}
 use Rattle.shm_fault.specs.Goes.{outlines, Alike}
-use Rattle.shm_fault.proofs.Pages.{has-same, other, other_ne}
+use Rattle.shm_fault.proofs.Pages.{has-same, outlines-with, rec-with_other, other, other_ne}
 use Rattle.shm_fault.proofs.Slots.{OnlySlot, cases_slot}
 
 pub Alike-refl : (x : Frame) → Alike x x
 Alike-refl x = record { owner = refl; bytes = refl; dirty = refl }
 
--- of the pages that the test names, nothing changed but referenced bits
+-- of the pages that the test names, nothing changed but referenced bits: neither where they are,
+pub record SegsApart (off : PageRef → Bool) (gs hs : List SegRec) : Type 0 where
+  pub shape : outlines hs ≡ outlines gs
+  pub recs : (q : PageRef) → off q ≡ true → rec_by hs q ≡ rec_by gs q
+
+-- nor their frames,
+pub record FramesApart (off : PageRef → Bool) (fs gs : List Frame) : Type 0 where
+  pub size : length gs ≡ length fs
+  pub alike : (f : ℕ) (q : PageRef) → off q ≡ true → (frame_at fs f).owner ≡ Some q → Alike (frame_at fs f) (frame_at gs f)
+  pub owners : (f : ℕ) (q : PageRef) → off q ≡ true → (frame_at gs f).owner ≡ Some q → (frame_at fs f).owner ≡ Some q
+  pub free : (f : ℕ) → (frame_at gs f).owner ≡ None → (frame_at gs f).dirty ≡ false
+
+-- nor their slots
+pub record SlotsApart (off : PageRef → Bool) (s u : SwapView) : Type 0 where
+  pub has : (k : Slot) → HasSlot s k.area k.slot → HasSlot u k.area k.slot
+  pub kept : (k : Slot) (q : PageRef) → off q ≡ true → owner_of s k.area k.slot ≡ Some q → (owner_of u k.area k.slot ≡ Some q) × (page_in u k.area k.slot ≡ page_in s k.area k.slot)
+  pub owners : (k : Slot) (q : PageRef) → off q ≡ true → owner_of u k.area k.slot ≡ Some q → owner_of s k.area k.slot ≡ Some q
+
 pub record Touches (off : PageRef → Bool) (s t : StoreView) : Type 0 where
-  pub shape : outlines t.segs ≡ outlines s.segs
-  pub recs : (q : PageRef) → off q ≡ true → rec_by t.segs q ≡ rec_by s.segs q
-  pub size : length t.frames ≡ length s.frames
-  pub frames : (f : ℕ) (q : PageRef) → off q ≡ true → (frame_at s.frames f).owner ≡ Some q → Alike (frame_at s.frames f) (frame_at t.frames f)
-  pub owners : (f : ℕ) (q : PageRef) → off q ≡ true → (frame_at t.frames f).owner ≡ Some q → (frame_at s.frames f).owner ≡ Some q
-  pub free : (f : ℕ) → (frame_at t.frames f).owner ≡ None → (frame_at t.frames f).dirty ≡ false
-  pub has : (k : Slot) → HasSlot s.swap k.area k.slot → HasSlot t.swap k.area k.slot
-  pub slots : (k : Slot) (q : PageRef) → off q ≡ true → owner_of s.swap k.area k.slot ≡ Some q → (owner_of t.swap k.area k.slot ≡ Some q) × (page_in t.swap k.area k.slot ≡ page_in s.swap k.area k.slot)
-  pub slot_owners : (k : Slot) (q : PageRef) → off q ≡ true → owner_of t.swap k.area k.slot ≡ Some q → owner_of s.swap k.area k.slot ≡ Some q
+  pub segs : SegsApart off s.segs t.segs
+  pub frames : FramesApart off s.frames t.frames
+  pub slots : SlotsApart off s.swap t.swap
+
+pub segs-same : {off : PageRef → Bool} (gs : List SegRec) → SegsApart off gs gs
+segs-same gs = record { shape = refl; recs = λ q e. refl }
+
+pub segs-with : (gs : List SegRec) (r : PageRef) (p : PageRec) → SegsApart (other r) gs (with_rec gs r p)
+segs-with gs r p = record { shape = outlines-with gs r p; recs = λ q e. rec-with_other gs r q p e }
+
+pub frames-same : {off : PageRef → Bool} (fs : List Frame) → ((f : ℕ) → (frame_at fs f).owner ≡ None → (frame_at fs f).dirty ≡ false) → FramesApart off fs fs
+frames-same fs free = record { size = refl; alike = λ f q e o. Alike-refl (frame_at fs f); owners = λ f q e o. o; free = free }
+
+pub slots-same : {off : PageRef → Bool} (s : SwapView) → SlotsApart off s s
+slots-same s = record { has = λ k h. h; kept = λ k q e o. (o, refl); owners = λ k q e o. o }
+
+-- one page's place looked up in other segments
+pub tied-segs : (s : StoreView) (segs : List SegRec) (r : PageRef) → rec_by segs r ≡ rec_by s.segs r → IsTied s r → IsTied (record s { segs = segs }) r
+tied-segs s segs r same tie = record {
+  frame_owned = λ f e. tie.frame_owned f (rw same at e);
+  owner_resident = λ f e. rw same (tie.owner_resident f e);
+  slot_owned = λ k e. tie.slot_owned k (rw same at e);
+  owner_stored = λ k e. rw same (tie.owner_stored k e);
+  clean = λ f e d. rw same (tie.clean f (rw same at e) d);
+  whole = rw same tie.whole;
+}
 
 module _ (off : PageRef → Bool) (s t : StoreView) (to : Touches off s t) where
   stored-off : (q : PageRef) → off q ≡ true → IsTied s q → (o : Option Slot) → (rec_by s.segs q).slot ≡ o → stored t.swap o ≡ stored s.swap o
   stored-off q is tie None e = refl
-  stored-off q is tie (Some k) e = (to.slots k q is (tie.slot_owned k e).1).1
+  stored-off q is tie (Some k) e = (to.slots.kept k q is (tie.slot_owned k e).1).1
 
   bytes-off : (q : PageRef) → off q ≡ true → IsTied s q → (o : Option ℕ) → (rec_by s.segs q).frame ≡ o → bytes_by t.frames t.swap o (rec_by s.segs q).slot ≡ bytes_by s.frames s.swap o (rec_by s.segs q).slot
   bytes-off q is tie None e = stored-off q is tie (rec_by s.segs q).slot refl
-  bytes-off q is tie (Some f) e = (to.frames f q is (tie.frame_owned f e).1).bytes
+  bytes-off q is tie (Some f) e = (to.frames.alike f q is (tie.frame_owned f e).1).bytes
 
   -- the bytes of the pages that were not touched
   pub bytes_touched : (q : PageRef) → off q ≡ true → IsTied s q → page_bytes t.frames t.swap (rec_by t.segs q) ≡ page_bytes s.frames s.swap (rec_by s.segs q)
-  bytes_touched q is tie = rw (to.recs q is) (bytes-off q is tie (rec_by s.segs q).frame refl)
+  bytes_touched q is tie = rw (to.segs.recs q is) (bytes-off q is tie (rec_by s.segs q).frame refl)
 
   pub tied_off : (q : PageRef) → off q ≡ true → IsTied s q → IsTied t q
   tied_off q is tie =
-      let same = to.recs q is in
+      let same = to.segs.recs q is in
       record {
         frame_owned = λ f e.
             let was : (rec_by s.segs q).frame ≡ Some f = rw same at e in
             let own = tie.frame_owned f was in
-            (rw to.size own.0, (to.frames f q is own.1).owner ∙ own.1);
-        owner_resident = λ f e. rw same (tie.owner_resident f (to.owners f q is e));
+            (rw to.frames.size own.0, (to.frames.alike f q is own.1).owner ∙ own.1);
+        owner_resident = λ f e. rw same (tie.owner_resident f (to.frames.owners f q is e));
         slot_owned = λ k e.
             let was : (rec_by s.segs q).slot ≡ Some k = rw same at e in
             let own = tie.slot_owned k was in
-            (to.has k own.0, (to.slots k q is own.1).0);
-        owner_stored = λ k e. rw same (tie.owner_stored k (to.slot_owners k q is e));
+            (to.slots.has k own.0, (to.slots.kept k q is own.1).0);
+        owner_stored = λ k e. rw same (tie.owner_stored k (to.slots.owners k q is e));
         clean = λ f e d.
             let was : (rec_by s.segs q).frame ≡ Some f = rw same at e in
             let own = tie.frame_owned f was in
-            let alike = to.frames f q is own.1 in
+            let alike = to.frames.alike f q is own.1 in
             let st : stored t.swap (rec_by t.segs q).slot ≡ stored s.swap (rec_by s.segs q).slot = rw same (stored-off q is tie (rec_by s.segs q).slot refl) in
             alike.bytes ∙ tie.clean f was (sym alike.dirty ∙ d) ∙ sym st;
         whole = rw (bytes_touched q is tie) tie.whole;
@@ -70,13 +105,13 @@ module _ (off : PageRef → Bool) (s t : StoreView) (to : Touches off s t) where
       → ((k : Slot) (q : PageRef) → off q ≡ false → owner_of t.swap k.area k.slot ≡ Some q → HasPage s.segs q) → Tied t
   tied_touched tied here own_frame own_slot = record {
     pages = λ q has.
-        let was = has-same t.segs s.segs q (sym to.shape) has in
+        let was = has-same t.segs s.segs q (sym to.segs.shape) has in
         elim (cases_Bool (off q)) [ inl is ↦ tied_off q is (tied.pages q was) | inr on ↦ here q on was ];
     owners = λ f q e.
-        has-same s.segs t.segs q to.shape (elim (cases_Bool (off q)) [ inl is ↦ tied.owners f q (to.owners f q is e) | inr on ↦ own_frame f q on e ]);
+        has-same s.segs t.segs q to.segs.shape (elim (cases_Bool (off q)) [ inl is ↦ tied.owners f q (to.frames.owners f q is e) | inr on ↦ own_frame f q on e ]);
     slot_owners = λ k q e.
-        has-same s.segs t.segs q to.shape (elim (cases_Bool (off q)) [ inl is ↦ tied.slot_owners k q (to.slot_owners k q is e) | inr on ↦ own_slot k q on e ]);
-    free = to.free;
+        has-same s.segs t.segs q to.segs.shape (elim (cases_Bool (off q)) [ inl is ↦ tied.slot_owners k q (to.slots.owners k q is e) | inr on ↦ own_slot k q on e ]);
+    free = to.frames.free;
   }
 
 -- the owner is that page or nobody
@@ -91,13 +126,13 @@ IsOwn-some r o e q h = cc
 
 -- one frame set, whose owner was and is that page or nobody
 module _ (r : PageRef) (frames : List Frame) (f : ℕ) (x : Frame) (was : IsOwn r (frame_at frames f).owner) (is : IsOwn r x.owner) where
-  pub set_alike : (g : ℕ) (q : PageRef) → other r q ≡ true → (frame_at frames g).owner ≡ Some q → Alike (frame_at frames g) (frame_at (set frames f x) g)
+  set_alike : (g : ℕ) (q : PageRef) → other r q ≡ true → (frame_at frames g).owner ≡ Some q → Alike (frame_at frames g) (frame_at (set frames f x) g)
   set_alike g q off e = elim (cases_eq g f) [
     | inl same ↦ absurd (other_ne r q off (was q (rw same at e)))
     | inr n ↦ rw (get_or-set_other frames f g x no_frame n) (Alike-refl (frame_at frames g))
   ]
 
-  pub set_owners : (g : ℕ) (q : PageRef) → other r q ≡ true → (frame_at (set frames f x) g).owner ≡ Some q → (frame_at frames g).owner ≡ Some q
+  set_owners : (g : ℕ) (q : PageRef) → other r q ≡ true → (frame_at (set frames f x) g).owner ≡ Some q → (frame_at frames g).owner ≡ Some q
   set_owners g q off e = by (cases_eq g f) (cases_lt f (length frames))
     where
       by : (g ≡ f) ⊎ (g ≢ f) → (f < length frames) ⊎ (length frames ≤ f) → (frame_at frames g).owner ≡ Some q
@@ -105,7 +140,7 @@ module _ (r : PageRef) (frames : List Frame) (f : ℕ) (x : Frame) (was : IsOwn 
       by (inl same) (inr past) = rw (set_past frames f x past) at e
       by (inl same) (inl lt) = absurd (other_ne r q off (is q (rw (same, get_or-set_same frames f x no_frame lt) at e)))
 
-  pub set_free : (x.owner ≡ None → x.dirty ≡ false) → ((g : ℕ) → (frame_at frames g).owner ≡ None → (frame_at frames g).dirty ≡ false)
+  set_free : (x.owner ≡ None → x.dirty ≡ false) → ((g : ℕ) → (frame_at frames g).owner ≡ None → (frame_at frames g).dirty ≡ false)
       → (g : ℕ) → (frame_at (set frames f x) g).owner ≡ None → (frame_at (set frames f x) g).dirty ≡ false
   set_free clean free g e = by (cases_eq g f) (cases_lt f (length frames))
     where
@@ -114,16 +149,22 @@ module _ (r : PageRef) (frames : List Frame) (f : ℕ) (x : Frame) (was : IsOwn 
       by (inl same) (inr past) = rw (set_past frames f x past) (free g (rw (set_past frames f x past) at e))
       by (inl same) (inl lt) = rw (same, get_or-set_same frames f x no_frame lt) (clean (rw (same, get_or-set_same frames f x no_frame lt) at e))
 
+  pub frames-set : (x.owner ≡ None → x.dirty ≡ false) → ((g : ℕ) → (frame_at frames g).owner ≡ None → (frame_at frames g).dirty ≡ false) → FramesApart (other r) frames (set frames f x)
+  frames-set clean free = record { size = length-set frames f x; alike = set_alike; owners = set_owners; free = set_free clean free }
+
 -- slots, where one may have another page or owner, and that is that page or nobody
 module _ (r : PageRef) (k : Slot) (s u : SwapView) (only : OnlySlot k s u) (was : IsOwn r (owner_of s k.area k.slot)) (is : IsOwn r (owner_of u k.area k.slot)) where
-  pub only_slots : (j : Slot) (q : PageRef) → other r q ≡ true → owner_of s j.area j.slot ≡ Some q → (owner_of u j.area j.slot ≡ Some q) × (page_in u j.area j.slot ≡ page_in s j.area j.slot)
+  only_slots : (j : Slot) (q : PageRef) → other r q ≡ true → owner_of s j.area j.slot ≡ Some q → (owner_of u j.area j.slot ≡ Some q) × (page_in u j.area j.slot ≡ page_in s j.area j.slot)
   only_slots j q off e = elim (cases_slot j k) [
     | inl same ↦ absurd (other_ne r q off (was q (rw same at e)))
     | inr n ↦ (only.owners j n ∙ e, only.pages j n)
   ]
 
-  pub only_owners : (j : Slot) (q : PageRef) → other r q ≡ true → owner_of u j.area j.slot ≡ Some q → owner_of s j.area j.slot ≡ Some q
+  only_owners : (j : Slot) (q : PageRef) → other r q ≡ true → owner_of u j.area j.slot ≡ Some q → owner_of s j.area j.slot ≡ Some q
   only_owners j q off e = elim (cases_slot j k) [
     | inl same ↦ absurd (other_ne r q off (is q (rw same at e)))
     | inr n ↦ sym (only.owners j n) ∙ e
   ]
+
+  pub slots-only : SlotsApart (other r) s u
+  slots-only = record { has = only.has; kept = only_slots; owners = only_owners }

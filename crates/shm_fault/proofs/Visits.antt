@@ -1,23 +1,24 @@
 -- Steps of a visit to a page, one after another.
-use Rattle.std.proofs.Common.{◌≡◌, ◌≢◌, ◌⊎◌, ℕ, suc, ◌<◌, ◌≤◌, true, false, not, cond, eqb, List, [], ◌∷◌, ◌++◌, length, set, Option, Some, None, refl, sym, ap, ◌∙◌, inl, inr, arith, get_or-set_same, get_or-set_other, set-set}
+use Rattle.std.proofs.Common.{◌≡◌, ◌≢◌, ◌⊎◌, ℕ, suc, ◌<◌, ◌≤◌, true, false, not, cond, eqb, List, [], ◌∷◌, ◌++◌, length, set, Option, Some, None, refl, sym, ap, ◌∙◌, inl, inr, arith, length-set, get_or-set_same, get_or-set_other, set-set}
 use Rattle.std.proofs.lemmas.Bool.{cases_Bool, cases_eq, cases_lt, and_parts, eq-eqb, eqb-true, false≢true, not-true}
 use Rattle.shm_base.specs.declared.paging.PageRef.{PageRef}
 use Rattle.shm_frames.specs.Frame.{Frame, no_frame, frame_at}
 use Rattle.shm_clock.specs.Clock.{may_go, owner_passes, is_pinned}
-use Rattle.shm_fault.specs.declared.segments.PageRec.{PageRec}
+use Rattle.shm_fault.specs.declared.page_tables.PageRec.{PageRec}
 use Rattle.shm_fault.specs.Segs.{SegRec, rec_by, HasPage, with_rec, locked_by}
-use Rattle.shm_slots.specs.View.{SwapView}
-use Rattle.shm_fault.specs.Store.{StoreView, frame_of}
+use Rattle.shm_slots.specs.View.{SwapView, IsSwap, SameSlots, sizes}
+use Rattle.shm_slots.specs.Cause.{GoesOn}
+use Rattle.shm_fault.specs.Store.{StoreView, frame_of, stored}
 use Rattle.shm_fault.specs.Sound.{IsSound}
-use Rattle.shm_fault.specs.Goes.{Goes, Still, StaysAway, Alike, Visits, MovesOn, unlocked, frame_by, same_ref}
+use Rattle.shm_fault.specs.Goes.{Goes, Still, StaysAway, Alike, Visits, MovesOn, unlocked, frame_by, referenced_at, same_ref}
 use Rattle.shm_fault.specs.declared.touched.Move.{Move}
 use Rattle.shm_fault.specs.declared.touched.Move.TheVariants.{Gone, Came}
 use Rattle.shm_fault.specs.Steps.{is_page, moved}
 use Rattle.shm_fault.proofs.Ties.{Alike-refl}
 use Rattle.std.proofs.lemmas.List.{set_past}
 use Rattle.shm_fault.proofs.Pages.{rec-with, rec-with_other, cases_ref, other, other_ne, other-true, has-frame}
-use Rattle.shm_fault.proofs.Sound.{Goes-refl, Goes-trans, KeepsLocked-trans}
-use Rattle.shm_fault.proofs.Changes.{some_same}
+use Rattle.shm_fault.proofs.Sound.{frame-own, Goes-trans, KeepsLocked-trans}
+use Rattle.shm_fault.proofs.Changes.{some_same, keeps-alike, keeps-load, keeps-settle}
 
 pub Visits-trans : (r : PageRef) (pinned : Option ℕ) (s t u : StoreView) → Visits r pinned s t → Visits r pinned t u → Visits r pinned s u
 Visits-trans r pinned s t u a b = record {
@@ -95,19 +96,33 @@ module _ (s t₁ t₂ t₃ : StoreView) (f : ℕ) (page : PageRef) (pinned : Opt
           (other-frame q ne ∙ at, λ bit. ap (λ (z : Frame). z.referenced) same ∙ bit);
     }
 
+-- a step that keeps what any visit keeps
+pub record IsStep (s t : StoreView) : Type 0 where
+  pub sound : IsSound t
+  pub visits : (r : PageRef) (pinned : Option ℕ) → Visits r pinned s t
+
+-- no page is in a free frame
+elsewhere : (s : StoreView) → IsSound s → (f : ℕ) → (frame_at s.frames f).owner ≡ None → (q : PageRef) (p : ℕ) → (rec_by s.segs q).frame ≡ Some p → p ≢ f
+elsewhere s sound f free q p at same = absurd (let h : (frame_at s.frames f).owner ≡ Some q = rw same at (frame-own s sound q p at).1 in cc)
+
+-- the referenced bit of a frame that is not set
+bit-other : (frames : List Frame) (f p : ℕ) (x : Frame) → p ≢ f → (frame_at frames p).referenced ≡ true → (frame_at (set frames f x) p).referenced ≡ true
+bit-other frames f p x n bit = ap (λ (z : Frame). z.referenced) (get_or-set_other frames f p x no_frame n) ∙ bit
+
 -- bytes come into a free frame
-pub load-visits : (s : StoreView) → IsSound s → (f : ℕ) (bytes : List ℕ) → (frame_at s.frames f).owner ≡ None → (u : SwapView) (ins : ℕ)
-    → Goes s (record { segs = s.segs; frames = set s.frames f (record (frame_at s.frames f) { bytes = bytes }); hand = s.hand; swap = u; ins = ins; outs = s.outs })
-    → (r : PageRef) (pinned : Option ℕ) → Visits r pinned s (record { segs = s.segs; frames = set s.frames f (record (frame_at s.frames f) { bytes = bytes }); hand = s.hand; swap = u; ins = ins; outs = s.outs })
-load-visits s sound f bytes free u ins goes r pinned = record {
-  goes = goes;
-  kept = λ q locked e. e;
-  away = λ q n e. refl;
-  pin = λ p q is at.
-      let own = ((sound.tied.pages q (has-frame s.segs q p at)).frame_owned p at).1 in
-      let loose : p ≢ f = λ same. let h : (frame_at s.frames f).owner ≡ Some q = rw same at own in cc (free, h) in
-      (at, λ bit. ap (λ (z : Frame). z.referenced) (get_or-set_other s.frames f p (record (frame_at s.frames f) { bytes = bytes }) no_frame loose) ∙ bit);
-}
+pub step-load : (s : StoreView) → IsSound s → (f : ℕ) (bytes : List ℕ) → (frame_at s.frames f).owner ≡ None → (u : SwapView) (ins : ℕ) → SameSlots s.swap u → IsSwap u → sizes u ≡ sizes s.swap → GoesOn s.swap u
+    → IsStep s (record s { frames = set s.frames f (record (frame_at s.frames f) { bytes = bytes }); swap = u; ins = ins })
+step-load s sound f bytes free u ins kept is same goes_on =
+    let keeps = keeps-load s sound f bytes free u ins kept is same goes_on in
+    record {
+      sound = keeps.sound;
+      visits = λ r pinned. record {
+        goes = keeps.goes;
+        kept = λ q locked e. e;
+        away = λ q n e. refl;
+        pin = λ p q is at. (at, bit-other s.frames f p (record (frame_at s.frames f) { bytes = bytes }) (elsewhere s sound f free q p at));
+      };
+    }
 
 -- a frame that is filled and referenced
 pub settled : (frames : List Frame) (f : ℕ) → f < length frames → (r : PageRef) {a b : List Frame} → a ≡ set frames f (record (frame_at frames f) { owner = Some r }) → b ≡ set a f (record (frame_at a f) { referenced = true })
@@ -128,31 +143,39 @@ same-other r q off = elim (cases_Bool (same_ref r q)) [
 ]
 
 -- a page comes into a free frame
-module _ (s : StoreView) (page : PageRef) (f : ℕ) (has : HasPage s.segs page) where
-  pub settle-came : (q : PageRef) → (rec_by (with_rec s.segs page (record { frame = Some f; slot = (rec_by s.segs page).slot })) q).frame ≡ cond (same_ref page q) (Some f) (frame_by s q)
-  settle-came q = elim (cases_ref page q) [
-    | inl same ↦ rw (same, same-self page) (ap (λ (p : PageRec). p.frame) (rec-with s.segs page (record { frame = Some f; slot = (rec_by s.segs page).slot }) has))
-    | inr off ↦ rw (same-other page q off) (ap (λ (p : PageRec). p.frame) (rec-with_other s.segs page q (record { frame = Some f; slot = (rec_by s.segs page).slot }) off))
-  ]
+pub record Settles (page : PageRef) (f : ℕ) (s t : StoreView) : Type 0 where
+  pub sound : IsSound t
+  pub came : (q : PageRef) → frame_by t q ≡ cond (same_ref page q) (Some f) (frame_by s q)
+  pub bit : referenced_at t f ≡ true
+  pub visits : (pinned : Option ℕ) → Visits page pinned s t
 
-pub settle-visits : (s : StoreView) → IsSound s → (page : PageRef) (f : ℕ) → HasPage s.segs page → f < length s.frames → (frame_at s.frames f).owner ≡ None → (rec_by s.segs page).frame ≡ None
-    → Goes s (record s { segs = with_rec s.segs page (record { frame = Some f; slot = (rec_by s.segs page).slot }); frames = set s.frames f (record (frame_at s.frames f) { owner = Some page; referenced = true }) })
-    → (pinned : Option ℕ) → Visits page pinned s (record s { segs = with_rec s.segs page (record { frame = Some f; slot = (rec_by s.segs page).slot }); frames = set s.frames f (record (frame_at s.frames f) { owner = Some page; referenced = true }) })
-settle-visits s sound page f has lt free away goes pinned = record {
-  goes = goes;
-  kept = λ q locked e. elim (cases_ref page q) [
-    | inl same ↦ rw (same, rec-with s.segs page (record { frame = Some f; slot = (rec_by s.segs page).slot }) has) refl
-    | inr off ↦ rw (rec-with_other s.segs page q (record { frame = Some f; slot = (rec_by s.segs page).slot }) off) e
-  ];
-  away = λ q n e. rec-with_other s.segs page q (record { frame = Some f; slot = (rec_by s.segs page).slot }) (other-true page q n);
-  pin = λ p q is at.
-      let own = ((sound.tied.pages q (has-frame s.segs q p at)).frame_owned p at).1 in
-      let loose : p ≢ f = λ same. let h : (frame_at s.frames f).owner ≡ Some q = rw same at own in cc (free, h) in
-      let ne : q ≢ page = λ same. let h : (rec_by s.segs page).frame ≡ Some p = rw same at at in cc (away, h) in (
-        ap (λ (r : PageRec). r.frame) (rec-with_other s.segs page q (record { frame = Some f; slot = (rec_by s.segs page).slot }) (other-true page q ne)) ∙ at,
-        λ bit. ap (λ (z : Frame). z.referenced) (get_or-set_other s.frames f p (record (frame_at s.frames f) { owner = Some page; referenced = true }) no_frame loose) ∙ bit,
-      );
-}
+pub settles : (s : StoreView) → IsSound s → (page : PageRef) (f : ℕ) → HasPage s.segs page → f < length s.frames → (frame_at s.frames f).owner ≡ None → (rec_by s.segs page).frame ≡ None
+    → (frame_at s.frames f).bytes ≡ stored s.swap (rec_by s.segs page).slot
+    → Settles page f s (record s { segs = with_rec s.segs page (record { frame = Some f; slot = (rec_by s.segs page).slot }); frames = set s.frames f (record (frame_at s.frames f) { owner = Some page; referenced = true }) })
+settles s sound page f has lt free away bytes =
+    let keeps = keeps-settle s sound page f has lt free away bytes in
+    let place : PageRec = record { frame = Some f; slot = (rec_by s.segs page).slot } in
+    let x : Frame = record (frame_at s.frames f) { owner = Some page; referenced = true } in
+    let here = rec-with s.segs page place has in
+    record {
+      sound = keeps.sound;
+      came = λ q. elim (cases_ref page q) [
+        | inl same ↦ rw (same, same-self page) (ap (λ (p : PageRec). p.frame) here)
+        | inr off ↦ rw (same-other page q off) (ap (λ (p : PageRec). p.frame) (rec-with_other s.segs page q place off))
+      ];
+      bit = ap (λ (y : Frame). y.referenced) (get_or-set_same s.frames f x no_frame lt);
+      visits = λ pinned. record {
+        goes = keeps.goes;
+        kept = λ q locked e. elim (cases_ref page q) [
+          | inl same ↦ rw (same, here) refl
+          | inr off ↦ rw (rec-with_other s.segs page q place off) e
+        ];
+        away = λ q n e. rec-with_other s.segs page q place (other-true page q n);
+        pin = λ p q is at.
+            let ne : q ≢ page = λ same. let h : (rec_by s.segs page).frame ≡ Some p = rw same at at in cc (away, h) in
+            (ap (λ (r : PageRec). r.frame) (rec-with_other s.segs page q place (other-true page q ne)) ∙ at, bit-other s.frames f p x (elsewhere s sound f free q p at));
+      };
+    }
 
 -- moves, one after another
 moved-append : (ms : List Move) (m : Move) (seg page : ℕ) (f : Option ℕ) → moved (ms ++ m ∷ []) seg page f ≡ moved (m ∷ []) seg page (moved ms seg page f)
@@ -183,29 +206,33 @@ moves-trans ms ns os s t u a c b led = c b (a b led)
 pub visits-away : (pinned : Option ℕ) (s t : StoreView) → ((r : PageRef) → Visits r pinned s t) → StaysAway s t
 visits-away pinned s t all q e = (all (record { seg = q.seg; page = suc q.page })).away q (λ same. absurd (let h : q.page ≡ suc q.page = ap (λ (r : PageRef). r.page) same in omega arith)) e
 
-pub visits-any : (r : PageRef) (pinned : Option ℕ) (s : StoreView) → Visits r pinned s s
-visits-any r pinned s = record { goes = Goes-refl s; kept = λ q locked e. e; away = λ q n e. refl; pin = λ p q is at. (at, λ bit. bit) }
-
--- a frame's referenced bit is set
-pub touch-visits : (s : StoreView) (f : ℕ) (r : PageRef) (pinned : Option ℕ) → f < length s.frames → Goes s (record s { frames = set s.frames f (record (frame_at s.frames f) { referenced = true }) })
-    → Visits r pinned s (record s { frames = set s.frames f (record (frame_at s.frames f) { referenced = true }) })
-touch-visits s f r pinned lt goes = record {
-  goes = goes;
-  kept = λ q locked e. e;
-  away = λ q n e. refl;
-  pin = λ p q is at. (
-    at,
-    λ bit. elim (cases_eq p f) [
-      | inl same ↦ rw same (ap (λ (z : Frame). z.referenced) (get_or-set_same s.frames f (record (frame_at s.frames f) { referenced = true }) no_frame lt))
-      | inr n ↦ ap (λ (z : Frame). z.referenced) (get_or-set_other s.frames f p (record (frame_at s.frames f) { referenced = true }) no_frame n) ∙ bit
-    ],
-  );
-}
-
-pub alike-set : (frames : List Frame) (f : ℕ) (x : Frame) → Alike (frame_at frames f) x → (g : ℕ) → Alike (frame_at frames g) (frame_at (set frames f x) g)
+alike-set : (frames : List Frame) (f : ℕ) (x : Frame) → Alike (frame_at frames f) x → (g : ℕ) → Alike (frame_at frames g) (frame_at (set frames f x) g)
 alike-set frames f x like g = by (cases_eq g f) (cases_lt f (length frames))
   where
     by : (g ≡ f) ⊎ (g ≢ f) → (f < length frames) ⊎ (length frames ≤ f) → Alike (frame_at frames g) (frame_at (set frames f x) g)
     by (inr n) c = rw (get_or-set_other frames f g x no_frame n) (Alike-refl (frame_at frames g))
     by (inl same) (inr past) = rw (set_past frames f x past) (Alike-refl (frame_at frames g))
     by (inl same) (inl lt) = rw (same, get_or-set_same frames f x no_frame lt) like
+
+-- a frame's referenced bit is set
+pub step-touch : (s : StoreView) → IsSound s → (f : ℕ) → f < length s.frames → IsStep s (record s { frames = set s.frames f (record (frame_at s.frames f) { referenced = true }) })
+step-touch s sound f lt =
+    let x : Frame = record (frame_at s.frames f) { referenced = true } in
+    let size = length-set s.frames f x in
+    let alike = alike-set s.frames f x (record { owner = refl; bytes = refl; dirty = refl }) in
+    let keeps = keeps-alike s sound (set s.frames f x) s.hand size alike (rw size sound.hand) in
+    record {
+      sound = keeps.sound;
+      visits = λ r pinned. record {
+        goes = keeps.goes;
+        kept = λ q locked e. e;
+        away = λ q n e. refl;
+        pin = λ p q is at. (
+          at,
+          λ bit. elim (cases_eq p f) [
+            | inl same ↦ rw same (ap (λ (z : Frame). z.referenced) (get_or-set_same s.frames f x no_frame lt))
+            | inr n ↦ bit-other s.frames f p x n bit
+          ],
+        );
+      };
+    }

@@ -11,13 +11,14 @@ use Rattle.shm_plain.specs.Held.{is_held, pages_in, pages_held, pages_if_locked,
 use Rattle.shm_pager.specs.Pages.{zero_page}
 use Rattle.shm_slots.specs.View.{SwapView, IsSwap, slots, owner_of}
 use Rattle.shm_frames.specs.Frame.{Frame, frame_at, IsBlank}
-use Rattle.shm_fault.specs.declared.segments.PageRec.{PageRec}
+use Rattle.shm_fault.specs.declared.page_tables.PageRec.{PageRec}
 use Rattle.shm_fault.specs.Segs.{SegRec, no_page, rec_at, find_seg, AreApart, rec_in, rec_by, count_in, count_by_id, HasPage, with_seg_lock, new_seg, pages_of, locked_pages}
 use Rattle.shm_fault.specs.Store.{StoreView, page_bytes, held_by, held, fresh_store}
 use Rattle.shm_fault.specs.Sound.{IsSound}
 use Rattle.shm_fault.specs.Goes.{outline, outlines}
 use Rattle.shm_fault.proofs.Entries.{apart-append, apart-edit}
-use Rattle.shm_fault.proofs.Pages.{rec-past}
+use Rattle.shm_fault.proofs.Pages.{rec-past, has-head, has-tail}
+use Rattle.shm_fault.proofs.Ties.{tied-segs}
 use Rattle.shm_fault.proofs.Bytes.{joined, held_one, held_of, bytes_at, held-is, length-joined}
 use Rattle.shm_fault.proofs.Spans.{held-in}
 use Rattle.shm_fault.proofs.Sound.{IsSound-from}
@@ -51,11 +52,8 @@ module _ (s : StoreView) (sound : IsSound s) where
       → (sum_by pages_in (held_of b (outlines gs)) ≡ sum_by pages_of gs) × (sum_by pages_if_locked (held_of b (outlines gs)) ≡ sum_by locked_pages gs)
   pages-list b [] apart whole = (refl, refl)
   pages-list b (g ∷ gs) apart whole =
-      let rest = pages-list b gs apart.1 (λ r has. elim (cases_eq g.id r.seg) [
-        | inl e ↦ absurd (let none : find_seg gs r.seg ≡ None = rw e at apart.0 in let no_count : r.page < 0 = rw none at has in omega arith)
-        | inr n ↦ whole r (rw (ne_eqb g.id r.seg n) has)
-      ]) in
-      let size = length-joined b (record { seg = g.id; page = 0 }) (length g.pages) (λ j l. whole (record { seg = g.id; page = j }) (rw (eq-eqb g.id g.id refl) l)) 0 (length g.pages) (omega arith) in
+      let rest = pages-list b gs apart.1 (λ r has. whole r (has-tail g gs apart r has)) in
+      let size = length-joined b (record { seg = g.id; page = 0 }) (length g.pages) (λ j l. whole (record { seg = g.id; page = j }) (has-head g gs j l)) 0 (length g.pages) (omega arith) in
       let here : pages_in (held_one b (outline g)) ≡ length g.pages = omega (arith, size) in
       let lock : pages_if_locked (held_one b (outline g)) ≡ locked_pages g = by g.locked here in (
         omega (arith, rest.0, here, sum_by-cons pages_in (held_one b (outline g)) (held_of b (outlines gs)), sum_by-cons pages_of g gs),
@@ -116,15 +114,7 @@ module _ (s : StoreView) (sound : IsSound s) where
         (record {
           pages = λ r has. elim (cases_lt r.page (count_by_id s.segs r.seg)) [
             | inl there ↦
-                let tie = sound.tied.pages r there in
-                record {
-                  frame_owned = λ f e. tie.frame_owned f (rw (rec-added r) at e);
-                  owner_resident = λ f e. rw (rec-added r) (tie.owner_resident f e);
-                  slot_owned = λ k e. tie.slot_owned k (rw (rec-added r) at e);
-                  owner_stored = λ k e. rw (rec-added r) (tie.owner_stored k e);
-                  clean = λ f e d. rw (rec-added r) (tie.clean f (rw (rec-added r) at e) d);
-                  whole = rw (rec-added r) tie.whole;
-                }
+                tied-segs s added r (rec-added r) (sound.tied.pages r there)
             | inr past ↦
                 let none : rec_by added r ≡ no_page = rec-added r ∙ rec-past s.segs r past in
                 record {
@@ -189,15 +179,7 @@ module _ (s : StoreView) (sound : IsSound s) where
         IsSound-from t
         (record {
           pages = λ r has.
-              let tie = sound.tied.pages r (rw (count-locked r.seg) at has) in
-              record {
-                frame_owned = λ f e. tie.frame_owned f (rw (rec-locked r) at e);
-                owner_resident = λ f e. rw (rec-locked r) (tie.owner_resident f e);
-                slot_owned = λ k e. tie.slot_owned k (rw (rec-locked r) at e);
-                owner_stored = λ k e. rw (rec-locked r) (tie.owner_stored k e);
-                clean = λ f e d. rw (rec-locked r) (tie.clean f (rw (rec-locked r) at e) d);
-                whole = rw (rec-locked r) tie.whole;
-              };
+              tied-segs s t.segs r (rec-locked r) (sound.tied.pages r (rw (count-locked r.seg) at has));
           owners = λ f r e. rw (count-locked r.seg) (sound.tied.owners f r e);
           slot_owners = λ k r e. rw (count-locked r.seg) (sound.tied.slot_owners k r e);
           free = sound.tied.free;

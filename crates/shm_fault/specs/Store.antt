@@ -8,7 +8,7 @@ use Rattle.shm_plain.specs.Held.{Held}
 use Rattle.shm_pager.specs.Pages.{zero_page}
 use Rattle.shm_slots.specs.View.{SwapView, page_in}
 use Rattle.shm_frames.specs.Frame.{Frame, frame_at}
-use Rattle.shm_fault.specs.declared.segments.PageRec.{PageRec}
+use Rattle.shm_fault.specs.declared.page_tables.PageRec.{PageRec}
 use Rattle.shm_fault.specs.Segs.{SegRec, rec_by}
 
 pub record StoreView : Type 0 where

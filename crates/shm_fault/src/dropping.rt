@@ -12,7 +12,7 @@ ghost use Rattle.shm_fault.specs.Sound.{IsSound};
 ghost use Rattle.shm_fault.specs.Counting.{AtRest};
 ghost use Rattle.shm_fault.specs.Dropping.{emptied, Given, FrameThere, SlotThere, IsBlank};
 
-use crate::segments::PageRec;
+use crate::page_tables::PageRec;
 use crate::store::PageStore;
 use shm_base::{FrameNo, PageRef, Slot};
 use shm_frames::Frames;

@@ -10,12 +10,12 @@ mod access;
 mod dropping;
 mod flushing;
 mod moving;
+mod page_tables;
 mod paging;
-mod segments;
 mod shown;
 mod store;
 mod touched;
 
-pub use segments::PageRec;
+pub use page_tables::PageRec;
 pub use store::PageStore;
 pub use touched::{Move, PageTally, PagerFailed, Touched};

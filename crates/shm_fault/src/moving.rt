@@ -11,7 +11,7 @@ ghost use Rattle.shm_fault.specs.Goes.{Goes, Still};
 ghost use Rattle.shm_fault.specs.Counting.{AtRest};
 ghost use Rattle.shm_fault.specs.Moving.{SameOwned, IsRelocated, IsCleared};
 
-use crate::segments::PageRec;
+use crate::page_tables::PageRec;
 use crate::store::PageStore;
 use crate::touched::{PagerFailed, Touched};
 use shm_base::{FrameNo, PageRef, Slot};

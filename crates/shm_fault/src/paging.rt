@@ -12,7 +12,7 @@ ghost use Rattle.shm_fault.specs.Counting.{raised, one_if, CountsOn, victim_by, 
 ghost use Rattle.shm_fault.specs.Access.{Visited};
 ghost use Rattle.shm_fault.specs.Goes.{Goes, Still, StaysAway, Alike, Visits, MovesOn, referenced_at, unlocked, frame_by, same_ref};
 
-use crate::segments::{PageRec, Segments};
+use crate::page_tables::{PageRec, PageTables};
 use crate::store::PageStore;
 use crate::touched::{Move, Touched};
 use shm_base::{FrameNo, PageRef, Slot};
@@ -31,7 +31,7 @@ struct Evicted {
 
 // The frame whose page has to go, by the clock, among those of segments that are not locked.
 fn choose(
-    segs: &Segments,
+    segs: &PageTables,
     frames: &mut Frames,
     hand: &mut FrameNo,
     pinned: Option<FrameNo>,

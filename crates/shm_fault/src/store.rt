@@ -8,7 +8,7 @@ ghost use Rattle.shm_fault.specs.Segs.{with_seg_lock, new_seg};
 ghost use Rattle.shm_fault.specs.Store.{fresh_store, held, frame_of, resident, dirty, used};
 ghost use Rattle.shm_fault.specs.Sound.{IsSound};
 
-use crate::segments::Segments;
+use crate::page_tables::PageTables;
 use crate::touched::PageTally;
 use shm_base::{FrameNo, HostMemory, PageRef};
 use shm_frames::Frames;
@@ -20,7 +20,7 @@ use std::marker::Model;
 /// Pages of segments, over frames and swap.
 #[derive(Drop)]
 pub struct PageStore<P: Pager> {
-    pub(crate) segs: Segments,
+    pub(crate) segs: PageTables,
     pub(crate) frames: Frames,
     // Where the clock's hand stands.
     pub(crate) hand: FrameNo,
@@ -53,7 +53,7 @@ impl<P: Pager> PageStore<P> {
     {
         let frames = Frames::new(alloc, frames)?;
         Ok(PageStore {
-            segs: Segments::new(alloc),
+            segs: PageTables::new(alloc),
             frames,
             hand: 0,
             swap,

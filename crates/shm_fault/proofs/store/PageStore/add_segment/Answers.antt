@@ -1,64 +1,50 @@
-use Rattle.std.proofs.Common.{◌≤◌, ◌+◌, sum_by, refl, inl, inr, ap}
+use Rattle.std.proofs.Common.{◌≡◌, ◌≤◌, ◌+◌, None, sum_by, refl, inl, inr, ap}
 use Rattle.shm_plain.specs.Held.{pages_held}
 use Rattle.shm_slots.specs.View.{slots}
-use Rattle.shm_fault.specs.declared.segments.PageRec.{PageRec}
-use Rattle.shm_fault.specs.Segs.{pages_of}
-use Rattle.shm_fault.specs.Store.{StoreView, held, frame_of}
+use Rattle.shm_fault.specs.declared.page_tables.PageRec.{PageRec}
+use Rattle.shm_fault.specs.Segs.{find_seg, pages_of}
+use Rattle.shm_fault.specs.Store.{held, frame_of}
+use Rattle.shm_fault.specs.Sound.{IsSound}
+use Rattle.shm_fault.proofs.Seen.{seen}
 use Rattle.shm_fault.proofs.Failures.{OnOk-map, either_way}
 use Rattle.shm_fault.proofs.Whole.{not-held, pages_held-is, sound-added, held-added, rec-added}
+use Rattle.shm_fault.proofs.store.PageStore.add_segment.Given as given
 use Rattle.shm_fault.proofs.store.PageStore.add_segment.Goals as goal
+use Rattle.shm_fault.proofs.store.PageStore.add_segment.Goals.{After-self, After-add}
+
+new : (g : given.Over) (c : After-self g) → find_seg c.self.inside.segs c.args.seg ≡ None
+new g c = not-held (seen c.self.inside) c.self.invariant c.args.seg (rw (← c.self.view_is) at c.requires.new)
+
+sound : (g : given.Over) (c : After-add g) → find_seg c.self.inside.segs c.args.seg ≡ None → IsSound (record (seen c.self.inside) { segs = c.add.new.self })
+sound g c none =
+    let s = seen c.self.inside in
+    let room₀ : pages_held (held s) + c.args.pages ≤ slots s.swap = rw (← c.self.view_is) at c.requires.room in
+    let room : sum_by pages_of s.segs + c.args.pages ≤ slots s.swap = rw (pages_held-is s c.self.invariant) at room₀ in
+    elim (either_way c.add.result _ _ c.add.ensures.ok c.add.ensures.err) [
+      | inl ok ↦ rw ok (sound-added s c.self.invariant c.args.seg c.args.pages none room)
+      | inr err ↦ rw err c.self.invariant
+    ]
 
 pub add-requires : goal.add-requires
-add-requires g c =
-    let i = c.self.inside in
-    let s : StoreView = record { segs = i.segs; frames = i.frames; hand = i.hand; swap = i.swap; ins = i.ins; outs = i.outs } in
-    let new = not-held s c.self.invariant c.args.seg (rw (← c.self.view_is) at c.requires.new) in
-    let room₀ : pages_held (held s) + c.args.pages ≤ slots s.swap = rw (← c.self.view_is) at c.requires.room in
-    let room : sum_by pages_of s.segs + c.args.pages ≤ slots s.swap = rw (pages_held-is s c.self.invariant) at room₀ in
-    record { new = new }
+add-requires g c = record { new = new g (goal.at.add-requires g c).After-self }
 
 pub invariant_of-self : goal.invariant_of-self
-invariant_of-self g c =
-    let i = c.self.inside in
-    let s : StoreView = record { segs = i.segs; frames = i.frames; hand = i.hand; swap = i.swap; ins = i.ins; outs = i.outs } in
-    let new = not-held s c.self.invariant c.args.seg (rw (← c.self.view_is) at c.requires.new) in
-    let room₀ : pages_held (held s) + c.args.pages ≤ slots s.swap = rw (← c.self.view_is) at c.requires.room in
-    let room : sum_by pages_of s.segs + c.args.pages ≤ slots s.swap = rw (pages_held-is s c.self.invariant) at room₀ in
-    elim (either_way c.add.result _ _ c.add.ensures.ok c.add.ensures.err) [
-      | inl ok ↦ rw ok (sound-added s c.self.invariant c.args.seg c.args.pages new room)
-      | inr err ↦ rw err c.self.invariant
-    ]
+invariant_of-self g c = sound g c (new g (goal.at.invariant_of-self g c).After-self)
 
 pub returns-clause-sound : goal.returns-clause-sound
-returns-clause-sound g c =
-    let i = c.self.inside in
-    let s : StoreView = record { segs = i.segs; frames = i.frames; hand = i.hand; swap = i.swap; ins = i.ins; outs = i.outs } in
-    let new = not-held s c.self.invariant c.args.seg (rw (← c.self.view_is) at c.requires.new) in
-    let room₀ : pages_held (held s) + c.args.pages ≤ slots s.swap = rw (← c.self.view_is) at c.requires.room in
-    let room : sum_by pages_of s.segs + c.args.pages ≤ slots s.swap = rw (pages_held-is s c.self.invariant) at room₀ in
-    elim (either_way c.add.result _ _ c.add.ensures.ok c.add.ensures.err) [
-      | inl ok ↦ rw ok (sound-added s c.self.invariant c.args.seg c.args.pages new room)
-      | inr err ↦ rw err c.self.invariant
-    ]
+returns-clause-sound g c = sound g c (new g (goal.at.returns-clause-sound g c).After-self)
 
 pub returns-clause-held : goal.returns-clause-held
 returns-clause-held g c =
-    let i = c.self.inside in
-    let s : StoreView = record { segs = i.segs; frames = i.frames; hand = i.hand; swap = i.swap; ins = i.ins; outs = i.outs } in
-    let new = not-held s c.self.invariant c.args.seg (rw (← c.self.view_is) at c.requires.new) in
-    let room₀ : pages_held (held s) + c.args.pages ≤ slots s.swap = rw (← c.self.view_is) at c.requires.room in
-    let room : sum_by pages_of s.segs + c.args.pages ≤ slots s.swap = rw (pages_held-is s c.self.invariant) at room₀ in
-    OnOk-map c.add.result _ _ c.add.ensures.ok (λ ok. rw (ok, ← c.self.view_is) (held-added s c.self.invariant c.args.seg c.args.pages new))
+    let none = new g (goal.at.returns-clause-held g c).After-self in
+    OnOk-map c.add.result _ _ c.add.ensures.ok (λ ok. rw (ok, ← c.self.view_is) (held-added (seen c.self.inside) c.self.invariant c.args.seg c.args.pages none))
 
 pub returns-clause-still : goal.returns-clause-still
 unfolding frame_of
 returns-clause-still g c = λ seg page.
-    let i = c.self.inside in
-    let s : StoreView = record { segs = i.segs; frames = i.frames; hand = i.hand; swap = i.swap; ins = i.ins; outs = i.outs } in
-    let new = not-held s c.self.invariant c.args.seg (rw (← c.self.view_is) at c.requires.new) in
-    let room₀ : pages_held (held s) + c.args.pages ≤ slots s.swap = rw (← c.self.view_is) at c.requires.room in
-    let room : sum_by pages_of s.segs + c.args.pages ≤ slots s.swap = rw (pages_held-is s c.self.invariant) at room₀ in
+    let none = new g (goal.at.returns-clause-still g c).After-self in
+    let rec = rec-added (seen c.self.inside) c.self.invariant c.args.seg c.args.pages none (record { seg = seg; page = page }) in
     elim (either_way c.add.result _ _ c.add.ensures.ok c.add.ensures.err) [
-      | inl ok ↦ rw (ok, ← c.self.view_is) (ap (λ (p : PageRec). p.frame) (rec-added s c.self.invariant c.args.seg c.args.pages new (record { seg = seg; page = page })))
+      | inl ok ↦ rw (ok, ← c.self.view_is) (ap (λ (p : PageRec). p.frame) rec)
       | inr err ↦ rw (err, ← c.self.view_is) refl
     ]

@@ -1,50 +1,47 @@
-use Rattle.std.proofs.Common.{◌≡◌, None, Some, true, false, is_ok, rules}
+use Rattle.std.proofs.Common.{◌≡◌, Bool, [], ◌∷◌, None, Some, true, false, is_ok, rules}
 use Rattle.shm_fault.specs.Store.{ref_of}
 use Rattle.shm_fault.specs.Goes.{frame_by}
-use Rattle.shm_fault.specs.Access.{Visited}
+use Rattle.shm_fault.specs.Access.{Visited, Brings}
 use Rattle.shm_fault.proofs.Bringing.{brings-two, brings-not, unmoved}
+use Rattle.shm_fault.proofs.store.PageStore.bring_two.Given as given
 use Rattle.shm_fault.proofs.store.PageStore.bring_two.Goals as goal
+use Rattle.shm_fault.proofs.store.PageStore.bring_two.Goals.{After-visit, After-visit-2}
+
+-- the visit to the first page, by the stretch that names it
+near : (g : given.Over) (c : After-visit g) (ok : Bool) → Visited c.page_at-page.result None c.args.first.now.frame c.args.self.now c.visit.new.self c.args.touched.now c.visit.new.touched ok
+    → Visited (ref_of c.args.first.now) None (frame_by c.args.self.now (ref_of c.args.first.now)) c.args.self.now c.visit.new.self c.args.touched.now c.visit.new.touched ok
+near g c ok one = rw c.requires.frames.0 at (rw c.page_at-page.ensures.page at one)
+
+-- and to the second
+far : (g : given.Over) (c : After-visit-2 g) (ok : Bool) → Visited c.page_at-page-2.result (Some c.in_ok-near.near) c.frame_now-known.result c.visit.new.self c.visit-2.new.self c.visit.new.touched c.visit-2.new.touched ok
+    → Brings (c.args.first.now ∷ c.args.second.now ∷ []) c.args.self.now c.visit-2.new.self c.visit-2.new.touched ok
+far g c ok other =
+    let p = c.args.first.now in
+    let q = c.args.second.now in
+    let t = c.visit.new.self in
+    let f = c.in_ok-near.near in
+    let one : Visited (ref_of p) None (frame_by c.args.self.now (ref_of p)) c.args.self.now t c.args.touched.now c.visit.new.touched true =
+    rw c.requires.frames.0 at (rw c.page_at-page.ensures.page at c.in_ok-near.ensures.visited) in
+    let at : frame_by t (ref_of p) ≡ Some f = rw c.page_at-page.ensures.page at c.in_ok-near.ensures.here.0 in
+    let known : c.frame_now-known.result ≡ frame_by t c.page_at-page-2.result = c.frame_now-known.ensures in
+    let two : Visited (ref_of q) (Some f) (frame_by t (ref_of q)) t c.visit-2.new.self c.visit.new.touched c.visit-2.new.touched ok = rw c.page_at-page-2.ensures.page at (rw known at other) in
+    brings-two p q c.args.self.now t c.visit-2.new.self f c.args.touched.now c.visit.new.touched c.visit-2.new.touched ok c.requires.none one at two
 
 pub returns-in_err-near-clause-brings : goal.returns-in_err-near-clause-brings
 returns-in_err-near-clause-brings g c =
-    let p = c.args.first.now in
-    let one : Visited (ref_of p) None (frame_by c.args.self.now (ref_of p)) c.args.self.now c.visit.new.self c.args.touched.now c.visit.new.touched false =
-    rw c.requires.frames.0 at (rw c.page_at-page.ensures.page at c.in_err-near.ensures.visited) in
+    let one = near g (goal.at.returns-in_err-near-clause-brings g c).After-visit false c.in_err-near.ensures.visited in
     let no : is_ok c.from_residual.result ≡ false = search rules in
-    rw no (brings-not p c.args.second.now c.args.self.now c.visit.new.self c.args.touched.now c.visit.new.touched c.requires.none one)
+    rw no (brings-not c.args.first.now c.args.second.now c.args.self.now c.visit.new.self c.args.touched.now c.visit.new.touched c.requires.none one)
 
 pub frame_now-known-requires-clause-still : goal.frame_now-known-requires-clause-still
 frame_now-known-requires-clause-still g c = λ still.
-    let p = c.args.first.now in
-    let one : Visited (ref_of p) None (frame_by c.args.self.now (ref_of p)) c.args.self.now c.visit.new.self c.args.touched.now c.visit.new.touched true =
-    rw c.requires.frames.0 at (rw c.page_at-page.ensures.page at c.in_ok-near.ensures.visited) in
-    unmoved p c.args.second.now c.args.self.now c.visit.new.self c.args.touched.now c.visit.new.touched true c.requires.none one still c.requires.frames.1
+    let one = near g (goal.at.frame_now-known-requires-clause-still g c).After-visit true c.in_ok-near.ensures.visited in
+    unmoved c.args.first.now c.args.second.now c.args.self.now c.visit.new.self c.args.touched.now c.visit.new.touched true c.requires.none one still c.requires.frames.1
 
 pub returns-in_err-far-clause-brings : goal.returns-in_err-far-clause-brings
 returns-in_err-far-clause-brings g c =
-    let p = c.args.first.now in
-    let q = c.args.second.now in
-    let s = c.args.self.now in
-    let t = c.visit.new.self in
-    let one : Visited (ref_of p) None (frame_by s (ref_of p)) s t c.args.touched.now c.visit.new.touched true =
-    rw c.requires.frames.0 at (rw c.page_at-page.ensures.page at c.in_ok-near.ensures.visited) in
-    let at : frame_by t (ref_of p) ≡ Some c.in_ok-near.near = rw c.page_at-page.ensures.page at c.in_ok-near.ensures.here.0 in
-    let known : c.frame_now-known.result ≡ frame_by t c.page_at-page-2.result = c.frame_now-known.ensures in
-    let two : Visited (ref_of q) (Some c.in_ok-near.near) (frame_by t (ref_of q)) t c.visit-2.new.self c.visit.new.touched c.visit-2.new.touched false =
-    rw c.page_at-page-2.ensures.page at (rw known at c.in_err-far.ensures.visited) in
     let no : is_ok c.from_residual-in_err-far.result ≡ false = search rules in
-    rw no (brings-two p q s t c.visit-2.new.self c.in_ok-near.near c.args.touched.now c.visit.new.touched c.visit-2.new.touched false c.requires.none one at two)
+    rw no (far g (goal.at.returns-in_err-far-clause-brings g c).After-visit-2 false c.in_err-far.ensures.visited)
 
 pub returns-clause-brings : goal.returns-clause-brings
-returns-clause-brings g c =
-    let p = c.args.first.now in
-    let q = c.args.second.now in
-    let s = c.args.self.now in
-    let t = c.visit.new.self in
-    let one : Visited (ref_of p) None (frame_by s (ref_of p)) s t c.args.touched.now c.visit.new.touched true =
-    rw c.requires.frames.0 at (rw c.page_at-page.ensures.page at c.in_ok-near.ensures.visited) in
-    let at : frame_by t (ref_of p) ≡ Some c.in_ok-near.near = rw c.page_at-page.ensures.page at c.in_ok-near.ensures.here.0 in
-    let known : c.frame_now-known.result ≡ frame_by t c.page_at-page-2.result = c.frame_now-known.ensures in
-    let two : Visited (ref_of q) (Some c.in_ok-near.near) (frame_by t (ref_of q)) t c.visit-2.new.self c.visit.new.touched c.visit-2.new.touched true =
-    rw c.page_at-page-2.ensures.page at (rw known at c.in_ok-far.ensures.visited) in
-    brings-two p q s t c.visit-2.new.self c.in_ok-near.near c.args.touched.now c.visit.new.touched c.visit-2.new.touched true c.requires.none one at two
+returns-clause-brings g c = far g (goal.at.returns-clause-brings g c).After-visit-2 true c.in_ok-far.ensures.visited

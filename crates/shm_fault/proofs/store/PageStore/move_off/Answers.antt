@@ -1,20 +1,43 @@
-use Rattle.std.proofs.Common.{◌≡◌, ℕ, length, set, Some, None, refl, ◌∙◌, arith}
-use Rattle.shm_base.specs.declared.paging.PageRef.{PageRef}
-use Rattle.shm_slots.specs.View.{IsSwap, area_at, off, owner_of, size_of, sizes, with_area}
-use Rattle.shm_fault.specs.Store.{StoreView, frame_of}
+use Rattle.std.proofs.Common.{◌≡◌, length, Some, refl, ◌∙◌, arith}
+use Rattle.shm_slots.specs.View.{area_at, size_of}
+use Rattle.shm_fault.specs.Store.{held, frame_of}
+use Rattle.shm_fault.specs.Sound.{IsSound}
+use Rattle.shm_fault.specs.Goes.{Still}
+use Rattle.shm_fault.proofs.Seen.{seen}
 use Rattle.shm_fault.proofs.Sound.{cause-after, KeepsLocked-still}
 use Rattle.shm_fault.proofs.Bringing.{kept-locked}
-use Rattle.shm_fault.proofs.Areas.{IsCleaned, cleaned-more, cleaned-all, cleaned-here, cleaned-there, cleaned-room, held-off, sound-off}
+use Rattle.shm_fault.proofs.Areas.{IsCleaned, cleaned-more, cleaned-there, cleaned-room, cleaned-free, cleaned-off}
+use Rattle.shm_fault.proofs.store.PageStore.move_off.Given as given
 use Rattle.shm_fault.proofs.store.PageStore.move_off.Goals as goal
+use Rattle.shm_fault.proofs.store.PageStore.move_off.Goals.{After-unwrap_or-count, After-self-2, In-Err, After-turn_off}
+
+-- the slots that are looked at are all that the area has
+count : (g : given.Over) (c : After-unwrap_or-count g) → c.unwrap_or-count.result ≡ length (area_at c.args.self.now.swap c.args.area).pages
+count g c =
+    let swap = c.args.self.now.swap in
+    let size : c.size.result ≡ size_of (area_at swap c.args.area) = rw (← c.self.view_is) c.size.ensures in
+    let some : c.size.result ≡ Some (length (area_at swap c.args.area).pages) = size ∙ rw c.requires.there refl in
+    rw some at c.unwrap_or-count.ensures
+
+-- what the loop leaves, of the store as it is opened again
+cleaned : (g : given.Over) (c : After-self-2 g) → IsCleaned c.args.area c.loop-slot.slot c.args.self.now (seen c.self-2.inside)
+cleaned g c = rw (← c.self-2.view_is) at c.loop-slot.invariant
+
+done : (g : given.Over) (c : After-turn_off g) → IsSound (record (seen c.self-2.inside) { swap = c.turn_off.new.self }) × (held (record (seen c.self-2.inside) { swap = c.turn_off.new.self }) ≡ held c.args.self.now)
+done g c =
+    let o = goal.at.invariant_of-self g c in
+    let all = count g o.After-unwrap_or-count in
+    let e = c.turn_off.ensures in
+    cleaned-off c.args.area c.loop-slot.slot c.args.self.now (seen c.self-2.inside) (cleaned g o.After-self-2) c.requires.there (omega (arith, all, c.loop-slot-test.false)) c.turn_off.new.self e.gone e.sound e.sizes c.requires.room
+
+-- a write that failed moved no page's frame
+still-err : (g : given.Over) (c : In-Err g) → Still c.args.self.now c.clear_slot.new.self
+still-err g c q = c.clear_slot.ensures.still q ∙ c.loop-slot.invariant.still q
 
 pub clear_slot-requires-clause-there : goal.clear_slot-requires-clause-there
 clear_slot-requires-clause-there g c =
-    let s = c.args.self.now in
-    let area = c.args.area in
-    let size : c.size.result ≡ size_of (area_at s.swap area) = rw (← c.self.view_is) c.size.ensures in
-    let some : c.size.result ≡ Some (length (area_at s.swap area).pages) = size ∙ rw c.requires.there refl in
-    let count : c.unwrap_or-count.result ≡ length (area_at s.swap area).pages = rw some at c.unwrap_or-count.ensures in
-    cleaned-there area c.loop-slot.slot s c.loop-slot.self c.loop-slot.invariant c.requires.there (omega (arith, c.loop-slot-test.true, count))
+    let all = count g (goal.at.clear_slot-requires-clause-there g c).After-unwrap_or-count in
+    cleaned-there c.args.area c.loop-slot.slot c.args.self.now c.loop-slot.self c.loop-slot.invariant c.requires.there (omega (arith, c.loop-slot-test.true, all))
 
 pub clear_slot-requires-clause-room : goal.clear_slot-requires-clause-room
 clear_slot-requires-clause-room g c =
@@ -31,97 +54,33 @@ returns-in-Err-clause-cause g c =
 
 pub returns-in-Err-clause-still : goal.returns-in-Err-clause-still
 unfolding frame_of
-returns-in-Err-clause-still g c = λ seg page.
-    let q : PageRef = record { seg = seg; page = page } in
-    c.clear_slot.ensures.still q ∙ c.loop-slot.invariant.still q
+returns-in-Err-clause-still g c = λ seg page. still-err g (goal.at.returns-in-Err-clause-still g c).In-Err (record { seg = seg; page = page })
 
 pub returns-in-Err-clause-kept : goal.returns-in-Err-clause-kept
 returns-in-Err-clause-kept g c =
-    kept-locked c.args.self.now c.clear_slot.new.self (KeepsLocked-still c.args.self.now c.clear_slot.new.self (λ q. c.clear_slot.ensures.still q ∙ c.loop-slot.invariant.still q))
+    let still = still-err g (goal.at.returns-in-Err-clause-kept g c).In-Err in
+    kept-locked c.args.self.now c.clear_slot.new.self (KeepsLocked-still c.args.self.now c.clear_slot.new.self still)
 
 pub turn_off-requires-clause-free : goal.turn_off-requires-clause-free
 turn_off-requires-clause-free g c =
-    let s = c.args.self.now in
-    let area = c.args.area in
-    let j = c.self-2.inside in
-    let t : StoreView = record { segs = j.segs; frames = j.frames; hand = j.hand; swap = j.swap; ins = j.ins; outs = j.outs } in
-    let d : IsCleaned area c.loop-slot.slot s t = rw (← c.self-2.view_is) at c.loop-slot.invariant in
-    let size : c.size.result ≡ size_of (area_at s.swap area) = rw (← c.self.view_is) c.size.ensures in
-    let some : c.size.result ≡ Some (length (area_at s.swap area).pages) = size ∙ rw c.requires.there refl in
-    let count : c.unwrap_or-count.result ≡ length (area_at s.swap area).pages = rw some at c.unwrap_or-count.ensures in
-    let here = cleaned-here area c.loop-slot.slot s t d c.requires.there in
-    let free : (slot : ℕ) → owner_of t.swap area slot ≡ None = cleaned-all area c.loop-slot.slot s t d (omega (arith, c.loop-slot-test.false, count, here.1)) in
-    λ i lt. free i
+    let o = goal.at.turn_off-requires-clause-free g c in
+    let all = count g o.After-unwrap_or-count in
+    λ i lt. cleaned-free c.args.area c.loop-slot.slot c.args.self.now (seen c.self-2.inside) (cleaned g o.After-self-2) c.requires.there (omega (arith, all, c.loop-slot-test.false)) i
 
 pub invariant_of-self : goal.invariant_of-self
-invariant_of-self g c =
-    let s = c.args.self.now in
-    let area = c.args.area in
-    let j = c.self-2.inside in
-    let t : StoreView = record { segs = j.segs; frames = j.frames; hand = j.hand; swap = j.swap; ins = j.ins; outs = j.outs } in
-    let d : IsCleaned area c.loop-slot.slot s t = rw (← c.self-2.view_is) at c.loop-slot.invariant in
-    let size : c.size.result ≡ size_of (area_at s.swap area) = rw (← c.self.view_is) c.size.ensures in
-    let some : c.size.result ≡ Some (length (area_at s.swap area).pages) = size ∙ rw c.requires.there refl in
-    let count : c.unwrap_or-count.result ≡ length (area_at s.swap area).pages = rw some at c.unwrap_or-count.ensures in
-    let here = cleaned-here area c.loop-slot.slot s t d c.requires.there in
-    let free : (slot : ℕ) → owner_of t.swap area slot ≡ None = cleaned-all area c.loop-slot.slot s t d (omega (arith, c.loop-slot-test.false, count, here.1)) in
-    let gone : c.turn_off.new.self ≡ with_area t.swap area (off (area_at t.swap area)) = c.turn_off.ensures.gone in
-    let room = cleaned-room area c.loop-slot.slot s t d c.requires.there c.requires.room in
-    let is : IsSwap (with_area t.swap area (off (area_at t.swap area))) = rw gone at c.turn_off.ensures.sound in
-    let sized₀ : sizes c.turn_off.new.self ≡ set (sizes t.swap) area None = c.turn_off.ensures.sizes in
-    let sized : sizes (with_area t.swap area (off (area_at t.swap area))) ≡ set (sizes t.swap) area None = rw gone at sized₀ in
-    rw gone (sound-off t c.self-2.invariant area here.0 free is sized room)
+invariant_of-self g c = (done g c).0
 
 pub returns-clause-sound : goal.returns-clause-sound
-returns-clause-sound g c =
-    let s = c.args.self.now in
-    let area = c.args.area in
-    let j = c.self-2.inside in
-    let t : StoreView = record { segs = j.segs; frames = j.frames; hand = j.hand; swap = j.swap; ins = j.ins; outs = j.outs } in
-    let d : IsCleaned area c.loop-slot.slot s t = rw (← c.self-2.view_is) at c.loop-slot.invariant in
-    let size : c.size.result ≡ size_of (area_at s.swap area) = rw (← c.self.view_is) c.size.ensures in
-    let some : c.size.result ≡ Some (length (area_at s.swap area).pages) = size ∙ rw c.requires.there refl in
-    let count : c.unwrap_or-count.result ≡ length (area_at s.swap area).pages = rw some at c.unwrap_or-count.ensures in
-    let here = cleaned-here area c.loop-slot.slot s t d c.requires.there in
-    let free : (slot : ℕ) → owner_of t.swap area slot ≡ None = cleaned-all area c.loop-slot.slot s t d (omega (arith, c.loop-slot-test.false, count, here.1)) in
-    let gone : c.turn_off.new.self ≡ with_area t.swap area (off (area_at t.swap area)) = c.turn_off.ensures.gone in
-    let room = cleaned-room area c.loop-slot.slot s t d c.requires.there c.requires.room in
-    let is : IsSwap (with_area t.swap area (off (area_at t.swap area))) = rw gone at c.turn_off.ensures.sound in
-    let sized₀ : sizes c.turn_off.new.self ≡ set (sizes t.swap) area None = c.turn_off.ensures.sizes in
-    let sized : sizes (with_area t.swap area (off (area_at t.swap area))) ≡ set (sizes t.swap) area None = rw gone at sized₀ in
-    rw gone (sound-off t c.self-2.invariant area here.0 free is sized room)
+returns-clause-sound g c = (done g c).0
 
 pub returns-clause-held : goal.returns-clause-held
-returns-clause-held g c =
-    let s = c.args.self.now in
-    let area = c.args.area in
-    let j = c.self-2.inside in
-    let t : StoreView = record { segs = j.segs; frames = j.frames; hand = j.hand; swap = j.swap; ins = j.ins; outs = j.outs } in
-    let d : IsCleaned area c.loop-slot.slot s t = rw (← c.self-2.view_is) at c.loop-slot.invariant in
-    let size : c.size.result ≡ size_of (area_at s.swap area) = rw (← c.self.view_is) c.size.ensures in
-    let some : c.size.result ≡ Some (length (area_at s.swap area).pages) = size ∙ rw c.requires.there refl in
-    let count : c.unwrap_or-count.result ≡ length (area_at s.swap area).pages = rw some at c.unwrap_or-count.ensures in
-    let here = cleaned-here area c.loop-slot.slot s t d c.requires.there in
-    let free : (slot : ℕ) → owner_of t.swap area slot ≡ None = cleaned-all area c.loop-slot.slot s t d (omega (arith, c.loop-slot-test.false, count, here.1)) in
-    let gone : c.turn_off.new.self ≡ with_area t.swap area (off (area_at t.swap area)) = c.turn_off.ensures.gone in
-    rw gone (held-off t c.self-2.invariant area here.0 free ∙ d.goes.bytes)
+returns-clause-held g c = (done g c).1
 
 pub returns-clause-still : goal.returns-clause-still
 unfolding frame_of
-returns-clause-still g c = λ seg page.
-    let s = c.args.self.now in
-    let area = c.args.area in
-    let j = c.self-2.inside in
-    let t : StoreView = record { segs = j.segs; frames = j.frames; hand = j.hand; swap = j.swap; ins = j.ins; outs = j.outs } in
-    let d : IsCleaned area c.loop-slot.slot s t = rw (← c.self-2.view_is) at c.loop-slot.invariant in
-    d.still (record { seg = seg; page = page })
+returns-clause-still g c = λ seg page. (cleaned g (goal.at.returns-clause-still g c).After-self-2).still (record { seg = seg; page = page })
 
 pub returns-clause-kept : goal.returns-clause-kept
 returns-clause-kept g c =
-    let s = c.args.self.now in
-    let area = c.args.area in
-    let j = c.self-2.inside in
-    let t : StoreView = record { segs = j.segs; frames = j.frames; hand = j.hand; swap = j.swap; ins = j.ins; outs = j.outs } in
-    let d : IsCleaned area c.loop-slot.slot s t = rw (← c.self-2.view_is) at c.loop-slot.invariant in
-    let u : StoreView = record t { swap = c.turn_off.new.self } in
-    kept-locked s u (KeepsLocked-still s u d.still)
+    let u = record (seen c.self-2.inside) { swap = c.turn_off.new.self } in
+    kept-locked c.args.self.now u (KeepsLocked-still c.args.self.now u (cleaned g (goal.at.returns-clause-kept g c).After-self-2).still)

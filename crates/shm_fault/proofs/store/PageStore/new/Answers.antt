@@ -1,16 +1,16 @@
-use Rattle.std.proofs.Common.{◌≤◌, length}
-use Rattle.shm_slots.specs.View.{IsSwap}
+use Rattle.shm_fault.specs.Sound.{IsSound}
+use Rattle.shm_fault.specs.Store.{fresh_store}
 use Rattle.shm_fault.proofs.Whole.{sound-fresh}
+use Rattle.shm_fault.proofs.store.PageStore.new.Given as given
 use Rattle.shm_fault.proofs.store.PageStore.new.Goals as goal
+use Rattle.shm_fault.proofs.store.PageStore.new.Goals.{In_ok-frames}
+
+sound : (g : given.Over) (c : In_ok-frames g) → IsSound (fresh_store c.in_ok-frames.frames c.args.swap)
+sound g c =
+    sound-fresh c.in_ok-frames.frames c.args.swap (rw c.in_ok-frames.ensures.size c.requires.frames) c.in_ok-frames.ensures.free (rw c.swap.view_is at c.swap.invariant) (λ k. c.requires.free k.area k.slot)
 
 pub invariant_of-result : goal.invariant_of-result
-invariant_of-result g c =
-    let size : (2 ≤ length c.in_ok-frames.frames) × (length c.in_ok-frames.frames ≤ 4096) = rw c.in_ok-frames.ensures.size c.requires.frames in
-    let swap : IsSwap c.args.swap = rw c.swap.view_is at c.swap.invariant in
-    rw c.new-2.ensures (sound-fresh c.in_ok-frames.frames c.args.swap size c.in_ok-frames.ensures.free swap (λ k. c.requires.free k.area k.slot))
+invariant_of-result g c = rw c.new-2.ensures (sound g (goal.at.invariant_of-result g c).In_ok-frames)
 
 pub returns-clause-sound : goal.returns-clause-sound
-returns-clause-sound g c =
-    let size : (2 ≤ length c.in_ok-frames.frames) × (length c.in_ok-frames.frames ≤ 4096) = rw c.in_ok-frames.ensures.size c.requires.frames in
-    let swap : IsSwap c.args.swap = rw c.swap.view_is at c.swap.invariant in
-    rw c.new-2.ensures (sound-fresh c.in_ok-frames.frames c.args.swap size c.in_ok-frames.ensures.free swap (λ k. c.requires.free k.area k.slot))
+returns-clause-sound g c = rw c.new-2.ensures (sound g (goal.at.returns-clause-sound g c).In_ok-frames)

@@ -1,146 +1,50 @@
-use Rattle.std.proofs.Common.{◌≡◌, ◌≤◌, ◌+◌, ◌*◌, ◌/◌, ◌%◌, length, set, Some, true, refl, sym, ap, ◌∙◌, arith, length-set, get_or-set_same}
-use Rattle.shm_plain.specs.Held.{FitsPage, paste}
+use Rattle.std.proofs.Common.{◌≡◌, ◌<◌, ◌%◌, length, Some, true, refl, length-set, get_or-set_same}
+use Rattle.shm_plain.specs.Held.{paste}
 use Rattle.shm_frames.specs.Frame.{Frame, no_frame, frame_at}
-use Rattle.shm_fault.specs.Segs.{rec_by}
-use Rattle.shm_fault.specs.Store.{StoreView, held, ref_of}
-use Rattle.shm_fault.proofs.Pages.{has-frame}
-use Rattle.shm_fault.proofs.Bytes.{bytes_at, length-paste}
-use Rattle.shm_fault.proofs.Spans.{held-pasted, fits-same}
-use Rattle.shm_fault.proofs.Changes.{set-twice, sound-stored, bytes-stored, resident-bytes, bytes-others}
+use Rattle.shm_fault.specs.Store.{ref_of}
+use Rattle.shm_fault.proofs.Seen.{seen}
+use Rattle.shm_fault.proofs.Sound.{frame-own}
+use Rattle.shm_fault.proofs.Changes.{set-twice}
+use Rattle.shm_fault.proofs.Puts.{Puts, puts}
+use Rattle.shm_fault.proofs.store.PageStore.store.Given as given
 use Rattle.shm_fault.proofs.store.PageStore.store.Goals as goal
+use Rattle.shm_fault.proofs.store.PageStore.store.Goals.{After-self, After-set_dirty}
+
+own : (g : given.Over) (c : After-self g) → (c.args.frame < length c.self.inside.frames) × ((frame_at c.self.inside.frames c.args.frame).owner ≡ Some (ref_of c.args.span.now))
+own g c = frame-own (seen c.self.inside) c.self.invariant (ref_of c.args.span.now) c.args.frame (rw (← c.self.view_is) at c.requires.here)
+
+-- the frame as the bytes were put into it, before it was called dirty
+abbrev pasted_in : (g : given.Over) → After-self g → Frame
+pasted_in g c =
+    let x = frame_at c.self.inside.frames c.args.frame in
+    record x { bytes = paste x.bytes (c.args.span.now.at % 4096) c.args.bytes.now }
+
+done : (g : given.Over) (c : After-set_dirty g) → Puts c.args.span.now c.args.bytes.now (seen c.self.inside) (record (seen c.self.inside) { frames = c.set_dirty.new.self })
+done g c =
+    let o = (goal.at.invariant_of-self g c).After-self in
+    let s = seen c.self.inside in
+    let put = puts s c.self.invariant c.args.span.now c.args.frame c.args.bytes.now (rw (← c.self.view_is) at c.requires.fit) (rw (← c.self.view_is) at c.requires.here) c.requires.size in
+    rw (set-twice s.frames c.args.frame (pasted_in g o) (λ y. record y { dirty = true }) (own g o).0 c.paste_into.ensures c.set_dirty.ensures) put
 
 pub paste_into-requires-clause-there : goal.paste_into-requires-clause-there
-paste_into-requires-clause-there g c =
-    let i = c.self.inside in
-    let s : StoreView = record { segs = i.segs; frames = i.frames; hand = i.hand; swap = i.swap; ins = i.ins; outs = i.outs } in
-    let r = ref_of c.args.span.now in
-    let f = c.args.frame in
-    let at : (rec_by s.segs r).frame ≡ Some f = rw (← c.self.view_is) at c.requires.here in
-    let fit : FitsPage (held s) c.args.span.now = rw (← c.self.view_is) at c.requires.fit in
-    let has = has-frame s.segs r f at in
-    let tie = c.self.invariant.tied.pages r has in
-    let own = tie.frame_owned f at in
-    own.0
+paste_into-requires-clause-there g c = (own g (goal.at.paste_into-requires-clause-there g c).After-self).0
 
 pub set_dirty-requires-clause-there : goal.set_dirty-requires-clause-there
-set_dirty-requires-clause-there g c =
-    let i = c.self.inside in
-    let s : StoreView = record { segs = i.segs; frames = i.frames; hand = i.hand; swap = i.swap; ins = i.ins; outs = i.outs } in
-    let r = ref_of c.args.span.now in
-    let f = c.args.frame in
-    let at : (rec_by s.segs r).frame ≡ Some f = rw (← c.self.view_is) at c.requires.here in
-    let fit : FitsPage (held s) c.args.span.now = rw (← c.self.view_is) at c.requires.fit in
-    let has = has-frame s.segs r f at in
-    let tie = c.self.invariant.tied.pages r has in
-    let own = tie.frame_owned f at in
-    rw (c.paste_into.ensures, length-set) own.0
+set_dirty-requires-clause-there g c = rw (c.paste_into.ensures, length-set) (own g (goal.at.set_dirty-requires-clause-there g c).After-self).0
 
 pub set_dirty-requires-clause-owned : goal.set_dirty-requires-clause-owned
 set_dirty-requires-clause-owned g c =
-    let i = c.self.inside in
-    let s : StoreView = record { segs = i.segs; frames = i.frames; hand = i.hand; swap = i.swap; ins = i.ins; outs = i.outs } in
-    let r = ref_of c.args.span.now in
-    let f = c.args.frame in
-    let at : (rec_by s.segs r).frame ≡ Some f = rw (← c.self.view_is) at c.requires.here in
-    let fit : FitsPage (held s) c.args.span.now = rw (← c.self.view_is) at c.requires.fit in
-    let has = has-frame s.segs r f at in
-    let tie = c.self.invariant.tied.pages r has in
-    let own = tie.frame_owned f at in
-    rw (c.paste_into.ensures, get_or-set_same s.frames f (record (frame_at s.frames f) { bytes = paste (frame_at s.frames f).bytes (c.args.span.now.at % 4096) c.args.bytes.now }) no_frame own.0, own.1) refl
+    let o = (goal.at.set_dirty-requires-clause-owned g c).After-self in
+    rw (c.paste_into.ensures, get_or-set_same c.self.inside.frames c.args.frame (pasted_in g o) no_frame (own g o).0, (own g o).1) refl
 
 pub invariant_of-self : goal.invariant_of-self
-invariant_of-self g c =
-    let i = c.self.inside in
-    let s : StoreView = record { segs = i.segs; frames = i.frames; hand = i.hand; swap = i.swap; ins = i.ins; outs = i.outs } in
-    let r = ref_of c.args.span.now in
-    let f = c.args.frame in
-    let at : (rec_by s.segs r).frame ≡ Some f = rw (← c.self.view_is) at c.requires.here in
-    let fit : FitsPage (held s) c.args.span.now = rw (← c.self.view_is) at c.requires.fit in
-    let has = has-frame s.segs r f at in
-    let tie = c.self.invariant.tied.pages r has in
-    let own = tie.frame_owned f at in
-    let off = c.args.span.now.at % 4096 in
-    let new = c.args.bytes.now in
-    let size : c.args.span.now.len ≡ length new = c.requires.size in
-    let fits : off + length new ≤ 4096 = omega (arith, fit.3, size) in
-    let b = (frame_at s.frames f).bytes in
-    let x₀ : Frame = record (frame_at s.frames f) { bytes = paste b off new } in
-    let x : Frame = record (frame_at s.frames f) { bytes = paste b off new; dirty = true } in
-    let fs : c.set_dirty.new.self ≡ set s.frames f x = set-twice s.frames f x₀ (λ y. record y { dirty = true }) own.0 c.paste_into.ensures c.set_dirty.ensures in
-    let full : length b ≡ 4096 = rw (resident-bytes s r f at) at tie.whole in
-    let whole : length x.bytes ≡ 4096 = length-paste b off new (omega (arith, full, fits)) ∙ full in
-    rw fs (sound-stored s c.self.invariant r f x at refl refl whole)
+invariant_of-self g c = (done g c).sound
 
 pub returns-clause-sound : goal.returns-clause-sound
-returns-clause-sound g c =
-    let i = c.self.inside in
-    let s : StoreView = record { segs = i.segs; frames = i.frames; hand = i.hand; swap = i.swap; ins = i.ins; outs = i.outs } in
-    let r = ref_of c.args.span.now in
-    let f = c.args.frame in
-    let at : (rec_by s.segs r).frame ≡ Some f = rw (← c.self.view_is) at c.requires.here in
-    let fit : FitsPage (held s) c.args.span.now = rw (← c.self.view_is) at c.requires.fit in
-    let has = has-frame s.segs r f at in
-    let tie = c.self.invariant.tied.pages r has in
-    let own = tie.frame_owned f at in
-    let off = c.args.span.now.at % 4096 in
-    let new = c.args.bytes.now in
-    let size : c.args.span.now.len ≡ length new = c.requires.size in
-    let fits : off + length new ≤ 4096 = omega (arith, fit.3, size) in
-    let b = (frame_at s.frames f).bytes in
-    let x₀ : Frame = record (frame_at s.frames f) { bytes = paste b off new } in
-    let x : Frame = record (frame_at s.frames f) { bytes = paste b off new; dirty = true } in
-    let fs : c.set_dirty.new.self ≡ set s.frames f x = set-twice s.frames f x₀ (λ y. record y { dirty = true }) own.0 c.paste_into.ensures c.set_dirty.ensures in
-    let full : length b ≡ 4096 = rw (resident-bytes s r f at) at tie.whole in
-    let whole : length x.bytes ≡ 4096 = length-paste b off new (omega (arith, full, fits)) ∙ full in
-    rw fs (sound-stored s c.self.invariant r f x at refl refl whole)
+returns-clause-sound g c = (done g c).sound
 
 pub returns-clause-written : goal.returns-clause-written
-returns-clause-written g c =
-    let i = c.self.inside in
-    let s : StoreView = record { segs = i.segs; frames = i.frames; hand = i.hand; swap = i.swap; ins = i.ins; outs = i.outs } in
-    let r = ref_of c.args.span.now in
-    let f = c.args.frame in
-    let at : (rec_by s.segs r).frame ≡ Some f = rw (← c.self.view_is) at c.requires.here in
-    let fit : FitsPage (held s) c.args.span.now = rw (← c.self.view_is) at c.requires.fit in
-    let has = has-frame s.segs r f at in
-    let tie = c.self.invariant.tied.pages r has in
-    let own = tie.frame_owned f at in
-    let off = c.args.span.now.at % 4096 in
-    let new = c.args.bytes.now in
-    let size : c.args.span.now.len ≡ length new = c.requires.size in
-    let fits : off + length new ≤ 4096 = omega (arith, fit.3, size) in
-    let b = (frame_at s.frames f).bytes in
-    let x₀ : Frame = record (frame_at s.frames f) { bytes = paste b off new } in
-    let x : Frame = record (frame_at s.frames f) { bytes = paste b off new; dirty = true } in
-    let fs : c.set_dirty.new.self ≡ set s.frames f x = set-twice s.frames f x₀ (λ y. record y { dirty = true }) own.0 c.paste_into.ensures c.set_dirty.ensures in
-    let full : length b ≡ 4096 = rw (resident-bytes s r f at) at tie.whole in
-    let whole : length x.bytes ≡ 4096 = length-paste b off new (omega (arith, full, fits)) ∙ full in
-    let t : StoreView = record s { frames = set s.frames f x } in
-    let here : bytes_at t r ≡ paste (bytes_at s r) off new = bytes-stored s c.self.invariant r f x at refl refl whole ∙ ap (λ l. paste l off new) (sym (resident-bytes s r f at)) in
-    let others = bytes-others s c.self.invariant r f x at refl refl whole in
-    let split : 4096 * (c.args.span.now.at / 4096) + off ≡ c.args.span.now.at = omega arith in
-    let done = held-pasted s t c.self.invariant c.self.invariant.apart refl r off new has fits here others in
-    rw (fs, ← c.self.view_is) (rw split at done)
+returns-clause-written g c = rw (← c.self.view_is) (done g c).bytes
 
 pub returns-clause-fits : goal.returns-clause-fits
-returns-clause-fits g c = λ p ok.
-    let i = c.self.inside in
-    let s : StoreView = record { segs = i.segs; frames = i.frames; hand = i.hand; swap = i.swap; ins = i.ins; outs = i.outs } in
-    let r = ref_of c.args.span.now in
-    let f = c.args.frame in
-    let at : (rec_by s.segs r).frame ≡ Some f = rw (← c.self.view_is) at c.requires.here in
-    let fit : FitsPage (held s) c.args.span.now = rw (← c.self.view_is) at c.requires.fit in
-    let has = has-frame s.segs r f at in
-    let tie = c.self.invariant.tied.pages r has in
-    let own = tie.frame_owned f at in
-    let off = c.args.span.now.at % 4096 in
-    let new = c.args.bytes.now in
-    let size : c.args.span.now.len ≡ length new = c.requires.size in
-    let fits : off + length new ≤ 4096 = omega (arith, fit.3, size) in
-    let b = (frame_at s.frames f).bytes in
-    let x₀ : Frame = record (frame_at s.frames f) { bytes = paste b off new } in
-    let x : Frame = record (frame_at s.frames f) { bytes = paste b off new; dirty = true } in
-    let fs : c.set_dirty.new.self ≡ set s.frames f x = set-twice s.frames f x₀ (λ y. record y { dirty = true }) own.0 c.paste_into.ensures c.set_dirty.ensures in
-    let full : length b ≡ 4096 = rw (resident-bytes s r f at) at tie.whole in
-    let whole : length x.bytes ≡ 4096 = length-paste b off new (omega (arith, full, fits)) ∙ full in
-    rw fs (fits-same s (record s { frames = set s.frames f x }) c.self.invariant (sound-stored s c.self.invariant r f x at refl refl whole) refl p (rw (← c.self.view_is) at ok))
+returns-clause-fits g c = rw (← c.self.view_is) (done g c).fits

@@ -1,55 +1,34 @@
-use Rattle.std.proofs.Common.{◌≡◌, set, Some, true, refl, ap, length-set, get_or-set_same}
+use Rattle.std.proofs.Common.{◌≡◌, ◌<◌, length, Some, true, refl, ap, get_or-set_same}
 use Rattle.shm_frames.specs.Frame.{Frame, no_frame, frame_at}
-use Rattle.shm_fault.specs.Segs.{rec_by}
-use Rattle.shm_fault.specs.Store.{StoreView}
-use Rattle.shm_fault.proofs.Pages.{has-frame}
-use Rattle.shm_fault.proofs.Sound.{GoesOn-refl}
-use Rattle.shm_fault.proofs.Changes.{keeps-alike, SameSlots-refl}
-use Rattle.shm_fault.proofs.Visits.{touch-visits, alike-set}
+use Rattle.shm_fault.proofs.Seen.{seen}
+use Rattle.shm_fault.proofs.Sound.{frame-own}
+use Rattle.shm_fault.proofs.Visits.{IsStep, step-touch}
+use Rattle.shm_fault.proofs.store.PageStore.touch.Given as given
 use Rattle.shm_fault.proofs.store.PageStore.touch.Goals as goal
+use Rattle.shm_fault.proofs.store.PageStore.touch.Goals.{After-self, After-set_referenced}
+
+own : (g : given.Over) (c : After-self g) → (c.args.frame < length c.self.inside.frames) × ((frame_at c.self.inside.frames c.args.frame).owner ≡ Some c.args.page)
+own g c = frame-own (seen c.self.inside) c.self.invariant c.args.page c.args.frame (rw (← c.self.view_is) at c.requires.here)
+
+step : (g : given.Over) (c : After-set_referenced g) → IsStep (seen c.self.inside) (record (seen c.self.inside) { frames = c.set_referenced.new.self })
+step g c =
+    let there = (own g (goal.at.invariant_of-self g c).After-self).0 in
+    rw c.set_referenced.ensures (step-touch (seen c.self.inside) c.self.invariant c.args.frame there)
 
 pub set_referenced-requires-clause-there : goal.set_referenced-requires-clause-there
-set_referenced-requires-clause-there g c =
-    let i = c.self.inside in
-    let s : StoreView = record { segs = i.segs; frames = i.frames; hand = i.hand; swap = i.swap; ins = i.ins; outs = i.outs } in
-    let at : (rec_by s.segs c.args.page).frame ≡ Some c.args.frame = rw (← c.self.view_is) at c.requires.here in
-    let own = (c.self.invariant.tied.pages c.args.page (has-frame s.segs c.args.page c.args.frame at)).frame_owned c.args.frame at in
-    own.0
+set_referenced-requires-clause-there g c = (own g (goal.at.set_referenced-requires-clause-there g c).After-self).0
 
 pub set_referenced-requires-clause-owned : goal.set_referenced-requires-clause-owned
-set_referenced-requires-clause-owned g c =
-    let i = c.self.inside in
-    let s : StoreView = record { segs = i.segs; frames = i.frames; hand = i.hand; swap = i.swap; ins = i.ins; outs = i.outs } in
-    let at : (rec_by s.segs c.args.page).frame ≡ Some c.args.frame = rw (← c.self.view_is) at c.requires.here in
-    let own = (c.self.invariant.tied.pages c.args.page (has-frame s.segs c.args.page c.args.frame at)).frame_owned c.args.frame at in
-    rw own.1 refl
+set_referenced-requires-clause-owned g c = rw (own g (goal.at.set_referenced-requires-clause-owned g c).After-self).1 refl
 
 pub invariant_of-self : goal.invariant_of-self
-invariant_of-self g c =
-    let i = c.self.inside in
-    let s : StoreView = record { segs = i.segs; frames = i.frames; hand = i.hand; swap = i.swap; ins = i.ins; outs = i.outs } in
-    let at : (rec_by s.segs c.args.page).frame ≡ Some c.args.frame = rw (← c.self.view_is) at c.requires.here in
-    let own = (c.self.invariant.tied.pages c.args.page (has-frame s.segs c.args.page c.args.frame at)).frame_owned c.args.frame at in
-    let x : Frame = record (frame_at s.frames c.args.frame) { referenced = true } in
-    let k = keeps-alike s c.self.invariant (set s.frames c.args.frame x) s.hand s.swap s.ins s.outs (length-set s.frames c.args.frame x)
-    (alike-set s.frames c.args.frame x (record { owner = refl; bytes = refl; dirty = refl })) (SameSlots-refl s.swap) c.self.invariant.swap refl (rw (length-set s.frames c.args.frame x) c.self.invariant.hand) (GoesOn-refl s.swap) in
-    rw c.set_referenced.ensures k.sound
+invariant_of-self g c = (step g c).sound
 
 pub returns-clause-bit : goal.returns-clause-bit
 returns-clause-bit g c =
-    let i = c.self.inside in
-    let s : StoreView = record { segs = i.segs; frames = i.frames; hand = i.hand; swap = i.swap; ins = i.ins; outs = i.outs } in
-    let at : (rec_by s.segs c.args.page).frame ≡ Some c.args.frame = rw (← c.self.view_is) at c.requires.here in
-    let own = (c.self.invariant.tied.pages c.args.page (has-frame s.segs c.args.page c.args.frame at)).frame_owned c.args.frame at in
-    rw c.set_referenced.ensures (ap (λ (y : Frame). y.referenced) (get_or-set_same s.frames c.args.frame (record (frame_at s.frames c.args.frame) { referenced = true }) no_frame own.0))
+    let x : Frame = record (frame_at c.self.inside.frames c.args.frame) { referenced = true } in
+    let there = (own g (goal.at.returns-clause-bit g c).After-self).0 in
+    rw c.set_referenced.ensures (ap (λ (y : Frame). y.referenced) (get_or-set_same c.self.inside.frames c.args.frame x no_frame there))
 
 pub returns-clause-visits : goal.returns-clause-visits
-returns-clause-visits g c = λ pinned.
-    let i = c.self.inside in
-    let s : StoreView = record { segs = i.segs; frames = i.frames; hand = i.hand; swap = i.swap; ins = i.ins; outs = i.outs } in
-    let at : (rec_by s.segs c.args.page).frame ≡ Some c.args.frame = rw (← c.self.view_is) at c.requires.here in
-    let own = (c.self.invariant.tied.pages c.args.page (has-frame s.segs c.args.page c.args.frame at)).frame_owned c.args.frame at in
-    let x : Frame = record (frame_at s.frames c.args.frame) { referenced = true } in
-    let k = keeps-alike s c.self.invariant (set s.frames c.args.frame x) s.hand s.swap s.ins s.outs (length-set s.frames c.args.frame x)
-    (alike-set s.frames c.args.frame x (record { owner = refl; bytes = refl; dirty = refl })) (SameSlots-refl s.swap) c.self.invariant.swap refl (rw (length-set s.frames c.args.frame x) c.self.invariant.hand) (GoesOn-refl s.swap) in
-    rw (c.set_referenced.ensures, ← c.self.view_is) (touch-visits s c.args.frame c.args.page pinned own.0 k.goes)
+returns-clause-visits g c = rw (← c.self.view_is) ((step g c).visits c.args.page)

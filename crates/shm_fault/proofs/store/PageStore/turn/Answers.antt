@@ -1,35 +1,31 @@
-use Rattle.std.proofs.Common.{length, refl}
+use Rattle.std.proofs.Common.{length}
 use Rattle.shm_clock.specs.Clock.{may_go}
 use Rattle.shm_clock.proofs.Eligible.{two_eligible}
 use Rattle.shm_frames.specs.Frame.{OwnedBelow}
-use Rattle.shm_fault.specs.Store.{StoreView}
 use Rattle.shm_fault.specs.Goes.{unlocked}
+use Rattle.shm_fault.proofs.Seen.{seen}
 use Rattle.shm_fault.proofs.Clock.{clock-alike, next-lt, two_unlocked}
-use Rattle.shm_fault.proofs.Sound.{GoesOn-refl}
-use Rattle.shm_fault.proofs.Changes.{keeps-alike, SameSlots-refl}
+use Rattle.shm_fault.proofs.Changes.{Keeps, keeps-alike}
+use Rattle.shm_fault.proofs.store.PageStore.turn.Given as given
 use Rattle.shm_fault.proofs.store.PageStore.turn.Goals as goal
+use Rattle.shm_fault.proofs.store.PageStore.turn.Goals.{After-choose}
+
+kept : (g : given.Over) (c : After-choose g) → Keeps (seen c.self.inside) (record (seen c.self.inside) { frames = c.choose.new.frames; hand = c.choose.new.hand })
+kept g c =
+    let i = c.self.inside in
+    let clock = c.choose.ensures.clock in
+    let alike = clock-alike (may_go (unlocked i.segs) c.args.pinned i.frames) i.hand i.frames c.choose.result c.choose.new.frames clock in
+    let hand = next-lt i.frames c.choose.new.frames c.choose.result clock.size clock.there c.choose.ensures.hand in
+    keeps-alike (seen i) c.self.invariant c.choose.new.frames c.choose.new.hand clock.size alike hand
 
 pub choose-requires-clause-one : goal.choose-requires-clause-one
 choose-requires-clause-one g c =
     let i = c.self.inside in
-    let s : StoreView = record { segs = i.segs; frames = i.frames; hand = i.hand; swap = i.swap; ins = i.ins; outs = i.outs } in
-    let full : OwnedBelow s.frames (length s.frames) = rw (← c.self.view_is) at c.requires.full in
-    two_eligible (unlocked s.segs) c.args.pinned s.frames s.hand c.self.invariant.hand (two_unlocked s c.self.invariant full)
+    let full : OwnedBelow i.frames (length i.frames) = rw (← c.self.view_is) at c.requires.full in
+    two_eligible (unlocked i.segs) c.args.pinned i.frames i.hand c.self.invariant.hand (two_unlocked (seen i) c.self.invariant full)
 
 pub invariant_of-self : goal.invariant_of-self
-invariant_of-self g c =
-    let i = c.self.inside in
-    let s : StoreView = record { segs = i.segs; frames = i.frames; hand = i.hand; swap = i.swap; ins = i.ins; outs = i.outs } in
-    let k = keeps-alike s c.self.invariant c.choose.new.frames c.choose.new.hand s.swap s.ins s.outs c.choose.ensures.clock.size
-    (clock-alike (may_go (unlocked s.segs) c.args.pinned s.frames) s.hand s.frames c.choose.result c.choose.new.frames c.choose.ensures.clock)
-    (SameSlots-refl s.swap) c.self.invariant.swap refl (next-lt s.frames c.choose.new.frames c.choose.result c.choose.ensures.clock.size c.choose.ensures.clock.there c.choose.ensures.hand) (GoesOn-refl s.swap) in
-    k.sound
+invariant_of-self g c = (kept g c).sound
 
 pub returns-clause-goes : goal.returns-clause-goes
-returns-clause-goes g c =
-    let i = c.self.inside in
-    let s : StoreView = record { segs = i.segs; frames = i.frames; hand = i.hand; swap = i.swap; ins = i.ins; outs = i.outs } in
-    let k = keeps-alike s c.self.invariant c.choose.new.frames c.choose.new.hand s.swap s.ins s.outs c.choose.ensures.clock.size
-    (clock-alike (may_go (unlocked s.segs) c.args.pinned s.frames) s.hand s.frames c.choose.result c.choose.new.frames c.choose.ensures.clock)
-    (SameSlots-refl s.swap) c.self.invariant.swap refl (next-lt s.frames c.choose.new.frames c.choose.result c.choose.ensures.clock.size c.choose.ensures.clock.there c.choose.ensures.hand) (GoesOn-refl s.swap) in
-    rw (← c.self.view_is) k.goes
+returns-clause-goes g c = rw (← c.self.view_is) (kept g c).goes

@@ -9,136 +9,89 @@ use Rattle.shm_frames.specs.Frame.{no_frame, frame_at}
 use Rattle.shm_fault.specs.Segs.{rec_by}
 use Rattle.shm_fault.specs.Store.{StoreView}
 use Rattle.shm_fault.specs.Sound.{IsSound}
+use Rattle.shm_fault.proofs.Seen.{seen}
 use Rattle.shm_fault.proofs.Slots.{OnlySlot-page, OnlySlot-fault, owner-written, owner-fault, page-written}
 use Rattle.shm_fault.proofs.Failures.{total-written, total-fault}
-use Rattle.shm_fault.proofs.Changes.{own, Keeps, keeps-write}
+use Rattle.shm_fault.proofs.Changes.{Own, own, Keeps, keeps-write}
+use Rattle.shm_fault.proofs.store.PageStore.write_back.Given as given
 use Rattle.shm_fault.proofs.store.PageStore.write_back.Goals as goal
+use Rattle.shm_fault.proofs.store.PageStore.write_back.Goals.{After-self, After-saturating_add-self-inside, In-Err}
 
--- the slot of its page is there
-has : (s : StoreView) (f : ℕ) (k : Slot) → IsSound s → IsSome (frame_at s.frames f).owner → ((r : PageRef) → (frame_at s.frames f).owner ≡ Some r → (rec_by s.segs r).slot ≡ Some k) → HasSlot s.swap k.area k.slot
-has s f k sound some slot =
-    let o = own (frame_at s.frames f).owner some in
-    ((sound.tied.pages o.page (sound.tied.owners f o.page o.is)).slot_owned k (slot o.page o.is)).0
+-- the swap with the frame's bytes in the slot
+abbrev written : StoreView → ℕ → Slot → SwapView
+written s f k = with_slot_page s.swap k (frame_at s.frames f).bytes
 
--- the write was done
-done : (s : StoreView) (f : ℕ) (k : Slot) (outs : ℕ) → IsSound s → (some : IsSome (frame_at s.frames f).owner) → (slot : (r : PageRef) → (frame_at s.frames f).owner ≡ Some r → (rec_by s.segs r).slot ≡ Some k)
-    → IsSwap (with_slot_page s.swap k (frame_at s.frames f).bytes) → sizes (with_slot_page s.swap k (frame_at s.frames f).bytes) ≡ sizes s.swap → GoesOn s.swap (with_slot_page s.swap k (frame_at s.frames f).bytes)
-    → Keeps s (record { segs = s.segs; frames = set s.frames f (record (frame_at s.frames f) { dirty = false }); hand = s.hand; swap = with_slot_page s.swap k (frame_at s.frames f).bytes; ins = s.ins; outs = outs })
-done s f k outs sound some slot swap same goes =
-    let o = own (frame_at s.frames f).owner some in
-    let there = has s f k sound some slot in
-    let bytes = (frame_at s.frames f).bytes in
-    keeps-write s sound o.page f k (record (frame_at s.frames f) { dirty = false }) (with_slot_page s.swap k bytes) s.ins outs o.is (slot o.page o.is) o.is refl
-    (OnlySlot-page k s.swap bytes) (owner-written k s.swap bytes there) (λ e. sym (page-written k s.swap bytes there)) swap same goes
+module _ (s : StoreView) (sound : IsSound s) (f : ℕ) (k : Slot) (some : IsSome (frame_at s.frames f).owner) (slot : (r : PageRef) → (frame_at s.frames f).owner ≡ Some r → (rec_by s.segs r).slot ≡ Some k) where
+  owner : Own (frame_at s.frames f).owner
+  owner = own (frame_at s.frames f).owner some
 
--- it failed
-failed : (s : StoreView) (f : ℕ) (k : Slot) (u : SwapView) → IsSound s → (some : IsSome (frame_at s.frames f).owner) → (slot : (r : PageRef) → (frame_at s.frames f).owner ≡ Some r → (rec_by s.segs r).slot ≡ Some k)
-    → (frame_at s.frames f).dirty ≡ true → OneArea k.area s.swap u → WriteFault k.slot (area_at s.swap k.area) (area_at u k.area)
-    → IsSwap u → sizes u ≡ sizes s.swap → GoesOn s.swap u
-    → Keeps s (record { segs = s.segs; frames = s.frames; hand = s.hand; swap = u; ins = s.ins; outs = s.outs })
-failed s f k u sound some slot dirty one fault swap same goes =
-    let o = own (frame_at s.frames f).owner some in
-    let k0 = keeps-write s sound o.page f k (frame_at s.frames f) u s.ins s.outs o.is (slot o.page o.is) o.is refl
-    (OnlySlot-fault k s.swap u one fault) (owner-fault k s.swap u one fault) (λ e. cc) swap same goes in
-    let z : set s.frames f (frame_at s.frames f) ≡ s.frames = set-get_or s.frames f no_frame in
-    rw z at k0
+  -- the slot of its page is there
+  has : HasSlot s.swap k.area k.slot
+  has = ((sound.tied.pages owner.page (sound.tied.owners f owner.page owner.is)).slot_owned k (slot owner.page owner.is)).0
+
+  -- the write was done
+  done : (outs : ℕ) → IsSwap (written s f k) → sizes (written s f k) ≡ sizes s.swap → GoesOn s.swap (written s f k)
+      → Keeps s (record s { frames = set s.frames f (record (frame_at s.frames f) { dirty = false }); swap = written s f k; outs = outs })
+  done outs swap same goes =
+      let bytes = (frame_at s.frames f).bytes in
+      keeps-write s sound owner.page f k (record (frame_at s.frames f) { dirty = false }) (written s f k) s.ins outs owner.is (slot owner.page owner.is) owner.is refl
+      (OnlySlot-page k s.swap bytes) (owner-written k s.swap bytes has) (λ e. sym (page-written k s.swap bytes has)) swap same goes
+
+  -- it failed
+  failed : (u : SwapView) → (frame_at s.frames f).dirty ≡ true → OneArea k.area s.swap u → WriteFault k.slot (area_at s.swap k.area) (area_at u k.area)
+      → IsSwap u → sizes u ≡ sizes s.swap → GoesOn s.swap u → Keeps s (record s { swap = u })
+  failed u dirty one fault swap same goes =
+      let k0 = keeps-write s sound owner.page f k (frame_at s.frames f) u s.ins s.outs owner.is (slot owner.page owner.is) owner.is refl
+      (OnlySlot-fault k s.swap u one fault) (owner-fault k s.swap u one fault) (λ e. cc) swap same goes in
+      let z : set s.frames f (frame_at s.frames f) ≡ s.frames = set-get_or s.frames f no_frame in
+      rw z at k0
+
+there : (g : given.Over) (c : After-self g) → HasSlot c.self.inside.swap c.args.slot.area c.args.slot.slot
+there g c = has (seen c.self.inside) c.self.invariant c.args.frame c.args.slot (rw (← c.self.view_is) at c.requires.owned) (rw (← c.self.view_is) at c.requires.slot)
+
+wrote : (g : given.Over) (c : After-saturating_add-self-inside g) → Keeps (seen c.self.inside) (record (seen c.self.inside) { frames = c.set_dirty.new.self; swap = c.write_slot.new.self; outs = c.saturating_add-self-inside.result })
+wrote g c =
+    let s = seen c.self.inside in
+    let e = c.write_slot.ensures in
+    let u : c.write_slot.new.self ≡ written s c.args.frame c.args.slot = rw c.bytes.ensures.value at c.in-Ok.ensures.ok in
+    rw (c.set_dirty.ensures, u)
+    (done s c.self.invariant c.args.frame c.args.slot (rw (← c.self.view_is) at c.requires.owned) (rw (← c.self.view_is) at c.requires.slot) c.saturating_add-self-inside.result (rw u at e.sound) (rw u at e.sizes) (rw u at e.goes_on))
+
+unwritten : (g : given.Over) (c : In-Err g) → Keeps (seen c.self.inside) (record (seen c.self.inside) { swap = c.write_slot.new.self })
+unwritten g c =
+    let e = c.write_slot.ensures in
+    failed (seen c.self.inside) c.self.invariant c.args.frame c.args.slot (rw (← c.self.view_is) at c.requires.owned) (rw (← c.self.view_is) at c.requires.slot) c.write_slot.new.self
+    (rw (← c.self.view_is) at c.requires.dirty) e.others c.in-Err.ensures.err e.sound e.sizes e.goes_on
 
 pub write_slot-requires : goal.write_slot-requires
-write_slot-requires g c =
-    let i = c.self.inside in
-    let s : StoreView = record { segs = i.segs; frames = i.frames; hand = i.hand; swap = i.swap; ins = i.ins; outs = i.outs } in
-    let some : IsSome (frame_at s.frames c.args.frame).owner = rw (← c.self.view_is) at c.requires.owned in
-    let slot : (r : PageRef) → (frame_at s.frames c.args.frame).owner ≡ Some r → (rec_by s.segs r).slot ≡ Some c.args.slot = rw (← c.self.view_is) at c.requires.slot in
-    let there = has s c.args.frame c.args.slot c.self.invariant some slot in
-    there
+write_slot-requires g c = there g (goal.at.write_slot-requires g c).After-self
 
 pub invariant_of-self : goal.invariant_of-self
-invariant_of-self g c =
-    let i = c.self.inside in
-    let s : StoreView = record { segs = i.segs; frames = i.frames; hand = i.hand; swap = i.swap; ins = i.ins; outs = i.outs } in
-    let some : IsSome (frame_at s.frames c.args.frame).owner = rw (← c.self.view_is) at c.requires.owned in
-    let slot : (r : PageRef) → (frame_at s.frames c.args.frame).owner ≡ Some r → (rec_by s.segs r).slot ≡ Some c.args.slot = rw (← c.self.view_is) at c.requires.slot in
-    let there = has s c.args.frame c.args.slot c.self.invariant some slot in
-    let after = c.in-Ok.ensures.ok in
-    let page = c.bytes.ensures.value in
-    let u : c.write_slot.new.self ≡ with_slot_page s.swap c.args.slot (frame_at s.frames c.args.frame).bytes = rw page at after in
-    let k = done s c.args.frame c.args.slot c.saturating_add-self-inside.result c.self.invariant some slot (rw u at c.write_slot.ensures.sound) (rw u at c.write_slot.ensures.sizes) (rw u at c.write_slot.ensures.goes_on) in
-    rw (c.set_dirty.ensures, u) k.sound
+invariant_of-self g c = (wrote g (goal.at.invariant_of-self g c).After-saturating_add-self-inside).sound
 
 pub returns-in-Ok-clause-sound : goal.returns-in-Ok-clause-sound
-returns-in-Ok-clause-sound g c =
-    let i = c.self.inside in
-    let s : StoreView = record { segs = i.segs; frames = i.frames; hand = i.hand; swap = i.swap; ins = i.ins; outs = i.outs } in
-    let some : IsSome (frame_at s.frames c.args.frame).owner = rw (← c.self.view_is) at c.requires.owned in
-    let slot : (r : PageRef) → (frame_at s.frames c.args.frame).owner ≡ Some r → (rec_by s.segs r).slot ≡ Some c.args.slot = rw (← c.self.view_is) at c.requires.slot in
-    let there = has s c.args.frame c.args.slot c.self.invariant some slot in
-    let after = c.in-Ok.ensures.ok in
-    let page = c.bytes.ensures.value in
-    let u : c.write_slot.new.self ≡ with_slot_page s.swap c.args.slot (frame_at s.frames c.args.frame).bytes = rw page at after in
-    let k = done s c.args.frame c.args.slot c.saturating_add-self-inside.result c.self.invariant some slot (rw u at c.write_slot.ensures.sound) (rw u at c.write_slot.ensures.sizes) (rw u at c.write_slot.ensures.goes_on) in
-    rw (c.set_dirty.ensures, u) k.sound
+returns-in-Ok-clause-sound g c = (wrote g (goal.at.returns-in-Ok-clause-sound g c).After-saturating_add-self-inside).sound
 
 pub returns-in-Ok-clause-goes : goal.returns-in-Ok-clause-goes
-returns-in-Ok-clause-goes g c =
-    let i = c.self.inside in
-    let s : StoreView = record { segs = i.segs; frames = i.frames; hand = i.hand; swap = i.swap; ins = i.ins; outs = i.outs } in
-    let some : IsSome (frame_at s.frames c.args.frame).owner = rw (← c.self.view_is) at c.requires.owned in
-    let slot : (r : PageRef) → (frame_at s.frames c.args.frame).owner ≡ Some r → (rec_by s.segs r).slot ≡ Some c.args.slot = rw (← c.self.view_is) at c.requires.slot in
-    let there = has s c.args.frame c.args.slot c.self.invariant some slot in
-    let after = c.in-Ok.ensures.ok in
-    let page = c.bytes.ensures.value in
-    let u : c.write_slot.new.self ≡ with_slot_page s.swap c.args.slot (frame_at s.frames c.args.frame).bytes = rw page at after in
-    let k = done s c.args.frame c.args.slot c.saturating_add-self-inside.result c.self.invariant some slot (rw u at c.write_slot.ensures.sound) (rw u at c.write_slot.ensures.sizes) (rw u at c.write_slot.ensures.goes_on) in
-    rw (c.set_dirty.ensures, u, ← c.self.view_is) k.goes
+returns-in-Ok-clause-goes g c = rw (← c.self.view_is) (wrote g (goal.at.returns-in-Ok-clause-goes g c).After-saturating_add-self-inside).goes
 
 pub returns-in-Ok-clause-counted : goal.returns-in-Ok-clause-counted
 returns-in-Ok-clause-counted g c =
-    let i = c.self.inside in
-    let s : StoreView = record { segs = i.segs; frames = i.frames; hand = i.hand; swap = i.swap; ins = i.ins; outs = i.outs } in
-    let some : IsSome (frame_at s.frames c.args.frame).owner = rw (← c.self.view_is) at c.requires.owned in
-    let slot : (r : PageRef) → (frame_at s.frames c.args.frame).owner ≡ Some r → (rec_by s.segs r).slot ≡ Some c.args.slot = rw (← c.self.view_is) at c.requires.slot in
-    let there = has s c.args.frame c.args.slot c.self.invariant some slot in
-    let same : total c.write_slot.new.self ≡ total s.swap = rw c.in-Ok.ensures.ok (total-written s.swap c.args.slot _ there.0) in
+    let at = (there g (goal.at.returns-in-Ok-clause-counted g c).After-self).0 in
+    let same : total c.write_slot.new.self ≡ total c.self.inside.swap = rw c.in-Ok.ensures.ok (total-written c.self.inside.swap c.args.slot _ at) in
     λ unspent. rw (same, ← c.self.view_is) (omega arith)
 
 pub invariant_of-self-in-Err : goal.invariant_of-self-in-Err
-invariant_of-self-in-Err g c =
-    let i = c.self.inside in
-    let s : StoreView = record { segs = i.segs; frames = i.frames; hand = i.hand; swap = i.swap; ins = i.ins; outs = i.outs } in
-    let some : IsSome (frame_at s.frames c.args.frame).owner = rw (← c.self.view_is) at c.requires.owned in
-    let slot : (r : PageRef) → (frame_at s.frames c.args.frame).owner ≡ Some r → (rec_by s.segs r).slot ≡ Some c.args.slot = rw (← c.self.view_is) at c.requires.slot in
-    let there = has s c.args.frame c.args.slot c.self.invariant some slot in
-    let dirty : (frame_at s.frames c.args.frame).dirty ≡ true = rw (← c.self.view_is) at c.requires.dirty in
-    let k = failed s c.args.frame c.args.slot c.write_slot.new.self c.self.invariant some slot dirty c.write_slot.ensures.others c.in-Err.ensures.err c.write_slot.ensures.sound c.write_slot.ensures.sizes c.write_slot.ensures.goes_on in
-    k.sound
+invariant_of-self-in-Err g c = (unwritten g c).sound
 
 pub returns-in-Err-clause-sound : goal.returns-in-Err-clause-sound
-returns-in-Err-clause-sound g c =
-    let i = c.self.inside in
-    let s : StoreView = record { segs = i.segs; frames = i.frames; hand = i.hand; swap = i.swap; ins = i.ins; outs = i.outs } in
-    let some : IsSome (frame_at s.frames c.args.frame).owner = rw (← c.self.view_is) at c.requires.owned in
-    let slot : (r : PageRef) → (frame_at s.frames c.args.frame).owner ≡ Some r → (rec_by s.segs r).slot ≡ Some c.args.slot = rw (← c.self.view_is) at c.requires.slot in
-    let there = has s c.args.frame c.args.slot c.self.invariant some slot in
-    let dirty : (frame_at s.frames c.args.frame).dirty ≡ true = rw (← c.self.view_is) at c.requires.dirty in
-    let k = failed s c.args.frame c.args.slot c.write_slot.new.self c.self.invariant some slot dirty c.write_slot.ensures.others c.in-Err.ensures.err c.write_slot.ensures.sound c.write_slot.ensures.sizes c.write_slot.ensures.goes_on in
-    k.sound
+returns-in-Err-clause-sound g c = (unwritten g c).sound
 
 pub returns-in-Err-clause-goes : goal.returns-in-Err-clause-goes
-returns-in-Err-clause-goes g c =
-    let i = c.self.inside in
-    let s : StoreView = record { segs = i.segs; frames = i.frames; hand = i.hand; swap = i.swap; ins = i.ins; outs = i.outs } in
-    let some : IsSome (frame_at s.frames c.args.frame).owner = rw (← c.self.view_is) at c.requires.owned in
-    let slot : (r : PageRef) → (frame_at s.frames c.args.frame).owner ≡ Some r → (rec_by s.segs r).slot ≡ Some c.args.slot = rw (← c.self.view_is) at c.requires.slot in
-    let there = has s c.args.frame c.args.slot c.self.invariant some slot in
-    let dirty : (frame_at s.frames c.args.frame).dirty ≡ true = rw (← c.self.view_is) at c.requires.dirty in
-    let k = failed s c.args.frame c.args.slot c.write_slot.new.self c.self.invariant some slot dirty c.write_slot.ensures.others c.in-Err.ensures.err c.write_slot.ensures.sound c.write_slot.ensures.sizes c.write_slot.ensures.goes_on in
-    rw (← c.self.view_is) k.goes
+returns-in-Err-clause-goes g c = rw (← c.self.view_is) (unwritten g c).goes
 
 pub returns-in-Err-clause-counted : goal.returns-in-Err-clause-counted
 returns-in-Err-clause-counted g c =
-    let i = c.self.inside in
-    let s : StoreView = record { segs = i.segs; frames = i.frames; hand = i.hand; swap = i.swap; ins = i.ins; outs = i.outs } in
-    let some : IsSome (frame_at s.frames c.args.frame).owner = rw (← c.self.view_is) at c.requires.owned in
-    let slot : (r : PageRef) → (frame_at s.frames c.args.frame).owner ≡ Some r → (rec_by s.segs r).slot ≡ Some c.args.slot = rw (← c.self.view_is) at c.requires.slot in
-    let there = has s c.args.frame c.args.slot c.self.invariant some slot in
-    λ unspent. rw (← c.self.view_is) (total-fault s.swap c.write_slot.new.self c.args.slot c.self.invariant.swap there c.write_slot.ensures.others c.in-Err.ensures.err unspent)
+    let at = there g (goal.at.returns-in-Err-clause-counted g c).After-self in
+    let e = c.write_slot.ensures in
+    λ unspent. rw (← c.self.view_is) (total-fault c.self.inside.swap c.write_slot.new.self c.args.slot c.self.invariant.swap at e.others c.in-Err.ensures.err unspent)

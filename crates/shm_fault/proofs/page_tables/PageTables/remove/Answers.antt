@@ -1,5 +1,5 @@
 use Rattle.shm_fault.proofs.Entries.{remove-view, apart-filter}
-use Rattle.shm_fault.proofs.segments.Segments.remove.Goals as goal
+use Rattle.shm_fault.proofs.page_tables.PageTables.remove.Goals as goal
 
 pub invariant_of-self : goal.invariant_of-self
 invariant_of-self c =

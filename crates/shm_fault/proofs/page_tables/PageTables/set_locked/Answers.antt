@@ -2,7 +2,7 @@ use Rattle.std.proofs.Common.{refl, sym}
 use Rattle.shm_fault.specs.Segs.{SegRec}
 use Rattle.shm_fault.specs.Entries.{segs_view}
 use Rattle.shm_fault.proofs.Entries.{edit-none, edit-view, apart-edit, entry-from, value_there}
-use Rattle.shm_fault.proofs.segments.Segments.set_locked.Goals as goal
+use Rattle.shm_fault.proofs.page_tables.PageTables.set_locked.Goals as goal
 
 pub returns-in_default : goal.returns-in_default
 returns-in_default c =
@@ -16,7 +16,7 @@ unreachable-requires c =
 pub invariant_of-self : goal.invariant_of-self
 invariant_of-self c =
     let es = c.self.inside.by_id.entries in
-    let w = c.in-Some-get_index_mut.segment.now in
+    let w = c.in-Some-get_index_mut.table.now in
     let at = entry-from es c.in-Some.index c.args.id w c.in-Some.ensures.some c.in-Some-get_index_mut.ensures.value in
     let lock = λ (g : SegRec). record g { locked = c.args.locked } in
     rw (edit-view lock es c.in-Some.index c.args.id w (record w { locked = c.args.locked }) c.self.invariant at refl)
@@ -25,7 +25,7 @@ invariant_of-self c =
 pub returns : goal.returns
 returns c =
     let es = c.self.inside.by_id.entries in
-    let w = c.in-Some-get_index_mut.segment.now in
+    let w = c.in-Some-get_index_mut.table.now in
     let at = entry-from es c.in-Some.index c.args.id w c.in-Some.ensures.some c.in-Some-get_index_mut.ensures.value in
     let lock = λ (g : SegRec). record g { locked = c.args.locked } in
     rw (← c.self.view_is) (edit-view lock es c.in-Some.index c.args.id w (record w { locked = c.args.locked }) c.self.invariant at refl)

@@ -1,6 +1,6 @@
 use Rattle.std.proofs.Common.{◌≡◌, replicate}
 use Rattle.shm_fault.specs.Segs.{no_page}
-use Rattle.shm_fault.proofs.segments.blank_pages.Given as goal
+use Rattle.shm_fault.proofs.page_tables.blank_pages.Given as goal
 
 abbrev pub invariant-loop-page : goal.invariant-loop-page
 invariant-loop-page l = l.pages.items ≡ replicate l._page no_page

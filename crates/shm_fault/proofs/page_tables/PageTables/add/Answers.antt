@@ -1,9 +1,9 @@
 use Rattle.std.proofs.Common.{◌≡◌, None, List, ◌++◌, ◌∷◌, [], ap}
-use Rattle.shm_fault.specs.declared.segments.PageRec.{PageRec}
+use Rattle.shm_fault.specs.declared.page_tables.PageRec.{PageRec}
 use Rattle.shm_fault.specs.Segs.{find_seg}
 use Rattle.shm_fault.specs.Entries.{segs_view}
 use Rattle.shm_fault.proofs.Entries.{insert-view, apart-append}
-use Rattle.shm_fault.proofs.segments.Segments.add.Goals as goal
+use Rattle.shm_fault.proofs.page_tables.PageTables.add.Goals as goal
 
 pub invariant_of-self-2 : goal.invariant_of-self-2
 invariant_of-self-2 c =

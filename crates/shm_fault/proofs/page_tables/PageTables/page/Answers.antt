@@ -1,6 +1,6 @@
 use Rattle.std.proofs.Common.{refl}
 use Rattle.shm_fault.proofs.Entries.{find-lookup}
-use Rattle.shm_fault.proofs.segments.Segments.page.Goals as goal
+use Rattle.shm_fault.proofs.page_tables.PageTables.page.Goals as goal
 
 pub returns-in-None : goal.returns-in-None
 returns-in-None c =

@@ -1,4 +1,4 @@
-//! The segments that the store holds, each with the place of every page.
+//! The page tables of the segments that the store holds: where each of their pages is.
 ghost use Rattle.std.specs.Prelude.{◌≡◌, ℕ, ◌<◌, [], ◌∷◌, ◌++◌, length, set, map, filter, not, ◌==◌, None, Some, IfSome, IfNone, IfOk, OnOk, OnErr, replicate};
 ghost use Rattle.shm_fault.specs.Segs.{SegRec, find_seg, rec_at, rec_by, count_by_id, locked_by, HasPage, with_rec, with_seg_lock, no_page, new_seg};
 ghost use Rattle.shm_fault.specs.Entries.{segs_view, key_at};
@@ -16,22 +16,22 @@ pub struct PageRec {
     pub slot: Option<Slot>,
 }
 
-/// Whether a segment is locked, and where its pages are.
+/// Where the pages of a segment are, and whether it is locked.
 #[derive(Drop)]
-pub(crate) struct Segment {
+pub(crate) struct PageTable {
     pub(crate) locked: bool,
     pub(crate) pages: Vec<PageRec>,
 }
 
-/// The segments in the order in which they were added. Finding one by its identifier takes no longer
-/// where there are more of them.
+/// The page tables of segments, in the order in which they were added. Finding one by its segment takes no
+/// longer where there are more of them.
 #[derive(Drop)]
-pub(crate) struct Segments {
+pub(crate) struct PageTables {
     alloc: Global,
-    by_id: IndexMap<u32, Segment>,
+    by_id: IndexMap<u32, PageTable>,
 }
 
-impl Model for Segments {
+impl Model for PageTables {
     ghost use Rattle.std.specs.Prelude.{List};
     ghost use Rattle.shm_fault.specs.Segs.{SegRec, AreApart};
 
@@ -82,7 +82,7 @@ fn set_place(pages: &mut Vec<PageRec>, page: u32, place: PageRec)
 }
 
 // At which place a segment stands.
-fn index_of(by_id: &IndexMap<u32, Segment>, id: u32) -> Option<usize>
+fn index_of(by_id: &IndexMap<u32, PageTable>, id: u32) -> Option<usize>
     ensures some { IfSome result (λ i. key_at by_id.now.entries i ≡ Some id) }
     ensures none { IfNone result (find_seg (segs_view by_id.now.entries) id ≡ None) }
 {
@@ -90,12 +90,12 @@ fn index_of(by_id: &IndexMap<u32, Segment>, id: u32) -> Option<usize>
     Some(index)
 }
 
-impl Segments {
+impl PageTables {
     /// No segment.
-    pub(crate) fn new(alloc: Global) -> Segments
+    pub(crate) fn new(alloc: Global) -> PageTables
         ensures { result ≡ [] }
     {
-        Segments {
+        PageTables {
             alloc,
             by_id: IndexMap::new(alloc),
         }
@@ -108,11 +108,11 @@ impl Segments {
         ensures err { OnErr result (self.new ≡ self.old) }
     {
         let pages = blank_pages(self.alloc, pages)?;
-        let segment = Segment {
+        let table = PageTable {
             locked: false,
             pages,
         };
-        self.by_id.insert(id, segment)?;
+        self.by_id.insert(id, table)?;
         Ok(())
     }
 
@@ -128,7 +128,7 @@ impl Segments {
         ensures { result ≡ rec_by self.now page }
     {
         match self.by_id.get(&page.seg) {
-            Some(segment) => place_at(&segment.pages, page.page),
+            Some(table) => place_at(&table.pages, page.page),
             None => PageRec::NOWHERE,
         }
     }
@@ -138,7 +138,7 @@ impl Segments {
         ensures { result ≡ count_by_id self.now id }
     {
         match self.by_id.get(&id) {
-            Some(segment) => segment.pages.len(),
+            Some(table) => table.pages.len(),
             None => 0,
         }
     }
@@ -148,7 +148,7 @@ impl Segments {
         ensures { result ≡ locked_by self.now id }
     {
         match self.by_id.get(&id) {
-            Some(segment) => segment.locked,
+            Some(table) => table.locked,
             None => false,
         }
     }
@@ -161,10 +161,10 @@ impl Segments {
         let Some(index) = index_of(&self.by_id, page.seg) else {
             return;
         };
-        let Some(segment) = self.by_id.get_index_mut(index) else {
+        let Some(table) = self.by_id.get_index_mut(index) else {
             unreachable!();
         };
-        set_place(&mut segment.pages, page.page, place);
+        set_place(&mut table.pages, page.page, place);
     }
 
     /// Locks or unlocks a segment.
@@ -174,9 +174,9 @@ impl Segments {
         let Some(index) = index_of(&self.by_id, id) else {
             return;
         };
-        let Some(segment) = self.by_id.get_index_mut(index) else {
+        let Some(table) = self.by_id.get_index_mut(index) else {
             unreachable!();
         };
-        segment.locked = locked;
+        table.locked = locked;
     }
 }

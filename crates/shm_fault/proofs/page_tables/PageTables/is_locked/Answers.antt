@@ -1,6 +1,6 @@
 use Rattle.std.proofs.Common.{refl}
 use Rattle.shm_fault.proofs.Entries.{find-lookup}
-use Rattle.shm_fault.proofs.segments.Segments.is_locked.Goals as goal
+use Rattle.shm_fault.proofs.page_tables.PageTables.is_locked.Goals as goal
 
 pub returns-in-Some : goal.returns-in-Some
 returns-in-Some c =
