@@ -39,34 +39,61 @@ fn places(alloc: Global, listed: &[u64]) -> Result<Vec<u64>, AllocError> {
     listed.to_vec(alloc)
 }
 
+/// A page of one byte that is written to slot 0, and whether it is taken; or the byte of the page that is read there,
+/// none where the read fails.
+enum Access {
+    Write(u8, bool),
+    Read(Option<u8>),
+}
+
+use Access::{Read, Write};
+
+// Makes these accesses in order, and sees what comes of each.
+fn accessed<X: Pager>(rt: &impl Abort, pager: &mut X, accesses: &[Access]) {
+    for access in accesses {
+        match access {
+            Write(byte, is_taken) => {
+                let written = write(rt, pager, 0, [*byte; 4096]);
+                assert_eq!(rt; written.is_ok(), *is_taken);
+            }
+            Read(byte) => {
+                let page = read(rt, pager, 0);
+                assert_eq!(rt; page.ok(), byte.map(|byte| [byte; 4096]));
+            }
+        }
+    }
+}
+
+// A pager in memory behind a fuse that fails these reads and writes.
+fn fuse(
+    alloc: Global,
+    slots: u32,
+    reads: &[u64],
+    writes: &[u64],
+) -> Result<FusePager<RamPager>, AllocError> {
+    let ram = RamPager::new(alloc, slots)?;
+    let reads = places(alloc, reads)?;
+    let writes = places(alloc, writes)?;
+    Ok(FusePager::new(ram, reads, writes))
+}
+
 #[test]
 fn a_fuse_scorches_the_slot(rt: HostRuntime) -> Result<(), Fail> {
-    let alloc = rt.alloc();
-    let mut fuse = FusePager::new(
-        RamPager::new(alloc, 2)?,
-        places(alloc, &[])?,
-        places(alloc, &[1])?,
-    );
-    assert_eq!(rt; write(&rt, &mut fuse, 0, P), Err(PagerFault));
+    let mut fuse = fuse(rt.alloc(), 2, &[], &[1])?;
+    accessed(&rt, &mut fuse, &[Write(0x50, false), Read(Some(0xa5))]);
     assert_eq!(rt; fuse.failures(), 1);
-    assert_eq!(rt; read(&rt, &mut fuse, 0), Ok([0xa5; 4096]));
-    assert_eq!(rt; write(&rt, &mut fuse, 0, P), Ok(()));
-    assert_eq!(rt; read(&rt, &mut fuse, 0), Ok(P));
+    accessed(&rt, &mut fuse, &[Write(0x50, true), Read(Some(0x50))]);
     Ok(())
 }
 
 #[test]
 fn a_mirror_reads_the_side_that_took_the_page(rt: HostRuntime) -> Result<(), Fail> {
     let alloc = rt.alloc();
-    let left = FusePager::new(
-        RamPager::new(alloc, 1)?,
-        places(alloc, &[])?,
-        places(alloc, &[2])?,
-    );
-    let mut mirror = MirrorPager::new(alloc, left, RamPager::new(alloc, 1)?).map_err(|e| e.cause)?;
-    assert_eq!(rt; write(&rt, &mut mirror, 0, P), Ok(()));
-    assert_eq!(rt; write(&rt, &mut mirror, 0, Q), Ok(()));
-    assert_eq!(rt; read(&rt, &mut mirror, 0), Ok(Q));
+    let left = fuse(alloc, 1, &[], &[2])?;
+    let right = RamPager::new(alloc, 1)?;
+    let mut mirror = MirrorPager::new(alloc, left, right).map_err(|e| e.cause)?;
+    let accesses = [Write(0x50, true), Write(0x51, true), Read(Some(0x51))];
+    accessed(&rt, &mut mirror, &accesses);
     assert_eq!(rt; mirror.failures(), 0);
     Ok(())
 }
@@ -74,30 +101,20 @@ fn a_mirror_reads_the_side_that_took_the_page(rt: HostRuntime) -> Result<(), Fai
 #[test]
 fn a_mirror_fails_where_its_one_good_side_does(rt: HostRuntime) -> Result<(), Fail> {
     let alloc = rt.alloc();
-    let left = FusePager::new(
-        RamPager::new(alloc, 1)?,
-        places(alloc, &[])?,
-        places(alloc, &[1])?,
-    );
-    let right = FusePager::new(
-        RamPager::new(alloc, 1)?,
-        places(alloc, &[1])?,
-        places(alloc, &[])?,
-    );
+    let left = fuse(alloc, 1, &[], &[1])?;
+    let right = fuse(alloc, 1, &[1], &[])?;
     let mut mirror = MirrorPager::new(alloc, left, right).map_err(|e| e.cause)?;
-    assert_eq!(rt; write(&rt, &mut mirror, 0, P), Ok(()));
-    assert_eq!(rt; read(&rt, &mut mirror, 0), Err(PagerFault));
+    let accesses = [Write(0x50, true), Read(None), Read(Some(0x50))];
+    accessed(&rt, &mut mirror, &accesses);
     assert_eq!(rt; mirror.failures(), 1);
-    assert_eq!(rt; read(&rt, &mut mirror, 0), Ok(P));
     Ok(())
 }
 
 #[test]
 fn a_sparse_pager_reads_back(rt: HostRuntime) -> Result<(), Fail> {
     let mut sparse = SparsePager::new(rt.alloc(), 1)?;
-    assert_eq!(rt; read(&rt, &mut sparse, 0), Ok([0; 4096]));
-    assert_eq!(rt; write(&rt, &mut sparse, 0, P), Ok(()));
-    assert_eq!(rt; read(&rt, &mut sparse, 0), Ok(P));
+    let accesses = [Read(Some(0)), Write(0x50, true), Read(Some(0x50))];
+    accessed(&rt, &mut sparse, &accesses);
     assert_eq!(rt; sparse.failures(), 0);
     Ok(())
 }
