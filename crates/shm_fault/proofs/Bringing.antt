@@ -1,7 +1,7 @@
 -- What an access leaves, put together from the visits to its pages.
-use Rattle.std.proofs.Common.{◌≡◌, ◌≢◌, ℕ, zero, suc, map, ◌<◌, ◌≤◌, ◌+◌, Bool, true, false, not, ◌&&◌, ◌||◌, cond, eqb, List, [], ◌∷◌, length, get_or, subst, Option, Some, None, is_some, Result, Ok, Err, is_ok, OnErr, refl, sym, ap, ◌∙◌, inl, inr, arith}
+use Rattle.std.proofs.Common.{◌≡◌, ◌≢◌, ℕ, zero, suc, map, ◌<◌, ◌≤◌, ◌+◌, Bool, true, false, not, ◌&&◌, ◌||◌, cond, eqb, ltb, List, [], ◌∷◌, length, get_or, subst, Option, Some, None, is_some, Result, Ok, Err, is_ok, OnErr, refl, sym, ap, ◌∙◌, inl, inr, arith}
 use Rattle.std.specs.Prelude.{All, IsSome, slice_get}
-use Rattle.std.proofs.lemmas.Bool.{cases_eq, ne_eqb, and_parts, eqb-true, eq-eqb, false≢true}
+use Rattle.std.proofs.lemmas.Bool.{cases_eq, ne_eqb, and_parts, eqb-true, eq-eqb, lt-ltb, false≢true}
 use Rattle.shm_base.specs.declared.paging.PageRef.{PageRef}
 use Rattle.shm_base.specs.declared.paging.Span.{Span}
 use Rattle.shm_plain.specs.Held.{is_locked}
@@ -343,6 +343,18 @@ accessed-not ps s t e sound b = record {
   size = b.goes.size;
   sound = sound;
 }
+
+-- the stretches of a list of at most two
+pub list-one : (ps : List Span) (p : Span) → Some p ≡ slice_get ps 0 → false ≡ ltb 1 (length ps) → ps ≡ p ∷ []
+list-one [] p e one = cc
+list-one (x ∷ []) p e one = let h : p ≡ x = cc in rw h refl
+list-one (x ∷ y ∷ ps) p e one = absurd (false≢true (one ∙ lt-ltb 1 (length (x ∷ y ∷ ps)) (omega arith)))
+
+pub list-two : (ps : List Span) (p q : Span) → length ps ≤ 2 → Some p ≡ slice_get ps 0 → 1 < length ps → q ≡ get_or ps 1 q → ps ≡ p ∷ q ∷ []
+list-two [] p q few e lt is = cc
+list-two (x ∷ []) p q few e lt is = absurd (omega arith)
+list-two (x ∷ y ∷ []) p q few e lt is = let h : p ≡ x = cc in let k : q ≡ y = is in rw (h, k) refl
+list-two (x ∷ y ∷ z ∷ ps) p q few e lt is = absurd (omega arith)
 
 -- each stretch names its page's frame
 pub first_frame : (s : StoreView) (ps : List Span) (p : Span) → Some p ≡ slice_get ps 0 → All (λ (q : Span). q.frame ≡ frame_of s q.seg (page_of q)) ps → p.frame ≡ frame_by s (ref_of p)

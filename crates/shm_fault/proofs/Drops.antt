@@ -1,8 +1,8 @@
 -- A page that leaves its frame and its slot for good.
-use Rattle.std.proofs.Common.{◌≡◌, ◌≢◌, ℕ, zero, suc, ◌<◌, ◌≤◌, ◌+◌, true, List, [], ◌∷◌, length, set, map, sum_by, Option, Some, None, refl, sym, ap, ◌∙◌, inl, inr, arith, get_or-set_same, get_or-set_other}
+use Rattle.std.proofs.Common.{◌≡◌, ◌≢◌, ℕ, ◌<◌, ◌≤◌, ◌+◌, true, List, [], ◌∷◌, length, set, map, sum_by, Option, Some, None, refl, sym, ap, ◌∙◌, inl, inr, arith, get_or-set_same, get_or-set_other}
 use Rattle.std.proofs.lemmas.Bool.{cases_eq, cases_lt, eq-eqb, ne_eqb}
 use Rattle.std.proofs.lemmas.Option.{none-some}
-use Rattle.std.proofs.lemmas.List.{length-replicate}
+use Rattle.std.proofs.lemmas.List.{length-replicate, set-get_or}
 use Rattle.shm_base.specs.declared.paging.PageRef.{PageRef}
 use Rattle.shm_base.specs.declared.paging.Slot.{Slot}
 use Rattle.shm_plain.specs.Held.{without}
@@ -28,11 +28,6 @@ use Rattle.shm_fault.proofs.Bytes.{joined, held_one, held_of, bytes_at, held-is,
 use Rattle.shm_fault.proofs.Changes.{sound-one, some_same}
 
 -- a page that is where it is said to be
-set-same : (ps : List PageRec) (k : ℕ) → set ps k (rec_at ps k) ≡ ps
-set-same [] k = refl
-set-same (p ∷ ps) zero = refl
-set-same (p ∷ ps) (suc k) = ap (λ (l : List PageRec). p ∷ l) (set-same ps k)
-
 with-gone : (gs : List SegRec) (r : PageRef) (p : PageRec) → find_seg gs r.seg ≡ None → with_rec gs r p ≡ gs
 with-gone [] r p none = refl
 with-gone (g ∷ gs) r p none = elim (cases_eq g.id r.seg) [
@@ -45,7 +40,7 @@ with-is [] r p apart is = refl
 with-is (g ∷ gs) r p apart is = elim (cases_eq g.id r.seg) [
   | inl e ↦
       (let own : rec_at g.pages r.page ≡ p = rw (eq-eqb g.id r.seg e) at is in
-      let pages : set g.pages r.page p ≡ g.pages = ap (set g.pages r.page) (sym own) ∙ set-same g.pages r.page in
+      let pages : set g.pages r.page p ≡ g.pages = ap (set g.pages r.page) (sym own) ∙ set-get_or g.pages r.page no_page in
       rw (eq-eqb g.id r.seg e, pages) (ap (λ (l : List SegRec). g ∷ l) (with-gone gs r p (rw e at apart.0))))
   | inr m ↦ rw (ne_eqb g.id r.seg m) (ap (λ (l : List SegRec). g ∷ l) (with-is gs r p apart.1 (rw (ne_eqb g.id r.seg m) at is)))
 ]

@@ -1,11 +1,11 @@
 -- A flush, frame after frame.
-use Rattle.std.proofs.Common.{◌≡◌, ◌≢◌, ℕ, zero, suc, ◌<◌, ◌≤◌, ◌+◌, Bool, true, false, not, cond, ◌&&◌, List, [], ◌∷◌, ◌++◌, length, set, take, filter, Option, Some, None, refl, sym, ap, ◌∙◌, inl, inr, arith, append-nil, get_or-set_same, get_or-set_other}
+use Rattle.std.proofs.Common.{◌≡◌, ◌≢◌, ℕ, zero, suc, ◌<◌, ◌≤◌, ◌+◌, Bool, true, false, not, cond, ◌&&◌, List, [], ◌∷◌, ◌++◌, length, set, take, filter, Option, Some, None, refl, sym, ap, ◌∙◌, inl, inr, arith, append-nil, length-append, get_or-set_same, get_or-set_other}
 use Rattle.std.specs.Prelude.{min, count_by, Contains}
 use Rattle.std.specs.List.{range_with_len}
 use Rattle.std.proofs.lemmas.Bool.{cases_eq}
 use Rattle.std.proofs.lemmas.List.{length-take}
 use Rattle.std.proofs.lemmas.List.Elements.{filter-append, Contains-push, Contains-append_left}
-use Rattle.std.proofs.lemmas.List.Sums.{sum_by-cons}
+use Rattle.std.proofs.lemmas.List.Sums.{sum_by-cons, sum_by_push}
 use Rattle.shm_base.specs.declared.paging.PageRef.{PageRef}
 use Rattle.shm_slots.specs.Cause.{total, some_spent}
 use Rattle.shm_frames.specs.Frame.{Frame, no_frame, frame_at}
@@ -60,16 +60,6 @@ count-below p q i (x ∷ xs) all same =
   where
     one : Bool → ℕ
     one b = cond b 1 0
-
-count-push : (p : ℕ → Bool) (xs : List ℕ) (x : ℕ) → count_by p (xs ++ x ∷ []) ≡ count_by p xs + cond (p x) 1 0
-count-push p [] x = omega (arith, sum_by-cons (λ y. cond (p y) 1 0) x [])
-count-push p (z ∷ xs) x =
-    let rest = count-push p xs x in
-    omega (arith, rest, sum_by-cons (λ y. cond (p y) 1 0) z xs, sum_by-cons (λ y. cond (p y) 1 0) z (xs ++ x ∷ []))
-
-length-push : (xs : List ℕ) (x : ℕ) → length (xs ++ x ∷ []) ≡ length xs + 1
-length-push [] x = refl
-length-push (z ∷ xs) x = let rest = length-push xs x in omega (arith, rest)
 
 take-more : (n : ℕ) (xs : List ℕ) (x : ℕ) → length (take n xs) < n → take n (xs ++ x ∷ []) ≡ take n xs ++ x ∷ []
 take-more zero xs x lt = absurd (omega arith)
@@ -168,9 +158,9 @@ module _ (n : ℕ) (s : StoreView) (i : ℕ) (t : StoreView) (written failed : �
         sound = sound;
         goes = Goes-trans s t u d.goes goes;
         still = λ r. still r ∙ d.still r;
-        sum = rw is (omega (arith, sum, d.sum, length-push l i));
+        sum = rw is (omega (arith, sum, d.sum, length-append l (i ∷ [])));
         failures = rw is (
-            let a = count-push (dirty_after u) l i in
+            let a = sum_by_push (λ y. cond (dirty_after u y) 1 0) l i in
             let b = count-below (dirty_after u) (dirty_after t) i l d.below (λ x low. ap (λ (y : Frame). y.dirty) (other x (λ e. absurd (omega (arith, e, low))))) in
             omega (arith, a, b, more, d.failures)
             );

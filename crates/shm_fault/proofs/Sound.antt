@@ -1,8 +1,8 @@
 -- What is true of every store, kept by a change that touches few pages.
-use Rattle.std.proofs.Common.{◌≡◌, ℕ, ◌<◌, ◌≤◌, ◌+◌, Bool, true, false, cond, ltb, List, [], ◌∷◌, length, sum_by, Option, Some, None, is_some, refl, ap, ◌∙◌, inl, inr, arith}
+use Rattle.std.proofs.Common.{◌≡◌, ℕ, ◌<◌, ◌≤◌, ◌+◌, Bool, true, false, cond, ltb, length, sum_by, Option, Some, None, is_some, refl, ap, ◌∙◌, inl, inr, arith}
 use Rattle.std.specs.Prelude.{count_by}
 use Rattle.std.proofs.lemmas.Bool.{cases_Bool, or_right}
-use Rattle.std.proofs.lemmas.List.Sums.{sum_by-cons, count_by-le-length}
+use Rattle.std.proofs.lemmas.List.Sums.{sum_by-le-sum_by, count_by-le-length}
 use Rattle.shm_base.specs.declared.paging.PageRef.{PageRef}
 use Rattle.shm_base.specs.declared.paging.Slot.{Slot}
 use Rattle.shm_slots.specs.View.{SwapView, IsSwap, slots, sizes, slots_in, owner_of}
@@ -17,17 +17,6 @@ use Rattle.shm_fault.proofs.Ties.{Touches, tied_touched, bytes_touched}
 use Rattle.shm_fault.proofs.Tally.{resident-frames}
 use Rattle.shm_fault.proofs.Bytes.{bytes_at, held-same}
 use Rattle.shm_fault.proofs.Failures.{spent-cause, cause-before}
-
-count-le : {X : Type 0} (p q : X → Bool) (xs : List X) → ((x : X) → p x ≡ true → q x ≡ true) → count_by p xs ≤ count_by q xs
-count-le p q [] both = omega arith
-count-le p q (x ∷ xs) both =
-    let rest = count-le p q xs both in
-    let here : cond (p x) 1 0 ≤ cond (q x) 1 0 = elim (cases_Bool (p x)) [ inl t ↦ rw (t, both x t) (omega arith) | inr f ↦ rw f (omega arith) ] in
-    omega (arith, here, rest, sum_by-cons (λ y. cond (p y) 1 0) x xs, sum_by-cons (λ y. cond (q y) 1 0) x xs)
-
-sum-le : {X : Type 0} (f h : X → ℕ) (xs : List X) → ((x : X) → f x ≤ h x) → sum_by f xs ≤ sum_by h xs
-sum-le f h [] le = omega arith
-sum-le f h (x ∷ xs) le = let rest = sum-le f h xs le in let here = le x in omega (arith, here, rest, sum_by-cons f x xs, sum_by-cons h x xs)
 
 -- a page and the frame that it is in
 pub frame-own : (s : StoreView) → IsSound s → (r : PageRef) (f : ℕ) → (rec_by s.segs r).frame ≡ Some f → (f < length s.frames) × ((frame_at s.frames f).owner ≡ Some r)
@@ -45,13 +34,14 @@ IsSound-from s tied apart frames swap hand capacity locked = record {
   capacity = capacity;
   locked = locked;
   few_resident = let e = resident-frames s apart tied in omega (arith, e, count_by-le-length (λ (x : Frame). is_some x.owner) s.frames);
-  few_dirty = sum-le (λ (g : SegRec). count_by (is_dirty_page s.frames) g.pages) (λ (g : SegRec). count_by has_frame g.pages) s.segs (λ g. count-le (is_dirty_page s.frames) has_frame g.pages (λ p. by p.frame));
-  few_used = sum-le (λ (g : SegRec). count_by has_slot g.pages) pages_of s.segs (λ g. count_by-le-length has_slot g.pages);
+  few_dirty = sum_by-le-sum_by (λ (g : SegRec). count_by (is_dirty_page s.frames) g.pages) (λ (g : SegRec). count_by has_frame g.pages) s.segs
+      (λ g. sum_by-le-sum_by (λ p. cond (is_dirty_page s.frames p) 1 0) (λ p. cond (has_frame p) 1 0) g.pages (λ p. by p.frame));
+  few_used = sum_by-le-sum_by (λ (g : SegRec). count_by has_slot g.pages) pages_of s.segs (λ g. count_by-le-length has_slot g.pages);
 }
   where
-    by : (o : Option ℕ) → dirty_in s.frames o ≡ true → is_some o ≡ true
-    by None e = e
-    by (Some f) e = refl
+    by : (o : Option ℕ) → cond (dirty_in s.frames o) 1 0 ≤ cond (is_some o) 1 0
+    by None = omega arith
+    by (Some f) = elim (cases_Bool (frame_at s.frames f).dirty) [ inl t ↦ rw t (omega arith) | inr n ↦ rw n (omega arith) ]
 
 -- a change that touches few pages
 module _ (off : PageRef → Bool) (s t : StoreView) (sound : IsSound s) (to : Touches off s t) (swap : IsSwap t.swap) (same : sizes t.swap ≡ sizes s.swap) (hand : t.hand < length t.frames)

@@ -35,13 +35,13 @@ sound-fresh frames swap size blank is free =
     tt size is (omega (arith, size)) (omega arith) (omega (arith, size))
 
 -- pages of zeros
+more-zeros : (k n : ℕ) → replicate {A = ℕ} k 0 ++ replicate (k * n) 0 ≡ replicate (k * suc n) 0
+more-zeros k n = replicate-append-replicate k (k * n) 0 ∙ ap (λ m. replicate m 0) (grind arith)
+
 zeros-joined : (frames : List Frame) (swap : SwapView) (n : ℕ) → flat_map (page_bytes frames swap) (replicate n no_page) ≡ replicate (4096 * n) 0
 unfolding zero_page
 zeros-joined frames swap zero = refl
-zeros-joined frames swap (suc n) =
-    let rest = zeros-joined frames swap n in
-    let s : 4096 + 4096 * n ≡ 4096 * suc n = omega arith in
-    rw rest (replicate-append-replicate 4096 (4096 * n) 0 ∙ ap (λ m. replicate m 0) s)
+zeros-joined frames swap (suc n) = ap (λ l. zero_page ++ l) (zeros-joined frames swap n) ∙ more-zeros 4096 n
 
 module _ (s : StoreView) (sound : IsSound s) where
   length-page : (r : PageRef) → HasPage s.segs r → length (bytes_at s r) ≡ 4096

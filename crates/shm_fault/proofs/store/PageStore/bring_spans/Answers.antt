@@ -1,5 +1,16 @@
-use Rattle.shm_fault.proofs.Bringing.{first_frame, second_frame}
+use Rattle.std.proofs.Common.{◌≡◌, [], ◌∷◌}
+use Rattle.shm_fault.proofs.Bringing.{first_frame, second_frame, list-one, list-two}
+use Rattle.shm_fault.proofs.store.PageStore.bring_spans.Given as given
 use Rattle.shm_fault.proofs.store.PageStore.bring_spans.Goals as goal
+use Rattle.shm_fault.proofs.store.PageStore.bring_spans.Goals.{After-bring_one, After-bring_two}
+
+one : (g : given.Over) (c : After-bring_one g) → c.args.spans.now ≡ c.in-Some.first.now ∷ []
+one g c = list-one c.args.spans.now c.in-Some.first.now c.in-Some.ensures.value c.in-None.ensures.lookup.0
+
+two : (g : given.Over) (c : After-bring_two g) → c.args.spans.now ≡ c.in-Some.first.now ∷ c.in-Some-get.second.now ∷ []
+two g c =
+    let second = c.in-Some-get.ensures.lookup.3 in
+    list-two c.args.spans.now c.in-Some.first.now c.in-Some-get.second.now c.requires.few c.in-Some.ensures.value second.0 (second.1 c.in-Some-get.second.now)
 
 pub bring_two-requires-clause-frames : goal.bring_two-requires-clause-frames
 bring_two-requires-clause-frames g c = (
@@ -9,3 +20,15 @@ bring_two-requires-clause-frames g c = (
 
 pub bring_one-requires-clause-frame : goal.bring_one-requires-clause-frame
 bring_one-requires-clause-frame g c = first_frame c.args.self.now c.args.spans.now c.in-Some.first.now c.in-Some.ensures.value c.requires.frames
+
+pub returns-in-Some-get-clause-here : goal.returns-in-Some-get-clause-here
+returns-in-Some-get-clause-here g c = rw (two g c) c.bring_two.ensures.here
+
+pub returns-in-Some-get-clause-brings : goal.returns-in-Some-get-clause-brings
+returns-in-Some-get-clause-brings g c = rw (two g c) c.bring_two.ensures.brings
+
+pub returns-in-None-clause-here : goal.returns-in-None-clause-here
+returns-in-None-clause-here g c = rw (one g c) c.bring_one.ensures.here
+
+pub returns-in-None-clause-brings : goal.returns-in-None-clause-brings
+returns-in-None-clause-brings g c = rw (one g c) c.bring_one.ensures.brings

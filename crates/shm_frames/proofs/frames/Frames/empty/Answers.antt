@@ -2,46 +2,41 @@ use Rattle.std.proofs.Common.{arith, refl, sym, ◌∙◌, ◌≡◌, ◌<◌, �
 use Rattle.std.specs.Int.{from_bool}
 use Rattle.shm_frames.specs.Table.{entry_at, has_owner, free_entry}
 use Rattle.shm_frames.specs.Frame.{no_frame}
-use Rattle.shm_frames.specs.declared.frames.Entry.{Entry}
 use Rattle.shm_frames.proofs.Shown.{shown, length-shown, edit-shown, entry-is}
 use Rattle.shm_frames.proofs.Counts.{kept-empty, owned-there, changed-there}
 use Rattle.shm_frames.proofs.frames.Frames.empty.Goals as goal
+use Rattle.shm_frames.proofs.frames.Frames.empty.Goals.{After-self, After-index}
+
+there : (c : After-self) → c.args.frame < length c.self.inside.table.items
+there c = omega (arith, c.requires, length-shown (shown c.self.inside c.self.invariant c.self.view_is))
+
+at : (c : After-index) → c.index.result.now ≡ entry_at c.self.inside.table.items c.args.frame
+at c = entry-is (shown c.self.inside c.self.invariant c.self.view_is) c.args.frame c.index.result.now c.requires c.index.ensures
 
 pub index-requires : goal.index-requires
-index-requires c =
-    let s = shown c.self.inside c.self.invariant c.self.view_is in
-    omega (arith, length-shown s)
+index-requires c = omega (arith, there (goal.at.index-requires c).After-self)
 
 pub index_mut-requires : goal.index_mut-requires
-index_mut-requires c =
-    let s = shown c.self.inside c.self.invariant c.self.view_is in
-    omega (arith, length-shown s)
+index_mut-requires c = omega (arith, there (goal.at.index_mut-requires c).After-self)
 
 pub overflow_sub-self : goal.overflow_sub-self
 overflow_sub-self c =
-    let s = shown c.self.inside c.self.invariant c.self.view_is in
-    let was : Entry = c.index.result.now in
-    let at : was ≡ entry_at c.self.inside.table.items c.args.frame = entry-is s c.args.frame was c.requires c.index.ensures in
-    let there : c.args.frame < length c.self.inside.table.items = omega (arith, length-shown s) in
-    let o : from_bool (has_owner was) ≤ c.self.inside.resident = owned-there c.self.invariant.1 there at in
+    let p = goal.at.overflow_sub-self c in
+    let o : from_bool (has_owner c.index.result.now) ≤ c.self.inside.resident = owned-there c.self.invariant.1 (there p.After-self) (at p.After-index) in
     rw (c.from.ensures, c.is_some.ensures) o
 
 pub overflow_sub-self-2 : goal.overflow_sub-self-2
 overflow_sub-self-2 c =
-    let s = shown c.self.inside c.self.invariant c.self.view_is in
-    let was : Entry = c.index.result.now in
-    let at : was ≡ entry_at c.self.inside.table.items c.args.frame = entry-is s c.args.frame was c.requires c.index.ensures in
-    let there : c.args.frame < length c.self.inside.table.items = omega (arith, length-shown s) in
-    let o : from_bool was.dirty ≤ c.self.inside.dirty = changed-there c.self.invariant.1 there at in
-    rw c.from-2.ensures o
+    let p = goal.at.overflow_sub-self-2 c in
+    rw c.from-2.ensures (changed-there c.self.invariant.1 (there p.After-self) (at p.After-index))
 
 pub invariant_of-self : goal.invariant_of-self
 invariant_of-self c =
-    let s = shown c.self.inside c.self.invariant c.self.view_is in
-    let was : Entry = c.index.result.now in
-    let at : was ≡ entry_at c.self.inside.table.items c.args.frame = entry-is s c.args.frame was c.requires c.index.ensures in
-    let there : c.args.frame < length c.self.inside.table.items = omega (arith, length-shown s) in
-    (c.self.invariant.0 ∙ sym (length-set c.self.inside.table.items c.args.frame _), rw (c.from.ensures, c.is_some.ensures, c.from-2.ensures) (kept-empty c.self.invariant.1 there at c.min-self-inside.result (omega (arith, c.min-self-inside.ensures)) (omega (arith, c.min-self-inside.ensures))))
+    let p = goal.at.invariant_of-self c in
+    let least = c.min-self-inside.ensures in
+    let same = c.self.invariant.0 ∙ sym (length-set c.self.inside.table.items c.args.frame _) in
+    let kept = kept-empty c.self.invariant.1 (there p.After-self) (at p.After-index) c.min-self-inside.result (omega (arith, least)) (omega (arith, least)) in
+    (same, rw (c.from.ensures, c.is_some.ensures, c.from-2.ensures) kept)
 
 pub returns : goal.returns
 returns c =
