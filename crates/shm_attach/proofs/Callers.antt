@@ -125,6 +125,11 @@ caller_there c rs is =
 pub with_pieces-at : (c : Caller) (rs : List flat.Runner) (f : List flat.Piece → List flat.Piece) → IsCaller c rs → with_pieces rs (seen c rs) (f (pieces_at rs c.index)) ≡ with_pieces_at rs c.index f
 with_pieces-at c rs f is = sym (ap (with_own rs c.index f) (caller_there c rs is))
 
+-- the same, for the processes that are shown
+pub with_pieces-of : (c : Caller) (rs shown : List flat.Runner) (f : List flat.Piece → List flat.Piece) → rs ≡ shown → IsCaller c shown
+    → with_pieces_at rs c.index f ≡ with_pieces shown (seen c shown) (f (pieces_at shown c.index))
+with_pieces-of c rs shown f same is = ap (λ (xs : List flat.Runner). with_pieces_at xs c.index f) same ∙ sym (with_pieces-at c shown f is)
+
 pub not_live : (i pid : ℕ) (ps : List flat.Piece) (l : Life) → ((cred : Cred) → l ≡ Live cred → ⊥) → caller_by i pid ps (life_view l) ≡ None
 not_live i pid ps Unborn never = refl
 not_live i pid ps (Live cred) never = absurd (never cred refl)

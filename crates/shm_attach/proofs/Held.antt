@@ -1,5 +1,5 @@
 -- The table of each piece: what a change of the pieces and of the tables leaves.
-use Rattle.std.proofs.Common.{◌≡◌, ◌≢◌, inl, inr, ℕ, zero, suc, ◌+◌, ◌-◌, ◌/◌, ◌<◌, ◌≤◌, ◌==◌, ◌&&◌, Bool, true, false, nat_lt, List, [], ◌∷◌, length, get_or, slice_get, Option, Some, None, refl, ap, sym, subst, ◌∙◌, arith, eq-eqb}
+use Rattle.std.proofs.Common.{◌≡◌, ◌≢◌, inl, inr, ℕ, zero, suc, ◌+◌, ◌-◌, ◌/◌, ◌<◌, ◌≤◌, ◌==◌, ◌&&◌, Bool, true, false, nat_lt, List, [], ◌∷◌, length, filter, get_or, slice_get, Option, Some, None, refl, ap, sym, subst, ◌∙◌, arith, eq-eqb}
 use Rattle.std.specs.Prelude.{All}
 use Rattle.std.proofs.lemmas.Bool.{cases_eq, cases_lt, cases_Bool, lt-ltb, le-ltb, ltb-true, eqb-true, and_parts, true≢false}
 use Rattle.std.proofs.lemmas.Option.{none-some}
@@ -12,7 +12,7 @@ use Rattle.shm_base.specs.Access.{end_of}
 use Rattle.shm_base.specs.Space.{meets, pieces_of}
 use Rattle.shm_areas.specs.declared.piece.Piece.{Piece}
 use Rattle.shm_areas.specs.Arranged.{bare, bare_all}
-use Rattle.shm_areas.specs.Edit.{kept_inserted, kept_below, kept_above, kept_parts, kept_cut, kept_named, kept_without}
+use Rattle.shm_areas.specs.Edit.{kept_inserted, kept_below, kept_above, kept_parts, kept_cut}
 use Rattle.shm_attach.specs.declared.process.Runner.{Runner}
 use Rattle.shm_attach.specs.declared.tables.Tables.{Tables}
 use Rattle.shm_attach.specs.Views.{runner_view, runners_view}
@@ -97,13 +97,13 @@ module _ (t : Slab Entry) where
         | inr h ↦ rw h (All-cons (IsHeld t) q (kept_inserted p qs) (All-head (IsHeld t) q qs all) (held-inserted p qs own (All-tail (IsHeld t) q qs all)))
       ]
 
-  pub held-without : (addr seg : ℕ) (ps : List Piece) → All (IsHeld t) ps → All (IsHeld t) (kept_without addr seg ps)
-  held-without addr seg [] all = all
-  held-without addr seg (p ∷ ps) all =
-      let rest = held-without addr seg ps (All-tail (IsHeld t) p ps all) in
-      elim (cases_Bool (kept_named addr seg p)) [
-        | inl h ↦ rw h rest
-        | inr h ↦ rw h (All-cons (IsHeld t) p (kept_without addr seg ps) (All-head (IsHeld t) p ps all) rest)
+  pub held-filter : (f : Piece → Bool) (ps : List Piece) → All (IsHeld t) ps → All (IsHeld t) (filter f ps)
+  held-filter f [] all = all
+  held-filter f (p ∷ ps) all =
+      let rest = held-filter f ps (All-tail (IsHeld t) p ps all) in
+      elim (cases_Bool (f p)) [
+        | inl h ↦ rw h (All-cons (IsHeld t) p (filter f ps) (All-head (IsHeld t) p ps all) rest)
+        | inr h ↦ rw h rest
       ]
 
   held-below : (from : ℕ) (p : Piece) → from < end_of (bare p) → IsHeld t p → All (IsHeld t) (kept_below from p)
@@ -146,9 +146,9 @@ module _ (t : Slab Entry) where
 -- ALL PIECES
 
 -- a piece is counted
-counts-piece : (es : List (ℕ × Runner)) (u : Tables) → IsExact (runners_view es) u → (i k : ℕ) (d : Piece) → k < length (stored_at es i)
+counts-piece : (extra : ℕ → ℕ) (es : List (ℕ × Runner)) (u : Tables) → IsExact extra (runners_view es) u → (i k : ℕ) (d : Piece) → k < length (stored_at es i)
     → 0 < counted u (get_or (stored_at es i) k d).seg
-counts-piece es u exact i k d lt =
+counts-piece extra es u exact i k d lt =
     let ps = stored_at es i in
     let own : pieces_at (runners_view es) i ≡ bare_all ps = pieces_at-bare es i in
     let within : i < length (runners_view es) = omega (arith, stored_at-within es i k lt, length-map es runner_view) in
@@ -157,13 +157,13 @@ counts-piece es u exact i k d lt =
     let some : 1 ≤ pieces_of (get_or (bare_all ps) k e).seg (bare_all ps) = pieces_of-there k (bare_all ps) e long in
     let same : bare (get_or ps k d) ≡ get_or (bare_all ps) k e = bare-get_or ps k d e lt in
     let here : 1 ≤ pieces_of (get_or ps k d).seg (bare_all ps) = subst (λ (q : flat.Piece). 1 ≤ pieces_of q.seg (bare_all ps)) (sym same) some in
-    let all : pieces_of (get_or ps k d).seg (bare_all ps) ≤ counted u (get_or ps k d).seg = rw own at (own_counted (runners_view es) u i exact within (get_or ps k d).seg) in
+    let all : pieces_of (get_or ps k d).seg (bare_all ps) ≤ counted u (get_or ps k d).seg = rw own at (own_counted extra (runners_view es) u i exact within (get_or ps k d).seg) in
     omega (arith, here, all)
 
 -- the tables that are left are those of the pieces that are there
-pub held-all : (es : List (ℕ × Runner)) (t : Slab Entry) (u : Tables) → IsExact (runners_view es) u → AllHeld es t
+pub held-all : (extra : ℕ → ℕ) (es : List (ℕ × Runner)) (t : Slab Entry) (u : Tables) → IsExact extra (runners_view es) u → AllHeld es t
     → ((p : Piece) → IsHeld t p → 0 < counted u p.seg → IsHeld u.slab p) → AllHeld es u.slab
-held-all es t u exact all step i k d lt = step (get_or (stored_at es i) k d) (all i k d lt) (counts-piece es u exact i k d lt)
+held-all extra es t u exact all step i k d lt = step (get_or (stored_at es i) k d) (all i k d lt) (counts-piece extra es u exact i k d lt)
 
 -- one process has other pieces
 pub held-changed : (es fs : List (ℕ × Runner)) (t : Slab Entry) (i : ℕ) → AllHeld es t → All (IsHeld t) (stored_at fs i)

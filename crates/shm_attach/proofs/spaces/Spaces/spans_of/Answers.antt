@@ -19,7 +19,7 @@ pub space_at-space-requires : goal.space_at-space-requires
 space_at-space-requires c = caller_within c.args.caller.now c.self.inside.processes.entries (rw (← c.self.view_is) at c.requires.live)
 
 pub spans_in-requires-clause-held : goal.spans_in-requires-clause-held
-spans_in-requires-clause-held c = rw c.space_at-space.ensures.stored (c.self.invariant.2 c.args.caller.now.index)
+spans_in-requires-clause-held c = rw c.space_at-space.ensures.stored (c.self.invariant.held c.args.caller.now.index)
 
 pub returns : goal.returns
 returns c =
