@@ -18,9 +18,9 @@ use Rattle.shm_attach.specs.declared.tables.Tables.{Tables}
 use Rattle.shm_attach.specs.Views.{runner_view, runners_view}
 use Rattle.shm_attach.specs.Spaces.{pieces_at}
 use Rattle.shm_attach.specs.Entries.{Entry, seg_in, size_in, frame_in, TrueSlot}
-use Rattle.shm_attach.specs.Tables.{counted, stored_at, IsHeld, AllHeld}
+use Rattle.shm_attach.specs.Tables.{counted, stored_in, stored_at, IsHeld, AllHeld}
 use Rattle.shm_attach.specs.Exact.{IsExact}
-use Rattle.shm_attach.proofs.Processes.{held, held_entry, values_of}
+use Rattle.shm_attach.proofs.Processes.{held, values_of}
 use Rattle.shm_attach.proofs.Keeping.{own_counted, pieces_of-there, bare-get_or}
 
 -- WHERE THE PIECES STAND
@@ -29,11 +29,6 @@ pub stored_at-value : (es : List (ℕ × Runner)) (i : ℕ) (w : Runner) → Som
 stored_at-value [] i w at = absurd (none-some w (sym at))
 stored_at-value (e ∷ es) zero w at = sym (ap (λ (x : Runner). x.space) (ap (held w) at))
 stored_at-value (e ∷ es) (suc i) w at = stored_at-value es i w at
-
-pub stored_at-entry : (es : List (ℕ × Runner)) (i k : ℕ) (w : Runner) → Some (k, w) ≡ slice_get es i → stored_at es i ≡ w.space
-stored_at-entry [] i k w at = absurd (none-some (k, w) (sym at))
-stored_at-entry (e ∷ es) zero k w at = sym (ap (λ (x : ℕ × Runner). x.1.space) (ap (held_entry (k, w)) at))
-stored_at-entry (e ∷ es) (suc i) k w at = stored_at-entry es i k w at
 
 pub stored_at-set : (es : List (ℕ × Runner)) (i : ℕ) (w v : Runner) → Some w ≡ slice_get (values_of es) i → stored_at (set_value_at es i v) i ≡ v.space
 stored_at-set [] i w v at = absurd (none-some w (sym at))
@@ -51,6 +46,13 @@ pub pieces_at-bare : (es : List (ℕ × Runner)) (i : ℕ) → pieces_at (runner
 pieces_at-bare [] i = refl
 pieces_at-bare (e ∷ es) zero = refl
 pieces_at-bare (e ∷ es) (suc i) = pieces_at-bare es i
+
+-- the pieces of a process are shown as they are stored
+pub pieces_at-stored : (es : List (ℕ × Runner)) (i : ℕ) (w : Runner) → Some w ≡ slice_get (values_of es) i → pieces_at (runners_view es) i ≡ bare_all w.space
+pieces_at-stored es i w at = pieces_at-bare es i ∙ ap bare_all (stored_at-value es i w at)
+
+pub pieces_at-entry : (es : List (ℕ × Runner)) (i : ℕ) (e : ℕ × Runner) → slice_get es i ≡ Some e → pieces_at (runners_view es) i ≡ bare_all e.1.space
+pieces_at-entry es i e at = pieces_at-bare es i ∙ ap (λ o. bare_all (stored_in o)) at
 
 stored_at-within : (es : List (ℕ × Runner)) (i k : ℕ) → k < length (stored_at es i) → i < length es
 stored_at-within [] i k lt = absurd (omega (arith, lt))

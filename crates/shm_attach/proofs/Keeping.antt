@@ -61,11 +61,6 @@ pieces_at-changed rs i f lt =
     ∙ pieces_at-set rs i (record (get_or rs i nobody) { pieces = f (get_or rs i nobody).pieces }) lt
     ∙ ap f (sym (pieces_at-get_or rs i))
 
-pub pieces_at-other : (rs : List Runner) (i j : ℕ) (f : List Piece → List Piece) → i < length rs → j ≢ i → pieces_at (with_pieces_at rs i f) j ≡ pieces_at rs j
-pieces_at-other rs i j f lt other =
-    ap (λ (xs : List Runner). pieces_at xs j) (with_pieces_at-within rs i f lt)
-    ∙ pieces_at-set_other rs i j (record (get_or rs i nobody) { pieces = f (get_or rs i nobody).pieces }) other
-
 pub life_at-changed : (rs : List Runner) (i : ℕ) (f : List Piece → List Piece) → i < length rs → life_at (with_pieces_at rs i f) i ≡ life_at rs i
 life_at-changed rs i f lt =
     ap (λ (xs : List Runner). life_at xs i) (with_pieces_at-within rs i f lt)

@@ -69,33 +69,6 @@ impl Tables {
         }
     }
 
-    // The table of a segment that has none, with one piece.
-    fn open<P: Pager>(
-        &mut self,
-        store: &PageStore<P>,
-        seg: u32,
-        pages: u32,
-    ) -> Result<usize, HostMemory>
-        requires none { counted self.old seg ≡ 0 }
-        requires tied { IsTied self.old }
-        ensures counts { OnOk result ((id : ℕ) → counted self.new id ≡ counted self.old id + one_if id seg) }
-        ensures seg { IfOk result (λ key. seg_in (get self.new.slab key) ≡ Some seg) }
-        ensures pages { IfOk result (λ key. pages ≤ size_in (get self.new.slab key)) }
-        ensures held { (p : Stored) → IsHeld self.old.slab p → IsHeld self.new.slab p }
-        ensures translated { AllTrue (frame_of store.now) self.old.slab → AllTrue (frame_of store.now) self.new.slab }
-        ensures tied { IsTied self.new }
-        ensures slots { OnErr result (self.new.slab.slots ≡ self.old.slab.slots) }
-        ensures err { OnErr result ((id : ℕ) → counted self.new id ≡ counted self.old id) }
-    {
-        let mut table = Table::new(self.alloc, seg);
-        table.extend(store, pages)?;
-        self.slab.reserve(1)?;
-        let key = self.slab.vacant_key();
-        self.keys.insert(seg, key)?;
-        self.slab.insert_reserved(table);
-        Ok(key)
-    }
-
     // A table goes on to so many pages of its segment.
     fn extend<P: Pager>(
         &mut self,
@@ -137,11 +110,17 @@ impl Tables {
         ensures slots { OnErr result (self.new.slab.slots ≡ self.old.slab.slots) }
         ensures err { OnErr result ((id : ℕ) → counted self.new id ≡ counted self.old id) }
     {
-        let Some(key) = self.key(seg) else {
-            return self.open(store, seg, pages);
-        };
-        self.extend(store, key, pages)?;
-        self.replace(seg, key, 0, 1);
+        if let Some(key) = self.key(seg) {
+            self.extend(store, key, pages)?;
+            self.replace(seg, key, 0, 1);
+            return Ok(key);
+        }
+        let mut table = Table::new(self.alloc, seg);
+        table.extend(store, pages)?;
+        self.slab.reserve(1)?;
+        let key = self.slab.vacant_key();
+        self.keys.insert(seg, key)?;
+        self.slab.insert_reserved(table);
         Ok(key)
     }
 

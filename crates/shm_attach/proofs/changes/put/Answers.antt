@@ -10,8 +10,8 @@ use Rattle.shm_attach.specs.Place.{IsPlaceFor}
 use Rattle.shm_attach.specs.Views.{runners_view}
 use Rattle.shm_attach.specs.Spaces.{pieces_at}
 use Rattle.shm_attach.specs.Tables.{counted, IsHeld}
-use Rattle.shm_attach.proofs.Processes.{values_of, pieces_at-stored, pieces_of-inserted, some_if-le}
-use Rattle.shm_attach.proofs.Held.{stored_at-value, held-inserted}
+use Rattle.shm_attach.proofs.Processes.{values_of, pieces_of-inserted, some_if-le}
+use Rattle.shm_attach.proofs.Held.{pieces_at-stored, stored_at-value, held-inserted}
 use Rattle.shm_attach.proofs.Tied.{held-counted}
 use Rattle.shm_attach.proofs.Sound.{changed, fit-inserted, sound-changed, counts-small}
 use Rattle.shm_attach.proofs.changes.put.Goals.{In-Some}

@@ -12,8 +12,8 @@ use Rattle.shm_attach.specs.Views.{some_if, runners_view}
 use Rattle.shm_attach.specs.Spaces.{pieces_at}
 use Rattle.shm_attach.specs.Part.{IsCuttable}
 use Rattle.shm_attach.specs.Tables.{counted, counted_under, stored_at, IsHeld}
-use Rattle.shm_attach.proofs.Processes.{values_of, pieces_at-stored, bare-met, met-meets, pieces_of-filter, pieces_of-cut_met, pieces_of-without, shorter_filter, some_if-le}
-use Rattle.shm_attach.proofs.Held.{stored_at-value, held-cut, held-filter}
+use Rattle.shm_attach.proofs.Processes.{values_of, bare-met, met-meets, pieces_of-filter, pieces_of-cut_met, pieces_of-without, shorter_filter, some_if-le}
+use Rattle.shm_attach.proofs.Held.{pieces_at-stored, stored_at-value, held-cut, held-filter}
 use Rattle.shm_attach.proofs.Sound.{changed, fit-cut, fit-without, sound-changed, counts-small, counts-own}
 use Rattle.shm_attach.proofs.changes.take.Goals.{In-Some, In-Range, After-pieces}
 use Rattle.shm_attach.proofs.changes.take.Goals as goal
