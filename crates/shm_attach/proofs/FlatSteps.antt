@@ -1,17 +1,13 @@
 -- The flat machine's steps, by what the address spaces answer. For the machine above.
-use Rattle.std.proofs.Common.{◌≡◌, ℕ, ◌+◌, ◌%◌, true, false, List, [], ◌∷◌, length, map, Option, Some, None, option_map, refl, ap, sym, ◌∙◌, ◌^◌}
-use Rattle.std.specs.Int.{w64, to_le_bytes, from_le_bytes}
+use Rattle.std.proofs.Common.{◌≡◌, ℕ, true, false, List, [], ◌∷◌, length, map, Option, Some, None, option_map, refl, ap, sym, ◌∙◌}
 use Rattle.std.proofs.lemmas.Option.{none-some}
-use Rattle.shm_base.specs.declared.errno.Errno.TheVariants.{Eagain, Einval, Sigsegv}
-use Rattle.shm_base.specs.declared.call.Reply.TheVariants.{Bytes, Number, Done}
+use Rattle.shm_base.specs.declared.call.Reply.TheVariants.{Bytes, Done}
 use Rattle.shm_base.specs.State.{Entry, Piece, Runner, Machine}
 use Rattle.shm_base.specs.Access.{Place, places, writable_places, byte_at, with_byte, loaded, stored}
 use Rattle.shm_base.specs.Space.{origin_of, without_named}
 use Rattle.shm_base.specs.Segments.{after_detach}
-use Rattle.shm_base.specs.Step.{Caller, caller_from, gives, refuses, with_pieces, detaches, shmdt, fork, forks, load, store, xadd, unborn_from}
+use Rattle.shm_base.specs.Step.{Caller, caller_from, gives, with_pieces, detaches, shmdt, load, store}
 use Rattle.shm_attach.specs.Spans.{unmarked, wanted_in, pieces_by, pieces_of_caller}
-use Rattle.shm_attach.specs.declared.process.Child.{Child}
-use Rattle.shm_attach.specs.Fork.{born_child}
 
 -- DETACHING
 

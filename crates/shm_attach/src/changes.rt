@@ -114,9 +114,7 @@ pub(crate) fn take(
             let before = runner.space.pieces().len();
             runner.space.take_at(addr, seg);
             let gone = before - runner.space.pieces().len();
-            if let Some(key) = tables.key(seg) {
-                tables.replace(seg, key, gone as u32, 0);
-            }
+            tables.leave(seg, gone as u32);
         }
     }
 }

@@ -145,6 +145,21 @@ impl Tables {
         }
     }
 
+    /// Some pieces of a segment go. It takes no memory.
+    pub(crate) fn leave(&mut self, seg: u32, gone: u32)
+        requires gone { gone ≤ counted self.old seg }
+        requires fits { counted self.old seg < 2 ^ 32 }
+        requires tied { IsTied self.old }
+        ensures counts { (id : ℕ) → counted self.new id + some_if id seg gone ≡ counted self.old id }
+        ensures held { (p : Stored) → IsHeld self.old.slab p → 0 < counted self.new p.seg → IsHeld self.new.slab p }
+        ensures translated { (at : ℕ → ℕ → Option ℕ) → AllTrue at self.old.slab → AllTrue at self.new.slab }
+        ensures tied { IsTied self.new }
+    {
+        if let Some(key) = self.key(seg) {
+            self.replace(seg, key, gone, 0);
+        }
+    }
+
     // Notes where a page is now.
     fn set(&mut self, page: PageRef, frame: Option<FrameNo>)
         requires { IsTied self.old }

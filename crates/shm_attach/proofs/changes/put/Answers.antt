@@ -1,20 +1,18 @@
-use Rattle.std.proofs.Common.{◌≡◌, ℕ, ◌+◌, ◌<◌, ◌∙◌, ap, sym, subst, refl, arith, List, Some, slice_get, length}
+use Rattle.std.proofs.Common.{◌≡◌, refl, arith, Some, slice_get}
 use Rattle.std.specs.Prelude.{All}
 use Rattle.std.proofs.lemmas.List.{length-map}
-use Rattle.shm_base.specs.Space.{inserted, pieces_of}
+use Rattle.shm_base.specs.Space.{inserted}
 use Rattle.shm_areas.specs.Arranged.{bare, bare_all}
-use Rattle.shm_areas.specs.declared.piece.Piece.{Piece}
 use Rattle.shm_attach.specs.declared.process.Runner.{Runner}
 use Rattle.indexmap.specs.IndexMap.{set_value_at}
 use Rattle.shm_attach.specs.Place.{IsPlaceFor}
 use Rattle.shm_attach.specs.Views.{runners_view}
 use Rattle.shm_attach.specs.Spaces.{pieces_at}
-use Rattle.shm_attach.specs.Tables.{counted, IsHeld}
+use Rattle.shm_attach.specs.Tables.{IsHeld}
 use Rattle.shm_attach.proofs.Processes.{values_of, pieces_of-inserted, some_if-le}
 use Rattle.shm_attach.proofs.Held.{pieces_at-stored, stored_at-value, held-inserted}
-use Rattle.shm_attach.proofs.Tied.{held-counted}
-use Rattle.shm_attach.proofs.Sound.{changed, fit-inserted, sound-changed, counts-small}
-use Rattle.shm_attach.proofs.changes.put.Goals.{In-Some}
+use Rattle.shm_attach.proofs.Sound.{IsChanged, changed, fit-inserted, sound-changed, counts-small}
+use Rattle.shm_attach.proofs.changes.put.Goals.{In-Some, After-insert}
 use Rattle.shm_attach.proofs.changes.put.Goals as goal
 
 stands : (c : In-Some) → Some c.in-Some.runner.now ≡ slice_get (values_of c.args.processes.now.entries) c.args.index
@@ -26,37 +24,44 @@ place c = rw (← pieces_at-stored c.args.processes.now.entries c.args.index c.i
 pub replace-requires-clause-fits : goal.replace-requires-clause-fits
 replace-requires-clause-fits c = omega (arith, counts-small c.args.processes.now.entries c.args.tables.now c.requires.holds c.args.piece.seg)
 
-pub insert-requires : goal.insert-requires
-insert-requires c =
-    let own = place (goal.at.insert-requires c).In-Some in
-    record { room = rw (← length-map c.in-Some.runner.now.space bare) own.room; low = own.low; fit = own.fit; free = own.free }
+pub insert-requires-clause-room : goal.insert-requires-clause-room
+insert-requires-clause-room c = rw (← length-map c.in-Some.runner.now.space bare) (place (goal.at.insert-requires-clause-room c).In-Some).room
 
-pub returns : goal.returns
-returns c =
+pub insert-requires-clause-free : goal.insert-requires-clause-free
+insert-requires-clause-free c = (place (goal.at.insert-requires-clause-free c).In-Some).free
+
+abbrev after : (c : After-insert) → Runner
+after c = record { life = c.in-Some.runner.now.life; space = c.insert.new.self }
+
+done : (c : After-insert) → Some c.in-Some.runner.now ≡ slice_get (values_of c.args.processes.now.entries) c.args.index
+    → IsChanged c.args.processes.now.entries (set_value_at c.args.processes.now.entries c.args.index (after c)) c.args.index (inserted (bare c.args.piece)) c.insert.new.self
+done c at = changed c.args.processes.now.entries c.args.index c.in-Some.runner.now (after c) (inserted (bare c.args.piece)) at refl c.insert.ensures.flat
+
+pub returns-clause-runners : goal.returns-clause-runners
+returns-clause-runners c = (done (goal.at.returns-clause-runners c).After-insert (stands (goal.at.returns-clause-runners c).In-Some)).runners
+
+pub returns-clause-count : goal.returns-clause-count
+returns-clause-count c = (done (goal.at.returns-clause-count c).After-insert (stands (goal.at.returns-clause-count c).In-Some)).count
+
+pub returns-clause-others : goal.returns-clause-others
+returns-clause-others c = (done (goal.at.returns-clause-others c).After-insert (stands (goal.at.returns-clause-others c).In-Some)).others
+
+pub returns-clause-sound : goal.returns-clause-sound
+returns-clause-sound c = λ extra s.
     let es = c.args.processes.now.entries in
+    let i = c.args.index in
     let t = c.args.tables.now in
-    let u = c.replace.new.self in
     let p = c.args.piece in
-    let ps = pieces_at (runners_view es) c.args.index in
+    let ps = pieces_at (runners_view es) i in
     let w = c.in-Some.runner.now in
-    let v : Runner = record { life = w.life; space = c.insert.new.self } in
-    let at = stands (goal.at.returns c).In-Some in
-    let ch = changed es c.args.index w v (inserted (bare p)) at refl c.insert.ensures.flat in
-    let counts = c.replace.ensures.counts in
-    record {
-      runners = ch.runners;
-      count = ch.count;
-      others = ch.others;
-      sound = λ extra s.
-          let before : All (IsHeld t.slab) w.space = rw (stored_at-value es c.args.index w at) at (s.held c.args.index) in
-          let held : All (IsHeld t.slab) c.insert.new.self = rw c.insert.ensures.kept (held-inserted t.slab p w.space c.requires.table before) in
-          sound-changed extra es (set_value_at es c.args.index v) t u c.args.index (inserted (bare p)) c.insert.new.self c.requires.there s ch
-          (fit-inserted extra es t c.args.index (bare p) s c.requires.place c.requires.born) held
-          (record {
-            counts = λ id. omega (arith, counts id, pieces_of-inserted id (bare p) ps, some_if-le id p.seg 0);
-            held = c.replace.ensures.held;
-            tied = c.replace.ensures.tied;
-          });
-      held = λ q own. c.replace.ensures.held q own (omega (arith, held-counted t q c.requires.holds.sound.tied own, counts q.seg, some_if-le q.seg p.seg 0));
-      translated = c.replace.ensures.translated;
-    }
+    let b = goal.at.returns-clause-sound c in
+    let at = stands b.In-Some in
+    let before : All (IsHeld t.slab) w.space = rw (stored_at-value es i w at) at (s.held i) in
+    let held : All (IsHeld t.slab) c.insert.new.self = rw c.insert.ensures.kept (held-inserted t.slab p w.space c.requires.table before) in
+    let fit = fit-inserted extra es t i (bare p) s c.requires.place c.requires.born in
+    sound-changed extra es (set_value_at es i (after b.After-insert)) t c.replace.new.self i (inserted (bare p)) c.insert.new.self c.requires.there s (done b.After-insert at) fit held
+    (record {
+      counts = λ id. omega (arith, c.replace.ensures.counts id, pieces_of-inserted id (bare p) ps, some_if-le id p.seg 0);
+      held = c.replace.ensures.held;
+      tied = c.replace.ensures.tied;
+    })

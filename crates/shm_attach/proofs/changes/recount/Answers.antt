@@ -22,16 +22,6 @@ counted_still c =
     let one : one_if p.seg p.seg ≡ 1 = rw (eq-eqb p.seg p.seg refl) refl in
     omega (arith, c.loop-piece.invariant.some p.seg, here, one)
 
-pub replace-requires-clause-own : goal.replace-requires-clause-own
-replace-requires-clause-own c =
-    let i = c.loop-piece.piece-index in
-    let own = c.requires.tables i nothing c.loop-piece-test.true in
-    let still = counted_still (goal.at.replace-requires-clause-own c).After-parts_outside-parts in
-    (c.loop-piece.invariant.held (get_or c.args.met.now i nothing) own still).seg
-
-pub replace-requires-clause-gone : goal.replace-requires-clause-gone
-replace-requires-clause-gone c = let still = counted_still (goal.at.replace-requires-clause-gone c).After-parts_outside-parts in omega (arith, still)
-
 pub loop-piece-preserved : goal.loop-piece-preserved
 loop-piece-preserved c =
     let i = c.loop-piece.piece-index in

@@ -1,4 +1,4 @@
-use Rattle.std.proofs.Common.{◌≡◌, ℕ, ◌+◌, ◌-◌, ◌<◌, ◌≤◌, ◌∙◌, Bool, not, ap, sym, subst, refl, arith, eq-eqb, List, Some, None, slice_get, length, filter}
+use Rattle.std.proofs.Common.{◌≡◌, ℕ, ◌+◌, ◌-◌, ◌≤◌, ◌∙◌, not, ap, sym, refl, arith, eq-eqb, List, Some, slice_get, length, filter}
 use Rattle.std.specs.Prelude.{All}
 use Rattle.std.proofs.lemmas.List.{length-map}
 use Rattle.indexmap.specs.IndexMap.{set_value_at}
@@ -11,8 +11,8 @@ use Rattle.shm_attach.specs.declared.process.Runner.{Runner}
 use Rattle.shm_attach.specs.Views.{some_if, runners_view}
 use Rattle.shm_attach.specs.Spaces.{pieces_at}
 use Rattle.shm_attach.specs.Part.{IsCuttable}
-use Rattle.shm_attach.specs.Tables.{counted, counted_under, stored_at, IsHeld}
-use Rattle.shm_attach.proofs.Processes.{values_of, bare-met, met-meets, pieces_of-filter, pieces_of-cut_met, pieces_of-without, shorter_filter, some_if-le}
+use Rattle.shm_attach.specs.Tables.{counted, stored_at, IsHeld}
+use Rattle.shm_attach.proofs.Processes.{values_of, bare-met, met-meets, pieces_of-filter, pieces_of-cut_met, pieces_of-without, shorter_filter}
 use Rattle.shm_attach.proofs.Held.{pieces_at-stored, stored_at-value, held-cut, held-filter}
 use Rattle.shm_attach.proofs.Sound.{changed, fit-cut, fit-without, sound-changed, counts-small, counts-own}
 use Rattle.shm_attach.proofs.changes.take.Goals.{In-Some, In-Range, After-pieces}
@@ -132,73 +132,41 @@ named : (c : After-pieces) (id : ℕ)
 named c id =
     pieces_of-without id c.in-Attach.addr c.in-Attach.seg (bare_all c.in-Some.runner.now.space) (length c.pieces-before.result.now - length c.pieces.result.now) (gone c)
 
-pub replace-requires-clause-gone : goal.replace-requires-clause-gone
-replace-requires-clause-gone c =
-    let b = goal.at.replace-requires-clause-gone c in
+pub leave-requires-clause-gone : goal.leave-requires-clause-gone
+leave-requires-clause-gone c =
+    let b = goal.at.leave-requires-clause-gone c in
     let seg = c.in-Attach.seg in
     let went = rw (eq-eqb seg seg refl) at (named b.After-pieces seg) in
     omega (arith, went, mine b.In-Some seg)
 
-pub replace-requires-clause-fits : goal.replace-requires-clause-fits
-replace-requires-clause-fits c = omega (arith, counts-small c.args.processes.now.entries c.args.tables.now c.requires.holds c.in-Attach.seg)
-
-pub returns-in-Some-key : goal.returns-in-Some-key
-returns-in-Some-key c =
+pub returns-in-Attach : goal.returns-in-Attach
+returns-in-Attach c =
     let es = c.args.processes.now.entries in
     let i = c.args.index in
-    let addr = c.in-Attach.addr in
-    let seg = c.in-Attach.seg in
+    let f = without_named c.in-Attach.addr c.in-Attach.seg in
     let t = c.args.tables.now in
     let w = c.in-Some.runner.now in
     let v : Runner = record { life = w.life; space = c.take_at.new.self } in
-    let b = goal.at.returns-in-Some-key c in
-    let ch = changed es i w v (without_named addr seg) (stands b.In-Some) refl c.take_at.ensures.flat in
+    let b = goal.at.returns-in-Attach c in
+    let ch = changed es i w v f (stands b.In-Some) refl c.take_at.ensures.flat in
+    let test = λ (p : Piece). not (kept_named c.in-Attach.addr c.in-Attach.seg p) in
     record {
       runners = rw c.in-Attach.is ch.runners;
       count = ch.count;
       sound = λ extra s.
           let before : All (IsHeld t.slab) w.space = rw (own b.In-Some) at (s.held i) in
-          let held : All (IsHeld t.slab) c.take_at.new.self = rw c.take_at.ensures.kept (held-filter t.slab (λ (p : Piece). not (kept_named addr seg p)) w.space before) in
-          sound-changed extra es (set_value_at es i v) t c.replace.new.self i (without_named addr seg) c.take_at.new.self c.requires.there s ch
-          (fit-without extra es t i addr seg s) held
+          let held : All (IsHeld t.slab) c.take_at.new.self = rw c.take_at.ensures.kept (held-filter t.slab test w.space before) in
+          sound-changed extra es (set_value_at es i v) t c.leave.new.self i f c.take_at.new.self c.requires.there s ch
+          (fit-without extra es t i c.in-Attach.addr c.in-Attach.seg s) held
           (rw (shown b.In-Some)
           (record {
-            counts = λ id. omega (arith, named b.After-pieces id, c.replace.ensures.counts id, some_if-le id seg 0);
-            held = c.replace.ensures.held;
-            tied = c.replace.ensures.tied;
+            counts = λ id. omega (arith, named b.After-pieces id, c.leave.ensures.counts id);
+            held = c.leave.ensures.held;
+            tied = c.leave.ensures.tied;
           }));
-      held = c.replace.ensures.held;
-      translated = c.replace.ensures.translated;
+      held = c.leave.ensures.held;
+      translated = c.leave.ensures.translated;
     }
 
-pub returns-in_default-key : goal.returns-in_default-key
-returns-in_default-key c =
-    let es = c.args.processes.now.entries in
-    let i = c.args.index in
-    let addr = c.in-Attach.addr in
-    let seg = c.in-Attach.seg in
-    let t = c.args.tables.now in
-    let w = c.in-Some.runner.now in
-    let v : Runner = record { life = w.life; space = c.take_at.new.self } in
-    let b = goal.at.returns-in_default-key c in
-    let ch = changed es i w v (without_named addr seg) (stands b.In-Some) refl c.take_at.ensures.flat in
-    let none : counted t seg ≡ 0 = ap (counted_under t.slab) (sym c.in_default-key.ensures) in
-    let went = rw (eq-eqb seg seg refl) at (named b.After-pieces seg) in
-    let nothing : length c.pieces-before.result.now - length c.pieces.result.now ≡ 0 = omega (arith, went, none, mine b.In-Some seg) in
-    record {
-      runners = rw c.in-Attach.is ch.runners;
-      count = ch.count;
-      sound = λ extra s.
-          let before : All (IsHeld t.slab) w.space = rw (own b.In-Some) at (s.held i) in
-          let held : All (IsHeld t.slab) c.take_at.new.self = rw c.take_at.ensures.kept (held-filter t.slab (λ (p : Piece). not (kept_named addr seg p)) w.space before) in
-          sound-changed extra es (set_value_at es i v) t t i (without_named addr seg) c.take_at.new.self c.requires.there s ch
-          (fit-without extra es t i addr seg s) held
-          (rw (shown b.In-Some)
-          (record {
-            counts = λ id. omega (arith, rw nothing at (named b.After-pieces id), some_if-le id seg 0);
-            held = λ p has some. has;
-            tied = s.tied;
-          }));
-      held = λ p has some. has;
-      translated = λ at all. all;
-    }
+pub leave-requires-clause-fits : goal.leave-requires-clause-fits
+leave-requires-clause-fits c = omega (arith, counts-small c.args.processes.now.entries c.args.tables.now c.requires.holds c.in-Attach.seg)

@@ -1,6 +1,6 @@
-use Rattle.std.proofs.Common.{◌≡◌, ◌≢◌, ℕ, ◌+◌, ◌*◌, ◌<◌, ◌≤◌, ◌∙◌, ap, sym, subst, refl, arith, eq-eqb, false, List, length, map}
+use Rattle.std.proofs.Common.{◌≡◌, ℕ, ◌+◌, ◌*◌, ◌<◌, ◌≤◌, ◌∙◌, ap, sym, subst, refl, arith, eq-eqb, List, length, map}
 use Rattle.shm_base.specs.Space.{inserted, cut, cut_segments}
-use Rattle.shm_areas.specs.Arranged.{bare, bare_all}
+use Rattle.shm_areas.specs.Arranged.{bare}
 use Rattle.shm_areas.specs.declared.piece.Piece.{Piece}
 use Rattle.shm_fault.specs.Store.{frame_of}
 use Rattle.shm_attach.specs.declared.process.Runner.{Runner}

@@ -1,4 +1,4 @@
-use Rattle.std.proofs.Common.{◌≡◌, ℕ, ◌<◌, ◌∙◌, ap, sym, refl, arith, List, [], length, map}
+use Rattle.std.proofs.Common.{◌≡◌, ◌<◌, ◌∙◌, ap, sym, refl, arith, List, [], length, map}
 use Rattle.std.proofs.lemmas.Simd.{map-map}
 use Rattle.shm_base.specs.State as flat
 use Rattle.shm_base.specs.Space.{lowest_address, last_address, cut}

@@ -1,8 +1,7 @@
-use Rattle.std.proofs.Common.{◌≡◌, ◌≢◌, ◌<◌, ◌∙◌, ap, sym, arith, List, [], length, get_or, set}
+use Rattle.std.proofs.Common.{◌≡◌, ◌≢◌, ◌<◌, ◌∙◌, ap, sym, arith, List, length, get_or, set}
 use Rattle.std.proofs.lemmas.List.{length-map}
 use Rattle.shm_base.specs.State.{Piece, Runner, Unborn, Live}
-use Rattle.shm_base.specs.Segments.{attach_count}
-use Rattle.shm_attach.specs.Views.{runner_view, runners_view, with_life_at, with_pieces_at}
+use Rattle.shm_attach.specs.Views.{runner_view, runners_view, with_pieces_at}
 use Rattle.shm_attach.specs.Spaces.{SpacesView, pieces_at, life_at, seen}
 use Rattle.shm_attach.specs.Fork.{born_child}
 use Rattle.shm_attach.proofs.Processes.{nobody}
@@ -10,7 +9,7 @@ use Rattle.shm_attach.proofs.Callers.{caller_within, caller_born, ChildAt, child
 use Rattle.shm_attach.proofs.Keeping.{life_at-born, pieces_at-born, runners-born, attach_count-more}
 use Rattle.shm_attach.proofs.Sound.{sound-life}
 use Rattle.shm_attach.proofs.Translations.{keeps}
-use Rattle.shm_attach.proofs.spaces.Spaces.fork.Goals.{After-self, After-set_life_at, After-copy_pieces}
+use Rattle.shm_attach.proofs.spaces.Spaces.fork.Goals.{After-self, After-copy_pieces}
 use Rattle.shm_attach.proofs.spaces.Spaces.fork.Goals as goal
 
 child : (c : After-self) → ChildAt c.args.child.now.pid c.args.child.now.index (runners_view c.self.inside.processes.entries)

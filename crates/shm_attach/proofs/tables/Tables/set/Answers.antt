@@ -1,5 +1,4 @@
 use Rattle.std.proofs.Common.{◌≡◌, ◌∙◌, ap, sym, subst, Some}
-use Rattle.std.proofs.lemmas.Option.{none-some}
 use Rattle.slab.specs.Slab.{get, with_value}
 use Rattle.shm_attach.specs.Entries.{seg_in, TrueSlot}
 use Rattle.shm_attach.proofs.Tied.{tied-table, update-value, true-unknown, true-set}
@@ -31,7 +30,3 @@ pub returns-in-Some-get_mut-clause-tied : goal.returns-in-Some-get_mut-clause-ti
 returns-in-Some-get_mut-clause-tied c =
     let t = c.args.self.now in
     tied-table t c.in-Some.key.now c.in-Some-get_mut.table.now c.set.new.self c.requires (sym c.in-Some-get_mut.ensures.value) c.set.ensures.rest
-
-pub returns-in_default-get_mut-clause-translated : goal.returns-in_default-get_mut-clause-translated
-returns-in_default-get_mut-clause-translated c = λ at all.
-    absurd (none-some c.args.page.seg (ap seg_in c.in_default-get_mut.ensures.value ∙ own (goal.at.returns-in_default-get_mut-clause-translated c).In-Some))
