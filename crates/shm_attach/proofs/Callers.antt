@@ -1,5 +1,5 @@
 -- Which process a pid names, and what changes of its pieces are for the flat machine.
-use Rattle.std.proofs.Common.{◌≡◌, ◌≢◌, ◌⊎◌, inl, inr, ℕ, zero, suc, ◌+◌, ◌<◌, ◌≤◌, false, nat_eq, if◌then◌else◌, List, [], ◌∷◌, length, map, get_or, set, Some, None, slice_get, refl, ap, sym, subst, ◌∙◌, arith, eq-eqb, ne_eqb, length-set}
+use Rattle.std.proofs.Common.{◌≡◌, ◌≢◌, ◌⊎◌, inl, inr, ℕ, zero, suc, ◌+◌, ◌<◌, ◌≤◌, false, nat_eq, ◌==◌, if◌then◌else◌, List, [], ◌∷◌, length, map, get_or, set, Option, Some, None, slice_get, refl, ap, sym, subst, ◌∙◌, arith, eq-eqb, ne_eqb, length-set}
 use Rattle.std.specs.Prelude.{position}
 use Rattle.std.specs.List.{position_or_len}
 use Rattle.std.proofs.lemmas.Bool.{cases_eq, cases_lt, lt-ltb, eqb-true, eqb-false}
@@ -17,6 +17,7 @@ use Rattle.shm_attach.specs.declared.process.Life.TheVariants.{Unborn, Live, End
 use Rattle.shm_attach.specs.declared.process.Runner.{Runner}
 use Rattle.shm_attach.specs.Views.{life_view, runner_view, runners_view, with_own, with_pieces_at, with_other_life, with_life_at}
 use Rattle.shm_attach.specs.Spaces.{pieces_at, life_at, life_in, seen, IsCaller}
+use Rattle.shm_attach.proofs.Keeping.{life_at-get_or}
 
 -- what a list answers past its end
 abbrev pub nobody : ℕ × Runner
@@ -28,21 +29,62 @@ first_runner = record { pid = 0; life = flat.Unborn; pieces = [] }
 abbrev pub keys_in : List (ℕ × Runner) → List ℕ
 keys_in es = map (λ (e : ℕ × Runner). e.0) es
 
--- the process at the first place with the pid
-pub caller_from-found : (n pid i : ℕ) (es : List (ℕ × Runner)) → i < length es → (get_or es i nobody).0 ≡ pid → ((k : ℕ) → k < i → (get_or es k nobody).0 ≢ pid)
-    → caller_from n pid (runners_view es) ≡ caller_by (n + i) pid (bare_all (get_or es i nobody).1.space) (life_view (get_or es i nobody).1.life)
-caller_from-found n pid i [] lt own others = absurd (omega arith)
-caller_from-found n pid zero (e ∷ es) lt own others =
+-- WHAT IS SAID OF THE FIRST PROCESS WITH A PID
+
+abbrev first : {X : Type 0} → (ℕ → flat.Runner → Option X) → ℕ → ℕ → List flat.Runner → Option X
+first f n pid [] = None
+first f n pid (r ∷ rs) = if r.pid == pid then f n r else first f (n + 1) pid rs
+
+abbrev as_caller : ℕ → ℕ → flat.Runner → Option FlatCaller
+as_caller pid i r = caller_by i pid r.pieces r.life
+
+abbrev as_child : ℕ → flat.Runner → Option ℕ
+as_child i r = if is_unborn r.life then Some i else None
+
+caller_from-first : (n pid : ℕ) (rs : List flat.Runner) → caller_from n pid rs ≡ first (as_caller pid) n pid rs
+caller_from-first n pid [] = refl
+caller_from-first n pid (r ∷ rs) = ap (λ o. if r.pid == pid then caller_by n pid r.pieces r.life else o) (caller_from-first (n + 1) pid rs)
+
+unborn_from-first : (n pid : ℕ) (rs : List flat.Runner) → unborn_from n pid rs ≡ first as_child n pid rs
+unborn_from-first n pid [] = refl
+unborn_from-first n pid (r ∷ rs) = ap (λ o. if r.pid == pid then as_child n r else o) (unborn_from-first (n + 1) pid rs)
+
+first-found : {X : Type 0} (f : ℕ → flat.Runner → Option X) (n pid i : ℕ) (es : List (ℕ × Runner)) → i < length es → (get_or es i nobody).0 ≡ pid
+    → ((k : ℕ) → k < i → (get_or es k nobody).0 ≢ pid) → first f n pid (runners_view es) ≡ f (n + i) (runner_view (get_or es i nobody))
+first-found f n pid i [] lt own others = absurd (omega arith)
+first-found f n pid zero (e ∷ es) lt own others =
     let here : n + 0 ≡ n = omega arith in
     rw (eq-eqb e.0 pid own, here) refl
-caller_from-found n pid (suc i) (e ∷ es) lt own others =
+first-found f n pid (suc i) (e ∷ es) lt own others =
     let next : n + suc i ≡ (n + 1) + i = omega arith in
-    rw (ne_eqb e.0 pid (others 0 (omega arith)), next) (caller_from-found (n + 1) pid i es (omega arith) own (λ k l. others (suc k) (omega arith)))
+    rw (ne_eqb e.0 pid (others 0 (omega arith)), next) (first-found f (n + 1) pid i es (omega arith) own (λ k l. others (suc k) (omega arith)))
 
-pub caller_from-none : (n pid : ℕ) (es : List (ℕ × Runner)) → ((k : ℕ) → k < length es → (get_or es k nobody).0 ≢ pid) → caller_from n pid (runners_view es) ≡ None
-caller_from-none n pid [] others = refl
-caller_from-none n pid (e ∷ es) others =
-    rw (ne_eqb e.0 pid (others 0 (omega arith))) (caller_from-none (n + 1) pid es (λ k l. others (suc k) (omega arith)))
+first-none : {X : Type 0} (f : ℕ → flat.Runner → Option X) (n pid : ℕ) (es : List (ℕ × Runner)) → ((k : ℕ) → k < length es → (get_or es k nobody).0 ≢ pid)
+    → first f n pid (runners_view es) ≡ None
+first-none f n pid [] others = refl
+first-none f n pid (e ∷ es) others = rw (ne_eqb e.0 pid (others 0 (omega arith))) (first-none f (n + 1) pid es (λ k l. others (suc k) (omega arith)))
+
+-- the process that is meant, and what is said of it
+record IsFirstOf {X : Type 0} (f : ℕ → flat.Runner → Option X) (n pid : ℕ) (rs : List flat.Runner) (x : X) : Type 0 where
+  place : ℕ
+  within : place < length rs
+  named : (get_or rs place first_runner).pid ≡ pid
+  said : f (n + place) (get_or rs place first_runner) ≡ Some x
+
+first-there : {X : Type 0} (f : ℕ → flat.Runner → Option X) (n pid : ℕ) (rs : List flat.Runner) (x : X) → first f n pid rs ≡ Some x → IsFirstOf f n pid rs x
+first-there f n pid [] x found = absurd (none-some x found)
+first-there f n pid (r ∷ rs) x found = by (cases_eq r.pid pid) (first-there f (n + 1) pid rs x)
+  where
+    by : (r.pid ≡ pid) ⊎ (r.pid ≢ pid) → (first f (n + 1) pid rs ≡ Some x → IsFirstOf f (n + 1) pid rs x) → IsFirstOf f n pid (r ∷ rs) x
+    by (inl same) more =
+        let here : n + 0 ≡ n = omega arith in
+        record { place = 0; within = omega arith; named = same; said = rw here (rw (eq-eqb r.pid pid same) at found) }
+    by (inr other) more =
+        let t = more (rw (ne_eqb r.pid pid other) at found) in
+        let next : n + suc t.place ≡ (n + 1) + t.place = omega arith in
+        record { place = suc t.place; within = omega (arith, t.within); named = t.named; said = rw next t.said }
+
+-- THE PLACE THAT A LOOK-UP ANSWERS
 
 key-at : (es : List (ℕ × Runner)) (k : ℕ) → k < length es → get_or (keys_in es) k 0 ≡ (get_or es k nobody).0
 key-at [] k l = absurd (omega arith)
@@ -76,54 +118,63 @@ no_place pid es none = by (cases_lt (position_or_len (nat_eq pid) (keys_in es)) 
         (rw (← key-at es k l) (fails_before_first (nat_eq pid) (keys_in es) k 0 (omega (arith, le, length-map es (λ (e : ℕ × Runner). e.0)))))
         (sym same)
 
+first-position : {X : Type 0} (f : ℕ → flat.Runner → Option X) (pid i : ℕ) (es : List (ℕ × Runner)) (e : ℕ × Runner) → position (nat_eq pid) (keys_in es) ≡ Some i
+    → slice_get es i ≡ Some e → first f 0 pid (runners_view es) ≡ f i (runner_view e)
+first-position f pid i es e found at =
+    let p = first_place pid i es e found at in
+    let is : get_or es i nobody ≡ e = get_or_from_slice_get es i e nobody at in
+    let here : 0 + i ≡ i = omega arith in
+    rw (here, is) at (first-found f 0 pid i es p.within p.own p.others)
+
 pub caller_from-position : (pid i : ℕ) (es : List (ℕ × Runner)) (e : ℕ × Runner) → position (nat_eq pid) (keys_in es) ≡ Some i → slice_get es i ≡ Some e
     → caller_from 0 pid (runners_view es) ≡ caller_by i pid (bare_all e.1.space) (life_view e.1.life)
-caller_from-position pid i es e found at =
-    let f = first_place pid i es e found at in
-    let is : get_or es i nobody ≡ e = get_or_from_slice_get es i e nobody at in
-    let first : 0 + i ≡ i = omega arith in
-    rw (first, is) at (caller_from-found 0 pid i es f.within f.own f.others)
+caller_from-position pid i es e found at = caller_from-first 0 pid (runners_view es) ∙ first-position (as_caller pid) pid i es e found at
 
 pub caller_from-absent : (pid : ℕ) (es : List (ℕ × Runner)) → None ≡ position (nat_eq pid) (keys_in es) → caller_from 0 pid (runners_view es) ≡ None
-caller_from-absent pid es none = caller_from-none 0 pid es (no_place pid es none)
+caller_from-absent pid es none = caller_from-first 0 pid (runners_view es) ∙ first-none (as_caller pid) 0 pid es (no_place pid es none)
+
+pub unborn_from-position : (pid i : ℕ) (es : List (ℕ × Runner)) (e : ℕ × Runner) → position (nat_eq pid) (keys_in es) ≡ Some i → slice_get es i ≡ Some e
+    → unborn_from 0 pid (runners_view es) ≡ (if is_unborn (life_view e.1.life) then Some i else None)
+unborn_from-position pid i es e found at = unborn_from-first 0 pid (runners_view es) ∙ first-position as_child pid i es e found at
+
+pub unborn_from-absent : (pid : ℕ) (es : List (ℕ × Runner)) → None ≡ position (nat_eq pid) (keys_in es) → unborn_from 0 pid (runners_view es) ≡ None
+unborn_from-absent pid es none = unborn_from-first 0 pid (runners_view es) ∙ first-none as_child 0 pid es (no_place pid es none)
 
 -- WHAT A CALLER IS
 
-pub record Stands (n : ℕ) (rs : List flat.Runner) (k : FlatCaller) : Type 0 where
-  pub place : ℕ
-  pub at : n + place ≡ k.index
-  pub there : slice_get rs place ≡ Some (record { pid = k.pid; life = flat.Live k.cred; pieces = k.pieces })
+record IsLive (i pid : ℕ) (ps : List flat.Piece) (l : flat.Life) (k : FlatCaller) : Type 0 where
+  at : i ≡ k.index
+  life : l ≡ flat.Live k.cred
+  pieces : ps ≡ k.pieces
 
-stands_first : (n pid : ℕ) (r : flat.Runner) (rs : List flat.Runner) (k : FlatCaller) (cred : Cred) → r.pid ≡ pid → r.life ≡ flat.Live cred
-    → Some (record { index = n; pid = pid; cred = cred; pieces = r.pieces }) ≡ Some k → Stands n (r ∷ rs) k
-stands_first n pid r rs k cred same live found =
-    let whole : Some r ≡ Some (record { pid = pid; life = flat.Live cred; pieces = r.pieces }) =
-    ap (λ p. Some (record { pid = p; life = r.life; pieces = r.pieces })) same ∙ ap (λ l. Some (record { pid = pid; life = l; pieces = r.pieces })) live in
-    let is : record { index = n; pid = pid; cred = cred; pieces = r.pieces } ≡ k = cc found in
-    subst (Stands n (r ∷ rs)) is (record { place = 0; at = omega arith; there = whole })
-
-stands : (n pid : ℕ) (rs : List flat.Runner) (k : FlatCaller) → caller_from n pid rs ≡ Some k → Stands n rs k
-stands n pid [] k found = absurd (none-some k found)
-stands n pid (r ∷ rs) k found = by (cases_eq r.pid pid) r.life refl (stands (n + 1) pid rs k)
-  where
-    by : (r.pid ≡ pid) ⊎ (r.pid ≢ pid) → (l : flat.Life) → r.life ≡ l → (caller_from (n + 1) pid rs ≡ Some k → Stands (n + 1) rs k) → Stands n (r ∷ rs) k
-    by (inr other) l is more =
-        let s = more (rw (ne_eqb r.pid pid other) at found) in
-        record { place = suc s.place; at = omega (arith, s.at); there = s.there }
-    by (inl same) flat.Unborn is more = absurd (none-some k (rw (eq-eqb r.pid pid same, is) at found))
-    by (inl same) flat.Ended is more = absurd (none-some k (rw (eq-eqb r.pid pid same, is) at found))
-    by (inl same) (flat.Live cred) is more = stands_first n pid r rs k cred same is (rw (eq-eqb r.pid pid same, is) at found)
+live_is : (i pid : ℕ) (ps : List flat.Piece) (l : flat.Life) (k : FlatCaller) → caller_by i pid ps l ≡ Some k → IsLive i pid ps l k
+live_is i pid ps flat.Unborn k said = absurd (none-some k said)
+live_is i pid ps flat.Ended k said = absurd (none-some k said)
+live_is i pid ps (flat.Live cred) k said =
+    let is : record { index = i; pid = pid; cred = cred; pieces = ps } ≡ k = cc said in
+    record { at = ap (λ (c : FlatCaller). c.index) is; life = ap (λ (c : FlatCaller). flat.Live c.cred) is; pieces = ap (λ (c : FlatCaller). c.pieces) is }
 
 -- the process of a caller
 pub caller_there : (c : Caller) (rs : List flat.Runner) → IsCaller c rs → slice_get rs c.index ≡ Some (record { pid = c.pid; life = flat.Live c.cred; pieces = pieces_at rs c.index })
 caller_there c rs is =
-    let s = stands 0 c.pid rs (seen c rs) is in
-    let at : s.place ≡ c.index = omega (arith, s.at) in
-    rw at at s.there
+    let t = first-there (as_caller c.pid) 0 c.pid rs (seen c rs) (sym (caller_from-first 0 c.pid rs) ∙ is) in
+    let r = get_or rs t.place first_runner in
+    let l = live_is (0 + t.place) c.pid r.pieces r.life (seen c rs) t.said in
+    let place : t.place ≡ c.index = omega (arith, l.at) in
+    let own : r ≡ record { pid = c.pid; life = flat.Live c.cred; pieces = pieces_at rs c.index } =
+    ap (λ pid. record { pid = pid; life = r.life; pieces = r.pieces }) t.named
+    ∙ ap (λ life. record { pid = c.pid; life = life; pieces = r.pieces }) l.life
+    ∙ ap (λ ps. record { pid = c.pid; life = flat.Live c.cred; pieces = ps }) l.pieces in
+    rw place at (slice_get-get_or rs t.place first_runner t.within ∙ ap (λ (x : flat.Runner). Some x) own)
 
 -- its pieces are changed as the flat machine changes them
 pub with_pieces-at : (c : Caller) (rs : List flat.Runner) (f : List flat.Piece → List flat.Piece) → IsCaller c rs → with_pieces rs (seen c rs) (f (pieces_at rs c.index)) ≡ with_pieces_at rs c.index f
 with_pieces-at c rs f is = sym (ap (with_own rs c.index f) (caller_there c rs is))
+
+-- the same, for the processes that are shown
+pub with_pieces-of : (c : Caller) (rs shown : List flat.Runner) (f : List flat.Piece → List flat.Piece) → rs ≡ shown → IsCaller c shown
+    → with_pieces_at rs c.index f ≡ with_pieces shown (seen c shown) (f (pieces_at shown c.index))
+with_pieces-of c rs shown f same is = ap (λ (xs : List flat.Runner). with_pieces_at xs c.index f) same ∙ sym (with_pieces-at c shown f is)
 
 pub not_live : (i pid : ℕ) (ps : List flat.Piece) (l : Life) → ((cred : Cred) → l ≡ Live cred → ⊥) → caller_by i pid ps (life_view l) ≡ None
 not_live i pid ps Unborn never = refl
@@ -154,59 +205,19 @@ caller_born c rs is none =
 
 -- A CHILD THAT IS NOT BORN
 
-pub unborn_from-found : (n pid i : ℕ) (es : List (ℕ × Runner)) → i < length es → (get_or es i nobody).0 ≡ pid → ((k : ℕ) → k < i → (get_or es k nobody).0 ≢ pid)
-    → unborn_from n pid (runners_view es) ≡ (if is_unborn (life_view (get_or es i nobody).1.life) then Some (n + i) else None)
-unborn_from-found n pid i [] lt own others = absurd (omega arith)
-unborn_from-found n pid zero (e ∷ es) lt own others =
-    let here : n + 0 ≡ n = omega arith in
-    rw (eq-eqb e.0 pid own, here) refl
-unborn_from-found n pid (suc i) (e ∷ es) lt own others =
-    let next : n + suc i ≡ (n + 1) + i = omega arith in
-    rw (ne_eqb e.0 pid (others 0 (omega arith)), next) (unborn_from-found (n + 1) pid i es (omega arith) own (λ k l. others (suc k) (omega arith)))
-
-pub unborn_from-none : (n pid : ℕ) (es : List (ℕ × Runner)) → ((k : ℕ) → k < length es → (get_or es k nobody).0 ≢ pid) → unborn_from n pid (runners_view es) ≡ None
-unborn_from-none n pid [] others = refl
-unborn_from-none n pid (e ∷ es) others =
-    rw (ne_eqb e.0 pid (others 0 (omega arith))) (unborn_from-none (n + 1) pid es (λ k l. others (suc k) (omega arith)))
-
-pub unborn_from-position : (pid i : ℕ) (es : List (ℕ × Runner)) (e : ℕ × Runner) → position (nat_eq pid) (keys_in es) ≡ Some i → slice_get es i ≡ Some e
-    → unborn_from 0 pid (runners_view es) ≡ (if is_unborn (life_view e.1.life) then Some i else None)
-unborn_from-position pid i es e found at =
-    let f = first_place pid i es e found at in
-    let is : get_or es i nobody ≡ e = get_or_from_slice_get es i e nobody at in
-    let first : 0 + i ≡ i = omega arith in
-    rw (first, is) at (unborn_from-found 0 pid i es f.within f.own f.others)
-
-pub unborn_from-absent : (pid : ℕ) (es : List (ℕ × Runner)) → None ≡ position (nat_eq pid) (keys_in es) → unborn_from 0 pid (runners_view es) ≡ None
-unborn_from-absent pid es none = unborn_from-none 0 pid es (no_place pid es none)
-
--- the child, and its place
-pub record IsChild (n pid j : ℕ) (rs : List flat.Runner) : Type 0 where
-  pub place : ℕ
-  pub at : n + place ≡ j
-  pub within : place < length rs
-  pub named : (get_or rs place first_runner).pid ≡ pid
-  pub unborn : life_at rs place ≡ flat.Unborn
-
-child_first : (n pid j : ℕ) (r : flat.Runner) (rs : List flat.Runner) → r.pid ≡ pid → (l : flat.Life) → r.life ≡ l → (if is_unborn l then Some n else None) ≡ Some j → IsChild n pid j (r ∷ rs)
-child_first n pid j r rs same flat.Unborn is found = record { place = 0; at = let same : n ≡ j = cc found in omega (arith, same); within = omega arith; named = same; unborn = is }
-child_first n pid j r rs same (flat.Live cred) is found = absurd (none-some j found)
-child_first n pid j r rs same flat.Ended is found = absurd (none-some j found)
-
-pub child_there : (n pid j : ℕ) (rs : List flat.Runner) → unborn_from n pid rs ≡ Some j → IsChild n pid j rs
-child_there n pid j [] found = absurd (none-some j found)
-child_there n pid j (r ∷ rs) found = by (cases_eq r.pid pid) (child_there (n + 1) pid j rs)
-  where
-    by : (r.pid ≡ pid) ⊎ (r.pid ≢ pid) → (unborn_from (n + 1) pid rs ≡ Some j → IsChild (n + 1) pid j rs) → IsChild n pid j (r ∷ rs)
-    by (inl same) more = child_first n pid j r rs same r.life refl (rw (eq-eqb r.pid pid same) at found)
-    by (inr other) more =
-        let c = more (rw (ne_eqb r.pid pid other) at found) in
-        record { place = suc c.place; at = omega (arith, c.at); within = omega (arith, c.within); named = c.named; unborn = c.unborn }
-
 pub not_unborn : (l : Life) → (l ≡ Unborn → ⊥) → is_unborn (life_view l) ≡ false
 not_unborn Unborn never = absurd (never refl)
 not_unborn (Live cred) never = refl
 not_unborn Ended never = refl
+
+record IsAsleep (i j : ℕ) (l : flat.Life) : Type 0 where
+  at : i ≡ j
+  life : l ≡ flat.Unborn
+
+asleep_is : (i j : ℕ) (l : flat.Life) → (if is_unborn l then Some i else None) ≡ Some j → IsAsleep i j l
+asleep_is i j flat.Unborn said = record { at = cc said; life = refl }
+asleep_is i j (flat.Live cred) said = absurd (none-some j said)
+asleep_is i j flat.Ended said = absurd (none-some j said)
 
 -- the child stands at the place that is found
 pub record ChildAt (pid j : ℕ) (rs : List flat.Runner) : Type 0 where
@@ -216,6 +227,8 @@ pub record ChildAt (pid j : ℕ) (rs : List flat.Runner) : Type 0 where
 
 pub child_at : (pid j : ℕ) (rs : List flat.Runner) → unborn_from 0 pid rs ≡ Some j → ChildAt pid j rs
 child_at pid j rs found =
-    let c = child_there 0 pid j rs found in
-    let at : c.place ≡ j = omega (arith, c.at) in
-    subst (λ k. ChildAt pid k rs) at (record { within = c.within; named = c.named; unborn = c.unborn })
+    let t = first-there as_child 0 pid rs j (sym (unborn_from-first 0 pid rs) ∙ found) in
+    let a = asleep_is (0 + t.place) j (get_or rs t.place first_runner).life t.said in
+    let at : t.place ≡ j = omega (arith, a.at) in
+    let life : life_at rs t.place ≡ flat.Unborn = life_at-get_or rs t.place ∙ a.life in
+    subst (λ k. ChildAt pid k rs) at (record { within = t.within; named = t.named; unborn = life })

@@ -1,5 +1,5 @@
 -- The table of each piece: what a change of the pieces and of the tables leaves.
-use Rattle.std.proofs.Common.{◌≡◌, ◌≢◌, inl, inr, ℕ, zero, suc, ◌+◌, ◌-◌, ◌/◌, ◌<◌, ◌≤◌, ◌==◌, ◌&&◌, Bool, true, false, nat_lt, List, [], ◌∷◌, length, get_or, slice_get, Option, Some, None, refl, ap, sym, subst, ◌∙◌, arith, eq-eqb}
+use Rattle.std.proofs.Common.{◌≡◌, ◌≢◌, inl, inr, ℕ, zero, suc, ◌+◌, ◌-◌, ◌/◌, ◌<◌, ◌≤◌, ◌==◌, ◌&&◌, Bool, true, false, nat_lt, List, [], ◌∷◌, length, filter, get_or, slice_get, Option, Some, None, refl, ap, sym, subst, ◌∙◌, arith, eq-eqb}
 use Rattle.std.specs.Prelude.{All}
 use Rattle.std.proofs.lemmas.Bool.{cases_eq, cases_lt, cases_Bool, lt-ltb, le-ltb, ltb-true, eqb-true, and_parts, true≢false}
 use Rattle.std.proofs.lemmas.Option.{none-some}
@@ -12,15 +12,15 @@ use Rattle.shm_base.specs.Access.{end_of}
 use Rattle.shm_base.specs.Space.{meets, pieces_of}
 use Rattle.shm_areas.specs.declared.piece.Piece.{Piece}
 use Rattle.shm_areas.specs.Arranged.{bare, bare_all}
-use Rattle.shm_areas.specs.Edit.{kept_inserted, kept_below, kept_above, kept_parts, kept_cut, kept_named, kept_without}
+use Rattle.shm_areas.specs.Edit.{kept_inserted, kept_below, kept_above, kept_parts, kept_cut}
 use Rattle.shm_attach.specs.declared.process.Runner.{Runner}
 use Rattle.shm_attach.specs.declared.tables.Tables.{Tables}
 use Rattle.shm_attach.specs.Views.{runner_view, runners_view}
 use Rattle.shm_attach.specs.Spaces.{pieces_at}
 use Rattle.shm_attach.specs.Entries.{Entry, seg_in, size_in, frame_in, TrueSlot}
-use Rattle.shm_attach.specs.Tables.{counted, stored_at, IsHeld, AllHeld}
+use Rattle.shm_attach.specs.Tables.{counted, stored_in, stored_at, IsHeld, AllHeld}
 use Rattle.shm_attach.specs.Exact.{IsExact}
-use Rattle.shm_attach.proofs.Processes.{held, held_entry, values_of}
+use Rattle.shm_attach.proofs.Processes.{held, values_of}
 use Rattle.shm_attach.proofs.Keeping.{own_counted, pieces_of-there, bare-get_or}
 
 -- WHERE THE PIECES STAND
@@ -29,11 +29,6 @@ pub stored_at-value : (es : List (ℕ × Runner)) (i : ℕ) (w : Runner) → Som
 stored_at-value [] i w at = absurd (none-some w (sym at))
 stored_at-value (e ∷ es) zero w at = sym (ap (λ (x : Runner). x.space) (ap (held w) at))
 stored_at-value (e ∷ es) (suc i) w at = stored_at-value es i w at
-
-pub stored_at-entry : (es : List (ℕ × Runner)) (i k : ℕ) (w : Runner) → Some (k, w) ≡ slice_get es i → stored_at es i ≡ w.space
-stored_at-entry [] i k w at = absurd (none-some (k, w) (sym at))
-stored_at-entry (e ∷ es) zero k w at = sym (ap (λ (x : ℕ × Runner). x.1.space) (ap (held_entry (k, w)) at))
-stored_at-entry (e ∷ es) (suc i) k w at = stored_at-entry es i k w at
 
 pub stored_at-set : (es : List (ℕ × Runner)) (i : ℕ) (w v : Runner) → Some w ≡ slice_get (values_of es) i → stored_at (set_value_at es i v) i ≡ v.space
 stored_at-set [] i w v at = absurd (none-some w (sym at))
@@ -51,6 +46,13 @@ pub pieces_at-bare : (es : List (ℕ × Runner)) (i : ℕ) → pieces_at (runner
 pieces_at-bare [] i = refl
 pieces_at-bare (e ∷ es) zero = refl
 pieces_at-bare (e ∷ es) (suc i) = pieces_at-bare es i
+
+-- the pieces of a process are shown as they are stored
+pub pieces_at-stored : (es : List (ℕ × Runner)) (i : ℕ) (w : Runner) → Some w ≡ slice_get (values_of es) i → pieces_at (runners_view es) i ≡ bare_all w.space
+pieces_at-stored es i w at = pieces_at-bare es i ∙ ap bare_all (stored_at-value es i w at)
+
+pub pieces_at-entry : (es : List (ℕ × Runner)) (i : ℕ) (e : ℕ × Runner) → slice_get es i ≡ Some e → pieces_at (runners_view es) i ≡ bare_all e.1.space
+pieces_at-entry es i e at = pieces_at-bare es i ∙ ap (λ o. bare_all (stored_in o)) at
 
 stored_at-within : (es : List (ℕ × Runner)) (i k : ℕ) → k < length (stored_at es i) → i < length es
 stored_at-within [] i k lt = absurd (omega (arith, lt))
@@ -97,13 +99,13 @@ module _ (t : Slab Entry) where
         | inr h ↦ rw h (All-cons (IsHeld t) q (kept_inserted p qs) (All-head (IsHeld t) q qs all) (held-inserted p qs own (All-tail (IsHeld t) q qs all)))
       ]
 
-  pub held-without : (addr seg : ℕ) (ps : List Piece) → All (IsHeld t) ps → All (IsHeld t) (kept_without addr seg ps)
-  held-without addr seg [] all = all
-  held-without addr seg (p ∷ ps) all =
-      let rest = held-without addr seg ps (All-tail (IsHeld t) p ps all) in
-      elim (cases_Bool (kept_named addr seg p)) [
-        | inl h ↦ rw h rest
-        | inr h ↦ rw h (All-cons (IsHeld t) p (kept_without addr seg ps) (All-head (IsHeld t) p ps all) rest)
+  pub held-filter : (f : Piece → Bool) (ps : List Piece) → All (IsHeld t) ps → All (IsHeld t) (filter f ps)
+  held-filter f [] all = all
+  held-filter f (p ∷ ps) all =
+      let rest = held-filter f ps (All-tail (IsHeld t) p ps all) in
+      elim (cases_Bool (f p)) [
+        | inl h ↦ rw h (All-cons (IsHeld t) p (filter f ps) (All-head (IsHeld t) p ps all) rest)
+        | inr h ↦ rw h rest
       ]
 
   held-below : (from : ℕ) (p : Piece) → from < end_of (bare p) → IsHeld t p → All (IsHeld t) (kept_below from p)
@@ -146,9 +148,9 @@ module _ (t : Slab Entry) where
 -- ALL PIECES
 
 -- a piece is counted
-counts-piece : (es : List (ℕ × Runner)) (u : Tables) → IsExact (runners_view es) u → (i k : ℕ) (d : Piece) → k < length (stored_at es i)
+counts-piece : (extra : ℕ → ℕ) (es : List (ℕ × Runner)) (u : Tables) → IsExact extra (runners_view es) u → (i k : ℕ) (d : Piece) → k < length (stored_at es i)
     → 0 < counted u (get_or (stored_at es i) k d).seg
-counts-piece es u exact i k d lt =
+counts-piece extra es u exact i k d lt =
     let ps = stored_at es i in
     let own : pieces_at (runners_view es) i ≡ bare_all ps = pieces_at-bare es i in
     let within : i < length (runners_view es) = omega (arith, stored_at-within es i k lt, length-map es runner_view) in
@@ -157,13 +159,13 @@ counts-piece es u exact i k d lt =
     let some : 1 ≤ pieces_of (get_or (bare_all ps) k e).seg (bare_all ps) = pieces_of-there k (bare_all ps) e long in
     let same : bare (get_or ps k d) ≡ get_or (bare_all ps) k e = bare-get_or ps k d e lt in
     let here : 1 ≤ pieces_of (get_or ps k d).seg (bare_all ps) = subst (λ (q : flat.Piece). 1 ≤ pieces_of q.seg (bare_all ps)) (sym same) some in
-    let all : pieces_of (get_or ps k d).seg (bare_all ps) ≤ counted u (get_or ps k d).seg = rw own at (own_counted (runners_view es) u i exact within (get_or ps k d).seg) in
+    let all : pieces_of (get_or ps k d).seg (bare_all ps) ≤ counted u (get_or ps k d).seg = rw own at (own_counted extra (runners_view es) u i exact within (get_or ps k d).seg) in
     omega (arith, here, all)
 
 -- the tables that are left are those of the pieces that are there
-pub held-all : (es : List (ℕ × Runner)) (t : Slab Entry) (u : Tables) → IsExact (runners_view es) u → AllHeld es t
+pub held-all : (extra : ℕ → ℕ) (es : List (ℕ × Runner)) (t : Slab Entry) (u : Tables) → IsExact extra (runners_view es) u → AllHeld es t
     → ((p : Piece) → IsHeld t p → 0 < counted u p.seg → IsHeld u.slab p) → AllHeld es u.slab
-held-all es t u exact all step i k d lt = step (get_or (stored_at es i) k d) (all i k d lt) (counts-piece es u exact i k d lt)
+held-all extra es t u exact all step i k d lt = step (get_or (stored_at es i) k d) (all i k d lt) (counts-piece extra es u exact i k d lt)
 
 -- one process has other pieces
 pub held-changed : (es fs : List (ℕ × Runner)) (t : Slab Entry) (i : ℕ) → AllHeld es t → All (IsHeld t) (stored_at fs i)

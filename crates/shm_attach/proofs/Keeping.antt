@@ -1,14 +1,14 @@
 -- The counts stay exact, and no process gets too many pieces.
-use Rattle.std.proofs.Common.{◌≡◌, ◌≢◌, ◌⊎◌, inl, inr, ℕ, zero, suc, ◌+◌, ◌-◌, ◌*◌, ◌/◌, ◌<◌, ◌≤◌, false, ◌==◌, nat_lt, List, [], ◌∷◌, ◌++◌, length, get_or, set, map, take, eq-eqb, refl, ap, sym, ◌∙◌, arith, length-set}
+use Rattle.std.proofs.Common.{◌≡◌, ◌≢◌, ◌⊎◌, inl, inr, ℕ, zero, suc, ◌+◌, ◌-◌, ◌*◌, ◌/◌, ◌<◌, ◌≤◌, false, ◌==◌, nat_lt, List, [], ◌∷◌, ◌++◌, length, get_or, set, take, eq-eqb, refl, ap, sym, ◌∙◌, arith, length-set, length-take}
 use Rattle.std.proofs.lemmas.Bool.{cases_eq, cases_lt, cases_Bool, le-ltb, lt-ltb, and_right, or_parts}
 use Rattle.std.proofs.lemmas.Option.{slice_get-get_or}
-use Rattle.std.proofs.lemmas.List.{get_or-set_same, get_or-set_other, set-set, take_more}
+use Rattle.std.proofs.lemmas.List.{get_or-set_same, get_or-set_other, set-set}
 use Rattle.std.proofs.lemmas.List.Sums.{sum_by-cons, sum_by-set, count_by-le-length}
 use Rattle.shm_base.specs.State.{Piece, Life, Unborn, Runner}
 use Rattle.shm_base.specs.Access.{end_of}
-use Rattle.shm_base.specs.Space.{lowest_address, last_address, cut_segments, without_named, is_named, meets, occupied, cut, parts, part_below, part_above, pieces_of}
+use Rattle.shm_base.specs.Space.{lowest_address, last_address, without_named, is_named, inserted, meets, occupied, cut, parts, part_below, part_above, pieces_of}
 use Rattle.shm_base.specs.Segments.{attach_count}
-use Rattle.shm_areas.specs.Arranged.{bare, bare_all, Arranged}
+use Rattle.shm_areas.specs.Arranged.{bare, bare_all, IsFit, Arranged}
 use Rattle.shm_areas.specs.declared.piece.Piece.{Piece as Stored}
 use Rattle.shm_areas.proofs.Edits.{lower}
 use Rattle.shm_attach.specs.declared.tables.Tables.{Tables}
@@ -16,7 +16,8 @@ use Rattle.shm_attach.specs.Tables.{counted}
 use Rattle.shm_attach.specs.Views.{one_if, with_own, with_pieces_at, with_other_life, with_life_at}
 use Rattle.shm_attach.specs.Spaces.{pieces_at, life_at}
 use Rattle.shm_attach.specs.Exact.{IsExact}
-use Rattle.shm_attach.proofs.Processes.{nobody, attach_count-changed, one_more, pieces_of-append}
+use Rattle.shm_attach.specs.Place.{IsPlaceFor}
+use Rattle.shm_attach.proofs.Processes.{nobody, attach_count-changed, one_more}
 
 -- THE PROCESS THAT CHANGES
 
@@ -60,10 +61,11 @@ pieces_at-changed rs i f lt =
     ∙ pieces_at-set rs i (record (get_or rs i nobody) { pieces = f (get_or rs i nobody).pieces }) lt
     ∙ ap f (sym (pieces_at-get_or rs i))
 
-pub pieces_at-other : (rs : List Runner) (i j : ℕ) (f : List Piece → List Piece) → i < length rs → j ≢ i → pieces_at (with_pieces_at rs i f) j ≡ pieces_at rs j
-pieces_at-other rs i j f lt other =
-    ap (λ (xs : List Runner). pieces_at xs j) (with_pieces_at-within rs i f lt)
-    ∙ pieces_at-set_other rs i j (record (get_or rs i nobody) { pieces = f (get_or rs i nobody).pieces }) other
+pub life_at-changed : (rs : List Runner) (i : ℕ) (f : List Piece → List Piece) → i < length rs → life_at (with_pieces_at rs i f) i ≡ life_at rs i
+life_at-changed rs i f lt =
+    ap (λ (xs : List Runner). life_at xs i) (with_pieces_at-within rs i f lt)
+    ∙ life_at-set rs i (record (get_or rs i nobody) { pieces = f (get_or rs i nobody).pieces }) lt
+    ∙ sym (life_at-get_or rs i)
 
 -- two changes are one
 pub with_pieces_at-twice : (rs : List Runner) (i : ℕ) (f g : List Piece → List Piece) → i < length rs
@@ -80,28 +82,44 @@ with_pieces_at-twice rs i f g lt =
     ∙ set-set rs i once (record once { pieces = g once.pieces })
     ∙ sym (with_pieces_at-within rs i (λ ps. g (f ps)) lt)
 
--- other pieces and then another state are another process
-pub with_life_at-pieces : (rs : List Runner) (i : ℕ) (f : List Piece → List Piece) (l : Life) → i < length rs
-    → with_life_at (with_pieces_at rs i f) i l ≡ set rs i (record { pid = (get_or rs i nobody).pid; life = l; pieces = f (get_or rs i nobody).pieces })
-with_life_at-pieces rs i f l lt =
-    let r = get_or rs i nobody in
-    let once : Runner = record r { pieces = f r.pieces } in
-    let long = length-with_pieces_at rs i f lt in
-    let changed = with_pieces_at-within rs i f lt in
-    let there : get_or (with_pieces_at rs i f) i nobody ≡ once = ap (λ (xs : List Runner). get_or xs i nobody) changed ∙ get_or-set_same rs i once nobody lt in
-    with_life_at-within (with_pieces_at rs i f) i l (omega (arith, long))
-    ∙ ap (λ (x : Runner). set (with_pieces_at rs i f) i (record x { life = l })) there
-    ∙ ap (λ (xs : List Runner). set xs i (record once { life = l })) changed
-    ∙ set-set rs i once (record once { life = l })
+-- a child is born with the pieces of another process
+module _ (rs : List Runner) (i j : ℕ) (l : Life) (lt : j < length rs) where
+  pub life_at-born : life_at (with_life_at rs j l) j ≡ l
+  life_at-born = ap (λ (xs : List Runner). life_at xs j) (with_life_at-within rs j l lt) ∙ life_at-set rs j (record (get_or rs j nobody) { life = l }) lt
+
+  pub pieces_at-born : pieces_at (with_life_at rs j l) j ≡ pieces_at rs j
+  pieces_at-born =
+      ap (λ (xs : List Runner). pieces_at xs j) (with_life_at-within rs j l lt) ∙ pieces_at-set rs j (record (get_or rs j nobody) { life = l }) lt
+      ∙ sym (pieces_at-get_or rs j)
+
+  pub runners-born : i ≢ j
+      → with_pieces_at (with_life_at rs j l) j (λ (_ : List Piece). pieces_at (with_life_at rs j l) i) ≡ set rs j (record { pid = (get_or rs j nobody).pid; life = l; pieces = pieces_at rs i })
+  runners-born apart =
+      let r : Runner = record (get_or rs j nobody) { life = l } in
+      let awake = with_life_at-within rs j l lt in
+      let there : get_or (set rs j r) j nobody ≡ r = get_or-set_same rs j r nobody lt in
+      let before : pieces_at (set rs j r) i ≡ pieces_at rs i = pieces_at-set_other rs j i r apart in
+      ap (λ (xs : List Runner). with_pieces_at xs j (λ (_ : List Piece). pieces_at xs i)) awake
+      ∙ with_pieces_at-within (set rs j r) j (λ (_ : List Piece). pieces_at (set rs j r) i) (omega (arith, lt, length-set rs j r))
+      ∙ ap (λ (ps : List Piece). set (set rs j r) j (record (get_or (set rs j r) j nobody) { pieces = ps })) before
+      ∙ ap (λ (x : Runner). set (set rs j r) j (record x { pieces = pieces_at rs i })) there
+      ∙ set-set rs j r (record r { pieces = pieces_at rs i })
 
 -- THE COUNTS
 
+-- a process that had no piece takes none from a count
+pub attach_count-more : (rs : List Runner) (j id : ℕ) (r : Runner) → j < length rs → pieces_at rs j ≡ [] → attach_count rs id ≤ attach_count (set rs j r) id
+attach_count-more rs j id r lt none =
+    let moved = sum_by-set (λ (x : Runner). pieces_of id x.pieces) rs j r nobody lt in
+    let empty : pieces_of id (get_or rs j nobody).pieces ≡ 0 = ap (pieces_of id) (sym (pieces_at-get_or rs j) ∙ none) in
+    omega (arith, moved, empty)
+
 -- one process is replaced by another, and the counts follow
-pub IsExact-set : (rs : List Runner) (i : ℕ) (r : Runner) (c d : Tables) → IsExact rs c → i < length rs → length r.pieces ≤ 256
+pub IsExact-set : (extra : ℕ → ℕ) (rs : List Runner) (i : ℕ) (r : Runner) (c d : Tables) → IsExact extra rs c → i < length rs → length r.pieces ≤ 256
     → Arranged lowest_address r.pieces → (r.life ≡ Unborn → r.pieces ≡ [])
     → ((id : ℕ) → counted d id + pieces_of id (pieces_at rs i) ≡ counted c id + pieces_of id r.pieces)
-    → IsExact (set rs i r) d
-IsExact-set rs i r c d exact lt few order asleep counts =
+    → IsExact extra (set rs i r) d
+IsExact-set extra rs i r c d exact lt few order asleep counts =
     record {
       counts = λ id.
           let moved = sum_by-set (λ (x : Runner). pieces_of id x.pieces) rs i r nobody lt in
@@ -125,23 +143,23 @@ IsExact-set rs i r c d exact lt few order asleep counts =
         rw (same, pieces_at-set rs i r lt) (asleep (sym (life_at-set rs i r lt) ∙ ap (life_at (set rs i r)) (sym same) ∙ none))
     empty j none (inr other) = rw (pieces_at-set_other rs i j r other) (exact.unborn j (sym (life_at-set_other rs i j r other) ∙ none))
 
-pub IsExact-changed : (rs : List Runner) (i : ℕ) (f : List Piece → List Piece) (c d : Tables) → IsExact rs c → i < length rs → length (f (pieces_at rs i)) ≤ 256
+pub IsExact-changed : (extra : ℕ → ℕ) (rs : List Runner) (i : ℕ) (f : List Piece → List Piece) (c d : Tables) → IsExact extra rs c → i < length rs → length (f (pieces_at rs i)) ≤ 256
     → Arranged lowest_address (f (pieces_at rs i)) → (life_at rs i ≡ Unborn → f (pieces_at rs i) ≡ [])
     → ((id : ℕ) → counted d id + pieces_of id (pieces_at rs i) ≡ counted c id + pieces_of id (f (pieces_at rs i)))
-    → IsExact (with_pieces_at rs i f) d
-IsExact-changed rs i f c d exact lt few order asleep counts =
+    → IsExact extra (with_pieces_at rs i f) d
+IsExact-changed extra rs i f c d exact lt few order asleep counts =
     let r = get_or rs i nobody in
     let same : f (pieces_at rs i) ≡ f r.pieces = ap f (pieces_at-get_or rs i) in
     rw (with_pieces_at-within rs i f lt)
-    (IsExact-set rs i (record r { pieces = f r.pieces }) c d exact lt (rw same at few) (rw same at order)
+    (IsExact-set extra rs i (record r { pieces = f r.pieces }) c d exact lt (rw same at few) (rw same at order)
     (λ none. sym same ∙ asleep (life_at-get_or rs i ∙ none)) (λ id. rw same at (counts id)))
 
-pub IsExact-life : (rs : List Runner) (i : ℕ) (l : Life) (c : Tables) → IsExact rs c → i < length rs → l ≢ Unborn → IsExact (with_life_at rs i l) c
-IsExact-life rs i l c exact lt awake =
+pub IsExact-life : (extra : ℕ → ℕ) (rs : List Runner) (i : ℕ) (l : Life) (c : Tables) → IsExact extra rs c → i < length rs → l ≢ Unborn → IsExact extra (with_life_at rs i l) c
+IsExact-life extra rs i l c exact lt awake =
     let r = get_or rs i nobody in
     let same : pieces_at rs i ≡ r.pieces = pieces_at-get_or rs i in
     rw (with_life_at-within rs i l lt)
-    (IsExact-set rs i (record r { life = l }) c c exact lt (rw same at (exact.pieces i)) (rw same at (exact.arranged i)) (λ none. absurd (awake none))
+    (IsExact-set extra rs i (record r { life = l }) c c exact lt (rw same at (exact.pieces i)) (rw same at (exact.arranged i)) (λ none. absurd (awake none))
     (λ id. ap (λ ps. counted c id + pieces_of id ps) same))
 
 -- a segment has at most 256 pieces for each process
@@ -154,11 +172,11 @@ attach_count-few id (r ∷ rs) few =
     let all = sum_by-cons (λ (x : Runner). pieces_of id x.pieces) r rs in
     omega (arith, first, own, rest, all)
 
-pub small_counts : (rs : List Runner) (c : Tables) → IsExact rs c → (id : ℕ) → counted c id ≤ 16384
-small_counts rs c exact id = omega (arith, exact.counts id, attach_count-few id rs exact.pieces, exact.processes)
+pub small_counts : (extra : ℕ → ℕ) (rs : List Runner) (c : Tables) → IsExact extra rs c → (id : ℕ) → counted c id ≤ 16384 + extra id
+small_counts extra rs c exact id = omega (arith, exact.counts id, attach_count-few id rs exact.pieces, exact.processes)
 
-pub own_counted : (rs : List Runner) (c : Tables) (i : ℕ) → IsExact rs c → i < length rs → (id : ℕ) → pieces_of id (pieces_at rs i) ≤ counted c id
-own_counted rs c i exact lt id = omega (arith, exact.counts id, attach_count-changed id i (λ ps. []) rs lt)
+pub own_counted : (extra : ℕ → ℕ) (rs : List Runner) (c : Tables) (i : ℕ) → IsExact extra rs c → i < length rs → (id : ℕ) → pieces_of id (pieces_at rs i) ≤ counted c id
+own_counted extra rs c i exact lt id = omega (arith, exact.counts id, attach_count-changed id i (λ ps. []) rs lt)
 
 -- WHAT IS FREE AFTER A CUT
 
@@ -212,15 +230,6 @@ cut-all low (p ∷ ps) le ar =
     )
     (cut-all (end_of p) ps (omega (arith, first, le)) ar.1.1)
 
-pub cut_segments-all : (low : ℕ) (ps : List Piece) → lowest_address ≤ low → Arranged low ps → cut_segments lowest_address last_address ps ≡ map (λ (p : Piece). p.seg) ps
-cut_segments-all low [] le ar = refl
-cut_segments-all low (p ∷ ps) le ar =
-    let first : low ≤ p.base = ar.0 in
-    let some : 1 ≤ p.pages = ar.1.0.some in
-    let within : end_of p ≤ last_address = ar.1.0.within in
-    rw (lt-ltb p.base last_address (omega (arith, some, within)), lt-ltb lowest_address (end_of p) (omega (arith, first, le, some)))
-    (ap (λ (ids : List ℕ). p.seg ∷ ids) (cut_segments-all (end_of p) ps (omega (arith, first, le)) ar.1.1))
-
 pub arranged-without : (addr seg low : ℕ) (ps : List Piece) → Arranged low ps → Arranged low (without_named addr seg ps)
 arranged-without addr seg low [] ar = ar
 arranged-without addr seg low (p ∷ ps) ar =
@@ -233,11 +242,6 @@ arranged-without addr seg low (p ∷ ps) ar =
 
 -- A COPY OF PIECES
 
-pub arranged-take : (n low : ℕ) (ps : List Piece) → Arranged low ps → Arranged low (take n ps)
-arranged-take zero low ps ar = tt
-arranged-take (suc n) low [] ar = ar
-arranged-take (suc n) low (p ∷ ps) ar = (ar.0, (ar.1.0, arranged-take n (end_of p) ps ar.1.1))
-
 pub pieces_of-there : (k : ℕ) (ps : List Piece) (d : Piece) → k < length ps → 1 ≤ pieces_of (get_or ps k d).seg ps
 pieces_of-there k [] d l = absurd (omega arith)
 pieces_of-there zero (p ∷ ps) d l =
@@ -249,17 +253,10 @@ pieces_of-there (suc k) (p ∷ ps) d l =
     let rest = pieces_of-there k ps d (omega arith) in
     omega (arith, rest, one_more (get_or ps k d).seg p ps)
 
-pub pieces_of-take : (id k : ℕ) (ps : List Piece) (d : Piece) → k < length ps → pieces_of id (take (k + 1) ps) ≡ pieces_of id (take k ps) + one_if id (get_or ps k d).seg
-pieces_of-take id k ps d l =
-    ap (pieces_of id) (take_more ps k d l) ∙ pieces_of-append id (take k ps) (get_or ps k d ∷ []) ∙ omega (arith, one_more id (get_or ps k d) [])
-
 pub bare-get_or : (ps : List Stored) (k : ℕ) (d : Stored) (e : Piece) → k < length ps → bare (get_or ps k d) ≡ get_or (bare_all ps) k e
 bare-get_or [] k d e l = absurd (omega arith)
 bare-get_or (p ∷ ps) zero d e l = refl
 bare-get_or (p ∷ ps) (suc k) d e l = bare-get_or ps k d e (omega arith)
-
-pub pieces_of-few : (id : ℕ) (ps : List Piece) → pieces_of id ps ≤ length ps
-pieces_of-few id ps = count_by-le-length (λ (p : Piece). p.seg == id) ps
 
 set-get_or : (rs : List Runner) (i : ℕ) → i < length rs → set rs i (get_or rs i nobody) ≡ rs
 set-get_or [] i lt = refl
@@ -273,20 +270,41 @@ with_pieces_at-same rs i f lt same =
     let own : f r.pieces ≡ r.pieces = sym (ap f (pieces_at-get_or rs i)) ∙ same ∙ pieces_at-get_or rs i in
     sym (with_pieces_at-within rs i f lt ∙ ap (λ ps. set rs i (record r { pieces = ps })) own ∙ set-get_or rs i lt)
 
--- a process gets the first pieces of another, one after another
-module _ (rs L : List Runner) (parent child k : ℕ) (lt : child < length rs) (apart : parent ≢ child)
-    (so_far : L ≡ with_pieces_at rs child (λ (_ : List Piece). take k (pieces_at rs parent))) where
-  pub copied_parent : pieces_at L parent ≡ pieces_at rs parent
-  copied_parent = ap (λ (xs : List Runner). pieces_at xs parent) so_far ∙ pieces_at-other rs child parent (λ (_ : List Piece). take k (pieces_at rs parent)) lt apart
+-- the next piece of some that are in order lies behind those before it
+base_behind : (low k : ℕ) (ps : List Piece) (d : Piece) → Arranged low ps → k < length ps → low ≤ (get_or ps k d).base
+base_behind low k [] d ar lt = absurd (omega arith)
+base_behind low zero (p ∷ ps) d ar lt = ar.0
+base_behind low (suc k) (p ∷ ps) d ar lt =
+    let first : low ≤ p.base = ar.0 in
+    let rest = base_behind (end_of p) k ps d ar.1.1 (omega arith) in
+    omega (arith, first, rest)
 
-  pub copied_child : pieces_at L child ≡ take k (pieces_at rs parent)
-  copied_child = ap (λ (xs : List Runner). pieces_at xs child) so_far ∙ pieces_at-changed rs child (λ (_ : List Piece). take k (pieces_at rs parent)) lt
+pub fit_next : (low k : ℕ) (ps : List Piece) (d : Piece) → Arranged low ps → k < length ps → IsFit (get_or ps k d)
+fit_next low k [] d ar lt = absurd (omega arith)
+fit_next low zero (p ∷ ps) d ar lt = ar.1.0
+fit_next low (suc k) (p ∷ ps) d ar lt = fit_next (end_of p) k ps d ar.1.1 (omega arith)
 
-  pub copied_next : (q d : Piece) → k < length (pieces_at rs parent) → q ≡ get_or (pieces_at rs parent) k d
-      → with_pieces_at L child (λ (ps : List Piece). ps ++ q ∷ []) ≡ with_pieces_at rs child (λ (_ : List Piece). take (k + 1) (pieces_at rs parent))
-  copied_next q d within is =
-      let more : take k (pieces_at rs parent) ++ q ∷ [] ≡ take (k + 1) (pieces_at rs parent) =
-      ap (λ x. take k (pieces_at rs parent) ++ x ∷ []) is ∙ sym (take_more (pieces_at rs parent) k d within) in
-      ap (λ (xs : List Runner). with_pieces_at xs child (λ (ps : List Piece). ps ++ q ∷ [])) so_far
-      ∙ with_pieces_at-twice rs child (λ (_ : List Piece). take k (pieces_at rs parent)) (λ (ps : List Piece). ps ++ q ∷ []) lt
-      ∙ ap (λ (xs : List Piece). with_pieces_at rs child (λ (_ : List Piece). xs)) more
+free_next : (low k to : ℕ) (ps : List Piece) (d : Piece) → Arranged low ps → k < length ps → occupied (take k ps) (get_or ps k d).base to ≡ false
+free_next low k to [] d ar lt = absurd (omega arith)
+free_next low zero to (p ∷ ps) d ar lt = refl
+free_next low (suc k) to (p ∷ ps) d ar lt =
+    let behind : end_of p ≤ (get_or ps k d).base = base_behind (end_of p) k ps d ar.1.1 (omega arith) in
+    let away : meets (get_or ps k d).base to p ≡ false = and_right (nat_lt p.base to) (nat_lt (get_or ps k d).base (end_of p)) (le-ltb (get_or ps k d).base (end_of p) behind) in
+    rw away (free_next (end_of p) k to ps d ar.1.1 (omega arith))
+
+pub inserted_next : (low k : ℕ) (ps : List Piece) (d : Piece) → Arranged low ps → k < length ps → inserted (get_or ps k d) (take k ps) ≡ take (k + 1) ps
+inserted_next low k [] d ar lt = absurd (omega arith)
+inserted_next low zero (p ∷ ps) d ar lt = refl
+inserted_next low (suc k) (p ∷ ps) d ar lt =
+    let behind : end_of p ≤ (get_or ps k d).base = base_behind (end_of p) k ps d ar.1.1 (omega arith) in
+    let next : suc k + 1 ≡ suc (k + 1) = omega arith in
+    rw (next, le-ltb (get_or ps k d).base p.base (omega (arith, behind))) (ap (λ (qs : List Piece). p ∷ qs) (inserted_next (end_of p) k ps d ar.1.1 (omega arith)))
+
+pub place_next : (k : ℕ) (ps : List Piece) (d : Piece) → Arranged lowest_address ps → length ps ≤ 256 → k < length ps → IsPlaceFor (get_or ps k d) (take k ps)
+place_next k ps d ar few lt =
+    record {
+      room = omega (arith, length-take k ps, lt, few);
+      low = base_behind lowest_address k ps d ar lt;
+      fit = fit_next lowest_address k ps d ar lt;
+      free = free_next lowest_address k (end_of (get_or ps k d)) ps d ar lt;
+    }

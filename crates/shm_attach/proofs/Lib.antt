@@ -5,6 +5,7 @@ pub mod Callers
 pub mod Keeping
 pub mod Bases
 pub mod Held
+pub mod Sound
 pub mod Tied
 pub mod Translations
 pub mod Starts

@@ -20,27 +20,11 @@ abbrev pub held : Runner → Option Runner → Runner
 held d None = d
 held d (Some x) = x
 
-abbrev pub held_entry : ℕ × Runner → Option (ℕ × Runner) → ℕ × Runner
-held_entry d None = d
-held_entry d (Some x) = x
-
 abbrev pub nobody : flat.Runner
 nobody = record { pid = 0; life = flat.Unborn; pieces = [] }
 
 abbrev pub values_of : List (ℕ × Runner) → List Runner
 values_of es = map (λ (e : ℕ × Runner). e.1) es
-
--- the pieces of a process are shown as they are stored
-pub pieces_at-stored : (es : List (ℕ × Runner)) (i : ℕ) (w : Runner) → Some w ≡ slice_get (values_of es) i → pieces_at (runners_view es) i ≡ bare_all w.space
-pieces_at-stored [] i w at = absurd (none-some w (sym at))
-pieces_at-stored (e ∷ es) zero w at = sym (ap (λ (x : Runner). bare_all x.space) (ap (held w) at))
-pieces_at-stored (e ∷ es) (suc i) w at = pieces_at-stored es i w at
-
--- the same, where the key is read beside the process
-pub pieces_at-entry : (es : List (ℕ × Runner)) (i k : ℕ) (w : Runner) → Some (k, w) ≡ slice_get es i → pieces_at (runners_view es) i ≡ bare_all w.space
-pieces_at-entry [] i k w at = absurd (none-some (k, w) (sym at))
-pieces_at-entry (e ∷ es) zero k w at = sym (ap (λ (x : ℕ × Runner). bare_all x.1.space) (ap (held_entry (k, w)) at))
-pieces_at-entry (e ∷ es) (suc i) k w at = pieces_at-entry es i k w at
 
 pub one_if-le : (id seg : ℕ) → one_if id seg ≤ 1
 one_if-le id seg = elim (cases_Bool (seg == id)) [ inl h ↦ rw h (omega arith) | inr h ↦ rw h (omega arith) ]

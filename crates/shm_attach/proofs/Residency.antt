@@ -1,21 +1,10 @@
 -- Entries that are true of one residency, and of another.
-use Rattle.std.proofs.Common.{◌≡◌, ◌≢◌, ◌⊎◌, inl, inr, ℕ, zero, suc, ◌+◌, ◌<◌, if◌then◌else◌, List, [], ◌∷◌, length, get_or, take, Option, Some, None, sym, subst, ◌∙◌, refl, arith}
-use Rattle.std.proofs.lemmas.Bool.{cases_eq}
-use Rattle.slab.specs.Slab.{Slab, get, Updates}
+use Rattle.std.proofs.Common.{◌≡◌, ℕ, zero, suc, ◌+◌, ◌<◌, if◌then◌else◌, List, [], ◌∷◌, length, get_or, take, Option, Some, None, ◌∙◌, refl, arith}
+use Rattle.slab.specs.Slab.{Slab, get}
 use Rattle.shm_fault.specs.declared.touched.Move.{Move}
 use Rattle.shm_fault.specs.declared.touched.Move.TheVariants.{Gone, Came}
 use Rattle.shm_fault.specs.Steps.{is_page, moved}
 use Rattle.shm_attach.specs.Entries.{Entry, TrueSlot, AllTrue}
-
-pub true-update : (at : ℕ → ℕ → Option ℕ) (t u : Slab Entry) (key : ℕ) (o : Option Entry) → Updates t u key o → TrueSlot at o → AllTrue at t → AllTrue at u
-true-update at t u key o up new all = λ k. by k (cases_eq k key)
-  where
-    by : (k : ℕ) → (k ≡ key) ⊎ (k ≢ key) → TrueSlot at (get u k)
-    by k (inl same) = rw (same, up.changed) new
-    by k (inr other) = rw (up.others k other) (all k)
-
-pub true-slots : (at : ℕ → ℕ → Option ℕ) (t u : Slab Entry) → u.slots ≡ t.slots → AllTrue at t → AllTrue at u
-true-slots at t u same all k = subst (λ (os : List (Option Entry)). TrueSlot at (get_or os k None)) (sym same) (all k)
 
 -- THE MOVES, ONE AFTER ANOTHER
 

@@ -6,9 +6,10 @@ use Rattle.shm_base.specs.declared.paging.PageRef.{PageRef}
 use Rattle.shm_fault.specs.Steps.{is_page}
 use Rattle.shm_attach.specs.Spaces.{Translation}
 
--- the frames of the first pages of a segment
+-- how many pieces a segment has, and the frames of its first pages
 pub record Entry : Type 0 where
   pub seg : ℕ
+  pub count : ℕ
   pub frames : List (Option ℕ)
 
 abbrev pub translations_from : ℕ → ℕ → List (Option ℕ) → List Translation
@@ -31,6 +32,11 @@ frame_in (Some e) j = get_or e.frames j None
 abbrev pub seg_in : Option Entry → Option ℕ
 seg_in None = None
 seg_in (Some e) = Some e.seg
+
+-- how many pieces a table counts
+abbrev pub count_in : Option Entry → ℕ
+count_in None = 0
+count_in (Some e) = e.count
 
 -- how many pages a table has
 abbrev pub size_in : Option Entry → ℕ

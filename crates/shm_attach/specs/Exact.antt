@@ -1,17 +1,35 @@
--- What the processes and the stored counts keep.
-use Rattle.std.specs.Prelude.{◌≡◌, ℕ, ◌≤◌, List, [], length}
-use Rattle.shm_base.specs.State.{Unborn, Runner}
+-- What the processes, the stored counts and the tables keep.
+use Rattle.std.specs.Prelude.{◌≡◌, ℕ, ◌+◌, ◌≤◌, List, [], length}
+use Rattle.shm_base.specs.State as flat
 use Rattle.shm_base.specs.Space.{lowest_address}
 use Rattle.shm_base.specs.Segments.{attach_count}
 use Rattle.shm_areas.specs.Arranged.{Arranged}
+use Rattle.shm_attach.specs.declared.process.Runner.{Runner}
 use Rattle.shm_attach.specs.declared.tables.Tables.{Tables}
-use Rattle.shm_attach.specs.Tables.{counted}
+use Rattle.shm_attach.specs.Views.{runners_view}
+use Rattle.shm_attach.specs.Tables.{counted, IsTied, AllHeld}
 use Rattle.shm_attach.specs.Spaces.{pieces_at, life_at}
 
--- each count is that of the pieces, which are few and in order in each process; a process that is not born has none
-pub record IsExact (rs : List Runner) (t : Tables) : Type 0 where
-  pub counts : (id : ℕ) → counted t id ≡ attach_count rs id
+-- each count is that of the pieces and of what holds a segment beside them; the pieces are few and in order in each
+-- process; a process that is not born has none
+pub record IsExact (extra : ℕ → ℕ) (rs : List flat.Runner) (t : Tables) : Type 0 where
+  pub counts : (id : ℕ) → counted t id ≡ attach_count rs id + extra id
   pub processes : length rs ≤ 64
   pub pieces : (i : ℕ) → length (pieces_at rs i) ≤ 256
-  pub unborn : (i : ℕ) → life_at rs i ≡ Unborn → pieces_at rs i ≡ []
+  pub unborn : (i : ℕ) → life_at rs i ≡ flat.Unborn → pieces_at rs i ≡ []
   pub arranged : (i : ℕ) → Arranged lowest_address (pieces_at rs i)
+
+-- the counts are exact, and each piece has its segment's table
+pub record IsSound (extra : ℕ → ℕ) (es : List (ℕ × Runner)) (t : Tables) : Type 0 where
+  pub exact : IsExact extra (runners_view es) t
+  pub tied : IsTied t
+  pub held : AllHeld es t.slab
+
+abbrev pub no_holds : ℕ → ℕ
+no_holds id = 0
+
+-- at most one attach under way holds each segment
+pub record HasHolds (es : List (ℕ × Runner)) (t : Tables) : Type 0 where
+  pub extra : ℕ → ℕ
+  pub few : (id : ℕ) → extra id ≤ 1
+  pub sound : IsSound extra es t

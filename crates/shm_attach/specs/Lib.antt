@@ -3,6 +3,7 @@ pub mod Spaces
 pub mod Entries
 pub mod Tables
 pub mod Exact
+pub mod Part
 pub mod Place
 pub mod Spans
 pub mod Fork

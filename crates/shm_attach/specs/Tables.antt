@@ -4,25 +4,20 @@ use Rattle.std.specs.HashMap as hash
 use Rattle.slab.specs.Slab.{Slab, get}
 use Rattle.shm_areas.specs.declared.piece.Piece.{Piece}
 use Rattle.shm_attach.specs.declared.process.Runner.{Runner}
-use Rattle.shm_attach.specs.declared.tables.Attaches.{Attaches}
 use Rattle.shm_attach.specs.declared.tables.Tables.{Tables}
-use Rattle.shm_attach.specs.Entries.{Entry, seg_in, size_in}
+use Rattle.shm_attach.specs.Entries.{Entry, seg_in, count_in, size_in}
 
-abbrev pub count_in : Option Attaches → ℕ
-count_in None = 0
-count_in (Some a) = a.count
-
-abbrev pub key_in : Option Attaches → Option ℕ
-key_in None = None
-key_in (Some a) = Some a.key
-
--- how many pieces a segment has
-abbrev pub counted : Tables → ℕ → ℕ
-counted t id = count_in (hash.get nat_eq t.by_segment id)
+abbrev pub counted_under : Slab Entry → Option ℕ → ℕ
+counted_under s None = 0
+counted_under s (Some key) = count_in (get s key)
 
 -- the key of a segment's table
 abbrev pub key_of : Tables → ℕ → Option ℕ
-key_of t id = key_in (hash.get nat_eq t.by_segment id)
+key_of t id = hash.get nat_eq t.keys id
+
+-- how many pieces a segment has
+abbrev pub counted : Tables → ℕ → ℕ
+counted t id = counted_under t.slab (key_of t id)
 
 -- a segment has a table just where it has pieces, and just one
 pub record IsTied (t : Tables) : Type 0 where

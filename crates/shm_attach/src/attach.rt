@@ -5,7 +5,7 @@ ghost use Rattle.shm_base.specs.Step.{with_pieces};
 ghost use Rattle.shm_attach.specs.Spaces.{pieces_at, seen, IsCaller, AreTrue};
 ghost use Rattle.shm_attach.specs.Place.{IsRange, new_piece};
 
-use crate::changes::{insert_at, take_range};
+use crate::changes::{Part, put, space_at, take};
 use crate::lost::Lost;
 use crate::process::Caller;
 use crate::spaces::Spaces;
@@ -18,7 +18,7 @@ impl Spaces {
     /// Attaches the first so many pages of a segment, all of them, at a base. Pieces in the range give way to
     /// the new one, and those that reach beyond it are cut; the answer names the segments that lost pages so.
     /// Where the piece is its segment's first, the translations are what the store's pages are then. The
-    /// growths come first.
+    /// growths come first, and hold the segment's table while pieces go that may be its last.
     pub fn attach<P: Pager>(
         &mut self,
         caller: &Caller,
@@ -38,13 +38,16 @@ impl Spaces {
         ensures err { OnErr result (self.new ≡ self.old) }
     {
         let end = base + PAGE_SIZE * pages as u64;
-        let key = self.tables.add(store, seg, pages)?;
-        let lost = take_range(
+        let key = self.tables.hold(store, seg, pages)?;
+        let lost = Lost::of(space_at(&self.processes, caller.index).met(base, end));
+        take(
             &mut self.processes,
             &mut self.tables,
             caller.index,
-            base,
-            end,
+            Part::Range {
+                from: base,
+                to: end,
+            },
         );
         let piece = Piece {
             base,
@@ -54,7 +57,8 @@ impl Spaces {
             writable,
             key,
         };
-        insert_at(&mut self.processes, caller.index, piece);
+        put(&mut self.processes, &mut self.tables, caller.index, piece);
+        self.tables.replace(seg, key, 1, 0);
         Ok(lost)
     }
 }

@@ -1,16 +1,16 @@
 //! A child is born with its parent's credentials and pieces.
-ghost use Rattle.std.specs.Prelude.{◌≡◌, ◌≢◌, ℕ, ◌+◌, ◌<◌, ◌≤◌, [], length, Some};
+ghost use Rattle.std.specs.Prelude.{◌≡◌, ◌≢◌, ℕ, ◌<◌, ◌≤◌, [], length, Option, Some};
+ghost use Rattle.shm_base.specs.State.{Unborn};
 ghost use Rattle.shm_base.specs.Segments.{attach_count};
-ghost use Rattle.shm_base.specs.Space.{lowest_address, pieces_of};
 ghost use Rattle.shm_base.specs.Step.{unborn_from};
-ghost use Rattle.shm_areas.specs.Arranged.{Arranged};
 ghost use Rattle.shm_attach.specs.Views.{with_pieces_at, runners_view};
 ghost use Rattle.shm_fault.specs.Store.{StoreView};
-ghost use Rattle.shm_attach.specs.Spaces.{pieces_at, seen, IsCaller, AreTrue};
-ghost use Rattle.shm_attach.specs.Tables.{counted, IsTied, AllHeld};
+ghost use Rattle.shm_attach.specs.Entries.{AllTrue};
+ghost use Rattle.shm_attach.specs.Spaces.{pieces_at, life_at, seen, IsCaller, AreTrue};
+ghost use Rattle.shm_attach.specs.Exact.{IsSound, no_holds};
 ghost use Rattle.shm_attach.specs.Fork.{born_child};
 
-use crate::changes::{piece_at, push_at, set_life_at, space_at};
+use crate::changes::{put, set_life_at, space_at};
 use crate::process::{Caller, Child, Life, Runner};
 use crate::spaces::Spaces;
 use crate::tables::Tables;
@@ -27,7 +27,7 @@ pub(crate) fn unborn_at(processes: &IndexMap<u32, Runner>, child: u32) -> Option
     }
 }
 
-/// Gives the pieces of one process to another that has none, and counts them.
+/// Puts the pieces of one process into another that has none.
 fn copy_pieces(
     processes: &mut IndexMap<u32, Runner>,
     tables: &mut Tables,
@@ -37,25 +37,17 @@ fn copy_pieces(
     requires parent { parent < length processes.old.entries }
     requires child { child < length processes.old.entries }
     requires apart { parent ≢ child }
+    requires born { life_at (runners_view processes.old.entries) child ≢ Unborn }
     requires none { pieces_at (runners_view processes.old.entries) child ≡ [] }
-    requires few { length (pieces_at (runners_view processes.old.entries) parent) ≤ 256 }
-    requires order { Arranged lowest_address (pieces_at (runners_view processes.old.entries) parent) }
-    requires counted { (id : ℕ) → pieces_of id (pieces_at (runners_view processes.old.entries) parent) ≤ counted tables.old id }
-    requires small { (id : ℕ) → counted tables.old id ≤ 65536 }
-    requires tied { IsTied tables.old }
-    requires held { AllHeld processes.old.entries tables.old.slab }
+    requires sound { IsSound no_holds processes.old.entries tables.old }
     ensures runners { runners_view processes.new.entries ≡ with_pieces_at (runners_view processes.old.entries) child (λ _. pieces_at (runners_view processes.old.entries) parent) }
-    ensures count { length processes.new.entries ≡ length processes.old.entries }
-    ensures counts { (id : ℕ) → counted tables.new id ≡ counted tables.old id + pieces_of id (pieces_at (runners_view processes.old.entries) parent) }
-    ensures slab { tables.new.slab ≡ tables.old.slab }
-    ensures tied { IsTied tables.new }
-    ensures held { AllHeld processes.new.entries tables.new.slab }
+    ensures sound { IsSound no_holds processes.new.entries tables.new }
+    ensures translated { (at : ℕ → ℕ → Option ℕ) → AllTrue at tables.old.slab → AllTrue at tables.new.slab }
 {
     let count = space_at(processes, parent).pieces().len();
     for k in 0..count {
-        let piece = piece_at(processes, parent, k);
-        tables.raise(piece.seg);
-        push_at(processes, child, piece);
+        let piece = space_at(processes, parent).pieces()[k];
+        put(processes, tables, child, piece);
     }
 }
 
@@ -69,12 +61,12 @@ impl Spaces {
         ensures more { (id : ℕ) → attach_count self.old.runners id ≤ attach_count self.new.runners id }
         ensures translated { (m : StoreView) → AreTrue self.old.translations m → AreTrue self.new.translations m }
     {
+        set_life_at(&mut self.processes, child.index, Life::Live(caller.cred));
         copy_pieces(
             &mut self.processes,
             &mut self.tables,
             caller.index,
             child.index,
         );
-        set_life_at(&mut self.processes, child.index, Life::Live(caller.cred));
     }
 }

@@ -5,11 +5,11 @@ ghost use Rattle.shm_base.specs.Step.{with_pieces, with_end, segments_of};
 ghost use Rattle.shm_fault.specs.Store.{StoreView};
 ghost use Rattle.shm_attach.specs.Spaces.{pieces_at, seen, IsCaller, AreTrue};
 
-use shm_base::{END_ADDRESS, LOWEST_ADDRESS};
-use crate::changes::{set_life_at, take_at, take_range};
+use crate::changes::{Part, set_life_at, space_at, take};
 use crate::lost::Lost;
 use crate::process::{Caller, Life};
 use crate::spaces::Spaces;
+use shm_base::{END_ADDRESS, LOWEST_ADDRESS};
 
 impl Spaces {
     /// Takes out the pieces of a segment that would begin at the address: those that are left of an attach. It
@@ -19,8 +19,12 @@ impl Spaces {
         ensures gone { self.new.runners ≡ with_pieces self.old.runners (seen caller.now self.old.runners) (without_named addr seg (pieces_at self.old.runners caller.now.index)) }
         ensures translated { (m : StoreView) → AreTrue self.old.translations m → AreTrue self.new.translations m }
     {
-        let gone = take_at(&mut self.processes, caller.index, addr, seg);
-        self.tables.replace(seg, gone, 0);
+        take(
+            &mut self.processes,
+            &mut self.tables,
+            caller.index,
+            Part::Attach { addr, seg },
+        );
     }
 
     /// Takes all pieces of a process out, and answers the segments that they named, by rising base. It takes no
@@ -31,13 +35,17 @@ impl Spaces {
         ensures runners { self.new.runners ≡ with_pieces self.old.runners (seen caller.now self.old.runners) [] }
         ensures translated { (m : StoreView) → AreTrue self.old.translations m → AreTrue self.new.translations m }
     {
-        take_range(
+        let lost = Lost::of(space_at(&self.processes, caller.index).pieces());
+        take(
             &mut self.processes,
             &mut self.tables,
             caller.index,
-            LOWEST_ADDRESS,
-            END_ADDRESS,
-        )
+            Part::Range {
+                from: LOWEST_ADDRESS,
+                to: END_ADDRESS,
+            },
+        );
+        lost
     }
 
     /// Ends a process: as `exec`, and it is live no more. It takes no memory.

@@ -36,15 +36,14 @@ pub struct Spaces {
 impl Model for Spaces {
     ghost use Rattle.shm_attach.specs.Views.{runners_view};
     ghost use Rattle.shm_attach.specs.Spaces.{SpacesView};
-    ghost use Rattle.shm_attach.specs.Exact.{IsExact};
+    ghost use Rattle.shm_attach.specs.Exact.{IsSound, no_holds};
     ghost use Rattle.shm_attach.specs.Entries.{translations_of};
-    ghost use Rattle.shm_attach.specs.Tables.{IsTied, AllHeld};
 
     ghost Value = { SpacesView };
 
     ghost view = { λ s. record { runners = runners_view s.processes.entries; translations = translations_of s.tables.slab } };
 
-    ghost invariant = { λ s. IsExact (runners_view s.processes.entries) s.tables × IsTied s.tables × AllHeld s.processes.entries s.tables.slab };
+    ghost invariant = { λ s. IsSound no_holds s.processes.entries s.tables };
 }
 
 fn born(process: &Process) -> Life

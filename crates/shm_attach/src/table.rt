@@ -1,5 +1,5 @@
 //! The frames of the pages of a segment: its translations.
-ghost use Rattle.std.specs.Prelude.{◌≡◌, ℕ, ◌<◌, ◌≤◌, Option, Some, length, [], OnOk, OnErr};
+ghost use Rattle.std.specs.Prelude.{◌≡◌, ℕ, ◌+◌, ◌-◌, ◌^◌, ◌<◌, ◌≤◌, Option, Some, length, [], OnOk, OnErr};
 ghost use Rattle.shm_fault.specs.Store.{frame_of};
 ghost use Rattle.shm_attach.specs.Entries.{frame_in, TrueEntry, with_frame};
 
@@ -9,10 +9,12 @@ use shm_pager::Pager;
 use std::alloc::Global;
 use std::marker::Model;
 
-/// The frames of the first pages of a segment: where each is resident, and none where it is not.
+/// How many pieces a segment has, and the frames of its first pages: where each is resident, and none where it
+/// is not.
 #[derive(Drop)]
 pub(crate) struct Table {
     seg: u32,
+    count: u32,
     frames: Vec<Option<FrameNo>>,
 }
 
@@ -21,19 +23,37 @@ impl Model for Table {
 
     ghost Value = { Entry };
 
-    ghost view = { λ t. record { seg = t.seg; frames = t.frames.items } };
+    ghost view = { λ t. record { seg = t.seg; count = t.count; frames = t.frames.items } };
 }
 
 impl Table {
-    /// No page of a segment.
+    /// One piece of a segment, and no page.
     pub(crate) fn new(alloc: Global, seg: u32) -> Table
-        ensures seg { result.seg ≡ seg }
-        ensures none { result.frames ≡ [] }
+        ensures { result ≡ record { seg = seg; count = 1; frames = [] } }
     {
         Table {
             seg,
+            count: 1,
             frames: Vec::new(alloc),
         }
+    }
+
+    /// How many pieces there are.
+    pub(crate) fn count(&self) -> u32
+        ensures { result ≡ self.now.count }
+    {
+        self.count
+    }
+
+    /// Some pieces give way to so many others. It tells how many there are now.
+    pub(crate) fn replace(&mut self, gone: u32, parts: u32) -> u32
+        requires gone { gone ≤ self.old.count }
+        requires fits { self.old.count + parts < 2 ^ 32 }
+        ensures count { result ≡ self.old.count - gone + parts }
+        ensures rest { self.new ≡ record self.old { count = result } }
+    {
+        self.count = self.count - gone + parts;
+        self.count
     }
 
     /// Goes on to so many pages, each further one as it is in the store.
@@ -42,7 +62,7 @@ impl Table {
         store: &PageStore<P>,
         pages: u32,
     ) -> Result<(), HostMemory>
-        ensures seg { self.new.seg ≡ self.old.seg }
+        ensures rest { self.new ≡ record self.old { frames = self.new.frames } }
         ensures more { length self.old.frames ≤ length self.new.frames }
         ensures pages { OnOk result (pages ≤ length self.new.frames) }
         ensures err { OnErr result (self.new ≡ self.old) }
@@ -68,7 +88,7 @@ impl Table {
     /// Notes where a page of the segment is now.
     pub(crate) fn set(&mut self, page: PageRef, frame: Option<FrameNo>)
         requires { page.seg ≡ self.old.seg }
-        ensures seg { self.new.seg ≡ self.old.seg }
+        ensures rest { self.new ≡ record self.old { frames = self.new.frames } }
         ensures pages { length self.new.frames ≡ length self.old.frames }
         ensures translated { (at : ℕ → ℕ → Option ℕ) → TrueEntry at self.old → TrueEntry (with_frame page frame at) self.new }
     {

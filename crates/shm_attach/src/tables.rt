@@ -7,7 +7,7 @@ ghost use Rattle.shm_fault.specs.Steps.{moved};
 ghost use Rattle.shm_fault.specs.Store.{frame_of};
 ghost use Rattle.shm_attach.specs.Views.{one_if, some_if};
 ghost use Rattle.shm_attach.specs.Entries.{frame_in, seg_in, size_in, AllTrue, with_frame};
-ghost use Rattle.shm_attach.specs.Tables.{counted, IsHeld, IsTied};
+ghost use Rattle.shm_attach.specs.Tables.{counted, key_of, IsHeld, IsTied};
 
 use crate::table::Table;
 use shm_base::{FrameNo, HostMemory, PageRef};
@@ -17,18 +17,11 @@ use slab::Slab;
 use std::alloc::Global;
 use std::collections::HashMap;
 
-/// The pieces of a segment: how many they are, and the key of their table.
-#[derive(Clone, Copy, Drop)]
-pub(crate) struct Attaches {
-    pub(crate) count: u32,
-    pub(crate) key: usize,
-}
-
-/// The attached segments, and their tables.
+/// The tables of the attached segments, and the key of each segment's.
 #[derive(Drop)]
 pub(crate) struct Tables {
     alloc: Global,
-    by_segment: HashMap<u32, Attaches>,
+    keys: HashMap<u32, usize>,
     slab: Slab<Table>,
 }
 
@@ -41,17 +34,27 @@ impl Tables {
     {
         Tables {
             alloc,
-            by_segment: HashMap::new(alloc),
+            keys: HashMap::new(alloc),
             slab: Slab::new(alloc),
         }
+    }
+
+    /// The key of a segment's table.
+    pub(crate) fn key(&self, seg: u32) -> Option<usize>
+        ensures { result ≡ key_of self.now seg }
+    {
+        self.keys.get(&seg).copied()
     }
 
     /// How many pieces a segment has.
     pub(crate) fn count(&self, seg: u32) -> u32
         ensures { result ≡ counted self.now seg }
     {
-        match self.by_segment.get(&seg) {
-            Some(attaches) => attaches.count,
+        let Some(key) = self.key(seg) else {
+            return 0;
+        };
+        match self.slab.get(key) {
+            Some(table) => table.count(),
             None => 0,
         }
     }
@@ -66,33 +69,6 @@ impl Tables {
         }
     }
 
-    // The first piece of a segment.
-    fn open<P: Pager>(
-        &mut self,
-        store: &PageStore<P>,
-        seg: u32,
-        pages: u32,
-    ) -> Result<usize, HostMemory>
-        requires none { counted self.old seg ≡ 0 }
-        requires tied { IsTied self.old }
-        ensures counts { OnOk result ((id : ℕ) → counted self.new id ≡ counted self.old id + one_if id seg) }
-        ensures seg { IfOk result (λ key. seg_in (get self.new.slab key) ≡ Some seg) }
-        ensures pages { IfOk result (λ key. pages ≤ size_in (get self.new.slab key)) }
-        ensures held { (p : Stored) → IsHeld self.old.slab p → IsHeld self.new.slab p }
-        ensures translated { AllTrue (frame_of store.now) self.old.slab → AllTrue (frame_of store.now) self.new.slab }
-        ensures tied { IsTied self.new }
-        ensures slots { OnErr result (self.new.slab.slots ≡ self.old.slab.slots) }
-        ensures err { OnErr result ((id : ℕ) → counted self.new id ≡ counted self.old id) }
-    {
-        let mut table = Table::new(self.alloc, seg);
-        table.extend(store, pages)?;
-        self.slab.reserve(1)?;
-        let key = self.slab.vacant_key();
-        self.by_segment.insert(seg, Attaches { count: 1, key })?;
-        self.slab.insert_reserved(table);
-        Ok(key)
-    }
-
     // A table goes on to so many pages of its segment.
     fn extend<P: Pager>(
         &mut self,
@@ -100,11 +76,13 @@ impl Tables {
         key: usize,
         pages: u32,
     ) -> Result<(), HostMemory>
+        requires tied { IsTied self.old }
+        ensures counts { (id : ℕ) → counted self.new id ≡ counted self.old id }
         ensures seg { (k : ℕ) → seg_in (get self.new.slab k) ≡ seg_in (get self.old.slab k) }
-        ensures more { (k : ℕ) → size_in (get self.old.slab k) ≤ size_in (get self.new.slab k) }
         ensures pages { (id : ℕ) → seg_in (get self.old.slab key) ≡ Some id → OnOk result (pages ≤ size_in (get self.new.slab key)) }
+        ensures held { (p : Stored) → IsHeld self.old.slab p → IsHeld self.new.slab p }
         ensures translated { AllTrue (frame_of store.now) self.old.slab → AllTrue (frame_of store.now) self.new.slab }
-        ensures rest { self.new ≡ record self.old { slab = self.new.slab } }
+        ensures tied { IsTied self.new }
         ensures err { OnErr result (self.new.slab.slots ≡ self.old.slab.slots) }
     {
         match self.slab.get_mut(key) {
@@ -113,23 +91,9 @@ impl Tables {
         }
     }
 
-    /// One more piece of a segment that has some. It takes no memory.
-    pub(crate) fn raise(&mut self, seg: u32)
-        requires some { 0 < counted self.old seg }
-        requires fits { counted self.old seg + 1 < 2 ^ 32 }
-        requires tied { IsTied self.old }
-        ensures counts { (id : ℕ) → counted self.new id ≡ counted self.old id + one_if id seg }
-        ensures slab { self.new.slab ≡ self.old.slab }
-        ensures tied { IsTied self.new }
-    {
-        if let Some(attaches) = self.by_segment.get_mut(&seg) {
-            attaches.count += 1;
-        }
-    }
-
-    /// One more piece of a segment, which has its first so many pages, and the key of the table. The growths
-    /// come first.
-    pub(crate) fn add<P: Pager>(
+    /// Holds a segment for a piece that is to come: it counts as one, and the table, whose key is told, has the
+    /// first so many pages. The growths come first.
+    pub(crate) fn hold<P: Pager>(
         &mut self,
         store: &PageStore<P>,
         seg: u32,
@@ -146,18 +110,24 @@ impl Tables {
         ensures slots { OnErr result (self.new.slab.slots ≡ self.old.slab.slots) }
         ensures err { OnErr result ((id : ℕ) → counted self.new id ≡ counted self.old id) }
     {
-        let Some(attaches) = self.by_segment.get(&seg).copied() else {
-            return self.open(store, seg, pages);
-        };
-        self.extend(store, attaches.key, pages)?;
-        self.raise(seg);
-        Ok(attaches.key)
+        if let Some(key) = self.key(seg) {
+            self.extend(store, key, pages)?;
+            self.replace(seg, key, 0, 1);
+            return Ok(key);
+        }
+        let mut table = Table::new(self.alloc, seg);
+        table.extend(store, pages)?;
+        self.slab.reserve(1)?;
+        let key = self.slab.vacant_key();
+        self.keys.insert(seg, key)?;
+        self.slab.insert_reserved(table);
+        Ok(key)
     }
 
-    /// Some pieces of a segment give way to so many others. Where none is left its table goes. It takes no
-    /// memory.
-    pub(crate) fn replace(&mut self, seg: u32, gone: u32, parts: u32)
-        requires some { 0 < parts → 0 < counted self.old seg }
+    /// Some pieces of a segment, whose table lies under the key, give way to so many others. Where none is left
+    /// the table goes. It takes no memory.
+    pub(crate) fn replace(&mut self, seg: u32, key: usize, gone: u32, parts: u32)
+        requires own { seg_in (get self.old.slab key) ≡ Some seg }
         requires gone { gone ≤ counted self.old seg }
         requires fits { counted self.old seg + parts < 2 ^ 32 }
         requires tied { IsTied self.old }
@@ -166,14 +136,27 @@ impl Tables {
         ensures translated { (at : ℕ → ℕ → Option ℕ) → AllTrue at self.old.slab → AllTrue at self.new.slab }
         ensures tied { IsTied self.new }
     {
-        let Some(attaches) = self.by_segment.get_mut(&seg) else {
+        let Some(table) = self.slab.get_mut(key) else {
             return;
         };
-        attaches.count = attaches.count - gone + parts;
-        let Attaches { count, key } = *attaches;
-        if count == 0 {
-            self.by_segment.remove(&seg);
+        if table.replace(gone, parts) == 0 {
+            self.keys.remove(&seg);
             self.slab.try_remove(key);
+        }
+    }
+
+    /// Some pieces of a segment go. It takes no memory.
+    pub(crate) fn leave(&mut self, seg: u32, gone: u32)
+        requires gone { gone ≤ counted self.old seg }
+        requires fits { counted self.old seg < 2 ^ 32 }
+        requires tied { IsTied self.old }
+        ensures counts { (id : ℕ) → counted self.new id + some_if id seg gone ≡ counted self.old id }
+        ensures held { (p : Stored) → IsHeld self.old.slab p → 0 < counted self.new p.seg → IsHeld self.new.slab p }
+        ensures translated { (at : ℕ → ℕ → Option ℕ) → AllTrue at self.old.slab → AllTrue at self.new.slab }
+        ensures tied { IsTied self.new }
+    {
+        if let Some(key) = self.key(seg) {
+            self.replace(seg, key, gone, 0);
         }
     }
 
@@ -185,10 +168,10 @@ impl Tables {
         ensures translated { (at : ℕ → ℕ → Option ℕ) → AllTrue at self.old.slab → AllTrue (with_frame page frame at) self.new.slab }
         ensures tied { IsTied self.new }
     {
-        let Some(attaches) = self.by_segment.get(&page.seg) else {
+        let Some(key) = self.keys.get(&page.seg) else {
             return;
         };
-        if let Some(table) = self.slab.get_mut(attaches.key) {
+        if let Some(table) = self.slab.get_mut(*key) {
             table.set(page, frame);
         }
     }

@@ -1,126 +1,158 @@
-use Rattle.std.proofs.Common.{◌≡◌, ℕ, ◌+◌, ◌*◌, ◌<◌, ◌≤◌, ◌∙◌, ap, sym, subst, arith, List, length, get_or}
-use Rattle.std.proofs.lemmas.List.{length-map}
-use Rattle.shm_base.specs.State as flat
-use Rattle.shm_base.specs.Space.{lowest_address, inserted, cut, pieces_of}
-use Rattle.shm_base.specs.Step.{with_pieces}
-use Rattle.shm_areas.specs.Arranged.{Arranged}
-use Rattle.shm_areas.proofs.Edits.{arranged_cut, arranged_inserted}
-use Rattle.shm_fault.specs.Store.{frame_of}
-use Rattle.shm_attach.specs.Views.{runner_view, runners_view, with_pieces_at}
-use Rattle.shm_attach.specs.Spaces.{SpacesView, Translation, AreTrue, IsCaller, pieces_at, seen}
-use Rattle.shm_attach.specs.Place.{new_piece, IsPlaceFor}
-use Rattle.shm_attach.specs.Exact.{IsExact}
-use Rattle.std.specs.Prelude.{All}
+use Rattle.std.proofs.Common.{◌≡◌, ℕ, ◌+◌, ◌*◌, ◌<◌, ◌≤◌, ◌∙◌, ap, sym, subst, refl, arith, eq-eqb, List, length, map}
+use Rattle.shm_base.specs.Space.{inserted, cut, cut_segments}
+use Rattle.shm_areas.specs.Arranged.{bare}
 use Rattle.shm_areas.specs.declared.piece.Piece.{Piece}
+use Rattle.shm_fault.specs.Store.{frame_of}
+use Rattle.shm_attach.specs.declared.process.Runner.{Runner}
+use Rattle.shm_attach.specs.declared.tables.Tables.{Tables}
+use Rattle.shm_attach.specs.Views.{one_if, runner_view, runners_view, with_pieces_at}
+use Rattle.shm_attach.specs.Spaces.{SpacesView, Translation, AreTrue, IsCaller, pieces_at, life_at}
+use Rattle.shm_attach.specs.Place.{new_piece}
+use Rattle.shm_attach.specs.Exact.{IsSound, no_holds}
 use Rattle.shm_attach.specs.Entries.{AllTrue, translations_of}
-use Rattle.shm_attach.specs.Tables.{counted, stored_at, IsHeld, AllHeld}
-use Rattle.shm_attach.proofs.Processes.{one_if-le, length-inserted, pieces_of-inserted}
-use Rattle.shm_attach.proofs.Callers.{caller_within, caller_born, with_pieces-at}
-use Rattle.shm_attach.proofs.Keeping.{small_counts, own_counted, pieces_at-changed, with_pieces_at-twice, IsExact-changed}
+use Rattle.shm_attach.specs.Tables.{counted, IsHeld}
+use Rattle.std.proofs.lemmas.List.{length-map}
+use Rattle.shm_attach.proofs.Processes.{one_if-le, some_if-le, seg-met}
+use Rattle.shm_attach.proofs.Callers.{caller_within, caller_born, with_pieces-of}
+use Rattle.shm_attach.proofs.Keeping.{pieces_at-changed, life_at-changed, with_pieces_at-twice}
 use Rattle.shm_attach.proofs.Bases.{place-range}
-use Rattle.shm_attach.proofs.Held.{held-inserted, held-cut, held-changed, held-all}
+use Rattle.shm_attach.proofs.Sound.{none_held, sound-holds, counts-small}
 use Rattle.shm_attach.proofs.Translations.{all-true, true-all}
+use Rattle.shm_attach.proofs.spaces.Spaces.attach.Given.{Over}
+use Rattle.shm_attach.proofs.spaces.Spaces.attach.Goals.{After-self, In_ok-key, After-put}
 use Rattle.shm_attach.proofs.spaces.Spaces.attach.Goals as goal
 
-pub add-requires-clause-fits : goal.add-requires-clause-fits
-add-requires-clause-fits g c = omega (arith, small_counts (runners_view c.self.inside.processes.entries) c.self.inside.tables c.self.invariant.0 c.args.seg)
+-- THE CALLER
 
-pub take_range-lost-requires-clause-there : goal.take_range-lost-requires-clause-there
-take_range-lost-requires-clause-there g c = caller_within c.args.caller.now c.self.inside.processes.entries (rw (← c.self.view_is) at c.requires.live)
+live : (g : Over) (c : After-self g) → IsCaller c.args.caller.now (runners_view c.self.inside.processes.entries)
+live g c = rw (← c.self.view_is) at c.requires.live
 
-pub take_range-lost-requires-clause-few : goal.take_range-lost-requires-clause-few
-take_range-lost-requires-clause-few g c =
+stands : (g : Over) (c : After-self g) → c.args.caller.now.index < length c.self.inside.processes.entries
+stands g c = caller_within c.args.caller.now c.self.inside.processes.entries (live g c)
+
+pub hold-requires-clause-fits : goal.hold-requires-clause-fits
+hold-requires-clause-fits g c =
+    let es = c.self.inside.processes.entries in
+    omega (arith, counts-small es c.self.inside.tables (none_held es c.self.inside.tables c.self.invariant) c.args.seg)
+
+pub space_at-requires : goal.space_at-requires
+space_at-requires g c = stands g (goal.at.space_at-requires g c).After-self
+
+-- THE SEGMENT IS HELD
+
+held : (g : Over) (c : In_ok-key g) → IsSound (λ id. one_if id c.args.seg) c.self.inside.processes.entries c.hold.new.self
+held g c =
+    sound-holds no_holds (λ id. one_if id c.args.seg) c.self.inside.processes.entries c.self.inside.tables c.hold.new.self c.self.invariant
+    (λ id. omega (arith, c.in_ok-key.ensures.counts id)) c.in_ok-key.ensures.tied (λ p own _. c.in_ok-key.ensures.held p own)
+
+pub take-requires : goal.take-requires
+take-requires g c =
+    let b = goal.at.take-requires g c in
     let room : length (cut c.args.base (c.args.base + 4096 * c.args.pages) (pieces_at (runners_view c.self.inside.processes.entries) c.args.caller.now.index)) + 1 ≤ 256 =
     rw (← c.self.view_is) at c.requires.room in
-    omega (arith, room)
+    record {
+      there = stands g b.After-self;
+      part = record { from_page = c.requires.range.aligned; to_page = omega (arith, c.requires.range.aligned); order = omega arith; few = omega (arith, room) };
+      holds = record { extra = λ id. one_if id c.args.seg; few = λ id. one_if-le id c.args.seg; sound = held g b.In_ok-key };
+    }
 
-pub take_range-lost-requires-clause-counted : goal.take_range-lost-requires-clause-counted
-take_range-lost-requires-clause-counted g c = λ id.
-    let rs = runners_view c.self.inside.processes.entries in
-    let within = caller_within c.args.caller.now c.self.inside.processes.entries (rw (← c.self.view_is) at c.requires.live) in
-    let lt : c.args.caller.now.index < length rs = omega (arith, within, length-map c.self.inside.processes.entries runner_view) in
-    omega (arith, own_counted rs c.self.inside.tables c.args.caller.now.index c.self.invariant.0 lt id, c.in_ok-key.ensures.counts id)
+-- THE RANGE IS FREE
 
-pub take_range-lost-requires-clause-small : goal.take_range-lost-requires-clause-small
-take_range-lost-requires-clause-small g c = λ id.
-    omega (arith, small_counts (runners_view c.self.inside.processes.entries) c.self.inside.tables c.self.invariant.0 id, c.in_ok-key.ensures.counts id, one_if-le id c.args.seg)
+-- a segment that is held is counted
+counts_hold : (seg : ℕ) (es : List (ℕ × Runner)) (t : Tables) → IsSound (λ id. one_if id seg) es t → 1 ≤ counted t seg
+counts_hold seg es t sound =
+    let one : one_if seg seg ≡ 1 = rw (eq-eqb seg seg refl) refl in
+    omega (arith, sound.exact.counts seg, one)
 
-pub insert_at-requires-clause-there : goal.insert_at-requires-clause-there
-insert_at-requires-clause-there g c =
-    omega (arith, c.take_range-lost.ensures.count, caller_within c.args.caller.now c.self.inside.processes.entries (rw (← c.self.view_is) at c.requires.live))
+abbrev new : (g : Over) (c : In_ok-key g) → Piece
+new g c = record { base = c.args.base; seg = c.args.seg; first_page = 0; pages = c.args.pages; writable = c.args.writable; key = c.in_ok-key.key }
 
-pub insert_at-requires-clause-room : goal.insert_at-requires-clause-room
-insert_at-requires-clause-room g c =
-    let rs = runners_view c.self.inside.processes.entries in
-    let i = c.args.caller.now.index in
-    let base = c.args.base in
-    let pages = c.args.pages in
-    let ps = pieces_at rs i in
-    let within = caller_within c.args.caller.now c.self.inside.processes.entries (rw (← c.self.view_is) at c.requires.live) in
-    let lt : i < length rs = omega (arith, within, length-map c.self.inside.processes.entries runner_view) in
-    let p : flat.Piece = record { base = base; seg = c.args.seg; first_page = 0; pages = pages; writable = c.args.writable } in
-    let few : length (cut base (base + 4096 * pages) ps) + 1 ≤ 256 = rw (← c.self.view_is) at c.requires.room in
-    let place : IsPlaceFor p (cut base (base + 4096 * pages) ps) = place-range p ps c.requires.pages.0 (omega (arith, c.requires.pages.1)) c.requires.range few in
-    rw (c.take_range-lost.ensures.runners, pieces_at-changed rs i (cut base (base + 4096 * pages)) lt) place
+knows : (g : Over) (c : In_ok-key g) → IsHeld c.hold.new.self.slab (new g c)
+knows g c = record { seg = c.in_ok-key.ensures.seg; pages = omega (arith, c.in_ok-key.ensures.pages) }
 
-pub invariant_of-self-2 : goal.invariant_of-self-2
-invariant_of-self-2 g c =
+pub put-requires : goal.put-requires
+put-requires g c =
     let es = c.self.inside.processes.entries in
     let rs = runners_view es in
     let i = c.args.caller.now.index in
-    let base = c.args.base in
-    let pages = c.args.pages in
-    let ps = pieces_at rs i in
-    let within = caller_within c.args.caller.now es (rw (← c.self.view_is) at c.requires.live) in
+    let seg = c.args.seg in
+    let f = cut c.args.base (c.args.base + 4096 * c.args.pages) in
+    let b = goal.at.put-requires g c in
+    let within = stands g b.After-self in
     let lt : i < length rs = omega (arith, within, length-map es runner_view) in
-    let p : flat.Piece = record { base = base; seg = c.args.seg; first_page = 0; pages = pages; writable = c.args.writable } in
-    let f = cut base (base + 4096 * pages) in
-    let few : length (f ps) + 1 ≤ 256 = rw (← c.self.view_is) at c.requires.room in
-    let all : runners_view c.insert_at.new.processes.entries ≡ with_pieces_at rs i (λ qs. inserted p (f qs)) =
-    c.insert_at.ensures.runners ∙ rw c.take_range-lost.ensures.runners (with_pieces_at-twice rs i f (inserted p) lt) in
-    let short : length (inserted p (f ps)) ≤ 256 = omega (arith, few, length-inserted p (f ps)) in
-    let counts : (id : ℕ) → counted c.take_range-lost.new.tables id + pieces_of id ps ≡ counted c.self.inside.tables id + pieces_of id (inserted p (f ps)) =
-    λ id. omega (arith, c.take_range-lost.ensures.counts id, c.in_ok-key.ensures.counts id, pieces_of-inserted id p (f ps)) in
-    let range = c.requires.range in
-    let place : IsPlaceFor p (f ps) = place-range p ps c.requires.pages.0 (omega (arith, c.requires.pages.1)) range few in
-    let apart : Arranged lowest_address (f ps) = arranged_cut lowest_address base (base + 4096 * pages) ps (c.self.invariant.0.arranged i) range.aligned (omega (arith, range.aligned)) (omega arith) in
-    let order : Arranged lowest_address (inserted p (f ps)) = arranged_inserted lowest_address p (f ps) apart place.low place.fit place.free in
-    let exact : IsExact (runners_view c.insert_at.new.processes.entries) c.take_range-lost.new.tables =
-    rw all (IsExact-changed rs i (λ qs. inserted p (f qs)) c.self.inside.tables c.take_range-lost.new.tables c.self.invariant.0 lt short order
-    (λ none. absurd (caller_born c.args.caller.now rs (rw (← c.self.view_is) at c.requires.live) none)) counts) in
-    let t = c.add.new.self.slab in
-    let fs = c.take_range-lost.new.processes.entries in
-    let hs = c.insert_at.new.processes.entries in
-    let q : Piece = record { base = base; seg = c.args.seg; first_page = 0; pages = pages; writable = c.args.writable; key = c.in_ok-key.key } in
-    let new : IsHeld t q = record { seg = c.in_ok-key.ensures.seg; pages = omega (arith, c.in_ok-key.ensures.pages) } in
-    let known : AllHeld es t = λ j k d lt2. c.in_ok-key.ensures.held (get_or (stored_at es j) k d) (c.self.invariant.2 j k d lt2) in
-    let parts : All (IsHeld t) (stored_at fs i) = rw c.take_range-lost.ensures.own (held-cut t base (base + 4096 * pages) (stored_at es i) (known i)) in
-    let left : AllHeld fs t = held-changed es fs t i known parts c.take_range-lost.ensures.others in
-    let more : All (IsHeld t) (stored_at hs i) = rw c.insert_at.ensures.own (held-inserted t q (stored_at fs i) new parts) in
-    let held : AllHeld hs t = held-changed fs hs t i left more c.insert_at.ensures.others in
-    (exact, c.take_range-lost.ensures.tied, held-all hs t c.take_range-lost.new.tables exact held c.take_range-lost.ensures.held)
+    let sound = c.take.ensures.sound (λ id. one_if id seg) (held g b.In_ok-key) in
+    let few : length (f (pieces_at rs i)) + 1 ≤ 256 = rw (← c.self.view_is) at c.requires.room in
+    let place = place-range (bare (new g b.In_ok-key)) (pieces_at rs i) c.requires.pages.0 (omega (arith, c.requires.pages.1)) c.requires.range few in
+    record {
+      there = omega (arith, c.take.ensures.count, within);
+      born = λ none.
+          caller_born c.args.caller.now rs (live g b.After-self) (sym (life_at-changed rs i f lt) ∙ ap (λ xs. life_at xs i) (sym c.take.ensures.runners) ∙ none);
+      place = rw (c.take.ensures.runners, pieces_at-changed rs i f lt) place;
+      table = c.take.ensures.held (new g b.In_ok-key) (knows g b.In_ok-key) (counts_hold seg c.take.new.processes.entries c.take.new.tables sound);
+      holds = record { extra = λ id. one_if id seg; few = λ id. one_if-le id seg; sound = sound };
+    }
+
+-- THE PIECE IS THERE
+
+placed : (g : Over) (c : After-put g) → IsSound (λ id. one_if id c.args.seg) c.self.inside.processes.entries c.hold.new.self
+    → IsSound (λ id. one_if id c.args.seg) c.put.new.processes.entries c.put.new.tables
+placed g c sound = c.put.ensures.sound (λ id. one_if id c.args.seg) (c.take.ensures.sound (λ id. one_if id c.args.seg) sound)
+
+pub replace-requires : goal.replace-requires
+replace-requires g c =
+    let seg = c.args.seg in
+    let b = goal.at.replace-requires g c in
+    let q = new g b.In_ok-key in
+    let before = held g b.In_ok-key in
+    let cleared = c.take.ensures.sound (λ id. one_if id seg) before in
+    let table = c.take.ensures.held q (knows g b.In_ok-key) (counts_hold seg c.take.new.processes.entries c.take.new.tables cleared) in
+    let sound = placed g b.After-put before in
+    let small = counts-small c.put.new.processes.entries c.put.new.tables (record { extra = λ id. one_if id seg; few = λ id. one_if-le id seg; sound = sound }) seg in
+    record {
+      own = (c.put.ensures.held q table).seg;
+      gone = counts_hold seg c.put.new.processes.entries c.put.new.tables sound;
+      fits = omega (arith, small);
+      tied = sound.tied;
+    }
+
+pub invariant_of-self-2 : goal.invariant_of-self-2
+invariant_of-self-2 g c =
+    let seg = c.args.seg in
+    let b = goal.at.invariant_of-self-2 g c in
+    sound-holds (λ id. one_if id seg) no_holds c.put.new.processes.entries c.put.new.tables c.replace.new.self (placed g b.After-put (held g b.In_ok-key))
+    (λ id. omega (arith, c.replace.ensures.counts id, some_if-le id seg 0)) c.replace.ensures.tied c.replace.ensures.held
+
+-- WHAT IT ENSURES
+
+pub returns-clause-lost : goal.returns-clause-lost
+returns-clause-lost g c =
+    let base = c.args.base in
+    let end = base + 4096 * c.args.pages in
+    c.of-lost.ensures
+    ∙ ap (λ (ps : List Piece). map (λ (p : Piece). p.seg) ps) c.met.ensures.value
+    ∙ seg-met base end c.space_at.result.now
+    ∙ ap (cut_segments base end) c.space_at.ensures.flat
+    ∙ ap (λ (v : SpacesView). cut_segments base end (pieces_at v.runners c.args.caller.now.index)) c.self.view_is
 
 pub returns-clause-runners : goal.returns-clause-runners
 returns-clause-runners g c =
     let es = c.self.inside.processes.entries in
     let rs = runners_view es in
     let i = c.args.caller.now.index in
-    let base = c.args.base in
-    let pages = c.args.pages in
-    let within = caller_within c.args.caller.now es (rw (← c.self.view_is) at c.requires.live) in
-    let lt : i < length rs = omega (arith, within, length-map es runner_view) in
-    let p = new_piece c.args.seg base pages c.args.writable in
-    let f = cut base (base + 4096 * pages) in
-    let all : runners_view c.insert_at.new.processes.entries ≡ with_pieces_at rs i (λ qs. inserted p (f qs)) =
-    c.insert_at.ensures.runners ∙ rw c.take_range-lost.ensures.runners (with_pieces_at-twice rs i f (inserted p) lt) in
-    let is : IsCaller c.args.caller.now rs = rw (← c.self.view_is) at c.requires.live in
-    all ∙ sym (with_pieces-at c.args.caller.now rs (λ qs. inserted p (f qs)) is)
-    ∙ ap (λ (xs : List flat.Runner). with_pieces xs (seen c.args.caller.now xs) (inserted p (f (pieces_at xs i)))) (ap (λ (v : SpacesView). v.runners) c.self.view_is)
+    let b = goal.at.returns-clause-runners g c in
+    let lt : i < length rs = omega (arith, stands g b.After-self, length-map es runner_view) in
+    let p = new_piece c.args.seg c.args.base c.args.pages c.args.writable in
+    let f = cut c.args.base (c.args.base + 4096 * c.args.pages) in
+    c.put.ensures.runners
+    ∙ ap (λ xs. with_pieces_at xs i (inserted p)) c.take.ensures.runners
+    ∙ with_pieces_at-twice rs i f (inserted p) lt
+    ∙ with_pieces-of c.args.caller.now rs c.args.self.now.runners (λ qs. inserted p (f qs)) (ap (λ (v : SpacesView). v.runners) c.self.view_is) c.requires.live
 
 pub returns-clause-translated : goal.returns-clause-translated
 returns-clause-translated g c = λ old.
-    let m = c.args.store.now in
+    let at = frame_of c.args.store.now in
     let t = c.self.inside.tables.slab in
     let shown : translations_of t ≡ c.args.self.now.translations = ap (λ (v : SpacesView). v.translations) c.self.view_is in
-    let first : AllTrue (frame_of m) t = all-true (frame_of m) t (subst (λ (xs : List Translation). AreTrue xs m) (sym shown) old) in
-    true-all (frame_of m) c.take_range-lost.new.tables.slab (c.take_range-lost.ensures.translated (frame_of m) (c.in_ok-key.ensures.translated first))
+    let first : AllTrue at t = all-true at t (subst (λ (xs : List Translation). AreTrue xs c.args.store.now) (sym shown) old) in
+    let cleared = c.take.ensures.translated at (c.in_ok-key.ensures.translated first) in
+    true-all at c.replace.new.self.slab (c.replace.ensures.translated at (c.put.ensures.translated at cleared))

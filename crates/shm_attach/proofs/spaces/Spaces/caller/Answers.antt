@@ -1,11 +1,18 @@
-use Rattle.std.proofs.Common.{◌≡◌, ◌∙◌, sym, Some, slice_get}
+use Rattle.std.proofs.Common.{◌≡◌, ◌∙◌, sym}
 use Rattle.shm_base.specs.Step.{caller_by, caller_from}
 use Rattle.shm_areas.specs.Arranged.{bare_all}
 use Rattle.shm_attach.specs.Views.{life_view, runners_view}
-use Rattle.shm_attach.specs.Spaces.{pieces_at}
-use Rattle.shm_attach.proofs.Processes.{pieces_at-entry}
+use Rattle.shm_attach.proofs.Held.{pieces_at-entry}
 use Rattle.shm_attach.proofs.Callers.{caller_from-position, caller_from-absent, not_live}
+use Rattle.shm_attach.proofs.spaces.Spaces.caller.Goals.{In_ok-index}
 use Rattle.shm_attach.proofs.spaces.Spaces.caller.Goals as goal
+
+from : (c : In_ok-index)
+    → caller_from 0 c.args.pid (runners_view c.self.inside.processes.entries)
+    ≡ caller_by c.in_ok-index.index c.args.pid (bare_all c.in_ok-index.runner.now.space) (life_view c.in_ok-index.runner.now.life)
+from c =
+    caller_from-position c.args.pid c.in_ok-index.index c.self.inside.processes.entries (c.in_ok-index.field-0-1.now, c.in_ok-index.runner.now) (sym c.in_ok-index.ensures.index)
+    c.in_ok-index.ensures.entry
 
 pub returns-in_err-index-clause-none : goal.returns-in_err-index-clause-none
 returns-in_err-index-clause-none c =
@@ -13,20 +20,10 @@ returns-in_err-index-clause-none c =
 
 pub returns-in-Live-clause-live : goal.returns-in-Live-clause-live
 returns-in-Live-clause-live c =
-    let es = c.self.inside.processes.entries in
-    let i = c.in_ok-index.index in
-    let runner = c.in_ok-index.runner.now in
-    let at : slice_get es i ≡ Some (c.in_ok-index.field-0-1.now, runner) = c.in_ok-index.ensures.entry in
-    let from : caller_from 0 c.args.pid (runners_view es) ≡ caller_by i c.args.pid (bare_all runner.space) (life_view runner.life) =
-    caller_from-position c.args.pid i es (c.in_ok-index.field-0-1.now, runner) (sym c.in_ok-index.ensures.index) at in
-    let shown : pieces_at (runners_view es) i ≡ bare_all runner.space = pieces_at-entry es i c.in_ok-index.field-0-1.now runner (sym at) in
-    rw (← c.self.view_is, shown) (rw c.in-Live.is at from)
+    let shown = pieces_at-entry c.self.inside.processes.entries c.in_ok-index.index (c.in_ok-index.field-0-1.now, c.in_ok-index.runner.now) c.in_ok-index.ensures.entry in
+    rw (← c.self.view_is, shown) (rw c.in-Live.is at (from (goal.at.returns-in-Live-clause-live c).In_ok-index))
 
-pub returns-in_default : goal.returns-in_default
-returns-in_default c =
-    let es = c.self.inside.processes.entries in
-    let i = c.in_ok-index.index in
-    let runner = c.in_ok-index.runner.now in
-    let from : caller_from 0 c.args.pid (runners_view es) ≡ caller_by i c.args.pid (bare_all runner.space) (life_view runner.life) =
-    caller_from-position c.args.pid i es (c.in_ok-index.field-0-1.now, runner) (sym c.in_ok-index.ensures.index) c.in_ok-index.ensures.entry in
-    record { pid = tt; live = tt; none = rw (← c.self.view_is) (from ∙ not_live i c.args.pid (bare_all runner.space) runner.life c.in_default.not-Live) }
+pub returns-in_default-clause-none : goal.returns-in_default-clause-none
+returns-in_default-clause-none c =
+    let none = not_live c.in_ok-index.index c.args.pid (bare_all c.in_ok-index.runner.now.space) c.in_ok-index.runner.now.life c.in_default.not-Live in
+    rw (← c.self.view_is) (from (goal.at.returns-in_default-clause-none c).In_ok-index ∙ none)

@@ -7,7 +7,6 @@ use Rattle.shm_base.specs.declared.call.Process.{Process}
 use Rattle.shm_areas.specs.Arranged.{bare_all}
 use Rattle.shm_areas.specs.declared.piece.Piece.{Piece}
 use Rattle.shm_attach.specs.declared.process.Runner.{Runner}
-use Rattle.shm_attach.specs.Exact.{IsExact}
 use Rattle.shm_attach.proofs.Starts.{IsExact-start, view-more, AllHeld-start}
 use Rattle.shm_attach.proofs.spaces.Spaces.new.Goals as goal
 
@@ -18,8 +17,11 @@ pub invariant_of-result : goal.invariant_of-result
 invariant_of-result c =
     let all : take c.loop-process.process-index c.args.processes.now ≡ c.args.processes.now = take_all c.loop-process.process-index c.args.processes.now c.loop-process-test.false in
     let same : runners_view c.loop-process.by_pid.entries ≡ map runner_at_start c.args.processes.now = rw all at c.loop-process.invariant in
-    let exact : IsExact (runners_view c.loop-process.by_pid.entries) c.new-2.result = rw same (IsExact-start c.args.processes.now c.new-2.result c.requires.few c.new-2.ensures.none) in
-    (exact, c.new-2.ensures.tied, AllHeld-start c.loop-process.by_pid.entries c.args.processes.now c.new-2.result.slab same)
+    record {
+      exact = rw same (IsExact-start c.args.processes.now c.new-2.result c.requires.few c.new-2.ensures.none);
+      tied = c.new-2.ensures.tied;
+      held = AllHeld-start c.loop-process.by_pid.entries c.args.processes.now c.new-2.result.slab same;
+    }
 
 pub loop-process-preserved : goal.loop-process-preserved
 loop-process-preserved c =

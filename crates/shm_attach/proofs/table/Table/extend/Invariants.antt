@@ -9,7 +9,8 @@ abbrev pub invariant-loop-page : goal.invariant-loop-page
 invariant-loop-page g l =
     record {
       seg : l.self-inside.seg ≡ l.initial.self-inside.seg;
+      count : l.self-inside.count ≡ l.initial.self-inside.count;
       pages : length l.self-inside.frames.items ≡ l.page;
       room : l.pages ≤ vec_capacity l.self-inside.frames;
-      translated : TrueEntry (frame_of l.store) (record { seg = l.initial.self-inside.seg; frames = l.initial.self-inside.frames.items }) → TrueEntry (frame_of l.store) (record { seg = l.self-inside.seg; frames = l.self-inside.frames.items });
+      translated : TrueEntry (frame_of l.store) (record { seg = l.initial.self-inside.seg; count = l.initial.self-inside.count; frames = l.initial.self-inside.frames.items }) → TrueEntry (frame_of l.store) (record { seg = l.self-inside.seg; count = l.self-inside.count; frames = l.self-inside.frames.items });
     }

@@ -1,0 +1,137 @@
+-- The counts stay exact, and each piece has its segment's table, where one process changes.
+use Rattle.std.proofs.Common.{◌≡◌, ◌≢◌, ℕ, ◌+◌, ◌<◌, ◌≤◌, not, List, [], length, Some, slice_get, ap, sym, subst, arith}
+use Rattle.std.specs.Prelude.{All}
+use Rattle.std.proofs.lemmas.List.{length-map}
+use Rattle.indexmap.specs.IndexMap.{set_value_at}
+use Rattle.shm_base.specs.State as flat
+use Rattle.shm_base.specs.Space.{lowest_address, inserted, cut, without_named, is_named, pieces_of}
+use Rattle.shm_base.specs.State.{Unborn}
+use Rattle.shm_areas.specs.Arranged.{bare_all, Arranged}
+use Rattle.shm_areas.specs.declared.piece.Piece.{Piece}
+use Rattle.shm_areas.proofs.Edits.{arranged_cut, arranged_inserted}
+use Rattle.shm_attach.specs.declared.process.Runner.{Runner}
+use Rattle.shm_attach.specs.declared.tables.Tables.{Tables}
+use Rattle.shm_attach.specs.Views.{runner_view, runners_view, with_pieces_at, with_life_at}
+use Rattle.shm_attach.specs.Spaces.{pieces_at, life_at}
+use Rattle.shm_attach.specs.Tables.{counted, stored_at, IsHeld, IsTied, AllHeld}
+use Rattle.shm_attach.specs.Place.{IsPlaceFor}
+use Rattle.shm_attach.specs.Part.{IsCuttable}
+use Rattle.shm_attach.specs.Exact.{IsExact, IsSound, HasHolds, no_holds}
+use Rattle.shm_attach.proofs.Processes.{values_of, runners_set, length_set, length-inserted, shorter_filter}
+use Rattle.shm_attach.proofs.Keeping.{IsExact-changed, IsExact-life, arranged-without, small_counts, own_counted}
+use Rattle.shm_attach.proofs.Held.{stored_at-set, stored_at-other, held-changed, held-all}
+
+-- ONE PROCESS
+
+-- it has other pieces
+pub record IsChanged (es fs : List (ℕ × Runner)) (i : ℕ) (f : List flat.Piece → List flat.Piece) (stored : List Piece) : Type 0 where
+  pub runners : runners_view fs ≡ with_pieces_at (runners_view es) i f
+  pub count : length fs ≡ length es
+  pub own : stored_at fs i ≡ stored
+  pub others : (j : ℕ) → j ≢ i → stored_at fs j ≡ stored_at es j
+
+pub changed : (es : List (ℕ × Runner)) (i : ℕ) (w v : Runner) (f : List flat.Piece → List flat.Piece) → Some w ≡ slice_get (values_of es) i → v.life ≡ w.life
+    → bare_all v.space ≡ f (bare_all w.space) → IsChanged es (set_value_at es i v) i f v.space
+changed es i w v f at life space =
+    record {
+      runners = runners_set f es i w v at life space;
+      count = length_set es i v;
+      own = stored_at-set es i w v at;
+      others = λ j other. stored_at-other es i j v other;
+    }
+
+-- the tables follow pieces that give way to others
+pub record IsRecounted (t u : Tables) (before after : List flat.Piece) : Type 0 where
+  pub counts : (id : ℕ) → counted u id + pieces_of id before ≡ counted t id + pieces_of id after
+  pub held : (p : Piece) → IsHeld t.slab p → 0 < counted u p.seg → IsHeld u.slab p
+  pub tied : IsTied u
+
+-- other pieces that are few and in order
+pub record AreFit (rs : List flat.Runner) (i : ℕ) (ps : List flat.Piece) : Type 0 where
+  pub few : length ps ≤ 256
+  pub order : Arranged lowest_address ps
+  pub unborn : life_at rs i ≡ Unborn → ps ≡ []
+
+-- one more piece, where there is a place for it
+pub fit-inserted : (extra : ℕ → ℕ) (es : List (ℕ × Runner)) (t : Tables) (i : ℕ) (p : flat.Piece) → IsSound extra es t → IsPlaceFor p (pieces_at (runners_view es) i)
+    → life_at (runners_view es) i ≢ Unborn → AreFit (runners_view es) i (inserted p (pieces_at (runners_view es) i))
+fit-inserted extra es t i p sound place born =
+    let ps = pieces_at (runners_view es) i in
+    record {
+      few = omega (arith, length-inserted p ps, place.room);
+      order = arranged_inserted lowest_address p ps (sound.exact.arranged i) place.low place.fit place.free;
+      unborn = λ none. absurd (born none);
+    }
+
+-- a range of whole pages is cut out
+pub fit-cut : (extra : ℕ → ℕ) (es : List (ℕ × Runner)) (t : Tables) (i from to : ℕ) → IsSound extra es t → IsCuttable from to (pieces_at (runners_view es) i)
+    → AreFit (runners_view es) i (cut from to (pieces_at (runners_view es) i))
+fit-cut extra es t i from to sound can =
+    let ps = pieces_at (runners_view es) i in
+    let order : from ≤ to = omega (arith, can.order) in
+    record {
+      few = can.few;
+      order = arranged_cut lowest_address from to ps (sound.exact.arranged i) can.from_page can.to_page order;
+      unborn = λ none. ap (cut from to) (sound.exact.unborn i none);
+    }
+
+-- the pieces of an attach go
+pub fit-without : (extra : ℕ → ℕ) (es : List (ℕ × Runner)) (t : Tables) (i addr seg : ℕ) → IsSound extra es t
+    → AreFit (runners_view es) i (without_named addr seg (pieces_at (runners_view es) i))
+fit-without extra es t i addr seg sound =
+    let ps = pieces_at (runners_view es) i in
+    let fewer = shorter_filter (λ (q : flat.Piece). not (is_named addr seg q)) ps in
+    record {
+      few = omega (arith, fewer, sound.exact.pieces i);
+      order = arranged-without addr seg lowest_address ps (sound.exact.arranged i);
+      unborn = λ none. ap (without_named addr seg) (sound.exact.unborn i none);
+    }
+
+pub sound-changed : (extra : ℕ → ℕ) (es fs : List (ℕ × Runner)) (t u : Tables) (i : ℕ) (f : List flat.Piece → List flat.Piece) (own : List Piece) → i < length es
+    → IsSound extra es t → IsChanged es fs i f own → AreFit (runners_view es) i (f (pieces_at (runners_view es) i)) → All (IsHeld t.slab) own
+    → IsRecounted t u (pieces_at (runners_view es) i) (f (pieces_at (runners_view es) i)) → IsSound extra fs u
+sound-changed extra es fs t u i f own lt sound ch fit table re =
+    let rs = runners_view es in
+    let within : i < length rs = omega (arith, lt, length-map es runner_view) in
+    let exact : IsExact extra (runners_view fs) u =
+    rw ch.runners (IsExact-changed extra rs i f t u sound.exact within fit.few fit.order fit.unborn re.counts) in
+    let here : All (IsHeld t.slab) (stored_at fs i) = rw ch.own table in
+    let left : AllHeld fs t.slab = held-changed es fs t.slab i sound.held here ch.others in
+    record { exact = exact; tied = re.tied; held = held-all extra fs t.slab u exact left re.held }
+
+pub sound-life : (es fs : List (ℕ × Runner)) (t : Tables) (i : ℕ) (l : flat.Life) → i < length es → l ≢ Unborn → IsSound no_holds es t
+    → runners_view fs ≡ with_life_at (runners_view es) i l → ((j : ℕ) → stored_at fs j ≡ stored_at es j) → IsSound no_holds fs t
+sound-life es fs t i l lt awake sound life same =
+    let within : i < length (runners_view es) = omega (arith, lt, length-map es runner_view) in
+    record {
+      exact = rw life (IsExact-life no_holds (runners_view es) i l t sound.exact within awake);
+      tied = sound.tied;
+      held = λ j. subst (λ (ps : List Piece). All (IsHeld t.slab) ps) (sym (same j)) (sound.held j);
+    }
+
+-- WHAT HOLDS A SEGMENT
+
+-- other segments are held beside the pieces
+pub sound-holds : (e f : ℕ → ℕ) (es : List (ℕ × Runner)) (t u : Tables) → IsSound e es t → ((id : ℕ) → counted u id + e id ≡ counted t id + f id) → IsTied u
+    → ((p : Piece) → IsHeld t.slab p → 0 < counted u p.seg → IsHeld u.slab p) → IsSound f es u
+sound-holds e f es t u sound counts tied step =
+    let exact : IsExact f (runners_view es) u =
+    record {
+      counts = λ id. omega (arith, counts id, sound.exact.counts id);
+      processes = sound.exact.processes;
+      pieces = sound.exact.pieces;
+      unborn = sound.exact.unborn;
+      arranged = sound.exact.arranged;
+    } in
+    record { exact = exact; tied = tied; held = held-all f es t.slab u exact sound.held step }
+
+pub none_held : (es : List (ℕ × Runner)) (t : Tables) → IsSound no_holds es t → HasHolds es t
+none_held es t sound = record { extra = no_holds; few = λ id. omega arith; sound = sound }
+
+-- THE COUNTS
+
+pub counts-small : (es : List (ℕ × Runner)) (t : Tables) → HasHolds es t → (id : ℕ) → counted t id ≤ 16385
+counts-small es t h id = omega (arith, small_counts h.extra (runners_view es) t h.sound.exact id, h.few id)
+
+pub counts-own : (es : List (ℕ × Runner)) (t : Tables) (i : ℕ) → HasHolds es t → i < length es → (id : ℕ) → pieces_of id (pieces_at (runners_view es) i) ≤ counted t id
+counts-own es t i h lt id = own_counted h.extra (runners_view es) t i h.sound.exact (omega (arith, lt, length-map es runner_view)) id

@@ -1,0 +1,172 @@
+use Rattle.std.proofs.Common.{◌≡◌, ℕ, ◌+◌, ◌-◌, ◌≤◌, ◌∙◌, not, ap, sym, refl, arith, eq-eqb, List, Some, slice_get, length, filter}
+use Rattle.std.specs.Prelude.{All}
+use Rattle.std.proofs.lemmas.List.{length-map}
+use Rattle.indexmap.specs.IndexMap.{set_value_at}
+use Rattle.shm_base.specs.Space.{lowest_address, meets, cut, without_named, pieces_of}
+use Rattle.shm_areas.specs.Arranged.{bare, bare_all}
+use Rattle.shm_areas.specs.Edit.{kept_named, kept_without}
+use Rattle.shm_areas.specs.declared.piece.Piece.{Piece}
+use Rattle.shm_areas.proofs.Edits.{arranged_filter, bare_filter}
+use Rattle.shm_attach.specs.declared.process.Runner.{Runner}
+use Rattle.shm_attach.specs.Views.{some_if, runners_view}
+use Rattle.shm_attach.specs.Spaces.{pieces_at}
+use Rattle.shm_attach.specs.Part.{IsCuttable}
+use Rattle.shm_attach.specs.Tables.{counted, stored_at, IsHeld}
+use Rattle.shm_attach.proofs.Processes.{values_of, bare-met, met-meets, pieces_of-filter, pieces_of-cut_met, pieces_of-without, shorter_filter}
+use Rattle.shm_attach.proofs.Held.{pieces_at-stored, stored_at-value, held-cut, held-filter}
+use Rattle.shm_attach.proofs.Sound.{changed, fit-cut, fit-without, sound-changed, counts-small, counts-own}
+use Rattle.shm_attach.proofs.changes.take.Goals.{In-Some, In-Range, After-pieces}
+use Rattle.shm_attach.proofs.changes.take.Goals as goal
+
+stands : (c : In-Some) → Some c.in-Some.runner.now ≡ slice_get (values_of c.args.processes.now.entries) c.args.index
+stands c = rw c.in-Some.is at c.get_index_mut.ensures.value
+
+shown : (c : In-Some) → pieces_at (runners_view c.args.processes.now.entries) c.args.index ≡ bare_all c.in-Some.runner.now.space
+shown c = pieces_at-stored c.args.processes.now.entries c.args.index c.in-Some.runner.now (stands c)
+
+own : (c : In-Some) → stored_at c.args.processes.now.entries c.args.index ≡ c.in-Some.runner.now.space
+own c = stored_at-value c.args.processes.now.entries c.args.index c.in-Some.runner.now (stands c)
+
+mine : (c : In-Some) (id : ℕ) → pieces_of id (bare_all c.in-Some.runner.now.space) ≤ counted c.args.tables.now id
+mine c id = rw (← shown c) (counts-own c.args.processes.now.entries c.args.tables.now c.args.index c.requires.holds c.requires.there id)
+
+-- A RANGE
+
+can : (c : In-Range) → IsCuttable c.in-Range.from c.in-Range.to (pieces_at (runners_view c.args.processes.now.entries) c.args.index)
+can c = rw c.in-Range.is at c.requires.part
+
+pub recount-requires-clause-fit : goal.recount-requires-clause-fit
+recount-requires-clause-fit c =
+    rw c.met.ensures.value
+    (arranged_filter (λ (p : Piece). meets c.in-Range.from c.in-Range.to (bare p)) lowest_address c.in-Some.runner.now.space c.met.ensures.arranged)
+
+pub recount-requires-clause-meets : goal.recount-requires-clause-meets
+recount-requires-clause-meets c = rw c.met.ensures.value (met-meets c.in-Range.from c.in-Range.to c.in-Some.runner.now.space)
+
+pub recount-requires-clause-tables : goal.recount-requires-clause-tables
+recount-requires-clause-tables c =
+    let t = c.args.tables.now.slab in
+    let all : All (IsHeld t) c.in-Some.runner.now.space =
+    rw (own (goal.at.recount-requires-clause-tables c).In-Some) at (c.requires.holds.sound.held c.args.index) in
+    rw c.met.ensures.value (held-filter t (λ (p : Piece). meets c.in-Range.from c.in-Range.to (bare p)) c.in-Some.runner.now.space all)
+
+pub recount-requires-clause-counted : goal.recount-requires-clause-counted
+recount-requires-clause-counted c = λ id.
+    let ps = bare_all c.in-Some.runner.now.space in
+    let all = mine (goal.at.recount-requires-clause-counted c).In-Some id in
+    rw (c.met.ensures.value, bare-met c.in-Range.from c.in-Range.to c.in-Some.runner.now.space)
+    (omega (arith, all, pieces_of-filter id (meets c.in-Range.from c.in-Range.to) ps))
+
+pub recount-requires-clause-small : goal.recount-requires-clause-small
+recount-requires-clause-small c = λ id. omega (arith, counts-small c.args.processes.now.entries c.args.tables.now c.requires.holds id)
+
+pub cut-requires-clause-few : goal.cut-requires-clause-few
+cut-requires-clause-few c =
+    let few = (can (goal.at.cut-requires-clause-few c).In-Range).few in
+    rw (← shown (goal.at.cut-requires-clause-few c).In-Some) few
+
+-- what the met pieces are recounted to is what all are
+cut_counts : (from to a b id : ℕ) (met own : List Piece) → bare_all met ≡ filter (meets from to) (bare_all own)
+    → b + pieces_of id (bare_all met) ≡ a + pieces_of id (cut from to (bare_all met)) → b + pieces_of id (bare_all own) ≡ a + pieces_of id (cut from to (bare_all own))
+cut_counts from to a b id met own same counts =
+    let some : b + pieces_of id (filter (meets from to) (bare_all own)) ≡ a + pieces_of id (cut from to (filter (meets from to) (bare_all own))) = rw same at counts in
+    omega (arith, some, pieces_of-cut_met id from to (bare_all own))
+
+pub returns-in-Range : goal.returns-in-Range
+returns-in-Range c =
+    let es = c.args.processes.now.entries in
+    let i = c.args.index in
+    let from = c.in-Range.from in
+    let to = c.in-Range.to in
+    let t = c.args.tables.now in
+    let w = c.in-Some.runner.now in
+    let v : Runner = record { life = w.life; space = c.cut.new.self } in
+    let b = goal.at.returns-in-Range c in
+    let ch = changed es i w v (cut from to) (stands b.In-Some) refl c.cut.ensures.flat in
+    let same = ap bare_all c.met.ensures.value ∙ bare-met from to w.space in
+    record {
+      runners = rw c.in-Range.is ch.runners;
+      count = ch.count;
+      sound = λ extra s.
+          let before : All (IsHeld t.slab) w.space = rw (own b.In-Some) at (s.held i) in
+          let held : All (IsHeld t.slab) c.cut.new.self = rw c.cut.ensures.kept (held-cut t.slab from to w.space before) in
+          let counts = λ (id : ℕ). cut_counts from to (counted t id) (counted c.recount.new.tables id) id c.met.result.now w.space same (c.recount.ensures.counts id) in
+          sound-changed extra es (set_value_at es i v) t c.recount.new.tables i (cut from to) c.cut.new.self c.requires.there s ch
+          (fit-cut extra es t i from to s (can b.In-Range)) held
+          (rw (shown b.In-Some) (record { counts = counts; held = c.recount.ensures.held; tied = c.recount.ensures.tied }));
+      held = c.recount.ensures.held;
+      translated = c.recount.ensures.translated;
+    }
+
+-- AN ATTACH
+
+fewer : (addr seg b a : ℕ) (own left : List Piece) → left ≡ kept_without addr seg own → b ≡ length own → a ≡ length left → a ≤ b
+fewer addr seg b a own left kept before after =
+    let less = shorter_filter (λ (p : Piece). not (kept_named addr seg p)) own in
+    omega (arith, less, before, after, ap length kept)
+
+gone_by : (addr seg b a : ℕ) (own left : List Piece) → left ≡ kept_without addr seg own → b ≡ length own → a ≡ length left
+    → length (without_named addr seg (bare_all own)) + (b - a) ≡ length (bare_all own)
+gone_by addr seg b a own left kept before after =
+    let less = fewer addr seg b a own left kept before after in
+    let shorter : length (without_named addr seg (bare_all own)) ≡ length left =
+    ap length (sym (bare_filter addr seg own)) ∙ length-map (kept_without addr seg own) bare ∙ ap length (sym kept) in
+    omega (arith, less, before, after, shorter, length-map own bare)
+
+gone : (c : After-pieces)
+    → length (without_named c.in-Attach.addr c.in-Attach.seg (bare_all c.in-Some.runner.now.space)) + (length c.pieces-before.result.now - length c.pieces.result.now)
+    ≡ length (bare_all c.in-Some.runner.now.space)
+gone c =
+    gone_by c.in-Attach.addr c.in-Attach.seg (length c.pieces-before.result.now) (length c.pieces.result.now) c.in-Some.runner.now.space c.take_at.new.self
+    c.take_at.ensures.kept (ap length c.pieces-before.ensures.value) (ap length c.pieces.ensures.value)
+
+pub overflow_sub-gone : goal.overflow_sub-gone
+overflow_sub-gone c =
+    fewer c.in-Attach.addr c.in-Attach.seg (length c.pieces-before.result.now) (length c.pieces.result.now) c.in-Some.runner.now.space c.take_at.new.self
+    c.take_at.ensures.kept (ap length c.pieces-before.ensures.value) (ap length c.pieces.ensures.value)
+
+named : (c : After-pieces) (id : ℕ)
+    → pieces_of id (without_named c.in-Attach.addr c.in-Attach.seg (bare_all c.in-Some.runner.now.space))
+    + some_if id c.in-Attach.seg (length c.pieces-before.result.now - length c.pieces.result.now)
+    ≡ pieces_of id (bare_all c.in-Some.runner.now.space)
+named c id =
+    pieces_of-without id c.in-Attach.addr c.in-Attach.seg (bare_all c.in-Some.runner.now.space) (length c.pieces-before.result.now - length c.pieces.result.now) (gone c)
+
+pub leave-requires-clause-gone : goal.leave-requires-clause-gone
+leave-requires-clause-gone c =
+    let b = goal.at.leave-requires-clause-gone c in
+    let seg = c.in-Attach.seg in
+    let went = rw (eq-eqb seg seg refl) at (named b.After-pieces seg) in
+    omega (arith, went, mine b.In-Some seg)
+
+pub returns-in-Attach : goal.returns-in-Attach
+returns-in-Attach c =
+    let es = c.args.processes.now.entries in
+    let i = c.args.index in
+    let f = without_named c.in-Attach.addr c.in-Attach.seg in
+    let t = c.args.tables.now in
+    let w = c.in-Some.runner.now in
+    let v : Runner = record { life = w.life; space = c.take_at.new.self } in
+    let b = goal.at.returns-in-Attach c in
+    let ch = changed es i w v f (stands b.In-Some) refl c.take_at.ensures.flat in
+    let test = λ (p : Piece). not (kept_named c.in-Attach.addr c.in-Attach.seg p) in
+    record {
+      runners = rw c.in-Attach.is ch.runners;
+      count = ch.count;
+      sound = λ extra s.
+          let before : All (IsHeld t.slab) w.space = rw (own b.In-Some) at (s.held i) in
+          let held : All (IsHeld t.slab) c.take_at.new.self = rw c.take_at.ensures.kept (held-filter t.slab test w.space before) in
+          sound-changed extra es (set_value_at es i v) t c.leave.new.self i f c.take_at.new.self c.requires.there s ch
+          (fit-without extra es t i c.in-Attach.addr c.in-Attach.seg s) held
+          (rw (shown b.In-Some)
+          (record {
+            counts = λ id. omega (arith, named b.After-pieces id, c.leave.ensures.counts id);
+            held = c.leave.ensures.held;
+            tied = c.leave.ensures.tied;
+          }));
+      held = c.leave.ensures.held;
+      translated = c.leave.ensures.translated;
+    }
+
+pub leave-requires-clause-fits : goal.leave-requires-clause-fits
+leave-requires-clause-fits c = omega (arith, counts-small c.args.processes.now.entries c.args.tables.now c.requires.holds c.in-Attach.seg)

@@ -1,0 +1,32 @@
+use Rattle.std.proofs.Common.{◌≡◌, ◌∙◌, sym, refl, arith, eq-eqb, false, Some}
+use Rattle.slab.specs.Slab.{get}
+use Rattle.shm_areas.specs.declared.piece.Piece.{Piece}
+use Rattle.shm_fault.specs.Store.{frame_of}
+use Rattle.shm_attach.specs.Entries.{seg_in}
+use Rattle.shm_attach.specs.Tables.{IsHeld}
+use Rattle.shm_attach.proofs.tables.Tables.hold.Given.{Over}
+use Rattle.shm_attach.proofs.tables.Tables.hold.Goals.{After-replace}
+use Rattle.shm_attach.proofs.tables.Tables.hold.Goals as goal
+
+-- a piece of all pages would have the table
+abbrev whole : (g : Over) (c : After-replace g) → Piece
+whole g c = record { base = 0; seg = c.args.seg; first_page = 0; pages = c.args.pages; writable = false; key = c.in-Some.key }
+
+held : (g : Over) (c : After-replace g) → IsHeld c.replace.new.self.slab (whole g c)
+held g c =
+    let t = c.args.self.now in
+    let seg = c.args.seg in
+    let own : seg_in (get t.slab c.in-Some.key) ≡ Some seg = c.requires.tied.keyed seg c.in-Some.key (sym c.in-Some.ensures) in
+    let before : IsHeld c.extend.new.self.slab (whole g c) =
+    record { seg = c.in_ok-extend.ensures.seg c.in-Some.key ∙ own; pages = omega (arith, c.in_ok-extend.ensures.pages seg own) } in
+    let counts = rw (eq-eqb seg seg refl) at (c.replace.ensures.counts seg) in
+    c.replace.ensures.held (whole g c) before (omega (arith, counts))
+
+pub returns-in-Some-clause-seg : goal.returns-in-Some-clause-seg
+returns-in-Some-clause-seg g c = (held g c).seg
+
+pub returns-in-Some-clause-pages : goal.returns-in-Some-clause-pages
+returns-in-Some-clause-pages g c = let has = (held g c).pages in omega (arith, has)
+
+pub returns-in-Some-clause-translated : goal.returns-in-Some-clause-translated
+returns-in-Some-clause-translated g c = λ all. c.replace.ensures.translated (frame_of c.args.store.now) (c.in_ok-extend.ensures.translated all)

@@ -1,0 +1,21 @@
+-- What goes from the pieces of a process, and what is left.
+use Rattle.std.specs.Prelude.{◌≡◌, ℕ, ◌%◌, ◌≤◌, ◌<◌, List, length, ⊤}
+use Rattle.shm_base.specs.State.{Piece}
+use Rattle.shm_base.specs.Space.{cut, without_named}
+use Rattle.shm_attach.specs.declared.changes.Part.{Part}
+use Rattle.shm_attach.specs.declared.changes.Part.TheVariants.{Range, Attach}
+
+abbrev pub left : Part → List Piece → List Piece
+left (Range from to) ps = cut from to ps
+left (Attach addr seg) ps = without_named addr seg ps
+
+-- a range of whole pages that leaves no more pieces than a process may have
+pub record IsCuttable (from to : ℕ) (ps : List Piece) : Type 0 where
+  pub from_page : from % 4096 ≡ 0
+  pub to_page : to % 4096 ≡ 0
+  pub order : from < to
+  pub few : length (cut from to ps) ≤ 256
+
+abbrev pub CanGo : Part → List Piece → Type 0
+CanGo (Range from to) ps = IsCuttable from to ps
+CanGo (Attach addr seg) ps = ⊤
