@@ -1,14 +1,15 @@
 -- What is kept where a segment is locked, marked or written, and where a process forks.
-use Rattle.std.proofs.Common.{◌≡◌, ℕ, ◌+◌, ◌/◌, ◌%◌, ◌≤◌, ◌&&◌, nat_lt, not, Bool, true, false, if◌then◌else◌, List, [], slice_set, Some, refl, sym, ◌∙◌, arith, true≢false}
+use Rattle.std.proofs.Common.{◌≡◌, ℕ, ◌+◌, ◌/◌, ◌%◌, ◌≤◌, ◌&&◌, nat_lt, not, Bool, true, false, if◌then◌else◌, List, [], ◌∷◌, ◌≢◌, ◌⊎◌, inl, inr, slice_get, slice_set, Some, ap, refl, sym, ◌∙◌, arith, eq-eqb, true≢false}
 use Rattle.std.proofs.lemmas.Grind.{common_steps}
 use Rattle.std.specs.Prelude.{All}
 use Rattle.shm_base.specs.Bounds.{Bounds}
 use Rattle.shm_base.specs.State.{Live, Entry, Runner, pages_of, pages_in}
-use Rattle.shm_base.specs.Segments.{attach_count, change, pages_locked, locked}
+use Rattle.shm_base.specs.Identifier.{identifier}
+use Rattle.shm_base.specs.Segments.{attach_count, change, marked, pages_locked, locked}
 use Rattle.shm_base.specs.Step.{Caller as FlatCaller}
 use Rattle.shm_base.specs.declared.paging.Span.{Span}
 use Rattle.shm_attach.specs.declared.process.Caller.{Caller}
-use Rattle.shm_attach.specs.Spaces.{IsCaller, seen, pieces_at}
+use Rattle.shm_attach.specs.Spaces.{Translation, IsCaller, seen, pieces_at}
 use Rattle.shm_base.specs.Spans.{InPage, page_of}
 use Rattle.shm_attach.specs.Spans.{PassPages, pieces_by}
 use Rattle.shm_attach.specs.declared.process.Child.{Child}
@@ -17,10 +18,14 @@ use Rattle.shm_attach.proofs.FlatSteps.{pieces_by-caller}
 use Rattle.shm_segments.specs.declared.head.Found.{Found}
 use Rattle.shm_segments.specs.Table.{IsFound, SpanFits, page_there, relocked}
 use Rattle.shm_segments.specs.Table as table
-use Rattle.shm_segments.proofs.Entries.{sum-set}
-use Rattle.shm_segments.proofs.Same.{SamePages, change-pages, change-left}
+use Rattle.shm_segments.proofs.Entries.{get-set_same, get-set_other, sum-set}
+use Rattle.shm_segments.proofs.Same.{SamePages, change-pages, change-locked, change-left}
 use Rattle.shm_life.specs.Tied.{PieceFits, PiecesFit}
-use Rattle.shm_life.specs.Kept.{IsKept}
+use Rattle.shm_life.specs.Kept.{IsKept, IsWell, IsWellBut}
+use Rattle.shm_life.specs.Orphans.{is_among}
+use Rattle.shm_segments.specs.Left.{orphan_in, orphan, id_at}
+use Rattle.shm_fault.specs.Store.{StoreView}
+use Rattle.std.proofs.lemmas.Bool.{cases_eq}
 use Rattle.shm_life.proofs.Leaving.{orphans-among}
 use Rattle.shm_life.proofs.Pieces.{fit-set, fit-same}
 use Rattle.shm_life.proofs.Settled.{caller-fits}
@@ -57,7 +62,7 @@ kept-relocked limits t rs seg b k few =
       locked = few;
       memlock = k.memlock;
       pieces = fit-same t (change t seg (relocked b)) rs same k.pieces;
-      no_orphans = λ i h. absurd (true≢false (sym (k.no_orphans i (sym (change-left (relocked b) (λ s. refl) t seg rs i) ∙ h))));
+      orphans = λ i h. absurd (true≢false (sym (k.orphans i (sym (change-left (relocked b) (λ s. refl) t seg rs i) ∙ h))));
     }
 
 pub lock-few : (t : List Entry) (f : Found) (memlock : ℕ) → IsFound t f → locked t ≤ memlock → (not f.head.locked && nat_lt memlock (locked t + pages_of f.head.size)) ≡ false
@@ -73,6 +78,39 @@ pub unlock-few : (t : List Entry) (f : Found) (memlock : ℕ) → IsFound t f �
 unlock-few t f memlock found few = let sum = relocked-sum t f found false in omega (arith, sum, few)
 
 -- MARKED
+
+-- what is marked may be without pieces
+pub marked-well : (limits : Bounds) (t : List Entry) (rs : List Runner) (ts : List Translation) (m : StoreView) (f : Found) → IsFound t f → IsWell limits t rs ts m → IsWellBut (f.seg ∷ []) limits (change t f.seg marked) rs ts m
+marked-well limits t rs ts m f found w =
+    let same : SamePages t (change t f.seg marked) = change-pages marked (λ s. refl) t f.seg in
+    record {
+      kept = record {
+        few = omega (arith, w.kept.few, same.size);
+        reserved = omega (arith, w.kept.reserved, same.reserved);
+        shmall = w.kept.shmall;
+        locked = omega (arith, w.kept.locked, change-locked marked (λ s. refl) (λ s. refl) t f.seg);
+        memlock = w.kept.memlock;
+        pieces = fit-same t (change t f.seg marked) rs same w.kept.pieces;
+        orphans = λ i left. by i left (cases_eq (f.seg % 32768) i);
+      };
+      frames = w.frames;
+      room = w.room;
+      translated = w.translated;
+    }
+  where
+    y : Entry
+    y = record { destroyed = f.seg / 32768; segment = Some (marked (table.seen t f)) }
+
+    is-set : change t f.seg marked ≡ slice_set t (f.seg % 32768) y
+    is-set = rw found.entry refl
+
+    by : (i : ℕ) → orphan rs (change t f.seg marked) i ≡ true → (f.seg % 32768 ≡ i) ⊎ (f.seg % 32768 ≢ i) → is_among (f.seg ∷ []) (id_at (change t f.seg marked) i) ≡ true
+    by i left (inl e) =
+        let here : slice_get (change t f.seg marked) i ≡ Some y = rw (is-set, ← e) (get-set_same t (f.seg % 32768) y _ found.entry) in
+        rw (here, eq-eqb f.seg (identifier i (f.seg / 32768)) (omega (arith, e))) refl
+    by i left (inr n) =
+        let same : slice_get (change t f.seg marked) i ≡ slice_get t i = rw is-set (get-set_other t (f.seg % 32768) i y n) in
+        absurd (true≢false (sym (w.kept.orphans i (sym (ap (orphan_in i rs) same) ∙ left))))
 
 -- SPANS
 
@@ -98,5 +136,5 @@ forked-kept limits t rs after k fit more =
       locked = k.locked;
       memlock = k.memlock;
       pieces = fit;
-      no_orphans = orphans-among [] rs after t k.no_orphans (λ id _. more id);
+      orphans = orphans-among [] rs after t k.orphans (λ id _. more id);
     }

@@ -1,14 +1,15 @@
 -- What calls keep of the memory.
-use Rattle.std.proofs.Common.{◌≡◌, ◌≢◌, ◌<◌, ◌+◌, ℕ, suc, true, false, List, ◌∷◌, length, drop, get_or, Option, Some, None, is_some, refl, sym, subst, ◌∙◌, arith, true≢false}
+use Rattle.std.proofs.Common.{◌≡◌, ◌≢◌, ◌<◌, ◌+◌, ℕ, suc, true, false, List, [], ◌∷◌, length, drop, get_or, refl, sym, subst, ◌∙◌, arith, true≢false}
 use Rattle.std.proofs.Math.Seq.{drop-cons}
 use Rattle.std.specs.Prelude.{All, Result, Ok, Err, is_ok, is_err, OnOk, OnErr}
+use Rattle.shm_base.specs.Bounds.{Bounds}
 use Rattle.shm_base.specs.State.{Entry, Runner}
-use Rattle.shm_base.specs.declared.paging.Span.{Span}
 use Rattle.shm_slots.specs.View.{sizes}
-use Rattle.shm_fault.specs.Store.{StoreView, frame_of, page_of, bit_of, IsResident, IsReferenced}
+use Rattle.shm_fault.specs.Store.{StoreView, frame_of}
 use Rattle.shm_fault.proofs.Sound.{GoesOn-refl}
 use Rattle.shm_attach.specs.Spaces.{Translation, AreTrue}
 use Rattle.shm_segments.specs.View.{Runs}
+use Rattle.shm_life.specs.Kept.{IsWell, IsWellBut}
 use Rattle.shm_life.specs.MachineView.{KeepsOn}
 use Rattle.shm_life.specs.Orphans.{OrphansAmong, Sweeps}
 
@@ -47,6 +48,24 @@ sweeps-trans rs a b c p q = record {
 
 pub sweeps-none : (rs : List Runner) (a : List Entry) → Sweeps rs a a
 sweeps-none rs a = record { swept = refl; size = refl; reserved = omega arith; locked = omega arith; pieces = λ fit. fit }
+
+-- once no orphan is left, all is as it was
+pub swept-well : {lost : List ℕ} (limits : Bounds) (rs : List Runner) (ts : List Translation) (t u : List Entry) (m n : StoreView) → SweptTo rs ts t u m n → OrphansAmong [] rs u
+    → IsWellBut lost limits t rs ts m → IsWell limits u rs ts n
+swept-well limits rs ts t u m n d none w = record {
+  kept = record {
+    few = omega (arith, w.kept.few, d.sweeps.size);
+    reserved = omega (arith, w.kept.reserved, d.sweeps.reserved);
+    shmall = w.kept.shmall;
+    locked = omega (arith, w.kept.locked, d.sweeps.locked);
+    memlock = w.kept.memlock;
+    pieces = d.sweeps.pieces w.kept.pieces;
+    orphans = none;
+  };
+  frames = d.runs.frames ∙ w.frames;
+  room = w.room;
+  translated = d.translated w.translated;
+}
 
 -- the next of a list
 pub among-next : (rs : List Runner) (t u : List Entry) (lost : List ℕ) (i d : ℕ) → i < length lost → OrphansAmong (drop i lost) rs t

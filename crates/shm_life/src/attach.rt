@@ -10,7 +10,7 @@ ghost use Rattle.shm_life.specs.MachineView.{KeepsOn};
 ghost use Rattle.shm_life.specs.Placing.{placed, piece_for};
 ghost use Rattle.shm_life.specs.Tied.{IsCallerOf, PieceFits};
 
-use crate::detach::{note_detached, sweep};
+use crate::detach::after_detach;
 use crate::machine::Machine;
 use bitflags::Flags;
 use shm_attach::Caller;
@@ -110,10 +110,14 @@ impl<P: Pager> Machine<P> {
         let lost = self
             .spaces
             .attach(caller, seg, base, pages, writable, store)?;
-        let lost = lost.as_slice();
-        note_detached(&mut self.segments, lost, time, caller.pid);
         self.segments.attached(seg, time, caller.pid);
-        sweep(&mut self.segments, &self.spaces, lost);
+        after_detach(
+            &mut self.segments,
+            &self.spaces,
+            lost.as_slice(),
+            time,
+            caller.pid,
+        );
         Ok(Reply::Addr(base))
     }
 
@@ -131,8 +135,7 @@ impl<P: Pager> Machine<P> {
         };
         self.spaces.detach(caller, addr, origin.seg);
         let lost = [origin.seg];
-        note_detached(&mut self.segments, &lost, time, caller.pid);
-        sweep(&mut self.segments, &self.spaces, &lost);
+        after_detach(&mut self.segments, &self.spaces, &lost, time, caller.pid);
         Reply::Done
     }
 
@@ -159,8 +162,13 @@ impl<P: Pager> Machine<P> {
         ensures keeps { KeepsOn self.old.memory self.new.memory }
     {
         let lost = self.spaces.exec(caller);
-        note_detached(&mut self.segments, lost.as_slice(), time, caller.pid);
-        sweep(&mut self.segments, &self.spaces, lost.as_slice());
+        after_detach(
+            &mut self.segments,
+            &self.spaces,
+            lost.as_slice(),
+            time,
+            caller.pid,
+        );
         Reply::Done
     }
 
@@ -172,8 +180,13 @@ impl<P: Pager> Machine<P> {
         ensures keeps { KeepsOn self.old.memory self.new.memory }
     {
         let lost = self.spaces.exit(caller);
-        note_detached(&mut self.segments, lost.as_slice(), time, caller.pid);
-        sweep(&mut self.segments, &self.spaces, lost.as_slice());
+        after_detach(
+            &mut self.segments,
+            &self.spaces,
+            lost.as_slice(),
+            time,
+            caller.pid,
+        );
         Reply::Done
     }
 }
