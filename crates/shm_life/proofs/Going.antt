@@ -1,22 +1,19 @@
 -- A process whose pieces go, or come: what the calls on segments need, and what is kept but for segments that
 -- lost their last piece.
-use Rattle.std.proofs.Common.{◌≡◌, ◌≤◌, ℕ, ◌+◌, ◌*◌, ◌%◌, false, List, [], ◌∷◌, zero, suc, slice_get, slice_set, Some, None, Option, option_map, is_some, refl, sym, ap, ◌∙◌, arith}
-use Rattle.std.proofs.lemmas.Bool.{lt-ltb}
+use Rattle.std.proofs.Common.{◌≡◌, ◌≤◌, ℕ, ◌+◌, ◌*◌, ◌%◌, false, List, [], ◌∷◌, zero, suc, slice_get, slice_set, Some, None, Option, option_map, refl, sym, ap, ◌∙◌}
 use Rattle.std.proofs.lemmas.List.Elements.{All-nil}
 use Rattle.std.specs.Prelude.{All}
 use Rattle.shm_base.specs.Access.{set_in}
 use Rattle.shm_base.specs.Bounds.{Bounds}
-use Rattle.shm_base.specs.State.{Segment, Piece, Life, Live, Entry, Runner, pages_of}
+use Rattle.shm_base.specs.State.{Segment, Piece, Life, Live, Entry, Runner}
 use Rattle.shm_base.specs.Space.{cut, pieces_of, origin_of, without_named}
-use Rattle.shm_base.specs.Segments.{change, with_entry, attached, detached, detach_all, pages_held}
+use Rattle.shm_base.specs.Segments.{change, with_entry, attached, detached, detach_all}
 use Rattle.shm_base.specs.Step.{segments_of}
 use Rattle.shm_base.specs.declared.flags.AtFlags.{AtFlags}
 use Rattle.shm_fault.specs.Store.{StoreView}
 use Rattle.shm_attach.specs.declared.process.Caller.{Caller}
 use Rattle.shm_attach.specs.Spaces.{Translation, AreTrue, IsCaller, seen, pieces_at}
-use Rattle.shm_segments.specs.declared.head.Found.{Found}
-use Rattle.shm_segments.specs.Table.{IsFound, IsLive, pages_at}
-use Rattle.shm_segments.proofs.Finding.{live-found}
+use Rattle.shm_segments.specs.Table.{IsLive}
 use Rattle.shm_segments.proofs.Same.{SameTable, change-same}
 use Rattle.shm_life.specs.declared.attach.Placed.{Placed}
 use Rattle.shm_life.specs.Placing.{piece_for, pieces_after, lost_to}
@@ -26,7 +23,6 @@ use Rattle.shm_life.specs.Kept.{IsKept, IsKeptBut, IsWell, IsWellBut}
 use Rattle.shm_life.proofs.Leaving.{keeps-set, keeps-all, keeps-without, keeps-cut, orphans-among}
 use Rattle.shm_life.proofs.Pieces.{fit-set, pass-cut, pass-inserted, pass-without, piece-same}
 use Rattle.shm_life.proofs.Settled.{settled-table, caller-runner, caller-fits, lives-map, lives-cut, lives-origin}
-use Rattle.shm_life.proofs.Changed.{pages-seen}
 
 -- the processes with the caller's place taken
 abbrev pub replaced : List Runner → Caller → Life → List Piece → List Runner
@@ -91,13 +87,6 @@ module _ (limits : Bounds) (t : List Entry) (rs : List Runner) (c : Caller) (k :
       }
 
 -- ATTACHING
-
--- a piece of all pages of a segment fits
-pub found-fits : (t : List Entry) (f : Found) (flags : AtFlags) (base : ℕ) → IsFound t f → PieceFits t (piece_for flags (record { seg = f.seg; pages = pages_of f.head.size; base = base }))
-found-fits t f flags base found =
-    let lives = live-found t f found in
-    let pages : pages_at t f.seg ≡ pages_of f.head.size = ap pages_held lives ∙ pages-seen t f found in
-    (ap is_some lives, λ j lt. rw pages (lt-ltb (0 + j) (pages_of f.head.size) (omega (arith, lt))))
 
 -- a segment whose attach was noted
 pub attached-goes : (limits : Bounds) (t : List Entry) (rs : List Runner) (c : Caller) (n : ℕ) (flags : AtFlags) (p : Placed) → IsKept limits t rs → IsCaller c rs → PieceFits t (piece_for flags p)

@@ -1,7 +1,6 @@
 -- The flat machine's shmat, by where its piece goes.
-use Rattle.std.proofs.Common.{◌≡◌, ◌⊎◌, inl, inr, ℕ, ℤ, ◌+◌, ◌-◌, ◌*◌, ◌%◌, ◌<◌, ◌≤◌, ◌==◌, ◌&&◌, ◌||◌, not, nat_lt, if◌then◌else◌, Bool, true, false, List, length, Option, Some, None, Result, Ok, Err, refl, ap, ◌∙◌, arith}
-use Rattle.std.proofs.lemmas.Bool.{cases_Bool, cases_lt, lt-ltb, le-ltb, true≢false}
-use Rattle.shm_base.specs.declared.errno.Errno.{Errno}
+use Rattle.std.proofs.Common.{◌≡◌, inl, inr, ℕ, ℤ, ◌+◌, ◌-◌, ◌*◌, ◌%◌, ◌<◌, ◌≤◌, ◌==◌, ◌&&◌, ◌||◌, not, nat_lt, if◌then◌else◌, Bool, true, false, List, length, Option, Some, None, Result, Ok, Err, refl, ap, ◌∙◌, arith}
+use Rattle.std.proofs.lemmas.Bool.{cases_Bool, lt-ltb, le-ltb, true≢false}
 use Rattle.shm_base.specs.declared.errno.Errno.TheVariants.{Emfile}
 use Rattle.shm_base.specs.declared.flags.AtFlags.{AtFlags}
 use Rattle.shm_base.specs.State.{Segment, Piece, Machine, pages_of, pages_in}
@@ -87,14 +86,6 @@ pub placed-found : (s : Machine) (c : Caller) (id : ℤ) (addr : ℕ) (flags : A
 placed-found s c id addr flags f found h is granted =
     let own : identifier (f.seg % 32768) (destroyed_at s.table (f.seg % 32768)) ≡ f.seg = ap (λ o. identifier (f.seg % 32768) (destroyed_in o)) found.entry ∙ omega arith in
     rw h (ap (placed_found s c flags addr) is ∙ rw (granted, own) (ap (λ k. placed_at f.seg k (base_for c.pieces k flags addr)) (pages-seen s.table f found)))
-
-pub if_few-ok : (ps : List Piece) (pages base : ℕ) (r : Result ℕ Errno) → if_few ps pages r ≡ Ok base → length (cut base (base + 4096 * pages) ps) + 1 ≤ 256
-if_few-ok ps pages base (Err e) is = absurd (cc is)
-if_few-ok ps pages base (Ok b) is = by (cases_lt 256 (length (cut b (b + 4096 * pages) ps) + 1))
-  where
-    by : (256 < length (cut b (b + 4096 * pages) ps) + 1) ⊎ (length (cut b (b + 4096 * pages) ps) + 1 ≤ 256) → length (cut base (base + 4096 * pages) ps) + 1 ≤ 256
-    by (inl more) = absurd (cc (rw (lt-ltb 256 (length (cut b (b + 4096 * pages) ps) + 1) more) at is))
-    by (inr few) = let same : b ≡ base = cc (rw (le-ltb 256 (length (cut b (b + 4096 * pages) ps) + 1) few) at is) in rw (← same) few
 
 pub if_few-under : (ps : List Piece) (pages base : ℕ) → length (cut base (base + 4096 * pages) ps) < 256 → if_few ps pages (Ok base) ≡ Ok base
 if_few-under ps pages base few = rw (le-ltb 256 (length (cut base (base + 4096 * pages) ps) + 1) (omega (arith, few))) refl
