@@ -1,29 +1,36 @@
 -- What is kept where a segment is locked, marked or written, and where a process forks.
-use Rattle.std.proofs.Common.{◌≡◌, ℕ, ◌+◌, ◌/◌, ◌%◌, ◌≤◌, ◌&&◌, nat_lt, not, Bool, true, false, if◌then◌else◌, List, [], slice_set, Some, refl, sym, ◌∙◌, arith, true≢false}
+use Rattle.std.proofs.Common.{◌≡◌, ℕ, ◌+◌, ◌/◌, ◌%◌, ◌≤◌, ◌&&◌, nat_lt, not, Bool, true, false, if◌then◌else◌, List, [], ◌∷◌, length, ◌≢◌, ◌⊎◌, inl, inr, slice_get, slice_set, Some, ap, refl, sym, ◌∙◌, arith, eq-eqb, true≢false}
 use Rattle.std.proofs.lemmas.Grind.{common_steps}
-use Rattle.std.specs.Prelude.{All}
+use Rattle.std.specs.Prelude.{All, Option, Result, Ok, Err, OnOk, OnErr}
+use Rattle.shm_base.specs.Access.{Place}
 use Rattle.shm_base.specs.Bounds.{Bounds}
 use Rattle.shm_base.specs.State.{Live, Entry, Runner, pages_of, pages_in}
-use Rattle.shm_base.specs.Segments.{attach_count, change, pages_locked, locked}
+use Rattle.shm_base.specs.Identifier.{identifier}
+use Rattle.shm_base.specs.Segments.{attach_count, change, marked, pages_locked, locked}
 use Rattle.shm_base.specs.Step.{Caller as FlatCaller}
 use Rattle.shm_base.specs.declared.paging.Span.{Span}
 use Rattle.shm_attach.specs.declared.process.Caller.{Caller}
-use Rattle.shm_attach.specs.Spaces.{IsCaller, seen, pieces_at}
+use Rattle.shm_attach.specs.Spaces.{Translation, IsCaller, seen, pieces_at}
 use Rattle.shm_base.specs.Spans.{InPage, page_of}
-use Rattle.shm_attach.specs.Spans.{PassPages, pieces_by}
+use Rattle.shm_attach.specs.Spans.{PassPages, pieces_by, wanted, wanted_in}
 use Rattle.shm_attach.specs.declared.process.Child.{Child}
 use Rattle.shm_attach.specs.Fork.{born_child}
 use Rattle.shm_attach.proofs.FlatSteps.{pieces_by-caller}
 use Rattle.shm_segments.specs.declared.head.Found.{Found}
 use Rattle.shm_segments.specs.Table.{IsFound, SpanFits, page_there, relocked}
 use Rattle.shm_segments.specs.Table as table
-use Rattle.shm_segments.proofs.Entries.{sum-set}
-use Rattle.shm_segments.proofs.Same.{SamePages, change-pages, change-left}
+use Rattle.shm_segments.proofs.Entries.{get-set_same, get-set_other, sum-set}
+use Rattle.shm_segments.proofs.Same.{SamePages, SameTable, same-refl, change-pages, change-locked, change-left}
 use Rattle.shm_life.specs.Tied.{PieceFits, PiecesFit}
-use Rattle.shm_life.specs.Kept.{IsKept}
+use Rattle.shm_life.specs.Kept.{IsKept, IsWell, IsWellBut}
+use Rattle.shm_life.specs.Orphans.{is_among}
+use Rattle.shm_segments.specs.Left.{orphan_in, orphan, id_at}
+use Rattle.shm_fault.specs.Store.{StoreView, frame_of}
+use Rattle.std.proofs.lemmas.Bool.{cases_eq}
 use Rattle.shm_life.proofs.Leaving.{orphans-among}
 use Rattle.shm_life.proofs.Pieces.{fit-set, fit-same}
 use Rattle.shm_life.proofs.Settled.{caller-fits}
+use Rattle.shm_life.proofs.Running.{true_still}
 
 -- LOCKED
 
@@ -47,7 +54,7 @@ module _ (t : List Entry) (f : Found) (found : IsFound t f) (b : Bool) where
       let pages = pages-seen t f found in
       rw (is-set, ← pages) sum
 
-pub kept-relocked : (limits : Bounds) (t : List Entry) (rs : List Runner) (seg : ℕ) (b : Bool) → IsKept limits t rs → locked (change t seg (relocked b)) ≤ limits.memlock → IsKept limits (change t seg (relocked b)) rs
+kept-relocked : (limits : Bounds) (t : List Entry) (rs : List Runner) (seg : ℕ) (b : Bool) → IsKept limits t rs → locked (change t seg (relocked b)) ≤ limits.memlock → IsKept limits (change t seg (relocked b)) rs
 kept-relocked limits t rs seg b k few =
     let same : SamePages t (change t seg (relocked b)) = change-pages (relocked b) (λ s. refl) t seg in
     record {
@@ -57,8 +64,14 @@ kept-relocked limits t rs seg b k few =
       locked = few;
       memlock = k.memlock;
       pieces = fit-same t (change t seg (relocked b)) rs same k.pieces;
-      no_orphans = λ i h. absurd (true≢false (sym (k.no_orphans i (sym (change-left (relocked b) (λ s. refl) t seg rs i) ∙ h))));
+      orphans = λ i h. absurd (true≢false (sym (k.orphans i (sym (change-left (relocked b) (λ s. refl) t seg rs i) ∙ h))));
     }
+
+-- a segment locked or unlocked
+pub relocked-well : (limits : Bounds) (t : List Entry) (rs : List Runner) (ts : List Translation) (m n : StoreView) (seg : ℕ) (b : Bool) → IsWell limits t rs ts m → locked (change t seg (relocked b)) ≤ limits.memlock
+    → length n.frames ≡ length m.frames → ((s page : ℕ) → frame_of n s page ≡ frame_of m s page) → IsWell limits (change t seg (relocked b)) rs ts n
+relocked-well limits t rs ts m n seg b w few frames still =
+    record { kept = kept-relocked limits t rs seg b w.kept few; frames = frames ∙ w.frames; room = w.room; translated = true_still ts m n still w.translated }
 
 pub lock-few : (t : List Entry) (f : Found) (memlock : ℕ) → IsFound t f → locked t ≤ memlock → (not f.head.locked && nat_lt memlock (locked t + pages_of f.head.size)) ≡ false
     → locked (change t f.seg (relocked true)) ≤ memlock
@@ -74,6 +87,39 @@ unlock-few t f memlock found few = let sum = relocked-sum t f found false in ome
 
 -- MARKED
 
+-- what is marked may be without pieces
+pub marked-well : (limits : Bounds) (t : List Entry) (rs : List Runner) (ts : List Translation) (m : StoreView) (f : Found) → IsFound t f → IsWell limits t rs ts m → IsWellBut (f.seg ∷ []) limits (change t f.seg marked) rs ts m
+marked-well limits t rs ts m f found w =
+    let same : SamePages t (change t f.seg marked) = change-pages marked (λ s. refl) t f.seg in
+    record {
+      kept = record {
+        few = omega (arith, w.kept.few, same.size);
+        reserved = omega (arith, w.kept.reserved, same.reserved);
+        shmall = w.kept.shmall;
+        locked = omega (arith, w.kept.locked, change-locked marked (λ s. refl) (λ s. refl) t f.seg);
+        memlock = w.kept.memlock;
+        pieces = fit-same t (change t f.seg marked) rs same w.kept.pieces;
+        orphans = λ i left. by i left (cases_eq (f.seg % 32768) i);
+      };
+      frames = w.frames;
+      room = w.room;
+      translated = w.translated;
+    }
+  where
+    y : Entry
+    y = record { destroyed = f.seg / 32768; segment = Some (marked (table.seen t f)) }
+
+    is-set : change t f.seg marked ≡ slice_set t (f.seg % 32768) y
+    is-set = rw found.entry refl
+
+    by : (i : ℕ) → orphan rs (change t f.seg marked) i ≡ true → (f.seg % 32768 ≡ i) ⊎ (f.seg % 32768 ≢ i) → is_among (f.seg ∷ []) (id_at (change t f.seg marked) i) ≡ true
+    by i left (inl e) =
+        let here : slice_get (change t f.seg marked) i ≡ Some y = rw (is-set, ← e) (get-set_same t (f.seg % 32768) y _ found.entry) in
+        rw (here, eq-eqb f.seg (identifier i (f.seg / 32768)) (omega (arith, e))) refl
+    by i left (inr n) =
+        let same : slice_get (change t f.seg marked) i ≡ slice_get t i = rw is-set (get-set_other t (f.seg % 32768) i y n) in
+        absurd (true≢false (sym (w.kept.orphans i (sym (ap (orphan_in i rs) same) ∙ left))))
+
 -- SPANS
 
 pub spans-there : (t : List Entry) (rs : List Runner) (c : Caller) (ps : List Span) → IsCaller c rs → PiecesFit t rs → All InPage ps
@@ -83,6 +129,15 @@ spans-there t rs c ps is fit within pages =
     let fits = caller-fits t c rs is fit in
     let pass : PassPages (page_there t) (pieces_by c.pid rs) = rw own (λ k d lt. (fits k d lt).1) in
     λ k d lt. ((within k d lt).0, (within k d lt).1, pages (page_there t) pass k d lt)
+
+-- the places that a process asks for are those that its own pieces give
+pub asked : (write : Bool) (rs : List Runner) (c : Caller) (addr len : ℕ) (r : Option (List Place)) → IsCaller c rs → wanted write c.pid addr len rs ≡ r → wanted_in write (pieces_at rs c.index) addr len ≡ r
+asked write rs c addr len r is found = rw (pieces_by-caller c.pid rs (seen c rs) is) at found
+
+-- a table that was written, or stayed
+pub either-same : {A E : Type 0} (r : Result A E) (t u w : List Entry) → OnOk r (u ≡ w) → OnErr r (u ≡ t) → SameTable t w → SameTable t u
+either-same (Ok a) t u w written same alike = rw written alike
+either-same (Err e) t u w written same alike = rw same (same-refl t)
 
 -- FORK
 
@@ -98,5 +153,5 @@ forked-kept limits t rs after k fit more =
       locked = k.locked;
       memlock = k.memlock;
       pieces = fit;
-      no_orphans = orphans-among [] rs after t k.no_orphans (λ id _. more id);
+      orphans = orphans-among [] rs after t k.orphans (λ id _. more id);
     }

@@ -1,61 +1,124 @@
--- A process whose pieces go, or come: what the calls on segments need, and what is kept after them.
-use Rattle.std.proofs.Common.{◌≡◌, ℕ, ◌+◌, ◌*◌, ◌≤◌, false, List, [], length, slice_set, is_some, refl, ap, ◌∙◌, arith}
-use Rattle.std.proofs.lemmas.Bool.{lt-ltb}
+-- A process whose pieces go, or come: what the calls on segments need, and what is kept but for segments that
+-- lost their last piece.
+use Rattle.std.proofs.Common.{◌≡◌, ◌≤◌, ℕ, ◌+◌, ◌*◌, ◌%◌, false, List, [], ◌∷◌, zero, suc, slice_get, slice_set, Some, None, Option, option_map, refl, sym, ap, ◌∙◌}
+use Rattle.std.proofs.lemmas.List.Elements.{All-nil}
 use Rattle.std.specs.Prelude.{All}
+use Rattle.shm_base.specs.Access.{set_in}
 use Rattle.shm_base.specs.Bounds.{Bounds}
-use Rattle.shm_base.specs.State.{Piece, Life, Live, Entry, Runner, pages_of}
-use Rattle.shm_base.specs.Space.{cut, pieces_of}
-use Rattle.shm_base.specs.Segments.{change, attached, detach_all, pages_held}
+use Rattle.shm_base.specs.State.{Segment, Piece, Life, Live, Entry, Runner}
+use Rattle.shm_base.specs.Space.{cut, pieces_of, origin_of, without_named}
+use Rattle.shm_base.specs.Segments.{change, with_entry, attached, detached, detach_all}
+use Rattle.shm_base.specs.Step.{segments_of}
 use Rattle.shm_base.specs.declared.flags.AtFlags.{AtFlags}
+use Rattle.shm_fault.specs.Store.{StoreView}
 use Rattle.shm_attach.specs.declared.process.Caller.{Caller}
-use Rattle.shm_attach.specs.Spaces.{IsCaller, pieces_at}
-use Rattle.shm_segments.specs.declared.head.Found.{Found}
-use Rattle.shm_segments.specs.Table.{IsFound, pages_at}
-use Rattle.shm_segments.proofs.Finding.{live-found}
-use Rattle.shm_segments.proofs.Same.{SameTable, change-same, same-trans, detach_all-same}
+use Rattle.shm_attach.specs.Spaces.{Translation, AreTrue, IsCaller, seen, pieces_at}
+use Rattle.shm_segments.specs.Table.{IsLive}
+use Rattle.shm_segments.proofs.Same.{SameTable, change-same}
 use Rattle.shm_life.specs.declared.attach.Placed.{Placed}
-use Rattle.shm_life.specs.Placing.{piece_for, pieces_after}
+use Rattle.shm_life.specs.Placing.{piece_for, pieces_after, lost_to}
 use Rattle.shm_life.specs.Tied.{PieceFits}
-use Rattle.shm_life.specs.Orphans.{is_among, OrphansAmong, Sweeps}
-use Rattle.shm_life.specs.Kept.{IsKept}
-use Rattle.shm_life.proofs.Leaving.{keeps-set}
-use Rattle.shm_life.proofs.Pieces.{fit-set, pass-cut, pass-inserted}
-use Rattle.shm_life.proofs.Settled.{settled, settled-orphans, caller-runner}
-use Rattle.shm_life.proofs.Changed.{pages-seen}
+use Rattle.shm_life.specs.Orphans.{is_among}
+use Rattle.shm_life.specs.Kept.{IsKept, IsKeptBut, IsWell, IsWellBut}
+use Rattle.shm_life.proofs.Leaving.{keeps-set, keeps-all, keeps-without, keeps-cut, orphans-among}
+use Rattle.shm_life.proofs.Pieces.{fit-set, pass-cut, pass-inserted, pass-without, piece-same}
+use Rattle.shm_life.proofs.Settled.{settled-table, caller-runner, caller-fits, lives-map, lives-cut, lives-origin}
 
 -- the processes with the caller's place taken
 abbrev pub replaced : List Runner → Caller → Life → List Piece → List Runner
 replaced rs c life ps = slice_set rs c.index (record { pid = c.pid; life = life; pieces = ps })
 
-module _ (limits : Bounds) (t v : List Entry) (rs : List Runner) (c : Caller) (life : Life) (ps : List Piece) (k : IsKept limits t rs) (is : IsCaller c rs) (same : SameTable t v) where
-  pub going-orphans : (lost : List ℕ) → ((id : ℕ) → is_among lost id ≡ false → pieces_of id (pieces_at rs c.index) ≤ pieces_of id ps) → OrphansAmong lost (replaced rs c life ps) v
-  going-orphans lost le =
-      settled-orphans limits t v rs (replaced rs c life ps) lost k
-      (keeps-set lost rs c.index (record { pid = c.pid; life = life; pieces = ps }) (record { pid = c.pid; life = Live c.cred; pieces = pieces_at rs c.index }) (caller-runner c rs is) le) same
+-- the segments that lose pieces are live, and only these may be left without any
+pub record Goes (limits : Bounds) (t : List Entry) (after : List Runner) (lost : List ℕ) : Type 0 where
+  pub live : All (IsLive t) lost
+  pub kept : IsKeptBut lost limits t after
 
-  pub going-kept : (u : List Entry) → All (PieceFits t) ps → Sweeps (replaced rs c life ps) v u → OrphansAmong [] (replaced rs c life ps) u → IsKept limits u (replaced rs c life ps)
-  going-kept u fits sweeps none =
-      settled limits t v u rs (replaced rs c life ps) k
-      (fit-set t rs c.index (record { pid = c.pid; life = life; pieces = ps }) k.pieces fits) same.same same.locked sweeps none
+-- so all is well but for these
+pub well-gone : {lost : List ℕ} (limits : Bounds) (t u : List Entry) (rs after : List Runner) (ts us : List Translation) (m : StoreView) → IsWell limits t rs ts m → Goes limits u after lost → AreTrue us m
+    → IsWellBut lost limits u after us m
+well-gone limits t u rs after ts us m w goes all = record { kept = goes.kept; frames = w.frames; room = w.room; translated = all }
 
-pub few-same : (t v : List Entry) → SameTable t v → length t ≤ 32768 → length v ≤ 32768
-few-same t v same few = omega (arith, few, same.same.size)
+module _ (limits : Bounds) (t : List Entry) (rs : List Runner) (c : Caller) (k : IsKept limits t rs) (is : IsCaller c rs) where
+  own : All (PieceFits t) (pieces_at rs c.index)
+  own = caller-fits t c rs is k.pieces
+
+  going : (life : Life) (ps : List Piece) (lost : List ℕ) → All (PieceFits t) ps → ((id : ℕ) → is_among lost id ≡ false → pieces_of id (pieces_at rs c.index) ≤ pieces_of id ps)
+      → IsKeptBut lost limits t (replaced rs c life ps)
+  going life ps lost fits le =
+      record {
+        few = k.few;
+        reserved = k.reserved;
+        shmall = k.shmall;
+        locked = k.locked;
+        memlock = k.memlock;
+        pieces = fit-set t rs c.index (record { pid = c.pid; life = life; pieces = ps }) k.pieces fits;
+        orphans = orphans-among lost rs (replaced rs c life ps) t k.orphans
+            (keeps-set lost rs c.index (record { pid = c.pid; life = life; pieces = ps }) (record { pid = c.pid; life = Live c.cred; pieces = pieces_at rs c.index }) (caller-runner c rs is) le);
+      }
+
+  -- exec and exit
+  pub all-go : (life : Life) → Goes limits t (replaced rs c life []) (segments_of (seen c rs))
+  all-go life =
+      record {
+        live = lives-map t (pieces_at rs c.index) own;
+        kept = going life [] (segments_of (seen c rs)) (All-nil (PieceFits t)) (keeps-all (pieces_at rs c.index));
+      }
+
+  -- shmdt
+  pub named-go : (addr seg : ℕ) → option_map (λ (p : Piece). p.seg) (origin_of addr (pieces_at rs c.index)) ≡ Some seg
+      → Goes limits t (replaced rs c (Live c.cred) (without_named addr seg (pieces_at rs c.index))) (seg ∷ [])
+  named-go addr seg named =
+      let ps = pieces_at rs c.index in
+      record {
+        live = lives-origin t addr seg ps own named;
+        kept = going (Live c.cred) (without_named addr seg ps) (seg ∷ []) (pass-without t addr seg ps own) (keeps-without addr seg ps);
+      }
+
+  -- shmat
+  pub place-goes : (flags : AtFlags) (p : Placed) → PieceFits t (piece_for flags p)
+      → Goes limits t (replaced rs c (Live c.cred) (pieces_after (pieces_at rs c.index) flags p)) (lost_to (pieces_at rs c.index) p)
+  place-goes flags p fits =
+      let ps = pieces_at rs c.index in
+      let from = p.base in
+      let to = p.base + 4096 * p.pages in
+      record {
+        live = lives-cut t from to ps own;
+        kept = going (Live c.cred) (pieces_after ps flags p) (lost_to ps p) (pass-inserted t (piece_for flags p) (cut from to ps) fits (pass-cut t from to ps own)) (keeps-cut from to (piece_for flags p) ps);
+      }
 
 -- ATTACHING
 
--- a piece of all pages of a segment fits
-pub found-fits : (t : List Entry) (f : Found) (flags : AtFlags) (base : ℕ) → IsFound t f → PieceFits t (piece_for flags (record { seg = f.seg; pages = pages_of f.head.size; base = base }))
-found-fits t f flags base found =
-    let lives = live-found t f found in
-    let pages : pages_at t f.seg ≡ pages_of f.head.size = ap pages_held lives ∙ pages-seen t f found in
-    (ap is_some lives, λ j lt. rw pages (lt-ltb (0 + j) (pages_of f.head.size) (omega (arith, lt))))
+-- a segment whose attach was noted
+pub attached-goes : (limits : Bounds) (t : List Entry) (rs : List Runner) (c : Caller) (n : ℕ) (flags : AtFlags) (p : Placed) → IsKept limits t rs → IsCaller c rs → PieceFits t (piece_for flags p)
+    → Goes limits (change t p.seg (attached n c.pid)) (replaced rs c (Live c.cred) (pieces_after (pieces_at rs c.index) flags p)) (lost_to (pieces_at rs c.index) p)
+attached-goes limits t rs c n flags p k is fits =
+    let v = change t p.seg (attached n c.pid) in
+    let same : SameTable t v = change-same (attached n c.pid) (λ s. refl) (λ s. refl) (λ s. refl) t p.seg in
+    place-goes limits v rs c (settled-table limits t v rs k same) is flags p (piece-same t v (piece_for flags p) same.same.there same.same.pages fits)
 
-pub placed-fits : (t : List Entry) (flags : AtFlags) (p : Placed) (ps : List Piece) → PieceFits t (piece_for flags p) → All (PieceFits t) ps → All (PieceFits t) (pieces_after ps flags p)
-placed-fits t flags p ps own fits =
-    pass-inserted t (piece_for flags p) (cut p.base (p.base + 4096 * p.pages) ps) own (pass-cut t p.base (p.base + 4096 * p.pages) ps fits)
+module _ (h k : Entry → Entry) (both : (e : Entry) → h (k e) ≡ k (h e)) where
+  next : (f : Entry → Entry) (x : Entry) (xs : List Entry) (i : ℕ) (o : Option Entry) → set_in (x ∷ xs) (suc i) f o ≡ x ∷ set_in xs i f o
+  next f x xs i None = refl
+  next f x xs i (Some e) = refl
 
--- the times of detaches and of the attach
-pub attached-same : (n pid : ℕ) (lost : List ℕ) (t : List Entry) (seg : ℕ) → SameTable t (change (detach_all n pid t lost) seg (attached n pid))
-attached-same n pid lost t seg =
-    same-trans t (detach_all n pid t lost) (change (detach_all n pid t lost) seg (attached n pid)) (detach_all-same n pid lost t)
-    (change-same (attached n pid) (λ s. refl) (λ s. refl) (λ s. refl) (detach_all n pid t lost) seg)
+  -- two entries set in either order
+  set_in-both : (t : List Entry) (i j : ℕ) → set_in (set_in t i h (slice_get t i)) j k (slice_get (set_in t i h (slice_get t i)) j) ≡ set_in (set_in t j k (slice_get t j)) i h (slice_get (set_in t j k (slice_get t j)) i)
+  set_in-both [] i j = refl
+  set_in-both (x ∷ xs) zero zero = ap (λ e. e ∷ xs) (sym (both x))
+  set_in-both (x ∷ xs) zero (suc j) = simp next
+  set_in-both (x ∷ xs) (suc i) zero = simp next
+  set_in-both (x ∷ xs) (suc i) (suc j) = simp next (ap (λ es. x ∷ es) (set_in-both xs i j))
+
+attach-detach : (n pid : ℕ) (e : Entry) → with_entry (attached n pid) (with_entry (detached n pid) e) ≡ with_entry (detached n pid) (with_entry (attached n pid) e)
+attach-detach n pid e = ap (λ (o : Option Segment). record e { segment = o }) (by e.segment)
+  where
+    by : (o : Option Segment) → option_map (attached n pid) (option_map (detached n pid) o) ≡ option_map (detached n pid) (option_map (attached n pid) o)
+    by None = refl
+    by (Some s) = refl
+
+-- the attach may be noted before the detaches
+pub attached-first : (n pid : ℕ) (ids : List ℕ) (t : List Entry) (seg : ℕ) → detach_all n pid (change t seg (attached n pid)) ids ≡ change (detach_all n pid t ids) seg (attached n pid)
+attached-first n pid [] t seg = refl
+attached-first n pid (id ∷ ids) t seg =
+    ap (λ u. detach_all n pid u ids) (set_in-both (with_entry (attached n pid)) (with_entry (detached n pid)) (attach-detach n pid) t (seg % 32768) (id % 32768))
+    ∙ attached-first n pid ids (change t id (detached n pid)) seg

@@ -117,5 +117,5 @@ fresh-kept limits ps shmall memlock =
       locked = omega arith;
       memlock = memlock;
       pieces = All-map (λ (r : Runner). All (PieceFits []) r.pieces) runner_at_start ps (λ k d lt. All-nil (PieceFits []));
-      no_orphans = λ i h. absurd (true≢false (sym h));
+      orphans = λ i h. absurd (true≢false (sym h));
     }

@@ -117,7 +117,7 @@ pub fit-table : (t u : List Entry) (rs : List Runner) → ((k : ℕ) (d : Runner
     → PiecesFit t rs → PiecesFit u rs
 fit-table t u rs more fit = λ k d lt. λ i e li. more k d i e lt li (fit k d lt i e li)
 
-piece-same : (t u : List Entry) (p : Piece) → ((id : ℕ) → is_some (live u id) ≡ is_some (live t id)) → ((id : ℕ) → pages_at u id ≡ pages_at t id) → PieceFits t p → PieceFits u p
+pub piece-same : (t u : List Entry) (p : Piece) → ((id : ℕ) → is_some (live u id) ≡ is_some (live t id)) → ((id : ℕ) → pages_at u id ≡ pages_at t id) → PieceFits t p → PieceFits u p
 piece-same t u p there pages h = (there p.seg ∙ h.0, λ j lt. ap (λ n. nat_lt (p.first_page + j) n) (pages p.seg) ∙ h.1 j lt)
 
 -- a table in which the same segments are live with as many pages

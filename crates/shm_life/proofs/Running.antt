@@ -1,14 +1,15 @@
 -- What calls keep of the memory.
-use Rattle.std.proofs.Common.{◌≡◌, ◌≢◌, ◌<◌, ◌+◌, ℕ, suc, true, false, List, ◌∷◌, length, drop, get_or, Option, Some, None, is_some, refl, sym, subst, ◌∙◌, arith, true≢false}
+use Rattle.std.proofs.Common.{◌≡◌, ◌<◌, ◌+◌, ℕ, suc, true, false, List, [], ◌∷◌, length, drop, get_or, refl, sym, subst, ◌∙◌, arith, true≢false}
 use Rattle.std.proofs.Math.Seq.{drop-cons}
-use Rattle.std.specs.Prelude.{All, Result, Ok, Err, is_ok, is_err, OnOk, OnErr}
+use Rattle.std.specs.Prelude.{Result, Ok, Err, is_ok, is_err, OnOk, OnErr}
+use Rattle.shm_base.specs.Bounds.{Bounds}
 use Rattle.shm_base.specs.State.{Entry, Runner}
-use Rattle.shm_base.specs.declared.paging.Span.{Span}
 use Rattle.shm_slots.specs.View.{sizes}
-use Rattle.shm_fault.specs.Store.{StoreView, frame_of, page_of, bit_of, IsResident, IsReferenced}
+use Rattle.shm_fault.specs.Store.{StoreView, frame_of}
 use Rattle.shm_fault.proofs.Sound.{GoesOn-refl}
 use Rattle.shm_attach.specs.Spaces.{Translation, AreTrue}
 use Rattle.shm_segments.specs.View.{Runs}
+use Rattle.shm_life.specs.Kept.{IsWell, IsWellBut}
 use Rattle.shm_life.specs.MachineView.{KeepsOn}
 use Rattle.shm_life.specs.Orphans.{OrphansAmong, Sweeps}
 
@@ -18,16 +19,9 @@ keeps_refl m = record { kept = λ seg page a b e. e; goes_on = GoesOn-refl m.swa
 pub keeps_runs : (a b : StoreView) → Runs a b → KeepsOn a b
 keeps_runs a b r = record { kept = r.kept; goes_on = r.goes_on }
 
-pub keeps_still : (a b : StoreView) → b.swap ≡ a.swap → ((s page : ℕ) → frame_of b s page ≡ frame_of a s page) → KeepsOn a b
-keeps_still a b swap still = record { kept = λ seg page before after e. rw (still seg page) e; goes_on = rw swap (GoesOn-refl a.swap) }
-
 -- translations stay true where no page moves
 pub true_still : (ts : List Translation) (a b : StoreView) → ((s page : ℕ) → frame_of b s page ≡ frame_of a s page) → AreTrue ts a → AreTrue ts b
 true_still ts a b still all = λ k d lt. all k d lt ∙ sym (still (get_or ts k d).seg (get_or ts k d).page)
-
--- and where pages move of a segment that none of them names
-pub true_gone : (ts : List Translation) (seg : ℕ) (a b : StoreView) → All (λ (t : Translation). t.seg ≢ seg) ts → ((s page : ℕ) → s ≢ seg → frame_of b s page ≡ frame_of a s page) → AreTrue ts a → AreTrue ts b
-true_gone ts seg a b none still all = λ k d lt. all k d lt ∙ sym (still (get_or ts k d).seg (get_or ts k d).page (none k d lt))
 
 -- some segments of a list were looked at, and those left without pieces destroyed
 pub record SweptTo (rs : List Runner) (ts : List Translation) (table₀ table : List Entry) (m₀ m : StoreView) : Type 0 where
@@ -48,6 +42,24 @@ sweeps-trans rs a b c p q = record {
 pub sweeps-none : (rs : List Runner) (a : List Entry) → Sweeps rs a a
 sweeps-none rs a = record { swept = refl; size = refl; reserved = omega arith; locked = omega arith; pieces = λ fit. fit }
 
+-- once no orphan is left, all is as it was
+pub swept-well : {lost : List ℕ} (limits : Bounds) (rs : List Runner) (ts : List Translation) (t u : List Entry) (m n : StoreView) → SweptTo rs ts t u m n → OrphansAmong [] rs u
+    → IsWellBut lost limits t rs ts m → IsWell limits u rs ts n
+swept-well limits rs ts t u m n d none w = record {
+  kept = record {
+    few = omega (arith, w.kept.few, d.sweeps.size);
+    reserved = omega (arith, w.kept.reserved, d.sweeps.reserved);
+    shmall = w.kept.shmall;
+    locked = omega (arith, w.kept.locked, d.sweeps.locked);
+    memlock = w.kept.memlock;
+    pieces = d.sweeps.pieces w.kept.pieces;
+    orphans = none;
+  };
+  frames = d.runs.frames ∙ w.frames;
+  room = w.room;
+  translated = d.translated w.translated;
+}
+
 -- the next of a list
 pub among-next : (rs : List Runner) (t u : List Entry) (lost : List ℕ) (i d : ℕ) → i < length lost → OrphansAmong (drop i lost) rs t
     → ((rest : List ℕ) → OrphansAmong (get_or lost i d ∷ rest) rs t → OrphansAmong rest rs u) → OrphansAmong (drop (i + 1) lost) rs u
@@ -61,10 +73,6 @@ among-next rs t u lost i d lt among fewer =
 pub done_fact : {A E : Type 0} (r : Result A E) (P : Type 0) → is_ok r ≡ true → OnOk r P → P
 done_fact (Ok a) P is fact = fact
 done_fact (Err e) P is fact = absurd (true≢false (sym is))
-
-pub failed_fact : {A E : Type 0} (r : Result A E) (P : Type 0) → is_ok r ≡ false → OnErr r P → P
-failed_fact (Ok a) P none fact = absurd (true≢false none)
-failed_fact (Err e) P none fact = fact
 
 pub ok_fact : {A E : Type 0} (r : Result A E) (P : Type 0) → is_err r ≡ false → OnOk r P → P
 ok_fact (Ok a) P none fact = fact

@@ -7,42 +7,25 @@ use Rattle.std.specs.Prelude.{All, find}
 use Rattle.shm_base.specs.Bounds.{Bounds}
 use Rattle.shm_base.specs.State.{Piece, Live, Entry, Runner}
 use Rattle.shm_base.specs.Space.{meets, cut_segments, has_origin, origin_of}
+use Rattle.shm_fault.specs.Store.{StoreView}
 use Rattle.shm_attach.specs.declared.process.Caller.{Caller}
-use Rattle.shm_attach.specs.Spaces.{IsCaller, pieces_at}
+use Rattle.shm_attach.specs.Spaces.{Translation, AreTrue, IsCaller, pieces_at}
 use Rattle.shm_attach.proofs.Callers.{caller_there}
 use Rattle.shm_segments.specs.Table.{IsLive}
 use Rattle.shm_segments.specs.Left.{orphan, id_at}
-use Rattle.shm_base.specs.Segments.{change, detached, detach_all, locked}
-use Rattle.shm_segments.proofs.Same.{SamePages, SameTable, detach_all-same}
+use Rattle.shm_base.specs.Segments.{change, detached, detach_all}
+use Rattle.shm_segments.proofs.Same.{SameTable, detach_all-same}
 use Rattle.shm_life.specs.Tied.{PieceFits, PiecesFit}
-use Rattle.shm_life.specs.Orphans.{is_among, OrphansAmong, Sweeps}
-use Rattle.shm_life.specs.Kept.{IsKept}
-use Rattle.shm_life.proofs.Leaving.{KeepsPieces, orphans-among}
+use Rattle.shm_life.specs.Orphans.{is_among, OrphansAmong}
+use Rattle.shm_life.specs.Kept.{IsKeptBut, IsWellBut}
 use Rattle.shm_life.proofs.Pieces.{RunnerFits, all-cons, all-head, all-tail, all-at, fit-same}
 
-orphans-same : (ids : List ℕ) (rs : List Runner) (t u : List Entry) → ((qs : List Runner) (i : ℕ) → orphan qs u i ≡ orphan qs t i) → ((i : ℕ) → id_at u i ≡ id_at t i) → OrphansAmong ids rs t → OrphansAmong ids rs u
+pub orphans-same : (ids : List ℕ) (rs : List Runner) (t u : List Entry) → ((qs : List Runner) (i : ℕ) → orphan qs u i ≡ orphan qs t i) → ((i : ℕ) → id_at u i ≡ id_at t i) → OrphansAmong ids rs t → OrphansAmong ids rs u
 orphans-same ids rs t u left own among = λ i h. ap (is_among ids) (own i) ∙ among i (sym (left rs i) ∙ h)
 
--- the segments that may go are among those that lost pieces
-pub settled-orphans : (limits : Bounds) (t v : List Entry) (rs after : List Runner) (lost : List ℕ) → IsKept limits t rs → KeepsPieces lost rs after → SameTable t v → OrphansAmong lost after v
-settled-orphans limits t v rs after lost k keeps same = orphans-same lost after t v same.left same.same.ids (orphans-among lost rs after t k.no_orphans keeps)
-
--- once they are gone, all is as it was
-pub settled : (limits : Bounds) (t v u : List Entry) (rs after : List Runner) → IsKept limits t rs → PiecesFit t after → SamePages t v → locked v ≡ locked t → Sweeps after v u → OrphansAmong [] after u → IsKept limits u after
-settled limits t v u rs after k fit same locks sweeps none =
-    record {
-      few = omega (arith, k.few, sweeps.size, same.size);
-      reserved = omega (arith, k.reserved, sweeps.reserved, same.reserved);
-      shmall = k.shmall;
-      locked = omega (arith, k.locked, sweeps.locked, locks);
-      memlock = k.memlock;
-      pieces = sweeps.pieces (fit-same t v after same fit);
-      no_orphans = none;
-    }
-
 -- where no piece goes
-pub settled-table : (limits : Bounds) (t u : List Entry) (rs : List Runner) → IsKept limits t rs → SameTable t u → IsKept limits u rs
-settled-table limits t u rs k same =
+pub settled-table : {lost : List ℕ} (limits : Bounds) (t u : List Entry) (rs : List Runner) → IsKeptBut lost limits t rs → SameTable t u → IsKeptBut lost limits u rs
+settled-table {lost} limits t u rs k same =
     record {
       few = omega (arith, k.few, same.same.size);
       reserved = omega (arith, k.reserved, same.same.reserved);
@@ -50,8 +33,13 @@ settled-table limits t u rs k same =
       locked = omega (arith, k.locked, same.locked);
       memlock = k.memlock;
       pieces = fit-same t u rs same.same k.pieces;
-      no_orphans = orphans-same [] rs t u same.left same.same.ids k.no_orphans;
+      orphans = orphans-same lost rs t u same.left same.same.ids k.orphans;
     }
+
+-- nor the memory loses a frame
+pub still-well : {lost : List ℕ} (limits : Bounds) (t u : List Entry) (rs : List Runner) (ts us : List Translation) (m n : StoreView) → IsWellBut lost limits t rs ts m → SameTable t u
+    → length n.frames ≡ length m.frames → AreTrue us n → IsWellBut lost limits u rs us n
+still-well limits t u rs ts us m n w same frames all = record { kept = settled-table limits t u rs w.kept same; frames = frames ∙ w.frames; room = w.room; translated = all }
 
 -- WHAT PIECES NAME IS LIVE
 

@@ -1,18 +1,15 @@
 -- The flat machine's shmat, by where its piece goes.
-use Rattle.std.proofs.Common.{◌≡◌, ◌≢◌, ◌⊎◌, ne_eqb, inl, inr, ℕ, ℤ, ◌+◌, ◌-◌, ◌*◌, ◌%◌, ◌<◌, ◌≤◌, ◌==◌, ◌&&◌, ◌||◌, not, nat_lt, if◌then◌else◌, Bool, true, false, List, length, Option, Some, None, Result, Ok, Err, refl, ap, sym, ◌∙◌, arith}
-use Rattle.std.proofs.lemmas.Bool.{cases_Bool, cases_lt, lt-ltb, le-ltb, leb-true, and_parts, true≢false}
-use Rattle.shm_base.specs.declared.errno.Errno.{Errno}
-use Rattle.shm_base.specs.declared.errno.Errno.TheVariants.{Enomem, Emfile}
+use Rattle.std.proofs.Common.{◌≡◌, inl, inr, ℕ, ℤ, ◌+◌, ◌-◌, ◌*◌, ◌%◌, ◌<◌, ◌≤◌, ◌==◌, ◌&&◌, ◌||◌, not, nat_lt, if◌then◌else◌, Bool, true, false, List, length, Option, Some, None, Result, Ok, Err, refl, ap, ◌∙◌, arith}
+use Rattle.std.proofs.lemmas.Bool.{cases_Bool, lt-ltb, le-ltb, true≢false}
+use Rattle.shm_base.specs.declared.errno.Errno.TheVariants.{Emfile}
 use Rattle.shm_base.specs.declared.flags.AtFlags.{AtFlags}
 use Rattle.shm_base.specs.State.{Segment, Piece, Machine, pages_of, pages_in}
 use Rattle.shm_base.specs.Identifier.{Look, Invalid, Removed, Found, look, identifier, destroyed_at, destroyed_in}
 use Rattle.shm_base.specs.Permission.{grants}
-use Rattle.shm_base.specs.Space.{lowest_address, last_address, first_chosen, inside, occupied, choose, cut}
+use Rattle.shm_base.specs.Space.{inside, occupied, choose, cut}
 use Rattle.shm_base.specs.Step.{Caller, pieces_with, is_remap, is_rnd, at_wish, shmat, attaches, attaches_chosen, attaches_fixed, attaches_found}
-use Rattle.std.specs.Prelude.{ok_or, MatchOption, OnErr, nat_le}
-use Rattle.shm_areas.specs.Fixed.{fixed_at, fixed}
-use Rattle.shm_areas.specs.Gap.{HasNoGap, IsLeastGap}
-use Rattle.shm_attach.specs.Place.{IsRange}
+use Rattle.std.specs.Prelude.{OnErr}
+use Rattle.shm_areas.specs.Fixed.{fixed_at}
 use Rattle.shm_attach.proofs.Processes.{length-inserted}
 use Rattle.shm_segments.specs.declared.head.Found.{Found as Live}
 use Rattle.shm_segments.specs.Table.{IsFound, look_of}
@@ -90,60 +87,11 @@ placed-found s c id addr flags f found h is granted =
     let own : identifier (f.seg % 32768) (destroyed_at s.table (f.seg % 32768)) ≡ f.seg = ap (λ o. identifier (f.seg % 32768) (destroyed_in o)) found.entry ∙ omega arith in
     rw h (ap (placed_found s c flags addr) is ∙ rw (granted, own) (ap (λ k. placed_at f.seg k (base_for c.pieces k flags addr)) (pages-seen s.table f found)))
 
-pub if_few-ok : (ps : List Piece) (pages base : ℕ) (r : Result ℕ Errno) → if_few ps pages r ≡ Ok base → length (cut base (base + 4096 * pages) ps) + 1 ≤ 256
-if_few-ok ps pages base (Err e) is = absurd (cc is)
-if_few-ok ps pages base (Ok b) is = by (cases_lt 256 (length (cut b (b + 4096 * pages) ps) + 1))
-  where
-    by : (256 < length (cut b (b + 4096 * pages) ps) + 1) ⊎ (length (cut b (b + 4096 * pages) ps) + 1 ≤ 256) → length (cut base (base + 4096 * pages) ps) + 1 ≤ 256
-    by (inl more) = absurd (cc (rw (lt-ltb 256 (length (cut b (b + 4096 * pages) ps) + 1) more) at is))
-    by (inr few) = let same : b ≡ base = cc (rw (le-ltb 256 (length (cut b (b + 4096 * pages) ps) + 1) few) at is) in rw (← same) few
-
--- the base that is wished for
-pub chosen-when : (addr : ℕ) (ps : List Piece) (n : ℕ) (flags : AtFlags) (o : Option ℕ) (r : Result ℕ Errno) → addr ≡ 0 → o ≡ choose ps n → r ≡ ok_or o Enomem
-    → (if addr == 0 then chosen (choose ps n) else fixed ps addr n flags) ≡ r
-chosen-when addr ps n flags o r null is made = rw null (ap chosen (sym is) ∙ same o ∙ sym made)
-  where
-    same : (o : Option ℕ) → chosen o ≡ ok_or o Enomem
-    same None = refl
-    same (Some b) = refl
-
-pub fixed-when : (addr : ℕ) (ps : List Piece) (n : ℕ) (flags : AtFlags) (r : Result ℕ Errno) → addr ≢ 0 → r ≡ fixed ps addr n flags
-    → (if addr == 0 then chosen (choose ps n) else fixed ps addr n flags) ≡ r
-fixed-when addr ps n flags r some made = rw (ne_eqb addr 0 some) (sym made)
-
 pub if_few-under : (ps : List Piece) (pages base : ℕ) → length (cut base (base + 4096 * pages) ps) < 256 → if_few ps pages (Ok base) ≡ Ok base
 if_few-under ps pages base few = rw (le-ltb 256 (length (cut base (base + 4096 * pages) ps) + 1) (omega (arith, few))) refl
 
 pub if_few-over : (ps : List Piece) (pages base : ℕ) → 256 ≤ length (cut base (base + 4096 * pages) ps) → if_few ps pages (Ok base) ≡ Err Emfile
 if_few-over ps pages base many = rw (lt-ltb 256 (length (cut base (base + 4096 * pages) ps) + 1) (omega (arith, many))) refl
-
--- the range that is wished for lies within the addresses
-pub chosen-range : (ps : List Piece) (n base : ℕ) (o : Option ℕ) (r : Result ℕ Errno) → MatchOption o (HasNoGap ps n) (IsLeastGap ps n) → r ≡ ok_or o Enomem → r ≡ Ok base → IsRange n base
-chosen-range ps n base None r least made is = absurd (cc (sym made ∙ is))
-chosen-range ps n base (Some b) r least made is =
-    let same : b ≡ base = cc (sym made ∙ is) in
-    let parts = and_parts (nat_le first_chosen b && nat_le (b + 4096 * n) last_address) (not (occupied ps b (b + 4096 * n))) least.gap in
-    let ends = and_parts (nat_le first_chosen b) (nat_le (b + 4096 * n) last_address) parts.0 in
-    rw (← same)
-    (record {
-      aligned = least.aligned;
-      low = omega (arith, leb-true first_chosen b ends.0);
-      high = leb-true (b + 4096 * n) last_address ends.1;
-    })
-
-fixed_at-range : (ps : List Piece) (n b base : ℕ) (flags : AtFlags) → b % 4096 ≡ 0 → fixed_at ps b n flags ≡ Ok base → IsRange n base
-fixed_at-range ps n b base flags aligned is = by (cases_Bool (inside b n)) (cases_Bool (not (is_remap flags) && occupied ps b (b + 4096 * n)))
-  where
-    by : (inside b n ≡ true) ⊎ (inside b n ≡ false) → (not (is_remap flags) && occupied ps b (b + 4096 * n) ≡ true) ⊎ (not (is_remap flags) && occupied ps b (b + 4096 * n) ≡ false) → IsRange n base
-    by (inr out) taken = absurd (cc (rw out at is))
-    by (inl within) (inl taken) = absurd (cc (rw (within, taken) at is))
-    by (inl within) (inr free) =
-        let same : b ≡ base = cc (rw (within, free) at is) in
-        let parts = and_parts (nat_le lowest_address b) (nat_le (b + 4096 * n) last_address) within in
-        rw (← same) (record { aligned = aligned; low = leb-true lowest_address b parts.0; high = leb-true (b + 4096 * n) last_address parts.1 })
-
-pub fixed-range : (ps : List Piece) (n addr base : ℕ) (flags : AtFlags) → fixed ps addr n flags ≡ Ok base → IsRange n base
-fixed-range ps n addr base flags is = fixed_at-range ps n (addr - addr % 4096) base flags (omega arith) is
 
 pub on-err : {T E X : Type 0} (r : Result T E) → X → OnErr r X
 on-err (Ok t) x = tt

@@ -122,9 +122,6 @@ sweeps-destroyed rs t seg s there dest none =
       pieces = fit-table t (destroyed t seg) rs (λ k d i e lt li h. piece-kept t seg x there refl (get_or (get_or rs k d).pieces i e) (unnamed rs seg none k d i e lt li) h);
     }
 
-pub sweeps-none : (rs : List Runner) (t : List Entry) → Sweeps rs t t
-sweeps-none rs t = record { swept = refl; size = refl; reserved = omega arith; locked = omega arith; pieces = λ h. h }
-
 -- a mark, and no piece
 pub left-parts : (dest : Bool) (n : ℕ) → dest && (n == 0) ≡ true → (dest ≡ true) × (n ≡ 0)
 left-parts true n h = (refl, eqb-true n 0 h)

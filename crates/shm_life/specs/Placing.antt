@@ -24,9 +24,12 @@ abbrev pub if_few : List Piece → ℕ → Result ℕ Errno → Result ℕ Errno
 if_few ps pages (Err e) = Err e
 if_few ps pages (Ok base) = if nat_lt 256 (length (cut base (base + 4096 * pages) ps) + 1) then Err Emfile else Ok base
 
--- where so many pages go: where the system chooses, or at the address, rounded down
+-- where so many pages would go: where the system chooses, or at the address, rounded down
+abbrev pub wished : List Piece → ℕ → AtFlags → ℕ → Result ℕ Errno
+wished ps pages flags addr = if addr == 0 then chosen (choose ps pages) else fixed ps addr pages flags
+
 abbrev pub base_for : List Piece → ℕ → AtFlags → ℕ → Result ℕ Errno
-base_for ps pages flags addr = if_few ps pages (if addr == 0 then chosen (choose ps pages) else fixed ps addr pages flags)
+base_for ps pages flags addr = if_few ps pages (wished ps pages flags addr)
 
 abbrev pub placed_at : ℕ → ℕ → Result ℕ Errno → Result Placed Errno
 placed_at seg pages (Err e) = Err e

@@ -3,16 +3,18 @@ ghost use Rattle.std.specs.Prelude.{◌≡◌, ◌+◌, ◌*◌, ◌≤◌, fals
 ghost use Rattle.shm_base.specs.History.{is_refusal};
 ghost use Rattle.shm_base.specs.Space.{cut};
 ghost use Rattle.shm_base.specs.Step as flat;
+ghost use Rattle.shm_areas.specs.Arranged.{bare_all};
 ghost use Rattle.shm_attach.specs.Place.{IsRange};
 ghost use Rattle.shm_attach.specs.Spaces.{pieces_at, seen};
 ghost use Rattle.shm_life.specs.Address.{misplaced};
 ghost use Rattle.shm_life.specs.MachineView.{KeepsOn};
-ghost use Rattle.shm_life.specs.Placing.{placed, piece_for};
+ghost use Rattle.shm_life.specs.Placing.{wished, placed, piece_for};
 ghost use Rattle.shm_life.specs.Tied.{IsCallerOf, PieceFits};
 
-use crate::detach::{note_detached, sweep};
+use crate::detach::after_detach;
 use crate::machine::Machine;
 use bitflags::Flags;
+use shm_areas::Space;
 use shm_attach::Caller;
 use shm_base::{AtFlags, Errno, HostMemory, MOST_PIECES, PAGE_SIZE, Reply, ShmId, Want, grants};
 use shm_pager::Pager;
@@ -25,6 +27,20 @@ fn is_misplaced(addr: u64, flags: AtFlags) -> bool
         flags.contains(AtFlags::REMAP)
     } else {
         addr % PAGE_SIZE != 0 && !flags.contains(AtFlags::RND)
+    }
+}
+
+/// Where so many pages would go: where the system chooses, or at the address, rounded down. Enomem where no gap
+/// is left; Einval where the range leaves the addresses, or is occupied without SHM_REMAP.
+fn wanted_base(space: &Space, addr: u64, pages: u32, flags: AtFlags) -> Result<u64, Errno>
+    requires { (1 ≤ pages) × (pages ≤ 4096) }
+    ensures value { result ≡ wished (bare_all space.now) pages flags addr }
+    ensures range { IfOk result (IsRange pages) }
+{
+    if addr == 0 {
+        space.choose(pages).ok_or(Errno::Enomem)
+    } else {
+        space.check_fixed(addr, pages, flags)
     }
 }
 
@@ -68,12 +84,7 @@ impl<P: Pager> Machine<P> {
         }
         let space = self.spaces.space(caller);
         let (seg, pages) = (found.seg, found.pages());
-        let wanted = if addr == 0 {
-            space.choose(pages).ok_or(Errno::Enomem)
-        } else {
-            space.check_fixed(addr, pages, flags)
-        };
-        let base = match wanted {
+        let base = match wanted_base(space, addr, pages, flags) {
             Ok(base) => base,
             Err(errno) => return Err(errno),
         };
@@ -110,10 +121,14 @@ impl<P: Pager> Machine<P> {
         let lost = self
             .spaces
             .attach(caller, seg, base, pages, writable, store)?;
-        let lost = lost.as_slice();
-        note_detached(&mut self.segments, lost, time, caller.pid);
         self.segments.attached(seg, time, caller.pid);
-        sweep(&mut self.segments, &self.spaces, lost);
+        after_detach(
+            &mut self.segments,
+            &self.spaces,
+            lost.as_slice(),
+            time,
+            caller.pid,
+        );
         Ok(Reply::Addr(base))
     }
 
@@ -131,8 +146,7 @@ impl<P: Pager> Machine<P> {
         };
         self.spaces.detach(caller, addr, origin.seg);
         let lost = [origin.seg];
-        note_detached(&mut self.segments, &lost, time, caller.pid);
-        sweep(&mut self.segments, &self.spaces, &lost);
+        after_detach(&mut self.segments, &self.spaces, &lost, time, caller.pid);
         Reply::Done
     }
 
@@ -159,8 +173,13 @@ impl<P: Pager> Machine<P> {
         ensures keeps { KeepsOn self.old.memory self.new.memory }
     {
         let lost = self.spaces.exec(caller);
-        note_detached(&mut self.segments, lost.as_slice(), time, caller.pid);
-        sweep(&mut self.segments, &self.spaces, lost.as_slice());
+        after_detach(
+            &mut self.segments,
+            &self.spaces,
+            lost.as_slice(),
+            time,
+            caller.pid,
+        );
         Reply::Done
     }
 
@@ -172,8 +191,13 @@ impl<P: Pager> Machine<P> {
         ensures keeps { KeepsOn self.old.memory self.new.memory }
     {
         let lost = self.spaces.exit(caller);
-        note_detached(&mut self.segments, lost.as_slice(), time, caller.pid);
-        sweep(&mut self.segments, &self.spaces, lost.as_slice());
+        after_detach(
+            &mut self.segments,
+            &self.spaces,
+            lost.as_slice(),
+            time,
+            caller.pid,
+        );
         Reply::Done
     }
 }

@@ -1,19 +1,21 @@
 //! What pieces that went leave behind: times and pids, and segments that go with their last piece.
 ghost use Rattle.std.specs.Prelude.{◌≡◌, ◌≢◌, true, ◌≤◌, ◌==◌, ◌&&◌, ℕ, List, [], ◌∷◌, length, All};
-ghost use Rattle.shm_base.specs.State.{Entry, Runner};
+ghost use Rattle.shm_base.specs.Bounds.{Bounds};
 ghost use Rattle.shm_base.specs.Segments.{attach_count, detach_all, swept};
 ghost use Rattle.shm_attach.specs.Spaces.{Translation, AreTrue};
 ghost use Rattle.shm_slots.specs.View.{sizes};
 ghost use Rattle.shm_segments.specs.Table.{IsLive};
 ghost use Rattle.shm_segments.specs.View.{Runs};
+ghost use Rattle.shm_life.specs.Kept.{IsWell, IsWellBut};
+ghost use Rattle.shm_life.specs.MachineView.{KeepsOn};
 ghost use Rattle.shm_life.specs.Orphans.{OrphansAmong, Sweeps};
 
 use shm_attach::Spaces;
 use shm_pager::Pager;
 use shm_segments::{Found, Segments};
 
-/// Sets the time and the pid of a detach in each of these segments.
-pub(crate) fn note_detached<P: Pager>(segments: &mut Segments<P>, lost: &[u32], time: u64, pid: u32)
+// Sets the time and the pid of a detach in each of these segments.
+fn note_detached<P: Pager>(segments: &mut Segments<P>, lost: &[u32], time: u64, pid: u32)
     requires { All (IsLive segments.old.table) lost.now }
     ensures { segments.new ≡ record segments.old { table = detach_all time pid segments.old.table lost.now } }
 {
@@ -52,13 +54,32 @@ pub(crate) fn sweep<P: Pager>(segments: &mut Segments<P>, spaces: &Spaces, lost:
     requires few { length segments.old.table ≤ 32768 }
     requires orphans { OrphansAmong lost.now spaces.now.runners segments.old.table }
     ensures swept { segments.new.table ≡ swept spaces.now.runners segments.old.table }
-    ensures sweeps { Sweeps spaces.now.runners segments.old.table segments.new.table }
-    ensures none { OrphansAmong [] spaces.now.runners segments.new.table }
-    ensures runs { Runs segments.old.memory segments.new.memory }
+    ensures well { (limits : Bounds) → IsWellBut lost.now limits segments.old.table spaces.now.runners spaces.now.translations segments.old.memory → IsWell limits segments.new.table spaces.now.runners spaces.now.translations segments.new.memory }
+    ensures keeps { KeepsOn segments.old.memory segments.new.memory }
     ensures sizes { sizes segments.new.memory.swap ≡ sizes segments.old.memory.swap }
-    ensures translated { AreTrue spaces.now.translations segments.old.memory → AreTrue spaces.now.translations segments.new.memory }
 {
     for seg in lost {
         sweep_one(segments, spaces, *seg);
     }
+}
+
+/// What is to be done where pieces of these segments went, whatever the cause: the time and the pid of a
+/// detach are noted, and those that are marked and lost their last piece are destroyed.
+pub(crate) fn after_detach<P: Pager>(
+    segments: &mut Segments<P>,
+    spaces: &Spaces,
+    lost: &[u32],
+    time: u64,
+    pid: u32,
+)
+    requires live { All (IsLive segments.old.table) lost.now }
+    requires few { length segments.old.table ≤ 32768 }
+    requires orphans { OrphansAmong lost.now spaces.now.runners segments.old.table }
+    ensures table { segments.new.table ≡ swept spaces.now.runners (detach_all time pid segments.old.table lost.now) }
+    ensures well { (limits : Bounds) → IsWellBut lost.now limits segments.old.table spaces.now.runners spaces.now.translations segments.old.memory → IsWell limits segments.new.table spaces.now.runners spaces.now.translations segments.new.memory }
+    ensures keeps { KeepsOn segments.old.memory segments.new.memory }
+    ensures sizes { sizes segments.new.memory.swap ≡ sizes segments.old.memory.swap }
+{
+    note_detached(segments, lost, time, pid);
+    sweep(segments, spaces, lost);
 }

@@ -165,18 +165,19 @@ made-joined hs rows i key v found =
     ap (option_map (λ (n : ℕ). (pos (flat.identifier n (flat.destroyed_at (joined hs rows) n)), created (joined hs rows) n key v))) index
     ∙ ap (λ d. Some (pos (flat.identifier i d), created (joined hs rows) i key v)) (destroyed_at-flat (whole hs) rows i)
 
--- the next identifier is that of the free index
-pub record IsNext (rows : List (Entry Head)) (id : ℤ) : Type 0 where
+-- the next identifier is that of the free index, and nothing is held under it
+pub record IsNext (hs : List Held) (rows : List (Entry Head)) (id : ℤ) : Type 0 where
   pub i : ℕ
   pub found : free_index rows ≡ Some i
   pub is : id ≡ pos (id_of rows i)
+  pub new : is_held hs (id_of rows i) ≡ false
 
-pub next-free : (rows : List (Entry Head)) (id : ℤ) → Some id ≡ option_map (id_at rows) (free_index rows) → IsNext rows id
-next-free rows id is = by (free_index rows) refl is
+pub next-free : (hs : List Held) (rows : List (Entry Head)) (id : ℤ) → Agree hs rows → Some id ≡ option_map (id_at rows) (free_index rows) → IsNext hs rows id
+next-free hs rows id agree is = by (free_index rows) refl is
   where
-    by : (o : Option ℕ) → free_index rows ≡ o → Some id ≡ option_map (id_at rows) o → IsNext rows id
+    by : (o : Option ℕ) → free_index rows ≡ o → Some id ≡ option_map (id_at rows) o → IsNext hs rows id
     by None found z = absurd (none-some id (sym z))
-    by (Some i) found z = record { i = i; found = found; is = cc z }
+    by (Some i) found z = record { i = i; found = found; is = cc z; new = free-new hs rows i agree (index-free rows i agree.few found) }
 
 -- a segment's pages are few
 pub few-pages : (b : Bool) (size : ℕ) → size ≤ 16777216 → (if b then pages_of size else 0) ≤ 4096

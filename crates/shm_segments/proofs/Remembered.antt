@@ -2,7 +2,7 @@
 use Rattle.std.proofs.Common.{◌≡◌, ◌≢◌, ℕ, ◌%◌, ◌==◌, Bool, true, false, List, [], ◌∷◌, ◌++◌, length, Option, Some, None, is_some, option_map, refl, sym, ap, ◌∙◌, inl, inr, arith, eq-eqb, ne_eqb, true≢false}
 use Rattle.std.proofs.lemmas.Bool.{cases_eq, cases_Bool}
 use Rattle.std.proofs.lemmas.Option.{none-some}
-use Rattle.std.specs.Prelude.{All}
+use Rattle.std.specs.Prelude.{All, Result, Ok, Err, OnOk, OnErr}
 use Rattle.shm_base.specs.declared.paging.Span.{Span}
 use Rattle.shm_base.specs.State.{Entry as FlatEntry}
 use Rattle.shm_ids.specs.declared.table.Entry.{Entry}
@@ -141,7 +141,7 @@ agree-locks hs gs rows id a b = sym (by (find_held gs id)) ∙ ap lock_of (b.sam
 
 -- A STORE
 
-pub kept-written : (hs : List Held) (rows : List (Entry Head)) (pages locks : ℕ) (ps : List Span) (new : List ℕ) → IsKept hs rows pages locks → All (FitsPage hs) ps → IsKept (written hs ps new) rows pages locks
+kept-written : (hs : List Held) (rows : List (Entry Head)) (pages locks : ℕ) (ps : List Span) (new : List ℕ) → IsKept hs rows pages locks → All (FitsPage hs) ps → IsKept (written hs ps new) rows pages locks
 kept-written hs rows pages locks ps new k fit =
     let sums = sums-written hs ps new k.apart fit in
     record {
@@ -154,13 +154,21 @@ kept-written hs rows pages locks ps new k fit =
       few_locked = omega (arith, sums.locks, k.few_locked);
     }
 
-pub runs-written : (a b : StoreView) (rows : List (Entry Head)) (ps : List Span) (new : List ℕ) → Agree (held a) rows → All (FitsPage (held a)) ps → held b ≡ written (held a) ps new → Kept a b → GoesOn a.swap b.swap → length b.frames ≡ length a.frames → Runs a b
+runs-written : (a b : StoreView) (rows : List (Entry Head)) (ps : List Span) (new : List ℕ) → Agree (held a) rows → All (FitsPage (held a)) ps → held b ≡ written (held a) ps new → Kept a b → GoesOn a.swap b.swap → length b.frames ≡ length a.frames → Runs a b
 runs-written a b rows ps new agree fit is kept goes frames = record {
   kept = kept;
   locks = λ id e. sym (agree-locks (held a) (written (held a) ps new) rows id agree (agree-written (held a) rows ps new agree fit)) ∙ (rw is at e);
   goes_on = goes;
   frames = frames;
 }
+
+-- done or not, all is whole
+pub wrote-whole : {A E : Type 0} (r : Result A E) (s n : StoreView) (rows : List (Entry Head)) (pages locks : ℕ) (ps : List Span) (new : List ℕ) → IsWhole s rows pages locks → All (FitsPage (held s)) ps
+    → OnOk r (held n ≡ written (held s) ps new) → OnErr r (held n ≡ held s) → IsSound n → Kept s n → GoesOn s.swap n.swap → length n.frames ≡ length s.frames → IsWhole n rows pages locks × Runs s n
+wrote-whole (Ok a) s n rows pages locks ps new w fit is same sound kept goes frames =
+    (record { kept = rw is (kept-written (held s) rows pages locks ps new w.kept fit); sound = sound }, runs-written s n rows ps new w.kept.agree fit is kept goes frames)
+wrote-whole (Err e) s n rows pages locks ps new w fit is same sound kept goes frames =
+    (record { kept = rw same w.kept; sound = sound }, runs-same s n same kept goes frames)
 
 -- NO SEGMENT
 

@@ -3,8 +3,10 @@ use Rattle.std.proofs.lemmas.List.{drop_all}
 use Rattle.shm_segments.proofs.Remembered.{runs-refl, runs-trans}
 use Rattle.shm_life.specs.Orphans.{OrphansAmong}
 use Rattle.shm_life.proofs.Orphans.{swept-none}
-use Rattle.shm_life.proofs.Running.{sweeps-none, sweeps-trans, among-next}
+use Rattle.shm_life.proofs.Running.{sweeps-none, sweeps-trans, among-next, swept-well, keeps_runs}
+use Rattle.shm_life.proofs.detach.sweep.Given.{Over}
 use Rattle.shm_life.proofs.detach.sweep.Goals as goal
+use Rattle.shm_life.proofs.detach.sweep.Goals.{After-loop-seg}
 
 pub loop-seg-init : goal.loop-seg-init
 loop-seg-init g c =
@@ -23,9 +25,17 @@ loop-seg-preserved g c =
       among-next rs t.table u.table c.args.lost.now c.loop-seg.seg-index 0 c.loop-seg-test.true c.loop-seg.invariant.1 e.fewer,
     )
 
-pub returns-clause-swept : goal.returns-clause-swept
-returns-clause-swept g c =
-    let rs = c.args.spaces.now.runners in
+-- all were looked at
+none : (g : Over) (c : After-loop-seg g) → OrphansAmong [] c.args.spaces.now.runners c.loop-seg.segments.table
+none g c =
     let over : drop c.loop-seg.seg-index c.args.lost.now ≡ [] = drop_all c.loop-seg.seg-index c.args.lost.now c.loop-seg-test.false in
-    let none : OrphansAmong [] rs c.loop-seg.segments.table = subst (λ ids. OrphansAmong ids rs c.loop-seg.segments.table) over c.loop-seg.invariant.1 in
-    sym (swept-none rs c.loop-seg.segments.table none) ∙ c.loop-seg.invariant.0.sweeps.swept
+    subst (λ ids. OrphansAmong ids c.args.spaces.now.runners c.loop-seg.segments.table) over c.loop-seg.invariant.1
+
+pub returns-clause-swept : goal.returns-clause-swept
+returns-clause-swept g c = sym (swept-none c.args.spaces.now.runners c.loop-seg.segments.table (none g c)) ∙ c.loop-seg.invariant.0.sweeps.swept
+
+pub returns-clause-well : goal.returns-clause-well
+returns-clause-well g c = λ limits w. swept-well limits _ _ _ _ _ _ c.loop-seg.invariant.0 (none g c) w
+
+pub returns-clause-keeps : goal.returns-clause-keeps
+returns-clause-keeps g c = keeps_runs _ _ c.loop-seg.invariant.0.runs

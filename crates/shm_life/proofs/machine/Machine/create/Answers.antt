@@ -5,7 +5,7 @@ use Rattle.shm_fault.specs.Store.{frame_of}
 use Rattle.shm_segments.specs.Table.{made}
 use Rattle.shm_segments.specs.View.{Runs}
 use Rattle.shm_life.proofs.Created.{created-kept}
-use Rattle.shm_life.proofs.Running.{true_still, keeps_runs}
+use Rattle.shm_life.proofs.Running.{true_still}
 use Rattle.shm_life.proofs.machine.Machine.create.Goals as goal
 
 pub invariant_of-self-2 : goal.invariant_of-self-2
@@ -25,8 +25,3 @@ invariant_of-self-2 g c =
       room = c.self.invariant.room;
       translated = true_still c.self.inside.spaces.translations c.self.inside.segments.memory c.create.new.self.memory still c.self.invariant.translated;
     }
-
-pub returns-clause-keeps : goal.returns-clause-keeps
-returns-clause-keeps g c =
-    let runs : Runs c.self.inside.segments.memory c.create.new.self.memory = rw c.is_full.ensures.same at c.in_ok-id.ensures.runs in
-    rw (← c.self.view_is) (keeps_runs c.self.inside.segments.memory c.create.new.self.memory runs)

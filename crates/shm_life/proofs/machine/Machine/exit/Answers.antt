@@ -1,85 +1,24 @@
-use Rattle.std.proofs.Common.{ap, ◌≡◌, [], ◌∙◌}
-use Rattle.std.proofs.lemmas.List.Elements.{All-nil}
 use Rattle.shm_base.specs.State.{Ended}
-use Rattle.shm_base.specs.Segments.{detach_all}
-use Rattle.shm_base.specs.Step.{segments_of, with_end}
-use Rattle.shm_attach.specs.Spaces.{IsCaller, seen, pieces_at}
-use Rattle.shm_segments.proofs.Same.{SameTable, detach_all-same}
-use Rattle.shm_life.specs.Tied.{PieceFits}
-use Rattle.shm_life.specs.Orphans.{OrphansAmong, Sweeps}
-use Rattle.shm_life.proofs.Leaving.{keeps-all}
-use Rattle.shm_life.proofs.Settled.{lives-map, caller-fits}
-use Rattle.shm_life.proofs.Going.{going-orphans, going-kept, few-same}
-use Rattle.shm_segments.specs.View.{SegmentsView, Runs}
-use Rattle.shm_life.proofs.Running.{keeps_runs}
+use Rattle.shm_attach.specs.Spaces.{IsCaller}
+use Rattle.shm_life.proofs.Going.{Goes, all-go, well-gone}
+use Rattle.shm_life.proofs.machine.Machine.exit.Given.{Over}
 use Rattle.shm_life.proofs.machine.Machine.exit.Goals as goal
+use Rattle.shm_life.proofs.machine.Machine.exit.Goals.{After-as_slice}
 
-pub note_detached-requires : goal.note_detached-requires
-note_detached-requires g c =
-    let limits = c.self.inside.limits in
-    let t = c.self.inside.segments.table in
-    let rs = c.self.inside.spaces.runners in
+goes : (g : Over) (c : After-as_slice g) → Goes c.self.inside.limits c.self.inside.segments.table c.exit-lost.new.self.runners c.as_slice.result.now
+goes g c =
     let caller = c.args.caller.now in
-    let k = c.self.invariant.kept in
+    let rs = c.self.inside.spaces.runners in
     let is : IsCaller caller rs = rw (← c.self.view_is) at c.requires in
-    let ps = pieces_at rs caller.index in
-    let fits = caller-fits t caller rs is k.pieces in
-    let lost : c.as_slice.result.now ≡ segments_of (seen caller rs) = c.as_slice.ensures.value ∙ c.exit-lost.ensures.lost in
-    rw lost (lives-map t ps fits)
+    rw (c.as_slice.ensures.value, c.exit-lost.ensures.lost, c.exit-lost.ensures.runners) (all-go c.self.inside.limits c.self.inside.segments.table rs caller c.self.invariant.kept is Ended)
 
-pub sweep-requires-clause-few : goal.sweep-requires-clause-few
-sweep-requires-clause-few g c =
-    let limits = c.self.inside.limits in
-    let t = c.self.inside.segments.table in
-    let rs = c.self.inside.spaces.runners in
-    let caller = c.args.caller.now in
-    let k = c.self.invariant.kept in
-    let is : IsCaller caller rs = rw (← c.self.view_is) at c.requires in
-    let ps = pieces_at rs caller.index in
-    let fits = caller-fits t caller rs is k.pieces in
-    let lost : c.as_slice.result.now ≡ segments_of (seen caller rs) = c.as_slice.ensures.value ∙ c.exit-lost.ensures.lost in
-    let same : SameTable t (detach_all c.args.time caller.pid t (segments_of (seen caller rs))) = detach_all-same c.args.time caller.pid (segments_of (seen caller rs)) t in
-    let noted : c.note_detached.new.segments.table ≡ detach_all c.args.time caller.pid t (segments_of (seen caller rs)) = rw lost at (ap (λ (v : SegmentsView). v.table) c.note_detached.ensures) in
-    rw noted (few-same t (detach_all c.args.time caller.pid t (segments_of (seen caller rs))) same k.few)
+pub after_detach-requires-clause-live : goal.after_detach-requires-clause-live
+after_detach-requires-clause-live g c = (goes g c).live
 
-pub sweep-requires-clause-orphans : goal.sweep-requires-clause-orphans
-sweep-requires-clause-orphans g c =
-    let limits = c.self.inside.limits in
-    let t = c.self.inside.segments.table in
-    let rs = c.self.inside.spaces.runners in
-    let caller = c.args.caller.now in
-    let k = c.self.invariant.kept in
-    let is : IsCaller caller rs = rw (← c.self.view_is) at c.requires in
-    let ps = pieces_at rs caller.index in
-    let fits = caller-fits t caller rs is k.pieces in
-    let lost : c.as_slice.result.now ≡ segments_of (seen caller rs) = c.as_slice.ensures.value ∙ c.exit-lost.ensures.lost in
-    let same : SameTable t (detach_all c.args.time caller.pid t (segments_of (seen caller rs))) = detach_all-same c.args.time caller.pid (segments_of (seen caller rs)) t in
-    let noted : c.note_detached.new.segments.table ≡ detach_all c.args.time caller.pid t (segments_of (seen caller rs)) = rw lost at (ap (λ (v : SegmentsView). v.table) c.note_detached.ensures) in
-    let again : c.as_slice-2.result.now ≡ segments_of (seen caller rs) = c.as_slice-2.ensures.value ∙ c.exit-lost.ensures.lost in
-    let runners : c.exit-lost.new.self.runners ≡ with_end rs (seen caller rs) = c.exit-lost.ensures.runners in
-    rw (noted, again, runners) (going-orphans limits t (detach_all c.args.time caller.pid t (segments_of (seen caller rs))) rs caller Ended [] k is same (segments_of (seen caller rs)) (keeps-all ps))
+pub after_detach-requires-clause-orphans : goal.after_detach-requires-clause-orphans
+after_detach-requires-clause-orphans g c = (goes g c).kept.orphans
 
 pub invariant_of-self : goal.invariant_of-self
 invariant_of-self g c =
-    let limits = c.self.inside.limits in
-    let t = c.self.inside.segments.table in
-    let rs = c.self.inside.spaces.runners in
-    let caller = c.args.caller.now in
-    let k = c.self.invariant.kept in
-    let is : IsCaller caller rs = rw (← c.self.view_is) at c.requires in
-    let ps = pieces_at rs caller.index in
-    let fits = caller-fits t caller rs is k.pieces in
-    let lost : c.as_slice.result.now ≡ segments_of (seen caller rs) = c.as_slice.ensures.value ∙ c.exit-lost.ensures.lost in
-    let same : SameTable t (detach_all c.args.time caller.pid t (segments_of (seen caller rs))) = detach_all-same c.args.time caller.pid (segments_of (seen caller rs)) t in
-    let noted : c.note_detached.new.segments.table ≡ detach_all c.args.time caller.pid t (segments_of (seen caller rs)) = rw lost at (ap (λ (v : SegmentsView). v.table) c.note_detached.ensures) in
-    let again : c.as_slice-2.result.now ≡ segments_of (seen caller rs) = c.as_slice-2.ensures.value ∙ c.exit-lost.ensures.lost in
-    let runners : c.exit-lost.new.self.runners ≡ with_end rs (seen caller rs) = c.exit-lost.ensures.runners in
-    let sweeps : Sweeps (with_end rs (seen caller rs)) (detach_all c.args.time caller.pid t (segments_of (seen caller rs))) c.sweep.new.segments.table = rw (noted, runners) at c.sweep.ensures.sweeps in
-    let none : OrphansAmong [] (with_end rs (seen caller rs)) c.sweep.new.segments.table = rw runners at c.sweep.ensures.none in
-    let runs : Runs c.self.inside.segments.memory c.sweep.new.segments.memory = rw c.note_detached.ensures at c.sweep.ensures.runs in
-    record { kept = rw runners (going-kept limits t (detach_all c.args.time caller.pid t (segments_of (seen caller rs))) rs caller Ended [] k is same c.sweep.new.segments.table (All-nil (PieceFits t)) sweeps none); frames = runs.frames ∙ c.self.invariant.frames; room = c.self.invariant.room; translated = c.sweep.ensures.translated (rw c.note_detached.ensures (c.exit-lost.ensures.translated c.self.inside.segments.memory c.self.invariant.translated)) }
-
-pub returns-clause-keeps : goal.returns-clause-keeps
-returns-clause-keeps g c =
-    let runs : Runs c.self.inside.segments.memory c.sweep.new.segments.memory = rw c.note_detached.ensures at c.sweep.ensures.runs in
-    rw (← c.self.view_is) (keeps_runs c.self.inside.segments.memory c.sweep.new.segments.memory runs)
+    let translated = c.exit-lost.ensures.translated c.self.inside.segments.memory c.self.invariant.translated in
+    c.after_detach.ensures.well c.self.inside.limits (well-gone _ _ _ _ _ _ _ _ c.self.invariant (goes g (goal.at.invariant_of-self g c).After-as_slice) translated)

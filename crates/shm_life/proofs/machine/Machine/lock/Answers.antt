@@ -1,4 +1,4 @@
-use Rattle.std.proofs.Common.{arith, rules, ◌≡◌, ◌+◌, ◌%◌, true, false, not, ◌&&◌, nat_lt, List, [], refl, sym, ap, ◌∙◌, to_z, of_z, w32}
+use Rattle.std.proofs.Common.{arith, rules, ◌≡◌, ◌+◌, ◌%◌, ◌≤◌, length, true, false, not, ◌&&◌, nat_lt, List, [], refl, sym, ap, ◌∙◌, to_z, of_z, w32}
 use Rattle.shm_base.specs.State.{Entry, pages_of, pages_in}
 use Rattle.shm_base.specs.Segments.{change, locked}
 use Rattle.shm_base.specs.Step.{locks, gives}
@@ -7,22 +7,27 @@ use Rattle.shm_segments.specs.Table.{IsFound, relocked, seen}
 use Rattle.shm_ids.proofs.Flat.{change-index}
 use Rattle.shm_segments.specs.declared.head.Head.{Head}
 use Rattle.shm_segments.specs.Joined.{whole}
-use Rattle.shm_life.proofs.Changed.{kept-relocked, lock-few, pages-seen}
+use Rattle.shm_life.proofs.Changed.{relocked-well, lock-few, pages-seen}
 use Rattle.shm_fault.specs.Store.{StoreView}
-use Rattle.shm_life.proofs.Running.{true_still, keeps_still}
+use Rattle.shm_life.proofs.machine.Machine.lock.Given.{Over}
 use Rattle.shm_life.proofs.machine.Machine.lock.Goals as goal
+use Rattle.shm_life.proofs.machine.Machine.lock.Goals.{Else-exceeds_memlock}
+
+few : (g : Over) (c : Else-exceeds_memlock g) → locked (change c.self.inside.segments.table c.in-Ok.found.seg (relocked true)) ≤ c.self.inside.limits.memlock
+few g c =
+    let t = c.self.inside.segments.table in
+    let found : IsFound t c.in-Ok.found = rw (← c.self.view_is) at c.in-Ok.ensures.found in
+    lock-few t c.in-Ok.found c.self.inside.limits.memlock found c.self.invariant.kept.locked (rw (← c.self.view_is) at (sym c.exceeds_memlock.ensures ∙ c.if-exceeds_memlock.false))
+
+pub set_locked-requires-clause-few : goal.set_locked-requires-clause-few
+set_locked-requires-clause-few g c = λ _.
+    let few = few g (goal.at.set_locked-requires-clause-few g c).Else-exceeds_memlock in
+    omega (arith, few, c.self.invariant.frames, c.self.invariant.room)
 
 pub invariant_of-self : goal.invariant_of-self
 invariant_of-self g c =
-    let t = c.self.inside.segments.table in
-    let found : IsFound t c.in-Ok.found = rw (← c.self.view_is) at c.in-Ok.ensures.found in
-    let fits : (not c.in-Ok.found.head.locked && nat_lt c.self.inside.limits.memlock (locked t + pages_of c.in-Ok.found.head.size)) ≡ false = rw (← c.self.view_is) at (sym c.exceeds_memlock.ensures ∙ c.if-exceeds_memlock.false) in
-    record {
-      kept = rw c.set_locked.ensures.table (kept-relocked c.self.inside.limits t c.self.inside.spaces.runners c.in-Ok.found.seg true c.self.invariant.kept (lock-few t c.in-Ok.found c.self.inside.limits.memlock found c.self.invariant.kept.locked fits));
-      frames = rw c.set_locked.ensures.only c.self.invariant.frames;
-      room = c.self.invariant.room;
-      translated = true_still c.self.inside.spaces.translations c.self.inside.segments.memory c.set_locked.new.self.memory c.set_locked.ensures.still c.self.invariant.translated;
-    }
+    let few = few g (goal.at.invariant_of-self g c).Else-exceeds_memlock in
+    rw c.set_locked.ensures.table (relocked-well _ _ _ _ _ _ c.in-Ok.found.seg true c.self.invariant few (ap (λ (m : StoreView). length m.frames) c.set_locked.ensures.only) c.set_locked.ensures.still)
 
 pub returns-clause-step : goal.returns-clause-step
 returns-clause-step g c =
@@ -35,14 +40,3 @@ returns-clause-step g c =
     rw (pages, fits) (ap (λ (t : List Entry). gives (record m { table = t }) Done) (change-index {T = Head} (whole []) m.table f.seg (relocked true))) in
     let signed : to_z w32 (of_z w32 c.args.id) ≡ c.args.id = search rules in
     rw signed at (c.in-Ok.ensures.ok (locks m)) ∙ act ∙ rw (← c.self.view_is, c.set_locked.ensures.table, c.set_locked.ensures.only) refl
-
-pub returns-clause-keeps : goal.returns-clause-keeps
-returns-clause-keeps g c = rw (← c.self.view_is) (keeps_still c.self.inside.segments.memory c.set_locked.new.self.memory (ap (λ (m : StoreView). m.swap) c.set_locked.ensures.only) c.set_locked.ensures.still)
-
-pub set_locked-requires-clause-few : goal.set_locked-requires-clause-few
-set_locked-requires-clause-few g c = λ _.
-    let t = c.self.inside.segments.table in
-    let found : IsFound t c.in-Ok.found = rw (← c.self.view_is) at c.in-Ok.ensures.found in
-    let fits : (not c.in-Ok.found.head.locked && nat_lt c.self.inside.limits.memlock (locked t + pages_of c.in-Ok.found.head.size)) ≡ false = rw (← c.self.view_is) at (sym c.exceeds_memlock.ensures ∙ c.if-exceeds_memlock.false) in
-    let few = lock-few t c.in-Ok.found c.self.inside.limits.memlock found c.self.invariant.kept.locked fits in
-    omega (arith, few, c.self.invariant.frames, c.self.invariant.room)

@@ -24,9 +24,3 @@ pub returns-clause-runs : goal.returns-clause-runs
 returns-clause-runs g c =
     let e = c.drop_segment.ensures in
     rw (← c.self.view_is) (runs-without c.self.inside.store c.drop_segment.new.self c.args.seg e.held e.counts.1 e.count e.still)
-
-pub returns-clause-sizes : goal.returns-clause-sizes
-returns-clause-sizes g c = rw (← c.self.view_is) c.drop_segment.ensures.sizes
-
-pub returns-clause-still : goal.returns-clause-still
-returns-clause-still g c = rw (← c.self.view_is) c.drop_segment.ensures.still

@@ -9,16 +9,7 @@ invariant_of-self g c = record { kept = rw c.flush.ensures.held c.self.invariant
 pub returns-clause-table : goal.returns-clause-table
 returns-clause-table g c = rw c.flush.ensures.held (ap (λ (v : SegmentsView). v.table) c.self.view_is)
 
-pub returns-clause-still : goal.returns-clause-still
-returns-clause-still g c = rw (← c.self.view_is) c.flush.ensures.still
-
-pub returns-clause-sizes : goal.returns-clause-sizes
-returns-clause-sizes g c = rw (← c.self.view_is) c.flush.ensures.sizes
-
 pub returns-clause-runs : goal.returns-clause-runs
 returns-clause-runs g c =
     let e = c.flush.ensures in
     rw (← c.self.view_is) (runs-same c.self.inside.store c.flush.new.self e.held e.kept e.counts e.count)
-
-pub returns-clause-flushed : goal.returns-clause-flushed
-returns-clause-flushed g c = rw (← c.self.view_is) c.flush.ensures.flushed

@@ -2,20 +2,25 @@ use Rattle.std.proofs.Common.{rules, ◌≡◌, Err, to_z, of_z, w32}
 use Rattle.shm_ids.specs.declared.table.LookRefused.TheVariants.{Removed, Invalid}
 use Rattle.shm_ids.specs.Table.{look}
 use Rattle.shm_segments.proofs.Looking.{found-under, look-removed, look-invalid}
+use Rattle.shm_base.specs.Identifier as flat
 use Rattle.shm_fault.specs.Store.{held}
+use Rattle.shm_segments.specs.Joined.{joined}
+use Rattle.shm_segments.specs.Table.{IsFound, look_of}
+use Rattle.shm_segments.proofs.segments.Segments.look.Given.{Over}
 use Rattle.shm_segments.proofs.segments.Segments.look.Goals as goal
+use Rattle.shm_segments.proofs.segments.Segments.look.Goals.{After-found_under}
+
+under : (g : Over) (c : After-found_under g) → IsFound (joined (held c.self.inside.store) c.self.inside.table) c.found_under.result × (flat.look (joined (held c.self.inside.store) c.self.inside.table) c.args.id ≡ look_of (joined (held c.self.inside.store) c.self.inside.table) c.found_under.result)
+under g c =
+    let signed : to_z w32 (of_z w32 c.args.id) ≡ c.args.id = search rules in
+    let e = c.found_under.ensures in
+    found-under (held c.self.inside.store) c.self.inside.table c.found_under.result c.args.id c.self.invariant.kept.agree c.self.invariant.kept.sizes (rw signed at e.id) (rw signed at e.seg) (rw signed at e.key) (rw signed at e.head)
 
 pub returns-in-Ok-clause-found : goal.returns-in-Ok-clause-found
-returns-in-Ok-clause-found g c =
-    let signed : to_z w32 (of_z w32 c.args.id) ≡ c.args.id = search rules in
-    let under = found-under (held c.self.inside.store) c.self.inside.table c.found_under.result c.args.id c.self.invariant.kept.agree c.self.invariant.kept.sizes (rw signed at c.found_under.ensures.id) (rw signed at c.found_under.ensures.seg) (rw signed at c.found_under.ensures.key) (rw signed at c.found_under.ensures.head) in
-    rw (← c.self.view_is) under.0
+returns-in-Ok-clause-found g c = rw (← c.self.view_is) (under g c).0
 
 pub returns-in-Ok-clause-ok : goal.returns-in-Ok-clause-ok
-returns-in-Ok-clause-ok g c =
-    let signed : to_z w32 (of_z w32 c.args.id) ≡ c.args.id = search rules in
-    let under = found-under (held c.self.inside.store) c.self.inside.table c.found_under.result c.args.id c.self.invariant.kept.agree c.self.invariant.kept.sizes (rw signed at c.found_under.ensures.id) (rw signed at c.found_under.ensures.seg) (rw signed at c.found_under.ensures.key) (rw signed at c.found_under.ensures.head) in
-    rw (← c.self.view_is) under.1
+returns-in-Ok-clause-ok g c = rw (← c.self.view_is) (under g c).1
 
 pub returns-in-Err-Removed-clause-err : goal.returns-in-Err-Removed-clause-err
 returns-in-Err-Removed-clause-err g c =

@@ -14,22 +14,10 @@ invariant_of-self g c = record { kept = rw c.move_off.ensures.held c.self.invari
 pub returns-clause-table : goal.returns-clause-table
 returns-clause-table g c = rw c.move_off.ensures.held (ap (λ (v : SegmentsView). v.table) c.self.view_is)
 
-pub returns-clause-still : goal.returns-clause-still
-returns-clause-still g c = rw (← c.self.view_is) c.move_off.ensures.still
-
-pub returns-clause-sizes : goal.returns-clause-sizes
-returns-clause-sizes g c = rw (← c.self.view_is) c.move_off.ensures.sizes
-
 pub returns-clause-runs : goal.returns-clause-runs
 returns-clause-runs g c =
     let e = c.move_off.ensures in
     rw (← c.self.view_is) (runs-same c.self.inside.store c.move_off.new.self e.held e.kept e.counts e.count)
-
-pub returns-clause-gone : goal.returns-clause-gone
-returns-clause-gone g c = rw (← c.self.view_is) c.move_off.ensures.gone
-
-pub returns-clause-cause : goal.returns-clause-cause
-returns-clause-cause g c = rw (← c.self.view_is) c.move_off.ensures.cause
 
 pub move_off-requires-clause-room : goal.move_off-requires-clause-room
 move_off-requires-clause-room g c =

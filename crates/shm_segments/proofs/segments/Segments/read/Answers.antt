@@ -25,9 +25,6 @@ returns-clause-bytes g c =
 pub returns-clause-table : goal.returns-clause-table
 returns-clause-table g c = rw c.read.ensures.held (ap (λ (v : SegmentsView). v.table) c.self.view_is)
 
-pub returns-clause-access : goal.returns-clause-access
-returns-clause-access g c = rw (← c.self.view_is) c.read.ensures.access
-
 pub returns-clause-runs : goal.returns-clause-runs
 returns-clause-runs g c =
     let e = c.read.ensures.access in

@@ -44,9 +44,3 @@ pub returns-clause-table : goal.returns-clause-table
 returns-clause-table g c =
     let k = kept-locked (held c.self.inside.store) c.self.inside.table c.self.inside.reserved c.self.inside.locked c.args.seg c.head_mut-head.result.now c.args.locked c.self.invariant.kept c.head_mut-head.ensures.value in
     rw c.set_locked.ensures.held (k.is ∙ ap (λ (v : SegmentsView). change v.table c.args.seg (relocked c.args.locked)) c.self.view_is)
-
-pub returns-clause-only : goal.returns-clause-only
-returns-clause-only g c = rw (← c.self.view_is) c.set_locked.ensures.only
-
-pub returns-clause-still : goal.returns-clause-still
-returns-clause-still g c = rw (← c.self.view_is) c.set_locked.ensures.still
