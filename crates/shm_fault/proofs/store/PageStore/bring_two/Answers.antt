@@ -8,12 +8,14 @@ use Rattle.shm_fault.proofs.store.PageStore.bring_two.Goals as goal
 use Rattle.shm_fault.proofs.store.PageStore.bring_two.Goals.{After-visit, After-visit-2}
 
 -- the visit to the first page, by the stretch that names it
-near : (g : given.Over) (c : After-visit g) (ok : Bool) → Visited c.page_at-page.result None c.args.first.now.frame c.args.self.now c.visit.new.self c.args.touched.now c.visit.new.touched ok
+near : (g : given.Over) (c : After-visit g) (ok : Bool)
+    → Visited c.page_at-page.result None c.args.first.now.frame c.args.self.now c.visit.new.self c.args.touched.now c.visit.new.touched ok
     → Visited (ref_of c.args.first.now) None (frame_by c.args.self.now (ref_of c.args.first.now)) c.args.self.now c.visit.new.self c.args.touched.now c.visit.new.touched ok
 near g c ok one = rw c.requires.frames.0 at (rw c.page_at-page.ensures.page at one)
 
 -- and to the second
-far : (g : given.Over) (c : After-visit-2 g) (ok : Bool) → Visited c.page_at-page-2.result (Some c.in_ok-near.near) c.frame_now-known.result c.visit.new.self c.visit-2.new.self c.visit.new.touched c.visit-2.new.touched ok
+far : (g : given.Over) (c : After-visit-2 g) (ok : Bool)
+    → Visited c.page_at-page-2.result (Some c.in_ok-near.near) c.frame_now-known.result c.visit.new.self c.visit-2.new.self c.visit.new.touched c.visit-2.new.touched ok
     → Brings (c.args.first.now ∷ c.args.second.now ∷ []) c.args.self.now c.visit-2.new.self c.visit-2.new.touched ok
 far g c ok other =
     let p = c.args.first.now in

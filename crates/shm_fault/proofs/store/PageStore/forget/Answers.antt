@@ -7,7 +7,8 @@ use Rattle.shm_fault.proofs.store.PageStore.forget.Given as given
 use Rattle.shm_fault.proofs.store.PageStore.forget.Goals as goal
 use Rattle.shm_fault.proofs.store.PageStore.forget.Goals.{After-set_page}
 
-done : (g : given.Over) (c : After-set_page g) → Forgets c.args.page (seen c.self.inside) (record (seen c.self.inside) { segs = c.set_page.new.self; frames = c.empty_frame.new.frames; swap = c.free_slot.new.swap })
+done : (g : given.Over) (c : After-set_page g)
+    → Forgets c.args.page (seen c.self.inside) (record (seen c.self.inside) { segs = c.set_page.new.self; frames = c.empty_frame.new.frames; swap = c.free_slot.new.swap })
 done g c =
     let i = c.self.inside in
     let e = c.free_slot.ensures in

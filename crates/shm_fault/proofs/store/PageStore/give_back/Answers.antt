@@ -15,11 +15,13 @@ place g c = rw (← c.self.view_is) at c.requires.place
 has : (g : given.Over) (c : After-self g) → HasPage c.self.inside.segs c.args.page
 has g c = has-slot c.self.inside.segs c.args.page c.args.slot (ap (λ (p : PageRec). p.slot) (place g c))
 
-kept : (g : given.Over) (c : After-set_page g) → Keeps (seen c.self.inside) (record (seen c.self.inside) { segs = c.set_page.new.self; frames = c.set_dirty.new.self; swap = c.give_slot.new.self })
+kept : (g : given.Over) (c : After-set_page g)
+    → Keeps (seen c.self.inside) (record (seen c.self.inside) { segs = c.set_page.new.self; frames = c.set_dirty.new.self; swap = c.give_slot.new.self })
 kept g c =
     let e = c.give_slot.ensures in
     rw (c.set_page.ensures, c.set_dirty.ensures)
-    (keeps-back (seen c.self.inside) c.self.invariant c.args.page c.args.frame c.args.slot c.give_slot.new.self (rw (← c.self.view_is) at c.requires.place) e.given e.sound e.steady)
+    (keeps-back (seen c.self.inside) c.self.invariant c.args.page c.args.frame c.args.slot c.give_slot.new.self
+    (rw (← c.self.view_is) at c.requires.place) e.given e.sound e.steady)
 
 pub set_dirty-requires-clause-there : goal.set_dirty-requires-clause-there
 set_dirty-requires-clause-there g c =

@@ -6,7 +6,8 @@ use Rattle.shm_fault.proofs.store.PageStore.load.Given as given
 use Rattle.shm_fault.proofs.store.PageStore.load.Goals as goal
 use Rattle.shm_fault.proofs.store.PageStore.load.Goals.{After-fill_from}
 
-step : (g : given.Over) (c : After-fill_from g) (ins : ℕ) → IsStep (seen c.self.inside) (record (seen c.self.inside) { frames = c.fill_from.new.frames; swap = c.fill_from.new.swap; ins = ins })
+step : (g : given.Over) (c : After-fill_from g) (ins : ℕ)
+    → IsStep (seen c.self.inside) (record (seen c.self.inside) { frames = c.fill_from.new.frames; swap = c.fill_from.new.swap; ins = ins })
 step g c ins =
     let e = c.fill_from.ensures in
     let bytes = (frame_at c.fill_from.new.frames c.args.frame).bytes in

@@ -23,12 +23,14 @@ count g c =
 cleaned : (g : given.Over) (c : After-self-2 g) → IsCleaned c.args.area c.loop-slot.slot c.args.self.now (seen c.self-2.inside)
 cleaned g c = rw (← c.self-2.view_is) at c.loop-slot.invariant
 
-done : (g : given.Over) (c : After-turn_off g) → IsSound (record (seen c.self-2.inside) { swap = c.turn_off.new.self }) × (held (record (seen c.self-2.inside) { swap = c.turn_off.new.self }) ≡ held c.args.self.now)
+done : (g : given.Over) (c : After-turn_off g)
+    → IsSound (record (seen c.self-2.inside) { swap = c.turn_off.new.self }) × (held (record (seen c.self-2.inside) { swap = c.turn_off.new.self }) ≡ held c.args.self.now)
 done g c =
     let o = goal.at.invariant_of-self g c in
     let all = count g o.After-unwrap_or-count in
     let e = c.turn_off.ensures in
-    cleaned-off c.args.area c.loop-slot.slot c.args.self.now (seen c.self-2.inside) (cleaned g o.After-self-2) c.requires.there (omega (arith, all, c.loop-slot-test.false)) c.turn_off.new.self e.gone e.sound e.sizes c.requires.room
+    cleaned-off c.args.area c.loop-slot.slot c.args.self.now (seen c.self-2.inside) (cleaned g o.After-self-2) c.requires.there (omega (arith, all, c.loop-slot-test.false))
+    c.turn_off.new.self e.gone e.sound e.sizes c.requires.room
 
 -- a write that failed moved no page's frame
 still-err : (g : given.Over) (c : In-Err g) → Still c.args.self.now c.clear_slot.new.self

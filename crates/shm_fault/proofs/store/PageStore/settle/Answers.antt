@@ -4,13 +4,15 @@ use Rattle.shm_fault.proofs.store.PageStore.settle.Given as given
 use Rattle.shm_fault.proofs.store.PageStore.settle.Goals as goal
 use Rattle.shm_fault.proofs.store.PageStore.settle.Goals.{After-set_page}
 
-done : (g : given.Over) (c : After-set_page g) → Settles c.args.page c.args.frame (seen c.self.inside) (record (seen c.self.inside) { segs = c.set_page.new.self; frames = c.set_referenced.new.self })
+done : (g : given.Over) (c : After-set_page g)
+    → Settles c.args.page c.args.frame (seen c.self.inside) (record (seen c.self.inside) { segs = c.set_page.new.self; frames = c.set_referenced.new.self })
 done g c =
     let i = c.self.inside in
     let there = rw (← c.self.view_is) at c.requires.there in
     let bytes = rw (← c.self.view_is) at c.requires.bytes in
     rw (settled i.frames c.args.frame there c.args.page c.fill.ensures c.set_referenced.ensures, c.set_page.ensures, c.page-place.ensures)
-    (settles (seen i) c.self.invariant c.args.page c.args.frame (rw (← c.self.view_is) at c.requires.has) there (rw (← c.self.view_is) at c.requires.free) (rw (← c.self.view_is) at c.requires.away) bytes)
+    (settles (seen i) c.self.invariant c.args.page c.args.frame (rw (← c.self.view_is) at c.requires.has) there
+    (rw (← c.self.view_is) at c.requires.free) (rw (← c.self.view_is) at c.requires.away) bytes)
 
 pub invariant_of-self : goal.invariant_of-self
 invariant_of-self g c = (done g c).sound

@@ -10,7 +10,8 @@ use Rattle.shm_fault.proofs.store.PageStore.slot_for.Given as given
 use Rattle.shm_fault.proofs.store.PageStore.slot_for.Goals as goal
 use Rattle.shm_fault.proofs.store.PageStore.slot_for.Goals.{After-set_page}
 
-done : (g : given.Over) (c : After-set_page g) → Takes c.args.frame c.in-Some-take_slot.slot (seen c.self.inside) (record (seen c.self.inside) { segs = c.set_page.new.self; swap = c.take_slot.new.self })
+done : (g : given.Over) (c : After-set_page g)
+    → Takes c.args.frame c.in-Some-take_slot.slot (seen c.self.inside) (record (seen c.self.inside) { segs = c.set_page.new.self; swap = c.take_slot.new.self })
 done g c =
     let i = c.self.inside in
     let page = c.in-Some.page in
@@ -20,7 +21,8 @@ done g c =
     let u : c.take_slot.new.self ≡ with_slot_owner i.swap slot (Some page) = c.in-Some-take_slot.ensures.taken in
     let e = c.take_slot.ensures in
     rw (c.set_page.ensures, u, c.page-place.ensures)
-    (takes (seen i) c.self.invariant page c.args.frame slot (sym c.owner.ensures ∙ c.in-Some.is) (rw (← c.self.view_is) at c.requires.dirty) none first.there first.free (rw u at e.sound) (rw u at e.steady.same_sizes) (rw u at e.steady.goes_on))
+    (takes (seen i) c.self.invariant page c.args.frame slot (sym c.owner.ensures ∙ c.in-Some.is) (rw (← c.self.view_is) at c.requires.dirty) none
+    first.there first.free (rw u at e.sound) (rw u at e.steady.same_sizes) (rw u at e.steady.goes_on))
 
 pub unreachable-requires-in_default-take_slot : goal.unreachable-requires-in_default-take_slot
 unreachable-requires-in_default-take_slot g c =

@@ -19,7 +19,8 @@ pasted_in g c =
     let x = frame_at c.self.inside.frames c.args.frame in
     record x { bytes = paste x.bytes (c.args.span.now.at % 4096) c.args.bytes.now }
 
-done : (g : given.Over) (c : After-set_dirty g) → Puts c.args.span.now c.args.bytes.now (seen c.self.inside) (record (seen c.self.inside) { frames = c.set_dirty.new.self })
+done : (g : given.Over) (c : After-set_dirty g)
+    → Puts c.args.span.now c.args.bytes.now (seen c.self.inside) (record (seen c.self.inside) { frames = c.set_dirty.new.self })
 done g c =
     let o = (goal.at.invariant_of-self g c).After-self in
     let s = seen c.self.inside in

@@ -21,7 +21,8 @@ use Rattle.shm_fault.proofs.store.PageStore.write_back.Goals.{After-self, After-
 abbrev written : StoreView → ℕ → Slot → SwapView
 written s f k = with_slot_page s.swap k (frame_at s.frames f).bytes
 
-module _ (s : StoreView) (sound : IsSound s) (f : ℕ) (k : Slot) (some : IsSome (frame_at s.frames f).owner) (slot : (r : PageRef) → (frame_at s.frames f).owner ≡ Some r → (rec_by s.segs r).slot ≡ Some k) where
+module _ (s : StoreView) (sound : IsSound s) (f : ℕ) (k : Slot) (some : IsSome (frame_at s.frames f).owner)
+    (slot : (r : PageRef) → (frame_at s.frames f).owner ≡ Some r → (rec_by s.segs r).slot ≡ Some k) where
   owner : Own (frame_at s.frames f).owner
   owner = own (frame_at s.frames f).owner some
 
@@ -49,13 +50,15 @@ module _ (s : StoreView) (sound : IsSound s) (f : ℕ) (k : Slot) (some : IsSome
 there : (g : given.Over) (c : After-self g) → HasSlot c.self.inside.swap c.args.slot.area c.args.slot.slot
 there g c = has (seen c.self.inside) c.self.invariant c.args.frame c.args.slot (rw (← c.self.view_is) at c.requires.owned) (rw (← c.self.view_is) at c.requires.slot)
 
-wrote : (g : given.Over) (c : After-saturating_add-self-inside g) → Keeps (seen c.self.inside) (record (seen c.self.inside) { frames = c.set_dirty.new.self; swap = c.write_slot.new.self; outs = c.saturating_add-self-inside.result })
+wrote : (g : given.Over) (c : After-saturating_add-self-inside g)
+    → Keeps (seen c.self.inside) (record (seen c.self.inside) { frames = c.set_dirty.new.self; swap = c.write_slot.new.self; outs = c.saturating_add-self-inside.result })
 wrote g c =
     let s = seen c.self.inside in
     let e = c.write_slot.ensures in
     let u : c.write_slot.new.self ≡ written s c.args.frame c.args.slot = rw c.bytes.ensures.value at c.in-Ok.ensures.ok in
     rw (c.set_dirty.ensures, u)
-    (done s c.self.invariant c.args.frame c.args.slot (rw (← c.self.view_is) at c.requires.owned) (rw (← c.self.view_is) at c.requires.slot) c.saturating_add-self-inside.result (rw u at e.sound) (rw u at e.sizes) (rw u at e.goes_on))
+    (done s c.self.invariant c.args.frame c.args.slot (rw (← c.self.view_is) at c.requires.owned) (rw (← c.self.view_is) at c.requires.slot)
+    c.saturating_add-self-inside.result (rw u at e.sound) (rw u at e.sizes) (rw u at e.goes_on))
 
 unwritten : (g : given.Over) (c : In-Err g) → Keeps (seen c.self.inside) (record (seen c.self.inside) { swap = c.write_slot.new.self })
 unwritten g c =

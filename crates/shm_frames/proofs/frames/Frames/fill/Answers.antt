@@ -1,4 +1,4 @@
-use Rattle.std.proofs.Common.{arith, refl, ap, sym, ◌∙◌, ◌≡◌, ◌<◌, length, length-set, None, Some, ◌+◌}
+use Rattle.std.proofs.Common.{arith, refl, ap, sym, ◌∙◌, ◌≡◌, ◌<◌, ◌≤◌, length, length-set, None, Some, ◌+◌}
 use Rattle.shm_frames.specs.Table.{entry_at}
 use Rattle.shm_frames.proofs.Shown.{shown, length-shown, edit-shown, entry-is, entry-read}
 use Rattle.shm_frames.proofs.Counts.{kept-fill, owned-more}
@@ -34,7 +34,8 @@ invariant_of-self c =
     let e = o.After-index_mut-entry in
     let same = c.self.invariant.0 ∙ sym (length-set c.self.inside.table.items c.args.frame _) in
     let first = c.if-frame-self.true in
-    (same, kept-fill c.self.invariant.1 (there o.After-self) (at e) c.args.owner (c.self.inside.first_free + 1) (free e) (omega (arith, there o.After-self, first)) (λ j lt n. c.self.invariant.1.used j (omega (arith, first))))
+    let bound : c.self.inside.first_free + 1 ≤ length c.self.inside.table.items = omega (arith, there o.After-self, first) in
+    (same, kept-fill c.self.invariant.1 (there o.After-self) (at e) c.args.owner (c.self.inside.first_free + 1) (free e) bound (λ j lt n. c.self.invariant.1.used j (omega (arith, first))))
 
 pub invariant_of-self-else-frame-self : goal.invariant_of-self-else-frame-self
 invariant_of-self-else-frame-self c =

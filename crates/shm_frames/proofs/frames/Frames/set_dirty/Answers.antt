@@ -24,7 +24,8 @@ pub overflow_add-self : goal.overflow_add-self
 overflow_add-self c =
     let o = goal.at.overflow_add-self c in
     let was = c.index_mut-entry.result.now in
-    let m : c.self.inside.dirty - from_bool was.dirty + from_bool c.args.dirty ≤ length c.self.inside.table.items = changed-more c.self.invariant.1 (there o.After-self) (at o.After-index_mut-entry) c.args.dirty in
+    let m : c.self.inside.dirty - from_bool was.dirty + from_bool c.args.dirty ≤ length c.self.inside.table.items =
+    changed-more c.self.invariant.1 (there o.After-self) (at o.After-index_mut-entry) c.args.dirty in
     rw (c.from.ensures, c.from-2.ensures) (omega (arith, m, c.self.invariant.1.few))
 
 pub invariant_of-self : goal.invariant_of-self
