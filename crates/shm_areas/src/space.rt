@@ -193,21 +193,4 @@ impl Space {
         self.pieces
             .retain(|p| !(p.has_origin(addr) && p.seg == seg));
     }
-
-    /// Takes all pieces out.
-    pub fn clear(&mut self)
-        ensures { self.new ≡ [] }
-    {
-        self.pieces.clear();
-    }
-
-    /// Puts a piece behind all others.
-    pub fn push(&mut self, piece: Piece)
-        requires room { length self.old < 256 }
-        requires behind { Arranged flat.lowest_address (bare_all (self.old ++ piece ∷ [])) }
-        ensures { self.new ≡ self.old ++ piece ∷ [] }
-    {
-        let pushed = self.pieces.push(piece);
-        prove!(pushed.is_ok());
-    }
 }

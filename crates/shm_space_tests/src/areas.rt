@@ -63,8 +63,6 @@ fn pieces_are_put_side_by_side(rt: HostRuntime) -> Result<(), HostMemory> {
     assert!(rt; space.choose(1) == Some(0x40100000));
     assert!(rt; !put(&mut space, 0x40100000, 0, 1));
     assert!(rt; space.pieces().len() == 256);
-    space.clear();
-    assert!(rt; space.choose(4096) == Some(0x40000000));
     Ok(())
 }
 
@@ -101,11 +99,11 @@ fn a_cut_leaves_two_parts(rt: HostRuntime) -> Result<(), HostMemory> {
     assert!(rt; space.place(0x40002001).is_some_and(|p| p.at == 8193));
     assert!(rt; space.origin_of(0x40000000) == Some(below));
     assert!(rt; space.origin_of(0x40002000).is_none());
-    space.take_at(0x40000000, 7);
-    assert!(rt; space.pieces().is_empty());
-    space.clear();
-    space.push(above);
+    assert!(rt; space.count_outside(0x40000000, 0x40001000) == 1);
+    space.cut(0x40000000, 0x40001000);
     assert!(rt; space.pieces() == [above].as_slice());
     assert!(rt; space.origin_of(0x40000000) == Some(above));
+    space.take_at(0x40000000, 7);
+    assert!(rt; space.pieces().is_empty());
     Ok(())
 }
