@@ -16,7 +16,7 @@ use Rattle.shm_attach.specs.declared.process.Life.{Life}
 use Rattle.shm_attach.specs.declared.process.Life.TheVariants.{Unborn, Live, Ended}
 use Rattle.shm_attach.specs.declared.process.Runner.{Runner}
 use Rattle.shm_attach.specs.Views.{life_view, runner_view, runners_view, with_own, with_pieces_at, with_other_life, with_life_at}
-use Rattle.shm_attach.specs.Spaces.{pieces_at, life_at, life_in, seen, IsCaller}
+use Rattle.shm_attach.specs.Spaces.{pieces_at, life_at, life_in, caller_seen, IsCaller}
 use Rattle.shm_attach.proofs.Keeping.{life_at-get_or}
 
 -- what a list answers past its end
@@ -157,9 +157,9 @@ live_is i pid ps (flat.Live cred) k said =
 -- the process of a caller
 pub caller_there : (c : Caller) (rs : List flat.Runner) → IsCaller c rs → slice_get rs c.index ≡ Some (record { pid = c.pid; life = flat.Live c.cred; pieces = pieces_at rs c.index })
 caller_there c rs is =
-    let t = first-there (as_caller c.pid) 0 c.pid rs (seen c rs) (sym (caller_from-first 0 c.pid rs) ∙ is) in
+    let t = first-there (as_caller c.pid) 0 c.pid rs (caller_seen c rs) (sym (caller_from-first 0 c.pid rs) ∙ is) in
     let r = get_or rs t.place first_runner in
-    let l = live_is (0 + t.place) c.pid r.pieces r.life (seen c rs) t.said in
+    let l = live_is (0 + t.place) c.pid r.pieces r.life (caller_seen c rs) t.said in
     let place : t.place ≡ c.index = omega (arith, l.at) in
     let own : r ≡ record { pid = c.pid; life = flat.Live c.cred; pieces = pieces_at rs c.index } =
     ap (λ pid. record { pid = pid; life = r.life; pieces = r.pieces }) t.named
@@ -168,12 +168,12 @@ caller_there c rs is =
     rw place at (slice_get-get_or rs t.place first_runner t.within ∙ ap (λ (x : flat.Runner). Some x) own)
 
 -- its pieces are changed as the flat machine changes them
-pub with_pieces-at : (c : Caller) (rs : List flat.Runner) (f : List flat.Piece → List flat.Piece) → IsCaller c rs → with_pieces rs (seen c rs) (f (pieces_at rs c.index)) ≡ with_pieces_at rs c.index f
+pub with_pieces-at : (c : Caller) (rs : List flat.Runner) (f : List flat.Piece → List flat.Piece) → IsCaller c rs → with_pieces rs (caller_seen c rs) (f (pieces_at rs c.index)) ≡ with_pieces_at rs c.index f
 with_pieces-at c rs f is = sym (ap (with_own rs c.index f) (caller_there c rs is))
 
 -- the same, for the processes that are shown
 pub with_pieces-of : (c : Caller) (rs shown : List flat.Runner) (f : List flat.Piece → List flat.Piece) → rs ≡ shown → IsCaller c shown
-    → with_pieces_at rs c.index f ≡ with_pieces shown (seen c shown) (f (pieces_at shown c.index))
+    → with_pieces_at rs c.index f ≡ with_pieces shown (caller_seen c shown) (f (pieces_at shown c.index))
 with_pieces-of c rs shown f same is = ap (λ (xs : List flat.Runner). with_pieces_at xs c.index f) same ∙ sym (with_pieces-at c shown f is)
 
 pub not_live : (i pid : ℕ) (ps : List flat.Piece) (l : Life) → ((cred : Cred) → l ≡ Live cred → ⊥) → caller_by i pid ps (life_view l) ≡ None
@@ -185,7 +185,7 @@ pub caller_within : (c : Caller) (es : List (ℕ × Runner)) → IsCaller c (run
 caller_within c es is = let within = slice_get_within (runners_view es) c.index _ (caller_there c (runners_view es) is) in omega (arith, within, length-map es runner_view)
 
 -- the caller ended, once its pieces are gone
-pub with_end-at : (c : Caller) (rs : List flat.Runner) → IsCaller c rs → with_life_at (with_pieces rs (seen c rs) []) c.index flat.Ended ≡ with_end rs (seen c rs)
+pub with_end-at : (c : Caller) (rs : List flat.Runner) → IsCaller c rs → with_life_at (with_pieces rs (caller_seen c rs) []) c.index flat.Ended ≡ with_end rs (caller_seen c rs)
 with_end-at c rs is =
     let lt : c.index < length rs = slice_get_within rs c.index _ (caller_there c rs is) in
     let live : flat.Runner = record { pid = c.pid; life = flat.Live c.cred; pieces = [] } in
@@ -194,7 +194,7 @@ with_end-at c rs is =
     ap (with_other_life (set rs c.index live) c.index flat.Ended) there ∙ set-set rs c.index live (record { pid = c.pid; life = flat.Ended; pieces = [] })
 
 -- its place stays that of a process
-pub length-with_pieces : (c : Caller) (rs : List flat.Runner) (ps : List flat.Piece) → length (with_pieces rs (seen c rs) ps) ≡ length rs
+pub length-with_pieces : (c : Caller) (rs : List flat.Runner) (ps : List flat.Piece) → length (with_pieces rs (caller_seen c rs) ps) ≡ length rs
 length-with_pieces c rs ps = length-set rs c.index (record { pid = c.pid; life = flat.Live c.cred; pieces = ps })
 
 -- it was born

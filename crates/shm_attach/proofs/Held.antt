@@ -19,7 +19,7 @@ use Rattle.shm_attach.specs.Views.{runner_view, runners_view}
 use Rattle.shm_attach.specs.Spaces.{pieces_at}
 use Rattle.shm_attach.specs.Entries.{Entry, seg_in, size_in, frame_in, TrueSlot}
 use Rattle.shm_attach.specs.Tables.{counted, stored_in, stored_at, IsHeld, AllHeld}
-use Rattle.shm_attach.specs.Exact.{IsExact}
+use Rattle.shm_attach.specs.Exact.{AreCountsExact}
 use Rattle.shm_attach.proofs.Processes.{held, values_of}
 use Rattle.shm_attach.proofs.Keeping.{own_counted, pieces_of-there, bare-get_or}
 
@@ -148,7 +148,7 @@ module _ (t : Slab Entry) where
 -- ALL PIECES
 
 -- a piece is counted
-counts-piece : (extra : ℕ → ℕ) (es : List (ℕ × Runner)) (u : Tables) → IsExact extra (runners_view es) u → (i k : ℕ) (d : Piece) → k < length (stored_at es i)
+counts-piece : (extra : ℕ → ℕ) (es : List (ℕ × Runner)) (u : Tables) → AreCountsExact extra (runners_view es) u → (i k : ℕ) (d : Piece) → k < length (stored_at es i)
     → 0 < counted u (get_or (stored_at es i) k d).seg
 counts-piece extra es u exact i k d lt =
     let ps = stored_at es i in
@@ -163,7 +163,7 @@ counts-piece extra es u exact i k d lt =
     omega (arith, here, all)
 
 -- the tables that are left are those of the pieces that are there
-pub held-all : (extra : ℕ → ℕ) (es : List (ℕ × Runner)) (t : Slab Entry) (u : Tables) → IsExact extra (runners_view es) u → AllHeld es t
+pub held-all : (extra : ℕ → ℕ) (es : List (ℕ × Runner)) (t : Slab Entry) (u : Tables) → AreCountsExact extra (runners_view es) u → AllHeld es t
     → ((p : Piece) → IsHeld t p → 0 < counted u p.seg → IsHeld u.slab p) → AllHeld es u.slab
 held-all extra es t u exact all step i k d lt = step (get_or (stored_at es i) k d) (all i k d lt) (counts-piece extra es u exact i k d lt)
 

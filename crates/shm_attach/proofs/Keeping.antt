@@ -15,7 +15,7 @@ use Rattle.shm_attach.specs.declared.tables.Tables.{Tables}
 use Rattle.shm_attach.specs.Tables.{counted}
 use Rattle.shm_attach.specs.Views.{one_if, with_own, with_pieces_at, with_other_life, with_life_at}
 use Rattle.shm_attach.specs.Spaces.{pieces_at, life_at}
-use Rattle.shm_attach.specs.Exact.{IsExact}
+use Rattle.shm_attach.specs.Exact.{AreCountsExact}
 use Rattle.shm_attach.specs.Place.{IsPlaceFor}
 use Rattle.shm_attach.proofs.Processes.{nobody, attach_count-changed, one_more}
 
@@ -115,10 +115,10 @@ attach_count-more rs j id r lt none =
     omega (arith, moved, empty)
 
 -- one process is replaced by another, and the counts follow
-pub IsExact-set : (extra : ℕ → ℕ) (rs : List Runner) (i : ℕ) (r : Runner) (c d : Tables) → IsExact extra rs c → i < length rs → length r.pieces ≤ 256
+pub IsExact-set : (extra : ℕ → ℕ) (rs : List Runner) (i : ℕ) (r : Runner) (c d : Tables) → AreCountsExact extra rs c → i < length rs → length r.pieces ≤ 256
     → Arranged lowest_address r.pieces → (r.life ≡ Unborn → r.pieces ≡ [])
     → ((id : ℕ) → counted d id + pieces_of id (pieces_at rs i) ≡ counted c id + pieces_of id r.pieces)
-    → IsExact extra (set rs i r) d
+    → AreCountsExact extra (set rs i r) d
 IsExact-set extra rs i r c d exact lt few order asleep counts =
     record {
       counts = λ id.
@@ -143,10 +143,10 @@ IsExact-set extra rs i r c d exact lt few order asleep counts =
         rw (same, pieces_at-set rs i r lt) (asleep (sym (life_at-set rs i r lt) ∙ ap (life_at (set rs i r)) (sym same) ∙ none))
     empty j none (inr other) = rw (pieces_at-set_other rs i j r other) (exact.unborn j (sym (life_at-set_other rs i j r other) ∙ none))
 
-pub IsExact-changed : (extra : ℕ → ℕ) (rs : List Runner) (i : ℕ) (f : List Piece → List Piece) (c d : Tables) → IsExact extra rs c → i < length rs → length (f (pieces_at rs i)) ≤ 256
+pub IsExact-changed : (extra : ℕ → ℕ) (rs : List Runner) (i : ℕ) (f : List Piece → List Piece) (c d : Tables) → AreCountsExact extra rs c → i < length rs → length (f (pieces_at rs i)) ≤ 256
     → Arranged lowest_address (f (pieces_at rs i)) → (life_at rs i ≡ Unborn → f (pieces_at rs i) ≡ [])
     → ((id : ℕ) → counted d id + pieces_of id (pieces_at rs i) ≡ counted c id + pieces_of id (f (pieces_at rs i)))
-    → IsExact extra (with_pieces_at rs i f) d
+    → AreCountsExact extra (with_pieces_at rs i f) d
 IsExact-changed extra rs i f c d exact lt few order asleep counts =
     let r = get_or rs i nobody in
     let same : f (pieces_at rs i) ≡ f r.pieces = ap f (pieces_at-get_or rs i) in
@@ -154,7 +154,7 @@ IsExact-changed extra rs i f c d exact lt few order asleep counts =
     (IsExact-set extra rs i (record r { pieces = f r.pieces }) c d exact lt (rw same at few) (rw same at order)
     (λ none. sym same ∙ asleep (life_at-get_or rs i ∙ none)) (λ id. rw same at (counts id)))
 
-pub IsExact-life : (extra : ℕ → ℕ) (rs : List Runner) (i : ℕ) (l : Life) (c : Tables) → IsExact extra rs c → i < length rs → l ≢ Unborn → IsExact extra (with_life_at rs i l) c
+pub IsExact-life : (extra : ℕ → ℕ) (rs : List Runner) (i : ℕ) (l : Life) (c : Tables) → AreCountsExact extra rs c → i < length rs → l ≢ Unborn → AreCountsExact extra (with_life_at rs i l) c
 IsExact-life extra rs i l c exact lt awake =
     let r = get_or rs i nobody in
     let same : pieces_at rs i ≡ r.pieces = pieces_at-get_or rs i in
@@ -172,10 +172,10 @@ attach_count-few id (r ∷ rs) few =
     let all = sum_by-cons (λ (x : Runner). pieces_of id x.pieces) r rs in
     omega (arith, first, own, rest, all)
 
-pub small_counts : (extra : ℕ → ℕ) (rs : List Runner) (c : Tables) → IsExact extra rs c → (id : ℕ) → counted c id ≤ 16384 + extra id
+pub small_counts : (extra : ℕ → ℕ) (rs : List Runner) (c : Tables) → AreCountsExact extra rs c → (id : ℕ) → counted c id ≤ 16384 + extra id
 small_counts extra rs c exact id = omega (arith, exact.counts id, attach_count-few id rs exact.pieces, exact.processes)
 
-pub own_counted : (extra : ℕ → ℕ) (rs : List Runner) (c : Tables) (i : ℕ) → IsExact extra rs c → i < length rs → (id : ℕ) → pieces_of id (pieces_at rs i) ≤ counted c id
+pub own_counted : (extra : ℕ → ℕ) (rs : List Runner) (c : Tables) (i : ℕ) → AreCountsExact extra rs c → i < length rs → (id : ℕ) → pieces_of id (pieces_at rs i) ≤ counted c id
 own_counted extra rs c i exact lt id = omega (arith, exact.counts id, attach_count-changed id i (λ ps. []) rs lt)
 
 -- WHAT IS FREE AFTER A CUT

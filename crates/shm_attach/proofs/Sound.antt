@@ -16,7 +16,7 @@ use Rattle.shm_attach.specs.Spaces.{pieces_at, life_at}
 use Rattle.shm_attach.specs.Tables.{counted, stored_at, IsHeld, IsTied, AllHeld}
 use Rattle.shm_attach.specs.Place.{IsPlaceFor}
 use Rattle.shm_attach.specs.Part.{IsCuttable}
-use Rattle.shm_attach.specs.Exact.{IsExact, IsSound, HasHolds, no_holds}
+use Rattle.shm_attach.specs.Exact.{AreCountsExact, AreTablesSound, HasHolds, no_holds}
 use Rattle.shm_attach.proofs.Processes.{values_of, runners_set, length_set, length-inserted, shorter_filter}
 use Rattle.shm_attach.proofs.Keeping.{IsExact-changed, IsExact-life, arranged-without, small_counts, own_counted}
 use Rattle.shm_attach.proofs.Held.{stored_at-set, stored_at-other, held-changed, held-all}
@@ -53,7 +53,7 @@ pub record AreFit (rs : List flat.Runner) (i : ℕ) (ps : List flat.Piece) : Typ
   pub unborn : life_at rs i ≡ Unborn → ps ≡ []
 
 -- one more piece, where there is a place for it
-pub fit-inserted : (extra : ℕ → ℕ) (es : List (ℕ × Runner)) (t : Tables) (i : ℕ) (p : flat.Piece) → IsSound extra es t → IsPlaceFor p (pieces_at (runners_view es) i)
+pub fit-inserted : (extra : ℕ → ℕ) (es : List (ℕ × Runner)) (t : Tables) (i : ℕ) (p : flat.Piece) → AreTablesSound extra es t → IsPlaceFor p (pieces_at (runners_view es) i)
     → life_at (runners_view es) i ≢ Unborn → AreFit (runners_view es) i (inserted p (pieces_at (runners_view es) i))
 fit-inserted extra es t i p sound place born =
     let ps = pieces_at (runners_view es) i in
@@ -64,7 +64,7 @@ fit-inserted extra es t i p sound place born =
     }
 
 -- a range of whole pages is cut out
-pub fit-cut : (extra : ℕ → ℕ) (es : List (ℕ × Runner)) (t : Tables) (i from to : ℕ) → IsSound extra es t → IsCuttable from to (pieces_at (runners_view es) i)
+pub fit-cut : (extra : ℕ → ℕ) (es : List (ℕ × Runner)) (t : Tables) (i from to : ℕ) → AreTablesSound extra es t → IsCuttable from to (pieces_at (runners_view es) i)
     → AreFit (runners_view es) i (cut from to (pieces_at (runners_view es) i))
 fit-cut extra es t i from to sound can =
     let ps = pieces_at (runners_view es) i in
@@ -76,7 +76,7 @@ fit-cut extra es t i from to sound can =
     }
 
 -- the pieces of an attach go
-pub fit-without : (extra : ℕ → ℕ) (es : List (ℕ × Runner)) (t : Tables) (i addr seg : ℕ) → IsSound extra es t
+pub fit-without : (extra : ℕ → ℕ) (es : List (ℕ × Runner)) (t : Tables) (i addr seg : ℕ) → AreTablesSound extra es t
     → AreFit (runners_view es) i (without_named addr seg (pieces_at (runners_view es) i))
 fit-without extra es t i addr seg sound =
     let ps = pieces_at (runners_view es) i in
@@ -88,19 +88,19 @@ fit-without extra es t i addr seg sound =
     }
 
 pub sound-changed : (extra : ℕ → ℕ) (es fs : List (ℕ × Runner)) (t u : Tables) (i : ℕ) (f : List flat.Piece → List flat.Piece) (own : List Piece) → i < length es
-    → IsSound extra es t → IsChanged es fs i f own → AreFit (runners_view es) i (f (pieces_at (runners_view es) i)) → All (IsHeld t.slab) own
-    → IsRecounted t u (pieces_at (runners_view es) i) (f (pieces_at (runners_view es) i)) → IsSound extra fs u
+    → AreTablesSound extra es t → IsChanged es fs i f own → AreFit (runners_view es) i (f (pieces_at (runners_view es) i)) → All (IsHeld t.slab) own
+    → IsRecounted t u (pieces_at (runners_view es) i) (f (pieces_at (runners_view es) i)) → AreTablesSound extra fs u
 sound-changed extra es fs t u i f own lt sound ch fit table re =
     let rs = runners_view es in
     let within : i < length rs = omega (arith, lt, length-map es runner_view) in
-    let exact : IsExact extra (runners_view fs) u =
+    let exact : AreCountsExact extra (runners_view fs) u =
     rw ch.runners (IsExact-changed extra rs i f t u sound.exact within fit.few fit.order fit.unborn re.counts) in
     let here : All (IsHeld t.slab) (stored_at fs i) = rw ch.own table in
     let left : AllHeld fs t.slab = held-changed es fs t.slab i sound.held here ch.others in
     record { exact = exact; tied = re.tied; held = held-all extra fs t.slab u exact left re.held }
 
-pub sound-life : (es fs : List (ℕ × Runner)) (t : Tables) (i : ℕ) (l : flat.Life) → i < length es → l ≢ Unborn → IsSound no_holds es t
-    → runners_view fs ≡ with_life_at (runners_view es) i l → ((j : ℕ) → stored_at fs j ≡ stored_at es j) → IsSound no_holds fs t
+pub sound-life : (es fs : List (ℕ × Runner)) (t : Tables) (i : ℕ) (l : flat.Life) → i < length es → l ≢ Unborn → AreTablesSound no_holds es t
+    → runners_view fs ≡ with_life_at (runners_view es) i l → ((j : ℕ) → stored_at fs j ≡ stored_at es j) → AreTablesSound no_holds fs t
 sound-life es fs t i l lt awake sound life same =
     let within : i < length (runners_view es) = omega (arith, lt, length-map es runner_view) in
     record {
@@ -112,10 +112,10 @@ sound-life es fs t i l lt awake sound life same =
 -- WHAT HOLDS A SEGMENT
 
 -- other segments are held beside the pieces
-pub sound-holds : (e f : ℕ → ℕ) (es : List (ℕ × Runner)) (t u : Tables) → IsSound e es t → ((id : ℕ) → counted u id + e id ≡ counted t id + f id) → IsTied u
-    → ((p : Piece) → IsHeld t.slab p → 0 < counted u p.seg → IsHeld u.slab p) → IsSound f es u
+pub sound-holds : (e f : ℕ → ℕ) (es : List (ℕ × Runner)) (t u : Tables) → AreTablesSound e es t → ((id : ℕ) → counted u id + e id ≡ counted t id + f id) → IsTied u
+    → ((p : Piece) → IsHeld t.slab p → 0 < counted u p.seg → IsHeld u.slab p) → AreTablesSound f es u
 sound-holds e f es t u sound counts tied step =
-    let exact : IsExact f (runners_view es) u =
+    let exact : AreCountsExact f (runners_view es) u =
     record {
       counts = λ id. omega (arith, counts id, sound.exact.counts id);
       processes = sound.exact.processes;
@@ -125,7 +125,7 @@ sound-holds e f es t u sound counts tied step =
     } in
     record { exact = exact; tied = tied; held = held-all f es t.slab u exact sound.held step }
 
-pub none_held : (es : List (ℕ × Runner)) (t : Tables) → IsSound no_holds es t → HasHolds es t
+pub none_held : (es : List (ℕ × Runner)) (t : Tables) → AreTablesSound no_holds es t → HasHolds es t
 none_held es t sound = record { extra = no_holds; few = λ id. omega arith; sound = sound }
 
 -- THE COUNTS

@@ -12,7 +12,7 @@ use Rattle.shm_attach.specs.declared.tables.Tables.{Tables}
 use Rattle.shm_attach.specs.declared.process.Runner.{Runner}
 use Rattle.shm_attach.specs.Views.{runner_view, runners_view}
 use Rattle.shm_attach.specs.Spaces.{pieces_at}
-use Rattle.shm_attach.specs.Exact.{IsExact, no_holds}
+use Rattle.shm_attach.specs.Exact.{AreCountsExact, no_holds}
 use Rattle.slab.specs.Slab.{Slab}
 use Rattle.shm_areas.specs.Arranged.{bare, bare_all}
 use Rattle.shm_attach.specs.Entries.{Entry}
@@ -66,7 +66,7 @@ pieces_at-start [] i = refl
 pieces_at-start (p ∷ ps) zero = refl
 pieces_at-start (p ∷ ps) (suc i) = pieces_at-start ps i
 
-pub IsExact-start : (ps : List Process) (c : Tables) → length ps ≤ 64 → ((id : ℕ) → counted c id ≡ 0) → IsExact no_holds (map runner_at_start ps) c
+pub IsExact-start : (ps : List Process) (c : Tables) → length ps ≤ 64 → ((id : ℕ) → counted c id ≡ 0) → AreCountsExact no_holds (map runner_at_start ps) c
 IsExact-start ps c few none =
     record {
       counts = λ id. omega (arith, none id, attach_count-start id ps);

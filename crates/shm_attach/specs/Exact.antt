@@ -12,7 +12,7 @@ use Rattle.shm_attach.specs.Spaces.{pieces_at, life_at}
 
 -- each count is that of the pieces and of what holds a segment beside them; the pieces are few and in order in each
 -- process; a process that is not born has none
-pub record IsExact (extra : ℕ → ℕ) (rs : List flat.Runner) (t : Tables) : Type 0 where
+pub record AreCountsExact (extra : ℕ → ℕ) (rs : List flat.Runner) (t : Tables) : Type 0 where
   pub counts : (id : ℕ) → counted t id ≡ attach_count rs id + extra id
   pub processes : length rs ≤ 64
   pub pieces : (i : ℕ) → length (pieces_at rs i) ≤ 256
@@ -20,8 +20,8 @@ pub record IsExact (extra : ℕ → ℕ) (rs : List flat.Runner) (t : Tables) : 
   pub arranged : (i : ℕ) → Arranged lowest_address (pieces_at rs i)
 
 -- the counts are exact, and each piece has its segment's table
-pub record IsSound (extra : ℕ → ℕ) (es : List (ℕ × Runner)) (t : Tables) : Type 0 where
-  pub exact : IsExact extra (runners_view es) t
+pub record AreTablesSound (extra : ℕ → ℕ) (es : List (ℕ × Runner)) (t : Tables) : Type 0 where
+  pub exact : AreCountsExact extra (runners_view es) t
   pub tied : IsTied t
   pub held : AllHeld es t.slab
 
@@ -32,4 +32,4 @@ no_holds id = 0
 pub record HasHolds (es : List (ℕ × Runner)) (t : Tables) : Type 0 where
   pub extra : ℕ → ℕ
   pub few : (id : ℕ) → extra id ≤ 1
-  pub sound : IsSound extra es t
+  pub sound : AreTablesSound extra es t

@@ -36,9 +36,9 @@ abbrev pub life_at : List Runner → ℕ → Life
 life_at rs i = life_in (slice_get rs i)
 
 -- a caller as the flat machine has it, among these processes
-abbrev pub seen : Caller → List Runner → FlatCaller
-seen c rs = record { index = c.index; pid = c.pid; cred = c.cred; pieces = pieces_at rs c.index }
+abbrev pub caller_seen : Caller → List Runner → FlatCaller
+caller_seen c rs = record { index = c.index; pid = c.pid; cred = c.cred; pieces = pieces_at rs c.index }
 
 -- the caller is a live process of these
 abbrev pub IsCaller : Caller → List Runner → Type 0
-IsCaller c rs = caller_from 0 c.pid rs ≡ Some (seen c rs)
+IsCaller c rs = caller_from 0 c.pid rs ≡ Some (caller_seen c rs)

@@ -2,7 +2,7 @@
 ghost use Rattle.std.specs.Prelude.{◌≡◌, ◌+◌, ◌*◌, ◌≤◌, length, IfOk, OnOk, OnErr};
 ghost use Rattle.shm_base.specs.Space.{inserted, cut, cut_segments};
 ghost use Rattle.shm_base.specs.Step.{with_pieces};
-ghost use Rattle.shm_attach.specs.Spaces.{pieces_at, seen, IsCaller, AreTrue};
+ghost use Rattle.shm_attach.specs.Spaces.{pieces_at, caller_seen, IsCaller, AreTrue};
 ghost use Rattle.shm_attach.specs.Place.{IsRange, new_piece};
 
 use crate::changes::{Part, put, space_at, take};
@@ -33,7 +33,7 @@ impl Spaces {
         requires range { IsRange pages base }
         requires room { length (cut base (base + 4096 * pages) (pieces_at self.old.runners caller.now.index)) + 1 ≤ 256 }
         ensures lost { IfOk result (λ l. l ≡ cut_segments base (base + 4096 * pages) (pieces_at self.old.runners caller.now.index)) }
-        ensures runners { OnOk result (self.new.runners ≡ with_pieces self.old.runners (seen caller.now self.old.runners) (inserted (new_piece seg base pages writable) (cut base (base + 4096 * pages) (pieces_at self.old.runners caller.now.index)))) }
+        ensures runners { OnOk result (self.new.runners ≡ with_pieces self.old.runners (caller_seen caller.now self.old.runners) (inserted (new_piece seg base pages writable) (cut base (base + 4096 * pages) (pieces_at self.old.runners caller.now.index)))) }
         ensures translated { AreTrue self.old.translations store.now → AreTrue self.new.translations store.now }
         ensures err { OnErr result (self.new ≡ self.old) }
     {

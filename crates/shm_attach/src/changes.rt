@@ -12,7 +12,7 @@ ghost use Rattle.shm_attach.specs.Entries.{AllTrue};
 ghost use Rattle.shm_attach.specs.Tables.{counted, stored_at, IsHeld, IsTied};
 ghost use Rattle.shm_attach.specs.Place.{IsPlaceFor};
 ghost use Rattle.shm_attach.specs.Part.{left, CanGo};
-ghost use Rattle.shm_attach.specs.Exact.{IsSound, HasHolds};
+ghost use Rattle.shm_attach.specs.Exact.{AreTablesSound, HasHolds};
 
 use crate::process::{Life, Runner};
 use crate::tables::Tables;
@@ -55,7 +55,7 @@ pub(crate) fn put(
     ensures runners { runners_view processes.new.entries ≡ with_pieces_at (runners_view processes.old.entries) index (inserted (bare piece)) }
     ensures count { length processes.new.entries ≡ length processes.old.entries }
     ensures others { (j : ℕ) → j ≢ index → stored_at processes.new.entries j ≡ stored_at processes.old.entries j }
-    ensures sound { (extra : ℕ → ℕ) → IsSound extra processes.old.entries tables.old → IsSound extra processes.new.entries tables.new }
+    ensures sound { (extra : ℕ → ℕ) → AreTablesSound extra processes.old.entries tables.old → AreTablesSound extra processes.new.entries tables.new }
     ensures held { (p : Stored) → IsHeld tables.old.slab p → IsHeld tables.new.slab p }
     ensures translated { (at : ℕ → ℕ → Option ℕ) → AllTrue at tables.old.slab → AllTrue at tables.new.slab }
 {
@@ -98,7 +98,7 @@ pub(crate) fn take(
     requires holds { HasHolds processes.old.entries tables.old }
     ensures runners { runners_view processes.new.entries ≡ with_pieces_at (runners_view processes.old.entries) index (left part) }
     ensures count { length processes.new.entries ≡ length processes.old.entries }
-    ensures sound { (extra : ℕ → ℕ) → IsSound extra processes.old.entries tables.old → IsSound extra processes.new.entries tables.new }
+    ensures sound { (extra : ℕ → ℕ) → AreTablesSound extra processes.old.entries tables.old → AreTablesSound extra processes.new.entries tables.new }
     ensures held { (p : Stored) → IsHeld tables.old.slab p → 0 < counted tables.new p.seg → IsHeld tables.new.slab p }
     ensures translated { (at : ℕ → ℕ → Option ℕ) → AllTrue at tables.old.slab → AllTrue at tables.new.slab }
 {

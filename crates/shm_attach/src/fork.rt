@@ -6,8 +6,8 @@ ghost use Rattle.shm_base.specs.Step.{unborn_from};
 ghost use Rattle.shm_attach.specs.Views.{with_pieces_at, runners_view};
 ghost use Rattle.shm_fault.specs.Store.{StoreView};
 ghost use Rattle.shm_attach.specs.Entries.{AllTrue};
-ghost use Rattle.shm_attach.specs.Spaces.{pieces_at, life_at, seen, IsCaller, AreTrue};
-ghost use Rattle.shm_attach.specs.Exact.{IsSound, no_holds};
+ghost use Rattle.shm_attach.specs.Spaces.{pieces_at, life_at, caller_seen, IsCaller, AreTrue};
+ghost use Rattle.shm_attach.specs.Exact.{AreTablesSound, no_holds};
 ghost use Rattle.shm_attach.specs.Fork.{born_child};
 
 use crate::changes::{put, set_life_at, space_at};
@@ -39,9 +39,9 @@ fn copy_pieces(
     requires apart { parent ≢ child }
     requires born { life_at (runners_view processes.old.entries) child ≢ Unborn }
     requires none { pieces_at (runners_view processes.old.entries) child ≡ [] }
-    requires sound { IsSound no_holds processes.old.entries tables.old }
+    requires sound { AreTablesSound no_holds processes.old.entries tables.old }
     ensures runners { runners_view processes.new.entries ≡ with_pieces_at (runners_view processes.old.entries) child (λ _. pieces_at (runners_view processes.old.entries) parent) }
-    ensures sound { IsSound no_holds processes.new.entries tables.new }
+    ensures sound { AreTablesSound no_holds processes.new.entries tables.new }
     ensures translated { (at : ℕ → ℕ → Option ℕ) → AllTrue at tables.old.slab → AllTrue at tables.new.slab }
 {
     let count = space_at(processes, parent).pieces().len();
@@ -57,7 +57,7 @@ impl Spaces {
     pub fn fork(&mut self, caller: &Caller, child: &Child)
         requires live { IsCaller caller.now self.old.runners }
         requires unborn { unborn_from 0 child.now.pid self.old.runners ≡ Some child.now.index }
-        ensures born { self.new.runners ≡ born_child self.old.runners (seen caller.now self.old.runners) child.now }
+        ensures born { self.new.runners ≡ born_child self.old.runners (caller_seen caller.now self.old.runners) child.now }
         ensures more { (id : ℕ) → attach_count self.old.runners id ≤ attach_count self.new.runners id }
         ensures translated { (m : StoreView) → AreTrue self.old.translations m → AreTrue self.new.translations m }
     {

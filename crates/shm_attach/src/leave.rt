@@ -3,7 +3,7 @@ ghost use Rattle.std.specs.Prelude.{◌≡◌, []};
 ghost use Rattle.shm_base.specs.Space.{without_named};
 ghost use Rattle.shm_base.specs.Step.{with_pieces, with_end, segments_of};
 ghost use Rattle.shm_fault.specs.Store.{StoreView};
-ghost use Rattle.shm_attach.specs.Spaces.{pieces_at, seen, IsCaller, AreTrue};
+ghost use Rattle.shm_attach.specs.Spaces.{pieces_at, caller_seen, IsCaller, AreTrue};
 
 use crate::changes::{Part, set_life_at, space_at, take};
 use crate::lost::Lost;
@@ -16,7 +16,7 @@ impl Spaces {
     /// takes no memory.
     pub fn detach(&mut self, caller: &Caller, addr: u64, seg: u32)
         requires { IsCaller caller.now self.old.runners }
-        ensures gone { self.new.runners ≡ with_pieces self.old.runners (seen caller.now self.old.runners) (without_named addr seg (pieces_at self.old.runners caller.now.index)) }
+        ensures gone { self.new.runners ≡ with_pieces self.old.runners (caller_seen caller.now self.old.runners) (without_named addr seg (pieces_at self.old.runners caller.now.index)) }
         ensures translated { (m : StoreView) → AreTrue self.old.translations m → AreTrue self.new.translations m }
     {
         take(
@@ -31,8 +31,8 @@ impl Spaces {
     /// memory.
     pub fn exec(&mut self, caller: &Caller) -> Lost
         requires { IsCaller caller.now self.old.runners }
-        ensures lost { result ≡ segments_of (seen caller.now self.old.runners) }
-        ensures runners { self.new.runners ≡ with_pieces self.old.runners (seen caller.now self.old.runners) [] }
+        ensures lost { result ≡ segments_of (caller_seen caller.now self.old.runners) }
+        ensures runners { self.new.runners ≡ with_pieces self.old.runners (caller_seen caller.now self.old.runners) [] }
         ensures translated { (m : StoreView) → AreTrue self.old.translations m → AreTrue self.new.translations m }
     {
         let lost = Lost::of(space_at(&self.processes, caller.index).pieces());
@@ -51,8 +51,8 @@ impl Spaces {
     /// Ends a process: as `exec`, and it is live no more. It takes no memory.
     pub fn exit(&mut self, caller: &Caller) -> Lost
         requires { IsCaller caller.now self.old.runners }
-        ensures lost { result ≡ segments_of (seen caller.now self.old.runners) }
-        ensures runners { self.new.runners ≡ with_end self.old.runners (seen caller.now self.old.runners) }
+        ensures lost { result ≡ segments_of (caller_seen caller.now self.old.runners) }
+        ensures runners { self.new.runners ≡ with_end self.old.runners (caller_seen caller.now self.old.runners) }
         ensures translated { (m : StoreView) → AreTrue self.old.translations m → AreTrue self.new.translations m }
     {
         let lost = self.exec(caller);

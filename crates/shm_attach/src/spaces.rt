@@ -1,5 +1,5 @@
 //! The pieces of all processes.
-ghost use Rattle.std.specs.Prelude.{◌≡◌, ◌≢◌, ℕ, ◌<◌, ◌≤◌, length, map, [], is_some, slice_index_or, None, Some, IfSome, IfNone, IfOk, OnErr, Bool, true, false, All, AllPairs, sum_by};
+ghost use Rattle.std.specs.Prelude.{◌≡◌, ◌≢◌, ℕ, ◌<◌, ◌≤◌, length, map, [], slice_index_or, None, Some, IfSome, IfNone, IfOk, OnErr, Bool, true, false, All, AllPairs, sum_by};
 ghost use Rattle.shm_base.specs.State.{life_at_start, runner_at_start};
 ghost use Rattle.shm_base.specs.Segments.{attach_count};
 ghost use Rattle.shm_base.specs.Step.{caller_from, unborn_from};
@@ -36,14 +36,14 @@ pub struct Spaces {
 impl Model for Spaces {
     ghost use Rattle.shm_attach.specs.Views.{runners_view};
     ghost use Rattle.shm_attach.specs.Spaces.{SpacesView};
-    ghost use Rattle.shm_attach.specs.Exact.{IsSound, no_holds};
+    ghost use Rattle.shm_attach.specs.Exact.{AreTablesSound, no_holds};
     ghost use Rattle.shm_attach.specs.Entries.{translations_of};
 
     ghost Value = { SpacesView };
 
     ghost view = { λ s. record { runners = runners_view s.processes.entries; translations = translations_of s.tables.slab } };
 
-    ghost invariant = { λ s. IsSound no_holds s.processes.entries s.tables };
+    ghost invariant = { λ s. AreTablesSound no_holds s.processes.entries s.tables };
 }
 
 fn born(process: &Process) -> Life
@@ -86,13 +86,6 @@ impl Spaces {
             Life::Live(cred) => Some(Caller { index, pid, cred }),
             _ => None,
         }
-    }
-
-    /// Whether the process with a pid is live.
-    pub fn is_live(&self, pid: u32) -> bool
-        ensures { result ≡ is_some (caller_from 0 pid self.now.runners) }
-    {
-        self.caller(pid).is_some()
     }
 
     /// The child with a pid that was declared and is not born yet.

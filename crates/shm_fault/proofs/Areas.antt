@@ -13,7 +13,7 @@ use Rattle.shm_frames.specs.Frame.{Frame, no_frame, frame_at}
 use Rattle.shm_fault.specs.declared.page_tables.PageRec.{PageRec}
 use Rattle.shm_fault.specs.Segs.{rec_by, HasPage, with_rec}
 use Rattle.shm_fault.specs.Store.{StoreView, held, stored, bytes_by, page_bytes}
-use Rattle.shm_fault.specs.Sound.{IsTied, Tied, IsSound}
+use Rattle.shm_fault.specs.Sound.{IsTied, Tied, IsStoreSound}
 use Rattle.shm_fault.specs.Goes.{Goes, Still}
 use Rattle.shm_fault.specs.Counting.{AtRest}
 use Rattle.shm_fault.specs.Moving.{SameOwned, IsRelocated, IsCleared}
@@ -49,7 +49,7 @@ count-one (o ∷ os) (suc i) r e =
     let rest = count-one os i r e in
     omega (arith, rest, sum_by-cons (λ (p : Option PageRef). cond (is_some p) 1 0) o os)
 
-pub has-room : (s : StoreView) → IsSound s → (k : Slot) (r : PageRef) → owner_of s.swap k.area k.slot ≡ Some r → pages_held (held s) + length (area_at s.swap k.area).pages ≤ slots s.swap
+pub has-room : (s : StoreView) → IsStoreSound s → (k : Slot) (r : PageRef) → owner_of s.swap k.area k.slot ≡ Some r → pages_held (held s) + length (area_at s.swap k.area).pages ≤ slots s.swap
     → used_slots s.swap + length (area_at s.swap k.area).pages < slots s.swap + used_in (area_at s.swap k.area)
 has-room s sound k r own room =
     let all = pages_held-is s sound in
@@ -113,7 +113,7 @@ cleared-relocated page from to s t is = record {
 }
 
 -- a resident page gives its slot back
-module _ (s : StoreView) (sound : IsSound s) (r : PageRef) (f : ℕ) (k : Slot) (u : SwapView) (place : rec_by s.segs r ≡ record { frame = Some f; slot = Some k }) (given : u ≡ without_slot s.swap k (page_in u k.area k.slot)) where
+module _ (s : StoreView) (sound : IsStoreSound s) (r : PageRef) (f : ℕ) (k : Slot) (u : SwapView) (place : rec_by s.segs r ≡ record { frame = Some f; slot = Some k }) (given : u ≡ without_slot s.swap k (page_in u k.area k.slot)) where
   at_frame : (rec_by s.segs r).frame ≡ Some f
   at_frame = ap (λ (p : PageRec). p.frame) place
 
@@ -161,7 +161,7 @@ module _ (s : StoreView) (sound : IsSound s) (r : PageRef) (f : ℕ) (k : Slot) 
       keeps-one s t sound r has to is steady.same_sizes (rw (length-set s.frames f x) sound.hand) steady.goes_on tie same
 
 -- a page that is not resident gets another slot
-module _ (s : StoreView) (sound : IsSound s) (r : PageRef) (from to : Slot) (u : SwapView) (place : rec_by s.segs r ≡ record { frame = None; slot = Some from }) (is : IsRelocated r from to s.swap u) where
+module _ (s : StoreView) (sound : IsStoreSound s) (r : PageRef) (from to : Slot) (u : SwapView) (place : rec_by s.segs r ≡ record { frame = None; slot = Some from }) (is : IsRelocated r from to s.swap u) where
   away : (rec_by s.segs r).frame ≡ None
   away = ap (λ (p : PageRec). p.frame) place
 
@@ -211,13 +211,13 @@ module _ (s : StoreView) (sound : IsSound s) (r : PageRef) (from to : Slot) (u :
       keeps-one s t sound r has (record { segs = segs-with s.segs r p; frames = frames-same s.frames sound.tied.free; slots = slots }) sw sized sound.hand goes_on tie same
 
 -- no page moves, and no owned slot changes
-pub keeps-owned : (s : StoreView) → IsSound s → (u : SwapView) → SameOwned s.swap u → IsSwap u → sizes u ≡ sizes s.swap → GoesOn s.swap u → Keeps s (record s { swap = u })
+pub keeps-owned : (s : StoreView) → IsStoreSound s → (u : SwapView) → SameOwned s.swap u → IsSwap u → sizes u ≡ sizes s.swap → GoesOn s.swap u → Keeps s (record s { swap = u })
 keeps-owned s sound u owned is same goes_on =
     let slots : SlotsApart every s.swap u = record { has = owned.has; kept = λ k q e o. (owned.owners k ∙ o, owned.pages k q o); owners = λ k q e o. sym (owned.owners k) ∙ o } in
     keeps-every s (record s { swap = u }) sound (record { segs = segs-same s.segs; frames = frames-same s.frames sound.tied.free; slots = slots }) is same sound.hand goes_on
 
 -- an area none of whose slots is owned goes
-module _ (s : StoreView) (sound : IsSound s) (area : ℕ) (here : (area_at s.swap area).here ≡ true) (free : (j : ℕ) → owner_of s.swap area j ≡ None) where
+module _ (s : StoreView) (sound : IsStoreSound s) (area : ℕ) (here : (area_at s.swap area).here ≡ true) (free : (j : ℕ) → owner_of s.swap area j ≡ None) where
   abbrev without_area : StoreView
   without_area = record s { swap = with_area s.swap area (off (area_at s.swap area)) }
 
@@ -268,7 +268,7 @@ module _ (s : StoreView) (sound : IsSound s) (area : ℕ) (here : (area_at s.swa
   held-off = held-same s without_area sound.apart sound.apart refl (λ r has. bytes-off r (sound.tied.pages r has) (rec_by s.segs r).frame)
 
   sound-off : IsSwap (with_area s.swap area (off (area_at s.swap area))) → sizes (with_area s.swap area (off (area_at s.swap area))) ≡ set (sizes s.swap) area None
-      → pages_held (held s) + length (area_at s.swap area).pages ≤ slots s.swap → IsSound without_area
+      → pages_held (held s) + length (area_at s.swap area).pages ≤ slots s.swap → IsStoreSound without_area
   sound-off is same room =
       let lt : area < length (sizes s.swap) = rw (length-map s.swap.areas size_of) (here-lt s.swap area here) in
       let sum = sum_by-set slots_in (sizes s.swap) area None None lt in
@@ -281,13 +281,13 @@ module _ (s : StoreView) (sound : IsSound s) (area : ℕ) (here : (area_at s.swa
 
 -- the first slots of an area are free, and all else is as it was
 pub record IsCleaned (area n : ℕ) (s t : StoreView) : Type 0 where
-  pub sound : IsSound t
+  pub sound : IsStoreSound t
   pub goes : Goes s t
   pub still : Still s t
   pub rest : AtRest s t
   pub free : (slot : ℕ) → slot < n → owner_of t.swap area slot ≡ None
 
-pub cleaned-more : (area n : ℕ) (s t u : StoreView) → IsCleaned area n s t → IsSound u → Goes t u → Still t u → AtRest t u → IsCleared (record { area = area; slot = n }) t.swap u.swap → IsCleaned area (n + 1) s u
+pub cleaned-more : (area n : ℕ) (s t u : StoreView) → IsCleaned area n s t → IsStoreSound u → Goes t u → Still t u → AtRest t u → IsCleared (record { area = area; slot = n }) t.swap u.swap → IsCleaned area (n + 1) s u
 cleaned-more area n s t u d sound goes still rest cleared = record {
   sound = sound;
   goes = Goes-trans s t u d.goes goes;
@@ -322,7 +322,7 @@ module _ (area n : ℕ) (s t : StoreView) (d : IsCleaned area n s t) (here : (ar
     ]
 
     pub cleaned-off : (u : SwapView) → u ≡ with_area t.swap area (off (area_at t.swap area)) → IsSwap u → sizes u ≡ set (sizes t.swap) area None
-        → pages_held (held s) + length (area_at s.swap area).pages ≤ slots s.swap → IsSound (record t { swap = u }) × (held (record t { swap = u }) ≡ held s)
+        → pages_held (held s) + length (area_at s.swap area).pages ≤ slots s.swap → IsStoreSound (record t { swap = u }) × (held (record t { swap = u }) ≡ held s)
     cleaned-off u gone is sized room =
         let sized₁ : sizes (with_area t.swap area (off (area_at t.swap area))) ≡ set (sizes t.swap) area None = rw gone at sized in
         rw gone (sound-off t d.sound area cleaned-here.0 cleaned-free (rw gone at is) sized₁ (cleaned-room room), held-off t d.sound area cleaned-here.0 cleaned-free ∙ d.goes.bytes)

@@ -16,7 +16,7 @@ use Rattle.shm_fault.specs.Steps.{Moves, Kept}
 use Rattle.shm_fault.specs.Goes.{KeepsLocked, Visits, frame_by, referenced_at}
 use Rattle.shm_fault.specs.declared.access.InFrames.{InFrames}
 use Rattle.shm_fault.specs.declared.touched.PagerFailed.{PagerFailed}
-use Rattle.shm_fault.specs.Sound.{IsSound}
+use Rattle.shm_fault.specs.Sound.{IsStoreSound}
 use Rattle.shm_fault.specs.Counting.{raised, one_if, hand_after}
 use Rattle.shm_fault.specs.Access.{Visited, IsIn, AreIn, Brings, Accessed}
 use Rattle.shm_fault.proofs.Sound.{Goes-trans, KeepsLocked-trans, cause-after}
@@ -278,7 +278,7 @@ all-referenced z (p ∷ q ∷ []) here few is (suc (suc k)) d lt = absurd (omega
 all-referenced z (p ∷ q ∷ r ∷ ps) here few is k d lt = absurd (omega (arith, few))
 
 -- what an access that was done leaves, where bytes may have changed since
-module _ (s t z : StoreView) (rest : z ≡ record t { frames = z.frames }) (count : length z.frames ≡ length t.frames) (bits : (f : ℕ) → referenced_at z f ≡ referenced_at t f) (sound : IsSound z) where
+module _ (s t z : StoreView) (rest : z ≡ record t { frames = z.frames }) (count : length z.frames ≡ length t.frames) (bits : (f : ℕ) → referenced_at z f ≡ referenced_at t f) (sound : IsStoreSound z) where
   segs : z.segs ≡ t.segs
   segs = ap (λ (v : StoreView). v.segs) rest
 
@@ -324,7 +324,7 @@ module _ (s t z : StoreView) (rest : z ≡ record t { frames = z.frames }) (coun
   }
 
 -- and one that was not
-pub accessed-not : (ps : List Span) (s t : StoreView) (e : PagerFailed) → IsSound t → Brings ps s t e.touched false → Accessed ps s t (Err e)
+pub accessed-not : (ps : List Span) (s t : StoreView) (e : PagerFailed) → IsStoreSound t → Brings ps s t e.touched false → Accessed ps s t (Err e)
 accessed-not ps s t e sound b = record {
   cause = b.cause refl;
   quiet = λ all. absurd (false≢true (b.quiet all).0);

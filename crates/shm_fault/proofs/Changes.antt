@@ -11,7 +11,7 @@ use Rattle.shm_frames.specs.Frame.{Frame, no_frame, frame_at}
 use Rattle.shm_fault.specs.declared.page_tables.PageRec.{PageRec}
 use Rattle.shm_fault.specs.Segs.{rec_by, count_by_id, HasPage, with_rec}
 use Rattle.shm_fault.specs.Store.{StoreView, stored, bytes_by, page_bytes}
-use Rattle.shm_fault.specs.Sound.{IsTied, IsSound}
+use Rattle.shm_fault.specs.Sound.{IsTied, IsStoreSound}
 use Rattle.shm_fault.specs.Goes.{Alike, Goes, Still, StaysAway}
 use Rattle.shm_fault.proofs.Pages.{rec-with, rec-with_other, still-with, cases_ref, other, other-false, other-true, has-frame, rec-past}
 use Rattle.shm_fault.proofs.Slots.{OnlySlot, OnlySlot-owner, owner-set, cases_slot}
@@ -30,7 +30,7 @@ own (Some r) e = record { page = r; is = refl }
 
 -- sound, and all bytes kept
 pub record Keeps (s t : StoreView) : Type 0 where
-  pub sound : IsSound t
+  pub sound : IsStoreSound t
   pub goes : Goes s t
 
 pub bytes_by-some : (frames : List Frame) (u : SwapView) (o : Option ℕ) (k : Option Slot) (f : ℕ) → o ≡ Some f → bytes_by frames u o k ≡ (frame_at frames f).bytes
@@ -43,7 +43,7 @@ pub some_same : {X : Type 0} (x y : X) (o : Option X) → o ≡ Some x → o ≡
 some_same x y o a b = cc
 
 -- one page is touched
-module _ (s t : StoreView) (sound : IsSound s) (r : PageRef) (has : HasPage s.segs r) (to : Touches (other r) s t) (swap : IsSwap t.swap) (same : sizes t.swap ≡ sizes s.swap) (hand : t.hand < length t.frames) (goes_on : GoesOn s.swap t.swap) (tie : IsTied t r) where
+module _ (s t : StoreView) (sound : IsStoreSound s) (r : PageRef) (has : HasPage s.segs r) (to : Touches (other r) s t) (swap : IsSwap t.swap) (same : sizes t.swap ≡ sizes s.swap) (hand : t.hand < length t.frames) (goes_on : GoesOn s.swap t.swap) (tie : IsTied t r) where
   here : (q : PageRef) → other r q ≡ false → HasPage s.segs q → IsTied t q
   here q on h = let e = other-false r q on in rw e tie
 
@@ -53,7 +53,7 @@ module _ (s t : StoreView) (sound : IsSound s) (r : PageRef) (has : HasPage s.se
   own_slot : (k : Slot) (q : PageRef) → other r q ≡ false → owner_of t.swap k.area k.slot ≡ Some q → HasPage s.segs q
   own_slot k q on h = let e = other-false r q on in rw e has
 
-  pub sound-one : IsSound t
+  pub sound-one : IsStoreSound t
   sound-one = sound-touched (other r) s t sound to swap same hand here own_frame own_slot
 
   pub keeps-one : bytes_at t r ≡ bytes_at s r → Keeps s t
@@ -66,7 +66,7 @@ module _ (s t : StoreView) (sound : IsSound s) (r : PageRef) (has : HasPage s.se
 pub every : PageRef → Bool
 every q = true
 
-pub keeps-every : (s t : StoreView) → IsSound s → Touches every s t → IsSwap t.swap → sizes t.swap ≡ sizes s.swap → t.hand < length t.frames → GoesOn s.swap t.swap → Keeps s t
+pub keeps-every : (s t : StoreView) → IsStoreSound s → Touches every s t → IsSwap t.swap → sizes t.swap ≡ sizes s.swap → t.hand < length t.frames → GoesOn s.swap t.swap → Keeps s t
 unfolding every
 keeps-every s t sound to is same hand goes_on = record {
   sound = sound-touched every s t sound to is same hand (λ q n h. cc) (λ f q n h. cc) (λ k q n h. cc);
@@ -81,7 +81,7 @@ slots-kept s u kept = record {
 }
 
 -- frames are alike, and all else but the hand is as it was
-pub keeps-alike : (s : StoreView) → IsSound s → (frames : List Frame) (hand : ℕ) → length frames ≡ length s.frames → ((f : ℕ) → Alike (frame_at s.frames f) (frame_at frames f)) → hand < length frames
+pub keeps-alike : (s : StoreView) → IsStoreSound s → (frames : List Frame) (hand : ℕ) → length frames ≡ length s.frames → ((f : ℕ) → Alike (frame_at s.frames f) (frame_at frames f)) → hand < length frames
     → Keeps s (record s { frames = frames; hand = hand })
 keeps-alike s sound frames hand size alike on =
     let apart : FramesApart every s.frames frames = record {
@@ -93,7 +93,7 @@ keeps-alike s sound frames hand size alike on =
     keeps-every s (record s { frames = frames; hand = hand }) sound (record { segs = segs-same s.segs; frames = apart; slots = slots-same s.swap }) sound.swap refl on (GoesOn-refl s.swap)
 
 -- a resident page's frame was written to its slot, or the try failed
-module _ (s : StoreView) (sound : IsSound s) (r : PageRef) (f : ℕ) (k : Slot) (x : Frame) (u : SwapView) (ins outs : ℕ)
+module _ (s : StoreView) (sound : IsStoreSound s) (r : PageRef) (f : ℕ) (k : Slot) (x : Frame) (u : SwapView) (ins outs : ℕ)
     (owned : (frame_at s.frames f).owner ≡ Some r) (slot : (rec_by s.segs r).slot ≡ Some k)
     (x_owner : x.owner ≡ Some r) (x_bytes : x.bytes ≡ (frame_at s.frames f).bytes)
     (only : OnlySlot k s.swap u) (owner : owner_of u k.area k.slot ≡ owner_of s.swap k.area k.slot)
@@ -154,13 +154,13 @@ module _ (s : StoreView) (sound : IsSound s) (r : PageRef) (f : ℕ) (k : Slot) 
 
 -- a page in a dirty frame gets a slot
 pub record Takes (f : ℕ) (k : Slot) (s t : StoreView) : Type 0 where
-  pub sound : IsSound t
+  pub sound : IsStoreSound t
   pub goes : Goes s t
   pub slot : (q : PageRef) → (frame_at s.frames f).owner ≡ Some q → (rec_by t.segs q).slot ≡ Some k
   pub still : Still s t
   pub away : StaysAway s t
 
-module _ (s : StoreView) (sound : IsSound s) (r : PageRef) (f : ℕ) (k : Slot)
+module _ (s : StoreView) (sound : IsStoreSound s) (r : PageRef) (f : ℕ) (k : Slot)
     (owned : (frame_at s.frames f).owner ≡ Some r) (dirty : (frame_at s.frames f).dirty ≡ true) (none : (rec_by s.segs r).slot ≡ None)
     (there : HasSlot s.swap k.area k.slot) (free : owner_of s.swap k.area k.slot ≡ None) where
   has-ts : HasPage s.segs r
@@ -224,7 +224,7 @@ module _ (s : StoreView) (sound : IsSound s) (r : PageRef) (f : ℕ) (k : Slot)
       }
 
 -- a page in a clean frame leaves it
-module _ (s : StoreView) (sound : IsSound s) (r : PageRef) (f : ℕ) (bytes : List ℕ) (owned : (frame_at s.frames f).owner ≡ Some r) (clean : (frame_at s.frames f).dirty ≡ false) where
+module _ (s : StoreView) (sound : IsStoreSound s) (r : PageRef) (f : ℕ) (bytes : List ℕ) (owned : (frame_at s.frames f).owner ≡ Some r) (clean : (frame_at s.frames f).dirty ≡ false) where
   pub keeps-leave : Keeps s (record s { segs = with_rec s.segs r (record { frame = None; slot = (rec_by s.segs r).slot }); frames = set s.frames f (record no_frame { bytes = bytes }) })
   keeps-leave =
       let has : HasPage s.segs r = sound.tied.owners f r owned in
@@ -258,7 +258,7 @@ module _ (s : StoreView) (sound : IsSound s) (r : PageRef) (f : ℕ) (bytes : Li
       keeps-one s t sound r has to sound.swap refl (rw (length-set s.frames f x) sound.hand) (GoesOn-refl s.swap) tie same
 
 -- a page comes into a free frame that has its bytes
-module _ (s : StoreView) (sound : IsSound s) (r : PageRef) (f : ℕ) (has : HasPage s.segs r) (lt : f < length s.frames) (free : (frame_at s.frames f).owner ≡ None) (away : (rec_by s.segs r).frame ≡ None)
+module _ (s : StoreView) (sound : IsStoreSound s) (r : PageRef) (f : ℕ) (has : HasPage s.segs r) (lt : f < length s.frames) (free : (frame_at s.frames f).owner ≡ None) (away : (rec_by s.segs r).frame ≡ None)
     (bytes : (frame_at s.frames f).bytes ≡ stored s.swap (rec_by s.segs r).slot) where
   pub keeps-settle : Keeps s (record s { segs = with_rec s.segs r (record { frame = Some f; slot = (rec_by s.segs r).slot }); frames = set s.frames f (record (frame_at s.frames f) { owner = Some r; referenced = true }) })
   keeps-settle =
@@ -297,7 +297,7 @@ module _ (s : StoreView) (sound : IsSound s) (r : PageRef) (f : ℕ) (has : HasP
       keeps-one s t sound r has to sound.swap refl (rw (length-set s.frames f x) sound.hand) (GoesOn-refl s.swap) tie same
 
 -- a free frame gets other bytes
-module _ (s : StoreView) (sound : IsSound s) (f : ℕ) (bytes : List ℕ) (free : (frame_at s.frames f).owner ≡ None) (u : SwapView) (ins : ℕ) (kept : SameSlots s.swap u) where
+module _ (s : StoreView) (sound : IsStoreSound s) (f : ℕ) (bytes : List ℕ) (free : (frame_at s.frames f).owner ≡ None) (u : SwapView) (ins : ℕ) (kept : SameSlots s.swap u) where
   pub keeps-load : IsSwap u → sizes u ≡ sizes s.swap → GoesOn s.swap u → Keeps s (record { segs = s.segs; frames = set s.frames f (record (frame_at s.frames f) { bytes = bytes }); hand = s.hand; swap = u; ins = ins; outs = s.outs })
   keeps-load is same goes_on =
       let x : Frame = record (frame_at s.frames f) { bytes = bytes } in
@@ -330,7 +330,7 @@ set-twice frames f x h {a} {b} lt first second =
     second ∙ ap (λ (y : Frame). set a f (h y)) at ∙ ap (λ (fs : List Frame). set fs f (h x)) first ∙ set-set frames f x (h x)
 
 -- a resident page's bytes change
-module _ (s : StoreView) (sound : IsSound s) (r : PageRef) (f : ℕ) (x : Frame) (at_frame : (rec_by s.segs r).frame ≡ Some f) (x_owner : x.owner ≡ (frame_at s.frames f).owner) (x_dirty : x.dirty ≡ true) (whole : length x.bytes ≡ 4096) where
+module _ (s : StoreView) (sound : IsStoreSound s) (r : PageRef) (f : ℕ) (x : Frame) (at_frame : (rec_by s.segs r).frame ≡ Some f) (x_owner : x.owner ≡ (frame_at s.frames f).owner) (x_dirty : x.dirty ≡ true) (whole : length x.bytes ≡ 4096) where
   has-st : HasPage s.segs r
   has-st = has-frame s.segs r f at_frame
 
@@ -368,7 +368,7 @@ module _ (s : StoreView) (sound : IsSound s) (r : PageRef) (f : ℕ) (x : Frame)
     | inr past ↦ rw (rec-past s.segs q past) refl
   ]
 
-  pub sound-stored : IsSound (record s { frames = set s.frames f x })
+  pub sound-stored : IsStoreSound (record s { frames = set s.frames f x })
   sound-stored =
       let t : StoreView = record s { frames = set s.frames f x } in
       let tie : IsTied t r = record {

@@ -10,7 +10,7 @@ use Rattle.shm_clock.specs.Clock.{IsClockVictim, next}
 use Rattle.shm_clock.proofs.Eligible.{page_may_go}
 use Rattle.shm_fault.specs.Segs.{locked_by}
 use Rattle.shm_fault.specs.Store.{StoreView}
-use Rattle.shm_fault.specs.Sound.{IsSound}
+use Rattle.shm_fault.specs.Sound.{IsStoreSound}
 use Rattle.shm_fault.specs.Goes.{unlocked, Alike}
 use Rattle.shm_fault.proofs.Ties.{Alike-refl}
 use Rattle.shm_fault.proofs.Tally.{resident-frames, unlocked_resident, passes_by}
@@ -55,7 +55,7 @@ same-tests s (x ∷ xs) =
     omega (arith, one, rest, sum_by-cons (λ (y : Frame). cond (passes_by (λ r z. not (locked_by s.segs r.seg)) y) 1 0) x xs, sum_by-cons (λ (y : Frame). cond (page_may_go (unlocked s.segs) y) 1 0) x xs)
 
 -- where no frame is free, two at least have pages of segments that are not locked
-pub two_unlocked : (s : StoreView) → IsSound s → OwnedBelow s.frames (length s.frames) → 2 ≤ count_by (page_may_go (unlocked s.segs)) s.frames
+pub two_unlocked : (s : StoreView) → IsStoreSound s → OwnedBelow s.frames (length s.frames) → 2 ≤ count_by (page_may_go (unlocked s.segs)) s.frames
 two_unlocked s sound full =
     let all = all-owned s.frames full in
     let resident = resident-frames s sound.apart sound.tied in

@@ -13,7 +13,7 @@ use Rattle.shm_frames.specs.Frame.{Frame, no_frame, frame_at}
 use Rattle.shm_fault.specs.declared.page_tables.PageRec.{PageRec}
 use Rattle.shm_fault.specs.Segs.{SegRec, AreApart, rec_at, but, no_page, find_seg, rec_by, count_by_id, HasPage, with_rec, pages_of, locked_pages}
 use Rattle.shm_fault.specs.Store.{StoreView, held_by, held, disowned}
-use Rattle.shm_fault.specs.Sound.{IsTied, IsSound}
+use Rattle.shm_fault.specs.Sound.{IsTied, IsStoreSound}
 use Rattle.shm_fault.specs.Goes.{outline, outlines}
 use Rattle.shm_fault.specs.Dropping.{emptied, Given, IsBlank, Dropped}
 use Rattle.shm_fault.proofs.Entries.{apart-filter}
@@ -57,7 +57,7 @@ record EmptiedFrames (s : StoreView) (r : PageRef) (frames : List Frame) : Type 
 disowned-own : (r : PageRef) → disowned r.seg (Some r) ≡ None
 disowned-own r = rw (eq-eqb r.seg r.seg refl) refl
 
-emptied-frames : (s : StoreView) → IsSound s → (r : PageRef) → HasPage s.segs r → (o : Option ℕ) → (rec_by s.segs r).frame ≡ o → EmptiedFrames s r (emptied s.frames o)
+emptied-frames : (s : StoreView) → IsStoreSound s → (r : PageRef) → HasPage s.segs r → (o : Option ℕ) → (rec_by s.segs r).frame ≡ o → EmptiedFrames s r (emptied s.frames o)
 emptied-frames s sound r has None e = record {
   apart = frames-same s.frames sound.tied.free;
   none = λ f h. let k : (rec_by s.segs r).frame ≡ Some f = (sound.tied.pages r has).owner_resident f h in cc;
@@ -87,7 +87,7 @@ pub record GivenSlots (s : StoreView) (r : PageRef) (u : SwapView) : Type 0 wher
   pub none : (k : Slot) → owner_of u k.area k.slot ≡ Some r → ⊥
   pub kept : (k : Slot) → disowned r.seg (owner_of u k.area k.slot) ≡ disowned r.seg (owner_of s.swap k.area k.slot)
 
-pub given-slots : (s : StoreView) → IsSound s → (r : PageRef) → HasPage s.segs r → (u : SwapView) → (o : Option Slot) → (rec_by s.segs r).slot ≡ o → Given s.swap o u → GivenSlots s r u
+pub given-slots : (s : StoreView) → IsStoreSound s → (r : PageRef) → HasPage s.segs r → (u : SwapView) → (o : Option Slot) → (rec_by s.segs r).slot ≡ o → Given s.swap o u → GivenSlots s r u
 given-slots s sound r has u None e given = rw given (record {
   apart = slots-same s.swap;
   none = λ k h. let i : (rec_by s.segs r).slot ≡ Some k = (sound.tied.pages r has).owner_stored k h in cc;
@@ -117,13 +117,13 @@ given-slots s sound r has u (Some j) e given =
 
 -- a page is nowhere from now on
 pub record Forgets (r : PageRef) (s t : StoreView) : Type 0 where
-  pub sound : IsSound t
+  pub sound : IsStoreSound t
   pub bytes : without (held t) r.seg ≡ without (held s) r.seg
   pub frames : (f : ℕ) → disowned r.seg (frame_at t.frames f).owner ≡ disowned r.seg (frame_at s.frames f).owner
   pub slots : (k : Slot) → disowned r.seg (owner_of t.swap k.area k.slot) ≡ disowned r.seg (owner_of s.swap k.area k.slot)
   pub size : length t.frames ≡ length s.frames
 
-module _ (s : StoreView) (sound : IsSound s) (r : PageRef) (has : HasPage s.segs r) (u : SwapView) (given : Given s.swap (rec_by s.segs r).slot u) where
+module _ (s : StoreView) (sound : IsStoreSound s) (r : PageRef) (has : HasPage s.segs r) (u : SwapView) (given : Given s.swap (rec_by s.segs r).slot u) where
   abbrev forgotten : StoreView
   forgotten = record s { segs = with_rec s.segs r no_page; frames = emptied s.frames (rec_by s.segs r).frame; swap = u }
 
@@ -136,7 +136,7 @@ module _ (s : StoreView) (sound : IsSound s) (r : PageRef) (has : HasPage s.segs
   to-forgotten : Touches (other r) s forgotten
   to-forgotten = record { segs = segs-with s.segs r no_page; frames = fr.apart; slots = sl.apart }
 
-  sound-forgotten : IsSwap u → IsSteady s.swap u → IsSound forgotten
+  sound-forgotten : IsSwap u → IsSteady s.swap u → IsStoreSound forgotten
   unfolding zero_page
   sound-forgotten is steady =
       let at : rec_by (with_rec s.segs r no_page) r ≡ no_page = rec-with s.segs r no_page has in
@@ -207,7 +207,7 @@ dropped-more seg n s t u d has segs bytes frames slots size steady rest same =
 
 -- a segment all of whose pages are nowhere is taken out
 pub record IsDropped (seg : ℕ) (s t : StoreView) : Type 0 where
-  pub sound : IsSound t
+  pub sound : IsStoreSound t
   pub bytes : held t ≡ without (held s) seg
   pub frames : (f : ℕ) → (frame_at t.frames f).owner ≡ disowned seg (frame_at s.frames f).owner
   pub slots : (k : Slot) → owner_of t.swap k.area k.slot ≡ disowned seg (owner_of s.swap k.area k.slot)
@@ -252,7 +252,7 @@ held-but : (t : StoreView) (id : ℕ) → held (record t { segs = but id t.segs 
 unfolding held
 held-but t id = held-but-list t.frames t.swap t.segs id
 
-module _ (t : StoreView) (sound : IsSound t) (id : ℕ) (gone : (page : ℕ) → page < count_by_id t.segs id → rec_by t.segs (record { seg = id; page = page }) ≡ no_page) where
+module _ (t : StoreView) (sound : IsStoreSound t) (id : ℕ) (gone : (page : ℕ) → page < count_by_id t.segs id → rec_by t.segs (record { seg = id; page = page }) ≡ no_page) where
   rec-but : (q : PageRef) → q.seg ≢ id → rec_by (but id t.segs) q ≡ rec_by t.segs q
   rec-but q n = rw (find-but t.segs id q.seg n) refl
 
@@ -291,7 +291,7 @@ module _ (t : StoreView) (sound : IsSound t) (id : ℕ) (gone : (page : ℕ) →
       by None e = refl
       by (Some q) e = rw (ne_eqb q.seg id (slot-other k q e)) refl
 
-  sound-but : IsSound (record t { segs = but id t.segs })
+  sound-but : IsStoreSound (record t { segs = but id t.segs })
   sound-but =
       let u : StoreView = record t { segs = but id t.segs } in
       IsSound-from u
@@ -309,7 +309,7 @@ module _ (t : StoreView) (sound : IsSound t) (id : ℕ) (gone : (page : ℕ) →
       (let sum = sum-but pages_of t.segs id in omega (arith, sum, sound.capacity))
       (let sum = sum-but locked_pages t.segs id in omega (arith, sum, sound.locked))
 
-pub drops : (seg n : ℕ) (s t : StoreView) → IsSound t → Dropped seg n s t → count_by_id s.segs seg ≤ n → IsDropped seg s (record t { segs = but seg t.segs })
+pub drops : (seg n : ℕ) (s t : StoreView) → IsStoreSound t → Dropped seg n s t → count_by_id s.segs seg ≤ n → IsDropped seg s (record t { segs = but seg t.segs })
 drops seg n s t sound d all =
     let same = count-same s.segs t.segs seg d.shape in
     let gone : (page : ℕ) → page < count_by_id t.segs seg → rec_by t.segs (record { seg = seg; page = page }) ≡ no_page = λ page lt. d.done page (omega (arith, lt, same, all)) in

@@ -11,7 +11,7 @@ use Rattle.shm_slots.specs.Cause.{total, some_spent}
 use Rattle.shm_frames.specs.Frame.{Frame, no_frame, frame_at}
 use Rattle.shm_fault.specs.Segs.{locked_by}
 use Rattle.shm_fault.specs.Store.{StoreView}
-use Rattle.shm_fault.specs.Sound.{IsSound}
+use Rattle.shm_fault.specs.Sound.{IsStoreSound}
 use Rattle.shm_fault.specs.Goes.{Goes, Still}
 use Rattle.shm_fault.specs.Counting.{raised}
 use Rattle.shm_fault.specs.Flushing.{owner_unlocked, may_flush, dirty_list, dirty_after, IsFlushed}
@@ -29,7 +29,7 @@ AllBelow i (x ∷ xs) = (x < i) × AllBelow i xs
 
 -- the frames below i were looked at, and the first n of those that may be flushed were written
 pub record Flushed (n : ℕ) (s : StoreView) (i : ℕ) (t : StoreView) (written failed : ℕ) : Type 0 where
-  pub sound : IsSound t
+  pub sound : IsStoreSound t
   pub goes : Goes s t
   pub still : Still s t
   pub sum : written + failed ≡ length (take n (due s i))
@@ -89,7 +89,7 @@ due-yes s i e = due-more s i ∙ rw e refl
 due-no : (s : StoreView) (i : ℕ) → may_flush s i ≡ false → due s (i + 1) ≡ due s i
 due-no s i e = due-more s i ∙ rw e (append-nil (due s i))
 
-pub flushed-none : (n : ℕ) (s : StoreView) → IsSound s → Flushed n s 0 s 0 0
+pub flushed-none : (n : ℕ) (s : StoreView) → IsStoreSound s → Flushed n s 0 s 0 0
 flushed-none n s sound = let none : take n (due s 0) ≡ [] = by n in record {
   sound = sound;
   goes = Goes-refl s;
@@ -146,7 +146,7 @@ module _ (n : ℕ) (s : StoreView) (i : ℕ) (t : StoreView) (written failed : �
 
   -- the frame was written, or the try failed
   pub flushed-more : (u : StoreView) (wrote fails : ℕ) → written + failed < n → may_flush t i ≡ true → i < length t.frames
-      → u.frames ≡ set t.frames i (record (frame_at t.frames i) { dirty = dirty_after u i }) → Goes t u → Still t u → IsSound u
+      → u.frames ≡ set t.frames i (record (frame_at t.frames i) { dirty = dirty_after u i }) → Goes t u → Still t u → IsStoreSound u
       → wrote + fails ≡ written + failed + 1 → fails ≡ failed + cond (dirty_after u i) 1 0
       → (some_spent u.swap ≡ false → total u.swap ≡ total t.swap + cond (dirty_after u i) 1 0)
       → ((m : ℕ) → t.outs ≡ raised m written → u.outs ≡ raised m wrote) → u ≡ record t { segs = u.segs; frames = u.frames; swap = u.swap; outs = u.outs } → Flushed n s (i + 1) u wrote fails

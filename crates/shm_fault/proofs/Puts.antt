@@ -4,7 +4,7 @@ use Rattle.shm_base.specs.declared.paging.Span.{Span}
 use Rattle.shm_plain.specs.Held.{FitsPage, paste, pasted}
 use Rattle.shm_frames.specs.Frame.{Frame, frame_at}
 use Rattle.shm_fault.specs.Store.{StoreView, held, ref_of}
-use Rattle.shm_fault.specs.Sound.{IsSound}
+use Rattle.shm_fault.specs.Sound.{IsStoreSound}
 use Rattle.shm_fault.specs.Goes.{frame_by}
 use Rattle.shm_fault.proofs.Pages.{has-frame}
 use Rattle.shm_fault.proofs.Bytes.{bytes_at, length-paste}
@@ -15,11 +15,11 @@ abbrev pub put_in : Frame → ℕ → List ℕ → Frame
 put_in x off new = record x { bytes = paste x.bytes off new; dirty = true }
 
 pub record Puts (p : Span) (new : List ℕ) (s t : StoreView) : Type 0 where
-  pub sound : IsSound t
+  pub sound : IsStoreSound t
   pub bytes : held t ≡ map (pasted p.seg p.at new) (held s)
   pub fits : (q : Span) → FitsPage (held s) q → FitsPage (held t) q
 
-pub puts : (s : StoreView) → IsSound s → (p : Span) (f : ℕ) (new : List ℕ) → FitsPage (held s) p → frame_by s (ref_of p) ≡ Some f → p.len ≡ length new
+pub puts : (s : StoreView) → IsStoreSound s → (p : Span) (f : ℕ) (new : List ℕ) → FitsPage (held s) p → frame_by s (ref_of p) ≡ Some f → p.len ≡ length new
     → Puts p new s (record s { frames = set s.frames f (put_in (frame_at s.frames f) (p.at % 4096) new) })
 puts s sound p f new fit at size =
     let r = ref_of p in
@@ -32,7 +32,7 @@ puts s sound p f new fit at size =
     let was = resident-bytes s r f at in
     let full : length b ≡ 4096 = rw was at (sound.tied.pages r has).whole in
     let whole : length x.bytes ≡ 4096 = length-paste b off new (omega (arith, full, fits)) ∙ full in
-    let after : IsSound t = sound-stored s sound r f x at refl refl whole in
+    let after : IsStoreSound t = sound-stored s sound r f x at refl refl whole in
     let here : bytes_at t r ≡ paste (bytes_at s r) off new = bytes-stored s sound r f x at refl refl whole ∙ ap (λ l. paste l off new) (sym was) in
     let split : 4096 * (p.at / 4096) + off ≡ p.at = omega arith in
     record {

@@ -10,7 +10,7 @@ use Rattle.shm_slots.specs.Cause.{GoesOn, total, some_spent, had_cause}
 use Rattle.shm_frames.specs.Frame.{Frame, frame_at}
 use Rattle.shm_fault.specs.Segs.{SegRec, rec_by, HasPage, AreApart, pages_of, locked_pages}
 use Rattle.shm_fault.specs.Store.{StoreView, has_frame, has_slot, dirty_in, is_dirty_page}
-use Rattle.shm_fault.specs.Sound.{IsTied, Tied, IsSound}
+use Rattle.shm_fault.specs.Sound.{IsTied, Tied, IsStoreSound}
 use Rattle.shm_fault.specs.Goes.{outlines, Goes, Still, KeepsLocked}
 use Rattle.shm_fault.proofs.Pages.{has-frame, apart-same, sum_pages-same, sum_locked-same, locked-same}
 use Rattle.shm_fault.proofs.Ties.{Touches, tied_touched, bytes_touched}
@@ -19,12 +19,12 @@ use Rattle.shm_fault.proofs.Bytes.{bytes_at, held-same}
 use Rattle.shm_fault.proofs.Failures.{spent-cause, cause-before}
 
 -- a page and the frame that it is in
-pub frame-own : (s : StoreView) → IsSound s → (r : PageRef) (f : ℕ) → (rec_by s.segs r).frame ≡ Some f → (f < length s.frames) × ((frame_at s.frames f).owner ≡ Some r)
+pub frame-own : (s : StoreView) → IsStoreSound s → (r : PageRef) (f : ℕ) → (rec_by s.segs r).frame ≡ Some f → (f < length s.frames) × ((frame_at s.frames f).owner ≡ Some r)
 frame-own s sound r f at = (sound.tied.pages r (has-frame s.segs r f at)).frame_owned f at
 
 -- the counts follow from the rest
 pub IsSound-from : (s : StoreView) → Tied s → AreApart s.segs → (2 ≤ length s.frames) × (length s.frames ≤ 4096) → IsSwap s.swap → s.hand < length s.frames
-    → sum_by pages_of s.segs ≤ slots s.swap → sum_by locked_pages s.segs + 2 ≤ length s.frames → IsSound s
+    → sum_by pages_of s.segs ≤ slots s.swap → sum_by locked_pages s.segs + 2 ≤ length s.frames → IsStoreSound s
 IsSound-from s tied apart frames swap hand capacity locked = record {
   tied = tied;
   apart = apart;
@@ -44,11 +44,11 @@ IsSound-from s tied apart frames swap hand capacity locked = record {
     by (Some f) = elim (cases_Bool (frame_at s.frames f).dirty) [ inl t ↦ rw t (omega arith) | inr n ↦ rw n (omega arith) ]
 
 -- a change that touches few pages
-module _ (off : PageRef → Bool) (s t : StoreView) (sound : IsSound s) (to : Touches off s t) (swap : IsSwap t.swap) (same : sizes t.swap ≡ sizes s.swap) (hand : t.hand < length t.frames)
+module _ (off : PageRef → Bool) (s t : StoreView) (sound : IsStoreSound s) (to : Touches off s t) (swap : IsSwap t.swap) (same : sizes t.swap ≡ sizes s.swap) (hand : t.hand < length t.frames)
     (here : (q : PageRef) → off q ≡ false → HasPage s.segs q → IsTied t q)
     (own_frame : (f : ℕ) (q : PageRef) → off q ≡ false → (frame_at t.frames f).owner ≡ Some q → HasPage s.segs q)
     (own_slot : (k : Slot) (q : PageRef) → off q ≡ false → owner_of t.swap k.area k.slot ≡ Some q → HasPage s.segs q) where
-  pub sound-touched : IsSound t
+  pub sound-touched : IsStoreSound t
   sound-touched = IsSound-from t
       (tied_touched off s t to sound.tied here own_frame own_slot)
       (apart-same s.segs t.segs to.segs.shape sound.apart)

@@ -10,7 +10,7 @@ use Rattle.shm_slots.specs.View.{AreaView, IsArea, slots_in, size_of, no_area}
 use Rattle.shm_frames.specs.Frame.{frame_at}
 use Rattle.shm_fault.specs.Segs.{SegRec, find_seg, AreApart, count_by_id, HasPage, pages_of}
 use Rattle.shm_fault.specs.Store.{StoreView, held, ref_of}
-use Rattle.shm_fault.specs.Sound.{IsSound}
+use Rattle.shm_fault.specs.Sound.{IsStoreSound}
 use Rattle.shm_fault.specs.Goes.{outline, outlines, frame_by}
 use Rattle.shm_fault.proofs.Pages.{find-id, has-tail}
 use Rattle.shm_fault.proofs.Bytes.{joined, held_one, held_of, bytes_at, held-is, joined-read, joined-paste, joined-ext, length-joined}
@@ -22,7 +22,7 @@ find-held b (g ∷ gs) id = elim (cases_eq g.id id) [
   | inr n ↦ rw (ne_eqb g.id id n) (find-held b gs id)
 ]
 
-module _ (s : StoreView) (sound : IsSound s) where
+module _ (s : StoreView) (sound : IsStoreSound s) where
   find-in : (id : ℕ) → find_held (held s) id ≡ option_map (λ (g : SegRec). held_one (bytes_at s) (outline g)) (find_seg s.segs id)
   find-in id = ap (λ hs. find_held hs id) (held-is s sound.apart) ∙ find-held (bytes_at s) s.segs id
 
@@ -62,7 +62,7 @@ module _ (s : StoreView) (sound : IsSound s) where
       rw (bytes-in p.seg) (rw split at read ∙ ap (λ l. take p.len (drop (p.at % 4096) l)) bytes)
 
 -- a stretch that fits a page still does where segments have the same pages
-pub fits-same : (s t : StoreView) → IsSound s → IsSound t → t.segs ≡ s.segs → (p : Span) → FitsPage (held s) p → FitsPage (held t) p
+pub fits-same : (s t : StoreView) → IsStoreSound s → IsStoreSound t → t.segs ≡ s.segs → (p : Span) → FitsPage (held s) p → FitsPage (held t) p
 fits-same s t before after segs p fit =
     let there : is_held (held t) p.seg ≡ is_held (held s) p.seg = held-in t after p.seg ∙ ap (λ (gs : List SegRec). is_some (find_seg gs p.seg)) segs ∙ sym (held-in s before p.seg) in
     let size : length (bytes_of (held t) p.seg) ≡ length (bytes_of (held s) p.seg) = length-in t after p.seg ∙ ap (λ (gs : List SegRec). 4096 * count_by_id gs p.seg) segs ∙ sym (length-in s before p.seg) in
@@ -98,7 +98,7 @@ pasted-list b c (g ∷ gs) r off new apart whole has fits here others = elim (ca
     ]
 
 -- one page got other bytes, those of a stretch
-pub held-pasted : (s t : StoreView) → IsSound s → AreApart t.segs → outlines t.segs ≡ outlines s.segs → (r : PageRef) (off : ℕ) (new : List ℕ) → HasPage s.segs r → off + length new ≤ 4096
+pub held-pasted : (s t : StoreView) → IsStoreSound s → AreApart t.segs → outlines t.segs ≡ outlines s.segs → (r : PageRef) (off : ℕ) (new : List ℕ) → HasPage s.segs r → off + length new ≤ 4096
     → bytes_at t r ≡ paste (bytes_at s r) off new → ((q : PageRef) → q ≢ r → bytes_at t q ≡ bytes_at s q) → held t ≡ map (pasted r.seg (4096 * r.page + off) new) (held s)
 held-pasted s t sound apart shape r off new has fits here others =
     held-is t apart ∙ ap (held_of (bytes_at t)) shape
@@ -128,7 +128,7 @@ count-le-sum (g ∷ gs) id =
       | inr n ↦ rw (ne_eqb g.id id n) (omega (arith, sum, rest))
     ]
 
-pub few_pages : (s : StoreView) → IsSound s → (id : ℕ) → count_by_id s.segs id ≤ 524288
+pub few_pages : (s : StoreView) → IsStoreSound s → (id : ℕ) → count_by_id s.segs id ≤ 524288
 few_pages s sound id =
     let a = count-le-sum s.segs id in
     let b = sum-slots s.swap.areas sound.swap.each in

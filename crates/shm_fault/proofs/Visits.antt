@@ -9,7 +9,7 @@ use Rattle.shm_fault.specs.Segs.{SegRec, rec_by, HasPage, with_rec, locked_by}
 use Rattle.shm_slots.specs.View.{SwapView, IsSwap, SameSlots, sizes}
 use Rattle.shm_slots.specs.Cause.{GoesOn}
 use Rattle.shm_fault.specs.Store.{StoreView, frame_of, stored}
-use Rattle.shm_fault.specs.Sound.{IsSound}
+use Rattle.shm_fault.specs.Sound.{IsStoreSound}
 use Rattle.shm_fault.specs.Goes.{Goes, Still, StaysAway, Alike, Visits, MovesOn, unlocked, frame_by, referenced_at, same_ref}
 use Rattle.shm_fault.specs.declared.touched.Move.{Move}
 use Rattle.shm_fault.specs.declared.touched.Move.TheVariants.{Gone, Came}
@@ -98,11 +98,11 @@ module _ (s t₁ t₂ t₃ : StoreView) (f : ℕ) (page : PageRef) (pinned : Opt
 
 -- a step that keeps what any visit keeps
 pub record IsStep (s t : StoreView) : Type 0 where
-  pub sound : IsSound t
+  pub sound : IsStoreSound t
   pub visits : (r : PageRef) (pinned : Option ℕ) → Visits r pinned s t
 
 -- no page is in a free frame
-elsewhere : (s : StoreView) → IsSound s → (f : ℕ) → (frame_at s.frames f).owner ≡ None → (q : PageRef) (p : ℕ) → (rec_by s.segs q).frame ≡ Some p → p ≢ f
+elsewhere : (s : StoreView) → IsStoreSound s → (f : ℕ) → (frame_at s.frames f).owner ≡ None → (q : PageRef) (p : ℕ) → (rec_by s.segs q).frame ≡ Some p → p ≢ f
 elsewhere s sound f free q p at same = absurd (let h : (frame_at s.frames f).owner ≡ Some q = rw same at (frame-own s sound q p at).1 in cc)
 
 -- the referenced bit of a frame that is not set
@@ -110,7 +110,7 @@ bit-other : (frames : List Frame) (f p : ℕ) (x : Frame) → p ≢ f → (frame
 bit-other frames f p x n bit = ap (λ (z : Frame). z.referenced) (get_or-set_other frames f p x no_frame n) ∙ bit
 
 -- bytes come into a free frame
-pub step-load : (s : StoreView) → IsSound s → (f : ℕ) (bytes : List ℕ) → (frame_at s.frames f).owner ≡ None → (u : SwapView) (ins : ℕ) → SameSlots s.swap u → IsSwap u → sizes u ≡ sizes s.swap → GoesOn s.swap u
+pub step-load : (s : StoreView) → IsStoreSound s → (f : ℕ) (bytes : List ℕ) → (frame_at s.frames f).owner ≡ None → (u : SwapView) (ins : ℕ) → SameSlots s.swap u → IsSwap u → sizes u ≡ sizes s.swap → GoesOn s.swap u
     → IsStep s (record s { frames = set s.frames f (record (frame_at s.frames f) { bytes = bytes }); swap = u; ins = ins })
 step-load s sound f bytes free u ins kept is same goes_on =
     let keeps = keeps-load s sound f bytes free u ins kept is same goes_on in
@@ -144,12 +144,12 @@ same-other r q off = elim (cases_Bool (same_ref r q)) [
 
 -- a page comes into a free frame
 pub record Settles (page : PageRef) (f : ℕ) (s t : StoreView) : Type 0 where
-  pub sound : IsSound t
+  pub sound : IsStoreSound t
   pub came : (q : PageRef) → frame_by t q ≡ cond (same_ref page q) (Some f) (frame_by s q)
   pub bit : referenced_at t f ≡ true
   pub visits : (pinned : Option ℕ) → Visits page pinned s t
 
-pub settles : (s : StoreView) → IsSound s → (page : PageRef) (f : ℕ) → HasPage s.segs page → f < length s.frames → (frame_at s.frames f).owner ≡ None → (rec_by s.segs page).frame ≡ None
+pub settles : (s : StoreView) → IsStoreSound s → (page : PageRef) (f : ℕ) → HasPage s.segs page → f < length s.frames → (frame_at s.frames f).owner ≡ None → (rec_by s.segs page).frame ≡ None
     → (frame_at s.frames f).bytes ≡ stored s.swap (rec_by s.segs page).slot
     → Settles page f s (record s { segs = with_rec s.segs page (record { frame = Some f; slot = (rec_by s.segs page).slot }); frames = set s.frames f (record (frame_at s.frames f) { owner = Some page; referenced = true }) })
 settles s sound page f has lt free away bytes =
@@ -215,7 +215,7 @@ alike-set frames f x like g = by (cases_eq g f) (cases_lt f (length frames))
     by (inl same) (inl lt) = rw (same, get_or-set_same frames f x no_frame lt) like
 
 -- a frame's referenced bit is set
-pub step-touch : (s : StoreView) → IsSound s → (f : ℕ) → f < length s.frames → IsStep s (record s { frames = set s.frames f (record (frame_at s.frames f) { referenced = true }) })
+pub step-touch : (s : StoreView) → IsStoreSound s → (f : ℕ) → f < length s.frames → IsStep s (record s { frames = set s.frames f (record (frame_at s.frames f) { referenced = true }) })
 step-touch s sound f lt =
     let x : Frame = record (frame_at s.frames f) { referenced = true } in
     let size = length-set s.frames f x in

@@ -10,11 +10,11 @@ use Rattle.shm_base.specs.declared.paging.Slot.{Slot}
 use Rattle.shm_plain.specs.Held.{is_held, pages_in, pages_held, pages_if_locked, pages_locked, relocked, with_zeros, with_lock}
 use Rattle.shm_pager.specs.Pages.{zero_page}
 use Rattle.shm_slots.specs.View.{SwapView, IsSwap, slots, owner_of}
-use Rattle.shm_frames.specs.Frame.{Frame, frame_at, IsBlank}
+use Rattle.shm_frames.specs.Frame.{Frame, frame_at, IsFrameBlank}
 use Rattle.shm_fault.specs.declared.page_tables.PageRec.{PageRec}
 use Rattle.shm_fault.specs.Segs.{SegRec, no_page, rec_at, find_seg, AreApart, rec_in, rec_by, count_in, count_by_id, HasPage, with_seg_lock, new_seg, pages_of, locked_pages}
 use Rattle.shm_fault.specs.Store.{StoreView, page_bytes, held_by, held, fresh_store}
-use Rattle.shm_fault.specs.Sound.{IsSound}
+use Rattle.shm_fault.specs.Sound.{IsStoreSound}
 use Rattle.shm_fault.specs.Goes.{outline, outlines}
 use Rattle.shm_fault.proofs.Entries.{apart-append, apart-edit}
 use Rattle.shm_fault.proofs.Pages.{rec-past, has-head, has-tail}
@@ -23,7 +23,7 @@ use Rattle.shm_fault.proofs.Bytes.{joined, held_one, held_of, bytes_at, held-is,
 use Rattle.shm_fault.proofs.Spans.{held-in}
 use Rattle.shm_fault.proofs.Sound.{IsSound-from}
 
-pub sound-fresh : (frames : List Frame) (swap : SwapView) → (2 ≤ length frames) × (length frames ≤ 4096) → ((f : ℕ) → IsBlank frames f) → IsSwap swap → ((k : Slot) → owner_of swap k.area k.slot ≡ None) → IsSound (fresh_store frames swap)
+pub sound-fresh : (frames : List Frame) (swap : SwapView) → (2 ≤ length frames) × (length frames ≤ 4096) → ((f : ℕ) → IsFrameBlank frames f) → IsSwap swap → ((k : Slot) → owner_of swap k.area k.slot ≡ None) → IsStoreSound (fresh_store frames swap)
 sound-fresh frames swap size blank is free =
     IsSound-from (fresh_store frames swap)
     (record {
@@ -43,7 +43,7 @@ unfolding zero_page
 zeros-joined frames swap zero = refl
 zeros-joined frames swap (suc n) = ap (λ l. zero_page ++ l) (zeros-joined frames swap n) ∙ more-zeros 4096 n
 
-module _ (s : StoreView) (sound : IsSound s) where
+module _ (s : StoreView) (sound : IsStoreSound s) where
   length-page : (r : PageRef) → HasPage s.segs r → length (bytes_at s r) ≡ 4096
   length-page r has = (sound.tied.pages r has).whole
 
@@ -106,7 +106,7 @@ module _ (s : StoreView) (sound : IsSound s) where
         by (Some g) e = rw (find-added s.segs r.seg, e) (rw e at has)
         by None e = absurd (let h : r.page < 0 = rw e at has in omega arith)
 
-    pub sound-added : sum_by pages_of s.segs + n ≤ slots s.swap → IsSound (record s { segs = added })
+    pub sound-added : sum_by pages_of s.segs + n ≤ slots s.swap → IsStoreSound (record s { segs = added })
     unfolding zero_page
     sound-added room =
         let t : StoreView = record s { segs = added } in
@@ -173,7 +173,7 @@ module _ (s : StoreView) (sound : IsSound s) where
         let here : pages_of (with_seg_lock id locked g) ≡ pages_of g = ap (λ (ps : List PageRec). length ps) (pages-locked g) in
         omega (arith, rest, here, sum_by-cons pages_of (with_seg_lock id locked g) (map (with_seg_lock id locked) gs), sum_by-cons pages_of g gs)
 
-    pub sound-locked : sum_by locked_pages (map (with_seg_lock id locked) s.segs) + 2 ≤ length s.frames → IsSound (record s { segs = map (with_seg_lock id locked) s.segs })
+    pub sound-locked : sum_by locked_pages (map (with_seg_lock id locked) s.segs) + 2 ≤ length s.frames → IsStoreSound (record s { segs = map (with_seg_lock id locked) s.segs })
     sound-locked few =
         let t : StoreView = record s { segs = map (with_seg_lock id locked) s.segs } in
         IsSound-from t
@@ -206,7 +206,7 @@ fewer-locked id (g ∷ gs) =
     omega (arith, rest, here, sum_by-cons locked_pages (with_seg_lock id false g) (map (with_seg_lock id false) gs), sum_by-cons locked_pages g gs)
 
 -- locking, where the pages are few enough
-pub few-locked : (s : StoreView) → IsSound s → (id : ℕ) (locked : Bool) → (locked ≡ true → pages_locked (with_lock (held s) id true) + 2 ≤ length s.frames) → sum_by locked_pages (map (with_seg_lock id locked) s.segs) + 2 ≤ length s.frames
+pub few-locked : (s : StoreView) → IsStoreSound s → (id : ℕ) (locked : Bool) → (locked ≡ true → pages_locked (with_lock (held s) id true) + 2 ≤ length s.frames) → sum_by locked_pages (map (with_seg_lock id locked) s.segs) + 2 ≤ length s.frames
 few-locked s sound id false few = let f = fewer-locked id s.segs in omega (arith, f, sound.locked)
 few-locked s sound id true few =
     let t : StoreView = record s { segs = map (with_seg_lock id true) s.segs } in
@@ -222,5 +222,5 @@ none-from None e = refl
 none-from (Some g) e = cc
 
 -- a segment that is not held
-pub not-held : (s : StoreView) → IsSound s → (id : ℕ) → is_held (held s) id ≡ false → find_seg s.segs id ≡ None
+pub not-held : (s : StoreView) → IsStoreSound s → (id : ℕ) → is_held (held s) id ≡ false → find_seg s.segs id ≡ None
 not-held s sound id e = none-from (find_seg s.segs id) (sym (held-in s sound id) ∙ e)

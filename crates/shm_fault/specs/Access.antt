@@ -12,7 +12,7 @@ use Rattle.shm_fault.specs.Store.{StoreView, ref_of, is_swapped, IsResident, IsR
 use Rattle.shm_fault.specs.Steps.{Moves, Kept}
 use Rattle.shm_fault.specs.Goes.{Goes, KeepsLocked, Visits, MovesOn, frame_by, referenced_at}
 use Rattle.shm_fault.specs.Counting.{raised, one_if, CountsOn, hand_after}
-use Rattle.shm_fault.specs.Sound.{IsSound}
+use Rattle.shm_fault.specs.Sound.{IsStoreSound}
 
 -- what a visit to a page leaves, whose frame was known where it had one
 pub record Visited (r : PageRef) (pinned known : Option ℕ) (s t : StoreView) (u v : Touched) (ok : Bool) : Type 0 where
@@ -84,4 +84,4 @@ pub record Accessed (ps : List Span) (s t : StoreView) (result : Result Touched 
   pub counts : GoesOn s.swap t.swap
   pub same_sizes : sizes t.swap ≡ sizes s.swap
   pub size : length t.frames ≡ length s.frames
-  pub sound : IsSound t
+  pub sound : IsStoreSound t

@@ -23,7 +23,7 @@ pub record Tied (s : StoreView) : Type 0 where
   pub slot_owners : (k : Slot) (r : PageRef) → owner_of s.swap k.area k.slot ≡ Some r → HasPage s.segs r
   pub free : (f : ℕ) → (frame_at s.frames f).owner ≡ None → (frame_at s.frames f).dirty ≡ false
 
-pub record IsSound (s : StoreView) : Type 0 where
+pub record IsStoreSound (s : StoreView) : Type 0 where
   pub tied : Tied s
   pub apart : AreApart s.segs
   pub frames : (2 ≤ length s.frames) × (length s.frames ≤ 4096)

@@ -6,7 +6,7 @@ ghost use Rattle.shm_plain.specs.Held.{FitsPage, read_from, written, pasted, pas
 ghost use Rattle.shm_frames.specs.Frame.{frame_at};
 ghost use Rattle.shm_fault.specs.Segs.{HasPage};
 ghost use Rattle.shm_fault.specs.Store.{held, frame_of, page_of, ref_of};
-ghost use Rattle.shm_fault.specs.Sound.{IsSound};
+ghost use Rattle.shm_fault.specs.Sound.{IsStoreSound};
 ghost use Rattle.shm_fault.specs.Goes.{frame_by, referenced_at};
 ghost use Rattle.shm_fault.specs.Access.{AreIn, Brings, Accessed, brought_of};
 ghost use Rattle.shm_fault.specs.Adding.{number_in, added};
@@ -48,7 +48,7 @@ impl<P: Pager> PageStore<P> {
         requires { FitsPage (held self.now) span.now }
         ensures page { result ≡ ref_of span.now }
         ensures has { HasPage self.now.segs result }
-        ensures sound { IsSound self.now }
+        ensures sound { IsStoreSound self.now }
     {
         // What is read of the store has a proof know what is true of it.
         let _ = &self.segs;
@@ -135,7 +135,7 @@ impl<P: Pager> PageStore<P> {
         requires frames { All (λ (p : Stretch). p.frame ≡ frame_of self.old p.seg (page_of p)) spans.now }
         ensures here { IfOk result (λ b. AreIn self.new spans.now b.0) }
         ensures brings { Brings spans.now self.old self.new (brought_of result) (is_ok result) }
-        ensures sound { IsSound self.new }
+        ensures sound { IsStoreSound self.new }
     {
         let mut touched = Touched::none();
         let brought = self.bring_spans(spans, &mut touched);
@@ -169,7 +169,7 @@ impl<P: Pager> PageStore<P> {
         ensures bits { (f : ℕ) → referenced_at self.new f ≡ referenced_at self.old f }
         ensures rest { self.new ≡ record self.old { frames = self.new.frames } }
         ensures count { length self.new.frames ≡ length self.old.frames }
-        ensures sound { IsSound self.new }
+        ensures sound { IsStoreSound self.new }
     {
         let from = (span.at % PAGE_SIZE) as usize;
         paste_into(&mut self.frames, frame, from, bytes);
@@ -207,7 +207,7 @@ impl<P: Pager> PageStore<P> {
         ensures bits { (f : ℕ) → referenced_at self.new f ≡ referenced_at self.old f }
         ensures rest { self.new ≡ record self.old { frames = self.new.frames } }
         ensures count { length self.new.frames ≡ length self.old.frames }
-        ensures sound { IsSound self.new }
+        ensures sound { IsStoreSound self.new }
     {
         // What is read of the store has a proof know what is true of it.
         let _ = &self.segs;

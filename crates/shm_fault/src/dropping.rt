@@ -8,7 +8,7 @@ ghost use Rattle.shm_slots.specs.Cause.{GoesOn, IsSteady, total};
 ghost use Rattle.shm_frames.specs.Frame.{frame_at};
 ghost use Rattle.shm_fault.specs.Segs.{HasPage, with_rec, no_page, rec_by, but};
 ghost use Rattle.shm_fault.specs.Store.{held, frame_of, disowned};
-ghost use Rattle.shm_fault.specs.Sound.{IsSound};
+ghost use Rattle.shm_fault.specs.Sound.{IsStoreSound};
 ghost use Rattle.shm_fault.specs.Counting.{AtRest};
 ghost use Rattle.shm_fault.specs.Dropping.{emptied, Given, FrameThere, SlotThere, IsBlank};
 
@@ -77,7 +77,7 @@ impl<P: Pager> PageStore<P> {
         ensures count { length self.new.frames ≡ length self.old.frames }
         ensures rest { AtRest self.old self.new }
         ensures blank { IsBlank seg self.old → self.new ≡ record self.old { segs = but seg self.old.segs } }
-        ensures sound { IsSound self.new }
+        ensures sound { IsStoreSound self.new }
     {
         let count = self.segs.count(seg) as u32;
         for page in 0..count {

@@ -4,7 +4,7 @@ ghost use Rattle.shm_slots.specs.View.{sizes};
 ghost use Rattle.shm_slots.specs.Cause.{GoesOn, total, some_spent};
 ghost use Rattle.shm_frames.specs.Frame.{frame_at};
 ghost use Rattle.shm_fault.specs.Store.{held, frame_of};
-ghost use Rattle.shm_fault.specs.Sound.{IsSound};
+ghost use Rattle.shm_fault.specs.Sound.{IsStoreSound};
 ghost use Rattle.shm_fault.specs.Steps.{Kept};
 ghost use Rattle.shm_fault.specs.Goes.{Goes, Still};
 ghost use Rattle.shm_fault.specs.Counting.{raised};
@@ -40,7 +40,7 @@ impl<P: Pager> PageStore<P> {
         ensures counted { some_spent self.new.swap ≡ false → total self.new.swap ≡ total self.old.swap + (if dirty_after self.new frame then 1 else 0) }
         ensures written_out { (n : ℕ) → self.old.outs ≡ raised n report.old.written → self.new.outs ≡ raised n report.new.written }
         ensures rest { self.new ≡ record self.old { segs = self.new.segs; frames = self.new.frames; swap = self.new.swap; outs = self.new.outs } }
-        ensures sound { IsSound self.new }
+        ensures sound { IsStoreSound self.new }
     {
         match self.page_out(frame) {
             Ok(()) => report.written += 1,
@@ -59,7 +59,7 @@ impl<P: Pager> PageStore<P> {
         ensures counts { GoesOn self.old.swap self.new.swap }
         ensures sizes { sizes self.new.swap ≡ sizes self.old.swap }
         ensures count { length self.new.frames ≡ length self.old.frames }
-        ensures sound { IsSound self.new }
+        ensures sound { IsStoreSound self.new }
     {
         let mut report = FlushReport {
             written: 0,

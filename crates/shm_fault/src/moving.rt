@@ -5,7 +5,7 @@ ghost use Rattle.shm_slots.specs.View.{HasSlot, IsSwap, area_at, owner_of, page_
 ghost use Rattle.shm_slots.specs.Cause.{GoesOn, had_cause};
 ghost use Rattle.shm_fault.specs.Segs.{rec_by};
 ghost use Rattle.shm_fault.specs.Store.{held, frame_of};
-ghost use Rattle.shm_fault.specs.Sound.{IsSound};
+ghost use Rattle.shm_fault.specs.Sound.{IsStoreSound};
 ghost use Rattle.shm_fault.specs.Steps.{Kept};
 ghost use Rattle.shm_fault.specs.Goes.{Goes, Still};
 ghost use Rattle.shm_fault.specs.Counting.{AtRest};
@@ -79,7 +79,7 @@ impl<P: Pager> PageStore<P> {
         ensures still { Still self.old self.new }
         ensures cleared { IsCleared slot self.old.swap self.new.swap }
         ensures rest { AtRest self.old self.new }
-        ensures sound { IsSound self.new }
+        ensures sound { IsStoreSound self.new }
     {
         self.swap.give_slot(slot);
         self.frames.set_dirty(frame, true);
@@ -101,7 +101,7 @@ impl<P: Pager> PageStore<P> {
         ensures cleared { OnOk result (IsCleared slot self.old.swap self.new.swap) }
         ensures rest { AtRest self.old self.new }
         ensures cause { OnErr result (had_cause self.old.swap self.new.swap ≡ true) }
-        ensures sound { IsSound self.new }
+        ensures sound { IsStoreSound self.new }
     {
         match relocate(&mut self.swap, page, slot) {
             Ok(to) => {
@@ -127,7 +127,7 @@ impl<P: Pager> PageStore<P> {
         ensures cleared { OnOk result (IsCleared slot self.old.swap self.new.swap) }
         ensures rest { AtRest self.old self.new }
         ensures cause { OnErr result (had_cause self.old.swap self.new.swap ≡ true) }
-        ensures sound { IsSound self.new }
+        ensures sound { IsStoreSound self.new }
     {
         let Some(page) = self.swap.owner(slot) else {
             return Ok(());
@@ -159,7 +159,7 @@ impl<P: Pager> PageStore<P> {
         ensures still { (s page : ℕ) → frame_of self.new s page ≡ frame_of self.old s page }
         ensures kept { Kept self.old self.new }
         ensures counts { GoesOn self.old.swap self.new.swap }
-        ensures sound { IsSound self.new }
+        ensures sound { IsStoreSound self.new }
     {
         let count = self.swap.size(area).unwrap_or(0);
         for slot in 0..count {

@@ -7,7 +7,7 @@ ghost use Rattle.shm_frames.specs.Frame.{frame_at, no_frame, OwnedBelow};
 ghost use Rattle.shm_clock.specs.Clock.{may_go, listed, victim_of, next, IsClockVictim};
 ghost use Rattle.shm_fault.specs.Segs.{rec_by, HasPage, with_rec};
 ghost use Rattle.shm_fault.specs.Store.{StoreView, stored, is_swapped};
-ghost use Rattle.shm_fault.specs.Sound.{IsSound};
+ghost use Rattle.shm_fault.specs.Sound.{IsStoreSound};
 ghost use Rattle.shm_fault.specs.Counting.{raised, one_if, CountsOn, victim_by, turned, hand_for_frame};
 ghost use Rattle.shm_fault.specs.Access.{Visited};
 ghost use Rattle.shm_fault.specs.Goes.{Goes, Still, StaysAway, Alike, Visits, MovesOn, referenced_at, unlocked, frame_by, same_ref};
@@ -88,7 +88,7 @@ impl<P: Pager> PageStore<P> {
         ensures away { StaysAway self.old self.new }
         ensures goes { Goes self.old self.new }
         ensures failures { total self.new.swap ≡ total self.old.swap }
-        ensures sound { IsSound self.new }
+        ensures sound { IsStoreSound self.new }
     {
         let Some(page) = self.frames.owner(frame) else {
             unreachable!();
@@ -122,7 +122,7 @@ impl<P: Pager> PageStore<P> {
         ensures goes { Goes self.old self.new }
         ensures cause { OnErr result (had_cause self.old.swap self.new.swap ≡ true) }
         ensures counted { some_spent self.new.swap ≡ false → total self.new.swap ≡ total self.old.swap + (if is_ok result then 0 else 1) }
-        ensures sound { IsSound self.new }
+        ensures sound { IsStoreSound self.new }
     {
         match self.swap.write_slot(slot, self.frames.bytes(frame)) {
             Ok(()) => {
@@ -148,7 +148,7 @@ impl<P: Pager> PageStore<P> {
         ensures goes { Goes self.old self.new }
         ensures cause { OnErr result (had_cause self.old.swap self.new.swap ≡ true) }
         ensures counted { some_spent self.new.swap ≡ false → total self.new.swap ≡ total self.old.swap + (if is_ok result then 0 else 1) }
-        ensures sound { IsSound self.new }
+        ensures sound { IsStoreSound self.new }
     {
         let slot = self.slot_for(frame);
         self.write_back(frame, slot)
@@ -165,7 +165,7 @@ impl<P: Pager> PageStore<P> {
         ensures segs { self.new.segs ≡ with_rec self.old.segs result (record (rec_by self.old.segs result) { frame = None }) }
         ensures rest { self.new ≡ record self.old { segs = self.new.segs; frames = self.new.frames } }
         ensures goes { Goes self.old self.new }
-        ensures sound { IsSound self.new }
+        ensures sound { IsStoreSound self.new }
     {
         let Some(page) = self.frames.owner(frame) else {
             unreachable!();

@@ -3,10 +3,10 @@ ghost use Rattle.std.specs.Prelude.{◌≡◌, ℕ, [], ◌∷◌, ◌++◌, ◌
 ghost use Rattle.shm_plain.specs.Held.{is_held, pages_held, pages_locked, with_zeros, with_lock};
 ghost use Rattle.shm_slots.specs.View.{slots, owner_of, size_of, area_at};
 ghost use Rattle.shm_slots.specs.Cause.{total};
-ghost use Rattle.shm_frames.specs.Frame.{IsBlank};
+ghost use Rattle.shm_frames.specs.Frame.{IsFrameBlank};
 ghost use Rattle.shm_fault.specs.Segs.{with_seg_lock, new_seg};
 ghost use Rattle.shm_fault.specs.Store.{fresh_store, held, frame_of, resident, dirty, used};
-ghost use Rattle.shm_fault.specs.Sound.{IsSound};
+ghost use Rattle.shm_fault.specs.Sound.{IsStoreSound};
 
 use crate::page_tables::PageTables;
 use crate::touched::PageTally;
@@ -32,13 +32,13 @@ pub struct PageStore<P: Pager> {
 
 impl<P: Pager> Model for PageStore<P> {
     ghost use Rattle.shm_fault.specs.Store.{StoreView};
-    ghost use Rattle.shm_fault.specs.Sound.{IsSound};
+    ghost use Rattle.shm_fault.specs.Sound.{IsStoreSound};
 
     ghost Value = { StoreView };
 
     ghost view = { λ s. record { segs = s.segs; frames = s.frames; hand = s.hand; swap = s.swap; ins = s.ins; outs = s.outs } };
 
-    ghost invariant = { λ s. IsSound (record { segs = s.segs; frames = s.frames; hand = s.hand; swap = s.swap; ins = s.ins; outs = s.outs }) };
+    ghost invariant = { λ s. IsStoreSound (record { segs = s.segs; frames = s.frames; hand = s.hand; swap = s.swap; ins = s.ins; outs = s.outs }) };
 }
 
 impl<P: Pager> PageStore<P> {
@@ -48,8 +48,8 @@ impl<P: Pager> PageStore<P> {
         requires frames { (2 ≤ frames) × (frames ≤ 4096) }
         requires free { (area slot : ℕ) → owner_of swap area slot ≡ None }
         ensures fresh { IfOk result (λ s. s ≡ fresh_store s.frames swap) }
-        ensures frames { IfOk result (λ s. (length s.frames ≡ frames) × ((f : ℕ) → IsBlank s.frames f)) }
-        ensures sound { IfOk result IsSound }
+        ensures frames { IfOk result (λ s. (length s.frames ≡ frames) × ((f : ℕ) → IsFrameBlank s.frames f)) }
+        ensures sound { IfOk result IsStoreSound }
     {
         let frames = Frames::new(alloc, frames)?;
         Ok(PageStore {
@@ -93,7 +93,7 @@ impl<P: Pager> PageStore<P> {
         ensures rest { OnOk result (self.new ≡ record self.old { segs = self.old.segs ++ new_seg seg pages ∷ [] }) }
         ensures still { (s page : ℕ) → frame_of self.new s page ≡ frame_of self.old s page }
         ensures err { OnErr result (self.new ≡ self.old) }
-        ensures sound { IsSound self.new }
+        ensures sound { IsStoreSound self.new }
     {
         self.segs.add(seg, pages)
     }
@@ -106,7 +106,7 @@ impl<P: Pager> PageStore<P> {
         ensures only { self.new ≡ record self.old { segs = map (with_seg_lock seg locked) self.old.segs } }
         ensures held { held self.new ≡ with_lock (held self.old) seg locked }
         ensures still { (s page : ℕ) → frame_of self.new s page ≡ frame_of self.old s page }
-        ensures sound { IsSound self.new }
+        ensures sound { IsStoreSound self.new }
     {
         self.segs.set_locked(seg, locked);
     }
@@ -120,7 +120,7 @@ impl<P: Pager> PageStore<P> {
         ensures ins { result.ins ≡ self.now.ins }
         ensures outs { result.outs ≡ self.now.outs }
         ensures failures { result.failures ≡ min (total self.now.swap) (2 ^ 64 - 1) }
-        ensures sound { IsSound self.now }
+        ensures sound { IsStoreSound self.now }
     {
         PageTally {
             resident: self.frames.resident(),

@@ -8,7 +8,7 @@ use Rattle.std.proofs.lemmas.List.Folds.{sum_by-replicate}
 use Rattle.std.proofs.lemmas.List.Sums.{sum_by-cons, sum_by-set, count_by-le-length}
 use Rattle.shm_base.specs.declared.paging.PageRef.{PageRef}
 use Rattle.shm_frames.specs.declared.frames.Entry.{Entry}
-use Rattle.shm_frames.specs.Table.{free_entry, entry_at, has_owner, has_no_owner, has_changed, UsedBelow, IsKept}
+use Rattle.shm_frames.specs.Table.{free_entry, entry_at, has_owner, has_no_owner, has_changed, UsedBelow, IsFrameTable}
 
 -- where one test passes only if the other does, it passes no more often
 count_by-le : {X : Type 0} (p q : X → Bool) (d : X) (xs : List X) → ((i : ℕ) → i < length xs → p (get_or xs i d) ≡ true → q (get_or xs i d) ≡ true) → count_by p xs ≤ count_by q xs
@@ -31,11 +31,11 @@ changed-owned x clear changed = by x.owner refl
     by (Some r) e = refl
 
 -- a dirty frame is owned
-pub dirty-le-resident : (table : List Entry) (first owned changed : ℕ) → IsKept table first owned changed → changed ≤ owned
+pub dirty-le-resident : (table : List Entry) (first owned changed : ℕ) → IsFrameTable table first owned changed → changed ≤ owned
 dirty-le-resident table first owned changed k =
     rw (k.resident, k.dirty) (count_by-le has_changed has_owner free_entry table (λ i l h. changed-owned (entry_at table i) (k.clear i) h))
 
-pub resident-le : (table : List Entry) (first owned changed : ℕ) → IsKept table first owned changed → owned ≤ length table
+pub resident-le : (table : List Entry) (first owned changed : ℕ) → IsFrameTable table first owned changed → owned ≤ length table
 resident-le table first owned changed k = rw k.resident (count_by-le-length has_owner table)
 
 worth : (b : Bool) → cond b 1 0 ≡ from_bool b
@@ -43,8 +43,8 @@ worth true = refl
 worth false = refl
 
 -- what is kept after an edit of one entry, of which `was` is what stood there
-module _ {table : List Entry} {first owned changed i : ℕ} {was : Entry} (k : IsKept table first owned changed) (there : i < length table) (at : was ≡ entry_at table i) where
-  --X : List Entry) (first owned changed i : ℕ) (was : Entry) (k : IsKept table first owned changed) (there : i < length table) (at : was ≡ entry_at table i) where
+module _ {table : List Entry} {first owned changed i : ℕ} {was : Entry} (k : IsFrameTable table first owned changed) (there : i < length table) (at : was ≡ entry_at table i) where
+  --X : List Entry) (first owned changed i : ℕ) (was : Entry) (k : IsFrameTable table first owned changed) (there : i < length table) (at : was ≡ entry_at table i) where
   owned-set : (x : Entry) → count_by has_owner (set table i x) + from_bool (has_owner was) ≡ owned + from_bool (has_owner x)
   owned-set x = rw (← worth (has_owner was), ← worth (has_owner x), at, k.resident) (sum_by-set (λ y. cond (has_owner y) 1 0) table i x free_entry there)
 
@@ -87,7 +87,7 @@ module _ {table : List Entry} {first owned changed i : ℕ} {was : Entry} (k : I
       by (inr n) = rw (get_or-set_other table i j x free_entry n) (others j lt n)
 
   -- the bits of an owned frame change
-  pub kept-bits : (x : Entry) (changed' : ℕ) → is_some was.owner ≡ true → x.owner ≡ was.owner → changed' + from_bool was.dirty ≡ changed + from_bool x.dirty → IsKept (set table i x) first owned changed'
+  pub kept-bits : (x : Entry) (changed' : ℕ) → is_some was.owner ≡ true → x.owner ≡ was.owner → changed' + from_bool was.dirty ≡ changed + from_bool x.dirty → IsFrameTable (set table i x) first owned changed'
   kept-bits x changed' some same by =
       let busy : is_some x.owner ≡ true = rw same some in
       record {
@@ -104,7 +104,7 @@ module _ {table : List Entry} {first owned changed i : ℕ} {was : Entry} (k : I
       by-some (Some r) h = refl
 
   -- a free frame is given to a page
-  pub kept-fill : (r : PageRef) (later : ℕ) → was.owner ≡ None → later ≤ length table → ((j : ℕ) → j < later → j ≢ i → has_no_owner (entry_at table j) ≡ false) → IsKept (set table i (record was { owner = Some r })) later (owned + 1) changed
+  pub kept-fill : (r : PageRef) (later : ℕ) → was.owner ≡ None → later ≤ length table → ((j : ℕ) → j < later → j ≢ i → has_no_owner (entry_at table j) ≡ false) → IsFrameTable (set table i (record was { owner = Some r })) later (owned + 1) changed
   kept-fill r later free bound used =
       let x : Entry = record was { owner = Some r } in
       let e : count_by has_owner (set table i x) + from_bool (has_owner was) ≡ owned + 1 = owned-set x in
@@ -119,7 +119,7 @@ module _ {table : List Entry} {first owned changed i : ℕ} {was : Entry} (k : I
       }
 
   -- a frame is made free
-  pub kept-empty : (later : ℕ) → later ≤ first → later ≤ i → IsKept (set table i free_entry) later (owned - from_bool (has_owner was)) (changed - from_bool was.dirty)
+  pub kept-empty : (later : ℕ) → later ≤ first → later ≤ i → IsFrameTable (set table i free_entry) later (owned - from_bool (has_owner was)) (changed - from_bool was.dirty)
   kept-empty later below past =
       record {
         few = rw (length-set table i free_entry) k.few;
@@ -146,7 +146,7 @@ free-entries n i = by (cases_lt i n)
 pub new-entry : (table : List Entry) (n i : ℕ) → table ≡ replicate n free_entry → entry_at table i ≡ free_entry
 new-entry table n i e = rw e (free-entries n i)
 
-pub kept-new : (table : List Entry) (n : ℕ) → table ≡ replicate n free_entry → n < 2 ^ 32 → IsKept table 0 0 0
+pub kept-new : (table : List Entry) (n : ℕ) → table ≡ replicate n free_entry → n < 2 ^ 32 → IsFrameTable table 0 0 0
 kept-new table n e few =
     rw e
     (record {
@@ -171,9 +171,9 @@ all-counted p d (x ∷ xs) e i l =
     by j lt false h few sum rest = absurd (omega arith)
 
 -- where as many are owned as there are, none is free
-pub none-free : (table : List Entry) (first owned changed : ℕ) → IsKept table first owned changed → owned ≡ length table → UsedBelow table (length table)
+pub none-free : (table : List Entry) (first owned changed : ℕ) → IsFrameTable table first owned changed → owned ≡ length table → UsedBelow table (length table)
 none-free table first owned changed k e i l = rw (all-counted has_owner free_entry table (sym k.resident ∙ e) i l) refl
 
 -- where the next search begins
-pub kept-later : (table : List Entry) (first owned changed later : ℕ) → IsKept table first owned changed → later ≤ length table → UsedBelow table later → IsKept table later owned changed
+pub kept-later : (table : List Entry) (first owned changed later : ℕ) → IsFrameTable table first owned changed → later ≤ length table → UsedBelow table later → IsFrameTable table later owned changed
 kept-later table first owned changed later k bound used = record { few = k.few; bound = bound; used = used; resident = k.resident; dirty = k.dirty; clear = k.clear }

@@ -7,14 +7,14 @@ use Rattle.std.proofs.lemmas.List.{get_or_read}
 use Rattle.shm_frames.specs.declared.frames.Entry.{Entry}
 use Rattle.shm_frames.specs.declared.frames.Frames.TheInside.{Inside}
 use Rattle.shm_frames.specs.Frame.{Frame, frame_at, is_free, is_owned, is_dirty, resident_of, dirty_of, FreeAreClear}
-use Rattle.shm_frames.specs.Table.{frame_of, frames_of, free_entry, entry_at, has_owner, has_no_owner, has_changed, IsKept}
+use Rattle.shm_frames.specs.Table.{frame_of, frames_of, free_entry, entry_at, has_owner, has_no_owner, has_changed, IsFrameTable}
 
-pub record Shows (table : List Entry) (pages : List (List ℕ)) (frames : List Frame) : Type 0 where
+pub record AreFramesShown (table : List Entry) (pages : List (List ℕ)) (frames : List Frame) : Type 0 where
   pub beside : length pages ≡ length table
   pub is : frames_of table pages ≡ frames
 
 -- what the fields show
-pub shown : (a : Inside) {frames : List Frame} → (length a.pages.items ≡ length a.table.items) × IsKept a.table.items a.first_free a.resident a.dirty → frames_of a.table.items a.pages.items ≡ frames → Shows a.table.items a.pages.items frames
+pub shown : (a : Inside) {frames : List Frame} → (length a.pages.items ≡ length a.table.items) × IsFrameTable a.table.items a.first_free a.resident a.dirty → frames_of a.table.items a.pages.items ≡ frames → AreFramesShown a.table.items a.pages.items frames
 shown a invariant is = record { beside = invariant.0; is = is }
 
 length-frames_of : (table : List Entry) (pages : List (List ℕ)) → length pages ≡ length table → length (frames_of table pages) ≡ length table
@@ -55,7 +55,7 @@ prefix-frames_of [] pages e = refl
 prefix-frames_of (x ∷ table) [] e = absurd (omega arith)
 prefix-frames_of (x ∷ table) (b ∷ pages) e = rw (prefix-frames_of table pages (omega arith)) refl
 
-module _ {table : List Entry} {pages : List (List ℕ)} {frames : List Frame} (s : Shows table pages frames) where
+module _ {table : List Entry} {pages : List (List ℕ)} {frames : List Frame} (s : AreFramesShown table pages frames) where
   pub length-shown : length frames ≡ length table
   length-shown = ap length (sym s.is) ∙ length-frames_of table pages s.beside
 

@@ -34,12 +34,12 @@ abbrev pub dirty_of : List Frame → ℕ
 dirty_of frames = count_by is_dirty frames
 
 -- the frame is nobody's, and its bits are clear
-abbrev pub IsBlank : List Frame → ℕ → Type 0
-IsBlank frames i = frame_at frames i ≡ record no_frame { bytes = (frame_at frames i).bytes }
+abbrev pub IsFrameBlank : List Frame → ℕ → Type 0
+IsFrameBlank frames i = frame_at frames i ≡ record no_frame { bytes = (frame_at frames i).bytes }
 
 -- frames that nobody owns have clear bits
 abbrev pub FreeAreClear : List Frame → Type 0
-FreeAreClear frames = (i : ℕ) → (frame_at frames i).owner ≡ None → IsBlank frames i
+FreeAreClear frames = (i : ℕ) → (frame_at frames i).owner ≡ None → IsFrameBlank frames i
 
 -- each frame below is owned
 abbrev pub OwnedBelow : List Frame → ℕ → Type 0

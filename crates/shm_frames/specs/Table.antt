@@ -32,7 +32,7 @@ abbrev pub UsedBelow : List Entry → ℕ → Type 0
 UsedBelow table n = (i : ℕ) → i < n → has_no_owner (entry_at table i) ≡ false
 
 -- what is kept beside the table
-pub record IsKept (table : List Entry) (first_free owned changed : ℕ) : Type 0 where
+pub record IsFrameTable (table : List Entry) (first_free owned changed : ℕ) : Type 0 where
   pub few : length table < 2 ^ 32
   pub bound : first_free ≤ length table
   pub used : UsedBelow table first_free

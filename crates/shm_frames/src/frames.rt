@@ -38,11 +38,11 @@ impl Model for Frames {
 
     ghost Value = { List Frame };
 
-    ghost use Rattle.shm_frames.specs.Table.{frames_of, IsKept};
+    ghost use Rattle.shm_frames.specs.Table.{frames_of, IsFrameTable};
 
     ghost view = { λ a. frames_of a.table.items a.pages.items };
 
-    ghost invariant = { λ a. (length a.pages.items ≡ length a.table.items) × IsKept a.table.items a.first_free a.resident a.dirty };
+    ghost invariant = { λ a. (length a.pages.items ≡ length a.table.items) × IsFrameTable a.table.items a.first_free a.resident a.dirty };
 }
 
 impl Entry {
@@ -70,13 +70,13 @@ fn free_from(table: &Vec<Entry>, first: FrameNo) -> Option<FrameNo>
 }
 
 impl Frames {
-    ghost use Rattle.shm_frames.specs.Frame.{frame_at, no_frame, is_free, resident_of, dirty_of, FreeAreClear, OwnedBelow, IsLeastFree, IsBlank};
+    ghost use Rattle.shm_frames.specs.Frame.{frame_at, no_frame, is_free, resident_of, dirty_of, FreeAreClear, OwnedBelow, IsLeastFree, IsFrameBlank};
     ghost use Rattle.shm_frames.specs.Lends.{lends_bytes};
 
     /// So many free frames, in memory that is taken here once and for all.
     pub fn new(alloc: Global, count: u32) -> Result<Frames, HostMemory>
         ensures size { IfOk result (λ frames. length frames ≡ count) }
-        ensures free { IfOk result (λ frames. (i : ℕ) → IsBlank frames i) }
+        ensures free { IfOk result (λ frames. (i : ℕ) → IsFrameBlank frames i) }
     {
         let mut table = Vec::with_capacity(alloc, count as usize)?;
         let mut pages = Vec::with_capacity(alloc, count as usize)?;

@@ -26,9 +26,9 @@ pub struct SeatView {
 pub struct Gauged;
 
 impl Protocol<[u64; 4], SeatView> for Gauged {
-    ghost use Rattle.shm_history.specs.Gauges.{IsKept, keeping, zeros};
+    ghost use Rattle.shm_history.specs.Gauges.{IsGaugeKept, keeping, zeros};
 
-    ghost holds = { IsKept };
+    ghost holds = { IsGaugeKept };
 
     ghost first = { keeping zeros };
 }

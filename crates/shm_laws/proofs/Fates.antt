@@ -96,7 +96,7 @@ removed-call (Swapoff area) reply id h = absurd (none-some id h)
 -- WHAT IS KEPT
 
 -- what is marked has a piece, and who is not born has none
-pub record IsSound (s : Machine) : Type 0 where
+pub record IsMachineSound (s : Machine) : Type 0 where
   pub orphans : (i : ℕ) → i < 32768 → orphan s.runners s.table i ≡ false
   pub bare : Bare s.runners
 
@@ -162,7 +162,7 @@ swept-sound i rs d y =
       | inr h ↦ rw h h
     ]
 
-module _ (over : ℕ → List ℕ → List ℕ) (like : Segment → Type 0) (r : Option ℕ) (reply : Reply) (s t : Machine) (sound : IsSound s) (i : ℕ) (small : i < 32768) where
+module _ (over : ℕ → List ℕ → List ℕ) (like : Segment → Type 0) (r : Option ℕ) (reply : Reply) (s t : Machine) (sound : IsMachineSound s) (i : ℕ) (small : i < 32768) where
   stays-still : (d : ℕ) (x : Segment) → StillTo over s t → slice_get s.table i ≡ holds d x → Stays (over i) i t.runners false d x (slice_get t.table i)
   stays-still d x k is =
       let u = k.turned i in
@@ -300,7 +300,7 @@ bare-after s e t (inl (none, inr (no_byte, inl k))) bare = k.bare bare
 bare-after s e t (inl (none, inr (no_byte, inr k))) bare = rw k.runners bare
 bare-after s e t (inr (no_byte, k)) bare = rw k.removes.runners bare
 
-pub sound-after : (s : Machine) (e : Event) (t : Machine) → Moved s e t → IsSound s → IsSound t
+pub sound-after : (s : Machine) (e : Event) (t : Machine) → Moved s e t → IsMachineSound s → IsMachineSound t
 sound-after s e t k sound =
     record {
       orphans = λ i small. orphan-after (overlay s e) (made_by (caller_of s e.pid) e.call) (removed e.call e.reply) e.reply s t sound i small k (slice_get s.table i) refl;

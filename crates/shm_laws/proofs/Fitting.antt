@@ -18,7 +18,7 @@ use Rattle.shm_laws.specs.Standing.{Stands, Has, EachPiece}
 use Rattle.shm_laws.specs.Writing.{held_by, put}
 use Rattle.shm_laws.proofs.Fates.{kind-move}
 use Rattle.shm_laws.proofs.Accessing.{lies-in}
-use Rattle.shm_laws.proofs.Granting.{Given, Aligned, each-has, has-own, mine, each-start, given-move, aligned-move}
+use Rattle.shm_laws.proofs.Granting.{IsPieceGiven, Aligned, each-has, has-own, mine, each-start, given-move, aligned-move}
 use Rattle.shm_laws.proofs.Handing.{IsAligned}
 use Rattle.shm_laws.proofs.Looks.{holds, stands-at}
 use Rattle.shm_laws.proofs.Naming.{Before, came-from}
@@ -74,7 +74,7 @@ pub record Fits (s : Machine) (p : Piece) : Type 0 where
 abbrev pub AllFit : Machine → Type 0
 AllFit s = EachPiece (λ pid p. Fits s p) s
 
-fits-given : (s : Machine) (e : Event) (pid : ℕ) (p : Piece) → AllFit s → Given s e pid p → Fits s p
+fits-given : (s : Machine) (e : Event) (pid : ℕ) (p : Piece) → AllFit s → IsPieceGiven s e pid p → Fits s p
 fits-given s e pid p all (inl h) =
     let part = h.2 in
     let old = each-has (λ n q. Fits s q) s pid h.0 all h.1 in
@@ -116,7 +116,7 @@ fit-move s n e t now m = record { whole = whole; aligned = aligned-move s n e t 
     whole : IsWhole t
     whole = (whole-move s n e t now.whole m).0
 
-    given : EachPiece (Given s e) t
+    given : EachPiece (IsPieceGiven s e) t
     given = given-move s n e t now.aligned m
 
     fits : AllFit t

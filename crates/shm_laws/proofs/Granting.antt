@@ -97,14 +97,14 @@ each-has law s pid p each h =
 pub has-own : (s : Machine) (r : Runner) → Contains s.runners r → All (Has s r.pid) r.pieces
 has-own s r is = λ k d lt. record { process = r; is = is; named = refl; has = Contains-get_or r.pieces k d lt }
 
-abbrev pub IsKept : Machine → ℕ → Piece → Type 0
-IsKept s pid p = (q : Piece) × Has s pid q × IsPart p q
+abbrev pub IsPieceKept : Machine → ℕ → Piece → Type 0
+IsPieceKept s pid p = (q : Piece) × Has s pid q × IsPart p q
 
-abbrev pub Given : Machine → Event → ℕ → Piece → Type 0
-Given s e pid p = IsKept s pid p ⊎ (IsInherited s e pid p ⊎ IsGranted s e pid p)
+abbrev pub IsPieceGiven : Machine → Event → ℕ → Piece → Type 0
+IsPieceGiven s e pid p = IsPieceKept s pid p ⊎ (IsInherited s e pid p ⊎ IsGranted s e pid p)
 
 abbrev AllGiven : Machine → Event → List Runner → Type 0
-AllGiven s e rs = All (λ (r : Runner). All (Given s e r.pid) r.pieces) rs
+AllGiven s e rs = All (λ (r : Runner). All (IsPieceGiven s e r.pid) r.pieces) rs
 
 abbrev pub Aligned : Machine → Type 0
 Aligned s = EachPiece (λ pid p. IsAligned p) s
@@ -112,7 +112,7 @@ Aligned s = EachPiece (λ pid p. IsAligned p) s
 kept-all : (s : Machine) (e : Event) → AllGiven s e s.runners
 kept-all s e = λ k d lt.
     let r = get_or s.runners k d in
-    All-weaker (Has s r.pid) (Given s e r.pid) (λ p h. inl (p, h, part_refl p)) r.pieces (has-own s r (Contains-get_or s.runners k d lt))
+    All-weaker (Has s r.pid) (IsPieceGiven s e r.pid) (λ p h. inl (p, h, part_refl p)) r.pieces (has-own s r (Contains-get_or s.runners k d lt))
 
 module _ (s : Machine) (pid : ℕ) (c : Caller) (is : caller_of s pid ≡ Some c) where
   abbrev me : Runner
@@ -134,13 +134,13 @@ module _ (s : Machine) (pid : ℕ) (c : Caller) (is : caller_of s pid ≡ Some c
     pages : All IsAligned c.pieces
     pages = All-contains (λ (r : Runner). All IsAligned r.pieces) s.runners me aligned me-is
 
-    given-set : (i : ℕ) (r : Runner) → All (Given s e r.pid) r.pieces → AllGiven s e (slice_set s.runners i r)
-    given-set i r own = all-slice_set (λ (q : Runner). All (Given s e q.pid) q.pieces) s.runners i r (kept-all s e) own
+    given-set : (i : ℕ) (r : Runner) → All (IsPieceGiven s e r.pid) r.pieces → AllGiven s e (slice_set s.runners i r)
+    given-set i r own = all-slice_set (λ (q : Runner). All (IsPieceGiven s e q.pid) q.pieces) s.runners i r (kept-all s e) own
 
     given-attaches : Attaches s c call o → AllGiven s e o.state.runners
     given-attaches k = rw k.runners (given-set c.index (record { pid = c.pid; life = Live c.cred; pieces = pieces_with c k.seg k.segment k.flags k.base }) own)
       where
-        new : Given s e pid (record { base = k.base; seg = k.seg; first_page = 0; pages = pages_in k.segment; writable = not (is_rdonly k.flags) })
+        new : IsPieceGiven s e pid (record { base = k.base; seg = k.seg; first_page = 0; pages = pages_in k.segment; writable = not (is_rdonly k.flags) })
         new =
             inr (inr (record {
               own = refl;
@@ -164,27 +164,27 @@ module _ (s : Machine) (pid : ℕ) (c : Caller) (is : caller_of s pid ≡ Some c
         page_to : (k.base + 4096 * pages_in k.segment) % 4096 ≡ 0
         page_to = let page = k.page pages in omega (arith, page)
 
-        left : All (Given s e pid) (cut k.base (k.base + 4096 * pages_in k.segment) c.pieces)
+        left : All (IsPieceGiven s e pid) (cut k.base (k.base + 4096 * pages_in k.segment) c.pieces)
         left =
-            all-cut (λ p. Has s pid p × IsAligned p) (Given s e pid) k.base (k.base + 4096 * pages_in k.segment)
-            (λ p h. All-weaker (λ q. IsPart q p) (Given s e pid) (λ q part. inl (p, h.0, part)) (parts k.base (k.base + 4096 * pages_in k.segment) p)
+            all-cut (λ p. Has s pid p × IsAligned p) (IsPieceGiven s e pid) k.base (k.base + 4096 * pages_in k.segment)
+            (λ p h. All-weaker (λ q. IsPart q p) (IsPieceGiven s e pid) (λ q part. inl (p, h.0, part)) (parts k.base (k.base + 4096 * pages_in k.segment) p)
             (all-parts k.base (k.base + 4096 * pages_in k.segment) (k.page pages) page_to p h.1))
             c.pieces (λ j d lt. (mine j d lt, pages j d lt))
 
-        own : All (Given s e c.pid) (pieces_with c k.seg k.segment k.flags k.base)
-        own = rw there.own (all-inserted (Given s e pid) _ _ new left)
+        own : All (IsPieceGiven s e c.pid) (pieces_with c k.seg k.segment k.flags k.base)
+        own = rw there.own (all-inserted (IsPieceGiven s e pid) _ _ new left)
 
     given-leaves : Leaves s c call o → AllGiven s e o.state.runners
     given-leaves k =
         rw k.runners
         (given-set c.index (record { pid = c.pid; life = k.life; pieces = _ })
-        (rw there.own (All-filter k.stays (Given s e pid) c.pieces (All-weaker (Has s pid) (Given s e pid) (λ p h. inl (p, h, part_refl p)) c.pieces mine))))
+        (rw there.own (All-filter k.stays (IsPieceGiven s e pid) c.pieces (All-weaker (Has s pid) (IsPieceGiven s e pid) (λ p h. inl (p, h, part_refl p)) c.pieces mine))))
 
     given-forks : Forks s c call o → AllGiven s e o.state.runners
     given-forks k =
         rw k.runners
         (given-set k.index (record { pid = k.child; life = Live c.cred; pieces = c.pieces })
-        (All-weaker (Has s pid) (Given s e k.child) (λ p h. inr (inl (record { call = k.asked; reply = k.answer; parent = h }))) c.pieces mine))
+        (All-weaker (Has s pid) (IsPieceGiven s e k.child) (λ p h. inr (inl (record { call = k.asked; reply = k.answer; parent = h }))) c.pieces mine))
 
     given-hands : Hands s c call o → AllGiven s e o.state.runners
     given-hands (inl k) = rw k.runners (kept-all s e)
@@ -197,17 +197,17 @@ given-by : (s : Machine) (n pid : ℕ) (call : Call) (o : Option Caller) → cal
 given-by s n pid call None is aligned = kept-all s _
 given-by s n pid call (Some c) is aligned = given-hands s pid c is call (acts s n c call) aligned (hands-acts s n c call)
 
-pub given-move : (s : Machine) (n : ℕ) (e : Event) (t : Machine) → Aligned s → IsMove s n e t → EachPiece (Given s e) t
+pub given-move : (s : Machine) (n : ℕ) (e : Event) (t : Machine) → Aligned s → IsMove s n e t → EachPiece (IsPieceGiven s e) t
 given-move s n e t aligned (inl m) =
     subst (λ (o : Outcome). AllGiven s (record { pid = e.pid; call = e.call; reply = o.reply }) o.state.runners) m (given-by s n e.pid e.call (caller_of s e.pid) refl aligned)
 given-move s n e t aligned (inr x) = rw x.unchanged (kept-all s e)
 
 -- what is given holds where it held of what it is given from
 each-given : (law next : ℕ → Piece → Type 0) (s : Machine) (e : Event) (t : Machine)
-    → ((pid : ℕ) (p : Piece) → Given s e pid p → next pid p) → EachPiece (Given s e) t → EachPiece next t
+    → ((pid : ℕ) (p : Piece) → IsPieceGiven s e pid p → next pid p) → EachPiece (IsPieceGiven s e) t → EachPiece next t
 each-given law next s e t each given =
-    All-weaker (λ (r : Runner). All (Given s e r.pid) r.pieces) (λ (r : Runner). All (next r.pid) r.pieces)
-    (λ r all. All-weaker (Given s e r.pid) (next r.pid) (each r.pid) r.pieces all) t.runners given
+    All-weaker (λ (r : Runner). All (IsPieceGiven s e r.pid) r.pieces) (λ (r : Runner). All (next r.pid) r.pieces)
+    (λ r all. All-weaker (IsPieceGiven s e r.pid) (next r.pid) (each r.pid) r.pieces all) t.runners given
 
 part-page : (p q : Piece) → IsPart p q → IsAligned q → IsAligned p
 part-page p q part page = let pages = part.pages in let from = part.from in omega (arith, pages, from, page)
@@ -215,7 +215,7 @@ part-page p q part page = let pages = part.pages in let from = part.from in omeg
 pub aligned-move : (s : Machine) (n : ℕ) (e : Event) (t : Machine) → Aligned s → IsMove s n e t → Aligned t
 aligned-move s n e t aligned m = each-given (λ pid p. IsAligned p) (λ pid p. IsAligned p) s e t page (given-move s n e t aligned m)
   where
-    page : (pid : ℕ) (p : Piece) → Given s e pid p → IsAligned p
+    page : (pid : ℕ) (p : Piece) → IsPieceGiven s e pid p → IsAligned p
     page pid p (inl h) = part-page p h.0 h.2 (each-has (λ pid q. IsAligned q) s pid h.0 aligned h.1)
     page pid p (inr (inl h)) = each-has (λ pid q. IsAligned q) s e.pid p aligned h.parent
     page pid p (inr (inr h)) = h.page
@@ -237,7 +237,7 @@ goes_on o before s e t h now m =
       back = each-given (GoesBack o before) (GoesBack o (before ++ e ∷ [])) s e t back (given-move s (length before + 1) e t now.aligned m);
     }
   where
-    back : (pid : ℕ) (p : Piece) → Given s e pid p → GoesBack o (before ++ e ∷ []) pid p
+    back : (pid : ℕ) (p : Piece) → IsPieceGiven s e pid p → GoesBack o (before ++ e ∷ []) pid p
     back pid p (inl k) = Kept before s e pid p k.0 h k.1 k.2 (each-has (GoesBack o before) s pid k.0 now.back k.1)
     back pid p (inr (inl k)) = Inherited before s e pid p h k (each-has (GoesBack o before) s e.pid p now.back k.parent)
     back pid p (inr (inr k)) = Granted before s e pid p h k

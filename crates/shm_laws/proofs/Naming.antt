@@ -20,7 +20,7 @@ use Rattle.shm_laws.proofs.Handing.{caller-at}
 use Rattle.shm_laws.proofs.Inducting.{GoesOn, at_all_times, since-map}
 use Rattle.shm_laws.proofs.Looks.{holds, bare_entry, stands-at, at-stands, at-gone, at-never, at-next, entry-gone}
 use Rattle.shm_laws.proofs.Stepping.{overlay, made_by, Moved, removed}
-use Rattle.shm_laws.proofs.Fates.{IsSound, IsNew, stays, comes, sound-after, kind-move}
+use Rattle.shm_laws.proofs.Fates.{IsMachineSound, IsNew, stays, comes, sound-after, kind-move}
 use Rattle.shm_laws.proofs.Removing.{sound-start, stands-or-gone}
 
 -- ONE MOVE
@@ -41,7 +41,7 @@ pub record Made (s : Machine) (e : Event) (id : ℕ) (y : Segment) : Type 0 wher
 abbrev pub Before : Machine → Event → ℕ → Segment → Type 0
 Before s e id y = Stood s e id y ⊎ Made s e id y
 
-module _ (s t : Machine) (e : Event) (sound : IsSound s) (k : Moved s e t) (id : ℕ) where
+module _ (s t : Machine) (e : Event) (sound : IsMachineSound s) (k : Moved s e t) (id : ℕ) where
   small : id % 32768 < 32768
   small = omega arith
 
@@ -141,11 +141,11 @@ keeps-trans s u t a b = record { stands = λ id x h. by id x (a.stands id x h); 
 -- WHOLE HISTORIES
 
 record OneMove (s : Machine) (e : Event) (t : Machine) : Type 0 where
-  sound : IsSound t
+  sound : IsMachineSound t
   kept : KeepsNames s t
   new : NamesAnew s e t
 
-one_move : (s : Machine) (n : ℕ) (e : Event) (t : Machine) → IsSound s → IsMove s n e t → OneMove s e t
+one_move : (s : Machine) (n : ℕ) (e : Event) (t : Machine) → IsMachineSound s → IsMove s n e t → OneMove s e t
 one_move s n e t sound m =
     let k = kind-move s n e t sound.bare m in
     record {
@@ -159,7 +159,7 @@ record AllMoves (n : ℕ) (s : Machine) (es : List Event) (t : Machine) : Type 0
   kept : MomentsBy KeepsNames n s es t
   new : MovesBy NamesAnew n s es t
 
-all_moves : (n : ℕ) (s : Machine) (es : List Event) (t : Machine) → IsSound s → LeadsFrom n s es t → AllMoves n s es t
+all_moves : (n : ℕ) (s : Machine) (es : List Event) (t : Machine) → IsMachineSound s → LeadsFrom n s es t → AllMoves n s es t
 all_moves n s [] t sound h =
     let now : KeepsNames s t = subst (KeepsNames s) (sym h) (keeps-refl s) in record { now = now; kept = (now, h); new = h }
 all_moves n s (e ∷ es) t sound h =
@@ -214,7 +214,7 @@ since-same o before id x y same since =
     (λ u e. made-same u e id x y same) (λ u e h. (h.0, h.1, same_trans h.0 x y h.2 same)) before since
 
 record Known (o : Opening) (before : List Event) (s : Machine) : Type 0 where
-  sound : IsSound s
+  sound : IsMachineSound s
   made : AreMade o before s
 
 known-on : (o : Opening) → GoesOn o (Known o)

@@ -22,7 +22,7 @@ use Rattle.shm_laws.proofs.Counting.{counts-move}
 use Rattle.shm_laws.proofs.Handing.{Attaches, Hands, caller-at, hands-acts}
 use Rattle.shm_laws.proofs.Inducting.{Keeps, each_move}
 use Rattle.shm_laws.proofs.Stepping.{Moved, removed}
-use Rattle.shm_laws.proofs.Fates.{IsSound, sound-after, kind-move}
+use Rattle.shm_laws.proofs.Fates.{IsMachineSound, sound-after, kind-move}
 use Rattle.shm_laws.proofs.Removing.{sound-start, just, stands-or-gone, same-runners}
 
 -- COUNTS
@@ -126,7 +126,7 @@ first-move s n e t (inr x) = rw x.unchanged (λ id none. inl none)
 -- WHOLE HISTORIES
 
 -- what had pieces and was destroyed lost them
-pieces-after : (s t : Machine) (e : Event) → IsSound s → Moved s e t → PiecesNameWhatStands s → First s t.runners → PiecesNameWhatStands t
+pieces-after : (s t : Machine) (e : Event) → IsMachineSound s → Moved s e t → PiecesNameWhatStands s → First s t.runners → PiecesNameWhatStands t
 pieces-after s t e sound k all first id some = by (cases_eq (attach_count s.runners id) 0)
   where
     on : (x : Segment) → Stands s id x → (y : Segment) × Stands t id y
@@ -153,7 +153,7 @@ pieces-after s t e sound k all first id some = by (cases_eq (attach_count s.runn
 
 -- what is sound and has pieces of what stands
 pub record IsWhole (s : Machine) : Type 0 where
-  pub sound : IsSound s
+  pub sound : IsMachineSound s
   pub pieces : PiecesNameWhatStands s
 
 pub whole-move : Keeps IsWhole GivesPieces

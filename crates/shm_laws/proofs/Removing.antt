@@ -17,7 +17,7 @@ use Rattle.shm_laws.specs.Removal.{MarkedHavePieces, IsDue, DestroysWhatIsDue, G
 use Rattle.shm_laws.proofs.Inducting.{Keeps, each_move}
 use Rattle.shm_laws.proofs.Looks.{stands-at, at-stands, at-gone, not-both}
 use Rattle.shm_laws.proofs.Stepping.{Bare, overlay, made_by, Moved, removed}
-use Rattle.shm_laws.proofs.Fates.{IsSound, names, Stays, stays, sound-after, kind-move, removed-call}
+use Rattle.shm_laws.proofs.Fates.{IsMachineSound, names, Stays, stays, sound-after, kind-move, removed-call}
 
 -- WHERE A MACHINE STARTS
 
@@ -26,7 +26,7 @@ bare-start [] k r is u = absurd (none-some r is)
 bare-start (p ∷ ps) zero r is u = let same : runner_at_start p ≡ r = cc is in ap (λ (q : Runner). q.pieces) (sym same)
 bare-start (p ∷ ps) (suc k) r is u = bare-start ps k r is u
 
-pub sound-start : (o : Opening) → IsSound (start_of o)
+pub sound-start : (o : Opening) → IsMachineSound (start_of o)
 sound-start o = record { orphans = λ i small. refl; bare = bare-start o.processes }
 
 -- WHAT IS MARKED
@@ -38,7 +38,7 @@ some-piece b n h marked =
       | inr apart ↦ omega (arith, apart)
     ]
 
-pub marked-pieces : (s : Machine) → IsSound s → MarkedHavePieces s
+pub marked-pieces : (s : Machine) → IsMachineSound s → MarkedHavePieces s
 marked-pieces s sound id x stands dest =
     let is = stands-at s.table id x stands in
     let own : identifier (id % 32768) (id / 32768) ≡ id = omega arith in
@@ -48,7 +48,7 @@ marked-pieces s sound id x stands dest =
 
 -- ONE SEGMENT IN ONE MOVE
 
-module _ (s t : Machine) (e : Event) (sound : IsSound s) (k : Moved s e t) (id : ℕ) (x : Segment) (stood : Stands s id x) where
+module _ (s t : Machine) (e : Event) (sound : IsMachineSound s) (k : Moved s e t) (id : ℕ) (x : Segment) (stood : Stands s id x) where
   own : identifier (id % 32768) (id / 32768) ≡ id
   own = omega arith
 
@@ -127,7 +127,7 @@ module _ (s t : Machine) (e : Event) (sound : IsSound s) (k : Moved s e t) (id :
 
 -- WHOLE HISTORIES
 
-one_move : Keeps IsSound DestroysWhatIsDue
+one_move : Keeps IsMachineSound DestroysWhatIsDue
 one_move s n e t sound m =
     let k = kind-move s n e t sound.bare m in
     let next = sound-after s e t k sound in (
@@ -142,5 +142,5 @@ one_move s n e t sound m =
 -- of every legal history
 pub goes_when_it_must : (o : Opening) (events : List Event) (end : Machine) → IsHistory o events end → GoesWhenItMust o events end
 goes_when_it_must o events end h =
-    let all = each_move IsSound DestroysWhatIsDue one_move 1 (start_of o) events end (sound-start o) h in
+    let all = each_move IsMachineSound DestroysWhatIsDue one_move 1 (start_of o) events end (sound-start o) h in
     record { moves = all.1; marked = marked-pieces end all.0 }

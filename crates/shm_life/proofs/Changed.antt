@@ -10,7 +10,7 @@ use Rattle.shm_base.specs.Segments.{attach_count, change, marked, pages_locked, 
 use Rattle.shm_base.specs.Step.{Caller as FlatCaller}
 use Rattle.shm_base.specs.declared.paging.Span.{Span}
 use Rattle.shm_attach.specs.declared.process.Caller.{Caller}
-use Rattle.shm_attach.specs.Spaces.{Translation, IsCaller, seen, pieces_at}
+use Rattle.shm_attach.specs.Spaces.{Translation, IsCaller, caller_seen, pieces_at}
 use Rattle.shm_base.specs.Spans.{InPage, page_of}
 use Rattle.shm_attach.specs.Spans.{PassPages, pieces_by, wanted, wanted_in}
 use Rattle.shm_attach.specs.declared.process.Child.{Child}
@@ -22,7 +22,7 @@ use Rattle.shm_segments.specs.Table as table
 use Rattle.shm_segments.proofs.Entries.{get-set_same, get-set_other, sum-set}
 use Rattle.shm_segments.proofs.Same.{SamePages, SameTable, same-refl, change-pages, change-locked, change-left}
 use Rattle.shm_life.specs.Tied.{PieceFits, PiecesFit}
-use Rattle.shm_life.specs.Kept.{IsKept, IsWell, IsWellBut}
+use Rattle.shm_life.specs.Kept.{IsMachineKept, IsWell, IsWellBut}
 use Rattle.shm_life.specs.Orphans.{is_among}
 use Rattle.shm_segments.specs.Left.{orphan_in, orphan, id_at}
 use Rattle.shm_fault.specs.Store.{StoreView, frame_of}
@@ -34,15 +34,15 @@ use Rattle.shm_life.proofs.Running.{true_still}
 
 -- LOCKED
 
-pub pages-seen : (t : List Entry) (f : Found) → IsFound t f → pages_in (table.seen t f) ≡ pages_of f.head.size
+pub pages-seen : (t : List Entry) (f : Found) → IsFound t f → pages_in (table.segment_seen t f) ≡ pages_of f.head.size
 pages-seen t f found = omega (arith, found.long)
 
 module _ (t : List Entry) (f : Found) (found : IsFound t f) (b : Bool) where
   abbrev x : Entry
-  x = record { destroyed = f.seg / 32768; segment = Some (table.seen t f) }
+  x = record { destroyed = f.seg / 32768; segment = Some (table.segment_seen t f) }
 
   abbrev y : Entry
-  y = record { destroyed = f.seg / 32768; segment = Some (relocked b (table.seen t f)) }
+  y = record { destroyed = f.seg / 32768; segment = Some (relocked b (table.segment_seen t f)) }
 
   is-set : change t f.seg (relocked b) ≡ slice_set t (f.seg % 32768) y
   is-set = rw found.entry refl
@@ -54,7 +54,7 @@ module _ (t : List Entry) (f : Found) (found : IsFound t f) (b : Bool) where
       let pages = pages-seen t f found in
       rw (is-set, ← pages) sum
 
-kept-relocked : (limits : Bounds) (t : List Entry) (rs : List Runner) (seg : ℕ) (b : Bool) → IsKept limits t rs → locked (change t seg (relocked b)) ≤ limits.memlock → IsKept limits (change t seg (relocked b)) rs
+kept-relocked : (limits : Bounds) (t : List Entry) (rs : List Runner) (seg : ℕ) (b : Bool) → IsMachineKept limits t rs → locked (change t seg (relocked b)) ≤ limits.memlock → IsMachineKept limits (change t seg (relocked b)) rs
 kept-relocked limits t rs seg b k few =
     let same : SamePages t (change t seg (relocked b)) = change-pages (relocked b) (λ s. refl) t seg in
     record {
@@ -107,7 +107,7 @@ marked-well limits t rs ts m f found w =
     }
   where
     y : Entry
-    y = record { destroyed = f.seg / 32768; segment = Some (marked (table.seen t f)) }
+    y = record { destroyed = f.seg / 32768; segment = Some (marked (table.segment_seen t f)) }
 
     is-set : change t f.seg marked ≡ slice_set t (f.seg % 32768) y
     is-set = rw found.entry refl
@@ -125,14 +125,14 @@ marked-well limits t rs ts m f found w =
 pub spans-there : (t : List Entry) (rs : List Runner) (c : Caller) (ps : List Span) → IsCaller c rs → PiecesFit t rs → All InPage ps
     → ((test : ℕ → ℕ → Bool) → PassPages test (pieces_by c.pid rs) → All (λ (p : Span). test p.seg (page_of p) ≡ true) ps) → All (SpanFits t) ps
 spans-there t rs c ps is fit within pages =
-    let own : pieces_by c.pid rs ≡ pieces_at rs c.index = pieces_by-caller c.pid rs (seen c rs) is in
+    let own : pieces_by c.pid rs ≡ pieces_at rs c.index = pieces_by-caller c.pid rs (caller_seen c rs) is in
     let fits = caller-fits t c rs is fit in
     let pass : PassPages (page_there t) (pieces_by c.pid rs) = rw own (λ k d lt. (fits k d lt).1) in
     λ k d lt. ((within k d lt).0, (within k d lt).1, pages (page_there t) pass k d lt)
 
 -- the places that a process asks for are those that its own pieces give
 pub asked : (write : Bool) (rs : List Runner) (c : Caller) (addr len : ℕ) (r : Option (List Place)) → IsCaller c rs → wanted write c.pid addr len rs ≡ r → wanted_in write (pieces_at rs c.index) addr len ≡ r
-asked write rs c addr len r is found = rw (pieces_by-caller c.pid rs (seen c rs) is) at found
+asked write rs c addr len r is found = rw (pieces_by-caller c.pid rs (caller_seen c rs) is) at found
 
 -- a table that was written, or stayed
 pub either-same : {A E : Type 0} (r : Result A E) (t u w : List Entry) → OnOk r (u ≡ w) → OnErr r (u ≡ t) → SameTable t w → SameTable t u
@@ -144,7 +144,7 @@ either-same (Err e) t u w written same alike = rw same (same-refl t)
 pub born-fits : (t : List Entry) (rs : List Runner) (k : FlatCaller) (child : Child) → PiecesFit t rs → All (PieceFits t) k.pieces → PiecesFit t (born_child rs k child)
 born-fits t rs k child fit own = fit-set t rs child.index (record { pid = child.pid; life = Live k.cred; pieces = k.pieces }) fit own
 
-pub forked-kept : (limits : Bounds) (t : List Entry) (rs after : List Runner) → IsKept limits t rs → PiecesFit t after → ((id : ℕ) → attach_count rs id ≤ attach_count after id) → IsKept limits t after
+pub forked-kept : (limits : Bounds) (t : List Entry) (rs after : List Runner) → IsMachineKept limits t rs → PiecesFit t after → ((id : ℕ) → attach_count rs id ≤ attach_count after id) → IsMachineKept limits t after
 forked-kept limits t rs after k fit more =
     record {
       few = k.few;

@@ -15,7 +15,7 @@ use Rattle.shm_segments.specs.Left.{is_left, orphan_in, orphan, id_at}
 use Rattle.shm_segments.proofs.Entries.{get-set_same, get-set_other, length-slice_set, sum-set}
 use Rattle.shm_life.specs.Tied.{PieceFits}
 use Rattle.shm_life.specs.Orphans.{is_among, OrphansAmong}
-use Rattle.shm_life.specs.Kept.{IsKept}
+use Rattle.shm_life.specs.Kept.{IsMachineKept}
 use Rattle.shm_life.proofs.Pieces.{fit-table}
 
 -- WHAT STANDS AT A FREE INDEX
@@ -180,14 +180,14 @@ pages-zeros : (size : ℕ) → length {A = ℕ} (replicate (4096 * pages_of size
 pages-zeros size = let long : length {A = ℕ} (replicate (4096 * pages_of size) 0) ≡ 4096 * pages_of size = length-replicate (4096 * pages_of size) 0 in rw long (omega arith)
 
 -- a segment made
-pub created-kept : (limits : Bounds) (t u : List Entry) (rs : List Runner) (key : ℕ) (h : Head) (id : ℤ) → IsKept limits t rs → made t key h ≡ Some (id, u)
-    → reserved t + pages_of h.size ≤ limits.shmall → h.dest ≡ false → h.locked ≡ false → IsKept limits u rs
+pub created-kept : (limits : Bounds) (t u : List Entry) (rs : List Runner) (key : ℕ) (h : Head) (id : ℤ) → IsMachineKept limits t rs → made t key h ≡ Some (id, u)
+    → reserved t + pages_of h.size ≤ limits.shmall → h.dest ≡ false → h.locked ≡ false → IsMachineKept limits u rs
 created-kept limits t u rs key h id k is room dest loose = by (free_index t) refl is
   where
     s : Segment
     s = segment_of (record { key = key; value = h }) (replicate (4096 * pages_of h.size) 0)
 
-    kept : (i : ℕ) → IsFree t i → (v : List Entry) → Added t v i s → IsKept limits v rs
+    kept : (i : ℕ) → IsFree t i → (v : List Entry) → Added t v i s → IsMachineKept limits v rs
     kept i free v a =
         let few = pages-zeros h.size in
         let locks : pages_locked (Some s) ≡ 0 = rw loose refl in
@@ -201,7 +201,7 @@ created-kept limits t u rs key h id k is room dest loose = by (free_index t) ref
           orphans = orphans-added t v i s a free dest rs k.orphans;
         }
 
-    by : (o : Option ℕ) → free_index t ≡ o → option_map {U = ℤ × List Entry} (λ i. (pos (identifier i (destroyed_at t i)), created t i key h)) o ≡ Some (id, u) → IsKept limits u rs
+    by : (o : Option ℕ) → free_index t ≡ o → option_map {U = ℤ × List Entry} (λ i. (pos (identifier i (destroyed_at t i)), created t i key h)) o ≡ Some (id, u) → IsMachineKept limits u rs
     by None found z = absurd (none-some _ z)
     by (Some i) found z =
         let free = is-free t i found in

@@ -12,14 +12,14 @@ use Rattle.shm_base.specs.Step.{segments_of}
 use Rattle.shm_base.specs.declared.flags.AtFlags.{AtFlags}
 use Rattle.shm_fault.specs.Store.{StoreView}
 use Rattle.shm_attach.specs.declared.process.Caller.{Caller}
-use Rattle.shm_attach.specs.Spaces.{Translation, AreTrue, IsCaller, seen, pieces_at}
+use Rattle.shm_attach.specs.Spaces.{Translation, AreTrue, IsCaller, caller_seen, pieces_at}
 use Rattle.shm_segments.specs.Table.{IsLive}
 use Rattle.shm_segments.proofs.Same.{SameTable, change-same}
 use Rattle.shm_life.specs.declared.attach.Placed.{Placed}
 use Rattle.shm_life.specs.Placing.{piece_for, pieces_after, lost_to}
 use Rattle.shm_life.specs.Tied.{PieceFits}
 use Rattle.shm_life.specs.Orphans.{is_among}
-use Rattle.shm_life.specs.Kept.{IsKept, IsKeptBut, IsWell, IsWellBut}
+use Rattle.shm_life.specs.Kept.{IsMachineKept, IsKeptBut, IsWell, IsWellBut}
 use Rattle.shm_life.proofs.Leaving.{keeps-set, keeps-all, keeps-without, keeps-cut, orphans-among}
 use Rattle.shm_life.proofs.Pieces.{fit-set, pass-cut, pass-inserted, pass-without, piece-same}
 use Rattle.shm_life.proofs.Settled.{settled-table, caller-runner, caller-fits, lives-map, lives-cut, lives-origin}
@@ -38,7 +38,7 @@ pub well-gone : {lost : List ℕ} (limits : Bounds) (t u : List Entry) (rs after
     → IsWellBut lost limits u after us m
 well-gone limits t u rs after ts us m w goes all = record { kept = goes.kept; frames = w.frames; room = w.room; translated = all }
 
-module _ (limits : Bounds) (t : List Entry) (rs : List Runner) (c : Caller) (k : IsKept limits t rs) (is : IsCaller c rs) where
+module _ (limits : Bounds) (t : List Entry) (rs : List Runner) (c : Caller) (k : IsMachineKept limits t rs) (is : IsCaller c rs) where
   own : All (PieceFits t) (pieces_at rs c.index)
   own = caller-fits t c rs is k.pieces
 
@@ -57,11 +57,11 @@ module _ (limits : Bounds) (t : List Entry) (rs : List Runner) (c : Caller) (k :
       }
 
   -- exec and exit
-  pub all-go : (life : Life) → Goes limits t (replaced rs c life []) (segments_of (seen c rs))
+  pub all-go : (life : Life) → Goes limits t (replaced rs c life []) (segments_of (caller_seen c rs))
   all-go life =
       record {
         live = lives-map t (pieces_at rs c.index) own;
-        kept = going life [] (segments_of (seen c rs)) (All-nil (PieceFits t)) (keeps-all (pieces_at rs c.index));
+        kept = going life [] (segments_of (caller_seen c rs)) (All-nil (PieceFits t)) (keeps-all (pieces_at rs c.index));
       }
 
   -- shmdt
@@ -89,7 +89,7 @@ module _ (limits : Bounds) (t : List Entry) (rs : List Runner) (c : Caller) (k :
 -- ATTACHING
 
 -- a segment whose attach was noted
-pub attached-goes : (limits : Bounds) (t : List Entry) (rs : List Runner) (c : Caller) (n : ℕ) (flags : AtFlags) (p : Placed) → IsKept limits t rs → IsCaller c rs → PieceFits t (piece_for flags p)
+pub attached-goes : (limits : Bounds) (t : List Entry) (rs : List Runner) (c : Caller) (n : ℕ) (flags : AtFlags) (p : Placed) → IsMachineKept limits t rs → IsCaller c rs → PieceFits t (piece_for flags p)
     → Goes limits (change t p.seg (attached n c.pid)) (replaced rs c (Live c.cred) (pieces_after (pieces_at rs c.index) flags p)) (lost_to (pieces_at rs c.index) p)
 attached-goes limits t rs c n flags p k is fits =
     let v = change t p.seg (attached n c.pid) in

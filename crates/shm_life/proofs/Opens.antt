@@ -10,10 +10,10 @@ use Rattle.std.specs.Prelude.{All, AllPairs}
 use Rattle.shm_base.specs.Bounds.{Bounds, within}
 use Rattle.shm_base.specs.State.{Runner, runner_at_start}
 use Rattle.shm_life.specs.Tied.{PieceFits}
-use Rattle.shm_life.specs.Kept.{IsKept}
+use Rattle.shm_life.specs.Kept.{IsMachineKept}
 use Rattle.shm_base.specs.declared.call.Process.{Process}
 use Rattle.shm_base.specs.declared.paging.PageRef.{PageRef}
-use Rattle.shm_pager.specs.Pages.{seen}
+use Rattle.shm_pager.specs.Pages.{pager_seen}
 use Rattle.shm_slots.specs.View.{IsAreaSize, owner_of, sizes, new_swap, fresh}
 use Rattle.shm_life.specs.Start.{are_sizes, has_pid, are_pids, start_error}
 use Rattle.shm_life.proofs.Pieces.{all-cons}
@@ -87,7 +87,7 @@ is_open size pagers ps is =
 
 -- the areas as they are handed in have the pagers' sizes
 pub sizes-new : {X : Type 0} (content : X → List (List ℕ)) (failed : X → ℕ) (pagers : List X)
-    → sizes (new_swap (map (λ p. fresh (seen content failed p)) pagers)) ≡ map (λ n. Some n) (map (λ p. length (content p)) pagers)
+    → sizes (new_swap (map (λ p. fresh (pager_seen content failed p)) pagers)) ≡ map (λ n. Some n) (map (λ p. length (content p)) pagers)
 sizes-new content failed [] = refl
 sizes-new content failed (p ∷ ps) = ap (λ (l : List (Option ℕ)). Some (length (content p)) ∷ l) (sizes-new content failed ps)
 
@@ -102,13 +102,13 @@ none-owned n slot = elim (cases_lt slot n) [
 ]
 
 pub owners-new : {X : Type 0} (content : X → List (List ℕ)) (failed : X → ℕ) (pagers : List X) (area slot : ℕ)
-    → owner_of (new_swap (map (λ p. fresh (seen content failed p)) pagers)) area slot ≡ None
+    → owner_of (new_swap (map (λ p. fresh (pager_seen content failed p)) pagers)) area slot ≡ None
 owners-new content failed [] area slot = refl
 owners-new content failed (p ∷ ps) zero slot = none-owned (length (content p)) slot
 owners-new content failed (p ∷ ps) (suc area) slot = owners-new content failed ps area slot
 
 -- without segments and pieces nothing is owed
-pub fresh-kept : (limits : Bounds) (ps : List Process) → limits.shmall ≤ 65536 → limits.memlock ≤ 4096 → IsKept limits [] (map runner_at_start ps)
+pub fresh-kept : (limits : Bounds) (ps : List Process) → limits.shmall ≤ 65536 → limits.memlock ≤ 4096 → IsMachineKept limits [] (map runner_at_start ps)
 fresh-kept limits ps shmall memlock =
     record {
       few = omega arith;

@@ -8,15 +8,15 @@ use Rattle.shm_base.specs.State.{Segment, Entry}
 use Rattle.shm_base.specs.Identifier.{identifier}
 use Rattle.shm_base.specs.Segments.{reserved, pages_held}
 use Rattle.shm_slots.specs.View.{slots}
-use Rattle.shm_plain.specs.Apart.{AreApart}
+use Rattle.shm_plain.specs.Apart.{AreHeldApart}
 use Rattle.shm_plain.specs.Held.{Held, find_held, is_held, pages_in, pages_held as held_pages, without}
 use Rattle.shm_fault.specs.Segs.{SegRec, find_seg, pages_of}
 use Rattle.shm_fault.specs.Segs as segs
 use Rattle.shm_fault.specs.Store.{StoreView, held, held_by, used}
-use Rattle.shm_fault.specs.Sound.{IsSound}
+use Rattle.shm_fault.specs.Sound.{IsStoreSound}
 use Rattle.shm_fault.proofs.Whole.{pages_held-is}
 use Rattle.shm_segments.specs.Table.{live, live_in, pages_at}
-use Rattle.shm_segments.specs.View.{Shows, as_held}
+use Rattle.shm_segments.specs.View.{ShowsTable, as_held}
 use Rattle.shm_segments.proofs.Entries.{get-set_other, sum-set}
 use Rattle.shm_segments.proofs.Held.{sum-without}
 use Rattle.shm_plain.proofs.Found.{find-without_other}
@@ -30,11 +30,11 @@ found m (g ∷ gs) id = elim (cases_eq g.id id) [
   | inr n ↦ rw (ne_eqb g.id id n) (found m gs id)
 ]
 
-apart-all : (m : StoreView) (gs : List SegRec) → segs.AreApart gs → AreApart (map (held_by m.frames m.swap) gs)
+apart-all : (m : StoreView) (gs : List SegRec) → segs.AreApart gs → AreHeldApart (map (held_by m.frames m.swap) gs)
 apart-all m [] apart = tt
 apart-all m (g ∷ gs) apart = (found m gs g.id ∙ ap is_some apart.0, apart-all m gs apart.1)
 
-apart-held : (m : StoreView) → segs.AreApart m.segs → AreApart (held m)
+apart-held : (m : StoreView) → segs.AreApart m.segs → AreHeldApart (held m)
 unfolding held
 apart-held m apart = apart-all m m.segs apart
 
@@ -86,7 +86,7 @@ fewer : (t : List Entry) (id n : ℕ) → n ≤ pages_at t id → (u : List Entr
 fewer t id zero most = (t, record { fewer = omega arith; others = λ other apart. omega arith })
 fewer t id (suc n) most = (emptied t id, empty-at t id (suc n) (omega arith) most)
 
-no-more : (hs : List Held) (t : List Entry) → AreApart hs → NoMore hs t → held_pages hs ≤ reserved t
+no-more : (hs : List Held) (t : List Entry) → AreHeldApart hs → NoMore hs t → held_pages hs ≤ reserved t
 no-more [] t apart each = omega arith
 no-more (h ∷ hs) t apart each =
     let here : pages_in h ≤ pages_at t h.id = each h.id h (rw (eq-eqb h.id h.id refl) refl) in
@@ -132,7 +132,7 @@ no-less n (e ∷ t) hs few each =
 
 -- BOTH, WHERE THE MEMORY SHOWS THE TABLE
 
-module _ (t : List Entry) (m : StoreView) (sound : IsSound m) (shows : Shows t m) where
+module _ (t : List Entry) (m : StoreView) (sound : IsStoreSound m) (shows : ShowsTable t m) where
   more : NoMore (held m) t
   more id g is = by (live t id) (sym is ∙ shows id)
     where

@@ -27,8 +27,8 @@ pub record IsWellBut (lost : List ℕ) (limits : Bounds) (table : List Entry) (r
   pub translated : AreTrue ts memory
 
 -- between calls no segment that is marked is left without pieces
-abbrev pub IsKept : Bounds → List Entry → List Runner → Type 0
-IsKept limits table rs = IsKeptBut [] limits table rs
+abbrev pub IsMachineKept : Bounds → List Entry → List Runner → Type 0
+IsMachineKept limits table rs = IsKeptBut [] limits table rs
 
 abbrev pub IsWell : Bounds → List Entry → List Runner → List Translation → StoreView → Type 0
 IsWell limits table rs ts memory = IsWellBut [] limits table rs ts memory

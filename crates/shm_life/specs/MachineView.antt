@@ -8,8 +8,8 @@ use Rattle.shm_slots.specs.View.{sizes, slots}
 use Rattle.shm_slots.specs.Cause.{GoesOn, had_cause}
 use Rattle.shm_fault.specs.Store.{StoreView, used}
 use Rattle.shm_fault.specs.Steps.{Kept}
-use Rattle.shm_fault.specs.Sound.{IsSound}
-use Rattle.shm_segments.specs.View.{Shows}
+use Rattle.shm_fault.specs.Sound.{IsStoreSound}
+use Rattle.shm_segments.specs.View.{ShowsTable}
 
 pub record MachineView : Type 0 where
   pub flat : Machine
@@ -30,8 +30,8 @@ pub record IsFailed (o : Outcome) (s t : MachineView) : Type 0 where
 -- The memory shows the flat machine and is sound, and no count is out of its bound: the slots that are used are
 -- no more than the pages of all segments, these no more than the slots that are there, nor than the limit
 pub record IsExactly (m : Machine) (memory : StoreView) : Type 0 where
-  pub sound : IsSound memory
-  pub shows : Shows m.table memory
+  pub sound : IsStoreSound memory
+  pub shows : ShowsTable m.table memory
   pub areas : m.areas ≡ sizes memory.swap
   pub frames : length memory.frames ≡ m.limits.frames
   pub used : used memory ≤ flat.reserved m.table

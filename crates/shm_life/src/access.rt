@@ -4,14 +4,14 @@ ghost use Rattle.shm_base.specs.Access.{places, writable_places};
 ghost use Rattle.shm_base.specs.History.{is_failure};
 ghost use Rattle.shm_base.specs.Step as flat;
 ghost use Rattle.shm_base.specs.declared.call.Call.TheVariants as call;
-ghost use Rattle.shm_attach.specs.Spaces.{seen, AreTrue};
+ghost use Rattle.shm_attach.specs.Spaces.{caller_seen, AreTrue};
 ghost use Rattle.shm_fault.specs.Store.{StoreView};
 ghost use Rattle.shm_fault.specs.Steps.{Moves};
 ghost use Rattle.shm_fault.specs.Access.{touched_of};
 ghost use Rattle.shm_life.specs.MachineView.{IsFailed, KeepsOn};
 ghost use Rattle.shm_life.specs.Tied.{IsCallerOf};
 
-use crate::machine::Machine;
+use crate::kernel::Kernel;
 use shm_attach::{Caller, Spaces};
 use shm_base::{AccessLen, Chunk, Errno, Reply};
 use shm_fault::{PagerFailed, Touched};
@@ -36,13 +36,13 @@ fn note(spaces: &mut Spaces, access: Result<Touched, PagerFailed>) -> bool
     }
 }
 
-impl<P: Pager> Machine<P> {
+impl<P: Pager> Kernel<P> {
     #[tactic(auto, using(crate::proofs::Running::keeps_refl))]
     /// Reads bytes; Sigsegv where an address has no piece, Sigbus where a pager failed.
     pub(crate) fn load(&mut self, caller: &Caller, addr: u64, len: AccessLen) -> Reply
         requires { IsCallerOf self.old.flat caller.now }
-        ensures step { is_failure (call.Load addr len) result ≡ false → flat.load self.old.flat (places (seen caller.now self.old.flat.runners).pieces addr len) ≡ record { reply = result; state = self.new.flat } }
-        ensures failed { is_failure (call.Load addr len) result ≡ true → IsFailed (flat.load self.old.flat (places (seen caller.now self.old.flat.runners).pieces addr len)) self.old self.new }
+        ensures step { is_failure (call.Load addr len) result ≡ false → flat.load self.old.flat (places (caller_seen caller.now self.old.flat.runners).pieces addr len) ≡ record { reply = result; state = self.new.flat } }
+        ensures failed { is_failure (call.Load addr len) result ≡ true → IsFailed (flat.load self.old.flat (places (caller_seen caller.now self.old.flat.runners).pieces addr len)) self.old self.new }
         ensures keeps { KeepsOn self.old.memory self.new.memory }
     {
         let Ok(spans) = self.spaces.spans_of(caller, addr, len.get() as u64, false) else {
@@ -65,8 +65,8 @@ impl<P: Pager> Machine<P> {
     /// failed, and then no byte has changed.
     pub(crate) fn store(&mut self, caller: &Caller, addr: u64, chunk: &Chunk) -> Reply
         requires { IsCallerOf self.old.flat caller.now }
-        ensures step { is_failure (call.Store addr chunk.now) result ≡ false → flat.store self.old.flat chunk.now (writable_places (seen caller.now self.old.flat.runners).pieces addr (length chunk.now)) ≡ record { reply = result; state = self.new.flat } }
-        ensures failed { is_failure (call.Store addr chunk.now) result ≡ true → IsFailed (flat.store self.old.flat chunk.now (writable_places (seen caller.now self.old.flat.runners).pieces addr (length chunk.now))) self.old self.new }
+        ensures step { is_failure (call.Store addr chunk.now) result ≡ false → flat.store self.old.flat chunk.now (writable_places (caller_seen caller.now self.old.flat.runners).pieces addr (length chunk.now)) ≡ record { reply = result; state = self.new.flat } }
+        ensures failed { is_failure (call.Store addr chunk.now) result ≡ true → IsFailed (flat.store self.old.flat chunk.now (writable_places (caller_seen caller.now self.old.flat.runners).pieces addr (length chunk.now))) self.old self.new }
         ensures keeps { KeepsOn self.old.memory self.new.memory }
     {
         let bytes = chunk.as_slice();
@@ -85,8 +85,8 @@ impl<P: Pager> Machine<P> {
     /// as a store is.
     pub(crate) fn xadd(&mut self, caller: &Caller, addr: u64, add: u64) -> Reply
         requires { IsCallerOf self.old.flat caller.now }
-        ensures step { is_failure (call.Xadd addr add) result ≡ false → flat.xadd self.old.flat add (writable_places (seen caller.now self.old.flat.runners).pieces addr 8) ≡ record { reply = result; state = self.new.flat } }
-        ensures failed { is_failure (call.Xadd addr add) result ≡ true → IsFailed (flat.xadd self.old.flat add (writable_places (seen caller.now self.old.flat.runners).pieces addr 8)) self.old self.new }
+        ensures step { is_failure (call.Xadd addr add) result ≡ false → flat.xadd self.old.flat add (writable_places (caller_seen caller.now self.old.flat.runners).pieces addr 8) ≡ record { reply = result; state = self.new.flat } }
+        ensures failed { is_failure (call.Xadd addr add) result ≡ true → IsFailed (flat.xadd self.old.flat add (writable_places (caller_seen caller.now self.old.flat.runners).pieces addr 8)) self.old self.new }
         ensures keeps { KeepsOn self.old.memory self.new.memory }
     {
         let Ok(spans) = self.spaces.spans_of(caller, addr, 8, true) else {

@@ -5,14 +5,14 @@ ghost use Rattle.shm_base.specs.Space.{cut};
 ghost use Rattle.shm_base.specs.Step as flat;
 ghost use Rattle.shm_areas.specs.Arranged.{bare_all};
 ghost use Rattle.shm_attach.specs.Place.{IsRange};
-ghost use Rattle.shm_attach.specs.Spaces.{pieces_at, seen};
+ghost use Rattle.shm_attach.specs.Spaces.{pieces_at, caller_seen};
 ghost use Rattle.shm_life.specs.Address.{misplaced};
 ghost use Rattle.shm_life.specs.MachineView.{KeepsOn};
 ghost use Rattle.shm_life.specs.Placing.{wished, placed, piece_for};
 ghost use Rattle.shm_life.specs.Tied.{IsCallerOf, PieceFits};
 
 use crate::detach::after_detach;
-use crate::machine::Machine;
+use crate::kernel::Kernel;
 use bitflags::Flags;
 use shm_areas::Space;
 use shm_attach::Caller;
@@ -52,7 +52,7 @@ pub(crate) struct Placed {
     base: u64,
 }
 
-impl<P: Pager> Machine<P> {
+impl<P: Pager> Kernel<P> {
     /// The refusals of shmat in their order, and where the new piece goes (shmop(2); the order is this
     /// profile's). Einval where a null address comes with SHM_REMAP or another is unaligned without SHM_RND;
     /// Einval or Eidrm for the identifier; Eacces; Einval where the range leaves the addresses, or is occupied
@@ -65,7 +65,7 @@ impl<P: Pager> Machine<P> {
         flags: AtFlags,
     ) -> Result<Placed, Errno>
         requires { IsCallerOf self.now.flat caller.now }
-        ensures value { result ≡ placed self.now.flat (seen caller.now self.now.flat.runners) id addr flags }
+        ensures value { result ≡ placed self.now.flat (caller_seen caller.now self.now.flat.runners) id addr flags }
         ensures fits { IfOk result (λ p. PieceFits self.now.flat.table (piece_for flags p)) }
         ensures pages { IfOk result (λ p. (1 ≤ p.pages) × (p.pages ≤ 4096)) }
         ensures range { IfOk result (λ p. IsRange p.pages p.base) }
@@ -106,10 +106,10 @@ impl<P: Pager> Machine<P> {
         flags: AtFlags,
     ) -> Result<Reply, HostMemory>
         requires { IsCallerOf self.old.flat caller.now }
-        ensures step { IfOk result (λ r. flat.shmat self.old.flat time (seen caller.now self.old.flat.runners) id addr flags ≡ record { reply = r; state = self.new.flat }) }
+        ensures step { IfOk result (λ r. flat.shmat self.old.flat time (caller_seen caller.now self.old.flat.runners) id addr flags ≡ record { reply = r; state = self.new.flat }) }
         ensures keeps { KeepsOn self.old.memory self.new.memory }
         ensures err { OnErr result (self.new ≡ self.old) }
-        ensures memory { OnErr result (is_refusal (flat.shmat self.old.flat time (seen caller.now self.old.flat.runners) id addr flags).reply ≡ false) }
+        ensures memory { OnErr result (is_refusal (flat.shmat self.old.flat time (caller_seen caller.now self.old.flat.runners) id addr flags).reply ≡ false) }
     {
         let placed = match self.place_for(caller, id, addr, flags) {
             Ok(placed) => placed,
@@ -138,7 +138,7 @@ impl<P: Pager> Machine<P> {
     /// is this profile's). Einval where there is none.
     pub(crate) fn shmdt(&mut self, time: u64, caller: &Caller, addr: u64) -> Reply
         requires { IsCallerOf self.old.flat caller.now }
-        ensures step { flat.shmdt self.old.flat time (seen caller.now self.old.flat.runners) addr ≡ record { reply = result; state = self.new.flat } }
+        ensures step { flat.shmdt self.old.flat time (caller_seen caller.now self.old.flat.runners) addr ≡ record { reply = result; state = self.new.flat } }
         ensures keeps { KeepsOn self.old.memory self.new.memory }
     {
         let Some(origin) = self.spaces.space(caller).origin_of(addr) else {
@@ -155,7 +155,7 @@ impl<P: Pager> Machine<P> {
     /// process is no such child.
     pub(crate) fn fork(&mut self, caller: &Caller, child: u32) -> Reply
         requires { IsCallerOf self.old.flat caller.now }
-        ensures step { flat.fork self.old.flat (seen caller.now self.old.flat.runners) child ≡ record { reply = result; state = self.new.flat } }
+        ensures step { flat.fork self.old.flat (caller_seen caller.now self.old.flat.runners) child ≡ record { reply = result; state = self.new.flat } }
         ensures keeps { KeepsOn self.old.memory self.new.memory }
     {
         let Some(child) = self.spaces.child(child) else {
@@ -169,7 +169,7 @@ impl<P: Pager> Machine<P> {
     /// Detaches every piece (shmop(2)).
     pub(crate) fn exec(&mut self, time: u64, caller: &Caller) -> Reply
         requires { IsCallerOf self.old.flat caller.now }
-        ensures step { flat.exec self.old.flat time (seen caller.now self.old.flat.runners) ≡ record { reply = result; state = self.new.flat } }
+        ensures step { flat.exec self.old.flat time (caller_seen caller.now self.old.flat.runners) ≡ record { reply = result; state = self.new.flat } }
         ensures keeps { KeepsOn self.old.memory self.new.memory }
     {
         let lost = self.spaces.exec(caller);
@@ -187,7 +187,7 @@ impl<P: Pager> Machine<P> {
     /// Detaches every piece, and ends the process.
     pub(crate) fn exit(&mut self, time: u64, caller: &Caller) -> Reply
         requires { IsCallerOf self.old.flat caller.now }
-        ensures step { flat.exit self.old.flat time (seen caller.now self.old.flat.runners) ≡ record { reply = result; state = self.new.flat } }
+        ensures step { flat.exit self.old.flat time (caller_seen caller.now self.old.flat.runners) ≡ record { reply = result; state = self.new.flat } }
         ensures keeps { KeepsOn self.old.memory self.new.memory }
     {
         let lost = self.spaces.exit(caller);

@@ -5,13 +5,13 @@ ghost use Rattle.shm_base.specs.Permission as permission;
 ghost use Rattle.shm_base.specs.Segments.{locked};
 ghost use Rattle.shm_base.specs.State.{Segment, pages_of};
 ghost use Rattle.shm_base.specs.Step as flat;
-ghost use Rattle.shm_attach.specs.Spaces.{seen};
-ghost use Rattle.shm_segments.specs.Table.{IsFound, seen as segment_seen};
+ghost use Rattle.shm_attach.specs.Spaces.{caller_seen};
+ghost use Rattle.shm_segments.specs.Table.{IsFound, segment_seen};
 ghost use Rattle.shm_life.specs.MachineView.{KeepsOn};
 ghost use Rattle.shm_life.specs.Made.{status_bits};
 
 use crate::detach::sweep;
-use crate::machine::Machine;
+use crate::kernel::Kernel;
 use bitflags::Flags;
 use shm_attach::Caller;
 use shm_base::{Cred, Errno, Perm, Reply, ShmId, ShmidDs, Status, Want, grants};
@@ -36,7 +36,7 @@ fn status_of(found: &Found) -> Status
     }
 }
 
-impl<P: Pager> Machine<P> {
+impl<P: Pager> Kernel<P> {
     /// A segment as stat shows it.
     pub(crate) fn shown(&self, found: &Found) -> ShmidDs
         requires { IsFound self.now.flat.table found.now }
@@ -58,7 +58,7 @@ impl<P: Pager> Machine<P> {
 
     /// Shows a segment (IPC_STAT): Einval or Eidrm for the identifier, Eacces without read permission.
     pub(crate) fn stat(&self, caller: &Caller, id: ShmId) -> Reply
-        ensures { flat.stat self.now.flat (seen caller.now self.now.flat.runners) (flat_ids.look self.now.flat.table id) ≡ record { reply = result; state = self.now.flat } }
+        ensures { flat.stat self.now.flat (caller_seen caller.now self.now.flat.runners) (flat_ids.look self.now.flat.table id) ≡ record { reply = result; state = self.now.flat } }
     {
         let found = match self.segments.look(id) {
             Ok(found) => found,
@@ -77,8 +77,8 @@ impl<P: Pager> Machine<P> {
     // The segment that a caller controls: Einval or Eidrm for the identifier, Eperm where it is another's.
     fn controlled(&self, caller: &Caller, id: ShmId) -> Result<Found, Errno>
         ensures found { IfOk result (IsFound self.now.flat.table) }
-        ensures ok { IfOk result (λ f. (act : ℕ → Segment → flat.Outcome) → flat.controls self.now.flat (seen caller.now self.now.flat.runners) act (flat_ids.look self.now.flat.table id) ≡ act (f.seg % 32768) (segment_seen self.now.flat.table f)) }
-        ensures err { IfErr result (λ e. (act : ℕ → Segment → flat.Outcome) → flat.controls self.now.flat (seen caller.now self.now.flat.runners) act (flat_ids.look self.now.flat.table id) ≡ flat.refuses self.now.flat e) }
+        ensures ok { IfOk result (λ f. (act : ℕ → Segment → flat.Outcome) → flat.controls self.now.flat (caller_seen caller.now self.now.flat.runners) act (flat_ids.look self.now.flat.table id) ≡ act (f.seg % 32768) (segment_seen self.now.flat.table f)) }
+        ensures err { IfErr result (λ e. (act : ℕ → Segment → flat.Outcome) → flat.controls self.now.flat (caller_seen caller.now self.now.flat.runners) act (flat_ids.look self.now.flat.table id) ≡ flat.refuses self.now.flat e) }
     {
         let found = self.segments.look(id)?;
         if !owns(&caller.cred, &found.head.perm) {
@@ -98,7 +98,7 @@ impl<P: Pager> Machine<P> {
         gid: u32,
         mode: u16,
     ) -> Reply
-        ensures step { flat.controls self.old.flat (seen caller.now self.old.flat.runners) (flat.sets self.old.flat time uid gid mode) (flat_ids.look self.old.flat.table id) ≡ record { reply = result; state = self.new.flat } }
+        ensures step { flat.controls self.old.flat (caller_seen caller.now self.old.flat.runners) (flat.sets self.old.flat time uid gid mode) (flat_ids.look self.old.flat.table id) ≡ record { reply = result; state = self.new.flat } }
         ensures keeps { KeepsOn self.old.memory self.new.memory }
     {
         let found = match self.controlled(caller, id) {
@@ -112,7 +112,7 @@ impl<P: Pager> Machine<P> {
     #[tactic(auto, using(crate::proofs::Running::keeps_refl))]
     /// Destroys a segment without pieces, and marks one that has some (IPC_RMID).
     pub(crate) fn rmid(&mut self, caller: &Caller, id: ShmId) -> Reply
-        ensures step { flat.controls self.old.flat (seen caller.now self.old.flat.runners) (flat.removes self.old.flat) (flat_ids.look self.old.flat.table id) ≡ record { reply = result; state = self.new.flat } }
+        ensures step { flat.controls self.old.flat (caller_seen caller.now self.old.flat.runners) (flat.removes self.old.flat) (flat_ids.look self.old.flat.table id) ≡ record { reply = result; state = self.new.flat } }
         ensures keeps { KeepsOn self.old.memory self.new.memory }
     {
         let found = match self.controlled(caller, id) {
@@ -136,7 +136,7 @@ impl<P: Pager> Machine<P> {
     #[tactic(auto, using(crate::proofs::Running::keeps_refl))]
     /// Locks a segment's pages (SHM_LOCK): Enomem where those of all locked segments would exceed MEMLOCK.
     pub(crate) fn lock(&mut self, caller: &Caller, id: ShmId) -> Reply
-        ensures step { flat.controls self.old.flat (seen caller.now self.old.flat.runners) (flat.locks self.old.flat) (flat_ids.look self.old.flat.table id) ≡ record { reply = result; state = self.new.flat } }
+        ensures step { flat.controls self.old.flat (caller_seen caller.now self.old.flat.runners) (flat.locks self.old.flat) (flat_ids.look self.old.flat.table id) ≡ record { reply = result; state = self.new.flat } }
         ensures keeps { KeepsOn self.old.memory self.new.memory }
     {
         let found = match self.controlled(caller, id) {
@@ -153,7 +153,7 @@ impl<P: Pager> Machine<P> {
     #[tactic(auto, using(crate::proofs::Running::keeps_refl))]
     /// Unlocks a segment's pages (SHM_UNLOCK).
     pub(crate) fn unlock(&mut self, caller: &Caller, id: ShmId) -> Reply
-        ensures step { flat.controls self.old.flat (seen caller.now self.old.flat.runners) (flat.unlocks self.old.flat) (flat_ids.look self.old.flat.table id) ≡ record { reply = result; state = self.new.flat } }
+        ensures step { flat.controls self.old.flat (caller_seen caller.now self.old.flat.runners) (flat.unlocks self.old.flat) (flat_ids.look self.old.flat.table id) ≡ record { reply = result; state = self.new.flat } }
         ensures keeps { KeepsOn self.old.memory self.new.memory }
     {
         let found = match self.controlled(caller, id) {

@@ -4,12 +4,12 @@ ghost use Rattle.shm_base.specs.History.{is_refusal};
 ghost use Rattle.shm_base.specs.Identifier as flat_ids;
 ghost use Rattle.shm_base.specs.Permission as permission;
 ghost use Rattle.shm_base.specs.Step as flat;
-ghost use Rattle.shm_attach.specs.Spaces.{seen};
+ghost use Rattle.shm_attach.specs.Spaces.{caller_seen};
 ghost use Rattle.shm_segments.specs.Table.{IsFound, look_of};
 ghost use Rattle.shm_life.specs.MachineView.{KeepsOn};
 ghost use Rattle.shm_life.specs.Made.{new_head};
 
-use crate::machine::Machine;
+use crate::kernel::Kernel;
 use bitflags::Flags;
 use shm_attach::Caller;
 use shm_base::{Errno, GetFlags, HostMemory, Perm, Reply, Want, grants, pages_of};
@@ -50,7 +50,7 @@ fn new_head(time: u64, caller: &Caller, size: u64, mode: u16) -> Head
     }
 }
 
-impl<P: Pager> Machine<P> {
+impl<P: Pager> Kernel<P> {
     #[tactic(auto, using(crate::proofs::Running::keeps_refl))]
     /// The segment with a key, or a new one where the key is IPC_PRIVATE (0), or where no segment has it and
     /// IPC_CREAT is set (shmget(2)).
@@ -63,10 +63,10 @@ impl<P: Pager> Machine<P> {
         mode: u16,
         flags: GetFlags,
     ) -> Result<Reply, HostMemory>
-        ensures step { IfOk result (λ r. flat.shmget self.old.flat time (seen caller.now self.old.flat.runners) key size mode flags ≡ record { reply = r; state = self.new.flat }) }
+        ensures step { IfOk result (λ r. flat.shmget self.old.flat time (caller_seen caller.now self.old.flat.runners) key size mode flags ≡ record { reply = r; state = self.new.flat }) }
         ensures keeps { KeepsOn self.old.memory self.new.memory }
         ensures err { OnErr result (self.new ≡ self.old) }
-        ensures memory { OnErr result (is_refusal (flat.shmget self.old.flat time (seen caller.now self.old.flat.runners) key size mode flags).reply ≡ false) }
+        ensures memory { OnErr result (is_refusal (flat.shmget self.old.flat time (caller_seen caller.now self.old.flat.runners) key size mode flags).reply ≡ false) }
     {
         if key == 0 {
             return self.create(time, caller, 0, size, mode);
@@ -81,7 +81,7 @@ impl<P: Pager> Machine<P> {
     // An existing segment. Eexist where it was to be new, Einval where it is too small, Eacces.
     fn get(&self, caller: &Caller, found: &Found, size: u64, mode: u16, flags: GetFlags) -> Reply
         requires { IsFound self.now.flat.table found.now }
-        ensures { (n key : ℕ) → flat.gets self.now.flat n (seen caller.now self.now.flat.runners) key size mode flags (look_of self.now.flat.table found.now) ≡ record { reply = result; state = self.now.flat } }
+        ensures { (n key : ℕ) → flat.gets self.now.flat n (caller_seen caller.now self.now.flat.runners) key size mode flags (look_of self.now.flat.table found.now) ≡ record { reply = result; state = self.now.flat } }
     {
         if flags.contains(GetFlags::CREAT) && flags.contains(GetFlags::EXCL) {
             return Reply::Refused(Errno::Eexist);
@@ -107,10 +107,10 @@ impl<P: Pager> Machine<P> {
         mode: u16,
     ) -> Result<Reply, HostMemory>
         requires absent { key ≢ 0 → flat_ids.find_key self.old.flat.table key ≡ flat_ids.Invalid }
-        ensures step { IfOk result (λ r. flat.creates self.old.flat time (seen caller.now self.old.flat.runners) key size mode ≡ record { reply = r; state = self.new.flat }) }
+        ensures step { IfOk result (λ r. flat.creates self.old.flat time (caller_seen caller.now self.old.flat.runners) key size mode ≡ record { reply = r; state = self.new.flat }) }
         ensures keeps { KeepsOn self.old.memory self.new.memory }
         ensures err { OnErr result (self.new ≡ self.old) }
-        ensures memory { OnErr result (is_refusal (flat.creates self.old.flat time (seen caller.now self.old.flat.runners) key size mode).reply ≡ false) }
+        ensures memory { OnErr result (is_refusal (flat.creates self.old.flat time (caller_seen caller.now self.old.flat.runners) key size mode).reply ≡ false) }
     {
         if size < 1 || size > self.limits.shmmax() {
             return Ok(Reply::Refused(Errno::Einval));

@@ -6,7 +6,7 @@ mod attach;
 mod control;
 mod detach;
 mod get;
-mod machine;
+mod kernel;
 mod shown;
 mod start;
 mod swapoff;

@@ -13,7 +13,7 @@ impl<P: Pager> System<P> {
         ensures value { result.now ≡ self.now.memory }
         ensures exact { IsExactly self.now.machine self.now.memory }
     {
-        let machine = &self.machine;
+        let machine = &self.kernel;
         machine.segments.store()
     }
 
@@ -21,6 +21,6 @@ impl<P: Pager> System<P> {
     pub fn spaces(&self) -> &Spaces
         ensures { result.now.runners ≡ self.now.machine.runners }
     {
-        &self.machine.spaces
+        &self.kernel.spaces
     }
 }

@@ -6,7 +6,7 @@ ghost use Rattle.shm_base.specs.History.{IsMove, is_failure, is_refusal};
 ghost use Rattle.shm_base.specs.Step.{step};
 ghost use Rattle.shm_slots.specs.Cause.{had_cause};
 ghost use Rattle.shm_slots.specs.View.{fresh, new_swap};
-ghost use Rattle.shm_pager.specs.Pages.{seen};
+ghost use Rattle.shm_pager.specs.Pages.{pager_seen};
 ghost use Rattle.shm_fault.specs.Store.{fresh_store};
 ghost use Rattle.shm_fault.specs.Flushing.{IsFlushed};
 ghost use Rattle.shm_life.specs.MachineView.{KeepsOn, IsExactly};
@@ -14,7 +14,7 @@ ghost use Rattle.shm_life.specs.SystemState.{TakesNoMemory};
 ghost use Rattle.shm_life.specs.Counts.{Counts};
 ghost use Rattle.shm_life.specs.Listed.{segment_at};
 
-use crate::machine::Machine;
+use crate::kernel::Kernel;
 use crate::start::{StartError, first_error};
 use shm_attach::Spaces;
 use shm_base::{Call, FlushReport, HostMemory, Limits, Process, Reply, ShmId, ShmidDs, Tally};
@@ -40,13 +40,13 @@ impl Model for Opening {
     ghost view = { λ o. record { limits = o.limits; areas = o.areas.items; processes = o.processes.items } };
 }
 
-/// A machine over swap areas. It is seen as how it opened, how many calls it answered, and the flat
+/// A machine over swap areas. It is pager_seen as how it opened, how many calls it answered, and the flat
 /// machine; before the first call that is as the opening says.
 #[derive(Drop)]
 pub struct System<P: Pager> {
     opening: Opening,
     calls: u64,
-    pub(crate) machine: Machine<P>,
+    pub(crate) kernel: Kernel<P>,
 }
 
 impl<P: Pager> Model for System<P> {
@@ -56,9 +56,9 @@ impl<P: Pager> Model for System<P> {
 
     ghost Value = { SystemState };
 
-    ghost view = { λ s. record { opening = s.opening; calls = s.calls; machine = s.machine.flat; memory = s.machine.memory } };
+    ghost view = { λ s. record { opening = s.opening; calls = s.calls; machine = s.kernel.flat; memory = s.kernel.memory } };
 
-    ghost invariant = { λ s. s.calls ≡ 0 → s.machine.flat ≡ start_of s.opening };
+    ghost invariant = { λ s. s.calls ≡ 0 → s.kernel.flat ≡ start_of s.opening };
 }
 
 // The slot counts of the areas.
@@ -85,7 +85,7 @@ impl<P: Pager> System<P> {
         ensures opening { IfOk result (λ s. s.opening ≡ record { limits = limits; areas = map (λ p. length (P.content p)) pagers.items; processes = processes.now }) }
         ensures calls { IfOk result (λ s. s.calls ≡ 0) }
         ensures machine { IfOk result (λ s. s.machine ≡ flat.start_of s.opening) }
-        ensures memory { IfOk result (λ s. s.memory ≡ fresh_store s.memory.frames (new_swap (map (λ p. fresh (seen P.content P.failed p)) pagers.items))) }
+        ensures memory { IfOk result (λ s. s.memory ≡ fresh_store s.memory.frames (new_swap (map (λ p. fresh (pager_seen P.content P.failed p)) pagers.items))) }
         ensures ok { OnOk result (start_error (map (λ p. length (P.content p)) pagers.items) processes.now ≡ None) }
         ensures err { IfErr result (λ e. IsFirstError e (start_error (map (λ p. length (P.content p)) pagers.items) processes.now)) }
     {
@@ -109,7 +109,7 @@ impl<P: Pager> System<P> {
         ensures opening { IfOk result (λ s. s.opening ≡ record { limits = limits; areas = map (λ p. length (P.content p)) pagers.items; processes = processes.now }) }
         ensures calls { IfOk result (λ s. s.calls ≡ 0) }
         ensures machine { IfOk result (λ s. s.machine ≡ flat.start_of s.opening) }
-        ensures memory { IfOk result (λ s. s.memory ≡ fresh_store s.memory.frames (new_swap (map (λ p. fresh (seen P.content P.failed p)) pagers.items))) }
+        ensures memory { IfOk result (λ s. s.memory ≡ fresh_store s.memory.frames (new_swap (map (λ p. fresh (pager_seen P.content P.failed p)) pagers.items))) }
     {
         // What is read has a proof know its range.
         let (_, _) = (limits.shmall(), limits.memlock());
@@ -118,7 +118,7 @@ impl<P: Pager> System<P> {
             areas: sizes_of(alloc, &pagers)?,
             processes: Vec::from_slice(alloc, processes)?,
         };
-        let machine = Machine {
+        let kernel = Kernel {
             limits,
             segments: Segments::new(alloc, limits.frames() as u32, Swap::new(alloc, pagers)?)?,
             spaces: Spaces::new(alloc, processes)?,
@@ -126,7 +126,7 @@ impl<P: Pager> System<P> {
         Ok(System {
             opening,
             calls: 0,
-            machine,
+            kernel,
         })
     }
 
@@ -160,7 +160,7 @@ impl<P: Pager> System<P> {
         ensures no_memory { TakesNoMemory call.now → IsOk result }
     {
         let time = self.calls + 1;
-        let reply = self.machine.call(time, pid, call)?;
+        let reply = self.kernel.call(time, pid, call)?;
         self.calls = time;
         Ok(reply)
     }
@@ -172,7 +172,7 @@ impl<P: Pager> System<P> {
         ensures flushed { IsFlushed self.old.memory self.new.memory n result }
         ensures keeps { KeepsOn self.old.memory self.new.memory }
     {
-        self.machine.segments.flush(n)
+        self.kernel.segments.flush(n)
     }
 
     /// The counts of the machine as they are, and of what its pagers did. They keep their bounds.
@@ -181,7 +181,7 @@ impl<P: Pager> System<P> {
         ensures exact { IsExactly self.now.machine self.now.memory }
     {
         let pages = self.store().tally();
-        let machine = &self.machine;
+        let machine = &self.kernel;
         Tally {
             events: self.calls,
             segments: machine.segments.count(),
@@ -202,7 +202,7 @@ impl<P: Pager> System<P> {
     pub fn indexes(&self) -> u32
         ensures { result ≡ length self.now.machine.table }
     {
-        self.machine.segments.indexes()
+        self.kernel.segments.indexes()
     }
 
     /// The segment at an index of the table as stat shows it, with no permission test. None only where no
@@ -210,7 +210,7 @@ impl<P: Pager> System<P> {
     pub fn segment(&self, index: u32) -> Option<(ShmId, ShmidDs)>
         ensures { result ≡ segment_at self.now.machine index }
     {
-        let found = self.machine.segments.at(index)?;
-        Some((found.id, self.machine.shown(&found)))
+        let found = self.kernel.segments.at(index)?;
+        Some((found.id, self.kernel.shown(&found)))
     }
 }

@@ -2,7 +2,7 @@
 use Rattle.std.proofs.Common.{◌≡◌, ◌⊎◌, ℕ, List, [], ◌∷◌, map, length, Option, Some, None, refl, sym, ap, ◌∙◌, inl, inr}
 use Rattle.std.proofs.lemmas.List.{length-replicate}
 use Rattle.shm_base.specs.declared.call.Process.{Process}
-use Rattle.shm_pager.specs.Pages.{PagerView, seen, zero_page}
+use Rattle.shm_pager.specs.Pages.{PagerView, pager_seen, zero_page}
 use Rattle.shm_slots.specs.View.{AreaView, fresh}
 use Rattle.shm_life.specs.Start.{IsFirstError, start_error}
 use Rattle.shm_life.specs.declared.start.StartError.{StartError}
@@ -24,14 +24,14 @@ blank-sizes [] = refl
 blank-sizes (a ∷ areas) =
     ap (λ n. n ∷ map (λ (v : PagerView). length v.pages) (blanks areas)) (length-replicate a.slots zero_page) ∙ ap (λ ns. a.slots ∷ ns) (blank-sizes areas)
 
-pub pager-sizes : (ps : List AreaPager) (areas : List Area) → map (seen pages_in failed_in) ps ≡ blanks areas → map (λ (p : AreaPager). length (pages_in p)) ps ≡ sizes_of areas
+pub pager-sizes : (ps : List AreaPager) (areas : List Area) → map (pager_seen pages_in failed_in) ps ≡ blanks areas → map (λ (p : AreaPager). length (pages_in p)) ps ≡ sizes_of areas
 pager-sizes ps areas is =
-    map-after (λ (v : PagerView). length v.pages) (seen pages_in failed_in) ps ∙ (ap (λ vs. map (λ (v : PagerView). length v.pages) vs) is ∙ blank-sizes areas)
+    map-after (λ (v : PagerView). length v.pages) (pager_seen pages_in failed_in) ps ∙ (ap (λ vs. map (λ (v : PagerView). length v.pages) vs) is ∙ blank-sizes areas)
 
-pub pager-areas : (ps : List AreaPager) (areas : List Area) → map (seen pages_in failed_in) ps ≡ blanks areas
-    → map (λ (p : AreaPager). fresh (seen pages_in failed_in p)) ps ≡ map (λ (a : Area). fresh (blank a.slots)) areas
+pub pager-areas : (ps : List AreaPager) (areas : List Area) → map (pager_seen pages_in failed_in) ps ≡ blanks areas
+    → map (λ (p : AreaPager). fresh (pager_seen pages_in failed_in p)) ps ≡ map (λ (a : Area). fresh (blank a.slots)) areas
 pager-areas ps areas is =
-    map-after fresh (seen pages_in failed_in) ps ∙ (ap (λ vs. map fresh vs) is ∙ sym (map-after fresh (λ (a : Area). blank a.slots) areas))
+    map-after fresh (pager_seen pages_in failed_in) ps ∙ (ap (λ vs. map fresh vs) is ∙ sym (map-after fresh (λ (a : Area). blank a.slots) areas))
 
 pub first-error : (e : StartError) (sizes known : List ℕ) (processes : List Process) → sizes ≡ known → IsFirstError e (start_error sizes processes) → (e ≡ HostMemory) ⊎ (start_error known processes ≡ Some e)
 first-error e sizes known processes same (inl is) = inr (ap (λ ns. start_error ns processes) (sym same) ∙ is)

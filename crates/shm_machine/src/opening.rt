@@ -1,7 +1,7 @@
 //! From what a machine is opened.
 ghost use Rattle.std.specs.Prelude.{◌≡◌, ◌==◌, ◌≤◌, IfOk, map, filter, length, true, false};
 ghost use Rattle.shm_life.specs.Start.{are_sizes};
-ghost use Rattle.shm_pager.specs.Pages.{seen};
+ghost use Rattle.shm_pager.specs.Pages.{pager_seen};
 ghost use Rattle.shm_machine.specs.Areas.{blank, pages_in, failed_in, IsOfKind};
 ghost use Rattle.shm_machine.specs.Opened.{is_at, calls_at, sizes_of};
 
@@ -83,7 +83,7 @@ fn pager_for(
     area: &Area,
     failures: &[Failure],
 ) -> Result<AreaPager, HostMemory>
-    ensures blank { IfOk result (λ p. seen pages_in failed_in p ≡ blank area.now.slots) }
+    ensures blank { IfOk result (λ p. pager_seen pages_in failed_in p ≡ blank area.now.slots) }
     ensures kind { IfOk result (λ p. IsOfKind area.now.kind area.now.slots (calls_at index Side.Left false failures.now) (calls_at index Side.Left true failures.now) p) }
 {
     let left = failing(alloc, failures, index, Side::Left)?;
@@ -98,7 +98,7 @@ pub(crate) fn pagers_for(
     failures: &[Failure],
 ) -> Result<Vec<AreaPager>, HostMemory>
     requires { length areas.now ≤ 8 }
-    ensures { IfOk result (λ v. map (seen pages_in failed_in) v.items ≡ map (λ a. blank a.slots) areas.now) }
+    ensures { IfOk result (λ v. map (pager_seen pages_in failed_in) v.items ≡ map (λ a. blank a.slots) areas.now) }
 {
     let mut pagers = Vec::new(alloc);
     for (index, area) in areas.iter().enumerate() {

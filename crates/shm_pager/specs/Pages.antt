@@ -14,9 +14,9 @@ pub record PagerView : Type 0 where
   pub pages : List (List ℕ)
   pub failed : ℕ
 
--- a pager, seen by the two members of its trait
-abbrev pub seen : {P : Type 0} → (P → List (List ℕ)) → (P → ℕ) → P → PagerView
-seen content failed p = record { pages = content p; failed = failed p }
+-- a pager, pager_seen by the two members of its trait
+abbrev pub pager_seen : {P : Type 0} → (P → List (List ℕ)) → (P → ℕ) → P → PagerView
+pager_seen content failed p = record { pages = content p; failed = failed p }
 
 -- one slot holds some page that nobody knows, the others stay
 abbrev pub SlotUnknown : ℕ → List (List ℕ) → List (List ℕ) → Type 0

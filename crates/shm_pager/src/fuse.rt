@@ -1,6 +1,6 @@
 //! A pager that fails where it is told to.
 ghost use Rattle.std.specs.Prelude.{◌≡◌, ◌<◌, List, [], length, set, get_or, replicate, true, false, not, ◌&&◌, if◌then◌else◌, is_ok, IfOk};
-ghost use Rattle.shm_pager.specs.Pages.{zero_page, last_count, seen, served, SlotUnknown, CountsErr, TriesWrite, TriesRead};
+ghost use Rattle.shm_pager.specs.Pages.{zero_page, last_count, pager_seen, served, SlotUnknown, CountsErr, TriesWrite, TriesRead};
 ghost use Rattle.shm_pager.specs.Fuse.{new_fuse, next_count, is_listed, read_is_bad, write_is_bad, scorched_page};
 
 use crate::pager::{Pager, PagerFault, try_read, try_write};
@@ -23,13 +23,13 @@ pub struct FusePager<P: Pager> {
 }
 
 impl<P: Pager> Model for FusePager<P> {
-    ghost use Rattle.shm_pager.specs.Pages.{seen};
+    ghost use Rattle.shm_pager.specs.Pages.{pager_seen};
     ghost use Rattle.shm_pager.specs.Fuse.{FuseView};
 
     ghost Value = { FuseView };
 
     ghost view = { λ f. record {
-      inner = seen P.content P.failed f.inner;
+      inner = pager_seen P.content P.failed f.inner;
       bad_reads = f.bad_reads.items;
       bad_writes = f.bad_writes.items;
       reads = f.reads;
@@ -50,7 +50,7 @@ fn take_place(listed: &Vec<u64>, place: &mut u64) -> bool
 impl<P: Pager> FusePager<P> {
     /// A pager whose listed calls fail.
     pub fn new(inner: P, bad_reads: Vec<u64>, bad_writes: Vec<u64>) -> FusePager<P>
-        ensures { let view = seen P.content P.failed in
+        ensures { let view = pager_seen P.content P.failed in
             result ≡ new_fuse (view inner) bad_reads.items bad_writes.items 0 }
     {
         FusePager::new_at(inner, bad_reads, bad_writes, 0)
@@ -63,7 +63,7 @@ impl<P: Pager> FusePager<P> {
         bad_writes: Vec<u64>,
         failures: u64,
     ) -> FusePager<P>
-        ensures { let view = seen P.content P.failed in
+        ensures { let view = pager_seen P.content P.failed in
             result ≡ new_fuse (view inner) bad_reads.items bad_writes.items failures }
     {
         FusePager {

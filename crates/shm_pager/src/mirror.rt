@@ -1,6 +1,6 @@
 //! Two pagers kept alike.
 ghost use Rattle.std.specs.Prelude.{◌≡◌, ◌≢◌, ◌<◌, ◌==◌, List, [], length, set, get_or, replicate, true, false, ◌||◌, if◌then◌else◌, is_ok, IfOk, IfErr, IsErr};
-ghost use Rattle.shm_pager.specs.Pages.{zero_page, last_count, seen, served, SlotUnknown, CountsErr, TriesWrite, TriesRead};
+ghost use Rattle.shm_pager.specs.Pages.{zero_page, last_count, pager_seen, served, SlotUnknown, CountsErr, TriesWrite, TriesRead};
 ghost use Rattle.shm_pager.specs.Mirror.{MirrorView, mirror_of, left_alone, both_sides, no_side, pages_shown, left_asked, left_serves, right_asked, right_serves};
 
 use crate::pager::{Pager, PagerFault, try_read, try_write};
@@ -44,17 +44,17 @@ pub struct MirrorPager<L: Pager, R: Pager> {
 }
 
 impl<L: Pager, R: Pager> Model for MirrorPager<L, R> {
-    ghost use Rattle.shm_pager.specs.Pages.{seen};
+    ghost use Rattle.shm_pager.specs.Pages.{pager_seen};
     ghost use Rattle.shm_pager.specs.Mirror.{MirrorView, IsMirror, mirror_of};
 
     ghost Value = { MirrorView };
 
     ghost view = { λ m. mirror_of
-        (seen L.content L.failed m.left) (seen R.content R.failed m.right)
+        (pager_seen L.content L.failed m.left) (pager_seen R.content R.failed m.right)
         m.good.items m.failed };
 
     ghost invariant = { λ m. IsMirror (mirror_of
-        (seen L.content L.failed m.left) (seen R.content R.failed m.right)
+        (pager_seen L.content L.failed m.left) (pager_seen R.content R.failed m.right)
         m.good.items m.failed) };
 }
 
@@ -89,7 +89,7 @@ impl<L: Pager, R: Pager> MirrorPager<L, R> {
     pub fn new(alloc: Global, left: L, right: R) -> Result<MirrorPager<L, R>, MirrorRefused<L, R>>
         ensures ok { IfOk result (λ m.
             let good = replicate (length (L.content left)) left_alone in
-            m ≡ mirror_of (seen L.content L.failed left) (seen R.content R.failed right) good 0) }
+            m ≡ mirror_of (pager_seen L.content L.failed left) (pager_seen R.content R.failed right) good 0) }
         ensures unequal { length (L.content left) ≢ length (R.content right) → IsErr result }
         ensures refused { IfErr result (λ e.
             let equal = length (L.content left) == length (R.content right) in

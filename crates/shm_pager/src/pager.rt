@@ -1,7 +1,7 @@
 //! What each pager promises. A pager that broke it could change bytes of segments; whatever fails in
 //! the ways named here cannot.
 ghost use Rattle.std.specs.Prelude.{◌≡◌, ℕ, ◌<◌, List, [], length, set, get_or, replicate, is_ok, IfOk};
-ghost use Rattle.shm_pager.specs.Pages.{zero_page, last_count, seen, served, SlotUnknown, CountsErr, TriesWrite, TriesRead};
+ghost use Rattle.shm_pager.specs.Pages.{zero_page, last_count, pager_seen, served, SlotUnknown, CountsErr, TriesWrite, TriesRead};
 
 use thiserror::Error;
 
@@ -67,9 +67,9 @@ pub fn zeros() -> [u8; 4096]
 /// fails.
 pub fn try_write<P: Pager>(pager: &mut P, slot: u32, page: &[u8; 4096]) -> Result<(), PagerFault>
     requires { slot < length (P.content pager.old) }
-    ensures pager { let view = seen P.content P.failed in
+    ensures pager { let view = pager_seen P.content P.failed in
         TriesWrite slot page.now (view pager.old) (view pager.new) }
-    ensures ok { let view = seen P.content P.failed in
+    ensures ok { let view = pager_seen P.content P.failed in
         is_ok result ≡ served (view pager.old) (view pager.new) }
 {
     if pager.failures() == u64::MAX {
@@ -82,9 +82,9 @@ pub fn try_write<P: Pager>(pager: &mut P, slot: u32, page: &[u8; 4096]) -> Resul
 /// fails.
 pub fn try_read<P: Pager>(pager: &mut P, slot: u32, page: &mut [u8; 4096]) -> Result<(), PagerFault>
     requires { slot < length (P.content pager.old) }
-    ensures pager { let view = seen P.content P.failed in
+    ensures pager { let view = pager_seen P.content P.failed in
         TriesRead (view pager.old) (view pager.new) }
-    ensures ok { let view = seen P.content P.failed in
+    ensures ok { let view = pager_seen P.content P.failed in
         is_ok result ≡ served (view pager.old) (view pager.new) }
     ensures page { IfOk result (λ _. get_or (P.content pager.old) slot [] ≡ page.new) }
 {

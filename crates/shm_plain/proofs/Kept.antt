@@ -5,7 +5,7 @@ use Rattle.std.proofs.lemmas.List.{drop_more}
 use Rattle.std.proofs.lemmas.Option.{slice_get_read}
 use Rattle.std.specs.Prelude.{slice_get}
 use Rattle.shm_plain.specs.Held.{Held, find_held, is_held, without, relocked, with_lock}
-use Rattle.shm_plain.specs.Apart.{AreApart}
+use Rattle.shm_plain.specs.Apart.{AreHeldApart}
 
 pub true_false : true ≡ false → ⊥
 true_false e = cc
@@ -46,7 +46,7 @@ held-push (h ∷ hs) g id none other = elim (eqb_tells h.id id) [
   | inr w ↦ rw w.0 (held-push hs g id (rw w.0 at none) other)
 ]
 
-pub apart-push : (hs : List Held) (g : Held) → is_held hs g.id ≡ false → AreApart hs → AreApart (hs ++ g ∷ [])
+pub apart-push : (hs : List Held) (g : Held) → is_held hs g.id ≡ false → AreHeldApart hs → AreHeldApart (hs ++ g ∷ [])
 apart-push [] g none apart = (refl, tt)
 apart-push (h ∷ hs) g none apart = elim (eqb_tells h.id g.id) [
   | inl w ↦ absurd (true_false (rw w.0 at none))
@@ -65,7 +65,7 @@ held-without (h ∷ hs) id at none = elim (eqb_tells h.id at) [
   ]
 ]
 
-pub apart-without : (hs : List Held) (id : ℕ) → AreApart hs → AreApart (without hs id)
+pub apart-without : (hs : List Held) (id : ℕ) → AreHeldApart hs → AreHeldApart (without hs id)
 apart-without [] id apart = tt
 apart-without (h ∷ hs) id apart = elim (eqb_tells h.id id) [
   | inl w ↦ rw w.0 (apart-without hs id apart.1)
@@ -94,7 +94,7 @@ held-map f keeps (h ∷ hs) id =
       | inr w ↦ rw (same, w.0) (held-map f keeps hs id)
     ]
 
-pub apart-map : (f : Held → Held) → KeepsId f → (hs : List Held) → AreApart hs → AreApart (map f hs)
+pub apart-map : (f : Held → Held) → KeepsId f → (hs : List Held) → AreHeldApart hs → AreHeldApart (map f hs)
 apart-map f keeps [] apart = tt
 apart-map f keeps (h ∷ hs) apart = (rw (keeps h) (held-map f keeps hs h.id ∙ apart.0), apart-map f keeps hs apart.1)
 
@@ -108,7 +108,7 @@ map-none f id others (h ∷ hs) none = elim (eqb_tells h.id id) [
 
 -- the segment with an identifier is changed where it stands
 pub map-set : (f : Held → Held) (id : ℕ) → ((g : Held) → g.id ≢ id → f g ≡ g) → (hs : List Held) (i : ℕ) (g : Held)
-    → AreApart hs → find_held hs id ≡ slice_get hs i → slice_get hs i ≡ Some g → map f hs ≡ set hs i (f g)
+    → AreHeldApart hs → find_held hs id ≡ slice_get hs i → slice_get hs i ≡ Some g → map f hs ≡ set hs i (f g)
 map-set f id others [] i g apart found at = refl
 map-set f id others (h ∷ hs) zero g apart found at =
     let same : h ≡ g = cc in
@@ -125,7 +125,7 @@ map-set f id others (h ∷ hs) (suc i) g apart found at = elim (eqb_tells h.id i
 
 -- the same, by what stands there before and after
 pub set-map : (f : Held → Held) (id : ℕ) → ((g : Held) → g.id ≢ id → f g ≡ g) → (hs : List Held) (i : ℕ) (g y : Held)
-    → AreApart hs → find_held hs id ≡ slice_get hs i → i < length hs → g ≡ get_or hs i g → (g.id ≡ id → y ≡ f g) → set hs i y ≡ map f hs
+    → AreHeldApart hs → find_held hs id ≡ slice_get hs i → i < length hs → g ≡ get_or hs i g → (g.id ≡ id → y ≡ f g) → set hs i y ≡ map f hs
 set-map f id others hs i g y apart found within is after =
     let at : slice_get hs i ≡ Some g = slice_get_read hs (length hs) i g refl within is in
     ap (set hs i) (after (find_held-id hs id g (found ∙ at))) ∙ sym (map-set f id others hs i g apart found at)
@@ -138,10 +138,10 @@ relocked-others id locked g other = rw (ne_eqb g.id id other) refl
 relocked-keeps : (id : ℕ) (locked : Bool) → KeepsId (relocked id locked)
 relocked-keeps id locked g = elim (eqb_tells g.id id) [ inl w ↦ rw w.0 refl | inr w ↦ rw w.0 refl ]
 
-pub lock-set : (hs : List Held) (id i : ℕ) (locked : Bool) (g y : Held) → AreApart hs → find_held hs id ≡ slice_get hs i → i < length hs → g ≡ get_or hs i g → y ≡ record g { locked = locked }
+pub lock-set : (hs : List Held) (id i : ℕ) (locked : Bool) (g y : Held) → AreHeldApart hs → find_held hs id ≡ slice_get hs i → i < length hs → g ≡ get_or hs i g → y ≡ record g { locked = locked }
     → set hs i y ≡ with_lock hs id locked
 lock-set hs id i locked g y apart found within is after =
     set-map (relocked id locked) id (relocked-others id locked) hs i g y apart found within is (λ own. rw (eq-eqb g.id id own) after)
 
-pub apart-lock : (hs : List Held) (id : ℕ) (locked : Bool) → AreApart hs → AreApart (with_lock hs id locked)
+pub apart-lock : (hs : List Held) (id : ℕ) (locked : Bool) → AreHeldApart hs → AreHeldApart (with_lock hs id locked)
 apart-lock hs id locked apart = apart-map (relocked id locked) (relocked-keeps id locked) hs apart

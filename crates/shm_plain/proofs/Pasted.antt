@@ -6,7 +6,7 @@ use Rattle.std.proofs.lemmas.List.Elements.{All-head, All-tail, All-get_or}
 use Rattle.std.specs.Prelude.{All, slice_get}
 use Rattle.shm_base.specs.declared.paging.Span.{Span}
 use Rattle.shm_plain.specs.Held.{Held, find_held, bytes_of, is_held, paste, pasted, written, FitsPage}
-use Rattle.shm_plain.specs.Apart.{AreApart}
+use Rattle.shm_plain.specs.Apart.{AreHeldApart}
 use Rattle.shm_plain.proofs.Kept.{KeepsId, held-map, apart-map, set-map}
 
 pub length-paste : (xs : List ℕ) (at : ℕ) (bs : List ℕ) → at + length bs ≤ length xs → length (paste xs at bs) ≡ length xs
@@ -35,12 +35,12 @@ pasted-keeps seg at new g = elim (eqb_tells g.id seg) [ inl w ↦ rw w.0 refl | 
 pasted-others : (seg at : ℕ) (new : List ℕ) (g : Held) → g.id ≢ seg → pasted seg at new g ≡ g
 pasted-others seg at new g other = rw (ne_eqb g.id seg other) refl
 
-pub pasted-set : (hs : List Held) (seg at i : ℕ) (new : List ℕ) (g y : Held) → AreApart hs → find_held hs seg ≡ slice_get hs i → i < length hs → g ≡ get_or hs i g → y ≡ record g { bytes = paste g.bytes at new }
+pub pasted-set : (hs : List Held) (seg at i : ℕ) (new : List ℕ) (g y : Held) → AreHeldApart hs → find_held hs seg ≡ slice_get hs i → i < length hs → g ≡ get_or hs i g → y ≡ record g { bytes = paste g.bytes at new }
     → set hs i y ≡ map (pasted seg at new) hs
 pasted-set hs seg at i new g y apart found within is after =
     set-map (pasted seg at new) seg (pasted-others seg at new) hs i g y apart found within is (λ own. rw (eq-eqb g.id seg own) after)
 
-pub apart-pasted : (hs : List Held) (seg at : ℕ) (new : List ℕ) → AreApart hs → AreApart (map (pasted seg at new) hs)
+pub apart-pasted : (hs : List Held) (seg at : ℕ) (new : List ℕ) → AreHeldApart hs → AreHeldApart (map (pasted seg at new) hs)
 apart-pasted hs seg at new apart = apart-map (pasted seg at new) (pasted-keeps seg at new) hs apart
 
 pub is_held-pasted : (hs : List Held) (seg at : ℕ) (new : List ℕ) (id : ℕ) → is_held (map (pasted seg at new) hs) id ≡ is_held hs id

@@ -2,6 +2,6 @@
 use Rattle.std.specs.Prelude.{◌≡◌, false, List, [], ◌∷◌, ⊤}
 use Rattle.shm_plain.specs.Held.{Held, is_held}
 
-abbrev pub AreApart : List Held → Type 0
-AreApart [] = ⊤
-AreApart (g ∷ gs) = (is_held gs g.id ≡ false) × AreApart gs
+abbrev pub AreHeldApart : List Held → Type 0
+AreHeldApart [] = ⊤
+AreHeldApart (g ∷ gs) = (is_held gs g.id ≡ false) × AreHeldApart gs

@@ -18,7 +18,7 @@ opening_of script areas = record { limits = script.limits; areas = areas; proces
 
 -- the history of a world is legal and keeps all laws, its memory shows the machine at its end exactly, and the failures
 -- that it names were counted
-pub record IsSound (w : WorldState) : Type 0 where
+pub record IsWorldSound (w : WorldState) : Type 0 where
   pub legal : IsHistory w.opening w.events w.machine
   pub counted : AreCounted w.events w.memory.swap
   pub exact : IsExactly w.machine w.memory
@@ -33,15 +33,15 @@ pub record IsOpening (script : ScriptView) (opening : Opening) : Type 0 where
 pub record IsWorldOf (script : ScriptView) (areas : List ℕ) (w : WorldState) : Type 0 where
   pub opened : IsOpening script w.opening
   pub over : w.opening.areas ≡ areas
-  pub sound : IsSound w
+  pub sound : IsWorldSound w
 
 -- such a text was written, and nothing else
 abbrev pub Writes : (List ℕ → Type 0) → Option (List ℕ) → Option (List ℕ) → Type 0
 Writes IsText old new = (text : List ℕ) × IsText text × Appends old new text
 
 -- the input is a script, and what its run prints was written, and nothing else
-abbrev pub Shows : (ScriptView → List ℕ → List ℕ → Type 0) → Option (List ℕ) → Option (List ℕ) → List ℕ → List ℕ → Type 0
-Shows IsText old new areas input =
+abbrev pub Prints : (ScriptView → List ℕ → List ℕ → Type 0) → Option (List ℕ) → Option (List ℕ) → List ℕ → List ℕ → Type 0
+Prints IsText old new areas input =
     (script : ScriptView) × (script_of input ≡ Ok script) × Writes (IsText script areas) old new
 
 -- a script fault is the input's, and a refused start is by the first start error

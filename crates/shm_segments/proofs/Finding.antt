@@ -17,7 +17,7 @@ use Rattle.shm_segments.specs.declared.head.Found.{Found}
 use Rattle.shm_segments.specs.Joined.{segment_of, whole, joined, live, Agree}
 use Rattle.shm_segments.proofs.Joins.{at-live, held-as}
 use Rattle.shm_segments.specs.Kept.{SizesFit}
-use Rattle.shm_segments.specs.Table.{IsFound, seen}
+use Rattle.shm_segments.specs.Table.{IsFound, segment_seen}
 use Rattle.shm_segments.specs.Table as table
 
 pub index-of : (i d : ℕ) → i < 32768 → identifier i d % 32768 ≡ i
@@ -54,7 +54,7 @@ found_at hs rows i r agree sizes is =
     ap (λ k. bytes_at_entry (slice_get (joined hs rows) k)) own ∙ ap bytes_at_entry there in
     let lives : live rows (identifier i d) ≡ Some r = at-live rows i small ∙ is in
     record {
-      entry = subst (λ k. slice_get (joined hs rows) k ≡ Some (record { destroyed = identifier i d / 32768; segment = Some (seen (joined hs rows) (record { seg = identifier i d; id = pos (identifier i d); key = r.key; head = r.value })) })) (sym own)
+      entry = subst (λ k. slice_get (joined hs rows) k ≡ Some (record { destroyed = identifier i d / 32768; segment = Some (segment_seen (joined hs rows) (record { seg = identifier i d; id = pos (identifier i d); key = r.key; head = r.value })) })) (sym own)
           (there ∙ ap (λ (e : FlatEntry). Some e) (shown sequence bytes));
       id = refl;
       long = ap length bytes ∙ (held-as hs rows (identifier i d) r agree lives).size;
@@ -119,7 +119,7 @@ is_live-row hs rows id is = sym (some-map hs id (live rows id)) ∙ ap is_some (
 
 -- WHAT IS NOT LIVE
 
-pub live-found : (t : List FlatEntry) (f : Found) → IsFound t f → table.live t f.seg ≡ Some (seen t f)
+pub live-found : (t : List FlatEntry) (f : Found) → IsFound t f → table.live t f.seg ≡ Some (segment_seen t f)
 live-found t f found =
     let own : f.seg / 32768 ≡ f.seg / 32768 = refl in
     ap (table.live_in f.seg) found.entry ∙ rw (eq-eqb (f.seg / 32768) (f.seg / 32768) own) refl

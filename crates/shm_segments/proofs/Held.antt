@@ -7,7 +7,7 @@ use Rattle.std.proofs.lemmas.List.{length-replicate}
 use Rattle.std.proofs.lemmas.List.Sums.{sum_by-cons, sum_by-append}
 use Rattle.std.specs.Prelude.{sum_by, All, replicate}
 use Rattle.shm_base.specs.declared.paging.Span.{Span}
-use Rattle.shm_plain.specs.Apart.{AreApart}
+use Rattle.shm_plain.specs.Apart.{AreHeldApart}
 use Rattle.shm_plain.specs.Held.{Held, find_held, is_held, bytes_of, bytes_in, pages_in, pages_held, pages_if_locked, pages_locked, with_zeros, without, relocked, with_lock, paste, pasted, written, FitsPage}
 use Rattle.shm_plain.proofs.Kept.{find_held-id}
 use Rattle.shm_plain.proofs.Pasted.{length-paste, apart-pasted}
@@ -74,7 +74,7 @@ away c (h ∷ hs) id only none = elim (cases_eq h.id id) [
       cc)
 ]
 
-pub sum-changed : (f : Held → ℕ) (c : Held → Held) (hs : List Held) (id : ℕ) (g : Held) → Only id c → AreApart hs → find_held hs id ≡ Some g → sum_by f (map c hs) + f g ≡ sum_by f hs + f (c g)
+pub sum-changed : (f : Held → ℕ) (c : Held → Held) (hs : List Held) (id : ℕ) (g : Held) → Only id c → AreHeldApart hs → find_held hs id ≡ Some g → sum_by f (map c hs) + f g ≡ sum_by f hs + f (c g)
 sum-changed f c [] id g only apart is = absurd (none-some g is)
 sum-changed f c (h ∷ hs) id g only apart is =
     let all = sum_by-cons f h hs in
@@ -106,7 +106,7 @@ pages-lock (h ∷ hs) id b =
     ] in
     omega (arith, pages-lock hs id b, same, sum_by-cons pages_in h hs, sum_by-cons pages_in (relocked id b h) (with_lock hs id b))
 
-pub locks-lock : (hs : List Held) (id : ℕ) (b : Bool) (g : Held) → AreApart hs → find_held hs id ≡ Some g → pages_locked (with_lock hs id b) + pages_if_locked g ≡ pages_locked hs + (if b then pages_in g else 0)
+pub locks-lock : (hs : List Held) (id : ℕ) (b : Bool) (g : Held) → AreHeldApart hs → find_held hs id ≡ Some g → pages_locked (with_lock hs id b) + pages_if_locked g ≡ pages_locked hs + (if b then pages_in g else 0)
 locks-lock hs id b g apart is =
     let sum = sum-changed pages_if_locked (relocked id b) hs id g (only-lock id b) apart is in
     let own : pages_if_locked (relocked id b g) ≡ (if b then pages_in g else 0) = rw (eq-eqb g.id id (find_held-id hs id g is)) refl in
@@ -114,7 +114,7 @@ locks-lock hs id b g apart is =
 
 -- BYTES REPLACED
 
-pasted-sums : (hs : List Held) (p : Span) (new : List ℕ) → AreApart hs → FitsPage hs p → length new ≤ p.len
+pasted-sums : (hs : List Held) (p : Span) (new : List ℕ) → AreHeldApart hs → FitsPage hs p → length new ≤ p.len
     → (pages_held (map (pasted p.seg p.at new) hs) ≡ pages_held hs) × (pages_locked (map (pasted p.seg p.at new) hs) ≡ pages_locked hs)
 pasted-sums hs p new apart fit few = by (find_held hs p.seg) refl
   where
@@ -134,11 +134,11 @@ pasted-sums hs p new apart fit few = by (find_held hs p.seg) refl
 
 -- what a store over stretches leaves
 pub record SameSums (hs gs : List Held) : Type 0 where
-  pub apart : AreApart gs
+  pub apart : AreHeldApart gs
   pub pages : pages_held gs ≡ pages_held hs
   pub locks : pages_locked gs ≡ pages_locked hs
 
-each-sums : (ps : List Span) (hs : List Held) (new : List ℕ) → AreApart hs → Each (FitsPage hs) ps → SameSums hs (written hs ps new)
+each-sums : (ps : List Span) (hs : List Held) (new : List ℕ) → AreHeldApart hs → Each (FitsPage hs) ps → SameSums hs (written hs ps new)
 each-sums [] hs new apart fits = record { apart = apart; pages = refl; locks = refl }
 each-sums (p ∷ ps) hs new apart fits =
     let few : length (take p.len new) ≤ p.len = grind (arith, common_steps) in
@@ -146,5 +146,5 @@ each-sums (p ∷ ps) hs new apart fits =
     let rest = each-sums ps (map (pasted p.seg p.at (take p.len new)) hs) (drop p.len new) (apart-pasted hs p.seg p.at (take p.len new) apart) (each-pasted ps hs p (take p.len new) few fits.0 fits.1) in
     record { apart = rest.apart; pages = rest.pages ∙ one.0; locks = rest.locks ∙ one.1 }
 
-pub sums-written : (hs : List Held) (ps : List Span) (new : List ℕ) → AreApart hs → All (FitsPage hs) ps → SameSums hs (written hs ps new)
+pub sums-written : (hs : List Held) (ps : List Span) (new : List ℕ) → AreHeldApart hs → All (FitsPage hs) ps → SameSums hs (written hs ps new)
 sums-written hs ps new apart fit = each-sums ps hs new apart (each (FitsPage hs) ps fit)

@@ -9,7 +9,7 @@ use Rattle.shm_ids.specs.Table.{key_at, look, with_value, with_key}
 use Rattle.shm_plain.specs.Held.{Held, bytes_of}
 use Rattle.shm_segments.specs.declared.head.Head.{Head}
 use Rattle.shm_segments.specs.Joined.{segment_of, joined, live}
-use Rattle.shm_segments.specs.Kept.{SizesFit, IsKept}
+use Rattle.shm_segments.specs.Kept.{SizesFit, AreSegmentsKept}
 use Rattle.shm_segments.proofs.Sums.{pages-with_value, pages-with_both, locked-value_same, locked-with_both}
 use Rattle.shm_segments.proofs.Edits.{look-live, with_other, other-value, other-both, live-other_same, live-other, joined-with_value, joined-with_both, agree-with_value, agree-with_both}
 
@@ -26,11 +26,11 @@ sizes-other rows id r s lives sizes range = λ at q is. by at q is (cases_eq at 
 
 -- what rows and bytes keep, and what they show
 pub record KeptAs (hs : List Held) (rows : List (Entry Head)) (pages locked_pages : ℕ) (shown : List FlatEntry) : Type 0 where
-  pub kept : IsKept hs rows pages locked_pages
+  pub kept : AreSegmentsKept hs rows pages locked_pages
   pub is : joined hs rows ≡ shown
 
 -- a head put in the place of one of the same size and lock
-pub kept-value : (hs : List Held) (rows : List (Entry Head)) (pages locks seg : ℕ) (v w : Head) (f : Segment → Segment) → IsKept hs rows pages locks → look rows (pos seg) ≡ Ok v
+pub kept-value : (hs : List Held) (rows : List (Entry Head)) (pages locks seg : ℕ) (v w : Head) (f : Segment → Segment) → AreSegmentsKept hs rows pages locks → look rows (pos seg) ≡ Ok v
     → w.size ≡ v.size → w.locked ≡ v.locked
     → ((key : ℕ) (bs : List ℕ) → f (segment_of (record { key = key; value = v }) bs) ≡ segment_of (record { key = key; value = w }) bs)
     → KeptAs hs (with_value rows (seg % 32768) w) pages locks (change (joined hs rows) seg f)
@@ -54,7 +54,7 @@ kept-value hs rows pages locks seg v w f k looked size locked same =
     }
 
 -- the same, and the key hidden
-pub kept-both : (hs : List Held) (rows : List (Entry Head)) (pages locks seg : ℕ) (v w : Head) (f : Segment → Segment) → IsKept hs rows pages locks → look rows (pos seg) ≡ Ok v
+pub kept-both : (hs : List Held) (rows : List (Entry Head)) (pages locks seg : ℕ) (v w : Head) (f : Segment → Segment) → AreSegmentsKept hs rows pages locks → look rows (pos seg) ≡ Ok v
     → w.size ≡ v.size → w.locked ≡ v.locked
     → ((key : ℕ) (bs : List ℕ) → f (segment_of (record { key = key; value = v }) bs) ≡ segment_of (record { key = 0; value = w }) bs)
     → KeptAs hs (with_key (with_value rows (seg % 32768) w) (seg % 32768) 0) pages locks (change (joined hs rows) seg f)

@@ -14,7 +14,7 @@ use Rattle.shm_plain.specs.Held.{Held, find_held, is_held, pages_in, pages_if_lo
 use Rattle.shm_plain.proofs.Kept.{apart-push, apart-without, apart-lock}
 use Rattle.shm_segments.specs.declared.head.Head.{Head}
 use Rattle.shm_segments.specs.Joined.{whole, joined, live, Shape, shape_held, shape_row, Agree}
-use Rattle.shm_segments.specs.Kept.{SizesFit, IsKept}
+use Rattle.shm_segments.specs.Kept.{SizesFit, AreSegmentsKept}
 use Rattle.shm_segments.specs.Table.{made, created, destroyed, relocked}
 use Rattle.shm_segments.proofs.Joins.{LiveAt, live-at}
 use Rattle.shm_segments.proofs.Edits.{look-live, other-value, agree-lock, joined-locked}
@@ -45,7 +45,7 @@ held-here hs rows id r agree there = by (find_held hs id) refl (agree.same id �
 
 -- DESTROYED
 
-pub kept-without : (hs : List Held) (rows : List (Entry Head)) (pages locks seg : ℕ) (v : Head) → IsKept hs rows pages locks → look rows (pos seg) ≡ Ok v
+pub kept-without : (hs : List Held) (rows : List (Entry Head)) (pages locks seg : ℕ) (v : Head) → AreSegmentsKept hs rows pages locks → look rows (pos seg) ≡ Ok v
     → KeptAs (without hs seg) (without_row rows (seg % 32768)) (pages - pages_of v.size) (locks - (if v.locked then pages_of v.size else 0)) (destroyed (joined hs rows) seg)
 kept-without hs rows pages locks seg v k looked =
     let i = seg % 32768 in
@@ -83,7 +83,7 @@ kept-without hs rows pages locks seg v k looked =
 
 -- LOCKED OR UNLOCKED
 
-pub kept-locked : (hs : List Held) (rows : List (Entry Head)) (pages locks seg : ℕ) (v : Head) (b : Bool) → IsKept hs rows pages locks → look rows (pos seg) ≡ Ok v
+pub kept-locked : (hs : List Held) (rows : List (Entry Head)) (pages locks seg : ℕ) (v : Head) (b : Bool) → AreSegmentsKept hs rows pages locks → look rows (pos seg) ≡ Ok v
     → KeptAs (with_lock hs seg b) (with_value rows (seg % 32768) (record v { locked = b })) pages
     (locks - (if v.locked then pages_of v.size else 0) + (if b then pages_of v.size else 0)) (change (joined hs rows) seg (relocked b))
 kept-locked hs rows pages locks seg v b k looked =
@@ -119,7 +119,7 @@ zeros-held (g ∷ gs) id pages =
       | inr n ↦ rw (ne_eqb g.id id n) (zeros-held gs id pages)
     ]
 
-pub kept-made : (hs : List Held) (rows : List (Entry Head)) (pages locks i key : ℕ) (v : Head) → IsKept hs rows pages locks → free_index rows ≡ Some i → v.locked ≡ false
+pub kept-made : (hs : List Held) (rows : List (Entry Head)) (pages locks i key : ℕ) (v : Head) → AreSegmentsKept hs rows pages locks → free_index rows ≡ Some i → v.locked ≡ false
     → (1 ≤ v.size) × (v.size ≤ 16777216)
     → KeptAs (with_zeros hs (id_of rows i) (pages_of v.size)) (with_row rows i key v) (pages + pages_of v.size) locks (created (joined hs rows) i key v)
 kept-made hs rows pages locks i key v k found loose range =

@@ -18,14 +18,14 @@ use Rattle.shm_fault.specs.Segs.{SegRec, find_seg, but, new_seg, rec_in}
 use Rattle.shm_fault.specs.Dropping.{IsBlank}
 use Rattle.shm_fault.proofs.Whole.{not-held, rec-added}
 use Rattle.shm_fault.specs.Steps.{Kept}
-use Rattle.shm_fault.specs.Sound.{IsSound}
+use Rattle.shm_fault.specs.Sound.{IsStoreSound}
 use Rattle.shm_fault.proofs.Sound.{GoesOn-refl, GoesOn-trans}
 use Rattle.shm_slots.specs.Cause.{GoesOn}
 use Rattle.shm_segments.specs.declared.head.Head.{Head}
 use Rattle.shm_segments.specs.Joined.{whole, joined, live, Shape, shape_held, shape_row, Agree}
 use Rattle.shm_segments.specs.Table as table
-use Rattle.shm_segments.specs.View.{SegmentsView, as_held, Shows, Runs}
-use Rattle.shm_segments.specs.Kept.{IsKept, IsWhole}
+use Rattle.shm_segments.specs.View.{SegmentsView, as_held, ShowsTable, Runs}
+use Rattle.shm_segments.specs.Kept.{AreSegmentsKept, IsWhole}
 use Rattle.shm_segments.proofs.Finding.{live-joined}
 use Rattle.shm_segments.proofs.Shown.{agree-written}
 use Rattle.shm_segments.proofs.Held.{sums-written}
@@ -36,7 +36,7 @@ view_of t m = record { table = t; memory = m }
 
 -- SHOWN
 
-pub shows-joined : (m : StoreView) (rows : List (Entry Head)) → Agree (held m) rows → Shows (joined (held m) rows) m
+pub shows-joined : (m : StoreView) (rows : List (Entry Head)) → Agree (held m) rows → ShowsTable (joined (held m) rows) m
 shows-joined m rows agree id = by (live rows id) (find_held (held m) id) refl refl (agree.same id)
   where
     by : (r : Option (Row Head)) (o : Option Held) → live rows id ≡ r → find_held (held m) id ≡ o → option_map shape_held (find_held (held m) id) ≡ option_map shape_row (live rows id)
@@ -121,7 +121,7 @@ taken-back : (a : StoreView) (id n : ℕ) → find_seg a.segs id ≡ None → re
 taken-back a id n none = ap (λ (gs : List SegRec). record a { segs = gs }) (but-new a.segs id n none)
 
 -- a segment that was added and dropped at once
-pub undone : (s t u : StoreView) (id n : ℕ) → IsSound s → is_held (held s) id ≡ false → t ≡ record s { segs = s.segs ++ new_seg id n ∷ [] } → (IsBlank id t → u ≡ record t { segs = but id t.segs }) → u ≡ s
+pub undone : (s t u : StoreView) (id n : ℕ) → IsStoreSound s → is_held (held s) id ≡ false → t ≡ record s { segs = s.segs ++ new_seg id n ∷ [] } → (IsBlank id t → u ≡ record t { segs = but id t.segs }) → u ≡ s
 undone s t u id n sound new is dropped =
     let none : find_seg s.segs id ≡ None = not-held s sound id new in
     let blank : IsBlank id t = λ page. rw is (rec-added s sound id n none (record { seg = id; page = page }) ∙ ap (λ (o : Option SegRec). rec_in o page) none) in
@@ -141,7 +141,7 @@ agree-locks hs gs rows id a b = sym (by (find_held gs id)) ∙ ap lock_of (b.sam
 
 -- A STORE
 
-kept-written : (hs : List Held) (rows : List (Entry Head)) (pages locks : ℕ) (ps : List Span) (new : List ℕ) → IsKept hs rows pages locks → All (FitsPage hs) ps → IsKept (written hs ps new) rows pages locks
+kept-written : (hs : List Held) (rows : List (Entry Head)) (pages locks : ℕ) (ps : List Span) (new : List ℕ) → AreSegmentsKept hs rows pages locks → All (FitsPage hs) ps → AreSegmentsKept (written hs ps new) rows pages locks
 kept-written hs rows pages locks ps new k fit =
     let sums = sums-written hs ps new k.apart fit in
     record {
@@ -164,7 +164,7 @@ runs-written a b rows ps new agree fit is kept goes frames = record {
 
 -- done or not, all is whole
 pub wrote-whole : {A E : Type 0} (r : Result A E) (s n : StoreView) (rows : List (Entry Head)) (pages locks : ℕ) (ps : List Span) (new : List ℕ) → IsWhole s rows pages locks → All (FitsPage (held s)) ps
-    → OnOk r (held n ≡ written (held s) ps new) → OnErr r (held n ≡ held s) → IsSound n → Kept s n → GoesOn s.swap n.swap → length n.frames ≡ length s.frames → IsWhole n rows pages locks × Runs s n
+    → OnOk r (held n ≡ written (held s) ps new) → OnErr r (held n ≡ held s) → IsStoreSound n → Kept s n → GoesOn s.swap n.swap → length n.frames ≡ length s.frames → IsWhole n rows pages locks × Runs s n
 wrote-whole (Ok a) s n rows pages locks ps new w fit is same sound kept goes frames =
     (record { kept = rw is (kept-written (held s) rows pages locks ps new w.kept fit); sound = sound }, runs-written s n rows ps new w.kept.agree fit is kept goes frames)
 wrote-whole (Err e) s n rows pages locks ps new w fit is same sound kept goes frames =
@@ -176,7 +176,7 @@ held-fresh : (frames : List Frame) (swap : SwapView) → held (fresh_store frame
 unfolding held
 held-fresh frames swap = refl
 
-pub whole-fresh : (s : StoreView) (swap : SwapView) → s ≡ fresh_store s.frames swap → IsSound s → IsWhole s [] 0 0
+pub whole-fresh : (s : StoreView) (swap : SwapView) → s ≡ fresh_store s.frames swap → IsStoreSound s → IsWhole s [] 0 0
 whole-fresh s swap is sound =
     let none : held s ≡ [] = ap held is ∙ held-fresh s.frames swap in
     record {

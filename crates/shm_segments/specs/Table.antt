@@ -13,19 +13,19 @@ use Rattle.shm_segments.specs.declared.head.Head.{Head}
 use Rattle.shm_segments.specs.declared.head.Found.{Found}
 
 -- the segment that was found in a table
-abbrev pub seen : List Entry → Found → Segment
-seen table f = segment_of (record { key = f.key; value = f.head }) (bytes_at table f.seg)
+abbrev pub segment_seen : List Entry → Found → Segment
+segment_seen table f = segment_of (record { key = f.key; value = f.head }) (bytes_at table f.seg)
 
 -- it is live there, under its identifier
 pub record IsFound (table : List Entry) (f : Found) : Type 0 where
-  pub entry : slice_get table (f.seg % 32768) ≡ Some (record { destroyed = f.seg / 32768; segment = Some (seen table f) })
+  pub entry : slice_get table (f.seg % 32768) ≡ Some (record { destroyed = f.seg / 32768; segment = Some (segment_seen table f) })
   pub id : f.id ≡ pos f.seg
   pub long : length (bytes_at table f.seg) ≡ 4096 * pages_of f.head.size
   pub size : (1 ≤ f.head.size) × (f.head.size ≤ 16777216)
 
 -- what the flat machine says of an identifier or a key that was found
 abbrev pub look_of : List Entry → Found → flat.Look
-look_of table f = flat.Found (f.seg % 32768) (seen table f)
+look_of table f = flat.Found (f.seg % 32768) (segment_seen table f)
 
 -- with which number a look that finds nothing is refused
 abbrev pub refused_look : flat.Look → Option Errno

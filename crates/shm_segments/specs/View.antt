@@ -5,7 +5,7 @@ use Rattle.shm_plain.specs.Held.{Held, find_held, is_locked}
 use Rattle.shm_slots.specs.Cause.{GoesOn}
 use Rattle.shm_fault.specs.Store.{StoreView, held}
 use Rattle.shm_fault.specs.Steps.{Kept}
-use Rattle.shm_fault.specs.Sound.{IsSound}
+use Rattle.shm_fault.specs.Sound.{IsStoreSound}
 use Rattle.shm_segments.specs.Table.{live}
 
 pub record SegmentsView : Type 0 where
@@ -17,13 +17,13 @@ abbrev pub as_held : ℕ → Segment → Held
 as_held id x = record { id = id; locked = x.locked; bytes = x.bytes }
 
 -- each live segment is held with its bytes and its lock, and nothing else is held
-abbrev pub Shows : List Entry → StoreView → Type 0
-Shows table m = (id : ℕ) → find_held (held m) id ≡ option_map (as_held id) (live table id)
+abbrev pub ShowsTable : List Entry → StoreView → Type 0
+ShowsTable table m = (id : ℕ) → find_held (held m) id ≡ option_map (as_held id) (live table id)
 
 -- the memory is sound, and shows the table
-pub record IsExact (table : List Entry) (m : StoreView) : Type 0 where
-  pub sound : IsSound m
-  pub shows : Shows table m
+pub record IsTableExact (table : List Entry) (m : StoreView) : Type 0 where
+  pub sound : IsStoreSound m
+  pub shows : ShowsTable table m
 
 -- what each step but a lock keeps of the memory
 pub record Runs (before after : StoreView) : Type 0 where

@@ -10,7 +10,7 @@ ghost use Rattle.shm_fault.specs.Store.{frame_of};
 ghost use Rattle.shm_fault.specs.Access.{Accessed};
 ghost use Rattle.shm_fault.specs.Flushing.{IsFlushed};
 ghost use Rattle.shm_segments.specs.Table.{SpanFits, number_at, added};
-ghost use Rattle.shm_segments.specs.View.{IsExact, Runs};
+ghost use Rattle.shm_segments.specs.View.{IsTableExact, Runs};
 
 use crate::segments::Segments;
 use shm_base::{FlushReport, Span};
@@ -21,7 +21,7 @@ impl<P: Pager> Segments<P> {
     /// The pages and their places. They are sound, and show the table, at all times.
     pub fn store(&self) -> &PageStore<P>
         ensures value { result.now ≡ self.now.memory }
-        ensures exact { IsExact self.now.table self.now.memory }
+        ensures exact { IsTableExact self.now.table self.now.memory }
     {
         &self.store
     }

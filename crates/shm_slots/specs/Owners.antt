@@ -21,7 +21,7 @@ module _ {X : Type 0} where
   used_count owners = count_by is_some owners
 
   -- what is kept beside the owners: a bound below which none is free, and how many are owned
-  pub record IsKept (owners : List (Option X)) (first_free used : ℕ) : Type 0 where
+  pub record AreOwnersKept (owners : List (Option X)) (first_free used : ℕ) : Type 0 where
     pub bound : first_free ≤ length owners
     pub used_below : UsedBelow first_free owners
     pub counted : used ≡ used_count owners

@@ -1,6 +1,6 @@
 //! One swap area: its pager while that is there, and who owns each slot.
 ghost use Rattle.std.specs.Prelude.{◌≡◌, ◌<◌, ◌≤◌, [], length, get_or, Some, None, IfOk, IfErr};
-ghost use Rattle.shm_pager.specs.Pages.{seen, SlotUnknown};
+ghost use Rattle.shm_pager.specs.Pages.{pager_seen, SlotUnknown};
 ghost use Rattle.shm_slots.specs.Owners.{IsLeastFree, FoundLeast};
 
 use crate::owners::Owners;
@@ -48,7 +48,7 @@ impl<P: Pager> Area<P> {
     /// An area with no slot owned.
     pub fn new(alloc: Global, pager: P) -> Result<Area<P>, AllocError>
         requires { length (P.content pager) ≤ 65536 }
-        ensures made { IfOk result (λ a. a ≡ fresh (seen P.content P.failed pager)) }
+        ensures made { IfOk result (λ a. a ≡ fresh (pager_seen P.content P.failed pager)) }
         ensures sound { IfOk result IsArea }
     {
         let start = pager.failures();

@@ -2,7 +2,7 @@
 //! not shift where an area goes.
 ghost use Rattle.std.specs.Prelude.{◌≡◌, ◌+◌, ◌<◌, ◌≤◌, ◌&&◌, [], length, get_or, set, map, min, true, not, Some, None, All, IfOk, IfErr, OnErr, IfNone, MatchOption, EachIndex};
 ghost use Rattle.std.specs.List.{list_any};
-ghost use Rattle.shm_pager.specs.Pages.{seen, last_count, SlotUnknown};
+ghost use Rattle.shm_pager.specs.Pages.{pager_seen, last_count, SlotUnknown};
 ghost use Rattle.shm_slots.specs.View.{AreaView, is_spent};
 
 use crate::area::Area;
@@ -46,7 +46,7 @@ impl<P: Pager> Swap<P> {
         requires areas { (1 ≤ length pagers.items) × (length pagers.items ≤ 8) }
         requires sizes { All (λ p. IsAreaSize (length (P.content p))) pagers.items }
         ensures { IfOk result (λ s.
-            s ≡ new_swap (map (λ p. fresh (seen P.content P.failed p)) pagers.items)) }
+            s ≡ new_swap (map (λ p. fresh (pager_seen P.content P.failed p)) pagers.items)) }
     {
         let mut areas = Vec::with_capacity(alloc, pagers.len())?;
         let mut never_spent = true;

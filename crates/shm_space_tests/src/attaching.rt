@@ -157,7 +157,7 @@ fn the_lowest_piece_names_the_segment(rt: HostRuntime) -> Result<(), HostMemory>
 
 // Process 1 forks its child, and each goes.
 fn forks_and_goes(rt: &impl Abort, spaces: &mut Spaces) {
-    assert!(rt; !spaces.is_live(2));
+    assert!(rt; spaces.caller(2).is_none());
     assert!(rt; fork(spaces, 1, 2));
     assert!(rt; spaces.count(0) == 2);
     let child = spaces.caller(2);
@@ -175,7 +175,7 @@ fn forks_and_goes(rt: &impl Abort, spaces: &mut Spaces) {
         assert!(rt; lost.as_slice() == [0].as_slice());
     }
     assert!(rt; spaces.count(0) == 0);
-    assert!(rt; !spaces.is_live(1));
+    assert!(rt; spaces.caller(1).is_none());
     assert!(rt; detach(spaces, 1, 0x40000000).is_none());
 }
 

@@ -8,7 +8,7 @@ use Rattle.std.proofs.lemmas.List.Sums.{sum_by-cons}
 use Rattle.std.proofs.lemmas.List.Elements.{All-head, All-tail, All-get_or, All-map}
 use Rattle.shm_base.specs.declared.paging.Span.{Span}
 use Rattle.shm_plain.specs.Held.{Held, find_held, bytes_in, bytes_of, is_held, pages_in, pages_held, pages_if_locked, pages_locked, with_zeros, without, relocked, with_lock, FitsPage, pasted, written}
-use Rattle.shm_plain.specs.Apart.{AreApart}
+use Rattle.shm_plain.specs.Apart.{AreHeldApart}
 use Rattle.shm_plain.proofs.Kept.{apart-push, apart-without, apart-lock}
 use Rattle.shm_plain.proofs.Pasted.{apart-pasted, fits-pasted, length-paste}
 use Rattle.shm_fault.specs.Store.{StoreView, held, frame_of, page_of}
@@ -63,7 +63,7 @@ rows-none (g ∷ gs) id at new none = elim (eqb_tells g.id id) [
   | inr w ↦ rw w.0 (ap (λ (l : List Row). row_of g ∷ l) (rows-none gs id at new (rw w.0 at none)))
 ]
 
-rows-pasted : (hs : List Held) (id at : ℕ) (new : List ℕ) → AreApart hs → at + length new ≤ length (bytes_of hs id) → map row_of (map (pasted id at new) hs) ≡ map row_of hs
+rows-pasted : (hs : List Held) (id at : ℕ) (new : List ℕ) → AreHeldApart hs → at + length new ≤ length (bytes_of hs id) → map row_of (map (pasted id at new) hs) ≡ map row_of hs
 rows-pasted [] id at new apart le = refl
 rows-pasted (g ∷ gs) id at new apart le = elim (eqb_tells g.id id) [
   | inl w ↦
@@ -73,7 +73,7 @@ rows-pasted (g ∷ gs) id at new apart le = elim (eqb_tells g.id id) [
   | inr w ↦ rw w.0 (ap (λ (l : List Row). row_of g ∷ l) (rows-pasted gs id at new apart.1 (rw w.0 at le)))
 ]
 
-pub rows-written : (ps : List Span) (hs : List Held) (new : List ℕ) → AreApart hs → All (FitsPage hs) ps → (map row_of (written hs ps new) ≡ map row_of hs) × AreApart (written hs ps new)
+pub rows-written : (ps : List Span) (hs : List Held) (new : List ℕ) → AreHeldApart hs → All (FitsPage hs) ps → (map row_of (written hs ps new) ≡ map row_of hs) × AreHeldApart (written hs ps new)
 rows-written [] hs new apart fit = (refl, apart)
 rows-written (p ∷ ps) hs new apart fit =
     let first : FitsPage hs p = All-head (FitsPage hs) p ps fit in

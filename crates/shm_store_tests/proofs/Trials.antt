@@ -6,7 +6,7 @@ use Rattle.shm_base.specs.declared.paging.PageRef.{PageRef}
 use Rattle.shm_base.specs.declared.paging.Span.{Span}
 use Rattle.shm_pager.specs.Pages.{PagerView}
 use Rattle.shm_plain.specs.Held.{Held, FitsPage, find_held, pages_held, written, with_zeros}
-use Rattle.shm_plain.specs.Apart.{AreApart}
+use Rattle.shm_plain.specs.Apart.{AreHeldApart}
 use Rattle.shm_slots.specs.View.{AreaView, SwapView, fresh, new_swap, owner_of, size_of}
 use Rattle.shm_frames.specs.Frame.{Frame}
 use Rattle.shm_fault.specs.Store.{held, fresh_store}
@@ -37,7 +37,7 @@ pub three-added : (frames : List Frame) (swap : SwapView) → map row_of (with_z
 three-added frames swap = rw (fresh-held frames swap) (rows-zeros [] 0 3)
 
 -- what is known of three pages
-one-apart : (hs : List Held) → map row_of hs ≡ three → AreApart hs
+one-apart : (hs : List Held) → map row_of hs ≡ three → AreHeldApart hs
 one-apart [] e = cc
 one-apart (g ∷ []) e = (refl, tt)
 one-apart (g ∷ h ∷ hs) e = let more : length (map row_of (g ∷ h ∷ hs)) ≡ 1 = ap length e in absurd (omega (arith, more))

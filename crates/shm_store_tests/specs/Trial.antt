@@ -2,7 +2,7 @@
 use Rattle.std.specs.Prelude.{ℕ, ◌≡◌, ◌==◌, ◌||◌, ◌≤◌, Bool, false, if◌then◌else◌, List, [], ◌∷◌, Option, Some, None, map, length, sum_by, All}
 use Rattle.shm_base.specs.declared.paging.Span.{Span}
 use Rattle.shm_plain.specs.Held.{Held, FitsPage, pages_in}
-use Rattle.shm_plain.specs.Apart.{AreApart}
+use Rattle.shm_plain.specs.Apart.{AreHeldApart}
 use Rattle.shm_fault.specs.Store.{StoreView, held, frame_of, page_of}
 
 -- what a run of calls knows of a segment by itself
@@ -45,7 +45,7 @@ pub record AreAlike (s : StoreView) (plain : List Held) (rows : List Row) : Type
   pub same : plain ≡ held s
   pub told : rows ≡ map row_of (held s)
   pub frames : length s.frames ≡ 4
-  pub apart : AreApart (held s)
+  pub apart : AreHeldApart (held s)
 
 -- the stretch with the frame that its page is in
 abbrev pub with_frame : StoreView → Span → Span

@@ -1,7 +1,7 @@
 //! The store: its segments, in the order in which they were added.
 ghost use Rattle.std.specs.Prelude.{◌≡◌, ℕ, ◌+◌, ◌<◌, ◌≤◌, [], length, All, sum_by, map, slice_get, false, true, OnOk, OnErr};
 ghost use Rattle.shm_base.specs.declared.paging.Span.{Span};
-ghost use Rattle.shm_plain.specs.Apart.{AreApart};
+ghost use Rattle.shm_plain.specs.Apart.{AreHeldApart};
 ghost use Rattle.shm_plain.specs.Held.{find_held, is_held, pasted, with_zeros, without, with_lock, FitsPage, span_bytes, read_from, written};
 
 use crate::segment::Segment;
@@ -23,11 +23,11 @@ impl Model for PlainStore {
 
     ghost Value = { List Held };
 
-    ghost use Rattle.shm_plain.specs.Apart.{AreApart};
+    ghost use Rattle.shm_plain.specs.Apart.{AreHeldApart};
 
     ghost view = { λ s. s.segments.items };
 
-    ghost invariant = { λ s. AreApart s.segments.items };
+    ghost invariant = { λ s. AreHeldApart s.segments.items };
 }
 
 /// The place of a segment that is held.
@@ -58,9 +58,9 @@ fn bytes_at<'a>(segments: &'a Vec<Segment>, span: &Span) -> &'a [u8]
 fn paste_at(segments: &mut Vec<Segment>, span: &Span, new: &[u8])
     requires fits { FitsPage segments.old.items span.now }
     requires size { length new.now ≡ span.now.len }
-    requires apart { AreApart segments.old.items }
+    requires apart { AreHeldApart segments.old.items }
     ensures pasted { segments.new.items ≡ map (pasted span.now.seg span.now.at new.now) segments.old.items }
-    ensures apart { AreApart segments.new.items }
+    ensures apart { AreHeldApart segments.new.items }
 {
     let index = index_of(segments, span.seg);
     let segment = &mut segments[index];

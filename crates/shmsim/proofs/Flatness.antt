@@ -17,11 +17,11 @@ use Rattle.shm_text.specs.declared.script.Line.TheVariants.{Command, Flush}
 use Rattle.shm_history.proofs.Clear.{clear_step, first_clear, rest_clear}
 use Rattle.shm_program.specs.Values.{HolderView, fresh_holder, values_of, answered}
 use Rattle.shm_program.specs.Runs.{IsWorldOf, opening_of}
-use Rattle.shmsim.specs.Output.{Follows, world_text}
+use Rattle.shmsim.specs.Output.{RunsInOrder, world_text}
 use Rattle.shmsim.specs.Flat.{line_step, flat_events, flat_end, flat_text}
 
 pub is_flat : (n : ℕ) (s : Machine) (hs : List HolderView) (ls : List Line) (es : List Event) (t : Machine)
-    → Follows hs ls es → LeadsFrom n s es t → failures_in es ≡ 0 → (es ≡ flat_events n s hs ls) × (t ≡ flat_end n s hs ls)
+    → RunsInOrder hs ls es → LeadsFrom n s es t → failures_in es ≡ 0 → (es ≡ flat_events n s hs ls) × (t ≡ flat_end n s hs ls)
 is_flat n s hs [] [] t follows leads none = (refl, leads)
 is_flat n s hs [] (e ∷ es) t follows leads none = absurd follows
 is_flat n s hs (Flush pages ∷ ls) es t follows leads none = is_flat n s hs ls es t follows leads none
@@ -42,7 +42,7 @@ unfolding AreCounted
 no_failures w is unspent = is.sound.counted unspent
 
 -- what is printed of a world over which no pager failed
-pub flat_printed : (script : ScriptView) (areas : List ℕ) (w : WorldState) → IsWorldOf script areas w → Follows (map fresh_holder script.processes) script.lines w.events
+pub flat_printed : (script : ScriptView) (areas : List ℕ) (w : WorldState) → IsWorldOf script areas w → RunsInOrder (map fresh_holder script.processes) script.lines w.events
     → w.memory.swap.never_spent ≡ true → total w.memory.swap ≡ 0 → world_text w ≡ flat_text script areas ++ usage_text (tally_of w)
 flat_printed script areas w is follows unspent clear =
     let none : failures_in w.events ≡ 0 = let few = no_failures w is unspent in omega (arith, few, clear) in

@@ -7,14 +7,14 @@ use Rattle.shm_text.specs.Script.{ScriptView}
 use Rattle.shm_text.specs.Reading.{script_of}
 use Rattle.shm_threads.specs.declared.outcome.Transcript.{Transcript}
 use Rattle.shm_program.specs.Values.{fresh_holder}
-use Rattle.shm_program.specs.Runs.{IsWorldOf, Writes, Shows}
-use Rattle.shmsim.specs.Output.{IsOutput, Follows, world_text}
+use Rattle.shm_program.specs.Runs.{IsWorldOf, Writes, Prints}
+use Rattle.shmsim.specs.Output.{IsOutput, RunsInOrder, world_text}
 use Rattle.shmsim.proofs.Flatness.{flat_printed}
 use Rattle.shm_program.proofs.Texts.{shown}
 use Rattle.shmsim.specs.Threaded.{IsRunOf, IsThreadedOutput, IsAllOrNothing, have_mark}
 use Rattle.shm_program.specs.declared.fault.RunFault.{RunFault}
 
-pub serial_text : (result : Result (Unit {0}) RunFault) (script : ScriptView) (areas : List ℕ) (w : WorldState) (old new : Option (List ℕ)) → IsWorldOf script areas w → Follows (map fresh_holder script.processes) script.lines w.events → OnOk result (Appends old new (world_text w)) → OnOk result (Writes (IsOutput script areas) old new)
+pub serial_text : (result : Result (Unit {0}) RunFault) (script : ScriptView) (areas : List ℕ) (w : WorldState) (old new : Option (List ℕ)) → IsWorldOf script areas w → RunsInOrder (map fresh_holder script.processes) script.lines w.events → OnOk result (Appends old new (world_text w)) → OnOk result (Writes (IsOutput script areas) old new)
 serial_text (Ok done) script areas w old new is follows written = (world_text w, record { world = w; is_world = is; follows = follows; printed = refl; invisible = flat_printed script areas w is follows }, written)
 serial_text (Err fault) script areas w old new is follows written = tt
 
@@ -33,10 +33,10 @@ pub marked_text : (result : Result (Unit {0}) RunFault) (script : ScriptView) (a
 marked_text (Ok done) script areas w transcripts old new is run e = tt
 marked_text (Err fault) script areas w transcripts old new is run e = marked_by fault script areas w transcripts old new is run e
 
-marked_shown : (fault : RunFault) (input rest old new : Option (List ℕ)) (areas : List ℕ) (script : ScriptView) → IfSome input (λ bytes. script_of bytes ≡ Ok script) → IsAtEnd rest → IsAllOrNothing fault old new (Writes (IsThreadedOutput true script areas) old new) → IsAllOrNothing fault old new (IsAtEnd rest × IfSome input (λ bytes. Shows (IsThreadedOutput true) old new areas bytes))
+marked_shown : (fault : RunFault) (input rest old new : Option (List ℕ)) (areas : List ℕ) (script : ScriptView) → IfSome input (λ bytes. script_of bytes ≡ Ok script) → IsAtEnd rest → IsAllOrNothing fault old new (Writes (IsThreadedOutput true script areas) old new) → IsAllOrNothing fault old new (IsAtEnd rest × IfSome input (λ bytes. Prints (IsThreadedOutput true) old new areas bytes))
 marked_shown fault input rest old new areas script read end (inl silent) = inl silent
 marked_shown fault input rest old new areas script read end (inr (e, written)) = inr (e, (end, shown (IsThreadedOutput true) input old new areas script read written))
 
-pub marked_shows : (result : Result (Unit {0}) RunFault) (input rest old new : Option (List ℕ)) (areas : List ℕ) (script : ScriptView) → IfSome input (λ bytes. script_of bytes ≡ Ok script) → IsAtEnd rest → IfErr result (λ f. IsAllOrNothing f old new (Writes (IsThreadedOutput true script areas) old new)) → IfErr result (λ f. IsAllOrNothing f old new (IsAtEnd rest × IfSome input (λ bytes. Shows (IsThreadedOutput true) old new areas bytes)))
+pub marked_shows : (result : Result (Unit {0}) RunFault) (input rest old new : Option (List ℕ)) (areas : List ℕ) (script : ScriptView) → IfSome input (λ bytes. script_of bytes ≡ Ok script) → IsAtEnd rest → IfErr result (λ f. IsAllOrNothing f old new (Writes (IsThreadedOutput true script areas) old new)) → IfErr result (λ f. IsAllOrNothing f old new (IsAtEnd rest × IfSome input (λ bytes. Prints (IsThreadedOutput true) old new areas bytes)))
 marked_shows (Ok done) input rest old new areas script read end e = tt
 marked_shows (Err fault) input rest old new areas script read end e = marked_shown fault input rest old new areas script read end e

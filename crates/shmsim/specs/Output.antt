@@ -15,13 +15,13 @@ use Rattle.shm_program.specs.Runs.{IsWorldOf}
 use Rattle.shmsim.specs.Flat.{flat_text}
 
 -- the events are the calls of these lines in file order, each with the variables of its process
-abbrev pub Follows : List HolderView → List Line → List Event → Type 0
-Follows hs [] [] = Unit {0}
-Follows hs [] (e ∷ es) = ⊥
-Follows hs (Flush n ∷ ls) es = Follows hs ls es
-Follows hs (Command c ∷ ls) [] = ⊥
-Follows hs (Command c ∷ ls) (e ∷ es) =
-    (e.pid ≡ c.pid) × (e.call ≡ call_of (values_of hs c.pid) c.call) × Follows (answered hs c (Some e.reply)) ls es
+abbrev pub RunsInOrder : List HolderView → List Line → List Event → Type 0
+RunsInOrder hs [] [] = Unit {0}
+RunsInOrder hs [] (e ∷ es) = ⊥
+RunsInOrder hs (Flush n ∷ ls) es = RunsInOrder hs ls es
+RunsInOrder hs (Command c ∷ ls) [] = ⊥
+RunsInOrder hs (Command c ∷ ls) (e ∷ es) =
+    (e.pid ≡ c.pid) × (e.call ≡ call_of (values_of hs c.pid) c.call) × RunsInOrder (answered hs c (Some e.reply)) ls es
 
 -- what is printed of a world: the event lines, the listing, and the usage
 abbrev pub world_text : WorldState → List ℕ
@@ -32,6 +32,6 @@ world_text w = events_text 1 w.events ++ listing_of w.machine ++ usage_text (tal
 pub record IsOutput (script : ScriptView) (areas : List ℕ) (text : List ℕ) : Type 0 where
   pub world : WorldState
   pub is_world : IsWorldOf script areas world
-  pub follows : Follows (map fresh_holder script.processes) script.lines world.events
+  pub follows : RunsInOrder (map fresh_holder script.processes) script.lines world.events
   pub printed : text ≡ world_text world
   pub invisible : world.memory.swap.never_spent ≡ true → total world.memory.swap ≡ 0 → text ≡ flat_text script areas ++ usage_text (tally_of world)

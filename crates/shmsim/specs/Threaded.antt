@@ -9,7 +9,7 @@ use Rattle.shm_threads.specs.declared.outcome.Answer.{Answer}
 use Rattle.shm_threads.specs.declared.outcome.Answer.TheVariants as answers
 use Rattle.shm_threads.specs.declared.outcome.Entry.{Entry}
 use Rattle.shm_threads.specs.declared.outcome.Transcript.{Transcript}
-use Rattle.shm_program.specs.Runs.{IsWorldOf, IsSilent, IsCause, Shows}
+use Rattle.shm_program.specs.Runs.{IsWorldOf, IsSilent, IsCause, Prints}
 use Rattle.shmsim.specs.Output.{world_text}
 use Rattle.shm_program.specs.declared.fault.RunFault.{RunFault}
 use Rattle.shm_program.specs.declared.fault.RunFault.TheVariants.{HostMemory}
@@ -46,7 +46,7 @@ IsAllOrNothing fault old new Marked = IsSilent fault old new ⊎ ((fault ≡ Hos
 
 -- a run with threads, from what is left of the input before it and behind it, and what is written
 pub record IsThreadedRun (result : Result (Unit {0}) RunFault) (input rest old new : Option (List ℕ)) (areas : List ℕ) : Type 0 where
-  pub ok : OnOk result (IfSome input (λ bytes. Shows (IsThreadedOutput false) old new areas bytes))
+  pub ok : OnOk result (IfSome input (λ bytes. Prints (IsThreadedOutput false) old new areas bytes))
   pub whole : OnOk result (IsAtEnd rest)
   pub cause : IfErr result (λ f. IfSome input (λ bytes. IsCause f areas bytes))
-  pub written : IfErr result (λ f. IsAllOrNothing f old new (IsAtEnd rest × IfSome input (λ bytes. Shows (IsThreadedOutput true) old new areas bytes)))
+  pub written : IfErr result (λ f. IsAllOrNothing f old new (IsAtEnd rest × IfSome input (λ bytes. Prints (IsThreadedOutput true) old new areas bytes)))

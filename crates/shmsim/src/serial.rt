@@ -2,8 +2,8 @@
 //! answered go to a writer.
 ghost use Rattle.std.specs.Prelude.{◌≡◌, ◌⊎◌, [], length, true, map, OnOk, IfErr, IfSome};
 ghost use Rattle.std.specs.Io.KnownBytes.{IsAtEnd};
-ghost use Rattle.shm_program.specs.Runs.{Shows, Writes, IsCause, IsCauseIn, is_serial, IsSilent, IsOpening};
-ghost use Rattle.shmsim.specs.Output.{IsOutput, Follows};
+ghost use Rattle.shm_program.specs.Runs.{Prints, Writes, IsCause, IsCauseIn, is_serial, IsSilent, IsOpening};
+ghost use Rattle.shmsim.specs.Output.{IsOutput, RunsInOrder};
 ghost use Rattle.shm_program.specs.Values.{fresh_holder};
 
 use crate::world::write_world;
@@ -25,7 +25,7 @@ pub fn run_serial<R: Read, W: Write, P: Pager>(
     writer: &mut W,
     pagers: Vec<P>,
 ) -> Result<(), RunFault>
-    ensures ok { OnOk result (IfSome (R.remaining reader.old) (λ input. Shows IsOutput (W.contents writer.old) (W.contents writer.new) (map (λ p. length (P.content p)) pagers.items) input)) }
+    ensures ok { OnOk result (IfSome (R.remaining reader.old) (λ input. Prints IsOutput (W.contents writer.old) (W.contents writer.new) (map (λ p. length (P.content p)) pagers.items) input)) }
     ensures whole { OnOk result (IsAtEnd (R.remaining reader.new)) }
     ensures cause { IfErr result (λ f. IfSome (R.remaining reader.old) (λ input. IsCause f (map (λ p. length (P.content p)) pagers.items) input)) }
     ensures serial { IfErr result (λ f. is_serial f ≡ true) }
@@ -84,7 +84,7 @@ pub(crate) fn run_lines<P: Pager>(
     script: &Script,
 ) -> Result<(), HostMemory>
     requires { world.old.events ≡ [] }
-    ensures follows { OnOk result (Follows (map fresh_holder script.now.processes) script.now.lines world.new.events) }
+    ensures follows { OnOk result (RunsInOrder (map fresh_holder script.now.processes) script.now.lines world.new.events) }
     ensures opening { world.new.opening ≡ world.old.opening }
 {
     let mut values = Values::new(alloc, &script.processes)?;

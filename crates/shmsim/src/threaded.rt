@@ -2,7 +2,7 @@
 //! the texts of the history that they made go to a writer.
 ghost use Rattle.std.specs.Prelude.{◌≡◌, ◌⊎◌, true, false, length, map, OnOk, IfErr};
 ghost use Rattle.std.specs.Io.KnownBytes.{Appends};
-ghost use Rattle.shm_program.specs.Runs.{IsCauseIn, IsOpening, IsSound, Writes};
+ghost use Rattle.shm_program.specs.Runs.{IsCauseIn, IsOpening, IsWorldSound, Writes};
 ghost use Rattle.shmsim.specs.Output.{world_text};
 ghost use Rattle.shmsim.specs.Threaded.{is_marked, has_mark, have_mark, IsThreadedOutput, IsThreadedRun, IsAllOrNothing};
 
@@ -112,7 +112,7 @@ pub(crate) fn write_outcome<W: Write, P: Pager>(
     outcome: &Outcome<P>,
 ) -> Result<(), RunFault>
     ensures ok { OnOk result ((have_mark outcome.now.transcripts.items ≡ false) × Appends (W.contents writer.old) (W.contents writer.new) (world_text outcome.now.world)) }
-    ensures sound { IsSound outcome.now.world }
+    ensures sound { IsWorldSound outcome.now.world }
     ensures fault { IfErr result (λ f. (f ≡ RunFault.HostMemory) ⊎ (f ≡ RunFault.WriteFailed)) }
     ensures written { IfErr result (λ f. IsAllOrNothing f (W.contents writer.old) (W.contents writer.new) ((have_mark outcome.now.transcripts.items ≡ true) × Appends (W.contents writer.old) (W.contents writer.new) (world_text outcome.now.world))) }
 {

@@ -2,7 +2,7 @@
 ghost use Rattle.std.specs.Prelude.{◌≡◌, ◌⊎◌, OnOk, IfErr, IfOk, string_bytes};
 ghost use Rattle.std.specs.Io.KnownBytes.{Appends};
 ghost use Rattle.shm_print.specs.Text.{events_text};
-ghost use Rattle.shm_program.specs.Runs.{IsSilent, IsSound};
+ghost use Rattle.shm_program.specs.Runs.{IsSilent, IsWorldSound};
 ghost use Rattle.shmsim.specs.Output.{world_text};
 
 use shm_base::Event;
@@ -31,7 +31,7 @@ fn history_text(alloc: Global, history: &[Event]) -> Result<String, AllocError>
 // What is printed of a world: its event lines, the listing of its segments, and its usage.
 fn world_text<P: Pager>(alloc: Global, world: &World<P>) -> Result<String, AllocError>
     ensures text { IfOk result (λ text. string_bytes text ≡ world_text world.now) }
-    ensures sound { IsSound world.now }
+    ensures sound { IsWorldSound world.now }
 {
     let mut text = history_text(alloc, lawful(world))?;
     text.push_str(&listing(alloc, world)?)?;
@@ -46,7 +46,7 @@ pub(crate) fn write_world<W: Write, P: Pager>(
     world: &World<P>,
 ) -> Result<(), RunFault>
     ensures written { OnOk result (Appends (W.contents writer.old) (W.contents writer.new) (world_text world.now)) }
-    ensures sound { IsSound world.now }
+    ensures sound { IsWorldSound world.now }
     ensures fault { IfErr result (λ f. (f ≡ RunFault.HostMemory) ⊎ (f ≡ RunFault.WriteFailed)) }
     ensures silent { IfErr result (λ f. IsSilent f (W.contents writer.old) (W.contents writer.new)) }
 {

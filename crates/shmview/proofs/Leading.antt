@@ -7,14 +7,14 @@ use Rattle.shm_text.specs.declared.script.Line.{Line}
 use Rattle.shm_history.specs.WorldState.{WorldState}
 use Rattle.shm_view.specs.declared.action.Action.{Action}
 use Rattle.shm_view.specs.declared.action.Action.TheVariants.{Start}
-use Rattle.shm_program.specs.Runs.{IsSound, IsWorldOf, Writes}
+use Rattle.shm_program.specs.Runs.{IsWorldSound, IsWorldOf, Writes}
 use Rattle.shm_program.specs.Values.{HolderView, fresh_holder}
 use Rattle.shmview.specs.Record.{HasRun, Leads, IsRecord, shown_text}
 use Rattle.shmview.specs.Steps.{steps_asked}
 use Rattle.shmview.specs.declared.steps.Steps.{Steps}
 use Rattle.shmview.specs.declared.stop.Stop.{Stop}
 
-pub one_more : (steps : Steps) (hs after : List HolderView) (n : ℕ) (w next : WorldState) (line : Line) (lines : List Line) (action : Action) (more : List ℕ) → HasRun hs w line action after next → IsSound next → Leads steps after (n + 1) next lines more → Leads steps hs n w (line ∷ lines) (shown_text steps n action next ++ more)
+pub one_more : (steps : Steps) (hs after : List HolderView) (n : ℕ) (w next : WorldState) (line : Line) (lines : List Line) (action : Action) (more : List ℕ) → HasRun hs w line action after next → IsWorldSound next → Leads steps after (n + 1) next lines more → Leads steps hs n w (line ∷ lines) (shown_text steps n action next ++ more)
 one_more steps hs after n w next line lines action more run sound leads = (action, after, next, more, run, sound, leads, refl)
 
 -- what was written is the record of the run

@@ -12,7 +12,7 @@ use Rattle.shm_history.specs.WorldState.{WorldState, event, IsCalled, IsRound}
 use Rattle.shm_view.specs.declared.action.Action.{Action}
 use Rattle.shm_view.specs.declared.action.Action.TheVariants as actions
 use Rattle.shm_view.specs.Record.{step_text}
-use Rattle.shm_program.specs.Runs.{IsSound, IsWorldOf}
+use Rattle.shm_program.specs.Runs.{IsWorldSound, IsWorldOf}
 use Rattle.shm_program.specs.Values.{HolderView, fresh_holder, values_of, answered}
 use Rattle.shmview.specs.Steps.{is_among, steps_asked}
 use Rattle.shmview.specs.declared.steps.Steps.{Steps}
@@ -37,7 +37,7 @@ shown_text steps n action w = if is_among steps n then step_text n action w else
 abbrev pub Leads : Steps → List HolderView → ℕ → WorldState → List Line → List ℕ → Type 0
 Leads steps hs n w [] text = text ≡ []
 Leads steps hs n w (line ∷ lines) text =
-    (action : Action) × (after : List HolderView) × (next : WorldState) × (rest : List ℕ) × HasRun hs w line action after next × IsSound next × Leads steps after (n + 1) next lines rest × (text ≡ shown_text steps n action next ++ rest)
+    (action : Action) × (after : List HolderView) × (next : WorldState) × (rest : List ℕ) × HasRun hs w line action after next × IsWorldSound next × Leads steps after (n + 1) next lines rest × (text ≡ shown_text steps n action next ++ rest)
 
 -- the record of a run of a script over these areas: step 0 is the world as it opens, and each line is a step. Where no
 -- steps are asked for the script has at most 2,000 lines

@@ -1,7 +1,7 @@
 //! The lines of a script are run, and the record of each step is put behind a text.
 ghost use Rattle.std.specs.Prelude.{◌≡◌, ◌++◌, List, ℕ, [], map, IfOk, OnOk, string_bytes};
 ghost use Rattle.shm_view.specs.declared.action.Action.TheVariants.{Start};
-ghost use Rattle.shm_program.specs.Runs.{IsSound};
+ghost use Rattle.shm_program.specs.Runs.{IsWorldSound};
 ghost use Rattle.shm_program.specs.Values.{fresh_holder};
 ghost use Rattle.shmview.specs.Record.{HasRun, Leads, shown_text};
 
@@ -49,7 +49,7 @@ fn push_shown<P: Pager>(
     world: &World<P>,
 ) -> Result<(), HostMemory>
     ensures text { OnOk result (string_bytes text.new ≡ string_bytes text.old ++ shown_text steps number action.now world.now) }
-    ensures sound { IsSound world.now }
+    ensures sound { IsWorldSound world.now }
 {
     // What the history tells is true of each world that is shown.
     let _sound = lawful(world);

@@ -2,7 +2,7 @@
 //! step goes to a writer.
 ghost use Rattle.std.specs.Prelude.{◌≡◌, ◌⊎◌, ◌≤◌, [], length, map, None, OnOk, IfErr, IfSome, MatchOption};
 ghost use Rattle.std.specs.Io.KnownBytes.{Appends, IsAtEnd};
-ghost use Rattle.shm_program.specs.Runs.{Shows, Writes, IsOpening};
+ghost use Rattle.shm_program.specs.Runs.{Prints, Writes, IsOpening};
 ghost use Rattle.shmview.specs.Record.{IsRecord};
 ghost use Rattle.shmview.specs.Stop.{IsStopIn, IsStopOf, IsTooLong, WritesNothing};
 
@@ -30,7 +30,7 @@ pub(crate) fn view<R: Read, W: Write, P: Pager>(
     pagers: Vec<P>,
     asked: Option<Steps>,
 ) -> Result<(), Stop>
-    ensures ok { OnOk result (IfSome (R.remaining reader.old) (λ input. Shows (IsRecord asked) (W.contents writer.old) (W.contents writer.new) (map (λ p. length (P.content p)) pagers.items) input)) }
+    ensures ok { OnOk result (IfSome (R.remaining reader.old) (λ input. Prints (IsRecord asked) (W.contents writer.old) (W.contents writer.new) (map (λ p. length (P.content p)) pagers.items) input)) }
     ensures whole { OnOk result (IsAtEnd (R.remaining reader.new)) }
     ensures cause { IfErr result (λ s. IfSome (R.remaining reader.old) (λ input. IsStopOf s asked (map (λ p. length (P.content p)) pagers.items) input)) }
     ensures silent { IfErr result (λ s. WritesNothing s (W.contents writer.old) (W.contents writer.new)) }

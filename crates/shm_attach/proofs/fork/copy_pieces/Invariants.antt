@@ -4,7 +4,7 @@ use Rattle.shm_attach.specs.Views.{with_pieces_at, runners_view}
 use Rattle.shm_attach.specs.Spaces.{pieces_at}
 use Rattle.shm_attach.specs.Entries.{AllTrue}
 use Rattle.shm_attach.specs.Tables.{stored_at}
-use Rattle.shm_attach.specs.Exact.{IsSound, no_holds}
+use Rattle.shm_attach.specs.Exact.{AreTablesSound, no_holds}
 use Rattle.shm_attach.proofs.fork.copy_pieces.Given as goal
 
 -- the child has the first k pieces
@@ -15,6 +15,6 @@ invariant-loop-k l =
           ≡ with_pieces_at (runners_view l.initial.processes.entries) l.child (λ (_ : List Piece). take l.k (pieces_at (runners_view l.initial.processes.entries) l.parent));
       count : length l.processes.entries ≡ length l.initial.processes.entries;
       own : stored_at l.processes.entries l.parent ≡ stored_at l.initial.processes.entries l.parent;
-      sound : IsSound no_holds l.processes.entries l.tables;
+      sound : AreTablesSound no_holds l.processes.entries l.tables;
       translated : (at : ℕ → ℕ → Option ℕ) → AllTrue at l.initial.tables.slab → AllTrue at l.tables.slab;
     }

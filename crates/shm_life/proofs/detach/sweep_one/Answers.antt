@@ -1,7 +1,7 @@
 use Rattle.std.proofs.Common.{◌≡◌, false, ℕ, List, ◌∷◌, ap, sym, ◌∙◌, refl}
 use Rattle.shm_base.specs.Segments.{attach_count}
 use Rattle.shm_segments.specs.Left.{is_left}
-use Rattle.shm_segments.specs.Table.{live, seen}
+use Rattle.shm_segments.specs.Table.{live, segment_seen}
 use Rattle.shm_segments.proofs.Finding.{live-found}
 use Rattle.shm_life.specs.Orphans.{OrphansAmong}
 use Rattle.shm_life.proofs.Sweeping.{fewer-left, fewer-destroyed, sweeps-destroyed, left-parts}
@@ -15,7 +15,7 @@ returns-then-is_left-clause-sweeps g c =
     let rs = c.args.spaces.now.runners in
     let f = c.in-Some.found in
     let parts = left-parts f.head.dest (attach_count rs f.seg) (sym c.is_left.ensures.value ∙ c.if-is_left.true) in
-    rw (c.destroy.ensures.table, ← c.in-Some.ensures.seg) (sweeps-destroyed rs t f.seg (seen t f) c.in-Some.ensures.found.entry parts.0 parts.1)
+    rw (c.destroy.ensures.table, ← c.in-Some.ensures.seg) (sweeps-destroyed rs t f.seg (segment_seen t f) c.in-Some.ensures.found.entry parts.0 parts.1)
 
 -- those that may be left, by the identifier that was found
 own : (g : Over) (c : After-is_left g) (rest : List ℕ) → OrphansAmong (c.args.seg ∷ rest) c.args.spaces.now.runners c.args.segments.now.table → OrphansAmong (c.in-Some.found.seg ∷ rest) c.args.spaces.now.runners c.args.segments.now.table

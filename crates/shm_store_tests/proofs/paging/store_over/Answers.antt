@@ -1,5 +1,5 @@
 use Rattle.std.proofs.Common.{◌≡◌, ◌≤◌, [], refl, ap, ◌∙◌, arith}
-use Rattle.shm_pager.specs.Pages.{seen}
+use Rattle.shm_pager.specs.Pages.{pager_seen}
 use Rattle.shm_plain.specs.Held.{with_zeros}
 use Rattle.shm_slots.specs.View.{slots}
 use Rattle.shm_fault.specs.Store.{held, fresh_store}
@@ -7,7 +7,7 @@ use Rattle.shm_store_tests.proofs.Trials.{fresh-free, fresh-held, three-added}
 use Rattle.shm_store_tests.proofs.paging.store_over.Goals as goal
 
 pub new-requires-2-clause-free : goal.new-requires-2-clause-free
-new-requires-2-clause-free g c = λ area slot. rw c.in-Ok.ensures (fresh-free (λ p. seen g.P.Pager.content g.P.Pager.failed p) c.args.pagers.items area slot)
+new-requires-2-clause-free g c = λ area slot. rw c.in-Ok.ensures (fresh-free (λ p. pager_seen g.P.Pager.content g.P.Pager.failed p) c.args.pagers.items area slot)
 
 pub add_segment-requires-clause-new : goal.add_segment-requires-clause-new
 add_segment-requires-clause-new g c =

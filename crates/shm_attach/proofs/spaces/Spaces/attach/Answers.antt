@@ -8,7 +8,7 @@ use Rattle.shm_attach.specs.declared.tables.Tables.{Tables}
 use Rattle.shm_attach.specs.Views.{one_if, runner_view, runners_view, with_pieces_at}
 use Rattle.shm_attach.specs.Spaces.{SpacesView, Translation, AreTrue, IsCaller, pieces_at, life_at}
 use Rattle.shm_attach.specs.Place.{new_piece}
-use Rattle.shm_attach.specs.Exact.{IsSound, no_holds}
+use Rattle.shm_attach.specs.Exact.{AreTablesSound, no_holds}
 use Rattle.shm_attach.specs.Entries.{AllTrue, translations_of}
 use Rattle.shm_attach.specs.Tables.{counted, IsHeld}
 use Rattle.std.proofs.lemmas.List.{length-map}
@@ -40,7 +40,7 @@ space_at-requires g c = stands g (goal.at.space_at-requires g c).After-self
 
 -- THE SEGMENT IS HELD
 
-held : (g : Over) (c : In_ok-key g) → IsSound (λ id. one_if id c.args.seg) c.self.inside.processes.entries c.hold.new.self
+held : (g : Over) (c : In_ok-key g) → AreTablesSound (λ id. one_if id c.args.seg) c.self.inside.processes.entries c.hold.new.self
 held g c =
     sound-holds no_holds (λ id. one_if id c.args.seg) c.self.inside.processes.entries c.self.inside.tables c.hold.new.self c.self.invariant
     (λ id. omega (arith, c.in_ok-key.ensures.counts id)) c.in_ok-key.ensures.tied (λ p own _. c.in_ok-key.ensures.held p own)
@@ -59,7 +59,7 @@ take-requires g c =
 -- THE RANGE IS FREE
 
 -- a segment that is held is counted
-counts_hold : (seg : ℕ) (es : List (ℕ × Runner)) (t : Tables) → IsSound (λ id. one_if id seg) es t → 1 ≤ counted t seg
+counts_hold : (seg : ℕ) (es : List (ℕ × Runner)) (t : Tables) → AreTablesSound (λ id. one_if id seg) es t → 1 ≤ counted t seg
 counts_hold seg es t sound =
     let one : one_if seg seg ≡ 1 = rw (eq-eqb seg seg refl) refl in
     omega (arith, sound.exact.counts seg, one)
@@ -94,8 +94,8 @@ put-requires g c =
 
 -- THE PIECE IS THERE
 
-placed : (g : Over) (c : After-put g) → IsSound (λ id. one_if id c.args.seg) c.self.inside.processes.entries c.hold.new.self
-    → IsSound (λ id. one_if id c.args.seg) c.put.new.processes.entries c.put.new.tables
+placed : (g : Over) (c : After-put g) → AreTablesSound (λ id. one_if id c.args.seg) c.self.inside.processes.entries c.hold.new.self
+    → AreTablesSound (λ id. one_if id c.args.seg) c.put.new.processes.entries c.put.new.tables
 placed g c sound = c.put.ensures.sound (λ id. one_if id c.args.seg) (c.take.ensures.sound (λ id. one_if id c.args.seg) sound)
 
 pub replace-requires : goal.replace-requires

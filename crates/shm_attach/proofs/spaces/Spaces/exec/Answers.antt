@@ -6,7 +6,7 @@ use Rattle.shm_base.specs.Step.{with_pieces, segments_of}
 use Rattle.shm_areas.specs.declared.piece.Piece.{Piece}
 use Rattle.shm_areas.specs.Arranged.{bare, bare_all}
 use Rattle.shm_attach.specs.Views.{runners_view}
-use Rattle.shm_attach.specs.Spaces.{SpacesView, pieces_at, seen}
+use Rattle.shm_attach.specs.Spaces.{SpacesView, pieces_at, caller_seen}
 use Rattle.shm_attach.specs.Exact.{no_holds}
 use Rattle.shm_attach.proofs.Callers.{caller_within, with_pieces-of}
 use Rattle.shm_attach.proofs.Keeping.{cut-all}
@@ -42,7 +42,7 @@ returns-clause-lost c =
     ∙ sym (map-map (λ (p : flat.Piece). p.seg) bare c.pieces.result.now)
     ∙ ap (λ (ps : List Piece). map (λ (p : flat.Piece). p.seg) (bare_all ps)) c.pieces.ensures.value
     ∙ ap (λ (ps : List flat.Piece). map (λ (p : flat.Piece). p.seg) ps) c.space_at.ensures.flat
-    ∙ ap (λ (v : SpacesView). segments_of (seen c.args.caller.now v.runners)) c.self.view_is
+    ∙ ap (λ (v : SpacesView). segments_of (caller_seen c.args.caller.now v.runners)) c.self.view_is
 
 pub returns-clause-runners : goal.returns-clause-runners
 returns-clause-runners c =
@@ -51,7 +51,7 @@ returns-clause-runners c =
     let none = ap (λ (xs : List flat.Runner). cut lowest_address last_address (pieces_at xs c.args.caller.now.index)) (sym view) ∙ all_go (goal.at.returns-clause-runners c).After-self in
     c.take.ensures.runners
     ∙ with_pieces-of c.args.caller.now (runners_view c.self.inside.processes.entries) rs (cut lowest_address last_address) view c.requires
-    ∙ ap (with_pieces rs (seen c.args.caller.now rs)) none
+    ∙ ap (with_pieces rs (caller_seen c.args.caller.now rs)) none
 
 pub returns-clause-translated : goal.returns-clause-translated
 returns-clause-translated c =

@@ -4,13 +4,13 @@ use Rattle.std.proofs.lemmas.Option.{slice_get_within}
 use Rattle.shm_base.specs.State as flat
 use Rattle.shm_base.specs.Step.{with_pieces}
 use Rattle.shm_attach.specs.Views.{runner_view, runners_view, with_life_at}
-use Rattle.shm_attach.specs.Spaces.{SpacesView, seen}
+use Rattle.shm_attach.specs.Spaces.{SpacesView, caller_seen}
 use Rattle.shm_attach.proofs.Callers.{caller_there, with_end-at, length-with_pieces}
 use Rattle.shm_attach.proofs.Sound.{sound-life}
 use Rattle.shm_attach.proofs.spaces.Spaces.exit.Goals.{After-self}
 use Rattle.shm_attach.proofs.spaces.Spaces.exit.Goals as goal
 
-after : (c : After-self) → runners_view c.self.inside.processes.entries ≡ with_pieces c.args.self.now.runners (seen c.args.caller.now c.args.self.now.runners) []
+after : (c : After-self) → runners_view c.self.inside.processes.entries ≡ with_pieces c.args.self.now.runners (caller_seen c.args.caller.now c.args.self.now.runners) []
 after c = ap (λ (v : SpacesView). v.runners) c.self.view_is ∙ c.exec-lost.ensures.runners
 
 within : (c : After-self) → c.args.caller.now.index < length c.self.inside.processes.entries

@@ -2,7 +2,7 @@ use Rattle.std.proofs.Common.{◌≡◌, ◌≢◌, ◌<◌, ◌∙◌, ap, sym,
 use Rattle.std.proofs.lemmas.List.{length-map}
 use Rattle.shm_base.specs.State.{Piece, Runner, Unborn, Live}
 use Rattle.shm_attach.specs.Views.{runner_view, runners_view, with_pieces_at}
-use Rattle.shm_attach.specs.Spaces.{SpacesView, pieces_at, life_at, seen}
+use Rattle.shm_attach.specs.Spaces.{SpacesView, pieces_at, life_at, caller_seen}
 use Rattle.shm_attach.specs.Fork.{born_child}
 use Rattle.shm_attach.proofs.Processes.{nobody}
 use Rattle.shm_attach.proofs.Callers.{caller_within, caller_born, ChildAt, child_at}
@@ -76,7 +76,7 @@ returns-clause-born c =
     let ch = child (goal.at.returns-clause-born c).After-self in
     after (goal.at.returns-clause-born c).After-copy_pieces
     ∙ ap (λ pid. set rs c.args.child.now.index (record { pid = pid; life = Live c.args.caller.now.cred; pieces = pieces_at rs i })) ch.named
-    ∙ ap (λ (v : SpacesView). born_child v.runners (seen c.args.caller.now v.runners) c.args.child.now) c.self.view_is
+    ∙ ap (λ (v : SpacesView). born_child v.runners (caller_seen c.args.caller.now v.runners) c.args.child.now) c.self.view_is
 
 pub returns-clause-more : goal.returns-clause-more
 returns-clause-more c = λ id.

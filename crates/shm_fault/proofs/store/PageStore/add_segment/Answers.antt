@@ -4,7 +4,7 @@ use Rattle.shm_slots.specs.View.{slots}
 use Rattle.shm_fault.specs.declared.page_tables.PageRec.{PageRec}
 use Rattle.shm_fault.specs.Segs.{find_seg, pages_of}
 use Rattle.shm_fault.specs.Store.{held, frame_of}
-use Rattle.shm_fault.specs.Sound.{IsSound}
+use Rattle.shm_fault.specs.Sound.{IsStoreSound}
 use Rattle.shm_fault.proofs.Seen.{seen}
 use Rattle.shm_fault.proofs.Failures.{OnOk-map, either_way}
 use Rattle.shm_fault.proofs.Whole.{not-held, pages_held-is, sound-added, held-added, rec-added}
@@ -15,7 +15,7 @@ use Rattle.shm_fault.proofs.store.PageStore.add_segment.Goals.{After-self, After
 new : (g : given.Over) (c : After-self g) → find_seg c.self.inside.segs c.args.seg ≡ None
 new g c = not-held (seen c.self.inside) c.self.invariant c.args.seg (rw (← c.self.view_is) at c.requires.new)
 
-sound : (g : given.Over) (c : After-add g) → find_seg c.self.inside.segs c.args.seg ≡ None → IsSound (record (seen c.self.inside) { segs = c.add.new.self })
+sound : (g : given.Over) (c : After-add g) → find_seg c.self.inside.segs c.args.seg ≡ None → IsStoreSound (record (seen c.self.inside) { segs = c.add.new.self })
 sound g c none =
     let s = seen c.self.inside in
     let room₀ : pages_held (held s) + c.args.pages ≤ slots s.swap = rw (← c.self.view_is) at c.requires.room in

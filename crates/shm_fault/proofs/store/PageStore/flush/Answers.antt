@@ -1,6 +1,6 @@
 use Rattle.std.proofs.Common.{◌≡◌, ◌<◌, ◌+◌, true, length, sym, ◌∙◌, arith}
 use Rattle.shm_fault.specs.Store.{frame_of}
-use Rattle.shm_fault.specs.Sound.{IsSound}
+use Rattle.shm_fault.specs.Sound.{IsStoreSound}
 use Rattle.shm_fault.specs.Flushing.{may_flush}
 use Rattle.shm_fault.proofs.Sound.{KeepsLocked-still}
 use Rattle.shm_fault.proofs.Bringing.{kept-locked}
@@ -11,7 +11,7 @@ use Rattle.shm_fault.proofs.store.PageStore.flush.Goals as goal
 pub loop-frame-init : goal.loop-frame-init
 loop-frame-init g c =
     let i = c.self.inside in
-    let sound : IsSound c.args.self.now = rw (← c.self.view_is) c.self.invariant in
+    let sound : IsStoreSound c.args.self.now = rw (← c.self.view_is) c.self.invariant in
     flushed-none c.args.n c.args.self.now sound
 
 pub loop-frame-preserved : goal.loop-frame-preserved

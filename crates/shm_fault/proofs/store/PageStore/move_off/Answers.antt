@@ -1,7 +1,7 @@
 use Rattle.std.proofs.Common.{◌≡◌, length, Some, refl, ◌∙◌, arith}
 use Rattle.shm_slots.specs.View.{area_at, size_of}
 use Rattle.shm_fault.specs.Store.{held, frame_of}
-use Rattle.shm_fault.specs.Sound.{IsSound}
+use Rattle.shm_fault.specs.Sound.{IsStoreSound}
 use Rattle.shm_fault.specs.Goes.{Still}
 use Rattle.shm_fault.proofs.Seen.{seen}
 use Rattle.shm_fault.proofs.Sound.{cause-after, KeepsLocked-still}
@@ -24,7 +24,7 @@ cleaned : (g : given.Over) (c : After-self-2 g) → IsCleaned c.args.area c.loop
 cleaned g c = rw (← c.self-2.view_is) at c.loop-slot.invariant
 
 done : (g : given.Over) (c : After-turn_off g)
-    → IsSound (record (seen c.self-2.inside) { swap = c.turn_off.new.self }) × (held (record (seen c.self-2.inside) { swap = c.turn_off.new.self }) ≡ held c.args.self.now)
+    → IsStoreSound (record (seen c.self-2.inside) { swap = c.turn_off.new.self }) × (held (record (seen c.self-2.inside) { swap = c.turn_off.new.self }) ≡ held c.args.self.now)
 done g c =
     let o = goal.at.invariant_of-self g c in
     let all = count g o.After-unwrap_or-count in

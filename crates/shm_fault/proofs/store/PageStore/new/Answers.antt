@@ -1,11 +1,11 @@
-use Rattle.shm_fault.specs.Sound.{IsSound}
+use Rattle.shm_fault.specs.Sound.{IsStoreSound}
 use Rattle.shm_fault.specs.Store.{fresh_store}
 use Rattle.shm_fault.proofs.Whole.{sound-fresh}
 use Rattle.shm_fault.proofs.store.PageStore.new.Given as given
 use Rattle.shm_fault.proofs.store.PageStore.new.Goals as goal
 use Rattle.shm_fault.proofs.store.PageStore.new.Goals.{In_ok-frames}
 
-sound : (g : given.Over) (c : In_ok-frames g) → IsSound (fresh_store c.in_ok-frames.frames c.args.swap)
+sound : (g : given.Over) (c : In_ok-frames g) → IsStoreSound (fresh_store c.in_ok-frames.frames c.args.swap)
 sound g c =
     sound-fresh c.in_ok-frames.frames c.args.swap (rw c.in_ok-frames.ensures.size c.requires.frames) c.in_ok-frames.ensures.free
     (rw c.swap.view_is at c.swap.invariant) (λ k. c.requires.free k.area k.slot)

@@ -1,14 +1,14 @@
 use Rattle.std.proofs.Common.{ap}
 use Rattle.shm_fault.specs.declared.page_tables.PageRec.{PageRec}
 use Rattle.shm_fault.specs.Store.{frame_of}
-use Rattle.shm_fault.specs.Sound.{IsSound}
+use Rattle.shm_fault.specs.Sound.{IsStoreSound}
 use Rattle.shm_fault.proofs.Seen.{seen}
 use Rattle.shm_fault.proofs.Whole.{few-locked, sound-locked, held-locked, rec-locked}
 use Rattle.shm_fault.proofs.store.PageStore.set_locked.Given as given
 use Rattle.shm_fault.proofs.store.PageStore.set_locked.Goals as goal
 use Rattle.shm_fault.proofs.store.PageStore.set_locked.Goals.{After-set_locked}
 
-sound : (g : given.Over) (c : After-set_locked g) → IsSound (record (seen c.self.inside) { segs = c.set_locked.new.self })
+sound : (g : given.Over) (c : After-set_locked g) → IsStoreSound (record (seen c.self.inside) { segs = c.set_locked.new.self })
 sound g c =
     let s = seen c.self.inside in
     let few = few-locked s c.self.invariant c.args.seg c.args.locked (rw (← c.self.view_is) at c.requires.few) in

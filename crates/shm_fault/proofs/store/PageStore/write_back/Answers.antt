@@ -8,7 +8,7 @@ use Rattle.shm_slots.specs.Cause.{GoesOn, total}
 use Rattle.shm_frames.specs.Frame.{no_frame, frame_at}
 use Rattle.shm_fault.specs.Segs.{rec_by}
 use Rattle.shm_fault.specs.Store.{StoreView}
-use Rattle.shm_fault.specs.Sound.{IsSound}
+use Rattle.shm_fault.specs.Sound.{IsStoreSound}
 use Rattle.shm_fault.proofs.Seen.{seen}
 use Rattle.shm_fault.proofs.Slots.{OnlySlot-page, OnlySlot-fault, owner-written, owner-fault, page-written}
 use Rattle.shm_fault.proofs.Failures.{total-written, total-fault}
@@ -21,7 +21,7 @@ use Rattle.shm_fault.proofs.store.PageStore.write_back.Goals.{After-self, After-
 abbrev written : StoreView → ℕ → Slot → SwapView
 written s f k = with_slot_page s.swap k (frame_at s.frames f).bytes
 
-module _ (s : StoreView) (sound : IsSound s) (f : ℕ) (k : Slot) (some : IsSome (frame_at s.frames f).owner)
+module _ (s : StoreView) (sound : IsStoreSound s) (f : ℕ) (k : Slot) (some : IsSome (frame_at s.frames f).owner)
     (slot : (r : PageRef) → (frame_at s.frames f).owner ≡ Some r → (rec_by s.segs r).slot ≡ Some k) where
   owner : Own (frame_at s.frames f).owner
   owner = own (frame_at s.frames f).owner some

@@ -1,7 +1,7 @@
 use Rattle.std.proofs.Common.{◌≡◌, ◌∙◌, length, refl, sym, arith}
 use Rattle.std.proofs.lemmas.List.{length-replicate}
 use Rattle.shm_frames.specs.Table.{frames_of}
-use Rattle.shm_frames.proofs.Shown.{Shows, length-shown, frame-shown}
+use Rattle.shm_frames.proofs.Shown.{AreFramesShown, length-shown, frame-shown}
 use Rattle.shm_frames.proofs.Counts.{new-entry, kept-new}
 use Rattle.shm_frames.proofs.frames.Frames.new.Goals as goal
 
@@ -13,11 +13,11 @@ invariant_of-result c =
 pub returns-clause-size : goal.returns-clause-size
 returns-clause-size c =
     let n : length c.loop-frame.table.items ≡ c.loop-frame._frame = rw c.loop-frame.invariant.entries (length-replicate _ _) in
-    let s : Shows c.loop-frame.table.items c.loop-frame.pages.items (frames_of c.loop-frame.table.items c.loop-frame.pages.items) = record { beside = c.loop-frame.invariant.beside ∙ sym n; is = refl } in
+    let s : AreFramesShown c.loop-frame.table.items c.loop-frame.pages.items (frames_of c.loop-frame.table.items c.loop-frame.pages.items) = record { beside = c.loop-frame.invariant.beside ∙ sym n; is = refl } in
     omega (arith, n, length-shown s)
 
 pub returns-clause-free : goal.returns-clause-free
 returns-clause-free c i =
     let n : length c.loop-frame.table.items ≡ c.loop-frame._frame = rw c.loop-frame.invariant.entries (length-replicate _ _) in
-    let s : Shows c.loop-frame.table.items c.loop-frame.pages.items (frames_of c.loop-frame.table.items c.loop-frame.pages.items) = record { beside = c.loop-frame.invariant.beside ∙ sym n; is = refl } in
+    let s : AreFramesShown c.loop-frame.table.items c.loop-frame.pages.items (frames_of c.loop-frame.table.items c.loop-frame.pages.items) = record { beside = c.loop-frame.invariant.beside ∙ sym n; is = refl } in
     rw (frame-shown s i, new-entry c.loop-frame.table.items c.loop-frame._frame i c.loop-frame.invariant.entries) refl

@@ -2,7 +2,7 @@ use Rattle.std.proofs.Common.{◌≡◌, ◌+◌, length, drop}
 use Rattle.std.specs.Prelude.{sum_by, All}
 use Rattle.shm_base.specs.declared.paging.Span.{Span}
 use Rattle.shm_plain.specs.Held.{FitsPage, written}
-use Rattle.shm_plain.specs.Apart.{AreApart}
+use Rattle.shm_plain.specs.Apart.{AreHeldApart}
 use Rattle.shm_twin.proofs.store.PlainStore.write.Given as goal
 
 -- what is left to be written leads to the whole
@@ -12,5 +12,5 @@ invariant-loop-span l =
       bytes : written l.self-inside.segments.items (drop l.span-index l.spans) (drop l.done l.bytes) ≡ written l.fn.self l.spans l.bytes;
       size : l.done + sum_by (λ (p : Span). p.len) (drop l.span-index l.spans) ≡ length l.bytes;
       fit : All (FitsPage l.self-inside.segments.items) l.spans;
-      apart : AreApart l.self-inside.segments.items;
+      apart : AreHeldApart l.self-inside.segments.items;
     }

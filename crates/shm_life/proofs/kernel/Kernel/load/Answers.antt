@@ -1,0 +1,51 @@
+use Rattle.std.proofs.Common.{◌≡◌, false, Some, sym, ap, ◌∙◌}
+use Rattle.shm_base.specs.Access.{loaded}
+use Rattle.shm_base.specs.Spans.{span_places}
+use Rattle.shm_base.specs.State.{Machine}
+use Rattle.shm_base.specs.Step.{gives}
+use Rattle.shm_base.specs.declared.call.Reply.TheVariants.{Bytes}
+use Rattle.shm_attach.specs.Spaces.{IsCaller, pieces_at}
+use Rattle.shm_attach.specs.Spans.{wanted}
+use Rattle.shm_attach.proofs.FlatSteps.{load-wanted}
+use Rattle.shm_slots.specs.View.{sizes}
+use Rattle.shm_segments.proofs.Same.{SameTable, same-refl}
+use Rattle.shm_life.specs.Kept.{IsWell}
+use Rattle.shm_life.proofs.Settled.{still-well}
+use Rattle.shm_life.proofs.Changed.{spans-there, asked}
+use Rattle.shm_life.proofs.Running.{done_fact}
+use Rattle.shm_life.proofs.kernel.Kernel.load.Given.{Over}
+use Rattle.shm_life.proofs.kernel.Kernel.load.Goals as goal
+use Rattle.shm_life.proofs.kernel.Kernel.load.Goals.{After-note}
+
+pub read-read-requires-clause-fit : goal.read-read-requires-clause-fit
+read-read-requires-clause-fit g c =
+    let rs = c.self.inside.spaces.runners in
+    let is : IsCaller c.args.caller.now rs = rw (← c.self.view_is) at c.requires in
+    rw c.as_slice.ensures.value (spans-there c.self.inside.segments.table rs c.args.caller.now c.in-Ok.spans is c.self.invariant.kept.pieces c.in-Ok.ensures.within c.in-Ok.ensures.pages)
+
+-- done or not
+well : (g : Over) (c : After-note g) → IsWell c.self.inside.limits c.read-read.new.self.table c.note.new.spaces.runners c.note.new.spaces.translations c.read-read.new.self.memory
+well g c =
+    let t = c.self.inside.segments.table in
+    let all = c.note.ensures.translated c.self.inside.segments.memory c.read-read.new.self.memory c.self.invariant.translated c.read-read.ensures.access.moved in
+    let same : SameTable t c.read-read.new.self.table = rw c.read-read.ensures.table (same-refl t) in
+    rw c.note.ensures.runners (still-well _ _ _ _ _ _ _ _ c.self.invariant same c.read-read.ensures.runs.frames all)
+
+pub invariant_of-self : goal.invariant_of-self
+invariant_of-self g c = well g (goal.at.invariant_of-self g c).After-note
+
+pub invariant_of-self-2 : goal.invariant_of-self-2
+invariant_of-self-2 g c = well g (goal.at.invariant_of-self-2 g c).After-note
+
+pub returns-clause-step : goal.returns-clause-step
+returns-clause-step g c = λ _.
+    let rs = c.self.inside.spaces.runners in
+    let m : Machine = record { limits = c.self.inside.limits; areas = sizes c.self.inside.segments.memory.swap; table = c.self.inside.segments.table; runners = rs } in
+    let caller = c.args.caller.now in
+    let spans = span_places false c.in-Ok.spans in
+    let is : IsCaller caller rs = rw (← c.self.view_is) at c.requires in
+    let places : wanted false caller.pid c.args.addr c.args.len rs ≡ Some spans = rw c.get.ensures.value at c.in-Ok.ensures.places in
+    let step = load-wanted m (pieces_at rs caller.index) c.args.addr c.args.len spans (asked false rs caller c.args.addr c.args.len _ is places) in
+    let out = done_fact c.read-read.result _ (sym c.note.ensures.done ∙ c.if-not-note.false) c.read-read.ensures.bytes in
+    let bytes : c.in-Some.chunk ≡ loaded m.table spans = c.in-Some.ensures.value ∙ rw c.as_slice.ensures.value at out in
+    rw (← c.self.view_is, c.note.ensures.runners, c.read-read.ensures.table, c.read-read.ensures.access.same_sizes) (step ∙ ap (λ bs. gives m (Bytes bs)) (sym bytes))

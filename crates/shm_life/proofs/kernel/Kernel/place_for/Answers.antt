@@ -1,0 +1,50 @@
+use Rattle.std.proofs.Common.{rules, ◌≡◌, ◌∙◌, true, false, sym, ap, to_z, of_z, w32, arith, List}
+use Rattle.shm_base.specs.State.{Machine, Piece, pages_of}
+use Rattle.shm_base.specs.Identifier.{look}
+use Rattle.shm_base.specs.Permission.{grants}
+use Rattle.shm_base.specs.Step.{at_wish}
+use Rattle.shm_slots.specs.View.{sizes}
+use Rattle.shm_areas.specs.Arranged.{bare_all}
+use Rattle.shm_attach.specs.Spaces.{caller_seen, pieces_at}
+use Rattle.shm_segments.specs.Table.{look_of}
+use Rattle.shm_life.specs.Address.{misplaced}
+use Rattle.shm_life.specs.Placing.{if_few, base_for, wished, placed_at, placed}
+use Rattle.shm_life.proofs.Shmat.{placed-found, if_few-under, if_few-over}
+use Rattle.shm_life.proofs.kernel.Kernel.place_for.Given.{Over}
+use Rattle.shm_life.proofs.kernel.Kernel.place_for.Goals as goal
+use Rattle.shm_life.proofs.kernel.Kernel.place_for.Goals.{After-wanted_base}
+
+-- behind the first tests it is as the wish for a base comes out
+asked : (g : Over) (c : After-wanted_base g)
+    → placed c.args.self.now.flat (caller_seen c.args.caller.now c.args.self.now.flat.runners) c.args.id c.args.addr c.args.flags
+    ≡ placed_at c.in_ok-found.found.seg c.pages-pages.result (if_few (bare_all c.space-space.result.now) c.pages-pages.result c.wanted_base.result)
+asked g c =
+    let t = c.self.inside.segments.table in
+    let rs = c.self.inside.spaces.runners in
+    let m : Machine = record { limits = c.self.inside.limits; areas = sizes c.self.inside.segments.memory.swap; table = t; runners = rs } in
+    let f = c.in_ok-found.found in
+    let signed : to_z w32 (of_z w32 c.args.id) ≡ c.args.id = search rules in
+    let well : misplaced c.args.addr c.args.flags ≡ false = sym c.is_misplaced.ensures ∙ c.if-is_misplaced.false in
+    let looked : look t c.args.id ≡ look_of t f = rw signed at c.in_ok-found.ensures.ok in
+    let granted : grants c.args.caller.now.cred f.head.perm (at_wish c.args.flags) ≡ true = search rules in
+    let at = placed-found m (caller_seen c.args.caller.now rs) c.args.id c.args.addr c.args.flags f c.in_ok-found.ensures.found well looked granted in
+    let own : bare_all c.space-space.result.now ≡ pieces_at rs c.args.caller.now.index = c.space-space.ensures in
+    let pages : c.pages-pages.result ≡ pages_of f.head.size = c.pages-pages.ensures.value in
+    let wish : c.wanted_base.result ≡ wished (bare_all c.space-space.result.now) c.pages-pages.result c.args.flags c.args.addr = c.wanted_base.ensures.value in
+    rw (← c.self.view_is)
+    (at ∙ ap (λ k. placed_at f.seg k (base_for (pieces_at rs c.args.caller.now.index) k c.args.flags c.args.addr)) (sym pages)
+    ∙ ap (λ (ps : List Piece). placed_at f.seg c.pages-pages.result (base_for ps c.pages-pages.result c.args.flags c.args.addr)) (sym own)
+    ∙ ap (λ r. placed_at f.seg c.pages-pages.result (if_few (bare_all c.space-space.result.now) c.pages-pages.result r)) (sym wish))
+
+pub returns-clause-value : goal.returns-clause-value
+returns-clause-value g c =
+    let few = if_few-under (bare_all c.space-space.result.now) c.pages-pages.result c.in-Ok.base (omega (arith, c.count_outside.ensures, c.if-count_outside-ge256.false)) in
+    sym (rw (c.in-Ok.is, few) at (asked g (goal.at.returns-clause-value g c).After-wanted_base))
+
+pub returns-then-count_outside-ge256-clause-value : goal.returns-then-count_outside-ge256-clause-value
+returns-then-count_outside-ge256-clause-value g c =
+    let many = if_few-over (bare_all c.space-space.result.now) c.pages-pages.result c.in-Ok.base (omega (arith, c.count_outside.ensures, c.if-count_outside-ge256.true)) in
+    sym (rw (c.in-Ok.is, many) at (asked g (goal.at.returns-then-count_outside-ge256-clause-value g c).After-wanted_base))
+
+pub returns-in-Err-clause-value : goal.returns-in-Err-clause-value
+returns-in-Err-clause-value g c = sym (rw c.in-Err.is at (asked g (goal.at.returns-in-Err-clause-value g c).After-wanted_base))

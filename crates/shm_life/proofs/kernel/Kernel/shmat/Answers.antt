@@ -1,0 +1,68 @@
+use Rattle.std.proofs.Common.{◌≡◌, refl, ap, sym, ◌∙◌, rules, to_z, of_z, w32}
+use Rattle.shm_base.specs.Step.{Outcome, shmat}
+use Rattle.shm_base.specs.History.{is_refusal}
+use Rattle.shm_attach.specs.Spaces.{AreTrue, IsCaller, caller_seen}
+use Rattle.shm_segments.specs.View.{SegmentsView}
+use Rattle.shm_life.specs.Placing.{piece_for, placed_outcome}
+use Rattle.shm_life.specs.Tied.{PieceFits}
+use Rattle.shm_life.proofs.Going.{Goes, attached-goes, attached-first, well-gone}
+use Rattle.shm_life.proofs.Shmat.{shmat-placed, on-err}
+use Rattle.shm_life.proofs.kernel.Kernel.shmat.Given.{Over}
+use Rattle.shm_life.proofs.kernel.Kernel.shmat.Goals as goal
+use Rattle.shm_life.proofs.kernel.Kernel.shmat.Goals.{After-place_for, After-as_slice}
+
+goes : (g : Over) (c : After-as_slice g) → Goes c.self.inside.limits c.attached.new.self.table c.attach.new.self.runners c.as_slice.result.now
+goes g c =
+    let caller = c.args.caller.now in
+    let rs = c.self.inside.spaces.runners in
+    let p = c.in-Ok.placed in
+    let is : IsCaller caller rs = rw (← c.self.view_is) at c.requires in
+    let fits : PieceFits c.self.inside.segments.table (piece_for c.args.flags p) = rw (← c.self.view_is) at c.in-Ok.ensures.fits in
+    rw (c.attached.ensures, c.as_slice.ensures.value, c.in_ok-lost.ensures.lost, c.in_ok-lost.ensures.runners, c.contains-writable.ensures tt)
+    (attached-goes c.self.inside.limits c.self.inside.segments.table rs caller c.args.time c.args.flags p c.self.invariant.kept is fits)
+
+pub attached-requires : goal.attached-requires
+attached-requires g c =
+    let fits : PieceFits c.self.inside.segments.table (piece_for c.args.flags c.in-Ok.placed) = rw (← c.self.view_is) at c.in-Ok.ensures.fits in
+    fits.0
+
+pub after_detach-requires-clause-live : goal.after_detach-requires-clause-live
+after_detach-requires-clause-live g c = (goes g c).live
+
+pub after_detach-requires-clause-few : goal.after_detach-requires-clause-few
+after_detach-requires-clause-few g c = (goes g c).kept.few
+
+pub after_detach-requires-clause-orphans : goal.after_detach-requires-clause-orphans
+after_detach-requires-clause-orphans g c = (goes g c).kept.orphans
+
+pub invariant_of-self-2 : goal.invariant_of-self-2
+invariant_of-self-2 g c =
+    let m = c.self.inside.segments.memory in
+    let store = c.store-store.ensures.value in
+    let translated : AreTrue c.attach.new.self.translations m = rw store at (c.attach.ensures.translated (rw store c.self.invariant.translated)) in
+    let same : c.attached.new.self.memory ≡ m = ap (λ (v : SegmentsView). v.memory) c.attached.ensures in
+    c.after_detach.ensures.well c.self.inside.limits (rw same (well-gone _ _ _ _ _ _ _ _ c.self.invariant (goes g (goal.at.invariant_of-self-2 g c).After-as_slice) translated))
+
+-- what the flat machine does
+outcome : (g : Over) (c : After-place_for g)
+    → shmat c.args.self.now.flat c.args.time (caller_seen c.args.caller.now c.args.self.now.flat.runners) c.args.id c.args.addr c.args.flags
+    ≡ placed_outcome c.args.self.now.flat c.args.time (caller_seen c.args.caller.now c.args.self.now.flat.runners) c.args.flags c.place_for.result
+outcome g c =
+    let m = c.args.self.now.flat in
+    let k = caller_seen c.args.caller.now m.runners in
+    let signed : to_z w32 (of_z w32 c.args.id) ≡ c.args.id = search rules in
+    shmat-placed m c.args.time k c.args.flags c.args.id c.args.addr ∙ ap (placed_outcome m c.args.time k c.args.flags) (rw signed at (sym c.place_for.ensures.value))
+
+pub returns-clause-step : goal.returns-clause-step
+returns-clause-step g c =
+    let step = rw (c.in-Ok.is, ← c.self.view_is) at (outcome g (goal.at.returns-clause-step g c).After-place_for) in
+    let gone = rw (c.as_slice.ensures.value, c.in_ok-lost.ensures.lost, c.in_ok-lost.ensures.runners, c.contains-writable.ensures tt) at c.after_detach.ensures.table in
+    rw (← c.self.view_is) (step ∙ rw (c.after_detach.ensures.sizes, gone, c.attached.ensures, attached-first, c.in_ok-lost.ensures.runners, c.contains-writable.ensures tt) refl)
+
+pub returns-in-Err-clause-step : goal.returns-in-Err-clause-step
+returns-in-Err-clause-step g c = rw c.in-Err.is at (outcome g (goal.at.returns-in-Err-clause-step g c).After-place_for)
+
+pub returns-in_err-lost-clause-memory : goal.returns-in_err-lost-clause-memory
+returns-in_err-lost-clause-memory g c =
+    let step = rw c.in-Ok.is at (outcome g (goal.at.returns-in_err-lost-clause-memory g c).After-place_for) in
+    on-err c.from_residual.result (ap (λ (o : Outcome). is_refusal o.reply) step)

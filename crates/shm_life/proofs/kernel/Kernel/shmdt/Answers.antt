@@ -1,0 +1,38 @@
+use Rattle.std.proofs.Common.{◌∙◌, ap, ◌≡◌, ◌∷◌, [], refl, sym, Some, option_map}
+use Rattle.shm_base.specs.State.{Piece, Machine}
+use Rattle.shm_base.specs.Space.{origin_of}
+use Rattle.shm_attach.specs.Spaces.{IsCaller, caller_seen, pieces_at}
+use Rattle.shm_slots.specs.View.{sizes}
+use Rattle.shm_attach.proofs.FlatSteps.{shmdt-named}
+use Rattle.shm_life.proofs.Going.{Goes, named-go, well-gone}
+use Rattle.shm_life.proofs.kernel.Kernel.shmdt.Given.{Over}
+use Rattle.shm_life.proofs.kernel.Kernel.shmdt.Goals as goal
+use Rattle.shm_life.proofs.kernel.Kernel.shmdt.Goals.{After-detach}
+
+named : (g : Over) (c : After-detach g) → option_map (λ (p : Piece). p.seg) (origin_of c.args.addr (pieces_at c.self.inside.spaces.runners c.args.caller.now.index)) ≡ Some c.in-Some.origin.seg
+named g c = ap (option_map (λ (p : Piece). p.seg)) (sym (ap (origin_of c.args.addr) c.space.ensures) ∙ sym c.in-Some.ensures.flat)
+
+goes : (g : Over) (c : After-detach g) → Goes c.self.inside.limits c.self.inside.segments.table c.detach.new.self.runners (c.in-Some.origin.seg ∷ [])
+goes g c =
+    let caller = c.args.caller.now in
+    let rs = c.self.inside.spaces.runners in
+    let is : IsCaller caller rs = rw (← c.self.view_is) at c.requires in
+    rw c.detach.ensures.gone (named-go c.self.inside.limits c.self.inside.segments.table rs caller c.self.invariant.kept is c.args.addr c.in-Some.origin.seg (named g c))
+
+pub after_detach-requires-clause-live : goal.after_detach-requires-clause-live
+after_detach-requires-clause-live g c = (goes g (goal.at.after_detach-requires-clause-live g c).After-detach).live
+
+pub after_detach-requires-clause-orphans : goal.after_detach-requires-clause-orphans
+after_detach-requires-clause-orphans g c = (goes g (goal.at.after_detach-requires-clause-orphans g c).After-detach).kept.orphans
+
+pub invariant_of-self : goal.invariant_of-self
+invariant_of-self g c =
+    let translated = c.detach.ensures.translated c.self.inside.segments.memory c.self.invariant.translated in
+    c.after_detach.ensures.well c.self.inside.limits (well-gone _ _ _ _ _ _ _ _ c.self.invariant (goes g (goal.at.invariant_of-self g c).After-detach) translated)
+
+pub returns-clause-step : goal.returns-clause-step
+returns-clause-step g c =
+    let rs = c.self.inside.spaces.runners in
+    let m : Machine = record { limits = c.self.inside.limits; areas = sizes c.self.inside.segments.memory.swap; table = c.self.inside.segments.table; runners = rs } in
+    let step = shmdt-named m c.args.time (caller_seen c.args.caller.now rs) c.args.addr c.in-Some.origin.seg (named g (goal.at.returns-clause-step g c).After-detach) in
+    rw (← c.self.view_is) (step ∙ rw (c.after_detach.ensures.sizes, c.after_detach.ensures.table, c.detach.ensures.gone) refl)

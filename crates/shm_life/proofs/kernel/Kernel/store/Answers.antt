@@ -1,0 +1,46 @@
+use Rattle.std.proofs.Common.{true, false, length, refl, sym, ◌∙◌}
+use Rattle.shm_base.specs.Spans.{span_places}
+use Rattle.shm_base.specs.State.{Machine}
+use Rattle.shm_attach.specs.Spaces.{IsCaller, pieces_at}
+use Rattle.shm_attach.proofs.FlatSteps.{store-wanted}
+use Rattle.shm_slots.specs.View.{sizes}
+use Rattle.shm_segments.proofs.Same.{SameTable, stored-same}
+use Rattle.shm_life.specs.Kept.{IsWell}
+use Rattle.shm_life.proofs.Settled.{still-well}
+use Rattle.shm_life.proofs.Changed.{spans-there, asked, either-same}
+use Rattle.shm_life.proofs.Running.{done_fact}
+use Rattle.shm_life.proofs.kernel.Kernel.store.Given.{Over}
+use Rattle.shm_life.proofs.kernel.Kernel.store.Goals as goal
+use Rattle.shm_life.proofs.kernel.Kernel.store.Goals.{After-note}
+
+pub write-written-requires-clause-fit : goal.write-written-requires-clause-fit
+write-written-requires-clause-fit g c =
+    let rs = c.self.inside.spaces.runners in
+    let is : IsCaller c.args.caller.now rs = rw (← c.self.view_is) at c.requires in
+    rw c.as_slice.ensures.value (spans-there c.self.inside.segments.table rs c.args.caller.now c.in-Ok.spans is c.self.invariant.kept.pieces c.in-Ok.ensures.within c.in-Ok.ensures.pages)
+
+-- done or not
+well : (g : Over) (c : After-note g) → IsWell c.self.inside.limits c.write-written.new.self.table c.note.new.spaces.runners c.note.new.spaces.translations c.write-written.new.self.memory
+well g c =
+    let t = c.self.inside.segments.table in
+    let all = c.note.ensures.translated c.self.inside.segments.memory c.write-written.new.self.memory c.self.invariant.translated c.write-written.ensures.access.moved in
+    let same : SameTable t c.write-written.new.self.table = either-same c.write-written.result t _ _ c.write-written.ensures.written c.write-written.ensures.same (stored-same (span_places false c.as_slice.result.now) c.as_slice-bytes.result.now t) in
+    rw c.note.ensures.runners (still-well _ _ _ _ _ _ _ _ c.self.invariant same c.write-written.ensures.runs.frames all)
+
+pub invariant_of-self : goal.invariant_of-self
+invariant_of-self g c = well g (goal.at.invariant_of-self g c).After-note
+
+pub invariant_of-self-2 : goal.invariant_of-self-2
+invariant_of-self-2 g c = well g (goal.at.invariant_of-self-2 g c).After-note
+
+pub returns-clause-step : goal.returns-clause-step
+returns-clause-step g c = λ _.
+    let rs = c.self.inside.spaces.runners in
+    let m : Machine = record { limits = c.self.inside.limits; areas = sizes c.self.inside.segments.memory.swap; table = c.self.inside.segments.table; runners = rs } in
+    let caller = c.args.caller.now in
+    let bytes = c.as_slice-bytes.result.now in
+    let spans = span_places false c.in-Ok.spans in
+    let is : IsCaller caller rs = rw (← c.self.view_is) at c.requires in
+    let step = store-wanted m (pieces_at rs caller.index) c.args.addr bytes spans (asked true rs caller c.args.addr (length bytes) _ is c.in-Ok.ensures.places) in
+    let written = done_fact c.write-written.result _ (sym c.note.ensures.done ∙ c.if-not-note.false) c.write-written.ensures.written in
+    rw (← c.self.view_is, ← c.as_slice-bytes.ensures.value) (step ∙ rw (c.note.ensures.runners, written, c.write-written.ensures.access.same_sizes, c.as_slice.ensures.value) refl)

@@ -1,0 +1,52 @@
+use Rattle.std.proofs.Common.{◌≡◌, None, slice_set, sym, ap, refl, ◌∙◌, arith}
+use Rattle.shm_base.specs.State.{Machine}
+use Rattle.shm_base.specs.Step.{Outcome, gives, swapoff}
+use Rattle.shm_base.specs.History.{is_refusal}
+use Rattle.shm_base.specs.Segments.{slots}
+use Rattle.shm_base.specs.declared.call.Reply.TheVariants.{Done}
+use Rattle.shm_attach.specs.Spaces.{caller_seen}
+use Rattle.shm_slots.specs.View.{sizes}
+use Rattle.shm_life.proofs.Swapping.{IsThere, is_there, off-few, off-done}
+use Rattle.shm_life.proofs.Running.{ok_fact, err_fact}
+use Rattle.shm_life.proofs.kernel.Kernel.swapoff.Given.{Over}
+use Rattle.shm_life.proofs.kernel.Kernel.swapoff.Goals as goal
+use Rattle.shm_life.proofs.kernel.Kernel.swapoff.Goals.{After-from, After-is_err}
+
+-- the area is there, and the capacity is that of all areas
+there : (g : Over) (c : After-from g) → IsThere (sizes c.self.inside.segments.memory.swap) c.args.area c.in-Some.size × (c.capacity.result ≡ slots (sizes c.self.inside.segments.memory.swap))
+there g c =
+    let store = c.store-store.ensures.value in
+    (is_there c.self.inside.segments.memory.swap c.args.area c.in-Some.size (rw store at (sym c.area_size.ensures ∙ c.in-Some.is)), rw store at c.capacity.ensures)
+
+pub returns-then-capacity-reserved-clause-step : goal.returns-then-capacity-reserved-clause-step
+returns-then-capacity-reserved-clause-step g c = λ _.
+    let rs = c.self.inside.spaces.runners in
+    let m : Machine = record { limits = c.self.inside.limits; areas = sizes c.self.inside.segments.memory.swap; table = c.self.inside.segments.table; runners = rs } in
+    let at = there g (goal.at.returns-then-capacity-reserved-clause-step g c).After-from in
+    rw (← c.self.view_is) (off-few m (caller_seen c.args.caller.now rs) c.args.area c.in-Some.size c.if-caller-ne0.false at.0 (omega (arith, c.if-capacity-reserved.true, c.from.ensures, c.reserved.ensures, at.1)))
+
+-- the flat machine takes it away
+done : (g : Over) (c : After-is_err g) → IsThere (sizes c.self.inside.segments.memory.swap) c.args.area c.in-Some.size × (c.capacity.result ≡ slots (sizes c.self.inside.segments.memory.swap))
+    → swapoff c.args.self.now.flat (caller_seen c.args.caller.now c.args.self.now.flat.runners) c.args.area ≡ gives (record c.args.self.now.flat { areas = slice_set c.args.self.now.flat.areas c.args.area None }) Done
+done g c at =
+    let rs = c.self.inside.spaces.runners in
+    let m : Machine = record { limits = c.self.inside.limits; areas = sizes c.self.inside.segments.memory.swap; table = c.self.inside.segments.table; runners = rs } in
+    rw (← c.self.view_is) (off-done m (caller_seen c.args.caller.now rs) c.args.area c.in-Some.size c.if-caller-ne0.false at.0 (omega (arith, c.if-capacity-reserved.false, c.from.ensures, c.reserved.ensures, at.1)))
+
+pub returns-then-is_err-clause-failed : goal.returns-then-is_err-clause-failed
+returns-then-is_err-clause-failed g c = λ _.
+    let at = goal.at.returns-then-is_err-clause-failed g c in
+    let failed = sym c.is_err.ensures.value ∙ c.if-is_err.true in
+    let e = c.move_off.ensures in
+    record {
+      instead = ap (λ (o : Outcome). is_refusal o.reply) (done g at.After-is_err (there g at.After-from));
+      unchanged = rw (← c.self.view_is, err_fact c.move_off.result _ failed e.sizes, e.table) refl;
+      cause = rw (← c.self.view_is) (err_fact c.move_off.result _ failed e.cause);
+    }
+
+pub returns-clause-step : goal.returns-clause-step
+returns-clause-step g c = λ _.
+    let at = goal.at.returns-clause-step g c in
+    let e = c.move_off.ensures in
+    let gone = ok_fact c.move_off.result _ (sym c.is_err.ensures.value ∙ c.if-is_err.false) e.gone in
+    done g at.After-is_err (there g at.After-from) ∙ rw (← c.self.view_is, gone, e.table) refl
