@@ -41,6 +41,7 @@ fn places(alloc: Global, listed: &[u64]) -> Result<Vec<u64>, AllocError> {
 
 /// A page of one byte that is written to slot 0, and whether it is taken; or the byte of the page that is read there,
 /// none where the read fails.
+#[derive(Clone, Copy)]
 enum Access {
     Write(u8, bool),
     Read(Option<u8>),
