@@ -38,13 +38,13 @@ asked g c =
 
 pub returns-clause-value : goal.returns-clause-value
 returns-clause-value g c =
-    let few = if_few-under (bare_all c.space-space.result.now) c.pages-pages.result c.in-Ok.base (omega (arith, c.count_outside.ensures, c.if-count_outside-ge256.false)) in
+    let few = if_few-under (bare_all c.space-space.result.now) c.pages-pages.result c.in-Ok.base (omega (arith, c.count_outside.ensures, c.if-count_outside-ge-MOST_PIECES.false)) in
     sym (rw (c.in-Ok.is, few) at (asked g (goal.at.returns-clause-value g c).After-wanted_base))
 
-pub returns-then-count_outside-ge256-clause-value : goal.returns-then-count_outside-ge256-clause-value
-returns-then-count_outside-ge256-clause-value g c =
-    let many = if_few-over (bare_all c.space-space.result.now) c.pages-pages.result c.in-Ok.base (omega (arith, c.count_outside.ensures, c.if-count_outside-ge256.true)) in
-    sym (rw (c.in-Ok.is, many) at (asked g (goal.at.returns-then-count_outside-ge256-clause-value g c).After-wanted_base))
+pub returns-then-count_outside-ge-MOST_PIECES-clause-value : goal.returns-then-count_outside-ge-MOST_PIECES-clause-value
+returns-then-count_outside-ge-MOST_PIECES-clause-value g c =
+    let many = if_few-over (bare_all c.space-space.result.now) c.pages-pages.result c.in-Ok.base (omega (arith, c.count_outside.ensures, c.if-count_outside-ge-MOST_PIECES.true)) in
+    sym (rw (c.in-Ok.is, many) at (asked g (goal.at.returns-then-count_outside-ge-MOST_PIECES-clause-value g c).After-wanted_base))
 
 pub returns-in-Err-clause-value : goal.returns-in-Err-clause-value
 returns-in-Err-clause-value g c = sym (rw c.in-Err.is at (asked g (goal.at.returns-in-Err-clause-value g c).After-wanted_base))

@@ -14,8 +14,8 @@ new-requires-2-clause-free g c = λ area slot. rw c.in_ok-new.ensures (owners-ne
 pub new-requires-3-clause-apart : goal.new-requires-3-clause-apart
 new-requires-3-clause-apart g c = (is_open (λ p. length (g.P.Pager.content p)) c.args.pagers.items c.args.processes.now c.requires.none).apart
 
-pub invariant_of-machine : goal.invariant_of-machine
-invariant_of-machine g c = record {
+pub invariant_of-kernel : goal.invariant_of-kernel
+invariant_of-kernel g c = record {
   kept = rw (c.in_ok-new-2.ensures.table, c.in_ok-new-3.ensures.runners) (fresh-kept c.args.limits c.args.processes.now (rw c.shmall.ensures.value at c.shmall.ensures.range) (rw c.memlock.ensures.value at c.memlock.ensures.range));
   frames = c.in_ok-new-2.ensures.frames ∙ c.frames.ensures.value;
   room = rw c.memlock.ensures.value at c.memlock.ensures.room;
