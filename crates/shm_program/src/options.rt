@@ -21,7 +21,7 @@ fn slots_of(word: &[u8]) -> Option<u32>
     ensures { result ≡ slots_of word.now }
 {
     let slots = read_decimal(word)?;
-    if slots < 1 || slots > MOST_SLOTS {
+    if slots < 1 || slots > MOST_SLOTS as u64 {
         return None;
     }
     Some(slots as u32)
