@@ -6,9 +6,9 @@ ghost use Rattle.shm_base.specs.Space as flat;
 ghost use Rattle.shm_areas.specs.Arranged.{bare, bare_all, Arranged, IsFit};
 ghost use Rattle.shm_areas.specs.Edit.{kept_below, kept_above, kept_cut, IsCut, left_by};
 
-use shm_base::PAGE_SIZE;
 use crate::piece::Piece;
 use crate::search::run_in;
+use shm_base::PAGE_SIZE;
 
 /// What a range that is taken out does: the pieces from the first place up to the last go, and the
 /// parts of them that reach beyond the range stand there.

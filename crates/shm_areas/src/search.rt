@@ -6,8 +6,8 @@ ghost use Rattle.shm_areas.specs.Gap.{gap_from};
 ghost use Rattle.shm_areas.specs.Met.{IsRun};
 ghost use Rattle.shm_areas.specs.declared.piece.Piece.{Piece as Stored};
 
-use shm_base::{END_ADDRESS, FIRST_GAP, PAGE_SIZE};
 use crate::piece::Piece;
+use shm_base::{END_ADDRESS, FIRST_GAP, PAGE_SIZE};
 
 /// Pieces side by side: the place of the first, and the place behind the last.
 #[derive(Clone, Copy)]

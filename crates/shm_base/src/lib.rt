@@ -14,11 +14,11 @@ mod owner;
 mod paging;
 mod rows;
 
+pub use access::{AccessLen, Chunk};
 pub use bounds::{
     END_ADDRESS, FIRST_GAP, INDEXES, LAST_ID, LAST_PID, LONGEST_SCRIPT, LOWEST_ADDRESS, MOST_AREAS,
     MOST_COMMANDS, MOST_FLUSHED, MOST_PIECES, MOST_PROCESSES, MOST_SLOTS,
 };
-pub use access::{AccessLen, Chunk};
 pub use call::{Call, Event, Process, Reply, ShmId, ShmidDs, Step};
 pub use errno::Errno;
 pub use flags::{AtFlags, GetFlags, Status};

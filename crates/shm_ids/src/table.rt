@@ -95,7 +95,11 @@ fn free_from<T>(entries: &Vec<Entry<T>>, first: usize) -> Option<usize>
         }
     }
     let len = entries.len();
-    if len < INDEXES as usize { Some(len) } else { None }
+    if len < INDEXES as usize {
+        Some(len)
+    } else {
+        None
+    }
 }
 
 pub(crate) fn id_of(index: usize, sequence: u32) -> ShmId
@@ -184,7 +188,11 @@ fn sequence_at<T>(entries: &Vec<Entry<T>>, index: usize) -> u32
 fn index_in(id: ShmId) -> usize
     ensures { result ≡ index_of id }
 {
-    if id < 0 { 0 } else { id as usize % INDEXES as usize }
+    if id < 0 {
+        0
+    } else {
+        id as usize % INDEXES as usize
+    }
 }
 
 // Sets the key at an index to 0, and returns the one that was there.

@@ -4,8 +4,8 @@ ghost use Rattle.std.specs.Io.KnownBytes.{Appends, Consumes, IsAtEnd};
 ghost use Rattle.shm_text.specs.Reading.{script_of};
 ghost use Rattle.shm_program.specs.Runs.{IsCause, is_serial};
 
-use shm_base::LONGEST_SCRIPT;
 use crate::fault::{RunFault, refused};
+use shm_base::LONGEST_SCRIPT;
 use shm_text::{Script, read_script};
 use std::alloc::Global;
 use std::io::{ErrorKind, Read, Write};
