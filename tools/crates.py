@@ -51,14 +51,13 @@ def all_below(below, crate):
 
 
 def lines(crate):
-    """Returns about how much there is to prove, in lines of code: a function costs more than a lemma."""
-    found = 0.0
-    for at, folders, files in os.walk(f"{TOP}/crates/{crate}"):
-        folders[:] = [it for it in folders if it != "out"]
+    """Returns about how much there is to prove, in lines of code without tests: a lemma costs next to nothing."""
+    found = 0
+    for at, _, files in os.walk(f"{TOP}/crates/{crate}/src"):
         for name in files:
-            if name.endswith((".rt", ".antt")):
+            if name.endswith(".rt") and "tests" not in name:
                 with open(f"{at}/{name}", "rb") as file:
-                    found += file.read().count(b"\n") / (1 if name.endswith(".rt") else 4)
+                    found += file.read().count(b"\n")
     return found
 
 

@@ -23,6 +23,13 @@ pub(crate) fn count_to(pieces: &[Piece], addr: u64) -> usize
     ensures below { (k : ℕ) (d : Stored) → k < result → (slice_index_or pieces.now k d).base ≤ addr }
     ensures above { (k : ℕ) (d : Stored) → result ≤ k → k < length pieces.now → addr < (slice_index_or pieces.now k d).base }
 {
+    // Behind the last one, where a new piece often goes, nothing is searched.
+    let Some(last) = pieces.last() else {
+        return 0;
+    };
+    if last.base <= addr {
+        return pieces.len();
+    }
     pieces.partition_point(|p| p.base <= addr)
 }
 

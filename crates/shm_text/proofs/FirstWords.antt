@@ -1,18 +1,20 @@
 -- The first words of a line decide what it says.
-use Rattle.std.proofs.Common.{arith, ◌≡◌, ◌≤◌, ◌<◌, ◌+◌, refl, ℕ, List, take, length, eqb, Bool, true, false}
-use Rattle.std.specs.Prelude.{is_some, Result, Ok, Err}
+use Rattle.std.proofs.Common.{arith, ◌≡◌, ◌≤◌, ◌<◌, ◌+◌, ◌∙◌, refl, ℕ, List, take, length, eqb, Bool, true, false}
+use Rattle.std.specs.Prelude.{is_some, Result, Ok, Err, codes, nat_lt, not, ◌&&◌, ◌||◌, if◌then◌else◌}
 use Rattle.std.specs.Option.{ok_or}
 use Rattle.std.proofs.lemmas.Bool.Decides.{nat_tests}
 use Rattle.std.proofs.lemmas.List.{length-take}
 use Rattle.std.proofs.lemmas.Grind.{common_steps}
 use Rattle.shm_text.specs.Words.{word_at}
 use Rattle.shm_text.specs.declared.fault.FaultKind.{FaultKind}
-use Rattle.shm_text.specs.declared.fault.FaultKind.TheVariants.{BadLine}
+use Rattle.shm_text.specs.declared.fault.FaultKind.TheVariants.{BadLine, NoLimits, TooMany}
+use Rattle.shm_text.specs.declared.number.Number.{Number}
+use Rattle.shm_text.specs.declared.script.LineCall.{LineCall}
 use Rattle.shm_text.specs.declared.calls.Verb.{Verb}
 use Rattle.shm_text.specs.declared.calls.Verb.TheVariants as verbs
-use Rattle.shm_text.specs.Operand.{◌>>=◌}
+use Rattle.shm_text.specs.Operand.{◌>>=◌, wanted}
 use Rattle.shm_text.specs.Calls.{verb_of, operands, shmget_call, shmat_call, xadd_call, load_call, store_call, set_call, fork_call, swapoff_call, call_by, call_with, call_words}
-use Rattle.shm_text.specs.Reading.{SeenView, limits_item, process_item, child_item, declaration, taker, flush_item, command_item, body_item, words_item, is_skipped}
+use Rattle.shm_text.specs.Reading.{SeenView, limits_item, process_item, child_item, declaration, taker, flush_item, command_item, body_item, words_item, is_skipped, is_command, counted, command, has, declared_pid, command_of}
 
 pub short : (ws : List (List ℕ)) (k : ℕ) → k < 8 → eqb (length (take 8 ws)) k ≡ eqb (length ws) k
 short ws k h = rw length-take (grind (arith, nat_tests))
@@ -137,5 +139,30 @@ words_item-take seen ws =
 
 pub is_skipped-take : (ws : List (List ℕ)) → is_skipped (take 8 ws) ≡ is_skipped ws
 is_skipped-take ws = rw (short ws 0 (omega arith), early ws 0 (omega arith)) refl
+
+-- of the lines behind the limits, one that begins with no other word is a command
+chosen : {A : Type 0} → (F : A → A) (limits zero process child : Bool) (declared flushed command first : A) → (limits && (not zero && (not process && not child))) ≡ true
+    → (if limits then (if process || child then declared else F (if zero then flushed else command)) else first) ≡ F command
+chosen F true false false false declared flushed command first is = refl
+chosen F true false false true declared flushed command first is = cc
+chosen F true false true child declared flushed command first is = cc
+chosen F true true process child declared flushed command first is = cc
+chosen F false zero process child declared flushed command first is = cc
+
+pub command_words : (seen : SeenView) (ws : List (List ℕ)) → is_command seen ws ≡ true
+    → words_item seen ws ≡ counted seen (wanted (word_at ws 0) >>= λ pid. command seen pid (taker ws) ws)
+unfolding words_item body_item command_item
+command_words seen ws is =
+    chosen (counted seen) (is_some seen.limits) (has ws 0 (codes "0")) (has ws 0 (codes "process")) (has ws 0 (codes "child")) (declaration seen ws) (flush_item ws)
+    (wanted (word_at ws 0) >>= λ pid. command seen pid (taker ws) ws)
+    (if has ws 0 (codes "limits") then limits_item ws else Err NoLimits)
+    is
+
+-- where the call and the pid can be read
+pub command_said : (seen : SeenView) (ws : List (List ℕ)) (number : Number) (call : LineCall) (pid : ℕ) → is_command seen ws ≡ true
+    → wanted (word_at ws 0) ≡ Ok number → call_words ws (is_some (taker ws)) ≡ Ok call → declared_pid seen number call ≡ Ok pid
+    → words_item seen ws ≡ (if nat_lt seen.commands 100000 then Ok (command_of pid (taker ws) call) else Err TooMany)
+command_said seen ws number call pid is first said declared =
+    command_words seen ws is ∙ rw (first, said, declared) refl
 
 pub ruleset same_words = (words_item-take, is_skipped-take)

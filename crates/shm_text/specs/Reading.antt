@@ -131,11 +131,15 @@ command_item seen ws = if has ws 0 (codes "0") then flush_item ws else (do
 
 -- LINES
 
+-- where there may be one more command or flush line
+abbrev pub counted : SeenView → Result Item FaultKind → Result Item FaultKind
+counted seen said = said >>= λ item. if nat_lt seen.commands 100000 then Ok item else Err TooMany
+
 -- a line behind the limits
 unfoldable pub body_item : SeenView → List (List ℕ) → Result Item FaultKind
 body_item seen ws =
     if has ws 0 (codes "process") || has ws 0 (codes "child") then declaration seen ws else
-    command_item seen ws >>= λ item. if nat_lt seen.commands 100000 then Ok item else Err TooMany
+    counted seen (command_item seen ws)
 
 -- no words, or a first word that begins with #
 abbrev pub is_skipped : List (List ℕ) → Bool
@@ -147,11 +151,19 @@ words_item seen ws =
     if has ws 0 (codes "limits") then limits_item ws else
     Err NoLimits
 
+-- a command of a process stands behind the limits, and begins with no word of another line
+abbrev pub is_command : SeenView → List (List ℕ) → Bool
+is_command seen ws = is_some seen.limits && (not (has ws 0 (codes "0")) && (not (has ws 0 (codes "process")) && not (has ws 0 (codes "child"))))
+
+-- a line that says something
+abbrev pub some_item : Result Item FaultKind → Result (Option Item) FaultKind
+some_item said = said >>= λ item. Ok (Some item)
+
 -- what a line says, with what the lines above it said
 unfoldable pub line_item : SeenView → List ℕ → Result (Option Item) FaultKind
 line_item seen line =
     if list_all is_allowed line
-    then (if is_skipped (words_of line) then Ok None else (words_item seen (words_of line) >>= λ item. Ok (Some item)))
+    then (if is_skipped (words_of line) then Ok None else some_item (words_item seen (words_of line)))
     else Err BadByte
 
 abbrev pub seen_with : SeenView → Item → SeenView

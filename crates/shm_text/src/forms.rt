@@ -1,7 +1,7 @@
 //! The forms of lines.
 ghost use Rattle.std.specs.Prelude.{◌≡◌, ◌<◌, ◌≤◌, length, true, false, IfOk};
 ghost use Rattle.shm_text.specs.Form.{is_pid};
-ghost use Rattle.shm_text.specs.Reading.{limits_item, process_item, child_item, declared, declaration, taker, known, known_child, declared_pid, command, flush_item, command_item, body_item, words_item, line_item, is_skipped, is_wordless, HasPlace, HasPlaceFor, IsLimits, IsLine};
+ghost use Rattle.shm_text.specs.Reading.{limits_item, process_item, child_item, declared, declaration, taker, known, known_child, declared_pid, flush_item, words_item, line_item, is_command, counted, some_item, is_skipped, is_wordless, HasPlace, HasPlaceFor, IsLimits, IsLine};
 
 use crate::calls::call_words;
 use crate::fault::FaultKind;
@@ -138,23 +138,6 @@ fn declared_pid(seen: &Seen, pid: Number, call: &LineCall) -> Result<u32, FaultK
     Ok(pid)
 }
 
-// The command line of a process, whose pid is tested last.
-fn command(
-    seen: &Seen,
-    pid: Number,
-    var: Option<Variable>,
-    words: &Words<'_>,
-) -> Result<Item, FaultKind>
-    ensures value { result ≡ command seen.now pid var words.now }
-    ensures place { IfOk result (λ item. HasPlace seen.now item) }
-{
-    let call = call_words(words, var.is_some())?;
-    match declared_pid(seen, pid, &call) {
-        Ok(pid) => Ok(Item::Line(Line::Command(Command { pid, var, call }))),
-        Err(kind) => Err(kind),
-    }
-}
-
 fn flush_line(pages: u32) -> FlushLine
     requires { (1 ≤ pages) × (pages ≤ 4096) }
     ensures { result ≡ pages }
@@ -176,48 +159,67 @@ fn flush_item(words: &Words<'_>) -> Result<Item, FaultKind>
     Ok(Item::Line(Line::Flush(flush_line(pages))))
 }
 
+// A flush line, where there may be one more.
 #[tactic(auto, unfolding(crate::specs::Reading::command_item))]
-fn command_item(seen: &Seen, words: &Words<'_>) -> Result<Item, FaultKind>
-    requires { 0 < length words.now }
-    ensures value { result ≡ command_item seen.now words.now }
-    ensures place { IfOk result (λ item. HasPlace seen.now item) }
+fn counted_flush(seen: &Seen, words: &Words<'_>) -> Result<Item, FaultKind>
+    ensures value { result ≡ counted seen.now (flush_item words.now) }
+    ensures item { IfOk result IsLine }
 {
-    if words.is(0, b"0") {
-        return flush_item(words);
-    }
-    let pid = wanted(words.at(0))?;
-    command(seen, pid, taker(words), words)
-}
-
-#[tactic(auto, unfolding(crate::specs::Reading::body_item))]
-fn body_item(seen: &Seen, words: &Words<'_>) -> Result<Item, FaultKind>
-    requires { 0 < length words.now }
-    ensures value { result ≡ body_item seen.now words.now }
-    ensures place { IfOk result (λ item. HasPlace seen.now item) }
-{
-    if words.is(0, b"process") || words.is(0, b"child") {
-        return declaration(seen, words);
-    }
-    let item = command_item(seen, words)?;
-    if seen.commands() < MOST_COMMANDS {
-        Ok(item)
-    } else {
-        Err(FaultKind::TooMany)
+    match flush_item(words) {
+        Ok(_) if seen.commands() >= MOST_COMMANDS => Err(FaultKind::TooMany),
+        answer => answer,
     }
 }
 
-#[tactic(auto, unfolding(crate::specs::Reading::words_item))]
-fn words_item(seen: &Seen, words: &Words<'_>) -> Result<Item, FaultKind>
-    requires { 0 < length words.now }
+// A line that is no command of a process: the limits, a process, a flush round.
+#[inline(never)]
+#[tactic(auto, unfolding(crate::specs::Reading::words_item, crate::specs::Reading::body_item, crate::specs::Reading::command_item))]
+fn other_item(seen: &Seen, words: &Words<'_>) -> Result<Item, FaultKind>
+    requires words { 0 < length words.now }
+    requires other { is_command seen.now words.now ≡ false }
     ensures value { result ≡ words_item seen.now words.now }
     ensures place { IfOk result (λ item. HasPlace seen.now item) }
 {
     if seen.has_limits() {
-        body_item(seen, words)
+        if words.is(0, b"0") {
+            counted_flush(seen, words)
+        } else {
+            declaration(seen, words)
+        }
     } else if words.is(0, b"limits") {
         limits_item(words)
     } else {
         Err(FaultKind::NoLimits)
+    }
+}
+
+// Whether a line is a command of a process, by its first word.
+fn is_command(seen: &Seen, words: &Words<'_>) -> bool
+    requires { 0 < length words.now }
+    ensures { result ≡ is_command seen.now words.now }
+{
+    seen.has_limits()
+        && !words.is(0, b"0")
+        && !words.is(0, b"process")
+        && !words.is(0, b"child")
+}
+
+// The command of a process, whose pid is tested behind the call. What it says is put together once, here.
+#[tactic(auto, using(crate::proofs::FirstWords::command_words))]
+fn command(seen: &Seen, words: &Words<'_>) -> Result<Option<Item>, FaultKind>
+    requires words { 0 < length words.now }
+    requires command { is_command seen.now words.now ≡ true }
+    ensures value { result ≡ some_item (words_item seen.now words.now) }
+    ensures place { IfOk result (λ item. HasPlaceFor seen.now item) }
+{
+    let pid = wanted(words.at(0))?;
+    let var = taker(words);
+    let call = call_words(words, var.is_some())?;
+    let pid = declared_pid(seen, pid, &call)?;
+    if seen.commands() < MOST_COMMANDS {
+        Ok(Some(Item::Line(Line::Command(Command { pid, var, call }))))
+    } else {
+        Err(FaultKind::TooMany)
     }
 }
 
@@ -251,6 +253,9 @@ pub(crate) fn line_item(seen: &Seen, line: &[u8]) -> Result<Option<Item>, FaultK
     if is_skipped(&words) {
         return Ok(None);
     }
-    let item = words_item(seen, &words)?;
+    if is_command(seen, &words) {
+        return command(seen, &words);
+    }
+    let item = other_item(seen, &words)?;
     Ok(Some(item))
 }

@@ -1,5 +1,5 @@
 //! Reads a script, line by line from the top.
-ghost use Rattle.std.specs.Prelude.{◌≡◌, ◌<◌, ◌≤◌, ◌++◌, [], IfOk, OnOk, IsOk, IfErr, Ok, Err, length, not, MatchOption, nat_le, is_some, ◌==◌, min, count_by};
+ghost use Rattle.std.specs.Prelude.{◌≡◌, ◌<◌, ◌≤◌, ◌++◌, ◌/◌, [], IfOk, OnOk, IsOk, IfErr, Ok, Err, length, not, MatchOption, nat_le, is_some, min};
 ghost use Rattle.std.specs.List.{list_all};
 ghost use Rattle.shm_text.specs.Reading.{told, script_of, without_words, is_wordless, nothing, seen_next, with_item, processes_in, lines_in, is_declared, IsFaultOf, IsFound, HasPlaceFor};
 ghost use Rattle.shm_text.specs.Words.{lines_of};
@@ -129,6 +129,9 @@ fn without_words(bytes: &[u8]) -> ScriptFault
     ScriptFault { line: 1, kind }
 }
 
+/// The bytes of a short line, as `1 rmid s`.
+const SHORT_LINE: usize = 8;
+
 /// Without a limits line the fault is at line 1.
 const NO_LIMITS: ScriptFault = ScriptFault {
     line: 1,
@@ -168,15 +171,12 @@ fn first_fault(bytes: &[u8]) -> Option<ScriptFault>
     }
 }
 
-// For how many lines room is made at once: as many as there are, so that none has to move, and as a script may have.
+// For how many lines room is made at once: for as many as so many bytes mostly have, so that few have to move, and as a
+// script may have.
 fn room_wanted(bytes: &[u8]) -> usize
-    ensures { result ≡ min (count_by (λ b. b == 10) bytes.now) 100000 }
+    ensures { result ≡ min (length bytes.now / 8) 100000 }
 {
-    bytes
-        .iter()
-        .filter(|byte| **byte == b'\n')
-        .count()
-        .min(MOST_COMMANDS as usize)
+    (bytes.len() / SHORT_LINE).min(MOST_COMMANDS as usize)
 }
 
 // Puts what a line said behind what the lines above it said.

@@ -1,9 +1,19 @@
-use Rattle.std.proofs.Common.{leb, leb-true, arith, rules}
+use Rattle.std.proofs.Common.{◌≡◌, ◌-◌, leb, leb-true, length, get_or, sym, ap, arith, rules}
 use Rattle.std.proofs.lemmas.Bool.{leb-false}
+use Rattle.std.proofs.lemmas.Option.{get_or_from_slice_get}
 use Rattle.std.proofs.lemmas.List.Sorted.{IsPartitionPoint-from_clause, IsPartitionedBy-leb}
 use Rattle.shm_base.specs.Space.{lowest_address}
+use Rattle.shm_areas.specs.declared.piece.Piece.{Piece}
 use Rattle.shm_areas.proofs.Placing.{rising}
 use Rattle.shm_areas.proofs.search.count_to.Goals as goal
+
+pub returns-then-last-addr-clause-below : goal.returns-then-last-addr-clause-below
+returns-then-last-addr-clause-below c k d lt =
+    let pieces = c.args.pieces.now in
+    let is_last : (get_or pieces (length pieces - 1) d).base ≡ c.in-Some.last.now.base =
+        ap (λ (p : Piece). p.base) (get_or_from_slice_get pieces (length pieces - 1) c.in-Some.last.now d (sym c.in-Some.ensures.value)) in
+    let up = rising lowest_address pieces c.requires k (length pieces - 1) d (omega arith) (omega arith) in
+    omega (arith, up, is_last, c.if-last-addr.true)
 
 pub returns : goal.returns
 returns c =
