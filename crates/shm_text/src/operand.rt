@@ -27,6 +27,7 @@ pub(crate) enum AddrWord {
 }
 
 /// A word that has to be a number.
+#[inline(always)]
 pub(crate) fn wanted(word: &[u8]) -> Result<Number, FaultKind>
     ensures { result ≡ wanted word.now }
 {
