@@ -1,10 +1,11 @@
 //! The forms of lines.
 ghost use Rattle.std.specs.Prelude.{◌≡◌, ◌<◌, ◌≤◌, length, true, false, IfOk};
 ghost use Rattle.shm_text.specs.Form.{is_pid};
-ghost use Rattle.shm_text.specs.Reading.{limits_item, process_item, child_item, declared, declaration, taker, known, known_child, declared_pid, flush_item, words_item, line_item, is_command, counted, some_item, is_skipped, is_wordless, HasPlace, HasPlaceFor, IsLimits, IsLine};
+ghost use Rattle.shm_text.specs.Reading.{limits_item, process_item, child_item, declared, declaration, taker, known, known_child, declared_pid, flush_item, words_item, line_item, is_command, counted, some_item, is_skipped, HasPlace, HasPlaceFor, IsLimits, IsLine};
 
 use crate::calls::call_words;
 use crate::fault::FaultKind;
+use crate::lines::Lines;
 use crate::number::Number;
 use crate::operand::{any, first_letter, ranged, wanted};
 use crate::reading::Seen;
@@ -198,10 +199,7 @@ fn is_command(seen: &Seen, words: &Words<'_>) -> bool
     requires { 0 < length words.now }
     ensures { result ≡ is_command seen.now words.now }
 {
-    seen.has_limits()
-        && !words.is(0, b"0")
-        && !words.is(0, b"process")
-        && !words.is(0, b"child")
+    seen.has_limits() && !words.is(0, b"0") && !words.is(0, b"process") && !words.is(0, b"child")
 }
 
 // The command of a process, whose pid is tested behind the call. What it says is put together once, here.
@@ -223,39 +221,30 @@ fn command(seen: &Seen, words: &Words<'_>) -> Result<Option<Item>, FaultKind>
     }
 }
 
-fn is_skipped(words: &Words<'_>) -> bool
+/// Whether a line is blank or a comment, by its words.
+pub(crate) fn is_skipped(words: &Words<'_>) -> bool
     ensures value { result ≡ is_skipped words.now }
     ensures words { result ≡ false → 0 < length words.now }
 {
     words.len() == 0 || words.at(0).first() == Some(&b'#')
 }
 
-/// Whether a line is blank or a comment.
-#[tactic(auto, using(crate::proofs::FirstWords::same_words))]
-pub(crate) fn is_wordless(line: &[u8]) -> bool
-    ensures { result ≡ is_wordless line.now }
-{
-    let mut words = Words::none();
-    words.take(line);
-    is_skipped(&words)
-}
-
-/// What a line says, with what the lines above it said.
+/// What the line that was read last says, with what the lines above it said.
 #[tactic(auto, using(crate::proofs::FirstWords::same_words), unfolding(crate::specs::Reading::line_item))]
-pub(crate) fn line_item(seen: &Seen, line: &[u8]) -> Result<Option<Item>, FaultKind>
-    ensures value { result ≡ line_item seen.now line.now }
+pub(crate) fn line_item(seen: &Seen, lines: &Lines<'_>) -> Result<Option<Item>, FaultKind>
+    ensures value { result ≡ line_item seen.now lines.now.line }
     ensures place { IfOk result (λ item. HasPlaceFor seen.now item) }
 {
-    let mut words = Words::none();
-    if !words.take(line) {
+    if !lines.is_allowed() {
         return Err(FaultKind::BadByte);
     }
-    if is_skipped(&words) {
+    let words = lines.words();
+    if is_skipped(words) {
         return Ok(None);
     }
-    if is_command(seen, &words) {
-        return command(seen, &words);
+    if is_command(seen, words) {
+        return command(seen, words);
     }
-    let item = other_item(seen, &words)?;
+    let item = other_item(seen, words)?;
     Ok(Some(item))
 }

@@ -5,10 +5,9 @@ ghost use Rattle.shm_text.specs.Reading.{told, script_of, without_words, is_word
 ghost use Rattle.shm_text.specs.Words.{lines_of};
 
 use crate::fault::{FaultKind, ReadRefused, ScriptFault};
-use crate::forms::{is_wordless, line_item};
+use crate::forms::{is_skipped, line_item};
 use crate::lines::Lines;
 use crate::script::{Item, Line, Script};
-use crate::words::Words;
 use arrayvec::ArrayVec;
 use shm_base::{LONGEST_SCRIPT, Limits, MOST_COMMANDS, Process};
 use std::alloc::{AllocError, Global};
@@ -110,8 +109,8 @@ fn has_words(bytes: &[u8]) -> bool
     ensures { result ≡ not (list_all is_wordless (lines_of bytes.now)) }
 {
     let mut lines = Lines::of(bytes);
-    while let Some(line) = lines.next() {
-        if !is_wordless(line) {
+    while lines.next() {
+        if !is_skipped(lines.words()) {
             return true;
         }
     }
@@ -122,9 +121,11 @@ fn has_words(bytes: &[u8]) -> bool
 fn without_words(bytes: &[u8]) -> ScriptFault
     ensures { result ≡ without_words (lines_of bytes.now) }
 {
-    let kind = match Lines::of(bytes).next() {
-        Some(line) if !Words::none().take(line) => FaultKind::BadByte,
-        _ => FaultKind::NoLimits,
+    let mut lines = Lines::of(bytes);
+    let kind = if lines.next() && !lines.is_allowed() {
+        FaultKind::BadByte
+    } else {
+        FaultKind::NoLimits
     };
     ScriptFault { line: 1, kind }
 }
@@ -157,8 +158,8 @@ fn first_fault(bytes: &[u8]) -> Option<ScriptFault>
     let mut seen = Seen::new();
     let mut lines = Lines::of(bytes);
     let mut number = 1u32;
-    while let Some(line) = lines.next() {
-        match line_item(&seen, line) {
+    while lines.next() {
+        match line_item(&seen, &lines) {
             Ok(item) => seen.take(&item),
             Err(kind) => return Some(ScriptFault { line: number, kind }),
         }
@@ -210,8 +211,8 @@ fn read_lines(alloc: Global, bytes: &[u8]) -> Result<Script, ReadRefused>
     }
     let mut lines = Lines::of(bytes);
     let mut number = 1u32;
-    while let Some(line) = lines.next() {
-        match line_item(&seen, line) {
+    while lines.next() {
+        match line_item(&seen, &lines) {
             Ok(item) => {
                 seen.take(&item);
                 if keep(&mut processes, &mut kept, item).is_err() {

@@ -1,11 +1,10 @@
 //! Lines of a script, and their words.
 
-ghost use Rattle.std.specs.Prelude.{◌≡◌, ◌<◌, ◌++◌, ◌&&◌, not, ℕ, List, [], length, take};
+ghost use Rattle.std.specs.Prelude.{◌≡◌, ◌<◌, ◌≤◌, ◌++◌, ◌&&◌, not, ℕ, List, [], length, take};
 ghost use Rattle.std.specs.List.{list_all};
 ghost use Rattle.std.specs.Str.{bytes_eq};
-ghost use Rattle.shm_text.specs.Words.{is_allowed, is_space, words_of, with_word, texts, word_at};
+ghost use Rattle.shm_text.specs.Words.{is_allowed, is_space, words_of, with_word, texts, word_at, line_end, first_line};
 
-use arrayvec::ArrayVec;
 use std::marker::Model;
 
 /// One word more than a line of any form has.
@@ -29,23 +28,34 @@ fn is_space(byte: u8) -> bool
 /// The first words of a line.
 #[derive(Drop)]
 pub(crate) struct Words<'a> {
-    found: ArrayVec<&'a [u8], MOST>,
+    found: [&'a [u8]; MOST],
+    count: usize,
 }
 
 impl<'a> Model for Words<'a> {
     ghost Value = { List (List ℕ) };
 
-    ghost view = { λ w. texts w.found.items };
+    ghost view = { λ w. texts (take w.count w.found) };
+
+    ghost invariant = { λ w. w.count ≤ 8 };
+}
+
+/// Where the first line of a text ends, and whether each byte of it is allowed.
+#[derive(Clone, Copy)]
+pub(crate) struct Scanned {
+    pub(crate) end: usize,
+    pub(crate) allowed: bool,
 }
 
 impl<'a> Words<'a> {
     /// No words.
-    #[inline(always)]
     pub(crate) fn none() -> Words<'a>
         ensures { result ≡ [] }
     {
+        let nothing: &[u8] = &[];
         Words {
-            found: ArrayVec::new(),
+            found: [nothing; MOST],
+            count: 0,
         }
     }
 
@@ -54,50 +64,61 @@ impl<'a> Words<'a> {
     fn keep(&mut self, word: &'a [u8])
         ensures { self.new ≡ take MOST (self.old ++ with_word word.now) }
     {
-        if self.found.is_full() {
+        if self.count >= MOST {
             return;
         }
         if word.is_empty() {
             return;
         }
-        self.found.push(word);
+        self.found[self.count] = word;
+        self.count += 1;
     }
 
-    /// Takes the first words of a line where there are none, and answers whether each of its bytes is allowed. Every
-    /// byte is looked at once.
+    /// Takes the first words of the first line of a text in place of those that there are. Every byte of the line is
+    /// looked at once.
     #[inline(always)]
-    pub(crate) fn take(&mut self, line: &'a [u8]) -> bool
-        requires { self.old ≡ [] }
-        ensures words { self.new ≡ take MOST (words_of line.now) }
-        ensures allowed { result ≡ list_all is_allowed line.now }
+    pub(crate) fn take(&mut self, text: &'a [u8]) -> Scanned
+        ensures end { result.end ≡ line_end text.now }
+        ensures words { self.new ≡ take MOST (words_of (first_line text.now)) }
+        ensures allowed { result.allowed ≡ list_all is_allowed (first_line text.now) }
     {
+        self.count = 0;
         let mut allowed = true;
         let mut start = 0;
-        for at in 0..line.len() {
-            if is_of_word(line[at]) {
+        for at in 0..text.len() {
+            if is_of_word(text[at]) {
                 continue;
             }
-            if is_space(line[at]) {
-                self.keep(&line[start..at]);
+            if is_space(text[at]) {
+                self.keep(&text[start..at]);
                 start = at + 1;
                 continue;
             }
+            if text[at] == b'\n' {
+                self.keep(&text[start..at]);
+                return Scanned { end: at, allowed };
+            }
             allowed = false;
         }
-        self.keep(&line[start..]);
-        allowed
+        self.keep(&text[start..]);
+        Scanned {
+            end: text.len(),
+            allowed,
+        }
     }
 
     pub(crate) fn len(&self) -> usize
         ensures { result ≡ length self.now }
     {
-        self.found.len()
+        self.count
     }
 
     pub(crate) fn at(&self, index: usize) -> &'a [u8]
         requires { index < length self.now }
         ensures { result.now ≡ word_at self.now index }
     {
+        // What is read has a proof know that there are no more words than places.
+        let _ = &self.count;
         self.found[index]
     }
 
@@ -106,6 +127,6 @@ impl<'a> Words<'a> {
         requires { index < length self.now }
         ensures { result ≡ bytes_eq (word_at self.now index) word.now }
     {
-        self.found[index] == word
+        self.at(index) == word
     }
 }

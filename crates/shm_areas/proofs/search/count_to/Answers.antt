@@ -11,7 +11,7 @@ pub returns-then-last-addr-clause-below : goal.returns-then-last-addr-clause-bel
 returns-then-last-addr-clause-below c k d lt =
     let pieces = c.args.pieces.now in
     let is_last : (get_or pieces (length pieces - 1) d).base ≡ c.in-Some.last.now.base =
-        ap (λ (p : Piece). p.base) (get_or_from_slice_get pieces (length pieces - 1) c.in-Some.last.now d (sym c.in-Some.ensures.value)) in
+    ap (λ (p : Piece). p.base) (get_or_from_slice_get pieces (length pieces - 1) c.in-Some.last.now d (sym c.in-Some.ensures.value)) in
     let up = rising lowest_address pieces c.requires k (length pieces - 1) d (omega arith) (omega arith) in
     omega (arith, up, is_last, c.if-last-addr.true)
 

@@ -5,12 +5,12 @@ use Rattle.shm_text.proofs.Cut.{length-lines_of-le}
 use Rattle.shm_text.proofs.ItemSteps.{Goes, goes_on, goes_wrong, goes_to_end, starts, counts_on, limits_go_on, processes_in-append, lines_in-append, said_wrong, said_by}
 use Rattle.shm_text.proofs.reading.read_lines.Goals as goal
 
-pub loop-line-init : goal.loop-line-init
-loop-line-init c = record {
+pub loop-lines-init : goal.loop-lines-init
+loop-lines-init c = record {
   so_far = (
     [],
     (
-      subst (λ (s : SeenView). Goes (items_of 1 nothing (lines_of c.args.bytes.now)) 1 s c.of-lines.result []) (sym c.new-seen.ensures) (starts {n = 1} {seen = nothing} (lines_of c.args.bytes.now) c.of-lines.result c.of-lines.ensures),
+      subst (λ (s : SeenView). Goes (items_of 1 nothing (lines_of c.args.bytes.now)) 1 s c.of-lines.result.left []) (sym c.new-seen.ensures) (starts {n = 1} {seen = nothing} (lines_of c.args.bytes.now) c.of-lines.result.left c.of-lines.ensures),
       sym (ap (λ (s : SeenView). s.limits) c.new-seen.ensures),
       c.new-processes.ensures.items,
       c.reserve.ensures.items ∙ c.new-kept.ensures.items,
@@ -22,39 +22,39 @@ loop-line-init c = record {
 
 pub returns-in-Err-clause-fault : goal.returns-in-Err-clause-fault
 returns-in-Err-clause-fault c =
-    let (front, known) = c.loop-line.invariant.so_far in
-    said_wrong _ _ (goes_wrong c.in-Some.line.now c.next.new.self c.in-Err.kind known.0 (search rules) (cc))
+    let (front, known) = c.loop-lines.invariant.so_far in
+    said_wrong _ _ (goes_wrong c.next.new.self.line c.next.new.self.left c.in-Err.kind known.0 (search rules) (cc))
 
-pub loop-line-preserved : goal.loop-line-preserved
-loop-line-preserved c =
-    let (front, known) = c.loop-line.invariant.so_far in
-    let left : c.loop-line.lines ≡ c.in-Some.line.now ∷ c.next.new.self = search rules in
+pub loop-lines-preserved : goal.loop-lines-preserved
+loop-lines-preserved c =
+    let (front, known) = c.loop-lines.invariant.so_far in
+    let left : c.loop-lines.lines.left ≡ c.next.new.self.line ∷ c.next.new.self.left = search rules in
     let more = with_item c.in-Ok.item [] in
-    let processes : c.keep.new.processes.items ≡ c.loop-line.processes.items ++ processes_in more = search rules in
-    let lines : c.keep.new.kept.items ≡ c.loop-line.kept.items ++ lines_in more = search rules in
+    let processes : c.keep.new.processes.items ≡ c.loop-lines.processes.items ++ processes_in more = search rules in
+    let lines : c.keep.new.kept.items ≡ c.loop-lines.kept.items ++ lines_in more = search rules in
     record {
       so_far = (
         front ++ more,
         (
-          goes_on c.in-Some.line.now c.next.new.self c.in-Ok.item _ known.0 left (cc) c.take.ensures,
-          limits_go_on front c.loop-line.seen c.take.new.self c.in-Ok.item known.1 c.take.ensures,
+          goes_on c.next.new.self.line c.next.new.self.left c.in-Ok.item _ known.0 left (cc) c.take.ensures,
+          limits_go_on front c.loop-lines.seen c.take.new.self c.in-Ok.item known.1 c.take.ensures,
           processes ∙ ap (λ l. l ++ processes_in more) known.2 ∙ sym (processes_in-append front more),
           lines ∙ ap (λ l. l ++ lines_in more) known.3 ∙ sym (lines_in-append front more),
         ),
       );
-      count = omega (arith, c.loop-line.invariant.count, ap length left);
-      commands = omega (arith, c.loop-line.invariant.commands, counts_on c.loop-line.seen c.in-Ok.item, ap (λ (s : SeenView). s.commands) c.take.ensures);
+      count = omega (arith, c.loop-lines.invariant.count, ap length left);
+      commands = omega (arith, c.loop-lines.invariant.commands, counts_on c.loop-lines.seen c.in-Ok.item, ap (λ (s : SeenView). s.commands) c.take.ensures);
     }
 
-pub returns-in-Some-limits-clause-read : goal.returns-in-Some-limits-clause-read
-returns-in-Some-limits-clause-read c =
-    let (front, known) = c.loop-line.invariant.so_far in
-    let there : c.loop-line.seen.limits ≡ Some c.in-Some-limits.limits = search rules in
-    said_by _ front (Some c.in-Some-limits.limits) (goes_to_end known.0 (search rules)) (known.1 ∙ there)
+pub returns-in-Some-clause-read : goal.returns-in-Some-clause-read
+returns-in-Some-clause-read c =
+    let (front, known) = c.loop-lines.invariant.so_far in
+    let there : c.loop-lines.seen.limits ≡ Some c.in-Some.limits = search rules in
+    said_by _ front (Some c.in-Some.limits) (goes_to_end known.0 (search rules)) (known.1 ∙ there)
     ∙ rw (known.2, known.3) refl
 
 pub returns-in-None-clause-fault : goal.returns-in-None-clause-fault
 returns-in-None-clause-fault c =
-    let (front, known) = c.loop-line.invariant.so_far in
-    let none : c.loop-line.seen.limits ≡ None = search rules in
+    let (front, known) = c.loop-lines.invariant.so_far in
+    let none : c.loop-lines.seen.limits ≡ None = search rules in
     said_by _ front None (goes_to_end known.0 (search rules)) (known.1 ∙ none)

@@ -6,12 +6,12 @@ use Rattle.shm_text.proofs.ItemSteps.{Goes}
 use Rattle.shm_text.proofs.reading.read_lines.Given as goal
 
 -- what the lines so far say was kept
-abbrev pub invariant-loop-line : goal.invariant-loop-line
-invariant-loop-line l = record {
-  so_far : (front : List Item) × (Goes (items_of 1 nothing (lines_of l.bytes)) l.number l.seen l.lines front × (limits_after None front ≡ l.seen.limits) × (l.processes.items ≡ processes_in front) × (l.kept.items ≡ lines_in front));
-  count : l.number + length l.lines ≤ 1048578;
+abbrev pub invariant-loop-lines : goal.invariant-loop-lines
+invariant-loop-lines l = record {
+  so_far : (front : List Item) × (Goes (items_of 1 nothing (lines_of l.bytes)) l.number l.seen l.lines.left front × (limits_after None front ≡ l.seen.limits) × (l.processes.items ≡ processes_in front) × (l.kept.items ≡ lines_in front));
+  count : l.number + length l.lines.left ≤ 1048578;
   commands : l.seen.commands < l.number;
 }
 
-abbrev pub decreases-loop-line : goal.decreases-loop-line
-decreases-loop-line l = length l.lines
+abbrev pub decreases-loop-lines : goal.decreases-loop-lines
+decreases-loop-lines l = length l.lines.left
