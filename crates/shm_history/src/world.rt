@@ -154,17 +154,17 @@ impl<P: Pager> World<P> {
         make_room(&mut self.history)?;
         // The memory that the system lends is exact, before the call too.
         let _ = self.system.store();
-        let copy = call.copied();
-        let reply = self.system.call(pid, call)?;
-        let answer = reply.copied();
-        self.history
-            .push(Event {
-                pid,
-                call: copy,
-                reply,
-            })
-            .unwrap();
-        Ok(answer)
+        let answer = self.system.call(pid, call);
+        if let Ok(reply) = &answer {
+            self.history
+                .push(Event {
+                    pid,
+                    call: call.copied(),
+                    reply: reply.copied(),
+                })
+                .unwrap();
+        }
+        answer
     }
 
     /// A flush round: the first `pages` dirty frames of segments that are not locked are written out to

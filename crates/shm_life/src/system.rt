@@ -160,9 +160,11 @@ impl<P: Pager> System<P> {
         ensures no_memory { TakesNoMemory call.now → IsOk result }
     {
         let time = self.calls + 1;
-        let reply = self.kernel.call(time, pid, call)?;
-        self.calls = time;
-        Ok(reply)
+        let answer = self.kernel.call(time, pid, call);
+        if answer.is_ok() {
+            self.calls = time;
+        }
+        answer
     }
 
     /// Writes the first `n` dirty frames of segments that are not locked out to their slots. The flat

@@ -7,12 +7,12 @@ use Rattle.shm_history.proofs.Counted.{counted_more}
 use Rattle.shm_history.proofs.world.World.call.Goals as goal
 
 -- the reply is recorded behind a history that led to the machine
-pub invariant_of-self-2 : goal.invariant_of-self-2
-invariant_of-self-2 g c =
+pub invariant_of-self-in-Ok : goal.invariant_of-self-in-Ok
+invariant_of-self-in-Ok g c =
     let old : List Event = c.self.inside.history.items in
-    let e : Event = event c.args.pid c.args.call.now c.in_ok-reply.reply in
-    let items : c.push.new.self.items ≡ old ++ e ∷ [] = rw (c.push.ensures.items, c.unwrap.ensures, c.make_room.ensures.items, c.copied-copy.ensures) in
-    let counted : c.call.new.self.calls ≡ length old + 1 = c.in_ok-reply.ensures.counted ∙ ap (λ (n : ℕ). n + 1) c.self.invariant.0 in
-    let moved : IsMove c.self.inside.system.machine (length old + 1) e c.call.new.self.machine = rw c.self.invariant.0 at c.in_ok-reply.ensures.move_of in
+    let e : Event = event c.args.pid c.args.call.now c.in-Ok.reply in
+    let items : c.push.new.self.items ≡ old ++ e ∷ [] = rw (c.push.ensures.items, c.unwrap.ensures, c.make_room.ensures.items, c.copied.ensures) in
+    let counted : c.call.new.self.calls ≡ length old + 1 = c.in-Ok.ensures.counted ∙ ap (λ (n : ℕ). n + 1) c.self.invariant.0 in
+    let moved : IsMove c.self.inside.system.machine (length old + 1) e c.call.new.self.machine = rw c.self.invariant.0 at c.in-Ok.ensures.move_of in
     rw (items, c.call.ensures.opening)
-    (counted ∙ sym (length-append old (e ∷ [])), history_more c.self.inside.system.opening old e _ _ c.self.invariant.1 moved, counted_more old e c.self.inside.system.memory.swap c.call.new.self.memory.swap c.call.ensures.keeps.goes_on c.store.ensures.exact.sound.swap.unspent c.in_ok-reply.ensures.cause c.self.invariant.2)
+    (counted ∙ sym (length-append old (e ∷ [])), history_more c.self.inside.system.opening old e _ _ c.self.invariant.1 moved, counted_more old e c.self.inside.system.memory.swap c.call.new.self.memory.swap c.call.ensures.keeps.goes_on c.store.ensures.exact.sound.swap.unspent c.in-Ok.ensures.cause c.self.invariant.2)
