@@ -149,7 +149,3 @@ module _ (b : PageRef → List ℕ) (r : PageRef) (n : ℕ) (whole : (j : ℕ) �
       let w = whole i (omega arith) in
       let rest = length-joined (suc i) k (omega arith) in
       omega (arith, w, rest, length-append (b (record { seg = r.seg; page = i })) (joined b r.seg (suc i) k))
-
-pub length-paste : (xs : List ℕ) (at : ℕ) (new : List ℕ) → at + length new ≤ length xs → length (paste xs at new) ≡ length xs
-length-paste xs at new le =
-    omega (arith, length-append (take at xs ++ new) (drop (at + length new) xs), length-append (take at xs) new, length-take at xs, length-drop (at + length new) xs)

@@ -13,7 +13,7 @@ use Rattle.shm_fault.specs.Store.{StoreView}
 use Rattle.shm_fault.specs.Sound.{IsStoreSound}
 use Rattle.shm_fault.specs.Goes.{unlocked, Alike}
 use Rattle.shm_fault.proofs.Ties.{Alike-refl}
-use Rattle.shm_fault.proofs.Tally.{resident-frames, unlocked_resident, passes_by}
+use Rattle.shm_fault.proofs.Tally.{resident-frames, unlocked_resident, passes_by, count-ext}
 
 pub clock-alike : (may : ℕ → Bool) (hand : ℕ) (before : List Frame) (victim : ℕ) (after : List Frame) → IsClockVictim may hand before victim after → (f : ℕ) → Alike (frame_at before f) (frame_at after f)
 clock-alike may hand before victim after is f = elim (cases_lt f (length before)) [
@@ -47,17 +47,11 @@ same-test : (s : StoreView) (x : Frame) (o : Option PageRef) → x.owner ≡ o �
 same-test s x None e = rw e refl
 same-test s x (Some r) e = rw e refl
 
-same-tests : (s : StoreView) (xs : List Frame) → count_by (passes_by (λ r x. not (locked_by s.segs r.seg))) xs ≡ count_by (page_may_go (unlocked s.segs)) xs
-same-tests s [] = refl
-same-tests s (x ∷ xs) =
-    let rest = same-tests s xs in
-    let one : bit (passes_by (λ r y. not (locked_by s.segs r.seg)) x) ≡ bit (page_may_go (unlocked s.segs) x) = ap bit (same-test s x x.owner refl) in
-    omega (arith, one, rest, sum_by-cons (λ (y : Frame). cond (passes_by (λ r z. not (locked_by s.segs r.seg)) y) 1 0) x xs, sum_by-cons (λ (y : Frame). cond (page_may_go (unlocked s.segs) y) 1 0) x xs)
-
 -- where no frame is free, two at least have pages of segments that are not locked
 pub two_unlocked : (s : StoreView) → IsStoreSound s → OwnedBelow s.frames (length s.frames) → 2 ≤ count_by (page_may_go (unlocked s.segs)) s.frames
 two_unlocked s sound full =
     let all = all-owned s.frames full in
     let resident = resident-frames s sound.apart sound.tied in
     let le = unlocked_resident s sound.apart sound.tied in
-    omega (arith, all, resident, le, same-tests s s.frames, sound.locked)
+    let same = count-ext (passes_by (λ r x. not (locked_by s.segs r.seg))) (page_may_go (unlocked s.segs)) s.frames (λ x. same-test s x x.owner refl) in
+    omega (arith, all, resident, le, same, sound.locked)

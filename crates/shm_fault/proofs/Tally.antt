@@ -23,7 +23,7 @@ count-map : {X Y : Type 0} (f : X → Y) (test : Y → Bool) (xs : List X) → c
 count-map f test [] = refl
 count-map f test (x ∷ xs) = let rest = count-map f test xs in omega (arith, rest, sum_by-cons (λ y. cond (test y) 1 0) (f x) (map f xs), sum_by-cons (λ y. cond (test (f y)) 1 0) x xs)
 
-count-ext : {X : Type 0} (p q : X → Bool) (xs : List X) → ((x : X) → p x ≡ q x) → count_by p xs ≡ count_by q xs
+pub count-ext : {X : Type 0} (p q : X → Bool) (xs : List X) → ((x : X) → p x ≡ q x) → count_by p xs ≡ count_by q xs
 count-ext p q [] same = refl
 count-ext p q (x ∷ xs) same = let rest = count-ext p q xs same in let here : one_if (p x) ≡ one_if (q x) = ap one_if (same x) in omega (arith, here, rest, sum_by-cons (λ y. cond (p y) 1 0) x xs, sum_by-cons (λ y. cond (q y) 1 0) x xs)
 

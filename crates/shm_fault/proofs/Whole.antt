@@ -17,7 +17,7 @@ use Rattle.shm_fault.specs.Store.{StoreView, page_bytes, held_by, held, fresh_st
 use Rattle.shm_fault.specs.Sound.{IsStoreSound}
 use Rattle.shm_fault.specs.Goes.{outline, outlines}
 use Rattle.shm_fault.proofs.Entries.{apart-append, apart-edit}
-use Rattle.shm_fault.proofs.Pages.{rec-past, has-head, has-tail}
+use Rattle.shm_fault.proofs.Pages.{rec-past, has-head, has-tail, find-map}
 use Rattle.shm_fault.proofs.Ties.{tied-segs}
 use Rattle.shm_fault.proofs.Bytes.{joined, held_one, held_of, bytes_at, held-is, length-joined}
 use Rattle.shm_fault.proofs.Spans.{held-in}
@@ -33,6 +33,11 @@ sound-fresh frames swap size blank is free =
       free = λ f e. ap (λ (x : Frame). x.dirty) (blank f);
     })
     tt size is (omega (arith, size)) (omega arith) (omega (arith, size))
+
+-- a sum of what a change makes no larger
+sum-map-le : (h : SegRec → ℕ) (f : SegRec → SegRec) → ((g : SegRec) → h (f g) ≤ h g) → (gs : List SegRec) → sum_by h (map f gs) ≤ sum_by h gs
+sum-map-le h f le [] = omega arith
+sum-map-le h f le (g ∷ gs) = omega (arith, le g, sum-map-le h f le gs, sum_by-cons h (f g) (map f gs), sum_by-cons h g gs)
 
 -- pages of zeros
 more-zeros : (k n : ℕ) → replicate {A = ℕ} k 0 ++ replicate (k * n) 0 ≡ replicate (k * suc n) 0
@@ -118,11 +123,11 @@ module _ (s : StoreView) (sound : IsStoreSound s) where
             | inr past ↦
                 let none : rec_by added r ≡ no_page = rec-added r ∙ rec-past s.segs r past in
                 record {
-                  frame_owned = λ f e. let h : None ≡ Some f = rw none at e in cc;
+                  frame_owned = λ f e. cc (rw none at e);
                   owner_resident = λ f e. let has₂ = sound.tied.owners f r e in absurd (omega arith);
-                  slot_owned = λ k e. let h : None ≡ Some k = rw none at e in cc;
+                  slot_owned = λ k e. cc (rw none at e);
                   owner_stored = λ k e. let has₂ = sound.tied.slot_owners k r e in absurd (omega arith);
-                  clean = λ f e d. let h : None ≡ Some f = rw none at e in cc;
+                  clean = λ f e d. cc (rw none at e);
                   whole = rw none (length-replicate {A = ℕ} 4096 0);
                 }
           ];
@@ -140,38 +145,25 @@ module _ (s : StoreView) (sound : IsStoreSound s) where
 
   -- a segment is locked or unlocked
   module _ (id : ℕ) (locked : Bool) where
-    find-locked : (gs : List SegRec) (k : ℕ) → find_seg (map (with_seg_lock id locked) gs) k ≡ option_map (with_seg_lock id locked) (find_seg gs k)
-    find-locked [] k = refl
-    find-locked (g ∷ gs) k =
-        let same : (with_seg_lock id locked g).id ≡ g.id = elim (cases_Bool (eqb g.id id)) [ inl t ↦ rw t refl | inr f ↦ rw f refl ] in
-        elim (cases_eq g.id k) [
-          | inl e ↦ rw (same, eq-eqb g.id k e) refl
-          | inr m ↦ rw (same, ne_eqb g.id k m) (find-locked gs k)
-        ]
+    keeps-id : (g : SegRec) → (with_seg_lock id locked g).id ≡ g.id
+    keeps-id g = elim (cases_Bool (eqb g.id id)) [ inl t ↦ rw t refl | inr f ↦ rw f refl ]
 
     pages-locked : (g : SegRec) → (with_seg_lock id locked g).pages ≡ g.pages
     pages-locked g = elim (cases_Bool (eqb g.id id)) [ inl t ↦ rw t refl | inr f ↦ rw f refl ]
 
     pub rec-locked : (r : PageRef) → rec_by (map (with_seg_lock id locked) s.segs) r ≡ rec_by s.segs r
-    rec-locked r = rw (find-locked s.segs r.seg) (by (find_seg s.segs r.seg))
+    rec-locked r = rw (find-map (with_seg_lock id locked) keeps-id s.segs r.seg) (by (find_seg s.segs r.seg))
       where
         by : (o : Option SegRec) → rec_in (option_map (with_seg_lock id locked) o) r.page ≡ rec_in o r.page
         by None = refl
         by (Some g) = ap (λ (ps : List PageRec). rec_at ps r.page) (pages-locked g)
 
     count-locked : (k : ℕ) → count_by_id (map (with_seg_lock id locked) s.segs) k ≡ count_by_id s.segs k
-    count-locked k = rw (find-locked s.segs k) (by (find_seg s.segs k))
+    count-locked k = rw (find-map (with_seg_lock id locked) keeps-id s.segs k) (by (find_seg s.segs k))
       where
         by : (o : Option SegRec) → count_in (option_map (with_seg_lock id locked) o) ≡ count_in o
         by None = refl
         by (Some g) = ap (λ (ps : List PageRec). length ps) (pages-locked g)
-
-    sum-locked : (gs : List SegRec) → sum_by pages_of (map (with_seg_lock id locked) gs) ≡ sum_by pages_of gs
-    sum-locked [] = refl
-    sum-locked (g ∷ gs) =
-        let rest = sum-locked gs in
-        let here : pages_of (with_seg_lock id locked g) ≡ pages_of g = ap (λ (ps : List PageRec). length ps) (pages-locked g) in
-        omega (arith, rest, here, sum_by-cons pages_of (with_seg_lock id locked g) (map (with_seg_lock id locked) gs), sum_by-cons pages_of g gs)
 
     pub sound-locked : sum_by locked_pages (map (with_seg_lock id locked) s.segs) + 2 ≤ length s.frames → IsStoreSound (record s { segs = map (with_seg_lock id locked) s.segs })
     sound-locked few =
@@ -185,7 +177,7 @@ module _ (s : StoreView) (sound : IsStoreSound s) where
           free = sound.tied.free;
         })
         (apart-edit (λ (g : SegRec). record g { locked = locked }) (λ g. refl) s.segs id sound.apart) sound.frames sound.swap sound.hand
-        (let sum = sum-locked s.segs in omega (arith, sum, sound.capacity)) few
+        (let sum = sum-map-le pages_of (with_seg_lock id locked) (λ g. rw (pages-locked g) (omega arith)) s.segs in omega (arith, sum, sound.capacity)) few
 
     held-list : (gs : List SegRec) → map (held_by s.frames s.swap) (map (with_seg_lock id locked) gs) ≡ with_lock (map (held_by s.frames s.swap) gs) id locked
     held-list [] = refl
@@ -198,16 +190,12 @@ module _ (s : StoreView) (sound : IsStoreSound s) where
     unfolding held
     held-locked = held-list s.segs
 
-fewer-locked : (id : ℕ) (gs : List SegRec) → sum_by locked_pages (map (with_seg_lock id false) gs) ≤ sum_by locked_pages gs
-fewer-locked id [] = omega arith
-fewer-locked id (g ∷ gs) =
-    let rest = fewer-locked id gs in
-    let here : locked_pages (with_seg_lock id false g) ≤ locked_pages g = elim (cases_Bool (eqb g.id id)) [ inl t ↦ rw t (omega arith) | inr f ↦ rw f (omega arith) ] in
-    omega (arith, rest, here, sum_by-cons locked_pages (with_seg_lock id false g) (map (with_seg_lock id false) gs), sum_by-cons locked_pages g gs)
+fewer-locked : (id : ℕ) (g : SegRec) → locked_pages (with_seg_lock id false g) ≤ locked_pages g
+fewer-locked id g = elim (cases_Bool (eqb g.id id)) [ inl t ↦ rw t (omega arith) | inr f ↦ rw f (omega arith) ]
 
 -- locking, where the pages are few enough
 pub few-locked : (s : StoreView) → IsStoreSound s → (id : ℕ) (locked : Bool) → (locked ≡ true → pages_locked (with_lock (held s) id true) + 2 ≤ length s.frames) → sum_by locked_pages (map (with_seg_lock id locked) s.segs) + 2 ≤ length s.frames
-few-locked s sound id false few = let f = fewer-locked id s.segs in omega (arith, f, sound.locked)
+few-locked s sound id false few = let f = sum-map-le locked_pages (with_seg_lock id false) (fewer-locked id) s.segs in omega (arith, f, sound.locked)
 few-locked s sound id true few =
     let t : StoreView = record s { segs = map (with_seg_lock id true) s.segs } in
     let apart : AreApart t.segs = apart-edit (λ (g : SegRec). record g { locked = true }) (λ g. refl) s.segs id sound.apart in
