@@ -19,7 +19,7 @@ use Rattle.shm_fault.specs.Counting.{AtRest}
 use Rattle.shm_fault.specs.Moving.{SameOwned, IsRelocated, IsCleared}
 use Rattle.shm_fault.proofs.Pages.{rec-with, other, other_ne, has-frame, has-slot}
 use Rattle.shm_fault.proofs.Slots.{OnlySlot, OnlySlot-trans, OnlySlot-owner, OnlySlot-page, OnlySlot-given, OnlySlot-fault, page-written, owner-written, owner-set, owner-given, cases_slot, set-cases}
-use Rattle.shm_fault.proofs.Ties.{SlotsApart, Touches, IsOwn, IsOwn-some, segs-same, segs-with, frames-same, frames-set}
+use Rattle.shm_fault.proofs.Ties.{SlotsApart, Touches, IsOwn, IsOwn-some, segs-same, segs-with, frames-same, frames-set, tied_touched, bytes_touched}
 use Rattle.shm_fault.proofs.Bytes.{bytes_at, held-same}
 use Rattle.shm_fault.proofs.Tally.{used-slots}
 use Rattle.shm_fault.proofs.Whole.{pages_held-is}
@@ -160,7 +160,7 @@ module _ (s : StoreView) (sound : IsStoreSound s) (r : PageRef) (from to : Slot)
       let not_from : (k : Slot) (q : PageRef) → other r q ≡ true → owner_of s.swap k.area k.slot ≡ Some q → k ≢ from = λ k q off o e. other_ne r q off (cc (own, rw e at o)) in
       let not_to : (k : Slot) (q : PageRef) → owner_of s.swap k.area k.slot ≡ Some q → k ≢ to = λ k q o e. cc (is.first.free, rw e at o) in
       let slots : SlotsApart (other r) s.swap u = record {
-        has = is.has;
+        has = λ k q off o. is.has k;
         kept = λ k q off o. (is.owners k (not_from k q off o) (not_to k q o) ∙ o, is.pages k (not_from k q off o) (not_to k q o));
         owners = λ k q off o. elim (cases_slot k to) [
           | inl e ↦ absurd (other_ne r q off (cc (is.owner, rw e at o)))
@@ -190,7 +190,7 @@ module _ (s : StoreView) (sound : IsStoreSound s) (r : PageRef) (from to : Slot)
 -- no page moves, and no owned slot changes
 pub keeps-owned : (s : StoreView) → IsStoreSound s → (u : SwapView) → SameOwned s.swap u → IsSwap u → sizes u ≡ sizes s.swap → GoesOn s.swap u → Keeps s (record s { swap = u })
 keeps-owned s sound u owned is same goes_on =
-    let slots : SlotsApart every s.swap u = record { has = owned.has; kept = λ k q e o. (owned.owners k ∙ o, owned.pages k q o); owners = λ k q e o. sym (owned.owners k) ∙ o } in
+    let slots : SlotsApart every s.swap u = record { has = λ k q e o. owned.has k; kept = λ k q e o. (owned.owners k ∙ o, owned.pages k q o); owners = λ k q e o. sym (owned.owners k) ∙ o } in
     keeps-every s (record s { swap = u }) sound (record { segs = segs-same s.segs; frames = frames-same s.frames sound.tied.free; slots = slots }) is same sound.hand goes_on
 
 -- an area none of whose slots is owned goes
@@ -213,36 +213,22 @@ module _ (s : StoreView) (sound : IsStoreSound s) (area : ℕ) (here : (area_at 
     | inr n ↦ rw (area-other k n) at o
   ]
 
-  stored-off : (r : PageRef) → IsTied s r → (o : Option Slot) → (rec_by s.segs r).slot ≡ o → stored without_area.swap o ≡ stored s.swap o
-  stored-off r tie None e = refl
-  stored-off r tie (Some k) e = ap (λ (a : AreaView). get_or a.pages k.slot []) (area-other k (owned-outside k r (tie.slot_owned k e).1))
-
-  bytes-off : (r : PageRef) → IsTied s r → (o : Option ℕ) → bytes_by s.frames without_area.swap o (rec_by s.segs r).slot ≡ bytes_by s.frames s.swap o (rec_by s.segs r).slot
-  bytes-off r tie None = stored-off r tie (rec_by s.segs r).slot refl
-  bytes-off r tie (Some f) = refl
-
-  tied-off : Tied without_area
-  tied-off = record {
-    pages = λ r has.
-        let tie = sound.tied.pages r has in
-        record {
-          frame_owned = tie.frame_owned;
-          owner_resident = tie.owner_resident;
-          slot_owned = λ k e.
-              let own = tie.slot_owned k e in
-              let n = owned-outside k r own.1 in
-              ((rw (length-set s.swap.areas area (off (area_at s.swap area))) own.0.0, rw (area-other k n) own.0.1), rw (area-other k n) own.1);
-          owner_stored = λ k e. tie.owner_stored k (owned-after k r e);
-          clean = λ f e d. tie.clean f e d ∙ sym (stored-off r tie (rec_by s.segs r).slot refl);
-          whole = rw (bytes-off r tie (rec_by s.segs r).frame) tie.whole;
-        };
-    owners = sound.tied.owners;
-    slot_owners = λ k r e. sound.tied.slot_owners k r (owned-after k r e);
-    free = sound.tied.free;
+  to-off : Touches every s without_area
+  to-off = record {
+    segs = segs-same s.segs;
+    frames = frames-same s.frames sound.tied.free;
+    slots = record {
+      has = λ k q e o h. (rw (length-set s.swap.areas area (off (area_at s.swap area))) h.0, rw (area-other k (owned-outside k q o)) h.1);
+      kept = λ k q e o. let same = area-other k (owned-outside k q o) in (rw same o, rw same refl);
+      owners = λ k q e o. owned-after k q o;
+    };
   }
 
+  tied-off : Tied without_area
+  tied-off = tied_touched every s without_area to-off sound.tied (λ q n h. cc) (λ f q n e. cc) (λ k q n e. cc)
+
   held-off : held without_area ≡ held s
-  held-off = held-same s without_area sound.apart sound.apart refl (λ r has. bytes-off r (sound.tied.pages r has) (rec_by s.segs r).frame)
+  held-off = held-same s without_area sound.apart sound.apart refl (λ r has. bytes_touched every s without_area to-off r refl (sound.tied.pages r has))
 
   sound-off : IsSwap (with_area s.swap area (off (area_at s.swap area))) → sizes (with_area s.swap area (off (area_at s.swap area))) ≡ set (sizes s.swap) area None
       → pages_held (held s) + length (area_at s.swap area).pages ≤ slots s.swap → IsStoreSound without_area

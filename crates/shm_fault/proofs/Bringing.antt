@@ -6,14 +6,14 @@ use Rattle.shm_base.specs.declared.paging.PageRef.{PageRef}
 use Rattle.shm_base.specs.declared.paging.Span.{Span}
 use Rattle.shm_plain.specs.Held.{is_locked}
 use Rattle.shm_slots.specs.View.{SwapView}
-use Rattle.shm_frames.specs.Frame.{Frame}
+use Rattle.shm_frames.specs.Frame.{Frame, frame_at}
 use Rattle.shm_fault.specs.declared.page_tables.PageRec.{PageRec}
 use Rattle.shm_fault.specs.declared.touched.Move.{Move}
 use Rattle.shm_fault.specs.declared.touched.Touched.{Touched}
 use Rattle.shm_fault.specs.Segs.{SegRec, rec_by, locked_by}
 use Rattle.shm_fault.specs.Store.{StoreView, held, held_by, frame_of, page_of, ref_of, is_swapped, IsResident, IsReferenced, pages_among, swapped_among, same_page}
 use Rattle.shm_fault.specs.Steps.{Moves, Kept}
-use Rattle.shm_fault.specs.Goes.{KeepsLocked, Visits, frame_by, referenced_at}
+use Rattle.shm_fault.specs.Goes.{KeepsLocked, Visits, frame_by, referenced_at, same_ref}
 use Rattle.shm_fault.specs.declared.access.InFrames.{InFrames}
 use Rattle.shm_fault.specs.declared.touched.PagerFailed.{PagerFailed}
 use Rattle.shm_fault.specs.Sound.{IsStoreSound}
@@ -21,6 +21,7 @@ use Rattle.shm_fault.specs.Counting.{raised, one_if, hand_after}
 use Rattle.shm_fault.specs.Access.{Visited, IsIn, AreIn, Brings, Accessed}
 use Rattle.shm_fault.proofs.Sound.{Goes-trans, KeepsLocked-trans, cause-after}
 use Rattle.shm_fault.proofs.Visits.{moves-trans}
+use Rattle.shm_fault.proofs.Pages.{same-true, same-self}
 
 pub err_of : {A E : Type 0} (r : Result A E) (P : Type 0) → OnErr r P → is_ok r ≡ false → P
 err_of (Ok a) P h e = absurd (false≢true (sym e))
@@ -89,18 +90,10 @@ module _ (p : Span) (s t : StoreView) (u v : Touched) (ok : Bool) (none : IsNone
       by false e b i = absurd (false≢true e)
 
 same_page-ref : (p q : Span) → same_page p q ≡ true → ref_of q ≡ ref_of p
-same_page-ref p q e =
-    let b = and_parts (eqb p.seg q.seg) (eqb (page_of p) (page_of q)) e in
-    let s : p.seg ≡ q.seg = eqb-true p.seg q.seg b.0 in
-    let g : page_of p ≡ page_of q = eqb-true (page_of p) (page_of q) b.1 in
-    let l : record { seg = q.seg; page = page_of q } ≡ record { seg = p.seg; page = page_of p } = rw (s, g) refl in l
+same_page-ref p q e = sym (same-true (ref_of p) (ref_of q) e)
 
 same_page-not : (p q : Span) → same_page p q ≡ false → ref_of q ≢ ref_of p
-same_page-not p q e same =
-    let s : q.seg ≡ p.seg = ap (λ (r : PageRef). r.seg) same in
-    let g : page_of q ≡ page_of p = ap (λ (r : PageRef). r.page) same in
-    let t : same_page p q ≡ true = rw (eq-eqb p.seg q.seg (sym s), eq-eqb (page_of p) (page_of q) (sym g)) refl in
-    false≢true (sym e ∙ t)
+same_page-not p q e same = false≢true (sym e ∙ ap (same_ref (ref_of p)) same ∙ same-self (ref_of p))
 
 among-two : (p q : Span) → 1 ≤ pages_among (p ∷ q ∷ [])
 among-two p q = by (same_page p q)
@@ -277,48 +270,36 @@ all-referenced z (p ∷ q ∷ []) here few is (suc zero) d lt = referenced z q h
 all-referenced z (p ∷ q ∷ []) here few is (suc (suc k)) d lt = absurd (omega arith)
 all-referenced z (p ∷ q ∷ r ∷ ps) here few is k d lt = absurd (omega (arith, few))
 
--- what an access that was done leaves, where bytes may have changed since
-module _ (s t z : StoreView) (rest : z ≡ record t { frames = z.frames }) (count : length z.frames ≡ length t.frames) (bits : (f : ℕ) → referenced_at z f ≡ referenced_at t f) (sound : IsStoreSound z) where
-  segs : z.segs ≡ t.segs
-  segs = ap (λ (v : StoreView). v.segs) rest
+-- what an access that was done leaves, where frames may have changed since
+module _ (s t : StoreView) (frames : List Frame) (count : length frames ≡ length t.frames) (bits : (f : ℕ) → (frame_at frames f).referenced ≡ referenced_at t f) (sound : IsStoreSound (record t { frames = frames })) where
+  abbrev later : StoreView
+  later = record t { frames = frames }
 
-  swap : z.swap ≡ t.swap
-  swap = ap (λ (v : StoreView). v.swap) rest
+  in-after : (p : Span) (f : ℕ) → IsIn t p f → IsIn later p f
+  in-after p f is = record { at = is.at; bit = bits f ∙ is.bit }
 
-  hand : z.hand ≡ t.hand
-  hand = ap (λ (v : StoreView). v.hand) rest
-
-  in-after : (p : Span) (f : ℕ) → IsIn t p f → IsIn z p f
-  in-after p f is = record { at = ap (λ (gs : List SegRec). (rec_by gs (ref_of p)).frame) segs ∙ is.at; bit = bits f ∙ is.bit }
-
-  are-after : (ps : List Span) (here : InFrames) → AreIn t ps here → AreIn z ps here
+  are-after : (ps : List Span) (here : InFrames) → AreIn t ps here → AreIn later ps here
   are-after [] here is = tt
   are-after (p ∷ []) here is = in-after p here.first is
   are-after (p ∷ q ∷ ps) here is = (in-after p here.first is.0, in-after q here.second is.1)
 
-  moves-after : (ms : List Move) → Moves ms s t → Moves ms s z
+  pub accessed : (ps : List Span) (here : InFrames) (u : Touched) → length ps ≤ 2 → Brings ps s t u true → AreIn t ps here → Accessed ps s (record t { frames = frames }) (Ok u)
   unfolding frame_of
-  moves-after ms led seg page = ap (λ (gs : List SegRec). (rec_by gs (record { seg = seg; page = page })).frame) segs ∙ led seg page
-
-  kept-after : KeepsLocked s t → KeepsLocked s z
-  kept-after keeps r locked e = ap (λ (gs : List SegRec). is_some (rec_by gs r).frame) segs ∙ keeps r locked e
-
-  pub accessed : (ps : List Span) (here : InFrames) (u : Touched) → length ps ≤ 2 → Brings ps s t u true → AreIn t ps here → Accessed ps s z (Ok u)
   accessed ps here u few b is = record {
     cause = tt;
-    quiet = λ all. let q = b.quiet all in (refl, swap ∙ q.1, q.2, q.3);
+    quiet = λ all. let q = b.quiet all in (refl, q.1, q.2, q.3);
     ins_few = b.ins_few;
     outs_few = b.outs_few;
     swapped = b.swapped refl;
-    read_in = ap (λ (v : StoreView). v.ins) rest ∙ b.read_in;
-    written_out = ap (λ (v : StoreView). v.outs) rest ∙ b.written_out;
-    turns = record { still = λ all. hand ∙ b.turns.still all; one = λ p e. hand ∙ b.turns.one p e };
-    resident = all-referenced z ps here few (are-after ps here is);
-    moved = moves-after u.moved.items b.moves;
+    read_in = b.read_in;
+    written_out = b.written_out;
+    turns = record { still = b.turns.still; one = b.turns.one };
+    resident = all-referenced later ps here few (are-after ps here is);
+    moved = b.moves;
     few_moved = b.few;
-    kept = kept-locked s z (kept-after b.kept);
-    counts = rw swap b.goes.goes_on;
-    same_sizes = rw swap b.goes.same_sizes;
+    kept = kept-locked s later b.kept;
+    counts = b.goes.goes_on;
+    same_sizes = b.goes.same_sizes;
     size = count ∙ b.goes.size;
     sound = sound;
   }

@@ -57,11 +57,10 @@ module _ (s t : StoreView) (sound : IsStoreSound s) (r : PageRef) (has : HasPage
   }
 
 -- no page is touched
-pub every : PageRef → Bool
+abbrev pub every : PageRef → Bool
 every q = true
 
 pub keeps-every : (s t : StoreView) → IsStoreSound s → Touches every s t → IsSwap t.swap → sizes t.swap ≡ sizes s.swap → t.hand < length t.frames → GoesOn s.swap t.swap → Keeps s t
-unfolding every
 keeps-every s t sound to is same hand goes_on = record {
   sound = sound-touched every s t sound to is same hand (λ q n h. cc) (λ f q n h. cc) (λ k q n h. cc);
   goes = goes-touched every s t sound to is same hand (λ q n h. cc) (λ f q n h. cc) (λ k q n h. cc) goes_on (λ q n h. cc);
@@ -69,7 +68,7 @@ keeps-every s t sound to is same hand goes_on = record {
 
 pub slots-kept : {off : PageRef → Bool} (s u : SwapView) → SameSlots s u → SlotsApart off s u
 slots-kept s u kept = record {
-  has = λ k h. (rw kept.areas h.0, rw (kept.pages k.area) h.1);
+  has = λ k q e o h. (rw kept.areas h.0, rw (kept.pages k.area) h.1);
   kept = λ k q e o. (ap (λ os. get_or os k.slot None) (kept.owners k.area) ∙ o, ap (λ ps. get_or ps k.slot []) (kept.pages k.area));
   owners = λ k q e o. sym (ap (λ os. get_or os k.slot None) (kept.owners k.area)) ∙ o;
 }

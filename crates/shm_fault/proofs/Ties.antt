@@ -31,7 +31,7 @@ pub record FramesApart (off : PageRef → Bool) (fs gs : List Frame) : Type 0 wh
 
 -- nor their slots
 pub record SlotsApart (off : PageRef → Bool) (s u : SwapView) : Type 0 where
-  pub has : (k : Slot) → HasSlot s k.area k.slot → HasSlot u k.area k.slot
+  pub has : (k : Slot) (q : PageRef) → off q ≡ true → owner_of s k.area k.slot ≡ Some q → HasSlot s k.area k.slot → HasSlot u k.area k.slot
   pub kept : (k : Slot) (q : PageRef) → off q ≡ true → owner_of s k.area k.slot ≡ Some q → (owner_of u k.area k.slot ≡ Some q) × (page_in u k.area k.slot ≡ page_in s k.area k.slot)
   pub owners : (k : Slot) (q : PageRef) → off q ≡ true → owner_of u k.area k.slot ≡ Some q → owner_of s k.area k.slot ≡ Some q
 
@@ -50,7 +50,7 @@ pub frames-same : {off : PageRef → Bool} (fs : List Frame) → ((f : ℕ) → 
 frames-same fs free = record { size = refl; alike = λ f q e o. Alike-refl (frame_at fs f); owners = λ f q e o. o; free = free }
 
 pub slots-same : {off : PageRef → Bool} (s : SwapView) → SlotsApart off s s
-slots-same s = record { has = λ k h. h; kept = λ k q e o. (o, refl); owners = λ k q e o. o }
+slots-same s = record { has = λ k q e o h. h; kept = λ k q e o. (o, refl); owners = λ k q e o. o }
 
 -- one page's place looked up in other segments
 pub tied-segs : (s : StoreView) (segs : List SegRec) (r : PageRef) → rec_by segs r ≡ rec_by s.segs r → IsTied s r → IsTied (record s { segs = segs }) r
@@ -88,7 +88,7 @@ module _ (off : PageRef → Bool) (s t : StoreView) (to : Touches off s t) where
         slot_owned = λ k e.
             let was : (rec_by s.segs q).slot ≡ Some k = rw same at e in
             let own = tie.slot_owned k was in
-            (to.slots.has k own.0, (to.slots.kept k q is own.1).0);
+            (to.slots.has k q is own.1 own.0, (to.slots.kept k q is own.1).0);
         owner_stored = λ k e. rw same (tie.owner_stored k (to.slots.owners k q is e));
         clean = λ f e d.
             let was : (rec_by s.segs q).frame ≡ Some f = rw same at e in
@@ -146,7 +146,7 @@ frames-set off frames f x was is clean free = record {
 -- slots, where one may have another page or owner, and that is such a page or nobody
 pub slots-only : (off : PageRef → Bool) (k : Slot) (s u : SwapView) → OnlySlot k s u → IsOwn off (owner_of s k.area k.slot) → IsOwn off (owner_of u k.area k.slot) → SlotsApart off s u
 slots-only off k s u only was is = record {
-  has = only.has;
+  has = λ j q out e. only.has j;
   kept = λ j q out e. elim (cases_slot j k) [
     | inl same ↦ cc (was q (rw same at e))
     | inr n ↦ (only.owners j n ∙ e, only.pages j n)

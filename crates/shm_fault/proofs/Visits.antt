@@ -162,17 +162,10 @@ pub moves-still : (ms : List Move) (s t : StoreView) → Still s t → MovesOn m
 unfolding frame_of
 moves-still ms s t still b led seg page = still (record { seg = seg; page = page }) ∙ led seg page
 
-pub moves-came : (ms : List Move) (s t : StoreView) (r : PageRef) (f : ℕ) → ((q : PageRef) → frame_by t q ≡ cond (same_ref r q) (Some f) (frame_by s q)) → MovesOn ms (ms ++ Came r f ∷ []) s t
+pub moves-more : (ms : List Move) (m : Move) (s t : StoreView) → ((q : PageRef) → frame_by t q ≡ moved (m ∷ []) q.seg q.page (frame_by s q)) → MovesOn ms (ms ++ m ∷ []) s t
 unfolding frame_of
-moves-came ms s t r f is b led seg page =
-    is (record { seg = seg; page = page }) ∙ ap (λ (o : Option ℕ). cond (same_ref r (record { seg = seg; page = page })) (Some f) o) (led seg page)
-    ∙ sym (moved-append ms (Came r f) seg page (frame_of b seg page))
-
-pub moves-gone : (ms : List Move) (s t : StoreView) (r : PageRef) → ((q : PageRef) → frame_by t q ≡ cond (same_ref r q) None (frame_by s q)) → MovesOn ms (ms ++ Gone r ∷ []) s t
-unfolding frame_of
-moves-gone ms s t r is b led seg page =
-    is (record { seg = seg; page = page }) ∙ ap (λ (o : Option ℕ). cond (same_ref r (record { seg = seg; page = page })) None o) (led seg page)
-    ∙ sym (moved-append ms (Gone r) seg page (frame_of b seg page))
+moves-more ms m s t is b led seg page =
+    is (record { seg = seg; page = page }) ∙ ap (moved (m ∷ []) seg page) (led seg page) ∙ sym (moved-append ms m seg page (frame_of b seg page))
 
 pub moves-trans : (ms ns os : List Move) (s t u : StoreView) → MovesOn ms ns s t → MovesOn ns os t u → MovesOn ms os s u
 moves-trans ms ns os s t u a c b led = c b (a b led)

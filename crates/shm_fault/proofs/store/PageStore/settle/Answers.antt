@@ -24,8 +24,5 @@ invariant_of-self g c = (done g c).sound
 pub returns-clause-came : goal.returns-clause-came
 returns-clause-came g c = rw (← c.self.view_is) (done g c).came
 
-pub returns-clause-bit : goal.returns-clause-bit
-returns-clause-bit g c = (done g c).bit
-
 pub returns-clause-visits : goal.returns-clause-visits
 returns-clause-visits g c = rw (← c.self.view_is) (done g c).visits
