@@ -82,26 +82,6 @@ agree-other hs rows id r s agree there same =
       | inr apart ↦ ap (option_map shape_row) (sym (live-other rows id at r s there apart))
     ]
 
--- A HEAD OR A KEY CHANGED
-
-pub joined-with_value : (hs : List Held) (rows : List (Entry Head)) (id : ℕ) (r : Row Head) (v : Head) (f : Segment → Segment) → live rows id ≡ Some r
-    → f (whole hs id r) ≡ whole hs id (record r { value = v }) → joined hs (with_value rows (id % 32768) v) ≡ change (joined hs rows) id f
-joined-with_value hs rows id r v f there same = ap (joined hs) (other-value rows id r v there) ∙ joined-other hs rows id r (record r { value = v }) f there same
-
-pub joined-with_both : (hs : List Held) (rows : List (Entry Head)) (id : ℕ) (r : Row Head) (key : ℕ) (v : Head) (f : Segment → Segment) → live rows id ≡ Some r
-    → f (whole hs id r) ≡ whole hs id (record { key = key; value = v }) → joined hs (with_key (with_value rows (id % 32768) v) (id % 32768) key) ≡ change (joined hs rows) id f
-joined-with_both hs rows id r key v f there same = ap (joined hs) (other-both rows id r key v there) ∙ joined-other hs rows id r (record { key = key; value = v }) f there same
-
-pub agree-with_value : (hs : List Held) (rows : List (Entry Head)) (id : ℕ) (r : Row Head) (v : Head) → Agree hs rows → live rows id ≡ Some r → v.size ≡ r.value.size → v.locked ≡ r.value.locked
-    → Agree hs (with_value rows (id % 32768) v)
-agree-with_value hs rows id r v agree there size lock =
-    rw (other-value rows id r v there) (agree-other hs rows id r (record r { value = v }) agree there cc)
-
-pub agree-with_both : (hs : List Held) (rows : List (Entry Head)) (id : ℕ) (r : Row Head) (key : ℕ) (v : Head) → Agree hs rows → live rows id ≡ Some r → v.size ≡ r.value.size → v.locked ≡ r.value.locked
-    → Agree hs (with_key (with_value rows (id % 32768) v) (id % 32768) key)
-agree-with_both hs rows id r key v agree there size lock =
-    rw (other-both rows id r key v there) (agree-other hs rows id r (record { key = key; value = v }) agree there cc)
-
 -- A LOCK SET
 
 -- the table shows the row's lock and not the store's
@@ -130,13 +110,11 @@ shape-lock_other (g ∷ gs) id b at apart = elim (eqb_tells g.id at) [
 
 -- a row locked or unlocked, and so what is held
 pub agree-lock : (hs : List Held) (rows : List (Entry Head)) (id : ℕ) (r : Row Head) (v : Head) → Agree hs rows → live rows id ≡ Some r → v.size ≡ r.value.size
-    → Agree (with_lock hs id v.locked) (with_value rows (id % 32768) v)
-agree-lock hs rows id r v agree there size =
-    rw (other-value rows id r v there)
-    (record {
-      few = omega (arith, agree.few, length-set rows (id % 32768) (record (entry_at rows (id % 32768)) { row = Some s }));
-      same = shown;
-    })
+    → Agree (with_lock hs id v.locked) (with_other rows id (record r { value = v }))
+agree-lock hs rows id r v agree there size = record {
+  few = omega (arith, agree.few, length-set rows (id % 32768) (record (entry_at rows (id % 32768)) { row = Some s }));
+  same = shown;
+}
   where
     s : Row Head
     s = record r { value = v }
@@ -155,5 +133,5 @@ agree-lock hs rows id r v agree there size =
     ]
 
 pub joined-locked : (hs : List Held) (rows : List (Entry Head)) (id : ℕ) (r : Row Head) (v : Head) (f : Segment → Segment) → live rows id ≡ Some r
-    → f (whole hs id r) ≡ whole hs id (record r { value = v }) → joined (with_lock hs id v.locked) (with_value rows (id % 32768) v) ≡ change (joined hs rows) id f
-joined-locked hs rows id r v f there same = joined-lock hs (with_value rows (id % 32768) v) id v.locked ∙ joined-with_value hs rows id r v f there same
+    → f (whole hs id r) ≡ whole hs id (record r { value = v }) → joined (with_lock hs id v.locked) (with_other rows id (record r { value = v })) ≡ change (joined hs rows) id f
+joined-locked hs rows id r v f there same = joined-lock hs (with_other rows id (record r { value = v })) id v.locked ∙ joined-other hs rows id r (record r { value = v }) f there same

@@ -1,5 +1,5 @@
 -- The pages of the segments that are held.
-use Rattle.std.proofs.Common.{◌≡◌, ◌≢◌, ℕ, ◌+◌, ◌*◌, ◌/◌, ◌≤◌, Bool, true, false, if◌then◌else◌, List, [], ◌∷◌, length, take, drop, map, Option, Some, None, refl, sym, ap, ◌∙◌, inl, inr, arith, eq-eqb, ne_eqb, true≢false}
+use Rattle.std.proofs.Common.{◌≡◌, ◌≢◌, ℕ, ◌+◌, ◌*◌, ◌/◌, ◌≤◌, Bool, true, false, if◌then◌else◌, List, [], ◌∷◌, length, take, drop, map, Option, Some, None, refl, sym, ap, ◌∙◌, inl, inr, arith, eq-eqb, ne_eqb, true≢false, not, ◌==◌}
 use Rattle.std.proofs.lemmas.Bool.{cases_eq}
 use Rattle.std.proofs.lemmas.Option.{none-some}
 use Rattle.std.proofs.lemmas.Grind.{common_steps}
@@ -12,6 +12,7 @@ use Rattle.shm_plain.specs.Held.{Held, find_held, is_held, bytes_of, bytes_in, p
 use Rattle.shm_plain.proofs.Kept.{find_held-id}
 use Rattle.shm_plain.proofs.Pasted.{length-paste, apart-pasted}
 use Rattle.shm_segments.proofs.Bytes.{Each, each, each-pasted}
+use Rattle.std.proofs.lemmas.List.Filters.{sum_by-filter_both}
 
 -- ZEROS
 
@@ -38,14 +39,7 @@ locks-zeros hs id n =
 -- ONE LESS
 
 sum-less : (f : Held → ℕ) (hs : List Held) (id : ℕ) → sum_by f (without hs id) ≤ sum_by f hs
-sum-less f [] id = omega arith
-sum-less f (h ∷ hs) id =
-    let rest = sum-less f hs id in
-    let all = sum_by-cons f h hs in
-    elim (cases_eq h.id id) [
-      | inl e ↦ rw (eq-eqb h.id id e) (omega (arith, rest, all))
-      | inr n ↦ rw (ne_eqb h.id id n) (omega (arith, rest, all, sum_by-cons f h (without hs id)))
-    ]
+sum-less f hs id = omega (arith, sum_by-filter_both (λ (h : Held). not (h.id == id)) (λ (h : Held). not (not (h.id == id))) (λ h. refl) f hs)
 
 pub sum-without : (f : Held → ℕ) (hs : List Held) (id : ℕ) (g : Held) → find_held hs id ≡ Some g → sum_by f (without hs id) + f g ≤ sum_by f hs
 sum-without f [] id g is = absurd (none-some g is)

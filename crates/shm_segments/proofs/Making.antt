@@ -19,7 +19,7 @@ use Rattle.shm_segments.specs.Table.{made, created, destroyed, relocked}
 use Rattle.shm_segments.proofs.Joins.{LiveAt, live-at}
 use Rattle.shm_segments.proofs.Edits.{look-live, other-value, agree-lock, joined-locked}
 use Rattle.shm_segments.proofs.Rows.{id_of, IsFree, index-free, free-new, joined-with_row, live-with_row_same, live-with_row_other, agree-with_row, joined-without, live-without, live-without_here, agree-without}
-use Rattle.shm_segments.proofs.Sums.{pages-with_row, pages-without_row, pages-with_value, locked-with_row, locked-without_row, locked-with_value, locked-within}
+use Rattle.shm_segments.proofs.Sums.{pages-with_row, pages-without_row, pages-with_other, locked-with_row, locked-without_row, locked-with_other, locked-within}
 use Rattle.shm_segments.proofs.Keeping.{KeptAs, sizes-other}
 use Rattle.shm_segments.proofs.Held.{pages-zeros, locks-zeros, sum-without, pages-lock, locks-lock}
 
@@ -91,33 +91,25 @@ kept-locked hs rows pages locks seg v b k looked =
     let w : Head = record v { locked = b } in
     let lives : live rows seg ≡ Some r = look-live rows seg v looked in
     let range = k.sizes seg r lives in
-    let loose = locked-with_value rows seg r w lives in
+    let loose = locked-with_other rows seg r (record r { value = w }) lives in
     let within = locked-within rows seg r lives in
     let here = held-here hs rows seg r k.agree lives in
     let more : (b : Bool) → (if b then pages_in here.g else 0) ≡ (if b then pages_of v.size else 0) = λ b. ap (λ n. if b then n else 0) here.pages in
-    record {
+    rw (other-value rows seg r w lives) (record {
       kept =
           record {
             agree = agree-lock hs rows seg r w k.agree lives refl;
-            sizes = rw (other-value rows seg r w lives) (sizes-other rows seg r (record r { value = w }) lives k.sizes range);
-            reserved = k.reserved ∙ sym (pages-with_value rows seg r w lives refl);
+            sizes = sizes-other rows seg r (record r { value = w }) lives k.sizes range;
+            reserved = k.reserved ∙ sym (pages-with_other rows seg r (record r { value = w }) lives refl);
             locked = omega (arith, loose, within, k.locked);
             apart = apart-lock hs seg b k.apart;
             few_pages = omega (arith, pages-lock hs seg b, k.few_pages);
             few_locked = omega (arith, locks-lock hs seg b here.g k.apart here.is, here.locks, more b, k.few_locked);
           };
       is = joined-locked hs rows seg r w (relocked b) lives refl;
-    }
+    })
 
 -- MADE
-
-pub zeros-held : (hs : List Held) (id pages : ℕ) → is_held (with_zeros hs id pages) id ≡ true
-zeros-held [] id pages = rw (eq-eqb id id refl) refl
-zeros-held (g ∷ gs) id pages =
-    elim (cases_eq g.id id) [
-      | inl e ↦ rw (eq-eqb g.id id e) refl
-      | inr n ↦ rw (ne_eqb g.id id n) (zeros-held gs id pages)
-    ]
 
 pub kept-made : (hs : List Held) (rows : List (Entry Head)) (pages locks i key : ℕ) (v : Head) → AreSegmentsKept hs rows pages locks → free_index rows ≡ Some i → v.locked ≡ false
     → (1 ≤ v.size) × (v.size ≤ 16777216)

@@ -1,5 +1,5 @@
 -- What the memory keeps, and that it shows the table.
-use Rattle.std.proofs.Common.{◌≡◌, ◌≢◌, ℕ, ◌%◌, ◌==◌, Bool, true, false, List, [], ◌∷◌, ◌++◌, length, Option, Some, None, is_some, option_map, refl, sym, ap, ◌∙◌, inl, inr, arith, eq-eqb, ne_eqb, true≢false}
+use Rattle.std.proofs.Common.{◌≡◌, ◌≢◌, ℕ, ◌%◌, ◌==◌, Bool, true, false, List, [], ◌∷◌, ◌++◌, length, Option, Some, None, is_some, option_map, refl, sym, ap, ◌∙◌, inl, inr, arith, eq-eqb, ne_eqb, true≢false, not, append-nil}
 use Rattle.std.proofs.lemmas.Bool.{cases_eq, cases_Bool}
 use Rattle.std.proofs.lemmas.Option.{none-some}
 use Rattle.std.specs.Prelude.{All, Result, Ok, Err, OnOk, OnErr}
@@ -29,6 +29,8 @@ use Rattle.shm_segments.specs.Kept.{AreSegmentsKept, IsWhole}
 use Rattle.shm_segments.proofs.Finding.{live-joined}
 use Rattle.shm_segments.proofs.Shown.{agree-written}
 use Rattle.shm_segments.proofs.Held.{sums-written}
+use Rattle.std.proofs.lemmas.List.Elements.{filter-append}
+use Rattle.shm_fault.proofs.Entries.{filter-none}
 
 -- a table and its memory
 abbrev pub view_of : List FlatEntry → StoreView → SegmentsView
@@ -42,12 +44,8 @@ shows-joined m rows agree id = by (live rows id) (find_held (held m) id) refl re
     by : (r : Option (Row Head)) (o : Option Held) → live rows id ≡ r → find_held (held m) id ≡ o → option_map shape_held (find_held (held m) id) ≡ option_map shape_row (live rows id)
         → find_held (held m) id ≡ option_map (as_held id) (table.live (joined (held m) rows) id)
     by None None there is same = rw (is, live-joined (held m) rows id, there) refl
-    by None (Some g) there is same =
-        let z : Some (shape_held g) ≡ None = rw (is, there) at same in
-        absurd (none-some (shape_held g) (sym z))
-    by (Some r) None there is same =
-        let z : None ≡ Some (shape_row r) = rw (is, there) at same in
-        absurd (none-some (shape_row r) z)
+    by None (Some g) there is same = cc (rw (is, there) at same)
+    by (Some r) None there is same = cc (rw (is, there) at same)
     by (Some r) (Some g) there is same =
         let both : Some (shape_held g) ≡ Some (shape_row r) = rw (is, there) at same in
         let shape : shape_held g ≡ shape_row r = cc both in
@@ -111,11 +109,8 @@ runs-same a b is kept goes frames = record { kept = kept; locks = λ id e. rw is
 -- A SEGMENT THAT WAS MADE AND IS TAKEN BACK
 
 but-new : (gs : List SegRec) (id n : ℕ) → find_seg gs id ≡ None → but id (gs ++ new_seg id n ∷ []) ≡ gs
-but-new [] id n none = rw (eq-eqb id id refl) refl
-but-new (g ∷ gs) id n none = elim (cases_eq g.id id) [
-  | inl e ↦ (let z : Some g ≡ None = rw (eq-eqb g.id id e) at none in absurd (none-some g (sym z)))
-  | inr m ↦ rw (ne_eqb g.id id m) (ap (λ (l : List SegRec). g ∷ l) (but-new gs id n (rw (ne_eqb g.id id m) at none)))
-]
+but-new gs id n none =
+    rw (filter-append (λ (g : SegRec). not (g.id == id)) gs (new_seg id n ∷ []), filter-none gs id none, eq-eqb id id refl) (append-nil gs)
 
 taken-back : (a : StoreView) (id n : ℕ) → find_seg a.segs id ≡ None → record a { segs = but id (a.segs ++ new_seg id n ∷ []) } ≡ a
 taken-back a id n none = ap (λ (gs : List SegRec). record a { segs = gs }) (but-new a.segs id n none)

@@ -1,6 +1,6 @@
 -- Changes of a table that leave alone how many pages each segment has, which are locked, and which are marked.
-use Rattle.std.proofs.Common.{◌≡◌, ◌≢◌, ◌⊎◌, ℕ, ◌/◌, ◌%◌, List, [], ◌∷◌, length, slice_get, slice_set, Option, Some, None, refl, ap, ◌∙◌, inl, inr, eq-eqb, ne_eqb}
-use Rattle.std.proofs.lemmas.Bool.{cases_eq}
+use Rattle.std.proofs.Common.{◌≡◌, ◌≢◌, ◌⊎◌, ℕ, ◌/◌, ◌%◌, List, [], ◌∷◌, length, slice_get, slice_set, Option, Some, None, refl, ap, ◌∙◌, inl, inr, eq-eqb, ne_eqb, ◌==◌}
+use Rattle.std.proofs.lemmas.Bool.{cases_eq, cases_Bool}
 use Rattle.std.specs.Prelude.{is_some, option_map}
 use Rattle.shm_base.specs.State.{Segment, Entry, Runner}
 use Rattle.shm_base.specs.Access.{Place, set_in, with_byte, entry_byte_set, byte_set, stored}
@@ -57,11 +57,10 @@ at-set w t i j e x there same = by (cases_eq i j)
     by (inr n) = ap w (get-set_other t i j e n)
 
 live-alike : (id d : ℕ) (o p : Option Segment) → AlikePages o p → (pages_held (live_in id (Some (record { destroyed = d; segment = p }))) ≡ pages_held (live_in id (Some (record { destroyed = d; segment = o })))) × (is_some (live_in id (Some (record { destroyed = d; segment = p }))) ≡ is_some (live_in id (Some (record { destroyed = d; segment = o }))))
-live-alike id d o p a = by (cases_eq d (id / 32768))
-  where
-    by : (d ≡ id / 32768) ⊎ (d ≢ id / 32768) → (pages_held (live_in id (Some (record { destroyed = d; segment = p }))) ≡ pages_held (live_in id (Some (record { destroyed = d; segment = o })))) × (is_some (live_in id (Some (record { destroyed = d; segment = p }))) ≡ is_some (live_in id (Some (record { destroyed = d; segment = o }))))
-    by (inl h) = rw (eq-eqb d (id / 32768) h) (a.pages, a.some)
-    by (inr n) = rw (ne_eqb d (id / 32768) n) (refl, refl)
+live-alike id d o p a = elim (cases_Bool (d == id / 32768)) [
+  | inl t ↦ rw t (a.pages, a.some)
+  | inr n ↦ rw n (refl, refl)
+]
 
 -- one entry set to one of as many pages
 pub set-pages : (t : List Entry) (i : ℕ) (x : Entry) (p : Option Segment) → slice_get t i ≡ Some x → AlikePages x.segment p → SamePages t (slice_set t i (record { destroyed = x.destroyed; segment = p }))
@@ -72,27 +71,13 @@ set-pages t i x p there a =
       reserved = sum-set_same (λ (y : Entry). pages_held y.segment) t i e x there a.pages;
       pages = λ id. at-set (λ o. pages_held (live_in id o)) t i (id % 32768) e x there (live-alike id x.destroyed x.segment p a).0;
       there = λ id. at-set (λ o. is_some (live_in id o)) t i (id % 32768) e x there (live-alike id x.destroyed x.segment p a).1;
-      ids = λ j. by j (cases_eq i j);
+      ids = λ j. at-set (id_in j) t i j e x there refl;
     }
-  where
-    e : Entry
-    e = record { destroyed = x.destroyed; segment = p }
-
-    by : (j : ℕ) → (i ≡ j) ⊎ (i ≢ j) → id_at (slice_set t i e) j ≡ id_at t j
-    by j (inl h) = rw (← h, get-set_same t i e x there, there) refl
-    by j (inr n) = ap (id_in j) (get-set_other t i j e n)
 
 -- what is marked where one entry is set to one that is marked alike
 pub set-left : (t : List Entry) (i : ℕ) (x : Entry) (p : Option Segment) → slice_get t i ≡ Some x → ((rs : List Runner) (id : ℕ) → is_left rs id p ≡ is_left rs id x.segment)
     → (rs : List Runner) (j : ℕ) → orphan rs (slice_set t i (record { destroyed = x.destroyed; segment = p })) j ≡ orphan rs t j
-set-left t i x p there a rs j = by (cases_eq i j)
-  where
-    e : Entry
-    e = record { destroyed = x.destroyed; segment = p }
-
-    by : (i ≡ j) ⊎ (i ≢ j) → orphan rs (slice_set t i e) j ≡ orphan rs t j
-    by (inl h) = rw (← h, get-set_same t i e x there, there) (a rs _)
-    by (inr n) = ap (orphan_in j rs) (get-set_other t i j e n)
+set-left t i x p there a rs j = at-set (orphan_in j rs) t i j (record { destroyed = x.destroyed; segment = p }) x there (a rs _)
 
 -- A CHANGE OF ONE SEGMENT
 
