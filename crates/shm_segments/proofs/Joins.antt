@@ -110,6 +110,10 @@ same-held hs rows id agree = sym (some-shape (find_held hs id)) ∙ ap is_some (
 
 -- what is held of a live segment
 pub record HeldAs (hs : List Held) (id : ℕ) (r : Row Head) : Type 0 where
+  pub g : Held
+  pub is : find_held hs id ≡ Some g
+  pub locked : g.locked ≡ r.value.locked
+  pub long : length g.bytes ≡ 4096 * pages_of r.value.size
   pub held : is_held hs id ≡ true
   pub size : length (bytes_of hs id) ≡ 4096 * pages_of r.value.size
 
@@ -117,10 +121,8 @@ pub held-as : (hs : List Held) (rows : List (Entry Head)) (id : ℕ) (r : Row He
 held-as hs rows id r agree there = by (find_held hs id) refl (agree.same id ∙ ap (option_map shape_row) there)
   where
     by : (o : Option Held) → find_held hs id ≡ o → option_map shape_held (find_held hs id) ≡ Some (shape_row r) → HeldAs hs id r
-    by None is same = absurd (none_some (sym (ap (option_map shape_held) is) ∙ same))
+    by None is same = cc (rw is at same)
     by (Some g) is same =
-        let shape : shape_held g ≡ shape_row r = let both : Some (shape_held g) ≡ Some (shape_row r) = sym (ap (option_map shape_held) is) ∙ same in cc in
-        record {
-          held = ap is_some is;
-          size = ap (λ o. length (bytes_in o)) is ∙ ap (λ (s : Shape). s.size) shape;
-        }
+        let shape : shape_held g ≡ shape_row r = cc (rw is at same) in
+        let long = ap (λ (s : Shape). s.size) shape in
+        record { g = g; is = is; locked = ap (λ (s : Shape). s.locked) shape; long = long; held = ap is_some is; size = ap (λ o. length (bytes_in o)) is ∙ long }

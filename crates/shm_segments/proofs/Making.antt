@@ -16,7 +16,7 @@ use Rattle.shm_segments.specs.declared.head.Head.{Head}
 use Rattle.shm_segments.specs.Joined.{whole, joined, live, Shape, shape_held, shape_row, Agree}
 use Rattle.shm_segments.specs.Kept.{SizesFit, AreSegmentsKept}
 use Rattle.shm_segments.specs.Table.{made, created, destroyed, relocked}
-use Rattle.shm_segments.proofs.Joins.{LiveAt, live-at}
+use Rattle.shm_segments.proofs.Joins.{LiveAt, live-at, held-as}
 use Rattle.shm_segments.proofs.Edits.{look-live, other-value, agree-lock, joined-locked}
 use Rattle.shm_segments.proofs.Rows.{id_of, IsFree, index-free, free-new, joined-with_row, live-with_row_same, live-with_row_other, agree-with_row, joined-without, live-without, live-without_here, agree-without}
 use Rattle.shm_segments.proofs.Sums.{pages-with_row, pages-without_row, pages-with_other, locked-with_row, locked-without_row, locked-with_other, locked-within}
@@ -32,16 +32,10 @@ pub record HeldHere (hs : List Held) (id : ℕ) (r : Row Head) : Type 0 where
   pub locks : pages_if_locked g ≡ (if r.value.locked then pages_of r.value.size else 0)
 
 pub held-here : (hs : List Held) (rows : List (Entry Head)) (id : ℕ) (r : Row Head) → Agree hs rows → live rows id ≡ Some r → HeldHere hs id r
-held-here hs rows id r agree there = by (find_held hs id) refl (agree.same id ∙ ap (option_map shape_row) there)
-  where
-    by : (o : Option Held) → find_held hs id ≡ o → option_map shape_held (find_held hs id) ≡ Some (shape_row r) → HeldHere hs id r
-    by None is same = absurd (none-some (shape_row r) (sym (ap (option_map shape_held) is) ∙ same))
-    by (Some g) is same =
-        let shape : shape_held g ≡ shape_row r = let both : Some (shape_held g) ≡ Some (shape_row r) = sym (ap (option_map shape_held) is) ∙ same in cc in
-        let size : length g.bytes ≡ 4096 * pages_of r.value.size = ap (λ (s : Shape). s.size) shape in
-        let lock : g.locked ≡ r.value.locked = ap (λ (s : Shape). s.locked) shape in
-        let pages : pages_in g ≡ pages_of r.value.size = omega (arith, size) in
-        record { g = g; is = is; pages = pages; locks = rw (lock, pages) refl }
+held-here hs rows id r agree there =
+    let h = held-as hs rows id r agree there in
+    let pages : pages_in h.g ≡ pages_of r.value.size = omega (arith, h.long) in
+    record { g = h.g; is = h.is; pages = pages; locks = rw (h.locked, pages) refl }
 
 -- DESTROYED
 

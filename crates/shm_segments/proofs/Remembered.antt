@@ -2,7 +2,7 @@
 use Rattle.std.proofs.Common.{◌≡◌, ◌≢◌, ℕ, ◌%◌, ◌==◌, Bool, true, false, List, [], ◌∷◌, ◌++◌, length, Option, Some, None, is_some, option_map, refl, sym, ap, ◌∙◌, inl, inr, arith, eq-eqb, ne_eqb, true≢false, not, append-nil}
 use Rattle.std.proofs.lemmas.Bool.{cases_eq, cases_Bool}
 use Rattle.std.proofs.lemmas.Option.{none-some}
-use Rattle.std.specs.Prelude.{All, Result, Ok, Err, OnOk, OnErr}
+use Rattle.std.specs.Prelude.{All, Result, Ok, Err, OnOk, OnErr, sum_by}
 use Rattle.shm_base.specs.declared.paging.Span.{Span}
 use Rattle.shm_base.specs.State.{Entry as FlatEntry}
 use Rattle.shm_ids.specs.declared.table.Entry.{Entry}
@@ -27,7 +27,12 @@ use Rattle.shm_segments.specs.Table as table
 use Rattle.shm_segments.specs.View.{SegmentsView, as_held, ShowsTable, Runs}
 use Rattle.shm_segments.specs.Kept.{AreSegmentsKept, IsWhole}
 use Rattle.shm_segments.proofs.Finding.{live-joined}
-use Rattle.shm_segments.proofs.Shown.{agree-written}
+use Rattle.shm_segments.proofs.Shown.{agree-written, store_shown}
+use Rattle.shm_segments.proofs.Bytes.{len_of}
+use Rattle.shm_segments.proofs.Spanning.{spans-fit}
+use Rattle.shm_base.specs.Access.{stored}
+use Rattle.shm_base.specs.Spans.{span_places}
+use Rattle.shm_segments.specs.Table.{SpanFits}
 use Rattle.shm_segments.proofs.Held.{sums-written}
 use Rattle.std.proofs.lemmas.List.Elements.{filter-append}
 use Rattle.shm_fault.proofs.Entries.{filter-none}
@@ -157,13 +162,26 @@ runs-written a b rows ps new agree fit is kept goes frames = record {
   frames = frames;
 }
 
--- done or not, all is whole
-pub wrote-whole : {A E : Type 0} (r : Result A E) (s n : StoreView) (rows : List (Entry Head)) (pages locks : ℕ) (ps : List Span) (new : List ℕ) → IsWhole s rows pages locks → All (FitsPage (held s)) ps
-    → OnOk r (held n ≡ written (held s) ps new) → OnErr r (held n ≡ held s) → IsStoreSound n → Kept s n → GoesOn s.swap n.swap → length n.frames ≡ length s.frames → IsWhole n rows pages locks × Runs s n
-wrote-whole (Ok a) s n rows pages locks ps new w fit is same sound kept goes frames =
-    (record { kept = rw is (kept-written (held s) rows pages locks ps new w.kept fit); sound = sound }, runs-written s n rows ps new w.kept.agree fit is kept goes frames)
-wrote-whole (Err e) s n rows pages locks ps new w fit is same sound kept goes frames =
-    (record { kept = rw same w.kept; sound = sound }, runs-same s n same kept goes frames)
+-- done or not, all is whole, and the table shows what was done
+pub record Wrote {A E : Type 0} (r : Result A E) (s n : StoreView) (rows : List (Entry Head)) (pages locks : ℕ) (ps : List Span) (new : List ℕ) : Type 0 where
+  pub whole : IsWhole n rows pages locks
+  pub runs : Runs s n
+  pub written : OnOk r (joined (held n) rows ≡ stored (joined (held s) rows) (span_places false ps) new)
+  pub same : OnErr r (joined (held n) rows ≡ joined (held s) rows)
+
+pub wrote : {A E : Type 0} (r : Result A E) (s n : StoreView) (rows : List (Entry Head)) (pages locks : ℕ) (ps : List Span) (new : List ℕ) → IsWhole s rows pages locks → All (SpanFits (joined (held s) rows)) ps → sum_by len_of ps ≡ length new
+    → OnOk r (held n ≡ written (held s) ps new) → OnErr r (held n ≡ held s) → IsStoreSound n → Kept s n → GoesOn s.swap n.swap → length n.frames ≡ length s.frames → Wrote r s n rows pages locks ps new
+wrote (Ok a) s n rows pages locks ps new w fits size is same sound kept goes frames =
+    let agree = w.kept.agree in
+    let fit = spans-fit (held s) rows ps agree fits in
+    record {
+      whole = record { kept = rw is (kept-written (held s) rows pages locks ps new w.kept fit); sound = sound };
+      runs = runs-written s n rows ps new agree fit is kept goes frames;
+      written = rw is (sym (store_shown (held s) rows false ps new agree fit size));
+      same = tt;
+    }
+wrote (Err e) s n rows pages locks ps new w fits size is same sound kept goes frames =
+    record { whole = record { kept = rw same w.kept; sound = sound }; runs = runs-same s n same kept goes frames; written = tt; same = rw same refl }
 
 -- NO SEGMENT
 

@@ -104,14 +104,9 @@ load_shown hs rows w ps agree fit =
     let fits = each (FitsPage hs) ps fit in
     loaded-joined (span_places w ps) hs rows (live-spans ps w hs rows agree fits) ∙ get-spans ps w hs fits
 
--- an addition shows as one at the places
-pub add_shown : (hs : List Held) (rows : List (Entry Head)) (ps : List Span) (more : ℕ) → Agree hs rows → All (FitsPage hs) ps → sum_by len_of ps ≡ 8
-    → joined (store.added hs ps more) rows ≡ table.added (joined hs rows) (span_places false ps) more
-add_shown hs rows ps more agree fit size =
-    let number : table.number_at (joined hs rows) (span_places false ps) ≡ store.number_in hs ps = ap (from_le_bytes w64) (load_shown hs rows false ps agree fit) in
-    let new = to_le_bytes w64 ((store.number_in hs ps + more) % 2 ^ 64) in
-    let eight : length new ≡ 8 = refl in
-    rw number (sym (store_shown hs rows false ps new agree fit (size ∙ sym eight)))
+-- the number that stands there
+pub number_shown : (hs : List Held) (rows : List (Entry Head)) (ps : List Span) → Agree hs rows → All (FitsPage hs) ps → table.number_at (joined hs rows) (span_places false ps) ≡ store.number_in hs ps
+number_shown hs rows ps agree fit = ap (from_le_bytes w64) (load_shown hs rows false ps agree fit)
 
 -- WHAT A STORE LEAVES
 
