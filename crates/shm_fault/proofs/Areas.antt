@@ -28,6 +28,7 @@ use Rattle.shm_fault.proofs.Sound.{IsSound-from, Goes-trans}
 use Rattle.shm_fault.proofs.Counting.{AtRest-trans}
 use Rattle.shm_fault.proofs.Changes.{Keeps, every, keeps-every, keeps-one}
 use Rattle.shm_fault.proofs.Drops.{GivenSlots, given-slots}
+use Rattle.std.proofs.lemmas.Bool.Decides.{nat_tests}
 
 pub here-lt : (s : SwapView) (area : ℕ) → (area_at s area).here ≡ true → area < length s.areas
 here-lt s area here = elim (cases_lt area (length s.areas)) [
@@ -42,12 +43,8 @@ one_if b = cond b 1 0
 count-one : (os : List (Option PageRef)) (i : ℕ) (r : PageRef) → get_or os i None ≡ Some r → 1 ≤ used_count os
 unfolding one_if
 count-one [] i r e = let h : None ≡ Some r = e in cc
-count-one (o ∷ os) zero r e =
-    let one : one_if (is_some o) ≡ 1 = rw e refl in
-    omega (arith, one, sum_by-cons (λ (p : Option PageRef). cond (is_some p) 1 0) o os)
-count-one (o ∷ os) (suc i) r e =
-    let rest = count-one os i r e in
-    omega (arith, rest, sum_by-cons (λ (p : Option PageRef). cond (is_some p) 1 0) o os)
+count-one (o ∷ os) zero r e = grind (arith, e, sum_by-cons (λ (p : Option PageRef). cond (is_some p) 1 0) o os)
+count-one (o ∷ os) (suc i) r e = grind (arith, count-one os i r e, sum_by-cons (λ (p : Option PageRef). cond (is_some p) 1 0) o os)
 
 pub has-room : (s : StoreView) → IsStoreSound s → (k : Slot) (r : PageRef) → owner_of s.swap k.area k.slot ≡ Some r → pages_held (held s) + length (area_at s.swap k.area).pages ≤ slots s.swap
     → used_slots s.swap + length (area_at s.swap k.area).pages < slots s.swap + used_in (area_at s.swap k.area)

@@ -22,6 +22,7 @@ use Rattle.shm_fault.specs.Access.{Visited, IsIn, AreIn, Brings, Accessed}
 use Rattle.shm_fault.proofs.Sound.{Goes-trans, KeepsLocked-trans, cause-after}
 use Rattle.shm_fault.proofs.Visits.{moves-trans}
 use Rattle.shm_fault.proofs.Pages.{same-true, same-self}
+use Rattle.std.proofs.lemmas.Bool.Decides.{nat_tests}
 
 pub err_of : {A E : Type 0} (r : Result A E) (P : Type 0) → OnErr r P → is_ok r ≡ false → P
 err_of (Ok a) P h e = absurd (false≢true (sym e))
@@ -96,18 +97,10 @@ same_page-not : (p q : Span) → same_page p q ≡ false → ref_of q ≢ ref_of
 same_page-not p q e same = false≢true (sym e ∙ ap (same_ref (ref_of p)) same ∙ same-self (ref_of p))
 
 among-two : (p q : Span) → 1 ≤ pages_among (p ∷ q ∷ [])
-among-two p q = by (same_page p q)
-  where
-    by : (b : Bool) → 1 ≤ cond (b || false) 0 1 + (1 + 0)
-    by true = omega arith
-    by false = omega arith
+among-two p q = grind (arith, nat_tests)
 
 swapped-away : (r : PageRec) → is_swapped r ≡ true → r.frame ≡ None
-swapped-away r e = by r.frame refl
-  where
-    by : (o : Option ℕ) → r.frame ≡ o → r.frame ≡ None
-    by None h = h
-    by (Some f) h = absurd (let k : false ≡ true = rw h at e in false≢true k)
+swapped-away r e = grind (arith, nat_tests)
 
 resident_not : (r : PageRec) (f : ℕ) → r.frame ≡ Some f → is_swapped r ≡ false
 resident_not r f e = rw e refl
@@ -244,10 +237,7 @@ brings-not p q s t u v none w =
 
 lock-held : (frames : List Frame) (swap : SwapView) (gs : List SegRec) (id : ℕ) → is_locked (map (held_by frames swap) gs) id ≡ locked_by gs id
 lock-held frames swap [] id = refl
-lock-held frames swap (g ∷ gs) id = elim (cases_eq g.id id) [
-  | inl e ↦ rw (eq-eqb g.id id e) refl
-  | inr n ↦ rw (ne_eqb g.id id n) (lock-held frames swap gs id)
-]
+lock-held frames swap (g ∷ gs) id = grind (arith, nat_tests, lock-held frames swap gs id)
 
 pub is_locked-held : (s : StoreView) (id : ℕ) → is_locked (held s) id ≡ locked_by s.segs id
 unfolding held
@@ -328,8 +318,8 @@ accessed-not ps s t e sound b = record {
 -- the stretches of a list of at most two
 pub list-one : (ps : List Span) (p : Span) → Some p ≡ slice_get ps 0 → false ≡ ltb 1 (length ps) → ps ≡ p ∷ []
 list-one [] p e one = cc
-list-one (x ∷ []) p e one = let h : p ≡ x = cc in rw h refl
-list-one (x ∷ y ∷ ps) p e one = absurd (false≢true (one ∙ lt-ltb 1 (length (x ∷ y ∷ ps)) (omega arith)))
+list-one (x ∷ []) p e one = grind arith
+list-one (x ∷ y ∷ ps) p e one = grind (arith, nat_tests)
 
 pub list-two : (ps : List Span) (p q : Span) → length ps ≤ 2 → Some p ≡ slice_get ps 0 → 1 < length ps → q ≡ get_or ps 1 q → ps ≡ p ∷ q ∷ []
 list-two [] p q few e lt is = cc

@@ -12,6 +12,7 @@ use Rattle.shm_fault.specs.Segs.{SegRec, rec_at, AreApart, rec_by, HasPage}
 use Rattle.shm_fault.specs.Store.{StoreView, page_bytes, held_by, held}
 use Rattle.shm_fault.specs.Goes.{Outline, outline, outlines}
 use Rattle.shm_fault.proofs.Pages.{has-head, rec-head, has-tail, rec-tail}
+use Rattle.std.proofs.lemmas.Grind.{common_steps}
 
 -- the bytes of so many pages of a segment, from page i on, joined
 unfoldable pub joined : (PageRef → List ℕ) → ℕ → ℕ → ℕ → List ℕ
@@ -90,10 +91,7 @@ drop-past (a ∷ x) y zero m e = absurd (omega arith)
 drop-past (a ∷ x) y (suc n) m e = let s : suc n + m ≡ suc (n + m) = omega arith in rw s (drop-past x y n m (omega arith))
 
 paste-front : (x y new : List ℕ) (off : ℕ) → off + length new ≤ length x → paste (x ++ y) off new ≡ paste x off new ++ y
-paste-front x y new off le =
-    let a : take off (x ++ y) ≡ take off x = take-append-le off x y (omega arith) in
-    let b : drop (off + length new) (x ++ y) ≡ drop (off + length new) x ++ y = drop-append-le (off + length new) x y le in
-    rw (a, b) (sym (append_assoc (take off x ++ new) (drop (off + length new) x) y))
+paste-front x y new off le = grind (arith, common_steps, append_assoc)
 
 paste-back : (x y new : List ℕ) (n m : ℕ) → length x ≡ n → paste (x ++ y) (n + m) new ≡ x ++ paste y m new
 paste-back x y new n m e =
@@ -145,7 +143,4 @@ module _ (b : PageRef → List ℕ) (r : PageRef) (n : ℕ) (whole : (j : ℕ) �
   pub length-joined : (i k : ℕ) → i + k ≡ n → length (joined b r.seg i k) ≡ 4096 * k
   unfolding joined
   length-joined i zero e = refl
-  length-joined i (suc k) e =
-      let w = whole i (omega arith) in
-      let rest = length-joined (suc i) k (omega arith) in
-      omega (arith, w, rest, length-append (b (record { seg = r.seg; page = i })) (joined b r.seg (suc i) k))
+  length-joined i (suc k) e = grind (arith, common_steps, whole i (omega arith), length-joined (suc i) k (omega arith))

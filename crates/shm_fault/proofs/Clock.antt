@@ -14,6 +14,7 @@ use Rattle.shm_fault.specs.Sound.{IsStoreSound}
 use Rattle.shm_fault.specs.Goes.{unlocked, Alike}
 use Rattle.shm_fault.proofs.Ties.{Alike-refl}
 use Rattle.shm_fault.proofs.Tally.{resident-frames, unlocked_resident, passes_by, count-ext}
+use Rattle.std.proofs.lemmas.Bool.Decides.{nat_tests}
 
 pub clock-alike : (may : ℕ → Bool) (hand : ℕ) (before : List Frame) (victim : ℕ) (after : List Frame) → IsClockVictim may hand before victim after → (f : ℕ) → Alike (frame_at before f) (frame_at after f)
 clock-alike may hand before victim after is f = elim (cases_lt f (length before)) [
@@ -22,10 +23,7 @@ clock-alike may hand before victim after is f = elim (cases_lt f (length before)
 ]
 
 pub next-lt : (before after : List Frame) (victim : ℕ) {hand : ℕ} → length after ≡ length before → victim < length before → hand ≡ next (length before) victim → hand < length after
-next-lt before after victim {hand} size there is = elim (cases_lt (victim + 1) (length before)) [
-  | inl lt ↦ rw (is, lt-ltb (victim + 1) (length before) lt, size) lt
-  | inr past ↦ rw (is, le-ltb (victim + 1) (length before) past, size) (omega arith)
-]
+next-lt before after victim {hand} size there is = grind (arith, nat_tests)
 
 abbrev bit : Bool → ℕ
 bit b = cond b 1 0

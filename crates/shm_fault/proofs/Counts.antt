@@ -7,6 +7,7 @@ use Rattle.shm_base.specs.declared.paging.PageRef.{PageRef}
 use Rattle.shm_fault.specs.declared.page_tables.PageRec.{PageRec}
 use Rattle.shm_fault.specs.Segs.{SegRec, rec_at, AreApart, rec_by, HasPage, locked_by, pages_of, locked_pages}
 use Rattle.shm_fault.proofs.Pages.{has-head, rec-head, not-head, has-tail, rec-tail, other, other-self, other-true}
+use Rattle.std.proofs.lemmas.Bool.Decides.{nat_tests}
 
 -- the sum over all pages of what each weighs, by its name and its place
 pub weigh_from : (PageRef → PageRec → ℕ) → ℕ → ℕ → List PageRec → ℕ
@@ -135,13 +136,7 @@ exactly k (Some j) = cond (eqb j k) 1 0
 
 split : (k : ℕ) (o : Option ℕ) → at_least k o ≡ exactly k o + at_least (suc k) o
 split k None = refl
-split k (Some j) = elim (cases_eq j k) [
-  | inl e ↦ rw (eq-eqb j k e, le-leb k j (omega arith), lt-leb (suc k) j (omega arith)) refl
-  | inr n ↦ elim (cases_lt j k) [
-    | inl l ↦ rw (ne_eqb j k n, lt-leb k j l, lt-leb (suc k) j (omega arith)) refl
-    | inr g ↦ rw (ne_eqb j k n, le-leb k j g, le-leb (suc k) j (omega arith)) refl
-  ]
-]
+split k (Some j) = grind (arith, nat_tests)
 
 -- what pages name by number, counted: each number names its page, and each page its number
 module _ (gs : List SegRec) (apart : AreApart gs) (number : PageRef → PageRec → Option ℕ) where

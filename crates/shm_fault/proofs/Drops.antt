@@ -27,17 +27,12 @@ use Rattle.shm_fault.proofs.Ties.{FramesApart, SlotsApart, Touches, IsOwn, IsOwn
 use Rattle.shm_fault.proofs.Bytes.{joined, held_one, held_of, bytes_at, held-is, joined-ext}
 use Rattle.shm_fault.proofs.Changes.{sound-one}
 use Rattle.std.proofs.lemmas.List.Filters.{sum_by-filter_both}
+use Rattle.std.proofs.lemmas.Bool.Decides.{nat_tests}
 
 -- a page that is where it is said to be
 with-is : (gs : List SegRec) (r : PageRef) (p : PageRec) → AreApart gs → rec_by gs r ≡ p → with_rec gs r p ≡ gs
 with-is [] r p apart is = refl
-with-is (g ∷ gs) r p apart is = elim (cases_eq g.id r.seg) [
-  | inl e ↦
-      (let own : rec_at g.pages r.page ≡ p = rw (eq-eqb g.id r.seg e) at is in
-      let pages : set g.pages r.page p ≡ g.pages = ap (set g.pages r.page) (sym own) ∙ set-get_or g.pages r.page no_page in
-      rw (eq-eqb g.id r.seg e, pages) (ap (λ (l : List SegRec). g ∷ l) (edit-none (λ h. record h { pages = set h.pages r.page p }) gs r.seg (rw e at apart.0))))
-  | inr m ↦ rw (ne_eqb g.id r.seg m) (ap (λ (l : List SegRec). g ∷ l) (with-is gs r p apart.1 (rw (ne_eqb g.id r.seg m) at is)))
-]
+with-is (g ∷ gs) r p apart is = grind (arith, nat_tests, with-is gs r p apart.1, edit-none (λ h. record h { pages = set h.pages r.page p }) gs r.seg, apart.0, set-get_or g.pages r.page no_page)
 
 pub with-same : (gs : List SegRec) (r : PageRef) → AreApart gs → with_rec gs r (rec_by gs r) ≡ gs
 with-same gs r apart = with-is gs r (rec_by gs r) apart refl
@@ -210,10 +205,7 @@ sum-but h gs id = omega (arith, sum_by-filter_both (λ (g : SegRec). not (eqb g.
 
 held-but-list : (frames : List Frame) (swap : SwapView) (gs : List SegRec) (id : ℕ) → map (held_by frames swap) (but id gs) ≡ without (map (held_by frames swap) gs) id
 held-but-list frames swap [] id = refl
-held-but-list frames swap (g ∷ gs) id = elim (cases_eq g.id id) [
-  | inl e ↦ rw (eq-eqb g.id id e) (held-but-list frames swap gs id)
-  | inr m ↦ rw (ne_eqb g.id id m) (ap (λ hs. held_by frames swap g ∷ hs) (held-but-list frames swap gs id))
-]
+held-but-list frames swap (g ∷ gs) id = grind (arith, nat_tests, held-but-list frames swap gs id)
 
 held-but : (t : StoreView) (id : ℕ) → held (record t { segs = but id t.segs }) ≡ without (held t) id
 unfolding held

@@ -8,6 +8,7 @@ use Rattle.shm_fault.specs.declared.page_tables.PageTable.{PageTable}
 use Rattle.shm_fault.specs.Segs.{SegRec, find_seg, AreApart, but}
 use Rattle.shm_fault.specs.Entries.{seg_view, segs_view, key_at}
 use Rattle.shm_fault.proofs.Pages.{find-map}
+use Rattle.std.proofs.lemmas.Bool.Decides.{nat_tests}
 
 -- an edit of the segment with an identifier
 abbrev pub edit_at : ℕ → (SegRec → SegRec) → SegRec → SegRec

@@ -9,6 +9,7 @@ use Rattle.shm_base.specs.declared.paging.PageRef.{PageRef}
 use Rattle.shm_fault.specs.declared.page_tables.PageRec.{PageRec}
 use Rattle.shm_fault.specs.Goes.{Outline, outline, outlines, same_ref}
 use Rattle.shm_fault.specs.Segs.{SegRec, no_page, rec_at, find_seg, AreApart, rec_by, count_in, count_by_id, HasPage, lock_in, locked_by, seg_with, with_rec, pages_of, locked_pages}
+use Rattle.std.proofs.lemmas.Bool.Decides.{nat_tests}
 
 -- the name of another page
 abbrev pub other : PageRef → PageRef → Bool
@@ -95,10 +96,7 @@ pub sum_locked-same : (gs hs : List SegRec) → outlines hs ≡ outlines gs → 
 sum_locked-same gs hs e = sum-same (λ o. cond o.locked o.count 0) locked_pages (λ g. refl) gs hs e
 
 outline-seg_with : (r : PageRef) (p : PageRec) (g : SegRec) → outline (seg_with r p g) ≡ outline g
-outline-seg_with r p g = elim (cases_Bool (eqb g.id r.seg)) [
-  | inl t ↦ rw t (ap (λ n. record { id = g.id; locked = g.locked; count = n }) (length-set g.pages r.page p))
-  | inr f ↦ rw f refl
-]
+outline-seg_with r p g = grind (arith, nat_tests, length-set g.pages r.page p)
 
 pub outlines-with : (gs : List SegRec) (r : PageRef) (p : PageRec) → outlines (with_rec gs r p) ≡ outlines gs
 outlines-with [] r p = refl
@@ -110,12 +108,7 @@ outlines-with (g ∷ gs) r p =
 -- a change that keeps identifiers, looked up
 pub find-map : (f : SegRec → SegRec) → ((g : SegRec) → (f g).id ≡ g.id) → (gs : List SegRec) (id : ℕ) → find_seg (map f gs) id ≡ option_map f (find_seg gs id)
 find-map f keeps [] id = refl
-find-map f keeps (g ∷ gs) id =
-    let same : eqb (f g).id id ≡ eqb g.id id = ap (λ n. eqb n id) (keeps g) in
-    elim (cases_Bool (eqb g.id id)) [
-      | inl t ↦ rw (same, t) refl
-      | inr n ↦ rw (same, n) (find-map f keeps gs id)
-    ]
+find-map f keeps (g ∷ gs) id = grind (arith, nat_tests, keeps g, find-map f keeps gs id)
 
 find-with : (gs : List SegRec) (r : PageRef) (p : PageRec) (id : ℕ) → find_seg (with_rec gs r p) id ≡ option_map (seg_with r p) (find_seg gs id)
 find-with gs r p id = find-map (seg_with r p) (λ g. ap (λ (o : Outline). o.id) (outline-seg_with r p g)) gs id
@@ -123,10 +116,7 @@ find-with gs r p id = find-map (seg_with r p) (λ g. ap (λ (o : Outline). o.id)
 -- which segment was found
 pub find-id : (gs : List SegRec) (id : ℕ) (g : SegRec) → find_seg gs id ≡ Some g → g.id ≡ id
 find-id [] id g e = cc
-find-id (h ∷ gs) id g e = elim (cases_eq h.id id) [
-  | inl q ↦ let s : Some h ≡ Some g = rw (eq-eqb h.id id q) at e in let t : h ≡ g = cc in rw (← t) q
-  | inr n ↦ find-id gs id g (rw (ne_eqb h.id id n) at e)
-]
+find-id (h ∷ gs) id g e = grind (arith, nat_tests, find-id gs id g)
 
 -- the pages of the first segment of a list
 pub has-head : (g : SegRec) (gs : List SegRec) (j : ℕ) → j < length g.pages → HasPage (g ∷ gs) (record { seg = g.id; page = j })

@@ -14,13 +14,11 @@ use Rattle.shm_fault.specs.Sound.{IsStoreSound}
 use Rattle.shm_fault.specs.Goes.{outline, outlines, frame_by}
 use Rattle.shm_fault.proofs.Pages.{find-id, has-tail}
 use Rattle.shm_fault.proofs.Bytes.{joined, held_one, held_of, bytes_at, held-is, joined-read, joined-paste, joined-ext, length-joined}
+use Rattle.std.proofs.lemmas.Bool.Decides.{nat_tests}
 
 find-held : (b : PageRef → List ℕ) (gs : List SegRec) (id : ℕ) → find_held (held_of b (outlines gs)) id ≡ option_map (λ (g : SegRec). held_one b (outline g)) (find_seg gs id)
 find-held b [] id = refl
-find-held b (g ∷ gs) id = elim (cases_eq g.id id) [
-  | inl e ↦ rw (eq-eqb g.id id e) refl
-  | inr n ↦ rw (ne_eqb g.id id n) (find-held b gs id)
-]
+find-held b (g ∷ gs) id = grind (arith, nat_tests, find-held b gs id)
 
 module _ (s : StoreView) (sound : IsStoreSound s) where
   find-in : (id : ℕ) → find_held (held s) id ≡ option_map (λ (g : SegRec). held_one (bytes_at s) (outline g)) (find_seg s.segs id)
@@ -120,13 +118,7 @@ sum-slots (a ∷ areas) each =
 
 count-le-sum : (gs : List SegRec) (id : ℕ) → count_by_id gs id ≤ sum_by pages_of gs
 count-le-sum [] id = omega arith
-count-le-sum (g ∷ gs) id =
-    let rest = count-le-sum gs id in
-    let sum = sum_by-cons pages_of g gs in
-    elim (cases_eq g.id id) [
-      | inl e ↦ rw (eq-eqb g.id id e) (omega (arith, sum))
-      | inr n ↦ rw (ne_eqb g.id id n) (omega (arith, sum, rest))
-    ]
+count-le-sum (g ∷ gs) id = grind (arith, nat_tests, count-le-sum gs id, sum_by-cons pages_of g gs)
 
 pub few_pages : (s : StoreView) → IsStoreSound s → (id : ℕ) → count_by_id s.segs id ≤ 524288
 few_pages s sound id =

@@ -12,6 +12,7 @@ use Rattle.shm_fault.specs.Segs.{SegRec, rec_by, AreApart, HasPage, locked_by, p
 use Rattle.shm_fault.specs.Store.{StoreView, has_frame, has_slot, is_dirty_page, dirty_in, resident, dirty, used}
 use Rattle.shm_fault.specs.Sound.{Tied}
 use Rattle.shm_fault.proofs.Counts.{weigh, weigh-ext, weigh-sum, weigh-zero, weigh-le, weigh-ge, weigh-test, weigh-all, weigh-locked, at_least, counted_by_page}
+use Rattle.std.proofs.lemmas.Bool.Decides.{nat_tests}
 
 abbrev one_if : Bool → ℕ
 one_if b = cond b 1 0
@@ -25,7 +26,7 @@ count-map f test (x ∷ xs) = let rest = count-map f test xs in omega (arith, re
 
 pub count-ext : {X : Type 0} (p q : X → Bool) (xs : List X) → ((x : X) → p x ≡ q x) → count_by p xs ≡ count_by q xs
 count-ext p q [] same = refl
-count-ext p q (x ∷ xs) same = let rest = count-ext p q xs same in let here : one_if (p x) ≡ one_if (q x) = ap one_if (same x) in omega (arith, here, rest, sum_by-cons (λ y. cond (p y) 1 0) x xs, sum_by-cons (λ y. cond (q y) 1 0) x xs)
+count-ext p q (x ∷ xs) same = grind (arith, same x, count-ext p q xs same, sum_by-cons)
 
 -- the page, where the test passes
 abbrev kept_if : Bool → Option PageRef → Option PageRef
@@ -174,13 +175,7 @@ slot_in k (Some j) = slot_if (eqb j.area k) j.slot
 
 slot_split : (k : ℕ) (o : Option Slot) → area_from k o ≡ at_least 0 (slot_in k o) + area_from (suc k) o
 slot_split k None = refl
-slot_split k (Some j) = elim (cases_eq j.area k) [
-  | inl e ↦ rw (eq-eqb j.area k e, le-leb k j.area (omega arith), lt-leb (suc k) j.area (omega arith), le-leb 0 j.slot (omega arith)) refl
-  | inr n ↦ elim (cases_lt j.area k) [
-    | inl l ↦ rw (ne_eqb j.area k n, lt-leb k j.area l, lt-leb (suc k) j.area (omega arith)) refl
-    | inr g ↦ rw (ne_eqb j.area k n, le-leb k j.area g, le-leb (suc k) j.area (omega arith)) refl
-  ]
-]
+slot_split k (Some j) = grind (arith, nat_tests)
 
 slot_in-is : (k j : ℕ) (o : Option Slot) → slot_in k o ≡ Some j → o ≡ Some (record { area = k; slot = j })
 slot_in-is k j None e = cc

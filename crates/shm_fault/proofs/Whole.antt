@@ -22,6 +22,7 @@ use Rattle.shm_fault.proofs.Ties.{tied-segs}
 use Rattle.shm_fault.proofs.Bytes.{joined, held_one, held_of, bytes_at, held-is, length-joined}
 use Rattle.shm_fault.proofs.Spans.{held-in}
 use Rattle.shm_fault.proofs.Sound.{IsSound-from}
+use Rattle.std.proofs.lemmas.Bool.Decides.{nat_tests}
 
 pub sound-fresh : (frames : List Frame) (swap : SwapView) → (2 ≤ length frames) × (length frames ≤ 4096) → ((f : ℕ) → IsFrameBlank frames f) → IsSwap swap → ((k : Slot) → owner_of swap k.area k.slot ≡ None) → IsStoreSound (fresh_store frames swap)
 sound-fresh frames swap size blank is free =
@@ -83,16 +84,10 @@ module _ (s : StoreView) (sound : IsStoreSound s) where
 
     find-added : (gs : List SegRec) (k : ℕ) → find_seg (gs ++ new_seg id n ∷ []) k ≡ find-or (find_seg gs k) k
     find-added [] k = refl
-    find-added (g ∷ gs) k = elim (cases_eq g.id k) [
-      | inl e ↦ rw (eq-eqb g.id k e) refl
-      | inr m ↦ rw (ne_eqb g.id k m) (find-added gs k)
-    ]
+    find-added (g ∷ gs) k = grind (arith, nat_tests, find-added gs k)
 
     blank-at : (k : ℕ) → rec_at (replicate n no_page) k ≡ no_page
-    blank-at k = elim (cases_lt k n) [
-      | inl l ↦ get_or-replicate n k no_page no_page l
-      | inr past ↦ get_or_past (replicate n no_page) k no_page (omega (arith, length-replicate n no_page))
-    ]
+    blank-at k = grind (arith, get_or-replicate n k no_page no_page, get_or_past (replicate n no_page) k no_page, length-replicate n no_page)
 
     pub rec-added : (r : PageRef) → rec_by added r ≡ rec_by s.segs r
     rec-added r = by (find_seg s.segs r.seg) refl
@@ -181,10 +176,7 @@ module _ (s : StoreView) (sound : IsStoreSound s) where
 
     held-list : (gs : List SegRec) → map (held_by s.frames s.swap) (map (with_seg_lock id locked) gs) ≡ with_lock (map (held_by s.frames s.swap) gs) id locked
     held-list [] = refl
-    held-list (g ∷ gs) =
-        let rest = held-list gs in
-        let here : held_by s.frames s.swap (with_seg_lock id locked g) ≡ relocked id locked (held_by s.frames s.swap g) = elim (cases_Bool (eqb g.id id)) [ inl t ↦ rw t refl | inr f ↦ rw f refl ] in
-        cc
+    held-list (g ∷ gs) = grind (arith, nat_tests, held-list gs)
 
     pub held-locked : held (record s { segs = map (with_seg_lock id locked) s.segs }) ≡ with_lock (held s) id locked
     unfolding held
