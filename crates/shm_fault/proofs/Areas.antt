@@ -31,10 +31,7 @@ use Rattle.shm_fault.proofs.Drops.{GivenSlots, given-slots}
 use Rattle.std.proofs.lemmas.Bool.Decides.{nat_tests}
 
 pub here-lt : (s : SwapView) (area : ℕ) → (area_at s area).here ≡ true → area < length s.areas
-here-lt s area here = elim (cases_lt area (length s.areas)) [
-  | inl lt ↦ lt
-  | inr past ↦ absurd (let none : (area_at s area).here ≡ false = rw (get_or_past s.areas area no_area past) refl in cc)
-]
+here-lt s area here = grind (arith, get_or_past s.areas area no_area, here)
 
 -- a free slot is found where the other areas have one for each page
 one_if : Bool → ℕ

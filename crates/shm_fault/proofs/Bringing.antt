@@ -94,7 +94,7 @@ same_page-ref : (p q : Span) → same_page p q ≡ true → ref_of q ≡ ref_of 
 same_page-ref p q e = sym (same-true (ref_of p) (ref_of q) e)
 
 same_page-not : (p q : Span) → same_page p q ≡ false → ref_of q ≢ ref_of p
-same_page-not p q e same = false≢true (sym e ∙ ap (same_ref (ref_of p)) same ∙ same-self (ref_of p))
+same_page-not p q e same = grind (arith, nat_tests)
 
 among-two : (p q : Span) → 1 ≤ pages_among (p ∷ q ∷ [])
 among-two p q = grind (arith, nat_tests)
@@ -107,7 +107,7 @@ resident_not r f e = rw e refl
 
 -- a page that was swapped is still so, if the other page came in
 still_swapped : (p q : Span) (s t : StoreView) (pinned : Option ℕ) → Visits (ref_of p) pinned s t → same_page p q ≡ false → is_swapped (rec_by s.segs (ref_of q)) ≡ true → is_swapped (rec_by t.segs (ref_of q)) ≡ true
-still_swapped p q s t pinned v apart e = rw (v.away (ref_of q) (same_page-not p q apart) (swapped-away (rec_by s.segs (ref_of q)) e)) e
+still_swapped p q s t pinned v apart e = grind (arith, nat_tests, v.away (ref_of q) (same_page-not p q apart), swapped-away (rec_by s.segs (ref_of q)) e)
 
 -- the second of two pages was brought in, or was not
 module _ (p q : Span) (s t z : StoreView) (f : ℕ) (u v w : Touched) (ok : Bool) (none : IsNone u)

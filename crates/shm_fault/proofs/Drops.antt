@@ -236,7 +236,7 @@ module _ (t : StoreView) (sound : IsStoreSound t) (id : ℕ) (gone : (page : ℕ
 
   disowned-other : (o : Option PageRef) → ((q : PageRef) → o ≡ Some q → q.seg ≢ id) → o ≡ disowned id o
   disowned-other None ne = refl
-  disowned-other (Some q) ne = rw (ne_eqb q.seg id (ne q refl)) refl
+  disowned-other (Some q) ne = grind (arith, nat_tests, ne q refl)
 
   sound-but : IsStoreSound (record t { segs = but id t.segs })
   sound-but =

@@ -1,5 +1,5 @@
 -- The stored segments and what they show: looked up, added, taken out, changed.
-use Rattle.std.proofs.Common.{◌≡◌, ◌≢◌, ℕ, zero, suc, not, cond, eqb, List, [], ◌∷◌, ◌++◌, map, filter, Option, Some, None, slice_get, refl, sym, ap, ◌∙◌, inl, inr}
+use Rattle.std.proofs.Common.{◌≡◌, ◌≢◌, ℕ, zero, suc, not, cond, eqb, List, [], ◌∷◌, ◌++◌, map, filter, Option, Some, None, slice_get, refl, sym, ap, ◌∙◌, inl, inr, arith}
 use Rattle.std.specs.Prelude.{option_map, nat_eq}
 use Rattle.std.specs.Map.{lookup, lookup_key, remove_entry, values_of}
 use Rattle.std.proofs.lemmas.Bool.{cases_Bool, cases_eq, eq-eqb, ne_eqb}
@@ -19,29 +19,19 @@ seg_of id s = seg_view (id, s)
 
 pub find-lookup : (es : List (ℕ × PageTable)) (id : ℕ) → find_seg (segs_view es) id ≡ option_map (seg_of id) (lookup (nat_eq id) es)
 find-lookup [] id = refl
-find-lookup (e ∷ es) id = elim (cases_eq e.0 id) [
-  | inl q ↦ rw (eq-eqb e.0 id q, eq-eqb id e.0 (sym q), q) refl
-  | inr n ↦ rw (ne_eqb e.0 id n, ne_eqb id e.0 (λ q. n (sym q))) (find-lookup es id)
-]
+find-lookup (e ∷ es) id = grind (arith, nat_tests, find-lookup es id)
 
 -- a segment that is not found is not the first, and not found among the rest
 none-cons : (g : SegRec) (gs : List SegRec) (id : ℕ) → find_seg (g ∷ gs) id ≡ None → (g.id ≢ id) × (find_seg gs id ≡ None)
-none-cons g gs id none = elim (cases_eq g.id id) [
-  | inl q ↦ cc (rw (eq-eqb g.id id q) at none)
-  | inr n ↦ (n, rw (ne_eqb g.id id n) at none)
-]
+none-cons g gs id none = grind (arith, nat_tests)
 
 pub insert-view : (es : List (ℕ × PageTable)) (id : ℕ) (s : PageTable) → find_seg (segs_view es) id ≡ None → segs_view (insert_entry nat_eq es id s) ≡ segs_view es ++ seg_of id s ∷ []
 insert-view [] id s none = refl
-insert-view (e ∷ es) id s none =
-    let rest = none-cons (seg_view e) (segs_view es) id none in
-    rw (ne_eqb id e.0 (λ q. rest.0 (sym q)), insert-view es id s rest.1) refl
+insert-view (e ∷ es) id s none = grind (arith, nat_tests, insert-view es id s)
 
 find-append : (gs : List SegRec) (h : SegRec) (id : ℕ) → find_seg gs id ≡ None → h.id ≢ id → find_seg (gs ++ h ∷ []) id ≡ None
 find-append [] h id none n = rw (ne_eqb h.id id n) refl
-find-append (g ∷ gs) h id none n =
-    let rest = none-cons g gs id none in
-    rw (ne_eqb g.id id rest.0) (find-append gs h id rest.1 n)
+find-append (g ∷ gs) h id none n = grind (arith, nat_tests, find-append gs h id)
 
 pub apart-append : (gs : List SegRec) (h : SegRec) → AreApart gs → find_seg gs h.id ≡ None → AreApart (gs ++ h ∷ [])
 apart-append [] h apart none = (refl, tt)
@@ -52,23 +42,16 @@ apart-append (g ∷ gs) h apart none =
 -- those of a segment that is not there
 pub filter-none : (gs : List SegRec) (id : ℕ) → find_seg gs id ≡ None → filter (λ (g : SegRec). not (eqb g.id id)) gs ≡ gs
 filter-none [] id none = refl
-filter-none (g ∷ gs) id none =
-    let rest = none-cons g gs id none in
-    rw (ne_eqb g.id id rest.0) (ap (λ hs. g ∷ hs) (filter-none gs id rest.1))
+filter-none (g ∷ gs) id none = grind (arith, nat_tests, filter-none gs id)
 
 pub remove-view : (es : List (ℕ × PageTable)) (id : ℕ) → AreApart (segs_view es) → segs_view (remove_entry (nat_eq id) es) ≡ filter (λ (g : SegRec). not (eqb g.id id)) (segs_view es)
 remove-view [] id apart = refl
-remove-view (e ∷ es) id apart = elim (cases_eq e.0 id) [
-  | inl q ↦ rw (eq-eqb id e.0 (sym q), eq-eqb e.0 id q) (sym (filter-none (segs_view es) id (rw q at apart.0)))
-  | inr n ↦ rw (ne_eqb id e.0 (λ q. n (sym q)), ne_eqb e.0 id n) (ap (λ hs. seg_view e ∷ hs) (remove-view es id apart.1))
-]
+remove-view (e ∷ es) id apart = grind (arith, nat_tests, remove-view es id apart.1, filter-none (segs_view es) id, apart.0)
 
 -- an edit of a segment that is not there
 pub edit-none : (f : SegRec → SegRec) (gs : List SegRec) (id : ℕ) → find_seg gs id ≡ None → map (edit_at id f) gs ≡ gs
 edit-none f [] id none = refl
-edit-none f (g ∷ gs) id none =
-    let rest = none-cons g gs id none in
-    rw (ne_eqb g.id id rest.0) (ap (λ hs. g ∷ hs) (edit-none f gs id rest.1))
+edit-none f (g ∷ gs) id none = grind (arith, nat_tests, edit-none f gs id)
 
 find-there : (es : List (ℕ × PageTable)) (i k : ℕ) (w : PageTable) → slice_get es i ≡ Some (k, w) → find_seg (segs_view es) k ≢ None
 find-there [] i k w at none = cc
@@ -85,10 +68,7 @@ edit-view f (e ∷ es) zero k w v apart at is =
     let k_is : e.0 ≡ k = ap (λ (x : ℕ × PageTable). x.0) q in
     let none : find_seg (segs_view es) k ≡ None = rw k_is at apart.0 in
     rw (eq-eqb e.0 k k_is, edit-none f (segs_view es) k none, q) (ap (λ g. g ∷ segs_view es) is)
-edit-view f (e ∷ es) (suc i) k w v apart at is = elim (cases_eq e.0 k) [
-  | inl q ↦ absurd (find-there es i k w at (rw q at apart.0))
-  | inr n ↦ rw (ne_eqb e.0 k n) (ap (λ gs. seg_view e ∷ gs) (edit-view f es i k w v apart.1 at is))
-]
+edit-view f (e ∷ es) (suc i) k w v apart at is = grind (arith, nat_tests, find-there es i k w at, apart.0, edit-view f es i k w v apart.1 at is)
 
 edit-id : (f : SegRec → SegRec) → ((g : SegRec) → (f g).id ≡ g.id) → (id : ℕ) (g : SegRec) → (edit_at id f g).id ≡ g.id
 edit-id f keeps id g = elim (cases_Bool (eqb g.id id)) [ inl t ↦ rw t (keeps g) | inr n ↦ rw n refl ]
@@ -101,26 +81,14 @@ apart-edit f keeps (g ∷ gs) id apart =
 -- what is found once a segment is out
 pub find-but : (gs : List SegRec) (id k : ℕ) → k ≢ id → find_seg (but id gs) k ≡ find_seg gs k
 find-but [] id k n = refl
-find-but (g ∷ gs) id k n = elim (cases_eq g.id id) [
-  | inl e ↦ rw (eq-eqb g.id id e, ne_eqb g.id k (λ same. n (sym same ∙ e))) (find-but gs id k n)
-  | inr m ↦ elim (cases_Bool (eqb g.id k)) [
-    | inl t ↦ rw (ne_eqb g.id id m, t) refl
-    | inr f ↦ rw (ne_eqb g.id id m, f) (find-but gs id k n)
-  ]
-]
+find-but (g ∷ gs) id k n = grind (arith, nat_tests, find-but gs id k n)
 
 pub find-out : (gs : List SegRec) (id : ℕ) → find_seg (but id gs) id ≡ None
 find-out [] id = refl
-find-out (g ∷ gs) id = elim (cases_Bool (eqb g.id id)) [
-  | inl t ↦ rw t (find-out gs id)
-  | inr f ↦ rw (f, f) (find-out gs id)
-]
+find-out (g ∷ gs) id = grind (arith, nat_tests, find-out gs id)
 
 find-filter : (gs : List SegRec) (id k : ℕ) → find_seg gs k ≡ None → find_seg (but id gs) k ≡ None
-find-filter gs id k none = elim (cases_eq k id) [
-  | inl e ↦ rw e (find-out gs id)
-  | inr n ↦ find-but gs id k n ∙ none
-]
+find-filter gs id k none = grind (arith, find-out gs id, find-but gs id k, cases_eq k id)
 
 pub apart-filter : (gs : List SegRec) (id : ℕ) → AreApart gs → AreApart (filter (λ (g : SegRec). not (eqb g.id id)) gs)
 apart-filter [] id apart = tt
@@ -131,10 +99,7 @@ apart-filter (g ∷ gs) id apart =
 -- the key that is found is the one that was looked for
 pub key_found : (es : List (ℕ × PageTable)) (id k : ℕ) → Some k ≡ lookup_key (nat_eq id) es → k ≡ id
 key_found [] id k at = cc
-key_found (e ∷ es) id k at = elim (cases_eq id e.0) [
-  | inl q ↦ let h : Some k ≡ Some e.0 = rw (eq-eqb id e.0 q) at at in cc
-  | inr n ↦ key_found es id k (rw (ne_eqb id e.0 n) at at)
-]
+key_found (e ∷ es) id k at = grind (arith, nat_tests, key_found es id k)
 
 pub none_found : (es : List (ℕ × PageTable)) (id : ℕ) → None ≡ lookup (nat_eq id) es → find_seg (segs_view es) id ≡ None
 none_found es id none = find-lookup es id ∙ ap (option_map (seg_of id)) (sym none)
@@ -152,10 +117,7 @@ entry-from (e ∷ es) (suc i) id w key value = entry-from es i id w key value
 pub find-entry : (es : List (ℕ × PageTable)) (i id : ℕ) (w : PageTable) → AreApart (segs_view es) → slice_get es i ≡ Some (id, w) → find_seg (segs_view es) id ≡ Some (seg_of id w)
 find-entry [] i id w apart at = cc
 find-entry (e ∷ es) zero id w apart at = let q : e ≡ (id, w) = cc in rw (q, eq-eqb id id refl) refl
-find-entry (e ∷ es) (suc i) id w apart at = elim (cases_eq e.0 id) [
-  | inl q ↦ absurd (find-there es i id w at (rw q at apart.0))
-  | inr n ↦ rw (ne_eqb e.0 id n) (find-entry es i id w apart.1 at)
-]
+find-entry (e ∷ es) (suc i) id w apart at = grind (arith, nat_tests, find-there es i id w at, apart.0, find-entry es i id w apart.1 at)
 
 -- a place that has a key has a value
 pub value_there : (es : List (ℕ × PageTable)) (i id : ℕ) → key_at es i ≡ Some id → slice_get (values_of es) i ≢ None

@@ -2,7 +2,7 @@
 use Rattle.std.proofs.Common.{◌≡◌, ◌⊎◌, ℕ, suc, ltb, Bool, [], ◌∷◌, Some, None, Result, Ok, Err, OnOk, OnErr, ◌<◌, ◌≤◌, ◌+◌, true, false, List, length, get_or, set, sum_by, refl, sym, ap, ◌∙◌, inl, inr, arith, length-set}
 use Rattle.std.specs.List.{list_any}
 use Rattle.std.proofs.lemmas.Bool.{cases_Bool, and_parts, eq-eqb, eqb-true, lt-ltb, ltb-true, or_left, or_right, or_cases, false≢true}
-use Rattle.std.proofs.lemmas.Bool.Decides.{eqb_tells}
+use Rattle.std.proofs.lemmas.Bool.Decides.{eqb_tells, nat_tests}
 use Rattle.std.proofs.lemmas.List.Sums.{sum_by-set, sum_by-cons}
 use Rattle.std.proofs.lemmas.List.Folds.{list_any_at}
 use Rattle.std.proofs.Math.ListN.{get_or-map}
@@ -18,13 +18,7 @@ pub size-at : (s : SwapView) (area : ℕ) → get_or (sizes s) area None ≡ siz
 size-at s area = get_or-map size_of s.areas area no_area
 
 pub pages-same : (s t : SwapView) (area : ℕ) → sizes t ≡ sizes s → (area_at s area).here ≡ true → ((area_at t area).here ≡ true) × (length (area_at t area).pages ≡ length (area_at s area).pages)
-pages-same s t area same here =
-    let e : size_of (area_at t area) ≡ Some (length (area_at s area).pages) = sym (size-at t area) ∙ ap (λ l. get_or l area None) same ∙ size-at s area ∙ rw here refl in
-    by (area_at t area).here refl e
-  where
-    by : (b : Bool) → (area_at t area).here ≡ b → size_of (area_at t area) ≡ Some (length (area_at s area).pages) → ((area_at t area).here ≡ true) × (length (area_at t area).pages ≡ length (area_at s area).pages)
-    by true h e = let k : Some (length (area_at t area).pages) ≡ Some (length (area_at s area).pages) = rw h at e in (h, cc)
-    by false h e = let k : None ≡ Some (length (area_at s area).pages) = rw h at e in cc
+pages-same s t area same here = grind (arith, nat_tests, size-at s area, size-at t area, same, here)
 
 pub total-written : (s : SwapView) (k : Slot) (page : List ℕ) → k.area < length s.areas → total (with_slot_page s k page) ≡ total s
 unfolding total

@@ -18,6 +18,8 @@ use Rattle.shm_fault.specs.Flushing.{owner_unlocked, may_flush, dirty_list, dirt
 use Rattle.shm_fault.proofs.Sound.{Goes-refl, Goes-trans}
 use Rattle.shm_fault.proofs.Failures.{unspent-before}
 use Rattle.shm_fault.proofs.Bringing.{is_locked-held}
+use Rattle.std.proofs.lemmas.Bool.Decides.{nat_tests}
+use Rattle.std.proofs.lemmas.Grind.{common_steps}
 
 -- those of the frames below i that may be flushed
 abbrev pub due : StoreView → ℕ → List ℕ
@@ -50,9 +52,7 @@ count-below p q i (x ∷ xs) all same =
     omega (arith, here, rest, sum_by-cons (λ y. cond (p y) 1 0) x xs, sum_by-cons (λ y. cond (q y) 1 0) x xs)
 
 take-more : (n : ℕ) (xs : List ℕ) (x : ℕ) → length (take n xs) < n → take n (xs ++ x ∷ []) ≡ take n xs ++ x ∷ []
-take-more n xs x lt =
-    let few = length-take n xs in
-    rw (take_all n xs (omega arith), take_all n (xs ++ x ∷ []) (omega (arith, length-append xs (x ∷ [])))) refl
+take-more n xs x lt = grind (arith, common_steps, take_all, length-take n xs)
 
 take-full : (n : ℕ) (xs ys : List ℕ) → n ≤ length (take n xs) → take n (xs ++ ys) ≡ take n xs
 take-full n xs ys le = take-append-le n xs ys (omega (arith, length-take n xs))
@@ -62,11 +62,7 @@ range-more a zero = let e : a + 0 ≡ a = omega arith in rw e refl
 range-more a (suc n) = let e : a + 1 + n ≡ a + suc n = omega arith in ap (λ l. a ∷ l) (rw e at (range-more (a + 1) n))
 
 due-more : (s : StoreView) (i : ℕ) → due s (i + 1) ≡ due s i ++ filter (may_flush s) (i ∷ [])
-due-more s i =
-    let more : i + 1 ≡ suc i = omega arith in
-    let last : 0 + i ≡ i = omega arith in
-    let range : range_with_len 0 (i + 1) ≡ range_with_len 0 i ++ i ∷ [] = rw more (rw last at (range-more 0 i)) in
-    ap (filter (may_flush s)) range ∙ filter-append (may_flush s) (range_with_len 0 i) (i ∷ [])
+due-more s i = grind (arith, range-more 0 i, filter-append)
 
 due-yes : (s : StoreView) (i : ℕ) → may_flush s i ≡ true → due s (i + 1) ≡ due s i ++ i ∷ []
 due-yes s i e = due-more s i ∙ rw e refl

@@ -45,11 +45,7 @@ abbrev owner_if : (PageRef → Frame → Bool) → Frame → Option PageRef
 owner_if test x = kept_if (passes_by test x) x.owner
 
 owner_if-some : (test : PageRef → Frame → Bool) (x : Frame) → is_some (owner_if test x) ≡ passes_by test x
-owner_if-some test x = by x.owner
-  where
-    by : (o : Option PageRef) → is_some (kept_if (passes_in test x o) o) ≡ passes_in test x o
-    by None = refl
-    by (Some r) = elim (cases_Bool (test r x)) [ inl t ↦ rw t refl | inr f ↦ rw f refl ]
+owner_if-some test x = grind (arith, nat_tests)
 
 -- the page is resident, and it and its frame pass the test
 abbrev pub page_passes : (PageRef → Frame → Bool) → List Frame → PageRef → Option ℕ → Bool

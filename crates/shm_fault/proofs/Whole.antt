@@ -90,21 +90,10 @@ module _ (s : StoreView) (sound : IsStoreSound s) where
     blank-at k = grind (arith, get_or-replicate n k no_page no_page, get_or_past (replicate n no_page) k no_page, length-replicate n no_page)
 
     pub rec-added : (r : PageRef) → rec_by added r ≡ rec_by s.segs r
-    rec-added r = by (find_seg s.segs r.seg) refl
-      where
-        by : (o : Option SegRec) → find_seg s.segs r.seg ≡ o → rec_by added r ≡ rec_by s.segs r
-        by (Some g) e = rw (find-added s.segs r.seg, e) refl
-        by None e = elim (cases_eq id r.seg) [
-          | inl q ↦ rw (find-added s.segs r.seg, e, eq-eqb id r.seg q) (blank-at r.page)
-          | inr m ↦ rw (find-added s.segs r.seg, e, ne_eqb id r.seg m) refl
-        ]
+    rec-added r = grind (arith, nat_tests, find-added s.segs r.seg, blank-at r.page)
 
     has-added : (r : PageRef) → HasPage s.segs r → HasPage added r
-    has-added r has = by (find_seg s.segs r.seg) refl
-      where
-        by : (o : Option SegRec) → find_seg s.segs r.seg ≡ o → HasPage added r
-        by (Some g) e = rw (find-added s.segs r.seg, e) (rw e at has)
-        by None e = absurd (let h : r.page < 0 = rw e at has in omega arith)
+    has-added r has = grind (arith, nat_tests, find-added s.segs r.seg, has)
 
     pub sound-added : sum_by pages_of s.segs + n ≤ slots s.swap → IsStoreSound (record s { segs = added })
     unfolding zero_page
@@ -147,18 +136,10 @@ module _ (s : StoreView) (sound : IsStoreSound s) where
     pages-locked g = elim (cases_Bool (eqb g.id id)) [ inl t ↦ rw t refl | inr f ↦ rw f refl ]
 
     pub rec-locked : (r : PageRef) → rec_by (map (with_seg_lock id locked) s.segs) r ≡ rec_by s.segs r
-    rec-locked r = rw (find-map (with_seg_lock id locked) keeps-id s.segs r.seg) (by (find_seg s.segs r.seg))
-      where
-        by : (o : Option SegRec) → rec_in (option_map (with_seg_lock id locked) o) r.page ≡ rec_in o r.page
-        by None = refl
-        by (Some g) = ap (λ (ps : List PageRec). rec_at ps r.page) (pages-locked g)
+    rec-locked r = grind (arith, nat_tests, find-map (with_seg_lock id locked) keeps-id s.segs r.seg, pages-locked)
 
     count-locked : (k : ℕ) → count_by_id (map (with_seg_lock id locked) s.segs) k ≡ count_by_id s.segs k
-    count-locked k = rw (find-map (with_seg_lock id locked) keeps-id s.segs k) (by (find_seg s.segs k))
-      where
-        by : (o : Option SegRec) → count_in (option_map (with_seg_lock id locked) o) ≡ count_in o
-        by None = refl
-        by (Some g) = ap (λ (ps : List PageRec). length ps) (pages-locked g)
+    count-locked k = grind (arith, nat_tests, find-map (with_seg_lock id locked) keeps-id s.segs k, pages-locked)
 
     pub sound-locked : sum_by locked_pages (map (with_seg_lock id locked) s.segs) + 2 ≤ length s.frames → IsStoreSound (record s { segs = map (with_seg_lock id locked) s.segs })
     sound-locked few =
