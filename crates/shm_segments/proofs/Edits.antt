@@ -1,7 +1,7 @@
 -- Rows that change, as the flat machine's table shows them.
 use Rattle.std.proofs.Common.{◌≡◌, ◌≢◌, ℕ, ◌*◌, ◌%◌, ◌==◌, if◌then◌else◌, Bool, pos, List, [], ◌∷◌, set, Some, None, option_map, Ok, refl, sym, ap, ◌∙◌, arith, inl, inr, eq-eqb, ne_eqb, length-set}
 use Rattle.std.proofs.lemmas.Bool.{cases_eq}
-use Rattle.std.proofs.lemmas.Bool.Decides.{eqb_tells}
+use Rattle.std.proofs.lemmas.Bool.Decides.{eqb_tells, nat_tests}
 use Rattle.shm_base.specs.State.{Segment, pages_of}
 use Rattle.shm_base.specs.Segments.{change}
 use Rattle.shm_ids.specs.declared.table.Entry.{Entry}
@@ -93,20 +93,11 @@ relock b s = record s { locked = b }
 
 shape-lock_same : (hs : List Held) (id : ℕ) (b : Bool) → option_map shape_held (find_held (with_lock hs id b) id) ≡ option_map (relock b) (option_map shape_held (find_held hs id))
 shape-lock_same [] id b = refl
-shape-lock_same (g ∷ gs) id b = elim (eqb_tells g.id id) [
-  | inl w ↦ rw (w.0, w.0) refl
-  | inr w ↦ rw (w.0, w.0) (shape-lock_same gs id b)
-]
+shape-lock_same (g ∷ gs) id b = grind (arith, nat_tests, shape-lock_same gs id b)
 
 shape-lock_other : (hs : List Held) (id : ℕ) (b : Bool) (at : ℕ) → at ≢ id → option_map shape_held (find_held (with_lock hs id b) at) ≡ option_map shape_held (find_held hs at)
 shape-lock_other [] id b at apart = refl
-shape-lock_other (g ∷ gs) id b at apart = elim (eqb_tells g.id at) [
-  | inl w ↦ elim (eqb_tells g.id id) [ inl v ↦ absurd (apart (sym w.1 ∙ v.1)) | inr v ↦ rw (v.0, w.0) refl ]
-  | inr w ↦ elim (eqb_tells g.id id) [
-    | inl v ↦ rw (v.0, w.0) (shape-lock_other gs id b at apart)
-    | inr v ↦ rw (v.0, w.0) (shape-lock_other gs id b at apart)
-  ]
-]
+shape-lock_other (g ∷ gs) id b at apart = grind (arith, nat_tests, shape-lock_other gs id b at apart)
 
 -- a row locked or unlocked, and so what is held
 pub agree-lock : (hs : List Held) (rows : List (Entry Head)) (id : ℕ) (r : Row Head) (v : Head) → Agree hs rows → live rows id ≡ Some r → v.size ≡ r.value.size

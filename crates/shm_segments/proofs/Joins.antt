@@ -1,7 +1,7 @@
 -- The rows and the flat machine's table: what is live, what agrees, and what an edit shows.
 use Rattle.std.proofs.Common.{◌≡◌, ◌≢◌, ℕ, zero, suc, ◌+◌, ◌*◌, ◌%◌, ◌<◌, ◌≤◌, true, List, [], ◌∷◌, length, set, Option, Some, None, is_some, option_map, refl, sym, ap, ◌∙◌, arith, inl, inr, eq-eqb}
 use Rattle.std.proofs.lemmas.Bool.{cases_lt}
-use Rattle.std.proofs.lemmas.Bool.Decides.{eqb_tells}
+use Rattle.std.proofs.lemmas.Bool.Decides.{eqb_tells, nat_tests}
 use Rattle.std.specs.Prelude.{slice_set}
 use Rattle.shm_base.specs.State.{Segment, pages_of}
 use Rattle.shm_ids.specs.declared.table.Entry.{Entry}
@@ -98,15 +98,7 @@ set-joined hs gs rows i x few same =
 -- WHAT AGREES
 
 pub same-held : (hs : List Held) (rows : List (Entry Head)) (id : ℕ) → Agree hs rows → is_held hs id ≡ is_some (live rows id)
-same-held hs rows id agree = sym (some-shape (find_held hs id)) ∙ ap is_some (agree.same id) ∙ some-row (live rows id)
-  where
-    some-shape : (o : Option Held) → is_some (option_map shape_held o) ≡ is_some o
-    some-shape None = refl
-    some-shape (Some g) = refl
-
-    some-row : (o : Option (Row Head)) → is_some (option_map shape_row o) ≡ is_some o
-    some-row None = refl
-    some-row (Some r) = refl
+same-held hs rows id agree = grind (arith, nat_tests, agree.same id)
 
 -- what is held of a live segment
 pub record HeldAs (hs : List Held) (id : ℕ) (r : Row Head) : Type 0 where

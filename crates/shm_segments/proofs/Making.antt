@@ -22,6 +22,7 @@ use Rattle.shm_segments.proofs.Rows.{id_of, IsFree, index-free, free-new, joined
 use Rattle.shm_segments.proofs.Sums.{pages-with_row, pages-without_row, pages-with_other, locked-with_row, locked-without_row, locked-with_other, locked-within}
 use Rattle.shm_segments.proofs.Keeping.{KeptAs, sizes-other}
 use Rattle.shm_segments.proofs.Held.{pages-zeros, locks-zeros, sum-without, pages-lock, locks-lock}
+use Rattle.std.proofs.lemmas.Bool.Decides.{nat_tests}
 
 -- WHAT IS HELD OF A LIVE SEGMENT
 
@@ -137,11 +138,7 @@ kept-made hs rows pages locks i key v k found loose range =
 
 -- the free index
 pub free-some : (hs : List Held) (rows : List (Entry Head)) → is_none (flat.free_index (joined hs rows)) ≡ false → is_some (free_index rows) ≡ true
-free-some hs rows some = by (free_index rows) (sym (ap is_none (free_index-flat (whole hs) rows)) ∙ some)
-  where
-    by : (o : Option ℕ) → is_none o ≡ false → is_some o ≡ true
-    by None z = absurd (true≢false z)
-    by (Some i) z = refl
+free-some hs rows some = grind (arith, nat_tests, free_index-flat (whole hs) rows, some)
 
 -- what is made is what the flat table makes
 pub made-joined : (hs : List Held) (rows : List (Entry Head)) (i key : ℕ) (v : Head) → free_index rows ≡ Some i
@@ -167,8 +164,7 @@ next-free hs rows id agree is = by (free_index rows) refl is
 
 -- a segment's pages are few
 pub few-pages : (b : Bool) (size : ℕ) → size ≤ 16777216 → (if b then pages_of size else 0) ≤ 4096
-few-pages true size range = omega (arith, range)
-few-pages false size range = omega arith
+few-pages b size range = grind (arith, nat_tests)
 
 -- a key that the flat table does not find
 record Hit (n : ℕ) (es : List (Entry Head)) (i : ℕ) : Type 0 where
@@ -192,8 +188,8 @@ key-hit n key (e ∷ es) i some found =
     has (Some r) h = refl
 
 not_invalid : (hs : List Held) (i id : ℕ) (o : Option (Row Head)) → is_some o ≡ true → flat.look_segment i (flat_row (whole hs) id o) ≡ flat.Invalid → ⊥
-not_invalid hs i id None some is = true≢false (sym some)
-not_invalid hs i id (Some r) some is = cc is
+not_invalid hs i id None some is = cc
+not_invalid hs i id (Some r) some is = cc
 
 pub key-absent : (hs : List Held) (rows : List (Entry Head)) (key : ℕ) → (key ≢ 0 → flat.find_key (joined hs rows) key ≡ flat.Invalid) → find_key rows key ≡ None
 key-absent hs rows key absent = by (cases_eq key 0)

@@ -36,6 +36,7 @@ use Rattle.shm_segments.specs.Table.{SpanFits}
 use Rattle.shm_segments.proofs.Held.{sums-written}
 use Rattle.std.proofs.lemmas.List.Elements.{filter-append}
 use Rattle.shm_fault.proofs.Entries.{filter-none}
+use Rattle.std.proofs.lemmas.Bool.Decides.{nat_tests}
 
 -- a table and its memory
 abbrev pub view_of : List FlatEntry → StoreView → SegmentsView
@@ -129,15 +130,7 @@ undone s t u id n sound new is dropped =
 
 -- what agrees with the same rows has the same locks
 pub agree-locks : (hs gs : List Held) (rows : List (Entry Head)) (id : ℕ) → Agree hs rows → Agree gs rows → is_locked gs id ≡ is_locked hs id
-agree-locks hs gs rows id a b = sym (by (find_held gs id)) ∙ ap lock_of (b.same id ∙ sym (a.same id)) ∙ by (find_held hs id)
-  where
-    lock_of : Option Shape → Bool
-    lock_of None = false
-    lock_of (Some s) = s.locked
-
-    by : (o : Option Held) → lock_of (option_map shape_held o) ≡ lock_in o
-    by None = refl
-    by (Some g) = refl
+agree-locks hs gs rows id a b = grind (arith, a.same id, b.same id)
 
 -- A STORE
 

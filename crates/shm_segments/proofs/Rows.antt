@@ -17,6 +17,7 @@ use Rattle.shm_plain.proofs.Found.{find-without_same, find-without_other, find-z
 use Rattle.shm_segments.specs.declared.head.Head.{Head}
 use Rattle.shm_segments.specs.Joined.{segment_of, whole, joined, live, shape_held, shape_row, Agree}
 use Rattle.shm_segments.proofs.Joins.{at-live, set-joined, same-held}
+use Rattle.std.proofs.lemmas.Bool.Decides.{nat_tests}
 
 -- the identifier that an index has
 abbrev pub id_of : List (Entry Head) → ℕ → ℕ
@@ -24,9 +25,7 @@ id_of rows i = identifier i (entry_at rows i).destroyed
 
 -- no other identifier is live at an index
 pub live-stale : (rows : List (Entry Head)) (i at : ℕ) → at % 32768 ≡ i → at ≢ id_of rows i → live rows at ≡ None
-live-stale rows i at here other =
-    let apart : identifier (at % 32768) (entry_at rows (at % 32768)).destroyed ≢ at = λ is. other (sym is ∙ ap (id_of rows) here) in
-    rw (ne_eqb (identifier (at % 32768) (entry_at rows (at % 32768)).destroyed) at apart) refl
+live-stale rows i at here other = grind (arith, nat_tests, here, other)
 
 -- what is live is the entries' matter
 live-entry : (rows gs : List (Entry Head)) (at : ℕ) → entry_at gs (at % 32768) ≡ entry_at rows (at % 32768) → live gs at ≡ live rows at
@@ -53,10 +52,7 @@ none-either false o e = refl
 
 -- nothing is live then at its index
 pub live-without_here : (rows : List (Entry Head)) (i at : ℕ) → i < length rows → at % 32768 ≡ i → live (without_row rows i) at ≡ None
-live-without_here rows i at within here =
-    let e : Entry Head = entry_at (without_row rows i) (at % 32768) in
-    let gone : e.row ≡ None = rw here (ap (λ (y : Entry Head). y.row) (at_set rows i (emptied rows i) within)) in
-    none-either (identifier (at % 32768) e.destroyed == at) e.row gone
+live-without_here rows i at within here = grind (arith, nat_tests, here, at_set rows i (emptied rows i) within)
 
 pub live-without_other : (rows : List (Entry Head)) (i at : ℕ) → at % 32768 ≢ i → live (without_row rows i) at ≡ live rows at
 live-without_other rows i at other = live-entry rows (without_row rows i) at (at_set_other rows i (at % 32768) (emptied rows i) other)
@@ -151,12 +147,8 @@ live-with_row_same rows i key v free =
     rw (own, at_row rows i key v free.within, eq-eqb (id_of rows i) (id_of rows i) refl) refl
 
 pub live-with_row_other : (rows : List (Entry Head)) (i at key : ℕ) (v : Head) → IsFree rows i → at ≢ id_of rows i → live (with_row rows i key v) at ≡ live rows at
-live-with_row_other rows i at key v free apart = elim (cases_eq (at % 32768) i) [
-  | inl here ↦
-      (let other : identifier i (entry_at rows i).destroyed ≢ at = λ is. apart (sym is) in
-      rw (here, at_row rows i key v free.within, ne_eqb (id_of rows i) at other) refl)
-  | inr away ↦ live-entry rows (with_row rows i key v) at (at_row_other rows i (at % 32768) key v free.within away)
-]
+live-with_row_other rows i at key v free apart =
+    grind (arith, nat_tests, cases_eq (at % 32768) i, at_row rows i key v free.within, at_row_other rows i (at % 32768) key v free.within)
 
 pub agree-with_row : (hs : List Held) (rows : List (Entry Head)) (i key pages : ℕ) (v : Head) → Agree hs rows → IsFree rows i → v.locked ≡ false → pages ≡ pages_of v.size
     → Agree (with_zeros hs (id_of rows i) pages) (with_row rows i key v)

@@ -1,5 +1,5 @@
 -- Changes of a table that leave alone how many pages each segment has, which are locked, and which are marked.
-use Rattle.std.proofs.Common.{◌≡◌, ◌≢◌, ◌⊎◌, ℕ, ◌/◌, ◌%◌, List, [], ◌∷◌, length, slice_get, slice_set, Option, Some, None, refl, ap, ◌∙◌, inl, inr, eq-eqb, ne_eqb, ◌==◌}
+use Rattle.std.proofs.Common.{◌≡◌, ◌≢◌, ◌⊎◌, ℕ, ◌/◌, ◌%◌, List, [], ◌∷◌, length, slice_get, slice_set, Option, Some, None, refl, ap, ◌∙◌, inl, inr, eq-eqb, ne_eqb, ◌==◌, arith}
 use Rattle.std.proofs.lemmas.Bool.{cases_eq, cases_Bool}
 use Rattle.std.specs.Prelude.{is_some, option_map}
 use Rattle.shm_base.specs.State.{Segment, Entry, Runner}
@@ -8,6 +8,7 @@ use Rattle.shm_base.specs.Segments.{change, with_entry, pages_held, pages_locked
 use Rattle.shm_segments.specs.Table.{live, live_in, pages_at}
 use Rattle.shm_segments.specs.Left.{is_left, orphan_in, orphan, id_in, id_at}
 use Rattle.shm_segments.proofs.Entries.{get-set_same, get-set_other, length-slice_set, sum-set_same}
+use Rattle.std.proofs.lemmas.Bool.Decides.{nat_tests}
 
 -- two segments, or none, of as many pages
 pub record AlikePages (o p : Option Segment) : Type 0 where
@@ -57,10 +58,7 @@ at-set w t i j e x there same = by (cases_eq i j)
     by (inr n) = ap w (get-set_other t i j e n)
 
 live-alike : (id d : ℕ) (o p : Option Segment) → AlikePages o p → (pages_held (live_in id (Some (record { destroyed = d; segment = p }))) ≡ pages_held (live_in id (Some (record { destroyed = d; segment = o })))) × (is_some (live_in id (Some (record { destroyed = d; segment = p }))) ≡ is_some (live_in id (Some (record { destroyed = d; segment = o }))))
-live-alike id d o p a = elim (cases_Bool (d == id / 32768)) [
-  | inl t ↦ rw t (a.pages, a.some)
-  | inr n ↦ rw n (refl, refl)
-]
+live-alike id d o p a = grind (arith, nat_tests, a.pages, a.some)
 
 -- one entry set to one of as many pages
 pub set-pages : (t : List Entry) (i : ℕ) (x : Entry) (p : Option Segment) → slice_get t i ≡ Some x → AlikePages x.segment p → SamePages t (slice_set t i (record { destroyed = x.destroyed; segment = p }))

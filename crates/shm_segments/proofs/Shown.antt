@@ -1,6 +1,6 @@
 -- Loads and stores over stretches, as the flat machine's table shows them.
 use Rattle.std.proofs.Common.{◌≡◌, ℕ, zero, suc, ◌+◌, ◌%◌, ◌^◌, ◌≤◌, Bool, true, false, List, [], ◌∷◌, ◌++◌, length, set, take, drop, map, Option, Some, None, is_some, option_map, refl, sym, ap, ◌∙◌, arith, inl, inr}
-use Rattle.std.proofs.lemmas.Bool.Decides.{eqb_tells}
+use Rattle.std.proofs.lemmas.Bool.Decides.{eqb_tells, nat_tests}
 use Rattle.std.proofs.lemmas.Grind.{common_steps}
 use Rattle.std.proofs.lemmas.List.{set-get_or}
 use Rattle.std.specs.Int.{w64, from_le_bytes, to_le_bytes}
@@ -111,10 +111,7 @@ number_shown hs rows ps agree fit = ap (from_le_bytes w64) (load_shown hs rows f
 -- WHAT A STORE LEAVES
 
 paste-shape : (p : Span) (new : List ℕ) (g : Held) → (g.id ≡ p.seg → p.at + length new ≤ length g.bytes) → shape_held (pasted p.seg p.at new g) ≡ shape_held g
-paste-shape p new g fits = elim (eqb_tells g.id p.seg) [
-  | inl w ↦ rw w.0 (ap (λ n. record { locked = g.locked; size = n }) (length-paste g.bytes p.at new (fits w.1)))
-  | inr w ↦ rw w.0 refl
-]
+paste-shape p new g fits = grind (arith, nat_tests, length-paste g.bytes p.at new, fits)
 
 pub agree-pasted : (hs : List Held) (rows : List (Entry Head)) (p : Span) (new : List ℕ) → Agree hs rows → FitsPage hs p → length new ≤ p.len → Agree (map (pasted p.seg p.at new) hs) rows
 agree-pasted hs rows p new agree fit few =
