@@ -10,27 +10,17 @@ use Rattle.shm_attach.specs.Views.{some_if}
 use Rattle.shm_segments.specs.Left.{is_left, orphan_in, id_in, id_at}
 use Rattle.shm_life.specs.Orphans.{is_among, OrphansAmong}
 use Rattle.shm_segments.proofs.Entries.{sum-set}
+use Rattle.std.proofs.lemmas.Bool.Decides.{nat_tests}
 
 -- other segments keep their pieces
 abbrev pub KeepsPieces : List ℕ → List Runner → List Runner → Type 0
 KeepsPieces lost rs after = (id : ℕ) → is_among lost id ≡ false → attach_count rs id ≤ attach_count after id
 
 left-more : (rs after : List Runner) (id : ℕ) (o : Option Segment) → attach_count rs id ≤ attach_count after id → is_left after id o ≡ true → is_left rs id o ≡ true
-left-more rs after id None le h = h
-left-more rs after id (Some s) le h =
-    elim (cases_Bool s.dest) [
-      | inl d ↦ by d (cases_eq (attach_count after id) 0) (cases_eq (attach_count rs id) 0)
-      | inr d ↦ absurd (true≢false (sym h ∙ ap (λ b. b && (attach_count after id == 0)) d))
-    ]
-  where
-    by : s.dest ≡ true → (attach_count after id ≡ 0) ⊎ (attach_count after id ≢ 0) → (attach_count rs id ≡ 0) ⊎ (attach_count rs id ≢ 0) → is_left rs id (Some s) ≡ true
-    by d (inl z) (inl y) = rw (d, eq-eqb (attach_count rs id) 0 y) refl
-    by d (inl z) (inr n) = absurd (n (omega (arith, le, z)))
-    by d (inr n) y = absurd (true≢false (sym h ∙ rw (d, ne_eqb (attach_count after id) 0 n) refl))
+left-more rs after id o le h = grind (arith, nat_tests)
 
 orphan-more : (rs after : List Runner) (i : ℕ) (o : Option Entry) → attach_count rs (id_in i o) ≤ attach_count after (id_in i o) → orphan_in i after o ≡ true → orphan_in i rs o ≡ true
-orphan-more rs after i None le h = h
-orphan-more rs after i (Some e) le h = left-more rs after (identifier i e.destroyed) e.segment le h
+orphan-more rs after i o le h = grind (arith, nat_tests)
 
 -- so only segments that lost pieces are left without
 pub orphans-among : (lost : List ℕ) (rs after : List Runner) (t : List Entry) → OrphansAmong [] rs t → KeepsPieces lost rs after → OrphansAmong lost after t
@@ -53,14 +43,7 @@ keeps-set lost rs i r x there le = λ id other. count-set rs i r x id there (le 
 -- pieces of segments that are not among these are none of these pieces
 pub not_among-map : (id : ℕ) (ps : List Piece) → is_among (map (λ (p : Piece). p.seg) ps) id ≡ false → pieces_of id ps ≡ 0
 not_among-map id [] h = refl
-not_among-map id (p ∷ ps) h =
-    elim (cases_eq p.seg id) [
-      | inl e ↦ absurd (true≢false (sym (rw (eq-eqb p.seg id e) refl) ∙ h))
-      | inr n ↦
-          let rest : pieces_of id ps ≡ 0 = not_among-map id ps (rw (ne_eqb p.seg id n) at h) in
-          let one = one_more id p ps in
-          rw (one, ne_eqb p.seg id n) (omega (arith, rest))
-    ]
+not_among-map id (p ∷ ps) h = grind (arith, nat_tests, one_more id p ps, not_among-map id ps)
 
 -- all pieces go
 pub keeps-all : (ps : List Piece) (id : ℕ) → is_among (map (λ (p : Piece). p.seg) ps) id ≡ false → pieces_of id ps ≤ pieces_of id []

@@ -17,11 +17,10 @@ use Rattle.shm_pager.specs.Pages.{pager_seen}
 use Rattle.shm_slots.specs.View.{IsAreaSize, owner_of, sizes, new_swap, fresh}
 use Rattle.shm_life.specs.Start.{are_sizes, has_pid, are_pids, start_error}
 use Rattle.shm_life.proofs.Pieces.{all-cons}
+use Rattle.std.proofs.lemmas.Bool.Decides.{nat_tests}
 
 both : (a b : Bool) → a && b ≡ true → (a ≡ true) × (b ≡ true)
-both true true e = (refl, refl)
-both true false e = absurd (true≢false (sym e))
-both false b e = absurd (true≢false (sym e))
+both a b e = grind arith
 
 within-range : (low high n : ℕ) → within low high n ≡ true → (low ≤ n) × (n ≤ high)
 within-range low high n is =
@@ -96,10 +95,7 @@ abbrev nobody : Option PageRef
 nobody = None
 
 none-owned : (n slot : ℕ) → get_or (replicate n nobody) slot nobody ≡ nobody
-none-owned n slot = elim (cases_lt slot n) [
-  | inl l ↦ get_or-replicate n slot nobody nobody l
-  | inr past ↦ get_or_past (replicate n nobody) slot nobody (omega (arith, past, length-replicate n nobody))
-]
+none-owned n slot = grind (arith, get_or-replicate n slot nobody nobody, get_or_past (replicate n nobody) slot nobody, length-replicate n nobody)
 
 pub owners-new : {X : Type 0} (content : X → List (List ℕ)) (failed : X → ℕ) (pagers : List X) (area slot : ℕ)
     → owner_of (new_swap (map (λ p. fresh (pager_seen content failed p)) pagers)) area slot ≡ None

@@ -20,6 +20,7 @@ use Rattle.shm_segments.proofs.Same.{SameTable, detach_all-same}
 use Rattle.shm_life.specs.Tied.{PieceFits, PiecesFit}
 use Rattle.shm_life.specs.Orphans.{is_among, OrphansAmong}
 use Rattle.shm_life.specs.Kept.{IsKeptBut, IsWellBut, IsWell}
+use Rattle.shm_life.proofs.Running.{kept-by}
 use Rattle.shm_life.proofs.Pieces.{RunnerFits, all-cons, all-head, all-tail, all-at, fit-same}
 
 pub orphans-same : (ids : List ℕ) (rs : List Runner) (t u : List Entry) → ((qs : List Runner) (i : ℕ) → orphan qs u i ≡ orphan qs t i) → ((i : ℕ) → id_at u i ≡ id_at t i) → OrphansAmong ids rs t → OrphansAmong ids rs u
@@ -28,15 +29,7 @@ orphans-same ids rs t u left own among = λ i h. ap (is_among ids) (own i) ∙ a
 -- where no piece goes
 pub settled-table : {lost : List ℕ} (limits : Bounds) (t u : List Entry) (rs : List Runner) → IsKeptBut lost limits t rs → SameTable t u → IsKeptBut lost limits u rs
 settled-table {lost} limits t u rs k same =
-    record {
-      few = omega (arith, k.few, same.same.size);
-      reserved = omega (arith, k.reserved, same.same.reserved);
-      shmall = k.shmall;
-      locked = omega (arith, k.locked, same.locked);
-      memlock = k.memlock;
-      pieces = fit-same t u rs same.same k.pieces;
-      orphans = orphans-same lost rs t u same.left same.same.ids k.orphans;
-    }
+    kept-by limits t u rs rs k (omega (arith, same.same.size)) (omega (arith, same.same.reserved)) (omega (arith, k.locked, same.locked)) (fit-same t u rs same.same k.pieces) (orphans-same lost rs t u same.left same.same.ids k.orphans)
 
 -- nor the memory loses a frame
 pub still-well : {lost : List ℕ} (limits : Bounds) (t u : List Entry) (rs : List Runner) (ts us : List Translation) (m n : StoreView) → IsWellBut lost limits t rs ts m → SameTable t u
