@@ -131,55 +131,16 @@ module _ (p q : Span) (s t z : StoreView) (f : ℕ) (u v w : Touched) (ok : Bool
   ins-is e = let a = one.ins in let b : w.ins ≡ v.ins + one_if (true && swq) = rw e at two.ins in omega (arith, a, b, none.1)
 
   ins-le : w.ins ≤ pages_among (p ∷ q ∷ [])
-  ins-le = by (same_page p q) refl
-    where
-      and-false : (b : Bool) → one_if (b && false) ≡ 0
-      and-false true = refl
-      and-false false = refl
-
-      sum : w.ins ≡ one_if swp + one_if (ok && swq)
-      sum = let a = one.ins in let b = two.ins in omega (arith, a, b, none.1)
-
-      by : (b : Bool) → same_page p q ≡ b → w.ins ≤ cond (b || false) 0 1 + (1 + 0)
-      by true h =
-          let n = (resident-q h).0 in
-          let last : one_if (ok && swq) ≡ 0 = rw n (and-false ok) in
-          let l = bit-le swp in omega (arith, sum, last, l)
-      by false h = let l = bit-le swp in let m = bit-le (ok && swq) in omega (arith, sum, l, m)
+  ins-le = grind (arith, nat_tests, one.ins, two.ins, none.1, resident-q)
 
   outs-le : w.outs ≤ pages_among (p ∷ q ∷ [])
-  outs-le = by (same_page p q) refl
-    where
-      by : (b : Bool) → same_page p q ≡ b → w.outs ≤ cond (b || false) 0 1 + (1 + 0)
-      by true h = let n = (resident-q h).1 in omega (arith, n, one.outs, none.2)
-      by false h = omega (arith, one.outs, two.outs, none.2)
+  outs-le = grind (arith, nat_tests, one.outs, two.outs, none.2, resident-q)
 
   swapped-le : ok ≡ true → swapped_among s (p ∷ q ∷ []) ≤ w.ins
   unfolding swap_bit
-  swapped-le e = by (same_page p q) refl swp refl (is_swapped (rec_by s.segs (ref_of q))) refl
-    where
-      by : (b : Bool) → same_page p q ≡ b → (x : Bool) → swp ≡ x → (y : Bool) → is_swapped (rec_by s.segs (ref_of q)) ≡ y
-          → cond (x && not (b || false)) 1 0 + (cond (y && true) 1 0 + 0) ≤ w.ins
-      by true h x hx y hy =
-          let r = same_page-ref p q h in
-          let same : y ≡ x = sym hy ∙ ap (λ (k : PageRef). is_swapped (rec_by s.segs k)) r ∙ hx in
-          let i : w.ins ≡ swap_bit x + swap_bit swq = rw hx at (ins-is e) in
-          first x y same i
-        where
-          first : (x y : Bool) → y ≡ x → w.ins ≡ swap_bit x + swap_bit swq → cond (x && not (true || false)) 1 0 + (cond (y && true) 1 0 + 0) ≤ w.ins
-          first true true g i = omega (arith, i)
-          first true false g i = omega (arith, i)
-          first false true g i = cc
-          first false false g i = omega (arith, i)
-      by false h x hx y hy =
-          let i : w.ins ≡ swap_bit x + swap_bit swq = rw hx at (ins-is e) in
-          second x y hy i
-        where
-          second : (x y : Bool) → is_swapped (rec_by s.segs (ref_of q)) ≡ y → w.ins ≡ swap_bit x + swap_bit swq → cond (x && not (false || false)) 1 0 + (cond (y && true) 1 0 + 0) ≤ w.ins
-          second true true g i = let n = still_swapped p q s t None one.visits h g in let k : w.ins ≡ 1 + 1 = rw n at i in omega (arith, k)
-          second false true g i = let n = still_swapped p q s t None one.visits h g in let k : w.ins ≡ 0 + 1 = rw n at i in omega (arith, k)
-          second true false g i = omega (arith, i)
-          second false false g i = omega arith
+  swapped-le e =
+      let same : same_page p q ≡ true → is_swapped (rec_by s.segs (ref_of q)) ≡ is_swapped (rec_by s.segs (ref_of p)) = λ h. ap (λ (k : PageRef). is_swapped (rec_by s.segs k)) (same_page-ref p q h) in
+      grind (arith, nat_tests, ins-is e, same, still_swapped p q s t None one.visits)
 
   both-quiet : All (IsResident s) (p ∷ q ∷ []) → (ok ≡ true) × (z.swap ≡ s.swap) × (w.ins ≡ 0) × (w.outs ≡ 0)
   both-quiet all =

@@ -182,12 +182,8 @@ pub weigh-ge : (h : PageRef → PageRec → ℕ) (r : PageRef) (gs : List SegRec
 weigh-ge h r gs apart has =
     let one : weigh (λ q p. cond (other r q) 0 (h q p)) gs ≡ h r (rec_by gs r) =
     weigh-one (λ q p. cond (other r q) 0 (h q p)) r gs apart has (λ q there n. rw (other-true r q n) refl) ∙ rw (other-self r) refl in
-    let le = weigh-le (λ q p. cond (other r q) 0 (h q p)) h gs apart (λ q there. by (other r q) (h q (rec_by gs q))) in
+    let le = weigh-le (λ q p. cond (other r q) 0 (h q p)) h gs apart (λ q there. grind (arith, nat_tests)) in
     omega (arith, one, le)
-  where
-    by : (o : Bool) (n : ℕ) → cond o 0 n ≤ n
-    by true n = omega arith
-    by false n = omega arith
 
 -- a test of each page's place, counted
 from-test : (test : PageRec → Bool) (id i : ℕ) (ps : List PageRec) → weigh_from (λ r p. cond (test p) 1 0) id i ps ≡ count_by test ps

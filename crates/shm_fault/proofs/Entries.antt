@@ -35,9 +35,7 @@ find-append (g ∷ gs) h id none n = grind (arith, nat_tests, find-append gs h i
 
 pub apart-append : (gs : List SegRec) (h : SegRec) → AreApart gs → find_seg gs h.id ≡ None → AreApart (gs ++ h ∷ [])
 apart-append [] h apart none = (refl, tt)
-apart-append (g ∷ gs) h apart none =
-    let rest = none-cons g gs h.id none in
-    (find-append gs h g.id apart.0 (λ q. rest.0 (sym q)), apart-append gs h apart.1 rest.1)
+apart-append (g ∷ gs) h apart none = grind (arith, nat_tests, find-append gs h g.id apart.0, apart-append gs h apart.1)
 
 -- those of a segment that is not there
 pub filter-none : (gs : List SegRec) (id : ℕ) → find_seg gs id ≡ None → filter (λ (g : SegRec). not (eqb g.id id)) gs ≡ gs
@@ -55,19 +53,13 @@ edit-none f (g ∷ gs) id none = grind (arith, nat_tests, edit-none f gs id)
 
 find-there : (es : List (ℕ × PageTable)) (i k : ℕ) (w : PageTable) → slice_get es i ≡ Some (k, w) → find_seg (segs_view es) k ≢ None
 find-there [] i k w at none = cc
-find-there (e ∷ es) zero k w at none =
-    let q : e ≡ (k, w) = cc in
-    (none-cons (seg_view e) (segs_view es) k none).0 (ap (λ (x : ℕ × PageTable). x.0) q)
-find-there (e ∷ es) (suc i) k w at none = find-there es i k w at (none-cons (seg_view e) (segs_view es) k none).1
+find-there (e ∷ es) zero k w at none = grind (arith, nat_tests)
+find-there (e ∷ es) (suc i) k w at none = grind (arith, nat_tests, find-there es i k w at)
 
 pub edit-view : (f : SegRec → SegRec) (es : List (ℕ × PageTable)) (i k : ℕ) (w v : PageTable) → AreApart (segs_view es) → slice_get es i ≡ Some (k, w) → seg_of k v ≡ f (seg_of k w)
     → segs_view (set_value_at es i v) ≡ map (edit_at k f) (segs_view es)
 edit-view f [] i k w v apart at is = refl
-edit-view f (e ∷ es) zero k w v apart at is =
-    let q : e ≡ (k, w) = cc in
-    let k_is : e.0 ≡ k = ap (λ (x : ℕ × PageTable). x.0) q in
-    let none : find_seg (segs_view es) k ≡ None = rw k_is at apart.0 in
-    rw (eq-eqb e.0 k k_is, edit-none f (segs_view es) k none, q) (ap (λ g. g ∷ segs_view es) is)
+edit-view f (e ∷ es) zero k w v apart at is = grind (arith, nat_tests, at, apart.0, edit-none f (segs_view es) k, is)
 edit-view f (e ∷ es) (suc i) k w v apart at is = grind (arith, nat_tests, find-there es i k w at, apart.0, edit-view f es i k w v apart.1 at is)
 
 edit-id : (f : SegRec → SegRec) → ((g : SegRec) → (f g).id ≡ g.id) → (id : ℕ) (g : SegRec) → (edit_at id f g).id ≡ g.id
@@ -107,10 +99,7 @@ none_found es id none = find-lookup es id ∙ ap (option_map (seg_of id)) (sym n
 -- the entry with this key and this value
 pub entry-from : (es : List (ℕ × PageTable)) (i id : ℕ) (w : PageTable) → key_at es i ≡ Some id → Some w ≡ slice_get (values_of es) i → slice_get es i ≡ Some (id, w)
 entry-from [] i id w key value = cc
-entry-from (e ∷ es) zero id w key value =
-    let a : e.0 ≡ id = cc in
-    let b : w ≡ e.1 = cc in
-    rw (← a, b) refl
+entry-from (e ∷ es) zero id w key value = grind arith
 entry-from (e ∷ es) (suc i) id w key value = entry-from es i id w key value
 
 -- what is found of a segment that is there

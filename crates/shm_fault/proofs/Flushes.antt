@@ -93,11 +93,7 @@ flushed-none n s sound = let none : take n (due s 0) ≡ [] = by n in record {
 
 -- the frame may be flushed as it might at first
 pub may-same : (n : ℕ) (s : StoreView) (i : ℕ) (t : StoreView) (written failed : ℕ) → Flushed n s i t written failed → may_flush t i ≡ may_flush s i
-may-same n s i t written failed d = rw (d.ahead i (omega arith)) (by (frame_at s.frames i).owner)
-  where
-    by : (o : Option PageRef) → ((frame_at s.frames i).dirty && owner_unlocked t o) ≡ ((frame_at s.frames i).dirty && owner_unlocked s o)
-    by None = refl
-    by (Some r) = rw d.goes.bytes refl
+may-same n s i t written failed d = grind (arith, nat_tests, d.ahead i (omega arith), d.goes.bytes)
 
 module _ (n : ℕ) (s : StoreView) (i : ℕ) (t : StoreView) (written failed : ℕ) (d : Flushed n s i t written failed) where
   skipped : take n (due s (i + 1)) ≡ take n (due s i) → Flushed n s (i + 1) t written failed

@@ -34,7 +34,7 @@ pub other-self : (r : PageRef) → other r r ≡ false
 other-self r = rw (same-self r) refl
 
 pub other-true : (r q : PageRef) → q ≢ r → other r q ≡ true
-other-true r q n = elim (cases_Bool (other r q)) [ inl t ↦ t | inr f ↦ absurd (n (other-false r q f)) ]
+other-true r q n = grind (arith, nat_tests, n, other-false r q)
 
 pub other_ne : (r q : PageRef) → other r q ≡ true → q ≢ r
 other_ne r q e same = false≢true (sym (other-self r) ∙ (rw same at e))
@@ -82,12 +82,7 @@ sum-same : (weigh : Outline → ℕ) (h : SegRec → ℕ) → ((g : SegRec) → 
 sum-same weigh h is [] [] e = refl
 sum-same weigh h is (g ∷ gs) [] e = cc
 sum-same weigh h is [] (k ∷ ks) e = cc
-sum-same weigh h is (g ∷ gs) (k ∷ ks) e =
-    let a : outline k ≡ outline g = cc in
-    let b : outlines ks ≡ outlines gs = cc in
-    let one : h k ≡ h g = is k ∙ ap weigh a ∙ sym (is g) in
-    let rest = sum-same weigh h is gs ks b in
-    omega (arith, one, rest, sum_by-cons h k ks, sum_by-cons h g gs)
+sum-same weigh h is (g ∷ gs) (k ∷ ks) e = grind (arith, e, is k, is g, sum-same weigh h is gs ks, sum_by-cons h k ks, sum_by-cons h g gs)
 
 pub sum_pages-same : (gs hs : List SegRec) → outlines hs ≡ outlines gs → sum_by pages_of hs ≡ sum_by pages_of gs
 sum_pages-same gs hs e = sum-same (λ o. o.count) pages_of (λ g. refl) gs hs e
@@ -100,10 +95,7 @@ outline-seg_with r p g = grind (arith, nat_tests, length-set g.pages r.page p)
 
 pub outlines-with : (gs : List SegRec) (r : PageRef) (p : PageRec) → outlines (with_rec gs r p) ≡ outlines gs
 outlines-with [] r p = refl
-outlines-with (g ∷ gs) r p =
-    let a = outline-seg_with r p g in
-    let b = outlines-with gs r p in
-    cc
+outlines-with (g ∷ gs) r p = cc (outline-seg_with r p g, outlines-with gs r p)
 
 -- a change that keeps identifiers, looked up
 pub find-map : (f : SegRec → SegRec) → ((g : SegRec) → (f g).id ≡ g.id) → (gs : List SegRec) (id : ℕ) → find_seg (map f gs) id ≡ option_map f (find_seg gs id)
@@ -137,13 +129,7 @@ rec-tail g gs apart r has = rw (ne_eqb g.id r.seg (not-head g gs apart r has)) r
 
 -- where the page is that was set
 pub rec-with : (gs : List SegRec) (r : PageRef) (p : PageRec) → HasPage gs r → rec_by (with_rec gs r p) r ≡ p
-rec-with gs r p has = by (find_seg gs r.seg) refl has
-  where
-    by : (o : Option SegRec) → find_seg gs r.seg ≡ o → r.page < count_in o → rec_by (with_rec gs r p) r ≡ p
-    by None e lt = absurd (omega arith)
-    by (Some g) e lt =
-        let id : g.id ≡ r.seg = find-id gs r.seg g e in
-        rw (find-with gs r p r.seg, e, eq-eqb g.id r.seg id) (get_or-set_same g.pages r.page p no_page lt)
+rec-with gs r p has = grind (arith, nat_tests, find-with gs r p r.seg, find-id gs r.seg, get_or-set_same, has)
 
 -- and where any other page is
 pub rec-with_other : (gs : List SegRec) (r q : PageRef) (p : PageRec) → other r q ≡ true → rec_by (with_rec gs r p) q ≡ rec_by gs q
@@ -162,21 +148,11 @@ rec-with_other gs r q p off = by (find_seg gs q.seg) refl
 
 -- no page's frame changed
 pub still-with : (gs : List SegRec) (r : PageRef) (p : PageRec) → HasPage gs r → p.frame ≡ (rec_by gs r).frame → (q : PageRef) → (rec_by (with_rec gs r p) q).frame ≡ (rec_by gs q).frame
-still-with gs r p has same q = elim (cases_ref r q) [
-  | inl e ↦ rw e (ap (λ (x : PageRec). x.frame) (rec-with gs r p has) ∙ same)
-  | inr off ↦ ap (λ (x : PageRec). x.frame) (rec-with_other gs r q p off)
-]
+still-with gs r p has same q = grind (arith, cases_ref r q, rec-with gs r p has, rec-with_other gs r q p, same)
 
 -- a page that is somewhere is there
 pub has-somewhere : (gs : List SegRec) (r : PageRef) → rec_by gs r ≢ no_page → HasPage gs r
-has-somewhere gs r n = by (find_seg gs r.seg) refl
-  where
-    by : (o : Option SegRec) → find_seg gs r.seg ≡ o → r.page < count_in (find_seg gs r.seg)
-    by None e = absurd (n (rw e refl))
-    by (Some g) e = elim (cases_lt r.page (length g.pages)) [
-      | inl lt ↦ rw e lt
-      | inr past ↦ absurd (n (rw e (get_or_past g.pages r.page no_page past)))
-    ]
+has-somewhere gs r n = grind (arith, nat_tests, n, get_or_past, cases_lt)
 
 pub has-frame : (gs : List SegRec) (r : PageRef) (f : ℕ) → (rec_by gs r).frame ≡ Some f → HasPage gs r
 has-frame gs r f e = has-somewhere gs r (λ none. let h : (rec_by gs r).frame ≡ None = rw none refl in cc)
@@ -185,8 +161,4 @@ pub has-slot : (gs : List SegRec) (r : PageRef) (k : Slot) → (rec_by gs r).slo
 has-slot gs r k e = has-somewhere gs r (λ none. let h : (rec_by gs r).slot ≡ None = rw none refl in cc)
 
 pub rec-past : (gs : List SegRec) (r : PageRef) → count_by_id gs r.seg ≤ r.page → rec_by gs r ≡ no_page
-rec-past gs r past = by (find_seg gs r.seg) refl
-  where
-    by : (o : Option SegRec) → find_seg gs r.seg ≡ o → rec_by gs r ≡ no_page
-    by None e = rw e refl
-    by (Some g) e = let le : length g.pages ≤ r.page = rw e at past in rw e (get_or_past g.pages r.page no_page le)
+rec-past gs r past = grind (arith, nat_tests, get_or_past, past)

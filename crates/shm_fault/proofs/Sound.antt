@@ -17,6 +17,7 @@ use Rattle.shm_fault.proofs.Ties.{Touches, tied_touched, bytes_touched}
 use Rattle.shm_fault.proofs.Tally.{resident-frames}
 use Rattle.shm_fault.proofs.Bytes.{bytes_at, held-same}
 use Rattle.shm_fault.proofs.Failures.{spent-cause, cause-before}
+use Rattle.std.proofs.lemmas.Bool.Decides.{nat_tests}
 
 -- a page and the frame that it is in
 pub frame-own : (s : StoreView) → IsStoreSound s → (r : PageRef) (f : ℕ) → (rec_by s.segs r).frame ≡ Some f → (f < length s.frames) × ((frame_at s.frames f).owner ≡ Some r)
@@ -45,7 +46,7 @@ IsSound-from s tied apart frames swap hand capacity locked = record {
   where
     by : (o : Option ℕ) → cond (dirty_in s.frames o) 1 0 ≤ cond (is_some o) 1 0
     by None = omega arith
-    by (Some f) = elim (cases_Bool (frame_at s.frames f).dirty) [ inl t ↦ rw t (omega arith) | inr n ↦ rw n (omega arith) ]
+    by (Some f) = grind (arith, nat_tests)
 
 -- a change that touches few pages
 module _ (off : PageRef → Bool) (s t : StoreView) (sound : IsStoreSound s) (to : Touches off s t) (swap : IsSwap t.swap) (same : sizes t.swap ≡ sizes s.swap) (hand : t.hand < length t.frames)

@@ -106,15 +106,7 @@ held-pasted s t sound apart shape r off new has fits here others =
 -- no segment has 2^32 pages
 sum-slots : (areas : List AreaView) → ((i : ℕ) → IsArea (get_or areas i no_area)) → sum_by slots_in (map size_of areas) ≤ 65536 * length areas
 sum-slots [] each = omega arith
-sum-slots (a ∷ areas) each =
-    let rest = sum-slots areas (λ i. each (suc i)) in
-    let small : length a.pages ≤ 65536 = (each 0).small in
-    let here : slots_in (size_of a) ≤ 65536 = by a.here in
-    omega (arith, rest, here, sum_by-cons slots_in (size_of a) (map size_of areas))
-  where
-    by : (b : Bool) → slots_in (cond b (Some (length a.pages)) None) ≤ 65536
-    by true = (each 0).small
-    by false = omega arith
+sum-slots (a ∷ areas) each = grind (arith, nat_tests, sum-slots areas (λ i. each (suc i)), (each 0).small, sum_by-cons slots_in (size_of a) (map size_of areas))
 
 count-le-sum : (gs : List SegRec) (id : ℕ) → count_by_id gs id ≤ sum_by pages_of gs
 count-le-sum [] id = omega arith

@@ -175,11 +175,7 @@ slot_split k (Some j) = grind (arith, nat_tests)
 
 slot_in-is : (k j : ℕ) (o : Option Slot) → slot_in k o ≡ Some j → o ≡ Some (record { area = k; slot = j })
 slot_in-is k j None e = cc
-slot_in-is k j (Some i) e = elim (cases_eq i.area k) [
-  | inl a ↦ let h : Some i.slot ≡ Some j = rw (eq-eqb i.area k a) at e in let b : i.slot ≡ j = cc in
-      let l : record { area = i.area; slot = i.slot } ≡ record { area = k; slot = j } = rw (a, b) refl in ap Some l
-  | inr n ↦ let h : None ≡ Some j = rw (ne_eqb i.area k n) at e in cc
-]
+slot_in-is k j (Some i) e = grind (arith, nat_tests)
 
 slots_by_page : (gs : List SegRec) → AreApart gs → (areas : List AreaView) (k : ℕ)
     → ((r : PageRef) (i j : ℕ) → HasPage gs r → (rec_by gs r).slot ≡ Some (record { area = k + i; slot = j }) → get_or (get_or areas i no_area).owners j None ≡ Some r)

@@ -20,6 +20,7 @@ use Rattle.shm_fault.proofs.Pages.{rec-with, rec-with_other, cases_ref, other, o
 use Rattle.shm_fault.proofs.Sound.{frame-own, Goes-trans, KeepsLocked-trans}
 use Rattle.shm_fault.proofs.Changes.{keeps-alike, keeps-load, keeps-settle}
 use Rattle.shm_fault.proofs.Slots.{set-cases}
+use Rattle.std.proofs.lemmas.Bool.Decides.{nat_tests}
 
 pub Visits-trans : (r : PageRef) (pinned : Option ℕ) (s t u : StoreView) → Visits r pinned s t → Visits r pinned t u → Visits r pinned s u
 Visits-trans r pinned s t u a b = record {
@@ -155,8 +156,8 @@ settles s sound page f has lt free away bytes =
 -- moves, one after another
 moved-append : (ms : List Move) (m : Move) (seg page : ℕ) (f : Option ℕ) → moved (ms ++ m ∷ []) seg page f ≡ moved (m ∷ []) seg page (moved ms seg page f)
 moved-append [] m seg page f = refl
-moved-append (Gone r ∷ ms) m seg page f = moved-append ms m seg page (cond (is_page r seg page) None f)
-moved-append (Came r k ∷ ms) m seg page f = moved-append ms m seg page (cond (is_page r seg page) (Some k) f)
+moved-append (Gone r ∷ ms) m seg page f = moved-append ms m seg page _
+moved-append (Came r k ∷ ms) m seg page f = moved-append ms m seg page _
 
 pub moves-still : (ms : List Move) (s t : StoreView) → Still s t → MovesOn ms ms s t
 unfolding frame_of

@@ -179,8 +179,7 @@ few-locked s sound id true few =
     omega (arith, e, h, f)
 
 none-from : (o : Option SegRec) → is_some o ≡ false → o ≡ None
-none-from None e = refl
-none-from (Some g) e = cc
+none-from o e = grind arith
 
 -- a segment that is not held
 pub not-held : (s : StoreView) → IsStoreSound s → (id : ℕ) → is_held (held s) id ≡ false → find_seg s.segs id ≡ None
