@@ -21,10 +21,6 @@ pub find-lookup : (es : List (ℕ × PageTable)) (id : ℕ) → find_seg (segs_v
 find-lookup [] id = refl
 find-lookup (e ∷ es) id = grind (arith, nat_tests, find-lookup es id)
 
--- a segment that is not found is not the first, and not found among the rest
-none-cons : (g : SegRec) (gs : List SegRec) (id : ℕ) → find_seg (g ∷ gs) id ≡ None → (g.id ≢ id) × (find_seg gs id ≡ None)
-none-cons g gs id none = grind (arith, nat_tests)
-
 pub insert-view : (es : List (ℕ × PageTable)) (id : ℕ) (s : PageTable) → find_seg (segs_view es) id ≡ None → segs_view (insert_entry nat_eq es id s) ≡ segs_view es ++ seg_of id s ∷ []
 insert-view [] id s none = refl
 insert-view (e ∷ es) id s none = grind (arith, nat_tests, insert-view es id s)

@@ -48,13 +48,6 @@ abbrev sets : List ℕ → ℕ → List ℕ → List ℕ
 sets xs at [] = xs
 sets xs at (b ∷ bs) = sets (set xs at b) (at + 1) bs
 
-drop-set_past : (xs : List ℕ) (i n : ℕ) (y : ℕ) → i < n → drop n (set xs i y) ≡ drop n xs
-drop-set_past [] i n y lt = refl
-drop-set_past (x ∷ xs) zero zero y lt = absurd (omega arith)
-drop-set_past (x ∷ xs) zero (suc n) y lt = refl
-drop-set_past (x ∷ xs) (suc i) zero y lt = absurd (omega arith)
-drop-set_past (x ∷ xs) (suc i) (suc n) y lt = drop-set_past xs i n y (omega arith)
-
 paste-set : (xs : List ℕ) (at b : ℕ) (bs : List ℕ) → at < length xs → paste (set xs at b) (at + 1) bs ≡ paste xs at (b ∷ bs)
 paste-set xs at b bs lt = grind (arith, common_steps, take-set_at xs at (at + 1) b refl lt, drop-set-lt (at + 1 + length bs) xs at b, append_assoc)
 

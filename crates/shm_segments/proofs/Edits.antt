@@ -52,21 +52,13 @@ joined-other hs rows id r s f there same =
 pub live-other_same : (rows : List (Entry Head)) (id : ℕ) (r s : Row Head) → live rows id ≡ Some r → live (with_other rows id s) id ≡ Some s
 live-other_same rows id r s there =
     let l = live-at rows id r there in
-    let e : Entry Head = entry_at rows (id % 32768) in
-    rw (at_set rows (id % 32768) (record e { row = Some s }) l.within, eq-eqb (identifier (id % 32768) e.destroyed) id l.own) refl
+    grind (arith, nat_tests, at_set rows (id % 32768) (record (entry_at rows (id % 32768)) { row = Some s }) l.within, l.own)
 
 pub live-other : (rows : List (Entry Head)) (id at : ℕ) (r s : Row Head) → live rows id ≡ Some r → at ≢ id → live (with_other rows id s) at ≡ live rows at
 live-other rows id at r s there apart =
     let l = live-at rows id r there in
-    let e : Entry Head = entry_at rows (id % 32768) in
-    let x : Entry Head = record e { row = Some s } in
-    elim (cases_eq (at % 32768) (id % 32768)) [
-      | inl here ↦
-          (let other : identifier (id % 32768) e.destroyed ≢ at = λ is. apart (sym is ∙ l.own) in
-          rw (here, at_set rows (id % 32768) x l.within, ne_eqb (identifier (id % 32768) e.destroyed) at other) refl)
-      | inr away ↦
-          ap (λ (y : Entry Head). if identifier (at % 32768) y.destroyed == at then y.row else None) (at_set_other rows (id % 32768) (at % 32768) x away)
-    ]
+    let x : Entry Head = record (entry_at rows (id % 32768)) { row = Some s } in
+    grind (arith, nat_tests, cases_eq (at % 32768) (id % 32768), at_set rows (id % 32768) x l.within, at_set_other rows (id % 32768) (at % 32768) x, l.own, apart)
 
 -- a row of the same lock and pages
 pub agree-other : (hs : List Held) (rows : List (Entry Head)) (id : ℕ) (r s : Row Head) → Agree hs rows → live rows id ≡ Some r → shape_row s ≡ shape_row r → Agree hs (with_other rows id s)

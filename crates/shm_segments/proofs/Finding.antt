@@ -71,8 +71,7 @@ pub listed-row : (i : ℕ) (e : Entry Head) (x : ℤ × (ℕ × Head)) → row_l
 listed-row i e x is = listed i e.destroyed e.row x is
 
 unlisted : (i d : ℕ) (o : Option (Row Head)) → row_shown i d o ≡ None → o ≡ None
-unlisted i d None is = refl
-unlisted i d (Some r) is = absurd (none-some _ (sym is))
+unlisted i d o is = grind arith
 
 pub unlisted-row : (i : ℕ) (e : Entry Head) → row_listed i e ≡ None → e.row ≡ None
 unlisted-row i e is = unlisted i e.destroyed e.row is
@@ -90,17 +89,8 @@ none-live hs id b = grind (arith, nat_tests)
 
 -- what is live in the flat table
 pub live-joined : (hs : List Held) (rows : List (Entry Head)) (id : ℕ) → table.live (joined hs rows) id ≡ option_map (whole hs id) (live rows id)
-live-joined hs rows id = by (cases_lt (id % 32768) (length rows))
-  where
-    by : (id % 32768 < length rows) ⊎ (length rows ≤ id % 32768) → table.live (joined hs rows) id ≡ option_map (whole hs id) (live rows id)
-    by (inl l) = ap (table.live_in id) (at-table (whole hs) (id % 32768) rows l) ∙ in-flat hs (id % 32768) id (entry_at rows (id % 32768)) refl
-    by (inr past) =
-        ap (table.live_in id) (past-flat (whole hs) 0 (id % 32768) rows past)
-        ∙ rw (at_past rows (id % 32768) past) (none-live hs id (identifier (id % 32768) 0 == id))
-
-some-map : (hs : List Held) (id : ℕ) (o : Option (Row Head)) → is_some (option_map (whole hs id) o) ≡ is_some o
-some-map hs id None = refl
-some-map hs id (Some r) = refl
+live-joined hs rows id =
+    grind (arith, nat_tests, cases_lt (id % 32768) (length rows), at-table (whole hs) (id % 32768) rows, in-flat hs (id % 32768) id (entry_at rows (id % 32768)) refl, past-flat (whole hs) 0 (id % 32768) rows, at_past rows (id % 32768))
 
 pub is_live-row : (hs : List Held) (rows : List (Entry Head)) (id : ℕ) → table.IsLive (joined hs rows) id → is_some (live rows id) ≡ true
 is_live-row hs rows id is = grind (arith, live-joined hs rows id, is)

@@ -28,15 +28,7 @@ pub record LiveAt (rows : List (Entry Head)) (id : ℕ) (r : Row Head) : Type 0 
   pub own : identifier (id % 32768) (entry_at rows (id % 32768)).destroyed ≡ id
 
 pub live-at : (rows : List (Entry Head)) (id : ℕ) (r : Row Head) → live rows id ≡ Some r → LiveAt rows id r
-live-at rows id r is = elim (eqb_tells (identifier (id % 32768) (entry_at rows (id % 32768)).destroyed) id) [
-  | inl w ↦
-      (let there : (entry_at rows (id % 32768)).row ≡ Some r = rw w.0 at is in
-      elim (cases_lt (id % 32768) (length rows)) [
-        | inl within ↦ record { within = within; there = there; own = w.1 }
-        | inr past ↦ absurd (none_some (sym (ap (λ (e : Entry Head). e.row) (at_past rows (id % 32768) past)) ∙ there))
-      ])
-  | inr w ↦ absurd (none_some (rw w.0 at is))
-]
+live-at rows id r is = grind (arith, nat_tests, at_past rows (id % 32768), is)
 
 -- what stands at an index is live under its identifier
 pub at-live : (rows : List (Entry Head)) (i : ℕ) → i < 32768 → live rows (identifier i (entry_at rows i).destroyed) ≡ (entry_at rows i).row
@@ -50,8 +42,7 @@ whole-same : (hs gs : List Held) (id : ℕ) (r : Row Head) → bytes_of gs id �
 whole-same hs gs id r e = ap (segment_of r) e
 
 row-same : (hs gs : List Held) (id : ℕ) (o : Option (Row Head)) → bytes_of gs id ≡ bytes_of hs id → flat_row (whole gs) id o ≡ flat_row (whole hs) id o
-row-same hs gs id None e = refl
-row-same hs gs id (Some r) e = ap Some (whole-same hs gs id r e)
+row-same hs gs id o e = grind (arith, e)
 
 entry-same : (hs gs : List Held) (i : ℕ) (e : Entry Head) → bytes_of gs (identifier i e.destroyed) ≡ bytes_of hs (identifier i e.destroyed) → flat_entry (whole gs) i e ≡ flat_entry (whole hs) i e
 entry-same hs gs i e same = ap (λ (s : Option Segment). record { destroyed = e.destroyed; segment = s }) (row-same hs gs (identifier i e.destroyed) e.row same)

@@ -85,10 +85,7 @@ runs-zeros a b id n new is swap frames still = record {
 }
   where
     locks : (at : ℕ) → is_locked (with_zeros (held a) id n) at ≡ true → is_locked (held a) at ≡ true
-    locks at e = elim (cases_eq at id) [
-      | inl q ↦ (let z : false ≡ true = rw (q, find-zeros_same (held a) id n new) at e in absurd (true≢false (sym z)))
-      | inr m ↦ rw (find-zeros_other (held a) id n at m) at e
-    ]
+    locks at e = grind (arith, cases_eq at id, find-zeros_same (held a) id n new, find-zeros_other (held a) id n at, e)
 
 -- a segment is gone, and the others' pages are where they were
 pub runs-without : (a b : StoreView) (id : ℕ) → held b ≡ without (held a) id → GoesOn a.swap b.swap → length b.frames ≡ length a.frames → ((s page : ℕ) → s ≢ id → frame_of b s page ≡ frame_of a s page) → Runs a b
@@ -199,10 +196,7 @@ whole-fresh s swap is sound =
     }
   where
     nothing : (id : ℕ) → live [] id ≡ None
-    nothing id = elim (cases_Bool (identifier (id % 32768) 0 == id)) [
-      | inl e ↦ rw e refl
-      | inr e ↦ rw e refl
-    ]
+    nothing id = grind (arith, nat_tests)
 
     same : (id : ℕ) → option_map shape_held (find_held [] id) ≡ option_map shape_row (live [] id)
     same id = sym (ap (option_map shape_row) (nothing id))

@@ -46,10 +46,6 @@ joined-without hs rows i few small =
     (set-joined hs (without hs id) rows i (record { destroyed = (entry_at rows i).destroyed + 1; row = None }) few
     (λ at other. ap bytes_in (find-without_other hs id at (λ is. other (ap (λ n. n % 32768) is ∙ own)))))
 
-none-either : (b : Bool) (o : Option (Row Head)) → o ≡ None → (if b then o else None) ≡ None
-none-either true o e = e
-none-either false o e = refl
-
 -- nothing is live then at its index
 pub live-without_here : (rows : List (Entry Head)) (i at : ℕ) → i < length rows → at % 32768 ≡ i → live (without_row rows i) at ≡ None
 live-without_here rows i at within here = grind (arith, nat_tests, here, at_set rows i (emptied rows i) within)
@@ -59,10 +55,7 @@ live-without_other rows i at other = live-entry rows (without_row rows i) at (at
 
 -- what was not destroyed is live as before
 pub live-without : (rows : List (Entry Head)) (i at : ℕ) → i < length rows → at ≢ id_of rows i → live (without_row rows i) at ≡ live rows at
-live-without rows i at within apart = elim (cases_eq (at % 32768) i) [
-  | inl here ↦ live-without_here rows i at within here ∙ sym (live-stale rows i at here apart)
-  | inr other ↦ live-without_other rows i at other
-]
+live-without rows i at within apart = grind (arith, nat_tests, cases_eq (at % 32768) i, live-without_here rows i at within, live-stale rows i at, live-without_other rows i at, apart)
 
 pub agree-without : (hs : List Held) (rows : List (Entry Head)) (i : ℕ) → Agree hs rows → i < length rows → Agree (without hs (id_of rows i)) (without_row rows i)
 agree-without hs rows i agree within =
@@ -94,8 +87,7 @@ pub record IsFree (rows : List (Entry Head)) (i : ℕ) : Type 0 where
   pub none : (entry_at rows i).row ≡ None
 
 none-free : (r : Option (Row Head)) (b : Bool) → (is_none r && b) ≡ true → r ≡ None
-none-free None b free = refl
-none-free (Some r) b free = absurd (true≢false (sym free))
+none-free r b free = grind (arith, nat_tests)
 
 pub index-free : (rows : List (Entry Head)) (i : ℕ) → length rows ≤ 32768 → free_index rows ≡ Some i → IsFree rows i
 index-free rows i few is =

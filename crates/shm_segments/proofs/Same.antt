@@ -51,11 +51,7 @@ same-trans t u v a b =
 
 -- a word on what stands at an index is the same where it is so for the entry that was set
 at-set : {Y : Type 0} (w : Option Entry → Y) (t : List Entry) (i j : ℕ) (e x : Entry) → slice_get t i ≡ Some x → w (Some e) ≡ w (Some x) → w (slice_get (slice_set t i e) j) ≡ w (slice_get t j)
-at-set w t i j e x there same = by (cases_eq i j)
-  where
-    by : (i ≡ j) ⊎ (i ≢ j) → w (slice_get (slice_set t i e) j) ≡ w (slice_get t j)
-    by (inl h) = rw (← h, get-set_same t i e x there, there) same
-    by (inr n) = ap w (get-set_other t i j e n)
+at-set w t i j e x there same = grind (arith, cases_eq i j, get-set_same t i e x there, get-set_other t i j e, there, same)
 
 live-alike : (id d : ℕ) (o p : Option Segment) → AlikePages o p → (pages_held (live_in id (Some (record { destroyed = d; segment = p }))) ≡ pages_held (live_in id (Some (record { destroyed = d; segment = o })))) × (is_some (live_in id (Some (record { destroyed = d; segment = p }))) ≡ is_some (live_in id (Some (record { destroyed = d; segment = o }))))
 live-alike id d o p a = grind (arith, nat_tests, a.pages, a.some)
@@ -85,12 +81,10 @@ module _ (f : Segment → Segment) where
   mapped-pages k (Some s) = record { pages = rw (k s) refl; some = refl }
 
   mapped-locked : ((s : Segment) → length (f s).bytes ≡ length s.bytes) → ((s : Segment) → (f s).locked ≡ s.locked) → (o : Option Segment) → pages_locked (option_map f o) ≡ pages_locked o
-  mapped-locked k l None = refl
-  mapped-locked k l (Some s) = rw (k s, l s) refl
+  mapped-locked k l o = grind (arith, nat_tests, k, l)
 
   mapped-left : ((s : Segment) → (f s).dest ≡ s.dest) → (o : Option Segment) (rs : List Runner) (id : ℕ) → is_left rs id (option_map f o) ≡ is_left rs id o
-  mapped-left k None rs id = refl
-  mapped-left k (Some s) rs id = rw (k s) refl
+  mapped-left k o rs id = grind (arith, k)
 
   in-pages : ((s : Segment) → length (f s).bytes ≡ length s.bytes) → (t : List Entry) (i : ℕ) (o : Option Entry) → slice_get t i ≡ o → SamePages t (set_in t i (with_entry f) o)
   in-pages k t i None is = pages-refl t

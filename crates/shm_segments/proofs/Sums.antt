@@ -17,6 +17,7 @@ use Rattle.shm_segments.specs.Joined.{whole, joined, live, pages_in_row, locked_
 use Rattle.shm_segments.proofs.Joins.{at-live, held-as, live-at}
 use Rattle.shm_segments.proofs.Edits.{with_other}
 use Rattle.shm_segments.proofs.Rows.{IsFree}
+use Rattle.std.proofs.lemmas.Bool.Decides.{nat_tests}
 
 -- THE TABLE'S SUMS
 
@@ -41,9 +42,7 @@ row-pages hs id (Some r) whole = let size = whole r refl in omega (arith, size)
 
 row-locked : (hs : List Held) (id : ℕ) (o : Option (Row Head)) → ((r : Row Head) → o ≡ Some r → length (bytes_of hs id) ≡ 4096 * pages_of r.value.size) → pages_locked (flat_row (whole hs) id o) ≡ locked_in_row o
 row-locked hs id None whole = refl
-row-locked hs id (Some r) whole =
-    let size : length (bytes_of hs id) / 4096 ≡ pages_of r.value.size = let size = whole r refl in omega (arith, size) in
-    ap (λ n. if r.value.locked then n else 0) size
+row-locked hs id (Some r) whole = grind (arith, nat_tests, whole r refl)
 
 -- a sum over the segments is one over the rows
 sum-from : (weigh : Option Segment → ℕ) (f : Option (Row Head) → ℕ) (hs : List Held) → ((id : ℕ) (o : Option (Row Head)) → ((r : Row Head) → o ≡ Some r → length (bytes_of hs id) ≡ 4096 * pages_of r.value.size) → weigh (flat_row (whole hs) id o) ≡ f o)
