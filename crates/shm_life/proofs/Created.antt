@@ -139,14 +139,7 @@ module _ (t u : List Entry) (i : ℕ) (s : Segment) (a : Added t u i s) (free : 
   fits-added p h = let same = live-added p.seg h.0 in (rw same h.0, λ j lt. rw same (h.1 j lt))
 
   orphans-added : s.dest ≡ false → (rs : List Runner) → OrphansAmong [] rs t → OrphansAmong [] rs u
-  orphans-added dest rs none = λ j h. by j h (cases_eq j i)
-    where
-      unmarked : is_left rs (identifier i (destroyed_at t i)) (Some s) ≡ false
-      unmarked = rw dest refl
-
-      by : (j : ℕ) → orphan rs u j ≡ true → (j ≡ i) ⊎ (j ≢ i) → is_among [] (id_at u j) ≡ true
-      by j h (inl e) = absurd (true≢false (sym h ∙ ap (λ k. orphan_in k rs (slice_get u k)) e ∙ ap (orphan_in i rs) a.here ∙ unmarked))
-      by j h (inr n) = absurd (true≢false (sym (none j (sym (ap (orphan_in j rs) (a.others j n)) ∙ h))))
+  orphans-added dest rs none = λ j h. grind (arith, nat_tests, cases_eq j i, a.here, a.others j, dest, none j, h)
 
   few-added : length t ≤ 32768 → length u ≤ 32768
   few-added few = grind (arith, a.size, free.small few, few)

@@ -16,19 +16,12 @@ use Rattle.std.proofs.lemmas.Bool.Decides.{nat_tests}
 abbrev pub KeepsPieces : List ℕ → List Runner → List Runner → Type 0
 KeepsPieces lost rs after = (id : ℕ) → is_among lost id ≡ false → attach_count rs id ≤ attach_count after id
 
-left-more : (rs after : List Runner) (id : ℕ) (o : Option Segment) → attach_count rs id ≤ attach_count after id → is_left after id o ≡ true → is_left rs id o ≡ true
-left-more rs after id o le h = grind (arith, nat_tests)
-
 orphan-more : (rs after : List Runner) (i : ℕ) (o : Option Entry) → attach_count rs (id_in i o) ≤ attach_count after (id_in i o) → orphan_in i after o ≡ true → orphan_in i rs o ≡ true
 orphan-more rs after i o le h = grind (arith, nat_tests)
 
 -- so only segments that lost pieces are left without
 pub orphans-among : (lost : List ℕ) (rs after : List Runner) (t : List Entry) → OrphansAmong [] rs t → KeepsPieces lost rs after → OrphansAmong lost after t
-orphans-among lost rs after t none keeps = λ i h.
-    elim (cases_Bool (is_among lost (id_at t i))) [
-      | inl m ↦ m
-      | inr m ↦ absurd (true≢false (sym (none i (orphan-more rs after i (slice_get t i) (keeps (id_at t i) m) h))))
-    ]
+orphans-among lost rs after t none keeps = λ i h. grind (arith, nat_tests, none i, orphan-more rs after i (slice_get t i), keeps (id_at t i), h)
 
 -- ONE PROCESS CHANGED
 
@@ -62,7 +55,4 @@ pub keeps-without : (addr seg : ℕ) (ps : List Piece) (id : ℕ) → is_among (
 keeps-without addr seg ps id other =
     let le : length (without_named addr seg ps) ≤ length ps = shorter_filter (λ (q : Piece). not (is_named addr seg q)) ps in
     let a = pieces_of-without id addr seg ps (length ps - length (without_named addr seg ps)) (omega (arith, le)) in
-    elim (cases_eq seg id) [
-      | inl e ↦ absurd (true≢false (sym (rw (eq-eqb seg id e) refl) ∙ other))
-      | inr n ↦ let z : some_if id seg (length ps - length (without_named addr seg ps)) ≡ 0 = rw (ne_eqb seg id n) refl in omega (arith, a, z)
-    ]
+    grind (arith, nat_tests, a, other)

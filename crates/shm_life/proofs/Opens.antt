@@ -49,10 +49,8 @@ all-sizes f (x ∷ xs) is =
 not_there : (pid : ℕ) (ps : List Process) → has_pid pid ps ≡ false → All (λ (q : Process). pid ≢ q.pid) ps
 not_there pid [] is = All-nil (λ (q : Process). pid ≢ q.pid)
 not_there pid (p ∷ ps) is =
-    elim (cases_eq p.pid pid) [
-      | inl e ↦ absurd (true≢false (sym (rw (eq-eqb p.pid pid e) refl) ∙ is))
-      | inr n ↦ all-cons (λ (q : Process). pid ≢ q.pid) p ps (λ e. n (sym e)) (not_there pid ps (rw (ne_eqb p.pid pid n) at is))
-    ]
+    let parts : (pid ≢ p.pid) × (has_pid pid ps ≡ false) = grind (arith, nat_tests, is) in
+    all-cons (λ (q : Process). pid ≢ q.pid) p ps parts.0 (not_there pid ps parts.1)
 
 pids-apart : (ps : List Process) → are_pids ps ≡ true → AllPairs (λ (p q : Process). p.pid ≢ q.pid) ps
 pids-apart [] is = λ i j d lt l. absurd (omega (arith, l))
@@ -62,8 +60,7 @@ pids-apart (p ∷ ps) is =
     AllPairs-cons (λ (x y : Process). x.pid ≢ y.pid) p ps (not_there p.pid ps (unsaid (has_pid p.pid ps) own.1)) (pids-apart ps first.1)
   where
     unsaid : (b : Bool) → not b ≡ true → b ≡ false
-    unsaid true e = absurd (true≢false (sym e))
-    unsaid false e = refl
+    unsaid b e = grind arith
 
 -- what a start without an error gives
 pub record IsOpen {X : Type 0} (size : X → ℕ) (pagers : List X) (ps : List Process) : Type 0 where

@@ -24,9 +24,6 @@ swept_from-none i rs (e ∷ es) h =
     swept_from-none (i + 1) rs es (λ k. let s : i + suc k ≡ (i + 1) + k = omega arith in rw s at (h (suc k))) in
     rw (swept_at-none i rs e.destroyed e.segment here, rest) refl
 
-not_among-none : (id : ℕ) → is_among [] id ≡ false
-not_among-none id = refl
-
 no-orphan : (rs : List Runner) (t : List Entry) → OrphansAmong [] rs t → (i : ℕ) → orphan rs t i ≡ false
 no-orphan rs t none i = grind (arith, none i)
 

@@ -46,9 +46,6 @@ NoMore hs t = (id : ℕ) (g : Held) → find_held hs id ≡ Some g → pages_in 
 abbrev emptied : List Entry → ℕ → List Entry
 emptied t id = slice_set t (id % 32768) (record { destroyed = id / 32768; segment = None })
 
-not-there : (id i : ℕ) (o : Option Entry) → o ≡ Some (record { destroyed = i; segment = None }) → pages_held (live_in id o) ≡ 0
-not-there id i o is = grind (arith, nat_tests, is)
-
 -- where a segment is live, the table without it has so many pages less, and the others stay
 pub record Emptied (t u : List Entry) (id n : ℕ) : Type 0 where
   pub fewer : reserved u + n ≤ reserved t

@@ -24,15 +24,7 @@ orphan-index : (rs : List Runner) (t : List Entry) (i : ℕ) → length t ≤ 32
 orphan-index rs t i few h = grind (arith, nat_tests, slice_get_past t i, few, h)
 
 own_left : (rs : List Runner) (t : List Entry) (seg i : ℕ) → i < 32768 → orphan rs t i ≡ true → id_at t i ≡ seg → is_left rs seg (live t seg) ≡ true
-own_left rs t seg i small h own = by (slice_get t i) refl h own
-  where
-    by : (o : Option Entry) → slice_get t i ≡ o → orphan_in i rs o ≡ true → id_in i o ≡ seg → is_left rs seg (live t seg) ≡ true
-    by None is left id = absurd (true≢false (sym left))
-    by (Some e) is left id =
-        let index : seg % 32768 ≡ i = omega (arith, id, small) in
-        let sequence : e.destroyed ≡ seg / 32768 = omega (arith, id, small) in
-        let there : live t seg ≡ e.segment = ap (λ k. live_in seg (slice_get t k)) index ∙ ap (live_in seg) is ∙ rw (eq-eqb e.destroyed (seg / 32768) sequence) refl in
-        rw (there, ← id) left
+own_left rs t seg i small h own = grind (arith, nat_tests, small, h, own)
 
 -- a segment that is no orphan need not be among them
 pub fewer-left : (rs : List Runner) (t : List Entry) (seg : ℕ) (rest : List ℕ) → length t ≤ 32768 → is_left rs seg (live t seg) ≡ false → OrphansAmong (seg ∷ rest) rs t → OrphansAmong rest rs t
