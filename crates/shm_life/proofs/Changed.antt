@@ -1,6 +1,5 @@
 -- What is kept where a segment is locked, marked or written, and where a process forks.
 use Rattle.std.proofs.Common.{◌≡◌, ℕ, ◌+◌, ◌/◌, ◌%◌, ◌≤◌, ◌&&◌, nat_lt, not, Bool, true, false, if◌then◌else◌, List, [], ◌∷◌, length, ◌≢◌, ◌⊎◌, inl, inr, slice_get, slice_set, Some, ap, refl, sym, ◌∙◌, arith, eq-eqb, true≢false}
-use Rattle.std.proofs.lemmas.Grind.{common_steps}
 use Rattle.std.specs.Prelude.{All, Option, Result, Ok, Err, OnOk, OnErr}
 use Rattle.shm_base.specs.Access.{Place}
 use Rattle.shm_base.specs.Bounds.{Bounds}

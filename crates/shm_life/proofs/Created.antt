@@ -1,5 +1,5 @@
 -- What is kept where a segment is made.
-use Rattle.std.proofs.Common.{◌≡◌, ◌≢◌, ◌⊎◌, ℕ, zero, suc, pos, ℤ, ◌+◌, ◌*◌, ◌/◌, ◌%◌, ◌<◌, ◌≤◌, ◌==◌, ◌&&◌, nat_lt, Bool, true, false, is_none, is_some, if◌then◌else◌, List, [], ◌∷◌, ◌++◌, length, get_or, replicate, slice_get, slice_set, Option, Some, None, option_map, refl, sym, ap, ◌∙◌, inl, inr, arith, true≢false, eq-eqb, ne_eqb}
+use Rattle.std.proofs.Common.{◌≡◌, ◌≢◌, ◌⊎◌, ℕ, zero, suc, pos, ℤ, ◌+◌, ◌*◌, ◌/◌, ◌%◌, ◌<◌, ◌≤◌, ◌&&◌, nat_lt, Bool, true, false, is_none, is_some, List, [], ◌∷◌, ◌++◌, length, get_or, replicate, slice_get, slice_set, Option, Some, None, option_map, refl, sym, ap, ◌∙◌, inl, inr, arith, eq-eqb, ne_eqb}
 use Rattle.std.proofs.lemmas.Bool.{cases_eq, cases_Bool, cases_lt, lt-ltb, le-ltb}
 use Rattle.std.proofs.lemmas.Option.{none-some, slice_get_past, slice_get-get_or}
 use Rattle.std.proofs.lemmas.List.{length-append, length-replicate}
@@ -10,11 +10,10 @@ use Rattle.shm_base.specs.Identifier.{identifier, free_from, free_index, destroy
 use Rattle.shm_base.specs.Segments.{pages_held, pages_locked, reserved, locked}
 use Rattle.shm_segments.specs.declared.head.Head.{Head}
 use Rattle.shm_segments.specs.Joined.{segment_of}
-use Rattle.shm_segments.specs.Table.{live, live_in, made, created}
-use Rattle.shm_segments.specs.Left.{is_left, orphan_in, orphan, id_at}
+use Rattle.shm_segments.specs.Table.{live, made, created}
 use Rattle.shm_segments.proofs.Entries.{get-set_same, get-set_other, length-slice_set, sum-set}
 use Rattle.shm_life.specs.Tied.{PieceFits}
-use Rattle.shm_life.specs.Orphans.{is_among, OrphansAmong}
+use Rattle.shm_life.specs.Orphans.{OrphansAmong}
 use Rattle.shm_life.specs.Kept.{IsMachineKept}
 use Rattle.shm_life.proofs.Pieces.{fit-table}
 use Rattle.std.proofs.lemmas.Bool.Decides.{nat_tests}

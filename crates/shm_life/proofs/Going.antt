@@ -5,7 +5,7 @@ use Rattle.std.proofs.lemmas.List.Elements.{All-nil}
 use Rattle.std.specs.Prelude.{All}
 use Rattle.shm_base.specs.Access.{set_in}
 use Rattle.shm_base.specs.Bounds.{Bounds}
-use Rattle.shm_base.specs.State.{Segment, Piece, Life, Live, Entry, Runner}
+use Rattle.shm_base.specs.State.{Piece, Life, Live, Entry, Runner}
 use Rattle.shm_base.specs.Space.{cut, pieces_of, origin_of, without_named}
 use Rattle.shm_base.specs.Segments.{change, with_entry, attached, detached, detach_all}
 use Rattle.shm_base.specs.Step.{segments_of}
@@ -24,7 +24,6 @@ use Rattle.shm_life.proofs.Leaving.{keeps-set, keeps-all, keeps-without, keeps-c
 use Rattle.shm_life.proofs.Running.{kept-by}
 use Rattle.shm_life.proofs.Pieces.{fit-set, pass-cut, pass-inserted, pass-without, piece-same}
 use Rattle.shm_life.proofs.Settled.{settled-table, caller-runner, caller-fits, lives-map, lives-cut, lives-origin}
-use Rattle.std.proofs.lemmas.Bool.Decides.{nat_tests}
 
 -- the processes with the caller's place taken
 abbrev pub replaced : List Runner → Caller → Life → List Piece → List Runner

@@ -1,6 +1,5 @@
 -- What is found under an identifier, and what the flat machine says of it.
-use Rattle.std.proofs.Common.{◌≡◌, ◌≢◌, ℕ, pos, ℤ, ◌%◌, List, Option, Some, None, Ok, Err, IsOk, is_none, is_some, option_map, Bool, true, false, not, true≢false, refl, sym, ap, subst, ◌∙◌, arith}
-use Rattle.std.proofs.lemmas.Option.{none-some}
+use Rattle.std.proofs.Common.{◌≡◌, ◌≢◌, ℕ, pos, ℤ, ◌%◌, List, Option, Some, None, Ok, Err, IsOk, is_none, is_some, option_map, Bool, not, refl, sym, ap, subst, ◌∙◌, arith}
 use Rattle.shm_base.specs.declared.errno.Errno.TheVariants.{Eidrm, Einval}
 use Rattle.shm_base.specs.Identifier as flat
 use Rattle.shm_base.specs.Access.{bytes_at}

@@ -1,5 +1,5 @@
 -- What is kept where a segment is made, destroyed, locked or written.
-use Rattle.std.proofs.Common.{◌≡◌, ◌≢◌, ◌⊎◌, ℕ, suc, pos, ℤ, ◌+◌, ◌-◌, ◌*◌, ◌/◌, ◌%◌, ◌<◌, ◌≤◌, ◌==◌, Bool, true, false, if◌then◌else◌, List, [], ◌∷◌, length, replicate, slice_set, Option, Some, None, Ok, is_some, is_none, option_map, refl, sym, ap, ◌∙◌, inl, inr, arith, true≢false, eq-eqb, ne_eqb, eqb-true}
+use Rattle.std.proofs.Common.{◌≡◌, ◌≢◌, ◌⊎◌, ℕ, suc, pos, ℤ, ◌+◌, ◌-◌, ◌*◌, ◌/◌, ◌%◌, ◌<◌, ◌≤◌, ◌==◌, Bool, true, false, if◌then◌else◌, List, [], ◌∷◌, replicate, slice_set, Option, Some, None, Ok, is_some, is_none, option_map, refl, sym, ap, ◌∙◌, inl, inr, arith, eq-eqb, ne_eqb, eqb-true}
 use Rattle.std.proofs.lemmas.Bool.{cases_eq, cases_Bool}
 use Rattle.std.proofs.lemmas.Option.{none-some}
 use Rattle.shm_base.specs.State.{pages_of}
@@ -13,7 +13,7 @@ use Rattle.shm_ids.proofs.Flat.{find_key-flat, free_index-flat, destroyed_at-fla
 use Rattle.shm_plain.specs.Held.{Held, find_held, is_held, pages_in, pages_if_locked, with_zeros, without, with_lock}
 use Rattle.shm_plain.proofs.Kept.{apart-push, apart-without, apart-lock}
 use Rattle.shm_segments.specs.declared.head.Head.{Head}
-use Rattle.shm_segments.specs.Joined.{whole, joined, live, Shape, shape_held, shape_row, Agree}
+use Rattle.shm_segments.specs.Joined.{whole, joined, live, Agree}
 use Rattle.shm_segments.specs.Kept.{SizesFit, AreSegmentsKept}
 use Rattle.shm_segments.specs.Table.{made, created, destroyed, relocked}
 use Rattle.shm_segments.proofs.Joins.{LiveAt, live-at, held-as}

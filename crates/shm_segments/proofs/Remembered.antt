@@ -1,19 +1,18 @@
 -- What the memory keeps, and that it shows the table.
-use Rattle.std.proofs.Common.{◌≡◌, ◌≢◌, ℕ, ◌%◌, ◌==◌, Bool, true, false, List, [], ◌∷◌, ◌++◌, length, Option, Some, None, is_some, option_map, refl, sym, ap, ◌∙◌, inl, inr, arith, eq-eqb, ne_eqb, true≢false, not, append-nil}
-use Rattle.std.proofs.lemmas.Bool.{cases_eq, cases_Bool}
+use Rattle.std.proofs.Common.{◌≡◌, ◌≢◌, ℕ, ◌==◌, true, false, List, [], ◌∷◌, ◌++◌, length, Option, Some, None, is_some, option_map, refl, sym, ap, ◌∙◌, inl, inr, arith, eq-eqb, true≢false, not, append-nil}
+use Rattle.std.proofs.lemmas.Bool.{cases_eq}
 use Rattle.std.proofs.lemmas.Option.{none-some}
 use Rattle.std.specs.Prelude.{All, Result, Ok, Err, OnOk, OnErr, sum_by}
 use Rattle.shm_base.specs.declared.paging.Span.{Span}
 use Rattle.shm_base.specs.State.{Entry as FlatEntry}
 use Rattle.shm_ids.specs.declared.table.Entry.{Entry}
 use Rattle.shm_ids.specs.declared.table.Row.{Row}
-use Rattle.shm_plain.specs.Held.{Held, find_held, is_held, is_locked, lock_in, bytes_in, bytes_of, with_zeros, without, FitsPage, written}
+use Rattle.shm_plain.specs.Held.{Held, find_held, is_held, is_locked, bytes_in, bytes_of, with_zeros, without, FitsPage, written}
 use Rattle.shm_plain.proofs.Kept.{find_held-id}
 use Rattle.shm_plain.proofs.Found.{find-without_same, find-without_other, find-zeros_same, find-zeros_other}
 use Rattle.shm_fault.specs.Store.{StoreView, held, frame_of, fresh_store}
 use Rattle.shm_frames.specs.Frame.{Frame}
 use Rattle.shm_slots.specs.View.{SwapView}
-use Rattle.shm_ids.specs.Table.{identifier}
 use Rattle.shm_fault.specs.Segs.{SegRec, find_seg, but, new_seg, rec_in}
 use Rattle.shm_fault.specs.Dropping.{IsBlank}
 use Rattle.shm_fault.proofs.Whole.{not-held, rec-added}

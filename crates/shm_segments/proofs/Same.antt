@@ -1,6 +1,6 @@
 -- Changes of a table that leave alone how many pages each segment has, which are locked, and which are marked.
-use Rattle.std.proofs.Common.{◌≡◌, ◌≢◌, ◌⊎◌, ℕ, ◌/◌, ◌%◌, List, [], ◌∷◌, length, slice_get, slice_set, Option, Some, None, refl, ap, ◌∙◌, inl, inr, eq-eqb, ne_eqb, ◌==◌, arith}
-use Rattle.std.proofs.lemmas.Bool.{cases_eq, cases_Bool}
+use Rattle.std.proofs.Common.{◌≡◌, ℕ, ◌%◌, List, [], ◌∷◌, length, slice_get, slice_set, Option, Some, None, refl, ◌∙◌, arith}
+use Rattle.std.proofs.lemmas.Bool.{cases_eq}
 use Rattle.std.specs.Prelude.{is_some, option_map}
 use Rattle.shm_base.specs.State.{Segment, Entry, Runner}
 use Rattle.shm_base.specs.Access.{Place, set_in, with_byte, entry_byte_set, byte_set, stored}

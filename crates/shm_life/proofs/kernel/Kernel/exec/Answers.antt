@@ -1,5 +1,4 @@
 use Rattle.shm_base.specs.State.{Live}
-use Rattle.shm_attach.specs.Spaces.{IsCaller}
 use Rattle.shm_life.proofs.Going.{Goes, all-go, well-gone}
 use Rattle.shm_life.proofs.kernel.Kernel.exec.Given.{Over}
 use Rattle.shm_life.proofs.kernel.Kernel.exec.Goals as goal

@@ -1,5 +1,4 @@
 use Rattle.shm_base.specs.State.{Ended}
-use Rattle.shm_attach.specs.Spaces.{IsCaller}
 use Rattle.shm_life.proofs.Going.{Goes, all-go, well-gone}
 use Rattle.shm_life.proofs.kernel.Kernel.exit.Given.{Over}
 use Rattle.shm_life.proofs.kernel.Kernel.exit.Goals as goal

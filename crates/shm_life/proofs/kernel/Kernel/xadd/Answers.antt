@@ -1,6 +1,5 @@
 use Rattle.std.proofs.Common.{false}
 use Rattle.shm_base.specs.Spans.{span_places}
-use Rattle.shm_attach.specs.Spaces.{IsCaller}
 use Rattle.shm_segments.proofs.Same.{SameTable, stored-same}
 use Rattle.shm_life.specs.Kept.{IsWell}
 use Rattle.shm_fault.specs.Access.{touched_of}

@@ -1,8 +1,5 @@
-use Rattle.std.proofs.Common.{false, sym, ap, ◌∙◌}
-use Rattle.shm_base.specs.Access.{loaded}
-use Rattle.shm_base.specs.Spans.{span_places}
+use Rattle.std.proofs.Common.{false, ap}
 use Rattle.shm_fault.specs.Store.{held}
-use Rattle.shm_fault.proofs.Failures.{OnOk-map}
 use Rattle.shm_segments.specs.View.{SegmentsView}
 use Rattle.shm_segments.proofs.Spanning.{spans-fit}
 use Rattle.shm_segments.proofs.Shown.{load_shown}
