@@ -202,10 +202,7 @@ module _ (s : StoreView) (sound : IsStoreSound s) (area : ℕ) (here : (area_at 
   owned-outside k q o e = let h : owner_of s.swap area k.slot ≡ Some q = rw e at o in let f = free k.slot in cc
 
   owned-after : (k : Slot) (q : PageRef) → owner_of without_area.swap k.area k.slot ≡ Some q → owner_of s.swap k.area k.slot ≡ Some q
-  owned-after k q o = elim (cases_eq k.area area) [
-    | inl e ↦ absurd (let h : None ≡ Some q = rw (e, area-off) at o in cc)
-    | inr n ↦ rw (area-other k n) at o
-  ]
+  owned-after k q o = grind (arith, cases_eq k.area area, area-off, area-other k, o)
 
   to-off : Touches every s without_area
   to-off = record {
@@ -273,10 +270,8 @@ module _ (area n : ℕ) (s t : StoreView) (d : IsCleaned area n s t) (here : (ar
   -- the area goes once the slots that it has are free
   module _ (all : length (area_at s.swap area).pages ≤ n) where
     pub cleaned-free : (slot : ℕ) → owner_of t.swap area slot ≡ None
-    cleaned-free slot = elim (cases_lt slot n) [
-      | inl lt ↦ d.free slot lt
-      | inr past ↦ get_or_past (area_at t.swap area).owners slot None (let same = cleaned-here.1 in omega (arith, past, all, same, (d.sound.swap.each area).owned))
-    ]
+    cleaned-free slot =
+        grind (arith, cases_lt slot n, d.free slot, get_or_past (area_at t.swap area).owners slot None, cleaned-here.1, all, (d.sound.swap.each area).owned)
 
     pub cleaned-off : (u : SwapView) → u ≡ with_area t.swap area (off (area_at t.swap area)) → IsSwap u → sizes u ≡ set (sizes t.swap) area None
         → pages_held (held s) + length (area_at s.swap area).pages ≤ slots s.swap → IsStoreSound (record t { swap = u }) × (held (record t { swap = u }) ≡ held s)

@@ -13,6 +13,7 @@ use Rattle.shm_fault.specs.Store.{StoreView, page_bytes, held_by, held}
 use Rattle.shm_fault.specs.Goes.{Outline, outline, outlines}
 use Rattle.shm_fault.proofs.Pages.{has-head, rec-head, has-tail, rec-tail}
 use Rattle.std.proofs.lemmas.Grind.{common_steps}
+use Rattle.std.proofs.lemmas.Bool.Decides.{nat_tests}
 
 -- the bytes of so many pages of a segment, from page i on, joined
 unfoldable pub joined : (PageRef → List ℕ) → ℕ → ℕ → ℕ → List ℕ
@@ -34,10 +35,8 @@ pub joined-ext : (b c : PageRef → List ℕ) (id i n : ℕ) → ((j : ℕ) → 
 unfolding joined
 joined-ext b c id i zero same = refl
 joined-ext b c id i (suc n) same =
-    let z : i + 0 ≡ i = omega arith in
-    let here : b (record { seg = id; page = i }) ≡ c (record { seg = id; page = i }) = rw z at (same 0 (omega arith)) in
     let rest = joined-ext b c id (suc i) n (λ j l. let s : i + suc j ≡ suc i + j = omega arith in rw s at (same (suc j) (omega arith))) in
-    cc
+    grind (arith, same 0 (omega arith), rest)
 
 -- pages that have the same bytes make the same segments
 pub held_of-ext : (b c : PageRef → List ℕ) (gs : List SegRec) → AreApart gs → ((r : PageRef) → HasPage gs r → b r ≡ c r) → held_of b (outlines gs) ≡ held_of c (outlines gs)
@@ -55,10 +54,8 @@ joined-pages : (frames : List Frame) (swap : SwapView) (id i : ℕ) (ps : List P
 unfolding joined
 joined-pages frames swap id i [] b is = refl
 joined-pages frames swap id i (p ∷ ps) b is =
-    let z : i + 0 ≡ i = omega arith in
-    let here : b (record { seg = id; page = i }) ≡ page_bytes frames swap p = rw z at (is 0 (omega arith)) in
     let rest = joined-pages frames swap id (suc i) ps b (λ j l. let s : i + suc j ≡ suc i + j = omega arith in rw s at (is (suc j) (omega arith))) in
-    rw (here, rest) refl
+    grind (arith, is 0 (omega arith), rest)
 
 -- the held segments, by the bytes of their pages
 held-list : (frames : List Frame) (swap : SwapView) (gs : List SegRec) (b : PageRef → List ℕ) → AreApart gs → ((r : PageRef) → HasPage gs r → b r ≡ page_bytes frames swap (rec_by gs r)) → map (held_by frames swap) gs ≡ held_of b (outlines gs)

@@ -24,10 +24,8 @@ module _ (h k : PageRef → PageRec → ℕ) where
   unfolding weigh_from
   from-le id i [] le = omega arith
   from-le id i (p ∷ ps) le =
-      let z : i + 0 ≡ i = omega arith in
-      let here : h (record { seg = id; page = i }) p ≤ k (record { seg = id; page = i }) p = rw z at (le 0 (omega arith)) in
       let rest = from-le id (suc i) ps (λ j l. let s : i + suc j ≡ suc i + j = omega arith in rw s at (le (suc j) (omega arith))) in
-      omega (arith, here, rest)
+      grind (arith, le 0 (omega arith), rest)
 
   pub weigh-le : (gs : List SegRec) → AreApart gs → ((r : PageRef) → HasPage gs r → h r (rec_by gs r) ≤ k r (rec_by gs r)) → weigh h gs ≤ weigh k gs
   unfolding weigh

@@ -91,10 +91,8 @@ cause-before s t u spent g h e = grind (arith, nat_tests, total-le s t g, spent,
 -- an area that is spent stays so, where none goes
 pub unspent-before : (s t : SwapView) → IsSwap t → GoesOn s t → sizes t ≡ sizes s → some_spent t ≡ false → some_spent s ≡ false
 unfolding some_spent
-unspent-before s t swap g same e = elim (cases_Bool (list_any is_spent_here s.areas)) [
-  | inl some ↦ absurd (false≢true (sym e ∙ spent-stays s.areas t.areas (rose s t g) (λ i. (swap.each i).countable) (λ i here. (pages-same s t i same here).0) some))
-  | inr none ↦ none
-]
+unspent-before s t swap g same e =
+    grind (arith, nat_tests, e, spent-stays s.areas t.areas (rose s t g) (λ i. (swap.each i).countable) (λ i here. (pages-same s t i same here).0))
 
 pub OnErr-map : {A E : Type 0} (r : Result A E) (P Q : Type 0) → OnErr r P → (P → Q) → OnErr r Q
 OnErr-map (Ok a) P Q e f = tt

@@ -133,18 +133,8 @@ rec-with gs r p has = grind (arith, nat_tests, find-with gs r p r.seg, find-id g
 
 -- and where any other page is
 pub rec-with_other : (gs : List SegRec) (r q : PageRef) (p : PageRec) → other r q ≡ true → rec_by (with_rec gs r p) q ≡ rec_by gs q
-rec-with_other gs r q p off = by (find_seg gs q.seg) refl
-  where
-    by : (o : Option SegRec) → find_seg gs q.seg ≡ o → rec_by (with_rec gs r p) q ≡ rec_by gs q
-    by None e = rw (find-with gs r p q.seg, e) refl
-    by (Some g) e =
-        let id : g.id ≡ q.seg = find-id gs q.seg g e in
-        elim (cases_eq g.id r.seg) [
-          | inl same ↦
-              let ne : q.page ≢ r.page = λ pages. other_ne r q off (ref_parts q r (sym id ∙ same) pages) in
-              rw (find-with gs r p q.seg, e, eq-eqb g.id r.seg same) (get_or-set_other g.pages r.page q.page p no_page ne)
-          | inr n ↦ rw (find-with gs r p q.seg, e, ne_eqb g.id r.seg n) refl
-        ]
+rec-with_other gs r q p off =
+    grind (arith, nat_tests, find-with gs r p q.seg, find-id gs q.seg, get_or-set_other, off)
 
 -- no page's frame changed
 pub still-with : (gs : List SegRec) (r : PageRef) (p : PageRec) → HasPage gs r → p.frame ≡ (rec_by gs r).frame → (q : PageRef) → (rec_by (with_rec gs r p) q).frame ≡ (rec_by gs q).frame

@@ -26,11 +26,7 @@ module _ (s : StoreView) (sound : IsStoreSound s) where
 
   pub bytes-in : (id : ℕ) → bytes_of (held s) id ≡ joined (bytes_at s) id 0 (count_by_id s.segs id)
   unfolding joined
-  bytes-in id = by (find_seg s.segs id) refl
-    where
-      by : (o : Option SegRec) → find_seg s.segs id ≡ o → bytes_of (held s) id ≡ joined (bytes_at s) id 0 (count_by_id s.segs id)
-      by None e = rw (find-in id, e) refl
-      by (Some g) e = let q = find-id s.segs id g e in rw (find-in id, e) (ap (λ n. joined (bytes_at s) n 0 (length g.pages)) q)
+  bytes-in id = grind (arith, nat_tests, find-in id, find-id s.segs id)
 
   whole-in : (id : ℕ) (j : ℕ) → j < count_by_id s.segs id → length (bytes_at s (record { seg = id; page = j })) ≡ 4096
   whole-in id j lt = (sound.tied.pages (record { seg = id; page = j }) lt).whole
@@ -39,11 +35,7 @@ module _ (s : StoreView) (sound : IsStoreSound s) where
   length-in id = ap length (bytes-in id) ∙ length-joined (bytes_at s) (record { seg = id; page = 0 }) (count_by_id s.segs id) (whole-in id) 0 (count_by_id s.segs id) (omega arith)
 
   pub held-in : (id : ℕ) → is_held (held s) id ≡ is_some (find_seg s.segs id)
-  held-in id = ap is_some (find-in id) ∙ by (find_seg s.segs id)
-    where
-      by : (o : Option SegRec) → is_some (option_map (λ (g : SegRec). held_one (bytes_at s) (outline g)) o) ≡ is_some o
-      by None = refl
-      by (Some g) = refl
+  held-in id = grind (arith, nat_tests, find-in id)
 
   -- the page of a stretch is there
   pub fits-has : (p : Span) → FitsPage (held s) p → HasPage s.segs (ref_of p)

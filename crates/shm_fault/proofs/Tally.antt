@@ -219,24 +219,16 @@ used-slots s apart tied =
 pub some_slotless : (s : StoreView) → AreApart s.segs → (r : PageRef) → HasPage s.segs r → (rec_by s.segs r).slot ≡ None → used s < sum_by pages_of s.segs
 some_slotless s apart r has none =
     let all : weigh (λ q p. 1) s.segs ≡ weigh (λ q p. cond (has_slot p) 1 0) s.segs + weigh (λ q p. cond (has_slot p) 0 1) s.segs =
-    weigh-ext (λ q p. 1) (λ q p. cond (has_slot p) 1 0 + cond (has_slot p) 0 1) s.segs apart (λ q there. by (has_slot (rec_by s.segs q)))
+    weigh-ext (λ q p. 1) (λ q p. cond (has_slot p) 1 0 + cond (has_slot p) 0 1) s.segs apart (λ q there. grind (arith, nat_tests))
     ∙ weigh-sum (λ q p. cond (has_slot p) 1 0) (λ q p. cond (has_slot p) 0 1) s.segs in
     let one = weigh-ge (λ q p. cond (has_slot p) 0 1) r s.segs apart has in
     let is : none_if (has_slot (rec_by s.segs r)) ≡ 1 = rw none refl in
     omega (arith, all, one, is, weigh-all s.segs, weigh-test has_slot s.segs)
-  where
-    by : (b : Bool) → 1 ≡ cond b 1 0 + cond b 0 1
-    by true = refl
-    by false = refl
 
 -- no more pages are resident than are unlocked and resident, and locked
 pub unlocked_resident : (s : StoreView) → AreApart s.segs → Tied s → resident s ≤ count_by (passes_by (λ r x. not (locked_by s.segs r.seg))) s.frames + sum_by locked_pages s.segs
 unlocked_resident s apart tied =
-    let le = weigh-le (λ r p. cond (has_frame p) 1 0) (λ r p. cond (page_passes (λ q x. not (locked_by s.segs q.seg)) s.frames r p.frame) 1 0 + cond (locked_by s.segs r.seg) 1 0) s.segs apart (λ r has. by r (rec_by s.segs r).frame) in
+    let le = weigh-le (λ r p. cond (has_frame p) 1 0) (λ r p. cond (page_passes (λ q x. not (locked_by s.segs q.seg)) s.frames r p.frame) 1 0 + cond (locked_by s.segs r.seg) 1 0) s.segs apart (λ r has. grind (arith, nat_tests)) in
     let sum = weigh-sum (λ r p. cond (page_passes (λ q x. not (locked_by s.segs q.seg)) s.frames r p.frame) 1 0) (λ r p. cond (locked_by s.segs r.seg) 1 0) s.segs in
     let frames = counted_frames s apart tied (λ r x. not (locked_by s.segs r.seg)) in
     omega (arith, le, sum, frames, weigh-locked s.segs apart, weigh-test has_frame s.segs)
-  where
-    by : (r : PageRef) (o : Option ℕ) → cond (is_some o) 1 0 ≤ cond (page_passes (λ q x. not (locked_by s.segs q.seg)) s.frames r o) 1 0 + cond (locked_by s.segs r.seg) 1 0
-    by r None = omega arith
-    by r (Some f) = elim (cases_Bool (locked_by s.segs r.seg)) [ inl t ↦ rw t (omega arith) | inr n ↦ rw n (omega arith) ]

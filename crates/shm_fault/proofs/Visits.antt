@@ -52,14 +52,9 @@ module _ (s t₁ t₂ t₃ : StoreView) (f : ℕ) (page : PageRef) (pinned : Opt
   first = ap (λ (gs : List SegRec). (rec_by gs page).frame) (sym segs₁) ∙ sym (still page) ∙ was
 
   pub evicted-gone : (q : PageRef) → frame_by t₃ q ≡ cond (same_ref page q) None (frame_by s q)
-  evicted-gone q = elim (cases_ref page q) [
-    | inl same ↦
-        let a : (rec_by t₃.segs page).frame ≡ None = ap (λ (gs : List SegRec). (rec_by gs page).frame) segs₃ ∙ ap (λ (p : PageRec). p.frame) (rec-with t₂.segs page (record (rec_by t₂.segs page) { frame = None }) there) in
-        rw (same, same-self page) a
-    | inr off ↦
-        let a : (rec_by t₃.segs q).frame ≡ (rec_by t₂.segs q).frame = ap (λ (gs : List SegRec). (rec_by gs q).frame) segs₃ ∙ ap (λ (p : PageRec). p.frame) (rec-with_other t₂.segs page q (record (rec_by t₂.segs page) { frame = None }) off) in
-        rw (same-other page q off) (a ∙ still q ∙ ap (λ (gs : List SegRec). (rec_by gs q).frame) segs₁)
-  ]
+  evicted-gone q =
+      let p : PageRec = record (rec_by t₂.segs page) { frame = None } in
+      grind (arith, cases_ref page q, segs₃, segs₁, same-self page, same-other page q, rec-with t₂.segs page p there, rec-with_other t₂.segs page q p, still q)
 
   other-rec : (q : PageRef) → q ≢ page → rec_by t₃.segs q ≡ rec_by t₂.segs q
   other-rec q n = ap (λ (gs : List SegRec). rec_by gs q) segs₃ ∙ (rec-with_other t₂.segs page q (record (rec_by t₂.segs page) { frame = None }) (other-true page q n))
