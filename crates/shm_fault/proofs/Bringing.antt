@@ -80,15 +80,10 @@ module _ (p : Span) (s t : StoreView) (u v : Touched) (ok : Bool) (none : IsNone
       still = λ all. w.hand ∙ hand-known s None (frame_by s (ref_of p)) (resident-at s p (all 0 p (omega arith)));
       one = λ q e. let same : p ≡ q = cc in rw (← same) w.hand;
     };
-    swapped = λ e. by ok e (is_swapped (rec_by s.segs (ref_of p))) w.ins;
+    swapped = λ e. grind (arith, nat_tests, e, w.ins);
     quiet = λ all. quiet-one (resident-at s p (all 0 p (omega arith)));
     cause = w.cause;
   }
-    where
-      by : (x : Bool) → x ≡ true → (b : Bool) → v.ins ≡ u.ins + one_if (x && b) → cond (b && true) 1 0 + 0 ≤ v.ins
-      by true e true i = omega (arith, i)
-      by true e false i = omega arith
-      by false e b i = absurd (false≢true e)
 
 same_page-ref : (p q : Span) → same_page p q ≡ true → ref_of q ≡ ref_of p
 same_page-ref p q e = sym (same-true (ref_of p) (ref_of q) e)

@@ -201,12 +201,8 @@ weigh-locked [] apart = refl
 weigh-locked (g ∷ gs) apart =
     let here : weigh_from (λ r p. cond (locked_by (g ∷ gs) r.seg) 1 0) g.id 0 g.pages ≡ locked_pages g =
     from-ext (λ r p. cond (locked_by (g ∷ gs) r.seg) 1 0) (λ r p. cond g.locked 1 0) g.id 0 g.pages (λ j l. rw (eq-eqb g.id g.id refl) refl)
-    ∙ from-const (cond g.locked 1 0) g.id 0 g.pages ∙ by g.locked in
+    ∙ from-const (cond g.locked 1 0) g.id 0 g.pages ∙ grind (arith, nat_tests) in
     let rest : weigh (λ r p. cond (locked_by (g ∷ gs) r.seg) 1 0) gs ≡ sum_by locked_pages gs =
     weigh-ext (λ r p. cond (locked_by (g ∷ gs) r.seg) 1 0) (λ r p. cond (locked_by gs r.seg) 1 0) gs apart.1 (λ r has. rw (ne_eqb g.id r.seg (not-head g gs apart r has)) refl)
     ∙ weigh-locked gs apart.1 in
     omega (arith, here, rest, sum_by-cons locked_pages g gs)
-  where
-    by : (b : Bool) → cond b 1 0 * length g.pages ≡ cond b (length g.pages) 0
-    by true = omega arith
-    by false = omega arith

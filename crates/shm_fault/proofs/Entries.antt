@@ -80,9 +80,7 @@ find-filter gs id k none = grind (arith, find-out gs id, find-but gs id k, cases
 
 pub apart-filter : (gs : List SegRec) (id : ℕ) → AreApart gs → AreApart (filter (λ (g : SegRec). not (eqb g.id id)) gs)
 apart-filter [] id apart = tt
-apart-filter (g ∷ gs) id apart =
-    let rest = apart-filter gs id apart.1 in
-    elim (cases_Bool (eqb g.id id)) [ inl t ↦ rw t rest | inr t ↦ rw t (find-filter gs id g.id apart.0, rest) ]
+apart-filter (g ∷ gs) id apart = grind (arith, nat_tests, find-filter gs id g.id apart.0, apart-filter gs id apart.1)
 
 -- the key that is found is the one that was looked for
 pub key_found : (es : List (ℕ × PageTable)) (id k : ℕ) → Some k ≡ lookup_key (nat_eq id) es → k ≡ id

@@ -120,17 +120,9 @@ module _ (s : StoreView) (apart : AreApart s.segs) (tied : Tied s) where
   unfolding always
   resident-frames =
       sym (weigh-test has_frame s.segs)
-      ∙ weigh-ext (λ r p. cond (has_frame p) 1 0) (λ r p. cond (page_passes always s.frames r p.frame) 1 0) s.segs apart (λ r has. by r (rec_by s.segs r).frame)
+      ∙ weigh-ext (λ r p. cond (has_frame p) 1 0) (λ r p. cond (page_passes always s.frames r p.frame) 1 0) s.segs apart (λ r has. grind (arith, nat_tests))
       ∙ sym (counted_frames s apart tied always)
-      ∙ count-ext (passes_by always) is_owned s.frames (λ x. same x x.owner)
-    where
-      by : (r : PageRef) (o : Option ℕ) → one_if (is_some o) ≡ one_if (page_passes always s.frames r o)
-      by r None = refl
-      by r (Some f) = refl
-
-      same : (x : Frame) (o : Option PageRef) → passes_in always x o ≡ is_some o
-      same x None = refl
-      same x (Some r) = refl
+      ∙ count-ext (passes_by always) is_owned s.frames (λ x. grind (arith, nat_tests))
 
   pub dirty-frames : dirty s ≡ dirty_of s.frames
   unfolding has_dirty

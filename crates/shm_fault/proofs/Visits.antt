@@ -130,10 +130,7 @@ settles s sound page f has lt free away bytes =
     let here = rec-with s.segs page place has in
     record {
       sound = keeps.sound;
-      came = λ q. elim (cases_ref page q) [
-        | inl same ↦ rw (same, same-self page) (ap (λ (p : PageRec). p.frame) here)
-        | inr off ↦ rw (same-other page q off) (ap (λ (p : PageRec). p.frame) (rec-with_other s.segs page q place off))
-      ];
+      came = λ q. grind (arith, cases_ref page q, same-self page, same-other page q, here, rec-with_other s.segs page q place);
       bit = ap (λ (y : Frame). y.referenced) (get_or-set_same s.frames f x no_frame lt);
       visits = λ pinned. record {
         goes = keeps.goes;

@@ -61,14 +61,10 @@ module _ (s : StoreView) (sound : IsStoreSound s) where
       let rest = pages-list b gs apart.1 (λ r has. whole r (has-tail g gs apart r has)) in
       let size = length-joined b (record { seg = g.id; page = 0 }) (length g.pages) (λ j l. whole (record { seg = g.id; page = j }) (has-head g gs j l)) 0 (length g.pages) (omega arith) in
       let here : pages_in (held_one b (outline g)) ≡ length g.pages = omega (arith, size) in
-      let lock : pages_if_locked (held_one b (outline g)) ≡ locked_pages g = by g.locked here in (
+      let lock : pages_if_locked (held_one b (outline g)) ≡ locked_pages g = grind (arith, nat_tests, here) in (
         omega (arith, rest.0, here, sum_by-cons pages_in (held_one b (outline g)) (held_of b (outlines gs)), sum_by-cons pages_of g gs),
         omega (arith, rest.1, lock, sum_by-cons pages_if_locked (held_one b (outline g)) (held_of b (outlines gs)), sum_by-cons locked_pages g gs),
       )
-    where
-      by : (l : Bool) → length (joined b g.id 0 (length g.pages)) / 4096 ≡ length g.pages → cond l (length (joined b g.id 0 (length g.pages)) / 4096) 0 ≡ cond l (length g.pages) 0
-      by true h = h
-      by false h = refl
 
   pub pages_held-is : pages_held (held s) ≡ sum_by pages_of s.segs
   pages_held-is = ap (sum_by pages_in) (held-is s sound.apart) ∙ (pages-list (bytes_at s) s.segs sound.apart length-page).0
