@@ -1,5 +1,5 @@
 -- The bytes of segments, from those of their pages.
-use Rattle.std.proofs.Common.{◌≡◌, ◌≢◌, ℕ, zero, suc, ◌<◌, ◌≤◌, ◌+◌, ◌-◌, ◌*◌, List, [], ◌∷◌, ◌++◌, map, length, take, drop, refl, sym, ap, ◌∙◌, inl, inr, arith, append_assoc, length-append, length-take, length-drop}
+use Rattle.std.proofs.Common.{◌≡◌, ◌≢◌, ℕ, zero, suc, ◌<◌, ◌≤◌, ◌+◌, ◌-◌, ◌*◌, List, [], ◌∷◌, ◌++◌, map, length, take, drop, refl, sym, ap, ◌∙◌, inl, inr, arith, append_assoc, length-drop}
 use Rattle.std.specs.List.{flat_map}
 use Rattle.std.proofs.lemmas.Bool.{cases_eq}
 use Rattle.std.proofs.lemmas.List.{take-append-le, drop-append-le}
@@ -13,7 +13,6 @@ use Rattle.shm_fault.specs.Store.{StoreView, page_bytes, held_by, held}
 use Rattle.shm_fault.specs.Goes.{Outline, outline, outlines}
 use Rattle.shm_fault.proofs.Pages.{has-head, rec-head, has-tail, rec-tail}
 use Rattle.std.proofs.lemmas.Grind.{common_steps}
-use Rattle.std.proofs.lemmas.Bool.Decides.{nat_tests}
 
 -- the bytes of so many pages of a segment, from page i on, joined
 unfoldable pub joined : (PageRef → List ℕ) → ℕ → ℕ → ℕ → List ℕ

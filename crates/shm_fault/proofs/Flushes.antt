@@ -1,5 +1,5 @@
 -- A flush, frame after frame.
-use Rattle.std.proofs.Common.{◌≡◌, ◌≢◌, ℕ, zero, suc, ◌<◌, ◌≤◌, ◌+◌, Bool, true, false, not, cond, ◌&&◌, List, [], ◌∷◌, ◌++◌, length, set, take, filter, Option, Some, None, refl, sym, ap, ◌∙◌, inl, inr, arith, append-nil, length-append, get_or-set_same, get_or-set_other}
+use Rattle.std.proofs.Common.{◌≡◌, ◌≢◌, ℕ, zero, suc, ◌<◌, ◌≤◌, ◌+◌, Bool, true, false, not, cond, List, [], ◌∷◌, ◌++◌, length, set, take, filter, Some, refl, sym, ap, ◌∙◌, inl, inr, arith, append-nil, length-append, get_or-set_same, get_or-set_other}
 use Rattle.std.specs.Prelude.{min, count_by, Contains, All}
 use Rattle.std.specs.List.{range_with_len}
 use Rattle.std.proofs.lemmas.Bool.{cases_eq}
@@ -14,7 +14,7 @@ use Rattle.shm_fault.specs.Store.{StoreView}
 use Rattle.shm_fault.specs.Sound.{IsStoreSound}
 use Rattle.shm_fault.specs.Goes.{Goes, Still}
 use Rattle.shm_fault.specs.Counting.{raised, one_if}
-use Rattle.shm_fault.specs.Flushing.{owner_unlocked, may_flush, dirty_list, dirty_after, IsFlushed}
+use Rattle.shm_fault.specs.Flushing.{may_flush, dirty_list, dirty_after, IsFlushed}
 use Rattle.shm_fault.proofs.Sound.{Goes-refl, Goes-trans}
 use Rattle.shm_fault.proofs.Failures.{unspent-before}
 use Rattle.shm_fault.proofs.Bringing.{is_locked-held}

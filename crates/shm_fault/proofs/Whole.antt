@@ -1,25 +1,23 @@
 -- Stores as they are made, and whole segments that are added, locked or unlocked.
-use Rattle.std.proofs.Common.{◌≡◌, ℕ, zero, suc, ◌<◌, ◌≤◌, ◌+◌, ◌*◌, ◌/◌, Bool, true, false, cond, eqb, List, [], ◌∷◌, ◌++◌, map, length, replicate, sum_by, Option, Some, None, is_some, refl, sym, ap, ◌∙◌, inl, inr, arith}
-use Rattle.std.specs.Prelude.{option_map}
+use Rattle.std.proofs.Common.{◌≡◌, ℕ, zero, suc, ◌≤◌, ◌+◌, ◌*◌, Bool, true, false, cond, eqb, List, [], ◌∷◌, ◌++◌, map, length, replicate, sum_by, Option, Some, None, is_some, refl, sym, ap, ◌∙◌, inl, inr, arith}
 use Rattle.std.specs.List.{flat_map}
-use Rattle.std.proofs.lemmas.Bool.{cases_Bool, cases_eq, cases_lt, eq-eqb, ne_eqb}
+use Rattle.std.proofs.lemmas.Bool.{cases_Bool, cases_lt}
 use Rattle.std.proofs.lemmas.List.{length-replicate, map-append, get_or-replicate, get_or_past, replicate-append-replicate}
 use Rattle.std.proofs.lemmas.List.Sums.{sum_by-cons, sum_by-append}
 use Rattle.shm_base.specs.declared.paging.PageRef.{PageRef}
 use Rattle.shm_base.specs.declared.paging.Slot.{Slot}
-use Rattle.shm_plain.specs.Held.{is_held, pages_in, pages_held, pages_if_locked, pages_locked, relocked, with_zeros, with_lock}
+use Rattle.shm_plain.specs.Held.{is_held, pages_in, pages_held, pages_if_locked, pages_locked, with_zeros, with_lock}
 use Rattle.shm_pager.specs.Pages.{zero_page}
 use Rattle.shm_slots.specs.View.{SwapView, IsSwap, slots, owner_of}
 use Rattle.shm_frames.specs.Frame.{Frame, frame_at, IsFrameBlank}
-use Rattle.shm_fault.specs.declared.page_tables.PageRec.{PageRec}
-use Rattle.shm_fault.specs.Segs.{SegRec, no_page, rec_at, find_seg, AreApart, rec_in, rec_by, count_in, count_by_id, HasPage, with_seg_lock, new_seg, pages_of, locked_pages}
+use Rattle.shm_fault.specs.Segs.{SegRec, no_page, rec_at, find_seg, AreApart, rec_by, count_by_id, HasPage, with_seg_lock, new_seg, pages_of, locked_pages}
 use Rattle.shm_fault.specs.Store.{StoreView, page_bytes, held_by, held, fresh_store}
 use Rattle.shm_fault.specs.Sound.{IsStoreSound}
 use Rattle.shm_fault.specs.Goes.{outline, outlines}
 use Rattle.shm_fault.proofs.Entries.{apart-append, apart-edit}
 use Rattle.shm_fault.proofs.Pages.{rec-past, has-head, has-tail, find-map}
 use Rattle.shm_fault.proofs.Ties.{tied-segs}
-use Rattle.shm_fault.proofs.Bytes.{joined, held_one, held_of, bytes_at, held-is, length-joined}
+use Rattle.shm_fault.proofs.Bytes.{held_one, held_of, bytes_at, held-is, length-joined}
 use Rattle.shm_fault.proofs.Spans.{held-in}
 use Rattle.shm_fault.proofs.Sound.{IsSound-from}
 use Rattle.std.proofs.lemmas.Bool.Decides.{nat_tests}

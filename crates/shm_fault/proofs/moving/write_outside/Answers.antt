@@ -1,5 +1,5 @@
-use Rattle.std.proofs.Common.{◌≡◌, Some, ap, ◌∙◌}
-use Rattle.shm_slots.specs.View.{SwapView, IsSwap, IsFirstFree, OneArea, WriteFault, area_at, page_in, with_slot_owner, with_slot_page, without_slot}
+use Rattle.std.proofs.Common.{Some}
+use Rattle.shm_slots.specs.View.{IsSwap, with_slot_owner, with_slot_page}
 use Rattle.shm_fault.proofs.Areas.{relocated, relocated-not, cause-within}
 use Rattle.shm_fault.proofs.moving.write_outside.Goals as goal
 

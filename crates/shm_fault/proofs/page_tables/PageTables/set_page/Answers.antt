@@ -1,8 +1,7 @@
-use Rattle.std.proofs.Common.{◌≡◌, ◌<◌, List, set, refl, sym, ap}
+use Rattle.std.proofs.Common.{List, set, refl, sym, ap}
 use Rattle.indexmap.specs.IndexMap.{set_value_at}
 use Rattle.shm_fault.specs.declared.page_tables.PageRec.{PageRec}
-use Rattle.shm_fault.specs.Segs.{SegRec, count_by_id}
-use Rattle.shm_fault.specs.Entries.{segs_view}
+use Rattle.shm_fault.specs.Segs.{SegRec}
 use Rattle.shm_fault.proofs.Entries.{IsEdited, edited, entry-from, value_there, find-entry}
 use Rattle.shm_fault.proofs.page_tables.PageTables.set_page.Goals as goal
 use Rattle.shm_fault.proofs.page_tables.PageTables.set_page.Goals.{After-set_place}

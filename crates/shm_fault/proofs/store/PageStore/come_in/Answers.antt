@@ -4,7 +4,7 @@ use Rattle.shm_base.specs.declared.paging.PageRef.{PageRef}
 use Rattle.shm_base.specs.declared.paging.Slot.{Slot}
 use Rattle.shm_slots.specs.View.{HasSlot}
 use Rattle.shm_fault.specs.declared.touched.Move.TheVariants.{Came}
-use Rattle.shm_fault.specs.Segs.{rec_by, HasPage}
+use Rattle.shm_fault.specs.Segs.{rec_by}
 use Rattle.shm_fault.specs.Store.{StoreView}
 use Rattle.shm_fault.proofs.Seen.{seen}
 use Rattle.shm_fault.proofs.Sound.{slot-own}

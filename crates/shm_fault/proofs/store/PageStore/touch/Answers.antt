@@ -1,4 +1,4 @@
-use Rattle.std.proofs.Common.{◌≡◌, ◌<◌, length, Some, true, refl, ap, get_or-set_same}
+use Rattle.std.proofs.Common.{◌≡◌, ◌<◌, length, Some, true, ap, get_or-set_same}
 use Rattle.shm_frames.specs.Frame.{Frame, no_frame, frame_at}
 use Rattle.shm_fault.proofs.Seen.{seen}
 use Rattle.shm_fault.proofs.Sound.{frame-own}
