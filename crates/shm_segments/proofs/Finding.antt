@@ -84,9 +84,6 @@ in-flat : (hs : List Held) (i id : ℕ) (e : Entry Head) → i ≡ id % 32768
     → table.live_in id (Some (flat_entry (whole hs) i e)) ≡ option_map (whole hs id) (if identifier i e.destroyed == id then e.row else None)
 in-flat hs i id e own = grind (arith, nat_tests, own, flat-option hs id e.row)
 
-none-live : (hs : List Held) (id : ℕ) (b : Bool) → None ≡ option_map (whole hs id) (if b then None else None)
-none-live hs id b = grind (arith, nat_tests)
-
 -- what is live in the flat table
 pub live-joined : (hs : List Held) (rows : List (Entry Head)) (id : ℕ) → table.live (joined hs rows) id ≡ option_map (whole hs id) (live rows id)
 live-joined hs rows id =
