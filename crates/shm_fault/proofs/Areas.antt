@@ -1,5 +1,5 @@
 -- Pages that leave a swap area, and the area that goes.
-use Rattle.std.proofs.Common.{◌≡◌, ◌≢◌, ℕ, zero, suc, ◌<◌, ◌≤◌, ◌+◌, Bool, true, false, cond, List, [], ◌∷◌, length, get_or, set, sum_by, Option, Some, None, is_some, refl, sym, ap, ◌∙◌, inl, inr, arith, length-set, get_or-set_same, get_or-set_other}
+use Rattle.std.proofs.Common.{◌≡◌, ◌≢◌, ℕ, zero, suc, ◌<◌, ◌≤◌, ◌+◌, Bool, true, cond, List, [], ◌∷◌, length, get_or, set, sum_by, Option, Some, None, is_some, refl, sym, ap, ◌∙◌, inl, inr, arith, length-set, get_or-set_same, get_or-set_other}
 use Rattle.std.proofs.lemmas.Bool.{cases_eq, cases_lt}
 use Rattle.std.proofs.lemmas.List.{get_or_past, length-map}
 use Rattle.std.proofs.lemmas.List.Sums.{sum_by-set, sum_by-cons}
@@ -7,33 +7,30 @@ use Rattle.shm_base.specs.declared.paging.PageRef.{PageRef}
 use Rattle.shm_base.specs.declared.paging.Slot.{Slot}
 use Rattle.shm_plain.specs.Held.{pages_held}
 use Rattle.shm_slots.specs.Owners.{used_count}
-use Rattle.shm_slots.specs.View.{AreaView, SwapView, no_area, area_at, with_area, off, HasSlot, IsSwap, IsFirstFree, OneArea, WriteFault, owner_of, page_in, size_of, sizes, slots, slots_in, used_in, used_slots, with_slot_owner, with_slot_page, without_slot}
+use Rattle.shm_slots.specs.View.{SwapView, no_area, area_at, with_area, off, HasSlot, IsSwap, IsFirstFree, OneArea, WriteFault, owner_of, page_in, size_of, sizes, slots, slots_in, used_in, used_slots, with_slot_owner, with_slot_page, without_slot}
 use Rattle.shm_slots.specs.Cause.{GoesOn, IsSteady, had_cause}
 use Rattle.shm_frames.specs.Frame.{Frame, no_frame, frame_at}
 use Rattle.shm_fault.specs.declared.page_tables.PageRec.{PageRec}
 use Rattle.shm_fault.specs.Segs.{rec_by, HasPage, with_rec}
-use Rattle.shm_fault.specs.Store.{StoreView, held, stored, bytes_by, page_bytes}
+use Rattle.shm_fault.specs.Store.{StoreView, held}
 use Rattle.shm_fault.specs.Sound.{IsTied, Tied, IsStoreSound}
 use Rattle.shm_fault.specs.Goes.{Goes, Still}
 use Rattle.shm_fault.specs.Counting.{AtRest}
 use Rattle.shm_fault.specs.Moving.{SameOwned, IsRelocated, IsCleared}
 use Rattle.shm_fault.proofs.Pages.{rec-with, other, other_ne, has-frame, has-slot}
-use Rattle.shm_fault.proofs.Slots.{OnlySlot, OnlySlot-trans, OnlySlot-owner, OnlySlot-page, OnlySlot-given, OnlySlot-fault, page-written, owner-written, owner-set, owner-given, cases_slot}
-use Rattle.shm_fault.proofs.Ties.{SlotsApart, Touches, IsOwn, IsOwn-some, segs-same, segs-with, frames-same, frames-set}
+use Rattle.shm_fault.proofs.Slots.{OnlySlot, OnlySlot-trans, OnlySlot-owner, OnlySlot-page, OnlySlot-given, OnlySlot-fault, page-written, owner-written, owner-set, owner-given, cases_slot, set-cases}
+use Rattle.shm_fault.proofs.Ties.{SlotsApart, Touches, IsOwn-some, segs-same, segs-with, frames-same, frames-set, tied_touched, bytes_touched}
 use Rattle.shm_fault.proofs.Bytes.{bytes_at, held-same}
 use Rattle.shm_fault.proofs.Tally.{used-slots}
 use Rattle.shm_fault.proofs.Whole.{pages_held-is}
 use Rattle.shm_fault.proofs.Failures.{size-at, pages-same, spent-cause, cause-before, cause-more}
 use Rattle.shm_fault.proofs.Sound.{IsSound-from, Goes-trans}
 use Rattle.shm_fault.proofs.Counting.{AtRest-trans}
-use Rattle.shm_fault.proofs.Changes.{Keeps, every, keeps-every, keeps-one, some_same, bytes_by-some}
+use Rattle.shm_fault.proofs.Changes.{Keeps, every, keeps-every, keeps-one}
 use Rattle.shm_fault.proofs.Drops.{GivenSlots, given-slots}
 
 pub here-lt : (s : SwapView) (area : ℕ) → (area_at s area).here ≡ true → area < length s.areas
-here-lt s area here = elim (cases_lt area (length s.areas)) [
-  | inl lt ↦ lt
-  | inr past ↦ absurd (let none : (area_at s area).here ≡ false = rw (get_or_past s.areas area no_area past) refl in cc)
-]
+here-lt s area here = grind (arith, get_or_past s.areas area no_area, here)
 
 -- a free slot is found where the other areas have one for each page
 one_if : Bool → ℕ
@@ -42,12 +39,8 @@ one_if b = cond b 1 0
 count-one : (os : List (Option PageRef)) (i : ℕ) (r : PageRef) → get_or os i None ≡ Some r → 1 ≤ used_count os
 unfolding one_if
 count-one [] i r e = let h : None ≡ Some r = e in cc
-count-one (o ∷ os) zero r e =
-    let one : one_if (is_some o) ≡ 1 = rw e refl in
-    omega (arith, one, sum_by-cons (λ (p : Option PageRef). cond (is_some p) 1 0) o os)
-count-one (o ∷ os) (suc i) r e =
-    let rest = count-one os i r e in
-    omega (arith, rest, sum_by-cons (λ (p : Option PageRef). cond (is_some p) 1 0) o os)
+count-one (o ∷ os) zero r e = grind (arith, e, sum_by-cons (λ (p : Option PageRef). cond (is_some p) 1 0) o os)
+count-one (o ∷ os) (suc i) r e = grind (arith, count-one os i r e, sum_by-cons (λ (p : Option PageRef). cond (is_some p) 1 0) o os)
 
 pub has-room : (s : StoreView) → IsStoreSound s → (k : Slot) (r : PageRef) → owner_of s.swap k.area k.slot ≡ Some r → pages_held (held s) + length (area_at s.swap k.area).pages ≤ slots s.swap
     → used_slots s.swap + length (area_at s.swap k.area).pages < slots s.swap + used_in (area_at s.swap k.area)
@@ -114,15 +107,10 @@ cleared-relocated page from to s t is = record {
 
 -- a resident page gives its slot back
 module _ (s : StoreView) (sound : IsStoreSound s) (r : PageRef) (f : ℕ) (k : Slot) (u : SwapView) (place : rec_by s.segs r ≡ record { frame = Some f; slot = Some k }) (given : u ≡ without_slot s.swap k (page_in u k.area k.slot)) where
-  at_frame : (rec_by s.segs r).frame ≡ Some f
-  at_frame = ap (λ (p : PageRec). p.frame) place
-
-  at_slot : (rec_by s.segs r).slot ≡ Some k
-  at_slot = ap (λ (p : PageRec). p.slot) place
-
   pub keeps-back : IsSwap u → IsSteady s.swap u
       → Keeps s (record s { segs = with_rec s.segs r (record { frame = Some f; slot = None }); frames = set s.frames f (record (frame_at s.frames f) { dirty = true }); swap = u })
   keeps-back is steady =
+      let at_frame : (rec_by s.segs r).frame ≡ Some f = ap (λ (p : PageRec). p.frame) place in
       let has : HasPage s.segs r = has-frame s.segs r f at_frame in
       let tie-s : IsTied s r = sound.tied.pages r has in
       let own = tie-s.frame_owned f at_frame in
@@ -131,81 +119,63 @@ module _ (s : StoreView) (sound : IsStoreSound s) (r : PageRef) (f : ℕ) (k : S
       let t : StoreView = record s { segs = with_rec s.segs r p; frames = set s.frames f x; swap = u } in
       let at : rec_by t.segs r ≡ p = rec-with s.segs r p has in
       let set_at : frame_at (set s.frames f x) f ≡ x = get_or-set_same s.frames f x no_frame own.0 in
-      let was : IsOwn r (frame_at s.frames f).owner = IsOwn-some r (frame_at s.frames f).owner own.1 in
-      let now : IsOwn r x.owner = IsOwn-some r x.owner own.1 in
-      let sl : GivenSlots s r u = given-slots s sound r has u (Some k) at_slot given in
+      let sl : GivenSlots s r u = given-slots s sound r has u (Some k) (ap (λ (p : PageRec). p.slot) place) given in
       let to : Touches (other r) s t = record {
         segs = segs-with s.segs r p;
-        frames = frames-set r s.frames f x was now (λ none. let o = own.1 in cc) sound.tied.free;
+        frames = frames-set (other r) s.frames f x (IsOwn-some r _ own.1) (IsOwn-some r _ own.1) (λ none. cc (none, own.1)) sound.tied.free;
         slots = sl.apart;
       } in
-      let same : bytes_at t r ≡ bytes_at s r =
-      ap (page_bytes t.frames t.swap) at ∙ ap (λ (y : Frame). y.bytes) set_at ∙ sym (bytes_by-some s.frames s.swap (rec_by s.segs r).frame (rec_by s.segs r).slot f at_frame) in
+      let same : bytes_at t r ≡ bytes_at s r = rw (at, at_frame) (ap (λ (y : Frame). y.bytes) set_at) in
       let tie : IsTied t r = record {
-        frame_owned = λ g e.
-            let h : Some f ≡ Some g = rw at at e in
-            let q : g ≡ f = some_same f g (Some f) refl h in
-            (rw (q, length-set s.frames f x) own.0, rw (q, set_at) own.1);
-        owner_resident = λ g e. elim (cases_eq g f) [
-          | inl q ↦ rw (at, q) refl
-          | inr n ↦ absurd (n (some_same f g (rec_by s.segs r).frame at_frame (tie-s.owner_resident g (rw (get_or-set_other s.frames f g x no_frame n) at e))))
+        frame_owned = λ g e. let q : g ≡ f = cc (rw at at e) in (rw (q, length-set s.frames f x) own.0, rw (q, set_at) own.1);
+        owner_resident = λ g e. elim (set-cases s.frames f x no_frame g) [
+          | inl q ↦ rw (at, q.0) refl
+          | inr kept ↦ rw at (sym at_frame ∙ tie-s.owner_resident g (rw kept at e))
         ];
-        slot_owned = λ j e. let h : None ≡ Some j = rw at at e in cc;
+        slot_owned = λ j e. cc (rw at at e);
         owner_stored = λ j e. absurd (sl.none j e);
-        clean = λ g e d.
-            let h : Some f ≡ Some g = rw at at e in
-            let q : g ≡ f = some_same f g (Some f) refl h in
-            let c : true ≡ false = rw (q, set_at) at d in cc;
+        clean = λ g e d. let q : g ≡ f = cc (rw at at e) in cc (rw (q, set_at) at d);
         whole = rw same tie-s.whole;
       } in
       keeps-one s t sound r has to is steady.same_sizes (rw (length-set s.frames f x) sound.hand) steady.goes_on tie same
 
 -- a page that is not resident gets another slot
 module _ (s : StoreView) (sound : IsStoreSound s) (r : PageRef) (from to : Slot) (u : SwapView) (place : rec_by s.segs r ≡ record { frame = None; slot = Some from }) (is : IsRelocated r from to s.swap u) where
-  away : (rec_by s.segs r).frame ≡ None
-  away = ap (λ (p : PageRec). p.frame) place
-
-  was_in : (rec_by s.segs r).slot ≡ Some from
-  was_in = ap (λ (p : PageRec). p.slot) place
-
   pub keeps-carried : IsSwap u → sizes u ≡ sizes s.swap → GoesOn s.swap u → Keeps s (record s { segs = with_rec s.segs r (record { frame = None; slot = Some to }); swap = u })
   keeps-carried sw sized goes_on =
+      let was_in : (rec_by s.segs r).slot ≡ Some from = ap (λ (p : PageRec). p.slot) place in
       let has : HasPage s.segs r = has-slot s.segs r from was_in in
       let tie-s : IsTied s r = sound.tied.pages r has in
       let p : PageRec = record { frame = None; slot = Some to } in
       let t : StoreView = record s { segs = with_rec s.segs r p; swap = u } in
       let at : rec_by t.segs r ≡ p = rec-with s.segs r p has in
       let own = (tie-s.slot_owned from was_in).1 in
-      let not_from : (k : Slot) (q : PageRef) → other r q ≡ true → owner_of s.swap k.area k.slot ≡ Some q → k ≢ from = λ k q off o e. other_ne r q off (some_same r q (owner_of s.swap from.area from.slot) own (rw e at o)) in
-      let not_to : (k : Slot) (q : PageRef) → owner_of s.swap k.area k.slot ≡ Some q → k ≢ to = λ k q o e. (let h : owner_of s.swap to.area to.slot ≡ Some q = rw e at o in let f = is.first.free in cc) in
+      let not_from : (k : Slot) (q : PageRef) → other r q ≡ true → owner_of s.swap k.area k.slot ≡ Some q → k ≢ from = λ k q off o e. other_ne r q off (cc (own, rw e at o)) in
+      let not_to : (k : Slot) (q : PageRef) → owner_of s.swap k.area k.slot ≡ Some q → k ≢ to = λ k q o e. cc (is.first.free, rw e at o) in
       let slots : SlotsApart (other r) s.swap u = record {
-        has = is.has;
+        has = λ k q off o. is.has k;
         kept = λ k q off o. (is.owners k (not_from k q off o) (not_to k q o) ∙ o, is.pages k (not_from k q off o) (not_to k q o));
         owners = λ k q off o. elim (cases_slot k to) [
-          | inl e ↦ absurd (other_ne r q off (some_same r q (owner_of u to.area to.slot) is.owner (rw e at o)))
+          | inl e ↦ absurd (other_ne r q off (cc (is.owner, rw e at o)))
           | inr n ↦ elim (cases_slot k from) [
-            | inl e ↦ absurd (let h : owner_of u from.area from.slot ≡ Some q = rw e at o in let g = is.gone in cc)
+            | inl e ↦ cc (is.gone, rw e at o)
             | inr m ↦ sym (is.owners k m n) ∙ o
           ]
         ];
       } in
-      let same : bytes_at t r ≡ bytes_at s r =
-      ap (page_bytes t.frames t.swap) at ∙ is.bytes ∙ sym (ap (page_bytes s.frames s.swap) place) in
+      let same : bytes_at t r ≡ bytes_at s r = rw (at, place) is.bytes in
       let tie : IsTied t r = record {
-        frame_owned = λ g e. let h : None ≡ Some g = rw at at e in cc;
-        owner_resident = λ g e. absurd (let h : (rec_by s.segs r).frame ≡ Some g = tie-s.owner_resident g e in let a = away in cc);
-        slot_owned = λ j e.
-            let h : Some to ≡ Some j = rw at at e in
-            let q : j ≡ to = some_same to j (Some to) refl h in
-            (rw q (is.has to is.first.there), rw q is.owner);
+        frame_owned = λ g e. cc (rw at at e);
+        owner_resident = λ g e. cc (rw place at (tie-s.owner_resident g e));
+        slot_owned = λ j e. let q : j ≡ to = cc (rw at at e) in (rw q (is.has to is.first.there), rw q is.owner);
         owner_stored = λ j e. elim (cases_slot j to) [
           | inl q ↦ rw (at, q) refl
           | inr n ↦ elim (cases_slot j from) [
-            | inl q ↦ absurd (let h : owner_of u from.area from.slot ≡ Some r = rw q at e in let g = is.gone in cc)
-            | inr m ↦ absurd (m (some_same from j (rec_by s.segs r).slot was_in (tie-s.owner_stored j (sym (is.owners j m n) ∙ e))))
+            | inl q ↦ cc (is.gone, rw q at e)
+            | inr m ↦ absurd (m (cc (was_in, tie-s.owner_stored j (sym (is.owners j m n) ∙ e))))
           ]
         ];
-        clean = λ g e d. let h : None ≡ Some g = rw at at e in cc;
+        clean = λ g e d. cc (rw at at e);
         whole = rw same tie-s.whole;
       } in
       keeps-one s t sound r has (record { segs = segs-with s.segs r p; frames = frames-same s.frames sound.tied.free; slots = slots }) sw sized sound.hand goes_on tie same
@@ -213,7 +183,7 @@ module _ (s : StoreView) (sound : IsStoreSound s) (r : PageRef) (from to : Slot)
 -- no page moves, and no owned slot changes
 pub keeps-owned : (s : StoreView) → IsStoreSound s → (u : SwapView) → SameOwned s.swap u → IsSwap u → sizes u ≡ sizes s.swap → GoesOn s.swap u → Keeps s (record s { swap = u })
 keeps-owned s sound u owned is same goes_on =
-    let slots : SlotsApart every s.swap u = record { has = owned.has; kept = λ k q e o. (owned.owners k ∙ o, owned.pages k q o); owners = λ k q e o. sym (owned.owners k) ∙ o } in
+    let slots : SlotsApart every s.swap u = record { has = λ k q e o. owned.has k; kept = λ k q e o. (owned.owners k ∙ o, owned.pages k q o); owners = λ k q e o. sym (owned.owners k) ∙ o } in
     keeps-every s (record s { swap = u }) sound (record { segs = segs-same s.segs; frames = frames-same s.frames sound.tied.free; slots = slots }) is same sound.hand goes_on
 
 -- an area none of whose slots is owned goes
@@ -231,41 +201,24 @@ module _ (s : StoreView) (sound : IsStoreSound s) (area : ℕ) (here : (area_at 
   owned-outside k q o e = let h : owner_of s.swap area k.slot ≡ Some q = rw e at o in let f = free k.slot in cc
 
   owned-after : (k : Slot) (q : PageRef) → owner_of without_area.swap k.area k.slot ≡ Some q → owner_of s.swap k.area k.slot ≡ Some q
-  owned-after k q o = elim (cases_eq k.area area) [
-    | inl e ↦ absurd (let h : None ≡ Some q = rw (e, area-off) at o in cc)
-    | inr n ↦ rw (area-other k n) at o
-  ]
+  owned-after k q o = grind (arith, cases_eq k.area area, area-off, area-other k, o)
 
-  stored-off : (r : PageRef) → IsTied s r → (o : Option Slot) → (rec_by s.segs r).slot ≡ o → stored without_area.swap o ≡ stored s.swap o
-  stored-off r tie None e = refl
-  stored-off r tie (Some k) e = ap (λ (a : AreaView). get_or a.pages k.slot []) (area-other k (owned-outside k r (tie.slot_owned k e).1))
-
-  bytes-off : (r : PageRef) → IsTied s r → (o : Option ℕ) → bytes_by s.frames without_area.swap o (rec_by s.segs r).slot ≡ bytes_by s.frames s.swap o (rec_by s.segs r).slot
-  bytes-off r tie None = stored-off r tie (rec_by s.segs r).slot refl
-  bytes-off r tie (Some f) = refl
-
-  tied-off : Tied without_area
-  tied-off = record {
-    pages = λ r has.
-        let tie = sound.tied.pages r has in
-        record {
-          frame_owned = tie.frame_owned;
-          owner_resident = tie.owner_resident;
-          slot_owned = λ k e.
-              let own = tie.slot_owned k e in
-              let n = owned-outside k r own.1 in
-              ((rw (length-set s.swap.areas area (off (area_at s.swap area))) own.0.0, rw (area-other k n) own.0.1), rw (area-other k n) own.1);
-          owner_stored = λ k e. tie.owner_stored k (owned-after k r e);
-          clean = λ f e d. tie.clean f e d ∙ sym (stored-off r tie (rec_by s.segs r).slot refl);
-          whole = rw (bytes-off r tie (rec_by s.segs r).frame) tie.whole;
-        };
-    owners = sound.tied.owners;
-    slot_owners = λ k r e. sound.tied.slot_owners k r (owned-after k r e);
-    free = sound.tied.free;
+  to-off : Touches every s without_area
+  to-off = record {
+    segs = segs-same s.segs;
+    frames = frames-same s.frames sound.tied.free;
+    slots = record {
+      has = λ k q e o h. (rw (length-set s.swap.areas area (off (area_at s.swap area))) h.0, rw (area-other k (owned-outside k q o)) h.1);
+      kept = λ k q e o. let same = area-other k (owned-outside k q o) in (rw same o, rw same refl);
+      owners = λ k q e o. owned-after k q o;
+    };
   }
 
+  tied-off : Tied without_area
+  tied-off = tied_touched every s without_area to-off sound.tied (λ q n h. cc) (λ f q n e. cc) (λ k q n e. cc)
+
   held-off : held without_area ≡ held s
-  held-off = held-same s without_area sound.apart sound.apart refl (λ r has. bytes-off r (sound.tied.pages r has) (rec_by s.segs r).frame)
+  held-off = held-same s without_area sound.apart sound.apart refl (λ r has. bytes_touched every s without_area to-off r refl (sound.tied.pages r has))
 
   sound-off : IsSwap (with_area s.swap area (off (area_at s.swap area))) → sizes (with_area s.swap area (off (area_at s.swap area))) ≡ set (sizes s.swap) area None
       → pages_held (held s) + length (area_at s.swap area).pages ≤ slots s.swap → IsStoreSound without_area
@@ -316,10 +269,8 @@ module _ (area n : ℕ) (s t : StoreView) (d : IsCleaned area n s t) (here : (ar
   -- the area goes once the slots that it has are free
   module _ (all : length (area_at s.swap area).pages ≤ n) where
     pub cleaned-free : (slot : ℕ) → owner_of t.swap area slot ≡ None
-    cleaned-free slot = elim (cases_lt slot n) [
-      | inl lt ↦ d.free slot lt
-      | inr past ↦ get_or_past (area_at t.swap area).owners slot None (let same = cleaned-here.1 in omega (arith, past, all, same, (d.sound.swap.each area).owned))
-    ]
+    cleaned-free slot =
+        grind (arith, cases_lt slot n, d.free slot, get_or_past (area_at t.swap area).owners slot None, cleaned-here.1, all, (d.sound.swap.each area).owned)
 
     pub cleaned-off : (u : SwapView) → u ≡ with_area t.swap area (off (area_at t.swap area)) → IsSwap u → sizes u ≡ set (sizes t.swap) area None
         → pages_held (held s) + length (area_at s.swap area).pages ≤ slots s.swap → IsStoreSound (record t { swap = u }) × (held (record t { swap = u }) ≡ held s)

@@ -1,14 +1,13 @@
 -- What an access leaves, put together from the visits to its pages.
-use Rattle.std.proofs.Common.{◌≡◌, ◌≢◌, ℕ, zero, suc, map, ◌<◌, ◌≤◌, ◌+◌, Bool, true, false, not, ◌&&◌, ◌||◌, cond, eqb, ltb, List, [], ◌∷◌, length, get_or, subst, Option, Some, None, is_some, Result, Ok, Err, is_ok, OnErr, refl, sym, ap, ◌∙◌, inl, inr, arith}
+use Rattle.std.proofs.Common.{◌≡◌, ◌≢◌, ℕ, zero, suc, map, ◌<◌, ◌≤◌, ◌+◌, Bool, true, false, ◌&&◌, cond, ltb, List, [], ◌∷◌, length, get_or, subst, Option, Some, None, is_some, Result, Ok, Err, is_ok, OnErr, refl, sym, ap, ◌∙◌, arith}
 use Rattle.std.specs.Prelude.{All, IsSome, slice_get}
-use Rattle.std.proofs.lemmas.Bool.{cases_eq, ne_eqb, and_parts, eqb-true, eq-eqb, lt-ltb, false≢true}
+use Rattle.std.proofs.lemmas.Bool.{false≢true}
 use Rattle.shm_base.specs.declared.paging.PageRef.{PageRef}
 use Rattle.shm_base.specs.declared.paging.Span.{Span}
 use Rattle.shm_plain.specs.Held.{is_locked}
 use Rattle.shm_slots.specs.View.{SwapView}
-use Rattle.shm_frames.specs.Frame.{Frame}
+use Rattle.shm_frames.specs.Frame.{Frame, frame_at}
 use Rattle.shm_fault.specs.declared.page_tables.PageRec.{PageRec}
-use Rattle.shm_fault.specs.declared.touched.Move.{Move}
 use Rattle.shm_fault.specs.declared.touched.Touched.{Touched}
 use Rattle.shm_fault.specs.Segs.{SegRec, rec_by, locked_by}
 use Rattle.shm_fault.specs.Store.{StoreView, held, held_by, frame_of, page_of, ref_of, is_swapped, IsResident, IsReferenced, pages_among, swapped_among, same_page}
@@ -21,6 +20,8 @@ use Rattle.shm_fault.specs.Counting.{raised, one_if, hand_after}
 use Rattle.shm_fault.specs.Access.{Visited, IsIn, AreIn, Brings, Accessed}
 use Rattle.shm_fault.proofs.Sound.{Goes-trans, KeepsLocked-trans, cause-after}
 use Rattle.shm_fault.proofs.Visits.{moves-trans}
+use Rattle.shm_fault.proofs.Pages.{same-true}
+use Rattle.std.proofs.lemmas.Bool.Decides.{nat_tests}
 
 pub err_of : {A E : Type 0} (r : Result A E) (P : Type 0) → OnErr r P → is_ok r ≡ false → P
 err_of (Ok a) P h e = absurd (false≢true (sym e))
@@ -78,50 +79,29 @@ module _ (p : Span) (s t : StoreView) (u v : Touched) (ok : Bool) (none : IsNone
       still = λ all. w.hand ∙ hand-known s None (frame_by s (ref_of p)) (resident-at s p (all 0 p (omega arith)));
       one = λ q e. let same : p ≡ q = cc in rw (← same) w.hand;
     };
-    swapped = λ e. by ok e (is_swapped (rec_by s.segs (ref_of p))) w.ins;
+    swapped = λ e. grind (arith, nat_tests, e, w.ins);
     quiet = λ all. quiet-one (resident-at s p (all 0 p (omega arith)));
     cause = w.cause;
   }
-    where
-      by : (x : Bool) → x ≡ true → (b : Bool) → v.ins ≡ u.ins + one_if (x && b) → cond (b && true) 1 0 + 0 ≤ v.ins
-      by true e true i = omega (arith, i)
-      by true e false i = omega arith
-      by false e b i = absurd (false≢true e)
 
 same_page-ref : (p q : Span) → same_page p q ≡ true → ref_of q ≡ ref_of p
-same_page-ref p q e =
-    let b = and_parts (eqb p.seg q.seg) (eqb (page_of p) (page_of q)) e in
-    let s : p.seg ≡ q.seg = eqb-true p.seg q.seg b.0 in
-    let g : page_of p ≡ page_of q = eqb-true (page_of p) (page_of q) b.1 in
-    let l : record { seg = q.seg; page = page_of q } ≡ record { seg = p.seg; page = page_of p } = rw (s, g) refl in l
+same_page-ref p q e = sym (same-true (ref_of p) (ref_of q) e)
 
 same_page-not : (p q : Span) → same_page p q ≡ false → ref_of q ≢ ref_of p
-same_page-not p q e same =
-    let s : q.seg ≡ p.seg = ap (λ (r : PageRef). r.seg) same in
-    let g : page_of q ≡ page_of p = ap (λ (r : PageRef). r.page) same in
-    let t : same_page p q ≡ true = rw (eq-eqb p.seg q.seg (sym s), eq-eqb (page_of p) (page_of q) (sym g)) refl in
-    false≢true (sym e ∙ t)
+same_page-not p q e same = grind (arith, nat_tests)
 
 among-two : (p q : Span) → 1 ≤ pages_among (p ∷ q ∷ [])
-among-two p q = by (same_page p q)
-  where
-    by : (b : Bool) → 1 ≤ cond (b || false) 0 1 + (1 + 0)
-    by true = omega arith
-    by false = omega arith
+among-two p q = grind (arith, nat_tests)
 
 swapped-away : (r : PageRec) → is_swapped r ≡ true → r.frame ≡ None
-swapped-away r e = by r.frame refl
-  where
-    by : (o : Option ℕ) → r.frame ≡ o → r.frame ≡ None
-    by None h = h
-    by (Some f) h = absurd (let k : false ≡ true = rw h at e in false≢true k)
+swapped-away r e = grind (arith, nat_tests)
 
 resident_not : (r : PageRec) (f : ℕ) → r.frame ≡ Some f → is_swapped r ≡ false
 resident_not r f e = rw e refl
 
 -- a page that was swapped is still so, if the other page came in
 still_swapped : (p q : Span) (s t : StoreView) (pinned : Option ℕ) → Visits (ref_of p) pinned s t → same_page p q ≡ false → is_swapped (rec_by s.segs (ref_of q)) ≡ true → is_swapped (rec_by t.segs (ref_of q)) ≡ true
-still_swapped p q s t pinned v apart e = rw (v.away (ref_of q) (same_page-not p q apart) (swapped-away (rec_by s.segs (ref_of q)) e)) e
+still_swapped p q s t pinned v apart e = grind (arith, nat_tests, v.away (ref_of q) (same_page-not p q apart), swapped-away (rec_by s.segs (ref_of q)) e)
 
 -- the second of two pages was brought in, or was not
 module _ (p q : Span) (s t z : StoreView) (f : ℕ) (u v w : Touched) (ok : Bool) (none : IsNone u)
@@ -145,55 +125,16 @@ module _ (p q : Span) (s t z : StoreView) (f : ℕ) (u v w : Touched) (ok : Bool
   ins-is e = let a = one.ins in let b : w.ins ≡ v.ins + one_if (true && swq) = rw e at two.ins in omega (arith, a, b, none.1)
 
   ins-le : w.ins ≤ pages_among (p ∷ q ∷ [])
-  ins-le = by (same_page p q) refl
-    where
-      and-false : (b : Bool) → one_if (b && false) ≡ 0
-      and-false true = refl
-      and-false false = refl
-
-      sum : w.ins ≡ one_if swp + one_if (ok && swq)
-      sum = let a = one.ins in let b = two.ins in omega (arith, a, b, none.1)
-
-      by : (b : Bool) → same_page p q ≡ b → w.ins ≤ cond (b || false) 0 1 + (1 + 0)
-      by true h =
-          let n = (resident-q h).0 in
-          let last : one_if (ok && swq) ≡ 0 = rw n (and-false ok) in
-          let l = bit-le swp in omega (arith, sum, last, l)
-      by false h = let l = bit-le swp in let m = bit-le (ok && swq) in omega (arith, sum, l, m)
+  ins-le = grind (arith, nat_tests, one.ins, two.ins, none.1, resident-q)
 
   outs-le : w.outs ≤ pages_among (p ∷ q ∷ [])
-  outs-le = by (same_page p q) refl
-    where
-      by : (b : Bool) → same_page p q ≡ b → w.outs ≤ cond (b || false) 0 1 + (1 + 0)
-      by true h = let n = (resident-q h).1 in omega (arith, n, one.outs, none.2)
-      by false h = omega (arith, one.outs, two.outs, none.2)
+  outs-le = grind (arith, nat_tests, one.outs, two.outs, none.2, resident-q)
 
   swapped-le : ok ≡ true → swapped_among s (p ∷ q ∷ []) ≤ w.ins
   unfolding swap_bit
-  swapped-le e = by (same_page p q) refl swp refl (is_swapped (rec_by s.segs (ref_of q))) refl
-    where
-      by : (b : Bool) → same_page p q ≡ b → (x : Bool) → swp ≡ x → (y : Bool) → is_swapped (rec_by s.segs (ref_of q)) ≡ y
-          → cond (x && not (b || false)) 1 0 + (cond (y && true) 1 0 + 0) ≤ w.ins
-      by true h x hx y hy =
-          let r = same_page-ref p q h in
-          let same : y ≡ x = sym hy ∙ ap (λ (k : PageRef). is_swapped (rec_by s.segs k)) r ∙ hx in
-          let i : w.ins ≡ swap_bit x + swap_bit swq = rw hx at (ins-is e) in
-          first x y same i
-        where
-          first : (x y : Bool) → y ≡ x → w.ins ≡ swap_bit x + swap_bit swq → cond (x && not (true || false)) 1 0 + (cond (y && true) 1 0 + 0) ≤ w.ins
-          first true true g i = omega (arith, i)
-          first true false g i = omega (arith, i)
-          first false true g i = cc
-          first false false g i = omega (arith, i)
-      by false h x hx y hy =
-          let i : w.ins ≡ swap_bit x + swap_bit swq = rw hx at (ins-is e) in
-          second x y hy i
-        where
-          second : (x y : Bool) → is_swapped (rec_by s.segs (ref_of q)) ≡ y → w.ins ≡ swap_bit x + swap_bit swq → cond (x && not (false || false)) 1 0 + (cond (y && true) 1 0 + 0) ≤ w.ins
-          second true true g i = let n = still_swapped p q s t None one.visits h g in let k : w.ins ≡ 1 + 1 = rw n at i in omega (arith, k)
-          second false true g i = let n = still_swapped p q s t None one.visits h g in let k : w.ins ≡ 0 + 1 = rw n at i in omega (arith, k)
-          second true false g i = omega (arith, i)
-          second false false g i = omega arith
+  swapped-le e =
+      let same : same_page p q ≡ true → is_swapped (rec_by s.segs (ref_of q)) ≡ is_swapped (rec_by s.segs (ref_of p)) = λ h. ap (λ (k : PageRef). is_swapped (rec_by s.segs k)) (same_page-ref p q h) in
+      grind (arith, nat_tests, ins-is e, same, still_swapped p q s t None one.visits)
 
   both-quiet : All (IsResident s) (p ∷ q ∷ []) → (ok ≡ true) × (z.swap ≡ s.swap) × (w.ins ≡ 0) × (w.outs ≡ 0)
   both-quiet all =
@@ -251,10 +192,7 @@ brings-not p q s t u v none w =
 
 lock-held : (frames : List Frame) (swap : SwapView) (gs : List SegRec) (id : ℕ) → is_locked (map (held_by frames swap) gs) id ≡ locked_by gs id
 lock-held frames swap [] id = refl
-lock-held frames swap (g ∷ gs) id = elim (cases_eq g.id id) [
-  | inl e ↦ rw (eq-eqb g.id id e) refl
-  | inr n ↦ rw (ne_eqb g.id id n) (lock-held frames swap gs id)
-]
+lock-held frames swap (g ∷ gs) id = grind (arith, nat_tests, lock-held frames swap gs id)
 
 pub is_locked-held : (s : StoreView) (id : ℕ) → is_locked (held s) id ≡ locked_by s.segs id
 unfolding held
@@ -277,48 +215,36 @@ all-referenced z (p ∷ q ∷ []) here few is (suc zero) d lt = referenced z q h
 all-referenced z (p ∷ q ∷ []) here few is (suc (suc k)) d lt = absurd (omega arith)
 all-referenced z (p ∷ q ∷ r ∷ ps) here few is k d lt = absurd (omega (arith, few))
 
--- what an access that was done leaves, where bytes may have changed since
-module _ (s t z : StoreView) (rest : z ≡ record t { frames = z.frames }) (count : length z.frames ≡ length t.frames) (bits : (f : ℕ) → referenced_at z f ≡ referenced_at t f) (sound : IsStoreSound z) where
-  segs : z.segs ≡ t.segs
-  segs = ap (λ (v : StoreView). v.segs) rest
+-- what an access that was done leaves, where frames may have changed since
+module _ (s t : StoreView) (frames : List Frame) (count : length frames ≡ length t.frames) (bits : (f : ℕ) → (frame_at frames f).referenced ≡ referenced_at t f) (sound : IsStoreSound (record t { frames = frames })) where
+  abbrev later : StoreView
+  later = record t { frames = frames }
 
-  swap : z.swap ≡ t.swap
-  swap = ap (λ (v : StoreView). v.swap) rest
+  in-after : (p : Span) (f : ℕ) → IsIn t p f → IsIn later p f
+  in-after p f is = record { at = is.at; bit = bits f ∙ is.bit }
 
-  hand : z.hand ≡ t.hand
-  hand = ap (λ (v : StoreView). v.hand) rest
-
-  in-after : (p : Span) (f : ℕ) → IsIn t p f → IsIn z p f
-  in-after p f is = record { at = ap (λ (gs : List SegRec). (rec_by gs (ref_of p)).frame) segs ∙ is.at; bit = bits f ∙ is.bit }
-
-  are-after : (ps : List Span) (here : InFrames) → AreIn t ps here → AreIn z ps here
+  are-after : (ps : List Span) (here : InFrames) → AreIn t ps here → AreIn later ps here
   are-after [] here is = tt
   are-after (p ∷ []) here is = in-after p here.first is
   are-after (p ∷ q ∷ ps) here is = (in-after p here.first is.0, in-after q here.second is.1)
 
-  moves-after : (ms : List Move) → Moves ms s t → Moves ms s z
+  pub accessed : (ps : List Span) (here : InFrames) (u : Touched) → length ps ≤ 2 → Brings ps s t u true → AreIn t ps here → Accessed ps s (record t { frames = frames }) (Ok u)
   unfolding frame_of
-  moves-after ms led seg page = ap (λ (gs : List SegRec). (rec_by gs (record { seg = seg; page = page })).frame) segs ∙ led seg page
-
-  kept-after : KeepsLocked s t → KeepsLocked s z
-  kept-after keeps r locked e = ap (λ (gs : List SegRec). is_some (rec_by gs r).frame) segs ∙ keeps r locked e
-
-  pub accessed : (ps : List Span) (here : InFrames) (u : Touched) → length ps ≤ 2 → Brings ps s t u true → AreIn t ps here → Accessed ps s z (Ok u)
   accessed ps here u few b is = record {
     cause = tt;
-    quiet = λ all. let q = b.quiet all in (refl, swap ∙ q.1, q.2, q.3);
+    quiet = λ all. let q = b.quiet all in (refl, q.1, q.2, q.3);
     ins_few = b.ins_few;
     outs_few = b.outs_few;
     swapped = b.swapped refl;
-    read_in = ap (λ (v : StoreView). v.ins) rest ∙ b.read_in;
-    written_out = ap (λ (v : StoreView). v.outs) rest ∙ b.written_out;
-    turns = record { still = λ all. hand ∙ b.turns.still all; one = λ p e. hand ∙ b.turns.one p e };
-    resident = all-referenced z ps here few (are-after ps here is);
-    moved = moves-after u.moved.items b.moves;
+    read_in = b.read_in;
+    written_out = b.written_out;
+    turns = record { still = b.turns.still; one = b.turns.one };
+    resident = all-referenced later ps here few (are-after ps here is);
+    moved = b.moves;
     few_moved = b.few;
-    kept = kept-locked s z (kept-after b.kept);
-    counts = rw swap b.goes.goes_on;
-    same_sizes = rw swap b.goes.same_sizes;
+    kept = kept-locked s later b.kept;
+    counts = b.goes.goes_on;
+    same_sizes = b.goes.same_sizes;
     size = count ∙ b.goes.size;
     sound = sound;
   }
@@ -347,8 +273,8 @@ accessed-not ps s t e sound b = record {
 -- the stretches of a list of at most two
 pub list-one : (ps : List Span) (p : Span) → Some p ≡ slice_get ps 0 → false ≡ ltb 1 (length ps) → ps ≡ p ∷ []
 list-one [] p e one = cc
-list-one (x ∷ []) p e one = let h : p ≡ x = cc in rw h refl
-list-one (x ∷ y ∷ ps) p e one = absurd (false≢true (one ∙ lt-ltb 1 (length (x ∷ y ∷ ps)) (omega arith)))
+list-one (x ∷ []) p e one = grind arith
+list-one (x ∷ y ∷ ps) p e one = grind (arith, nat_tests)
 
 pub list-two : (ps : List Span) (p q : Span) → length ps ≤ 2 → Some p ≡ slice_get ps 0 → 1 < length ps → q ≡ get_or ps 1 q → ps ≡ p ∷ q ∷ []
 list-two [] p q few e lt is = cc

@@ -1,5 +1,5 @@
 -- The bytes of segments, from those of their pages.
-use Rattle.std.proofs.Common.{◌≡◌, ◌≢◌, ℕ, zero, suc, ◌<◌, ◌≤◌, ◌+◌, ◌-◌, ◌*◌, List, [], ◌∷◌, ◌++◌, map, length, take, drop, refl, sym, ap, ◌∙◌, inl, inr, arith, append_assoc, length-append, length-take, length-drop}
+use Rattle.std.proofs.Common.{◌≡◌, ◌≢◌, ℕ, zero, suc, ◌<◌, ◌≤◌, ◌+◌, ◌-◌, ◌*◌, List, [], ◌∷◌, ◌++◌, map, length, take, drop, refl, sym, ap, ◌∙◌, inl, inr, arith, append_assoc, length-drop}
 use Rattle.std.specs.List.{flat_map}
 use Rattle.std.proofs.lemmas.Bool.{cases_eq}
 use Rattle.std.proofs.lemmas.List.{take-append-le, drop-append-le}
@@ -12,6 +12,7 @@ use Rattle.shm_fault.specs.Segs.{SegRec, rec_at, AreApart, rec_by, HasPage}
 use Rattle.shm_fault.specs.Store.{StoreView, page_bytes, held_by, held}
 use Rattle.shm_fault.specs.Goes.{Outline, outline, outlines}
 use Rattle.shm_fault.proofs.Pages.{has-head, rec-head, has-tail, rec-tail}
+use Rattle.std.proofs.lemmas.Grind.{common_steps}
 
 -- the bytes of so many pages of a segment, from page i on, joined
 unfoldable pub joined : (PageRef → List ℕ) → ℕ → ℕ → ℕ → List ℕ
@@ -33,10 +34,8 @@ pub joined-ext : (b c : PageRef → List ℕ) (id i n : ℕ) → ((j : ℕ) → 
 unfolding joined
 joined-ext b c id i zero same = refl
 joined-ext b c id i (suc n) same =
-    let z : i + 0 ≡ i = omega arith in
-    let here : b (record { seg = id; page = i }) ≡ c (record { seg = id; page = i }) = rw z at (same 0 (omega arith)) in
     let rest = joined-ext b c id (suc i) n (λ j l. let s : i + suc j ≡ suc i + j = omega arith in rw s at (same (suc j) (omega arith))) in
-    cc
+    grind (arith, same 0 (omega arith), rest)
 
 -- pages that have the same bytes make the same segments
 pub held_of-ext : (b c : PageRef → List ℕ) (gs : List SegRec) → AreApart gs → ((r : PageRef) → HasPage gs r → b r ≡ c r) → held_of b (outlines gs) ≡ held_of c (outlines gs)
@@ -54,10 +53,8 @@ joined-pages : (frames : List Frame) (swap : SwapView) (id i : ℕ) (ps : List P
 unfolding joined
 joined-pages frames swap id i [] b is = refl
 joined-pages frames swap id i (p ∷ ps) b is =
-    let z : i + 0 ≡ i = omega arith in
-    let here : b (record { seg = id; page = i }) ≡ page_bytes frames swap p = rw z at (is 0 (omega arith)) in
     let rest = joined-pages frames swap id (suc i) ps b (λ j l. let s : i + suc j ≡ suc i + j = omega arith in rw s at (is (suc j) (omega arith))) in
-    rw (here, rest) refl
+    grind (arith, is 0 (omega arith), rest)
 
 -- the held segments, by the bytes of their pages
 held-list : (frames : List Frame) (swap : SwapView) (gs : List SegRec) (b : PageRef → List ℕ) → AreApart gs → ((r : PageRef) → HasPage gs r → b r ≡ page_bytes frames swap (rec_by gs r)) → map (held_by frames swap) gs ≡ held_of b (outlines gs)
@@ -90,10 +87,7 @@ drop-past (a ∷ x) y zero m e = absurd (omega arith)
 drop-past (a ∷ x) y (suc n) m e = let s : suc n + m ≡ suc (n + m) = omega arith in rw s (drop-past x y n m (omega arith))
 
 paste-front : (x y new : List ℕ) (off : ℕ) → off + length new ≤ length x → paste (x ++ y) off new ≡ paste x off new ++ y
-paste-front x y new off le =
-    let a : take off (x ++ y) ≡ take off x = take-append-le off x y (omega arith) in
-    let b : drop (off + length new) (x ++ y) ≡ drop (off + length new) x ++ y = drop-append-le (off + length new) x y le in
-    rw (a, b) (sym (append_assoc (take off x ++ new) (drop (off + length new) x) y))
+paste-front x y new off le = grind (arith, common_steps, append_assoc)
 
 paste-back : (x y new : List ℕ) (n m : ℕ) → length x ≡ n → paste (x ++ y) (n + m) new ≡ x ++ paste y m new
 paste-back x y new n m e =
@@ -145,11 +139,4 @@ module _ (b : PageRef → List ℕ) (r : PageRef) (n : ℕ) (whole : (j : ℕ) �
   pub length-joined : (i k : ℕ) → i + k ≡ n → length (joined b r.seg i k) ≡ 4096 * k
   unfolding joined
   length-joined i zero e = refl
-  length-joined i (suc k) e =
-      let w = whole i (omega arith) in
-      let rest = length-joined (suc i) k (omega arith) in
-      omega (arith, w, rest, length-append (b (record { seg = r.seg; page = i })) (joined b r.seg (suc i) k))
-
-pub length-paste : (xs : List ℕ) (at : ℕ) (new : List ℕ) → at + length new ≤ length xs → length (paste xs at new) ≡ length xs
-length-paste xs at new le =
-    omega (arith, length-append (take at xs ++ new) (drop (at + length new) xs), length-append (take at xs) new, length-take at xs, length-drop (at + length new) xs)
+  length-joined i (suc k) e = grind (arith, common_steps, whole i (omega arith), length-joined (suc i) k (omega arith))

@@ -1,8 +1,7 @@
 -- Each step of a page from one place to another, and what it keeps.
-use Rattle.std.proofs.Common.{◌≡◌, ◌≢◌, ◌⊎◌, ℕ, ◌<◌, ◌≤◌, Bool, true, false, List, [], length, get_or, set, Option, Some, None, refl, sym, ap, ◌∙◌, inl, inr, arith, length-set, get_or-set_same, get_or-set_other, set-set}
+use Rattle.std.proofs.Common.{◌≡◌, ◌≢◌, ℕ, ◌<◌, Bool, true, false, List, [], length, get_or, set, Option, Some, None, refl, sym, ap, ◌∙◌, inl, inr, arith, length-set, get_or-set_same, set-set}
 use Rattle.std.specs.Prelude.{IsSome}
-use Rattle.std.proofs.lemmas.Bool.{cases_eq, cases_lt}
-use Rattle.std.proofs.lemmas.List.{set_past}
+use Rattle.std.proofs.lemmas.Bool.{cases_lt}
 use Rattle.shm_base.specs.declared.paging.PageRef.{PageRef}
 use Rattle.shm_base.specs.declared.paging.Slot.{Slot}
 use Rattle.shm_slots.specs.View.{SwapView, IsSwap, sizes, owner_of, page_in, HasSlot, SameSlots, with_slot_owner}
@@ -10,12 +9,12 @@ use Rattle.shm_slots.specs.Cause.{GoesOn}
 use Rattle.shm_frames.specs.Frame.{Frame, no_frame, frame_at}
 use Rattle.shm_fault.specs.declared.page_tables.PageRec.{PageRec}
 use Rattle.shm_fault.specs.Segs.{rec_by, count_by_id, HasPage, with_rec}
-use Rattle.shm_fault.specs.Store.{StoreView, stored, bytes_by, page_bytes}
+use Rattle.shm_fault.specs.Store.{StoreView, stored, page_bytes}
 use Rattle.shm_fault.specs.Sound.{IsTied, IsStoreSound}
 use Rattle.shm_fault.specs.Goes.{Alike, Goes, Still, StaysAway}
 use Rattle.shm_fault.proofs.Pages.{rec-with, rec-with_other, still-with, cases_ref, other, other-false, other-true, has-frame, rec-past}
-use Rattle.shm_fault.proofs.Slots.{OnlySlot, OnlySlot-owner, owner-set, cases_slot}
-use Rattle.shm_fault.proofs.Ties.{Alike-refl, FramesApart, SlotsApart, Touches, IsOwn, IsOwn-none, IsOwn-some, segs-same, segs-with, frames-same, frames-set, slots-same, slots-only, bytes_touched}
+use Rattle.shm_fault.proofs.Slots.{OnlySlot, OnlySlot-owner, owner-set, cases_slot, set-cases}
+use Rattle.shm_fault.proofs.Ties.{FramesApart, SlotsApart, Touches, IsOwn-none, IsOwn-some, segs-same, segs-with, frames-same, frames-set, slots-same, slots-only, bytes_touched}
 use Rattle.shm_fault.proofs.Bytes.{bytes_at}
 use Rattle.shm_fault.proofs.Sound.{sound-touched, goes-touched, GoesOn-refl}
 
@@ -32,12 +31,6 @@ own (Some r) e = record { page = r; is = refl }
 pub record Keeps (s t : StoreView) : Type 0 where
   pub sound : IsStoreSound t
   pub goes : Goes s t
-
-pub bytes_by-some : (frames : List Frame) (u : SwapView) (o : Option ℕ) (k : Option Slot) (f : ℕ) → o ≡ Some f → bytes_by frames u o k ≡ (frame_at frames f).bytes
-bytes_by-some frames u o k f e = rw e refl
-
-pub bytes_by-none : (frames : List Frame) (u : SwapView) (o : Option ℕ) (k : Option Slot) → o ≡ None → bytes_by frames u o k ≡ stored u k
-bytes_by-none frames u o k e = rw e refl
 
 pub some_same : {X : Type 0} (x y : X) (o : Option X) → o ≡ Some x → o ≡ Some y → y ≡ x
 some_same x y o a b = cc
@@ -63,11 +56,10 @@ module _ (s t : StoreView) (sound : IsStoreSound s) (r : PageRef) (has : HasPage
   }
 
 -- no page is touched
-pub every : PageRef → Bool
+abbrev pub every : PageRef → Bool
 every q = true
 
 pub keeps-every : (s t : StoreView) → IsStoreSound s → Touches every s t → IsSwap t.swap → sizes t.swap ≡ sizes s.swap → t.hand < length t.frames → GoesOn s.swap t.swap → Keeps s t
-unfolding every
 keeps-every s t sound to is same hand goes_on = record {
   sound = sound-touched every s t sound to is same hand (λ q n h. cc) (λ f q n h. cc) (λ k q n h. cc);
   goes = goes-touched every s t sound to is same hand (λ q n h. cc) (λ f q n h. cc) (λ k q n h. cc) goes_on (λ q n h. cc);
@@ -75,7 +67,7 @@ keeps-every s t sound to is same hand goes_on = record {
 
 pub slots-kept : {off : PageRef → Bool} (s u : SwapView) → SameSlots s u → SlotsApart off s u
 slots-kept s u kept = record {
-  has = λ k h. (rw kept.areas h.0, rw (kept.pages k.area) h.1);
+  has = λ k q e o h. (rw kept.areas h.0, rw (kept.pages k.area) h.1);
   kept = λ k q e o. (ap (λ os. get_or os k.slot None) (kept.owners k.area) ∙ o, ap (λ ps. get_or ps k.slot []) (kept.pages k.area));
   owners = λ k q e o. sym (ap (λ os. get_or os k.slot None) (kept.owners k.area)) ∙ o;
 }
@@ -98,59 +90,39 @@ module _ (s : StoreView) (sound : IsStoreSound s) (r : PageRef) (f : ℕ) (k : S
     (x_owner : x.owner ≡ Some r) (x_bytes : x.bytes ≡ (frame_at s.frames f).bytes)
     (only : OnlySlot k s.swap u) (owner : owner_of u k.area k.slot ≡ owner_of s.swap k.area k.slot)
     (clean : x.dirty ≡ false → x.bytes ≡ page_in u k.area k.slot) where
-  has-wb : HasPage s.segs r
-  has-wb = sound.tied.owners f r owned
-
-  tie-wb : IsTied s r
-  tie-wb = sound.tied.pages r has-wb
-
-  at-wb : (rec_by s.segs r).frame ≡ Some f
-  at-wb = tie-wb.owner_resident f owned
-
-  lt-wb : f < length s.frames
-  lt-wb = (tie-wb.frame_owned f at-wb).0
-
-  set-wb : frame_at (set s.frames f x) f ≡ x
-  set-wb = get_or-set_same s.frames f x no_frame lt-wb
-
-  own-wb : owner_of s.swap k.area k.slot ≡ Some r
-  own-wb = (tie-wb.slot_owned k slot).1
-
   pub keeps-write : IsSwap u → sizes u ≡ sizes s.swap → GoesOn s.swap u → Keeps s (record { segs = s.segs; frames = set s.frames f x; hand = s.hand; swap = u; ins = ins; outs = outs })
   keeps-write is same goes_on =
+      let has : HasPage s.segs r = sound.tied.owners f r owned in
+      let tie-s : IsTied s r = sound.tied.pages r has in
+      let at_frame : (rec_by s.segs r).frame ≡ Some f = tie-s.owner_resident f owned in
+      let lt : f < length s.frames = (tie-s.frame_owned f at_frame).0 in
+      let own = (tie-s.slot_owned k slot).1 in
       let t : StoreView = record { segs = s.segs; frames = set s.frames f x; hand = s.hand; swap = u; ins = ins; outs = outs } in
-      let was : IsOwn r (frame_at s.frames f).owner = IsOwn-some r (frame_at s.frames f).owner owned in
-      let now : IsOwn r x.owner = IsOwn-some r x.owner x_owner in
-      let slot_was : IsOwn r (owner_of s.swap k.area k.slot) = IsOwn-some r (owner_of s.swap k.area k.slot) own-wb in
-      let slot_now : IsOwn r (owner_of u k.area k.slot) = IsOwn-some r (owner_of u k.area k.slot) (owner ∙ own-wb) in
+      let set_at : frame_at (set s.frames f x) f ≡ x = get_or-set_same s.frames f x no_frame lt in
       let to : Touches (other r) s t = record {
         segs = segs-same s.segs;
-        frames = frames-set r s.frames f x was now (λ none. cc) sound.tied.free;
-        slots = slots-only r k s.swap u only slot_was slot_now;
+        frames = frames-set (other r) s.frames f x (IsOwn-some r _ owned) (IsOwn-some r _ x_owner) (λ none. cc) sound.tied.free;
+        slots = slots-only (other r) k s.swap u only (IsOwn-some r _ own) (IsOwn-some r _ (owner ∙ own));
       } in
-      let bytes : page_bytes t.frames t.swap (rec_by s.segs r) ≡ page_bytes s.frames s.swap (rec_by s.segs r) =
-      bytes_by-some t.frames t.swap (rec_by s.segs r).frame (rec_by s.segs r).slot f at-wb ∙ ap (λ (y : Frame). y.bytes) set-wb ∙ x_bytes ∙ sym (bytes_by-some s.frames s.swap (rec_by s.segs r).frame (rec_by s.segs r).slot f at-wb) in
+      let bytes : bytes_at t r ≡ bytes_at s r = rw at_frame (ap (λ (y : Frame). y.bytes) set_at ∙ x_bytes) in
       let tie : IsTied t r = record {
-        frame_owned = λ g e. let q : g ≡ f = some_same f g (rec_by s.segs r).frame at-wb e in (rw (q, length-set s.frames f x) lt-wb, rw (q, set-wb) x_owner);
-        owner_resident = λ g e. elim (cases_eq g f) [
-          | inl q ↦ rw q at-wb
-          | inr n ↦ tie-wb.owner_resident g (rw (get_or-set_other s.frames f g x no_frame n) at e)
+        frame_owned = λ g e. let q : g ≡ f = cc (at_frame, e) in (rw (q, length-set s.frames f x) lt, rw (q, set_at) x_owner);
+        owner_resident = λ g e. elim (set-cases s.frames f x no_frame g) [
+          | inl q ↦ rw q.0 at_frame
+          | inr kept ↦ tie-s.owner_resident g (rw kept at e)
         ];
-        slot_owned = λ j e. let q : j ≡ k = some_same k j (rec_by s.segs r).slot slot e in (only.has j (tie-wb.slot_owned j e).0, rw q (owner ∙ own-wb));
-        owner_stored = λ j e. by j e;
+        slot_owned = λ j e. let q : j ≡ k = cc (slot, e) in (only.has j (tie-s.slot_owned j e).0, rw q (owner ∙ own));
+        owner_stored = λ j e. elim (cases_slot j k) [
+          | inl q ↦ rw q slot
+          | inr n ↦ tie-s.owner_stored j (sym (only.owners j n) ∙ e)
+        ];
         clean = λ g e d.
-            let q : g ≡ f = some_same f g (rec_by s.segs r).frame at-wb e in
-            let c : x.dirty ≡ false = rw (q, set-wb) at d in
-            rw (q, set-wb, slot) (clean c);
-        whole = rw bytes tie-wb.whole;
+            let q : g ≡ f = cc (at_frame, e) in
+            let c : x.dirty ≡ false = rw (q, set_at) at d in
+            rw (q, set_at, slot) (clean c);
+        whole = rw bytes tie-s.whole;
       } in
-      keeps-one s t sound r has-wb to is same (rw (length-set s.frames f x) sound.hand) goes_on tie bytes
-    where
-      by : (j : Slot) → owner_of u j.area j.slot ≡ Some r → (rec_by s.segs r).slot ≡ Some j
-      by j e = elim (cases_slot j k) [
-        | inl q ↦ rw q slot
-        | inr n ↦ tie-wb.owner_stored j (sym (only.owners j n) ∙ e)
-      ]
+      keeps-one s t sound r has to is same (rw (length-set s.frames f x) sound.hand) goes_on tie bytes
 
 -- a page in a dirty frame gets a slot
 pub record Takes (f : ℕ) (k : Slot) (s t : StoreView) : Type 0 where
@@ -179,29 +151,23 @@ module _ (s : StoreView) (sound : IsStoreSound s) (r : PageRef) (f : ℕ) (k : S
       let at_frame : (rec_by s.segs r).frame ≡ Some f = tie-ts.owner_resident f owned in
       let only : OnlySlot k s.swap u = OnlySlot-owner k s.swap (Some r) in
       let own : owner_of u k.area k.slot ≡ Some r = owner-set k s.swap (Some r) there.0 (omega (arith, there.1, (sound.swap.each k.area).owned)) in
-      let slot_was : IsOwn r (owner_of s.swap k.area k.slot) = IsOwn-none r (owner_of s.swap k.area k.slot) free in
-      let slot_now : IsOwn r (owner_of u k.area k.slot) = IsOwn-some r (owner_of u k.area k.slot) own in
       let to : Touches (other r) s t = record {
         segs = segs-with s.segs r p;
         frames = frames-same s.frames sound.tied.free;
-        slots = slots-only r k s.swap u only slot_was slot_now;
+        slots = slots-only (other r) k s.swap u only (IsOwn-none (other r) _ free) (IsOwn-some r _ own);
       } in
-      let bytes : bytes_at t r ≡ bytes_at s r =
-      ap (page_bytes t.frames t.swap) at ∙ bytes_by-some s.frames u (rec_by s.segs r).frame (Some k) f at_frame ∙ sym (bytes_by-some s.frames s.swap (rec_by s.segs r).frame (rec_by s.segs r).slot f at_frame) in
+      let bytes : bytes_at t r ≡ bytes_at s r = rw (at, at_frame) refl in
       let tie : IsTied t r = record {
         frame_owned = λ g e. tie-ts.frame_owned g (rw at at e);
         owner_resident = λ g e. rw at (tie-ts.owner_resident g e);
-        slot_owned = λ j e.
-            let h : Some k ≡ Some j = rw at at e in
-            let q : j ≡ k = some_same k j (Some k) refl h in
-            (rw q (only.has k there), rw q own);
+        slot_owned = λ j e. let q : j ≡ k = cc (rw at at e) in (rw q (only.has k there), rw q own);
         owner_stored = λ j e. elim (cases_slot j k) [
           | inl q ↦ rw (at, q) refl
-          | inr n ↦ absurd (let h : (rec_by s.segs r).slot ≡ Some j = tie-ts.owner_stored j (sym (only.owners j n) ∙ e) in cc)
+          | inr n ↦ cc (none, tie-ts.owner_stored j (sym (only.owners j n) ∙ e))
         ];
         clean = λ g e d.
-            let q : g ≡ f = some_same f g (rec_by s.segs r).frame at_frame (rw at at e) in
-            absurd (let h : (frame_at s.frames f).dirty ≡ false = rw q at d in cc);
+            let q : g ≡ f = cc (at_frame, rw at at e) in
+            cc (dirty, rw q at d);
         whole = rw bytes tie-ts.whole;
       } in
       keeps-one s t sound r has-ts to is same sound.hand goes_on tie bytes
@@ -218,7 +184,7 @@ module _ (s : StoreView) (sound : IsStoreSound s) (r : PageRef) (f : ℕ) (k : S
         slot = λ q e. let one : q ≡ r = some_same r q (frame_at s.frames f).owner owned e in rw (one, rec-with s.segs r p has-ts) refl;
         still = still-with s.segs r p has-ts refl;
         away = λ q none. elim (cases_ref r q) [
-          | inl one ↦ absurd (let h : (rec_by s.segs r).frame ≡ None = rw one at none in cc)
+          | inl one ↦ cc (at_frame, rw one at none)
           | inr off ↦ rec-with_other s.segs r q p off
         ];
       }
@@ -235,24 +201,20 @@ module _ (s : StoreView) (sound : IsStoreSound s) (r : PageRef) (f : ℕ) (bytes
       let at : rec_by t.segs r ≡ p = rec-with s.segs r p has in
       let at_frame : (rec_by s.segs r).frame ≡ Some f = tie-s.owner_resident f owned in
       let lt : f < length s.frames = (tie-s.frame_owned f at_frame).0 in
-      let was : IsOwn r (frame_at s.frames f).owner = IsOwn-some r (frame_at s.frames f).owner owned in
-      let now : IsOwn r x.owner = IsOwn-none r x.owner refl in
       let to : Touches (other r) s t = record {
         segs = segs-with s.segs r p;
-        frames = frames-set r s.frames f x was now (λ none. refl) sound.tied.free;
+        frames = frames-set (other r) s.frames f x (IsOwn-some r _ owned) (IsOwn-none (other r) _ refl) (λ none. refl) sound.tied.free;
         slots = slots-same s.swap;
       } in
-      let same : bytes_at t r ≡ bytes_at s r =
-      ap (page_bytes t.frames t.swap) at ∙ sym (tie-s.clean f at_frame clean) ∙ sym (bytes_by-some s.frames s.swap (rec_by s.segs r).frame (rec_by s.segs r).slot f at_frame) in
+      let same : bytes_at t r ≡ bytes_at s r = rw (at, at_frame) (sym (tie-s.clean f at_frame clean)) in
       let tie : IsTied t r = record {
-        frame_owned = λ g e. let h : None ≡ Some g = rw at at e in cc;
-        owner_resident = λ g e. elim (cases_eq g f) [
-          | inl q ↦ absurd (let h : None ≡ Some r = rw (q, get_or-set_same s.frames f x no_frame lt) at e in cc)
-          | inr n ↦ absurd (n (some_same f g (rec_by s.segs r).frame at_frame (tie-s.owner_resident g (rw (get_or-set_other s.frames f g x no_frame n) at e))))
-        ];
+        frame_owned = λ g e. cc (rw at at e);
+        owner_resident = λ g e.
+            let q : g ≡ f = elim (set-cases s.frames f x no_frame g) [ inl q ↦ q.0 | inr kept ↦ cc (at_frame, tie-s.owner_resident g (rw kept at e)) ] in
+            cc (rw (q, get_or-set_same s.frames f x no_frame lt) at e);
         slot_owned = λ j e. tie-s.slot_owned j (rw at at e);
         owner_stored = λ j e. rw at (tie-s.owner_stored j e);
-        clean = λ g e d. let h : None ≡ Some g = rw at at e in cc;
+        clean = λ g e d. cc (rw at at e);
         whole = rw same tie-s.whole;
       } in
       keeps-one s t sound r has to sound.swap refl (rw (length-set s.frames f x) sound.hand) (GoesOn-refl s.swap) tie same
@@ -268,60 +230,37 @@ module _ (s : StoreView) (sound : IsStoreSound s) (r : PageRef) (f : ℕ) (has :
       let t : StoreView = record s { segs = with_rec s.segs r p; frames = set s.frames f x } in
       let at : rec_by t.segs r ≡ p = rec-with s.segs r p has in
       let set_at : frame_at (set s.frames f x) f ≡ x = get_or-set_same s.frames f x no_frame lt in
-      let was : IsOwn r (frame_at s.frames f).owner = IsOwn-none r (frame_at s.frames f).owner free in
-      let now : IsOwn r x.owner = IsOwn-some r x.owner refl in
       let to : Touches (other r) s t = record {
         segs = segs-with s.segs r p;
-        frames = frames-set r s.frames f x was now (λ none. cc) sound.tied.free;
+        frames = frames-set (other r) s.frames f x (IsOwn-none (other r) _ free) (IsOwn-some r _ refl) (λ none. cc) sound.tied.free;
         slots = slots-same s.swap;
       } in
-      let same : bytes_at t r ≡ bytes_at s r =
-      ap (page_bytes t.frames t.swap) at ∙ ap (λ (y : Frame). y.bytes) set_at ∙ bytes ∙ sym (bytes_by-none s.frames s.swap (rec_by s.segs r).frame (rec_by s.segs r).slot away) in
+      let same : bytes_at t r ≡ bytes_at s r = rw (at, away) (ap (λ (y : Frame). y.bytes) set_at ∙ bytes) in
       let tie : IsTied t r = record {
-        frame_owned = λ g e.
-            let h : Some f ≡ Some g = rw at at e in
-            let q : g ≡ f = some_same f g (Some f) refl h in
-            (rw (q, length-set s.frames f x) lt, rw (q, set_at) refl);
-        owner_resident = λ g e. elim (cases_eq g f) [
-          | inl q ↦ rw (at, q) refl
-          | inr n ↦ absurd (let h : (rec_by s.segs r).frame ≡ Some g = tie-s.owner_resident g (rw (get_or-set_other s.frames f g x no_frame n) at e) in cc)
+        frame_owned = λ g e. let q : g ≡ f = cc (rw at at e) in (rw (q, length-set s.frames f x) lt, rw (q, set_at) refl);
+        owner_resident = λ g e. elim (set-cases s.frames f x no_frame g) [
+          | inl q ↦ rw (at, q.0) refl
+          | inr kept ↦ cc (away, tie-s.owner_resident g (rw kept at e))
         ];
         slot_owned = λ j e. tie-s.slot_owned j (rw at at e);
         owner_stored = λ j e. rw at (tie-s.owner_stored j e);
-        clean = λ g e d.
-            let h : Some f ≡ Some g = rw at at e in
-            let q : g ≡ f = some_same f g (Some f) refl h in
-            rw (q, set_at, at) bytes;
+        clean = λ g e d. let q : g ≡ f = cc (rw at at e) in rw (q, set_at, at) bytes;
         whole = rw same tie-s.whole;
       } in
       keeps-one s t sound r has to sound.swap refl (rw (length-set s.frames f x) sound.hand) (GoesOn-refl s.swap) tie same
 
 -- a free frame gets other bytes
-module _ (s : StoreView) (sound : IsStoreSound s) (f : ℕ) (bytes : List ℕ) (free : (frame_at s.frames f).owner ≡ None) (u : SwapView) (ins : ℕ) (kept : SameSlots s.swap u) where
-  pub keeps-load : IsSwap u → sizes u ≡ sizes s.swap → GoesOn s.swap u → Keeps s (record { segs = s.segs; frames = set s.frames f (record (frame_at s.frames f) { bytes = bytes }); hand = s.hand; swap = u; ins = ins; outs = s.outs })
-  keeps-load is same goes_on =
-      let x : Frame = record (frame_at s.frames f) { bytes = bytes } in
-      let t : StoreView = record { segs = s.segs; frames = set s.frames f x; hand = s.hand; swap = u; ins = ins; outs = s.outs } in
-      let apart : FramesApart every s.frames t.frames = record {
-        size = length-set s.frames f x;
-        alike = λ g q e o. elim (cases_eq g f) [
-          | inl same ↦ absurd (let h : (frame_at s.frames f).owner ≡ Some q = rw same at o in cc)
-          | inr n ↦ rw (get_or-set_other s.frames f g x no_frame n) (Alike-refl (frame_at s.frames g))
-        ];
-        owners = λ g q e o. owners g q o (cases_eq g f) (cases_lt f (length s.frames));
-        free = λ g e. frees g e (cases_eq g f) (cases_lt f (length s.frames));
-      } in
-      keeps-every s t sound (record { segs = segs-same s.segs; frames = apart; slots = slots-kept s.swap u kept }) is same (rw (length-set s.frames f x) sound.hand) goes_on
-    where
-      owners : (g : ℕ) (q : PageRef) → (frame_at (set s.frames f (record (frame_at s.frames f) { bytes = bytes })) g).owner ≡ Some q → (g ≡ f) ⊎ (g ≢ f) → (f < length s.frames) ⊎ (length s.frames ≤ f) → (frame_at s.frames g).owner ≡ Some q
-      owners g q o (inr n) c = rw (get_or-set_other s.frames f g (record (frame_at s.frames f) { bytes = bytes }) no_frame n) at o
-      owners g q o (inl same) (inr past) = rw (set_past s.frames f (record (frame_at s.frames f) { bytes = bytes }) past) at o
-      owners g q o (inl same) (inl lt) = rw same (rw (same, get_or-set_same s.frames f (record (frame_at s.frames f) { bytes = bytes }) no_frame lt) at o)
-
-      frees : (g : ℕ) → (frame_at (set s.frames f (record (frame_at s.frames f) { bytes = bytes })) g).owner ≡ None → (g ≡ f) ⊎ (g ≢ f) → (f < length s.frames) ⊎ (length s.frames ≤ f) → (frame_at (set s.frames f (record (frame_at s.frames f) { bytes = bytes })) g).dirty ≡ false
-      frees g o (inr n) c = rw (get_or-set_other s.frames f g (record (frame_at s.frames f) { bytes = bytes }) no_frame n) (sound.tied.free g (rw (get_or-set_other s.frames f g (record (frame_at s.frames f) { bytes = bytes }) no_frame n) at o))
-      frees g o (inl same) (inr past) = rw (set_past s.frames f (record (frame_at s.frames f) { bytes = bytes }) past) (sound.tied.free g (rw (set_past s.frames f (record (frame_at s.frames f) { bytes = bytes }) past) at o))
-      frees g o (inl same) (inl lt) = rw (same, get_or-set_same s.frames f (record (frame_at s.frames f) { bytes = bytes }) no_frame lt) (sound.tied.free f free)
+pub keeps-load : (s : StoreView) → IsStoreSound s → (f : ℕ) (bytes : List ℕ) → (frame_at s.frames f).owner ≡ None → (u : SwapView) (ins : ℕ) → SameSlots s.swap u → IsSwap u → sizes u ≡ sizes s.swap → GoesOn s.swap u
+    → Keeps s (record { segs = s.segs; frames = set s.frames f (record (frame_at s.frames f) { bytes = bytes }); hand = s.hand; swap = u; ins = ins; outs = s.outs })
+keeps-load s sound f bytes free u ins kept is same goes_on =
+    let x : Frame = record (frame_at s.frames f) { bytes = bytes } in
+    let t : StoreView = record { segs = s.segs; frames = set s.frames f x; hand = s.hand; swap = u; ins = ins; outs = s.outs } in
+    let to : Touches every s t = record {
+      segs = segs-same s.segs;
+      frames = frames-set every s.frames f x (IsOwn-none every _ free) (IsOwn-none every _ free) (sound.tied.free f) sound.tied.free;
+      slots = slots-kept s.swap u kept;
+    } in
+    keeps-every s t sound to is same (rw (length-set s.frames f x) sound.hand) goes_on
 
 -- a frame set twice
 pub set-twice : (frames : List Frame) (f : ℕ) (x : Frame) (h : Frame → Frame) {a b : List Frame} → f < length frames → a ≡ set frames f x → b ≡ set a f (h (frame_at a f)) → b ≡ set frames f (h x)
@@ -345,11 +284,9 @@ module _ (s : StoreView) (sound : IsStoreSound s) (r : PageRef) (f : ℕ) (x : F
 
   to-st : Touches (other r) s (record s { frames = set s.frames f x })
   to-st =
-      let was : IsOwn r (frame_at s.frames f).owner = IsOwn-some r (frame_at s.frames f).owner own-st in
-      let now : IsOwn r x.owner = IsOwn-some r x.owner (x_owner ∙ own-st) in
       record {
         segs = segs-same s.segs;
-        frames = frames-set r s.frames f x was now (λ none. cc (none, x_owner, own-st)) sound.tied.free;
+        frames = frames-set (other r) s.frames f x (IsOwn-some r _ own-st) (IsOwn-some r _ (x_owner ∙ own-st)) (λ none. cc (none, x_owner, own-st)) sound.tied.free;
         slots = slots-same s.swap;
       }
 
@@ -357,7 +294,7 @@ module _ (s : StoreView) (sound : IsStoreSound s) (r : PageRef) (f : ℕ) (x : F
   set-st = get_or-set_same s.frames f x no_frame lt-st
 
   pub bytes-stored : page_bytes (set s.frames f x) s.swap (rec_by s.segs r) ≡ x.bytes
-  bytes-stored = bytes_by-some (set s.frames f x) s.swap (rec_by s.segs r).frame (rec_by s.segs r).slot f at_frame ∙ ap (λ (y : Frame). y.bytes) set-st
+  bytes-stored = rw at_frame (ap (λ (y : Frame). y.bytes) set-st)
 
   bytes-there : (q : PageRef) → HasPage s.segs q → other r q ≡ true → page_bytes (set s.frames f x) s.swap (rec_by s.segs q) ≡ page_bytes s.frames s.swap (rec_by s.segs q)
   bytes-there q there off = bytes_touched (other r) s (record s { frames = set s.frames f x }) to-st q off (sound.tied.pages q there)
@@ -372,19 +309,16 @@ module _ (s : StoreView) (sound : IsStoreSound s) (r : PageRef) (f : ℕ) (x : F
   sound-stored =
       let t : StoreView = record s { frames = set s.frames f x } in
       let tie : IsTied t r = record {
-        frame_owned = λ g e. let q : g ≡ f = some_same f g (rec_by s.segs r).frame at_frame e in (rw (q, length-set s.frames f x) lt-st, rw (q, set-st) (x_owner ∙ own-st));
-        owner_resident = λ g e. elim (cases_eq g f) [
-          | inl q ↦ rw q at_frame
-          | inr n ↦ tie-st.owner_resident g (rw (get_or-set_other s.frames f g x no_frame n) at e)
+        frame_owned = λ g e. let q : g ≡ f = cc (at_frame, e) in (rw (q, length-set s.frames f x) lt-st, rw (q, set-st) (x_owner ∙ own-st));
+        owner_resident = λ g e. elim (set-cases s.frames f x no_frame g) [
+          | inl q ↦ rw q.0 at_frame
+          | inr kept ↦ tie-st.owner_resident g (rw kept at e)
         ];
         slot_owned = tie-st.slot_owned;
         owner_stored = tie-st.owner_stored;
         clean = λ g e d.
-            let q : g ≡ f = some_same f g (rec_by s.segs r).frame at_frame e in
-            absurd (let h : x.dirty ≡ false = rw (q, set-st) at d in cc);
+            let q : g ≡ f = cc (at_frame, e) in
+            cc (x_dirty, rw (q, set-st) at d);
         whole = rw bytes-stored whole;
       } in
       sound-one s t sound r has-st to-st sound.swap refl (rw (length-set s.frames f x) sound.hand) (GoesOn-refl s.swap) tie
-
-pub resident-bytes : (s : StoreView) (r : PageRef) (f : ℕ) → (rec_by s.segs r).frame ≡ Some f → page_bytes s.frames s.swap (rec_by s.segs r) ≡ (frame_at s.frames f).bytes
-resident-bytes s r f at = bytes_by-some s.frames s.swap (rec_by s.segs r).frame (rec_by s.segs r).slot f at

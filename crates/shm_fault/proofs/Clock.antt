@@ -1,7 +1,7 @@
 -- What the clock needs, and what it leaves of the frames.
-use Rattle.std.proofs.Common.{◌≡◌, ℕ, suc, ◌<◌, ◌≤◌, ◌+◌, Bool, true, false, not, cond, List, [], ◌∷◌, length, Option, Some, None, is_none, is_some, refl, ap, inl, inr, arith}
+use Rattle.std.proofs.Common.{◌≡◌, ℕ, suc, ◌<◌, ◌≤◌, Bool, true, false, not, cond, List, [], ◌∷◌, length, Option, Some, None, is_none, is_some, refl, ap, inl, inr, arith}
 use Rattle.std.specs.Prelude.{count_by}
-use Rattle.std.proofs.lemmas.Bool.{cases_lt, lt-ltb, le-ltb}
+use Rattle.std.proofs.lemmas.Bool.{cases_lt}
 use Rattle.std.proofs.lemmas.List.{get_or_past}
 use Rattle.std.proofs.lemmas.List.Sums.{sum_by-cons}
 use Rattle.shm_base.specs.declared.paging.PageRef.{PageRef}
@@ -13,7 +13,8 @@ use Rattle.shm_fault.specs.Store.{StoreView}
 use Rattle.shm_fault.specs.Sound.{IsStoreSound}
 use Rattle.shm_fault.specs.Goes.{unlocked, Alike}
 use Rattle.shm_fault.proofs.Ties.{Alike-refl}
-use Rattle.shm_fault.proofs.Tally.{resident-frames, unlocked_resident, passes_by}
+use Rattle.shm_fault.proofs.Tally.{resident-frames, unlocked_resident, passes_by, count-ext}
+use Rattle.std.proofs.lemmas.Bool.Decides.{nat_tests}
 
 pub clock-alike : (may : ℕ → Bool) (hand : ℕ) (before : List Frame) (victim : ℕ) (after : List Frame) → IsClockVictim may hand before victim after → (f : ℕ) → Alike (frame_at before f) (frame_at after f)
 clock-alike may hand before victim after is f = elim (cases_lt f (length before)) [
@@ -22,10 +23,7 @@ clock-alike may hand before victim after is f = elim (cases_lt f (length before)
 ]
 
 pub next-lt : (before after : List Frame) (victim : ℕ) {hand : ℕ} → length after ≡ length before → victim < length before → hand ≡ next (length before) victim → hand < length after
-next-lt before after victim {hand} size there is = elim (cases_lt (victim + 1) (length before)) [
-  | inl lt ↦ rw (is, lt-ltb (victim + 1) (length before) lt, size) lt
-  | inr past ↦ rw (is, le-ltb (victim + 1) (length before) past, size) (omega arith)
-]
+next-lt before after victim {hand} size there is = grind (arith, nat_tests)
 
 abbrev bit : Bool → ℕ
 bit b = cond b 1 0
@@ -47,17 +45,11 @@ same-test : (s : StoreView) (x : Frame) (o : Option PageRef) → x.owner ≡ o �
 same-test s x None e = rw e refl
 same-test s x (Some r) e = rw e refl
 
-same-tests : (s : StoreView) (xs : List Frame) → count_by (passes_by (λ r x. not (locked_by s.segs r.seg))) xs ≡ count_by (page_may_go (unlocked s.segs)) xs
-same-tests s [] = refl
-same-tests s (x ∷ xs) =
-    let rest = same-tests s xs in
-    let one : bit (passes_by (λ r y. not (locked_by s.segs r.seg)) x) ≡ bit (page_may_go (unlocked s.segs) x) = ap bit (same-test s x x.owner refl) in
-    omega (arith, one, rest, sum_by-cons (λ (y : Frame). cond (passes_by (λ r z. not (locked_by s.segs r.seg)) y) 1 0) x xs, sum_by-cons (λ (y : Frame). cond (page_may_go (unlocked s.segs) y) 1 0) x xs)
-
 -- where no frame is free, two at least have pages of segments that are not locked
 pub two_unlocked : (s : StoreView) → IsStoreSound s → OwnedBelow s.frames (length s.frames) → 2 ≤ count_by (page_may_go (unlocked s.segs)) s.frames
 two_unlocked s sound full =
     let all = all-owned s.frames full in
     let resident = resident-frames s sound.apart sound.tied in
     let le = unlocked_resident s sound.apart sound.tied in
-    omega (arith, all, resident, le, same-tests s s.frames, sound.locked)
+    let same = count-ext (passes_by (λ r x. not (locked_by s.segs r.seg))) (page_may_go (unlocked s.segs)) s.frames (λ x. same-test s x x.owner refl) in
+    omega (arith, all, resident, le, same, sound.locked)

@@ -1,12 +1,13 @@
 -- Frames and slots that are owned, counted by the pages that own them.
-use Rattle.std.proofs.Common.{◌≡◌, ◌≢◌, ℕ, zero, suc, ◌<◌, ◌≤◌, ◌+◌, ◌-◌, ◌*◌, Bool, true, false, cond, eqb, leb, List, [], ◌∷◌, length, get_or, sum_by, Option, Some, None, is_some, refl, sym, ap, ◌∙◌, inl, inr, arith}
+use Rattle.std.proofs.Common.{◌≡◌, ◌≢◌, ℕ, zero, suc, ◌<◌, ◌≤◌, ◌+◌, ◌-◌, ◌*◌, Bool, cond, eqb, leb, List, [], ◌∷◌, length, get_or, sum_by, Option, Some, None, is_some, refl, sym, ap, ◌∙◌, inl, inr, arith}
 use Rattle.std.specs.Prelude.{count_by}
-use Rattle.std.proofs.lemmas.Bool.{cases_eq, cases_lt, eq-eqb, ne_eqb, le-leb, lt-leb}
+use Rattle.std.proofs.lemmas.Bool.{cases_eq, cases_lt, eq-eqb, ne_eqb, lt-leb}
 use Rattle.std.proofs.lemmas.List.Sums.{sum_by-cons}
 use Rattle.shm_base.specs.declared.paging.PageRef.{PageRef}
 use Rattle.shm_fault.specs.declared.page_tables.PageRec.{PageRec}
 use Rattle.shm_fault.specs.Segs.{SegRec, rec_at, AreApart, rec_by, HasPage, locked_by, pages_of, locked_pages}
 use Rattle.shm_fault.proofs.Pages.{has-head, rec-head, not-head, has-tail, rec-tail, other, other-self, other-true}
+use Rattle.std.proofs.lemmas.Bool.Decides.{nat_tests}
 
 -- the sum over all pages of what each weighs, by its name and its place
 pub weigh_from : (PageRef → PageRec → ℕ) → ℕ → ℕ → List PageRec → ℕ
@@ -18,23 +19,22 @@ weigh h [] = 0
 weigh h (g ∷ gs) = weigh_from h g.id 0 g.pages + weigh h gs
 
 module _ (h k : PageRef → PageRec → ℕ) where
-  from-ext : (id i : ℕ) (ps : List PageRec) → ((j : ℕ) → j < length ps → h (record { seg = id; page = i + j }) (rec_at ps j) ≡ k (record { seg = id; page = i + j }) (rec_at ps j)) → weigh_from h id i ps ≡ weigh_from k id i ps
+  -- where every page weighs no more
+  from-le : (id i : ℕ) (ps : List PageRec) → ((j : ℕ) → j < length ps → h (record { seg = id; page = i + j }) (rec_at ps j) ≤ k (record { seg = id; page = i + j }) (rec_at ps j)) → weigh_from h id i ps ≤ weigh_from k id i ps
   unfolding weigh_from
-  from-ext id i [] same = refl
-  from-ext id i (p ∷ ps) same =
-      let z : i + 0 ≡ i = omega arith in
-      let here : h (record { seg = id; page = i }) p ≡ k (record { seg = id; page = i }) p = rw z at (same 0 (omega arith)) in
-      let rest = from-ext id (suc i) ps (λ j l. let s : i + suc j ≡ suc i + j = omega arith in rw s at (same (suc j) (omega arith))) in
-      omega (arith, here, rest)
+  from-le id i [] le = omega arith
+  from-le id i (p ∷ ps) le =
+      let rest = from-le id (suc i) ps (λ j l. let s : i + suc j ≡ suc i + j = omega arith in rw s at (le (suc j) (omega arith))) in
+      grind (arith, le 0 (omega arith), rest)
 
-  pub weigh-ext : (gs : List SegRec) → AreApart gs → ((r : PageRef) → HasPage gs r → h r (rec_by gs r) ≡ k r (rec_by gs r)) → weigh h gs ≡ weigh k gs
+  pub weigh-le : (gs : List SegRec) → AreApart gs → ((r : PageRef) → HasPage gs r → h r (rec_by gs r) ≤ k r (rec_by gs r)) → weigh h gs ≤ weigh k gs
   unfolding weigh
-  weigh-ext [] apart same = refl
-  weigh-ext (g ∷ gs) apart same =
-      let here : weigh_from h g.id 0 g.pages ≡ weigh_from k g.id 0 g.pages = from-ext g.id 0 g.pages (λ j l.
+  weigh-le [] apart le = omega arith
+  weigh-le (g ∷ gs) apart le =
+      let here : weigh_from h g.id 0 g.pages ≤ weigh_from k g.id 0 g.pages = from-le g.id 0 g.pages (λ j l.
       let z : 0 + j ≡ j = omega arith in
-      rw z (rw (rec-head g gs j) at (same (record { seg = g.id; page = j }) (has-head g gs j l)))) in
-      let rest : weigh h gs ≡ weigh k gs = weigh-ext gs apart.1 (λ r has. rw (rec-tail g gs apart r has) at (same r (has-tail g gs apart r has))) in
+      rw z (rw (rec-head g gs j) at (le (record { seg = g.id; page = j }) (has-head g gs j l)))) in
+      let rest : weigh h gs ≤ weigh k gs = weigh-le gs apart.1 (λ r has. rw (rec-tail g gs apart r has) at (le r (has-tail g gs apart r has))) in
       omega (arith, here, rest)
 
   from-sum : (id i : ℕ) (ps : List PageRec) → weigh_from (λ r p. h r p + k r p) id i ps ≡ weigh_from h id i ps + weigh_from k id i ps
@@ -47,18 +47,34 @@ module _ (h k : PageRef → PageRec → ℕ) where
   weigh-sum [] = refl
   weigh-sum (g ∷ gs) = let here = from-sum g.id 0 g.pages in let rest = weigh-sum gs in omega (arith, here, rest)
 
+-- where every page weighs as much
+module _ (h k : PageRef → PageRec → ℕ) where
+  from-ext : (id i : ℕ) (ps : List PageRec) → ((j : ℕ) → j < length ps → h (record { seg = id; page = i + j }) (rec_at ps j) ≡ k (record { seg = id; page = i + j }) (rec_at ps j)) → weigh_from h id i ps ≡ weigh_from k id i ps
+  from-ext id i ps same =
+      omega (arith, from-le h k id i ps (λ j l. rw (same j l) (omega arith)), from-le k h id i ps (λ j l. rw (same j l) (omega arith)))
+
+  pub weigh-ext : (gs : List SegRec) → AreApart gs → ((r : PageRef) → HasPage gs r → h r (rec_by gs r) ≡ k r (rec_by gs r)) → weigh h gs ≡ weigh k gs
+  weigh-ext gs apart same =
+      omega (arith, weigh-le h k gs apart (λ r has. rw (same r has) (omega arith)), weigh-le k h gs apart (λ r has. rw (same r has) (omega arith)))
+
+-- or each as much as any other
+from-const : (n id i : ℕ) (ps : List PageRec) → weigh_from (λ r p. n) id i ps ≡ n * length ps
+unfolding weigh_from
+from-const n id i [] = omega arith
+from-const n id i (p ∷ ps) = let rest = from-const n id (suc i) ps in grind (arith, rest)
+
+pub weigh-all : (gs : List SegRec) → weigh (λ r p. 1) gs ≡ sum_by pages_of gs
+unfolding weigh
+weigh-all [] = refl
+weigh-all (g ∷ gs) = omega (arith, from-const 1 g.id 0 g.pages, weigh-all gs, sum_by-cons pages_of g gs)
+
 abbrev pub nothing : PageRef → PageRec → ℕ
 nothing r p = 0
-
-from-nothing : (id i : ℕ) (ps : List PageRec) → weigh_from nothing id i ps ≡ 0
-unfolding weigh_from
-from-nothing id i [] = refl
-from-nothing id i (p ∷ ps) = let rest = from-nothing id (suc i) ps in omega (arith, rest)
 
 weigh-nothing : (gs : List SegRec) → weigh nothing gs ≡ 0
 unfolding weigh
 weigh-nothing [] = refl
-weigh-nothing (g ∷ gs) = let here = from-nothing g.id 0 g.pages in let rest = weigh-nothing gs in omega (arith, here, rest)
+weigh-nothing (g ∷ gs) = omega (arith, from-const 0 g.id 0 g.pages, weigh-nothing gs)
 
 -- where every page weighs nothing
 pub weigh-zero : (h : PageRef → PageRec → ℕ) (gs : List SegRec) → AreApart gs → ((r : PageRef) → HasPage gs r → h r (rec_by gs r) ≡ 0) → weigh h gs ≡ 0
@@ -71,7 +87,7 @@ module _ (h : PageRef → PageRec → ℕ) (r : PageRef) where
   from-one i j [] e lt void = absurd (omega arith)
   from-one i zero (p ∷ ps) e lt void =
       let at : i ≡ r.page = omega arith in
-      let rest : weigh_from h r.seg (suc i) ps ≡ 0 = from-ext h nothing r.seg (suc i) ps (λ m l. let s : i + suc m ≡ suc i + m = omega arith in rw s at (void (suc m) (omega arith) (omega arith))) ∙ from-nothing r.seg (suc i) ps in
+      let rest : weigh_from h r.seg (suc i) ps ≡ 0 = omega (arith, from-const 0 r.seg (suc i) ps, from-ext h nothing r.seg (suc i) ps (λ m l. let s : i + suc m ≡ suc i + m = omega arith in rw s at (void (suc m) (omega arith) (omega arith)))) in
       let here : h (record { seg = r.seg; page = i }) p ≡ h r p = ap (λ n. h (record { seg = r.seg; page = n }) p) at in
       omega (arith, here, rest)
   from-one i (suc j) (p ∷ ps) e lt void =
@@ -95,10 +111,14 @@ module _ (h : PageRef → PageRec → ℕ) (r : PageRef) where
         rw (rec-tail g gs apart q there) at (void q (has-tail g gs apart q there) ne)) in
         rw (eq-eqb g.id r.seg e) (omega (arith, here, rest))
     | inr n ↦
-        let here : weigh_from h g.id 0 g.pages ≡ 0 = from-ext h nothing g.id 0 g.pages (λ m l.
-        let z : 0 + m ≡ m = omega arith in
-        let off = void (record { seg = g.id; page = m }) (has-head g gs m l) (λ same. n (ap (λ (x : PageRef). x.seg) same)) in
-        rw z (rw (rec-head g gs m) at off)) ∙ from-nothing g.id 0 g.pages in
+        let here : weigh_from h g.id 0 g.pages ≡ 0 = omega (
+          arith,
+          from-const 0 g.id 0 g.pages,
+          from-ext h nothing g.id 0 g.pages (λ m l.
+              let z : 0 + m ≡ m = omega arith in
+              let off = void (record { seg = g.id; page = m }) (has-head g gs m l) (λ same. n (ap (λ (x : PageRef). x.seg) same)) in
+              rw z (rw (rec-head g gs m) at off)),
+        ) in
         let rest = weigh-one gs apart.1 (rw (ne_eqb g.id r.seg n) at has) (λ q there m. rw (rec-tail g gs apart q there) at (void q (has-tail g gs apart q there) m)) in
         rw (ne_eqb g.id r.seg n) (omega (arith, here, rest))
   ]
@@ -114,13 +134,7 @@ exactly k (Some j) = cond (eqb j k) 1 0
 
 split : (k : ℕ) (o : Option ℕ) → at_least k o ≡ exactly k o + at_least (suc k) o
 split k None = refl
-split k (Some j) = elim (cases_eq j k) [
-  | inl e ↦ rw (eq-eqb j k e, le-leb k j (omega arith), lt-leb (suc k) j (omega arith)) refl
-  | inr n ↦ elim (cases_lt j k) [
-    | inl l ↦ rw (ne_eqb j k n, lt-leb k j l, lt-leb (suc k) j (omega arith)) refl
-    | inr g ↦ rw (ne_eqb j k n, le-leb k j g, le-leb (suc k) j (omega arith)) refl
-  ]
-]
+split k (Some j) = grind (arith, nat_tests)
 
 -- what pages name by number, counted: each number names its page, and each page its number
 module _ (gs : List SegRec) (apart : AreApart gs) (number : PageRef → PageRec → Option ℕ) where
@@ -161,37 +175,13 @@ module _ (gs : List SegRec) (apart : AreApart gs) (number : PageRef → PageRec 
           weigh-one (λ r p. exactly k (number r p)) q gs apart b.0 (λ r has ne. not_first (Some q) is r has (λ h. ne (let s : q ≡ r = cc in sym s)) (number r (rec_by gs r)) refl)
           ∙ ap (exactly k) e ∙ ap (λ t. cond t 1 0) (eq-eqb k k refl)
 
--- where every page weighs no more
-from-le : (h k : PageRef → PageRec → ℕ) (id i : ℕ) (ps : List PageRec) → ((j : ℕ) → j < length ps → h (record { seg = id; page = i + j }) (rec_at ps j) ≤ k (record { seg = id; page = i + j }) (rec_at ps j)) → weigh_from h id i ps ≤ weigh_from k id i ps
-unfolding weigh_from
-from-le h k id i [] le = omega arith
-from-le h k id i (p ∷ ps) le =
-    let z : i + 0 ≡ i = omega arith in
-    let here : h (record { seg = id; page = i }) p ≤ k (record { seg = id; page = i }) p = rw z at (le 0 (omega arith)) in
-    let rest = from-le h k id (suc i) ps (λ j l. let s : i + suc j ≡ suc i + j = omega arith in rw s at (le (suc j) (omega arith))) in
-    omega (arith, here, rest)
-
-pub weigh-le : (h k : PageRef → PageRec → ℕ) (gs : List SegRec) → AreApart gs → ((r : PageRef) → HasPage gs r → h r (rec_by gs r) ≤ k r (rec_by gs r)) → weigh h gs ≤ weigh k gs
-unfolding weigh
-weigh-le h k [] apart le = omega arith
-weigh-le h k (g ∷ gs) apart le =
-    let here : weigh_from h g.id 0 g.pages ≤ weigh_from k g.id 0 g.pages = from-le h k g.id 0 g.pages (λ j l.
-    let z : 0 + j ≡ j = omega arith in
-    rw z (rw (rec-head g gs j) at (le (record { seg = g.id; page = j }) (has-head g gs j l)))) in
-    let rest : weigh h gs ≤ weigh k gs = weigh-le h k gs apart.1 (λ r has. rw (rec-tail g gs apart r has) at (le r (has-tail g gs apart r has))) in
-    omega (arith, here, rest)
-
 -- all pages weigh no less than one of them
 pub weigh-ge : (h : PageRef → PageRec → ℕ) (r : PageRef) (gs : List SegRec) → AreApart gs → HasPage gs r → h r (rec_by gs r) ≤ weigh h gs
 weigh-ge h r gs apart has =
     let one : weigh (λ q p. cond (other r q) 0 (h q p)) gs ≡ h r (rec_by gs r) =
     weigh-one (λ q p. cond (other r q) 0 (h q p)) r gs apart has (λ q there n. rw (other-true r q n) refl) ∙ rw (other-self r) refl in
-    let le = weigh-le (λ q p. cond (other r q) 0 (h q p)) h gs apart (λ q there. by (other r q) (h q (rec_by gs q))) in
+    let le = weigh-le (λ q p. cond (other r q) 0 (h q p)) h gs apart (λ q there. grind (arith, nat_tests)) in
     omega (arith, one, le)
-  where
-    by : (o : Bool) (n : ℕ) → cond o 0 n ≤ n
-    by true n = omega arith
-    by false n = omega arith
 
 -- a test of each page's place, counted
 from-test : (test : PageRec → Bool) (id i : ℕ) (ps : List PageRec) → weigh_from (λ r p. cond (test p) 1 0) id i ps ≡ count_by test ps
@@ -204,34 +194,15 @@ unfolding weigh
 weigh-test test [] = refl
 weigh-test test (g ∷ gs) = let here = from-test test g.id 0 g.pages in let rest = weigh-test test gs in omega (arith, here, rest, sum_by-cons (λ (x : SegRec). count_by test x.pages) g gs)
 
-from-all : (id i : ℕ) (ps : List PageRec) → weigh_from (λ r p. 1) id i ps ≡ length ps
-unfolding weigh_from
-from-all id i [] = refl
-from-all id i (p ∷ ps) = let rest = from-all id (suc i) ps in omega (arith, rest)
-
-pub weigh-all : (gs : List SegRec) → weigh (λ r p. 1) gs ≡ sum_by pages_of gs
-unfolding weigh
-weigh-all [] = refl
-weigh-all (g ∷ gs) = let here = from-all g.id 0 g.pages in let rest = weigh-all gs in omega (arith, here, rest, sum_by-cons pages_of g gs)
-
 -- one for each page of a locked segment
-from-const : (n id i : ℕ) (ps : List PageRec) → weigh_from (λ r p. n) id i ps ≡ n * length ps
-unfolding weigh_from
-from-const n id i [] = omega arith
-from-const n id i (p ∷ ps) = let rest = from-const n id (suc i) ps in grind (arith, rest)
-
 pub weigh-locked : (gs : List SegRec) → AreApart gs → weigh (λ r p. cond (locked_by gs r.seg) 1 0) gs ≡ sum_by locked_pages gs
 unfolding weigh
 weigh-locked [] apart = refl
 weigh-locked (g ∷ gs) apart =
     let here : weigh_from (λ r p. cond (locked_by (g ∷ gs) r.seg) 1 0) g.id 0 g.pages ≡ locked_pages g =
     from-ext (λ r p. cond (locked_by (g ∷ gs) r.seg) 1 0) (λ r p. cond g.locked 1 0) g.id 0 g.pages (λ j l. rw (eq-eqb g.id g.id refl) refl)
-    ∙ from-const (cond g.locked 1 0) g.id 0 g.pages ∙ by g.locked in
+    ∙ from-const (cond g.locked 1 0) g.id 0 g.pages ∙ grind (arith, nat_tests) in
     let rest : weigh (λ r p. cond (locked_by (g ∷ gs) r.seg) 1 0) gs ≡ sum_by locked_pages gs =
     weigh-ext (λ r p. cond (locked_by (g ∷ gs) r.seg) 1 0) (λ r p. cond (locked_by gs r.seg) 1 0) gs apart.1 (λ r has. rw (ne_eqb g.id r.seg (not-head g gs apart r has)) refl)
     ∙ weigh-locked gs apart.1 in
     omega (arith, here, rest, sum_by-cons locked_pages g gs)
-  where
-    by : (b : Bool) → cond b 1 0 * length g.pages ≡ cond b (length g.pages) 0
-    by true = omega arith
-    by false = omega arith

@@ -1,7 +1,6 @@
 -- A page that leaves its frame and its slot for good.
-use Rattle.std.proofs.Common.{◌≡◌, ◌≢◌, ℕ, ◌<◌, ◌≤◌, ◌+◌, true, List, [], ◌∷◌, length, set, map, sum_by, Option, Some, None, refl, sym, ap, ◌∙◌, inl, inr, arith, get_or-set_same, get_or-set_other}
+use Rattle.std.proofs.Common.{◌≡◌, ◌≢◌, ℕ, ◌<◌, ◌≤◌, ◌+◌, true, List, [], ◌∷◌, length, set, map, sum_by, Option, Some, None, refl, sym, ap, ◌∙◌, inl, inr, arith, get_or-set_same, not, eqb}
 use Rattle.std.proofs.lemmas.Bool.{cases_eq, cases_lt, eq-eqb, ne_eqb}
-use Rattle.std.proofs.lemmas.Option.{none-some}
 use Rattle.std.proofs.lemmas.List.{length-replicate, set-get_or}
 use Rattle.shm_base.specs.declared.paging.PageRef.{PageRef}
 use Rattle.shm_base.specs.declared.paging.Slot.{Slot}
@@ -11,39 +10,27 @@ use Rattle.shm_slots.specs.View.{SwapView, owner_of, page_in, without_slot, IsSw
 use Rattle.shm_slots.specs.Cause.{IsSteady}
 use Rattle.shm_frames.specs.Frame.{Frame, no_frame, frame_at}
 use Rattle.shm_fault.specs.declared.page_tables.PageRec.{PageRec}
-use Rattle.shm_fault.specs.Segs.{SegRec, AreApart, rec_at, but, no_page, find_seg, rec_by, count_by_id, HasPage, with_rec, pages_of, locked_pages}
+use Rattle.shm_fault.specs.Segs.{SegRec, AreApart, but, no_page, find_seg, rec_by, count_by_id, HasPage, with_rec, pages_of, locked_pages}
 use Rattle.shm_fault.specs.Store.{StoreView, held_by, held, disowned}
 use Rattle.shm_fault.specs.Sound.{IsTied, IsStoreSound}
 use Rattle.shm_fault.specs.Goes.{outline, outlines}
 use Rattle.shm_fault.specs.Dropping.{emptied, Given, IsBlank, Dropped}
-use Rattle.shm_fault.proofs.Entries.{apart-filter}
+use Rattle.shm_fault.proofs.Entries.{apart-filter, edit-none, find-but, find-out}
 use Rattle.shm_fault.specs.Counting.{AtRest}
 use Rattle.shm_fault.proofs.Counting.{AtRest-trans}
 use Rattle.shm_fault.proofs.Sound.{IsSound-from, GoesOn-trans}
-use Rattle.std.proofs.lemmas.List.Sums.{sum_by-cons}
-use Rattle.shm_fault.proofs.Pages.{outlines-with, rec-with, rec-with_other, rec-past, count-same, apart-same, other, other-true}
-use Rattle.shm_fault.proofs.Slots.{OnlySlot, OnlySlot-given, owner-given, cases_slot}
-use Rattle.shm_fault.proofs.Ties.{FramesApart, SlotsApart, Touches, IsOwn, IsOwn-none, IsOwn-some, segs-with, frames-set, frames-same, slots-only, slots-same, bytes_touched, tied-segs}
+use Rattle.shm_fault.proofs.Pages.{outlines-with, rec-with, rec-with_other, rec-past, count-same, apart-same, other, other-true, ref_parts}
+use Rattle.shm_fault.proofs.Slots.{OnlySlot, OnlySlot-given, owner-given, cases_slot, set-cases}
+use Rattle.shm_fault.proofs.Ties.{FramesApart, SlotsApart, Touches, IsOwn-none, IsOwn-some, segs-with, frames-set, frames-same, slots-only, slots-same, bytes_touched, tied-segs}
 use Rattle.shm_fault.proofs.Bytes.{joined, held_one, held_of, bytes_at, held-is, joined-ext}
-use Rattle.shm_fault.proofs.Changes.{sound-one, some_same}
+use Rattle.shm_fault.proofs.Changes.{sound-one}
+use Rattle.std.proofs.lemmas.List.Filters.{sum_by-filter_both}
+use Rattle.std.proofs.lemmas.Bool.Decides.{nat_tests}
 
 -- a page that is where it is said to be
-with-gone : (gs : List SegRec) (r : PageRef) (p : PageRec) → find_seg gs r.seg ≡ None → with_rec gs r p ≡ gs
-with-gone [] r p none = refl
-with-gone (g ∷ gs) r p none = elim (cases_eq g.id r.seg) [
-  | inl e ↦ (let z : Some g ≡ None = rw (eq-eqb g.id r.seg e) at none in absurd (none-some g (sym z)))
-  | inr m ↦ rw (ne_eqb g.id r.seg m) (ap (λ (l : List SegRec). g ∷ l) (with-gone gs r p (rw (ne_eqb g.id r.seg m) at none)))
-]
-
 with-is : (gs : List SegRec) (r : PageRef) (p : PageRec) → AreApart gs → rec_by gs r ≡ p → with_rec gs r p ≡ gs
 with-is [] r p apart is = refl
-with-is (g ∷ gs) r p apart is = elim (cases_eq g.id r.seg) [
-  | inl e ↦
-      (let own : rec_at g.pages r.page ≡ p = rw (eq-eqb g.id r.seg e) at is in
-      let pages : set g.pages r.page p ≡ g.pages = ap (set g.pages r.page) (sym own) ∙ set-get_or g.pages r.page no_page in
-      rw (eq-eqb g.id r.seg e, pages) (ap (λ (l : List SegRec). g ∷ l) (with-gone gs r p (rw e at apart.0))))
-  | inr m ↦ rw (ne_eqb g.id r.seg m) (ap (λ (l : List SegRec). g ∷ l) (with-is gs r p apart.1 (rw (ne_eqb g.id r.seg m) at is)))
-]
+with-is (g ∷ gs) r p apart is = grind (arith, nat_tests, with-is gs r p apart.1, edit-none (λ h. record h { pages = set h.pages r.page p }) gs r.seg, apart.0, set-get_or g.pages r.page no_page)
 
 pub with-same : (gs : List SegRec) (r : PageRef) → AreApart gs → with_rec gs r (rec_by gs r) ≡ gs
 with-same gs r apart = with-is gs r (rec_by gs r) apart refl
@@ -67,18 +54,17 @@ emptied-frames s sound r has (Some g) e =
     let tie = sound.tied.pages r has in
     let own = tie.frame_owned g e in
     let x : Frame = record no_frame { bytes = (frame_at s.frames g).bytes } in
-    let was : IsOwn r (frame_at s.frames g).owner = IsOwn-some r (frame_at s.frames g).owner own.1 in
-    let now : IsOwn r x.owner = IsOwn-none r x.owner refl in
-    let set_at : frame_at (set s.frames g x) g ≡ x = get_or-set_same s.frames g x no_frame own.0 in
     record {
-      apart = frames-set r s.frames g x was now (λ none. refl) sound.tied.free;
-      none = λ f h. elim (cases_eq f g) [
-        | inl q ↦ let k : None ≡ Some r = rw (q, set_at) at h in cc
-        | inr n ↦ n (some_same g f (rec_by s.segs r).frame e (tie.owner_resident f (rw (get_or-set_other s.frames g f x no_frame n) at h)))
+      apart = frames-set (other r) s.frames g x (IsOwn-some r _ own.1) (IsOwn-none (other r) _ refl) (λ none. refl) sound.tied.free;
+      none = λ f h. elim (set-cases s.frames g x no_frame f) [
+        | inl q ↦ cc (rw q.1 at h)
+        | inr kept ↦
+            let q : f ≡ g = cc (e, tie.owner_resident f (rw kept at h)) in
+            cc (rw (q, get_or-set_same s.frames g x no_frame own.0) at h)
       ];
-      kept = λ f. elim (cases_eq f g) [
-        | inl q ↦ rw (q, set_at, own.1) (sym (disowned-own r))
-        | inr n ↦ ap (λ (y : Frame). disowned r.seg y.owner) (get_or-set_other s.frames g f x no_frame n)
+      kept = λ f. elim (set-cases s.frames g x no_frame f) [
+        | inl q ↦ rw (q.1, q.0, own.1) (sym (disowned-own r))
+        | inr kept ↦ rw kept refl
       ];
     }
 
@@ -99,17 +85,15 @@ given-slots s sound r has u (Some j) e given =
     let page = page_in u j.area j.slot in
     let v : SwapView = without_slot s.swap j page in
     let only : OnlySlot j s.swap v = OnlySlot-given j s.swap page in
-    let now₀ : owner_of v j.area j.slot ≡ None = owner-given j s.swap page own.0.0 (omega (arith, own.0.1, (sound.swap.each j.area).owned)) in
-    let was : IsOwn r (owner_of s.swap j.area j.slot) = IsOwn-some r (owner_of s.swap j.area j.slot) own.1 in
-    let now : IsOwn r (owner_of v j.area j.slot) = IsOwn-none r (owner_of v j.area j.slot) now₀ in
+    let now : owner_of v j.area j.slot ≡ None = owner-given j s.swap page own.0.0 (omega (arith, own.0.1, (sound.swap.each j.area).owned)) in
     let g : GivenSlots s r v = record {
-      apart = slots-only r j s.swap v only was now;
+      apart = slots-only (other r) j s.swap v only (IsOwn-some r _ own.1) (IsOwn-none (other r) _ now);
       none = λ k h. elim (cases_slot k j) [
-        | inl q ↦ let i : owner_of v j.area j.slot ≡ Some r = rw q at h in cc
-        | inr n ↦ n (some_same j k (rec_by s.segs r).slot e (tie.owner_stored k (sym (only.owners k n) ∙ h)))
+        | inl q ↦ cc (now, rw q at h)
+        | inr n ↦ n (cc (e, tie.owner_stored k (sym (only.owners k n) ∙ h)))
       ];
       kept = λ k. elim (cases_slot k j) [
-        | inl q ↦ rw (q, now₀, own.1) (sym (disowned-own r))
+        | inl q ↦ rw (q, now, own.1) (sym (disowned-own r))
         | inr n ↦ ap (disowned r.seg) (only.owners k n)
       ];
     } in
@@ -141,11 +125,11 @@ module _ (s : StoreView) (sound : IsStoreSound s) (r : PageRef) (has : HasPage s
   sound-forgotten is steady =
       let at : rec_by (with_rec s.segs r no_page) r ≡ no_page = rec-with s.segs r no_page has in
       let tie : IsTied forgotten r = record {
-        frame_owned = λ f e. let h : None ≡ Some f = rw at at e in cc;
+        frame_owned = λ f e. cc (rw at at e);
         owner_resident = λ f e. absurd (fr.none f e);
-        slot_owned = λ k e. let h : None ≡ Some k = rw at at e in cc;
+        slot_owned = λ k e. cc (rw at at e);
         owner_stored = λ k e. absurd (sl.none k e);
-        clean = λ f e d. let h : None ≡ Some f = rw at at e in cc;
+        clean = λ f e d. cc (rw at at e);
         whole = rw at (length-replicate {A = ℕ} 4096 0);
       } in
       sound-one s forgotten sound r has to-forgotten is steady.same_sizes (rw fr.apart.size sound.hand) steady.goes_on tie
@@ -214,39 +198,12 @@ pub record IsDropped (seg : ℕ) (s t : StoreView) : Type 0 where
   pub still : (q : PageRef) → q.seg ≢ seg → rec_by t.segs q ≡ rec_by s.segs q
   pub blank : IsBlank seg s → t ≡ record s { segs = but seg s.segs }
 
-find-but : (gs : List SegRec) (id k : ℕ) → k ≢ id → find_seg (but id gs) k ≡ find_seg gs k
-find-but [] id k n = refl
-find-but (g ∷ gs) id k n = elim (cases_eq g.id id) [
-  | inl e ↦ rw (eq-eqb g.id id e, ne_eqb g.id k (λ same. n (sym same ∙ e))) (find-but gs id k n)
-  | inr m ↦ elim (cases_eq g.id k) [
-    | inl e ↦ rw (ne_eqb g.id id m, eq-eqb g.id k e) refl
-    | inr o ↦ rw (ne_eqb g.id id m, ne_eqb g.id k o) (find-but gs id k n)
-  ]
-]
-
-find-out : (gs : List SegRec) (id : ℕ) → find_seg (but id gs) id ≡ None
-find-out [] id = refl
-find-out (g ∷ gs) id = elim (cases_eq g.id id) [
-  | inl e ↦ rw (eq-eqb g.id id e) (find-out gs id)
-  | inr m ↦ rw (ne_eqb g.id id m, ne_eqb g.id id m) (find-out gs id)
-]
-
 sum-but : (h : SegRec → ℕ) (gs : List SegRec) (id : ℕ) → sum_by h (but id gs) ≤ sum_by h gs
-sum-but h [] id = omega arith
-sum-but h (g ∷ gs) id =
-    let rest = sum-but h gs id in
-    let sum = sum_by-cons h g gs in
-    elim (cases_eq g.id id) [
-      | inl e ↦ rw (eq-eqb g.id id e) (omega (arith, rest, sum))
-      | inr m ↦ rw (ne_eqb g.id id m) (omega (arith, rest, sum, sum_by-cons h g (but id gs)))
-    ]
+sum-but h gs id = omega (arith, sum_by-filter_both (λ (g : SegRec). not (eqb g.id id)) (λ (g : SegRec). not (not (eqb g.id id))) (λ g. refl) h gs)
 
 held-but-list : (frames : List Frame) (swap : SwapView) (gs : List SegRec) (id : ℕ) → map (held_by frames swap) (but id gs) ≡ without (map (held_by frames swap) gs) id
 held-but-list frames swap [] id = refl
-held-but-list frames swap (g ∷ gs) id = elim (cases_eq g.id id) [
-  | inl e ↦ rw (eq-eqb g.id id e) (held-but-list frames swap gs id)
-  | inr m ↦ rw (ne_eqb g.id id m) (ap (λ hs. held_by frames swap g ∷ hs) (held-but-list frames swap gs id))
-]
+held-but-list frames swap (g ∷ gs) id = grind (arith, nat_tests, held-but-list frames swap gs id)
 
 held-but : (t : StoreView) (id : ℕ) → held (record t { segs = but id t.segs }) ≡ without (held t) id
 unfolding held
@@ -259,37 +216,25 @@ module _ (t : StoreView) (sound : IsStoreSound t) (id : ℕ) (gone : (page : ℕ
   count-but : (q : PageRef) → q.seg ≢ id → count_by_id (but id t.segs) q.seg ≡ count_by_id t.segs q.seg
   count-but q n = rw (find-but t.segs id q.seg n) refl
 
+  -- what names a page that is there names none of the segment that goes
+  other-seg : (q : PageRef) → HasPage t.segs q → rec_by t.segs q ≢ no_page → q.seg ≢ id
+  other-seg q has ne same =
+      let at : q ≡ record { seg = id; page = q.page } = ref_parts q (record { seg = id; page = q.page }) same refl in
+      ne (ap (rec_by t.segs) at ∙ gone q.page (rw same at has))
+
   frame-other : (f : ℕ) (q : PageRef) → (frame_at t.frames f).owner ≡ Some q → q.seg ≢ id
-  frame-other f q e same =
+  frame-other f q e =
       let has = sound.tied.owners f q e in
-      let at = (sound.tied.pages q has).owner_resident f e in
-      let l : q ≡ record { seg = id; page = q.page } = (let m : record { seg = q.seg; page = q.page } ≡ record { seg = id; page = q.page } = rw same refl in m) in
-      let lt : q.page < count_by_id t.segs id = rw same at has in
-      let none : (rec_by t.segs q).frame ≡ None = ap (λ (x : PageRef). (rec_by t.segs x).frame) l ∙ ap (λ (p : PageRec). p.frame) (gone q.page lt) in
-      cc
+      other-seg q has (λ none. cc ((sound.tied.pages q has).owner_resident f e, ap (λ (p : PageRec). p.frame) none))
 
   slot-other : (k : Slot) (q : PageRef) → owner_of t.swap k.area k.slot ≡ Some q → q.seg ≢ id
-  slot-other k q e same =
+  slot-other k q e =
       let has = sound.tied.slot_owners k q e in
-      let at = (sound.tied.pages q has).owner_stored k e in
-      let l : q ≡ record { seg = id; page = q.page } = (let m : record { seg = q.seg; page = q.page } ≡ record { seg = id; page = q.page } = rw same refl in m) in
-      let lt : q.page < count_by_id t.segs id = rw same at has in
-      let none : (rec_by t.segs q).slot ≡ None = ap (λ (x : PageRef). (rec_by t.segs x).slot) l ∙ ap (λ (p : PageRec). p.slot) (gone q.page lt) in
-      cc
+      other-seg q has (λ none. cc ((sound.tied.pages q has).owner_stored k e, ap (λ (p : PageRec). p.slot) none))
 
-  frames-but : (f : ℕ) → (frame_at t.frames f).owner ≡ disowned id (frame_at t.frames f).owner
-  frames-but f = by (frame_at t.frames f).owner refl
-    where
-      by : (o : Option PageRef) → (frame_at t.frames f).owner ≡ o → o ≡ disowned id o
-      by None e = refl
-      by (Some q) e = rw (ne_eqb q.seg id (frame-other f q e)) refl
-
-  slots-but : (k : Slot) → owner_of t.swap k.area k.slot ≡ disowned id (owner_of t.swap k.area k.slot)
-  slots-but k = by (owner_of t.swap k.area k.slot) refl
-    where
-      by : (o : Option PageRef) → owner_of t.swap k.area k.slot ≡ o → o ≡ disowned id o
-      by None e = refl
-      by (Some q) e = rw (ne_eqb q.seg id (slot-other k q e)) refl
+  disowned-other : (o : Option PageRef) → ((q : PageRef) → o ≡ Some q → q.seg ≢ id) → o ≡ disowned id o
+  disowned-other None ne = refl
+  disowned-other (Some q) ne = grind (arith, nat_tests, ne q refl)
 
   sound-but : IsStoreSound (record t { segs = but id t.segs })
   sound-but =
@@ -316,8 +261,8 @@ drops seg n s t sound d all =
     record {
       sound = sound-but t sound seg gone;
       bytes = held-but t seg ∙ d.bytes;
-      frames = λ f. frames-but t sound seg gone f ∙ d.frames f;
-      slots = λ k. slots-but t sound seg gone k ∙ d.slots k;
+      frames = λ f. disowned-other t sound seg gone (frame_at t.frames f).owner (frame-other t sound seg gone f) ∙ d.frames f;
+      slots = λ k. disowned-other t sound seg gone (owner_of t.swap k.area k.slot) (slot-other t sound seg gone k) ∙ d.slots k;
       still = λ q ne. rec-but t sound seg gone q ne ∙ d.still q ne;
       blank = λ blank. ap (λ (v : StoreView). record v { segs = but seg v.segs }) (d.nothing blank);
     }

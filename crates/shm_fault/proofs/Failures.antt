@@ -1,14 +1,14 @@
 -- Failures that are counted, and the areas that count them.
-use Rattle.std.proofs.Common.{◌≡◌, ◌⊎◌, ℕ, suc, ltb, Bool, [], ◌∷◌, Some, None, Result, Ok, Err, OnOk, OnErr, ◌<◌, ◌≤◌, ◌+◌, true, false, List, length, get_or, set, sum_by, refl, sym, ap, ◌∙◌, inl, inr, arith, length-set}
+use Rattle.std.proofs.Common.{◌≡◌, ◌⊎◌, ℕ, suc, [], ◌∷◌, None, Result, Ok, Err, OnOk, OnErr, ◌<◌, ◌≤◌, ◌+◌, true, false, List, length, get_or, set, sum_by, ap, ◌∙◌, inl, inr, arith, length-set}
 use Rattle.std.specs.List.{list_any}
-use Rattle.std.proofs.lemmas.Bool.{cases_Bool, and_parts, eq-eqb, eqb-true, lt-ltb, ltb-true, or_left, or_right, or_cases, false≢true}
-use Rattle.std.proofs.lemmas.Bool.Decides.{eqb_tells}
+use Rattle.std.proofs.lemmas.Bool.{eq-eqb, false≢true}
+use Rattle.std.proofs.lemmas.Bool.Decides.{nat_tests}
 use Rattle.std.proofs.lemmas.List.Sums.{sum_by-set, sum_by-cons}
 use Rattle.std.proofs.lemmas.List.Folds.{list_any_at}
 use Rattle.std.proofs.Math.ListN.{get_or-map}
 use Rattle.shm_base.specs.declared.paging.Slot.{Slot}
 use Rattle.shm_pager.specs.Pages.{last_count}
-use Rattle.shm_slots.specs.View.{AreaView, SwapView, no_area, area_at, rise, is_spent, is_spent_here, size_of, sizes, with_page, with_slot_page, HasSlot, OneArea, WriteFault, IsSwap}
+use Rattle.shm_slots.specs.View.{AreaView, SwapView, no_area, area_at, rise, is_spent_here, size_of, sizes, with_page, with_slot_page, HasSlot, OneArea, WriteFault, IsSwap}
 use Rattle.shm_slots.specs.Cause.{total, some_spent, had_cause, GoesOn}
 use Rattle.shm_slots.proofs.Causes.{rises-le, total-le}
 use Rattle.shm_slots.proofs.Changes.{slot-here}
@@ -18,13 +18,7 @@ pub size-at : (s : SwapView) (area : ℕ) → get_or (sizes s) area None ≡ siz
 size-at s area = get_or-map size_of s.areas area no_area
 
 pub pages-same : (s t : SwapView) (area : ℕ) → sizes t ≡ sizes s → (area_at s area).here ≡ true → ((area_at t area).here ≡ true) × (length (area_at t area).pages ≡ length (area_at s area).pages)
-pages-same s t area same here =
-    let e : size_of (area_at t area) ≡ Some (length (area_at s area).pages) = sym (size-at t area) ∙ ap (λ l. get_or l area None) same ∙ size-at s area ∙ rw here refl in
-    by (area_at t area).here refl e
-  where
-    by : (b : Bool) → (area_at t area).here ≡ b → size_of (area_at t area) ≡ Some (length (area_at s area).pages) → ((area_at t area).here ≡ true) × (length (area_at t area).pages ≡ length (area_at s area).pages)
-    by true h e = let k : Some (length (area_at t area).pages) ≡ Some (length (area_at s area).pages) = rw h at e in (h, cc)
-    by false h e = let k : None ≡ Some (length (area_at s area).pages) = rw h at e in cc
+pages-same s t area same here = grind (arith, nat_tests, size-at s area, size-at t area, same, here)
 
 pub total-written : (s : SwapView) (k : Slot) (page : List ℕ) → k.area < length s.areas → total (with_slot_page s k page) ≡ total s
 unfolding total
@@ -71,39 +65,14 @@ spent-rose xs [] r begun e = absurd (false≢true e)
 spent-rose [] (y ∷ ys) r begun e = absurd (omega (arith, r.same))
 spent-rose (x ∷ xs) (y ∷ ys) r begun e =
     let tail = rose-tail x y xs ys r in
-    let rest = sum-rose xs ys tail in
-    let start = r.starts 0 in
-    let count = r.counts 0 in
-    let b = begun 0 in
-    elim (or_cases (is_spent_here y) (list_any is_spent_here ys) e) [
-      | inl spent ↦
-          let parts = and_parts (is_spent y) y.here spent in
-          let last : y.failed ≡ last_count = eqb-true y.failed last_count parts.0 in
-          elim (eqb_tells x.failed last_count) [
-            | inl h ↦ inr (or_left (is_spent_here x) (list_any is_spent_here xs) (rw h.0 (r.here 0 parts.1)))
-            | inr m ↦ inl (omega (arith, rest, start, count, b, m.1, last, sum_by-cons rise x xs, sum_by-cons rise y ys))
-          ]
-      | inr more ↦ elim (spent-rose xs ys tail (λ i. begun (suc i)) more) [
-        | inl lt ↦ inl (omega (arith, lt, start, count, sum_by-cons rise x xs, sum_by-cons rise y ys))
-        | inr some ↦ inr (or_right (is_spent_here x) (list_any is_spent_here xs) some)
-      ]
-    ]
+    let rest = spent-rose xs ys tail (λ i. begun (suc i)) in
+    grind (arith, nat_tests, e, sum-rose xs ys tail, r.starts 0, r.counts 0, r.here 0, begun 0, rest, sum_by-cons rise x xs, sum_by-cons rise y ys)
 
 spent-stays : (xs ys : List AreaView) → Rose xs ys → ((i : ℕ) → (get_or ys i no_area).failed ≤ last_count) → ((i : ℕ) → (get_or xs i no_area).here ≡ true → (get_or ys i no_area).here ≡ true) → list_any is_spent_here xs ≡ true → list_any is_spent_here ys ≡ true
 spent-stays [] ys r few stay e = absurd (false≢true e)
 spent-stays (x ∷ xs) [] r few stay e = absurd (omega (arith, r.same))
 spent-stays (x ∷ xs) (y ∷ ys) r few stay e =
-    let tail = rose-tail x y xs ys r in
-    let count = r.counts 0 in
-    let most = few 0 in
-    elim (or_cases (is_spent_here x) (list_any is_spent_here xs) e) [
-      | inl spent ↦
-          let parts = and_parts (is_spent x) x.here spent in
-          let was : x.failed ≡ last_count = eqb-true x.failed last_count parts.0 in
-          let last : y.failed ≡ last_count = omega (arith, count, most, was) in
-          or_left (is_spent_here y) (list_any is_spent_here ys) (rw (eq-eqb y.failed last_count last) (stay 0 parts.1))
-      | inr more ↦ or_right (is_spent_here y) (list_any is_spent_here ys) (spent-stays xs ys tail (λ i. few (suc i)) (λ i. stay (suc i)) more)
-    ]
+    grind (arith, nat_tests, e, r.counts 0, few 0, stay 0, spent-stays xs ys (rose-tail x y xs ys r) (λ i. few (suc i)) (λ i. stay (suc i)))
 
 rose : (s t : SwapView) → GoesOn s t → Rose s.areas t.areas
 rose s t g = record { same = g.areas; starts = g.starts; counts = g.counts; here = g.here }
@@ -111,34 +80,19 @@ rose s t g = record { same = g.areas; starts = g.starts; counts = g.counts; here
 -- what was spent by then had a cause before
 pub spent-cause : (s t : SwapView) → IsSwap s → GoesOn s t → some_spent t ≡ true → had_cause s t ≡ true
 unfolding total some_spent
-spent-cause s t swap g e = elim (spent-rose s.areas t.areas (rose s t g) (λ i. (swap.each i).begun) e) [
-  | inl lt ↦ or_left (ltb (total s) (total t)) (some_spent s) (lt-ltb (total s) (total t) lt)
-  | inr some ↦ or_right (ltb (total s) (total t)) (some_spent s) some
-]
+spent-cause s t swap g e = grind (arith, nat_tests, spent-rose s.areas t.areas (rose s t g) (λ i. (swap.each i).begun) e)
 
 pub cause-more : (s t u : SwapView) → GoesOn t u → had_cause s t ≡ true → had_cause s u ≡ true
-cause-more s t u g e =
-    let le = total-le t u g in
-    elim (or_cases (ltb (total s) (total t)) (some_spent s) e) [
-      | inl lt ↦ let l = ltb-true (total s) (total t) lt in or_left (ltb (total s) (total u)) (some_spent s) (lt-ltb (total s) (total u) (omega (arith, l, le)))
-      | inr some ↦ or_right (ltb (total s) (total u)) (some_spent s) some
-    ]
+cause-more s t u g e = grind (arith, nat_tests, total-le t u g, e)
 
 pub cause-before : (s t u : SwapView) → (some_spent t ≡ true → had_cause s t ≡ true) → GoesOn s t → GoesOn t u → had_cause t u ≡ true → had_cause s u ≡ true
-cause-before s t u spent g h e =
-    let le = total-le s t g in
-    elim (or_cases (ltb (total t) (total u)) (some_spent t) e) [
-      | inl lt ↦ let l = ltb-true (total t) (total u) lt in or_left (ltb (total s) (total u)) (some_spent s) (lt-ltb (total s) (total u) (omega (arith, l, le)))
-      | inr some ↦ cause-more s t u h (spent some)
-    ]
+cause-before s t u spent g h e = grind (arith, nat_tests, total-le s t g, spent, cause-more s t u h, e)
 
 -- an area that is spent stays so, where none goes
 pub unspent-before : (s t : SwapView) → IsSwap t → GoesOn s t → sizes t ≡ sizes s → some_spent t ≡ false → some_spent s ≡ false
 unfolding some_spent
-unspent-before s t swap g same e = elim (cases_Bool (list_any is_spent_here s.areas)) [
-  | inl some ↦ absurd (false≢true (sym e ∙ spent-stays s.areas t.areas (rose s t g) (λ i. (swap.each i).countable) (λ i here. (pages-same s t i same here).0) some))
-  | inr none ↦ none
-]
+unspent-before s t swap g same e =
+    grind (arith, nat_tests, e, spent-stays s.areas t.areas (rose s t g) (λ i. (swap.each i).countable) (λ i here. (pages-same s t i same here).0))
 
 pub OnErr-map : {A E : Type 0} (r : Result A E) (P Q : Type 0) → OnErr r P → (P → Q) → OnErr r Q
 OnErr-map (Ok a) P Q e f = tt

@@ -1,10 +1,10 @@
 -- A flush, frame after frame.
-use Rattle.std.proofs.Common.{◌≡◌, ◌≢◌, ℕ, zero, suc, ◌<◌, ◌≤◌, ◌+◌, Bool, true, false, not, cond, ◌&&◌, List, [], ◌∷◌, ◌++◌, length, set, take, filter, Option, Some, None, refl, sym, ap, ◌∙◌, inl, inr, arith, append-nil, length-append, get_or-set_same, get_or-set_other}
-use Rattle.std.specs.Prelude.{min, count_by, Contains}
+use Rattle.std.proofs.Common.{◌≡◌, ◌≢◌, ℕ, zero, suc, ◌<◌, ◌≤◌, ◌+◌, Bool, true, false, not, cond, List, [], ◌∷◌, ◌++◌, length, set, take, filter, Some, refl, sym, ap, ◌∙◌, inl, inr, arith, append-nil, length-append, get_or-set_same, get_or-set_other}
+use Rattle.std.specs.Prelude.{min, count_by, Contains, All}
 use Rattle.std.specs.List.{range_with_len}
 use Rattle.std.proofs.lemmas.Bool.{cases_eq}
-use Rattle.std.proofs.lemmas.List.{length-take}
-use Rattle.std.proofs.lemmas.List.Elements.{filter-append, Contains-push, Contains-append_left}
+use Rattle.std.proofs.lemmas.List.{length-take, take_all, take-append-le}
+use Rattle.std.proofs.lemmas.List.Elements.{filter-append, Contains-push, Contains-append_left, All-nil, All-head, All-tail, All-push, All-weaker}
 use Rattle.std.proofs.lemmas.List.Sums.{sum_by-cons, sum_by_push}
 use Rattle.shm_base.specs.declared.paging.PageRef.{PageRef}
 use Rattle.shm_slots.specs.Cause.{total, some_spent}
@@ -13,19 +13,17 @@ use Rattle.shm_fault.specs.Segs.{locked_by}
 use Rattle.shm_fault.specs.Store.{StoreView}
 use Rattle.shm_fault.specs.Sound.{IsStoreSound}
 use Rattle.shm_fault.specs.Goes.{Goes, Still}
-use Rattle.shm_fault.specs.Counting.{raised}
-use Rattle.shm_fault.specs.Flushing.{owner_unlocked, may_flush, dirty_list, dirty_after, IsFlushed}
+use Rattle.shm_fault.specs.Counting.{raised, one_if}
+use Rattle.shm_fault.specs.Flushing.{may_flush, dirty_list, dirty_after, IsFlushed}
 use Rattle.shm_fault.proofs.Sound.{Goes-refl, Goes-trans}
 use Rattle.shm_fault.proofs.Failures.{unspent-before}
 use Rattle.shm_fault.proofs.Bringing.{is_locked-held}
+use Rattle.std.proofs.lemmas.Bool.Decides.{nat_tests}
+use Rattle.std.proofs.lemmas.Grind.{common_steps}
 
 -- those of the frames below i that may be flushed
 abbrev pub due : StoreView → ℕ → List ℕ
 due s i = filter (may_flush s) (range_with_len 0 i)
-
-abbrev AllBelow : ℕ → List ℕ → Type 0
-AllBelow i [] = Unit {0}
-AllBelow i (x ∷ xs) = (x < i) × AllBelow i xs
 
 -- the frames below i were looked at, and the first n of those that may be flushed were written
 pub record Flushed (n : ℕ) (s : StoreView) (i : ℕ) (t : StoreView) (written failed : ℕ) : Type 0 where
@@ -34,7 +32,7 @@ pub record Flushed (n : ℕ) (s : StoreView) (i : ℕ) (t : StoreView) (written 
   pub still : Still s t
   pub sum : written + failed ≡ length (take n (due s i))
   pub failures : count_by (dirty_after t) (take n (due s i)) ≡ failed
-  pub below : AllBelow i (take n (due s i))
+  pub below : All (λ x. x < i) (take n (due s i))
   pub ahead : (f : ℕ) → i ≤ f → frame_at t.frames f ≡ frame_at s.frames f
   pub frames : (f : ℕ) → frame_at t.frames f ≡ record (frame_at s.frames f) { dirty = (frame_at t.frames f).dirty }
   pub others : (f : ℕ) → (Contains (take n (due s i)) f → ⊥) → frame_at t.frames f ≡ frame_at s.frames f
@@ -43,45 +41,28 @@ pub record Flushed (n : ℕ) (s : StoreView) (i : ℕ) (t : StoreView) (written 
   pub read_in : t.ins ≡ s.ins
   pub hand : t.hand ≡ s.hand
 
-AllBelow-more : (i : ℕ) (xs : List ℕ) → AllBelow i xs → AllBelow (i + 1) xs
-AllBelow-more i [] all = tt
-AllBelow-more i (x ∷ xs) all = (omega (arith, all.0), AllBelow-more i xs all.1)
+below-more : (i : ℕ) (xs : List ℕ) → All (λ x. x < i) xs → All (λ x. x < i + 1) xs
+below-more i xs all = All-weaker (λ x. x < i) (λ x. x < i + 1) (λ x l. omega arith) xs all
 
-AllBelow-push : (i : ℕ) (xs : List ℕ) → AllBelow i xs → AllBelow (i + 1) (xs ++ i ∷ [])
-AllBelow-push i [] all = (omega arith, tt)
-AllBelow-push i (x ∷ xs) all = (omega (arith, all.0), AllBelow-push i xs all.1)
-
-count-below : (p q : ℕ → Bool) (i : ℕ) (xs : List ℕ) → AllBelow i xs → ((x : ℕ) → x < i → p x ≡ q x) → count_by p xs ≡ count_by q xs
+count-below : (p q : ℕ → Bool) (i : ℕ) (xs : List ℕ) → All (λ x. x < i) xs → ((x : ℕ) → x < i → p x ≡ q x) → count_by p xs ≡ count_by q xs
 count-below p q i [] all same = refl
 count-below p q i (x ∷ xs) all same =
-    let rest = count-below p q i xs all.1 same in
-    let here : cond (p x) 1 0 ≡ cond (q x) 1 0 = ap one (same x all.0) in
+    let rest = count-below p q i xs (All-tail (λ y. y < i) x xs all) same in
+    let here = ap one_if (same x (All-head (λ y. y < i) x xs all)) in
     omega (arith, here, rest, sum_by-cons (λ y. cond (p y) 1 0) x xs, sum_by-cons (λ y. cond (q y) 1 0) x xs)
-  where
-    one : Bool → ℕ
-    one b = cond b 1 0
 
 take-more : (n : ℕ) (xs : List ℕ) (x : ℕ) → length (take n xs) < n → take n (xs ++ x ∷ []) ≡ take n xs ++ x ∷ []
-take-more zero xs x lt = absurd (omega arith)
-take-more (suc zero) [] x lt = refl
-take-more (suc (suc n)) [] x lt = refl
-take-more (suc n) (z ∷ xs) x lt = ap (λ l. z ∷ l) (take-more n xs x (omega arith))
+take-more n xs x lt = grind (arith, common_steps, take_all, length-take n xs)
 
 take-full : (n : ℕ) (xs ys : List ℕ) → n ≤ length (take n xs) → take n (xs ++ ys) ≡ take n xs
-take-full zero xs ys le = refl
-take-full (suc n) [] ys le = absurd (omega arith)
-take-full (suc n) (z ∷ xs) ys le = ap (λ l. z ∷ l) (take-full n xs ys (omega arith))
+take-full n xs ys le = take-append-le n xs ys (omega (arith, length-take n xs))
 
 range-more : (a n : ℕ) → range_with_len a (suc n) ≡ range_with_len a n ++ (a + n) ∷ []
 range-more a zero = let e : a + 0 ≡ a = omega arith in rw e refl
 range-more a (suc n) = let e : a + 1 + n ≡ a + suc n = omega arith in ap (λ l. a ∷ l) (rw e at (range-more (a + 1) n))
 
 due-more : (s : StoreView) (i : ℕ) → due s (i + 1) ≡ due s i ++ filter (may_flush s) (i ∷ [])
-due-more s i =
-    let more : i + 1 ≡ suc i = omega arith in
-    let last : 0 + i ≡ i = omega arith in
-    let range : range_with_len 0 (i + 1) ≡ range_with_len 0 i ++ i ∷ [] = rw more (rw last at (range-more 0 i)) in
-    ap (filter (may_flush s)) range ∙ filter-append (may_flush s) (range_with_len 0 i) (i ∷ [])
+due-more s i = grind (arith, range-more 0 i, filter-append)
 
 due-yes : (s : StoreView) (i : ℕ) → may_flush s i ≡ true → due s (i + 1) ≡ due s i ++ i ∷ []
 due-yes s i e = due-more s i ∙ rw e refl
@@ -96,7 +77,7 @@ flushed-none n s sound = let none : take n (due s 0) ≡ [] = by n in record {
   still = λ r. refl;
   sum = rw none refl;
   failures = rw none refl;
-  below = rw none tt;
+  below = rw none (All-nil (λ x. x < 0));
   ahead = λ f le. refl;
   frames = λ f. refl;
   others = λ f out. refl;
@@ -112,11 +93,7 @@ flushed-none n s sound = let none : take n (due s 0) ≡ [] = by n in record {
 
 -- the frame may be flushed as it might at first
 pub may-same : (n : ℕ) (s : StoreView) (i : ℕ) (t : StoreView) (written failed : ℕ) → Flushed n s i t written failed → may_flush t i ≡ may_flush s i
-may-same n s i t written failed d = rw (d.ahead i (omega arith)) (by (frame_at s.frames i).owner)
-  where
-    by : (o : Option PageRef) → ((frame_at s.frames i).dirty && owner_unlocked t o) ≡ ((frame_at s.frames i).dirty && owner_unlocked s o)
-    by None = refl
-    by (Some r) = rw d.goes.bytes refl
+may-same n s i t written failed d = grind (arith, nat_tests, d.ahead i (omega arith), d.goes.bytes)
 
 module _ (n : ℕ) (s : StoreView) (i : ℕ) (t : StoreView) (written failed : ℕ) (d : Flushed n s i t written failed) where
   skipped : take n (due s (i + 1)) ≡ take n (due s i) → Flushed n s (i + 1) t written failed
@@ -126,7 +103,7 @@ module _ (n : ℕ) (s : StoreView) (i : ℕ) (t : StoreView) (written failed : �
     still = d.still;
     sum = rw same d.sum;
     failures = rw same d.failures;
-    below = rw same (AllBelow-more i (take n (due s i)) d.below);
+    below = rw same (below-more i (take n (due s i)) d.below);
     ahead = λ f le. d.ahead f (omega arith);
     frames = d.frames;
     others = λ f out. d.others f (rw same at out);
@@ -164,7 +141,7 @@ module _ (n : ℕ) (s : StoreView) (i : ℕ) (t : StoreView) (written failed : �
             let b = count-below (dirty_after u) (dirty_after t) i l d.below (λ x low. ap (λ (y : Frame). y.dirty) (other x (λ e. absurd (omega (arith, e, low))))) in
             omega (arith, a, b, more, d.failures)
             );
-        below = rw is (AllBelow-push i l d.below);
+        below = rw is (All-push (λ x. x < i + 1) l i (below-more i l d.below) (omega arith));
         ahead = λ f le. other f (λ e. absurd (omega (arith, e, le))) ∙ d.ahead f (omega arith);
         frames = λ f. elim (cases_eq f i) [
           | inl e ↦ rw e (at ∙ rw (d.ahead i (omega arith)) refl)

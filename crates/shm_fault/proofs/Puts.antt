@@ -7,9 +7,10 @@ use Rattle.shm_fault.specs.Store.{StoreView, held, ref_of}
 use Rattle.shm_fault.specs.Sound.{IsStoreSound}
 use Rattle.shm_fault.specs.Goes.{frame_by}
 use Rattle.shm_fault.proofs.Pages.{has-frame}
-use Rattle.shm_fault.proofs.Bytes.{bytes_at, length-paste}
+use Rattle.shm_fault.proofs.Bytes.{bytes_at}
 use Rattle.shm_fault.proofs.Spans.{held-pasted, fits-same}
-use Rattle.shm_fault.proofs.Changes.{sound-stored, bytes-stored, bytes-others, resident-bytes}
+use Rattle.shm_fault.proofs.Changes.{sound-stored, bytes-stored, bytes-others}
+use Rattle.shm_plain.proofs.Pasted.{length-paste}
 
 abbrev pub put_in : Frame → ℕ → List ℕ → Frame
 put_in x off new = record x { bytes = paste x.bytes off new; dirty = true }
@@ -29,7 +30,7 @@ puts s sound p f new fit at size =
     let t : StoreView = record s { frames = set s.frames f x } in
     let has = has-frame s.segs r f at in
     let fits : off + length new ≤ 4096 = omega (arith, fit.3, size) in
-    let was = resident-bytes s r f at in
+    let was : bytes_at s r ≡ b = rw at refl in
     let full : length b ≡ 4096 = rw was at (sound.tied.pages r has).whole in
     let whole : length x.bytes ≡ 4096 = length-paste b off new (omega (arith, full, fits)) ∙ full in
     let after : IsStoreSound t = sound-stored s sound r f x at refl refl whole in

@@ -1,10 +1,17 @@
 -- What calls of the swap leave of its slots.
-use Rattle.std.proofs.Common.{◌≡◌, ◌≢◌, ◌⊎◌, ℕ, ◌<◌, ◌≤◌, Bool, List, [], length, get_or, set, Option, None, refl, ap, ◌∙◌, inl, inr, arith, length-set, get_or-set_same, get_or-set_other}
-use Rattle.std.proofs.lemmas.Bool.{cases_eq, cases_lt}
-use Rattle.std.proofs.lemmas.List.{set_past}
+use Rattle.std.proofs.Common.{◌≡◌, ◌≢◌, ◌⊎◌, ℕ, ◌<◌, Bool, List, [], length, get_or, set, Option, None, refl, ap, ◌∙◌, inl, inr, length-set, get_or-set_same, get_or-set_other, zero, suc, ◌∷◌}
+use Rattle.std.proofs.lemmas.Bool.{cases_eq}
 use Rattle.shm_base.specs.declared.paging.PageRef.{PageRef}
 use Rattle.shm_base.specs.declared.paging.Slot.{Slot}
 use Rattle.shm_slots.specs.View.{AreaView, SwapView, no_area, area_at, with_page, with_owner, HasSlot, owner_of, page_in, with_slot_page, with_slot_owner, without_slot, OneArea, WriteFault}
+
+-- an element of a list of which one was set: that one, or as it was
+pub set-cases : {A : Type 0} (xs : List A) (i : ℕ) (x d : A) (j : ℕ) → ((j ≡ i) × (get_or (set xs i x) j d ≡ x)) ⊎ (get_or (set xs i x) j d ≡ get_or xs j d)
+set-cases [] i x d j = inr refl
+set-cases (y ∷ xs) zero x d zero = inl (refl, refl)
+set-cases (y ∷ xs) zero x d (suc j) = inr refl
+set-cases (y ∷ xs) (suc i) x d zero = inr refl
+set-cases (y ∷ xs) (suc i) x d (suc j) = elim (set-cases xs i x d j) [ inl same ↦ inl (ap suc same.0, same.1) | inr kept ↦ inr kept ]
 
 -- one slot may have another page and another owner; nothing else changed
 pub record OnlySlot (k : Slot) (s t : SwapView) : Type 0 where
@@ -25,33 +32,25 @@ area_only : (k : Slot) (s : SwapView) (a : AreaView) (flag : Bool) → length a.
     → ((i : ℕ) → i ≢ k.slot → get_or a.owners i None ≡ get_or (area_at s k.area).owners i None)
     → OnlySlot k s (record { areas = set s.areas k.area a; never_spent = flag })
 area_only k s a flag len pages owners = record {
-  has = λ j h. (rw (length-set s.areas k.area a) h.0, has_at j h.0 h.1 (cases_eq j.area k.area));
-  pages = λ j n. pages_at j n (cases_eq j.area k.area) (cases_lt k.area (length s.areas));
-  owners = λ j n. owners_at j n (cases_eq j.area k.area) (cases_lt k.area (length s.areas));
+  has = λ j h. (
+    rw (length-set s.areas k.area a) h.0,
+    elim (set-cases s.areas k.area a no_area j.area) [
+      | inl same ↦ rw (same.1, len) (rw same.0 at h.1)
+      | inr kept ↦ rw kept h.1
+    ],
+  );
+  pages = λ j n. elim (set-cases s.areas k.area a no_area j.area) [
+    | inl same ↦ rw (same.1, same.0) (pages j.slot (apart j n same.0))
+    | inr kept ↦ rw kept refl
+  ];
+  owners = λ j n. elim (set-cases s.areas k.area a no_area j.area) [
+    | inl same ↦ rw (same.1, same.0) (owners j.slot (apart j n same.0))
+    | inr kept ↦ rw kept refl
+  ];
 }
   where
-    t : SwapView
-    t = record { areas = set s.areas k.area a; never_spent = flag }
-
     apart : (j : Slot) → j ≢ k → j.area ≡ k.area → j.slot ≢ k.slot
     apart j n areas slots = n (let l : record { area = j.area; slot = j.slot } ≡ record { area = k.area; slot = k.slot } = rw (areas, slots) refl in l)
-
-    has_at : (j : Slot) → j.area < length s.areas → j.slot < length (area_at s j.area).pages → (j.area ≡ k.area) ⊎ (j.area ≢ k.area) → j.slot < length (get_or (set s.areas k.area a) j.area no_area).pages
-    has_at j there lt (inl e) =
-        let within : k.area < length s.areas = omega arith in
-        let lt_k : j.slot < length (area_at s k.area).pages = rw e at lt in
-        rw (e, get_or-set_same s.areas k.area a no_area within, len) lt_k
-    has_at j there lt (inr n) = rw (get_or-set_other s.areas k.area j.area a no_area n) lt
-
-    pages_at : (j : Slot) → j ≢ k → (j.area ≡ k.area) ⊎ (j.area ≢ k.area) → (k.area < length s.areas) ⊎ (length s.areas ≤ k.area) → get_or (get_or (set s.areas k.area a) j.area no_area).pages j.slot [] ≡ page_in s j.area j.slot
-    pages_at j n (inr m) c = rw (get_or-set_other s.areas k.area j.area a no_area m) refl
-    pages_at j n (inl e) (inr past) = rw (set_past s.areas k.area a past) refl
-    pages_at j n (inl e) (inl lt) = rw (e, get_or-set_same s.areas k.area a no_area lt) (pages j.slot (apart j n e))
-
-    owners_at : (j : Slot) → j ≢ k → (j.area ≡ k.area) ⊎ (j.area ≢ k.area) → (k.area < length s.areas) ⊎ (length s.areas ≤ k.area) → get_or (get_or (set s.areas k.area a) j.area no_area).owners j.slot None ≡ owner_of s j.area j.slot
-    owners_at j n (inr m) c = rw (get_or-set_other s.areas k.area j.area a no_area m) refl
-    owners_at j n (inl e) (inr past) = rw (set_past s.areas k.area a past) refl
-    owners_at j n (inl e) (inl lt) = rw (e, get_or-set_same s.areas k.area a no_area lt) (owners j.slot (apart j n e))
 
 -- a slot written
 pub OnlySlot-page : (k : Slot) (s : SwapView) (page : List ℕ) → OnlySlot k s (with_slot_page s k page)

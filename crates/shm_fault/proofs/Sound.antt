@@ -5,22 +5,27 @@ use Rattle.std.proofs.lemmas.Bool.{cases_Bool, or_right}
 use Rattle.std.proofs.lemmas.List.Sums.{sum_by-le-sum_by, count_by-le-length}
 use Rattle.shm_base.specs.declared.paging.PageRef.{PageRef}
 use Rattle.shm_base.specs.declared.paging.Slot.{Slot}
-use Rattle.shm_slots.specs.View.{SwapView, IsSwap, slots, sizes, slots_in, owner_of}
+use Rattle.shm_slots.specs.View.{SwapView, IsSwap, slots, sizes, slots_in, owner_of, HasSlot}
 use Rattle.shm_slots.specs.Cause.{GoesOn, total, some_spent, had_cause}
 use Rattle.shm_frames.specs.Frame.{Frame, frame_at}
 use Rattle.shm_fault.specs.Segs.{SegRec, rec_by, HasPage, AreApart, pages_of, locked_pages}
 use Rattle.shm_fault.specs.Store.{StoreView, has_frame, has_slot, dirty_in, is_dirty_page}
 use Rattle.shm_fault.specs.Sound.{IsTied, Tied, IsStoreSound}
 use Rattle.shm_fault.specs.Goes.{outlines, Goes, Still, KeepsLocked}
-use Rattle.shm_fault.proofs.Pages.{has-frame, apart-same, sum_pages-same, sum_locked-same, locked-same}
+use Rattle.shm_fault.proofs.Pages.{has-frame, apart-same, sum_pages-same, sum_locked-same, locked-same, has-slot}
 use Rattle.shm_fault.proofs.Ties.{Touches, tied_touched, bytes_touched}
 use Rattle.shm_fault.proofs.Tally.{resident-frames}
 use Rattle.shm_fault.proofs.Bytes.{bytes_at, held-same}
 use Rattle.shm_fault.proofs.Failures.{spent-cause, cause-before}
+use Rattle.std.proofs.lemmas.Bool.Decides.{nat_tests}
 
 -- a page and the frame that it is in
 pub frame-own : (s : StoreView) → IsStoreSound s → (r : PageRef) (f : ℕ) → (rec_by s.segs r).frame ≡ Some f → (f < length s.frames) × ((frame_at s.frames f).owner ≡ Some r)
 frame-own s sound r f at = (sound.tied.pages r (has-frame s.segs r f at)).frame_owned f at
+
+-- and the slot
+pub slot-own : (s : StoreView) → IsStoreSound s → (r : PageRef) (k : Slot) → (rec_by s.segs r).slot ≡ Some k → HasSlot s.swap k.area k.slot × (owner_of s.swap k.area k.slot ≡ Some r)
+slot-own s sound r k at = (sound.tied.pages r (has-slot s.segs r k at)).slot_owned k at
 
 -- the counts follow from the rest
 pub IsSound-from : (s : StoreView) → Tied s → AreApart s.segs → (2 ≤ length s.frames) × (length s.frames ≤ 4096) → IsSwap s.swap → s.hand < length s.frames
@@ -41,7 +46,7 @@ IsSound-from s tied apart frames swap hand capacity locked = record {
   where
     by : (o : Option ℕ) → cond (dirty_in s.frames o) 1 0 ≤ cond (is_some o) 1 0
     by None = omega arith
-    by (Some f) = elim (cases_Bool (frame_at s.frames f).dirty) [ inl t ↦ rw t (omega arith) | inr n ↦ rw n (omega arith) ]
+    by (Some f) = grind (arith, nat_tests)
 
 -- a change that touches few pages
 module _ (off : PageRef → Bool) (s t : StoreView) (sound : IsStoreSound s) (to : Touches off s t) (swap : IsSwap t.swap) (same : sizes t.swap ≡ sizes s.swap) (hand : t.hand < length t.frames)

@@ -1,5 +1,5 @@
 -- Stretches of pages, in the bytes of segments and in frames.
-use Rattle.std.proofs.Common.{◌≡◌, ◌≢◌, ℕ, suc, ◌<◌, ◌≤◌, ◌+◌, ◌-◌, ◌*◌, ◌/◌, ◌%◌, Bool, true, false, cond, List, [], ◌∷◌, map, length, get_or, take, drop, sum_by, Option, Some, None, is_some, refl, sym, ap, ◌∙◌, inl, inr, arith}
+use Rattle.std.proofs.Common.{◌≡◌, ◌≢◌, ℕ, suc, ◌<◌, ◌≤◌, ◌+◌, ◌-◌, ◌*◌, ◌/◌, ◌%◌, List, [], ◌∷◌, map, length, get_or, take, drop, sum_by, Some, None, is_some, refl, sym, ap, ◌∙◌, inl, inr, arith}
 use Rattle.std.specs.Prelude.{option_map}
 use Rattle.std.proofs.lemmas.Bool.{cases_eq, eq-eqb, ne_eqb}
 use Rattle.std.proofs.lemmas.List.Sums.{sum_by-cons}
@@ -14,13 +14,11 @@ use Rattle.shm_fault.specs.Sound.{IsStoreSound}
 use Rattle.shm_fault.specs.Goes.{outline, outlines, frame_by}
 use Rattle.shm_fault.proofs.Pages.{find-id, has-tail}
 use Rattle.shm_fault.proofs.Bytes.{joined, held_one, held_of, bytes_at, held-is, joined-read, joined-paste, joined-ext, length-joined}
+use Rattle.std.proofs.lemmas.Bool.Decides.{nat_tests}
 
 find-held : (b : PageRef → List ℕ) (gs : List SegRec) (id : ℕ) → find_held (held_of b (outlines gs)) id ≡ option_map (λ (g : SegRec). held_one b (outline g)) (find_seg gs id)
 find-held b [] id = refl
-find-held b (g ∷ gs) id = elim (cases_eq g.id id) [
-  | inl e ↦ rw (eq-eqb g.id id e) refl
-  | inr n ↦ rw (ne_eqb g.id id n) (find-held b gs id)
-]
+find-held b (g ∷ gs) id = grind (arith, nat_tests, find-held b gs id)
 
 module _ (s : StoreView) (sound : IsStoreSound s) where
   find-in : (id : ℕ) → find_held (held s) id ≡ option_map (λ (g : SegRec). held_one (bytes_at s) (outline g)) (find_seg s.segs id)
@@ -28,11 +26,7 @@ module _ (s : StoreView) (sound : IsStoreSound s) where
 
   pub bytes-in : (id : ℕ) → bytes_of (held s) id ≡ joined (bytes_at s) id 0 (count_by_id s.segs id)
   unfolding joined
-  bytes-in id = by (find_seg s.segs id) refl
-    where
-      by : (o : Option SegRec) → find_seg s.segs id ≡ o → bytes_of (held s) id ≡ joined (bytes_at s) id 0 (count_by_id s.segs id)
-      by None e = rw (find-in id, e) refl
-      by (Some g) e = let q = find-id s.segs id g e in rw (find-in id, e) (ap (λ n. joined (bytes_at s) n 0 (length g.pages)) q)
+  bytes-in id = grind (arith, nat_tests, find-in id, find-id s.segs id)
 
   whole-in : (id : ℕ) (j : ℕ) → j < count_by_id s.segs id → length (bytes_at s (record { seg = id; page = j })) ≡ 4096
   whole-in id j lt = (sound.tied.pages (record { seg = id; page = j }) lt).whole
@@ -41,11 +35,7 @@ module _ (s : StoreView) (sound : IsStoreSound s) where
   length-in id = ap length (bytes-in id) ∙ length-joined (bytes_at s) (record { seg = id; page = 0 }) (count_by_id s.segs id) (whole-in id) 0 (count_by_id s.segs id) (omega arith)
 
   pub held-in : (id : ℕ) → is_held (held s) id ≡ is_some (find_seg s.segs id)
-  held-in id = ap is_some (find-in id) ∙ by (find_seg s.segs id)
-    where
-      by : (o : Option SegRec) → is_some (option_map (λ (g : SegRec). held_one (bytes_at s) (outline g)) o) ≡ is_some o
-      by None = refl
-      by (Some g) = refl
+  held-in id = grind (arith, nat_tests, find-in id)
 
   -- the page of a stretch is there
   pub fits-has : (p : Span) → FitsPage (held s) p → HasPage s.segs (ref_of p)
@@ -108,25 +98,11 @@ held-pasted s t sound apart shape r off new has fits here others =
 -- no segment has 2^32 pages
 sum-slots : (areas : List AreaView) → ((i : ℕ) → IsArea (get_or areas i no_area)) → sum_by slots_in (map size_of areas) ≤ 65536 * length areas
 sum-slots [] each = omega arith
-sum-slots (a ∷ areas) each =
-    let rest = sum-slots areas (λ i. each (suc i)) in
-    let small : length a.pages ≤ 65536 = (each 0).small in
-    let here : slots_in (size_of a) ≤ 65536 = by a.here in
-    omega (arith, rest, here, sum_by-cons slots_in (size_of a) (map size_of areas))
-  where
-    by : (b : Bool) → slots_in (cond b (Some (length a.pages)) None) ≤ 65536
-    by true = (each 0).small
-    by false = omega arith
+sum-slots (a ∷ areas) each = grind (arith, nat_tests, sum-slots areas (λ i. each (suc i)), (each 0).small, sum_by-cons slots_in (size_of a) (map size_of areas))
 
 count-le-sum : (gs : List SegRec) (id : ℕ) → count_by_id gs id ≤ sum_by pages_of gs
 count-le-sum [] id = omega arith
-count-le-sum (g ∷ gs) id =
-    let rest = count-le-sum gs id in
-    let sum = sum_by-cons pages_of g gs in
-    elim (cases_eq g.id id) [
-      | inl e ↦ rw (eq-eqb g.id id e) (omega (arith, sum))
-      | inr n ↦ rw (ne_eqb g.id id n) (omega (arith, sum, rest))
-    ]
+count-le-sum (g ∷ gs) id = grind (arith, nat_tests, count-le-sum gs id, sum_by-cons pages_of g gs)
 
 pub few_pages : (s : StoreView) → IsStoreSound s → (id : ℕ) → count_by_id s.segs id ≤ 524288
 few_pages s sound id =

@@ -1,7 +1,7 @@
 -- Resident, dirty and used pages, by frames and by slots.
 use Rattle.std.proofs.Common.{◌≡◌, ℕ, suc, ◌<◌, ◌≤◌, ◌+◌, ◌-◌, Bool, true, false, not, cond, eqb, leb, List, [], ◌∷◌, map, length, get_or, sum_by, Option, Some, None, is_some, refl, sym, ap, ◌∙◌, inl, inr, arith}
 use Rattle.std.specs.Prelude.{count_by}
-use Rattle.std.proofs.lemmas.Bool.{cases_Bool, cases_eq, cases_lt, eq-eqb, ne_eqb, le-leb, lt-leb}
+use Rattle.std.proofs.lemmas.Bool.{cases_Bool, cases_lt, eq-eqb, le-leb, lt-leb}
 use Rattle.std.proofs.lemmas.List.{get_or-map, get_or_past, length-map}
 use Rattle.std.proofs.lemmas.List.Sums.{sum_by-cons}
 use Rattle.shm_base.specs.declared.paging.PageRef.{PageRef}
@@ -12,6 +12,7 @@ use Rattle.shm_fault.specs.Segs.{SegRec, rec_by, AreApart, HasPage, locked_by, p
 use Rattle.shm_fault.specs.Store.{StoreView, has_frame, has_slot, is_dirty_page, dirty_in, resident, dirty, used}
 use Rattle.shm_fault.specs.Sound.{Tied}
 use Rattle.shm_fault.proofs.Counts.{weigh, weigh-ext, weigh-sum, weigh-zero, weigh-le, weigh-ge, weigh-test, weigh-all, weigh-locked, at_least, counted_by_page}
+use Rattle.std.proofs.lemmas.Bool.Decides.{nat_tests}
 
 abbrev one_if : Bool → ℕ
 one_if b = cond b 1 0
@@ -23,9 +24,9 @@ count-map : {X Y : Type 0} (f : X → Y) (test : Y → Bool) (xs : List X) → c
 count-map f test [] = refl
 count-map f test (x ∷ xs) = let rest = count-map f test xs in omega (arith, rest, sum_by-cons (λ y. cond (test y) 1 0) (f x) (map f xs), sum_by-cons (λ y. cond (test (f y)) 1 0) x xs)
 
-count-ext : {X : Type 0} (p q : X → Bool) (xs : List X) → ((x : X) → p x ≡ q x) → count_by p xs ≡ count_by q xs
+pub count-ext : {X : Type 0} (p q : X → Bool) (xs : List X) → ((x : X) → p x ≡ q x) → count_by p xs ≡ count_by q xs
 count-ext p q [] same = refl
-count-ext p q (x ∷ xs) same = let rest = count-ext p q xs same in let here : one_if (p x) ≡ one_if (q x) = ap one_if (same x) in omega (arith, here, rest, sum_by-cons (λ y. cond (p y) 1 0) x xs, sum_by-cons (λ y. cond (q y) 1 0) x xs)
+count-ext p q (x ∷ xs) same = grind (arith, same x, count-ext p q xs same, sum_by-cons)
 
 -- the page, where the test passes
 abbrev kept_if : Bool → Option PageRef → Option PageRef
@@ -44,11 +45,7 @@ abbrev owner_if : (PageRef → Frame → Bool) → Frame → Option PageRef
 owner_if test x = kept_if (passes_by test x) x.owner
 
 owner_if-some : (test : PageRef → Frame → Bool) (x : Frame) → is_some (owner_if test x) ≡ passes_by test x
-owner_if-some test x = by x.owner
-  where
-    by : (o : Option PageRef) → is_some (kept_if (passes_in test x o) o) ≡ passes_in test x o
-    by None = refl
-    by (Some r) = elim (cases_Bool (test r x)) [ inl t ↦ rw t refl | inr f ↦ rw f refl ]
+owner_if-some test x = grind (arith, nat_tests)
 
 -- the page is resident, and it and its frame pass the test
 abbrev pub page_passes : (PageRef → Frame → Bool) → List Frame → PageRef → Option ℕ → Bool
@@ -123,17 +120,9 @@ module _ (s : StoreView) (apart : AreApart s.segs) (tied : Tied s) where
   unfolding always
   resident-frames =
       sym (weigh-test has_frame s.segs)
-      ∙ weigh-ext (λ r p. cond (has_frame p) 1 0) (λ r p. cond (page_passes always s.frames r p.frame) 1 0) s.segs apart (λ r has. by r (rec_by s.segs r).frame)
+      ∙ weigh-ext (λ r p. cond (has_frame p) 1 0) (λ r p. cond (page_passes always s.frames r p.frame) 1 0) s.segs apart (λ r has. grind (arith, nat_tests))
       ∙ sym (counted_frames s apart tied always)
-      ∙ count-ext (passes_by always) is_owned s.frames (λ x. same x x.owner)
-    where
-      by : (r : PageRef) (o : Option ℕ) → one_if (is_some o) ≡ one_if (page_passes always s.frames r o)
-      by r None = refl
-      by r (Some f) = refl
-
-      same : (x : Frame) (o : Option PageRef) → passes_in always x o ≡ is_some o
-      same x None = refl
-      same x (Some r) = refl
+      ∙ count-ext (passes_by always) is_owned s.frames (λ x. grind (arith, nat_tests))
 
   pub dirty-frames : dirty s ≡ dirty_of s.frames
   unfolding has_dirty
@@ -174,21 +163,11 @@ slot_in k (Some j) = slot_if (eqb j.area k) j.slot
 
 slot_split : (k : ℕ) (o : Option Slot) → area_from k o ≡ at_least 0 (slot_in k o) + area_from (suc k) o
 slot_split k None = refl
-slot_split k (Some j) = elim (cases_eq j.area k) [
-  | inl e ↦ rw (eq-eqb j.area k e, le-leb k j.area (omega arith), lt-leb (suc k) j.area (omega arith), le-leb 0 j.slot (omega arith)) refl
-  | inr n ↦ elim (cases_lt j.area k) [
-    | inl l ↦ rw (ne_eqb j.area k n, lt-leb k j.area l, lt-leb (suc k) j.area (omega arith)) refl
-    | inr g ↦ rw (ne_eqb j.area k n, le-leb k j.area g, le-leb (suc k) j.area (omega arith)) refl
-  ]
-]
+slot_split k (Some j) = grind (arith, nat_tests)
 
 slot_in-is : (k j : ℕ) (o : Option Slot) → slot_in k o ≡ Some j → o ≡ Some (record { area = k; slot = j })
 slot_in-is k j None e = cc
-slot_in-is k j (Some i) e = elim (cases_eq i.area k) [
-  | inl a ↦ let h : Some i.slot ≡ Some j = rw (eq-eqb i.area k a) at e in let b : i.slot ≡ j = cc in
-      let l : record { area = i.area; slot = i.slot } ≡ record { area = k; slot = j } = rw (a, b) refl in ap Some l
-  | inr n ↦ let h : None ≡ Some j = rw (ne_eqb i.area k n) at e in cc
-]
+slot_in-is k j (Some i) e = grind (arith, nat_tests)
 
 slots_by_page : (gs : List SegRec) → AreApart gs → (areas : List AreaView) (k : ℕ)
     → ((r : PageRef) (i j : ℕ) → HasPage gs r → (rec_by gs r).slot ≡ Some (record { area = k + i; slot = j }) → get_or (get_or areas i no_area).owners j None ≡ Some r)
@@ -232,24 +211,16 @@ used-slots s apart tied =
 pub some_slotless : (s : StoreView) → AreApart s.segs → (r : PageRef) → HasPage s.segs r → (rec_by s.segs r).slot ≡ None → used s < sum_by pages_of s.segs
 some_slotless s apart r has none =
     let all : weigh (λ q p. 1) s.segs ≡ weigh (λ q p. cond (has_slot p) 1 0) s.segs + weigh (λ q p. cond (has_slot p) 0 1) s.segs =
-    weigh-ext (λ q p. 1) (λ q p. cond (has_slot p) 1 0 + cond (has_slot p) 0 1) s.segs apart (λ q there. by (has_slot (rec_by s.segs q)))
+    weigh-ext (λ q p. 1) (λ q p. cond (has_slot p) 1 0 + cond (has_slot p) 0 1) s.segs apart (λ q there. grind (arith, nat_tests))
     ∙ weigh-sum (λ q p. cond (has_slot p) 1 0) (λ q p. cond (has_slot p) 0 1) s.segs in
     let one = weigh-ge (λ q p. cond (has_slot p) 0 1) r s.segs apart has in
     let is : none_if (has_slot (rec_by s.segs r)) ≡ 1 = rw none refl in
     omega (arith, all, one, is, weigh-all s.segs, weigh-test has_slot s.segs)
-  where
-    by : (b : Bool) → 1 ≡ cond b 1 0 + cond b 0 1
-    by true = refl
-    by false = refl
 
 -- no more pages are resident than are unlocked and resident, and locked
 pub unlocked_resident : (s : StoreView) → AreApart s.segs → Tied s → resident s ≤ count_by (passes_by (λ r x. not (locked_by s.segs r.seg))) s.frames + sum_by locked_pages s.segs
 unlocked_resident s apart tied =
-    let le = weigh-le (λ r p. cond (has_frame p) 1 0) (λ r p. cond (page_passes (λ q x. not (locked_by s.segs q.seg)) s.frames r p.frame) 1 0 + cond (locked_by s.segs r.seg) 1 0) s.segs apart (λ r has. by r (rec_by s.segs r).frame) in
+    let le = weigh-le (λ r p. cond (has_frame p) 1 0) (λ r p. cond (page_passes (λ q x. not (locked_by s.segs q.seg)) s.frames r p.frame) 1 0 + cond (locked_by s.segs r.seg) 1 0) s.segs apart (λ r has. grind (arith, nat_tests)) in
     let sum = weigh-sum (λ r p. cond (page_passes (λ q x. not (locked_by s.segs q.seg)) s.frames r p.frame) 1 0) (λ r p. cond (locked_by s.segs r.seg) 1 0) s.segs in
     let frames = counted_frames s apart tied (λ r x. not (locked_by s.segs r.seg)) in
     omega (arith, le, sum, frames, weigh-locked s.segs apart, weigh-test has_frame s.segs)
-  where
-    by : (r : PageRef) (o : Option ℕ) → cond (is_some o) 1 0 ≤ cond (page_passes (λ q x. not (locked_by s.segs q.seg)) s.frames r o) 1 0 + cond (locked_by s.segs r.seg) 1 0
-    by r None = omega arith
-    by r (Some f) = elim (cases_Bool (locked_by s.segs r.seg)) [ inl t ↦ rw t (omega arith) | inr n ↦ rw n (omega arith) ]

@@ -1,7 +1,6 @@
 -- A change that touches few pages keeps all others tied, and their bytes.
-use Rattle.std.proofs.Common.{◌≡◌, ◌≢◌, ◌⊎◌, ℕ, ◌<◌, ◌≤◌, Bool, true, false, List, length, set, Option, Some, None, refl, sym, ◌∙◌, inl, inr, length-set, get_or-set_same, get_or-set_other}
-use Rattle.std.proofs.lemmas.Bool.{cases_Bool, cases_eq, cases_lt}
-use Rattle.std.proofs.lemmas.List.{set_past}
+use Rattle.std.proofs.Common.{◌≡◌, ℕ, Bool, true, false, List, length, set, Option, Some, None, refl, sym, ◌∙◌, inl, inr, length-set}
+use Rattle.std.proofs.lemmas.Bool.{cases_Bool}
 use Rattle.shm_base.specs.declared.paging.PageRef.{PageRef}
 use Rattle.shm_base.specs.declared.paging.Slot.{Slot}
 use Rattle.shm_slots.specs.View.{SwapView, HasSlot, owner_of, page_in}
@@ -11,8 +10,8 @@ use Rattle.shm_fault.specs.Segs.{SegRec, rec_by, HasPage, with_rec}
 use Rattle.shm_fault.specs.Store.{StoreView, stored, bytes_by, page_bytes}
 use Rattle.shm_fault.specs.Sound.{IsTied, Tied}
 use Rattle.shm_fault.specs.Goes.{outlines, Alike}
-use Rattle.shm_fault.proofs.Pages.{has-same, outlines-with, rec-with_other, other, other_ne}
-use Rattle.shm_fault.proofs.Slots.{OnlySlot, cases_slot}
+use Rattle.shm_fault.proofs.Pages.{has-same, outlines-with, rec-with_other, other, other-self}
+use Rattle.shm_fault.proofs.Slots.{OnlySlot, cases_slot, set-cases}
 
 pub Alike-refl : (x : Frame) → Alike x x
 Alike-refl x = record { owner = refl; bytes = refl; dirty = refl }
@@ -31,7 +30,7 @@ pub record FramesApart (off : PageRef → Bool) (fs gs : List Frame) : Type 0 wh
 
 -- nor their slots
 pub record SlotsApart (off : PageRef → Bool) (s u : SwapView) : Type 0 where
-  pub has : (k : Slot) → HasSlot s k.area k.slot → HasSlot u k.area k.slot
+  pub has : (k : Slot) (q : PageRef) → off q ≡ true → owner_of s k.area k.slot ≡ Some q → HasSlot s k.area k.slot → HasSlot u k.area k.slot
   pub kept : (k : Slot) (q : PageRef) → off q ≡ true → owner_of s k.area k.slot ≡ Some q → (owner_of u k.area k.slot ≡ Some q) × (page_in u k.area k.slot ≡ page_in s k.area k.slot)
   pub owners : (k : Slot) (q : PageRef) → off q ≡ true → owner_of u k.area k.slot ≡ Some q → owner_of s k.area k.slot ≡ Some q
 
@@ -50,7 +49,7 @@ pub frames-same : {off : PageRef → Bool} (fs : List Frame) → ((f : ℕ) → 
 frames-same fs free = record { size = refl; alike = λ f q e o. Alike-refl (frame_at fs f); owners = λ f q e o. o; free = free }
 
 pub slots-same : {off : PageRef → Bool} (s : SwapView) → SlotsApart off s s
-slots-same s = record { has = λ k h. h; kept = λ k q e o. (o, refl); owners = λ k q e o. o }
+slots-same s = record { has = λ k q e o h. h; kept = λ k q e o. (o, refl); owners = λ k q e o. o }
 
 -- one page's place looked up in other segments
 pub tied-segs : (s : StoreView) (segs : List SegRec) (r : PageRef) → rec_by segs r ≡ rec_by s.segs r → IsTied s r → IsTied (record s { segs = segs }) r
@@ -88,7 +87,7 @@ module _ (off : PageRef → Bool) (s t : StoreView) (to : Touches off s t) where
         slot_owned = λ k e.
             let was : (rec_by s.segs q).slot ≡ Some k = rw same at e in
             let own = tie.slot_owned k was in
-            (to.slots.has k own.0, (to.slots.kept k q is own.1).0);
+            (to.slots.has k q is own.1 own.0, (to.slots.kept k q is own.1).0);
         owner_stored = λ k e. rw same (tie.owner_stored k (to.slots.owners k q is e));
         clean = λ f e d.
             let was : (rec_by s.segs q).frame ≡ Some f = rw same at e in
@@ -114,57 +113,45 @@ module _ (off : PageRef → Bool) (s t : StoreView) (to : Touches off s t) where
     free = to.frames.free;
   }
 
--- the owner is that page or nobody
-abbrev pub IsOwn : PageRef → Option PageRef → Type 0
-IsOwn r o = (q : PageRef) → o ≡ Some q → q ≡ r
+-- the owner is a page that may be touched, or nobody
+abbrev pub IsOwn : (PageRef → Bool) → Option PageRef → Type 0
+IsOwn off o = (q : PageRef) → o ≡ Some q → off q ≡ false
 
-pub IsOwn-none : (r : PageRef) (o : Option PageRef) → o ≡ None → IsOwn r o
-IsOwn-none r o e q h = cc
+pub IsOwn-none : (off : PageRef → Bool) (o : Option PageRef) → o ≡ None → IsOwn off o
+IsOwn-none off o e q h = cc
 
-pub IsOwn-some : (r : PageRef) (o : Option PageRef) → o ≡ Some r → IsOwn r o
-IsOwn-some r o e q h = cc
+pub IsOwn-some : (r : PageRef) (o : Option PageRef) → o ≡ Some r → IsOwn (other r) o
+IsOwn-some r o e q h = let same : q ≡ r = cc in rw same (other-self r)
 
--- one frame set, whose owner was and is that page or nobody
-module _ (r : PageRef) (frames : List Frame) (f : ℕ) (x : Frame) (was : IsOwn r (frame_at frames f).owner) (is : IsOwn r x.owner) where
-  set_alike : (g : ℕ) (q : PageRef) → other r q ≡ true → (frame_at frames g).owner ≡ Some q → Alike (frame_at frames g) (frame_at (set frames f x) g)
-  set_alike g q off e = elim (cases_eq g f) [
-    | inl same ↦ absurd (other_ne r q off (was q (rw same at e)))
-    | inr n ↦ rw (get_or-set_other frames f g x no_frame n) (Alike-refl (frame_at frames g))
-  ]
+-- one frame set, whose owner was and is such a page or nobody
+pub frames-set : (off : PageRef → Bool) (frames : List Frame) (f : ℕ) (x : Frame) → IsOwn off (frame_at frames f).owner → IsOwn off x.owner → (x.owner ≡ None → x.dirty ≡ false)
+    → ((g : ℕ) → (frame_at frames g).owner ≡ None → (frame_at frames g).dirty ≡ false) → FramesApart off frames (set frames f x)
+frames-set off frames f x was is clean free = record {
+  size = length-set frames f x;
+  alike = λ g q out e. elim (set-cases frames f x no_frame g) [
+    | inl same ↦ cc (was q (rw same.0 at e))
+    | inr kept ↦ rw kept (Alike-refl (frame_at frames g))
+  ];
+  owners = λ g q out e. elim (set-cases frames f x no_frame g) [
+    | inl same ↦ cc (is q (rw same.1 at e))
+    | inr kept ↦ rw kept at e
+  ];
+  free = λ g e. elim (set-cases frames f x no_frame g) [
+    | inl same ↦ rw same.1 (clean (rw same.1 at e))
+    | inr kept ↦ rw kept (free g (rw kept at e))
+  ];
+}
 
-  set_owners : (g : ℕ) (q : PageRef) → other r q ≡ true → (frame_at (set frames f x) g).owner ≡ Some q → (frame_at frames g).owner ≡ Some q
-  set_owners g q off e = by (cases_eq g f) (cases_lt f (length frames))
-    where
-      by : (g ≡ f) ⊎ (g ≢ f) → (f < length frames) ⊎ (length frames ≤ f) → (frame_at frames g).owner ≡ Some q
-      by (inr n) c = rw (get_or-set_other frames f g x no_frame n) at e
-      by (inl same) (inr past) = rw (set_past frames f x past) at e
-      by (inl same) (inl lt) = absurd (other_ne r q off (is q (rw (same, get_or-set_same frames f x no_frame lt) at e)))
-
-  set_free : (x.owner ≡ None → x.dirty ≡ false) → ((g : ℕ) → (frame_at frames g).owner ≡ None → (frame_at frames g).dirty ≡ false)
-      → (g : ℕ) → (frame_at (set frames f x) g).owner ≡ None → (frame_at (set frames f x) g).dirty ≡ false
-  set_free clean free g e = by (cases_eq g f) (cases_lt f (length frames))
-    where
-      by : (g ≡ f) ⊎ (g ≢ f) → (f < length frames) ⊎ (length frames ≤ f) → (frame_at (set frames f x) g).dirty ≡ false
-      by (inr n) c = rw (get_or-set_other frames f g x no_frame n) (free g (rw (get_or-set_other frames f g x no_frame n) at e))
-      by (inl same) (inr past) = rw (set_past frames f x past) (free g (rw (set_past frames f x past) at e))
-      by (inl same) (inl lt) = rw (same, get_or-set_same frames f x no_frame lt) (clean (rw (same, get_or-set_same frames f x no_frame lt) at e))
-
-  pub frames-set : (x.owner ≡ None → x.dirty ≡ false) → ((g : ℕ) → (frame_at frames g).owner ≡ None → (frame_at frames g).dirty ≡ false) → FramesApart (other r) frames (set frames f x)
-  frames-set clean free = record { size = length-set frames f x; alike = set_alike; owners = set_owners; free = set_free clean free }
-
--- slots, where one may have another page or owner, and that is that page or nobody
-module _ (r : PageRef) (k : Slot) (s u : SwapView) (only : OnlySlot k s u) (was : IsOwn r (owner_of s k.area k.slot)) (is : IsOwn r (owner_of u k.area k.slot)) where
-  only_slots : (j : Slot) (q : PageRef) → other r q ≡ true → owner_of s j.area j.slot ≡ Some q → (owner_of u j.area j.slot ≡ Some q) × (page_in u j.area j.slot ≡ page_in s j.area j.slot)
-  only_slots j q off e = elim (cases_slot j k) [
-    | inl same ↦ absurd (other_ne r q off (was q (rw same at e)))
+-- slots, where one may have another page or owner, and that is such a page or nobody
+pub slots-only : (off : PageRef → Bool) (k : Slot) (s u : SwapView) → OnlySlot k s u → IsOwn off (owner_of s k.area k.slot) → IsOwn off (owner_of u k.area k.slot) → SlotsApart off s u
+slots-only off k s u only was is = record {
+  has = λ j q out e. only.has j;
+  kept = λ j q out e. elim (cases_slot j k) [
+    | inl same ↦ cc (was q (rw same at e))
     | inr n ↦ (only.owners j n ∙ e, only.pages j n)
-  ]
-
-  only_owners : (j : Slot) (q : PageRef) → other r q ≡ true → owner_of u j.area j.slot ≡ Some q → owner_of s j.area j.slot ≡ Some q
-  only_owners j q off e = elim (cases_slot j k) [
-    | inl same ↦ absurd (other_ne r q off (is q (rw same at e)))
+  ];
+  owners = λ j q out e. elim (cases_slot j k) [
+    | inl same ↦ cc (is q (rw same at e))
     | inr n ↦ sym (only.owners j n) ∙ e
-  ]
-
-  pub slots-only : SlotsApart (other r) s u
-  slots-only = record { has = only.has; kept = only_slots; owners = only_owners }
+  ];
+}

@@ -1,6 +1,6 @@
 -- Steps of a visit to a page, one after another.
-use Rattle.std.proofs.Common.{◌≡◌, ◌≢◌, ◌⊎◌, ℕ, suc, ◌<◌, ◌≤◌, true, false, not, cond, eqb, List, [], ◌∷◌, ◌++◌, length, set, Option, Some, None, refl, sym, ap, ◌∙◌, inl, inr, arith, length-set, get_or-set_same, get_or-set_other, set-set}
-use Rattle.std.proofs.lemmas.Bool.{cases_Bool, cases_eq, cases_lt, and_parts, eq-eqb, eqb-true, false≢true, not-true}
+use Rattle.std.proofs.Common.{◌≡◌, ◌≢◌, ℕ, suc, ◌<◌, true, false, not, cond, List, [], ◌∷◌, ◌++◌, length, set, Option, Some, None, refl, sym, ap, ◌∙◌, inl, inr, arith, length-set, get_or-set_same, get_or-set_other}
+use Rattle.std.proofs.lemmas.Bool.{cases_eq, and_parts, eq-eqb, false≢true, not-true}
 use Rattle.shm_base.specs.declared.paging.PageRef.{PageRef}
 use Rattle.shm_frames.specs.Frame.{Frame, no_frame, frame_at}
 use Rattle.shm_clock.specs.Clock.{may_go, owner_passes, is_pinned}
@@ -13,12 +13,12 @@ use Rattle.shm_fault.specs.Sound.{IsStoreSound}
 use Rattle.shm_fault.specs.Goes.{Goes, Still, StaysAway, Alike, Visits, MovesOn, unlocked, frame_by, referenced_at, same_ref}
 use Rattle.shm_fault.specs.declared.touched.Move.{Move}
 use Rattle.shm_fault.specs.declared.touched.Move.TheVariants.{Gone, Came}
-use Rattle.shm_fault.specs.Steps.{is_page, moved}
+use Rattle.shm_fault.specs.Steps.{moved}
 use Rattle.shm_fault.proofs.Ties.{Alike-refl}
-use Rattle.std.proofs.lemmas.List.{set_past}
-use Rattle.shm_fault.proofs.Pages.{rec-with, rec-with_other, cases_ref, other, other_ne, other-true, has-frame}
+use Rattle.shm_fault.proofs.Pages.{rec-with, rec-with_other, cases_ref, other_ne, other-true, has-frame, same-self, same-other}
 use Rattle.shm_fault.proofs.Sound.{frame-own, Goes-trans, KeepsLocked-trans}
-use Rattle.shm_fault.proofs.Changes.{some_same, keeps-alike, keeps-load, keeps-settle}
+use Rattle.shm_fault.proofs.Changes.{keeps-alike, keeps-load, keeps-settle}
+use Rattle.shm_fault.proofs.Slots.{set-cases}
 
 pub Visits-trans : (r : PageRef) (pinned : Option ℕ) (s t u : StoreView) → Visits r pinned s t → Visits r pinned t u → Visits r pinned s u
 Visits-trans r pinned s t u a b = record {
@@ -50,22 +50,9 @@ module _ (s t₁ t₂ t₃ : StoreView) (f : ℕ) (page : PageRef) (pinned : Opt
   first = ap (λ (gs : List SegRec). (rec_by gs page).frame) (sym segs₁) ∙ sym (still page) ∙ was
 
   pub evicted-gone : (q : PageRef) → frame_by t₃ q ≡ cond (same_ref page q) None (frame_by s q)
-  evicted-gone q = elim (cases_ref page q) [
-    | inl same ↦
-        let a : (rec_by t₃.segs page).frame ≡ None = ap (λ (gs : List SegRec). (rec_by gs page).frame) segs₃ ∙ ap (λ (p : PageRec). p.frame) (rec-with t₂.segs page (record (rec_by t₂.segs page) { frame = None }) there) in
-        let b : same_ref page page ≡ true = rw (eq-eqb page.seg page.seg refl, eq-eqb page.page page.page refl) refl in
-        rw (same, b) a
-    | inr off ↦
-        let n : same_ref page q ≡ false = elim (cases_Bool (same_ref page q)) [
-          | inl t ↦ absurd (let p = and_parts (eqb page.seg q.seg) (eqb page.page q.page) t in other_ne page q off (same_from page q p.0 p.1))
-          | inr n ↦ n
-        ] in
-        let a : (rec_by t₃.segs q).frame ≡ (rec_by t₂.segs q).frame = ap (λ (gs : List SegRec). (rec_by gs q).frame) segs₃ ∙ ap (λ (p : PageRec). p.frame) (rec-with_other t₂.segs page q (record (rec_by t₂.segs page) { frame = None }) off) in
-        rw n (a ∙ still q ∙ ap (λ (gs : List SegRec). (rec_by gs q).frame) segs₁)
-  ]
-    where
-      same_from : (a b : PageRef) → eqb a.seg b.seg ≡ true → eqb a.page b.page ≡ true → b ≡ a
-      same_from a b e g = let l : record { seg = b.seg; page = b.page } ≡ record { seg = a.seg; page = a.page } = rw (eqb-true a.seg b.seg e, eqb-true a.page b.page g) refl in l
+  evicted-gone q =
+      let p : PageRec = record (rec_by t₂.segs page) { frame = None } in
+      grind (arith, cases_ref page q, segs₃, segs₁, same-self page, same-other page q, rec-with t₂.segs page p there, rec-with_other t₂.segs page q p, still q)
 
   other-rec : (q : PageRef) → q ≢ page → rec_by t₃.segs q ≡ rec_by t₂.segs q
   other-rec q n = ap (λ (gs : List SegRec). rec_by gs q) segs₃ ∙ (rec-with_other t₂.segs page q (record (rec_by t₂.segs page) { frame = None }) (other-true page q n))
@@ -84,12 +71,12 @@ module _ (s t₁ t₂ t₃ : StoreView) (f : ℕ) (page : PageRef) (pinned : Opt
         | inr off ↦ rw (other-frame q (other_ne page q off)) e
       ];
       away = λ q n e.
-          let ne : q ≢ page = λ same. let h : (rec_by s.segs page).frame ≡ None = rw same at e in cc (first, h) in
+          let ne : q ≢ page = λ same. cc (first, rw same at e) in
           let e₁ : (rec_by t₁.segs q).frame ≡ None = ap (λ (gs : List SegRec). (rec_by gs q).frame) segs₁ ∙ e in
           other-rec q ne ∙ away q e₁ ∙ ap (λ (gs : List SegRec). rec_by gs q) segs₁;
       pin = λ p q is at.
           let loose : p ≢ f = victim-loose s.segs pinned s.frames f page may owner p is in
-          let ne : q ≢ page = λ same. loose (some_same f p (rec_by s.segs page).frame first (rw same at at)) in
+          let ne : q ≢ page = λ same. loose (cc (first, rw same at at)) in
           let same : frame_at t₃.frames p ≡ frame_at s.frames p =
           ap (λ (fs : List Frame). frame_at fs p) frames₃ ∙ get_or-set_other t₂.frames f p y no_frame loose
           ∙ ap (λ (fs : List Frame). frame_at fs p) frames₂ ∙ get_or-set_other t₁.frames f p x no_frame loose ∙ pin p is in
@@ -124,24 +111,6 @@ step-load s sound f bytes free u ins kept is same goes_on =
       };
     }
 
--- a frame that is filled and referenced
-pub settled : (frames : List Frame) (f : ℕ) → f < length frames → (r : PageRef) {a b : List Frame} → a ≡ set frames f (record (frame_at frames f) { owner = Some r }) → b ≡ set a f (record (frame_at a f) { referenced = true })
-    → b ≡ set frames f (record (frame_at frames f) { owner = Some r; referenced = true })
-settled frames f lt r {a} {b} filled is =
-    let at : frame_at a f ≡ record (frame_at frames f) { owner = Some r } = ap (λ (fs : List Frame). frame_at fs f) filled ∙ get_or-set_same frames f (record (frame_at frames f) { owner = Some r }) no_frame lt in
-    is ∙ ap (λ (x : Frame). set a f (record x { referenced = true })) at ∙ ap (λ (fs : List Frame). set fs f (record (frame_at frames f) { owner = Some r; referenced = true })) filled
-    ∙ set-set frames f (record (frame_at frames f) { owner = Some r }) (record (frame_at frames f) { owner = Some r; referenced = true })
-
-pub same-self : (r : PageRef) → same_ref r r ≡ true
-same-self r = rw (eq-eqb r.seg r.seg refl, eq-eqb r.page r.page refl) refl
-
-same-other : (r q : PageRef) → other r q ≡ true → same_ref r q ≡ false
-same-other r q off = elim (cases_Bool (same_ref r q)) [
-  | inl t ↦ absurd (let p = and_parts (eqb r.seg q.seg) (eqb r.page q.page) t in
-      let l : record { seg = q.seg; page = q.page } ≡ record { seg = r.seg; page = r.page } = rw (eqb-true r.seg q.seg p.0, eqb-true r.page q.page p.1) refl in other_ne r q off l)
-  | inr n ↦ n
-]
-
 -- a page comes into a free frame
 pub record Settles (page : PageRef) (f : ℕ) (s t : StoreView) : Type 0 where
   pub sound : IsStoreSound t
@@ -159,10 +128,7 @@ settles s sound page f has lt free away bytes =
     let here = rec-with s.segs page place has in
     record {
       sound = keeps.sound;
-      came = λ q. elim (cases_ref page q) [
-        | inl same ↦ rw (same, same-self page) (ap (λ (p : PageRec). p.frame) here)
-        | inr off ↦ rw (same-other page q off) (ap (λ (p : PageRec). p.frame) (rec-with_other s.segs page q place off))
-      ];
+      came = λ q. grind (arith, cases_ref page q, same-self page, same-other page q, here, rec-with_other s.segs page q place);
       bit = ap (λ (y : Frame). y.referenced) (get_or-set_same s.frames f x no_frame lt);
       visits = λ pinned. record {
         goes = keeps.goes;
@@ -172,7 +138,7 @@ settles s sound page f has lt free away bytes =
         ];
         away = λ q n e. rec-with_other s.segs page q place (other-true page q n);
         pin = λ p q is at.
-            let ne : q ≢ page = λ same. let h : (rec_by s.segs page).frame ≡ Some p = rw same at at in cc (away, h) in
+            let ne : q ≢ page = λ same. cc (away, rw same at at) in
             (ap (λ (r : PageRec). r.frame) (rec-with_other s.segs page q place (other-true page q ne)) ∙ at, bit-other s.frames f p x (elsewhere s sound f free q p at));
       };
     }
@@ -180,24 +146,17 @@ settles s sound page f has lt free away bytes =
 -- moves, one after another
 moved-append : (ms : List Move) (m : Move) (seg page : ℕ) (f : Option ℕ) → moved (ms ++ m ∷ []) seg page f ≡ moved (m ∷ []) seg page (moved ms seg page f)
 moved-append [] m seg page f = refl
-moved-append (Gone r ∷ ms) m seg page f = moved-append ms m seg page (cond (is_page r seg page) None f)
-moved-append (Came r k ∷ ms) m seg page f = moved-append ms m seg page (cond (is_page r seg page) (Some k) f)
+moved-append (Gone r ∷ ms) m seg page f = moved-append ms m seg page _
+moved-append (Came r k ∷ ms) m seg page f = moved-append ms m seg page _
 
 pub moves-still : (ms : List Move) (s t : StoreView) → Still s t → MovesOn ms ms s t
 unfolding frame_of
 moves-still ms s t still b led seg page = still (record { seg = seg; page = page }) ∙ led seg page
 
-pub moves-came : (ms : List Move) (s t : StoreView) (r : PageRef) (f : ℕ) → ((q : PageRef) → frame_by t q ≡ cond (same_ref r q) (Some f) (frame_by s q)) → MovesOn ms (ms ++ Came r f ∷ []) s t
+pub moves-more : (ms : List Move) (m : Move) (s t : StoreView) → ((q : PageRef) → frame_by t q ≡ moved (m ∷ []) q.seg q.page (frame_by s q)) → MovesOn ms (ms ++ m ∷ []) s t
 unfolding frame_of
-moves-came ms s t r f is b led seg page =
-    is (record { seg = seg; page = page }) ∙ ap (λ (o : Option ℕ). cond (same_ref r (record { seg = seg; page = page })) (Some f) o) (led seg page)
-    ∙ sym (moved-append ms (Came r f) seg page (frame_of b seg page))
-
-pub moves-gone : (ms : List Move) (s t : StoreView) (r : PageRef) → ((q : PageRef) → frame_by t q ≡ cond (same_ref r q) None (frame_by s q)) → MovesOn ms (ms ++ Gone r ∷ []) s t
-unfolding frame_of
-moves-gone ms s t r is b led seg page =
-    is (record { seg = seg; page = page }) ∙ ap (λ (o : Option ℕ). cond (same_ref r (record { seg = seg; page = page })) None o) (led seg page)
-    ∙ sym (moved-append ms (Gone r) seg page (frame_of b seg page))
+moves-more ms m s t is b led seg page =
+    is (record { seg = seg; page = page }) ∙ ap (moved (m ∷ []) seg page) (led seg page) ∙ sym (moved-append ms m seg page (frame_of b seg page))
 
 pub moves-trans : (ms ns os : List Move) (s t u : StoreView) → MovesOn ms ns s t → MovesOn ns os t u → MovesOn ms os s u
 moves-trans ms ns os s t u a c b led = c b (a b led)
@@ -207,12 +166,10 @@ pub visits-away : (pinned : Option ℕ) (s t : StoreView) → ((r : PageRef) →
 visits-away pinned s t all q e = (all (record { seg = q.seg; page = suc q.page })).away q (λ same. absurd (let h : q.page ≡ suc q.page = ap (λ (r : PageRef). r.page) same in omega arith)) e
 
 alike-set : (frames : List Frame) (f : ℕ) (x : Frame) → Alike (frame_at frames f) x → (g : ℕ) → Alike (frame_at frames g) (frame_at (set frames f x) g)
-alike-set frames f x like g = by (cases_eq g f) (cases_lt f (length frames))
-  where
-    by : (g ≡ f) ⊎ (g ≢ f) → (f < length frames) ⊎ (length frames ≤ f) → Alike (frame_at frames g) (frame_at (set frames f x) g)
-    by (inr n) c = rw (get_or-set_other frames f g x no_frame n) (Alike-refl (frame_at frames g))
-    by (inl same) (inr past) = rw (set_past frames f x past) (Alike-refl (frame_at frames g))
-    by (inl same) (inl lt) = rw (same, get_or-set_same frames f x no_frame lt) like
+alike-set frames f x like g = elim (set-cases frames f x no_frame g) [
+  | inl same ↦ rw (same.1, same.0) like
+  | inr kept ↦ rw kept (Alike-refl (frame_at frames g))
+]
 
 -- a frame's referenced bit is set
 pub step-touch : (s : StoreView) → IsStoreSound s → (f : ℕ) → f < length s.frames → IsStep s (record s { frames = set s.frames f (record (frame_at s.frames f) { referenced = true }) })

@@ -1,27 +1,26 @@
 -- Stores as they are made, and whole segments that are added, locked or unlocked.
-use Rattle.std.proofs.Common.{◌≡◌, ℕ, zero, suc, ◌<◌, ◌≤◌, ◌+◌, ◌*◌, ◌/◌, Bool, true, false, cond, eqb, List, [], ◌∷◌, ◌++◌, map, length, replicate, sum_by, Option, Some, None, is_some, refl, sym, ap, ◌∙◌, inl, inr, arith}
-use Rattle.std.specs.Prelude.{option_map}
+use Rattle.std.proofs.Common.{◌≡◌, ℕ, zero, suc, ◌≤◌, ◌+◌, ◌*◌, Bool, true, false, cond, eqb, List, [], ◌∷◌, ◌++◌, map, length, replicate, sum_by, Option, Some, None, is_some, refl, sym, ap, ◌∙◌, inl, inr, arith}
 use Rattle.std.specs.List.{flat_map}
-use Rattle.std.proofs.lemmas.Bool.{cases_Bool, cases_eq, cases_lt, eq-eqb, ne_eqb}
+use Rattle.std.proofs.lemmas.Bool.{cases_Bool, cases_lt}
 use Rattle.std.proofs.lemmas.List.{length-replicate, map-append, get_or-replicate, get_or_past, replicate-append-replicate}
 use Rattle.std.proofs.lemmas.List.Sums.{sum_by-cons, sum_by-append}
 use Rattle.shm_base.specs.declared.paging.PageRef.{PageRef}
 use Rattle.shm_base.specs.declared.paging.Slot.{Slot}
-use Rattle.shm_plain.specs.Held.{is_held, pages_in, pages_held, pages_if_locked, pages_locked, relocked, with_zeros, with_lock}
+use Rattle.shm_plain.specs.Held.{is_held, pages_in, pages_held, pages_if_locked, pages_locked, with_zeros, with_lock}
 use Rattle.shm_pager.specs.Pages.{zero_page}
 use Rattle.shm_slots.specs.View.{SwapView, IsSwap, slots, owner_of}
 use Rattle.shm_frames.specs.Frame.{Frame, frame_at, IsFrameBlank}
-use Rattle.shm_fault.specs.declared.page_tables.PageRec.{PageRec}
-use Rattle.shm_fault.specs.Segs.{SegRec, no_page, rec_at, find_seg, AreApart, rec_in, rec_by, count_in, count_by_id, HasPage, with_seg_lock, new_seg, pages_of, locked_pages}
+use Rattle.shm_fault.specs.Segs.{SegRec, no_page, rec_at, find_seg, AreApart, rec_by, count_by_id, HasPage, with_seg_lock, new_seg, pages_of, locked_pages}
 use Rattle.shm_fault.specs.Store.{StoreView, page_bytes, held_by, held, fresh_store}
 use Rattle.shm_fault.specs.Sound.{IsStoreSound}
 use Rattle.shm_fault.specs.Goes.{outline, outlines}
 use Rattle.shm_fault.proofs.Entries.{apart-append, apart-edit}
-use Rattle.shm_fault.proofs.Pages.{rec-past, has-head, has-tail}
+use Rattle.shm_fault.proofs.Pages.{rec-past, has-head, has-tail, find-map}
 use Rattle.shm_fault.proofs.Ties.{tied-segs}
-use Rattle.shm_fault.proofs.Bytes.{joined, held_one, held_of, bytes_at, held-is, length-joined}
+use Rattle.shm_fault.proofs.Bytes.{held_one, held_of, bytes_at, held-is, length-joined}
 use Rattle.shm_fault.proofs.Spans.{held-in}
 use Rattle.shm_fault.proofs.Sound.{IsSound-from}
+use Rattle.std.proofs.lemmas.Bool.Decides.{nat_tests}
 
 pub sound-fresh : (frames : List Frame) (swap : SwapView) → (2 ≤ length frames) × (length frames ≤ 4096) → ((f : ℕ) → IsFrameBlank frames f) → IsSwap swap → ((k : Slot) → owner_of swap k.area k.slot ≡ None) → IsStoreSound (fresh_store frames swap)
 sound-fresh frames swap size blank is free =
@@ -33,6 +32,11 @@ sound-fresh frames swap size blank is free =
       free = λ f e. ap (λ (x : Frame). x.dirty) (blank f);
     })
     tt size is (omega (arith, size)) (omega arith) (omega (arith, size))
+
+-- a sum of what a change makes no larger
+sum-map-le : (h : SegRec → ℕ) (f : SegRec → SegRec) → ((g : SegRec) → h (f g) ≤ h g) → (gs : List SegRec) → sum_by h (map f gs) ≤ sum_by h gs
+sum-map-le h f le [] = omega arith
+sum-map-le h f le (g ∷ gs) = omega (arith, le g, sum-map-le h f le gs, sum_by-cons h (f g) (map f gs), sum_by-cons h g gs)
 
 -- pages of zeros
 more-zeros : (k n : ℕ) → replicate {A = ℕ} k 0 ++ replicate (k * n) 0 ≡ replicate (k * suc n) 0
@@ -55,14 +59,10 @@ module _ (s : StoreView) (sound : IsStoreSound s) where
       let rest = pages-list b gs apart.1 (λ r has. whole r (has-tail g gs apart r has)) in
       let size = length-joined b (record { seg = g.id; page = 0 }) (length g.pages) (λ j l. whole (record { seg = g.id; page = j }) (has-head g gs j l)) 0 (length g.pages) (omega arith) in
       let here : pages_in (held_one b (outline g)) ≡ length g.pages = omega (arith, size) in
-      let lock : pages_if_locked (held_one b (outline g)) ≡ locked_pages g = by g.locked here in (
+      let lock : pages_if_locked (held_one b (outline g)) ≡ locked_pages g = grind (arith, nat_tests, here) in (
         omega (arith, rest.0, here, sum_by-cons pages_in (held_one b (outline g)) (held_of b (outlines gs)), sum_by-cons pages_of g gs),
         omega (arith, rest.1, lock, sum_by-cons pages_if_locked (held_one b (outline g)) (held_of b (outlines gs)), sum_by-cons locked_pages g gs),
       )
-    where
-      by : (l : Bool) → length (joined b g.id 0 (length g.pages)) / 4096 ≡ length g.pages → cond l (length (joined b g.id 0 (length g.pages)) / 4096) 0 ≡ cond l (length g.pages) 0
-      by true h = h
-      by false h = refl
 
   pub pages_held-is : pages_held (held s) ≡ sum_by pages_of s.segs
   pages_held-is = ap (sum_by pages_in) (held-is s sound.apart) ∙ (pages-list (bytes_at s) s.segs sound.apart length-page).0
@@ -78,33 +78,16 @@ module _ (s : StoreView) (sound : IsStoreSound s) where
 
     find-added : (gs : List SegRec) (k : ℕ) → find_seg (gs ++ new_seg id n ∷ []) k ≡ find-or (find_seg gs k) k
     find-added [] k = refl
-    find-added (g ∷ gs) k = elim (cases_eq g.id k) [
-      | inl e ↦ rw (eq-eqb g.id k e) refl
-      | inr m ↦ rw (ne_eqb g.id k m) (find-added gs k)
-    ]
+    find-added (g ∷ gs) k = grind (arith, nat_tests, find-added gs k)
 
     blank-at : (k : ℕ) → rec_at (replicate n no_page) k ≡ no_page
-    blank-at k = elim (cases_lt k n) [
-      | inl l ↦ get_or-replicate n k no_page no_page l
-      | inr past ↦ get_or_past (replicate n no_page) k no_page (omega (arith, length-replicate n no_page))
-    ]
+    blank-at k = grind (arith, get_or-replicate n k no_page no_page, get_or_past (replicate n no_page) k no_page, length-replicate n no_page)
 
     pub rec-added : (r : PageRef) → rec_by added r ≡ rec_by s.segs r
-    rec-added r = by (find_seg s.segs r.seg) refl
-      where
-        by : (o : Option SegRec) → find_seg s.segs r.seg ≡ o → rec_by added r ≡ rec_by s.segs r
-        by (Some g) e = rw (find-added s.segs r.seg, e) refl
-        by None e = elim (cases_eq id r.seg) [
-          | inl q ↦ rw (find-added s.segs r.seg, e, eq-eqb id r.seg q) (blank-at r.page)
-          | inr m ↦ rw (find-added s.segs r.seg, e, ne_eqb id r.seg m) refl
-        ]
+    rec-added r = grind (arith, nat_tests, find-added s.segs r.seg, blank-at r.page)
 
     has-added : (r : PageRef) → HasPage s.segs r → HasPage added r
-    has-added r has = by (find_seg s.segs r.seg) refl
-      where
-        by : (o : Option SegRec) → find_seg s.segs r.seg ≡ o → HasPage added r
-        by (Some g) e = rw (find-added s.segs r.seg, e) (rw e at has)
-        by None e = absurd (let h : r.page < 0 = rw e at has in omega arith)
+    has-added r has = grind (arith, nat_tests, find-added s.segs r.seg, has)
 
     pub sound-added : sum_by pages_of s.segs + n ≤ slots s.swap → IsStoreSound (record s { segs = added })
     unfolding zero_page
@@ -118,11 +101,11 @@ module _ (s : StoreView) (sound : IsStoreSound s) where
             | inr past ↦
                 let none : rec_by added r ≡ no_page = rec-added r ∙ rec-past s.segs r past in
                 record {
-                  frame_owned = λ f e. let h : None ≡ Some f = rw none at e in cc;
+                  frame_owned = λ f e. cc (rw none at e);
                   owner_resident = λ f e. let has₂ = sound.tied.owners f r e in absurd (omega arith);
-                  slot_owned = λ k e. let h : None ≡ Some k = rw none at e in cc;
+                  slot_owned = λ k e. cc (rw none at e);
                   owner_stored = λ k e. let has₂ = sound.tied.slot_owners k r e in absurd (omega arith);
-                  clean = λ f e d. let h : None ≡ Some f = rw none at e in cc;
+                  clean = λ f e d. cc (rw none at e);
                   whole = rw none (length-replicate {A = ℕ} 4096 0);
                 }
           ];
@@ -140,38 +123,17 @@ module _ (s : StoreView) (sound : IsStoreSound s) where
 
   -- a segment is locked or unlocked
   module _ (id : ℕ) (locked : Bool) where
-    find-locked : (gs : List SegRec) (k : ℕ) → find_seg (map (with_seg_lock id locked) gs) k ≡ option_map (with_seg_lock id locked) (find_seg gs k)
-    find-locked [] k = refl
-    find-locked (g ∷ gs) k =
-        let same : (with_seg_lock id locked g).id ≡ g.id = elim (cases_Bool (eqb g.id id)) [ inl t ↦ rw t refl | inr f ↦ rw f refl ] in
-        elim (cases_eq g.id k) [
-          | inl e ↦ rw (same, eq-eqb g.id k e) refl
-          | inr m ↦ rw (same, ne_eqb g.id k m) (find-locked gs k)
-        ]
+    keeps-id : (g : SegRec) → (with_seg_lock id locked g).id ≡ g.id
+    keeps-id g = elim (cases_Bool (eqb g.id id)) [ inl t ↦ rw t refl | inr f ↦ rw f refl ]
 
     pages-locked : (g : SegRec) → (with_seg_lock id locked g).pages ≡ g.pages
     pages-locked g = elim (cases_Bool (eqb g.id id)) [ inl t ↦ rw t refl | inr f ↦ rw f refl ]
 
     pub rec-locked : (r : PageRef) → rec_by (map (with_seg_lock id locked) s.segs) r ≡ rec_by s.segs r
-    rec-locked r = rw (find-locked s.segs r.seg) (by (find_seg s.segs r.seg))
-      where
-        by : (o : Option SegRec) → rec_in (option_map (with_seg_lock id locked) o) r.page ≡ rec_in o r.page
-        by None = refl
-        by (Some g) = ap (λ (ps : List PageRec). rec_at ps r.page) (pages-locked g)
+    rec-locked r = grind (arith, nat_tests, find-map (with_seg_lock id locked) keeps-id s.segs r.seg, pages-locked)
 
     count-locked : (k : ℕ) → count_by_id (map (with_seg_lock id locked) s.segs) k ≡ count_by_id s.segs k
-    count-locked k = rw (find-locked s.segs k) (by (find_seg s.segs k))
-      where
-        by : (o : Option SegRec) → count_in (option_map (with_seg_lock id locked) o) ≡ count_in o
-        by None = refl
-        by (Some g) = ap (λ (ps : List PageRec). length ps) (pages-locked g)
-
-    sum-locked : (gs : List SegRec) → sum_by pages_of (map (with_seg_lock id locked) gs) ≡ sum_by pages_of gs
-    sum-locked [] = refl
-    sum-locked (g ∷ gs) =
-        let rest = sum-locked gs in
-        let here : pages_of (with_seg_lock id locked g) ≡ pages_of g = ap (λ (ps : List PageRec). length ps) (pages-locked g) in
-        omega (arith, rest, here, sum_by-cons pages_of (with_seg_lock id locked g) (map (with_seg_lock id locked) gs), sum_by-cons pages_of g gs)
+    count-locked k = grind (arith, nat_tests, find-map (with_seg_lock id locked) keeps-id s.segs k, pages-locked)
 
     pub sound-locked : sum_by locked_pages (map (with_seg_lock id locked) s.segs) + 2 ≤ length s.frames → IsStoreSound (record s { segs = map (with_seg_lock id locked) s.segs })
     sound-locked few =
@@ -185,29 +147,22 @@ module _ (s : StoreView) (sound : IsStoreSound s) where
           free = sound.tied.free;
         })
         (apart-edit (λ (g : SegRec). record g { locked = locked }) (λ g. refl) s.segs id sound.apart) sound.frames sound.swap sound.hand
-        (let sum = sum-locked s.segs in omega (arith, sum, sound.capacity)) few
+        (let sum = sum-map-le pages_of (with_seg_lock id locked) (λ g. rw (pages-locked g) (omega arith)) s.segs in omega (arith, sum, sound.capacity)) few
 
     held-list : (gs : List SegRec) → map (held_by s.frames s.swap) (map (with_seg_lock id locked) gs) ≡ with_lock (map (held_by s.frames s.swap) gs) id locked
     held-list [] = refl
-    held-list (g ∷ gs) =
-        let rest = held-list gs in
-        let here : held_by s.frames s.swap (with_seg_lock id locked g) ≡ relocked id locked (held_by s.frames s.swap g) = elim (cases_Bool (eqb g.id id)) [ inl t ↦ rw t refl | inr f ↦ rw f refl ] in
-        cc
+    held-list (g ∷ gs) = grind (arith, nat_tests, held-list gs)
 
     pub held-locked : held (record s { segs = map (with_seg_lock id locked) s.segs }) ≡ with_lock (held s) id locked
     unfolding held
     held-locked = held-list s.segs
 
-fewer-locked : (id : ℕ) (gs : List SegRec) → sum_by locked_pages (map (with_seg_lock id false) gs) ≤ sum_by locked_pages gs
-fewer-locked id [] = omega arith
-fewer-locked id (g ∷ gs) =
-    let rest = fewer-locked id gs in
-    let here : locked_pages (with_seg_lock id false g) ≤ locked_pages g = elim (cases_Bool (eqb g.id id)) [ inl t ↦ rw t (omega arith) | inr f ↦ rw f (omega arith) ] in
-    omega (arith, rest, here, sum_by-cons locked_pages (with_seg_lock id false g) (map (with_seg_lock id false) gs), sum_by-cons locked_pages g gs)
+fewer-locked : (id : ℕ) (g : SegRec) → locked_pages (with_seg_lock id false g) ≤ locked_pages g
+fewer-locked id g = elim (cases_Bool (eqb g.id id)) [ inl t ↦ rw t (omega arith) | inr f ↦ rw f (omega arith) ]
 
 -- locking, where the pages are few enough
 pub few-locked : (s : StoreView) → IsStoreSound s → (id : ℕ) (locked : Bool) → (locked ≡ true → pages_locked (with_lock (held s) id true) + 2 ≤ length s.frames) → sum_by locked_pages (map (with_seg_lock id locked) s.segs) + 2 ≤ length s.frames
-few-locked s sound id false few = let f = fewer-locked id s.segs in omega (arith, f, sound.locked)
+few-locked s sound id false few = let f = sum-map-le locked_pages (with_seg_lock id false) (fewer-locked id) s.segs in omega (arith, f, sound.locked)
 few-locked s sound id true few =
     let t : StoreView = record s { segs = map (with_seg_lock id true) s.segs } in
     let apart : AreApart t.segs = apart-edit (λ (g : SegRec). record g { locked = true }) (λ g. refl) s.segs id sound.apart in
@@ -218,8 +173,7 @@ few-locked s sound id true few =
     omega (arith, e, h, f)
 
 none-from : (o : Option SegRec) → is_some o ≡ false → o ≡ None
-none-from None e = refl
-none-from (Some g) e = cc
+none-from o e = grind arith
 
 -- a segment that is not held
 pub not-held : (s : StoreView) → IsStoreSound s → (id : ℕ) → is_held (held s) id ≡ false → find_seg s.segs id ≡ None

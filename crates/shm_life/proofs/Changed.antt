@@ -1,6 +1,5 @@
 -- What is kept where a segment is locked, marked or written, and where a process forks.
 use Rattle.std.proofs.Common.{◌≡◌, ℕ, ◌+◌, ◌/◌, ◌%◌, ◌≤◌, ◌&&◌, nat_lt, not, Bool, true, false, if◌then◌else◌, List, [], ◌∷◌, length, ◌≢◌, ◌⊎◌, inl, inr, slice_get, slice_set, Some, ap, refl, sym, ◌∙◌, arith, eq-eqb, true≢false}
-use Rattle.std.proofs.lemmas.Grind.{common_steps}
 use Rattle.std.specs.Prelude.{All, Option, Result, Ok, Err, OnOk, OnErr}
 use Rattle.shm_base.specs.Access.{Place}
 use Rattle.shm_base.specs.Bounds.{Bounds}
@@ -30,7 +29,8 @@ use Rattle.std.proofs.lemmas.Bool.{cases_eq}
 use Rattle.shm_life.proofs.Leaving.{orphans-among}
 use Rattle.shm_life.proofs.Pieces.{fit-set, fit-same}
 use Rattle.shm_life.proofs.Settled.{caller-fits}
-use Rattle.shm_life.proofs.Running.{true_still}
+use Rattle.shm_life.proofs.Running.{true_still, kept-by}
+use Rattle.std.proofs.lemmas.Bool.Decides.{nat_tests}
 
 -- LOCKED
 
@@ -57,15 +57,8 @@ module _ (t : List Entry) (f : Found) (found : IsFound t f) (b : Bool) where
 kept-relocked : (limits : Bounds) (t : List Entry) (rs : List Runner) (seg : ℕ) (b : Bool) → IsMachineKept limits t rs → locked (change t seg (relocked b)) ≤ limits.memlock → IsMachineKept limits (change t seg (relocked b)) rs
 kept-relocked limits t rs seg b k few =
     let same : SamePages t (change t seg (relocked b)) = change-pages (relocked b) (λ s. refl) t seg in
-    record {
-      few = omega (arith, k.few, same.size);
-      reserved = omega (arith, k.reserved, same.reserved);
-      shmall = k.shmall;
-      locked = few;
-      memlock = k.memlock;
-      pieces = fit-same t (change t seg (relocked b)) rs same k.pieces;
-      orphans = λ i h. absurd (true≢false (sym (k.orphans i (sym (change-left (relocked b) (λ s. refl) t seg rs i) ∙ h))));
-    }
+    kept-by limits t (change t seg (relocked b)) rs rs k (omega (arith, same.size)) (omega (arith, same.reserved)) few (fit-same t (change t seg (relocked b)) rs same k.pieces)
+    (λ i h. absurd (true≢false (sym (k.orphans i (sym (change-left (relocked b) (λ s. refl) t seg rs i) ∙ h)))))
 
 -- a segment locked or unlocked
 pub relocked-well : (limits : Bounds) (t : List Entry) (rs : List Runner) (ts : List Translation) (m n : StoreView) (seg : ℕ) (b : Bool) → IsWell limits t rs ts m → locked (change t seg (relocked b)) ≤ limits.memlock
@@ -75,12 +68,7 @@ relocked-well limits t rs ts m n seg b w few frames still =
 
 pub lock-few : (t : List Entry) (f : Found) (memlock : ℕ) → IsFound t f → locked t ≤ memlock → (not f.head.locked && nat_lt memlock (locked t + pages_of f.head.size)) ≡ false
     → locked (change t f.seg (relocked true)) ≤ memlock
-lock-few t f memlock found few fits = by f.head.locked refl (relocked-sum t f found true) fits
-  where
-    by : (b : Bool) → f.head.locked ≡ b → locked (change t f.seg (relocked true)) + (if b then pages_of f.head.size else 0) ≡ locked t + pages_of f.head.size
-        → (not b && nat_lt memlock (locked t + pages_of f.head.size)) ≡ false → locked (change t f.seg (relocked true)) ≤ memlock
-    by true is sum test = omega (arith, sum, few)
-    by false is sum test = let le : locked t + pages_of f.head.size ≤ memlock = grind (arith, common_steps, test) in omega (arith, sum, le)
+lock-few t f memlock found few fits = grind (arith, nat_tests, relocked-sum t f found true, few, fits)
 
 pub unlock-few : (t : List Entry) (f : Found) (memlock : ℕ) → IsFound t f → locked t ≤ memlock → locked (change t f.seg (relocked false)) ≤ memlock
 unlock-few t f memlock found few = let sum = relocked-sum t f found false in omega (arith, sum, few)
@@ -92,15 +80,8 @@ pub marked-well : (limits : Bounds) (t : List Entry) (rs : List Runner) (ts : Li
 marked-well limits t rs ts m f found w =
     let same : SamePages t (change t f.seg marked) = change-pages marked (λ s. refl) t f.seg in
     record {
-      kept = record {
-        few = omega (arith, w.kept.few, same.size);
-        reserved = omega (arith, w.kept.reserved, same.reserved);
-        shmall = w.kept.shmall;
-        locked = omega (arith, w.kept.locked, change-locked marked (λ s. refl) (λ s. refl) t f.seg);
-        memlock = w.kept.memlock;
-        pieces = fit-same t (change t f.seg marked) rs same w.kept.pieces;
-        orphans = λ i left. by i left (cases_eq (f.seg % 32768) i);
-      };
+      kept = kept-by limits t (change t f.seg marked) rs rs w.kept (omega (arith, same.size)) (omega (arith, same.reserved)) (omega (arith, w.kept.locked, change-locked marked (λ s. refl) (λ s. refl) t f.seg))
+          (fit-same t (change t f.seg marked) rs same w.kept.pieces) (λ i left. by i left (cases_eq (f.seg % 32768) i));
       frames = w.frames;
       room = w.room;
       translated = w.translated;
@@ -145,13 +126,4 @@ pub born-fits : (t : List Entry) (rs : List Runner) (k : FlatCaller) (child : Ch
 born-fits t rs k child fit own = fit-set t rs child.index (record { pid = child.pid; life = Live k.cred; pieces = k.pieces }) fit own
 
 pub forked-kept : (limits : Bounds) (t : List Entry) (rs after : List Runner) → IsMachineKept limits t rs → PiecesFit t after → ((id : ℕ) → attach_count rs id ≤ attach_count after id) → IsMachineKept limits t after
-forked-kept limits t rs after k fit more =
-    record {
-      few = k.few;
-      reserved = k.reserved;
-      shmall = k.shmall;
-      locked = k.locked;
-      memlock = k.memlock;
-      pieces = fit;
-      orphans = orphans-among [] rs after t k.orphans (λ id _. more id);
-    }
+forked-kept limits t rs after k fit more = kept-by limits t t rs after k (omega arith) (omega arith) k.locked fit (orphans-among [] rs after t k.orphans (λ id _. more id))

@@ -1,7 +1,7 @@
 -- What is kept where a segment is made.
-use Rattle.std.proofs.Common.{◌≡◌, ◌≢◌, ◌⊎◌, ℕ, zero, suc, pos, ℤ, ◌+◌, ◌*◌, ◌/◌, ◌%◌, ◌<◌, ◌≤◌, ◌==◌, ◌&&◌, nat_lt, Bool, true, false, is_none, is_some, if◌then◌else◌, List, [], ◌∷◌, ◌++◌, length, get_or, replicate, slice_get, slice_set, Option, Some, None, option_map, refl, sym, ap, ◌∙◌, inl, inr, arith, true≢false, eq-eqb, ne_eqb}
+use Rattle.std.proofs.Common.{◌≡◌, ◌≢◌, ◌⊎◌, ℕ, zero, suc, pos, ℤ, ◌+◌, ◌*◌, ◌/◌, ◌%◌, ◌<◌, ◌≤◌, ◌&&◌, nat_lt, Bool, true, false, is_none, is_some, List, [], ◌∷◌, ◌++◌, length, get_or, replicate, slice_get, slice_set, Option, Some, None, option_map, refl, sym, ap, ◌∙◌, inl, inr, arith, eq-eqb, ne_eqb}
 use Rattle.std.proofs.lemmas.Bool.{cases_eq, cases_Bool, cases_lt, lt-ltb, le-ltb}
-use Rattle.std.proofs.lemmas.Option.{none-some}
+use Rattle.std.proofs.lemmas.Option.{none-some, slice_get_past, slice_get-get_or}
 use Rattle.std.proofs.lemmas.List.{length-append, length-replicate}
 use Rattle.std.proofs.lemmas.List.Sums.{sum_by-append, sum_by-cons}
 use Rattle.shm_base.specs.Bounds.{Bounds}
@@ -10,13 +10,13 @@ use Rattle.shm_base.specs.Identifier.{identifier, free_from, free_index, destroy
 use Rattle.shm_base.specs.Segments.{pages_held, pages_locked, reserved, locked}
 use Rattle.shm_segments.specs.declared.head.Head.{Head}
 use Rattle.shm_segments.specs.Joined.{segment_of}
-use Rattle.shm_segments.specs.Table.{live, live_in, made, created}
-use Rattle.shm_segments.specs.Left.{is_left, orphan_in, orphan, id_at}
+use Rattle.shm_segments.specs.Table.{live, made, created}
 use Rattle.shm_segments.proofs.Entries.{get-set_same, get-set_other, length-slice_set, sum-set}
 use Rattle.shm_life.specs.Tied.{PieceFits}
-use Rattle.shm_life.specs.Orphans.{is_among, OrphansAmong}
+use Rattle.shm_life.specs.Orphans.{OrphansAmong}
 use Rattle.shm_life.specs.Kept.{IsMachineKept}
 use Rattle.shm_life.proofs.Pieces.{fit-table}
+use Rattle.std.proofs.lemmas.Bool.Decides.{nat_tests}
 
 -- WHAT STANDS AT A FREE INDEX
 
@@ -28,8 +28,7 @@ record FreeAt (i : ℕ) (es : List Entry) (j : ℕ) : Type 0 where
   none : (e : Entry) → slice_get es k ≡ Some e → e.segment ≡ None
 
 is-none : (o : Option Segment) (b : Bool) → is_none o && b ≡ true → o ≡ None
-is-none None b h = refl
-is-none (Some s) b h = absurd (true≢false (sym h))
+is-none o b h = grind (arith, nat_tests)
 
 free-at : (i : ℕ) (es : List Entry) (j : ℕ) → free_from i es ≡ Some j → FreeAt i es j
 free-at i [] j found =
@@ -68,11 +67,6 @@ is-free t i found =
 
 -- THE TABLE WITH A SEGMENT MORE
 
-get-past : (t : List Entry) (i : ℕ) → length t ≤ i → slice_get t i ≡ None
-get-past [] i le = refl
-get-past (x ∷ xs) zero le = absurd (omega (arith, le))
-get-past (x ∷ xs) (suc i) le = get-past xs i (omega (arith, le))
-
 get-last : (t : List Entry) (e : Entry) → slice_get (t ++ e ∷ []) (length t) ≡ Some e
 get-last [] e = refl
 get-last (x ∷ xs) e = get-last xs e
@@ -91,11 +85,6 @@ record Added (t u : List Entry) (i : ℕ) (s : Segment) : Type 0 where
   pages : reserved u ≡ reserved t + pages_in s
   locks : locked u ≡ locked t + pages_locked (Some s)
 
-get-at : (t : List Entry) (i : ℕ) → i < length t → (e : Entry) × (slice_get t i ≡ Some e)
-get-at [] i lt = absurd (omega (arith, lt))
-get-at (x ∷ xs) zero lt = (x, refl)
-get-at (x ∷ xs) (suc i) lt = get-at xs i (omega (arith, lt))
-
 added : (t : List Entry) (i : ℕ) (s : Segment) → IsFree t i → Added t (with_segment t i s) i s
 added t i s free = by (cases_eq i (length t))
   where
@@ -104,7 +93,7 @@ added t i s free = by (cases_eq i (length t))
 
     by : (i ≡ length t) ⊎ (i ≢ length t) → Added t (with_segment t i s) i s
     by (inl e) =
-        let none : destroyed_at t i ≡ 0 = ap destroyed_in (get-past t i (omega (arith, e))) in
+        let none : destroyed_at t i ≡ 0 = ap destroyed_in (slice_get_past t i (omega (arith, e))) in
         let is : with_segment t i s ≡ t ++ last ∷ [] = rw (eq-eqb i (length t) e) refl in
         let held = sum_by-append (λ (x : Entry). pages_held x.segment) t (last ∷ []) in
         let one = sum_by-cons (λ (x : Entry). pages_held x.segment) last [] in
@@ -120,18 +109,19 @@ added t i s free = by (cases_eq i (length t))
         })
     by (inr n) =
         let lt : i < length t = omega (arith, n, free.within) in
-        let x = get-at t i lt in
-        let empty : x.0.segment ≡ None = free.none x.0 x.1 in
+        let x = get_or t i last in
+        let there = slice_get-get_or t i last lt in
+        let empty : x.segment ≡ None = free.none x there in
         let put : Entry = record { destroyed = destroyed_at t i; segment = Some s } in
         let is : with_segment t i s ≡ slice_set t i put = rw (ne_eqb i (length t) n) refl in
-        let held = sum-set (λ (y : Entry). pages_held y.segment) t i put x.0 x.1 in
-        let held_locks = sum-set (λ (y : Entry). pages_locked y.segment) t i put x.0 x.1 in
-        let zero_pages : pages_held x.0.segment ≡ 0 = ap pages_held empty in
-        let zero_locks : pages_locked x.0.segment ≡ 0 = ap pages_locked empty in
+        let held = sum-set (λ (y : Entry). pages_held y.segment) t i put x there in
+        let held_locks = sum-set (λ (y : Entry). pages_locked y.segment) t i put x there in
+        let zero_pages : pages_held x.segment ≡ 0 = ap pages_held empty in
+        let zero_locks : pages_locked x.segment ≡ 0 = ap pages_locked empty in
         rw is
         (record {
           size = inl (length-slice_set t i put);
-          here = get-set_same t i put x.0 x.1;
+          here = get-set_same t i put x there;
           others = λ j m. get-set_other t i j put (λ z. m (sym z));
           pages = omega (arith, held, zero_pages);
           locks = omega (arith, held_locks, zero_locks);
@@ -142,39 +132,16 @@ added t i s free = by (cases_eq i (length t))
 module _ (t u : List Entry) (i : ℕ) (s : Segment) (a : Added t u i s) (free : IsFree t i) where
   -- what was live is live as before
   live-added : (id : ℕ) → is_some (live t id) ≡ true → live u id ≡ live t id
-  live-added id lives = by (cases_eq (id % 32768) i)
-    where
-      none_in : (b : Bool) (o : Option Segment) → o ≡ None → is_some (if b then o else None) ≡ false
-      none_in true o z = ap is_some z
-      none_in false o z = refl
-
-      gone : (o : Option Entry) → slice_get t i ≡ o → is_some (live_in id o) ≡ false
-      gone None is = refl
-      gone (Some e) is = none_in (e.destroyed == id / 32768) e.segment (free.none e is)
-
-      by : (id % 32768 ≡ i) ⊎ (id % 32768 ≢ i) → live u id ≡ live t id
-      by (inl e) = absurd (true≢false (sym lives ∙ ap (λ k. is_some (live_in id (slice_get t k))) e ∙ gone (slice_get t i) refl))
-      by (inr n) = ap (live_in id) (a.others (id % 32768) n)
+  live-added id lives = grind (arith, nat_tests, cases_eq (id % 32768) i, a.others (id % 32768), free.none)
 
   fits-added : (p : Piece) → PieceFits t p → PieceFits u p
   fits-added p h = let same = live-added p.seg h.0 in (rw same h.0, λ j lt. rw same (h.1 j lt))
 
   orphans-added : s.dest ≡ false → (rs : List Runner) → OrphansAmong [] rs t → OrphansAmong [] rs u
-  orphans-added dest rs none = λ j h. by j h (cases_eq j i)
-    where
-      unmarked : is_left rs (identifier i (destroyed_at t i)) (Some s) ≡ false
-      unmarked = rw dest refl
-
-      by : (j : ℕ) → orphan rs u j ≡ true → (j ≡ i) ⊎ (j ≢ i) → is_among [] (id_at u j) ≡ true
-      by j h (inl e) = absurd (true≢false (sym h ∙ ap (λ k. orphan_in k rs (slice_get u k)) e ∙ ap (orphan_in i rs) a.here ∙ unmarked))
-      by j h (inr n) = absurd (true≢false (sym (none j (sym (ap (orphan_in j rs) (a.others j n)) ∙ h))))
+  orphans-added dest rs none = λ j h. grind (arith, nat_tests, cases_eq j i, a.here, a.others j, dest, none j, h)
 
   few-added : length t ≤ 32768 → length u ≤ 32768
-  few-added few = by a.size
-    where
-      by : (length u ≡ length t) ⊎ (length u ≡ i + 1) → length u ≤ 32768
-      by (inl e) = omega (arith, e, few)
-      by (inr e) = let small = free.small few in omega (arith, e, small)
+  few-added few = grind (arith, a.size, free.small few, few)
 
 pages-zeros : (size : ℕ) → length {A = ℕ} (replicate (4096 * pages_of size) 0) / 4096 ≡ pages_of size
 pages-zeros size = let long : length {A = ℕ} (replicate (4096 * pages_of size) 0) ≡ 4096 * pages_of size = length-replicate (4096 * pages_of size) 0 in rw long (omega arith)

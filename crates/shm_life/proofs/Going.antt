@@ -1,11 +1,11 @@
 -- A process whose pieces go, or come: what the calls on segments need, and what is kept but for segments that
 -- lost their last piece.
-use Rattle.std.proofs.Common.{◌≡◌, ◌≤◌, ℕ, ◌+◌, ◌*◌, ◌%◌, false, List, [], ◌∷◌, zero, suc, slice_get, slice_set, Some, None, Option, option_map, refl, sym, ap, ◌∙◌}
+use Rattle.std.proofs.Common.{◌≡◌, ◌≤◌, ℕ, ◌+◌, ◌*◌, ◌%◌, false, List, [], ◌∷◌, zero, suc, slice_get, slice_set, Some, None, Option, option_map, refl, sym, ap, ◌∙◌, arith}
 use Rattle.std.proofs.lemmas.List.Elements.{All-nil}
 use Rattle.std.specs.Prelude.{All}
 use Rattle.shm_base.specs.Access.{set_in}
 use Rattle.shm_base.specs.Bounds.{Bounds}
-use Rattle.shm_base.specs.State.{Segment, Piece, Life, Live, Entry, Runner}
+use Rattle.shm_base.specs.State.{Piece, Life, Live, Entry, Runner}
 use Rattle.shm_base.specs.Space.{cut, pieces_of, origin_of, without_named}
 use Rattle.shm_base.specs.Segments.{change, with_entry, attached, detached, detach_all}
 use Rattle.shm_base.specs.Step.{segments_of}
@@ -21,6 +21,7 @@ use Rattle.shm_life.specs.Tied.{PieceFits}
 use Rattle.shm_life.specs.Orphans.{is_among}
 use Rattle.shm_life.specs.Kept.{IsMachineKept, IsKeptBut, IsWell, IsWellBut}
 use Rattle.shm_life.proofs.Leaving.{keeps-set, keeps-all, keeps-without, keeps-cut, orphans-among}
+use Rattle.shm_life.proofs.Running.{kept-by}
 use Rattle.shm_life.proofs.Pieces.{fit-set, pass-cut, pass-inserted, pass-without, piece-same}
 use Rattle.shm_life.proofs.Settled.{settled-table, caller-runner, caller-fits, lives-map, lives-cut, lives-origin}
 
@@ -45,16 +46,9 @@ module _ (limits : Bounds) (t : List Entry) (rs : List Runner) (c : Caller) (k :
   going : (life : Life) (ps : List Piece) (lost : List ℕ) → All (PieceFits t) ps → ((id : ℕ) → is_among lost id ≡ false → pieces_of id (pieces_at rs c.index) ≤ pieces_of id ps)
       → IsKeptBut lost limits t (replaced rs c life ps)
   going life ps lost fits le =
-      record {
-        few = k.few;
-        reserved = k.reserved;
-        shmall = k.shmall;
-        locked = k.locked;
-        memlock = k.memlock;
-        pieces = fit-set t rs c.index (record { pid = c.pid; life = life; pieces = ps }) k.pieces fits;
-        orphans = orphans-among lost rs (replaced rs c life ps) t k.orphans
-            (keeps-set lost rs c.index (record { pid = c.pid; life = life; pieces = ps }) (record { pid = c.pid; life = Live c.cred; pieces = pieces_at rs c.index }) (caller-runner c rs is) le);
-      }
+      let r : Runner = record { pid = c.pid; life = life; pieces = ps } in
+      kept-by limits t t rs (replaced rs c life ps) k (omega arith) (omega arith) k.locked (fit-set t rs c.index r k.pieces fits)
+      (orphans-among lost rs (replaced rs c life ps) t k.orphans (keeps-set lost rs c.index r (record { pid = c.pid; life = Live c.cred; pieces = pieces_at rs c.index }) (caller-runner c rs is) le))
 
   -- exec and exit
   pub all-go : (life : Life) → Goes limits t (replaced rs c life []) (segments_of (caller_seen c rs))
@@ -110,11 +104,7 @@ module _ (h k : Entry → Entry) (both : (e : Entry) → h (k e) ≡ k (h e)) wh
   set_in-both (x ∷ xs) (suc i) (suc j) = simp next (ap (λ es. x ∷ es) (set_in-both xs i j))
 
 attach-detach : (n pid : ℕ) (e : Entry) → with_entry (attached n pid) (with_entry (detached n pid) e) ≡ with_entry (detached n pid) (with_entry (attached n pid) e)
-attach-detach n pid e = ap (λ (o : Option Segment). record e { segment = o }) (by e.segment)
-  where
-    by : (o : Option Segment) → option_map (attached n pid) (option_map (detached n pid) o) ≡ option_map (detached n pid) (option_map (attached n pid) o)
-    by None = refl
-    by (Some s) = refl
+attach-detach n pid e = grind arith
 
 -- the attach may be noted before the detaches
 pub attached-first : (n pid : ℕ) (ids : List ℕ) (t : List Entry) (seg : ℕ) → detach_all n pid (change t seg (attached n pid)) ids ≡ change (detach_all n pid t ids) seg (attached n pid)

@@ -1,44 +1,24 @@
 -- Which segments may be left without pieces when pieces go.
-use Rattle.std.proofs.Common.{◌≡◌, ◌≢◌, ◌⊎◌, ℕ, ◌-◌, ◌≤◌, ◌==◌, ◌&&◌, true, false, not, List, [], ◌∷◌, length, map, filter, slice_get, slice_set, Option, Some, None, refl, sym, ap, ◌∙◌, inl, inr, arith, true≢false, eq-eqb, ne_eqb}
-use Rattle.std.proofs.lemmas.Bool.{cases_Bool, cases_eq}
-use Rattle.shm_base.specs.State.{Piece, Segment, Entry, Runner}
-use Rattle.shm_base.specs.Identifier.{identifier}
+use Rattle.std.proofs.Common.{◌≡◌, ℕ, ◌-◌, ◌≤◌, true, false, not, List, [], ◌∷◌, length, map, filter, slice_get, slice_set, Option, Some, refl, arith}
+use Rattle.shm_base.specs.State.{Piece, Entry, Runner}
 use Rattle.shm_base.specs.Segments.{attach_count}
 use Rattle.shm_base.specs.Space.{meets, cut, cut_segments, inserted, pieces_of, is_named, without_named}
 use Rattle.shm_attach.proofs.Processes.{one_more, shorter_filter, pieces_of-inserted, pieces_of-cut_met, pieces_of-without}
-use Rattle.shm_attach.specs.Views.{some_if}
-use Rattle.shm_segments.specs.Left.{is_left, orphan_in, id_in, id_at}
+use Rattle.shm_segments.specs.Left.{orphan_in, id_in, id_at}
 use Rattle.shm_life.specs.Orphans.{is_among, OrphansAmong}
 use Rattle.shm_segments.proofs.Entries.{sum-set}
+use Rattle.std.proofs.lemmas.Bool.Decides.{nat_tests}
 
 -- other segments keep their pieces
 abbrev pub KeepsPieces : List ℕ → List Runner → List Runner → Type 0
 KeepsPieces lost rs after = (id : ℕ) → is_among lost id ≡ false → attach_count rs id ≤ attach_count after id
 
-left-more : (rs after : List Runner) (id : ℕ) (o : Option Segment) → attach_count rs id ≤ attach_count after id → is_left after id o ≡ true → is_left rs id o ≡ true
-left-more rs after id None le h = h
-left-more rs after id (Some s) le h =
-    elim (cases_Bool s.dest) [
-      | inl d ↦ by d (cases_eq (attach_count after id) 0) (cases_eq (attach_count rs id) 0)
-      | inr d ↦ absurd (true≢false (sym h ∙ ap (λ b. b && (attach_count after id == 0)) d))
-    ]
-  where
-    by : s.dest ≡ true → (attach_count after id ≡ 0) ⊎ (attach_count after id ≢ 0) → (attach_count rs id ≡ 0) ⊎ (attach_count rs id ≢ 0) → is_left rs id (Some s) ≡ true
-    by d (inl z) (inl y) = rw (d, eq-eqb (attach_count rs id) 0 y) refl
-    by d (inl z) (inr n) = absurd (n (omega (arith, le, z)))
-    by d (inr n) y = absurd (true≢false (sym h ∙ rw (d, ne_eqb (attach_count after id) 0 n) refl))
-
 orphan-more : (rs after : List Runner) (i : ℕ) (o : Option Entry) → attach_count rs (id_in i o) ≤ attach_count after (id_in i o) → orphan_in i after o ≡ true → orphan_in i rs o ≡ true
-orphan-more rs after i None le h = h
-orphan-more rs after i (Some e) le h = left-more rs after (identifier i e.destroyed) e.segment le h
+orphan-more rs after i o le h = grind (arith, nat_tests)
 
 -- so only segments that lost pieces are left without
 pub orphans-among : (lost : List ℕ) (rs after : List Runner) (t : List Entry) → OrphansAmong [] rs t → KeepsPieces lost rs after → OrphansAmong lost after t
-orphans-among lost rs after t none keeps = λ i h.
-    elim (cases_Bool (is_among lost (id_at t i))) [
-      | inl m ↦ m
-      | inr m ↦ absurd (true≢false (sym (none i (orphan-more rs after i (slice_get t i) (keeps (id_at t i) m) h))))
-    ]
+orphans-among lost rs after t none keeps = λ i h. grind (arith, nat_tests, none i, orphan-more rs after i (slice_get t i), keeps (id_at t i), h)
 
 -- ONE PROCESS CHANGED
 
@@ -53,14 +33,7 @@ keeps-set lost rs i r x there le = λ id other. count-set rs i r x id there (le 
 -- pieces of segments that are not among these are none of these pieces
 pub not_among-map : (id : ℕ) (ps : List Piece) → is_among (map (λ (p : Piece). p.seg) ps) id ≡ false → pieces_of id ps ≡ 0
 not_among-map id [] h = refl
-not_among-map id (p ∷ ps) h =
-    elim (cases_eq p.seg id) [
-      | inl e ↦ absurd (true≢false (sym (rw (eq-eqb p.seg id e) refl) ∙ h))
-      | inr n ↦
-          let rest : pieces_of id ps ≡ 0 = not_among-map id ps (rw (ne_eqb p.seg id n) at h) in
-          let one = one_more id p ps in
-          rw (one, ne_eqb p.seg id n) (omega (arith, rest))
-    ]
+not_among-map id (p ∷ ps) h = grind (arith, nat_tests, one_more id p ps, not_among-map id ps)
 
 -- all pieces go
 pub keeps-all : (ps : List Piece) (id : ℕ) → is_among (map (λ (p : Piece). p.seg) ps) id ≡ false → pieces_of id ps ≤ pieces_of id []
@@ -79,7 +52,4 @@ pub keeps-without : (addr seg : ℕ) (ps : List Piece) (id : ℕ) → is_among (
 keeps-without addr seg ps id other =
     let le : length (without_named addr seg ps) ≤ length ps = shorter_filter (λ (q : Piece). not (is_named addr seg q)) ps in
     let a = pieces_of-without id addr seg ps (length ps - length (without_named addr seg ps)) (omega (arith, le)) in
-    elim (cases_eq seg id) [
-      | inl e ↦ absurd (true≢false (sym (rw (eq-eqb seg id e) refl) ∙ other))
-      | inr n ↦ let z : some_if id seg (length ps - length (without_named addr seg ps)) ≡ 0 = rw (ne_eqb seg id n) refl in omega (arith, a, z)
-    ]
+    grind (arith, nat_tests, a, other)

@@ -1,6 +1,5 @@
 -- Where no start error holds, swap areas and processes are as their crates ask.
-use Rattle.std.proofs.Common.{◌≡◌, ◌≢◌, ℕ, zero, suc, ◌≤◌, ◌&&◌, nat_le, nat_lt, Bool, true, false, not, if◌then◌else◌, List, [], ◌∷◌, length, map, get_or, replicate, Option, Some, None, refl, sym, ap, ◌∙◌, inl, inr, arith, true≢false, eq-eqb, ne_eqb}
-use Rattle.std.proofs.lemmas.Bool.{cases_eq, cases_lt}
+use Rattle.std.proofs.Common.{◌≡◌, ◌≢◌, ℕ, zero, suc, ◌≤◌, ◌&&◌, nat_le, nat_lt, Bool, true, false, not, if◌then◌else◌, List, [], ◌∷◌, length, map, get_or, replicate, Option, Some, None, refl, sym, ap, arith, true≢false}
 use Rattle.std.proofs.lemmas.Grind.{common_steps}
 use Rattle.std.proofs.lemmas.Option.{none-some}
 use Rattle.std.proofs.lemmas.List.Elements.{All-nil, All-map}
@@ -17,11 +16,10 @@ use Rattle.shm_pager.specs.Pages.{pager_seen}
 use Rattle.shm_slots.specs.View.{IsAreaSize, owner_of, sizes, new_swap, fresh}
 use Rattle.shm_life.specs.Start.{are_sizes, has_pid, are_pids, start_error}
 use Rattle.shm_life.proofs.Pieces.{all-cons}
+use Rattle.std.proofs.lemmas.Bool.Decides.{nat_tests}
 
 both : (a b : Bool) → a && b ≡ true → (a ≡ true) × (b ≡ true)
-both true true e = (refl, refl)
-both true false e = absurd (true≢false (sym e))
-both false b e = absurd (true≢false (sym e))
+both a b e = grind arith
 
 within-range : (low high n : ℕ) → within low high n ≡ true → (low ≤ n) × (n ≤ high)
 within-range low high n is =
@@ -50,10 +48,8 @@ all-sizes f (x ∷ xs) is =
 not_there : (pid : ℕ) (ps : List Process) → has_pid pid ps ≡ false → All (λ (q : Process). pid ≢ q.pid) ps
 not_there pid [] is = All-nil (λ (q : Process). pid ≢ q.pid)
 not_there pid (p ∷ ps) is =
-    elim (cases_eq p.pid pid) [
-      | inl e ↦ absurd (true≢false (sym (rw (eq-eqb p.pid pid e) refl) ∙ is))
-      | inr n ↦ all-cons (λ (q : Process). pid ≢ q.pid) p ps (λ e. n (sym e)) (not_there pid ps (rw (ne_eqb p.pid pid n) at is))
-    ]
+    let parts : (pid ≢ p.pid) × (has_pid pid ps ≡ false) = grind (arith, nat_tests, is) in
+    all-cons (λ (q : Process). pid ≢ q.pid) p ps parts.0 (not_there pid ps parts.1)
 
 pids-apart : (ps : List Process) → are_pids ps ≡ true → AllPairs (λ (p q : Process). p.pid ≢ q.pid) ps
 pids-apart [] is = λ i j d lt l. absurd (omega (arith, l))
@@ -63,8 +59,7 @@ pids-apart (p ∷ ps) is =
     AllPairs-cons (λ (x y : Process). x.pid ≢ y.pid) p ps (not_there p.pid ps (unsaid (has_pid p.pid ps) own.1)) (pids-apart ps first.1)
   where
     unsaid : (b : Bool) → not b ≡ true → b ≡ false
-    unsaid true e = absurd (true≢false (sym e))
-    unsaid false e = refl
+    unsaid b e = grind arith
 
 -- what a start without an error gives
 pub record IsOpen {X : Type 0} (size : X → ℕ) (pagers : List X) (ps : List Process) : Type 0 where
@@ -96,10 +91,7 @@ abbrev nobody : Option PageRef
 nobody = None
 
 none-owned : (n slot : ℕ) → get_or (replicate n nobody) slot nobody ≡ nobody
-none-owned n slot = elim (cases_lt slot n) [
-  | inl l ↦ get_or-replicate n slot nobody nobody l
-  | inr past ↦ get_or_past (replicate n nobody) slot nobody (omega (arith, past, length-replicate n nobody))
-]
+none-owned n slot = grind (arith, get_or-replicate n slot nobody nobody, get_or_past (replicate n nobody) slot nobody, length-replicate n nobody)
 
 pub owners-new : {X : Type 0} (content : X → List (List ℕ)) (failed : X → ℕ) (pagers : List X) (area slot : ℕ)
     → owner_of (new_swap (map (λ p. fresh (pager_seen content failed p)) pagers)) area slot ≡ None

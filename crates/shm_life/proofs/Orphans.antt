@@ -1,20 +1,18 @@
 -- Sweeping: destroying one orphan after another is the sweep of the whole table.
-use Rattle.std.proofs.Common.{◌≡◌, ℕ, zero, suc, ◌+◌, true, false, List, [], ◌∷◌, slice_get, slice_set, Option, Some, None, refl, sym, ap, ◌∙◌, inl, inr, arith, true≢false}
-use Rattle.std.proofs.lemmas.Bool.{cases_Bool}
+use Rattle.std.proofs.Common.{◌≡◌, ℕ, zero, suc, ◌+◌, true, false, List, [], ◌∷◌, slice_get, slice_set, Option, Some, None, refl, ap, arith}
 use Rattle.std.proofs.lemmas.Option.{none-some}
 use Rattle.shm_base.specs.State.{Segment, Entry, Runner}
 use Rattle.shm_base.specs.Identifier.{identifier}
 use Rattle.shm_base.specs.Segments.{swept_at, swept_from, swept}
-use Rattle.shm_segments.specs.Left.{is_left, orphan_in, orphan, id_at}
-use Rattle.shm_life.specs.Orphans.{is_among, OrphansAmong}
+use Rattle.shm_segments.specs.Left.{is_left, orphan_in, orphan}
+use Rattle.shm_life.specs.Orphans.{OrphansAmong}
+use Rattle.std.proofs.lemmas.Bool.Decides.{nat_tests}
 
 swept_at-none : (i : ℕ) (rs : List Runner) (d : ℕ) (o : Option Segment) → is_left rs (identifier i d) o ≡ false → swept_at i rs d o ≡ record { destroyed = d; segment = o }
-swept_at-none i rs d None h = refl
-swept_at-none i rs d (Some s) h = rw h refl
+swept_at-none i rs d o h = grind (arith, nat_tests)
 
 swept_at-left : (i : ℕ) (rs : List Runner) (d : ℕ) (o : Option Segment) → is_left rs (identifier i d) o ≡ true → swept_at i rs d o ≡ record { destroyed = d + 1; segment = None }
-swept_at-left i rs d None h = absurd (true≢false (sym h))
-swept_at-left i rs d (Some s) h = rw h refl
+swept_at-left i rs d o h = grind (arith, nat_tests)
 
 swept_from-none : (i : ℕ) (rs : List Runner) (es : List Entry) → ((k : ℕ) → orphan_in (i + k) rs (slice_get es k) ≡ false) → swept_from i rs es ≡ es
 swept_from-none i rs [] h = refl
@@ -25,15 +23,8 @@ swept_from-none i rs (e ∷ es) h =
     swept_from-none (i + 1) rs es (λ k. let s : i + suc k ≡ (i + 1) + k = omega arith in rw s at (h (suc k))) in
     rw (swept_at-none i rs e.destroyed e.segment here, rest) refl
 
-not_among-none : (id : ℕ) → is_among [] id ≡ false
-not_among-none id = refl
-
 no-orphan : (rs : List Runner) (t : List Entry) → OrphansAmong [] rs t → (i : ℕ) → orphan rs t i ≡ false
-no-orphan rs t none i =
-    elim (cases_Bool (orphan rs t i)) [
-      | inl h ↦ absurd (true≢false (sym (none i h) ∙ not_among-none (id_at t i)))
-      | inr h ↦ h
-    ]
+no-orphan rs t none i = grind (arith, none i)
 
 -- where there is none, a sweep changes nothing
 pub swept-none : (rs : List Runner) (t : List Entry) → OrphansAmong [] rs t → swept rs t ≡ t

@@ -20,15 +20,13 @@ use Rattle.shm_segments.specs.View.{ShowsTable, as_held}
 use Rattle.shm_segments.proofs.Entries.{get-set_other, sum-set}
 use Rattle.shm_segments.proofs.Held.{sum-without}
 use Rattle.shm_plain.proofs.Found.{find-without_other}
+use Rattle.std.proofs.lemmas.Bool.Decides.{nat_tests}
 
 -- no identifier stands twice in the memory
 
 found : (m : StoreView) (gs : List SegRec) (id : ℕ) → is_held (map (held_by m.frames m.swap) gs) id ≡ is_some (find_seg gs id)
 found m [] id = refl
-found m (g ∷ gs) id = elim (cases_eq g.id id) [
-  | inl e ↦ rw (eq-eqb g.id id e) refl
-  | inr n ↦ rw (ne_eqb g.id id n) (found m gs id)
-]
+found m (g ∷ gs) id = grind (arith, nat_tests, found m gs id)
 
 apart-all : (m : StoreView) (gs : List SegRec) → segs.AreApart gs → AreHeldApart (map (held_by m.frames m.swap) gs)
 apart-all m [] apart = tt
@@ -47,12 +45,6 @@ NoMore hs t = (id : ℕ) (g : Held) → find_held hs id ≡ Some g → pages_in 
 -- the table without what stands at an identifier's index
 abbrev emptied : List Entry → ℕ → List Entry
 emptied t id = slice_set t (id % 32768) (record { destroyed = id / 32768; segment = None })
-
-not-there : (id i : ℕ) (o : Option Entry) → o ≡ Some (record { destroyed = i; segment = None }) → pages_held (live_in id o) ≡ 0
-not-there id i o is = elim (cases_eq i (id / 32768)) [
-  | inl e ↦ rw (is, eq-eqb i (id / 32768) e) refl
-  | inr n ↦ rw (is, ne_eqb i (id / 32768) n) refl
-]
 
 -- where a segment is live, the table without it has so many pages less, and the others stay
 pub record Emptied (t u : List Entry) (id n : ℕ) : Type 0 where

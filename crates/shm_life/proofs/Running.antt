@@ -1,5 +1,5 @@
 -- What calls keep of the memory.
-use Rattle.std.proofs.Common.{◌≡◌, ◌<◌, ◌+◌, ℕ, suc, true, false, List, [], ◌∷◌, length, drop, get_or, refl, sym, subst, ◌∙◌, arith, true≢false}
+use Rattle.std.proofs.Common.{◌≡◌, ◌<◌, ◌+◌, ℕ, suc, true, false, List, [], ◌∷◌, length, drop, get_or, refl, sym, subst, ◌∙◌, arith, true≢false, ◌≤◌}
 use Rattle.std.proofs.Math.Seq.{drop-cons}
 use Rattle.std.specs.Prelude.{Result, Ok, Err, is_ok, is_err, OnOk, OnErr}
 use Rattle.shm_base.specs.Bounds.{Bounds}
@@ -9,9 +9,11 @@ use Rattle.shm_fault.specs.Store.{StoreView, frame_of}
 use Rattle.shm_fault.proofs.Sound.{GoesOn-refl}
 use Rattle.shm_attach.specs.Spaces.{Translation, AreTrue}
 use Rattle.shm_segments.specs.View.{Runs}
-use Rattle.shm_life.specs.Kept.{IsWell, IsWellBut}
+use Rattle.shm_life.specs.Kept.{IsWell, IsWellBut, IsKeptBut}
 use Rattle.shm_life.specs.MachineView.{KeepsOn}
 use Rattle.shm_life.specs.Orphans.{OrphansAmong, Sweeps}
+use Rattle.shm_life.specs.Tied.{PiecesFit}
+use Rattle.shm_base.specs.Segments.{reserved, locked}
 
 pub keeps_refl : (m : StoreView) → KeepsOn m m
 keeps_refl m = record { kept = λ seg page a b e. e; goes_on = GoesOn-refl m.swap }
@@ -42,19 +44,24 @@ sweeps-trans rs a b c p q = record {
 pub sweeps-none : (rs : List Runner) (a : List Entry) → Sweeps rs a a
 sweeps-none rs a = record { swept = refl; size = refl; reserved = omega arith; locked = omega arith; pieces = λ fit. fit }
 
+-- another table and other processes, where nothing grows past its bound
+pub kept-by : {lost more : List ℕ} (limits : Bounds) (t u : List Entry) (rs after : List Runner) → IsKeptBut lost limits t rs → length u ≤ length t → reserved u ≤ reserved t → locked u ≤ limits.memlock → PiecesFit u after → OrphansAmong more after u
+    → IsKeptBut more limits u after
+kept-by limits t u rs after k few_entries few_pages few_locked pieces orphans = record {
+  few = omega (arith, k.few, few_entries);
+  reserved = omega (arith, k.reserved, few_pages);
+  shmall = k.shmall;
+  locked = few_locked;
+  memlock = k.memlock;
+  pieces = pieces;
+  orphans = orphans;
+}
+
 -- once no orphan is left, all is as it was
 pub swept-well : {lost : List ℕ} (limits : Bounds) (rs : List Runner) (ts : List Translation) (t u : List Entry) (m n : StoreView) → SweptTo rs ts t u m n → OrphansAmong [] rs u
     → IsWellBut lost limits t rs ts m → IsWell limits u rs ts n
 swept-well limits rs ts t u m n d none w = record {
-  kept = record {
-    few = omega (arith, w.kept.few, d.sweeps.size);
-    reserved = omega (arith, w.kept.reserved, d.sweeps.reserved);
-    shmall = w.kept.shmall;
-    locked = omega (arith, w.kept.locked, d.sweeps.locked);
-    memlock = w.kept.memlock;
-    pieces = d.sweeps.pieces w.kept.pieces;
-    orphans = none;
-  };
+  kept = kept-by limits t u rs rs w.kept (omega (arith, d.sweeps.size)) (omega (arith, d.sweeps.reserved)) (omega (arith, w.kept.locked, d.sweeps.locked)) (d.sweeps.pieces w.kept.pieces) none;
   frames = d.runs.frames ∙ w.frames;
   room = w.room;
   translated = d.translated w.translated;

@@ -8,6 +8,8 @@ use Rattle.shm_base.specs.Bounds.{Bounds}
 use Rattle.shm_base.specs.State.{Piece, Live, Entry, Runner}
 use Rattle.shm_base.specs.Space.{meets, cut_segments, has_origin, origin_of}
 use Rattle.shm_fault.specs.Store.{StoreView}
+use Rattle.shm_fault.specs.declared.touched.Move.{Move}
+use Rattle.shm_fault.specs.Steps.{Moves}
 use Rattle.shm_attach.specs.declared.process.Caller.{Caller}
 use Rattle.shm_attach.specs.Spaces.{Translation, AreTrue, IsCaller, pieces_at}
 use Rattle.shm_attach.proofs.Callers.{caller_there}
@@ -17,7 +19,8 @@ use Rattle.shm_base.specs.Segments.{change, detached, detach_all}
 use Rattle.shm_segments.proofs.Same.{SameTable, detach_all-same}
 use Rattle.shm_life.specs.Tied.{PieceFits, PiecesFit}
 use Rattle.shm_life.specs.Orphans.{is_among, OrphansAmong}
-use Rattle.shm_life.specs.Kept.{IsKeptBut, IsWellBut}
+use Rattle.shm_life.specs.Kept.{IsKeptBut, IsWellBut, IsWell}
+use Rattle.shm_life.proofs.Running.{kept-by}
 use Rattle.shm_life.proofs.Pieces.{RunnerFits, all-cons, all-head, all-tail, all-at, fit-same}
 
 pub orphans-same : (ids : List ℕ) (rs : List Runner) (t u : List Entry) → ((qs : List Runner) (i : ℕ) → orphan qs u i ≡ orphan qs t i) → ((i : ℕ) → id_at u i ≡ id_at t i) → OrphansAmong ids rs t → OrphansAmong ids rs u
@@ -26,20 +29,17 @@ orphans-same ids rs t u left own among = λ i h. ap (is_among ids) (own i) ∙ a
 -- where no piece goes
 pub settled-table : {lost : List ℕ} (limits : Bounds) (t u : List Entry) (rs : List Runner) → IsKeptBut lost limits t rs → SameTable t u → IsKeptBut lost limits u rs
 settled-table {lost} limits t u rs k same =
-    record {
-      few = omega (arith, k.few, same.same.size);
-      reserved = omega (arith, k.reserved, same.same.reserved);
-      shmall = k.shmall;
-      locked = omega (arith, k.locked, same.locked);
-      memlock = k.memlock;
-      pieces = fit-same t u rs same.same k.pieces;
-      orphans = orphans-same lost rs t u same.left same.same.ids k.orphans;
-    }
+    kept-by limits t u rs rs k (omega (arith, same.same.size)) (omega (arith, same.same.reserved)) (omega (arith, k.locked, same.locked)) (fit-same t u rs same.same k.pieces) (orphans-same lost rs t u same.left same.same.ids k.orphans)
 
 -- nor the memory loses a frame
 pub still-well : {lost : List ℕ} (limits : Bounds) (t u : List Entry) (rs : List Runner) (ts us : List Translation) (m n : StoreView) → IsWellBut lost limits t rs ts m → SameTable t u
     → length n.frames ≡ length m.frames → AreTrue us n → IsWellBut lost limits u rs us n
 still-well limits t u rs ts us m n w same frames all = record { kept = settled-table limits t u rs w.kept same; frames = frames ∙ w.frames; room = w.room; translated = all }
+
+-- nor an access, whose moves were noted
+pub noted-well : (limits : Bounds) (t u : List Entry) (rs after : List Runner) (ts us : List Translation) (m n : StoreView) (ms : List Move) → IsWell limits t rs ts m → SameTable t u → length n.frames ≡ length m.frames
+    → after ≡ rs → ((a b : StoreView) → AreTrue ts a → Moves ms a b → AreTrue us b) → Moves ms m n → IsWell limits u after us n
+noted-well limits t u rs after ts us m n ms w same frames runners noted moved = rw runners (still-well limits t u rs ts us m n w same frames (noted m n w.translated moved))
 
 -- WHAT PIECES NAME IS LIVE
 

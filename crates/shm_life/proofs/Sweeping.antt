@@ -1,9 +1,9 @@
 -- One segment destroyed in a sweep, or left where it is no orphan.
-use Rattle.std.proofs.Common.{◌≡◌, ◌≢◌, ◌⊎◌, ℕ, zero, suc, ◌+◌, ◌/◌, ◌%◌, ◌<◌, ◌≤◌, ◌==◌, ◌&&◌, Bool, true, false, List, [], ◌∷◌, length, get_or, slice_get, Option, Some, None, refl, sym, ap, ◌∙◌, inl, inr, arith, true≢false, eq-eqb, ne_eqb, eqb-true}
+use Rattle.std.proofs.Common.{◌≡◌, ◌≢◌, ◌⊎◌, ℕ, ◌+◌, ◌/◌, ◌%◌, ◌<◌, ◌≤◌, ◌==◌, ◌&&◌, Bool, true, false, List, ◌∷◌, length, get_or, slice_get, Option, Some, None, refl, sym, ap, ◌∙◌, inl, inr, arith, true≢false, ne_eqb}
 use Rattle.std.proofs.lemmas.Bool.{cases_eq}
-use Rattle.std.proofs.lemmas.Option.{slice_get_within}
-use Rattle.std.proofs.lemmas.List.Sums.{sum_by-cons}
-use Rattle.std.specs.Prelude.{is_some, sum_by}
+use Rattle.std.proofs.lemmas.Option.{slice_get_past}
+use Rattle.std.proofs.lemmas.List.Sums.{get_or-le-sum_by}
+use Rattle.std.specs.Prelude.{is_some}
 use Rattle.shm_base.specs.State.{Segment, Piece, Entry, Runner}
 use Rattle.shm_base.specs.Identifier.{identifier}
 use Rattle.shm_base.specs.Segments.{attach_count, pages_held, pages_locked}
@@ -16,26 +16,15 @@ use Rattle.shm_life.specs.Tied.{PieceFits}
 use Rattle.shm_life.specs.Orphans.{is_among, OrphansAmong, Sweeps}
 use Rattle.shm_life.proofs.Orphans.{swept-destroyed}
 use Rattle.shm_life.proofs.Pieces.{fit-table}
+use Rattle.std.proofs.lemmas.Bool.Decides.{nat_tests}
 
 -- WHERE AN ORPHAN STANDS
 
 orphan-index : (rs : List Runner) (t : List Entry) (i : ℕ) → length t ≤ 32768 → orphan rs t i ≡ true → i < 32768
-orphan-index rs t i few h = by (slice_get t i) refl h
-  where
-    by : (o : Option Entry) → slice_get t i ≡ o → orphan_in i rs o ≡ true → i < 32768
-    by None is left = absurd (true≢false (sym left))
-    by (Some e) is left = let lt = slice_get_within t i e is in omega (arith, lt, few)
+orphan-index rs t i few h = grind (arith, nat_tests, slice_get_past t i, few, h)
 
 own_left : (rs : List Runner) (t : List Entry) (seg i : ℕ) → i < 32768 → orphan rs t i ≡ true → id_at t i ≡ seg → is_left rs seg (live t seg) ≡ true
-own_left rs t seg i small h own = by (slice_get t i) refl h own
-  where
-    by : (o : Option Entry) → slice_get t i ≡ o → orphan_in i rs o ≡ true → id_in i o ≡ seg → is_left rs seg (live t seg) ≡ true
-    by None is left id = absurd (true≢false (sym left))
-    by (Some e) is left id =
-        let index : seg % 32768 ≡ i = omega (arith, id, small) in
-        let sequence : e.destroyed ≡ seg / 32768 = omega (arith, id, small) in
-        let there : live t seg ≡ e.segment = ap (λ k. live_in seg (slice_get t k)) index ∙ ap (live_in seg) is ∙ rw (eq-eqb e.destroyed (seg / 32768) sequence) refl in
-        rw (there, ← id) left
+own_left rs t seg i small h own = grind (arith, nat_tests, small, h, own)
 
 -- a segment that is no orphan need not be among them
 pub fewer-left : (rs : List Runner) (t : List Entry) (seg : ℕ) (rest : List ℕ) → length t ≤ 32768 → is_left rs seg (live t seg) ≡ false → OrphansAmong (seg ∷ rest) rs t → OrphansAmong rest rs t
@@ -92,16 +81,11 @@ module _ (t : List Entry) (seg : ℕ) (x : Entry) (there : slice_get t (seg % 32
       let same = live-destroyed p.seg other h.0 in
       (rw same h.0, λ j lt. rw same (h.1 j lt))
 
-sum_member : {X : Type 0} (f : X → ℕ) (xs : List X) (k : ℕ) (d : X) → k < length xs → f (get_or xs k d) ≤ sum_by f xs
-sum_member f [] k d lt = absurd (omega (arith, lt))
-sum_member f (x ∷ xs) zero d lt = let a = sum_by-cons f x xs in omega (arith, a)
-sum_member f (x ∷ xs) (suc k) d lt = let a = sum_by-cons f x xs in let b = sum_member f xs k d (omega (arith, lt)) in omega (arith, a, b)
-
 -- no piece names a segment that has no piece
 unnamed : (rs : List Runner) (seg : ℕ) → attach_count rs seg ≡ 0 → (k : ℕ) (d : Runner) (i : ℕ) (e : Piece) → k < length rs → i < length (get_or rs k d).pieces → (get_or (get_or rs k d).pieces i e).seg ≢ seg
 unnamed rs seg none k d i e lt li is =
     let some : 1 ≤ pieces_of (get_or (get_or rs k d).pieces i e).seg (get_or rs k d).pieces = pieces_of-there i (get_or rs k d).pieces e li in
-    let few = sum_member (λ (r : Runner). pieces_of seg r.pieces) rs k d lt in
+    let few = get_or-le-sum_by (λ (r : Runner). pieces_of seg r.pieces) rs k d lt in
     let own : 1 ≤ pieces_of seg (get_or rs k d).pieces = rw is at some in
     absurd (omega (arith, own, few, none))
 
@@ -124,5 +108,4 @@ sweeps-destroyed rs t seg s there dest none =
 
 -- a mark, and no piece
 pub left-parts : (dest : Bool) (n : ℕ) → dest && (n == 0) ≡ true → (dest ≡ true) × (n ≡ 0)
-left-parts true n h = (refl, eqb-true n 0 h)
-left-parts false n h = absurd (true≢false (sym h))
+left-parts dest n h = grind (arith, nat_tests)

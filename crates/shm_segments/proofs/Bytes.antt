@@ -1,15 +1,16 @@
 -- Bytes by place and bytes by stretch.
 use Rattle.std.proofs.Common.{◌≡◌, ◌≢◌, ℕ, zero, suc, ◌+◌, ◌<◌, ◌≤◌, ◌==◌, if◌then◌else◌, Bool, true, List, [], ◌∷◌, ◌++◌, length, get_or, set, take, drop, map, refl, sym, ap, ◌∙◌, arith, inl, inr, length-set, append_assoc, append-nil}
-use Rattle.std.proofs.lemmas.List.{take-append-drop, drop_more, map-append}
+use Rattle.std.proofs.lemmas.List.{take-append-drop, drop_more, map-append, drop-set-lt}
 use Rattle.std.proofs.lemmas.List.Sums.{sum_by-cons}
 use Rattle.std.proofs.lemmas.Grind.{common_steps, take-set_at}
-use Rattle.std.proofs.lemmas.Bool.Decides.{eqb_tells}
+use Rattle.std.proofs.lemmas.Bool.Decides.{eqb_tells, nat_tests}
 use Rattle.std.specs.Prelude.{slice_set, slice_index, sum_by, All}
 use Rattle.shm_base.specs.Access.{Place}
 use Rattle.shm_base.specs.declared.paging.Span.{Span}
 use Rattle.shm_base.specs.Spans.{run, span_places}
 use Rattle.shm_plain.specs.Held.{Held, bytes_of, is_held, paste, pasted, written, FitsPage, span_bytes, read_from}
 use Rattle.shm_plain.proofs.Pasted.{bytes_of-pasted_same, bytes_of-pasted_other, fits-pasted}
+use Rattle.std.proofs.lemmas.Bool.{cases_eq}
 
 -- BYTES BY PLACE
 
@@ -35,20 +36,11 @@ SameBytes hs gs = (id : ℕ) → bytes_of gs id ≡ bytes_of hs id
 
 pub bytes_of-put_same : (hs : List Held) (p : Place) (b : ℕ) → bytes_of (put hs p b) p.seg ≡ set (bytes_of hs p.seg) p.at b
 bytes_of-put_same [] p b = refl
-bytes_of-put_same (g ∷ gs) p b = elim (eqb_tells g.id p.seg) [
-  | inl w ↦ rw (w.0, w.0) refl
-  | inr w ↦ rw (w.0, w.0) (bytes_of-put_same gs p b)
-]
+bytes_of-put_same (g ∷ gs) p b = grind (arith, nat_tests, bytes_of-put_same gs p b)
 
 pub bytes_of-put_other : (hs : List Held) (p : Place) (b id : ℕ) → id ≢ p.seg → bytes_of (put hs p b) id ≡ bytes_of hs id
 bytes_of-put_other [] p b id ne = refl
-bytes_of-put_other (g ∷ gs) p b id ne = elim (eqb_tells g.id id) [
-  | inl w ↦ elim (eqb_tells g.id p.seg) [ inl v ↦ absurd (ne (sym w.1 ∙ v.1)) | inr v ↦ rw (v.0, w.0) refl ]
-  | inr w ↦ elim (eqb_tells g.id p.seg) [
-    | inl v ↦ rw (v.0, w.0) (bytes_of-put_other gs p b id ne)
-    | inr v ↦ rw (v.0, w.0) (bytes_of-put_other gs p b id ne)
-  ]
-]
+bytes_of-put_other (g ∷ gs) p b id ne = grind (arith, nat_tests, bytes_of-put_other gs p b id ne)
 
 -- BYTES ONE AFTER ANOTHER ARE A STRETCH
 
@@ -56,24 +48,11 @@ abbrev sets : List ℕ → ℕ → List ℕ → List ℕ
 sets xs at [] = xs
 sets xs at (b ∷ bs) = sets (set xs at b) (at + 1) bs
 
-drop-set_past : (xs : List ℕ) (i n : ℕ) (y : ℕ) → i < n → drop n (set xs i y) ≡ drop n xs
-drop-set_past [] i n y lt = refl
-drop-set_past (x ∷ xs) zero zero y lt = absurd (omega arith)
-drop-set_past (x ∷ xs) zero (suc n) y lt = refl
-drop-set_past (x ∷ xs) (suc i) zero y lt = absurd (omega arith)
-drop-set_past (x ∷ xs) (suc i) (suc n) y lt = drop-set_past xs i n y (omega arith)
-
 paste-set : (xs : List ℕ) (at b : ℕ) (bs : List ℕ) → at < length xs → paste (set xs at b) (at + 1) bs ≡ paste xs at (b ∷ bs)
-paste-set xs at b bs lt =
-    let t : take (at + 1) (set xs at b) ≡ take at xs ++ b ∷ [] = take-set_at xs at (at + 1) b refl lt in
-    let d = drop-set_past xs at (at + 1 + length bs) b (omega arith) in
-    let n : at + 1 + length bs ≡ at + suc (length bs) = omega arith in
-    rw (t, d, n) (ap (λ l. l ++ drop (at + suc (length bs)) xs) (append_assoc (take at xs) (b ∷ []) bs))
+paste-set xs at b bs lt = grind (arith, common_steps, take-set_at xs at (at + 1) b refl lt, drop-set-lt (at + 1 + length bs) xs at b, append_assoc)
 
 paste-none : (xs : List ℕ) (at : ℕ) → xs ≡ paste xs at []
-paste-none xs at =
-    let z : at + 0 ≡ at = omega arith in
-    rw (z, append-nil (take at xs)) (sym (take-append-drop at xs))
+paste-none xs at = grind (arith, append-nil, take-append-drop)
 
 sets-paste : (bs xs : List ℕ) (at : ℕ) → at + length bs ≤ length xs → sets xs at bs ≡ paste xs at bs
 sets-paste [] xs at le = paste-none xs at
@@ -117,10 +96,7 @@ puts-append hs (p ∷ ps) (q ∷ qs) [] = refl
 puts-append hs (p ∷ ps) qs (b ∷ bs) = puts-append (put hs p b) ps qs bs
 
 same-put : (hs gs : List Held) (p : Place) (b : ℕ) → SameBytes hs gs → SameBytes (put hs p b) (put gs p b)
-same-put hs gs p b h id = elim (eqb_tells id p.seg) [
-  | inl w ↦ rw w.1 (bytes_of-put_same gs p b ∙ ap (λ xs. set xs p.at b) (h p.seg) ∙ sym (bytes_of-put_same hs p b))
-  | inr w ↦ bytes_of-put_other gs p b id w.1 ∙ h id ∙ sym (bytes_of-put_other hs p b id w.1)
-]
+same-put hs gs p b h id = grind (arith, nat_tests, cases_eq id p.seg, bytes_of-put_same gs p b, bytes_of-put_same hs p b, h p.seg, h id, bytes_of-put_other gs p b id, bytes_of-put_other hs p b id)
 
 same-puts : (ps : List Place) (bs : List ℕ) (hs gs : List Held) → SameBytes hs gs → SameBytes (puts hs ps bs) (puts gs ps bs)
 same-puts [] bs hs gs h = h

@@ -1,7 +1,7 @@
 -- Rows that change, as the flat machine's table shows them.
-use Rattle.std.proofs.Common.{◌≡◌, ◌≢◌, ℕ, ◌*◌, ◌%◌, ◌==◌, if◌then◌else◌, Bool, pos, List, [], ◌∷◌, set, Some, None, option_map, Ok, refl, sym, ap, ◌∙◌, arith, inl, inr, eq-eqb, ne_eqb, length-set}
+use Rattle.std.proofs.Common.{◌≡◌, ◌≢◌, ℕ, ◌*◌, ◌%◌, Bool, pos, List, [], ◌∷◌, set, Some, option_map, Ok, refl, sym, ap, ◌∙◌, arith, inl, inr, eq-eqb, length-set}
 use Rattle.std.proofs.lemmas.Bool.{cases_eq}
-use Rattle.std.proofs.lemmas.Bool.Decides.{eqb_tells}
+use Rattle.std.proofs.lemmas.Bool.Decides.{nat_tests}
 use Rattle.shm_base.specs.State.{Segment, pages_of}
 use Rattle.shm_base.specs.Segments.{change}
 use Rattle.shm_ids.specs.declared.table.Entry.{Entry}
@@ -52,21 +52,13 @@ joined-other hs rows id r s f there same =
 pub live-other_same : (rows : List (Entry Head)) (id : ℕ) (r s : Row Head) → live rows id ≡ Some r → live (with_other rows id s) id ≡ Some s
 live-other_same rows id r s there =
     let l = live-at rows id r there in
-    let e : Entry Head = entry_at rows (id % 32768) in
-    rw (at_set rows (id % 32768) (record e { row = Some s }) l.within, eq-eqb (identifier (id % 32768) e.destroyed) id l.own) refl
+    grind (arith, nat_tests, at_set rows (id % 32768) (record (entry_at rows (id % 32768)) { row = Some s }) l.within, l.own)
 
 pub live-other : (rows : List (Entry Head)) (id at : ℕ) (r s : Row Head) → live rows id ≡ Some r → at ≢ id → live (with_other rows id s) at ≡ live rows at
 live-other rows id at r s there apart =
     let l = live-at rows id r there in
-    let e : Entry Head = entry_at rows (id % 32768) in
-    let x : Entry Head = record e { row = Some s } in
-    elim (cases_eq (at % 32768) (id % 32768)) [
-      | inl here ↦
-          (let other : identifier (id % 32768) e.destroyed ≢ at = λ is. apart (sym is ∙ l.own) in
-          rw (here, at_set rows (id % 32768) x l.within, ne_eqb (identifier (id % 32768) e.destroyed) at other) refl)
-      | inr away ↦
-          ap (λ (y : Entry Head). if identifier (at % 32768) y.destroyed == at then y.row else None) (at_set_other rows (id % 32768) (at % 32768) x away)
-    ]
+    let x : Entry Head = record (entry_at rows (id % 32768)) { row = Some s } in
+    grind (arith, nat_tests, cases_eq (at % 32768) (id % 32768), at_set rows (id % 32768) x l.within, at_set_other rows (id % 32768) (at % 32768) x, l.own, apart)
 
 -- a row of the same lock and pages
 pub agree-other : (hs : List Held) (rows : List (Entry Head)) (id : ℕ) (r s : Row Head) → Agree hs rows → live rows id ≡ Some r → shape_row s ≡ shape_row r → Agree hs (with_other rows id s)
@@ -82,26 +74,6 @@ agree-other hs rows id r s agree there same =
       | inr apart ↦ ap (option_map shape_row) (sym (live-other rows id at r s there apart))
     ]
 
--- A HEAD OR A KEY CHANGED
-
-pub joined-with_value : (hs : List Held) (rows : List (Entry Head)) (id : ℕ) (r : Row Head) (v : Head) (f : Segment → Segment) → live rows id ≡ Some r
-    → f (whole hs id r) ≡ whole hs id (record r { value = v }) → joined hs (with_value rows (id % 32768) v) ≡ change (joined hs rows) id f
-joined-with_value hs rows id r v f there same = ap (joined hs) (other-value rows id r v there) ∙ joined-other hs rows id r (record r { value = v }) f there same
-
-pub joined-with_both : (hs : List Held) (rows : List (Entry Head)) (id : ℕ) (r : Row Head) (key : ℕ) (v : Head) (f : Segment → Segment) → live rows id ≡ Some r
-    → f (whole hs id r) ≡ whole hs id (record { key = key; value = v }) → joined hs (with_key (with_value rows (id % 32768) v) (id % 32768) key) ≡ change (joined hs rows) id f
-joined-with_both hs rows id r key v f there same = ap (joined hs) (other-both rows id r key v there) ∙ joined-other hs rows id r (record { key = key; value = v }) f there same
-
-pub agree-with_value : (hs : List Held) (rows : List (Entry Head)) (id : ℕ) (r : Row Head) (v : Head) → Agree hs rows → live rows id ≡ Some r → v.size ≡ r.value.size → v.locked ≡ r.value.locked
-    → Agree hs (with_value rows (id % 32768) v)
-agree-with_value hs rows id r v agree there size lock =
-    rw (other-value rows id r v there) (agree-other hs rows id r (record r { value = v }) agree there cc)
-
-pub agree-with_both : (hs : List Held) (rows : List (Entry Head)) (id : ℕ) (r : Row Head) (key : ℕ) (v : Head) → Agree hs rows → live rows id ≡ Some r → v.size ≡ r.value.size → v.locked ≡ r.value.locked
-    → Agree hs (with_key (with_value rows (id % 32768) v) (id % 32768) key)
-agree-with_both hs rows id r key v agree there size lock =
-    rw (other-both rows id r key v there) (agree-other hs rows id r (record { key = key; value = v }) agree there cc)
-
 -- A LOCK SET
 
 -- the table shows the row's lock and not the store's
@@ -113,30 +85,19 @@ relock b s = record s { locked = b }
 
 shape-lock_same : (hs : List Held) (id : ℕ) (b : Bool) → option_map shape_held (find_held (with_lock hs id b) id) ≡ option_map (relock b) (option_map shape_held (find_held hs id))
 shape-lock_same [] id b = refl
-shape-lock_same (g ∷ gs) id b = elim (eqb_tells g.id id) [
-  | inl w ↦ rw (w.0, w.0) refl
-  | inr w ↦ rw (w.0, w.0) (shape-lock_same gs id b)
-]
+shape-lock_same (g ∷ gs) id b = grind (arith, nat_tests, shape-lock_same gs id b)
 
 shape-lock_other : (hs : List Held) (id : ℕ) (b : Bool) (at : ℕ) → at ≢ id → option_map shape_held (find_held (with_lock hs id b) at) ≡ option_map shape_held (find_held hs at)
 shape-lock_other [] id b at apart = refl
-shape-lock_other (g ∷ gs) id b at apart = elim (eqb_tells g.id at) [
-  | inl w ↦ elim (eqb_tells g.id id) [ inl v ↦ absurd (apart (sym w.1 ∙ v.1)) | inr v ↦ rw (v.0, w.0) refl ]
-  | inr w ↦ elim (eqb_tells g.id id) [
-    | inl v ↦ rw (v.0, w.0) (shape-lock_other gs id b at apart)
-    | inr v ↦ rw (v.0, w.0) (shape-lock_other gs id b at apart)
-  ]
-]
+shape-lock_other (g ∷ gs) id b at apart = grind (arith, nat_tests, shape-lock_other gs id b at apart)
 
 -- a row locked or unlocked, and so what is held
 pub agree-lock : (hs : List Held) (rows : List (Entry Head)) (id : ℕ) (r : Row Head) (v : Head) → Agree hs rows → live rows id ≡ Some r → v.size ≡ r.value.size
-    → Agree (with_lock hs id v.locked) (with_value rows (id % 32768) v)
-agree-lock hs rows id r v agree there size =
-    rw (other-value rows id r v there)
-    (record {
-      few = omega (arith, agree.few, length-set rows (id % 32768) (record (entry_at rows (id % 32768)) { row = Some s }));
-      same = shown;
-    })
+    → Agree (with_lock hs id v.locked) (with_other rows id (record r { value = v }))
+agree-lock hs rows id r v agree there size = record {
+  few = omega (arith, agree.few, length-set rows (id % 32768) (record (entry_at rows (id % 32768)) { row = Some s }));
+  same = shown;
+}
   where
     s : Row Head
     s = record r { value = v }
@@ -155,5 +116,5 @@ agree-lock hs rows id r v agree there size =
     ]
 
 pub joined-locked : (hs : List Held) (rows : List (Entry Head)) (id : ℕ) (r : Row Head) (v : Head) (f : Segment → Segment) → live rows id ≡ Some r
-    → f (whole hs id r) ≡ whole hs id (record r { value = v }) → joined (with_lock hs id v.locked) (with_value rows (id % 32768) v) ≡ change (joined hs rows) id f
-joined-locked hs rows id r v f there same = joined-lock hs (with_value rows (id % 32768) v) id v.locked ∙ joined-with_value hs rows id r v f there same
+    → f (whole hs id r) ≡ whole hs id (record r { value = v }) → joined (with_lock hs id v.locked) (with_other rows id (record r { value = v })) ≡ change (joined hs rows) id f
+joined-locked hs rows id r v f there same = joined-lock hs (with_other rows id (record r { value = v })) id v.locked ∙ joined-other hs rows id r (record r { value = v }) f there same

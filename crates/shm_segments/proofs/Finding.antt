@@ -1,6 +1,6 @@
 -- A row that the table has is a segment that was found.
-use Rattle.std.proofs.Common.{◌≡◌, ◌≢◌, ◌⊎◌, ℕ, pos, ◌/◌, ◌%◌, ◌<◌, ◌≤◌, List, length, slice_get, Option, Some, None, ℤ, ◌==◌, Bool, true, false, is_some, if◌then◌else◌, option_map, eq-eqb, ne_eqb, refl, sym, ap, subst, ◌∙◌, inl, inr, arith}
-use Rattle.std.proofs.lemmas.Bool.{cases_lt, cases_eq}
+use Rattle.std.proofs.Common.{◌≡◌, ℕ, pos, ◌/◌, ◌%◌, ◌<◌, List, length, slice_get, Option, Some, None, ℤ, ◌==◌, Bool, true, is_some, if◌then◌else◌, option_map, eq-eqb, refl, sym, ap, subst, ◌∙◌, arith}
+use Rattle.std.proofs.lemmas.Bool.{cases_lt}
 use Rattle.std.proofs.lemmas.Option.{none-some}
 use Rattle.shm_base.specs.State.{Entry as FlatEntry}
 use Rattle.shm_base.specs.Access.{bytes_at, bytes_at_entry}
@@ -19,6 +19,7 @@ use Rattle.shm_segments.proofs.Joins.{at-live, held-as}
 use Rattle.shm_segments.specs.Kept.{SizesFit}
 use Rattle.shm_segments.specs.Table.{IsFound, segment_seen}
 use Rattle.shm_segments.specs.Table as table
+use Rattle.std.proofs.lemmas.Bool.Decides.{nat_tests}
 
 pub index-of : (i d : ℕ) → i < 32768 → identifier i d % 32768 ≡ i
 index-of i d lt = omega (arith, lt)
@@ -28,11 +29,7 @@ sequence-of i d lt = omega (arith, lt)
 
 -- a row stands within the table
 pub row-within : (rows : List (Entry Head)) (i : ℕ) (r : Row Head) → (entry_at rows i).row ≡ Some r → i < length rows
-row-within rows i r is = by (cases_lt i (length rows))
-  where
-    by : (i < length rows) ⊎ (length rows ≤ i) → i < length rows
-    by (inl l) = l
-    by (inr past) = absurd (none-some r (sym (ap (λ (e : Entry Head). e.row) (at_past rows i past)) ∙ is))
+row-within rows i r is = grind (arith, at_past rows i, is)
 
 -- what the flat table has at its index
 pub at-row : (hs : List Held) (rows : List (Entry Head)) (i : ℕ) (r : Row Head) → (entry_at rows i).row ≡ Some r
@@ -74,8 +71,7 @@ pub listed-row : (i : ℕ) (e : Entry Head) (x : ℤ × (ℕ × Head)) → row_l
 listed-row i e x is = listed i e.destroyed e.row x is
 
 unlisted : (i d : ℕ) (o : Option (Row Head)) → row_shown i d o ≡ None → o ≡ None
-unlisted i d None is = refl
-unlisted i d (Some r) is = absurd (none-some _ (sym is))
+unlisted i d o is = grind arith
 
 pub unlisted-row : (i : ℕ) (e : Entry Head) → row_listed i e ≡ None → e.row ≡ None
 unlisted-row i e is = unlisted i e.destroyed e.row is
@@ -86,36 +82,15 @@ flat-option hs id (Some r) = refl
 
 in-flat : (hs : List Held) (i id : ℕ) (e : Entry Head) → i ≡ id % 32768
     → table.live_in id (Some (flat_entry (whole hs) i e)) ≡ option_map (whole hs id) (if identifier i e.destroyed == id then e.row else None)
-in-flat hs i id e own = by (cases_eq e.destroyed (id / 32768))
-  where
-    by : (e.destroyed ≡ id / 32768) ⊎ (e.destroyed ≢ id / 32768) → table.live_in id (Some (flat_entry (whole hs) i e)) ≡ option_map (whole hs id) (if identifier i e.destroyed == id then e.row else None)
-    by (inl h) =
-        let is : identifier i e.destroyed ≡ id = omega (arith, h, own) in
-        rw (eq-eqb e.destroyed (id / 32768) h, eq-eqb (identifier i e.destroyed) id is) (ap (λ n. flat_row (whole hs) n e.row) is ∙ flat-option hs id e.row)
-    by (inr n) =
-        let is : identifier i e.destroyed ≢ id = λ z. n (omega (arith, z, own)) in
-        rw (ne_eqb e.destroyed (id / 32768) n, ne_eqb (identifier i e.destroyed) id is) refl
-
-none-live : (hs : List Held) (id : ℕ) (b : Bool) → None ≡ option_map (whole hs id) (if b then None else None)
-none-live hs id true = refl
-none-live hs id false = refl
+in-flat hs i id e own = grind (arith, nat_tests, own, flat-option hs id e.row)
 
 -- what is live in the flat table
 pub live-joined : (hs : List Held) (rows : List (Entry Head)) (id : ℕ) → table.live (joined hs rows) id ≡ option_map (whole hs id) (live rows id)
-live-joined hs rows id = by (cases_lt (id % 32768) (length rows))
-  where
-    by : (id % 32768 < length rows) ⊎ (length rows ≤ id % 32768) → table.live (joined hs rows) id ≡ option_map (whole hs id) (live rows id)
-    by (inl l) = ap (table.live_in id) (at-table (whole hs) (id % 32768) rows l) ∙ in-flat hs (id % 32768) id (entry_at rows (id % 32768)) refl
-    by (inr past) =
-        ap (table.live_in id) (past-flat (whole hs) 0 (id % 32768) rows past)
-        ∙ rw (at_past rows (id % 32768) past) (none-live hs id (identifier (id % 32768) 0 == id))
-
-some-map : (hs : List Held) (id : ℕ) (o : Option (Row Head)) → is_some (option_map (whole hs id) o) ≡ is_some o
-some-map hs id None = refl
-some-map hs id (Some r) = refl
+live-joined hs rows id =
+    grind (arith, nat_tests, cases_lt (id % 32768) (length rows), at-table (whole hs) (id % 32768) rows, in-flat hs (id % 32768) id (entry_at rows (id % 32768)) refl, past-flat (whole hs) 0 (id % 32768) rows, at_past rows (id % 32768))
 
 pub is_live-row : (hs : List Held) (rows : List (Entry Head)) (id : ℕ) → table.IsLive (joined hs rows) id → is_some (live rows id) ≡ true
-is_live-row hs rows id is = sym (some-map hs id (live rows id)) ∙ ap is_some (sym (live-joined hs rows id)) ∙ is
+is_live-row hs rows id is = grind (arith, live-joined hs rows id, is)
 
 -- WHAT IS NOT LIVE
 
@@ -126,8 +101,4 @@ live-found t f found =
 
 -- an index without a row has no segment
 pub none-at : (hs : List Held) (rows : List (Entry Head)) (i : ℕ) → (entry_at rows i).row ≡ None → table.segment_in (slice_get (joined hs rows) i) ≡ None
-none-at hs rows i none = by (cases_lt i (length rows))
-  where
-    by : (i < length rows) ⊎ (length rows ≤ i) → table.segment_in (slice_get (joined hs rows) i) ≡ None
-    by (inl l) = ap table.segment_in (at-table (whole hs) i rows l) ∙ ap (flat_row (whole hs) (identifier i (entry_at rows i).destroyed)) none
-    by (inr past) = ap table.segment_in (past-flat (whole hs) 0 i rows past)
+none-at hs rows i none = grind (arith, cases_lt i (length rows), at-table (whole hs) i rows, past-flat (whole hs) 0 i rows, none)

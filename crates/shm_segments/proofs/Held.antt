@@ -1,6 +1,5 @@
 -- The pages of the segments that are held.
-use Rattle.std.proofs.Common.{◌≡◌, ◌≢◌, ℕ, ◌+◌, ◌*◌, ◌/◌, ◌≤◌, Bool, true, false, if◌then◌else◌, List, [], ◌∷◌, length, take, drop, map, Option, Some, None, refl, sym, ap, ◌∙◌, inl, inr, arith, eq-eqb, ne_eqb, true≢false}
-use Rattle.std.proofs.lemmas.Bool.{cases_eq}
+use Rattle.std.proofs.Common.{◌≡◌, ◌≢◌, ℕ, ◌+◌, ◌*◌, ◌/◌, ◌≤◌, Bool, true, false, if◌then◌else◌, List, [], ◌∷◌, length, take, drop, map, Option, Some, None, refl, sym, ap, ◌∙◌, arith, eq-eqb, ne_eqb, true≢false, not, ◌==◌}
 use Rattle.std.proofs.lemmas.Option.{none-some}
 use Rattle.std.proofs.lemmas.Grind.{common_steps}
 use Rattle.std.proofs.lemmas.List.{length-replicate}
@@ -12,6 +11,8 @@ use Rattle.shm_plain.specs.Held.{Held, find_held, is_held, bytes_of, bytes_in, p
 use Rattle.shm_plain.proofs.Kept.{find_held-id}
 use Rattle.shm_plain.proofs.Pasted.{length-paste, apart-pasted}
 use Rattle.shm_segments.proofs.Bytes.{Each, each, each-pasted}
+use Rattle.std.proofs.lemmas.List.Filters.{sum_by-filter_both}
+use Rattle.std.proofs.lemmas.Bool.Decides.{nat_tests}
 
 -- ZEROS
 
@@ -38,25 +39,11 @@ locks-zeros hs id n =
 -- ONE LESS
 
 sum-less : (f : Held → ℕ) (hs : List Held) (id : ℕ) → sum_by f (without hs id) ≤ sum_by f hs
-sum-less f [] id = omega arith
-sum-less f (h ∷ hs) id =
-    let rest = sum-less f hs id in
-    let all = sum_by-cons f h hs in
-    elim (cases_eq h.id id) [
-      | inl e ↦ rw (eq-eqb h.id id e) (omega (arith, rest, all))
-      | inr n ↦ rw (ne_eqb h.id id n) (omega (arith, rest, all, sum_by-cons f h (without hs id)))
-    ]
+sum-less f hs id = omega (arith, sum_by-filter_both (λ (h : Held). not (h.id == id)) (λ (h : Held). not (not (h.id == id))) (λ h. refl) f hs)
 
 pub sum-without : (f : Held → ℕ) (hs : List Held) (id : ℕ) (g : Held) → find_held hs id ≡ Some g → sum_by f (without hs id) + f g ≤ sum_by f hs
 sum-without f [] id g is = absurd (none-some g is)
-sum-without f (h ∷ hs) id g is =
-    let all = sum_by-cons f h hs in
-    elim (cases_eq h.id id) [
-      | inl e ↦
-          (let own : h ≡ g = let both : Some h ≡ Some g = rw (eq-eqb h.id id e) at is in cc in
-          rw (eq-eqb h.id id e) (omega (arith, sum-less f hs id, all, ap f own)))
-      | inr n ↦ rw (ne_eqb h.id id n) (omega (arith, sum-without f hs id g (rw (ne_eqb h.id id n) at is), all, sum_by-cons f h (without hs id)))
-    ]
+sum-without f (h ∷ hs) id g is = grind (arith, nat_tests, sum-less f hs id, sum-without f hs id g, sum_by-cons f h hs, sum_by-cons f h (without hs id))
 
 -- ONE CHANGED
 
@@ -66,29 +53,12 @@ Only id c = (h : Held) → h.id ≢ id → c h ≡ h
 
 away : (c : Held → Held) (hs : List Held) (id : ℕ) → Only id c → is_held hs id ≡ false → map c hs ≡ hs
 away c [] id only none = refl
-away c (h ∷ hs) id only none = elim (cases_eq h.id id) [
-  | inl e ↦ (let z : true ≡ false = rw (eq-eqb h.id id e) at none in absurd (true≢false z))
-  | inr n ↦
-      (let here : c h ≡ h = only h n in
-      let rest : map c hs ≡ hs = away c hs id only (rw (ne_eqb h.id id n) at none) in
-      cc)
-]
+away c (h ∷ hs) id only none = grind (arith, nat_tests, only h, away c hs id only)
 
 pub sum-changed : (f : Held → ℕ) (c : Held → Held) (hs : List Held) (id : ℕ) (g : Held) → Only id c → AreHeldApart hs → find_held hs id ≡ Some g → sum_by f (map c hs) + f g ≡ sum_by f hs + f (c g)
 sum-changed f c [] id g only apart is = absurd (none-some g is)
 sum-changed f c (h ∷ hs) id g only apart is =
-    let all = sum_by-cons f h hs in
-    let new = sum_by-cons f (c h) (map c hs) in
-    elim (cases_eq h.id id) [
-      | inl e ↦
-          (let own : h ≡ g = let both : Some h ≡ Some g = rw (eq-eqb h.id id e) at is in cc in
-          let rest : map c hs ≡ hs = away c hs id only (rw e at apart.0) in
-          let tail : sum_by f (map c hs) ≡ sum_by f hs = ap (sum_by f) rest in
-          omega (arith, all, new, tail, ap f own, ap (λ x. f (c x)) own))
-      | inr n ↦
-          (let rest = sum-changed f c hs id g only apart.1 (rw (ne_eqb h.id id n) at is) in
-          omega (arith, all, new, rest, ap f (only h n)))
-    ]
+    grind (arith, nat_tests, only h, apart.0, away c hs id only, sum-changed f c hs id g only apart.1, sum_by-cons f h hs, sum_by-cons f (c h) (map c hs))
 
 only-lock : (id : ℕ) (b : Bool) → Only id (relocked id b)
 only-lock id b h n = rw (ne_eqb h.id id n) refl
@@ -99,12 +69,7 @@ only-pasted seg at new h n = rw (ne_eqb h.id seg n) refl
 -- a lock
 pub pages-lock : (hs : List Held) (id : ℕ) (b : Bool) → pages_held (with_lock hs id b) ≡ pages_held hs
 pages-lock [] id b = refl
-pages-lock (h ∷ hs) id b =
-    let same : pages_in (relocked id b h) ≡ pages_in h = elim (cases_eq h.id id) [
-      | inl e ↦ rw (eq-eqb h.id id e) refl
-      | inr n ↦ rw (ne_eqb h.id id n) refl
-    ] in
-    omega (arith, pages-lock hs id b, same, sum_by-cons pages_in h hs, sum_by-cons pages_in (relocked id b h) (with_lock hs id b))
+pages-lock (h ∷ hs) id b = grind (arith, nat_tests, pages-lock hs id b, sum_by-cons pages_in h hs, sum_by-cons pages_in (relocked id b h) (with_lock hs id b))
 
 pub locks-lock : (hs : List Held) (id : ℕ) (b : Bool) (g : Held) → AreHeldApart hs → find_held hs id ≡ Some g → pages_locked (with_lock hs id b) + pages_if_locked g ≡ pages_locked hs + (if b then pages_in g else 0)
 locks-lock hs id b g apart is =

@@ -1,7 +1,6 @@
 -- The rows and the flat machine's table: what is live, what agrees, and what an edit shows.
-use Rattle.std.proofs.Common.{◌≡◌, ◌≢◌, ℕ, zero, suc, ◌+◌, ◌*◌, ◌%◌, ◌<◌, ◌≤◌, true, List, [], ◌∷◌, length, set, Option, Some, None, is_some, option_map, refl, sym, ap, ◌∙◌, arith, inl, inr, eq-eqb}
-use Rattle.std.proofs.lemmas.Bool.{cases_lt}
-use Rattle.std.proofs.lemmas.Bool.Decides.{eqb_tells}
+use Rattle.std.proofs.Common.{◌≡◌, ◌≢◌, ℕ, zero, suc, ◌+◌, ◌*◌, ◌%◌, ◌<◌, ◌≤◌, true, List, [], ◌∷◌, length, set, Option, Some, None, is_some, option_map, refl, sym, ap, ◌∙◌, arith, eq-eqb}
+use Rattle.std.proofs.lemmas.Bool.Decides.{nat_tests}
 use Rattle.std.specs.Prelude.{slice_set}
 use Rattle.shm_base.specs.State.{Segment, pages_of}
 use Rattle.shm_ids.specs.declared.table.Entry.{Entry}
@@ -28,15 +27,7 @@ pub record LiveAt (rows : List (Entry Head)) (id : ℕ) (r : Row Head) : Type 0 
   pub own : identifier (id % 32768) (entry_at rows (id % 32768)).destroyed ≡ id
 
 pub live-at : (rows : List (Entry Head)) (id : ℕ) (r : Row Head) → live rows id ≡ Some r → LiveAt rows id r
-live-at rows id r is = elim (eqb_tells (identifier (id % 32768) (entry_at rows (id % 32768)).destroyed) id) [
-  | inl w ↦
-      (let there : (entry_at rows (id % 32768)).row ≡ Some r = rw w.0 at is in
-      elim (cases_lt (id % 32768) (length rows)) [
-        | inl within ↦ record { within = within; there = there; own = w.1 }
-        | inr past ↦ absurd (none_some (sym (ap (λ (e : Entry Head). e.row) (at_past rows (id % 32768) past)) ∙ there))
-      ])
-  | inr w ↦ absurd (none_some (rw w.0 at is))
-]
+live-at rows id r is = grind (arith, nat_tests, at_past rows (id % 32768), is)
 
 -- what stands at an index is live under its identifier
 pub at-live : (rows : List (Entry Head)) (i : ℕ) → i < 32768 → live rows (identifier i (entry_at rows i).destroyed) ≡ (entry_at rows i).row
@@ -50,8 +41,7 @@ whole-same : (hs gs : List Held) (id : ℕ) (r : Row Head) → bytes_of gs id �
 whole-same hs gs id r e = ap (segment_of r) e
 
 row-same : (hs gs : List Held) (id : ℕ) (o : Option (Row Head)) → bytes_of gs id ≡ bytes_of hs id → flat_row (whole gs) id o ≡ flat_row (whole hs) id o
-row-same hs gs id None e = refl
-row-same hs gs id (Some r) e = ap Some (whole-same hs gs id r e)
+row-same hs gs id o e = grind (arith, e)
 
 entry-same : (hs gs : List Held) (i : ℕ) (e : Entry Head) → bytes_of gs (identifier i e.destroyed) ≡ bytes_of hs (identifier i e.destroyed) → flat_entry (whole gs) i e ≡ flat_entry (whole hs) i e
 entry-same hs gs i e same = ap (λ (s : Option Segment). record { destroyed = e.destroyed; segment = s }) (row-same hs gs (identifier i e.destroyed) e.row same)
@@ -98,18 +88,14 @@ set-joined hs gs rows i x few same =
 -- WHAT AGREES
 
 pub same-held : (hs : List Held) (rows : List (Entry Head)) (id : ℕ) → Agree hs rows → is_held hs id ≡ is_some (live rows id)
-same-held hs rows id agree = sym (some-shape (find_held hs id)) ∙ ap is_some (agree.same id) ∙ some-row (live rows id)
-  where
-    some-shape : (o : Option Held) → is_some (option_map shape_held o) ≡ is_some o
-    some-shape None = refl
-    some-shape (Some g) = refl
-
-    some-row : (o : Option (Row Head)) → is_some (option_map shape_row o) ≡ is_some o
-    some-row None = refl
-    some-row (Some r) = refl
+same-held hs rows id agree = grind (arith, nat_tests, agree.same id)
 
 -- what is held of a live segment
 pub record HeldAs (hs : List Held) (id : ℕ) (r : Row Head) : Type 0 where
+  pub g : Held
+  pub is : find_held hs id ≡ Some g
+  pub locked : g.locked ≡ r.value.locked
+  pub long : length g.bytes ≡ 4096 * pages_of r.value.size
   pub held : is_held hs id ≡ true
   pub size : length (bytes_of hs id) ≡ 4096 * pages_of r.value.size
 
@@ -117,10 +103,8 @@ pub held-as : (hs : List Held) (rows : List (Entry Head)) (id : ℕ) (r : Row He
 held-as hs rows id r agree there = by (find_held hs id) refl (agree.same id ∙ ap (option_map shape_row) there)
   where
     by : (o : Option Held) → find_held hs id ≡ o → option_map shape_held (find_held hs id) ≡ Some (shape_row r) → HeldAs hs id r
-    by None is same = absurd (none_some (sym (ap (option_map shape_held) is) ∙ same))
+    by None is same = cc (rw is at same)
     by (Some g) is same =
-        let shape : shape_held g ≡ shape_row r = let both : Some (shape_held g) ≡ Some (shape_row r) = sym (ap (option_map shape_held) is) ∙ same in cc in
-        record {
-          held = ap is_some is;
-          size = ap (λ o. length (bytes_in o)) is ∙ ap (λ (s : Shape). s.size) shape;
-        }
+        let shape : shape_held g ≡ shape_row r = cc (rw is at same) in
+        let long = ap (λ (s : Shape). s.size) shape in
+        record { g = g; is = is; locked = ap (λ (s : Shape). s.locked) shape; long = long; held = ap is_some is; size = ap (λ o. length (bytes_in o)) is ∙ long }

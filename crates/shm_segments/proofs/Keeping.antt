@@ -8,10 +8,10 @@ use Rattle.shm_ids.specs.declared.table.Row.{Row}
 use Rattle.shm_ids.specs.Table.{key_at, look, with_value, with_key}
 use Rattle.shm_plain.specs.Held.{Held, bytes_of}
 use Rattle.shm_segments.specs.declared.head.Head.{Head}
-use Rattle.shm_segments.specs.Joined.{segment_of, joined, live}
+use Rattle.shm_segments.specs.Joined.{segment_of, whole, joined, live}
 use Rattle.shm_segments.specs.Kept.{SizesFit, AreSegmentsKept}
-use Rattle.shm_segments.proofs.Sums.{pages-with_value, pages-with_both, locked-value_same, locked-with_both}
-use Rattle.shm_segments.proofs.Edits.{look-live, with_other, other-value, other-both, live-other_same, live-other, joined-with_value, joined-with_both, agree-with_value, agree-with_both}
+use Rattle.shm_segments.proofs.Sums.{pages-with_other, locked-other_same}
+use Rattle.shm_segments.proofs.Edits.{look-live, with_other, other-value, other-both, live-other_same, live-other, joined-other, agree-other}
 
 -- another row of a size in range
 pub sizes-other : (rows : List (Entry Head)) (id : ℕ) (r s : Row Head) → live rows id ≡ Some r → SizesFit rows → (1 ≤ s.value.size) × (s.value.size ≤ 16777216) → SizesFit (with_other rows id s)
@@ -29,6 +29,23 @@ pub record KeptAs (hs : List Held) (rows : List (Entry Head)) (pages locked_page
   pub kept : AreSegmentsKept hs rows pages locked_pages
   pub is : joined hs rows ≡ shown
 
+-- another row of the same size and lock
+kept-other : (hs : List Held) (rows : List (Entry Head)) (pages locks seg : ℕ) (r s : Row Head) (f : Segment → Segment) → AreSegmentsKept hs rows pages locks → live rows seg ≡ Some r
+    → s.value.size ≡ r.value.size → s.value.locked ≡ r.value.locked → f (whole hs seg r) ≡ whole hs seg s → KeptAs hs (with_other rows seg s) pages locks (change (joined hs rows) seg f)
+kept-other hs rows pages locks seg r s f k lives size locked same = record {
+  kept =
+      record {
+        agree = agree-other hs rows seg r s k.agree lives cc;
+        sizes = sizes-other rows seg r s lives k.sizes (rw size (k.sizes seg r lives));
+        reserved = k.reserved ∙ sym (pages-with_other rows seg r s lives size);
+        locked = k.locked ∙ sym (locked-other_same rows seg r s lives size locked);
+        apart = k.apart;
+        few_pages = k.few_pages;
+        few_locked = k.few_locked;
+      };
+  is = joined-other hs rows seg r s f lives same;
+}
+
 -- a head put in the place of one of the same size and lock
 pub kept-value : (hs : List Held) (rows : List (Entry Head)) (pages locks seg : ℕ) (v w : Head) (f : Segment → Segment) → AreSegmentsKept hs rows pages locks → look rows (pos seg) ≡ Ok v
     → w.size ≡ v.size → w.locked ≡ v.locked
@@ -36,22 +53,8 @@ pub kept-value : (hs : List Held) (rows : List (Entry Head)) (pages locks seg : 
     → KeptAs hs (with_value rows (seg % 32768) w) pages locks (change (joined hs rows) seg f)
 kept-value hs rows pages locks seg v w f k looked size locked same =
     let r : Row Head = record { key = key_at rows (seg % 32768); value = v } in
-    let lives : live rows seg ≡ Some r = look-live rows seg v looked in
-    let shown = joined-with_value hs rows seg r w f lives (same r.key (bytes_of hs seg)) in
-    let range = k.sizes seg r lives in
-    record {
-      kept =
-          record {
-            agree = agree-with_value hs rows seg r w k.agree lives size locked;
-            sizes = rw (other-value rows seg r w lives) (sizes-other rows seg r (record r { value = w }) lives k.sizes (rw size range));
-            reserved = k.reserved ∙ sym (pages-with_value rows seg r w lives size);
-            locked = k.locked ∙ sym (locked-value_same rows seg r w lives size locked);
-            apart = k.apart;
-            few_pages = k.few_pages;
-            few_locked = k.few_locked;
-          };
-      is = shown;
-    }
+    let lives = look-live rows seg v looked in
+    rw (other-value rows seg r w lives) (kept-other hs rows pages locks seg r (record r { value = w }) f k lives size locked (same r.key (bytes_of hs seg)))
 
 -- the same, and the key hidden
 pub kept-both : (hs : List Held) (rows : List (Entry Head)) (pages locks seg : ℕ) (v w : Head) (f : Segment → Segment) → AreSegmentsKept hs rows pages locks → look rows (pos seg) ≡ Ok v
@@ -60,19 +63,5 @@ pub kept-both : (hs : List Held) (rows : List (Entry Head)) (pages locks seg : �
     → KeptAs hs (with_key (with_value rows (seg % 32768) w) (seg % 32768) 0) pages locks (change (joined hs rows) seg f)
 kept-both hs rows pages locks seg v w f k looked size locked same =
     let r : Row Head = record { key = key_at rows (seg % 32768); value = v } in
-    let lives : live rows seg ≡ Some r = look-live rows seg v looked in
-    let shown = joined-with_both hs rows seg r 0 w f lives (same r.key (bytes_of hs seg)) in
-    let range = k.sizes seg r lives in
-    record {
-      kept =
-          record {
-            agree = agree-with_both hs rows seg r 0 w k.agree lives size locked;
-            sizes = rw (other-both rows seg r 0 w lives) (sizes-other rows seg r (record { key = 0; value = w }) lives k.sizes (rw size range));
-            reserved = k.reserved ∙ sym (pages-with_both rows seg r 0 w lives size);
-            locked = k.locked ∙ sym (locked-with_both rows seg r 0 w lives size locked);
-            apart = k.apart;
-            few_pages = k.few_pages;
-            few_locked = k.few_locked;
-          };
-      is = shown;
-    }
+    let lives = look-live rows seg v looked in
+    rw (other-both rows seg r 0 w lives) (kept-other hs rows pages locks seg r (record { key = 0; value = w }) f k lives size locked (same r.key (bytes_of hs seg)))

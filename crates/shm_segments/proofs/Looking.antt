@@ -1,6 +1,5 @@
 -- What is found under an identifier, and what the flat machine says of it.
-use Rattle.std.proofs.Common.{◌≡◌, ◌≢◌, ℕ, pos, ℤ, ◌%◌, List, Option, Some, None, Ok, Err, IsOk, is_none, is_some, option_map, Bool, true, false, not, true≢false, refl, sym, ap, subst, ◌∙◌}
-use Rattle.std.proofs.lemmas.Option.{none-some}
+use Rattle.std.proofs.Common.{◌≡◌, ◌≢◌, ℕ, pos, ℤ, ◌%◌, List, Option, Some, None, Ok, Err, IsOk, is_none, is_some, option_map, Bool, not, refl, sym, ap, subst, ◌∙◌, arith}
 use Rattle.shm_base.specs.declared.errno.Errno.TheVariants.{Eidrm, Einval}
 use Rattle.shm_base.specs.Identifier as flat
 use Rattle.shm_base.specs.Access.{bytes_at}
@@ -20,6 +19,7 @@ use Rattle.shm_segments.proofs.Joins.{live-at}
 use Rattle.shm_segments.proofs.Edits.{look-live}
 use Rattle.shm_segments.proofs.Shown.{bytes_at-joined}
 use Rattle.shm_segments.proofs.Finding.{found_at}
+use Rattle.std.proofs.lemmas.Bool.Decides.{nat_tests}
 
 -- what is found under an identifier
 abbrev pub found_under : List (Entry Head) → ℕ → Head → Found
@@ -58,18 +58,13 @@ key-some hs rows key id some found ok = find_key-look (whole hs) (λ n r. refl) 
 -- INDEXES
 
 mapped-none : {X Y : Type 0} (f : X → Y) (o : Option X) → is_none (option_map f o) ≡ is_none o
-mapped-none f None = refl
-mapped-none f (Some x) = refl
+mapped-none f o = grind arith
 
 pub none-mapped : {X Y : Type 0} (f : X → Y) (o : Option X) → option_map f o ≡ None → o ≡ None
-none-mapped f None is = refl
-none-mapped f (Some x) is = absurd (none-some (f x) (sym is))
+none-mapped f o is = grind arith
 
 pub none-not_some : {X : Type 0} (o : Option X) (b : Bool) → is_some o ≡ not b → b ≡ is_none o
-none-not_some None true is = refl
-none-not_some None false is = absurd (true≢false (sym is))
-none-not_some (Some x) true is = absurd (true≢false is)
-none-not_some (Some x) false is = refl
+none-not_some o b is = grind (arith, nat_tests)
 
 pub full-joined : (hs : List Held) (rows : List (Entry Head)) (o : Option ℤ) → o ≡ option_map (id_at rows) (free_index rows) → is_none o ≡ is_none (flat.free_index (joined hs rows))
 full-joined hs rows o is = ap is_none is ∙ mapped-none (id_at rows) (free_index rows) ∙ ap is_none (sym (free_index-flat (whole hs) rows))

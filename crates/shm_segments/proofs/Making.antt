@@ -1,5 +1,5 @@
 -- What is kept where a segment is made, destroyed, locked or written.
-use Rattle.std.proofs.Common.{◌≡◌, ◌≢◌, ◌⊎◌, ℕ, suc, pos, ℤ, ◌+◌, ◌-◌, ◌*◌, ◌/◌, ◌%◌, ◌<◌, ◌≤◌, ◌==◌, Bool, true, false, if◌then◌else◌, List, [], ◌∷◌, length, replicate, slice_set, Option, Some, None, Ok, is_some, is_none, option_map, refl, sym, ap, ◌∙◌, inl, inr, arith, true≢false, eq-eqb, ne_eqb, eqb-true}
+use Rattle.std.proofs.Common.{◌≡◌, ◌≢◌, ◌⊎◌, ℕ, suc, pos, ℤ, ◌+◌, ◌-◌, ◌*◌, ◌/◌, ◌%◌, ◌<◌, ◌≤◌, ◌==◌, Bool, true, false, if◌then◌else◌, List, [], ◌∷◌, replicate, slice_set, Option, Some, None, Ok, is_some, is_none, option_map, refl, sym, ap, ◌∙◌, inl, inr, arith, eq-eqb, ne_eqb, eqb-true}
 use Rattle.std.proofs.lemmas.Bool.{cases_eq, cases_Bool}
 use Rattle.std.proofs.lemmas.Option.{none-some}
 use Rattle.shm_base.specs.State.{pages_of}
@@ -13,15 +13,16 @@ use Rattle.shm_ids.proofs.Flat.{find_key-flat, free_index-flat, destroyed_at-fla
 use Rattle.shm_plain.specs.Held.{Held, find_held, is_held, pages_in, pages_if_locked, with_zeros, without, with_lock}
 use Rattle.shm_plain.proofs.Kept.{apart-push, apart-without, apart-lock}
 use Rattle.shm_segments.specs.declared.head.Head.{Head}
-use Rattle.shm_segments.specs.Joined.{whole, joined, live, Shape, shape_held, shape_row, Agree}
+use Rattle.shm_segments.specs.Joined.{whole, joined, live, Agree}
 use Rattle.shm_segments.specs.Kept.{SizesFit, AreSegmentsKept}
 use Rattle.shm_segments.specs.Table.{made, created, destroyed, relocked}
-use Rattle.shm_segments.proofs.Joins.{LiveAt, live-at}
+use Rattle.shm_segments.proofs.Joins.{LiveAt, live-at, held-as}
 use Rattle.shm_segments.proofs.Edits.{look-live, other-value, agree-lock, joined-locked}
 use Rattle.shm_segments.proofs.Rows.{id_of, IsFree, index-free, free-new, joined-with_row, live-with_row_same, live-with_row_other, agree-with_row, joined-without, live-without, live-without_here, agree-without}
-use Rattle.shm_segments.proofs.Sums.{pages-with_row, pages-without_row, pages-with_value, locked-with_row, locked-without_row, locked-with_value, locked-within}
+use Rattle.shm_segments.proofs.Sums.{pages-with_row, pages-without_row, pages-with_other, locked-with_row, locked-without_row, locked-with_other, locked-within}
 use Rattle.shm_segments.proofs.Keeping.{KeptAs, sizes-other}
 use Rattle.shm_segments.proofs.Held.{pages-zeros, locks-zeros, sum-without, pages-lock, locks-lock}
+use Rattle.std.proofs.lemmas.Bool.Decides.{nat_tests}
 
 -- WHAT IS HELD OF A LIVE SEGMENT
 
@@ -32,16 +33,10 @@ pub record HeldHere (hs : List Held) (id : ℕ) (r : Row Head) : Type 0 where
   pub locks : pages_if_locked g ≡ (if r.value.locked then pages_of r.value.size else 0)
 
 pub held-here : (hs : List Held) (rows : List (Entry Head)) (id : ℕ) (r : Row Head) → Agree hs rows → live rows id ≡ Some r → HeldHere hs id r
-held-here hs rows id r agree there = by (find_held hs id) refl (agree.same id ∙ ap (option_map shape_row) there)
-  where
-    by : (o : Option Held) → find_held hs id ≡ o → option_map shape_held (find_held hs id) ≡ Some (shape_row r) → HeldHere hs id r
-    by None is same = absurd (none-some (shape_row r) (sym (ap (option_map shape_held) is) ∙ same))
-    by (Some g) is same =
-        let shape : shape_held g ≡ shape_row r = let both : Some (shape_held g) ≡ Some (shape_row r) = sym (ap (option_map shape_held) is) ∙ same in cc in
-        let size : length g.bytes ≡ 4096 * pages_of r.value.size = ap (λ (s : Shape). s.size) shape in
-        let lock : g.locked ≡ r.value.locked = ap (λ (s : Shape). s.locked) shape in
-        let pages : pages_in g ≡ pages_of r.value.size = omega (arith, size) in
-        record { g = g; is = is; pages = pages; locks = rw (lock, pages) refl }
+held-here hs rows id r agree there =
+    let h = held-as hs rows id r agree there in
+    let pages : pages_in h.g ≡ pages_of r.value.size = omega (arith, h.long) in
+    record { g = h.g; is = h.is; pages = pages; locks = rw (h.locked, pages) refl }
 
 -- DESTROYED
 
@@ -91,33 +86,25 @@ kept-locked hs rows pages locks seg v b k looked =
     let w : Head = record v { locked = b } in
     let lives : live rows seg ≡ Some r = look-live rows seg v looked in
     let range = k.sizes seg r lives in
-    let loose = locked-with_value rows seg r w lives in
+    let loose = locked-with_other rows seg r (record r { value = w }) lives in
     let within = locked-within rows seg r lives in
     let here = held-here hs rows seg r k.agree lives in
     let more : (b : Bool) → (if b then pages_in here.g else 0) ≡ (if b then pages_of v.size else 0) = λ b. ap (λ n. if b then n else 0) here.pages in
-    record {
+    rw (other-value rows seg r w lives) (record {
       kept =
           record {
             agree = agree-lock hs rows seg r w k.agree lives refl;
-            sizes = rw (other-value rows seg r w lives) (sizes-other rows seg r (record r { value = w }) lives k.sizes range);
-            reserved = k.reserved ∙ sym (pages-with_value rows seg r w lives refl);
+            sizes = sizes-other rows seg r (record r { value = w }) lives k.sizes range;
+            reserved = k.reserved ∙ sym (pages-with_other rows seg r (record r { value = w }) lives refl);
             locked = omega (arith, loose, within, k.locked);
             apart = apart-lock hs seg b k.apart;
             few_pages = omega (arith, pages-lock hs seg b, k.few_pages);
             few_locked = omega (arith, locks-lock hs seg b here.g k.apart here.is, here.locks, more b, k.few_locked);
           };
       is = joined-locked hs rows seg r w (relocked b) lives refl;
-    }
+    })
 
 -- MADE
-
-pub zeros-held : (hs : List Held) (id pages : ℕ) → is_held (with_zeros hs id pages) id ≡ true
-zeros-held [] id pages = rw (eq-eqb id id refl) refl
-zeros-held (g ∷ gs) id pages =
-    elim (cases_eq g.id id) [
-      | inl e ↦ rw (eq-eqb g.id id e) refl
-      | inr n ↦ rw (ne_eqb g.id id n) (zeros-held gs id pages)
-    ]
 
 pub kept-made : (hs : List Held) (rows : List (Entry Head)) (pages locks i key : ℕ) (v : Head) → AreSegmentsKept hs rows pages locks → free_index rows ≡ Some i → v.locked ≡ false
     → (1 ≤ v.size) × (v.size ≤ 16777216)
@@ -151,11 +138,7 @@ kept-made hs rows pages locks i key v k found loose range =
 
 -- the free index
 pub free-some : (hs : List Held) (rows : List (Entry Head)) → is_none (flat.free_index (joined hs rows)) ≡ false → is_some (free_index rows) ≡ true
-free-some hs rows some = by (free_index rows) (sym (ap is_none (free_index-flat (whole hs) rows)) ∙ some)
-  where
-    by : (o : Option ℕ) → is_none o ≡ false → is_some o ≡ true
-    by None z = absurd (true≢false z)
-    by (Some i) z = refl
+free-some hs rows some = grind (arith, nat_tests, free_index-flat (whole hs) rows, some)
 
 -- what is made is what the flat table makes
 pub made-joined : (hs : List Held) (rows : List (Entry Head)) (i key : ℕ) (v : Head) → free_index rows ≡ Some i
@@ -181,8 +164,7 @@ next-free hs rows id agree is = by (free_index rows) refl is
 
 -- a segment's pages are few
 pub few-pages : (b : Bool) (size : ℕ) → size ≤ 16777216 → (if b then pages_of size else 0) ≤ 4096
-few-pages true size range = omega (arith, range)
-few-pages false size range = omega arith
+few-pages b size range = grind (arith, nat_tests)
 
 -- a key that the flat table does not find
 record Hit (n : ℕ) (es : List (Entry Head)) (i : ℕ) : Type 0 where
@@ -206,8 +188,8 @@ key-hit n key (e ∷ es) i some found =
     has (Some r) h = refl
 
 not_invalid : (hs : List Held) (i id : ℕ) (o : Option (Row Head)) → is_some o ≡ true → flat.look_segment i (flat_row (whole hs) id o) ≡ flat.Invalid → ⊥
-not_invalid hs i id None some is = true≢false (sym some)
-not_invalid hs i id (Some r) some is = cc is
+not_invalid hs i id None some is = cc
+not_invalid hs i id (Some r) some is = cc
 
 pub key-absent : (hs : List Held) (rows : List (Entry Head)) (key : ℕ) → (key ≢ 0 → flat.find_key (joined hs rows) key ≡ flat.Invalid) → find_key rows key ≡ None
 key-absent hs rows key absent = by (cases_eq key 0)

@@ -1,19 +1,18 @@
 -- What the memory keeps, and that it shows the table.
-use Rattle.std.proofs.Common.{◌≡◌, ◌≢◌, ℕ, ◌%◌, ◌==◌, Bool, true, false, List, [], ◌∷◌, ◌++◌, length, Option, Some, None, is_some, option_map, refl, sym, ap, ◌∙◌, inl, inr, arith, eq-eqb, ne_eqb, true≢false}
-use Rattle.std.proofs.lemmas.Bool.{cases_eq, cases_Bool}
+use Rattle.std.proofs.Common.{◌≡◌, ◌≢◌, ℕ, ◌==◌, true, false, List, [], ◌∷◌, ◌++◌, length, Option, Some, None, is_some, option_map, refl, sym, ap, ◌∙◌, inl, inr, arith, eq-eqb, true≢false, not, append-nil}
+use Rattle.std.proofs.lemmas.Bool.{cases_eq}
 use Rattle.std.proofs.lemmas.Option.{none-some}
-use Rattle.std.specs.Prelude.{All, Result, Ok, Err, OnOk, OnErr}
+use Rattle.std.specs.Prelude.{All, Result, Ok, Err, OnOk, OnErr, sum_by}
 use Rattle.shm_base.specs.declared.paging.Span.{Span}
 use Rattle.shm_base.specs.State.{Entry as FlatEntry}
 use Rattle.shm_ids.specs.declared.table.Entry.{Entry}
 use Rattle.shm_ids.specs.declared.table.Row.{Row}
-use Rattle.shm_plain.specs.Held.{Held, find_held, is_held, is_locked, lock_in, bytes_in, bytes_of, with_zeros, without, FitsPage, written}
+use Rattle.shm_plain.specs.Held.{Held, find_held, is_held, is_locked, bytes_in, bytes_of, with_zeros, without, FitsPage, written}
 use Rattle.shm_plain.proofs.Kept.{find_held-id}
 use Rattle.shm_plain.proofs.Found.{find-without_same, find-without_other, find-zeros_same, find-zeros_other}
 use Rattle.shm_fault.specs.Store.{StoreView, held, frame_of, fresh_store}
 use Rattle.shm_frames.specs.Frame.{Frame}
 use Rattle.shm_slots.specs.View.{SwapView}
-use Rattle.shm_ids.specs.Table.{identifier}
 use Rattle.shm_fault.specs.Segs.{SegRec, find_seg, but, new_seg, rec_in}
 use Rattle.shm_fault.specs.Dropping.{IsBlank}
 use Rattle.shm_fault.proofs.Whole.{not-held, rec-added}
@@ -27,8 +26,16 @@ use Rattle.shm_segments.specs.Table as table
 use Rattle.shm_segments.specs.View.{SegmentsView, as_held, ShowsTable, Runs}
 use Rattle.shm_segments.specs.Kept.{AreSegmentsKept, IsWhole}
 use Rattle.shm_segments.proofs.Finding.{live-joined}
-use Rattle.shm_segments.proofs.Shown.{agree-written}
+use Rattle.shm_segments.proofs.Shown.{agree-written, store_shown}
+use Rattle.shm_segments.proofs.Bytes.{len_of}
+use Rattle.shm_segments.proofs.Spanning.{spans-fit}
+use Rattle.shm_base.specs.Access.{stored}
+use Rattle.shm_base.specs.Spans.{span_places}
+use Rattle.shm_segments.specs.Table.{SpanFits}
 use Rattle.shm_segments.proofs.Held.{sums-written}
+use Rattle.std.proofs.lemmas.List.Elements.{filter-append}
+use Rattle.shm_fault.proofs.Entries.{filter-none}
+use Rattle.std.proofs.lemmas.Bool.Decides.{nat_tests}
 
 -- a table and its memory
 abbrev pub view_of : List FlatEntry → StoreView → SegmentsView
@@ -42,12 +49,8 @@ shows-joined m rows agree id = by (live rows id) (find_held (held m) id) refl re
     by : (r : Option (Row Head)) (o : Option Held) → live rows id ≡ r → find_held (held m) id ≡ o → option_map shape_held (find_held (held m) id) ≡ option_map shape_row (live rows id)
         → find_held (held m) id ≡ option_map (as_held id) (table.live (joined (held m) rows) id)
     by None None there is same = rw (is, live-joined (held m) rows id, there) refl
-    by None (Some g) there is same =
-        let z : Some (shape_held g) ≡ None = rw (is, there) at same in
-        absurd (none-some (shape_held g) (sym z))
-    by (Some r) None there is same =
-        let z : None ≡ Some (shape_row r) = rw (is, there) at same in
-        absurd (none-some (shape_row r) z)
+    by None (Some g) there is same = cc (rw (is, there) at same)
+    by (Some r) None there is same = cc (rw (is, there) at same)
     by (Some r) (Some g) there is same =
         let both : Some (shape_held g) ≡ Some (shape_row r) = rw (is, there) at same in
         let shape : shape_held g ≡ shape_row r = cc both in
@@ -81,10 +84,7 @@ runs-zeros a b id n new is swap frames still = record {
 }
   where
     locks : (at : ℕ) → is_locked (with_zeros (held a) id n) at ≡ true → is_locked (held a) at ≡ true
-    locks at e = elim (cases_eq at id) [
-      | inl q ↦ (let z : false ≡ true = rw (q, find-zeros_same (held a) id n new) at e in absurd (true≢false (sym z)))
-      | inr m ↦ rw (find-zeros_other (held a) id n at m) at e
-    ]
+    locks at e = grind (arith, cases_eq at id, find-zeros_same (held a) id n new, find-zeros_other (held a) id n at, e)
 
 -- a segment is gone, and the others' pages are where they were
 pub runs-without : (a b : StoreView) (id : ℕ) → held b ≡ without (held a) id → GoesOn a.swap b.swap → length b.frames ≡ length a.frames → ((s page : ℕ) → s ≢ id → frame_of b s page ≡ frame_of a s page) → Runs a b
@@ -111,11 +111,8 @@ runs-same a b is kept goes frames = record { kept = kept; locks = λ id e. rw is
 -- A SEGMENT THAT WAS MADE AND IS TAKEN BACK
 
 but-new : (gs : List SegRec) (id n : ℕ) → find_seg gs id ≡ None → but id (gs ++ new_seg id n ∷ []) ≡ gs
-but-new [] id n none = rw (eq-eqb id id refl) refl
-but-new (g ∷ gs) id n none = elim (cases_eq g.id id) [
-  | inl e ↦ (let z : Some g ≡ None = rw (eq-eqb g.id id e) at none in absurd (none-some g (sym z)))
-  | inr m ↦ rw (ne_eqb g.id id m) (ap (λ (l : List SegRec). g ∷ l) (but-new gs id n (rw (ne_eqb g.id id m) at none)))
-]
+but-new gs id n none =
+    rw (filter-append (λ (g : SegRec). not (g.id == id)) gs (new_seg id n ∷ []), filter-none gs id none, eq-eqb id id refl) (append-nil gs)
 
 taken-back : (a : StoreView) (id n : ℕ) → find_seg a.segs id ≡ None → record a { segs = but id (a.segs ++ new_seg id n ∷ []) } ≡ a
 taken-back a id n none = ap (λ (gs : List SegRec). record a { segs = gs }) (but-new a.segs id n none)
@@ -129,15 +126,7 @@ undone s t u id n sound new is dropped =
 
 -- what agrees with the same rows has the same locks
 pub agree-locks : (hs gs : List Held) (rows : List (Entry Head)) (id : ℕ) → Agree hs rows → Agree gs rows → is_locked gs id ≡ is_locked hs id
-agree-locks hs gs rows id a b = sym (by (find_held gs id)) ∙ ap lock_of (b.same id ∙ sym (a.same id)) ∙ by (find_held hs id)
-  where
-    lock_of : Option Shape → Bool
-    lock_of None = false
-    lock_of (Some s) = s.locked
-
-    by : (o : Option Held) → lock_of (option_map shape_held o) ≡ lock_in o
-    by None = refl
-    by (Some g) = refl
+agree-locks hs gs rows id a b = grind (arith, a.same id, b.same id)
 
 -- A STORE
 
@@ -162,13 +151,26 @@ runs-written a b rows ps new agree fit is kept goes frames = record {
   frames = frames;
 }
 
--- done or not, all is whole
-pub wrote-whole : {A E : Type 0} (r : Result A E) (s n : StoreView) (rows : List (Entry Head)) (pages locks : ℕ) (ps : List Span) (new : List ℕ) → IsWhole s rows pages locks → All (FitsPage (held s)) ps
-    → OnOk r (held n ≡ written (held s) ps new) → OnErr r (held n ≡ held s) → IsStoreSound n → Kept s n → GoesOn s.swap n.swap → length n.frames ≡ length s.frames → IsWhole n rows pages locks × Runs s n
-wrote-whole (Ok a) s n rows pages locks ps new w fit is same sound kept goes frames =
-    (record { kept = rw is (kept-written (held s) rows pages locks ps new w.kept fit); sound = sound }, runs-written s n rows ps new w.kept.agree fit is kept goes frames)
-wrote-whole (Err e) s n rows pages locks ps new w fit is same sound kept goes frames =
-    (record { kept = rw same w.kept; sound = sound }, runs-same s n same kept goes frames)
+-- done or not, all is whole, and the table shows what was done
+pub record Wrote {A E : Type 0} (r : Result A E) (s n : StoreView) (rows : List (Entry Head)) (pages locks : ℕ) (ps : List Span) (new : List ℕ) : Type 0 where
+  pub whole : IsWhole n rows pages locks
+  pub runs : Runs s n
+  pub written : OnOk r (joined (held n) rows ≡ stored (joined (held s) rows) (span_places false ps) new)
+  pub same : OnErr r (joined (held n) rows ≡ joined (held s) rows)
+
+pub wrote : {A E : Type 0} (r : Result A E) (s n : StoreView) (rows : List (Entry Head)) (pages locks : ℕ) (ps : List Span) (new : List ℕ) → IsWhole s rows pages locks → All (SpanFits (joined (held s) rows)) ps → sum_by len_of ps ≡ length new
+    → OnOk r (held n ≡ written (held s) ps new) → OnErr r (held n ≡ held s) → IsStoreSound n → Kept s n → GoesOn s.swap n.swap → length n.frames ≡ length s.frames → Wrote r s n rows pages locks ps new
+wrote (Ok a) s n rows pages locks ps new w fits size is same sound kept goes frames =
+    let agree = w.kept.agree in
+    let fit = spans-fit (held s) rows ps agree fits in
+    record {
+      whole = record { kept = rw is (kept-written (held s) rows pages locks ps new w.kept fit); sound = sound };
+      runs = runs-written s n rows ps new agree fit is kept goes frames;
+      written = rw is (sym (store_shown (held s) rows false ps new agree fit size));
+      same = tt;
+    }
+wrote (Err e) s n rows pages locks ps new w fits size is same sound kept goes frames =
+    record { whole = record { kept = rw same w.kept; sound = sound }; runs = runs-same s n same kept goes frames; written = tt; same = rw same refl }
 
 -- NO SEGMENT
 
@@ -193,10 +195,7 @@ whole-fresh s swap is sound =
     }
   where
     nothing : (id : ℕ) → live [] id ≡ None
-    nothing id = elim (cases_Bool (identifier (id % 32768) 0 == id)) [
-      | inl e ↦ rw e refl
-      | inr e ↦ rw e refl
-    ]
+    nothing id = grind (arith, nat_tests)
 
     same : (id : ℕ) → option_map shape_held (find_held [] id) ≡ option_map shape_row (live [] id)
     same id = sym (ap (option_map shape_row) (nothing id))

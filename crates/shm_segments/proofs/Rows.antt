@@ -1,6 +1,6 @@
 -- Segments that come and go, as the flat machine's table shows them.
-use Rattle.std.proofs.Common.{◌≡◌, ◌≢◌, ℕ, ◌+◌, ◌*◌, ◌%◌, ◌<◌, ◌≤◌, ◌==◌, ◌&&◌, if◌then◌else◌, nat_lt, Bool, true, false, List, length, replicate, Option, Some, None, is_some, is_none, option_map, refl, sym, ap, ◌∙◌, arith, inl, inr, eq-eqb, ne_eqb, length-set}
-use Rattle.std.proofs.lemmas.Bool.{cases_lt, cases_eq, true≢false}
+use Rattle.std.proofs.Common.{◌≡◌, ◌≢◌, ℕ, ◌+◌, ◌*◌, ◌%◌, ◌<◌, ◌≤◌, ◌==◌, ◌&&◌, if◌then◌else◌, nat_lt, Bool, true, false, List, length, replicate, Option, Some, None, is_some, is_none, option_map, refl, sym, ap, ◌∙◌, arith, inl, inr, eq-eqb, length-set}
+use Rattle.std.proofs.lemmas.Bool.{cases_lt, cases_eq}
 use Rattle.std.proofs.lemmas.List.{length-replicate}
 use Rattle.std.specs.Prelude.{slice_set}
 use Rattle.shm_base.specs.State.{pages_of}
@@ -17,6 +17,7 @@ use Rattle.shm_plain.proofs.Found.{find-without_same, find-without_other, find-z
 use Rattle.shm_segments.specs.declared.head.Head.{Head}
 use Rattle.shm_segments.specs.Joined.{segment_of, whole, joined, live, shape_held, shape_row, Agree}
 use Rattle.shm_segments.proofs.Joins.{at-live, set-joined, same-held}
+use Rattle.std.proofs.lemmas.Bool.Decides.{nat_tests}
 
 -- the identifier that an index has
 abbrev pub id_of : List (Entry Head) → ℕ → ℕ
@@ -24,9 +25,7 @@ id_of rows i = identifier i (entry_at rows i).destroyed
 
 -- no other identifier is live at an index
 pub live-stale : (rows : List (Entry Head)) (i at : ℕ) → at % 32768 ≡ i → at ≢ id_of rows i → live rows at ≡ None
-live-stale rows i at here other =
-    let apart : identifier (at % 32768) (entry_at rows (at % 32768)).destroyed ≢ at = λ is. other (sym is ∙ ap (id_of rows) here) in
-    rw (ne_eqb (identifier (at % 32768) (entry_at rows (at % 32768)).destroyed) at apart) refl
+live-stale rows i at here other = grind (arith, nat_tests, here, other)
 
 -- what is live is the entries' matter
 live-entry : (rows gs : List (Entry Head)) (at : ℕ) → entry_at gs (at % 32768) ≡ entry_at rows (at % 32768) → live gs at ≡ live rows at
@@ -47,26 +46,16 @@ joined-without hs rows i few small =
     (set-joined hs (without hs id) rows i (record { destroyed = (entry_at rows i).destroyed + 1; row = None }) few
     (λ at other. ap bytes_in (find-without_other hs id at (λ is. other (ap (λ n. n % 32768) is ∙ own)))))
 
-none-either : (b : Bool) (o : Option (Row Head)) → o ≡ None → (if b then o else None) ≡ None
-none-either true o e = e
-none-either false o e = refl
-
 -- nothing is live then at its index
 pub live-without_here : (rows : List (Entry Head)) (i at : ℕ) → i < length rows → at % 32768 ≡ i → live (without_row rows i) at ≡ None
-live-without_here rows i at within here =
-    let e : Entry Head = entry_at (without_row rows i) (at % 32768) in
-    let gone : e.row ≡ None = rw here (ap (λ (y : Entry Head). y.row) (at_set rows i (emptied rows i) within)) in
-    none-either (identifier (at % 32768) e.destroyed == at) e.row gone
+live-without_here rows i at within here = grind (arith, nat_tests, here, at_set rows i (emptied rows i) within)
 
 pub live-without_other : (rows : List (Entry Head)) (i at : ℕ) → at % 32768 ≢ i → live (without_row rows i) at ≡ live rows at
 live-without_other rows i at other = live-entry rows (without_row rows i) at (at_set_other rows i (at % 32768) (emptied rows i) other)
 
 -- what was not destroyed is live as before
 pub live-without : (rows : List (Entry Head)) (i at : ℕ) → i < length rows → at ≢ id_of rows i → live (without_row rows i) at ≡ live rows at
-live-without rows i at within apart = elim (cases_eq (at % 32768) i) [
-  | inl here ↦ live-without_here rows i at within here ∙ sym (live-stale rows i at here apart)
-  | inr other ↦ live-without_other rows i at other
-]
+live-without rows i at within apart = grind (arith, nat_tests, cases_eq (at % 32768) i, live-without_here rows i at within, live-stale rows i at, live-without_other rows i at, apart)
 
 pub agree-without : (hs : List Held) (rows : List (Entry Head)) (i : ℕ) → Agree hs rows → i < length rows → Agree (without hs (id_of rows i)) (without_row rows i)
 agree-without hs rows i agree within =
@@ -98,8 +87,7 @@ pub record IsFree (rows : List (Entry Head)) (i : ℕ) : Type 0 where
   pub none : (entry_at rows i).row ≡ None
 
 none-free : (r : Option (Row Head)) (b : Bool) → (is_none r && b) ≡ true → r ≡ None
-none-free None b free = refl
-none-free (Some r) b free = absurd (true≢false (sym free))
+none-free r b free = grind (arith, nat_tests)
 
 pub index-free : (rows : List (Entry Head)) (i : ℕ) → length rows ≤ 32768 → free_index rows ≡ Some i → IsFree rows i
 index-free rows i few is =
@@ -151,12 +139,8 @@ live-with_row_same rows i key v free =
     rw (own, at_row rows i key v free.within, eq-eqb (id_of rows i) (id_of rows i) refl) refl
 
 pub live-with_row_other : (rows : List (Entry Head)) (i at key : ℕ) (v : Head) → IsFree rows i → at ≢ id_of rows i → live (with_row rows i key v) at ≡ live rows at
-live-with_row_other rows i at key v free apart = elim (cases_eq (at % 32768) i) [
-  | inl here ↦
-      (let other : identifier i (entry_at rows i).destroyed ≢ at = λ is. apart (sym is) in
-      rw (here, at_row rows i key v free.within, ne_eqb (id_of rows i) at other) refl)
-  | inr away ↦ live-entry rows (with_row rows i key v) at (at_row_other rows i (at % 32768) key v free.within away)
-]
+live-with_row_other rows i at key v free apart =
+    grind (arith, nat_tests, cases_eq (at % 32768) i, at_row rows i key v free.within, at_row_other rows i (at % 32768) key v free.within)
 
 pub agree-with_row : (hs : List Held) (rows : List (Entry Head)) (i key pages : ℕ) (v : Head) → Agree hs rows → IsFree rows i → v.locked ≡ false → pages ≡ pages_of v.size
     → Agree (with_zeros hs (id_of rows i) pages) (with_row rows i key v)

@@ -1,5 +1,5 @@
 -- Changes of a table that leave alone how many pages each segment has, which are locked, and which are marked.
-use Rattle.std.proofs.Common.{◌≡◌, ◌≢◌, ◌⊎◌, ℕ, ◌/◌, ◌%◌, List, [], ◌∷◌, length, slice_get, slice_set, Option, Some, None, refl, ap, ◌∙◌, inl, inr, eq-eqb, ne_eqb}
+use Rattle.std.proofs.Common.{◌≡◌, ℕ, ◌%◌, List, [], ◌∷◌, length, slice_get, slice_set, Option, Some, None, refl, ◌∙◌, arith}
 use Rattle.std.proofs.lemmas.Bool.{cases_eq}
 use Rattle.std.specs.Prelude.{is_some, option_map}
 use Rattle.shm_base.specs.State.{Segment, Entry, Runner}
@@ -8,6 +8,7 @@ use Rattle.shm_base.specs.Segments.{change, with_entry, pages_held, pages_locked
 use Rattle.shm_segments.specs.Table.{live, live_in, pages_at}
 use Rattle.shm_segments.specs.Left.{is_left, orphan_in, orphan, id_in, id_at}
 use Rattle.shm_segments.proofs.Entries.{get-set_same, get-set_other, length-slice_set, sum-set_same}
+use Rattle.std.proofs.lemmas.Bool.Decides.{nat_tests}
 
 -- two segments, or none, of as many pages
 pub record AlikePages (o p : Option Segment) : Type 0 where
@@ -50,18 +51,10 @@ same-trans t u v a b =
 
 -- a word on what stands at an index is the same where it is so for the entry that was set
 at-set : {Y : Type 0} (w : Option Entry → Y) (t : List Entry) (i j : ℕ) (e x : Entry) → slice_get t i ≡ Some x → w (Some e) ≡ w (Some x) → w (slice_get (slice_set t i e) j) ≡ w (slice_get t j)
-at-set w t i j e x there same = by (cases_eq i j)
-  where
-    by : (i ≡ j) ⊎ (i ≢ j) → w (slice_get (slice_set t i e) j) ≡ w (slice_get t j)
-    by (inl h) = rw (← h, get-set_same t i e x there, there) same
-    by (inr n) = ap w (get-set_other t i j e n)
+at-set w t i j e x there same = grind (arith, cases_eq i j, get-set_same t i e x there, get-set_other t i j e, there, same)
 
 live-alike : (id d : ℕ) (o p : Option Segment) → AlikePages o p → (pages_held (live_in id (Some (record { destroyed = d; segment = p }))) ≡ pages_held (live_in id (Some (record { destroyed = d; segment = o })))) × (is_some (live_in id (Some (record { destroyed = d; segment = p }))) ≡ is_some (live_in id (Some (record { destroyed = d; segment = o }))))
-live-alike id d o p a = by (cases_eq d (id / 32768))
-  where
-    by : (d ≡ id / 32768) ⊎ (d ≢ id / 32768) → (pages_held (live_in id (Some (record { destroyed = d; segment = p }))) ≡ pages_held (live_in id (Some (record { destroyed = d; segment = o })))) × (is_some (live_in id (Some (record { destroyed = d; segment = p }))) ≡ is_some (live_in id (Some (record { destroyed = d; segment = o }))))
-    by (inl h) = rw (eq-eqb d (id / 32768) h) (a.pages, a.some)
-    by (inr n) = rw (ne_eqb d (id / 32768) n) (refl, refl)
+live-alike id d o p a = grind (arith, nat_tests, a.pages, a.some)
 
 -- one entry set to one of as many pages
 pub set-pages : (t : List Entry) (i : ℕ) (x : Entry) (p : Option Segment) → slice_get t i ≡ Some x → AlikePages x.segment p → SamePages t (slice_set t i (record { destroyed = x.destroyed; segment = p }))
@@ -72,27 +65,13 @@ set-pages t i x p there a =
       reserved = sum-set_same (λ (y : Entry). pages_held y.segment) t i e x there a.pages;
       pages = λ id. at-set (λ o. pages_held (live_in id o)) t i (id % 32768) e x there (live-alike id x.destroyed x.segment p a).0;
       there = λ id. at-set (λ o. is_some (live_in id o)) t i (id % 32768) e x there (live-alike id x.destroyed x.segment p a).1;
-      ids = λ j. by j (cases_eq i j);
+      ids = λ j. at-set (id_in j) t i j e x there refl;
     }
-  where
-    e : Entry
-    e = record { destroyed = x.destroyed; segment = p }
-
-    by : (j : ℕ) → (i ≡ j) ⊎ (i ≢ j) → id_at (slice_set t i e) j ≡ id_at t j
-    by j (inl h) = rw (← h, get-set_same t i e x there, there) refl
-    by j (inr n) = ap (id_in j) (get-set_other t i j e n)
 
 -- what is marked where one entry is set to one that is marked alike
 pub set-left : (t : List Entry) (i : ℕ) (x : Entry) (p : Option Segment) → slice_get t i ≡ Some x → ((rs : List Runner) (id : ℕ) → is_left rs id p ≡ is_left rs id x.segment)
     → (rs : List Runner) (j : ℕ) → orphan rs (slice_set t i (record { destroyed = x.destroyed; segment = p })) j ≡ orphan rs t j
-set-left t i x p there a rs j = by (cases_eq i j)
-  where
-    e : Entry
-    e = record { destroyed = x.destroyed; segment = p }
-
-    by : (i ≡ j) ⊎ (i ≢ j) → orphan rs (slice_set t i e) j ≡ orphan rs t j
-    by (inl h) = rw (← h, get-set_same t i e x there, there) (a rs _)
-    by (inr n) = ap (orphan_in j rs) (get-set_other t i j e n)
+set-left t i x p there a rs j = at-set (orphan_in j rs) t i j (record { destroyed = x.destroyed; segment = p }) x there (a rs _)
 
 -- A CHANGE OF ONE SEGMENT
 
@@ -102,12 +81,10 @@ module _ (f : Segment → Segment) where
   mapped-pages k (Some s) = record { pages = rw (k s) refl; some = refl }
 
   mapped-locked : ((s : Segment) → length (f s).bytes ≡ length s.bytes) → ((s : Segment) → (f s).locked ≡ s.locked) → (o : Option Segment) → pages_locked (option_map f o) ≡ pages_locked o
-  mapped-locked k l None = refl
-  mapped-locked k l (Some s) = rw (k s, l s) refl
+  mapped-locked k l o = grind (arith, nat_tests, k, l)
 
   mapped-left : ((s : Segment) → (f s).dest ≡ s.dest) → (o : Option Segment) (rs : List Runner) (id : ℕ) → is_left rs id (option_map f o) ≡ is_left rs id o
-  mapped-left k None rs id = refl
-  mapped-left k (Some s) rs id = rw (k s) refl
+  mapped-left k o rs id = grind (arith, k)
 
   in-pages : ((s : Segment) → length (f s).bytes ≡ length s.bytes) → (t : List Entry) (i : ℕ) (o : Option Entry) → slice_get t i ≡ o → SamePages t (set_in t i (with_entry f) o)
   in-pages k t i None is = pages-refl t

@@ -1,9 +1,9 @@
 -- Loads and stores over stretches, as the flat machine's table shows them.
-use Rattle.std.proofs.Common.{◌≡◌, ℕ, zero, suc, ◌+◌, ◌%◌, ◌^◌, ◌≤◌, Bool, true, false, List, [], ◌∷◌, ◌++◌, length, set, take, drop, map, Option, Some, None, is_some, option_map, refl, sym, ap, ◌∙◌, arith, inl, inr}
-use Rattle.std.proofs.lemmas.Bool.Decides.{eqb_tells}
+use Rattle.std.proofs.Common.{◌≡◌, ℕ, zero, suc, ◌+◌, ◌%◌, ◌≤◌, Bool, true, false, List, [], ◌∷◌, ◌++◌, length, set, take, drop, map, Option, Some, None, is_some, option_map, refl, sym, ap, ◌∙◌, arith}
+use Rattle.std.proofs.lemmas.Bool.Decides.{nat_tests}
 use Rattle.std.proofs.lemmas.Grind.{common_steps}
 use Rattle.std.proofs.lemmas.List.{set-get_or}
-use Rattle.std.specs.Int.{w64, from_le_bytes, to_le_bytes}
+use Rattle.std.specs.Int.{w64, from_le_bytes}
 use Rattle.std.specs.Prelude.{slice_set, slice_index, sum_by, All}
 use Rattle.shm_base.specs.Access.{Place, set_in, with_byte, entry_byte_set, stored, loaded, byte_at, bytes_at, bytes_at_entry}
 use Rattle.shm_base.specs.declared.paging.Span.{Span}
@@ -104,22 +104,14 @@ load_shown hs rows w ps agree fit =
     let fits = each (FitsPage hs) ps fit in
     loaded-joined (span_places w ps) hs rows (live-spans ps w hs rows agree fits) ∙ get-spans ps w hs fits
 
--- an addition shows as one at the places
-pub add_shown : (hs : List Held) (rows : List (Entry Head)) (ps : List Span) (more : ℕ) → Agree hs rows → All (FitsPage hs) ps → sum_by len_of ps ≡ 8
-    → joined (store.added hs ps more) rows ≡ table.added (joined hs rows) (span_places false ps) more
-add_shown hs rows ps more agree fit size =
-    let number : table.number_at (joined hs rows) (span_places false ps) ≡ store.number_in hs ps = ap (from_le_bytes w64) (load_shown hs rows false ps agree fit) in
-    let new = to_le_bytes w64 ((store.number_in hs ps + more) % 2 ^ 64) in
-    let eight : length new ≡ 8 = refl in
-    rw number (sym (store_shown hs rows false ps new agree fit (size ∙ sym eight)))
+-- the number that stands there
+pub number_shown : (hs : List Held) (rows : List (Entry Head)) (ps : List Span) → Agree hs rows → All (FitsPage hs) ps → table.number_at (joined hs rows) (span_places false ps) ≡ store.number_in hs ps
+number_shown hs rows ps agree fit = ap (from_le_bytes w64) (load_shown hs rows false ps agree fit)
 
 -- WHAT A STORE LEAVES
 
 paste-shape : (p : Span) (new : List ℕ) (g : Held) → (g.id ≡ p.seg → p.at + length new ≤ length g.bytes) → shape_held (pasted p.seg p.at new g) ≡ shape_held g
-paste-shape p new g fits = elim (eqb_tells g.id p.seg) [
-  | inl w ↦ rw w.0 (ap (λ n. record { locked = g.locked; size = n }) (length-paste g.bytes p.at new (fits w.1)))
-  | inr w ↦ rw w.0 refl
-]
+paste-shape p new g fits = grind (arith, nat_tests, length-paste g.bytes p.at new, fits)
 
 pub agree-pasted : (hs : List Held) (rows : List (Entry Head)) (p : Span) (new : List ℕ) → Agree hs rows → FitsPage hs p → length new ≤ p.len → Agree (map (pasted p.seg p.at new) hs) rows
 agree-pasted hs rows p new agree fit few =

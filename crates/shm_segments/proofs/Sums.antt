@@ -1,13 +1,13 @@
 -- Segments and pages counted over the rows.
-use Rattle.std.proofs.Common.{◌≡◌, ℕ, suc, ◌+◌, ◌*◌, ◌/◌, ◌%◌, ◌<◌, ◌≤◌, if◌then◌else◌, false, List, [], ◌∷◌, length, Option, Some, None, refl, sym, ap, ◌∙◌, arith, inl, inr}
+use Rattle.std.proofs.Common.{◌≡◌, ℕ, suc, ◌+◌, ◌*◌, ◌%◌, ◌<◌, ◌≤◌, false, List, [], ◌∷◌, length, Option, Some, None, refl, ap, ◌∙◌, arith, inl, inr}
 use Rattle.std.proofs.lemmas.Bool.{cases_eq}
 use Rattle.std.proofs.lemmas.List.Sums.{sum_by-cons, sum_by-set, sum_by_push, get_or-le-sum_by}
 use Rattle.std.specs.Prelude.{sum_by}
-use Rattle.shm_base.specs.State.{Entry as FlatEntry, pages_of}
+use Rattle.shm_base.specs.State.{Segment, Entry as FlatEntry, pages_of}
 use Rattle.shm_base.specs.Segments.{reserved, locked, segment_count, pages_held, pages_locked}
 use Rattle.shm_ids.specs.declared.table.Entry.{Entry}
 use Rattle.shm_ids.specs.declared.table.Row.{Row}
-use Rattle.shm_ids.specs.Table.{identifier, unused, entry_at, held, with_row, with_value, with_key, without_row, row_count}
+use Rattle.shm_ids.specs.Table.{identifier, unused, entry_at, held, with_row, without_row, row_count}
 use Rattle.shm_ids.specs.Flat.{flat_row, flat_entry, flat_from}
 use Rattle.shm_ids.proofs.Entries.{with_row-within, with_row-end}
 use Rattle.shm_ids.proofs.Flat.{segment_count-flat}
@@ -15,8 +15,9 @@ use Rattle.shm_plain.specs.Held.{Held, bytes_of}
 use Rattle.shm_segments.specs.declared.head.Head.{Head}
 use Rattle.shm_segments.specs.Joined.{whole, joined, live, pages_in_row, locked_in_row, pages_of_rows, locked_of_rows, Agree}
 use Rattle.shm_segments.proofs.Joins.{at-live, held-as, live-at}
-use Rattle.shm_segments.proofs.Edits.{with_other, other-value, other-both}
+use Rattle.shm_segments.proofs.Edits.{with_other}
 use Rattle.shm_segments.proofs.Rows.{IsFree}
+use Rattle.std.proofs.lemmas.Bool.Decides.{nat_tests}
 
 -- THE TABLE'S SUMS
 
@@ -41,31 +42,23 @@ row-pages hs id (Some r) whole = let size = whole r refl in omega (arith, size)
 
 row-locked : (hs : List Held) (id : ℕ) (o : Option (Row Head)) → ((r : Row Head) → o ≡ Some r → length (bytes_of hs id) ≡ 4096 * pages_of r.value.size) → pages_locked (flat_row (whole hs) id o) ≡ locked_in_row o
 row-locked hs id None whole = refl
-row-locked hs id (Some r) whole =
-    let size : length (bytes_of hs id) / 4096 ≡ pages_of r.value.size = let size = whole r refl in omega (arith, size) in
-    ap (λ n. if r.value.locked then n else 0) size
+row-locked hs id (Some r) whole = grind (arith, nat_tests, whole r refl)
 
-reserved-from : (n : ℕ) (hs : List Held) (rows : List (Entry Head)) → AreWhole n hs rows → reserved (flat_from (whole hs) n rows) ≡ pages_of_rows rows
-reserved-from n hs [] all = refl
-reserved-from n hs (e ∷ es) all =
-    sum_by-cons (λ (x : FlatEntry). pages_held x.segment) (flat_entry (whole hs) n e) (flat_from (whole hs) (n + 1) es)
-    ∙ ap (λ m. pages_held (flat_row (whole hs) (identifier n e.destroyed) e.row) + m) (reserved-from (n + 1) hs es (rest-whole n hs e es all))
-    ∙ ap (λ m. m + pages_of_rows es) (row-pages hs (identifier n e.destroyed) e.row (first-whole n hs e es all))
-    ∙ sym (sum_by-cons (λ (x : Entry Head). pages_in_row x.row) e es)
-
-locked-from : (n : ℕ) (hs : List Held) (rows : List (Entry Head)) → AreWhole n hs rows → locked (flat_from (whole hs) n rows) ≡ locked_of_rows rows
-locked-from n hs [] all = refl
-locked-from n hs (e ∷ es) all =
-    sum_by-cons (λ (x : FlatEntry). pages_locked x.segment) (flat_entry (whole hs) n e) (flat_from (whole hs) (n + 1) es)
-    ∙ ap (λ m. pages_locked (flat_row (whole hs) (identifier n e.destroyed) e.row) + m) (locked-from (n + 1) hs es (rest-whole n hs e es all))
-    ∙ ap (λ m. m + locked_of_rows es) (row-locked hs (identifier n e.destroyed) e.row (first-whole n hs e es all))
-    ∙ sym (sum_by-cons (λ (x : Entry Head). locked_in_row x.row) e es)
+-- a sum over the segments is one over the rows
+sum-from : (weigh : Option Segment → ℕ) (f : Option (Row Head) → ℕ) (hs : List Held) → ((id : ℕ) (o : Option (Row Head)) → ((r : Row Head) → o ≡ Some r → length (bytes_of hs id) ≡ 4096 * pages_of r.value.size) → weigh (flat_row (whole hs) id o) ≡ f o)
+    → (n : ℕ) (rows : List (Entry Head)) → AreWhole n hs rows → sum_by (λ (x : FlatEntry). weigh x.segment) (flat_from (whole hs) n rows) ≡ sum_by (λ (e : Entry Head). f e.row) rows
+sum-from weigh f hs one n [] all = refl
+sum-from weigh f hs one n (e ∷ es) all =
+    let here = one (identifier n e.destroyed) e.row (first-whole n hs e es all) in
+    let rest = sum-from weigh f hs one (n + 1) es (rest-whole n hs e es all) in
+    let entry : FlatEntry = flat_entry (whole hs) n e in
+    omega (arith, here, rest, sum_by-cons (λ (x : FlatEntry). weigh x.segment) entry (flat_from (whole hs) (n + 1) es), sum_by-cons (λ (x : Entry Head). f x.row) e es)
 
 pub reserved-joined : (hs : List Held) (rows : List (Entry Head)) → Agree hs rows → reserved (joined hs rows) ≡ pages_of_rows rows
-reserved-joined hs rows agree = reserved-from 0 hs rows (all-whole hs rows agree)
+reserved-joined hs rows agree = sum-from pages_held pages_in_row hs (row-pages hs) 0 rows (all-whole hs rows agree)
 
 pub locked-joined : (hs : List Held) (rows : List (Entry Head)) → Agree hs rows → locked (joined hs rows) ≡ locked_of_rows rows
-locked-joined hs rows agree = locked-from 0 hs rows (all-whole hs rows agree)
+locked-joined hs rows agree = sum-from pages_locked locked_in_row hs (row-locked hs) 0 rows (all-whole hs rows agree)
 
 pub segment_count-joined : (hs : List Held) (rows : List (Entry Head)) → segment_count (joined hs rows) ≡ row_count rows
 segment_count-joined hs rows = segment_count-flat (whole hs) 0 rows
@@ -114,13 +107,6 @@ pages-with_other rows id r s there size =
     let same : pages_of s.value.size ≡ pages_of r.value.size = ap pages_of size in
     omega (arith, moved, same)
 
-pub pages-with_value : (rows : List (Entry Head)) (id : ℕ) (r : Row Head) (v : Head) → live rows id ≡ Some r → v.size ≡ r.value.size → pages_of_rows (with_value rows (id % 32768) v) ≡ pages_of_rows rows
-pages-with_value rows id r v there size = ap pages_of_rows (other-value rows id r v there) ∙ pages-with_other rows id r (record r { value = v }) there size
-
-pub pages-with_both : (rows : List (Entry Head)) (id : ℕ) (r : Row Head) (key : ℕ) (v : Head) → live rows id ≡ Some r → v.size ≡ r.value.size
-    → pages_of_rows (with_key (with_value rows (id % 32768) v) (id % 32768) key) ≡ pages_of_rows rows
-pages-with_both rows id r key v there size = ap pages_of_rows (other-both rows id r key v there) ∙ pages-with_other rows id r (record { key = key; value = v }) there size
-
 -- LOCKED PAGES
 
 pub locked-with_row : (rows : List (Entry Head)) (i key : ℕ) (v : Head) → IsFree rows i → v.locked ≡ false → locked_of_rows (with_row rows i key v) ≡ locked_of_rows rows
@@ -135,25 +121,12 @@ locked-without_row rows i r within there = sum-without_row locked_in_row refl ro
 pub locked-with_other : (rows : List (Entry Head)) (id : ℕ) (r s : Row Head) → live rows id ≡ Some r → locked_of_rows (with_other rows id s) + locked_in_row (Some r) ≡ locked_of_rows rows + locked_in_row (Some s)
 locked-with_other rows id r s there = sum-other locked_in_row refl rows id r s there
 
-pub locked-with_value : (rows : List (Entry Head)) (id : ℕ) (r : Row Head) (v : Head) → live rows id ≡ Some r
-    → locked_of_rows (with_value rows (id % 32768) v) + locked_in_row (Some r) ≡ locked_of_rows rows + locked_in_row (Some (record r { value = v }))
-locked-with_value rows id r v there =
-    ap (λ n. n + locked_in_row (Some r)) (ap locked_of_rows (other-value rows id r v there)) ∙ locked-with_other rows id r (record r { value = v }) there
-
 -- the same where size and lock stay
-pub locked-value_same : (rows : List (Entry Head)) (id : ℕ) (r : Row Head) (v : Head) → live rows id ≡ Some r → v.size ≡ r.value.size → v.locked ≡ r.value.locked
-    → locked_of_rows (with_value rows (id % 32768) v) ≡ locked_of_rows rows
-locked-value_same rows id r v there size lock =
-    let moved = locked-with_value rows id r v there in
-    let same : locked_in_row (Some (record r { value = v })) ≡ locked_in_row (Some r) = rw (size, lock) refl in
+pub locked-other_same : (rows : List (Entry Head)) (id : ℕ) (r s : Row Head) → live rows id ≡ Some r → s.value.size ≡ r.value.size → s.value.locked ≡ r.value.locked → locked_of_rows (with_other rows id s) ≡ locked_of_rows rows
+locked-other_same rows id r s there size lock =
+    let moved = locked-with_other rows id r s there in
+    let same : locked_in_row (Some s) ≡ locked_in_row (Some r) = rw (size, lock) refl in
     omega (arith, moved, same)
-
-pub locked-with_both : (rows : List (Entry Head)) (id : ℕ) (r : Row Head) (key : ℕ) (v : Head) → live rows id ≡ Some r → v.size ≡ r.value.size → v.locked ≡ r.value.locked
-    → locked_of_rows (with_key (with_value rows (id % 32768) v) (id % 32768) key) ≡ locked_of_rows rows
-locked-with_both rows id r key v there size lock =
-    let moved = locked-with_other rows id r (record { key = key; value = v }) there in
-    let same : locked_in_row (Some (record { key = key; value = v })) ≡ locked_in_row (Some r) = rw (size, lock) refl in
-    ap locked_of_rows (other-both rows id r key v there) ∙ omega (arith, moved, same)
 
 -- a locked segment's pages are among those of all locked ones, and these among all
 pub locked-within : (rows : List (Entry Head)) (id : ℕ) (r : Row Head) → live rows id ≡ Some r → locked_in_row (Some r) ≤ locked_of_rows rows

@@ -10,6 +10,4 @@ returns-in-Some c =
     omega (arith, is, c.len.ensures, c.in-Some.table.now.pages.ok.0)
 
 pub returns-in-None : goal.returns-in-None
-returns-in-None c =
-    let found = find-lookup c.self.inside.by_id.entries c.args.id in
-    rw (← c.self.view_is, found, ← c.in-None.ensures.value) refl
+returns-in-None c = rw (← c.self.view_is, find-lookup, ← c.in-None.ensures.value) refl

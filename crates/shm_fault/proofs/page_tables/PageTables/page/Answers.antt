@@ -3,11 +3,7 @@ use Rattle.shm_fault.proofs.Entries.{find-lookup}
 use Rattle.shm_fault.proofs.page_tables.PageTables.page.Goals as goal
 
 pub returns-in-None : goal.returns-in-None
-returns-in-None c =
-    let found = find-lookup c.self.inside.by_id.entries c.args.page.seg in
-    rw (← c.self.view_is, found, ← c.in-None.ensures.value) refl
+returns-in-None c = rw (← c.self.view_is, find-lookup, ← c.in-None.ensures.value) refl
 
 pub returns-in-Some : goal.returns-in-Some
-returns-in-Some c =
-    let found = find-lookup c.self.inside.by_id.entries c.args.page.seg in
-    rw (← c.self.view_is, found, ← c.in-Some.ensures.value) c.place_at.ensures
+returns-in-Some c = rw (← c.self.view_is, find-lookup, ← c.in-Some.ensures.value) c.place_at.ensures

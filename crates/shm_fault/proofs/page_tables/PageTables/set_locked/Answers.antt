@@ -1,8 +1,10 @@
 use Rattle.std.proofs.Common.{refl, sym}
 use Rattle.shm_fault.specs.Segs.{SegRec}
 use Rattle.shm_fault.specs.Entries.{segs_view}
-use Rattle.shm_fault.proofs.Entries.{edit-none, edit-view, apart-edit, entry-from, value_there}
+use Rattle.indexmap.specs.IndexMap.{set_value_at}
+use Rattle.shm_fault.proofs.Entries.{edit-none, IsEdited, edited, value_there}
 use Rattle.shm_fault.proofs.page_tables.PageTables.set_locked.Goals as goal
+use Rattle.shm_fault.proofs.page_tables.PageTables.set_locked.Goals.{In-Some-get_index_mut}
 
 pub returns-in_default : goal.returns-in_default
 returns-in_default c =
@@ -13,19 +15,15 @@ pub unreachable-requires : goal.unreachable-requires
 unreachable-requires c =
     value_there c.self.inside.by_id.entries c.in-Some.index c.args.id c.in-Some.ensures.some (sym c.in_default-get_index_mut.ensures.value)
 
-pub invariant_of-self : goal.invariant_of-self
-invariant_of-self c =
-    let es = c.self.inside.by_id.entries in
+done : (c : In-Some-get_index_mut) → IsEdited (λ (g : SegRec). record g { locked = c.args.locked }) c.args.id c.self.inside.by_id.entries
+    (set_value_at c.self.inside.by_id.entries c.in-Some.index (record c.in-Some-get_index_mut.table.now { locked = c.args.locked }))
+done c =
     let w = c.in-Some-get_index_mut.table.now in
-    let at = entry-from es c.in-Some.index c.args.id w c.in-Some.ensures.some c.in-Some-get_index_mut.ensures.value in
-    let lock = λ (g : SegRec). record g { locked = c.args.locked } in
-    rw (edit-view lock es c.in-Some.index c.args.id w (record w { locked = c.args.locked }) c.self.invariant at refl)
-    (apart-edit lock (λ g. refl) (segs_view es) c.args.id c.self.invariant)
+    edited (λ (g : SegRec). record g { locked = c.args.locked }) (λ g. refl) c.self.inside.by_id.entries c.in-Some.index c.args.id w (record w { locked = c.args.locked })
+    c.self.invariant c.in-Some.ensures.some c.in-Some-get_index_mut.ensures.value refl
+
+pub invariant_of-self : goal.invariant_of-self
+invariant_of-self c = (done (goal.at.invariant_of-self c).In-Some-get_index_mut).apart
 
 pub returns : goal.returns
-returns c =
-    let es = c.self.inside.by_id.entries in
-    let w = c.in-Some-get_index_mut.table.now in
-    let at = entry-from es c.in-Some.index c.args.id w c.in-Some.ensures.some c.in-Some-get_index_mut.ensures.value in
-    let lock = λ (g : SegRec). record g { locked = c.args.locked } in
-    rw (← c.self.view_is) (edit-view lock es c.in-Some.index c.args.id w (record w { locked = c.args.locked }) c.self.invariant at refl)
+returns c = rw (← c.self.view_is) (done (goal.at.returns c).In-Some-get_index_mut).view

@@ -1,9 +1,10 @@
-use Rattle.std.proofs.Common.{◌≡◌, ◌<◌, List, set, refl, sym, ap}
+use Rattle.std.proofs.Common.{List, set, refl, sym, ap}
+use Rattle.indexmap.specs.IndexMap.{set_value_at}
 use Rattle.shm_fault.specs.declared.page_tables.PageRec.{PageRec}
-use Rattle.shm_fault.specs.Segs.{SegRec, count_by_id}
-use Rattle.shm_fault.specs.Entries.{segs_view}
-use Rattle.shm_fault.proofs.Entries.{edit-view, apart-edit, entry-from, value_there, find-entry, seg_of}
+use Rattle.shm_fault.specs.Segs.{SegRec}
+use Rattle.shm_fault.proofs.Entries.{IsEdited, edited, entry-from, value_there, find-entry}
 use Rattle.shm_fault.proofs.page_tables.PageTables.set_page.Goals as goal
+use Rattle.shm_fault.proofs.page_tables.PageTables.set_page.Goals.{After-set_place}
 
 pub unreachable-requires : goal.unreachable-requires
 unreachable-requires c =
@@ -14,24 +15,18 @@ set_place-requires c =
     let es = c.self.inside.by_id.entries in
     let w = c.in-Some-get_index_mut.table.now in
     let at = entry-from es c.in-Some.index c.args.page.seg w c.in-Some.ensures.some c.in-Some-get_index_mut.ensures.value in
-    let has : c.args.page.page < count_by_id (segs_view es) c.args.page.seg = rw (← c.self.view_is) at c.requires in
-    rw (find-entry es c.in-Some.index c.args.page.seg w c.self.invariant at) at has
+    rw (find-entry es c.in-Some.index c.args.page.seg w c.self.invariant at) at (rw (← c.self.view_is) at c.requires)
+
+done : (c : After-set_place) → IsEdited (λ (g : SegRec). record g { pages = set g.pages c.args.page.page c.args.place }) c.args.page.seg c.self.inside.by_id.entries
+    (set_value_at c.self.inside.by_id.entries c.in-Some.index (record { locked = c.in-Some-get_index_mut.table.now.locked; pages = c.set_place.new.pages }))
+done c =
+    let w = c.in-Some-get_index_mut.table.now in
+    let placed = ap (λ (ps : List PageRec). record { id = c.args.page.seg; locked = w.locked; pages = ps }) c.set_place.ensures in
+    edited (λ (g : SegRec). record g { pages = set g.pages c.args.page.page c.args.place }) (λ g. refl) c.self.inside.by_id.entries c.in-Some.index c.args.page.seg w
+    (record { locked = w.locked; pages = c.set_place.new.pages }) c.self.invariant c.in-Some.ensures.some c.in-Some-get_index_mut.ensures.value placed
 
 pub invariant_of-self : goal.invariant_of-self
-invariant_of-self c =
-    let es = c.self.inside.by_id.entries in
-    let w = c.in-Some-get_index_mut.table.now in
-    let at = entry-from es c.in-Some.index c.args.page.seg w c.in-Some.ensures.some c.in-Some-get_index_mut.ensures.value in
-    let edit = λ (g : SegRec). record g { pages = set g.pages c.args.page.page c.args.place } in
-    let placed : seg_of c.args.page.seg (record { locked = w.locked; pages = c.set_place.new.pages }) ≡ edit (seg_of c.args.page.seg w) = ap (λ (ps : List PageRec). record { id = c.args.page.seg; locked = w.locked; pages = ps }) c.set_place.ensures in
-    rw (edit-view edit es c.in-Some.index c.args.page.seg w (record { locked = w.locked; pages = c.set_place.new.pages }) c.self.invariant at placed)
-    (apart-edit edit (λ g. refl) (segs_view es) c.args.page.seg c.self.invariant)
+invariant_of-self c = (done (goal.at.invariant_of-self c).After-set_place).apart
 
 pub returns : goal.returns
-returns c =
-    let es = c.self.inside.by_id.entries in
-    let w = c.in-Some-get_index_mut.table.now in
-    let at = entry-from es c.in-Some.index c.args.page.seg w c.in-Some.ensures.some c.in-Some-get_index_mut.ensures.value in
-    let edit = λ (g : SegRec). record g { pages = set g.pages c.args.page.page c.args.place } in
-    let placed : seg_of c.args.page.seg (record { locked = w.locked; pages = c.set_place.new.pages }) ≡ edit (seg_of c.args.page.seg w) = ap (λ (ps : List PageRec). record { id = c.args.page.seg; locked = w.locked; pages = ps }) c.set_place.ensures in
-    rw (← c.self.view_is) (edit-view edit es c.in-Some.index c.args.page.seg w (record { locked = w.locked; pages = c.set_place.new.pages }) c.self.invariant at placed)
+returns c = rw (← c.self.view_is) (done (goal.at.returns c).After-set_place).view

@@ -9,4 +9,5 @@ returns-in_err-here-clause-access g c =
 
 pub returns-clause-access : goal.returns-clause-access
 returns-clause-access g c =
-    accessed c.args.self.now c.bring.new.self c.store_spans.new.self c.store_spans.ensures.rest c.store_spans.ensures.count c.store_spans.ensures.bits c.store_spans.ensures.sound c.args.spans.now c.in_ok-here.here c.in_ok-here.touched c.requires.few c.in_ok-here.ensures.brings c.in_ok-here.ensures.here
+    let e = c.store_spans.ensures in
+    rw e.rest (accessed c.args.self.now c.bring.new.self c.store_spans.new.self.frames e.count e.bits (rw e.rest at e.sound) c.args.spans.now c.in_ok-here.here c.in_ok-here.touched c.requires.few c.in_ok-here.ensures.brings c.in_ok-here.ensures.here)

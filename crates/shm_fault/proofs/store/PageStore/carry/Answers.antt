@@ -2,6 +2,7 @@ use Rattle.std.proofs.Common.{◌≡◌, None, Some, refl, ap}
 use Rattle.shm_fault.specs.declared.page_tables.PageRec.{PageRec}
 use Rattle.shm_fault.specs.Segs.{rec_by, HasPage}
 use Rattle.shm_fault.proofs.Seen.{seen}
+use Rattle.shm_fault.proofs.Sound.{slot-own}
 use Rattle.shm_fault.proofs.Pages.{has-slot, still-with}
 use Rattle.shm_fault.proofs.Changes.{Keeps}
 use Rattle.shm_fault.proofs.Areas.{has-room, keeps-carried, keeps-owned, cleared-relocated}
@@ -24,11 +25,8 @@ kept g c =
 pub relocate-requires-clause-room : goal.relocate-requires-clause-room
 relocate-requires-clause-room g c =
     let o = (goal.at.relocate-requires-clause-room g c).After-self in
-    let own = ((c.self.invariant.tied.pages c.args.page (has g o)).slot_owned c.args.slot (ap (λ (p : PageRec). p.slot) (place g o))).1 in
+    let own = (slot-own (seen c.self.inside) c.self.invariant c.args.page c.args.slot (ap (λ (p : PageRec). p.slot) (place g o))).1 in
     has-room (seen c.self.inside) c.self.invariant c.args.slot c.args.page own (rw (← c.self.view_is) at c.requires.room)
-
-pub set_page-requires : goal.set_page-requires
-set_page-requires g c = has g (goal.at.set_page-requires g c).After-self
 
 pub invariant_of-self : goal.invariant_of-self
 invariant_of-self g c = (kept g c).sound

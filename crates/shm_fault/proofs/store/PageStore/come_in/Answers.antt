@@ -4,9 +4,11 @@ use Rattle.shm_base.specs.declared.paging.PageRef.{PageRef}
 use Rattle.shm_base.specs.declared.paging.Slot.{Slot}
 use Rattle.shm_slots.specs.View.{HasSlot}
 use Rattle.shm_fault.specs.declared.touched.Move.TheVariants.{Came}
-use Rattle.shm_fault.specs.Segs.{rec_by, HasPage}
+use Rattle.shm_fault.specs.Segs.{rec_by}
 use Rattle.shm_fault.specs.Store.{StoreView}
-use Rattle.shm_fault.proofs.Visits.{Visits-trans, moves-came, moves-still, moves-trans}
+use Rattle.shm_fault.proofs.Seen.{seen}
+use Rattle.shm_fault.proofs.Sound.{slot-own}
+use Rattle.shm_fault.proofs.Visits.{Visits-trans, moves-more, moves-still, moves-trans}
 use Rattle.shm_fault.specs.Counting.{one_if}
 use Rattle.shm_fault.proofs.Counting.{byte-one, counts-more}
 use Rattle.shm_fault.proofs.store.PageStore.come_in.Goals as goal
@@ -17,15 +19,8 @@ slot_there s r has (Some k) e = has k e
 
 pub load-requires-clause-slot : goal.load-requires-clause-slot
 load-requires-clause-slot g c =
-    let i = c.self.inside in
-    let s : StoreView = record { segs = i.segs; frames = i.frames; hand = i.hand; swap = i.swap; ins = i.ins; outs = i.outs } in
-    let has : HasPage s.segs c.args.page = rw (← c.self.view_is) at c.requires.has in
-    let away : (rec_by s.segs c.args.page).frame ≡ None = rw (← c.self.view_is) at c.requires.away in
-    let tied = c.self.invariant.tied.pages c.args.page has in
-    rw (c.page-place.ensures, ← c.self.view_is) (slot_there s c.args.page (λ k e. (tied.slot_owned k e).0) (rec_by s.segs c.args.page).slot refl)
-
-pub settle-requires-clause-has : goal.settle-requires-clause-has
-settle-requires-clause-has g c = rw (ap (λ (v : StoreView). v.segs) c.load.ensures.rest) c.requires.has
+    rw (c.page-place.ensures, ← c.self.view_is)
+    (slot_there (seen c.self.inside) c.args.page (λ k e. (slot-own (seen c.self.inside) c.self.invariant c.args.page k e).0) (rec_by c.self.inside.segs c.args.page).slot refl)
 
 pub returns-in-Ok-clause-visits : goal.returns-in-Ok-clause-visits
 returns-in-Ok-clause-visits g c = λ pinned.
@@ -38,7 +33,7 @@ returns-in-Ok-clause-moves g c =
     rw c.push.ensures.items
     (moves-trans ms ms (ms ++ Came c.args.page c.args.frame ∷ []) c.args.self.now c.load.new.self c.settle.new.self
     (moves-still ms c.args.self.now c.load.new.self still)
-    (moves-came ms c.load.new.self c.settle.new.self c.args.page c.args.frame c.settle.ensures.came))
+    (moves-more ms (Came c.args.page c.args.frame) c.load.new.self c.settle.new.self c.settle.ensures.came))
 
 pub returns-in-Err-clause-visits : goal.returns-in-Err-clause-visits
 returns-in-Err-clause-visits g c = λ pinned. c.load.ensures.visits c.args.page pinned

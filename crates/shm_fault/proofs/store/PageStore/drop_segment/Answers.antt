@@ -55,6 +55,3 @@ returns-clause-slots g c = λ area slot. (done g c).slots (record { area = area;
 pub returns-clause-still : goal.returns-clause-still
 unfolding frame_of
 returns-clause-still g c = λ seg page ne. ap (λ (p : PageRec). p.frame) ((done g c).still (record { seg = seg; page = page }) ne)
-
-pub returns-clause-blank : goal.returns-clause-blank
-returns-clause-blank g c = (done g c).blank

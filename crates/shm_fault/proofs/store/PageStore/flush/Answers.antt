@@ -52,6 +52,3 @@ pub returns-clause-kept : goal.returns-clause-kept
 returns-clause-kept g c =
     let d = c.loop-frame.invariant in
     kept-locked c.args.self.now c.loop-frame.self (KeepsLocked-still c.args.self.now c.loop-frame.self d.still)
-
-pub returns-clause-sound : goal.returns-clause-sound
-returns-clause-sound g c = c.loop-frame.invariant.sound

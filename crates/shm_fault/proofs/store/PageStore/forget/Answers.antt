@@ -1,7 +1,8 @@
 use Rattle.std.proofs.Common.{◌≡◌, sym, ap, ◌∙◌}
-use Rattle.shm_fault.specs.Segs.{rec_by, HasPage, no_page, with_rec}
+use Rattle.shm_fault.specs.Segs.{rec_by, no_page, with_rec}
 use Rattle.shm_fault.specs.Dropping.{Given}
 use Rattle.shm_fault.proofs.Seen.{seen}
+use Rattle.shm_fault.proofs.Sound.{frame-own, slot-own}
 use Rattle.shm_fault.proofs.Drops.{with-same, Forgets, forgets}
 use Rattle.shm_fault.proofs.store.PageStore.forget.Given as given
 use Rattle.shm_fault.proofs.store.PageStore.forget.Goals as goal
@@ -17,29 +18,16 @@ done g c =
     (forgets (seen i) c.self.invariant c.args.page (rw (← c.self.view_is) at c.requires) c.free_slot.new.swap slot e.sound e.steady)
 
 pub empty_frame-requires : goal.empty_frame-requires
-empty_frame-requires g c = λ f e.
-    let has : HasPage c.self.inside.segs c.args.page = rw (← c.self.view_is) at c.requires in
-    ((c.self.invariant.tied.pages c.args.page has).frame_owned f (rw c.page-place.ensures at e)).0
+empty_frame-requires g c = λ f e. (frame-own (seen c.self.inside) c.self.invariant c.args.page f (rw c.page-place.ensures at e)).0
 
 pub free_slot-requires : goal.free_slot-requires
-free_slot-requires g c = λ k e.
-    let has : HasPage c.self.inside.segs c.args.page = rw (← c.self.view_is) at c.requires in
-    ((c.self.invariant.tied.pages c.args.page has).slot_owned k (rw c.page-place.ensures at e)).0
+free_slot-requires g c = λ k e. (slot-own (seen c.self.inside) c.self.invariant c.args.page k (rw c.page-place.ensures at e)).0
 
 pub invariant_of-self : goal.invariant_of-self
 invariant_of-self g c = (done g c).sound
 
 pub returns-clause-held : goal.returns-clause-held
 returns-clause-held g c = rw (← c.self.view_is) (done g c).bytes
-
-pub returns-clause-frames : goal.returns-clause-frames
-returns-clause-frames g c = rw (← c.self.view_is) (done g c).frames
-
-pub returns-clause-slots : goal.returns-clause-slots
-returns-clause-slots g c = rw (← c.self.view_is) (done g c).slots
-
-pub returns-clause-size : goal.returns-clause-size
-returns-clause-size g c = rw (← c.self.view_is) (done g c).size
 
 pub returns-clause-nowhere : goal.returns-clause-nowhere
 returns-clause-nowhere g c = λ none.

@@ -2,6 +2,7 @@ use Rattle.std.proofs.Common.{◌≡◌, None, Some, refl, ap}
 use Rattle.shm_fault.specs.declared.page_tables.PageRec.{PageRec}
 use Rattle.shm_fault.specs.Segs.{rec_by, HasPage}
 use Rattle.shm_fault.proofs.Seen.{seen}
+use Rattle.shm_fault.proofs.Sound.{frame-own}
 use Rattle.shm_fault.proofs.Pages.{has-slot, still-with}
 use Rattle.shm_fault.proofs.Changes.{Keeps}
 use Rattle.shm_fault.proofs.Areas.{keeps-back}
@@ -26,7 +27,7 @@ kept g c =
 pub set_dirty-requires-clause-there : goal.set_dirty-requires-clause-there
 set_dirty-requires-clause-there g c =
     let o = (goal.at.set_dirty-requires-clause-there g c).After-self in
-    ((c.self.invariant.tied.pages c.args.page (has g o)).frame_owned c.args.frame (ap (λ (p : PageRec). p.frame) (place g o))).0
+    (frame-own (seen c.self.inside) c.self.invariant c.args.page c.args.frame (ap (λ (p : PageRec). p.frame) (place g o))).0
 
 pub set_page-requires : goal.set_page-requires
 set_page-requires g c = has g (goal.at.set_page-requires g c).After-self

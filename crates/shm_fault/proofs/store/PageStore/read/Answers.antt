@@ -10,4 +10,4 @@ returns-in_err-here-clause-access g c =
 
 pub returns-clause-access : goal.returns-clause-access
 returns-clause-access g c =
-    accessed c.args.self.now c.bring.new.self c.bring.new.self refl refl (λ f. refl) c.bring.ensures.sound c.args.spans.now c.in_ok-here.here c.in_ok-here.touched c.requires.few c.in_ok-here.ensures.brings c.in_ok-here.ensures.here
+    accessed c.args.self.now c.bring.new.self c.bring.new.self.frames refl (λ f. refl) c.bring.ensures.sound c.args.spans.now c.in_ok-here.here c.in_ok-here.touched c.requires.few c.in_ok-here.ensures.brings c.in_ok-here.ensures.here

@@ -1,5 +1,8 @@
+use Rattle.std.proofs.Common.{true, Some}
+use Rattle.shm_frames.specs.Frame.{Frame, frame_at}
 use Rattle.shm_fault.proofs.Seen.{seen}
-use Rattle.shm_fault.proofs.Visits.{Settles, settles, settled}
+use Rattle.shm_fault.proofs.Changes.{set-twice}
+use Rattle.shm_fault.proofs.Visits.{Settles, settles}
 use Rattle.shm_fault.proofs.store.PageStore.settle.Given as given
 use Rattle.shm_fault.proofs.store.PageStore.settle.Goals as goal
 use Rattle.shm_fault.proofs.store.PageStore.settle.Goals.{After-set_page}
@@ -10,7 +13,8 @@ done g c =
     let i = c.self.inside in
     let there = rw (← c.self.view_is) at c.requires.there in
     let bytes = rw (← c.self.view_is) at c.requires.bytes in
-    rw (settled i.frames c.args.frame there c.args.page c.fill.ensures c.set_referenced.ensures, c.set_page.ensures, c.page-place.ensures)
+    let x : Frame = record (frame_at i.frames c.args.frame) { owner = Some c.args.page } in
+    rw (set-twice i.frames c.args.frame x (λ y. record y { referenced = true }) there c.fill.ensures c.set_referenced.ensures, c.set_page.ensures, c.page-place.ensures)
     (settles (seen i) c.self.invariant c.args.page c.args.frame (rw (← c.self.view_is) at c.requires.has) there
     (rw (← c.self.view_is) at c.requires.free) (rw (← c.self.view_is) at c.requires.away) bytes)
 
@@ -19,9 +23,6 @@ invariant_of-self g c = (done g c).sound
 
 pub returns-clause-came : goal.returns-clause-came
 returns-clause-came g c = rw (← c.self.view_is) (done g c).came
-
-pub returns-clause-bit : goal.returns-clause-bit
-returns-clause-bit g c = (done g c).bit
 
 pub returns-clause-visits : goal.returns-clause-visits
 returns-clause-visits g c = rw (← c.self.view_is) (done g c).visits

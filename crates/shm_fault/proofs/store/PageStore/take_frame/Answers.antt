@@ -1,5 +1,6 @@
-use Rattle.shm_fault.specs.Store.{StoreView}
-use Rattle.shm_fault.proofs.Visits.{moves-gone, moves-still}
+use Rattle.shm_fault.specs.declared.touched.Move.TheVariants.{Gone}
+use Rattle.shm_fault.proofs.Seen.{seen}
+use Rattle.shm_fault.proofs.Visits.{moves-more, moves-still}
 use Rattle.std.proofs.Common.{ap, ◌+◌, ◌∙◌, arith}
 use Rattle.shm_fault.specs.Counting.{one_if}
 use Rattle.shm_fault.proofs.Counting.{byte-one, counts-more}
@@ -13,19 +14,13 @@ returns-in-Err-clause-visits g c = λ r. rw (← c.self.view_is) (rw c.free_fram
 
 pub returns-in-Ok-clause-moves : goal.returns-in-Ok-clause-moves
 returns-in-Ok-clause-moves g c =
-    let i = c.self.inside in
-    let s : StoreView = record { segs = i.segs; frames = i.frames; hand = i.hand; swap = i.swap; ins = i.ins; outs = i.outs } in
-    rw (c.push.ensures.items, ← c.self.view_is) (moves-gone c.args.touched.now.moved.items s c.evict.new.self c.in-Ok.evicted.page c.in-Ok.ensures.gone)
+    rw (c.push.ensures.items, ← c.self.view_is) (moves-more c.args.touched.now.moved.items (Gone c.in-Ok.evicted.page) (seen c.self.inside) c.evict.new.self c.in-Ok.ensures.gone)
 
 pub returns-in-Err-clause-moves : goal.returns-in-Err-clause-moves
 returns-in-Err-clause-moves g c =
-    let i = c.self.inside in
-    let s : StoreView = record { segs = i.segs; frames = i.frames; hand = i.hand; swap = i.swap; ins = i.ins; outs = i.outs } in
-    rw (← c.self.view_is) (moves-still c.args.touched.now.moved.items s c.evict.new.self c.in-Err.ensures.err)
+    rw (← c.self.view_is) (moves-still c.args.touched.now.moved.items (seen c.self.inside) c.evict.new.self c.in-Err.ensures.err)
 
 pub returns-in-Ok-clause-counts : goal.returns-in-Ok-clause-counts
 returns-in-Ok-clause-counts g c =
-    let i = c.self.inside in
-    let s : StoreView = record { segs = i.segs; frames = i.frames; hand = i.hand; swap = i.swap; ins = i.ins; outs = i.outs } in
     rw (← c.self.view_is)
-    (counts-more c.args.touched.now _ s c.evict.new.self 0 (one_if c.in-Ok.evicted.written) (omega arith) c.evict.ensures.ins (ap (λ n. c.args.touched.now.outs + n) (c.from.ensures ∙ byte-one _)) c.in-Ok.ensures.outs)
+    (counts-more c.args.touched.now _ (seen c.self.inside) c.evict.new.self 0 (one_if c.in-Ok.evicted.written) (omega arith) c.evict.ensures.ins (ap (λ n. c.args.touched.now.outs + n) (c.from.ensures ∙ byte-one _)) c.in-Ok.ensures.outs)

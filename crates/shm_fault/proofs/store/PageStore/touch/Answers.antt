@@ -1,4 +1,4 @@
-use Rattle.std.proofs.Common.{◌≡◌, ◌<◌, length, Some, true, refl, ap, get_or-set_same}
+use Rattle.std.proofs.Common.{◌≡◌, ◌<◌, length, Some, true, ap, get_or-set_same}
 use Rattle.shm_frames.specs.Frame.{Frame, no_frame, frame_at}
 use Rattle.shm_fault.proofs.Seen.{seen}
 use Rattle.shm_fault.proofs.Sound.{frame-own}
@@ -14,12 +14,6 @@ step : (g : given.Over) (c : After-set_referenced g) → IsStep (seen c.self.ins
 step g c =
     let there = (own g (goal.at.invariant_of-self g c).After-self).0 in
     rw c.set_referenced.ensures (step-touch (seen c.self.inside) c.self.invariant c.args.frame there)
-
-pub set_referenced-requires-clause-there : goal.set_referenced-requires-clause-there
-set_referenced-requires-clause-there g c = (own g (goal.at.set_referenced-requires-clause-there g c).After-self).0
-
-pub set_referenced-requires-clause-owned : goal.set_referenced-requires-clause-owned
-set_referenced-requires-clause-owned g c = rw (own g (goal.at.set_referenced-requires-clause-owned g c).After-self).1 refl
 
 pub invariant_of-self : goal.invariant_of-self
 invariant_of-self g c = (step g c).sound

@@ -1,5 +1,4 @@
 use Rattle.shm_base.specs.State.{Ended}
-use Rattle.shm_attach.specs.Spaces.{IsCaller}
 use Rattle.shm_life.proofs.Going.{Goes, all-go, well-gone}
 use Rattle.shm_life.proofs.kernel.Kernel.exit.Given.{Over}
 use Rattle.shm_life.proofs.kernel.Kernel.exit.Goals as goal
@@ -7,10 +6,8 @@ use Rattle.shm_life.proofs.kernel.Kernel.exit.Goals.{After-as_slice}
 
 goes : (g : Over) (c : After-as_slice g) → Goes c.self.inside.limits c.self.inside.segments.table c.exit-lost.new.self.runners c.as_slice.result.now
 goes g c =
-    let caller = c.args.caller.now in
-    let rs = c.self.inside.spaces.runners in
-    let is : IsCaller caller rs = rw (← c.self.view_is) at c.requires in
-    rw (c.as_slice.ensures.value, c.exit-lost.ensures.lost, c.exit-lost.ensures.runners) (all-go c.self.inside.limits c.self.inside.segments.table rs caller c.self.invariant.kept is Ended)
+    rw (c.as_slice.ensures.value, c.exit-lost.ensures.lost, c.exit-lost.ensures.runners)
+    (all-go _ _ _ c.args.caller.now c.self.invariant.kept (rw (← c.self.view_is) at c.requires) Ended)
 
 pub after_detach-requires-clause-live : goal.after_detach-requires-clause-live
 after_detach-requires-clause-live g c = (goes g c).live

@@ -10,7 +10,8 @@ use Rattle.shm_attach.proofs.FlatSteps.{load-wanted}
 use Rattle.shm_slots.specs.View.{sizes}
 use Rattle.shm_segments.proofs.Same.{SameTable, same-refl}
 use Rattle.shm_life.specs.Kept.{IsWell}
-use Rattle.shm_life.proofs.Settled.{still-well}
+use Rattle.shm_fault.specs.Access.{touched_of}
+use Rattle.shm_life.proofs.Settled.{noted-well}
 use Rattle.shm_life.proofs.Changed.{spans-there, asked}
 use Rattle.shm_life.proofs.Running.{done_fact}
 use Rattle.shm_life.proofs.kernel.Kernel.load.Given.{Over}
@@ -19,17 +20,13 @@ use Rattle.shm_life.proofs.kernel.Kernel.load.Goals.{After-note}
 
 pub read-read-requires-clause-fit : goal.read-read-requires-clause-fit
 read-read-requires-clause-fit g c =
-    let rs = c.self.inside.spaces.runners in
-    let is : IsCaller c.args.caller.now rs = rw (← c.self.view_is) at c.requires in
-    rw c.as_slice.ensures.value (spans-there c.self.inside.segments.table rs c.args.caller.now c.in-Ok.spans is c.self.invariant.kept.pieces c.in-Ok.ensures.within c.in-Ok.ensures.pages)
+    rw c.as_slice.ensures.value (spans-there _ _ c.args.caller.now c.in-Ok.spans (rw (← c.self.view_is) at c.requires) c.self.invariant.kept.pieces c.in-Ok.ensures.within c.in-Ok.ensures.pages)
 
 -- done or not
 well : (g : Over) (c : After-note g) → IsWell c.self.inside.limits c.read-read.new.self.table c.note.new.spaces.runners c.note.new.spaces.translations c.read-read.new.self.memory
 well g c =
-    let t = c.self.inside.segments.table in
-    let all = c.note.ensures.translated c.self.inside.segments.memory c.read-read.new.self.memory c.self.invariant.translated c.read-read.ensures.access.moved in
-    let same : SameTable t c.read-read.new.self.table = rw c.read-read.ensures.table (same-refl t) in
-    rw c.note.ensures.runners (still-well _ _ _ _ _ _ _ _ c.self.invariant same c.read-read.ensures.runs.frames all)
+    let same : SameTable c.self.inside.segments.table c.read-read.new.self.table = rw c.read-read.ensures.table (same-refl _) in
+    noted-well _ _ _ _ _ _ _ _ _ (touched_of c.read-read.result).moved.items c.self.invariant same c.read-read.ensures.runs.frames c.note.ensures.runners c.note.ensures.translated c.read-read.ensures.access.moved
 
 pub invariant_of-self : goal.invariant_of-self
 invariant_of-self g c = well g (goal.at.invariant_of-self g c).After-note

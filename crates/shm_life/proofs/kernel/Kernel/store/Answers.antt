@@ -6,7 +6,8 @@ use Rattle.shm_attach.proofs.FlatSteps.{store-wanted}
 use Rattle.shm_slots.specs.View.{sizes}
 use Rattle.shm_segments.proofs.Same.{SameTable, stored-same}
 use Rattle.shm_life.specs.Kept.{IsWell}
-use Rattle.shm_life.proofs.Settled.{still-well}
+use Rattle.shm_fault.specs.Access.{touched_of}
+use Rattle.shm_life.proofs.Settled.{noted-well}
 use Rattle.shm_life.proofs.Changed.{spans-there, asked, either-same}
 use Rattle.shm_life.proofs.Running.{done_fact}
 use Rattle.shm_life.proofs.kernel.Kernel.store.Given.{Over}
@@ -15,17 +16,14 @@ use Rattle.shm_life.proofs.kernel.Kernel.store.Goals.{After-note}
 
 pub write-written-requires-clause-fit : goal.write-written-requires-clause-fit
 write-written-requires-clause-fit g c =
-    let rs = c.self.inside.spaces.runners in
-    let is : IsCaller c.args.caller.now rs = rw (← c.self.view_is) at c.requires in
-    rw c.as_slice.ensures.value (spans-there c.self.inside.segments.table rs c.args.caller.now c.in-Ok.spans is c.self.invariant.kept.pieces c.in-Ok.ensures.within c.in-Ok.ensures.pages)
+    rw c.as_slice.ensures.value (spans-there _ _ c.args.caller.now c.in-Ok.spans (rw (← c.self.view_is) at c.requires) c.self.invariant.kept.pieces c.in-Ok.ensures.within c.in-Ok.ensures.pages)
 
 -- done or not
 well : (g : Over) (c : After-note g) → IsWell c.self.inside.limits c.write-written.new.self.table c.note.new.spaces.runners c.note.new.spaces.translations c.write-written.new.self.memory
 well g c =
     let t = c.self.inside.segments.table in
-    let all = c.note.ensures.translated c.self.inside.segments.memory c.write-written.new.self.memory c.self.invariant.translated c.write-written.ensures.access.moved in
     let same : SameTable t c.write-written.new.self.table = either-same c.write-written.result t _ _ c.write-written.ensures.written c.write-written.ensures.same (stored-same (span_places false c.as_slice.result.now) c.as_slice-bytes.result.now t) in
-    rw c.note.ensures.runners (still-well _ _ _ _ _ _ _ _ c.self.invariant same c.write-written.ensures.runs.frames all)
+    noted-well _ _ _ _ _ _ _ _ _ (touched_of c.write-written.result).moved.items c.self.invariant same c.write-written.ensures.runs.frames c.note.ensures.runners c.note.ensures.translated c.write-written.ensures.access.moved
 
 pub invariant_of-self : goal.invariant_of-self
 invariant_of-self g c = well g (goal.at.invariant_of-self g c).After-note

@@ -5,7 +5,7 @@ use Rattle.shm_ids.specs.Table.{id_at, free_index, with_row}
 use Rattle.shm_plain.specs.Held.{with_zeros}
 use Rattle.shm_segments.proofs.Rows.{id_of}
 use Rattle.shm_segments.proofs.Looking.{none-mapped}
-use Rattle.shm_segments.proofs.Making.{kept-made, made-joined, free-some, IsNext, next-free, key-absent, zeros-held, few-pages}
+use Rattle.shm_segments.proofs.Making.{kept-made, made-joined, free-some, IsNext, next-free, key-absent, few-pages}
 use Rattle.shm_segments.proofs.Sums.{reserved-joined}
 use Rattle.shm_slots.specs.View.{slots}
 use Rattle.shm_fault.specs.Segs.{new_seg}
@@ -16,6 +16,7 @@ use Rattle.shm_segments.specs.View.{SegmentsView}
 use Rattle.shm_segments.proofs.segments.Segments.create.Given.{Over}
 use Rattle.shm_segments.proofs.segments.Segments.create.Goals as goal
 use Rattle.shm_segments.proofs.segments.Segments.create.Goals.{In-Some, In_ok-add_segment, In-Ok, After-drop_segment}
+use Rattle.shm_plain.proofs.Found.{find-zeros_same}
 
 pub unreachable-requires : goal.unreachable-requires
 unreachable-requires g c =
@@ -56,7 +57,7 @@ pub drop_segment-requires : goal.drop_segment-requires
 drop_segment-requires g c =
     let at = goal.at.drop_segment-requires g c in
     let n = next g at.In-Some in
-    record { there = rw (zeros g at.In_ok-add_segment n, n.is) (zeros-held (held c.self.inside.store) (id_of c.self.inside.table n.i) (pages_of c.args.head.size)) }
+    record { there = rw (zeros g at.In_ok-add_segment n, n.is) (ap is_some (find-zeros_same (held c.self.inside.store) (id_of c.self.inside.table n.i) (pages_of c.args.head.size) n.new)) }
 
 -- what was added is gone again
 dropped : (g : Over) (c : After-drop_segment g) (n : IsNext (held c.self.inside.store) c.self.inside.table (to_z w32 (of_z w32 c.in-Some.id))) → c.drop_segment.new.self ≡ c.self.inside.store

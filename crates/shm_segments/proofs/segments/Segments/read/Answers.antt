@@ -1,8 +1,5 @@
-use Rattle.std.proofs.Common.{false, sym, ap, ◌∙◌}
-use Rattle.shm_base.specs.Access.{loaded}
-use Rattle.shm_base.specs.Spans.{span_places}
+use Rattle.std.proofs.Common.{false, ap}
 use Rattle.shm_fault.specs.Store.{held}
-use Rattle.shm_fault.proofs.Failures.{OnOk-map}
 use Rattle.shm_segments.specs.View.{SegmentsView}
 use Rattle.shm_segments.proofs.Spanning.{spans-fit}
 use Rattle.shm_segments.proofs.Shown.{load_shown}
@@ -18,9 +15,7 @@ invariant_of-self g c = record { kept = rw c.read.ensures.held c.self.invariant.
 pub returns-clause-bytes : goal.returns-clause-bytes
 returns-clause-bytes g c =
     let fit = spans-fit (held c.self.inside.store) c.self.inside.table c.args.spans.now c.self.invariant.kept.agree (rw (← c.self.view_is) at c.requires.fit) in
-    OnOk-map c.read.result _ _ c.read.ensures.bytes
-    (λ e. e ∙ sym (load_shown (held c.self.inside.store) c.self.inside.table false c.args.spans.now c.self.invariant.kept.agree fit)
-    ∙ ap (λ (v : SegmentsView). loaded v.table (span_places false c.args.spans.now)) c.self.view_is)
+    rw (← c.self.view_is, load_shown (held c.self.inside.store) c.self.inside.table false c.args.spans.now c.self.invariant.kept.agree fit) c.read.ensures.bytes
 
 pub returns-clause-table : goal.returns-clause-table
 returns-clause-table g c = rw c.read.ensures.held (ap (λ (v : SegmentsView). v.table) c.self.view_is)
