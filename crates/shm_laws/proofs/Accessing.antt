@@ -1,5 +1,6 @@
 -- The places of an access: each lies in a piece, and each of a write in one that is writable.
 use Rattle.std.proofs.Common.{◌≡◌, ◌⊎◌, ℕ, suc, zero, ◌+◌, ◌<◌, true, false, List, [], ◌∷◌, length, Option, Some, None, slice_get, refl, sym, ap, ◌∙◌, inl, inr, arith}
+use Rattle.std.proofs.lemmas.Grind.{common_steps}
 use Rattle.std.specs.Prelude.{Contains}
 use Rattle.std.proofs.lemmas.Bool.{cases_Bool, and_parts}
 use Rattle.std.proofs.lemmas.Option.{none-some}
@@ -52,28 +53,13 @@ place-of ps a (suc n) qs found k lt = by (place ps a) (places ps (a + 1) n) refl
 -- there are as many
 pub places-length : (ps : List Piece) (a n : ℕ) (qs : List Place) → places ps a n ≡ Some qs → length qs ≡ n
 places-length ps a zero qs found = let same : [] ≡ qs = cc found in ap length (sym same)
-places-length ps a (suc n) qs found = by (place ps a) (places ps (a + 1) n) found (places-length ps (a + 1) n)
-  where
-    by : (o : Option Place) (r : Option (List Place)) → joined o r ≡ Some qs → ((rs : List Place) → r ≡ Some rs → length rs ≡ n) → length qs ≡ suc n
-    by None r whole more = absurd (none-some qs whole)
-    by (Some q) None whole more = absurd (none-some qs whole)
-    by (Some q) (Some rs) whole more = let is : q ∷ rs ≡ qs = cc whole in ap length (sym is) ∙ ap suc (more rs refl)
+places-length ps a (suc n) qs found = grind (arith, places-length ps (a + 1) n)
 
 pub writable-at : (qs : List Place) (k : ℕ) (q : Place) → all_writable qs ≡ true → slice_get qs k ≡ Some q → q.writable ≡ true
 writable-at [] k q all at = absurd (none-some q at)
-writable-at (p ∷ ps) zero q all at =
-    let is : p ≡ q = cc at in
-    ap (λ (r : Place). r.writable) (sym is) ∙ (and_parts p.writable (all_writable ps) all).0
+writable-at (p ∷ ps) zero q all at = grind (arith, common_steps)
 writable-at (p ∷ ps) (suc k) q all at = writable-at ps k q (and_parts p.writable (all_writable ps) all).1 at
 
 -- the places of a write are those of the access, and all are writable
 pub writable-parts : (o : Option (List Place)) (qs : List Place) → only_writable o ≡ Some qs → (o ≡ Some qs) × (all_writable qs ≡ true)
-writable-parts None qs found = absurd (none-some qs found)
-writable-parts (Some rs) qs found = by (cases_Bool (all_writable rs))
-  where
-    by : (all_writable rs ≡ true) ⊎ (all_writable rs ≡ false) → (Some rs ≡ Some qs) × (all_writable qs ≡ true)
-    by (inl h) =
-        let same : Some rs ≡ Some qs = rw h at found in
-        let is : rs ≡ qs = cc same in
-        (same, ap all_writable (sym is) ∙ h)
-    by (inr h) = absurd (none-some qs (rw h at found))
+writable-parts o qs found = grind arith

@@ -1,5 +1,6 @@
 -- What becomes of each index of the table in a step, and of what is kept.
 use Rattle.std.proofs.Common.{◌≡◌, ◌≢◌, ◌⊎◌, ℕ, ◌/◌, ◌%◌, ◌<◌, ◌≤◌, ◌==◌, ◌&&◌, ◌||◌, pos, negsuc, Bool, true, false, List, replicate, Option, Some, None, slice_get, refl, sym, ap, subst, ◌∙◌, inl, inr, arith, eq-eqb, ne_eqb, true≢false}
+use Rattle.std.proofs.lemmas.Grind.{common_steps}
 use Rattle.std.specs.Prelude.{option_map}
 use Rattle.std.proofs.lemmas.Bool.{cases_Bool, cases_eq}
 use Rattle.std.proofs.lemmas.Option.{none-some}
@@ -29,21 +30,7 @@ use Rattle.shm_laws.proofs.Stepping.{Bare, StillTo, SweepTo, MakeTo, RemoveTo, I
 kind-by : (s : Machine) (n : ℕ) (call : Call) (o : Option Caller) → Bare s.runners
     → let r = step_by s n call o in Kind (over_put (held_by o) (put call r.reply)) (made_by o call) s (removed call r.reply) r.reply r.state
 kind-by s n (Rmid (pos id)) None bare = still _ s _
-kind-by s n (Rmid (negsuc id)) None bare = still _ s _
-kind-by s n (Shmget key size mode flags) None bare = still _ s _
-kind-by s n (Shmat id addr flags) None bare = still _ s _
-kind-by s n (Shmdt addr) None bare = still _ s _
-kind-by s n (Stat id) None bare = still _ s _
-kind-by s n (Set id uid gid mode) None bare = still _ s _
-kind-by s n (Lock id) None bare = still _ s _
-kind-by s n (Unlock id) None bare = still _ s _
-kind-by s n (Load a len) None bare = still _ s _
-kind-by s n (Store a bytes) None bare = still _ s _
-kind-by s n (Xadd a add) None bare = still _ s _
-kind-by s n (Fork child) None bare = still _ s _
-kind-by s n Exec None bare = still _ s _
-kind-by s n Exit None bare = still _ s _
-kind-by s n (Swapoff area) None bare = still _ s _
+kind-by s n call None bare = still _ s _
 kind-by s n call (Some c) bare =
     kind-acts (MadeBy c call) s n c call bare
     (λ key size mode flags asked k. record { key = key; mode = mode; flags = flags; asked = asked; process = refl; user = refl; group = refl })
@@ -57,41 +44,8 @@ kind-move s n e t bare (inr x) =
 
 -- WHICH CALL REMOVED
 
-no_name : (reply : Reply) (k id : ℕ) → removed_by reply (negsuc k) ≡ Some id → ⊥
-no_name (Id i) k id h = none-some id h
-no_name (Addr a) k id h = none-some id h
-no_name (Bytes b) k id h = none-some id h
-no_name (Number m) k id h = none-some id h
-no_name (replies.Stat d) k id h = none-some id h
-no_name Done k id h = none-some id h
-no_name (Refused e) k id h = none-some id h
-
-by_done : (reply : Reply) (k id : ℕ) → removed_by reply (pos k) ≡ Some id → (k ≡ id) × (reply ≡ Done)
-by_done (Id i) k id h = absurd (none-some id h)
-by_done (Addr a) k id h = absurd (none-some id h)
-by_done (Bytes b) k id h = absurd (none-some id h)
-by_done (Number m) k id h = absurd (none-some id h)
-by_done (replies.Stat d) k id h = absurd (none-some id h)
-by_done Done k id h = (cc h, refl)
-by_done (Refused e) k id h = absurd (none-some id h)
-
 pub removed-call : (call : Call) (reply : Reply) (id : ℕ) → removed call reply ≡ Some id → (call ≡ Rmid (pos id)) × (reply ≡ Done)
-removed-call (Rmid (pos k)) reply id h = let d = by_done reply k id h in (ap (λ m. Rmid (pos m)) d.0, d.1)
-removed-call (Rmid (negsuc k)) reply id h = absurd (no_name reply k id h)
-removed-call (Shmget key size mode flags) reply id h = absurd (none-some id h)
-removed-call (Shmat z addr flags) reply id h = absurd (none-some id h)
-removed-call (Shmdt addr) reply id h = absurd (none-some id h)
-removed-call (Stat z) reply id h = absurd (none-some id h)
-removed-call (Set z uid gid mode) reply id h = absurd (none-some id h)
-removed-call (Lock z) reply id h = absurd (none-some id h)
-removed-call (Unlock z) reply id h = absurd (none-some id h)
-removed-call (Load a len) reply id h = absurd (none-some id h)
-removed-call (Store a bytes) reply id h = absurd (none-some id h)
-removed-call (Xadd a add) reply id h = absurd (none-some id h)
-removed-call (Fork child) reply id h = absurd (none-some id h)
-removed-call Exec reply id h = absurd (none-some id h)
-removed-call Exit reply id h = absurd (none-some id h)
-removed-call (Swapoff area) reply id h = absurd (none-some id h)
+removed-call call reply id h = grind arith
 
 -- WHAT IS KEPT
 
@@ -122,15 +76,10 @@ pub record IsNew (like : Segment → Type 0) (i : ℕ) (reply : Reply) (d : ℕ)
   pub at : after ≡ holds d now
 
 left-less : (b : Bool) (m k : ℕ) → b && (m == 0) ≡ false → m ≤ k → b && (k == 0) ≡ false
-left-less false m k h le = refl
-left-less true m k h le =
-    elim (cases_eq k 0) [
-      | inl z ↦ (let none : m ≡ 0 = omega (arith, z, le) in absurd (true≢false (sym (eq-eqb m 0 none) ∙ h)))
-      | inr apart ↦ ne_eqb k 0 apart
-    ]
+left-less b m k h le = grind (arith, common_steps)
 
 pub not-left : (i : ℕ) (rs : List Runner) (d : ℕ) (y : Segment) → y.dest && (attach_count rs (identifier i d) == 0) ≡ false → holds d y ≡ Some (swept_at i rs d (Some y))
-not-left i rs d y h = rw h refl
+not-left i rs d y h = grind arith
 
 stays-same : (over : List ℕ → List ℕ) (s t : Machine) (i d : ℕ) (x y : Segment) → orphan s.runners s.table i ≡ false → slice_get s.table i ≡ holds d x → IsSame x y
     → y.dest ≡ x.dest → y.bytes ≡ over x.bytes
@@ -141,26 +90,17 @@ stays-same over s t i d x y none is same dest bytes grows at =
     record { now = y; same = same; dest = dest; bytes = bytes; at = at ∙ not-left i t.runners d y now }
 
 turned-empty : (f : Segment → Segment) (d : ℕ) (o : Option Entry) → IsEmpty d o → option_map (with_entry f) o ≡ o
-turned-empty f d o (inl h) = rw h refl
-turned-empty f d o (inr h) = rw h.0 refl
+turned-empty f d o empty = grind arith
 
 swept-empty : (i : ℕ) (rs : List Runner) (d : ℕ) (o : Option Entry) → IsEmpty d o → option_map (swept_entry i rs) o ≡ o
-swept-empty i rs d o (inl h) = rw h refl
-swept-empty i rs d o (inr h) = rw h.0 refl
+swept-empty i rs d o empty = grind arith
 
 same-count : (d e : ℕ) (o : Option Entry) → IsEmpty d o → IsEmpty e o → d ≡ e
-same-count d e o (inl a) (inl b) = ap destroyed_in (sym a ∙ b)
-same-count d e o (inl a) (inr b) = absurd (none-some _ (sym b.0 ∙ a))
-same-count d e o (inr a) (inl b) = absurd (none-some _ (sym a.0 ∙ b))
-same-count d e o (inr a) (inr b) = a.1 ∙ sym b.1
+same-count d e o a b = grind arith
 
 -- what is swept is no orphan
 swept-sound : (i : ℕ) (rs : List Runner) (d : ℕ) (y : Segment) → orphan_in i rs (Some (swept_at i rs d (Some y))) ≡ false
-swept-sound i rs d y =
-    elim (cases_Bool (y.dest && (attach_count rs (identifier i d) == 0))) [
-      | inl h ↦ rw h refl
-      | inr h ↦ rw h h
-    ]
+swept-sound i rs d y = grind arith
 
 module _ (over : ℕ → List ℕ → List ℕ) (like : Segment → Type 0) (r : Option ℕ) (reply : Reply) (s t : Machine) (sound : IsMachineSound s) (i : ℕ) (small : i < 32768) where
   stays-still : (d : ℕ) (x : Segment) → StillTo over s t → slice_get s.table i ≡ holds d x → Stays (over i) i t.runners false d x (slice_get t.table i)
@@ -180,8 +120,7 @@ module _ (over : ℕ → List ℕ → List ℕ) (like : Segment → Type 0) (r :
       }
 
   holds-empty : (d e : ℕ) (x : Segment) (o : Option Entry) → o ≡ holds d x → IsEmpty e o → ⊥
-  holds-empty d e x o is (inl h) = none-some x (ap segment_in (sym h ∙ is))
-  holds-empty d e x o is (inr h) = none-some _ (sym h.0 ∙ is)
+  holds-empty d e x o is empty = grind arith
 
   stays-made : (d : ℕ) (x : Segment) → IsIdle over → MakeTo like s reply t → slice_get s.table i ≡ holds d x → Stays (over i) i t.runners false d x (slice_get t.table i)
   stays-made d x none k is =

@@ -1,7 +1,7 @@
 -- Where a new segment goes: to an index that holds none.
 use Rattle.std.proofs.Common.{◌≡◌, ◌≢◌, ◌⊎◌, ℕ, suc, zero, ◌+◌, ◌&&◌, true, false, nat_lt, is_none, List, [], ◌∷◌, ◌++◌, length, Option, Some, None, slice_get, refl, sym, ap, ◌∙◌, inl, inr, arith, eq-eqb, ne_eqb, true≢false}
 use Rattle.std.proofs.lemmas.Bool.{cases_Bool, cases_eq}
-use Rattle.std.proofs.lemmas.Option.{none-some}
+use Rattle.std.proofs.lemmas.Option.{none-some, slice_get_past}
 use Rattle.shm_base.specs.State.{Segment, Entry}
 use Rattle.shm_base.specs.Identifier.{free_from, free_index, destroyed_at, destroyed_in, with_segment}
 use Rattle.shm_segments.proofs.Entries.{get-set_same, get-set_other}
@@ -16,18 +16,10 @@ pub record FreeAt (n j : ℕ) (t : List Entry) : Type 0 where
   pub end : (place ≡ length t) ⊎ ((d : ℕ) × (slice_get t place ≡ Some (record { destroyed = d; segment = None })))
 
 entry-bare : (e : Entry) → is_none e.segment && nat_lt e.destroyed 65536 ≡ true → e ≡ record { destroyed = e.destroyed; segment = None }
-entry-bare e h = by e.segment refl h
-  where
-    by : (o : Option Segment) → e.segment ≡ o → is_none o && nat_lt e.destroyed 65536 ≡ true → e ≡ record { destroyed = e.destroyed; segment = None }
-    by None is h = ap (λ (p : Option Segment). record { destroyed = e.destroyed; segment = p }) is
-    by (Some x) is h = absurd (true≢false (sym h))
+entry-bare e h = grind arith
 
 end-found : (n j : ℕ) → free_from n [] ≡ Some j → n ≡ j
-end-found n j h =
-    elim (cases_Bool (nat_lt n 32768)) [
-      | inl b ↦ (let same : Some n ≡ Some j = rw b at h in cc same)
-      | inr b ↦ absurd (none-some j (rw b at h))
-    ]
+end-found n j h = grind arith
 
 pub free_found : (n j : ℕ) (t : List Entry) → free_from n t ≡ Some j → FreeAt n j t
 free_found n j [] h = record { place = 0; at = let same = end-found n j h in omega (arith, same); end = inl refl }
@@ -57,8 +49,7 @@ snoc-other (x ∷ xs) e zero apart = refl
 snoc-other (x ∷ xs) e (suc j) apart = snoc-other xs e j (λ k. apart (ap suc k))
 
 behind : (t : List Entry) → slice_get t (length t) ≡ None
-behind [] = refl
-behind (x ∷ xs) = behind xs
+behind t = slice_get_past t (length t) (omega arith)
 
 -- another index keeps what it has, and the free one gets the segment
 pub record MadeAt (t : List Entry) (i : ℕ) (x : Segment) : Type 0 where

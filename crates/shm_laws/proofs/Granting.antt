@@ -36,35 +36,20 @@ part_refl p = record { seg = refl; writable = refl; pages = refl; from = omega a
 
 module _ (from to : ℕ) (page_from : from % 4096 ≡ 0) (page_to : to % 4096 ≡ 0) where
   below-parts : (p : Piece) → IsAligned p → meets from to p ≡ true → All (λ q. IsPart q p) (part_below from p)
-  below-parts p page m = by (cases_lt p.base from)
-    where
-      inside : from < end_of p
-      inside = grind (arith, common_steps, m)
-
-      part : p.base < from → IsPart (record p { pages = (from - p.base) / 4096 }) p
-      part l = record { seg = refl; writable = refl; pages = refl; from = omega arith; to = omega (arith, inside, l) }
-
-      by : (p.base < from) ⊎ (from ≤ p.base) → All (λ q. IsPart q p) (part_below from p)
-      by (inl l) = rw (lt-ltb p.base from l) (all-cons (λ q. IsPart q p) (record p { pages = (from - p.base) / 4096 }) [] (part l) (All-nil (λ q. IsPart q p)))
-      by (inr n) = rw (le-ltb p.base from n) (All-nil (λ q. IsPart q p))
+  below-parts p page m =
+      elim (cases_lt p.base from) [
+        | inl l ↦ rw (lt-ltb p.base from l) (all-cons (λ q. IsPart q p) (record p { pages = (from - p.base) / 4096 }) [] (grind (arith, common_steps, m)) (All-nil (λ q. IsPart q p)))
+        | inr n ↦ rw (le-ltb p.base from n) (All-nil (λ q. IsPart q p))
+      ]
 
   above-parts : (p : Piece) → IsAligned p → meets from to p ≡ true → All (λ q. IsPart q p) (part_above to p)
-  above-parts p page m = by (cases_lt to (end_of p))
-    where
-      before : p.base < to
-      before = grind (arith, common_steps, m)
-
-      rest : Piece
-      rest = record p { base = to; first_page = p.first_page + (to - p.base) / 4096; pages = (end_of p - to) / 4096 }
-
-      part : to < end_of p → IsPart (record p { base = to; first_page = p.first_page + (to - p.base) / 4096; pages = (end_of p - to) / 4096 }) p
-      part l = record { seg = refl; writable = refl; pages = omega (arith, before, page, page_to); from = omega (arith, before); to = omega (arith, l) }
-
-      by : (to < end_of p) ⊎ (end_of p ≤ to) → All (λ q. IsPart q p) (part_above to p)
-      by (inl l) =
-          rw (lt-ltb to (end_of p) l)
-          (all-cons (λ q. IsPart q p) (record p { base = to; first_page = p.first_page + (to - p.base) / 4096; pages = (end_of p - to) / 4096 }) [] (part l) (All-nil (λ q. IsPart q p)))
-      by (inr n) = rw (le-ltb to (end_of p) n) (All-nil (λ q. IsPart q p))
+  above-parts p page m =
+      elim (cases_lt to (end_of p)) [
+        | inl l ↦
+            let rest : Piece = record p { base = to; first_page = p.first_page + (to - p.base) / 4096; pages = (end_of p - to) / 4096 } in
+            rw (lt-ltb to (end_of p) l) (all-cons (λ q. IsPart q p) rest [] (grind (arith, common_steps, m)) (All-nil (λ q. IsPart q p)))
+        | inr n ↦ rw (le-ltb to (end_of p) n) (All-nil (λ q. IsPart q p))
+      ]
 
   all-parts : (p : Piece) → IsAligned p → All (λ q. IsPart q p) (parts from to p)
   all-parts p page =
@@ -210,7 +195,7 @@ each-given law next s e t each given =
     (λ r all. All-weaker (IsPieceGiven s e r.pid) (next r.pid) (each r.pid) r.pieces all) t.runners given
 
 part-page : (p q : Piece) → IsPart p q → IsAligned q → IsAligned p
-part-page p q part page = let pages = part.pages in let from = part.from in omega (arith, pages, from, page)
+part-page p q part page = omega arith
 
 pub aligned-move : (s : Machine) (n : ℕ) (e : Event) (t : Machine) → Aligned s → IsMove s n e t → Aligned t
 aligned-move s n e t aligned m = each-given (λ pid p. IsAligned p) (λ pid p. IsAligned p) s e t page (given-move s n e t aligned m)
@@ -284,30 +269,11 @@ module _ (s : Machine) (n pid : ℕ) (c : Caller) (live : caller_of s pid ≡ So
   inside-acts (Load a len) clear r reached k lt = inside-load a len (places c.pieces a len) refl clear r reached k lt
   inside-acts (Store a bytes) clear r reached k lt = inside-store a bytes (writable_places c.pieces a (length bytes)) refl clear r reached k lt
   inside-acts (Xadd a add) clear r reached k lt = inside-xadd a add (writable_places c.pieces a 8) refl clear r reached k lt
-  inside-acts (Shmget key size mode flags) clear r reached k lt = absurd (none-some r reached)
-  inside-acts (Shmat id addr flags) clear r reached k lt = absurd (none-some r reached)
-  inside-acts (Shmdt addr) clear r reached k lt = absurd (none-some r reached)
-  inside-acts (Stat id) clear r reached k lt = absurd (none-some r reached)
-  inside-acts (Set id uid gid mode) clear r reached k lt = absurd (none-some r reached)
-  inside-acts (Rmid id) clear r reached k lt = absurd (none-some r reached)
-  inside-acts (Lock id) clear r reached k lt = absurd (none-some r reached)
-  inside-acts (Unlock id) clear r reached k lt = absurd (none-some r reached)
-  inside-acts (Fork child) clear r reached k lt = absurd (none-some r reached)
-  inside-acts Exec clear r reached k lt = absurd (none-some r reached)
-  inside-acts Exit clear r reached k lt = absurd (none-some r reached)
-  inside-acts (Swapoff area) clear r reached k lt = absurd (none-some r reached)
+  inside-acts call clear r reached k lt = absurd (none-some r reached)
 
   -- who owns it
   owner-of : (cred : Cred) (perm : Perm) → owns cred perm ≡ true → IsOwner cred perm
-  owner-of cred perm own =
-      elim (cases_Bool (cred.uid == 0)) [
-        | inl h ↦ inl (eqb-true cred.uid 0 h)
-        | inr h ↦
-            elim (cases_Bool (cred.uid == perm.uid)) [
-              | inl k ↦ inr (inl (eqb-true cred.uid perm.uid k))
-              | inr k ↦ inr (inr (eqb-true cred.uid perm.cuid (rw (h, k) at own)))
-            ]
-      ]
+  owner-of cred perm own = grind (arith, common_steps)
 
   asks-found : (m : ℕ) (act : ℕ → Segment → Outcome) (l : Look) → look s.table (pos m) ≡ l → (controls s c act l).reply ≡ Done → OwnerAsks s pid (pos m)
   asks-found m act Invalid is done = absurd (cc done)
@@ -342,17 +308,7 @@ module _ (s : Machine) (n pid : ℕ) (c : Caller) (live : caller_of s pid ≡ So
   asks-acts (Rmid own) id is done = asked own (removes s) id is done
   asks-acts (Lock own) id is done = asked own (locks s) id is done
   asks-acts (Unlock own) id is done = asked own (unlocks s) id is done
-  asks-acts (Load a len) id is done = absurd (none-some id is)
-  asks-acts (Store a bytes) id is done = absurd (none-some id is)
-  asks-acts (Xadd a add) id is done = absurd (none-some id is)
-  asks-acts (Shmget key size mode flags) id is done = absurd (none-some id is)
-  asks-acts (Shmat z addr flags) id is done = absurd (none-some id is)
-  asks-acts (Shmdt addr) id is done = absurd (none-some id is)
-  asks-acts (Stat z) id is done = absurd (none-some id is)
-  asks-acts (Fork child) id is done = absurd (none-some id is)
-  asks-acts Exec id is done = absurd (none-some id is)
-  asks-acts Exit id is done = absurd (none-some id is)
-  asks-acts (Swapoff area) id is done = absurd (none-some id is)
+  asks-acts call id is done = absurd (none-some id is)
 
 abbrev Out : Machine → ℕ → Call → Outcome → Type 0
 Out s pid call o = StaysInside s (record { pid = pid; call = call; reply = o.reply }) × ((id : ℤ) → controlled call ≡ Some id → o.reply ≡ Done → OwnerAsks s pid id)

@@ -328,18 +328,7 @@ module _ (hidden : ℕ → Bool) (s : Machine) (n : ℕ) (c : Caller) (hid : (a 
       by : (o : Option (List Place)) → writable_places c.pieces a 8 ≡ o → veil hidden (xadd s add o).state ≡ veil hidden s
       by None found = refl
       by (Some qs) found = private-store a 8 (to_le_bytes w64 ((number_at s qs + add) % 2 ^ 64)) qs found
-  private-acts (Shmget key size mode flags) r is = absurd (none-some r is)
-  private-acts (Shmat id addr flags) r is = absurd (none-some r is)
-  private-acts (Shmdt addr) r is = absurd (none-some r is)
-  private-acts (Stat id) r is = absurd (none-some r is)
-  private-acts (Set id uid gid mode) r is = absurd (none-some r is)
-  private-acts (Rmid id) r is = absurd (none-some r is)
-  private-acts (Lock id) r is = absurd (none-some r is)
-  private-acts (Unlock id) r is = absurd (none-some r is)
-  private-acts (Fork child) r is = absurd (none-some r is)
-  private-acts Exec r is = absurd (none-some r is)
-  private-acts Exit r is = absurd (none-some r is)
-  private-acts (Swapoff area) r is = absurd (none-some r is)
+  private-acts call r is = absurd (none-some r is)
 
 private-by : (hidden : ℕ → Bool) (s : Machine) (n : ℕ) (call : Call) (r : Reach) (o : Option Caller) → reach call ≡ Some r
     → ((a : ℕ) (q : Place) → place (held_by o) a ≡ Some q → Hid hidden s.table q) → veil hidden (step_by s n call o).state ≡ veil hidden s

@@ -48,19 +48,7 @@ module _ (s : Machine) (n : ℕ) (c : Caller) where
   placed-acts : (call : Call) → Placed call (acts s n c call)
   placed-acts (Store a bytes) p puts = placed-store a bytes (writable_places c.pieces a (length bytes)) refl p puts
   placed-acts (Xadd a add) p puts = placed-xadd a add (writable_places c.pieces a 8) refl p puts
-  placed-acts (Load a len) p puts = absurd (none-some p puts)
-  placed-acts (Swapoff area) p puts = absurd (none-some p puts)
-  placed-acts (Shmget key size mode flags) p puts = absurd (none-some p puts)
-  placed-acts (Shmat id addr flags) p puts = absurd (none-some p puts)
-  placed-acts (Shmdt addr) p puts = absurd (none-some p puts)
-  placed-acts (Stat id) p puts = absurd (none-some p puts)
-  placed-acts (Set id uid gid mode) p puts = absurd (none-some p puts)
-  placed-acts (Rmid id) p puts = absurd (none-some p puts)
-  placed-acts (Lock id) p puts = absurd (none-some p puts)
-  placed-acts (Unlock id) p puts = absurd (none-some p puts)
-  placed-acts (Fork child) p puts = absurd (none-some p puts)
-  placed-acts Exec p puts = absurd (none-some p puts)
-  placed-acts Exit p puts = absurd (none-some p puts)
+  placed-acts call p puts = absurd (none-some p puts)
 
 abbrev PlacedBy : Option Caller → Call → Reply → Type 0
 PlacedBy o call reply = (p : Put) → put call reply ≡ Some p → (qs : List Place) × (places (held_by o) p.from (length p.bytes) ≡ Some qs)

@@ -1,5 +1,6 @@
 -- Each move destroys what is due, and what is marked has a piece.
 use Rattle.std.proofs.Common.{◌≡◌, ◌⊎◌, ℕ, suc, zero, ◌+◌, ◌/◌, ◌%◌, ◌≤◌, ◌==◌, ◌&&◌, ◌||◌, pos, Bool, true, false, List, [], ◌∷◌, map, Option, Some, None, slice_get, refl, sym, ap, ◌∙◌, inl, inr, arith, eq-eqb, true≢false}
+use Rattle.std.proofs.lemmas.Grind.{common_steps}
 use Rattle.std.proofs.lemmas.Bool.{cases_Bool, cases_eq, eqb-true}
 use Rattle.std.proofs.lemmas.Option.{none-some}
 use Rattle.shm_base.specs.declared.call.Process.{Process}
@@ -32,11 +33,7 @@ sound-start o = record { orphans = λ i small. refl; bare = bare-start o.process
 -- WHAT IS MARKED
 
 some-piece : (b : Bool) (n : ℕ) → b && (n == 0) ≡ false → b ≡ true → 1 ≤ n
-some-piece b n h marked =
-    elim (cases_eq n 0) [
-      | inl z ↦ absurd (true≢false (sym (rw (marked, eq-eqb n 0 z) refl) ∙ h))
-      | inr apart ↦ omega (arith, apart)
-    ]
+some-piece b n h marked = grind (arith, common_steps)
 
 pub marked-pieces : (s : Machine) → IsMachineSound s → MarkedHavePieces s
 marked-pieces s sound id x stands dest =

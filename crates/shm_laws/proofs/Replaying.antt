@@ -16,71 +16,12 @@ use Rattle.shm_laws.specs.Replay.{undone, without_failures, IsReplayed}
 
 -- THE STEP NAMES NO FAILURE
 
-load-clear : (s : Machine) (a n : ℕ) (o : Option (List Place)) → is_failure (Load a n) (load s o).reply ≡ false
-load-clear s a n None = refl
-load-clear s a n (Some ps) = refl
-
-store-clear : (s : Machine) (a : ℕ) (bs : List ℕ) (o : Option (List Place)) → is_failure (Store a bs) (store s bs o).reply ≡ false
-store-clear s a bs None = refl
-store-clear s a bs (Some ps) = refl
-
-xadd-clear : (s : Machine) (a add : ℕ) (o : Option (List Place)) → is_failure (Xadd a add) (xadd s add o).reply ≡ false
-xadd-clear s a add None = refl
-xadd-clear s a add (Some ps) = refl
-
-takes-clear : (s : Machine) (area : ℕ) (o : Option (Option ℕ)) → is_failure (Swapoff area) (takes_away s area o).reply ≡ false
-takes-clear s area None = refl
-takes-clear s area (Some None) = refl
-takes-clear s area (Some (Some n)) =
-    elim (cases_Bool (nat_lt (slots (slice_set s.areas area None)) (reserved s.table))) [
-      | inl h ↦ rw h refl
-      | inr h ↦ rw h refl
-    ]
-
-swapoff-clear : (s : Machine) (c : Caller) (area : ℕ) → is_failure (Swapoff area) (swapoff s c area).reply ≡ false
-swapoff-clear s c area =
-    elim (cases_Bool (c.cred.uid == 0)) [
-      | inl h ↦ rw h (takes-clear s area (slice_get s.areas area))
-      | inr h ↦ rw h refl
-    ]
-
 acts-clear : (s : Machine) (n : ℕ) (c : Caller) (call : Call) → is_failure call (acts s n c call).reply ≡ false
-acts-clear s n c (Shmget key size mode flags) = refl
-acts-clear s n c (Shmat id addr flags) = refl
-acts-clear s n c (Shmdt addr) = refl
-acts-clear s n c (Stat id) = refl
-acts-clear s n c (Set id uid gid mode) = refl
-acts-clear s n c (Rmid id) = refl
-acts-clear s n c (Lock id) = refl
-acts-clear s n c (Unlock id) = refl
-acts-clear s n c (Load a len) = load-clear s a len _
-acts-clear s n c (Store a bs) = store-clear s a bs _
-acts-clear s n c (Xadd a add) = xadd-clear s a add _
-acts-clear s n c (Fork child) = refl
-acts-clear s n c Exec = refl
-acts-clear s n c Exit = refl
-acts-clear s n c (Swapoff area) = swapoff-clear s c area
-
-nobody-clear : (s : Machine) (n : ℕ) (call : Call) → is_failure call (step_by s n call None).reply ≡ false
-nobody-clear s n (Load a len) = refl
-nobody-clear s n (Store a bs) = refl
-nobody-clear s n (Xadd a add) = refl
-nobody-clear s n (Swapoff area) = refl
-nobody-clear s n (Shmget key size mode flags) = refl
-nobody-clear s n (Shmat id addr flags) = refl
-nobody-clear s n (Shmdt addr) = refl
-nobody-clear s n (Stat id) = refl
-nobody-clear s n (Set id uid gid mode) = refl
-nobody-clear s n (Rmid id) = refl
-nobody-clear s n (Lock id) = refl
-nobody-clear s n (Unlock id) = refl
-nobody-clear s n (Fork child) = refl
-nobody-clear s n Exec = refl
-nobody-clear s n Exit = refl
+acts-clear s n c call = grind arith
 
 by-clear : (s : Machine) (n : ℕ) (call : Call) (o : Option Caller) → is_failure call (step_by s n call o).reply ≡ false
-by-clear s n call None = nobody-clear s n call
 by-clear s n call (Some c) = acts-clear s n c call
+by-clear s n call None = grind arith
 
 step-clear : (s : Machine) (n pid : ℕ) (call : Call) → is_failure call (step s n pid call).reply ≡ false
 step-clear s n pid call = by-clear s n call (caller_of s pid)
@@ -108,11 +49,7 @@ undone-move s n e t m =
     ]
 
 undone-clear : (e : Event) → is_failure (undone e).call (undone e).reply ≡ false
-undone-clear e =
-    elim (cases_Bool (is_failure e.call e.reply)) [
-      | inl h ↦ rw h refl
-      | inr h ↦ rw h h
-    ]
+undone-clear e = grind arith
 
 -- WHOLE HISTORIES
 

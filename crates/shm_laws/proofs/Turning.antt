@@ -22,21 +22,11 @@ pub record Turned (over : List ℕ → List ℕ) (t u : List Entry) (i : ℕ) : 
   pub bytes : (x : Segment) → (turn x).bytes ≡ over x.bytes
   pub at : slice_get u i ≡ option_map (with_entry turn) (slice_get t i)
 
-map-none : (o : Option Segment) → option_map (λ x. x) o ≡ o
-map-none None = refl
-map-none (Some x) = refl
-
 entry-none : (o : Option Entry) → option_map (with_entry (λ x. x)) o ≡ o
-entry-none None = refl
-entry-none (Some e) = ap (λ (p : Option Segment). Some (record { destroyed = e.destroyed; segment = p })) (map-none e.segment)
-
-map-twice : (f g : Segment → Segment) (o : Option Segment) → option_map g (option_map f o) ≡ option_map (λ x. g (f x)) o
-map-twice f g None = refl
-map-twice f g (Some x) = refl
+entry-none o = grind arith
 
 entry-twice : (f g : Segment → Segment) (o : Option Entry) → option_map (with_entry g) (option_map (with_entry f) o) ≡ option_map (with_entry (λ x. g (f x))) o
-entry-twice f g None = refl
-entry-twice f g (Some e) = ap (λ (p : Option Segment). Some (record { destroyed = e.destroyed; segment = p })) (map-twice f g e.segment)
+entry-twice f g o = grind arith
 
 turned-over : (f g : List ℕ → List ℕ) (t u : List Entry) (i : ℕ) → ((bytes : List ℕ) → f bytes ≡ g bytes) → Turned f t u i → Turned g t u i
 turned-over f g t u i alike a = record { turn = a.turn; same = a.same; dest = a.dest; bytes = λ x. a.bytes x ∙ alike x.bytes; at = a.at }
@@ -68,8 +58,7 @@ set_in-here t k g None is = is
 set_in-here t k g (Some e) is = get-set_same t k (g e) e is
 
 pub set_in-there : (t : List Entry) (k i : ℕ) (g : Entry → Entry) (o : Option Entry) → k ≢ i → slice_get (set_in t k g o) i ≡ slice_get t i
-set_in-there t k i g None apart = refl
-set_in-there t k i g (Some e) apart = get-set_other t k i (g e) apart
+set_in-there t k i g o apart = grind (arith, get-set_other)
 
 module _ (f : Segment → Segment) (same : (x : Segment) → IsSame x (f x)) (dest : (x : Segment) → (f x).dest ≡ x.dest) where
   turned-here : (over : List ℕ → List ℕ) (t : List Entry) (k : ℕ) → ((x : Segment) → (f x).bytes ≡ over x.bytes) → Turned over t (set_in t k (with_entry f) (slice_get t k)) k

@@ -22,27 +22,22 @@ pub veiled-pages : (b : Bool) (x : Segment) → pages_in (veiled b x) ≡ pages_
 veiled-pages b x = ap (λ n. n / 4096) (veiled-length b x)
 
 held-veiled : (b : Bool) (o : Option Segment) → pages_held (option_map (veiled b) o) ≡ pages_held o
-held-veiled b None = refl
-held-veiled b (Some x) = veiled-pages b x
+held-veiled b o = grind (arith, veiled-pages)
 
 locked-veiled : (b : Bool) (o : Option Segment) → pages_locked (option_map (veiled b) o) ≡ pages_locked o
-locked-veiled b None = refl
-locked-veiled b (Some x) = ap (λ n. if x.locked then n else 0) (veiled-pages b x)
+locked-veiled b o = grind (arith, veiled-pages)
 
 abbrev one_where : Bool → ℕ
 one_where b = cond b 1 0
 
 there-veiled : (b : Bool) (o : Option Segment) → one_where (is_some (option_map (veiled b) o)) ≡ one_where (is_some o)
-there-veiled b None = refl
-there-veiled b (Some x) = refl
+there-veiled b o = grind arith
 
 none-veiled : (b : Bool) (o : Option Segment) → is_none (option_map (veiled b) o) ≡ is_none o
-none-veiled b None = refl
-none-veiled b (Some x) = refl
+none-veiled b o = grind arith
 
 key-veiled : (key : ℕ) (b : Bool) (o : Option Segment) → has_key key (option_map (veiled b) o) ≡ has_key key o
-key-veiled key b None = refl
-key-veiled key b (Some x) = refl
+key-veiled key b o = grind arith
 
 -- what a look found, hidden or not
 abbrev pub veiled_look : Bool → Look → Look
@@ -51,12 +46,7 @@ veiled_look b Removed = Removed
 veiled_look b Invalid = Invalid
 
 segment-veiled : (i : ℕ) (b : Bool) (o : Option Segment) → look_segment i (option_map (veiled b) o) ≡ veiled_look b (look_segment i o)
-segment-veiled i b None = refl
-segment-veiled i b (Some x) = refl
-
-look-if : (c b : Bool) (l m : Look) → (if c then veiled_look b l else veiled_look b m) ≡ veiled_look b (if c then l else m)
-look-if true b l m = refl
-look-if false b l m = refl
+segment-veiled i b o = grind arith
 
 -- what is set to what it is
 set-same : (t : List Entry) (i : ℕ) (e : Entry) → slice_get t i ≡ Some e → slice_set t i e ≡ t
@@ -82,8 +72,7 @@ module _ (hidden : ℕ → Bool) where
   veiled-get t i = let here : 0 + i ≡ i = omega arith in rw here at (veiled-at 0 i t)
 
   destroyed-entry : (i : ℕ) (o : Option Entry) → destroyed_in (option_map (veiled_entry hidden i) o) ≡ destroyed_in o
-  destroyed-entry i None = refl
-  destroyed-entry i (Some e) = refl
+  destroyed-entry i o = grind arith
 
   pub veiled-destroyed : (t : List Entry) (i : ℕ) → destroyed_at (V 0 t) i ≡ destroyed_at t i
   veiled-destroyed t i = ap destroyed_in (veiled-get t i) ∙ destroyed-entry i (slice_get t i)
@@ -108,12 +97,7 @@ module _ (hidden : ℕ → Bool) where
 
   sum-veiled : (f : Entry → ℕ) → ((k : ℕ) (e : Entry) → f (veiled_entry hidden k e) ≡ f e) → (k : ℕ) (t : List Entry) → sum_by f (V k t) ≡ sum_by f t
   sum-veiled f same k [] = refl
-  sum-veiled f same k (e ∷ es) =
-      let a = sum_by-cons f (veiled_entry hidden k e) (V (k + 1) es) in
-      let b = sum_by-cons f e es in
-      let first = same k e in
-      let rest = sum-veiled f same (k + 1) es in
-      omega (arith, a, b, first, rest)
+  sum-veiled f same k (e ∷ es) = grind (arith, sum_by-cons f, same, sum-veiled f same (k + 1) es)
 
   pub reserved-veiled : (t : List Entry) → reserved (V 0 t) ≡ reserved t
   reserved-veiled t = sum-veiled (λ e. pages_held e.segment) (λ k e. held-veiled (hides k e) e.segment) 0 t
@@ -147,11 +131,7 @@ module _ (hidden : ℕ → Bool) where
 
   entry-veiled : (i q : ℕ) (o : Option Entry) → (b : Bool) × (look_entry i q (option_map (veiled_entry hidden i) o) ≡ veiled_look b (look_entry i q o))
   entry-veiled i q None = (false, refl)
-  entry-veiled i q (Some e) =
-      let b = hides i e in
-      let last : (if q == e.destroyed then look_segment i (option_map (veiled b) e.segment) else Invalid) ≡ veiled_look b (if q == e.destroyed then look_segment i e.segment else Invalid) =
-      ap (λ l. if q == e.destroyed then l else Invalid) (segment-veiled i b e.segment) ∙ look-if (q == e.destroyed) b (look_segment i e.segment) Invalid in
-      (b, ap (λ l. if nat_lt q e.destroyed then Removed else l) last ∙ look-if (nat_lt q e.destroyed) b Removed (if q == e.destroyed then look_segment i e.segment else Invalid))
+  entry-veiled i q (Some e) = (hides i e, grind arith)
 
   pub look-veiled : (t : List Entry) (id : ℤ) → (b : Bool) × (look (V 0 t) id ≡ veiled_look b (look t id))
   look-veiled t (pos n) =
@@ -182,12 +162,7 @@ module _ (hidden : ℕ → Bool) where
 
   swept-entry : (k : ℕ) (rs : List Runner) (d : ℕ) (o : Option Segment)
       → swept_at k rs d (option_map (veiled (hidden (identifier k d))) o) ≡ veiled_entry hidden k (swept_at k rs d o)
-  swept-entry k rs d None = refl
-  swept-entry k rs d (Some x) =
-      elim (cases_Bool (x.dest && (attach_count rs (identifier k d) == 0))) [
-        | inl h ↦ rw h refl
-        | inr h ↦ rw h refl
-      ]
+  swept-entry k rs d o = grind arith
 
   pub swept-veiled : (k : ℕ) (rs : List Runner) (t : List Entry) → swept_from k rs (V k t) ≡ V k (swept_from k rs t)
   swept-veiled k rs [] = refl
@@ -218,12 +193,7 @@ module _ (hidden : ℕ → Bool) where
   Seen t q = hidden (identifier (q.seg % 32768) (destroyed_at t (q.seg % 32768))) ≡ false
 
   seen-bytes : (i : ℕ) (o : Option Entry) → hidden (identifier i (destroyed_in o)) ≡ false → bytes_at_entry (option_map (veiled_entry hidden i) o) ≡ bytes_at_entry o
-  seen-bytes i None clear = refl
-  seen-bytes i (Some e) clear = by e.segment
-    where
-      by : (o : Option Segment) → bytes_at_entry (Some (veiled_entry hidden i (record { destroyed = e.destroyed; segment = o }))) ≡ bytes_at_entry (Some (record { destroyed = e.destroyed; segment = o }))
-      by None = refl
-      by (Some x) = rw clear refl
+  seen-bytes i o clear = grind arith
 
   pub byte-veiled : (t : List Entry) (q : Place) → Seen t q → byte_at (V 0 t) q ≡ byte_at t q
   byte-veiled t q clear =
