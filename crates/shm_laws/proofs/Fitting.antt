@@ -1,5 +1,6 @@
 -- Each piece lies within a segment that stands.
 use Rattle.std.proofs.Common.{◌≡◌, ℕ, suc, zero, ◌+◌, ◌*◌, ◌/◌, ◌%◌, ◌≤◌, true, List, [], ◌∷◌, length, get_or, Option, Some, None, slice_get, refl, sym, ap, subst, ◌∙◌, inl, inr, arith, eq-eqb}
+use Rattle.std.proofs.lemmas.Grind.{common_steps}
 use Rattle.std.specs.Prelude.{Contains}
 use Rattle.std.proofs.lemmas.Option.{none-some, slice_get-get_or}
 use Rattle.std.proofs.lemmas.List.Elements.{All-contains, Contains-get_or}
@@ -28,17 +29,11 @@ use Rattle.shm_laws.proofs.Putting.{over-length}
 -- ONE SEGMENT UNDER ONE IDENTIFIER
 
 pub one-segment : (s : Machine) (id : ℕ) (x y : Segment) → Stands s id x → Stands s id y → x ≡ y
-one-segment s id x y a b =
-    let same : holds (id / 32768) x ≡ holds (id / 32768) y = sym (stands-at s.table id x a) ∙ stands-at s.table id y b in
-    cc (ap segment_in same)
+one-segment s id x y a b = cc
 
 -- two segments at one index are one
 pub one-index : (s : Machine) (a b : ℕ) (x y : Segment) → Stands s a x → Stands s b y → a % 32768 ≡ b % 32768 → a ≡ b
-one-index s a b x y h k same =
-    let both : holds (a / 32768) x ≡ holds (b / 32768) y =
-    sym (stands-at s.table a x h) ∙ ap (λ n. slice_get s.table n) same ∙ stands-at s.table b y k in
-    let count : a / 32768 ≡ b / 32768 = ap destroyed_in both in
-    omega (arith, same, count)
+one-index s a b x y h k same = grind (arith, common_steps)
 
 -- WHO HAS A PIECE IS COUNTED
 

@@ -1,5 +1,6 @@
 -- What each call does to the pieces of processes: nothing, or the caller attaches a segment, or loses pieces, or has a child.
 use Rattle.std.proofs.Common.{◌≡◌, ◌≢◌, ◌⊎◌, ℕ, suc, ◌+◌, ◌-◌, ◌*◌, ◌/◌, ◌%◌, ◌==◌, ◌&&◌, ℤ, pos, negsuc, Bool, true, false, not, nat_le, nat_lt, if◌then◌else◌, List, [], ◌∷◌, length, map, get_or, Option, Some, None, slice_get, slice_set, refl, sym, ap, subst, ◌∙◌, inl, inr, arith, eq-eqb, ne_eqb}
+use Rattle.std.proofs.lemmas.Grind.{common_steps}
 use Rattle.std.specs.Prelude.{All, filter, find}
 use Rattle.std.proofs.lemmas.Bool.{cases_eq, cases_Bool, not-false, not-true, and_parts}
 use Rattle.std.proofs.lemmas.Option.{none-some}
@@ -23,7 +24,7 @@ use Rattle.shm_base.specs.Step.{refuses, creates_at, creates, gets, wants_no_oth
 use Rattle.shm_life.proofs.Pieces.{all-cons, all-head, all-tail}
 use Rattle.shm_laws.specs.Standing.{Stands}
 use Rattle.shm_laws.specs.Pieces.{hands_pieces}
-use Rattle.shm_laws.proofs.Looks.{entry-found}
+use Rattle.shm_laws.proofs.Looks.{entry-found, found-own}
 use Rattle.shm_laws.proofs.Stepping.{pick}
 
 -- THE CALLER
@@ -35,25 +36,15 @@ pub record CallerAt (n pid : ℕ) (rs : List Runner) (c : Caller) : Type 0 where
   pub own : c.pid ≡ pid
   pub there : slice_get rs place ≡ Some (record { pid = pid; life = Live c.cred; pieces = c.pieces })
 
-caller_first : (n pid : ℕ) (r : Runner) (rs : List Runner) (c : Caller) (cred : Cred) → r.pid ≡ pid → r.life ≡ Live cred
-    → Some (record { index = n; pid = pid; cred = cred; pieces = r.pieces }) ≡ Some c → CallerAt n pid (r ∷ rs) c
-caller_first n pid r rs c cred same live found =
-    let whole : Some r ≡ Some (record { pid = pid; life = Live cred; pieces = r.pieces }) =
-    ap (λ p. Some (record { pid = p; life = r.life; pieces = r.pieces })) same ∙ ap (λ l. Some (record { pid = pid; life = l; pieces = r.pieces })) live in
-    let is : record { index = n; pid = pid; cred = cred; pieces = r.pieces } ≡ c = cc found in
-    subst (CallerAt n pid (r ∷ rs)) is (record { place = 0; at = omega arith; own = refl; there = whole })
-
 pub caller-at : (n pid : ℕ) (rs : List Runner) (c : Caller) → caller_from n pid rs ≡ Some c → CallerAt n pid rs c
 caller-at n pid [] c found = absurd (none-some c found)
-caller-at n pid (r ∷ rs) c found = by (cases_eq r.pid pid) r.life refl (caller-at (n + 1) pid rs c)
-  where
-    by : (r.pid ≡ pid) ⊎ (r.pid ≢ pid) → (l : Life) → r.life ≡ l → (caller_from (n + 1) pid rs ≡ Some c → CallerAt (n + 1) pid rs c) → CallerAt n pid (r ∷ rs) c
-    by (inr other) l is more =
-        let s = more (rw (ne_eqb r.pid pid other) at found) in
-        record { place = suc s.place; at = omega (arith, s.at); own = s.own; there = s.there }
-    by (inl same) Unborn is more = absurd (none-some c (rw (eq-eqb r.pid pid same, is) at found))
-    by (inl same) Ended is more = absurd (none-some c (rw (eq-eqb r.pid pid same, is) at found))
-    by (inl same) (Live cred) is more = caller_first n pid r rs c cred same is (rw (eq-eqb r.pid pid same, is) at found)
+caller-at n pid (r ∷ rs) c found =
+    elim (cases_eq r.pid pid) [
+      | inl same ↦ record { place = 0; at = grind (arith, common_steps); own = grind (arith, common_steps); there = grind (arith, common_steps) }
+      | inr other ↦
+          let s = caller-at (n + 1) pid rs c (rw (ne_eqb r.pid pid other) at found) in
+          record { place = suc s.place; at = omega (arith, s.at); own = s.own; there = s.there }
+    ]
 
 -- FOUR THINGS
 
@@ -191,10 +182,9 @@ module _ (s : Machine) (n : ℕ) (c : Caller) where
   hands-found m flags addr at Invalid is = refused _ _
   hands-found m flags addr at Removed is = refused _ _
   hands-found m flags addr at (Found i x) is =
-      let e = entry-found (m % 32768) (m / 32768) i x (slice_get s.table (m % 32768)) is in
-      let count : destroyed_at s.table i ≡ m / 32768 = ap (destroyed_at s.table) e.0 ∙ ap destroyed_in e.1 in
-      let own : identifier i (destroyed_at s.table i) ≡ m = omega (arith, e.0, count) in
-      let there : Stands s (identifier i (destroyed_at s.table i)) x = rw own (is ∙ ap (λ k. Found k x) e.0) in
+      let found = found-own s.table m i x is in
+      let own : identifier i (destroyed_at s.table i) ≡ m = found.1 in
+      let there : Stands s (identifier i (destroyed_at s.table i)) x = rw own (is ∙ ap (λ k. Found k x) found.0) in
       let asked : Shmat (pos m) at flags ≡ Shmat (pos (identifier i (destroyed_at s.table i))) at flags = ap (λ k. Shmat (pos k) at flags) (sym own) in
       pick_by (Hands s c (Shmat (pos m) at flags)) (not (grants c.cred x.perm (at_wish flags))) _ _ (λ h. refused _ _)
       (λ h.
@@ -236,65 +226,15 @@ module _ (s : Machine) (n : ℕ) (c : Caller) where
   abbrev Leave : Outcome → Type 0
   Leave o = o.state.runners ≡ s.runners
 
-  same-creates_at : (key size mode : ℕ) (o : Option ℕ) → Leave (creates_at s n c key size mode o)
-  same-creates_at key size mode None = refl
-  same-creates_at key size mode (Some i) = pick Leave (nat_lt (slots s.areas) (reserved s.table + pages_of size)) _ _ refl refl
-
   same-creates : (key size mode : ℕ) → Leave (creates s n c key size mode)
-  same-creates key size mode =
-      pick Leave (not (within 1 s.limits.shmmax size)) _ _ refl
-      (pick Leave (nat_lt s.limits.shmall (reserved s.table + pages_of size)) _ _ refl
-      (pick Leave (nat_le s.limits.shmmni (segment_count s.table)) _ _ refl (same-creates_at key size mode (free_index s.table))))
-
-  same-gets : (key size mode : ℕ) (flags : GetFlags) (l : Look) → Leave (gets s n c key size mode flags l)
-  same-gets key size mode flags (Found i x) =
-      pick Leave (wants_no_other flags) _ _ refl (pick Leave (nat_lt x.size size) _ _ refl (pick Leave (not (grants c.cred x.perm (wish_of mode))) _ _ refl refl))
-  same-gets key size mode flags Removed = pick Leave (wants_creation flags) _ _ (same-creates key size mode) refl
-  same-gets key size mode flags Invalid = pick Leave (wants_creation flags) _ _ (same-creates key size mode) refl
-
-  same-stat : (l : Look) → Leave (stat s c l)
-  same-stat Invalid = refl
-  same-stat Removed = refl
-  same-stat (Found i x) = pick Leave (not (grants c.cred x.perm (record { read = true; write = false }))) _ _ refl refl
-
-  same-controls : (act : ℕ → Segment → Outcome) → ((i : ℕ) (x : Segment) → Leave (act i x)) → (l : Look) → Leave (controls s c act l)
-  same-controls act acts Invalid = refl
-  same-controls act acts Removed = refl
-  same-controls act acts (Found i x) = pick Leave (not (owns c.cred x.perm)) _ _ refl (acts i x)
-
-  same-locks : (i : ℕ) (x : Segment) → Leave (locks s i x)
-  same-locks i x = pick Leave (not x.locked && nat_lt s.limits.memlock (locked s.table + pages_in x)) _ _ refl refl
-
-  same-load : (o : Option (List Place)) → Leave (load s o)
-  same-load None = refl
-  same-load (Some ps) = refl
-
-  same-store : (bytes : List ℕ) (o : Option (List Place)) → Leave (store s bytes o)
-  same-store bytes None = refl
-  same-store bytes (Some ps) = refl
-
-  same-xadd : (add : ℕ) (o : Option (List Place)) → Leave (xadd s add o)
-  same-xadd add None = refl
-  same-xadd add (Some ps) = refl
-
-  same-takes : (area : ℕ) (o : Option (Option ℕ)) → Leave (takes_away s area o)
-  same-takes area None = refl
-  same-takes area (Some None) = refl
-  same-takes area (Some (Some k)) = pick Leave (nat_lt (slots (slice_set s.areas area None)) (reserved s.table)) _ _ refl refl
+  same-creates key size mode = grind arith
 
   pub hands-acts : (call : Call) → Hands s c call (acts s n c call)
-  hands-acts (Shmget key size mode flags) = rests _ _ refl (pick Leave (key == 0) _ _ (same-creates 0 size mode) (same-gets key size mode flags (find_key s.table key)))
+  hands-acts (Shmget key size mode flags) = rests _ _ refl (grind (arith, same-creates))
   hands-acts (Shmat id addr flags) = hands-shmat id addr flags
   hands-acts (Shmdt addr) = hands-detaches addr (origin_of addr c.pieces) refl
-  hands-acts (Stat id) = rests _ _ refl (same-stat (look s.table id))
-  hands-acts (Set id uid gid mode) = rests _ _ refl (same-controls (sets s n uid gid mode) (λ i x. refl) (look s.table id))
-  hands-acts (Rmid id) = rests _ _ refl (same-controls (removes s) (λ i x. refl) (look s.table id))
-  hands-acts (Lock id) = rests _ _ refl (same-controls (locks s) same-locks (look s.table id))
-  hands-acts (Unlock id) = rests _ _ refl (same-controls (unlocks s) (λ i x. refl) (look s.table id))
-  hands-acts (Load a len) = rests _ _ refl (same-load (places c.pieces a len))
-  hands-acts (Store a bytes) = rests _ _ refl (same-store bytes (writable_places c.pieces a (length bytes)))
-  hands-acts (Xadd a add) = rests _ _ refl (same-xadd add (writable_places c.pieces a 8))
   hands-acts (Fork child) = hands-forks child (unborn_from 0 child s.runners) refl
   hands-acts Exec = hands-all Exec _ (Live c.cred) (inl refl) refl refl
   hands-acts Exit = hands-all Exit _ Ended (inr refl) refl refl
-  hands-acts (Swapoff area) = rests _ _ refl (pick Leave (not (c.cred.uid == 0)) _ _ refl (same-takes area (slice_get s.areas area)))
+  hands-acts (Load a len) = rests _ _ refl (grind arith)
+  hands-acts call = rests _ _ refl (grind arith)

@@ -70,33 +70,28 @@ module _ (hidden : ℕ → Bool) (s : Machine) (n : ℕ) (c : Caller) where
   new-zeros key size mode false = refl
 
   out-creates_at : (key size mode : ℕ) (o : Option ℕ) → creates_at B n c key size mode o ≡ out hidden (creates_at s n c key size mode o)
-  out-creates_at key size mode None = refl
-  out-creates_at key size mode (Some i) =
-      tests Enomem _ _ _ _ (ap (λ r. nat_lt (slots s.areas) (r + pages_of size)) (reserved-veiled hidden T))
-      (λ j. record {
-        reply = Id (pos (identifier i (veiled-destroyed hidden T i j)));
-        state = record s { table = made-veiled hidden T i (new_segment n c key size mode) (new-zeros key size mode) j };
-      })
+  out-creates_at key size mode o =
+      let same = reserved-veiled hidden T in
+      let zeros = new-zeros key size mode in
+      grind (arith, veiled-destroyed hidden T, made-veiled hidden T)
 
   out-creates : (key size mode : ℕ) → creates B n c key size mode ≡ out hidden (creates s n c key size mode)
   out-creates key size mode =
-      tests Einval (not (within 1 s.limits.shmmax size)) _ _ _ refl
-      (tests Enospc _ _ _ _ (ap (λ r. nat_lt s.limits.shmall (r + pages_of size)) (reserved-veiled hidden T))
-      (tests Enospc _ _ _ _ (ap (nat_le s.limits.shmmni) (count-veiled hidden T))
-      (ap (creates_at B n c key size mode) (free-veiled hidden 0 0 T) ∙ out-creates_at key size mode (free_index T))))
+      let pages = reserved-veiled hidden T in
+      let count = count-veiled hidden T in
+      let free = free-veiled hidden 0 0 T in
+      let made = out-creates_at key size mode (free_index T) in
+      grind arith
 
   out-gets : (key size mode : ℕ) (flags : GetFlags) (b : Bool) (l : Look) → gets B n c key size mode flags (veiled_look b l) ≡ out hidden (gets s n c key size mode flags l)
-  out-gets key size mode flags b (Found i x) =
-      tests Eexist (wants_no_other flags) _ _ _ refl
-      (tests Einval (nat_lt x.size size) _ _ _ refl
-      (tests Eacces (not (grants c.cred x.perm (wish_of mode))) _ _ _ refl (λ j. record { reply = Id (pos (identifier i (veiled-destroyed hidden T i j))); state = B })))
-  out-gets key size mode flags b Removed = both (wants_creation flags) _ _ _ _ (refuses s Enoent) refl (out-creates key size mode) refl
-  out-gets key size mode flags b Invalid = both (wants_creation flags) _ _ _ _ (refuses s Enoent) refl (out-creates key size mode) refl
+  out-gets key size mode flags b l = let made = out-creates key size mode in grind (arith, veiled-destroyed hidden T)
 
   out-shmget : (key size mode : ℕ) (flags : GetFlags) → shmget B n c key size mode flags ≡ out hidden (shmget s n c key size mode flags)
   out-shmget key size mode flags =
       let f = find-veiled hidden key T in
-      both (key == 0) _ _ _ _ _ refl (out-creates 0 size mode) (ap (gets B n c key size mode flags) f.1 ∙ out-gets key size mode flags f.0 (find_key T key))
+      let made = out-creates 0 size mode in
+      let found = out-gets key size mode flags f.0 (find_key T key) in
+      grind arith
 
   -- SHMAT
 
@@ -122,9 +117,7 @@ module _ (hidden : ℕ → Bool) (s : Machine) (n : ℕ) (c : Caller) where
   out-chosen b id x flags (Some base) = out-attaches b id x flags base
 
   out-fixed : (b : Bool) (id : ℕ) (x : Segment) (flags : AtFlags) (base : ℕ) → attaches_fixed B n c id (veiled b x) flags base ≡ out hidden (attaches_fixed s n c id x flags base)
-  out-fixed b id x flags base =
-      tests Einval _ _ _ _ (ap (λ p. not (inside base p)) (veiled-pages b x))
-      (tests Einval _ _ _ _ (ap (λ p. not (is_remap flags) && occupied c.pieces base (base + 4096 * p)) (veiled-pages b x)) (out-attaches b id x flags base))
+  out-fixed b id x flags base = let pages = veiled-pages b x in let all = out-attaches b id x flags base in grind arith
 
   out-found : (flags : AtFlags) (addr : ℕ) (b : Bool) (l : Look) → attaches_found B n c flags addr (veiled_look b l) ≡ out hidden (attaches_found s n c flags addr l)
   out-found flags addr b Invalid = refl
@@ -139,10 +132,7 @@ module _ (hidden : ℕ → Bool) (s : Machine) (n : ℕ) (c : Caller) where
       (ap (λ d. attaches_fixed B n c (identifier i d) (veiled b x) flags (addr - addr % 4096)) same ∙ out-fixed b (identifier i (destroyed_at T i)) x flags (addr - addr % 4096)))
 
   out-shmat : (id : ℤ) (addr : ℕ) (flags : AtFlags) → shmat B n c id addr flags ≡ out hidden (shmat s n c id addr flags)
-  out-shmat id addr flags =
-      let l = look-veiled hidden T id in
-      tests Einval ((addr == 0) && is_remap flags) _ _ _ refl
-      (tests Einval (not (addr % 4096 == 0) && not (is_rnd flags)) _ _ _ refl (ap (attaches_found B n c flags addr) l.1 ∙ out-found flags addr l.0 (look T id)))
+  out-shmat id addr flags = let l = look-veiled hidden T id in let found = out-found flags addr l.0 (look T id) in grind arith
 
   -- DETACHING, FORK AND CONTROL
 
@@ -157,24 +147,17 @@ module _ (hidden : ℕ → Bool) (s : Machine) (n : ℕ) (c : Caller) where
   out-detaches addr (Some p) = out-after _ (p.seg ∷ [])
 
   out-forks : (child : ℕ) (o : Option ℕ) → forks B c child o ≡ out hidden (forks s c child o)
-  out-forks child None = refl
-  out-forks child (Some i) = refl
+  out-forks child o = grind arith
 
   out-stat : (b : Bool) (l : Look) → stat B c (veiled_look b l) ≡ out hidden (stat s c l)
-  out-stat b Invalid = refl
-  out-stat b Removed = refl
-  out-stat b (Found i x) =
-      tests Eacces (not (grants c.cred x.perm (record { read = true; write = false }))) _ _ _ refl
-      (λ j. record { reply = replies.Stat (shown s (identifier i (veiled-destroyed hidden T i j)) x); state = B })
+  out-stat b l = grind (arith, veiled-destroyed hidden T)
 
   out-changed : (i : ℕ) (f : Segment → Segment) → ((b : Bool) (x : Segment) → f (veiled b x) ≡ veiled b (f x))
       → gives (record B { table = change (V T) i f }) Done ≡ out hidden (gives (record s { table = change T i f }) Done)
   out-changed i f same = λ j. record { reply = Done; state = record s { table = change-veiled hidden f same T i j } }
 
   out-controls : (f g : ℕ → Segment → Outcome) → ((b : Bool) (i : ℕ) (x : Segment) → f i (veiled b x) ≡ out hidden (g i x)) → (b : Bool) (l : Look) → controls B c f (veiled_look b l) ≡ out hidden (controls s c g l)
-  out-controls f g acts b Invalid = refl
-  out-controls f g acts b Removed = refl
-  out-controls f g acts b (Found i x) = tests Eperm (not (owns c.cred x.perm)) _ _ _ refl (acts b i x)
+  out-controls f g acts b l = grind (arith, acts)
 
   out-removes : (b : Bool) (i : ℕ) (x : Segment) → removes B i (veiled b x) ≡ out hidden (removes s i x)
   out-removes b i x =
@@ -215,9 +198,7 @@ module _ (hidden : ℕ → Bool) (s : Machine) (n : ℕ) (c : Caller) where
         ∙ (λ j. record { reply = Number (number_at s qs); state = record s { table = stored-veiled hidden T qs (to_le_bytes w64 ((number_at s qs + add) % 2 ^ 64)) seen j } })
 
     out-takes : (area : ℕ) (o : Option (Option ℕ)) → takes_away B area o ≡ out hidden (takes_away s area o)
-    out-takes area None = refl
-    out-takes area (Some None) = refl
-    out-takes area (Some (Some k)) = tests Enomem _ _ _ _ (ap (nat_lt (slots (slice_set s.areas area None))) (reserved-veiled hidden T)) refl
+    out-takes area o = let same = reserved-veiled hidden T in grind arith
 
     out-acts : (call : Call) → acts B n c call ≡ out hidden (acts s n c call)
     out-acts (Shmget key size mode flags) = out-shmget key size mode flags

@@ -3,7 +3,7 @@ use Rattle.std.proofs.Common.{◌≡◌, ◌⊎◌, ℕ, ◌/◌, ◌%◌, ◌<�
 use Rattle.std.proofs.lemmas.Grind.{common_steps}
 use Rattle.std.proofs.lemmas.Bool.{cases_Bool, cases_lt, lt-ltb, le-ltb, eqb-true}
 use Rattle.shm_base.specs.State.{Segment, Entry}
-use Rattle.shm_base.specs.Identifier.{Look, Found, Removed, Invalid, look_segment, look_entry, look}
+use Rattle.shm_base.specs.Identifier.{Look, Found, Removed, Invalid, look_segment, look_entry, look, identifier, destroyed_at}
 
 abbrev pub holds : ℕ → Segment → Option Entry
 holds d x = Some (record { destroyed = d; segment = Some x })
@@ -24,6 +24,10 @@ segment_of Invalid = None
 
 pub entry-found : (k q i : ℕ) (x : Segment) (o : Option Entry) → look_entry k q o ≡ Found i x → (i ≡ k) × (o ≡ holds q x)
 entry-found k q i x o h = grind (arith, common_steps)
+
+-- so a number that finds something is the identifier of its index
+pub found-own : (t : List Entry) (m i : ℕ) (x : Segment) → look t (pos m) ≡ Found i x → (i ≡ m % 32768) × (identifier i (destroyed_at t i) ≡ m)
+found-own t m i x is = grind (arith, common_steps)
 
 -- what stands under an identifier
 pub stands-at : (t : List Entry) (id : ℕ) (x : Segment) → look t (pos id) ≡ Found (id % 32768) x → slice_get t (id % 32768) ≡ holds (id / 32768) x

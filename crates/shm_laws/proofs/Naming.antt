@@ -1,5 +1,6 @@
 -- An identifier names one segment.
 use Rattle.std.proofs.Common.{◌≡◌, ◌⊎◌, ℕ, ◌+◌, ◌/◌, ◌%◌, ◌<◌, ◌==◌, ◌&&◌, pos, List, [], ◌∷◌, ◌++◌, length, replicate, Option, Some, None, slice_get, refl, sym, ap, subst, ◌∙◌, inl, inr, arith}
+use Rattle.std.proofs.lemmas.Grind.{common_steps}
 use Rattle.std.proofs.lemmas.Bool.{cases_Bool}
 use Rattle.std.proofs.lemmas.Option.{none-some}
 use Rattle.shm_base.specs.declared.call.Call.TheVariants.{Shmget}
@@ -46,11 +47,7 @@ module _ (s t : Machine) (e : Event) (sound : IsMachineSound s) (k : Moved s e t
   small = omega arith
 
   gone-swept : (rs : List Runner) (d : ℕ) (y : Segment) → id / 32768 < d → slice_get t.table (id % 32768) ≡ Some (swept_at (id % 32768) rs d (Some y)) → IsGone t id
-  gone-swept rs d y past at =
-      elim (cases_Bool (y.dest && (attach_count rs (identifier (id % 32768) d) == 0))) [
-        | inl h ↦ at-gone t.table id (d + 1) None (at ∙ rw h refl) (omega (arith, past))
-        | inr h ↦ at-gone t.table id d (Some y) (at ∙ rw h refl) past
-      ]
+  gone-swept rs d y past at = grind (arith, common_steps)
 
   gone-entry : (d : ℕ) (p : Option Segment) → slice_get s.table (id % 32768) ≡ Some (record { destroyed = d; segment = p }) → id / 32768 < d → IsGone t id
   gone-entry d (Some x) is past =

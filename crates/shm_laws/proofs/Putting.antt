@@ -7,7 +7,7 @@ use Rattle.shm_base.specs.State.{Piece}
 use Rattle.shm_base.specs.Access.{Place, places}
 use Rattle.shm_segments.proofs.Entries.{get-set_other, length-slice_set}
 use Rattle.shm_laws.specs.Writing.{Put}
-use Rattle.shm_laws.proofs.Turning.{byte_in, puts_in}
+use Rattle.shm_laws.proofs.Turning.{byte_in, puts_in, set-got}
 use Rattle.shm_laws.proofs.Stepping.{over_put}
 
 -- a place that is byte `at` of the segment at the index
@@ -26,12 +26,6 @@ pub record Hit (i at b : ℕ) (qs : List Place) (vs : List ℕ) : Type 0 where
 
 abbrev pub Miss : ℕ → ℕ → List Place → List ℕ → Type 0
 Miss i at qs vs = (k : ℕ) (p : Place) → k < length vs → slice_get qs k ≡ Some p → IsSpot i at p → ⊥
-
--- what is read where it was set
-set-got : (xs : List ℕ) (i v b : ℕ) → slice_get (slice_set xs i v) i ≡ Some b → v ≡ b
-set-got [] i v b h = absurd (none-some b h)
-set-got (x ∷ xs) zero v b h = cc h
-set-got (x ∷ xs) (suc i) v b h = set-got xs i v b h
 
 spot-cases : (i at : ℕ) (p : Place) → IsSpot i at p ⊎ (IsSpot i at p → ⊥)
 spot-cases i at p = grind (arith, common_steps)

@@ -35,15 +35,11 @@ module _ (s : Machine) (n : ℕ) (c : Caller) where
 
   placed-store : (a : ℕ) (bytes : List ℕ) (o : Option (List Place)) → writable_places c.pieces a (length bytes) ≡ o → Placed (Store a bytes) (store s bytes o)
   placed-store a bytes None is p puts = absurd (none-some p puts)
-  placed-store a bytes (Some qs) is p puts =
-      let same : record { from = a; bytes = bytes } ≡ p = cc puts in
-      (qs, ap (λ (q : Put). places c.pieces q.from (length q.bytes)) (sym same) ∙ (writable-parts (places c.pieces a (length bytes)) qs is).0)
+  placed-store a bytes (Some qs) is p puts = (qs, grind arith)
 
   placed-xadd : (a add : ℕ) (o : Option (List Place)) → writable_places c.pieces a 8 ≡ o → Placed (Xadd a add) (xadd s add o)
   placed-xadd a add None is p puts = absurd (none-some p puts)
-  placed-xadd a add (Some qs) is p puts =
-      let same : record { from = a; bytes = to_le_bytes w64 ((number_at s qs + add) % 2 ^ 64) } ≡ p = cc puts in
-      (qs, ap (λ (q : Put). places c.pieces q.from (length q.bytes)) (sym same) ∙ (writable-parts (places c.pieces a 8) qs is).0)
+  placed-xadd a add (Some qs) is p puts = (qs, grind arith)
 
   placed-acts : (call : Call) → Placed call (acts s n c call)
   placed-acts (Store a bytes) p puts = placed-store a bytes (writable_places c.pieces a (length bytes)) refl p puts

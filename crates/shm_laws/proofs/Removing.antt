@@ -53,18 +53,10 @@ module _ (s t : Machine) (e : Event) (sound : IsMachineSound s) (k : Moved s e t
   after = stays (overlay s e) (made_by (caller_of s e.pid) e.call) (removed e.call e.reply) e.reply s t sound (id % 32768) (omega arith) (id / 32768) x k (stands-at s.table id x stood)
 
   by_name : names (removed e.call e.reply) id ≡ true → removed e.call e.reply ≡ Some id
-  by_name h = at (removed e.call e.reply) refl h
-    where
-      at : (r : Option ℕ) → removed e.call e.reply ≡ r → names r id ≡ true → removed e.call e.reply ≡ Some id
-      at None is h = absurd (true≢false (sym h))
-      at (Some n) is h = is ∙ ap (λ m. Some m) (eqb-true n id h)
+  by_name h = grind (arith, common_steps)
 
   pub same-runners : removed e.call e.reply ≡ Some id → t.runners ≡ s.runners
-  same-runners h = at k
-    where
-      at : Moved s e t → t.runners ≡ s.runners
-      at (inl (none, q)) = absurd (none-some id (sym none ∙ h))
-      at (inr (no_byte, q)) = q.removes.runners
+  same-runners h = grind arith
 
   -- it is swept
   abbrev goes : Bool

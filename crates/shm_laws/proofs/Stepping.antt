@@ -1,5 +1,7 @@
 -- The four kinds of step on the segments: still, a sweep after a detach, a creation, a removal.
 use Rattle.std.proofs.Common.{◌≡◌, ◌⊎◌, ℕ, suc, zero, ◌+◌, ◌*◌, ◌%◌, ◌^◌, ◌≤◌, ◌==◌, ◌&&◌, ℤ, pos, negsuc, Bool, true, false, not, nat_le, nat_lt, if◌then◌else◌, List, [], ◌∷◌, length, replicate, get_or, Option, Some, None, slice_get, slice_set, refl, sym, ap, subst, ◌∙◌, inl, inr, arith}
+use Rattle.shm_segments.proofs.Entries.{get-set_other}
+use Rattle.std.proofs.lemmas.Bool.{cases_eq}
 use Rattle.std.specs.Int.{w64, to_le_bytes}
 use Rattle.std.proofs.lemmas.Option.{slice_get-get_or}
 use Rattle.shm_base.specs.declared.errno.Errno.TheVariants.{Emfile}
@@ -24,7 +26,7 @@ use Rattle.shm_life.proofs.Leaving.{keeps-set}
 use Rattle.shm_laws.specs.Identity.{IsSame}
 use Rattle.shm_laws.specs.Writing.{Put, put, held_by}
 use Rattle.shm_laws.proofs.Accessing.{writable-parts}
-use Rattle.shm_laws.proofs.Turning.{Turned, unchanged, puts_in, turned-refl, turned-trans, turned-change, turned-detach, turned-stored}
+use Rattle.shm_laws.proofs.Turning.{Turned, unchanged, puts_in, turned-refl, turned-trans, turned-change, turned-detach, turned-stored, set-got}
 use Rattle.shm_laws.proofs.Looks.{entry-found}
 
 -- PROCESSES THAT ARE NOT BORN HAVE NO PIECES
@@ -33,17 +35,11 @@ abbrev pub Bare : List Runner → Type 0
 Bare rs = (k : ℕ) (r : Runner) → slice_get rs k ≡ Some r → r.life ≡ Unborn → r.pieces ≡ []
 
 pub bare-set : (rs : List Runner) (i : ℕ) (x : Runner) → Bare rs → (x.life ≡ Unborn → ⊥) → Bare (slice_set rs i x)
-bare-set [] i x h born = h
-bare-set (r ∷ rs) zero x h born = at
-  where
-    at : (k : ℕ) (q : Runner) → slice_get (x ∷ rs) k ≡ Some q → q.life ≡ Unborn → q.pieces ≡ []
-    at zero q is u = let same : x ≡ q = cc is in absurd (born (ap (λ (y : Runner). y.life) same ∙ u))
-    at (suc k) q is u = h (suc k) q is u
-bare-set (r ∷ rs) (suc i) x h born = at (bare-set rs i x (λ k q. h (suc k) q) born)
-  where
-    at : Bare (slice_set rs i x) → (k : ℕ) (q : Runner) → slice_get (r ∷ slice_set rs i x) k ≡ Some q → q.life ≡ Unborn → q.pieces ≡ []
-    at more zero q is u = h 0 q is u
-    at more (suc k) q is u = more k q is u
+bare-set rs i x h born k r is u =
+    elim (cases_eq i k) [
+      | inl same ↦ absurd (born (ap (λ (y : Runner). y.life) (set-got rs i x r (rw (← same) at is)) ∙ u))
+      | inr apart ↦ h k r (sym (get-set_other rs i k x apart) ∙ is) u
+    ]
 
 -- THE KINDS
 

@@ -1,5 +1,6 @@
 -- Changes of a table that keep what a segment was made as, and its mark; and what becomes of its bytes.
 use Rattle.std.proofs.Common.{◌≡◌, ◌≢◌, ◌⊎◌, ℕ, suc, zero, ◌+◌, ◌%◌, ◌==◌, if◌then◌else◌, List, [], ◌∷◌, Option, Some, None, slice_get, slice_set, refl, sym, ap, subst, ◌∙◌, inl, inr, arith, eq-eqb, ne_eqb}
+use Rattle.std.proofs.lemmas.Option.{none-some}
 use Rattle.std.specs.Prelude.{option_map}
 use Rattle.std.proofs.lemmas.Bool.{cases_eq}
 use Rattle.shm_base.specs.State.{Segment, Entry, Runner}
@@ -52,6 +53,12 @@ turned-trans f g t u v i a b =
     }
 
 -- ONE ENTRY
+
+-- what is read where it was set
+pub set-got : {X : Type 0} (xs : List X) (i : ℕ) (v x : X) → slice_get (slice_set xs i v) i ≡ Some x → v ≡ x
+set-got [] i v x h = absurd (none-some x h)
+set-got (y ∷ ys) zero v x h = cc h
+set-got (y ∷ ys) (suc i) v x h = set-got ys i v x h
 
 pub set_in-here : (t : List Entry) (k : ℕ) (g : Entry → Entry) (o : Option Entry) → slice_get t k ≡ o → slice_get (set_in t k g o) k ≡ option_map g o
 set_in-here t k g None is = is

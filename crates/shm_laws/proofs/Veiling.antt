@@ -111,20 +111,20 @@ module _ (hidden : ℕ → Bool) where
   pub free-veiled : (k j : ℕ) (t : List Entry) → free_from j (V k t) ≡ free_from j t
   free-veiled k j [] = refl
   free-veiled k j (e ∷ es) =
-      ap (λ b. if b && nat_lt e.destroyed 65536 then Some j else free_from (j + 1) (V (k + 1) es)) (none-veiled (hides k e) e.segment)
-      ∙ ap (λ r. if is_none e.segment && nat_lt e.destroyed 65536 then Some j else r) (free-veiled (k + 1) (j + 1) es)
+      let same = none-veiled (hides k e) e.segment in
+      let rest = free-veiled (k + 1) (j + 1) es in
+      grind arith
 
   key-found : (key k j : ℕ) (t : List Entry) → (b : Bool) × (key_from key j (V k t) ≡ veiled_look b (key_from key j t))
   key-found key k j [] = (false, refl)
-  key-found key k j (e ∷ es) = by (cases_Bool (has_key key e.segment)) (key-found key (k + 1) (j + 1) es)
-    where
-      first : has_key key (option_map (veiled (hides k e)) e.segment) ≡ has_key key e.segment
-      first = key-veiled key (hides k e) e.segment
-
-      by : (has_key key e.segment ≡ true) ⊎ (has_key key e.segment ≡ false) → (b : Bool) × (key_from key (j + 1) (V (k + 1) es) ≡ veiled_look b (key_from key (j + 1) es))
-          → (b : Bool) × (key_from key j (V k (e ∷ es)) ≡ veiled_look b (key_from key j (e ∷ es)))
-      by (inl h) more = (hides k e, rw (first ∙ h, h) (segment-veiled j (hides k e) e.segment))
-      by (inr h) more = (more.0, rw (first ∙ h, h) more.1)
+  key-found key k j (e ∷ es) =
+      let rest = key-found key (k + 1) (j + 1) es in
+      let same = key-veiled key (hides k e) e.segment in
+      let own = segment-veiled j (hides k e) e.segment in
+      elim (cases_Bool (has_key key e.segment)) [
+        | inl h ↦ (hides k e, grind arith)
+        | inr h ↦ (rest.0, grind arith)
+      ]
 
   pub find-veiled : (key : ℕ) (t : List Entry) → (b : Bool) × (find_key (V 0 t) key ≡ veiled_look b (find_key t key))
   find-veiled key t = key-found key 0 0 t
