@@ -148,11 +148,7 @@ record IsLive (i pid : ℕ) (ps : List flat.Piece) (l : flat.Life) (k : FlatCall
   pieces : ps ≡ k.pieces
 
 live_is : (i pid : ℕ) (ps : List flat.Piece) (l : flat.Life) (k : FlatCaller) → caller_by i pid ps l ≡ Some k → IsLive i pid ps l k
-live_is i pid ps flat.Unborn k said = absurd (none-some k said)
-live_is i pid ps flat.Ended k said = absurd (none-some k said)
-live_is i pid ps (flat.Live cred) k said =
-    let is : record { index = i; pid = pid; cred = cred; pieces = ps } ≡ k = cc said in
-    record { at = ap (λ (c : FlatCaller). c.index) is; life = ap (λ (c : FlatCaller). flat.Live c.cred) is; pieces = ap (λ (c : FlatCaller). c.pieces) is }
+live_is i pid ps l k said = record { at = grind arith; life = grind arith; pieces = grind arith }
 
 -- the process of a caller
 pub caller_there : (c : Caller) (rs : List flat.Runner) → IsCaller c rs → slice_get rs c.index ≡ Some (record { pid = c.pid; life = flat.Live c.cred; pieces = pieces_at rs c.index })
@@ -177,9 +173,7 @@ pub with_pieces-of : (c : Caller) (rs shown : List flat.Runner) (f : List flat.P
 with_pieces-of c rs shown f same is = ap (λ (xs : List flat.Runner). with_pieces_at xs c.index f) same ∙ sym (with_pieces-at c shown f is)
 
 pub not_live : (i pid : ℕ) (ps : List flat.Piece) (l : Life) → ((cred : Cred) → l ≡ Live cred → ⊥) → caller_by i pid ps (life_view l) ≡ None
-not_live i pid ps Unborn never = refl
-not_live i pid ps (Live cred) never = absurd (never cred refl)
-not_live i pid ps Ended never = refl
+not_live i pid ps l never = grind arith
 
 pub caller_within : (c : Caller) (es : List (ℕ × Runner)) → IsCaller c (runners_view es) → c.index < length es
 caller_within c es is = let within = slice_get_within (runners_view es) c.index _ (caller_there c (runners_view es) is) in omega (arith, within, length-map es runner_view)
@@ -199,25 +193,19 @@ length-with_pieces c rs ps = length-set rs c.index (record { pid = c.pid; life =
 
 -- it was born
 pub caller_born : (c : Caller) (rs : List flat.Runner) → IsCaller c rs → life_at rs c.index ≢ flat.Unborn
-caller_born c rs is none =
-    let live : life_at rs c.index ≡ flat.Live c.cred = ap life_in (caller_there c rs is) in
-    absurd (cc (sym live ∙ none))
+caller_born c rs is none = let live = caller_there c rs is in absurd (grind arith)
 
 -- A CHILD THAT IS NOT BORN
 
 pub not_unborn : (l : Life) → (l ≡ Unborn → ⊥) → is_unborn (life_view l) ≡ false
-not_unborn Unborn never = absurd (never refl)
-not_unborn (Live cred) never = refl
-not_unborn Ended never = refl
+not_unborn l never = grind arith
 
 record IsAsleep (i j : ℕ) (l : flat.Life) : Type 0 where
   at : i ≡ j
   life : l ≡ flat.Unborn
 
 asleep_is : (i j : ℕ) (l : flat.Life) → (if is_unborn l then Some i else None) ≡ Some j → IsAsleep i j l
-asleep_is i j flat.Unborn said = record { at = cc said; life = refl }
-asleep_is i j (flat.Live cred) said = absurd (none-some j said)
-asleep_is i j flat.Ended said = absurd (none-some j said)
+asleep_is i j l said = record { at = grind arith; life = grind arith }
 
 -- the child stands at the place that is found
 pub record ChildAt (pid j : ℕ) (rs : List flat.Runner) : Type 0 where

@@ -1,9 +1,10 @@
 -- The table of each piece: what a change of the pieces and of the tables leaves.
 use Rattle.std.proofs.Common.{◌≡◌, ◌≢◌, inl, inr, ℕ, zero, suc, ◌+◌, ◌-◌, ◌/◌, ◌<◌, ◌≤◌, ◌==◌, ◌&&◌, Bool, true, false, nat_lt, List, [], ◌∷◌, length, filter, get_or, slice_get, Option, Some, None, refl, ap, sym, subst, ◌∙◌, arith, eq-eqb}
+use Rattle.std.proofs.lemmas.Grind.{common_steps}
 use Rattle.std.specs.Prelude.{All}
 use Rattle.std.proofs.lemmas.Bool.{cases_eq, cases_lt, cases_Bool, lt-ltb, le-ltb, ltb-true, eqb-true, and_parts, true≢false}
 use Rattle.std.proofs.lemmas.Option.{none-some}
-use Rattle.std.proofs.lemmas.List.Elements.{All-append, All-nil, All-cons, All-head, All-tail}
+use Rattle.std.proofs.lemmas.List.Elements.{All-append, All-nil, All-cons, All-head, All-tail, All-filter}
 use Rattle.std.proofs.lemmas.List.{length-map}
 use Rattle.indexmap.specs.IndexMap.{set_value_at}
 use Rattle.slab.specs.Slab.{Slab, get}
@@ -70,23 +71,14 @@ abbrev pub is_held : Slab Entry → Piece → Bool
 is_held t p = seg_is (seg_in (get t p.key)) p.seg && nat_lt (p.first_page + p.pages) (size_in (get t p.key) + 1)
 
 pub held-passes : (t : Slab Entry) (p : Piece) → IsHeld t p → is_held t p ≡ true
-held-passes t p own = rw (own.seg, eq-eqb p.seg p.seg refl, lt-ltb (p.first_page + p.pages) (size_in (get t p.key) + 1) (omega (arith, own.pages))) refl
+held-passes t p own = grind (arith, common_steps)
 
 pub held-passed : (t : Slab Entry) (p : Piece) → is_held t p ≡ true → IsHeld t p
-held-passed t p passes =
-    let both = and_parts (seg_is (seg_in (get t p.key)) p.seg) (nat_lt (p.first_page + p.pages) (size_in (get t p.key) + 1)) passes in
-    record { seg = by (seg_in (get t p.key)) both.0; pages = omega (arith, ltb-true (p.first_page + p.pages) (size_in (get t p.key) + 1) both.1) }
-  where
-    by : (o : Option ℕ) → seg_is o p.seg ≡ true → o ≡ Some p.seg
-    by None wrong = absurd (true≢false (sym wrong))
-    by (Some own) same = ap Some (eqb-true own p.seg same)
+held-passed t p passes = grind (arith, common_steps)
 
 -- what is read under a key is true
 pub frame-true : (at : ℕ → ℕ → Option ℕ) (o : Option Entry) (seg page : ℕ) → seg_in o ≡ Some seg → TrueSlot at o → page < size_in o → frame_in o page ≡ at seg page
-frame-true at None seg page own tr lt = absurd (omega (arith, lt))
-frame-true at (Some e) seg page own tr lt =
-    let same : e.seg ≡ seg = cc own in
-    tr page lt ∙ ap (λ s. at s page) same
+frame-true at o seg page own tr lt = grind arith
 
 -- ALL PIECES OF ONE PROCESS
 
@@ -100,13 +92,7 @@ module _ (t : Slab Entry) where
       ]
 
   pub held-filter : (f : Piece → Bool) (ps : List Piece) → All (IsHeld t) ps → All (IsHeld t) (filter f ps)
-  held-filter f [] all = all
-  held-filter f (p ∷ ps) all =
-      let rest = held-filter f ps (All-tail (IsHeld t) p ps all) in
-      elim (cases_Bool (f p)) [
-        | inl h ↦ rw h (All-cons (IsHeld t) p (filter f ps) (All-head (IsHeld t) p ps all) rest)
-        | inr h ↦ rw h rest
-      ]
+  held-filter f ps all = All-filter f (IsHeld t) ps all
 
   held-below : (from : ℕ) (p : Piece) → from < end_of (bare p) → IsHeld t p → All (IsHeld t) (kept_below from p)
   held-below from p ends own =

@@ -1,5 +1,6 @@
 -- The counts stay exact, and no process gets too many pieces.
 use Rattle.std.proofs.Common.{◌≡◌, ◌≢◌, ◌⊎◌, inl, inr, ℕ, zero, suc, ◌+◌, ◌-◌, ◌*◌, ◌/◌, ◌<◌, ◌≤◌, false, ◌==◌, nat_lt, List, [], ◌∷◌, ◌++◌, length, get_or, set, take, eq-eqb, refl, ap, sym, ◌∙◌, arith, length-set, length-take}
+use Rattle.std.proofs.lemmas.Grind.{common_steps}
 use Rattle.std.proofs.lemmas.Bool.{cases_eq, cases_lt, cases_Bool, le-ltb, lt-ltb, and_right, or_parts}
 use Rattle.std.proofs.lemmas.Option.{slice_get-get_or}
 use Rattle.std.proofs.lemmas.List.{get_or-set_same, get_or-set_other, set-set}
@@ -125,18 +126,17 @@ IsExact-set extra rs i r c d exact lt few order asleep counts =
           let moved = sum_by-set (λ (x : Runner). pieces_of id x.pieces) rs i r nobody lt in
           omega (arith, counts id, exact.counts id, moved, ap (pieces_of id) (pieces_at-get_or rs i));
       processes = rw (length-set rs i r) exact.processes;
-      pieces = λ j. short j (cases_eq j i);
+      pieces = each (λ ps. length ps ≤ 256) few exact.pieces;
       unborn = λ j none. empty j none (cases_eq j i);
-      arranged = λ j. in_order j (cases_eq j i);
+      arranged = each (Arranged lowest_address) order exact.arranged;
     }
   where
-    short : (j : ℕ) → (j ≡ i) ⊎ (j ≢ i) → length (pieces_at (set rs i r) j) ≤ 256
-    short j (inl same) = rw (same, pieces_at-set rs i r lt) few
-    short j (inr other) = rw (pieces_at-set_other rs i j r other) (exact.pieces j)
-
-    in_order : (j : ℕ) → (j ≡ i) ⊎ (j ≢ i) → Arranged lowest_address (pieces_at (set rs i r) j)
-    in_order j (inl same) = rw (same, pieces_at-set rs i r lt) order
-    in_order j (inr other) = rw (pieces_at-set_other rs i j r other) (exact.arranged j)
+    each : (P : List Piece → Type 0) → P r.pieces → ((j : ℕ) → P (pieces_at rs j)) → (j : ℕ) → P (pieces_at (set rs i r) j)
+    each P own old j =
+        elim (cases_eq j i) [
+          | inl same ↦ rw (same, pieces_at-set rs i r lt) own
+          | inr other ↦ rw (pieces_at-set_other rs i j r other) (old j)
+        ]
 
     empty : (j : ℕ) → life_at (set rs i r) j ≡ Unborn → (j ≡ i) ⊎ (j ≢ i) → pieces_at (set rs i r) j ≡ []
     empty j none (inl same) =
@@ -182,32 +182,16 @@ own_counted extra rs c i exact lt id = omega (arith, exact.counts id, attach_cou
 
 pub occupied-append : (xs ys : List Piece) (from to : ℕ) → occupied xs from to ≡ false → occupied ys from to ≡ false → occupied (xs ++ ys) from to ≡ false
 occupied-append [] ys from to none more = more
-occupied-append (x ∷ xs) ys from to none more =
-    let both = or_parts (meets from to x) (occupied xs from to) none in
-    rw both.0 (occupied-append xs ys from to both.1 more)
+occupied-append (x ∷ xs) ys from to none more = let rest = occupied-append xs ys from to in grind (arith, common_steps)
 
 free_below : (from to : ℕ) (p : Piece) → occupied (part_below from p) from to ≡ false
-free_below from to p =
-    elim (cases_lt p.base from) [
-      | inl before ↦
-          let ends : p.base + 4096 * ((from - p.base) / 4096) ≤ from = omega (arith, before) in
-          rw (lt-ltb p.base from before, and_right (nat_lt p.base to) (nat_lt from (p.base + 4096 * ((from - p.base) / 4096))) (le-ltb from (p.base + 4096 * ((from - p.base) / 4096)) ends)) refl
-      | inr after ↦ rw (le-ltb p.base from after) refl
-    ]
+free_below from to p = grind (arith, common_steps)
 
 free_above : (from to : ℕ) (p : Piece) → occupied (part_above to p) from to ≡ false
-free_above from to p =
-    elim (cases_lt to (end_of p)) [
-      | inl beyond ↦ rw (lt-ltb to (end_of p) beyond, le-ltb to to (omega arith)) refl
-      | inr over ↦ rw (le-ltb to (end_of p) over) refl
-    ]
+free_above from to p = grind (arith, common_steps)
 
 free_parts : (from to : ℕ) (p : Piece) → occupied (parts from to p) from to ≡ false
-free_parts from to p =
-    elim (cases_Bool (meets from to p)) [
-      | inl m ↦ rw m (occupied-append (part_below from p) (part_above to p) from to (free_below from to p) (free_above from to p))
-      | inr m ↦ rw (m, m) refl
-    ]
+free_parts from to p = let none = occupied-append (part_below from p) (part_above to p) from to (free_below from to p) (free_above from to p) in grind arith
 
 pub occupied-cut : (from to : ℕ) (ps : List Piece) → occupied (cut from to ps) from to ≡ false
 occupied-cut from to [] = refl
@@ -222,21 +206,15 @@ cut-all low (p ∷ ps) le ar =
     let first : low ≤ p.base = ar.0 in
     let some : 1 ≤ p.pages = ar.1.0.some in
     let within : end_of p ≤ last_address = ar.1.0.within in
-    rw (
-      lt-ltb p.base last_address (omega (arith, some, within)),
-      lt-ltb lowest_address (end_of p) (omega (arith, first, le, some)),
-      le-ltb p.base lowest_address (omega (arith, first, le)),
-      le-ltb last_address (end_of p) within,
-    )
-    (cut-all (end_of p) ps (omega (arith, first, le)) ar.1.1)
+    let rest = cut-all (end_of p) ps (omega (arith, first, le)) ar.1.1 in
+    grind (arith, common_steps)
 
 pub arranged-without : (addr seg low : ℕ) (ps : List Piece) → Arranged low ps → Arranged low (without_named addr seg ps)
 arranged-without addr seg low [] ar = ar
 arranged-without addr seg low (p ∷ ps) ar =
     let rest = arranged-without addr seg (end_of p) ps ar.1.1 in
-    let first : low ≤ p.base = ar.0 in
     elim (cases_Bool (is_named addr seg p)) [
-      | inl h ↦ rw h (lower low (end_of p) (without_named addr seg ps) (omega (arith, first)) rest)
+      | inl h ↦ rw h (lower low (end_of p) (without_named addr seg ps) (omega (arith, ar.0)) rest)
       | inr h ↦ rw h (ar.0, (ar.1.0, rest))
     ]
 
@@ -244,11 +222,7 @@ arranged-without addr seg low (p ∷ ps) ar =
 
 pub pieces_of-there : (k : ℕ) (ps : List Piece) (d : Piece) → k < length ps → 1 ≤ pieces_of (get_or ps k d).seg ps
 pieces_of-there k [] d l = absurd (omega arith)
-pieces_of-there zero (p ∷ ps) d l =
-    let same : one_if p.seg p.seg ≡ 1 = rw (eq-eqb p.seg p.seg refl) refl in
-    let own : pieces_of p.seg (p ∷ ps) ≡ pieces_of p.seg ps + 1 = one_more p.seg p ps ∙ ap (λ n. pieces_of p.seg ps + n) same in
-    let some : 1 ≤ pieces_of p.seg (p ∷ ps) = omega (arith, own) in
-    some
+pieces_of-there zero (p ∷ ps) d l = let own = one_more p.seg p ps in grind (arith, common_steps)
 pieces_of-there (suc k) (p ∷ ps) d l =
     let rest = pieces_of-there k ps d (omega arith) in
     omega (arith, rest, one_more (get_or ps k d).seg p ps)

@@ -22,8 +22,4 @@ moved-more ms i d seg page f lt = let next : i + 1 ≡ suc i = omega arith in rw
 
 -- what holds of one residency holds of another that is the same
 pub true-same : (at by : ℕ → ℕ → Option ℕ) (t : Slab Entry) → ((seg page : ℕ) → at seg page ≡ by seg page) → AllTrue at t → AllTrue by t
-true-same at by t same all = λ k. over (get t k) (all k)
-  where
-    over : (o : Option Entry) → TrueSlot at o → TrueSlot by o
-    over None tr = tt
-    over (Some e) tr = λ j lt. tr j lt ∙ same e.seg j
+true-same at by t same all k = grind arith
