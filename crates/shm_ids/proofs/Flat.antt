@@ -1,5 +1,6 @@
 -- The table's words agree with the flat machine's.
 use Rattle.std.proofs.Common.{◌≡◌, ◌≢◌, ◌⊎◌, ℕ, zero, suc, ◌+◌, ◌/◌, ◌%◌, ◌<◌, ◌≤◌, ◌==◌, ◌&&◌, ℤ, pos, negsuc, nat_lt, is_none, is_some, cond, if◌then◌else◌, List, [], ◌∷◌, ◌++◌, length, set, slice_get, slice_set, Option, Some, None, Ok, IsOk, refl, sym, ap, ◌∙◌, inl, inr, arith, eq-eqb, ne_eqb}
+use Rattle.std.proofs.lemmas.Grind.{common_steps}
 use Rattle.std.proofs.lemmas.Bool.{cases_eq, cases_lt, cases_Bool, lt-ltb, le-ltb}
 use Rattle.std.proofs.lemmas.List.Sums.{sum_by-cons}
 use Rattle.shm_base.specs.State.{Segment, Entry as FlatEntry}
@@ -64,8 +65,7 @@ module _ {T : Type 0} (make : ℕ → Row T → Segment) where
   -- THE LEAST FREE INDEX
 
   same_none : (id : ℕ) (r : Option (Row T)) → is_none (flat_row make id r) ≡ is_none r
-  same_none id None = refl
-  same_none id (Some r) = refl
+  same_none id r = grind arith
 
   pub free_from-flat : (i j : ℕ) (t : List (Entry T)) → flat.free_from j (flat_from make i t) ≡ free_from j t
   free_from-flat i j [] = refl
@@ -87,12 +87,9 @@ module _ {T : Type 0} (make : ℕ → Row T → Segment) where
 
   -- LOOKING UP
 
-  look_parts : (i q d id : ℕ) (r : Option (Row T)) → (q ≡ d → identifier i d ≡ id) → (q < d) ⊎ (d ≤ q) → (q ≡ d) ⊎ (q ≢ d)
+  look_parts : (i q d id : ℕ) (r : Option (Row T)) → (q ≡ d → identifier i d ≡ id)
       → flat.look_entry i q (Some (flat_entry make i (record { destroyed = d; row = r }))) ≡ flat_answer make i id (row_key r) (look_entry q (record { destroyed = d; row = r }))
-  look_parts i q d id r own (inl below) same = rw (lt-ltb q d below) refl
-  look_parts i q d id r own (inr above) (inr other) = rw (le-ltb q d above, ne_eqb q d other) refl
-  look_parts i q d id None own (inr above) (inl same) = rw (le-ltb q d above, eq-eqb q d same) refl
-  look_parts i q d id (Some r) own (inr above) (inl same) = rw (le-ltb q d above, eq-eqb q d same, own same) refl
+  look_parts i q d id r own = grind (arith, common_steps)
 
   -- what is live, removed or never issued is so for both
   pub look-flat : (t : List (Entry T)) (id : ℤ) → flat.look (flat_table make t) id ≡ flat_look make t id (look t id)
@@ -106,18 +103,13 @@ module _ {T : Type 0} (make : ℕ → Row T → Segment) where
       own same = omega (arith, same)
 
       by : (n % 32768 < length t) ⊎ (length t ≤ n % 32768) → flat.look (flat_table make t) (pos n) ≡ flat_look make t (pos n) (look t (pos n))
-      by (inr past) = rw (past-flat 0 (n % 32768) t past, at_past t (n % 32768) past) (look_unused (n / 32768) (cases_eq (n / 32768) 0))
-        where
-          look_unused : (q : ℕ) → (q ≡ 0) ⊎ (q ≢ 0) → flat.Invalid ≡ flat_answer make (n % 32768) n 0 (look_entry q unused)
-          look_unused q (inl z) = rw (le-ltb q 0 (omega arith), eq-eqb q 0 z) refl
-          look_unused q (inr m) = rw (le-ltb q 0 (omega arith), ne_eqb q 0 m) refl
+      by (inr past) = rw (past-flat 0 (n % 32768) t past, at_past t (n % 32768) past) (grind (arith, common_steps))
       by (inl there) =
           rw (at-table (n % 32768) t there)
-          (look_parts (n % 32768) (n / 32768) e.destroyed n e.row own (cases_lt (n / 32768) e.destroyed) (cases_eq (n / 32768) e.destroyed))
+          (look_parts (n % 32768) (n / 32768) e.destroyed n e.row own)
 
   same_key : ShowsKeys make → (id key : ℕ) (r : Option (Row T)) → key ≢ 0 → flat.has_key key (flat_row make id r) ≡ (row_key r == key)
-  same_key shows id key None live = sym (ne_eqb 0 key (λ z. live (sym z)))
-  same_key shows id key (Some r) live = ap (λ k. k == key) (shows id r)
+  same_key shows id key r live = grind (arith, common_steps)
 
   found_from : ShowsKeys make → (n key : ℕ) (t : List (Entry T)) (at : ℕ → Entry T) → ((k : ℕ) → k < length t → entry_at t k ≡ at (n + k)) → key ≢ 0
       → flat.key_from key n (flat_from make n t) ≡ flat_found make at (key_from key n t)
@@ -160,8 +152,7 @@ module _ {T : Type 0} (make : ℕ → Row T → Segment) where
           rw (long, ne_eqb i (length t) n, destroyed_at-flat t i) (set-table i t (held (entry_at t i) key v))
 
   same_some : (id : ℕ) (r : Option (Row T)) → is_some (flat_row make id r) ≡ is_some r
-  same_some id None = refl
-  same_some id (Some r) = refl
+  same_some id r = grind arith
 
   pub segment_count-flat : (i : ℕ) (t : List (Entry T)) → flat_segments.segment_count (flat_from make i t) ≡ row_count t
   segment_count-flat i [] = refl
