@@ -1,5 +1,6 @@
 -- By how much each move changes how many pieces there are.
 use Rattle.std.proofs.Common.{◌≡◌, ◌≢◌, ◌⊎◌, ℕ, ◌+◌, ◌*◌, ◌/◌, ◌%◌, ◌<◌, ◌==◌, ℤ, pos, negsuc, Bool, true, false, not, if◌then◌else◌, List, [], ◌∷◌, get_or, Option, Some, None, slice_get, slice_set, refl, sym, ap, subst, ◌∙◌, inl, inr, arith, eq-eqb, ne_eqb, true≢false}
+use Rattle.std.proofs.lemmas.Grind.{common_steps}
 use Rattle.std.specs.Prelude.{filter}
 use Rattle.std.proofs.lemmas.Bool.{cases_Bool, and_parts, eqb-true}
 use Rattle.std.proofs.lemmas.List.Concat.{flat_map-cons}
@@ -38,50 +39,29 @@ use Rattle.shm_laws.proofs.Stepping.{Bare}
 -- where nothing lies nothing is cut
 cut-free : (from to : ℕ) (ps : List Piece) → occupied ps from to ≡ false → cut from to ps ≡ ps
 cut-free from to [] free = refl
-cut-free from to (p ∷ ps) free = by (cases_Bool (meets from to p)) (cut-free from to ps)
-  where
-    by : (meets from to p ≡ true) ⊎ (meets from to p ≡ false) → (occupied ps from to ≡ false → cut from to ps ≡ ps) → cut from to (p ∷ ps) ≡ p ∷ ps
-    by (inl m) more = absurd (true≢false (rw m at free))
-    by (inr m) more = flat_map-cons (parts from to) p ps ∙ rw m (ap (λ qs. p ∷ qs) (more (rw m at free)))
+cut-free from to (p ∷ ps) free =
+    let rest = cut-free from to ps in
+    let whole = flat_map-cons (parts from to) p ps in
+    grind (arith, common_steps)
 
 -- of other segments none is named
 named-other : (addr seg j : ℕ) (ps : List Piece) → j ≢ seg → pieces_of j (without_named addr seg ps) ≡ pieces_of j ps
 named-other addr seg j [] apart = refl
-named-other addr seg j (p ∷ ps) apart = by (cases_Bool (is_named addr seg p)) (named-other addr seg j ps apart)
-  where
-    own : pieces_of j (p ∷ ps) ≡ pieces_of j ps + one_if j p.seg
-    own = one_more j p ps
-
-    by : (is_named addr seg p ≡ true) ⊎ (is_named addr seg p ≡ false) → pieces_of j (without_named addr seg ps) ≡ pieces_of j ps → pieces_of j (without_named addr seg (p ∷ ps)) ≡ pieces_of j (p ∷ ps)
-    by (inl h) rest =
-        let same : p.seg ≡ seg = eqb-true p.seg seg (and_parts (has_origin addr p) (p.seg == seg) h).1 in
-        let zero : one_if j p.seg ≡ 0 = rw (ne_eqb p.seg j (λ k. apart (sym k ∙ same))) refl in
-        rw h (omega (arith, rest, own, zero))
-    by (inr h) rest = let more = one_more j p (without_named addr seg ps) in rw h (omega (arith, rest, own, more))
+named-other addr seg j (p ∷ ps) apart =
+    let rest = named-other addr seg j ps apart in
+    let own = one_more j p ps in
+    let more = one_more j p (without_named addr seg ps) in
+    grind (arith, common_steps)
 
 -- of the segment that is named one at least is
 named-fewer : (addr : ℕ) (ps : List Piece) (p : Piece) → origin_of addr ps ≡ Some p → pieces_of p.seg (without_named addr p.seg ps) < pieces_of p.seg ps
 named-fewer addr [] p found = absurd (none-some p found)
-named-fewer addr (q ∷ qs) p found = by (cases_Bool (has_origin addr q)) (named-fewer addr qs p)
-  where
-    own : pieces_of p.seg (q ∷ qs) ≡ pieces_of p.seg qs + one_if p.seg q.seg
-    own = one_more p.seg q qs
-
-    by : (has_origin addr q ≡ true) ⊎ (has_origin addr q ≡ false) → (origin_of addr qs ≡ Some p → pieces_of p.seg (without_named addr p.seg qs) < pieces_of p.seg qs)
-        → pieces_of p.seg (without_named addr p.seg (q ∷ qs)) < pieces_of p.seg (q ∷ qs)
-    by (inl h) more =
-        let same : Some q ≡ Some p = rw h at found in
-        let is : q ≡ p = cc same in
-        let seg : q.seg ≡ p.seg = ap (λ (r : Piece). r.seg) is in
-        let one : one_if p.seg q.seg ≡ 1 = rw (eq-eqb q.seg p.seg seg) refl in
-        let named : is_named addr p.seg q ≡ true = rw (h, eq-eqb q.seg p.seg seg) refl in
-        let fewer = pieces_of-filter p.seg (λ r. not (is_named addr p.seg r)) qs in
-        rw named (omega (arith, own, one, fewer))
-    by (inr h) more =
-        let named : is_named addr p.seg q ≡ false = rw h refl in
-        let rest = more (rw h at found) in
-        let kept = one_more p.seg q (without_named addr p.seg qs) in
-        rw named (omega (arith, own, rest, kept))
+named-fewer addr (q ∷ qs) p found =
+    let rest = named-fewer addr qs p in
+    let own = one_more p.seg q qs in
+    let fewer = pieces_of-filter p.seg (λ r. not (is_named addr p.seg r)) qs in
+    let kept = one_more p.seg q (without_named addr p.seg qs) in
+    grind (arith, common_steps)
 
 -- ONE CALL
 

@@ -39,12 +39,7 @@ one-index s a b x y h k same = grind (arith, common_steps)
 
 piece-count : (ps : List Piece) (k : ℕ) (p : Piece) → slice_get ps k ≡ Some p → 1 ≤ pieces_of p.seg ps
 piece-count [] k p is = absurd (cc is)
-piece-count (q ∷ qs) zero p is =
-    let same : q ≡ p = cc is in
-    let seg : q.seg ≡ p.seg = ap (λ (r : Piece). r.seg) same in
-    let more = one_more p.seg q qs in
-    let one : one_if p.seg q.seg ≡ 1 = rw (eq-eqb q.seg p.seg seg) refl in
-    omega (arith, more, one)
+piece-count (q ∷ qs) zero p is = let more = one_more p.seg q qs in grind (arith, common_steps)
 piece-count (q ∷ qs) (suc k) p is =
     let more = one_more p.seg q qs in
     let rest = piece-count qs k p is in

@@ -23,20 +23,13 @@ end-found n j h = grind arith
 
 pub free_found : (n j : ℕ) (t : List Entry) → free_from n t ≡ Some j → FreeAt n j t
 free_found n j [] h = record { place = 0; at = let same = end-found n j h in omega (arith, same); end = inl refl }
-free_found n j (e ∷ es) h = by (cases_Bool (is_none e.segment && nat_lt e.destroyed 65536)) (free_found (n + 1) j es)
-  where
-    by : (is_none e.segment && nat_lt e.destroyed 65536 ≡ true) ⊎ (is_none e.segment && nat_lt e.destroyed 65536 ≡ false) → (free_from (n + 1) es ≡ Some j → FreeAt (n + 1) j es) → FreeAt n j (e ∷ es)
-    by (inl b) more =
-        let same : Some n ≡ Some j = rw b at h in
-        let is : n ≡ j = cc same in
-        record { place = 0; at = omega (arith, is); end = inr (e.destroyed, ap (λ (x : Entry). Some x) (entry-bare e b)) }
-    by (inr b) more =
-        let f = more (rw b at h) in
-        record { place = suc f.place; at = omega (arith, f.at); end = ends f.end }
-      where
-        ends : {k : ℕ} → (k ≡ length es) ⊎ ((d : ℕ) × (slice_get es k ≡ Some (record { destroyed = d; segment = None }))) → (suc k ≡ suc (length es)) ⊎ ((d : ℕ) × (slice_get es k ≡ Some (record { destroyed = d; segment = None })))
-        ends (inl x) = inl (ap suc x)
-        ends (inr x) = inr x
+free_found n j (e ∷ es) h =
+    elim (cases_Bool (is_none e.segment && nat_lt e.destroyed 65536)) [
+      | inl b ↦ record { place = 0; at = grind arith; end = inr (e.destroyed, ap (λ (x : Entry). Some x) (entry-bare e b)) }
+      | inr b ↦
+          let f = free_found (n + 1) j es (rw b at h) in
+          record { place = suc f.place; at = omega (arith, f.at); end = grind (arith, f.end) }
+    ]
 
 snoc-last : (t : List Entry) (e : Entry) → slice_get (t ++ e ∷ []) (length t) ≡ Some e
 snoc-last [] e = refl

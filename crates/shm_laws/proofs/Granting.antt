@@ -26,7 +26,7 @@ use Rattle.shm_laws.specs.Leave.{IsPart, IsGranted, IsInherited, GoesBack, Grant
 use Rattle.shm_laws.proofs.Accessing.{lies-in, place-of, writable-at, writable-parts}
 use Rattle.shm_laws.proofs.Handing.{CallerAt, caller-at, IsAligned, Attaches, Leaves, Forks, Hands, pick_by, hands-acts}
 use Rattle.shm_laws.proofs.Inducting.{each_move, at_all_times}
-use Rattle.shm_laws.proofs.Looks.{entry-found}
+use Rattle.shm_laws.proofs.Looks.{entry-found, found-own}
 use Rattle.shm_laws.proofs.Refusing.{failure-refusal}
 
 -- PARTS
@@ -279,19 +279,16 @@ module _ (s : Machine) (n pid : ℕ) (c : Caller) (live : caller_of s pid ≡ So
   asks-found m act Invalid is done = absurd (cc done)
   asks-found m act Removed is done = absurd (cc done)
   asks-found m act (Found i x) is done =
-      let e = entry-found (m % 32768) (m / 32768) i x (slice_get s.table (m % 32768)) is in
-      pick_by (λ o. o.reply ≡ Done → OwnerAsks s pid (pos m)) (not (owns c.cred x.perm)) (refuses s Eperm) (act i x)
-      (λ h refused. absurd (cc refused))
-      (λ h ok. record {
+      let owned : owns c.cred x.perm ≡ true = grind arith in
+      record {
         caller = c;
         live = live;
         number = m;
         named = refl;
         segment = x;
-        stands = is ∙ ap (λ k. Found k x) e.0;
-        owner = owner-of c.cred x.perm (not-false (owns c.cred x.perm) h);
-      })
-      done
+        stands = is ∙ ap (λ k. Found k x) (found-own s.table m i x is).0;
+        owner = owner-of c.cred x.perm owned;
+      }
 
   asks : (id : ℤ) (act : ℕ → Segment → Outcome) → (controls s c act (look s.table id)).reply ≡ Done → OwnerAsks s pid id
   asks (pos m) act done = asks-found m act (look s.table (pos m)) refl done

@@ -294,16 +294,8 @@ module _ (hidden : ℕ → Bool) (s : Machine) (n : ℕ) (c : Caller) (hid : (a 
       λ j. record s { table = stored-hidden hidden s.table qs vs (hid-places a len qs found) j }
 
   private-acts : (call : Call) (r : Reach) → reach call ≡ Some r → veil hidden (acts s n c call).state ≡ veil hidden s
-  private-acts (Load a len) r is = by (places c.pieces a len)
-    where
-      by : (o : Option (List Place)) → veil hidden (load s o).state ≡ veil hidden s
-      by None = refl
-      by (Some qs) = refl
-  private-acts (Store a bytes) r is = by (writable_places c.pieces a (length bytes)) refl
-    where
-      by : (o : Option (List Place)) → writable_places c.pieces a (length bytes) ≡ o → veil hidden (store s bytes o).state ≡ veil hidden s
-      by None found = refl
-      by (Some qs) found = private-store a (length bytes) bytes qs found
+  private-acts (Load a len) r is = grind arith
+  private-acts (Store a bytes) r is = grind (arith, private-store a (length bytes) bytes)
   private-acts (Xadd a add) r is = by (writable_places c.pieces a 8) refl
     where
       by : (o : Option (List Place)) → writable_places c.pieces a 8 ≡ o → veil hidden (xadd s add o).state ≡ veil hidden s

@@ -113,11 +113,11 @@ module _ (s t : Machine) (e : Event) (sound : IsMachineSound s) (k : Moved s e t
   came-from y stands = was-before y (stands-at t.table id y stands) (slice_get s.table (id % 32768)) refl
 
   named : (y : Segment) → Stands t id y → ((x : Segment) × Stands s id x × IsSame x y) ⊎ (look s.table (pos id) ≡ Invalid)
-  named y stands = by (came-from y stands)
-    where
-      by : Before s e id y → ((x : Segment) × Stands s id x × IsSame x y) ⊎ (look s.table (pos id) ≡ Invalid)
-      by (inl h) = inl (h.segment, h.stood, h.same)
-      by (inr h) = inr h.makes.0
+  named y stands =
+      elim (came-from y stands) [
+        | inl h ↦ inl (h.segment, h.stood, h.same)
+        | inr h ↦ inr h.makes.0
+      ]
 
 -- KEPT FROM ONE TIME TO ANOTHER
 

@@ -1,7 +1,7 @@
 -- Each move destroys what is due, and what is marked has a piece.
 use Rattle.std.proofs.Common.{◌≡◌, ◌⊎◌, ℕ, suc, zero, ◌+◌, ◌/◌, ◌%◌, ◌≤◌, ◌==◌, ◌&&◌, ◌||◌, pos, Bool, true, false, List, [], ◌∷◌, map, Option, Some, None, slice_get, refl, sym, ap, ◌∙◌, inl, inr, arith, eq-eqb, true≢false}
 use Rattle.std.proofs.lemmas.Grind.{common_steps}
-use Rattle.std.proofs.lemmas.Bool.{cases_Bool, cases_eq, eqb-true}
+use Rattle.std.proofs.lemmas.Bool.{cases_Bool, cases_eq, eqb-true, or_right}
 use Rattle.std.proofs.lemmas.Option.{none-some}
 use Rattle.shm_base.specs.declared.call.Process.{Process}
 use Rattle.shm_base.specs.declared.call.Event.{Event}
@@ -72,17 +72,16 @@ module _ (s t : Machine) (e : Event) (sound : IsMachineSound s) (k : Moved s e t
   due h =
       let parts = left-parts after.now.dest _ h in
       let none : attach_count t.runners id ≡ 0 = rw own at parts.1 in
-      by none (after.dest ∙ ap (λ m. names (removed e.call e.reply) m || x.dest) own) parts.0 (cases_Bool (names (removed e.call e.reply) id))
-    where
-      by : attach_count t.runners id ≡ 0 → after.now.dest ≡ (names (removed e.call e.reply) id || x.dest) → after.now.dest ≡ true
-          → (names (removed e.call e.reply) id ≡ true) ⊎ (names (removed e.call e.reply) id ≡ false) → IsDue s e t id x
-      by none dest marked (inl named) =
-          let r = by_name named in
-          let c = removed-call e.call e.reply id r in
-          inl (record { call = c.0; reply = c.1; bare = ap (λ rs. attach_count rs id) (sym (same-runners r)) ∙ none })
-      by none dest marked (inr other) =
-          let old : x.dest ≡ true = ap (λ b. b || x.dest) (sym other) ∙ sym dest ∙ marked in
-          inr (record { marked = old; before = marked-pieces s sound id x stood old; after = none })
+      let dest : after.now.dest ≡ (names (removed e.call e.reply) id || x.dest) = after.dest ∙ ap (λ m. names (removed e.call e.reply) m || x.dest) own in
+      elim (cases_Bool (names (removed e.call e.reply) id)) [
+        | inl named ↦
+            let r = by_name named in
+            let c = removed-call e.call e.reply id r in
+            inl (record { call = c.0; reply = c.1; bare = ap (λ rs. attach_count rs id) (sym (same-runners r)) ∙ none })
+        | inr other ↦
+            let old : x.dest ≡ true = ap (λ b. b || x.dest) (sym other) ∙ sym dest ∙ parts.0 in
+            inr (record { marked = old; before = marked-pieces s sound id x stood old; after = none })
+      ]
 
   pub just : IsGone t id → IsDue s e t id x
   just gone =
@@ -99,12 +98,7 @@ module _ (s t : Machine) (e : Event) (sound : IsMachineSound s) (k : Moved s e t
       let r : removed e.call e.reply ≡ Some id = rw (d.call, d.reply) refl in
       let named : names (removed e.call e.reply) (identifier (id % 32768) (id / 32768)) ≡ true = rw (own, r) (eq-eqb id id refl) in
       goes-now (goes-by (after.dest ∙ ap (λ b. b || x.dest) named) (ap (λ rs. attach_count rs id) (same-runners r) ∙ d.bare))
-  must (inr d) =
-      goes-now (goes-by (after.dest ∙ or-true (names (removed e.call e.reply) (identifier (id % 32768) (id / 32768))) x.dest d.marked) d.after)
-    where
-      or-true : (a b : Bool) → b ≡ true → (a || b) ≡ true
-      or-true true b h = refl
-      or-true false b h = h
+  must (inr d) = goes-now (goes-by (after.dest ∙ or_right (names (removed e.call e.reply) (identifier (id % 32768) (id / 32768))) x.dest d.marked) d.after)
 
   -- what stood stands on as the same segment, or is gone
   pub stands-or-gone : ((y : Segment) × Stands t id y × IsSame x y) ⊎ IsGone t id

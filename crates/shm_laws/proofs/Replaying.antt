@@ -40,13 +40,7 @@ idle-by s n call None live = absurd (true≢false live)
 idle-by s n call (Some c) live = refl
 
 undone-move : (s : Machine) (n : ℕ) (e : Event) (t : Machine) → IsMove s n e t → IsMove s n (undone e) t
-undone-move s n e t m =
-    elim (cases_Bool (is_failure e.call e.reply)) [
-      | inl h ↦
-          (let x = is-excused s n e t h m in
-          rw h (inl (rw x.unchanged (idle-by s n e.call (caller_of s e.pid) x.instead))))
-      | inr h ↦ rw h m
-    ]
+undone-move s n e t m = let idle = idle-by s n e.call (caller_of s e.pid) in let excused = is-excused s n e t in grind (arith, m)
 
 undone-clear : (e : Event) → is_failure (undone e).call (undone e).reply ≡ false
 undone-clear e = grind arith
@@ -74,17 +68,13 @@ one-way n s [] [] t u h k a b same = (refl, h ∙ sym k)
 one-way n s [] (f ∷ fs) t u h k a b same = absurd (cc same)
 one-way n s (e ∷ es) [] t u h k a b same = absurd (cc same)
 one-way n s (e ∷ es) (f ∷ fs) t u h k a b same =
-    let asked : (e.pid, e.call) ≡ (f.pid, f.call) = cc same in
-    let pids : e.pid ≡ f.pid = ap (λ (p : ℕ × Call). p.0) asked in
-    let calls : e.call ≡ f.call = ap (λ (p : ℕ × Call). p.1) asked in
+    let pids : e.pid ≡ f.pid = grind arith in
+    let calls : e.call ≡ f.call = grind arith in
     let rest : calls_of es ≡ calls_of fs = ap (drop 1) same in
     let left = clear_step s n e h.0 (first_clear e es a) h.1 in
     let right = clear_step s n f k.0 (first_clear f fs b) k.1 in
-    let both : record { reply = e.reply; state = h.0 } ≡ record { reply = f.reply; state = k.0 } =
-    sym left ∙ ap (λ (p : ℕ × Call). step s n p.0 p.1) (λ i. (pids i, calls i)) ∙ right in
-    let replies : e.reply ≡ f.reply = ap (λ (o : Outcome). o.reply) both in
-    let states : k.0 ≡ h.0 = sym (ap (λ (o : Outcome). o.state) both) in
-    let first : e ≡ f = λ i. record { pid = pids i; call = calls i; reply = replies i } in
+    let states : k.0 ≡ h.0 = grind arith in
+    let first : e ≡ f = grind arith in
     let more = one-way (n + 1) h.0 es fs t u h.2 (subst (λ v. LeadsFrom (n + 1) v fs u) states k.2) (rest_clear e es a) (rest_clear f fs b) rest in
     ((λ i. first i ∷ more.0 i), more.1)
 

@@ -61,8 +61,7 @@ set-got (y ∷ ys) zero v x h = cc h
 set-got (y ∷ ys) (suc i) v x h = set-got ys i v x h
 
 pub set_in-here : (t : List Entry) (k : ℕ) (g : Entry → Entry) (o : Option Entry) → slice_get t k ≡ o → slice_get (set_in t k g o) k ≡ option_map g o
-set_in-here t k g None is = is
-set_in-here t k g (Some e) is = get-set_same t k (g e) e is
+set_in-here t k g o is = grind (arith, get-set_same)
 
 pub set_in-there : (t : List Entry) (k i : ℕ) (g : Entry → Entry) (o : Option Entry) → k ≢ i → slice_get (set_in t k g o) i ≡ slice_get t i
 set_in-there t k i g o apart = grind (arith, get-set_other)
@@ -75,11 +74,11 @@ module _ (f : Segment → Segment) (same : (x : Segment) → IsSame x (f x)) (de
   turned-there t k i apart = turned-as t (set_in t k (with_entry f) (slice_get t k)) i (set_in-there t k i (with_entry f) (slice_get t k) apart)
 
   pub turned-change : ((x : Segment) → (f x).bytes ≡ x.bytes) → (t : List Entry) (id i : ℕ) → Turned unchanged t (change t id f) i
-  turned-change bytes t id i = by (cases_eq (id % 32768) i)
-    where
-      by : (id % 32768 ≡ i) ⊎ (id % 32768 ≢ i) → Turned unchanged t (change t id f) i
-      by (inl h) = rw (← h) (turned-here unchanged t (id % 32768) bytes)
-      by (inr apart) = turned-there t (id % 32768) i apart
+  turned-change bytes t id i =
+      elim (cases_eq (id % 32768) i) [
+        | inl h ↦ rw (← h) (turned-here unchanged t (id % 32768) bytes)
+        | inr apart ↦ turned-there t (id % 32768) i apart
+      ]
 
 -- MANY
 

@@ -144,16 +144,13 @@ module _ (hidden : ℕ → Bool) where
   -- one entry, by a change that sees no bytes
   in-veiled : (t : List Entry) (i : ℕ) (g : Entry → Entry) (o : Option Entry) → slice_get t i ≡ o → ((e : Entry) → o ≡ Some e → g (veiled_entry hidden i e) ≡ veiled_entry hidden i (g e))
       → set_in (V 0 t) i g (slice_get (V 0 t) i) ≡ V 0 (set_in t i g (slice_get t i))
-  in-veiled t i g None is same = rw (veiled-get t i, is) refl
-  in-veiled t i g (Some e) is same =
-      rw (veiled-get t i, is) (ap (slice_set (V 0 t) i) (same e refl) ∙ sym (veiled-set0 i t (g e)))
+  in-veiled t i g o is same =
+      let get = veiled-get t i in
+      let set = veiled-set0 i t in
+      grind (arith, is, same)
 
   pub change-veiled : (f : Segment → Segment) → ((b : Bool) (x : Segment) → f (veiled b x) ≡ veiled b (f x)) → (t : List Entry) (id : ℕ) → change (V 0 t) id f ≡ V 0 (change t id f)
-  change-veiled f same t id = in-veiled t (id % 32768) (with_entry f) (slice_get t (id % 32768)) refl (λ e is. entry e.destroyed e.segment)
-    where
-      entry : (d : ℕ) (o : Option Segment) → with_entry f (veiled_entry hidden (id % 32768) (record { destroyed = d; segment = o })) ≡ veiled_entry hidden (id % 32768) (with_entry f (record { destroyed = d; segment = o }))
-      entry d None = refl
-      entry d (Some x) = ap (λ (y : Segment). record { destroyed = d; segment = Some y }) (same (hidden (identifier (id % 32768) d)) x)
+  change-veiled f same t id = in-veiled t (id % 32768) (with_entry f) (slice_get t (id % 32768)) refl (λ e is. grind (arith, same))
 
   pub detach-veiled : (n pid : ℕ) (ids : List ℕ) (t : List Entry) → detach_all n pid (V 0 t) ids ≡ V 0 (detach_all n pid t ids)
   detach-veiled n pid [] t = refl
@@ -169,22 +166,12 @@ module _ (hidden : ℕ → Bool) where
   swept-veiled k rs (e ∷ es) = λ j. swept-entry k rs e.destroyed e.segment j ∷ swept-veiled (k + 1) rs es j
 
   pub made-veiled : (t : List Entry) (i : ℕ) (x : Segment) → ((b : Bool) → veiled b x ≡ x) → with_segment (V 0 t) i x ≡ V 0 (with_segment t i x)
-  made-veiled t i x zeros = rw (veiled-count 0 t) (by (cases_Bool (i == length t)))
-    where
-      new : (d : ℕ) → veiled_entry hidden i (record { destroyed = d; segment = Some x }) ≡ record { destroyed = d; segment = Some x }
-      new d = ap (λ (y : Segment). record { destroyed = d; segment = Some y }) (zeros (hidden (identifier i d)))
-
-      last : veiled_entry hidden (0 + length t) (record { destroyed = 0; segment = Some x }) ≡ record { destroyed = 0; segment = Some x }
-      last = ap (λ (y : Segment). record { destroyed = 0; segment = Some y }) (zeros (hidden (identifier (0 + length t) 0)))
-
-      by : (i == length t ≡ true) ⊎ (i == length t ≡ false)
-          → (if i == length t then V 0 t ++ record { destroyed = 0; segment = Some x } ∷ [] else slice_set (V 0 t) i (record { destroyed = destroyed_at (V 0 t) i; segment = Some x }))
-          ≡ V 0 (if i == length t then t ++ record { destroyed = 0; segment = Some x } ∷ [] else slice_set t i (record { destroyed = destroyed_at t i; segment = Some x }))
-      by (inl h) = rw h (ap (λ (e : Entry). V 0 t ++ e ∷ []) (sym last) ∙ sym (veiled-snoc 0 t (record { destroyed = 0; segment = Some x })))
-      by (inr h) =
-          rw h
-          (ap (λ d. slice_set (V 0 t) i (record { destroyed = d; segment = Some x })) (veiled-destroyed t i)
-          ∙ ap (slice_set (V 0 t) i) (sym (new (destroyed_at t i))) ∙ sym (veiled-set0 i t (record { destroyed = destroyed_at t i; segment = Some x })))
+  made-veiled t i x zeros =
+      let count = veiled-count 0 t in
+      let last = veiled-snoc 0 t (record { destroyed = 0; segment = Some x }) in
+      let set = veiled-set0 i t (record { destroyed = destroyed_at t i; segment = Some x }) in
+      let same = veiled-destroyed t i in
+      grind (arith, zeros)
 
   -- BYTES THAT ARE SEEN
 
@@ -198,30 +185,17 @@ module _ (hidden : ℕ → Bool) where
   pub byte-veiled : (t : List Entry) (q : Place) → Seen t q → byte_at (V 0 t) q ≡ byte_at t q
   byte-veiled t q clear =
       let i = q.seg % 32768 in
-      let same : bytes_at (V 0 t) q.seg ≡ bytes_at t q.seg = ap bytes_at_entry (veiled-get t i) ∙ seen-bytes i (slice_get t i) clear in
-      ap (λ bs. slice_index bs q.at) same
+      ap (λ o. slice_index (bytes_at_entry o) q.at) (veiled-get t i) ∙ ap (λ bs. slice_index bs q.at) (seen-bytes i (slice_get t i) clear)
 
   pub loaded-veiled : (t : List Entry) (qs : List Place) → ((k : ℕ) (q : Place) → slice_get qs k ≡ Some q → Seen t q) → loaded (V 0 t) qs ≡ loaded t qs
   loaded-veiled t [] clear = refl
   loaded-veiled t (q ∷ qs) clear = λ j. byte-veiled t q (clear 0 q refl) j ∷ loaded-veiled t qs (λ k p is. clear (suc k) p is) j
 
   byte-stored : (t : List Entry) (q : Place) (v : ℕ) → Seen t q → with_byte (V 0 t) q v ≡ V 0 (with_byte t q v)
-  byte-stored t q v clear = in-veiled t (q.seg % 32768) (entry_byte_set q.at v) (slice_get t (q.seg % 32768)) refl same
-    where
-      entry : (d : ℕ) (o : Option Segment) → hidden (identifier (q.seg % 32768) d) ≡ false
-          → entry_byte_set q.at v (veiled_entry hidden (q.seg % 32768) (record { destroyed = d; segment = o })) ≡ veiled_entry hidden (q.seg % 32768) (entry_byte_set q.at v (record { destroyed = d; segment = o }))
-      entry d None h = refl
-      entry d (Some x) h = rw h refl
-
-      same : (e : Entry) → slice_get t (q.seg % 32768) ≡ Some e → entry_byte_set q.at v (veiled_entry hidden (q.seg % 32768) e) ≡ veiled_entry hidden (q.seg % 32768) (entry_byte_set q.at v e)
-      same e is = entry e.destroyed e.segment (ap (λ o. hidden (identifier (q.seg % 32768) (destroyed_in o))) (sym is) ∙ clear)
+  byte-stored t q v clear = in-veiled t (q.seg % 32768) (entry_byte_set q.at v) (slice_get t (q.seg % 32768)) refl (λ e is. grind (arith, is, clear))
 
   destroyed-byte : (t : List Entry) (q : Place) (v i : ℕ) → destroyed_at (with_byte t q v) i ≡ destroyed_at t i
-  destroyed-byte t q v i = let u = turned-byte q v t i in ap destroyed_in u.at ∙ kept u.turn (slice_get t i)
-    where
-      kept : (f : Segment → Segment) (o : Option Entry) → destroyed_in (option_map (with_entry f) o) ≡ destroyed_in o
-      kept f None = refl
-      kept f (Some e) = refl
+  destroyed-byte t q v i = let u = turned-byte q v t i in ap destroyed_in u.at ∙ grind arith
 
   pub stored-veiled : (t : List Entry) (qs : List Place) (vs : List ℕ) → ((k : ℕ) (q : Place) → slice_get qs k ≡ Some q → Seen t q) → stored (V 0 t) qs vs ≡ V 0 (stored t qs vs)
   stored-veiled t [] vs clear = refl
