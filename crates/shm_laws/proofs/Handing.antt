@@ -1,30 +1,26 @@
 -- What each call does to the pieces of processes: nothing, or the caller attaches a segment, or loses pieces, or has a child.
-use Rattle.std.proofs.Common.{◌≡◌, ◌≢◌, ◌⊎◌, ℕ, suc, ◌+◌, ◌-◌, ◌*◌, ◌/◌, ◌%◌, ◌==◌, ◌&&◌, ℤ, pos, negsuc, Bool, true, false, not, nat_le, nat_lt, if◌then◌else◌, List, [], ◌∷◌, length, map, get_or, Option, Some, None, slice_get, slice_set, refl, sym, ap, subst, ◌∙◌, inl, inr, arith, eq-eqb, ne_eqb}
+use Rattle.std.proofs.Common.{◌≡◌, ◌⊎◌, ℕ, suc, ◌+◌, ◌-◌, ◌*◌, ◌%◌, ◌==◌, ◌&&◌, ℤ, pos, negsuc, Bool, true, false, not, nat_le, nat_lt, if◌then◌else◌, List, [], ◌∷◌, length, map, get_or, Option, Some, None, slice_get, slice_set, refl, sym, ap, subst, ◌∙◌, inl, inr, arith, ne_eqb}
 use Rattle.std.proofs.lemmas.Grind.{common_steps}
 use Rattle.std.specs.Prelude.{All, filter, find}
 use Rattle.std.proofs.lemmas.Bool.{cases_eq, cases_Bool, not-false, not-true, and_parts}
 use Rattle.std.proofs.lemmas.Option.{none-some}
 use Rattle.std.proofs.lemmas.List.Elements.{All-map}
-use Rattle.shm_base.specs.declared.owner.Cred.{Cred}
 use Rattle.shm_base.specs.declared.errno.Errno.{Errno}
 use Rattle.shm_base.specs.declared.call.Call.{Call}
-use Rattle.shm_base.specs.declared.call.Call.TheVariants.{Shmget, Shmat, Shmdt, Stat, Set, Rmid, Lock, Unlock, Load, Store, Xadd, Fork, Exec, Exit, Swapoff}
+use Rattle.shm_base.specs.declared.call.Call.TheVariants.{Shmget, Shmat, Shmdt, Load, Fork, Exec, Exit}
 use Rattle.shm_base.specs.declared.call.Reply.TheVariants.{Addr, Done}
 use Rattle.shm_base.specs.declared.flags.AtFlags.{AtFlags}
-use Rattle.shm_base.specs.declared.flags.GetFlags.{GetFlags}
-use Rattle.shm_base.specs.Bounds.{within}
-use Rattle.shm_base.specs.Access.{Place, places, writable_places, end_of}
-use Rattle.shm_base.specs.Permission.{grants, owns, wish_of}
-use Rattle.shm_base.specs.State.{Segment, Piece, Life, Unborn, Live, Ended, Runner, Machine, pages_of, pages_in}
-use Rattle.shm_base.specs.Identifier.{Look, Found, Removed, Invalid, identifier, destroyed_at, destroyed_in, free_index, find_key, look}
+use Rattle.shm_base.specs.Access.{end_of}
+use Rattle.shm_base.specs.Permission.{grants}
+use Rattle.shm_base.specs.State.{Segment, Piece, Life, Live, Ended, Runner, Machine, pages_in}
+use Rattle.shm_base.specs.Identifier.{Look, Found, Removed, Invalid, identifier, destroyed_at, look}
 use Rattle.shm_base.specs.Space.{inside, occupied, choose, is_gap, first_chosen, last_address, origin_of, is_named}
-use Rattle.shm_base.specs.Segments.{segment_count, reserved, locked, slots}
 use Rattle.shm_base.specs.History.{is_refusal}
-use Rattle.shm_base.specs.Step.{refuses, creates_at, creates, gets, wants_no_other, wants_creation, stat, controls, sets, removes, locks, unlocks, load, store, xadd, takes_away, Caller, Outcome, caller_from, acts, at_wish, is_rnd, is_remap, pieces_with, with_pieces, attaches, attaches_chosen, attaches_fixed, attaches_found, shmat, detaches, forks, unborn_from}
+use Rattle.shm_base.specs.Step.{refuses, creates, Caller, Outcome, caller_from, acts, at_wish, is_rnd, is_remap, pieces_with, with_pieces, attaches, attaches_chosen, attaches_fixed, attaches_found, shmat, detaches, forks, unborn_from}
 use Rattle.shm_life.proofs.Pieces.{all-cons, all-head, all-tail}
 use Rattle.shm_laws.specs.Standing.{Stands}
 use Rattle.shm_laws.specs.Pieces.{hands_pieces}
-use Rattle.shm_laws.proofs.Looks.{entry-found, found-own}
+use Rattle.shm_laws.proofs.Looks.{found-own}
 use Rattle.shm_laws.proofs.Stepping.{pick}
 
 -- THE CALLER

@@ -1,25 +1,23 @@
 -- A call sees no byte that is hidden from its process.
-use Rattle.std.proofs.Common.{◌≡◌, ◌⊎◌, ℕ, ◌+◌, ◌-◌, ◌*◌, ◌/◌, ◌%◌, ◌^◌, ◌==◌, ◌&&◌, ℤ, pos, Bool, true, false, not, nat_le, nat_lt, if◌then◌else◌, List, [], ◌∷◌, length, replicate, Option, Some, None, slice_get, slice_set, refl, sym, ap, subst, ◌∙◌, inl, inr, arith}
+use Rattle.std.proofs.Common.{◌≡◌, ◌⊎◌, ℕ, ◌+◌, ◌-◌, ◌*◌, ◌/◌, ◌%◌, ◌^◌, ◌==◌, ◌&&◌, ℤ, Bool, true, false, not, nat_lt, if◌then◌else◌, List, [], ◌∷◌, length, replicate, Option, Some, None, slice_get, refl, sym, ap, subst, ◌∙◌, inl, inr, arith}
 use Rattle.std.specs.Int.{w64, to_le_bytes, from_le_bytes}
 use Rattle.std.proofs.lemmas.List.{length-replicate}
 use Rattle.std.proofs.lemmas.Option.{none-some, slice_get_within}
 use Rattle.shm_base.specs.declared.errno.Errno.{Errno}
-use Rattle.shm_base.specs.declared.errno.Errno.TheVariants.{Eperm, Enoent, Enomem, Eacces, Eexist, Einval, Emfile, Enospc}
+use Rattle.shm_base.specs.declared.errno.Errno.TheVariants.{Eperm, Enomem, Eacces, Emfile}
 use Rattle.shm_base.specs.declared.flags.GetFlags.{GetFlags}
 use Rattle.shm_base.specs.declared.flags.AtFlags.{AtFlags}
 use Rattle.shm_base.specs.declared.call.Call.{Call}
 use Rattle.shm_base.specs.declared.call.Call.TheVariants.{Shmget, Shmat, Shmdt, Stat, Set, Rmid, Lock, Unlock, Load, Store, Xadd, Fork, Exec, Exit, Swapoff}
-use Rattle.shm_base.specs.declared.call.Reply.TheVariants.{Id, Addr, Bytes, Number, Done}
-use Rattle.shm_base.specs.declared.call.Reply.TheVariants as replies
+use Rattle.shm_base.specs.declared.call.Reply.TheVariants.{Addr, Bytes, Number, Done}
 use Rattle.shm_base.specs.declared.call.Event.{Event}
-use Rattle.shm_base.specs.Bounds.{within}
 use Rattle.shm_base.specs.Access.{Place, place, places, writable_places, stored}
-use Rattle.shm_base.specs.Permission.{grants, owns, wish_of}
+use Rattle.shm_base.specs.Permission.{grants}
 use Rattle.shm_base.specs.State.{Segment, Entry, Piece, Runner, Machine, Opening, pages_of, pages_in}
 use Rattle.shm_base.specs.Identifier.{Look, Found, Removed, Invalid, identifier, destroyed_in, destroyed_at, free_index, find_key, look}
-use Rattle.shm_base.specs.Space.{inside, occupied, cut_segments, choose, origin_of}
-use Rattle.shm_base.specs.Segments.{slots, change, attached, marked, detach_all, swept, after_detach}
-use Rattle.shm_base.specs.Step.{Outcome, gives, refuses, Caller, caller_of, with_pieces, with_end, segments_of, new_segment, creates_at, creates, gets, shmget, wants_creation, wants_no_other, pieces_with, attaches, attaches_chosen, attaches_fixed, attaches_found, shmat, is_rnd, is_remap, at_wish, detaches, forks, unborn_from, shown, stat, controls, sets, removes, locks, unlocks, load, store, xadd, number_at, takes_away, acts, step_by, step}
+use Rattle.shm_base.specs.Space.{cut_segments, choose, origin_of}
+use Rattle.shm_base.specs.Segments.{change, attached, marked, detach_all, swept, after_detach}
+use Rattle.shm_base.specs.Step.{Outcome, gives, refuses, Caller, caller_of, with_pieces, with_end, segments_of, new_segment, creates_at, creates, gets, shmget, pieces_with, attaches, attaches_chosen, attaches_fixed, attaches_found, shmat, at_wish, detaches, forks, unborn_from, stat, controls, sets, removes, locks, unlocks, load, store, xadd, number_at, takes_away, acts, step_by, step}
 use Rattle.shm_base.specs.History.{is_refusal, is_failure, IsMove, IsHistory}
 use Rattle.shm_laws.specs.Standing.{Has}
 use Rattle.shm_laws.specs.Leave.{Reach, reach}

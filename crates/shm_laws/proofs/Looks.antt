@@ -1,9 +1,8 @@
 -- What a look finds, and what stands at the index.
-use Rattle.std.proofs.Common.{◌≡◌, ◌⊎◌, ℕ, ◌/◌, ◌%◌, ◌<◌, ◌≤◌, ◌==◌, pos, true, false, nat_lt, List, Option, Some, None, slice_get, refl, sym, ap, ◌∙◌, inl, inr, arith, eq-eqb}
+use Rattle.std.proofs.Common.{◌≡◌, ℕ, ◌/◌, ◌%◌, ◌<◌, pos, List, Option, Some, None, slice_get, refl, arith}
 use Rattle.std.proofs.lemmas.Grind.{common_steps}
-use Rattle.std.proofs.lemmas.Bool.{cases_Bool, cases_lt, lt-ltb, le-ltb, eqb-true}
 use Rattle.shm_base.specs.State.{Segment, Entry}
-use Rattle.shm_base.specs.Identifier.{Look, Found, Removed, Invalid, look_segment, look_entry, look, identifier, destroyed_at}
+use Rattle.shm_base.specs.Identifier.{Look, Found, Removed, Invalid, look_entry, look, identifier, destroyed_at}
 
 abbrev pub holds : ℕ → Segment → Option Entry
 holds d x = Some (record { destroyed = d; segment = Some x })

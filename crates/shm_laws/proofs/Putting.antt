@@ -1,10 +1,9 @@
 -- A byte after an access: what the last of its places put there, or what was there.
-use Rattle.std.proofs.Common.{◌≡◌, ◌≢◌, ◌⊎◌, ℕ, suc, zero, ◌%◌, ◌<◌, List, [], ◌∷◌, length, replicate, Option, Some, None, slice_get, slice_set, refl, sym, ap, subst, ◌∙◌, inl, inr, arith, eq-eqb, ne_eqb}
+use Rattle.std.proofs.Common.{◌≡◌, ◌⊎◌, ℕ, suc, zero, ◌%◌, ◌<◌, List, [], ◌∷◌, length, replicate, Option, Some, slice_get, refl, sym, ap, subst, ◌∙◌, inl, inr, arith}
 use Rattle.std.proofs.lemmas.Grind.{common_steps}
-use Rattle.std.proofs.lemmas.Bool.{cases_eq}
 use Rattle.std.proofs.lemmas.Option.{none-some}
 use Rattle.shm_base.specs.State.{Piece}
-use Rattle.shm_base.specs.Access.{Place, places}
+use Rattle.shm_base.specs.Access.{Place}
 use Rattle.shm_segments.proofs.Entries.{get-set_other, length-slice_set}
 use Rattle.shm_laws.specs.Writing.{Put}
 use Rattle.shm_laws.proofs.Turning.{byte_in, puts_in, set-got}

@@ -1,14 +1,11 @@
 -- Of legal histories without failures there is one for each opening and calls.
-use Rattle.std.proofs.Common.{◌≡◌, ℕ, ◌+◌, true, false, ◌==◌, drop, List, [], ◌∷◌, Option, Some, None, nat_lt, slice_get, slice_set, refl, sym, ap, ◌∙◌, subst, arith, inl, inr, true≢false}
-use Rattle.std.proofs.lemmas.Bool.{cases_Bool}
+use Rattle.std.proofs.Common.{◌≡◌, ℕ, ◌+◌, true, false, drop, List, [], ◌∷◌, Option, Some, None, refl, sym, ap, ◌∙◌, subst, arith, inl, inr, true≢false}
 use Rattle.shm_base.specs.declared.call.Call.{Call}
-use Rattle.shm_base.specs.declared.call.Call.TheVariants.{Shmget, Shmat, Shmdt, Stat, Set, Rmid, Lock, Unlock, Load, Store, Xadd, Fork, Exec, Exit, Swapoff}
+use Rattle.shm_base.specs.declared.call.Call.TheVariants.{Load}
 use Rattle.shm_base.specs.declared.call.Reply.TheVariants.{Bytes}
 use Rattle.shm_base.specs.declared.call.Event.{Event}
-use Rattle.shm_base.specs.Access.{Place}
 use Rattle.shm_base.specs.State.{Machine, Opening, start_of}
-use Rattle.shm_base.specs.Segments.{slots, reserved}
-use Rattle.shm_base.specs.Step.{Caller, Outcome, acts, step_by, step, caller_of, load, store, xadd, swapoff, takes_away}
+use Rattle.shm_base.specs.Step.{Caller, Outcome, acts, step_by, step, caller_of}
 use Rattle.shm_base.specs.History.{is_refusal, is_failure, IsExcused, IsMove, LeadsFrom, IsHistory}
 use Rattle.shm_history.specs.WorldState.{calls_of, failures_in}
 use Rattle.shm_history.proofs.Clear.{clear_step, failures-cons, first_clear, rest_clear}

@@ -1,5 +1,5 @@
 -- Changes of a table that keep what a segment was made as, and its mark; and what becomes of its bytes.
-use Rattle.std.proofs.Common.{◌≡◌, ◌≢◌, ◌⊎◌, ℕ, suc, zero, ◌+◌, ◌%◌, ◌==◌, if◌then◌else◌, List, [], ◌∷◌, Option, Some, None, slice_get, slice_set, refl, sym, ap, subst, ◌∙◌, inl, inr, arith, eq-eqb, ne_eqb}
+use Rattle.std.proofs.Common.{◌≡◌, ◌≢◌, ◌⊎◌, ℕ, suc, zero, ◌+◌, ◌%◌, ◌==◌, if◌then◌else◌, List, [], ◌∷◌, Option, Some, slice_get, slice_set, refl, sym, ap, subst, ◌∙◌, inl, inr, arith, eq-eqb, ne_eqb}
 use Rattle.std.proofs.lemmas.Option.{none-some}
 use Rattle.std.specs.Prelude.{option_map}
 use Rattle.std.proofs.lemmas.Bool.{cases_eq}
@@ -23,13 +23,13 @@ pub record Turned (over : List ℕ → List ℕ) (t u : List Entry) (i : ℕ) : 
   pub bytes : (x : Segment) → (turn x).bytes ≡ over x.bytes
   pub at : slice_get u i ≡ option_map (with_entry turn) (slice_get t i)
 
-entry-none : (o : Option Entry) → option_map (with_entry (λ x. x)) o ≡ o
+pub entry-none : (o : Option Entry) → option_map (with_entry (λ x. x)) o ≡ o
 entry-none o = grind arith
 
 entry-twice : (f g : Segment → Segment) (o : Option Entry) → option_map (with_entry g) (option_map (with_entry f) o) ≡ option_map (with_entry (λ x. g (f x))) o
 entry-twice f g o = grind arith
 
-turned-over : (f g : List ℕ → List ℕ) (t u : List Entry) (i : ℕ) → ((bytes : List ℕ) → f bytes ≡ g bytes) → Turned f t u i → Turned g t u i
+pub turned-over : (f g : List ℕ → List ℕ) (t u : List Entry) (i : ℕ) → ((bytes : List ℕ) → f bytes ≡ g bytes) → Turned f t u i → Turned g t u i
 turned-over f g t u i alike a = record { turn = a.turn; same = a.same; dest = a.dest; bytes = λ x. a.bytes x ∙ alike x.bytes; at = a.at }
 
 -- they stay
