@@ -29,7 +29,7 @@ use Rattle.shm_laws.specs.Writing.{held_by}
 use Rattle.shm_laws.proofs.Handing.{Takes, caller-at, Rests, Attaches, Leaves, Forks, Hands, none-stay, hands-acts}
 use Rattle.shm_laws.proofs.Looks.{found-own}
 use Rattle.shm_laws.proofs.Refusing.{failure-refusal}
-use Rattle.shm_laws.proofs.Stepping.{Bare}
+use Rattle.shm_laws.proofs.Stepping.{Bare, unborn-bare}
 
 -- PIECES THAT ARE CUT OR NAMED
 
@@ -104,12 +104,9 @@ module _ (s : Machine) (pid : ℕ) (c : Caller) (live : caller_of s pid ≡ Some
 
   fork-counts : Hands s c call o → (child : ℕ) → call ≡ Fork child → o.reply ≡ Done → (j : ℕ) → attach_count o.state.runners j ≡ attach_count s.runners j + held s pid j
   fork-counts (inr (inr (inr k))) child asked answer j =
-      let at = child_at k.child k.index s.runners k.unborn in
-      let old : Runner = get_or s.runners k.index first_runner in
-      let there : slice_get s.runners k.index ≡ Some old = slice_get-get_or s.runners k.index first_runner at.within in
-      let unborn : old.life ≡ Unborn = sym (ap life_in there) ∙ at.unborn in
-      let none : pieces_of j old.pieces ≡ 0 = ap (pieces_of j) (bare k.index old there unborn) in
-      let all = sum-set (λ (y : Runner). pieces_of j y.pieces) s.runners k.index (record { pid = k.child; life = Live c.cred; pieces = c.pieces }) old there in
+      let old = unborn-bare k.child k.index s.runners k.unborn bare in
+      let none : pieces_of j old.0.pieces ≡ 0 = ap (pieces_of j) old.2 in
+      let all = sum-set (λ (y : Runner). pieces_of j y.pieces) s.runners k.index (record { pid = k.child; life = Live c.cred; pieces = c.pieces }) old.0 old.1 in
       let own = mine j in
       rw k.runners (omega (arith, all, none, own))
   fork-counts (inl k) child asked answer j = absurd (no-rest s call o k (ap hands_pieces asked) (ap is_refusal answer))
@@ -139,24 +136,14 @@ module _ (s : Machine) (pid : ℕ) (c : Caller) (live : caller_of s pid ≡ Some
     where
       by : Takes c call k.stays → Loses
       by (inr t) = absurd (grind arith)
-      by (inl (a, p, e, found, stays)) = (p.seg, fewer, others)
-        where
-          rest : (j : ℕ) → pieces_of j (filter k.stays c.pieces) ≡ pieces_of j (without_named a p.seg c.pieces)
-          rest j = ap (λ f. pieces_of j (filter f c.pieces)) stays
-
-          fewer : attach_count o.state.runners p.seg < attach_count s.runners p.seg
-          fewer =
-              let all = swap (record { pid = c.pid; life = k.life; pieces = filter k.stays c.pieces }) p.seg in
-              let less = named-fewer a c.pieces p found in
-              let now = rest p.seg in
-              rw k.runners (omega (arith, all, less, now))
-
-          others : (j : ℕ) → j ≢ p.seg → attach_count o.state.runners j ≡ attach_count s.runners j
-          others j apart =
-              let all = swap (record { pid = c.pid; life = k.life; pieces = filter k.stays c.pieces }) j in
-              let same = named-other a p.seg j c.pieces apart in
-              let now = rest j in
-              rw k.runners (omega (arith, all, same, now))
+      by (inl (a, p, e, found, stays)) =
+          let rest = λ (j : ℕ). ap (λ f. pieces_of j (filter f c.pieces)) stays in
+          let all = λ (j : ℕ). swap (record { pid = c.pid; life = k.life; pieces = filter k.stays c.pieces }) j in
+          let less = named-fewer a c.pieces p found in (
+            p.seg,
+            rw k.runners (omega (arith, all p.seg, less, rest p.seg)),
+            λ j apart. let same = named-other a p.seg j c.pieces apart in rw k.runners (omega (arith, all j, same, rest j)),
+          )
   detach-counts (inl k) addr asked answer = absurd (no-rest s call o k (ap hands_pieces asked) (ap is_refusal answer))
   detach-counts (inr (inl k)) addr asked answer = absurd (cc)
   detach-counts (inr (inr (inr k))) addr asked answer = absurd (cc)
@@ -180,17 +167,21 @@ stat-by s n (negsuc m) d (Some c) told = absurd (cc told)
 
 -- EACH MOVE
 
+-- a refusal counts nothing
+counts-refused : (s : Machine) (e : Event) (t : Machine) → is_refusal e.reply ≡ true → t.runners ≡ s.runners → CountsPieces s e t
+counts-refused s e t refused same =
+    record {
+      shown = λ id d asked told. absurd (grind arith);
+      attached = λ id addr base flags asked told plain j. absurd (grind arith);
+      forked = λ child asked told j. absurd (grind arith);
+      left = λ which told j. absurd (grind arith);
+      detached = λ addr asked told. absurd (grind arith);
+      quiet = λ why j. ap (λ rs. attach_count rs j) same;
+    }
+
 counts-by : (s : Machine) (n pid : ℕ) (call : Call) (o : Option Caller) → caller_of s pid ≡ o → Bare s.runners
     → let r = step_by s n call o in CountsPieces s (record { pid = pid; call = call; reply = r.reply }) r.state
-counts-by s n pid call None is bare =
-    record {
-      shown = λ id d asked told. absurd (cc told);
-      attached = λ id addr base flags asked told plain j. absurd (cc told);
-      forked = λ child asked told j. absurd (cc told);
-      left = λ which told j. absurd (cc told);
-      detached = λ addr asked told. absurd (cc told);
-      quiet = λ why j. refl;
-    }
+counts-by s n pid call None is bare = counts-refused s _ s refl refl
 counts-by s n pid call (Some c) is bare =
     let o = acts s n c call in
     let k = hands-acts s n c call in
@@ -206,15 +197,4 @@ counts-by s n pid call (Some c) is bare =
 pub counts-move : (s : Machine) (n : ℕ) (e : Event) (t : Machine) → Bare s.runners → IsMove s n e t → CountsPieces s e t
 counts-move s n e t bare (inl m) =
     subst (λ (o : Outcome). CountsPieces s (record { pid = e.pid; call = e.call; reply = o.reply }) o.state) m (counts-by s n e.pid e.call (caller_of s e.pid) refl bare)
-counts-move s n e t bare (inr x) =
-    record {
-      shown = λ id d asked told. absurd (clear (replies.Stat d) told refl);
-      attached = λ id addr base flags asked told plain j. absurd (clear (Addr base) told refl);
-      forked = λ child asked told j. absurd (clear Done told refl);
-      left = λ which told j. absurd (clear Done told refl);
-      detached = λ addr asked told. absurd (clear Done told refl);
-      quiet = λ why j. ap (λ (u : Machine). attach_count u.runners j) x.unchanged;
-    }
-  where
-    clear : (r : Reply) → e.reply ≡ r → is_refusal r ≡ false → ⊥
-    clear r told other = true≢false (sym (failure-refusal e.call e.reply x.failure) ∙ ap is_refusal told ∙ other)
+counts-move s n e t bare (inr x) = counts-refused s e t (failure-refusal e.call e.reply x.failure) (ap (λ (u : Machine). u.runners) x.unchanged)

@@ -41,6 +41,13 @@ bare-set rs i x h born k r is u =
       | inr apart ↦ h k r (sym (get-set_other rs i k x apart) ∙ is) u
     ]
 
+-- a child that may be born
+pub unborn-bare : (child i : ℕ) (rs : List Runner) → unborn_from 0 child rs ≡ Some i → Bare rs → (old : Runner) × (slice_get rs i ≡ Some old) × (old.pieces ≡ [])
+unborn-bare child i rs found bare =
+    let k = child_at child i rs found in
+    let there = slice_get-get_or rs i first_runner k.within in
+    (get_or rs i first_runner, there, bare i (get_or rs i first_runner) there (sym (ap life_in there) ∙ k.unborn))
+
 -- THE KINDS
 
 -- no segment comes or goes, and none loses a piece; the bytes at each index become these
@@ -226,17 +233,13 @@ module _ (like : Segment → Type 0) (s : Machine) (n : ℕ) (c : Caller) where
   kind-forks : (child : ℕ) (o : Option ℕ) → Bare s.runners → unborn_from 0 child s.runners ≡ o → Plain s (forks s c child o)
   kind-forks child None bare is = still like s _
   kind-forks child (Some i) bare is =
-      let k = child_at child i s.runners is in
-      let old : Runner = get_or s.runners i first_runner in
+      let old = unborn-bare child i s.runners is bare in
       let new : Runner = record { pid = child; life = Live c.cred; pieces = c.pieces } in
-      let there : slice_get s.runners i ≡ Some old = slice_get-get_or s.runners i first_runner k.within in
-      let unborn : old.life ≡ Unborn = sym (ap life_in there) ∙ k.unborn in
-      let none : old.pieces ≡ [] = bare i old there unborn in
       inl (
         refl,
         inl (record {
           turned = turned-refl s.table;
-          grows = λ id. keeps-set [] s.runners i new old there (λ j other. rw none (omega arith)) id refl;
+          grows = λ id. keeps-set [] s.runners i new old.0 old.1 (λ j other. rw old.2 (omega arith)) id refl;
           bare = λ h. bare-set s.runners i new h (λ (e : Live c.cred ≡ Unborn). cc e);
         }),
       )
