@@ -96,7 +96,7 @@ empty-count d o empty = grind arith
 still-empty : (i : ℕ) (rs : List Runner) (f : Segment → Segment) (d : ℕ) (o : Option Entry) → IsEmpty d o → option_map (swept_entry i rs) (option_map (with_entry f) o) ≡ o
 still-empty i rs f d o empty = grind arith
 
-holds-empty : (d e : ℕ) (x : Segment) (o : Option Entry) → o ≡ holds d x → IsEmpty e o → ⊥
+pub holds-empty : (d e : ℕ) (x : Segment) (o : Option Entry) → o ≡ holds d x → IsEmpty e o → ⊥
 holds-empty d e x o is empty = grind arith
 
 -- what is swept is no orphan

@@ -52,10 +52,3 @@ pub record GoneAt (q : ℕ) (o : Option Entry) : Type 0 where
 pub entry-gone : (k q : ℕ) (o : Option Entry) → look_entry k q o ≡ Removed → GoneAt q o
 entry-gone k q None h = absurd (grind arith)
 entry-gone k q (Some e) h = record { destroyed = e.destroyed; segment = e.segment; at = refl; past = grind (arith, common_steps) }
-
--- one that was never issued
-pub at-never : (t : List Entry) (id : ℕ) → slice_get t (id % 32768) ≡ None → look t (pos id) ≡ Invalid
-at-never t id is = grind (arith, common_steps)
-
-pub at-next : (t : List Entry) (id : ℕ) → slice_get t (id % 32768) ≡ bare_entry (id / 32768) → look t (pos id) ≡ Invalid
-at-next t id is = grind (arith, common_steps)

@@ -19,9 +19,9 @@ use Rattle.shm_laws.proofs.Fresh.{IsEmpty}
 use Rattle.shm_laws.proofs.Turning.{same_refl, same_trans}
 use Rattle.shm_laws.proofs.Handing.{caller-at}
 use Rattle.shm_laws.proofs.Inducting.{GoesOn, at_all_times, since-map}
-use Rattle.shm_laws.proofs.Looks.{holds, bare_entry, stands-at, at-stands, at-gone, at-never, at-next, entry-gone}
+use Rattle.shm_laws.proofs.Looks.{holds, bare_entry, stands-at, at-stands, at-gone, entry-gone}
 use Rattle.shm_laws.proofs.Stepping.{overlay, made_by, Moved, removed}
-use Rattle.shm_laws.proofs.Fates.{IsMachineSound, IsNew, stays, comes, sound-after, kind-move}
+use Rattle.shm_laws.proofs.Fates.{IsMachineSound, IsNew, stays, comes, sound-after, kind-move, holds-empty}
 use Rattle.shm_laws.proofs.Removing.{sound-start, stands-or-gone}
 
 -- ONE MOVE
@@ -42,6 +42,10 @@ pub record Made (s : Machine) (e : Event) (id : ℕ) (y : Segment) : Type 0 wher
 abbrev pub Before : Machine → Event → ℕ → Segment → Type 0
 Before s e id y = Stood s e id y ⊎ Made s e id y
 
+-- the next identifier of an index that holds none was never issued
+never : (t : List Entry) (id d : ℕ) (o : Option Entry) → slice_get t (id % 32768) ≡ o → IsEmpty d o → d ≡ id / 32768 → look t (pos id) ≡ Invalid
+never t id d o is empty count = grind (arith, common_steps)
+
 module _ (s t : Machine) (e : Event) (sound : IsMachineSound s) (k : Moved s e t) (id : ℕ) where
   small : id % 32768 < 32768
   small = omega arith
@@ -52,11 +56,11 @@ module _ (s t : Machine) (e : Event) (sound : IsMachineSound s) (k : Moved s e t
   gone-entry : (d : ℕ) (p : Option Segment) → slice_get s.table (id % 32768) ≡ Some (record { destroyed = d; segment = p }) → id / 32768 < d → IsGone t id
   gone-entry d (Some x) is past =
       let q = stays (overlay s e) (made_by (caller_of s e.pid) e.call) (removed e.call e.reply) e.reply s t sound (id % 32768) small d x k is in gone-swept t.runners d q.now past q.at
-  gone-entry d None is past = either (comes (overlay s e) (made_by (caller_of s e.pid) e.call) (removed e.call e.reply) e.reply s t sound (id % 32768) small d (bare_entry d) k is (inl refl))
-    where
-      either : (slice_get t.table (id % 32768) ≡ bare_entry d) ⊎ IsNew (made_by (caller_of s e.pid) e.call) (id % 32768) e.reply d (slice_get t.table (id % 32768)) → IsGone t id
-      either (inl h) = at-gone t.table id d None h past
-      either (inr h) = at-gone t.table id d (Some h.now) h.at past
+  gone-entry d None is past =
+      elim (comes (overlay s e) (made_by (caller_of s e.pid) e.call) (removed e.call e.reply) e.reply s t sound (id % 32768) small d (bare_entry d) k is (inl refl)) [
+        | inl h ↦ at-gone t.table id d None h past
+        | inr h ↦ at-gone t.table id d (Some h.now) h.at past
+      ]
 
   gone-on : IsGone s id → IsGone t id
   gone-on gone =
@@ -66,34 +70,29 @@ module _ (s t : Machine) (e : Event) (sound : IsMachineSound s) (k : Moved s e t
   was-swept : (d : ℕ) (x y z : Segment) → slice_get s.table (id % 32768) ≡ holds d x → IsSame x z → z.bytes ≡ overlay s e (id % 32768) x.bytes
       → Some (swept_at (id % 32768) t.runners d (Some z)) ≡ holds (id / 32768) y → Before s e id y
   was-swept d x y z is same bytes now =
-      elim (cases_Bool (z.dest && (attach_count t.runners (identifier (id % 32768) d) == 0))) [
-        | inl h ↦ absurd (none-some y (ap segment_in (rw h at now)))
-        | inr h ↦
-            (let left : holds d z ≡ holds (id / 32768) y = rw h at now in
-            let count : d ≡ id / 32768 = ap destroyed_in left in
-            let own : z ≡ y = cc (ap segment_in left) in
-            inl (record {
-              segment = x;
-              stood = at-stands s.table id x (is ∙ ap (λ n. holds n x) count);
-              same = subst (IsSame x) own same;
-              bytes = ap (λ (w : Segment). w.bytes) (sym own) ∙ bytes;
-            }))
-      ]
+      let left : holds d z ≡ holds (id / 32768) y = grind arith in
+      let own : z ≡ y = cc (ap segment_in left) in
+      inl (record {
+        segment = x;
+        stood = at-stands s.table id x (is ∙ ap (λ n. holds n x) (ap destroyed_in left));
+        same = subst (IsSame x) own same;
+        bytes = ap (λ (w : Segment). w.bytes) (sym own) ∙ bytes;
+      })
 
   -- a segment that is new
   was-empty : (y : Segment) → slice_get t.table (id % 32768) ≡ holds (id / 32768) y → (d : ℕ) (o : Option Entry) → slice_get s.table (id % 32768) ≡ o → IsEmpty d o
-      → (o ≡ holds (id / 32768) y → ⊥) → (d ≡ id / 32768 → look s.table (pos id) ≡ Invalid) → Before s e id y
-  was-empty y at d o is empty other never = either (comes (overlay s e) (made_by (caller_of s e.pid) e.call) (removed e.call e.reply) e.reply s t sound (id % 32768) small d o k is empty)
+      → Before s e id y
+  was-empty y at d o is empty = either (comes (overlay s e) (made_by (caller_of s e.pid) e.call) (removed e.call e.reply) e.reply s t sound (id % 32768) small d o k is empty)
     where
       either : (slice_get t.table (id % 32768) ≡ o) ⊎ IsNew (made_by (caller_of s e.pid) e.call) (id % 32768) e.reply d (slice_get t.table (id % 32768)) → Before s e id y
-      either (inl h) = absurd (other (sym h ∙ at))
+      either (inl h) = absurd (holds-empty (id / 32768) d y o (sym h ∙ at) empty)
       either (inr h) =
           let same : holds d h.now ≡ holds (id / 32768) y = sym h.at ∙ at in
           let count : d ≡ id / 32768 = ap destroyed_in same in
           let own : identifier (id % 32768) d ≡ id = omega (arith, count) in
           let segment : h.now ≡ y = cc (ap segment_in same) in
           inr (record {
-            makes = (never count, h.answer ∙ ap (λ n. Id (pos n)) own);
+            makes = (never s.table id d o is empty count, h.answer ∙ ap (λ n. Id (pos n)) own);
             zeros = (h.zeros.0, ap (λ (w : Segment). w.bytes) (sym segment) ∙ h.zeros.1);
             made = subst (made_by (caller_of s e.pid) e.call) segment h.made;
           })
@@ -101,11 +100,10 @@ module _ (s t : Machine) (e : Event) (sound : IsMachineSound s) (k : Moved s e t
   was-entry : (y : Segment) → slice_get t.table (id % 32768) ≡ holds (id / 32768) y → (d : ℕ) (p : Option Segment) → slice_get s.table (id % 32768) ≡ Some (record { destroyed = d; segment = p }) → Before s e id y
   was-entry y at d (Some x) is =
       let q = stays (overlay s e) (made_by (caller_of s e.pid) e.call) (removed e.call e.reply) e.reply s t sound (id % 32768) small d x k is in was-swept d x y q.now is q.same q.bytes (sym q.at ∙ at)
-  was-entry y at d None is =
-      was-empty y at d (bare_entry d) is (inl refl) (λ h. none-some y (ap segment_in h)) (λ count. at-next s.table id (is ∙ ap bare_entry count))
+  was-entry y at d None is = was-empty y at d (bare_entry d) is (inl refl)
 
   was-before : (y : Segment) → slice_get t.table (id % 32768) ≡ holds (id / 32768) y → (o : Option Entry) → slice_get s.table (id % 32768) ≡ o → Before s e id y
-  was-before y at None is = was-empty y at 0 None is (inr (refl, refl)) (λ h. none-some _ h) (λ count. at-never s.table id is)
+  was-before y at None is = was-empty y at 0 None is (inr (refl, refl))
   was-before y at (Some x) is = was-entry y at x.destroyed x.segment is
 
   -- what stands stood before, with bytes that became these, or was made
