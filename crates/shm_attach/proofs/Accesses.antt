@@ -33,7 +33,8 @@ places-sum ps a zero m =
 places-sum ps a (suc n) m =
     let next : a + suc n ≡ (a + 1) + n = omega arith in
     let more : suc n + m ≡ suc (n + m) = omega arith in
-    rw (next, more) (ap (joined (place ps a)) (places-sum ps (a + 1) n m) ∙ joined-both (place ps a) (places ps (a + 1) n) (places ps ((a + 1) + n) m))
+    let rest = places-sum ps (a + 1) n m in
+    rw (next, more) (grind (arith, joined-both))
 
 all_writable-append : (xs ys : List Place) → all_writable (xs ++ ys) ≡ (all_writable xs && all_writable ys)
 all_writable-append [] ys = refl

@@ -1,12 +1,13 @@
 -- Which process a pid names, and what changes of its pieces are for the flat machine.
 use Rattle.std.proofs.Common.{◌≡◌, ◌≢◌, ◌⊎◌, inl, inr, ℕ, zero, suc, ◌+◌, ◌<◌, ◌≤◌, false, nat_eq, ◌==◌, if◌then◌else◌, List, [], ◌∷◌, length, map, get_or, set, Option, Some, None, slice_get, refl, ap, sym, subst, ◌∙◌, arith, eq-eqb, ne_eqb, length-set}
+use Rattle.std.proofs.lemmas.Grind.{common_steps}
 use Rattle.std.specs.Prelude.{position}
 use Rattle.std.specs.List.{position_or_len}
 use Rattle.std.proofs.lemmas.Bool.{cases_eq, cases_lt, lt-ltb, eqb-true, eqb-false}
-use Rattle.std.proofs.lemmas.List.{length-map, get_or-set_same, set-set}
+use Rattle.std.proofs.lemmas.List.{length-map, get_or-set_same, set-set, get_or-map}
 use Rattle.std.proofs.lemmas.List.Quantifiers.{position-Some}
 use Rattle.std.proofs.lemmas.List.Sums.{fails_before_first}
-use Rattle.std.proofs.lemmas.Option.{none-some, slice_get-get_or, slice_get_within, get_or_from_slice_get}
+use Rattle.std.proofs.lemmas.Option.{none-some, slice_get-get_or, slice_get_within, get_or_from_slice_get, gets}
 use Rattle.shm_base.specs.declared.owner.Cred.{Cred}
 use Rattle.shm_base.specs.State as flat
 use Rattle.shm_base.specs.Step.{Caller as FlatCaller, caller_by, caller_from, is_unborn, unborn_from, with_pieces, with_end}
@@ -73,23 +74,21 @@ record IsFirstOf {X : Type 0} (f : ℕ → flat.Runner → Option X) (n pid : �
 
 first-there : {X : Type 0} (f : ℕ → flat.Runner → Option X) (n pid : ℕ) (rs : List flat.Runner) (x : X) → first f n pid rs ≡ Some x → IsFirstOf f n pid rs x
 first-there f n pid [] x found = absurd (none-some x found)
-first-there f n pid (r ∷ rs) x found = by (cases_eq r.pid pid) (first-there f (n + 1) pid rs x)
-  where
-    by : (r.pid ≡ pid) ⊎ (r.pid ≢ pid) → (first f (n + 1) pid rs ≡ Some x → IsFirstOf f (n + 1) pid rs x) → IsFirstOf f n pid (r ∷ rs) x
-    by (inl same) more =
-        let here : n + 0 ≡ n = omega arith in
-        record { place = 0; within = omega arith; named = same; said = rw here (rw (eq-eqb r.pid pid same) at found) }
-    by (inr other) more =
-        let t = more (rw (ne_eqb r.pid pid other) at found) in
-        let next : n + suc t.place ≡ (n + 1) + t.place = omega arith in
-        record { place = suc t.place; within = omega (arith, t.within); named = t.named; said = rw next t.said }
+first-there f n pid (r ∷ rs) x found =
+    elim (cases_eq r.pid pid) [
+      | inl same ↦
+          let here : n + 0 ≡ n = omega arith in
+          record { place = 0; within = omega arith; named = same; said = rw here (rw (eq-eqb r.pid pid same) at found) }
+      | inr other ↦
+          let t = first-there f (n + 1) pid rs x (rw (ne_eqb r.pid pid other) at found) in
+          let next : n + suc t.place ≡ (n + 1) + t.place = omega arith in
+          record { place = suc t.place; within = omega (arith, t.within); named = t.named; said = rw next t.said }
+    ]
 
 -- THE PLACE THAT A LOOK-UP ANSWERS
 
 key-at : (es : List (ℕ × Runner)) (k : ℕ) → k < length es → get_or (keys_in es) k 0 ≡ (get_or es k nobody).0
-key-at [] k l = absurd (omega arith)
-key-at (e ∷ es) zero l = refl
-key-at (e ∷ es) (suc k) l = key-at es k (omega arith)
+key-at es k l = grind (arith, common_steps, get_or-map)
 
 -- the place that a look-up by pid answers
 record IsFirst (pid i : ℕ) (es : List (ℕ × Runner)) : Type 0 where
@@ -158,9 +157,7 @@ caller_there c rs is =
     let l = live_is (0 + t.place) c.pid r.pieces r.life (caller_seen c rs) t.said in
     let place : t.place ≡ c.index = omega (arith, l.at) in
     let own : r ≡ record { pid = c.pid; life = flat.Live c.cred; pieces = pieces_at rs c.index } =
-    ap (λ pid. record { pid = pid; life = r.life; pieces = r.pieces }) t.named
-    ∙ ap (λ life. record { pid = c.pid; life = life; pieces = r.pieces }) l.life
-    ∙ ap (λ ps. record { pid = c.pid; life = flat.Live c.cred; pieces = ps }) l.pieces in
+    grind arith in
     rw place at (slice_get-get_or rs t.place first_runner t.within ∙ ap (λ (x : flat.Runner). Some x) own)
 
 -- its pieces are changed as the flat machine changes them
@@ -180,12 +177,7 @@ caller_within c es is = let within = slice_get_within (runners_view es) c.index 
 
 -- the caller ended, once its pieces are gone
 pub with_end-at : (c : Caller) (rs : List flat.Runner) → IsCaller c rs → with_life_at (with_pieces rs (caller_seen c rs) []) c.index flat.Ended ≡ with_end rs (caller_seen c rs)
-with_end-at c rs is =
-    let lt : c.index < length rs = slice_get_within rs c.index _ (caller_there c rs is) in
-    let live : flat.Runner = record { pid = c.pid; life = flat.Live c.cred; pieces = [] } in
-    let there : slice_get (set rs c.index live) c.index ≡ Some live =
-    slice_get-get_or (set rs c.index live) c.index live (omega (arith, lt, length-set rs c.index live)) ∙ ap (λ (r : flat.Runner). Some r) (get_or-set_same rs c.index live live lt) in
-    ap (with_other_life (set rs c.index live) c.index flat.Ended) there ∙ set-set rs c.index live (record { pid = c.pid; life = flat.Ended; pieces = [] })
+with_end-at c rs is = let there = caller_there c rs is in grind (arith, common_steps, gets, set-set)
 
 -- its place stays that of a process
 pub length-with_pieces : (c : Caller) (rs : List flat.Runner) (ps : List flat.Piece) → length (with_pieces rs (caller_seen c rs) ps) ≡ length rs

@@ -3,7 +3,7 @@ use Rattle.std.proofs.Common.{◌≡◌, ◌≢◌, inl, inr, ℕ, zero, suc, �
 use Rattle.std.proofs.lemmas.Grind.{common_steps}
 use Rattle.std.specs.Prelude.{All}
 use Rattle.std.proofs.lemmas.Bool.{cases_eq, cases_lt, cases_Bool, lt-ltb, le-ltb, ltb-true, eqb-true, and_parts, true≢false}
-use Rattle.std.proofs.lemmas.Option.{none-some}
+use Rattle.std.proofs.lemmas.Option.{none-some, slice_get_cases}
 use Rattle.std.proofs.lemmas.List.Elements.{All-append, All-nil, All-cons, All-head, All-tail, All-filter}
 use Rattle.std.proofs.lemmas.List.{length-map}
 use Rattle.indexmap.specs.IndexMap.{set_value_at}
@@ -56,9 +56,7 @@ pub pieces_at-entry : (es : List (ℕ × Runner)) (i : ℕ) (e : ℕ × Runner) 
 pieces_at-entry es i e at = pieces_at-bare es i ∙ ap (λ o. bare_all (stored_in o)) at
 
 stored_at-within : (es : List (ℕ × Runner)) (i k : ℕ) → k < length (stored_at es i) → i < length es
-stored_at-within [] i k lt = absurd (omega (arith, lt))
-stored_at-within (e ∷ es) zero k lt = omega arith
-stored_at-within (e ∷ es) (suc i) k lt = let rest = stored_at-within es i k lt in omega (arith, rest)
+stored_at-within es i k lt = grind (arith, common_steps, slice_get_cases)
 
 -- ONE PIECE
 
@@ -118,10 +116,9 @@ module _ (t : Slab Entry) where
   held-parts from to p own =
       elim (cases_Bool (meets from to (bare p))) [
         | inl m ↦
-            let both = and_parts (nat_lt p.base to) (nat_lt from (end_of (bare p))) m in
             rw m
             (All-append (IsHeld t) (kept_below from p) (kept_above to p)
-            (held-below from p (ltb-true from (end_of (bare p)) both.1) own) (held-above to p (ltb-true p.base to both.0) own))
+            (held-below from p (grind (arith, common_steps, m)) own) (held-above to p (grind (arith, common_steps, m)) own))
         | inr m ↦ rw m (All-cons (IsHeld t) p [] own (All-nil (IsHeld t)))
       ]
 
@@ -156,8 +153,4 @@ held-all extra es t u exact all step i k d lt = step (get_or (stored_at es i) k 
 -- one process has other pieces
 pub held-changed : (es fs : List (ℕ × Runner)) (t : Slab Entry) (i : ℕ) → AllHeld es t → All (IsHeld t) (stored_at fs i)
     → ((j : ℕ) → j ≢ i → stored_at fs j ≡ stored_at es j) → AllHeld fs t
-held-changed es fs t i all own others j =
-    elim (cases_eq j i) [
-      | inl same ↦ subst (λ x. All (IsHeld t) (stored_at fs x)) (sym same) own
-      | inr other ↦ subst (λ (ps : List Piece). All (IsHeld t) ps) (sym (others j other)) (all j)
-    ]
+held-changed es fs t i all own others j = grind (arith, all, own, others)

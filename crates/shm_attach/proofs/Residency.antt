@@ -11,10 +11,8 @@ use Rattle.shm_attach.specs.Entries.{Entry, TrueSlot, AllTrue}
 moved-step : (ms : List Move) (i : ℕ) (d : Move) (seg page : ℕ) (f : Option ℕ) → i < length ms
     → moved (take (suc i) ms) seg page f ≡ moved (get_or ms i d ∷ []) seg page (moved (take i ms) seg page f)
 moved-step [] i d seg page f lt = absurd (omega arith)
-moved-step (Gone r ∷ ms) zero d seg page f lt = refl
-moved-step (Came r k ∷ ms) zero d seg page f lt = refl
-moved-step (Gone r ∷ ms) (suc i) d seg page f lt = moved-step ms i d seg page (if is_page r seg page then None else f) (omega (arith, lt))
-moved-step (Came r k ∷ ms) (suc i) d seg page f lt = moved-step ms i d seg page (if is_page r seg page then Some k else f) (omega (arith, lt))
+moved-step (m ∷ ms) zero d seg page f lt = grind arith
+moved-step (m ∷ ms) (suc i) d seg page f lt = grind (arith, moved-step ms i d seg page)
 
 pub moved-more : (ms : List Move) (i : ℕ) (d : Move) (seg page : ℕ) (f : Option ℕ) → i < length ms
     → moved (take (i + 1) ms) seg page f ≡ moved (get_or ms i d ∷ []) seg page (moved (take i ms) seg page f)

@@ -1,5 +1,6 @@
 -- One table for each segment with pieces: what a change of the map and of the slab leaves.
 use Rattle.std.proofs.Common.{◌≡◌, ◌≢◌, inl, inr, ℕ, zero, suc, ◌-◌, ◌<◌, List, [], ◌∷◌, length, get_or, Option, Some, None, refl, ap, sym, subst, ◌∙◌, arith, ne_eqb}
+use Rattle.std.proofs.lemmas.Grind.{common_steps}
 use Rattle.std.proofs.lemmas.Bool.{cases_eq}
 use Rattle.std.proofs.lemmas.Option.{none-some}
 use Rattle.std.proofs.lemmas.List.{get_or-set_same, get_or-set_other}
@@ -13,9 +14,7 @@ use Rattle.shm_attach.specs.Tables.{counted_under, key_of, IsTied}
 -- A TABLE WITH OTHER FRAMES
 
 within : {X : Type 0} (xs : List (Option X)) (k : ℕ) (x : X) → get_or xs k None ≡ Some x → k < length xs
-within [] k x at = absurd (none-some x at)
-within (y ∷ xs) zero x at = omega arith
-within (y ∷ xs) (suc k) x at = let rest = within xs k x at in omega (arith, rest)
+within xs k x at = grind (arith, common_steps)
 
 pub update-value : (s : Slab Entry) (key : ℕ) (e v : Entry) → get s key ≡ Some e → Updates s (with_value s key v) key (Some v)
 update-value s key e v at =
@@ -28,10 +27,8 @@ module _ (t : Tables) (key : ℕ) (e v : Entry) (tied : IsTied t) (at : get t.sl
   same : (k : ℕ) → (seg_in (get (with_value t.slab key v) k) ≡ seg_in (get t.slab k)) × (count_in (get (with_value t.slab key v) k) ≡ count_in (get t.slab k))
   same k =
       let up = update-value t.slab key e v at in
-      elim (cases_eq k key) [
-        | inl is ↦ rw (is, up.changed, at) (ap (λ (x : Entry). Some x.seg) rest, ap (λ (x : Entry). x.count) rest)
-        | inr apart ↦ (ap seg_in (up.others k apart), ap count_in (up.others k apart))
-      ]
+      let other = up.others k in
+      grind (arith, up.changed, at, rest)
 
   counted-same : (o : Option ℕ) → counted_under (with_value t.slab key v) o ≡ counted_under t.slab o
   counted-same None = refl
@@ -49,8 +46,7 @@ module _ (t : Tables) (key : ℕ) (e v : Entry) (tied : IsTied t) (at : get t.sl
 
 -- the tables of other segments are true still
 true-apart : (at : ℕ → ℕ → Option ℕ) (r : PageRef) (f : Option ℕ) (o : Option Entry) → seg_in o ≢ Some r.seg → TrueSlot at o → TrueSlot (with_frame r f at) o
-true-apart at r f None other now = tt
-true-apart at r f (Some e) other now = λ j lt. rw (ne_eqb r.seg e.seg (λ same. other (ap Some (sym same)))) (now j lt)
+true-apart at r f o other now = grind (arith, common_steps)
 
 pub true-unknown : (at : ℕ → ℕ → Option ℕ) (r : PageRef) (f : Option ℕ) (t : Tables) → IsTied t → key_of t r.seg ≡ None → AllTrue at t.slab → AllTrue (with_frame r f at) t.slab
 true-unknown at r f t tied none all k =
