@@ -6,7 +6,7 @@ use Rattle.shm_base.specs.State.{Entry, Piece, Runner, Machine}
 use Rattle.shm_base.specs.Access.{Place, places, writable_places, byte_at, with_byte, loaded, stored}
 use Rattle.shm_base.specs.Space.{origin_of, without_named}
 use Rattle.shm_base.specs.Segments.{after_detach}
-use Rattle.shm_base.specs.Step.{Caller, caller_from, gives, with_pieces, detaches, shmdt, load, store}
+use Rattle.shm_base.specs.Step.{Caller, caller_from, gives, with_pieces, shmdt, load, store}
 use Rattle.shm_attach.specs.Spans.{unmarked, wanted_in, pieces_by, pieces_of_caller}
 
 -- DETACHING

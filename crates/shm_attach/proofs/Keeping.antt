@@ -1,20 +1,20 @@
 -- The counts stay exact, and no process gets too many pieces.
-use Rattle.std.proofs.Common.{◌≡◌, ◌≢◌, ◌⊎◌, inl, inr, ℕ, zero, suc, ◌+◌, ◌-◌, ◌*◌, ◌/◌, ◌<◌, ◌≤◌, false, ◌==◌, nat_lt, List, [], ◌∷◌, ◌++◌, length, get_or, set, take, eq-eqb, refl, ap, sym, ◌∙◌, arith, length-set, length-take}
+use Rattle.std.proofs.Common.{◌≡◌, ◌≢◌, ◌⊎◌, inl, inr, ℕ, zero, suc, ◌+◌, ◌*◌, ◌<◌, ◌≤◌, false, ◌==◌, List, [], ◌∷◌, ◌++◌, length, get_or, set, take, refl, ap, sym, ◌∙◌, arith, length-set, length-take}
 use Rattle.std.proofs.lemmas.Grind.{common_steps}
-use Rattle.std.proofs.lemmas.Bool.{cases_eq, cases_lt, cases_Bool, le-ltb, lt-ltb, and_right, or_parts}
+use Rattle.std.proofs.lemmas.Bool.{cases_eq, cases_Bool}
 use Rattle.std.proofs.lemmas.Option.{slice_get-get_or, gets}
-use Rattle.std.proofs.lemmas.List.{get_or-set_same, get_or-set_other, set-set, get_or-map}
+use Rattle.std.proofs.lemmas.List.{set-set, get_or-map, set-get_or}
 use Rattle.std.proofs.lemmas.List.Sums.{sum_by-cons, sum_by-set, count_by-le-length}
 use Rattle.shm_base.specs.State.{Piece, Life, Unborn, Runner}
 use Rattle.shm_base.specs.Access.{end_of}
-use Rattle.shm_base.specs.Space.{lowest_address, last_address, without_named, is_named, inserted, meets, occupied, cut, parts, part_below, part_above, pieces_of}
+use Rattle.shm_base.specs.Space.{lowest_address, last_address, without_named, is_named, inserted, occupied, cut, parts, part_below, part_above, pieces_of}
 use Rattle.shm_base.specs.Segments.{attach_count}
 use Rattle.shm_areas.specs.Arranged.{bare, bare_all, IsFit, Arranged}
 use Rattle.shm_areas.specs.declared.piece.Piece.{Piece as Stored}
 use Rattle.shm_areas.proofs.Edits.{lower}
 use Rattle.shm_attach.specs.declared.tables.Tables.{Tables}
 use Rattle.shm_attach.specs.Tables.{counted}
-use Rattle.shm_attach.specs.Views.{one_if, with_own, with_pieces_at, with_other_life, with_life_at}
+use Rattle.shm_attach.specs.Views.{with_own, with_pieces_at, with_other_life, with_life_at}
 use Rattle.shm_attach.specs.Spaces.{pieces_at, life_at}
 use Rattle.shm_attach.specs.Exact.{AreCountsExact}
 use Rattle.shm_attach.specs.Place.{IsPlaceFor}
@@ -50,9 +50,6 @@ life_at-set rs i r lt = grind (arith, common_steps, gets)
 
 pub life_at-set_other : (rs : List Runner) (i j : ℕ) (r : Runner) → j ≢ i → life_at (set rs i r) j ≡ life_at rs j
 life_at-set_other rs i j r other = grind (arith, common_steps, life_at-get_or)
-
-pub length-with_pieces_at : (rs : List Runner) (i : ℕ) (f : List Piece → List Piece) → i < length rs → length (with_pieces_at rs i f) ≡ length rs
-length-with_pieces_at rs i f lt = grind (arith, common_steps, gets)
 
 pub pieces_at-changed : (rs : List Runner) (i : ℕ) (f : List Piece → List Piece) → i < length rs → pieces_at (with_pieces_at rs i f) i ≡ f (pieces_at rs i)
 pieces_at-changed rs i f lt = let there = slice_get-get_or rs i nobody lt in grind (arith, common_steps, gets)
@@ -200,11 +197,6 @@ pieces_of-there (suc k) (p ∷ ps) d l =
 
 pub bare-get_or : (ps : List Stored) (k : ℕ) (d : Stored) (e : Piece) → k < length ps → bare (get_or ps k d) ≡ get_or (bare_all ps) k e
 bare-get_or ps k d e l = grind (arith, common_steps, get_or-map)
-
-set-get_or : (rs : List Runner) (i : ℕ) → i < length rs → set rs i (get_or rs i nobody) ≡ rs
-set-get_or [] i lt = refl
-set-get_or (r ∷ rs) zero lt = refl
-set-get_or (r ∷ rs) (suc i) lt = ap (λ (xs : List Runner). r ∷ xs) (set-get_or rs i (omega arith))
 
 -- the same pieces in place of those that are there
 pub with_pieces_at-same : (rs : List Runner) (i : ℕ) (f : List Piece → List Piece) → i < length rs → f (pieces_at rs i) ≡ pieces_at rs i → rs ≡ with_pieces_at rs i f

@@ -1,21 +1,19 @@
 -- One process's pieces change, and the counts with them.
-use Rattle.std.proofs.Common.{inl, inr, ◌⊎◌, ◌≡◌, ℕ, zero, suc, ◌+◌, ◌-◌, ◌<◌, ◌≤◌, Bool, true, false, ◌==◌, nat_lt, List, [], ◌∷◌, length, map, get_or, Option, Some, None, slice_get, not, filter, refl, ap, sym, ◌∙◌, arith, ◌++◌, cond, drop, drop-cons, add-one, ne_eqb}
+use Rattle.std.proofs.Common.{◌≡◌, ℕ, zero, suc, ◌+◌, ◌-◌, ◌<◌, ◌≤◌, Bool, true, ◌==◌, List, [], ◌∷◌, length, map, get_or, Option, Some, None, slice_get, not, filter, refl, ap, sym, ◌∙◌, arith, ◌++◌, cond, drop, drop-cons, add-one}
 use Rattle.std.proofs.lemmas.Grind.{common_steps}
 use Rattle.std.proofs.lemmas.List.Elements.{filter_passes}
 use Rattle.std.proofs.lemmas.List.Sums.{sum_by-cons, sum_by-set, sum_by-append, length-filter, count_by-le-length}
-use Rattle.std.proofs.lemmas.Bool.{lt-ltb, le-ltb, cases_eq, cases_lt, cases_Bool, eqb-true, and_parts}
 use Rattle.std.proofs.lemmas.Option.{none-some, slice_get-get_or}
 use Rattle.indexmap.specs.IndexMap.{set_value_at}
 use Rattle.shm_base.specs.State as flat
-use Rattle.shm_base.specs.Space.{pieces_of, meets, parts, cut, cut_segments, inserted, without_named, is_named, has_origin}
+use Rattle.shm_base.specs.Space.{pieces_of, meets, parts, cut, cut_segments, inserted, without_named, is_named}
 use Rattle.shm_base.specs.Segments.{attach_count}
 use Rattle.shm_areas.specs.Arranged.{bare, bare_all}
 use Rattle.shm_areas.specs.Met.{met}
 use Rattle.shm_areas.specs.declared.piece.Piece.{Piece as Stored}
-use Rattle.shm_base.specs.Access.{end_of}
 use Rattle.shm_attach.specs.declared.process.Runner.{Runner}
 use Rattle.shm_attach.specs.declared.process.Life.{Life}
-use Rattle.shm_attach.specs.Views.{one_if, with_own, with_pieces_at, with_other_life, with_life_at, some_if, life_view, runner_view, runners_view}
+use Rattle.shm_attach.specs.Views.{one_if, with_own, with_pieces_at, with_life_at, some_if, life_view, runner_view, runners_view}
 use Rattle.shm_attach.specs.Spaces.{pieces_at}
 
 abbrev pub held : Runner → Option Runner → Runner
@@ -63,9 +61,7 @@ with_own-cons r rs i f o = grind arith
 pub runners_set : (f : List flat.Piece → List flat.Piece) (es : List (ℕ × Runner)) (i : ℕ) (w v : Runner) → Some w ≡ slice_get (values_of es) i
     → v.life ≡ w.life → bare_all v.space ≡ f (bare_all w.space) → runners_view (set_value_at es i v) ≡ with_pieces_at (runners_view es) i f
 runners_set f [] i w v at life space = absurd (none-some w (sym at))
-runners_set f (e ∷ es) zero w v at life space =
-    let same : w ≡ e.1 = ap (held w) at in
-    rw (life, space, same) refl
+runners_set f (e ∷ es) zero w v at life space = grind (arith, life, space)
 runners_set f (e ∷ es) (suc i) w v at life space =
     ap (λ (rs : List flat.Runner). runner_view e ∷ rs) (runners_set f es i w v at life space)
     ∙ sym (with_own-cons (runner_view e) (runners_view es) i f (slice_get (runners_view es) i))
@@ -77,9 +73,6 @@ length_set (e ∷ es) (suc i) v = ap suc (length_set es i v)
 
 pub shorter_filter : {X : Type 0} (p : X → Bool) (xs : List X) → length (filter p xs) ≤ length xs
 shorter_filter p xs = rw (length-filter p xs) (count_by-le-length p xs)
-
-pub by_one : (id seg own a b c n : ℕ) → own ≡ seg → 1 ≤ n → a + some_if id seg (n - 1) ≡ b → c ≡ b + one_if id own → a + some_if id seg n ≡ c
-by_one id seg own a b c n same some rest more = grind arith
 
 pub pieces_of-without : (id addr seg : ℕ) (ps : List flat.Piece) (n : ℕ) → length (without_named addr seg ps) + n ≡ length ps
     → pieces_of id (without_named addr seg ps) + some_if id seg n ≡ pieces_of id ps
@@ -115,14 +108,6 @@ some_if-le id seg n = grind arith
 -- what has pieces after a change had some before
 pub was_counted : (id seg a b n m : ℕ) → (seg ≡ id → 0 < a) → b + some_if id seg n ≡ a + some_if id seg m → 0 < b → 0 < a
 was_counted id seg a b n m own change some = grind (arith, common_steps)
-
--- a piece that is met goes to both sides
-pieces_of-cut_one : (id from to : ℕ) (p : flat.Piece) (ps : List flat.Piece) → meets from to p ≡ true
-    → pieces_of id (p ∷ ps) + pieces_of id (parts from to p ++ cut from to (filter (meets from to) ps)) ≡ pieces_of id (parts from to p ++ cut from to ps) + pieces_of id (p ∷ filter (meets from to) ps)
-    → pieces_of id (p ∷ ps) + pieces_of id (cut from to (filter (meets from to) (p ∷ ps))) ≡ pieces_of id (cut from to (p ∷ ps)) + pieces_of id (filter (meets from to) (p ∷ ps))
-pieces_of-cut_one id from to p ps m both =
-    let kept : filter (meets from to) (p ∷ ps) ≡ p ∷ filter (meets from to) ps = rw m refl in
-    rw kept both
 
 -- the pieces that are not met stay
 pub pieces_of-cut_met : (id from to : ℕ) (ps : List flat.Piece)
@@ -165,13 +150,7 @@ drop-bare ps i d lt = rw (add-one, drop-cons ps i d lt) refl
 pub runners_live : (l : Life) (es : List (ℕ × Runner)) (i : ℕ) (w v : Runner) → Some w ≡ slice_get (values_of es) i → v.life ≡ l → v.space ≡ w.space
     → runners_view (set_value_at es i v) ≡ with_life_at (runners_view es) i (life_view l)
 runners_live l [] i w v at life space = absurd (none-some w (sym at))
-runners_live l (e ∷ es) zero w v at life space =
-    let same : w ≡ e.1 = ap (held w) at in
-    rw (life, space, same) refl
+runners_live l (e ∷ es) zero w v at life space = grind (arith, life, space)
 runners_live l (e ∷ es) (suc i) w v at life space =
-    ap (λ (rs : List flat.Runner). runner_view e ∷ rs) (runners_live l es i w v at life space)
-    ∙ sym (with_life-cons (runner_view e) (runners_view es) i (life_view l) (slice_get (runners_view es) i))
-  where
-    with_life-cons : (r : flat.Runner) (rs : List flat.Runner) (i : ℕ) (m : flat.Life) (o : Option flat.Runner) → with_other_life (r ∷ rs) (suc i) m o ≡ r ∷ with_other_life rs i m o
-    with_life-cons r rs i m None = refl
-    with_life-cons r rs i m (Some x) = refl
+    let rest = runners_live l es i w v at life space in
+    grind arith

@@ -1,10 +1,9 @@
 -- Entries that are true of one residency, and of another.
-use Rattle.std.proofs.Common.{◌≡◌, ℕ, zero, suc, ◌+◌, ◌<◌, if◌then◌else◌, List, [], ◌∷◌, length, get_or, take, Option, Some, None, ◌∙◌, refl, arith}
-use Rattle.slab.specs.Slab.{Slab, get}
+use Rattle.std.proofs.Common.{◌≡◌, ℕ, zero, suc, ◌+◌, ◌<◌, List, [], ◌∷◌, length, get_or, take, Option, arith}
+use Rattle.slab.specs.Slab.{Slab}
 use Rattle.shm_fault.specs.declared.touched.Move.{Move}
-use Rattle.shm_fault.specs.declared.touched.Move.TheVariants.{Gone, Came}
-use Rattle.shm_fault.specs.Steps.{is_page, moved}
-use Rattle.shm_attach.specs.Entries.{Entry, TrueSlot, AllTrue}
+use Rattle.shm_fault.specs.Steps.{moved}
+use Rattle.shm_attach.specs.Entries.{Entry, AllTrue}
 
 -- THE MOVES, ONE AFTER ANOTHER
 

@@ -1,10 +1,8 @@
 -- One table for each segment with pieces: what a change of the map and of the slab leaves.
-use Rattle.std.proofs.Common.{◌≡◌, ◌≢◌, inl, inr, ℕ, zero, suc, ◌-◌, ◌<◌, List, [], ◌∷◌, length, get_or, Option, Some, None, refl, ap, sym, subst, ◌∙◌, arith, ne_eqb}
+use Rattle.std.proofs.Common.{◌≡◌, ◌≢◌, ℕ, ◌<◌, List, length, get_or, Option, Some, None, refl, sym, ◌∙◌, arith}
 use Rattle.std.proofs.lemmas.Grind.{common_steps}
-use Rattle.std.proofs.lemmas.Bool.{cases_eq}
 use Rattle.std.proofs.lemmas.Option.{none-some}
 use Rattle.std.proofs.lemmas.List.{get_or-set_same, get_or-set_other}
-use Rattle.std.specs.HashMap as hash
 use Rattle.slab.specs.Slab.{Slab, get, with_value, Updates}
 use Rattle.shm_base.specs.declared.paging.PageRef.{PageRef}
 use Rattle.shm_attach.specs.declared.tables.Tables.{Tables}
@@ -55,9 +53,7 @@ true-unknown at r f t tied none all k =
 pub true-set : (at : ℕ → ℕ → Option ℕ) (r : PageRef) (f : Option ℕ) (t : Tables) (s : Slab Entry) (key : ℕ) (v : Entry) → IsTied t → key_of t r.seg ≡ Some key
     → Updates t.slab s key (Some v) → TrueEntry (with_frame r f at) v → AllTrue at t.slab → AllTrue (with_frame r f at) s
 true-set at r f t s key v tied own up new all k =
-    elim (cases_eq k key) [
-      | inl same ↦ rw same (subst (λ o. TrueSlot (with_frame r f at) o) (sym up.changed) new)
-      | inr apart ↦
-          let other : seg_in (get t.slab k) ≢ Some r.seg = λ is. let both : Some k ≡ Some key = sym (tied.named r.seg k is) ∙ own in apart (cc both) in
-          subst (λ o. TrueSlot (with_frame r f at) o) (sym (up.others k apart)) (true-apart at r f (get t.slab k) other (all k))
-    ]
+    let apart = true-apart at r f (get t.slab k) in
+    let others = up.others k in
+    let named = tied.named r.seg k in
+    grind (arith, all k, up.changed, own, new)

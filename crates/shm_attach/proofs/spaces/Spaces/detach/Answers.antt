@@ -1,11 +1,9 @@
 use Rattle.std.proofs.Common.{◌∙◌, ap}
-use Rattle.shm_base.specs.State as flat
 use Rattle.shm_base.specs.Space.{without_named}
 use Rattle.shm_attach.specs.Views.{runners_view}
 use Rattle.shm_attach.specs.Spaces.{SpacesView}
 use Rattle.shm_attach.specs.Exact.{no_holds}
 use Rattle.shm_attach.proofs.Callers.{caller_within, with_pieces-of}
-use Rattle.shm_attach.proofs.Sound.{none_held}
 use Rattle.shm_attach.proofs.Translations.{keeps}
 use Rattle.shm_attach.proofs.spaces.Spaces.detach.Goals as goal
 

@@ -10,7 +10,6 @@ use Rattle.shm_attach.specs.Spaces.{SpacesView, pieces_at, caller_seen}
 use Rattle.shm_attach.specs.Exact.{no_holds}
 use Rattle.shm_attach.proofs.Callers.{caller_within, with_pieces-of}
 use Rattle.shm_attach.proofs.Keeping.{cut-all}
-use Rattle.shm_attach.proofs.Sound.{none_held}
 use Rattle.shm_attach.proofs.Translations.{keeps}
 use Rattle.shm_attach.proofs.spaces.Spaces.exec.Goals.{After-self}
 use Rattle.shm_attach.proofs.spaces.Spaces.exec.Goals as goal

@@ -1,5 +1,3 @@
-use Rattle.std.proofs.Common.{◌∙◌, ap}
-use Rattle.shm_attach.specs.Spaces.{SpacesView, pieces_at}
 use Rattle.shm_attach.proofs.Callers.{caller_within}
 use Rattle.shm_attach.proofs.spaces.Spaces.space.Goals as goal
 
