@@ -1,8 +1,8 @@
 -- The least free index.
-use Rattle.std.proofs.Common.{rules, ◌≡◌, ◌⊎◌, ℕ, zero, suc, ◌+◌, ◌<◌, ◌≤◌, true, false, List, [], ◌∷◌, length, drop, Some, if◌then◌else◌, refl, sym, ap, ◌∙◌, inl, inr, arith, true≢false}
+use Rattle.std.proofs.Common.{◌≡◌, ◌⊎◌, ℕ, zero, suc, ◌+◌, ◌<◌, ◌≤◌, true, false, List, [], ◌∷◌, length, drop, Some, if◌then◌else◌, refl, ap, ◌∙◌, inl, inr, arith}
 use Rattle.std.proofs.lemmas.Grind.{common_steps}
 use Rattle.std.proofs.lemmas.List.{drop_more}
-use Rattle.std.proofs.lemmas.Bool.{cases_lt, cases_Bool}
+use Rattle.std.proofs.lemmas.Bool.{cases_Bool}
 use Rattle.shm_ids.specs.declared.table.Entry.{Entry}
 use Rattle.shm_ids.specs.Table.{unused, entry_at, is_free, free_from, free_index}
 use Rattle.shm_ids.specs.Sound.{UsedBelow}
@@ -51,7 +51,3 @@ module _ {T : Type 0} where
             small = λ (z : suc rest.place ≡ suc (length es)). rest.small (omega arith);
             used = elim [ zero ↦ λ _. busy | suc k ↦ λ l. rest.used k (omega arith) ];
           }
-
-  -- the least free index lies in the table or at its end
-  pub free_index-within : (t : List (Entry T)) (i : ℕ) → free_index t ≡ Some i → i ≤ length t
-  free_index-within t i h = let f = free_found 0 i t h in omega (arith, f.at, f.within)

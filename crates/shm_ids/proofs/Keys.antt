@@ -48,13 +48,6 @@ module _ {T : Type 0} where
           let found = key_from-at 0 i key t n there.0 alone in
           grind (arith, common_steps)
 
-  -- a key that is not found is on no row
-  pub key_at-absent : {S : Type 0} (t : List (Entry T)) (keys : IndexMap ℕ ℕ S) (key i : ℕ) → Keyed t keys → find_key t key ≡ None → key ≢ 0 → key_at t i ≢ key
-  key_at-absent t keys key i keyed none live same =
-      let found = keyed.live i (λ z. live (sym same ∙ z)) in
-      let same_found = find_key-get t keys key keyed in
-      absurd (search (rules, found, same, none))
-
   -- one row gets another key where it had none
   pub Keyed-put : {S : Type 0} (t u : List (Entry T)) (keys after : IndexMap ℕ ℕ S) (i key : ℕ)
       → Keyed t keys → find_key t key ≡ None → key_at t i ≡ 0 → key_at u i ≡ key → ((j : ℕ) → j ≢ i → key_at u j ≡ key_at t j)
