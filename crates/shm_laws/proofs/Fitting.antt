@@ -82,10 +82,9 @@ fits-given s e pid p all (inr (inr h)) =
 fits-on : (s : Machine) (e : Event) (t : Machine) (p : Piece) (y : Segment) → Fits s p → Stands t p.seg y → Before s e p.seg y → Fits t p
 fits-on s e t p y old stands (inr new) = let no : Invalid ≡ Found (p.seg % 32768) old.segment = sym new.makes.0 ∙ old.stands in absurd (cc no)
 fits-on s e t p y old stands (inl h) =
-    let same : old.segment ≡ h.segment = one-segment s p.seg old.segment h.segment old.stands h.stood in
-    let long : length y.bytes ≡ length h.segment.bytes = ap length h.bytes ∙ over-length _ (put e.call e.reply) (p.seg % 32768) h.segment.bytes in
-    let was : length old.segment.bytes ≡ length h.segment.bytes = ap (λ (x : Segment). length x.bytes) same in
-    record { segment = y; stands = stands; within = let within = old.within in omega (arith, within, long, was) }
+    let same = one-segment s p.seg old.segment h.segment old.stands h.stood in
+    let long = ap length h.bytes ∙ over-length _ (put e.call e.reply) (p.seg % 32768) h.segment.bytes in
+    record { segment = y; stands = stands; within = grind (arith, old.within) }
 
 -- WHAT HOLDS OF A MACHINE AT ALL TIMES
 

@@ -1,7 +1,8 @@
 -- Where a new segment goes: to an index that holds none.
-use Rattle.std.proofs.Common.{◌≡◌, ◌≢◌, ◌⊎◌, ℕ, suc, zero, ◌+◌, ◌&&◌, true, nat_lt, is_none, List, [], ◌∷◌, ◌++◌, length, Option, Some, None, slice_get, refl, sym, ap, ◌∙◌, inl, inr, arith, eq-eqb, ne_eqb}
+use Rattle.std.proofs.Common.{◌≡◌, ◌≢◌, ◌⊎◌, ℕ, suc, zero, ◌+◌, ◌&&◌, true, nat_lt, is_none, List, [], ◌∷◌, ◌++◌, length, Option, Some, None, slice_get, refl, sym, ap, ◌∙◌, inl, inr, arith, eq-eqb, ne_eqb, length-append}
+use Rattle.std.proofs.lemmas.Grind.{common_steps}
 use Rattle.std.proofs.lemmas.Bool.{cases_Bool, cases_eq}
-use Rattle.std.proofs.lemmas.Option.{slice_get_past}
+use Rattle.std.proofs.lemmas.Option.{slice_get_past, gets}
 use Rattle.shm_base.specs.State.{Segment, Entry}
 use Rattle.shm_base.specs.Identifier.{free_from, free_index, destroyed_at, destroyed_in, with_segment}
 use Rattle.shm_segments.proofs.Entries.{get-set_same, get-set_other}
@@ -32,14 +33,10 @@ free_found n j (e ∷ es) h =
     ]
 
 snoc-last : (t : List Entry) (e : Entry) → slice_get (t ++ e ∷ []) (length t) ≡ Some e
-snoc-last [] e = refl
-snoc-last (x ∷ xs) e = snoc-last xs e
+snoc-last t e = grind (arith, common_steps, gets)
 
 snoc-other : (t : List Entry) (e : Entry) (j : ℕ) → j ≢ length t → slice_get (t ++ e ∷ []) j ≡ slice_get t j
-snoc-other [] e zero apart = absurd (apart refl)
-snoc-other [] e (suc j) apart = refl
-snoc-other (x ∷ xs) e zero apart = refl
-snoc-other (x ∷ xs) e (suc j) apart = snoc-other xs e j (λ k. apart (ap suc k))
+snoc-other t e j apart = grind (arith, common_steps, gets, length-append)
 
 behind : (t : List Entry) → slice_get t (length t) ≡ None
 behind t = slice_get_past t (length t) (omega arith)

@@ -99,10 +99,9 @@ pick_by P false o p h k = k refl
 find-all : {X : Type 0} (P : X → Type 0) (test : X → Bool) (xs : List X) (x : X) → find test xs ≡ Some x → All P xs → P x
 find-all P test [] x found all = absurd (none-some x found)
 find-all P test (y ∷ ys) x found all =
-    elim (cases_Bool (test y)) [
-      | inl h ↦ (let same : Some y ≡ Some x = rw h at found in let is : y ≡ x = cc same in subst P is (all-head P y ys all))
-      | inr h ↦ find-all P test ys x (rw h at found) (all-tail P y ys all)
-    ]
+    let first = all-head P y ys all in
+    let rest = λ (h : find test ys ≡ Some x). find-all P test ys x h (all-tail P y ys all) in
+    grind arith
 
 chosen-page : (ps : List Piece) (pages base : ℕ) → choose ps pages ≡ Some base → All IsAligned ps → base % 4096 ≡ 0
 chosen-page ps pages base found all =
@@ -114,18 +113,13 @@ chosen-page ps pages base found all =
 
 find-passes : {X : Type 0} (test : X → Bool) (xs : List X) (x : X) → find test xs ≡ Some x → test x ≡ true
 find-passes test [] x found = absurd (none-some x found)
-find-passes test (y ∷ ys) x found =
-    elim (cases_Bool (test y)) [
-      | inl h ↦ (let same : Some y ≡ Some x = rw h at found in let is : y ≡ x = cc same in ap test (sym is) ∙ h)
-      | inr h ↦ find-passes test ys x (rw h at found)
-    ]
+find-passes test (y ∷ ys) x found = let rest = find-passes test ys x in grind arith
 
 -- what is chosen is free
 chosen-free : (ps : List Piece) (pages base : ℕ) → choose ps pages ≡ Some base → occupied ps base (base + 4096 * pages) ≡ false
 chosen-free ps pages base found =
     let gap = find-passes (is_gap ps pages) (first_chosen ∷ map end_of ps) base found in
-    let last = and_parts (nat_le first_chosen base && nat_le (base + 4096 * pages) last_address) (not (occupied ps base (base + 4096 * pages))) gap in
-    not-true (occupied ps base (base + 4096 * pages)) last.1
+    grind (arith, common_steps)
 
 pub none-stay : (ps : List Piece) → [] ≡ filter (λ (p : Piece). false) ps
 none-stay [] = refl

@@ -64,8 +64,7 @@ module _ (hidden : ℕ → Bool) (s : Machine) (n : ℕ) (c : Caller) where
   -- SHMGET
 
   new-zeros : (key size mode : ℕ) (b : Bool) → veiled b (new_segment n c key size mode) ≡ new_segment n c key size mode
-  new-zeros key size mode true = ap (λ (k : ℕ). record (new_segment n c key size mode) { bytes = replicate k 0 }) (length-replicate (4096 * pages_of size) 0)
-  new-zeros key size mode false = refl
+  new-zeros key size mode b = grind (arith, length-replicate {A = ℕ})
 
   out-creates_at : (key size mode : ℕ) (o : Option ℕ) → creates_at B n c key size mode o ≡ out hidden (creates_at s n c key size mode o)
   out-creates_at key size mode o =
@@ -136,9 +135,9 @@ module _ (hidden : ℕ → Bool) (s : Machine) (n : ℕ) (c : Caller) where
 
   out-after : (rs : List Runner) (lost : List ℕ) → gives (after_detach B n c.pid rs lost) Done ≡ out hidden (gives (after_detach s n c.pid rs lost) Done)
   out-after rs lost =
-      let table : swept rs (detach_all n c.pid (V T) lost) ≡ V (swept rs (detach_all n c.pid T lost)) =
-      ap (swept rs) (detach-veiled hidden n c.pid lost T) ∙ swept-veiled hidden 0 rs (detach_all n c.pid T lost) in
-      λ j. record { reply = Done; state = record s { table = table j; runners = rs } }
+      let detach = detach-veiled hidden n c.pid lost T in
+      let sweep = swept-veiled hidden 0 rs (detach_all n c.pid T lost) in
+      grind arith
 
   out-detaches : (addr : ℕ) (o : Option Piece) → detaches B n c addr o ≡ out hidden (detaches s n c addr o)
   out-detaches addr None = refl
@@ -159,9 +158,9 @@ module _ (hidden : ℕ → Bool) (s : Machine) (n : ℕ) (c : Caller) where
 
   out-removes : (b : Bool) (i : ℕ) (x : Segment) → removes B i (veiled b x) ≡ out hidden (removes s i x)
   out-removes b i x =
-      let table : swept s.runners (change (V T) i marked) ≡ V (swept s.runners (change T i marked)) =
-      ap (swept s.runners) (change-veiled hidden marked (λ b x. refl) T i) ∙ swept-veiled hidden 0 s.runners (change T i marked) in
-      λ j. record { reply = Done; state = record s { table = table j } }
+      let marks = change-veiled hidden marked (λ b x. refl) T i in
+      let sweep = swept-veiled hidden 0 s.runners (change T i marked) in
+      grind arith
 
   out-locks : (b : Bool) (i : ℕ) (x : Segment) → locks B i (veiled b x) ≡ out hidden (locks s i x)
   out-locks b i x =

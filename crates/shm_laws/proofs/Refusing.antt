@@ -12,10 +12,6 @@ use Rattle.shm_laws.proofs.Stepping.{removed}
 pub failure-refusal : (call : Call) (r : Reply) → is_failure call r ≡ true → is_refusal r ≡ true
 failure-refusal call r h = grind arith
 
-refused-as : (r : Reply) → is_refusal r ≡ true → (e : Errno) × (r ≡ Refused e)
-refused-as (Refused e) h = (e, refl)
-refused-as r h = absurd (true≢false (sym h))
-
 -- a refusal puts nothing
 pub refused-put : (call : Call) (e : Errno) → put call (Refused e) ≡ None
 refused-put call e = grind arith

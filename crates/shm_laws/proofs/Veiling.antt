@@ -51,7 +51,7 @@ segment-veiled i b o = grind arith
 -- what is set to what it is
 set-same : (t : List Entry) (i : ℕ) (e : Entry) → slice_get t i ≡ Some e → slice_set t i e ≡ t
 set-same [] i e is = refl
-set-same (x ∷ xs) zero e is = let same : x ≡ e = cc is in ap (λ y. y ∷ xs) (sym same)
+set-same (x ∷ xs) zero e is = grind arith
 set-same (x ∷ xs) (suc i) e is = ap (λ ys. x ∷ ys) (set-same xs i e is)
 
 module _ (hidden : ℕ → Bool) where
@@ -65,8 +65,8 @@ module _ (hidden : ℕ → Bool) where
 
   veiled-at : (k i : ℕ) (t : List Entry) → slice_get (V k t) i ≡ option_map (veiled_entry hidden (k + i)) (slice_get t i)
   veiled-at k i [] = refl
-  veiled-at k zero (e ∷ es) = let here : k + 0 ≡ k = omega arith in rw here refl
-  veiled-at k (suc i) (e ∷ es) = let next : k + suc i ≡ (k + 1) + i = omega arith in rw next (veiled-at (k + 1) i es)
+  veiled-at k zero (e ∷ es) = grind arith
+  veiled-at k (suc i) (e ∷ es) = grind (arith, veiled-at (k + 1) i es)
 
   pub veiled-get : (t : List Entry) (i : ℕ) → slice_get (V 0 t) i ≡ option_map (veiled_entry hidden i) (slice_get t i)
   veiled-get t i = let here : 0 + i ≡ i = omega arith in rw here at (veiled-at 0 i t)
@@ -211,21 +211,12 @@ module _ (hidden : ℕ → Bool) where
   Hid t q = hidden (identifier (q.seg % 32768) (destroyed_at t (q.seg % 32768))) ≡ true
 
   byte-hidden : (t : List Entry) (q : Place) (v : ℕ) → Hid t q → V 0 (with_byte t q v) ≡ V 0 t
-  byte-hidden t q v hid = by (slice_get t (q.seg % 32768)) refl
-    where
-      entry : (d : ℕ) (o : Option Segment) → hidden (identifier (q.seg % 32768) d) ≡ true
-          → veiled_entry hidden (q.seg % 32768) (entry_byte_set q.at v (record { destroyed = d; segment = o })) ≡ veiled_entry hidden (q.seg % 32768) (record { destroyed = d; segment = o })
-      entry d None h = refl
-      entry d (Some x) h =
-          rw h (ap (λ (k : ℕ). record { destroyed = d; segment = Some (record x { bytes = replicate k 0 }) }) (length-slice_set x.bytes q.at v))
-
-      by : (o : Option Entry) → slice_get t (q.seg % 32768) ≡ o → V 0 (with_byte t q v) ≡ V 0 t
-      by None is = rw is refl
-      by (Some e) is =
-          let own : hidden (identifier (q.seg % 32768) e.destroyed) ≡ true = ap (λ o. hidden (identifier (q.seg % 32768) (destroyed_in o))) (sym is) ∙ hid in
-          rw is
-          (veiled-set0 (q.seg % 32768) t (entry_byte_set q.at v e) ∙ ap (slice_set (V 0 t) (q.seg % 32768)) (entry e.destroyed e.segment own)
-          ∙ set-same (V 0 t) (q.seg % 32768) (veiled_entry hidden (q.seg % 32768) e) (veiled-get t (q.seg % 32768) ∙ ap (option_map (veiled_entry hidden (q.seg % 32768))) is))
+  byte-hidden t q v hid =
+      let i = q.seg % 32768 in
+      let get = veiled-get t i in
+      let set = λ (e : Entry). veiled-set0 i t (entry_byte_set q.at v e) in
+      let long = λ (x : Segment). length-slice_set x.bytes q.at v in
+      grind (arith, hid, set, long, set-same (V 0 t) i)
 
   pub stored-hidden : (t : List Entry) (qs : List Place) (vs : List ℕ) → ((k : ℕ) (q : Place) → slice_get qs k ≡ Some q → Hid t q) → V 0 (stored t qs vs) ≡ V 0 t
   stored-hidden t [] vs hid = refl
