@@ -169,15 +169,7 @@ stat-by s n (negsuc m) d (Some c) told = absurd (cc told)
 
 -- a refusal counts nothing
 counts-refused : (s : Machine) (e : Event) (t : Machine) → is_refusal e.reply ≡ true → t.runners ≡ s.runners → CountsPieces s e t
-counts-refused s e t refused same =
-    record {
-      shown = λ id d asked told. absurd (grind arith);
-      attached = λ id addr base flags asked told plain j. absurd (grind arith);
-      forked = λ child asked told j. absurd (grind arith);
-      left = λ which told j. absurd (grind arith);
-      detached = λ addr asked told. absurd (grind arith);
-      quiet = λ why j. ap (λ rs. attach_count rs j) same;
-    }
+counts-refused s e t refused same = grind (arith, common_steps)
 
 counts-by : (s : Machine) (n pid : ℕ) (call : Call) (o : Option Caller) → caller_of s pid ≡ o → Bare s.runners
     → let r = step_by s n call o in CountsPieces s (record { pid = pid; call = call; reply = r.reply }) r.state

@@ -109,9 +109,7 @@ module _ (over : ℕ → List ℕ → List ℕ) (like : Segment → Type 0) (r :
   Fate b = Goes (over i) i t.runners b (slice_get s.table i) (slice_get t.table i) ⊎ Comes like i reply (slice_get s.table i) (slice_get t.table i)
 
   fate-still : Turned (over i) s.table t.table i → ((id : ℕ) → attach_count s.runners id ≤ attach_count t.runners id) → Fate false
-  fate-still u grows =
-      let at = u.at ∙ sym (unswept s.runners t.runners i u.turn grows u.dest (slice_get s.table i) (sound.orphans i small)) in
-      inl (record { turn = u.turn; same = u.same; dest = u.dest; bytes = u.bytes; at = at })
+  fate-still u grows = grind (arith, common_steps)
 
   fate-swept : IsIdle over → SweepTo s t → Fate false
   fate-swept none k =

@@ -46,10 +46,7 @@ pub contained : {X : Type 0} (xs : List X) (x : X) (h : Contains xs x) → slice
 contained xs x h = slice_get-get_or xs h.0 x h.1 ∙ ap (λ y. Some y) h.2
 
 pub has-count : (s : Machine) (pid : ℕ) (p : Piece) → Has s pid p → 1 ≤ attach_count s.runners p.seg
-has-count s pid p h =
-    let own = piece-count h.process.pieces h.has.0 p (contained h.process.pieces p h.has) in
-    let all = runner-count s.runners h.is.0 h.process p.seg (contained s.runners h.process h.is) in
-    omega (arith, own, all)
+has-count s pid p h = grind (arith, common_steps)
 
 -- WITHIN ITS SEGMENT
 

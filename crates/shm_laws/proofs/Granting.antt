@@ -35,20 +35,10 @@ part_refl p = record { seg = refl; writable = refl; pages = refl; from = omega a
 
 module _ (from to : ℕ) (page_from : from % 4096 ≡ 0) (page_to : to % 4096 ≡ 0) where
   below-parts : (p : Piece) → IsAligned p → meets from to p ≡ true → All (λ q. IsPart q p) (part_below from p)
-  below-parts p page m =
-      elim (cases_lt p.base from) [
-        | inl l ↦ rw (lt-ltb p.base from l) (all-cons (λ q. IsPart q p) (record p { pages = (from - p.base) / 4096 }) [] (grind (arith, common_steps, m)) (All-nil (λ q. IsPart q p)))
-        | inr n ↦ rw (le-ltb p.base from n) (All-nil (λ q. IsPart q p))
-      ]
+  below-parts p page m = grind (arith, common_steps)
 
   above-parts : (p : Piece) → IsAligned p → meets from to p ≡ true → All (λ q. IsPart q p) (part_above to p)
-  above-parts p page m =
-      elim (cases_lt to (end_of p)) [
-        | inl l ↦
-            let rest : Piece = record p { base = to; first_page = p.first_page + (to - p.base) / 4096; pages = (end_of p - to) / 4096 } in
-            rw (lt-ltb to (end_of p) l) (all-cons (λ q. IsPart q p) rest [] (grind (arith, common_steps, m)) (All-nil (λ q. IsPart q p)))
-        | inr n ↦ rw (le-ltb to (end_of p) n) (All-nil (λ q. IsPart q p))
-      ]
+  above-parts p page m = grind (arith, common_steps)
 
   all-parts : (p : Piece) → IsAligned p → All (λ q. IsPart q p) (parts from to p)
   all-parts p page =
@@ -74,9 +64,7 @@ all-inserted P p (q ∷ qs) h hs =
 -- WHERE A PIECE COMES FROM IN A MOVE
 
 pub each-has : (law : ℕ → Piece → Type 0) (s : Machine) (pid : ℕ) (p : Piece) → EachPiece law s → Has s pid p → law pid p
-each-has law s pid p each h =
-    let own = All-contains (λ (r : Runner). All (law r.pid) r.pieces) s.runners h.process each h.is in
-    subst (λ n. law n p) h.named (All-contains (law h.process.pid) h.process.pieces p own h.has)
+each-has law s pid p each h = grind (arith, common_steps)
 
 pub has-own : (s : Machine) (r : Runner) → Contains s.runners r → All (Has s r.pid) r.pieces
 has-own s r is = λ k d lt. record { process = r; is = is; named = refl; has = Contains-get_or r.pieces k d lt }
@@ -189,9 +177,7 @@ given-move s n e t aligned (inr x) = rw x.unchanged (kept-all s e)
 -- what is given holds where it held of what it is given from
 each-given : (law next : ℕ → Piece → Type 0) (s : Machine) (e : Event) (t : Machine)
     → ((pid : ℕ) (p : Piece) → IsPieceGiven s e pid p → next pid p) → EachPiece (IsPieceGiven s e) t → EachPiece next t
-each-given law next s e t each given =
-    All-weaker (λ (r : Runner). All (IsPieceGiven s e r.pid) r.pieces) (λ (r : Runner). All (next r.pid) r.pieces)
-    (λ r all. All-weaker (IsPieceGiven s e r.pid) (next r.pid) (each r.pid) r.pieces all) t.runners given
+each-given law next s e t each given = grind (arith, common_steps)
 
 part-page : (p q : Piece) → IsPart p q → IsAligned q → IsAligned p
 part-page p q part page = omega arith

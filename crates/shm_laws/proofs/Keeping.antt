@@ -1,5 +1,6 @@
 -- Every legal history keeps all laws.
-use Rattle.std.proofs.Common.{List}
+use Rattle.std.proofs.Common.{List, arith}
+use Rattle.std.proofs.lemmas.Grind.{common_steps}
 use Rattle.shm_base.specs.declared.call.Event.{Event}
 use Rattle.shm_base.specs.State.{Machine, Opening}
 use Rattle.shm_base.specs.History.{IsHistory}

@@ -69,15 +69,7 @@ module _ (s t : Machine) (e : Event) (sound : IsMachineSound s) (k : Moved s e t
 
   was-swept : (d : ℕ) (x y z : Segment) → slice_get s.table (id % 32768) ≡ holds d x → IsSame x z → z.bytes ≡ overlay s e (id % 32768) x.bytes
       → Some (swept_at (id % 32768) t.runners d (Some z)) ≡ holds (id / 32768) y → Before s e id y
-  was-swept d x y z is same bytes now =
-      let left : holds d z ≡ holds (id / 32768) y = grind arith in
-      let own : z ≡ y = cc (ap segment_in left) in
-      inl (record {
-        segment = x;
-        stood = at-stands s.table id x (is ∙ ap (λ n. holds n x) (ap destroyed_in left));
-        same = subst (IsSame x) own same;
-        bytes = ap (λ (w : Segment). w.bytes) (sym own) ∙ bytes;
-      })
+  was-swept d x y z is same bytes now = grind (arith, common_steps)
 
   -- a segment that is new
   was-empty : (y : Segment) → slice_get t.table (id % 32768) ≡ holds (id / 32768) y → (d : ℕ) (o : Option Entry) → slice_get s.table (id % 32768) ≡ o → IsEmpty d o
@@ -123,15 +115,7 @@ keeps-refl : (s : Machine) → KeepsNames s s
 keeps-refl s = record { stands = λ id x h. inl (x, h, same_refl x); gone = λ id h. h }
 
 keeps-trans : (s u t : Machine) → KeepsNames s u → KeepsNames u t → KeepsNames s t
-keeps-trans s u t a b = record { stands = λ id x h. by id x (a.stands id x h); gone = λ id h. b.gone id (a.gone id h) }
-  where
-    on : (id : ℕ) (x y : Segment) → IsSame x y → ((z : Segment) × Stands t id z × IsSame y z) ⊎ IsGone t id → ((z : Segment) × Stands t id z × IsSame x z) ⊎ IsGone t id
-    on id x y same (inl h) = inl (h.0, h.1, same_trans x y h.0 same h.2)
-    on id x y same (inr h) = inr h
-
-    by : (id : ℕ) (x : Segment) → ((y : Segment) × Stands u id y × IsSame x y) ⊎ IsGone u id → ((z : Segment) × Stands t id z × IsSame x z) ⊎ IsGone t id
-    by id x (inl h) = on id x h.0 h.2 (b.stands id h.0 h.1)
-    by id x (inr h) = inr (b.gone id h)
+keeps-trans s u t a b = grind (arith, common_steps)
 
 -- WHOLE HISTORIES
 
@@ -188,20 +172,7 @@ made-now s e id y m = by (caller_of s e.pid) refl m.made
 
 -- who made a segment made the same one
 made-same : (s : Machine) (e : Event) (id : ℕ) (x y : Segment) → IsSame x y → IsMadeBy s e id x → IsMadeBy s e id y
-made-same s e id x y same m =
-    record {
-      key = m.key;
-      mode = m.mode;
-      flags = m.flags;
-      call = m.call ∙ ap (λ n. Shmget m.key n m.mode m.flags) (sym same.size);
-      reply = m.reply;
-      never = m.never;
-      process = m.process ∙ sym same.cpid;
-      caller = m.caller;
-      live = m.live;
-      user = same.cuid ∙ m.user;
-      group = same.cgid ∙ m.group;
-    }
+made-same s e id x y same m = grind (arith, common_steps)
 
 since-same : (o : Opening) (before : List Event) (id : ℕ) (x y : Segment) → IsSame x y → Since o (λ u e. IsMadeBy u e id x) (λ u e. StandsAs u id x) before → Since o (λ u e. IsMadeBy u e id y) (λ u e. StandsAs u id y) before
 since-same o before id x y same since =

@@ -44,12 +44,7 @@ hit-more i at b p v qs vs h = record { k = suc h.k; byte = h.byte; spot = h.spot
     later (suc j) q gt lt is s = h.last j q (omega (arith, gt)) (omega (arith, lt)) is s
 
 hit-first : (i at b : ℕ) (p : Place) (v : ℕ) (qs : List Place) (vs : List ℕ) → IsSpot i at p → v ≡ b → Miss i at qs vs → Hit i at b (p ∷ qs) (v ∷ vs)
-hit-first i at b p v qs vs s same miss =
-    record { k = 0; byte = ap (λ (n : ℕ). Some n) same; spot = p; is = refl; hits = s; last = later }
-  where
-    later : (j : ℕ) (q : Place) → 0 < j → j < length (v ∷ vs) → slice_get (p ∷ qs) j ≡ Some q → IsSpot i at q → ⊥
-    later zero q gt lt is t = omega (arith, gt)
-    later (suc j) q gt lt is t = miss j q (omega (arith, lt)) is t
+hit-first i at b p v qs vs s same miss = grind (arith, common_steps)
 
 miss-more : (i at : ℕ) (p : Place) (v : ℕ) (qs : List Place) (vs : List ℕ) → (IsSpot i at p → ⊥) → Miss i at qs vs → Miss i at (p ∷ qs) (v ∷ vs)
 miss-more i at p v qs vs other miss zero q lt is s = let same : p ≡ q = cc is in other (subst (IsSpot i at) (sym same) s)

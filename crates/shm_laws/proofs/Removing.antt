@@ -36,12 +36,7 @@ some-piece : (b : Bool) (n : ℕ) → b && (n == 0) ≡ false → b ≡ true →
 some-piece b n h marked = grind (arith, common_steps)
 
 pub marked-pieces : (s : Machine) → IsMachineSound s → MarkedHavePieces s
-marked-pieces s sound id x stands dest =
-    let is = stands-at s.table id x stands in
-    let own : identifier (id % 32768) (id / 32768) ≡ id = omega arith in
-    let none : x.dest && (attach_count s.runners (identifier (id % 32768) (id / 32768)) == 0) ≡ false =
-    sym (ap (orphan_in (id % 32768) s.runners) is) ∙ sound.orphans (id % 32768) (omega arith) in
-    some-piece x.dest (attach_count s.runners id) (rw own at none) dest
+marked-pieces s sound id x stands dest = grind (arith, common_steps)
 
 -- ONE SEGMENT IN ONE MOVE
 
@@ -69,19 +64,7 @@ module _ (s t : Machine) (e : Event) (sound : IsMachineSound s) (k : Moved s e t
   goes-now h = at-gone t.table id (id / 32768 + 1) None (after.at ∙ rw h refl) (omega arith)
 
   due : goes ≡ true → IsDue s e t id x
-  due h =
-      let parts = left-parts after.now.dest _ h in
-      let none : attach_count t.runners id ≡ 0 = rw own at parts.1 in
-      let dest : after.now.dest ≡ (names (removed e.call e.reply) id || x.dest) = after.dest ∙ ap (λ m. names (removed e.call e.reply) m || x.dest) own in
-      elim (cases_Bool (names (removed e.call e.reply) id)) [
-        | inl named ↦
-            let r = by_name named in
-            let c = removed-call e.call e.reply id r in
-            inl (record { call = c.0; reply = c.1; bare = ap (λ rs. attach_count rs id) (sym (same-runners r)) ∙ none })
-        | inr other ↦
-            let old : x.dest ≡ true = ap (λ b. b || x.dest) (sym other) ∙ sym dest ∙ parts.0 in
-            inr (record { marked = old; before = marked-pieces s sound id x stood old; after = none })
-      ]
+  due h = grind (arith, common_steps)
 
   pub just : IsGone t id → IsDue s e t id x
   just gone =

@@ -1,5 +1,6 @@
 -- Of legal histories without failures there is one for each opening and calls.
 use Rattle.std.proofs.Common.{◌≡◌, ℕ, ◌+◌, true, false, drop, List, [], ◌∷◌, Option, Some, None, refl, sym, ap, ◌∙◌, subst, arith, inl, inr, true≢false}
+use Rattle.std.proofs.lemmas.Grind.{common_steps}
 use Rattle.shm_base.specs.declared.call.Call.{Call}
 use Rattle.shm_base.specs.declared.call.Call.TheVariants.{Load}
 use Rattle.shm_base.specs.declared.call.Reply.TheVariants.{Bytes}
