@@ -1,27 +1,24 @@
 -- By how much each move changes how many pieces there are.
-use Rattle.std.proofs.Common.{◌≡◌, ◌≢◌, ◌⊎◌, ℕ, ◌+◌, ◌*◌, ◌<◌, ◌==◌, ℤ, pos, negsuc, Bool, true, false, not, if◌then◌else◌, List, [], ◌∷◌, get_or, Option, Some, None, slice_get, slice_set, refl, sym, ap, subst, ◌∙◌, inl, inr, arith, true≢false}
+use Rattle.std.proofs.Common.{◌≡◌, ◌≢◌, ◌⊎◌, ℕ, ◌+◌, ◌*◌, ◌<◌, ◌==◌, ℤ, pos, negsuc, Bool, true, false, not, if◌then◌else◌, List, [], ◌∷◌, Option, Some, None, slice_set, refl, sym, ap, subst, ◌∙◌, inl, inr, arith}
 use Rattle.std.proofs.lemmas.Grind.{common_steps}
 use Rattle.std.specs.Prelude.{filter}
 use Rattle.std.proofs.lemmas.List.Concat.{flat_map-cons}
-use Rattle.std.proofs.lemmas.Option.{none-some, slice_get-get_or}
+use Rattle.std.proofs.lemmas.Option.{none-some}
 use Rattle.shm_base.specs.declared.call.ShmidDs.{ShmidDs}
 use Rattle.shm_base.specs.declared.call.Call.{Call}
 use Rattle.shm_base.specs.declared.call.Call.TheVariants.{Shmat, Shmdt, Fork, Exec, Exit}
 use Rattle.shm_base.specs.declared.call.Call.TheVariants as calls
-use Rattle.shm_base.specs.declared.call.Reply.{Reply}
 use Rattle.shm_base.specs.declared.call.Reply.TheVariants.{Addr, Done, Refused}
 use Rattle.shm_base.specs.declared.call.Reply.TheVariants as replies
 use Rattle.shm_base.specs.declared.call.Event.{Event}
 use Rattle.shm_base.specs.declared.flags.AtFlags.{AtFlags}
-use Rattle.shm_base.specs.State.{Piece, Live, Unborn, Runner, Machine, pages_in}
+use Rattle.shm_base.specs.State.{Piece, Live, Runner, Machine, pages_in}
 use Rattle.shm_base.specs.Identifier.{Look, look}
 use Rattle.shm_base.specs.Space.{occupied, parts, cut, origin_of, is_named, without_named, pieces_of}
 use Rattle.shm_base.specs.Segments.{attach_count}
 use Rattle.shm_base.specs.Step.{Caller, Outcome, caller_of, acts, step_by, is_remap, is_rdonly, pieces_with, stat, gives}
 use Rattle.shm_base.specs.History.{is_refusal, IsMove}
-use Rattle.shm_attach.specs.Spaces.{life_in}
 use Rattle.shm_attach.specs.Views.{one_if}
-use Rattle.shm_attach.proofs.Callers.{first_runner, child_at}
 use Rattle.shm_attach.proofs.Processes.{one_more, pieces_of-inserted, pieces_of-filter}
 use Rattle.shm_segments.proofs.Entries.{sum-set}
 use Rattle.shm_laws.specs.Pieces.{held, hands_pieces, CountsPieces}

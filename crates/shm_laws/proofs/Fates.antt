@@ -1,5 +1,5 @@
 -- What becomes of each index of the table in a step, and of what is kept.
-use Rattle.std.proofs.Common.{◌≡◌, ◌≢◌, ◌⊎◌, ℕ, ◌/◌, ◌%◌, ◌<◌, ◌≤◌, ◌==◌, ◌&&◌, ◌||◌, pos, Bool, false, List, replicate, Option, Some, None, slice_get, refl, sym, ap, subst, ◌∙◌, inl, inr, arith, eq-eqb, ne_eqb}
+use Rattle.std.proofs.Common.{◌≡◌, ◌≢◌, ◌⊎◌, ℕ, ◌/◌, ◌%◌, ◌<◌, ◌≤◌, ◌==◌, ◌||◌, pos, Bool, false, List, replicate, Option, Some, None, slice_get, refl, sym, ap, subst, ◌∙◌, inl, inr, arith, eq-eqb, ne_eqb}
 use Rattle.std.proofs.lemmas.Grind.{common_steps}
 use Rattle.std.specs.Prelude.{option_map}
 use Rattle.std.proofs.lemmas.Bool.{cases_eq}
@@ -17,10 +17,10 @@ use Rattle.shm_segments.specs.Left.{orphan_in, orphan}
 use Rattle.shm_laws.specs.Identity.{IsSame}
 use Rattle.shm_laws.proofs.Turning.{same_refl, set_in-here, set_in-there, swept_entry, swept-get, Turned, unchanged, turned-over, turned-as, entry-none}
 use Rattle.shm_laws.proofs.Fresh.{IsEmpty, made-at}
-use Rattle.shm_laws.proofs.Looks.{holds, bare_entry, stands-at}
+use Rattle.shm_laws.proofs.Looks.{holds, stands-at}
 use Rattle.shm_laws.specs.Writing.{put, held_by}
 use Rattle.shm_laws.proofs.Refusing.{failure-removed, failure-put}
-use Rattle.shm_laws.proofs.Stepping.{Bare, StillTo, SweepTo, MakeTo, RemoveTo, IsIdle, Kind, over_put, overlay, MadeBy, made_by, Moved, removed, kind-acts, still}
+use Rattle.shm_laws.proofs.Stepping.{Bare, SweepTo, MakeTo, RemoveTo, IsIdle, Kind, over_put, overlay, MadeBy, made_by, Moved, removed, kind-acts, still}
 
 -- WHAT EACH MOVE IS
 

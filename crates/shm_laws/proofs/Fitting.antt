@@ -20,7 +20,7 @@ use Rattle.shm_laws.proofs.Accessing.{lies-in}
 use Rattle.shm_laws.proofs.Granting.{IsPieceGiven, Aligned, each-has, has-own, mine, each-start, given-move, aligned-move}
 use Rattle.shm_laws.proofs.Handing.{IsAligned}
 use Rattle.shm_laws.proofs.Naming.{Before, came-from}
-use Rattle.shm_laws.proofs.Piecing.{IsWhole, runner-count, whole-move, whole-start}
+use Rattle.shm_laws.proofs.Piecing.{IsWhole, whole-move, whole-start}
 use Rattle.shm_laws.proofs.Putting.{over-length}
 
 -- ONE SEGMENT UNDER ONE IDENTIFIER

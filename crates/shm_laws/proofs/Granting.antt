@@ -1,5 +1,5 @@
 -- Each piece goes back to a shmat that was granted, and each move keeps out who has no leave.
-use Rattle.std.proofs.Common.{◌≡◌, ◌⊎◌, ℕ, ◌+◌, ◌-◌, ◌*◌, ◌/◌, ◌%◌, ◌<◌, ℤ, pos, negsuc, Bool, true, false, not, List, [], ◌∷◌, ◌++◌, length, get_or, Option, Some, None, slice_get, slice_set, refl, sym, ap, subst, ◌∙◌, inl, inr, arith, true≢false}
+use Rattle.std.proofs.Common.{◌≡◌, ◌⊎◌, ℕ, ◌+◌, ◌*◌, ◌%◌, ◌<◌, ℤ, pos, negsuc, Bool, true, false, not, List, [], ◌∷◌, ◌++◌, length, get_or, Option, Some, None, slice_get, slice_set, refl, sym, ap, subst, ◌∙◌, inl, inr, arith, true≢false}
 use Rattle.std.specs.Prelude.{All, Contains}
 use Rattle.std.proofs.lemmas.Bool.{cases_Bool, cases_lt, lt-ltb, le-ltb}
 use Rattle.std.proofs.lemmas.Option.{none-some, slice_get_within, get_or_from_slice_get}
@@ -12,7 +12,7 @@ use Rattle.shm_base.specs.declared.call.Call.{Call}
 use Rattle.shm_base.specs.declared.call.Call.TheVariants.{Set, Rmid, Lock, Unlock, Load, Store, Xadd}
 use Rattle.shm_base.specs.declared.call.Reply.TheVariants.{Done}
 use Rattle.shm_base.specs.declared.call.Event.{Event}
-use Rattle.shm_base.specs.Access.{Place, covers, end_of, places, writable_places}
+use Rattle.shm_base.specs.Access.{Place, covers, places, writable_places}
 use Rattle.shm_base.specs.Permission.{owns}
 use Rattle.shm_base.specs.State.{Segment, Piece, Live, Runner, Machine, Opening, start_of, runner_at_start, pages_in}
 use Rattle.shm_base.specs.Identifier.{Look, Found, Removed, Invalid, look}

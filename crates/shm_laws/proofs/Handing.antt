@@ -1,8 +1,8 @@
 -- What each call does to the pieces of processes: nothing, or the caller attaches a segment, or loses pieces, or has a child.
-use Rattle.std.proofs.Common.{◌≡◌, ◌⊎◌, ℕ, suc, ◌+◌, ◌-◌, ◌*◌, ◌%◌, ◌==◌, ◌&&◌, ℤ, pos, negsuc, Bool, true, false, not, nat_le, nat_lt, if◌then◌else◌, List, [], ◌∷◌, length, map, get_or, Option, Some, None, slice_get, slice_set, refl, sym, ap, subst, ◌∙◌, inl, inr, arith, ne_eqb}
+use Rattle.std.proofs.Common.{◌≡◌, ◌⊎◌, ℕ, suc, ◌+◌, ◌-◌, ◌*◌, ◌%◌, ◌==◌, ◌&&◌, ℤ, pos, negsuc, Bool, true, false, not, nat_lt, if◌then◌else◌, List, [], ◌∷◌, length, map, get_or, Option, Some, None, slice_get, slice_set, refl, sym, ap, ◌∙◌, inl, inr, arith, ne_eqb}
 use Rattle.std.proofs.lemmas.Grind.{common_steps}
 use Rattle.std.specs.Prelude.{All, filter, find}
-use Rattle.std.proofs.lemmas.Bool.{cases_eq, cases_Bool, not-false, not-true, and_parts}
+use Rattle.std.proofs.lemmas.Bool.{cases_eq, not-false}
 use Rattle.std.proofs.lemmas.Option.{none-some}
 use Rattle.std.proofs.lemmas.List.Elements.{All-map}
 use Rattle.shm_base.specs.declared.errno.Errno.{Errno}
@@ -14,7 +14,7 @@ use Rattle.shm_base.specs.Access.{end_of}
 use Rattle.shm_base.specs.Permission.{grants}
 use Rattle.shm_base.specs.State.{Segment, Piece, Life, Live, Ended, Runner, Machine, pages_in}
 use Rattle.shm_base.specs.Identifier.{Look, Found, Removed, Invalid, identifier, destroyed_at, look}
-use Rattle.shm_base.specs.Space.{inside, occupied, choose, is_gap, first_chosen, last_address, origin_of, is_named}
+use Rattle.shm_base.specs.Space.{inside, occupied, choose, is_gap, first_chosen, origin_of, is_named}
 use Rattle.shm_base.specs.History.{is_refusal}
 use Rattle.shm_base.specs.Step.{refuses, creates, Caller, Outcome, caller_from, acts, at_wish, is_rnd, is_remap, pieces_with, with_pieces, attaches, attaches_chosen, attaches_fixed, attaches_found, shmat, detaches, forks, unborn_from}
 use Rattle.shm_life.proofs.Pieces.{all-cons, all-head, all-tail}
@@ -117,9 +117,7 @@ find-passes test (y ∷ ys) x found = let rest = find-passes test ys x in grind 
 
 -- what is chosen is free
 chosen-free : (ps : List Piece) (pages base : ℕ) → choose ps pages ≡ Some base → occupied ps base (base + 4096 * pages) ≡ false
-chosen-free ps pages base found =
-    let gap = find-passes (is_gap ps pages) (first_chosen ∷ map end_of ps) base found in
-    grind (arith, common_steps)
+chosen-free ps pages base found = grind (arith, common_steps, find-passes, map, arith)
 
 pub none-stay : (ps : List Piece) → [] ≡ filter (λ (p : Piece). false) ps
 none-stay [] = refl

@@ -1,5 +1,5 @@
 -- A call sees no byte that is hidden from its process.
-use Rattle.std.proofs.Common.{◌≡◌, ◌⊎◌, ℕ, ◌+◌, ◌-◌, ◌*◌, ◌/◌, ◌%◌, ◌^◌, ◌==◌, ◌&&◌, ℤ, Bool, true, false, not, nat_lt, if◌then◌else◌, List, [], ◌∷◌, length, replicate, Option, Some, None, slice_get, refl, sym, ap, subst, ◌∙◌, inl, inr, arith}
+use Rattle.std.proofs.Common.{◌≡◌, ◌⊎◌, ℕ, ◌+◌, ◌-◌, ◌*◌, ◌/◌, ◌%◌, ◌^◌, ◌==◌, ◌&&◌, ℤ, Bool, true, false, not, nat_lt, if◌then◌else◌, List, [], ◌∷◌, length, Option, Some, None, slice_get, refl, sym, ap, subst, ◌∙◌, inl, inr, arith}
 use Rattle.std.proofs.lemmas.Grind.{common_steps}
 use Rattle.std.specs.Int.{w64, to_le_bytes, from_le_bytes}
 use Rattle.std.proofs.lemmas.List.{length-replicate}
@@ -14,10 +14,10 @@ use Rattle.shm_base.specs.declared.call.Reply.TheVariants.{Addr, Bytes, Number, 
 use Rattle.shm_base.specs.declared.call.Event.{Event}
 use Rattle.shm_base.specs.Access.{Place, place, places, writable_places, stored}
 use Rattle.shm_base.specs.Permission.{grants}
-use Rattle.shm_base.specs.State.{Segment, Entry, Piece, Runner, Machine, Opening, pages_of, pages_in}
-use Rattle.shm_base.specs.Identifier.{Look, Found, Removed, Invalid, identifier, destroyed_in, destroyed_at, free_index, find_key, look}
+use Rattle.shm_base.specs.State.{Segment, Entry, Piece, Runner, Machine, Opening, pages_in}
+use Rattle.shm_base.specs.Identifier.{Look, Found, Removed, Invalid, identifier, destroyed_in, destroyed_at, find_key, look}
 use Rattle.shm_base.specs.Space.{cut_segments, choose, origin_of}
-use Rattle.shm_base.specs.Segments.{change, attached, marked, detach_all, swept, after_detach}
+use Rattle.shm_base.specs.Segments.{change, attached, detach_all, swept, after_detach}
 use Rattle.shm_base.specs.Step.{Outcome, gives, refuses, Caller, caller_of, with_pieces, with_end, segments_of, new_segment, creates_at, creates, gets, shmget, pieces_with, attaches, attaches_chosen, attaches_fixed, attaches_found, shmat, at_wish, detaches, forks, unborn_from, stat, controls, sets, removes, locks, unlocks, load, store, xadd, number_at, takes_away, acts, step_by, step}
 use Rattle.shm_base.specs.History.{is_refusal, is_failure, IsMove, IsHistory}
 use Rattle.shm_laws.specs.Standing.{Has}
@@ -68,18 +68,10 @@ module _ (hidden : ℕ → Bool) (s : Machine) (n : ℕ) (c : Caller) where
   new-zeros key size mode b = grind (arith, length-replicate {A = ℕ})
 
   out-creates_at : (key size mode : ℕ) (o : Option ℕ) → creates_at B n c key size mode o ≡ out hidden (creates_at s n c key size mode o)
-  out-creates_at key size mode o =
-      let same = reserved-veiled hidden T in
-      let zeros = new-zeros key size mode in
-      grind (arith, veiled-destroyed hidden T, made-veiled hidden T)
+  out-creates_at key size mode o = grind (arith, common_steps, reserved-veiled, new-zeros, arith, veiled-destroyed, made-veiled)
 
   out-creates : (key size mode : ℕ) → creates B n c key size mode ≡ out hidden (creates s n c key size mode)
-  out-creates key size mode =
-      let pages = reserved-veiled hidden T in
-      let count = count-veiled hidden T in
-      let free = free-veiled hidden 0 0 T in
-      let made = out-creates_at key size mode (free_index T) in
-      grind arith
+  out-creates key size mode = grind (arith, common_steps, reserved-veiled, count-veiled, free-veiled, out-creates_at, arith)
 
   out-gets : (key size mode : ℕ) (flags : GetFlags) (b : Bool) (l : Look) → gets B n c key size mode flags (veiled_look b l) ≡ out hidden (gets s n c key size mode flags l)
   out-gets key size mode flags b l = let made = out-creates key size mode in grind (arith, veiled-destroyed hidden T)
@@ -135,10 +127,7 @@ module _ (hidden : ℕ → Bool) (s : Machine) (n : ℕ) (c : Caller) where
   -- DETACHING, FORK AND CONTROL
 
   out-after : (rs : List Runner) (lost : List ℕ) → gives (after_detach B n c.pid rs lost) Done ≡ out hidden (gives (after_detach s n c.pid rs lost) Done)
-  out-after rs lost =
-      let detach = detach-veiled hidden n c.pid lost T in
-      let sweep = swept-veiled hidden 0 rs (detach_all n c.pid T lost) in
-      grind arith
+  out-after rs lost = grind (arith, common_steps, detach-veiled, swept-veiled, arith)
 
   out-detaches : (addr : ℕ) (o : Option Piece) → detaches B n c addr o ≡ out hidden (detaches s n c addr o)
   out-detaches addr None = refl
@@ -158,10 +147,7 @@ module _ (hidden : ℕ → Bool) (s : Machine) (n : ℕ) (c : Caller) where
   out-controls f g acts b l = grind (arith, acts)
 
   out-removes : (b : Bool) (i : ℕ) (x : Segment) → removes B i (veiled b x) ≡ out hidden (removes s i x)
-  out-removes b i x =
-      let marks = change-veiled hidden marked (λ b x. refl) T i in
-      let sweep = swept-veiled hidden 0 s.runners (change T i marked) in
-      grind arith
+  out-removes b i x = grind (arith, common_steps, change-veiled, refl, swept-veiled, arith)
 
   out-locks : (b : Bool) (i : ℕ) (x : Segment) → locks B i (veiled b x) ≡ out hidden (locks s i x)
   out-locks b i x =
@@ -287,9 +273,7 @@ module _ (hidden : ℕ → Bool) (s : Machine) (n : ℕ) (c : Caller) (hid : (a 
   hid-places a len qs found k q is = let spot = spot-at c.pieces a len qs found k q is in hid (a + k) q spot
 
   private-store : (a len : ℕ) (vs : List ℕ) (qs : List Place) → writable_places c.pieces a len ≡ Some qs → veil hidden (record s { table = stored s.table qs vs }) ≡ veil hidden s
-  private-store a len vs qs is =
-      let found = (writable-parts (places c.pieces a len) qs is).0 in
-      λ j. record s { table = stored-hidden hidden s.table qs vs (hid-places a len qs found) j }
+  private-store a len vs qs is = grind (arith, common_steps, writable-parts, stored-hidden, hid-places)
 
   private-acts : (call : Call) (r : Reach) → reach call ≡ Some r → veil hidden (acts s n c call).state ≡ veil hidden s
   private-acts (Load a len) r is = grind arith

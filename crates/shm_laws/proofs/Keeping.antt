@@ -1,6 +1,5 @@
 -- Every legal history keeps all laws.
-use Rattle.std.proofs.Common.{List, arith}
-use Rattle.std.proofs.lemmas.Grind.{common_steps}
+use Rattle.std.proofs.Common.{List}
 use Rattle.shm_base.specs.declared.call.Event.{Event}
 use Rattle.shm_base.specs.State.{Machine, Opening}
 use Rattle.shm_base.specs.History.{IsHistory}

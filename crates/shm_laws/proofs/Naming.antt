@@ -1,14 +1,11 @@
 -- An identifier names one segment.
-use Rattle.std.proofs.Common.{◌≡◌, ◌⊎◌, ℕ, ◌+◌, ◌/◌, ◌%◌, ◌<◌, ◌==◌, ◌&&◌, pos, List, [], ◌∷◌, ◌++◌, length, replicate, Option, Some, None, slice_get, refl, sym, ap, subst, ◌∙◌, inl, inr, arith}
+use Rattle.std.proofs.Common.{◌≡◌, ◌⊎◌, ℕ, ◌+◌, ◌/◌, ◌%◌, ◌<◌, pos, List, [], ◌∷◌, ◌++◌, length, replicate, Option, Some, None, slice_get, refl, sym, ap, subst, ◌∙◌, inl, inr, arith}
 use Rattle.std.proofs.lemmas.Grind.{common_steps}
-use Rattle.std.proofs.lemmas.Bool.{cases_Bool}
-use Rattle.std.proofs.lemmas.Option.{none-some}
-use Rattle.shm_base.specs.declared.call.Call.TheVariants.{Shmget}
 use Rattle.shm_base.specs.declared.call.Reply.TheVariants.{Id}
 use Rattle.shm_base.specs.declared.call.Event.{Event}
 use Rattle.shm_base.specs.State.{Segment, Entry, Runner, Machine, Opening, start_of}
 use Rattle.shm_base.specs.Identifier.{Invalid, identifier, destroyed_in, look}
-use Rattle.shm_base.specs.Segments.{attach_count, swept_at}
+use Rattle.shm_base.specs.Segments.{swept_at}
 use Rattle.shm_base.specs.Step.{Caller, caller_of}
 use Rattle.shm_base.specs.History.{IsMove, LeadsFrom, IsHistory}
 use Rattle.shm_segments.specs.Table.{segment_in}
@@ -19,7 +16,7 @@ use Rattle.shm_laws.proofs.Fresh.{IsEmpty}
 use Rattle.shm_laws.proofs.Turning.{same_refl, same_trans}
 use Rattle.shm_laws.proofs.Handing.{caller-at}
 use Rattle.shm_laws.proofs.Inducting.{GoesOn, at_all_times, since-map}
-use Rattle.shm_laws.proofs.Looks.{holds, bare_entry, stands-at, at-stands, at-gone, entry-gone}
+use Rattle.shm_laws.proofs.Looks.{holds, bare_entry, stands-at, at-gone, entry-gone}
 use Rattle.shm_laws.proofs.Stepping.{overlay, made_by, Moved, removed}
 use Rattle.shm_laws.proofs.Fates.{IsMachineSound, IsNew, stays, comes, sound-after, kind-move, holds-empty}
 use Rattle.shm_laws.proofs.Removing.{sound-start, stands-or-gone}
@@ -175,9 +172,7 @@ made-same : (s : Machine) (e : Event) (id : ℕ) (x y : Segment) → IsSame x y 
 made-same s e id x y same m = grind (arith, common_steps)
 
 since-same : (o : Opening) (before : List Event) (id : ℕ) (x y : Segment) → IsSame x y → Since o (λ u e. IsMadeBy u e id x) (λ u e. StandsAs u id x) before → Since o (λ u e. IsMadeBy u e id y) (λ u e. StandsAs u id y) before
-since-same o before id x y same since =
-    since-map o (λ u e. IsMadeBy u e id x) (λ u e. IsMadeBy u e id y) (λ u e. StandsAs u id x) (λ u e. StandsAs u id y)
-    (λ u e. made-same u e id x y same) (λ u e h. (h.0, h.1, same_trans h.0 x y h.2 same)) before since
+since-same o before id x y same since = grind (arith, common_steps, since-map, made-same, same_trans)
 
 record Known (o : Opening) (before : List Event) (s : Machine) : Type 0 where
   sound : IsMachineSound s

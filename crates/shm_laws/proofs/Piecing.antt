@@ -72,10 +72,7 @@ module _ (s : Machine) (c : Caller) (mine : (id : ℕ) → attach_count s.runner
 
   -- the process at a place gets pieces of no segments but some that stand
   set-first : (i : ℕ) (r : Runner) → ((id : ℕ) → attach_count s.runners id ≡ 0 → (pieces_of id r.pieces ≡ 0) ⊎ ((x : Segment) × Stands s id x)) → First s (slice_set s.runners i r)
-  set-first i r own id none =
-      let le = count-set s.runners i r id in
-      let had = own id none in
-      grind arith
+  set-first i r own id none = grind (arith, common_steps, count-set, arith)
 
   first-attaches : (call : Call) (o : Outcome) → Attaches s c call o → Gives o
   first-attaches call o k =

@@ -1,5 +1,5 @@
 -- A pager's failure is a refusal, and does nothing.
-use Rattle.std.proofs.Common.{◌≡◌, true, None, refl, sym, true≢false, arith}
+use Rattle.std.proofs.Common.{◌≡◌, true, None, arith}
 use Rattle.shm_base.specs.declared.errno.Errno.{Errno}
 use Rattle.shm_base.specs.declared.call.Call.{Call}
 use Rattle.shm_base.specs.declared.call.Reply.{Reply}

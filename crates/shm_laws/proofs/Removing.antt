@@ -1,24 +1,22 @@
 -- Each move destroys what is due, and what is marked has a piece.
 use Rattle.std.proofs.Common.{◌≡◌, ◌⊎◌, ℕ, suc, zero, ◌+◌, ◌/◌, ◌%◌, ◌≤◌, ◌==◌, ◌&&◌, ◌||◌, pos, Bool, true, false, List, [], ◌∷◌, map, Some, None, slice_get, refl, sym, ap, ◌∙◌, inl, inr, arith, eq-eqb}
 use Rattle.std.proofs.lemmas.Grind.{common_steps}
-use Rattle.std.proofs.lemmas.Bool.{cases_Bool, or_right}
+use Rattle.std.proofs.lemmas.Bool.{or_right}
 use Rattle.std.proofs.lemmas.Option.{none-some}
 use Rattle.shm_base.specs.declared.call.Process.{Process}
 use Rattle.shm_base.specs.declared.call.Event.{Event}
 use Rattle.shm_base.specs.State.{Segment, Runner, Machine, Opening, start_of, runner_at_start}
-use Rattle.shm_base.specs.Identifier.{identifier, look}
+use Rattle.shm_base.specs.Identifier.{identifier}
 use Rattle.shm_base.specs.Segments.{attach_count}
 use Rattle.shm_base.specs.Step.{caller_of}
 use Rattle.shm_base.specs.History.{IsHistory}
-use Rattle.shm_segments.specs.Left.{orphan_in}
-use Rattle.shm_life.proofs.Sweeping.{left-parts}
 use Rattle.shm_laws.specs.Standing.{Stands, IsGone}
 use Rattle.shm_laws.specs.Identity.{IsSame}
 use Rattle.shm_laws.specs.Removal.{MarkedHavePieces, IsDue, DestroysWhatIsDue, GoesWhenItMust}
 use Rattle.shm_laws.proofs.Inducting.{Keeps, each_move}
 use Rattle.shm_laws.proofs.Looks.{stands-at, at-stands, at-gone, not-both}
 use Rattle.shm_laws.proofs.Stepping.{Bare, overlay, made_by, Moved, removed}
-use Rattle.shm_laws.proofs.Fates.{IsMachineSound, names, Stays, stays, sound-after, kind-move, removed-call}
+use Rattle.shm_laws.proofs.Fates.{IsMachineSound, names, Stays, stays, sound-after, kind-move}
 
 -- WHERE A MACHINE STARTS
 
@@ -67,11 +65,7 @@ module _ (s t : Machine) (e : Event) (sound : IsMachineSound s) (k : Moved s e t
   due h = grind (arith, common_steps)
 
   pub just : IsGone t id → IsDue s e t id x
-  just gone =
-      elim (cases_Bool goes) [
-        | inl h ↦ due h
-        | inr h ↦ absurd (not-both (look t.table (pos id)) (id % 32768) after.now gone (stands-on h))
-      ]
+  just gone = grind (arith, common_steps, inl, due, inr, not-both, pos, after, stands-on)
 
   goes-by : after.now.dest ≡ true → attach_count t.runners id ≡ 0 → goes ≡ true
   goes-by dest none = rw (dest, own) (eq-eqb _ 0 none)
@@ -85,11 +79,7 @@ module _ (s t : Machine) (e : Event) (sound : IsMachineSound s) (k : Moved s e t
 
   -- what stood stands on as the same segment, or is gone
   pub stands-or-gone : ((y : Segment) × Stands t id y × IsSame x y) ⊎ IsGone t id
-  stands-or-gone =
-      elim (cases_Bool goes) [
-        | inl h ↦ inr (goes-now h)
-        | inr h ↦ inl (after.now, stands-on h, after.same)
-      ]
+  stands-or-gone = grind (arith, common_steps, inl, inr, goes-now, after, stands-on)
 
 -- WHOLE HISTORIES
 

@@ -5,7 +5,7 @@ use Rattle.shm_base.specs.declared.call.Call.{Call}
 use Rattle.shm_base.specs.declared.call.Call.TheVariants.{Load}
 use Rattle.shm_base.specs.declared.call.Reply.TheVariants.{Bytes}
 use Rattle.shm_base.specs.declared.call.Event.{Event}
-use Rattle.shm_base.specs.State.{Machine, Opening, start_of}
+use Rattle.shm_base.specs.State.{Machine, Opening}
 use Rattle.shm_base.specs.Step.{Caller, Outcome, acts, step_by, step, caller_of}
 use Rattle.shm_base.specs.History.{is_refusal, is_failure, IsExcused, IsMove, LeadsFrom, IsHistory}
 use Rattle.shm_history.specs.WorldState.{calls_of, failures_in}
@@ -78,10 +78,4 @@ one-way n s (e ∷ es) (f ∷ fs) t u h k a b same =
 
 -- every legal history is replayed
 pub replayed : (o : Opening) (events : List Event) (end : Machine) → IsHistory o events end → IsReplayed o events end
-replayed o events end h =
-    record {
-      legal = leads-undone 1 (start_of o) events end h;
-      clear = all-clear events;
-      same = none-undone events;
-      only = λ others other k clear calls. one-way 1 (start_of o) others (without_failures events) other end k (leads-undone 1 (start_of o) events end h) clear (all-clear events) calls;
-    }
+replayed o events end h = grind (arith, common_steps, leads-undone, all-clear, none-undone, one-way)

@@ -2,7 +2,6 @@
 use Rattle.std.proofs.Common.{◌≡◌, ◌⊎◌, ℕ, ◌+◌, ◌*◌, ◌%◌, ◌^◌, ◌≤◌, ◌==◌, ◌&&◌, ℤ, pos, negsuc, Bool, true, false, not, nat_le, nat_lt, if◌then◌else◌, List, [], ◌∷◌, length, replicate, get_or, Option, Some, None, slice_get, slice_set, refl, sym, ap, subst, ◌∙◌, inl, inr, arith}
 use Rattle.std.proofs.lemmas.Grind.{common_steps}
 use Rattle.shm_segments.proofs.Entries.{get-set_other}
-use Rattle.std.proofs.lemmas.Bool.{cases_eq}
 use Rattle.std.specs.Int.{w64, to_le_bytes}
 use Rattle.std.proofs.lemmas.Option.{slice_get-get_or}
 use Rattle.shm_base.specs.declared.errno.Errno.TheVariants.{Emfile}
@@ -36,11 +35,7 @@ abbrev pub Bare : List Runner → Type 0
 Bare rs = (k : ℕ) (r : Runner) → slice_get rs k ≡ Some r → r.life ≡ Unborn → r.pieces ≡ []
 
 pub bare-set : (rs : List Runner) (i : ℕ) (x : Runner) → Bare rs → (x.life ≡ Unborn → ⊥) → Bare (slice_set rs i x)
-bare-set rs i x h born k r is u =
-    elim (cases_eq i k) [
-      | inl same ↦ absurd (born (ap (λ (y : Runner). y.life) (set-got rs i x r (rw (← same) at is)) ∙ u))
-      | inr apart ↦ h k r (sym (get-set_other rs i k x apart) ∙ is) u
-    ]
+bare-set rs i x h born k r is u = grind (arith, common_steps, inl, ap, set-got, inr, sym, get-set_other)
 
 -- a child that may be born
 pub unborn-bare : (child i : ℕ) (rs : List Runner) → unborn_from 0 child rs ≡ Some i → Bare rs → (old : Runner) × (slice_get rs i ≡ Some old) × (old.pieces ≡ [])

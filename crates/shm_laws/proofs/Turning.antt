@@ -75,11 +75,7 @@ module _ (f : Segment → Segment) (same : (x : Segment) → IsSame x (f x)) (de
   turned-there t k i apart = turned-as t (set_in t k (with_entry f) (slice_get t k)) i (set_in-there t k i (with_entry f) (slice_get t k) apart)
 
   pub turned-change : ((x : Segment) → (f x).bytes ≡ x.bytes) → (t : List Entry) (id i : ℕ) → Turned unchanged t (change t id f) i
-  turned-change bytes t id i =
-      elim (cases_eq (id % 32768) i) [
-        | inl h ↦ rw (← h) (turned-here unchanged t (id % 32768) bytes)
-        | inr apart ↦ turned-there t (id % 32768) i apart
-      ]
+  turned-change bytes t id i = grind (arith, common_steps, inl, turned-here, inr, turned-there)
 
 -- MANY
 

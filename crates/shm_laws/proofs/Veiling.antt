@@ -1,7 +1,7 @@
 -- A table with the bytes of some segments hidden: what it counts and finds, and what becomes of it.
-use Rattle.std.proofs.Common.{◌≡◌, ℕ, suc, zero, ◌+◌, ◌/◌, ◌%◌, ℤ, pos, negsuc, Bool, true, false, is_none, cond, List, [], ◌∷◌, ◌++◌, length, replicate, Option, Some, None, slice_get, slice_set, refl, sym, ap, ◌∙◌, inl, inr, arith}
+use Rattle.std.proofs.Common.{◌≡◌, ℕ, suc, zero, ◌+◌, ◌/◌, ◌%◌, ℤ, pos, negsuc, Bool, true, false, is_none, cond, List, [], ◌∷◌, ◌++◌, length, Option, Some, None, slice_get, slice_set, refl, ap, ◌∙◌, inl, inr, arith}
 use Rattle.std.proofs.lemmas.Grind.{common_steps}
-use Rattle.std.specs.Prelude.{option_map, sum_by, is_some, slice_index}
+use Rattle.std.specs.Prelude.{option_map, sum_by, is_some}
 use Rattle.std.proofs.lemmas.Bool.{cases_Bool}
 use Rattle.std.proofs.lemmas.List.{length-replicate}
 use Rattle.std.proofs.lemmas.List.Sums.{sum_by-cons}
@@ -145,10 +145,7 @@ module _ (hidden : ℕ → Bool) where
   -- one entry, by a change that sees no bytes
   in-veiled : (t : List Entry) (i : ℕ) (g : Entry → Entry) (o : Option Entry) → slice_get t i ≡ o → ((e : Entry) → o ≡ Some e → g (veiled_entry hidden i e) ≡ veiled_entry hidden i (g e))
       → set_in (V 0 t) i g (slice_get (V 0 t) i) ≡ V 0 (set_in t i g (slice_get t i))
-  in-veiled t i g o is same =
-      let get = veiled-get t i in
-      let set = veiled-set0 i t in
-      grind (arith, is, same)
+  in-veiled t i g o is same = grind (arith, common_steps, veiled-get, veiled-set0, arith)
 
   pub change-veiled : (f : Segment → Segment) → ((b : Bool) (x : Segment) → f (veiled b x) ≡ veiled b (f x)) → (t : List Entry) (id : ℕ) → change (V 0 t) id f ≡ V 0 (change t id f)
   change-veiled f same t id = in-veiled t (id % 32768) (with_entry f) (slice_get t (id % 32768)) refl (λ e is. grind (arith, same))
@@ -167,12 +164,7 @@ module _ (hidden : ℕ → Bool) where
   swept-veiled k rs (e ∷ es) = λ j. swept-entry k rs e.destroyed e.segment j ∷ swept-veiled (k + 1) rs es j
 
   pub made-veiled : (t : List Entry) (i : ℕ) (x : Segment) → ((b : Bool) → veiled b x ≡ x) → with_segment (V 0 t) i x ≡ V 0 (with_segment t i x)
-  made-veiled t i x zeros =
-      let count = veiled-count 0 t in
-      let last = veiled-snoc 0 t (record { destroyed = 0; segment = Some x }) in
-      let set = veiled-set0 i t (record { destroyed = destroyed_at t i; segment = Some x }) in
-      let same = veiled-destroyed t i in
-      grind (arith, zeros)
+  made-veiled t i x zeros = grind (arith, common_steps, veiled-count, veiled-snoc, veiled-set0, veiled-destroyed, arith)
 
   -- BYTES THAT ARE SEEN
 
@@ -184,9 +176,7 @@ module _ (hidden : ℕ → Bool) where
   seen-bytes i o clear = grind arith
 
   pub byte-veiled : (t : List Entry) (q : Place) → Seen t q → byte_at (V 0 t) q ≡ byte_at t q
-  byte-veiled t q clear =
-      let i = q.seg % 32768 in
-      ap (λ o. slice_index (bytes_at_entry o) q.at) (veiled-get t i) ∙ ap (λ bs. slice_index bs q.at) (seen-bytes i (slice_get t i) clear)
+  byte-veiled t q clear = grind (arith, common_steps, ap, veiled-get, seen-bytes, slice_get)
 
   pub loaded-veiled : (t : List Entry) (qs : List Place) → ((k : ℕ) (q : Place) → slice_get qs k ≡ Some q → Seen t q) → loaded (V 0 t) qs ≡ loaded t qs
   loaded-veiled t [] clear = refl
@@ -212,12 +202,7 @@ module _ (hidden : ℕ → Bool) where
   Hid t q = hidden (identifier (q.seg % 32768) (destroyed_at t (q.seg % 32768))) ≡ true
 
   byte-hidden : (t : List Entry) (q : Place) (v : ℕ) → Hid t q → V 0 (with_byte t q v) ≡ V 0 t
-  byte-hidden t q v hid =
-      let i = q.seg % 32768 in
-      let get = veiled-get t i in
-      let set = λ (e : Entry). veiled-set0 i t (entry_byte_set q.at v e) in
-      let long = λ (x : Segment). length-slice_set x.bytes q.at v in
-      grind (arith, hid, set, long, set-same (V 0 t) i)
+  byte-hidden t q v hid = grind (arith, common_steps, veiled-get, veiled-set0, length-slice_set, arith, set-same)
 
   pub stored-hidden : (t : List Entry) (qs : List Place) (vs : List ℕ) → ((k : ℕ) (q : Place) → slice_get qs k ≡ Some q → Hid t q) → V 0 (stored t qs vs) ≡ V 0 t
   stored-hidden t [] vs hid = refl
