@@ -1,16 +1,16 @@
 -- The table of each piece: what a change of the pieces and of the tables leaves.
-use Rattle.std.proofs.Common.{◌≡◌, ◌≢◌, inl, inr, ℕ, zero, suc, ◌+◌, ◌-◌, ◌/◌, ◌<◌, ◌≤◌, ◌==◌, ◌&&◌, Bool, true, false, nat_lt, List, [], ◌∷◌, length, filter, get_or, slice_get, Option, Some, None, refl, ap, sym, subst, ◌∙◌, arith}
+use Rattle.std.proofs.Common.{◌≡◌, ◌≢◌, inl, inr, ℕ, zero, suc, ◌+◌, ◌<◌, ◌≤◌, ◌==◌, ◌&&◌, Bool, true, false, nat_lt, List, [], ◌∷◌, length, filter, get_or, slice_get, Option, Some, None, refl, ap, sym, subst, ◌∙◌, arith}
 use Rattle.std.proofs.lemmas.Grind.{common_steps}
 use Rattle.std.specs.Prelude.{All}
-use Rattle.std.proofs.lemmas.Bool.{cases_lt, cases_Bool, lt-ltb, le-ltb}
+use Rattle.std.proofs.lemmas.Bool.{cases_Bool}
 use Rattle.std.proofs.lemmas.Option.{none-some, slice_get_cases}
-use Rattle.std.proofs.lemmas.List.Elements.{All-append, All-nil, All-cons, All-head, All-tail, All-filter}
+use Rattle.std.proofs.lemmas.List.Elements.{All-append, All-cons, All-head, All-tail, All-filter}
 use Rattle.std.proofs.lemmas.List.{length-map}
 use Rattle.indexmap.specs.IndexMap.{set_value_at}
 use Rattle.slab.specs.Slab.{Slab, get}
 use Rattle.shm_base.specs.State as flat
 use Rattle.shm_base.specs.Access.{end_of}
-use Rattle.shm_base.specs.Space.{meets, pieces_of}
+use Rattle.shm_base.specs.Space.{pieces_of}
 use Rattle.shm_areas.specs.declared.piece.Piece.{Piece}
 use Rattle.shm_areas.specs.Arranged.{bare, bare_all}
 use Rattle.shm_areas.specs.Edit.{kept_inserted, kept_below, kept_above, kept_parts, kept_cut}
@@ -93,34 +93,13 @@ module _ (t : Slab Entry) where
   held-filter f ps all = All-filter f (IsHeld t) ps all
 
   held-below : (from : ℕ) (p : Piece) → from < end_of (bare p) → IsHeld t p → All (IsHeld t) (kept_below from p)
-  held-below from p ends own =
-      elim (cases_lt p.base from) [
-        | inl b ↦
-            let fewer : p.first_page + (from - p.base) / 4096 ≤ p.first_page + p.pages = omega (arith, b, ends) in
-            rw (lt-ltb p.base from b) (All-cons (IsHeld t) (record p { pages = (from - p.base) / 4096 }) [] (record { seg = own.seg; pages = omega (arith, fewer, own.pages) }) (All-nil (IsHeld t)))
-        | inr b ↦ rw (le-ltb p.base from b) (All-nil (IsHeld t))
-      ]
+  held-below from p ends own = grind (arith, common_steps)
 
   held-above : (to : ℕ) (p : Piece) → p.base < to → IsHeld t p → All (IsHeld t) (kept_above to p)
-  held-above to p begins own =
-      elim (cases_lt to (end_of (bare p))) [
-        | inl b ↦
-            let fewer : (p.first_page + (to - p.base) / 4096) + (end_of (bare p) - to) / 4096 ≤ p.first_page + p.pages = omega (arith, b, begins) in
-            let q : Piece =
-            record { base = to; seg = p.seg; first_page = p.first_page + (to - p.base) / 4096; pages = (end_of (bare p) - to) / 4096; writable = p.writable; key = p.key } in
-            rw (lt-ltb to (end_of (bare p)) b) (All-cons (IsHeld t) q [] (record { seg = own.seg; pages = omega (arith, fewer, own.pages) }) (All-nil (IsHeld t)))
-        | inr b ↦ rw (le-ltb to (end_of (bare p)) b) (All-nil (IsHeld t))
-      ]
+  held-above to p begins own = grind (arith, common_steps)
 
   held-parts : (from to : ℕ) (p : Piece) → IsHeld t p → All (IsHeld t) (kept_parts from to p)
-  held-parts from to p own =
-      elim (cases_Bool (meets from to (bare p))) [
-        | inl m ↦
-            rw m
-            (All-append (IsHeld t) (kept_below from p) (kept_above to p)
-            (held-below from p (grind (arith, common_steps, m)) own) (held-above to p (grind (arith, common_steps, m)) own))
-        | inr m ↦ rw m (All-cons (IsHeld t) p [] own (All-nil (IsHeld t)))
-      ]
+  held-parts from to p own = grind (arith, common_steps)
 
   pub held-cut : (from to : ℕ) (ps : List Piece) → All (IsHeld t) ps → All (IsHeld t) (kept_cut from to ps)
   held-cut from to [] all = all

@@ -2,7 +2,6 @@
 use Rattle.std.proofs.Common.{◌≡◌, ◌≢◌, ℕ, ◌<◌, List, length, get_or, Option, Some, None, refl, sym, ◌∙◌, arith}
 use Rattle.std.proofs.lemmas.Grind.{common_steps}
 use Rattle.std.proofs.lemmas.Option.{none-some}
-use Rattle.std.proofs.lemmas.List.{get_or-set_same, get_or-set_other}
 use Rattle.slab.specs.Slab.{Slab, get, with_value, Updates}
 use Rattle.shm_base.specs.declared.paging.PageRef.{PageRef}
 use Rattle.shm_attach.specs.declared.tables.Tables.{Tables}
@@ -15,18 +14,11 @@ within : {X : Type 0} (xs : List (Option X)) (k : ℕ) (x : X) → get_or xs k N
 within xs k x at = grind (arith, common_steps)
 
 pub update-value : (s : Slab Entry) (key : ℕ) (e v : Entry) → get s key ≡ Some e → Updates s (with_value s key v) key (Some v)
-update-value s key e v at =
-    record {
-      changed = get_or-set_same s.slots key (Some v) None (within s.slots key e at);
-      others = λ other apart. get_or-set_other s.slots key other (Some v) None apart;
-    }
+update-value s key e v at = grind (arith, common_steps)
 
 module _ (t : Tables) (key : ℕ) (e v : Entry) (tied : IsTied t) (at : get t.slab key ≡ Some e) (rest : v ≡ record e { frames = v.frames }) where
   same : (k : ℕ) → (seg_in (get (with_value t.slab key v) k) ≡ seg_in (get t.slab k)) × (count_in (get (with_value t.slab key v) k) ≡ count_in (get t.slab k))
-  same k =
-      let up = update-value t.slab key e v at in
-      let other = up.others k in
-      grind (arith, up.changed, at, rest)
+  same k = grind (arith, common_steps)
 
   counted-same : (o : Option ℕ) → counted_under (with_value t.slab key v) o ≡ counted_under t.slab o
   counted-same None = refl
