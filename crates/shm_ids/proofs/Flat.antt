@@ -165,9 +165,7 @@ module _ {T : Type 0} (make : ℕ → Row T → Segment) where
 
   -- the flat machine looks at the index in an identifier alone
   pub change-index : (table : List FlatEntry) (id : ℕ) (f : Segment → Segment) → flat_segments.change table (id % 32768) f ≡ flat_segments.change table id f
-  change-index table id f =
-      let same : id % 32768 % 32768 ≡ id % 32768 = omega arith in
-      ap (λ i. set_in table i (flat_segments.with_entry f) (slice_get table i)) same
+  change-index table id f = grind (arith, common_steps)
 
 -- two ways of showing rows that agree on those of a table
 module _ {T : Type 0} (make made : ℕ → Row T → Segment) where

@@ -42,16 +42,11 @@ module _ {T : Type 0} where
 
   -- what is found under the identifier that an index has now
   pub look-id_at : (t : List (Entry T)) (i : ℕ) → i < 32768 → look t (id_at t i) ≡ look_row (entry_at t i).row
-  look-id_at t i small =
-      let d = (entry_at t i).destroyed in
-      rw (identifier-mod i d small, identifier-div i d small) (look_entry-own (entry_at t i))
+  look-id_at t i small = grind (arith, common_steps)
 
   -- a row that is found by its key is live
   pub look-found : {S : Type 0} (t : List (Entry T)) (first key i : ℕ) (keys : IndexMap ℕ ℕ S) → Sound t first keys → get nat_eq keys key ≡ Some i → IsOk (look t (id_at t i))
-  look-found t first key i keys s got =
-      let there = s.keyed.found key i got in
-      let same = look-id_at t i (named t first key i keys s got).small in
-      grind arith
+  look-found t first key i keys s got = grind (arith, common_steps)
 
   -- a live identifier is that of its index
   pub live_number : (t : List (Entry T)) (id : ℤ) → IsOk (look t id) → identifier (index_of id) (entry_at t (index_of id)).destroyed ≡ number_of id
@@ -65,13 +60,4 @@ module _ {T : Type 0} where
     pub own : identifier (n % 32768) (entry_at t (n % 32768)).destroyed ≡ n
 
   pub live_row : (t : List (Entry T)) (n : ℕ) (v : T) → look t (pos n) ≡ Ok v → LiveRow t n v
-  live_row t n v looked =
-      let ok : IsOk (look t (pos n)) = rw looked refl in
-      let l = live_at t (pos n) ok in
-      let value : l.row.value ≡ v = cc (l.looked, looked) in
-      let key : key_at t (n % 32768) ≡ l.row.key = ap row_key l.there in
-      record {
-        within = l.within;
-        there = l.there ∙ ap (λ w. Some (record { key = l.row.key; value = w })) value ∙ ap (λ k. Some (record { key = k; value = v })) (sym key);
-        own = live_number t (pos n) ok;
-      }
+  live_row t n v looked = grind (arith, common_steps)
