@@ -1,5 +1,6 @@
 -- An access within one page asks for a run of one piece; one over two pages asks for the places of both.
 use Rattle.std.proofs.Common.{◌≡◌, inl, inr, ℕ, zero, suc, ◌+◌, ◌-◌, ◌*◌, ◌%◌, ◌<◌, ◌≤◌, Bool, true, false, not, ◌&&◌, List, [], ◌∷◌, ◌++◌, map, Option, Some, None, option_map, refl, ap, sym, subst, ◌∙◌, arith}
+use Rattle.std.proofs.lemmas.Grind.{common_steps}
 use Rattle.std.specs.Prelude.{All}
 use Rattle.std.proofs.lemmas.Bool.{cases_Bool}
 use Rattle.std.proofs.lemmas.Option.{none-some}
@@ -19,14 +20,10 @@ both (Some xs) None = None
 both (Some xs) (Some ys) = Some (xs ++ ys)
 
 both-nil : (o : Option (List Place)) → both (Some []) o ≡ o
-both-nil None = refl
-both-nil (Some ys) = refl
+both-nil o = grind arith
 
 joined-both : (p : Option Place) (x y : Option (List Place)) → joined p (both x y) ≡ both (joined p x) y
-joined-both None x y = refl
-joined-both (Some p) None y = refl
-joined-both (Some p) (Some xs) None = refl
-joined-both (Some p) (Some xs) (Some ys) = refl
+joined-both p x y = grind arith
 
 places-sum : (ps : List Piece) (a n m : ℕ) → places ps a (n + m) ≡ both (places ps a n) (places ps (a + n) m)
 places-sum ps a zero m =
@@ -36,29 +33,18 @@ places-sum ps a zero m =
 places-sum ps a (suc n) m =
     let next : a + suc n ≡ (a + 1) + n = omega arith in
     let more : suc n + m ≡ suc (n + m) = omega arith in
-    rw (next, more) (ap (joined (place ps a)) (places-sum ps (a + 1) n m) ∙ joined-both (place ps a) (places ps (a + 1) n) (places ps ((a + 1) + n) m))
+    let rest = places-sum ps (a + 1) n m in
+    rw (next, more) (grind (arith, joined-both))
 
 all_writable-append : (xs ys : List Place) → all_writable (xs ++ ys) ≡ (all_writable xs && all_writable ys)
 all_writable-append [] ys = refl
-all_writable-append (x ∷ xs) ys =
-    elim (cases_Bool x.writable) [
-      | inl h ↦ rw h (all_writable-append xs ys)
-      | inr h ↦ rw h refl
-    ]
+all_writable-append (x ∷ xs) ys = let rest = all_writable-append xs ys in grind (arith, common_steps)
 
 only_writable-both : (x y : Option (List Place)) → only_writable (both x y) ≡ both (only_writable x) (only_writable y)
-only_writable-both None y = refl
-only_writable-both (Some xs) None = elim (cases_Bool (all_writable xs)) [ inl h ↦ rw h refl | inr h ↦ rw h refl ]
-only_writable-both (Some xs) (Some ys) =
-    elim (cases_Bool (all_writable xs)) [
-      | inl h ↦ elim (cases_Bool (all_writable ys)) [ inl k ↦ rw (all_writable-append xs ys, h, k) refl | inr k ↦ rw (all_writable-append xs ys, h, k) refl ]
-      | inr h ↦ rw (all_writable-append xs ys, h) refl
-    ]
+only_writable-both x y = grind (arith, all_writable-append)
 
 map-both : (x y : Option (List Place)) → option_map (map unmarked) (both x y) ≡ both (option_map (map unmarked) x) (option_map (map unmarked) y)
-map-both None y = refl
-map-both (Some xs) None = refl
-map-both (Some xs) (Some ys) = ap (λ (zs : List Place). Some zs) (map-append unmarked xs ys)
+map-both x y = grind (arith, map-append unmarked)
 
 pub wanted_in-sum : (w : Bool) (ps : List Piece) (a n m : ℕ) → wanted_in w ps a (n + m) ≡ both (wanted_in w ps a n) (wanted_in w ps (a + n) m)
 wanted_in-sum false ps a n m = ap (option_map (map unmarked)) (places-sum ps a n m) ∙ map-both (places ps a n) (places ps (a + n) m)
@@ -112,23 +98,16 @@ wanted_in-run true ps p a n may le all =
 -- an address without a piece
 pub wanted_in-none : (w : Bool) (ps : List Piece) (a n : ℕ) → 1 ≤ n → covering a ps ≡ None → wanted_in w ps a n ≡ None
 wanted_in-none w ps a zero some none = absurd (omega arith)
-wanted_in-none false ps a (suc n) some none =
+wanted_in-none w ps a (suc n) some none =
     let here : place ps a ≡ None = place_covering a ps ∙ ap (option_map (λ (q : Piece). place_by q a)) none in
-    rw here refl
-wanted_in-none true ps a (suc n) some none =
-    let here : place ps a ≡ None = place_covering a ps ∙ ap (option_map (λ (q : Piece). place_by q a)) none in
-    rw here refl
+    grind arith
 
 -- a write through a piece that is read-only
 pub wanted_in-readonly : (ps : List Piece) (p : Piece) (a n : ℕ) → 1 ≤ n → covering a ps ≡ Some p → p.writable ≡ false → wanted_in true ps a n ≡ None
 wanted_in-readonly ps p a zero some found only = absurd (omega arith)
 wanted_in-readonly ps p a (suc n) some found only =
     let here : place ps a ≡ Some (place_by p a) = place_covering a ps ∙ ap (option_map (λ (q : Piece). place_by q a)) found in
-    rw here (rest (places ps (a + 1) n))
-  where
-    rest : (o : Option (List Place)) → option_map (map unmarked) (only_writable (joined (Some (place_by p a)) o)) ≡ None
-    rest None = refl
-    rest (Some xs) = rw only refl
+    grind arith
 
 -- THE PIECE OF AN ADDRESS
 
@@ -143,12 +122,10 @@ covering-passes P a (q ∷ ps) p all found =
 
 -- the addresses of a page lie on one side of a whole page's boundary
 pub in_page : (base pages a b n : ℕ) → base % 4096 ≡ 0 → base ≤ a → a < base + 4096 * pages → a % 4096 + n ≤ 4096 → b < a + n → b < base + 4096 * pages
-in_page base pages a b n aligned from to page lt = omega (arith, aligned, from, to, page, lt)
+in_page base pages a b n aligned from to page lt = omega arith
 
 pub from_not : (b : Bool) → not b ≡ true → b ≡ false
-from_not true h = sym h
-from_not false h = refl
+from_not b h = grind arith
 
 pub from_not_false : (b : Bool) → not b ≡ false → b ≡ true
-from_not_false true h = refl
-from_not_false false h = sym h
+from_not_false b h = grind arith

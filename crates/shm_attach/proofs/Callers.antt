@@ -1,12 +1,13 @@
 -- Which process a pid names, and what changes of its pieces are for the flat machine.
-use Rattle.std.proofs.Common.{◌≡◌, ◌≢◌, ◌⊎◌, inl, inr, ℕ, zero, suc, ◌+◌, ◌<◌, ◌≤◌, false, nat_eq, ◌==◌, if◌then◌else◌, List, [], ◌∷◌, length, map, get_or, set, Option, Some, None, slice_get, refl, ap, sym, subst, ◌∙◌, arith, eq-eqb, ne_eqb, length-set}
+use Rattle.std.proofs.Common.{◌≡◌, ◌≢◌, ◌⊎◌, inl, inr, ℕ, zero, suc, ◌+◌, ◌<◌, ◌≤◌, false, nat_eq, ◌==◌, if◌then◌else◌, List, [], ◌∷◌, length, map, get_or, Option, Some, None, slice_get, refl, ap, sym, subst, ◌∙◌, arith, eq-eqb, ne_eqb, length-set}
+use Rattle.std.proofs.lemmas.Grind.{common_steps}
 use Rattle.std.specs.Prelude.{position}
 use Rattle.std.specs.List.{position_or_len}
 use Rattle.std.proofs.lemmas.Bool.{cases_eq, cases_lt, lt-ltb, eqb-true, eqb-false}
-use Rattle.std.proofs.lemmas.List.{length-map, get_or-set_same, set-set}
+use Rattle.std.proofs.lemmas.List.{length-map, set-set, get_or-map}
 use Rattle.std.proofs.lemmas.List.Quantifiers.{position-Some}
 use Rattle.std.proofs.lemmas.List.Sums.{fails_before_first}
-use Rattle.std.proofs.lemmas.Option.{none-some, slice_get-get_or, slice_get_within, get_or_from_slice_get}
+use Rattle.std.proofs.lemmas.Option.{none-some, slice_get-get_or, slice_get_within, get_or_from_slice_get, gets}
 use Rattle.shm_base.specs.declared.owner.Cred.{Cred}
 use Rattle.shm_base.specs.State as flat
 use Rattle.shm_base.specs.Step.{Caller as FlatCaller, caller_by, caller_from, is_unborn, unborn_from, with_pieces, with_end}
@@ -15,8 +16,8 @@ use Rattle.shm_attach.specs.declared.process.Caller.{Caller}
 use Rattle.shm_attach.specs.declared.process.Life.{Life}
 use Rattle.shm_attach.specs.declared.process.Life.TheVariants.{Unborn, Live, Ended}
 use Rattle.shm_attach.specs.declared.process.Runner.{Runner}
-use Rattle.shm_attach.specs.Views.{life_view, runner_view, runners_view, with_own, with_pieces_at, with_other_life, with_life_at}
-use Rattle.shm_attach.specs.Spaces.{pieces_at, life_at, life_in, caller_seen, IsCaller}
+use Rattle.shm_attach.specs.Views.{life_view, runner_view, runners_view, with_own, with_pieces_at, with_life_at}
+use Rattle.shm_attach.specs.Spaces.{pieces_at, life_at, caller_seen, IsCaller}
 use Rattle.shm_attach.proofs.Keeping.{life_at-get_or}
 
 -- what a list answers past its end
@@ -73,23 +74,21 @@ record IsFirstOf {X : Type 0} (f : ℕ → flat.Runner → Option X) (n pid : �
 
 first-there : {X : Type 0} (f : ℕ → flat.Runner → Option X) (n pid : ℕ) (rs : List flat.Runner) (x : X) → first f n pid rs ≡ Some x → IsFirstOf f n pid rs x
 first-there f n pid [] x found = absurd (none-some x found)
-first-there f n pid (r ∷ rs) x found = by (cases_eq r.pid pid) (first-there f (n + 1) pid rs x)
-  where
-    by : (r.pid ≡ pid) ⊎ (r.pid ≢ pid) → (first f (n + 1) pid rs ≡ Some x → IsFirstOf f (n + 1) pid rs x) → IsFirstOf f n pid (r ∷ rs) x
-    by (inl same) more =
-        let here : n + 0 ≡ n = omega arith in
-        record { place = 0; within = omega arith; named = same; said = rw here (rw (eq-eqb r.pid pid same) at found) }
-    by (inr other) more =
-        let t = more (rw (ne_eqb r.pid pid other) at found) in
-        let next : n + suc t.place ≡ (n + 1) + t.place = omega arith in
-        record { place = suc t.place; within = omega (arith, t.within); named = t.named; said = rw next t.said }
+first-there f n pid (r ∷ rs) x found =
+    elim (cases_eq r.pid pid) [
+      | inl same ↦
+          let here : n + 0 ≡ n = omega arith in
+          record { place = 0; within = omega arith; named = same; said = rw here (rw (eq-eqb r.pid pid same) at found) }
+      | inr other ↦
+          let t = first-there f (n + 1) pid rs x (rw (ne_eqb r.pid pid other) at found) in
+          let next : n + suc t.place ≡ (n + 1) + t.place = omega arith in
+          record { place = suc t.place; within = omega (arith, t.within); named = t.named; said = rw next t.said }
+    ]
 
 -- THE PLACE THAT A LOOK-UP ANSWERS
 
 key-at : (es : List (ℕ × Runner)) (k : ℕ) → k < length es → get_or (keys_in es) k 0 ≡ (get_or es k nobody).0
-key-at [] k l = absurd (omega arith)
-key-at (e ∷ es) zero l = refl
-key-at (e ∷ es) (suc k) l = key-at es k (omega arith)
+key-at es k l = grind (arith, common_steps, get_or-map)
 
 -- the place that a look-up by pid answers
 record IsFirst (pid i : ℕ) (es : List (ℕ × Runner)) : Type 0 where
@@ -148,11 +147,7 @@ record IsLive (i pid : ℕ) (ps : List flat.Piece) (l : flat.Life) (k : FlatCall
   pieces : ps ≡ k.pieces
 
 live_is : (i pid : ℕ) (ps : List flat.Piece) (l : flat.Life) (k : FlatCaller) → caller_by i pid ps l ≡ Some k → IsLive i pid ps l k
-live_is i pid ps flat.Unborn k said = absurd (none-some k said)
-live_is i pid ps flat.Ended k said = absurd (none-some k said)
-live_is i pid ps (flat.Live cred) k said =
-    let is : record { index = i; pid = pid; cred = cred; pieces = ps } ≡ k = cc said in
-    record { at = ap (λ (c : FlatCaller). c.index) is; life = ap (λ (c : FlatCaller). flat.Live c.cred) is; pieces = ap (λ (c : FlatCaller). c.pieces) is }
+live_is i pid ps l k said = record { at = grind arith; life = grind arith; pieces = grind arith }
 
 -- the process of a caller
 pub caller_there : (c : Caller) (rs : List flat.Runner) → IsCaller c rs → slice_get rs c.index ≡ Some (record { pid = c.pid; life = flat.Live c.cred; pieces = pieces_at rs c.index })
@@ -162,9 +157,7 @@ caller_there c rs is =
     let l = live_is (0 + t.place) c.pid r.pieces r.life (caller_seen c rs) t.said in
     let place : t.place ≡ c.index = omega (arith, l.at) in
     let own : r ≡ record { pid = c.pid; life = flat.Live c.cred; pieces = pieces_at rs c.index } =
-    ap (λ pid. record { pid = pid; life = r.life; pieces = r.pieces }) t.named
-    ∙ ap (λ life. record { pid = c.pid; life = life; pieces = r.pieces }) l.life
-    ∙ ap (λ ps. record { pid = c.pid; life = flat.Live c.cred; pieces = ps }) l.pieces in
+    grind arith in
     rw place at (slice_get-get_or rs t.place first_runner t.within ∙ ap (λ (x : flat.Runner). Some x) own)
 
 -- its pieces are changed as the flat machine changes them
@@ -177,21 +170,14 @@ pub with_pieces-of : (c : Caller) (rs shown : List flat.Runner) (f : List flat.P
 with_pieces-of c rs shown f same is = ap (λ (xs : List flat.Runner). with_pieces_at xs c.index f) same ∙ sym (with_pieces-at c shown f is)
 
 pub not_live : (i pid : ℕ) (ps : List flat.Piece) (l : Life) → ((cred : Cred) → l ≡ Live cred → ⊥) → caller_by i pid ps (life_view l) ≡ None
-not_live i pid ps Unborn never = refl
-not_live i pid ps (Live cred) never = absurd (never cred refl)
-not_live i pid ps Ended never = refl
+not_live i pid ps l never = grind arith
 
 pub caller_within : (c : Caller) (es : List (ℕ × Runner)) → IsCaller c (runners_view es) → c.index < length es
 caller_within c es is = let within = slice_get_within (runners_view es) c.index _ (caller_there c (runners_view es) is) in omega (arith, within, length-map es runner_view)
 
 -- the caller ended, once its pieces are gone
 pub with_end-at : (c : Caller) (rs : List flat.Runner) → IsCaller c rs → with_life_at (with_pieces rs (caller_seen c rs) []) c.index flat.Ended ≡ with_end rs (caller_seen c rs)
-with_end-at c rs is =
-    let lt : c.index < length rs = slice_get_within rs c.index _ (caller_there c rs is) in
-    let live : flat.Runner = record { pid = c.pid; life = flat.Live c.cred; pieces = [] } in
-    let there : slice_get (set rs c.index live) c.index ≡ Some live =
-    slice_get-get_or (set rs c.index live) c.index live (omega (arith, lt, length-set rs c.index live)) ∙ ap (λ (r : flat.Runner). Some r) (get_or-set_same rs c.index live live lt) in
-    ap (with_other_life (set rs c.index live) c.index flat.Ended) there ∙ set-set rs c.index live (record { pid = c.pid; life = flat.Ended; pieces = [] })
+with_end-at c rs is = let there = caller_there c rs is in grind (arith, common_steps, gets, set-set)
 
 -- its place stays that of a process
 pub length-with_pieces : (c : Caller) (rs : List flat.Runner) (ps : List flat.Piece) → length (with_pieces rs (caller_seen c rs) ps) ≡ length rs
@@ -199,25 +185,19 @@ length-with_pieces c rs ps = length-set rs c.index (record { pid = c.pid; life =
 
 -- it was born
 pub caller_born : (c : Caller) (rs : List flat.Runner) → IsCaller c rs → life_at rs c.index ≢ flat.Unborn
-caller_born c rs is none =
-    let live : life_at rs c.index ≡ flat.Live c.cred = ap life_in (caller_there c rs is) in
-    absurd (cc (sym live ∙ none))
+caller_born c rs is none = let live = caller_there c rs is in absurd (grind arith)
 
 -- A CHILD THAT IS NOT BORN
 
 pub not_unborn : (l : Life) → (l ≡ Unborn → ⊥) → is_unborn (life_view l) ≡ false
-not_unborn Unborn never = absurd (never refl)
-not_unborn (Live cred) never = refl
-not_unborn Ended never = refl
+not_unborn l never = grind arith
 
 record IsAsleep (i j : ℕ) (l : flat.Life) : Type 0 where
   at : i ≡ j
   life : l ≡ flat.Unborn
 
 asleep_is : (i j : ℕ) (l : flat.Life) → (if is_unborn l then Some i else None) ≡ Some j → IsAsleep i j l
-asleep_is i j flat.Unborn said = record { at = cc said; life = refl }
-asleep_is i j (flat.Live cred) said = absurd (none-some j said)
-asleep_is i j flat.Ended said = absurd (none-some j said)
+asleep_is i j l said = record { at = grind arith; life = grind arith }
 
 -- the child stands at the place that is found
 pub record ChildAt (pid j : ℕ) (rs : List flat.Runner) : Type 0 where

@@ -1,26 +1,19 @@
 -- The flat machine's steps, by what the address spaces answer. For the machine above.
-use Rattle.std.proofs.Common.{◌≡◌, ℕ, true, false, List, [], ◌∷◌, length, map, Option, Some, None, option_map, refl, ap, sym, ◌∙◌}
+use Rattle.std.proofs.Common.{◌≡◌, ℕ, true, false, List, [], ◌∷◌, length, map, Option, Some, None, option_map, refl, ap, sym, ◌∙◌, arith}
 use Rattle.std.proofs.lemmas.Option.{none-some}
 use Rattle.shm_base.specs.declared.call.Reply.TheVariants.{Bytes, Done}
 use Rattle.shm_base.specs.State.{Entry, Piece, Runner, Machine}
 use Rattle.shm_base.specs.Access.{Place, places, writable_places, byte_at, with_byte, loaded, stored}
 use Rattle.shm_base.specs.Space.{origin_of, without_named}
 use Rattle.shm_base.specs.Segments.{after_detach}
-use Rattle.shm_base.specs.Step.{Caller, caller_from, gives, with_pieces, detaches, shmdt, load, store}
+use Rattle.shm_base.specs.Step.{Caller, caller_from, gives, with_pieces, shmdt, load, store}
 use Rattle.shm_attach.specs.Spans.{unmarked, wanted_in, pieces_by, pieces_of_caller}
 
 -- DETACHING
 
 pub shmdt-named : (s : Machine) (n : ℕ) (c : Caller) (addr seg : ℕ) → option_map (λ (p : Piece). p.seg) (origin_of addr c.pieces) ≡ Some seg
     → shmdt s n c addr ≡ gives (after_detach s n c.pid (with_pieces s.runners c (without_named addr seg c.pieces)) (seg ∷ [])) Done
-shmdt-named s n c addr seg named = by (origin_of addr c.pieces) named
-  where
-    by : (o : Option Piece) → option_map (λ (p : Piece). p.seg) o ≡ Some seg
-        → detaches s n c addr o ≡ gives (after_detach s n c.pid (with_pieces s.runners c (without_named addr seg c.pieces)) (seg ∷ [])) Done
-    by None is = absurd (none-some seg is)
-    by (Some p) is =
-        let same : p.seg ≡ seg = cc is in
-        ap (λ id. gives (after_detach s n c.pid (with_pieces s.runners c (without_named addr id c.pieces)) (id ∷ [])) Done) same
+shmdt-named s n c addr seg named = grind arith
 
 -- ACCESSES
 

@@ -1,15 +1,16 @@
 -- The table of each piece: what a change of the pieces and of the tables leaves.
-use Rattle.std.proofs.Common.{◌≡◌, ◌≢◌, inl, inr, ℕ, zero, suc, ◌+◌, ◌-◌, ◌/◌, ◌<◌, ◌≤◌, ◌==◌, ◌&&◌, Bool, true, false, nat_lt, List, [], ◌∷◌, length, filter, get_or, slice_get, Option, Some, None, refl, ap, sym, subst, ◌∙◌, arith, eq-eqb}
+use Rattle.std.proofs.Common.{◌≡◌, ◌≢◌, inl, inr, ℕ, zero, suc, ◌+◌, ◌<◌, ◌≤◌, ◌==◌, ◌&&◌, Bool, true, false, nat_lt, List, [], ◌∷◌, length, filter, get_or, slice_get, Option, Some, None, refl, ap, sym, subst, ◌∙◌, arith}
+use Rattle.std.proofs.lemmas.Grind.{common_steps}
 use Rattle.std.specs.Prelude.{All}
-use Rattle.std.proofs.lemmas.Bool.{cases_eq, cases_lt, cases_Bool, lt-ltb, le-ltb, ltb-true, eqb-true, and_parts, true≢false}
-use Rattle.std.proofs.lemmas.Option.{none-some}
-use Rattle.std.proofs.lemmas.List.Elements.{All-append, All-nil, All-cons, All-head, All-tail}
+use Rattle.std.proofs.lemmas.Bool.{cases_Bool}
+use Rattle.std.proofs.lemmas.Option.{none-some, slice_get_cases}
+use Rattle.std.proofs.lemmas.List.Elements.{All-append, All-cons, All-head, All-tail, All-filter}
 use Rattle.std.proofs.lemmas.List.{length-map}
 use Rattle.indexmap.specs.IndexMap.{set_value_at}
 use Rattle.slab.specs.Slab.{Slab, get}
 use Rattle.shm_base.specs.State as flat
 use Rattle.shm_base.specs.Access.{end_of}
-use Rattle.shm_base.specs.Space.{meets, pieces_of}
+use Rattle.shm_base.specs.Space.{pieces_of}
 use Rattle.shm_areas.specs.declared.piece.Piece.{Piece}
 use Rattle.shm_areas.specs.Arranged.{bare, bare_all}
 use Rattle.shm_areas.specs.Edit.{kept_inserted, kept_below, kept_above, kept_parts, kept_cut}
@@ -20,14 +21,14 @@ use Rattle.shm_attach.specs.Spaces.{pieces_at}
 use Rattle.shm_attach.specs.Entries.{Entry, seg_in, size_in, frame_in, TrueSlot}
 use Rattle.shm_attach.specs.Tables.{counted, stored_in, stored_at, IsHeld, AllHeld}
 use Rattle.shm_attach.specs.Exact.{AreCountsExact}
-use Rattle.shm_attach.proofs.Processes.{held, values_of}
+use Rattle.shm_attach.proofs.Processes.{values_of}
 use Rattle.shm_attach.proofs.Keeping.{own_counted, pieces_of-there, bare-get_or}
 
 -- WHERE THE PIECES STAND
 
 pub stored_at-value : (es : List (ℕ × Runner)) (i : ℕ) (w : Runner) → Some w ≡ slice_get (values_of es) i → stored_at es i ≡ w.space
 stored_at-value [] i w at = absurd (none-some w (sym at))
-stored_at-value (e ∷ es) zero w at = sym (ap (λ (x : Runner). x.space) (ap (held w) at))
+stored_at-value (e ∷ es) zero w at = grind arith
 stored_at-value (e ∷ es) (suc i) w at = stored_at-value es i w at
 
 pub stored_at-set : (es : List (ℕ × Runner)) (i : ℕ) (w v : Runner) → Some w ≡ slice_get (values_of es) i → stored_at (set_value_at es i v) i ≡ v.space
@@ -55,9 +56,7 @@ pub pieces_at-entry : (es : List (ℕ × Runner)) (i : ℕ) (e : ℕ × Runner) 
 pieces_at-entry es i e at = pieces_at-bare es i ∙ ap (λ o. bare_all (stored_in o)) at
 
 stored_at-within : (es : List (ℕ × Runner)) (i k : ℕ) → k < length (stored_at es i) → i < length es
-stored_at-within [] i k lt = absurd (omega (arith, lt))
-stored_at-within (e ∷ es) zero k lt = omega arith
-stored_at-within (e ∷ es) (suc i) k lt = let rest = stored_at-within es i k lt in omega (arith, rest)
+stored_at-within es i k lt = grind (arith, common_steps, slice_get_cases)
 
 -- ONE PIECE
 
@@ -70,23 +69,14 @@ abbrev pub is_held : Slab Entry → Piece → Bool
 is_held t p = seg_is (seg_in (get t p.key)) p.seg && nat_lt (p.first_page + p.pages) (size_in (get t p.key) + 1)
 
 pub held-passes : (t : Slab Entry) (p : Piece) → IsHeld t p → is_held t p ≡ true
-held-passes t p own = rw (own.seg, eq-eqb p.seg p.seg refl, lt-ltb (p.first_page + p.pages) (size_in (get t p.key) + 1) (omega (arith, own.pages))) refl
+held-passes t p own = grind (arith, common_steps)
 
 pub held-passed : (t : Slab Entry) (p : Piece) → is_held t p ≡ true → IsHeld t p
-held-passed t p passes =
-    let both = and_parts (seg_is (seg_in (get t p.key)) p.seg) (nat_lt (p.first_page + p.pages) (size_in (get t p.key) + 1)) passes in
-    record { seg = by (seg_in (get t p.key)) both.0; pages = omega (arith, ltb-true (p.first_page + p.pages) (size_in (get t p.key) + 1) both.1) }
-  where
-    by : (o : Option ℕ) → seg_is o p.seg ≡ true → o ≡ Some p.seg
-    by None wrong = absurd (true≢false (sym wrong))
-    by (Some own) same = ap Some (eqb-true own p.seg same)
+held-passed t p passes = grind (arith, common_steps)
 
 -- what is read under a key is true
 pub frame-true : (at : ℕ → ℕ → Option ℕ) (o : Option Entry) (seg page : ℕ) → seg_in o ≡ Some seg → TrueSlot at o → page < size_in o → frame_in o page ≡ at seg page
-frame-true at None seg page own tr lt = absurd (omega (arith, lt))
-frame-true at (Some e) seg page own tr lt =
-    let same : e.seg ≡ seg = cc own in
-    tr page lt ∙ ap (λ s. at s page) same
+frame-true at o seg page own tr lt = grind arith
 
 -- ALL PIECES OF ONE PROCESS
 
@@ -100,44 +90,16 @@ module _ (t : Slab Entry) where
       ]
 
   pub held-filter : (f : Piece → Bool) (ps : List Piece) → All (IsHeld t) ps → All (IsHeld t) (filter f ps)
-  held-filter f [] all = all
-  held-filter f (p ∷ ps) all =
-      let rest = held-filter f ps (All-tail (IsHeld t) p ps all) in
-      elim (cases_Bool (f p)) [
-        | inl h ↦ rw h (All-cons (IsHeld t) p (filter f ps) (All-head (IsHeld t) p ps all) rest)
-        | inr h ↦ rw h rest
-      ]
+  held-filter f ps all = All-filter f (IsHeld t) ps all
 
   held-below : (from : ℕ) (p : Piece) → from < end_of (bare p) → IsHeld t p → All (IsHeld t) (kept_below from p)
-  held-below from p ends own =
-      elim (cases_lt p.base from) [
-        | inl b ↦
-            let fewer : p.first_page + (from - p.base) / 4096 ≤ p.first_page + p.pages = omega (arith, b, ends) in
-            rw (lt-ltb p.base from b) (All-cons (IsHeld t) (record p { pages = (from - p.base) / 4096 }) [] (record { seg = own.seg; pages = omega (arith, fewer, own.pages) }) (All-nil (IsHeld t)))
-        | inr b ↦ rw (le-ltb p.base from b) (All-nil (IsHeld t))
-      ]
+  held-below from p ends own = grind (arith, common_steps)
 
   held-above : (to : ℕ) (p : Piece) → p.base < to → IsHeld t p → All (IsHeld t) (kept_above to p)
-  held-above to p begins own =
-      elim (cases_lt to (end_of (bare p))) [
-        | inl b ↦
-            let fewer : (p.first_page + (to - p.base) / 4096) + (end_of (bare p) - to) / 4096 ≤ p.first_page + p.pages = omega (arith, b, begins) in
-            let q : Piece =
-            record { base = to; seg = p.seg; first_page = p.first_page + (to - p.base) / 4096; pages = (end_of (bare p) - to) / 4096; writable = p.writable; key = p.key } in
-            rw (lt-ltb to (end_of (bare p)) b) (All-cons (IsHeld t) q [] (record { seg = own.seg; pages = omega (arith, fewer, own.pages) }) (All-nil (IsHeld t)))
-        | inr b ↦ rw (le-ltb to (end_of (bare p)) b) (All-nil (IsHeld t))
-      ]
+  held-above to p begins own = grind (arith, common_steps)
 
   held-parts : (from to : ℕ) (p : Piece) → IsHeld t p → All (IsHeld t) (kept_parts from to p)
-  held-parts from to p own =
-      elim (cases_Bool (meets from to (bare p))) [
-        | inl m ↦
-            let both = and_parts (nat_lt p.base to) (nat_lt from (end_of (bare p))) m in
-            rw m
-            (All-append (IsHeld t) (kept_below from p) (kept_above to p)
-            (held-below from p (ltb-true from (end_of (bare p)) both.1) own) (held-above to p (ltb-true p.base to both.0) own))
-        | inr m ↦ rw m (All-cons (IsHeld t) p [] own (All-nil (IsHeld t)))
-      ]
+  held-parts from to p own = grind (arith, common_steps)
 
   pub held-cut : (from to : ℕ) (ps : List Piece) → All (IsHeld t) ps → All (IsHeld t) (kept_cut from to ps)
   held-cut from to [] all = all
@@ -170,8 +132,4 @@ held-all extra es t u exact all step i k d lt = step (get_or (stored_at es i) k 
 -- one process has other pieces
 pub held-changed : (es fs : List (ℕ × Runner)) (t : Slab Entry) (i : ℕ) → AllHeld es t → All (IsHeld t) (stored_at fs i)
     → ((j : ℕ) → j ≢ i → stored_at fs j ≡ stored_at es j) → AllHeld fs t
-held-changed es fs t i all own others j =
-    elim (cases_eq j i) [
-      | inl same ↦ subst (λ x. All (IsHeld t) (stored_at fs x)) (sym same) own
-      | inr other ↦ subst (λ (ps : List Piece). All (IsHeld t) ps) (sym (others j other)) (all j)
-    ]
+held-changed es fs t i all own others j = grind (arith, all, own, others)

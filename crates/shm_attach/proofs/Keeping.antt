@@ -1,19 +1,20 @@
 -- The counts stay exact, and no process gets too many pieces.
-use Rattle.std.proofs.Common.{◌≡◌, ◌≢◌, ◌⊎◌, inl, inr, ℕ, zero, suc, ◌+◌, ◌-◌, ◌*◌, ◌/◌, ◌<◌, ◌≤◌, false, ◌==◌, nat_lt, List, [], ◌∷◌, ◌++◌, length, get_or, set, take, eq-eqb, refl, ap, sym, ◌∙◌, arith, length-set, length-take}
-use Rattle.std.proofs.lemmas.Bool.{cases_eq, cases_lt, cases_Bool, le-ltb, lt-ltb, and_right, or_parts}
-use Rattle.std.proofs.lemmas.Option.{slice_get-get_or}
-use Rattle.std.proofs.lemmas.List.{get_or-set_same, get_or-set_other, set-set}
+use Rattle.std.proofs.Common.{◌≡◌, ◌≢◌, ◌⊎◌, inl, inr, ℕ, zero, suc, ◌+◌, ◌*◌, ◌<◌, ◌≤◌, false, ◌==◌, List, [], ◌∷◌, ◌++◌, length, get_or, set, take, refl, ap, sym, ◌∙◌, arith, length-set, length-take}
+use Rattle.std.proofs.lemmas.Grind.{common_steps}
+use Rattle.std.proofs.lemmas.Bool.{cases_eq, cases_Bool}
+use Rattle.std.proofs.lemmas.Option.{slice_get-get_or, gets}
+use Rattle.std.proofs.lemmas.List.{set-set, get_or-map, set-get_or}
 use Rattle.std.proofs.lemmas.List.Sums.{sum_by-cons, sum_by-set, count_by-le-length}
 use Rattle.shm_base.specs.State.{Piece, Life, Unborn, Runner}
 use Rattle.shm_base.specs.Access.{end_of}
-use Rattle.shm_base.specs.Space.{lowest_address, last_address, without_named, is_named, inserted, meets, occupied, cut, parts, part_below, part_above, pieces_of}
+use Rattle.shm_base.specs.Space.{lowest_address, last_address, without_named, is_named, inserted, occupied, cut, parts, part_below, part_above, pieces_of}
 use Rattle.shm_base.specs.Segments.{attach_count}
 use Rattle.shm_areas.specs.Arranged.{bare, bare_all, IsFit, Arranged}
 use Rattle.shm_areas.specs.declared.piece.Piece.{Piece as Stored}
 use Rattle.shm_areas.proofs.Edits.{lower}
 use Rattle.shm_attach.specs.declared.tables.Tables.{Tables}
 use Rattle.shm_attach.specs.Tables.{counted}
-use Rattle.shm_attach.specs.Views.{one_if, with_own, with_pieces_at, with_other_life, with_life_at}
+use Rattle.shm_attach.specs.Views.{with_own, with_pieces_at, with_other_life, with_life_at}
 use Rattle.shm_attach.specs.Spaces.{pieces_at, life_at}
 use Rattle.shm_attach.specs.Exact.{AreCountsExact}
 use Rattle.shm_attach.specs.Place.{IsPlaceFor}
@@ -39,71 +40,39 @@ life_at-get_or (r ∷ rs) zero = refl
 life_at-get_or (r ∷ rs) (suc i) = life_at-get_or rs i
 
 pub pieces_at-set : (rs : List Runner) (i : ℕ) (r : Runner) → i < length rs → pieces_at (set rs i r) i ≡ r.pieces
-pieces_at-set rs i r lt = pieces_at-get_or (set rs i r) i ∙ ap (λ (x : Runner). x.pieces) (get_or-set_same rs i r nobody lt)
+pieces_at-set rs i r lt = grind (arith, common_steps, gets)
 
 pub pieces_at-set_other : (rs : List Runner) (i j : ℕ) (r : Runner) → j ≢ i → pieces_at (set rs i r) j ≡ pieces_at rs j
-pieces_at-set_other rs i j r other =
-    pieces_at-get_or (set rs i r) j ∙ ap (λ (x : Runner). x.pieces) (get_or-set_other rs i j r nobody other) ∙ sym (pieces_at-get_or rs j)
+pieces_at-set_other rs i j r other = grind (arith, common_steps, pieces_at-get_or)
 
 pub life_at-set : (rs : List Runner) (i : ℕ) (r : Runner) → i < length rs → life_at (set rs i r) i ≡ r.life
-life_at-set rs i r lt = life_at-get_or (set rs i r) i ∙ ap (λ (x : Runner). x.life) (get_or-set_same rs i r nobody lt)
+life_at-set rs i r lt = grind (arith, common_steps, gets)
 
 pub life_at-set_other : (rs : List Runner) (i j : ℕ) (r : Runner) → j ≢ i → life_at (set rs i r) j ≡ life_at rs j
-life_at-set_other rs i j r other =
-    life_at-get_or (set rs i r) j ∙ ap (λ (x : Runner). x.life) (get_or-set_other rs i j r nobody other) ∙ sym (life_at-get_or rs j)
-
-pub length-with_pieces_at : (rs : List Runner) (i : ℕ) (f : List Piece → List Piece) → i < length rs → length (with_pieces_at rs i f) ≡ length rs
-length-with_pieces_at rs i f lt = ap length (with_pieces_at-within rs i f lt) ∙ length-set rs i _
+life_at-set_other rs i j r other = grind (arith, common_steps, life_at-get_or)
 
 pub pieces_at-changed : (rs : List Runner) (i : ℕ) (f : List Piece → List Piece) → i < length rs → pieces_at (with_pieces_at rs i f) i ≡ f (pieces_at rs i)
-pieces_at-changed rs i f lt =
-    ap (λ (xs : List Runner). pieces_at xs i) (with_pieces_at-within rs i f lt)
-    ∙ pieces_at-set rs i (record (get_or rs i nobody) { pieces = f (get_or rs i nobody).pieces }) lt
-    ∙ ap f (sym (pieces_at-get_or rs i))
+pieces_at-changed rs i f lt = let there = slice_get-get_or rs i nobody lt in grind (arith, common_steps, gets)
 
 pub life_at-changed : (rs : List Runner) (i : ℕ) (f : List Piece → List Piece) → i < length rs → life_at (with_pieces_at rs i f) i ≡ life_at rs i
-life_at-changed rs i f lt =
-    ap (λ (xs : List Runner). life_at xs i) (with_pieces_at-within rs i f lt)
-    ∙ life_at-set rs i (record (get_or rs i nobody) { pieces = f (get_or rs i nobody).pieces }) lt
-    ∙ sym (life_at-get_or rs i)
+life_at-changed rs i f lt = let there = slice_get-get_or rs i nobody lt in grind (arith, common_steps, gets)
 
 -- two changes are one
 pub with_pieces_at-twice : (rs : List Runner) (i : ℕ) (f g : List Piece → List Piece) → i < length rs
     → with_pieces_at (with_pieces_at rs i f) i g ≡ with_pieces_at rs i (λ ps. g (f ps))
-with_pieces_at-twice rs i f g lt =
-    let r = get_or rs i nobody in
-    let once : Runner = record r { pieces = f r.pieces } in
-    let long = length-with_pieces_at rs i f lt in
-    let changed = with_pieces_at-within rs i f lt in
-    let there : get_or (with_pieces_at rs i f) i nobody ≡ once = ap (λ (xs : List Runner). get_or xs i nobody) changed ∙ get_or-set_same rs i once nobody lt in
-    with_pieces_at-within (with_pieces_at rs i f) i g (omega (arith, long))
-    ∙ ap (λ (x : Runner). set (with_pieces_at rs i f) i (record x { pieces = g x.pieces })) there
-    ∙ ap (λ (xs : List Runner). set xs i (record once { pieces = g once.pieces })) changed
-    ∙ set-set rs i once (record once { pieces = g once.pieces })
-    ∙ sym (with_pieces_at-within rs i (λ ps. g (f ps)) lt)
+with_pieces_at-twice rs i f g lt = let there = slice_get-get_or rs i nobody lt in grind (arith, common_steps, gets, set-set)
 
 -- a child is born with the pieces of another process
 module _ (rs : List Runner) (i j : ℕ) (l : Life) (lt : j < length rs) where
   pub life_at-born : life_at (with_life_at rs j l) j ≡ l
-  life_at-born = ap (λ (xs : List Runner). life_at xs j) (with_life_at-within rs j l lt) ∙ life_at-set rs j (record (get_or rs j nobody) { life = l }) lt
+  life_at-born = let there = slice_get-get_or rs j nobody lt in grind (arith, common_steps, gets)
 
   pub pieces_at-born : pieces_at (with_life_at rs j l) j ≡ pieces_at rs j
-  pieces_at-born =
-      ap (λ (xs : List Runner). pieces_at xs j) (with_life_at-within rs j l lt) ∙ pieces_at-set rs j (record (get_or rs j nobody) { life = l }) lt
-      ∙ sym (pieces_at-get_or rs j)
+  pieces_at-born = let there = slice_get-get_or rs j nobody lt in grind (arith, common_steps, gets)
 
   pub runners-born : i ≢ j
       → with_pieces_at (with_life_at rs j l) j (λ (_ : List Piece). pieces_at (with_life_at rs j l) i) ≡ set rs j (record { pid = (get_or rs j nobody).pid; life = l; pieces = pieces_at rs i })
-  runners-born apart =
-      let r : Runner = record (get_or rs j nobody) { life = l } in
-      let awake = with_life_at-within rs j l lt in
-      let there : get_or (set rs j r) j nobody ≡ r = get_or-set_same rs j r nobody lt in
-      let before : pieces_at (set rs j r) i ≡ pieces_at rs i = pieces_at-set_other rs j i r apart in
-      ap (λ (xs : List Runner). with_pieces_at xs j (λ (_ : List Piece). pieces_at xs i)) awake
-      ∙ with_pieces_at-within (set rs j r) j (λ (_ : List Piece). pieces_at (set rs j r) i) (omega (arith, lt, length-set rs j r))
-      ∙ ap (λ (ps : List Piece). set (set rs j r) j (record (get_or (set rs j r) j nobody) { pieces = ps })) before
-      ∙ ap (λ (x : Runner). set (set rs j r) j (record x { pieces = pieces_at rs i })) there
-      ∙ set-set rs j r (record r { pieces = pieces_at rs i })
+  runners-born apart = let there = slice_get-get_or rs j nobody lt in grind (arith, common_steps, gets, set-set)
 
 -- THE COUNTS
 
@@ -125,18 +94,17 @@ IsExact-set extra rs i r c d exact lt few order asleep counts =
           let moved = sum_by-set (λ (x : Runner). pieces_of id x.pieces) rs i r nobody lt in
           omega (arith, counts id, exact.counts id, moved, ap (pieces_of id) (pieces_at-get_or rs i));
       processes = rw (length-set rs i r) exact.processes;
-      pieces = λ j. short j (cases_eq j i);
+      pieces = each (λ ps. length ps ≤ 256) few exact.pieces;
       unborn = λ j none. empty j none (cases_eq j i);
-      arranged = λ j. in_order j (cases_eq j i);
+      arranged = each (Arranged lowest_address) order exact.arranged;
     }
   where
-    short : (j : ℕ) → (j ≡ i) ⊎ (j ≢ i) → length (pieces_at (set rs i r) j) ≤ 256
-    short j (inl same) = rw (same, pieces_at-set rs i r lt) few
-    short j (inr other) = rw (pieces_at-set_other rs i j r other) (exact.pieces j)
-
-    in_order : (j : ℕ) → (j ≡ i) ⊎ (j ≢ i) → Arranged lowest_address (pieces_at (set rs i r) j)
-    in_order j (inl same) = rw (same, pieces_at-set rs i r lt) order
-    in_order j (inr other) = rw (pieces_at-set_other rs i j r other) (exact.arranged j)
+    each : (P : List Piece → Type 0) → P r.pieces → ((j : ℕ) → P (pieces_at rs j)) → (j : ℕ) → P (pieces_at (set rs i r) j)
+    each P own old j =
+        elim (cases_eq j i) [
+          | inl same ↦ rw (same, pieces_at-set rs i r lt) own
+          | inr other ↦ rw (pieces_at-set_other rs i j r other) (old j)
+        ]
 
     empty : (j : ℕ) → life_at (set rs i r) j ≡ Unborn → (j ≡ i) ⊎ (j ≢ i) → pieces_at (set rs i r) j ≡ []
     empty j none (inl same) =
@@ -182,32 +150,16 @@ own_counted extra rs c i exact lt id = omega (arith, exact.counts id, attach_cou
 
 pub occupied-append : (xs ys : List Piece) (from to : ℕ) → occupied xs from to ≡ false → occupied ys from to ≡ false → occupied (xs ++ ys) from to ≡ false
 occupied-append [] ys from to none more = more
-occupied-append (x ∷ xs) ys from to none more =
-    let both = or_parts (meets from to x) (occupied xs from to) none in
-    rw both.0 (occupied-append xs ys from to both.1 more)
+occupied-append (x ∷ xs) ys from to none more = let rest = occupied-append xs ys from to in grind (arith, common_steps)
 
 free_below : (from to : ℕ) (p : Piece) → occupied (part_below from p) from to ≡ false
-free_below from to p =
-    elim (cases_lt p.base from) [
-      | inl before ↦
-          let ends : p.base + 4096 * ((from - p.base) / 4096) ≤ from = omega (arith, before) in
-          rw (lt-ltb p.base from before, and_right (nat_lt p.base to) (nat_lt from (p.base + 4096 * ((from - p.base) / 4096))) (le-ltb from (p.base + 4096 * ((from - p.base) / 4096)) ends)) refl
-      | inr after ↦ rw (le-ltb p.base from after) refl
-    ]
+free_below from to p = grind (arith, common_steps)
 
 free_above : (from to : ℕ) (p : Piece) → occupied (part_above to p) from to ≡ false
-free_above from to p =
-    elim (cases_lt to (end_of p)) [
-      | inl beyond ↦ rw (lt-ltb to (end_of p) beyond, le-ltb to to (omega arith)) refl
-      | inr over ↦ rw (le-ltb to (end_of p) over) refl
-    ]
+free_above from to p = grind (arith, common_steps)
 
 free_parts : (from to : ℕ) (p : Piece) → occupied (parts from to p) from to ≡ false
-free_parts from to p =
-    elim (cases_Bool (meets from to p)) [
-      | inl m ↦ rw m (occupied-append (part_below from p) (part_above to p) from to (free_below from to p) (free_above from to p))
-      | inr m ↦ rw (m, m) refl
-    ]
+free_parts from to p = let none = occupied-append (part_below from p) (part_above to p) from to (free_below from to p) (free_above from to p) in grind arith
 
 pub occupied-cut : (from to : ℕ) (ps : List Piece) → occupied (cut from to ps) from to ≡ false
 occupied-cut from to [] = refl
@@ -222,21 +174,15 @@ cut-all low (p ∷ ps) le ar =
     let first : low ≤ p.base = ar.0 in
     let some : 1 ≤ p.pages = ar.1.0.some in
     let within : end_of p ≤ last_address = ar.1.0.within in
-    rw (
-      lt-ltb p.base last_address (omega (arith, some, within)),
-      lt-ltb lowest_address (end_of p) (omega (arith, first, le, some)),
-      le-ltb p.base lowest_address (omega (arith, first, le)),
-      le-ltb last_address (end_of p) within,
-    )
-    (cut-all (end_of p) ps (omega (arith, first, le)) ar.1.1)
+    let rest = cut-all (end_of p) ps (omega (arith, first, le)) ar.1.1 in
+    grind (arith, common_steps)
 
 pub arranged-without : (addr seg low : ℕ) (ps : List Piece) → Arranged low ps → Arranged low (without_named addr seg ps)
 arranged-without addr seg low [] ar = ar
 arranged-without addr seg low (p ∷ ps) ar =
     let rest = arranged-without addr seg (end_of p) ps ar.1.1 in
-    let first : low ≤ p.base = ar.0 in
     elim (cases_Bool (is_named addr seg p)) [
-      | inl h ↦ rw h (lower low (end_of p) (without_named addr seg ps) (omega (arith, first)) rest)
+      | inl h ↦ rw h (lower low (end_of p) (without_named addr seg ps) (omega (arith, ar.0)) rest)
       | inr h ↦ rw h (ar.0, (ar.1.0, rest))
     ]
 
@@ -244,40 +190,23 @@ arranged-without addr seg low (p ∷ ps) ar =
 
 pub pieces_of-there : (k : ℕ) (ps : List Piece) (d : Piece) → k < length ps → 1 ≤ pieces_of (get_or ps k d).seg ps
 pieces_of-there k [] d l = absurd (omega arith)
-pieces_of-there zero (p ∷ ps) d l =
-    let same : one_if p.seg p.seg ≡ 1 = rw (eq-eqb p.seg p.seg refl) refl in
-    let own : pieces_of p.seg (p ∷ ps) ≡ pieces_of p.seg ps + 1 = one_more p.seg p ps ∙ ap (λ n. pieces_of p.seg ps + n) same in
-    let some : 1 ≤ pieces_of p.seg (p ∷ ps) = omega (arith, own) in
-    some
+pieces_of-there zero (p ∷ ps) d l = let own = one_more p.seg p ps in grind (arith, common_steps)
 pieces_of-there (suc k) (p ∷ ps) d l =
     let rest = pieces_of-there k ps d (omega arith) in
     omega (arith, rest, one_more (get_or ps k d).seg p ps)
 
 pub bare-get_or : (ps : List Stored) (k : ℕ) (d : Stored) (e : Piece) → k < length ps → bare (get_or ps k d) ≡ get_or (bare_all ps) k e
-bare-get_or [] k d e l = absurd (omega arith)
-bare-get_or (p ∷ ps) zero d e l = refl
-bare-get_or (p ∷ ps) (suc k) d e l = bare-get_or ps k d e (omega arith)
-
-set-get_or : (rs : List Runner) (i : ℕ) → i < length rs → set rs i (get_or rs i nobody) ≡ rs
-set-get_or [] i lt = refl
-set-get_or (r ∷ rs) zero lt = refl
-set-get_or (r ∷ rs) (suc i) lt = ap (λ (xs : List Runner). r ∷ xs) (set-get_or rs i (omega arith))
+bare-get_or ps k d e l = grind (arith, common_steps, get_or-map)
 
 -- the same pieces in place of those that are there
 pub with_pieces_at-same : (rs : List Runner) (i : ℕ) (f : List Piece → List Piece) → i < length rs → f (pieces_at rs i) ≡ pieces_at rs i → rs ≡ with_pieces_at rs i f
-with_pieces_at-same rs i f lt same =
-    let r = get_or rs i nobody in
-    let own : f r.pieces ≡ r.pieces = sym (ap f (pieces_at-get_or rs i)) ∙ same ∙ pieces_at-get_or rs i in
-    sym (with_pieces_at-within rs i f lt ∙ ap (λ ps. set rs i (record r { pieces = ps })) own ∙ set-get_or rs i lt)
+with_pieces_at-same rs i f lt same = let there = slice_get-get_or rs i nobody lt in grind (arith, common_steps, gets, set-get_or)
 
 -- the next piece of some that are in order lies behind those before it
 base_behind : (low k : ℕ) (ps : List Piece) (d : Piece) → Arranged low ps → k < length ps → low ≤ (get_or ps k d).base
 base_behind low k [] d ar lt = absurd (omega arith)
 base_behind low zero (p ∷ ps) d ar lt = ar.0
-base_behind low (suc k) (p ∷ ps) d ar lt =
-    let first : low ≤ p.base = ar.0 in
-    let rest = base_behind (end_of p) k ps d ar.1.1 (omega arith) in
-    omega (arith, first, rest)
+base_behind low (suc k) (p ∷ ps) d ar lt = let rest = base_behind (end_of p) k ps d ar.1.1 (omega arith) in omega (arith, ar.0, rest)
 
 pub fit_next : (low k : ℕ) (ps : List Piece) (d : Piece) → Arranged low ps → k < length ps → IsFit (get_or ps k d)
 fit_next low k [] d ar lt = absurd (omega arith)
@@ -288,17 +217,18 @@ free_next : (low k to : ℕ) (ps : List Piece) (d : Piece) → Arranged low ps �
 free_next low k to [] d ar lt = absurd (omega arith)
 free_next low zero to (p ∷ ps) d ar lt = refl
 free_next low (suc k) to (p ∷ ps) d ar lt =
-    let behind : end_of p ≤ (get_or ps k d).base = base_behind (end_of p) k ps d ar.1.1 (omega arith) in
-    let away : meets (get_or ps k d).base to p ≡ false = and_right (nat_lt p.base to) (nat_lt (get_or ps k d).base (end_of p)) (le-ltb (get_or ps k d).base (end_of p) behind) in
-    rw away (free_next (end_of p) k to ps d ar.1.1 (omega arith))
+    let behind = base_behind (end_of p) k ps d ar.1.1 (omega arith) in
+    let rest = free_next (end_of p) k to ps d ar.1.1 (omega arith) in
+    grind (arith, common_steps)
 
 pub inserted_next : (low k : ℕ) (ps : List Piece) (d : Piece) → Arranged low ps → k < length ps → inserted (get_or ps k d) (take k ps) ≡ take (k + 1) ps
 inserted_next low k [] d ar lt = absurd (omega arith)
 inserted_next low zero (p ∷ ps) d ar lt = refl
 inserted_next low (suc k) (p ∷ ps) d ar lt =
-    let behind : end_of p ≤ (get_or ps k d).base = base_behind (end_of p) k ps d ar.1.1 (omega arith) in
+    let behind = base_behind (end_of p) k ps d ar.1.1 (omega arith) in
     let next : suc k + 1 ≡ suc (k + 1) = omega arith in
-    rw (next, le-ltb (get_or ps k d).base p.base (omega (arith, behind))) (ap (λ (qs : List Piece). p ∷ qs) (inserted_next (end_of p) k ps d ar.1.1 (omega arith)))
+    let rest = inserted_next (end_of p) k ps d ar.1.1 (omega arith) in
+    rw next (grind (arith, common_steps))
 
 pub place_next : (k : ℕ) (ps : List Piece) (d : Piece) → Arranged lowest_address ps → length ps ≤ 256 → k < length ps → IsPlaceFor (get_or ps k d) (take k ps)
 place_next k ps d ar few lt =

@@ -1,20 +1,17 @@
 -- Entries that are true of one residency, and of another.
-use Rattle.std.proofs.Common.{◌≡◌, ℕ, zero, suc, ◌+◌, ◌<◌, if◌then◌else◌, List, [], ◌∷◌, length, get_or, take, Option, Some, None, ◌∙◌, refl, arith}
-use Rattle.slab.specs.Slab.{Slab, get}
+use Rattle.std.proofs.Common.{◌≡◌, ℕ, zero, suc, ◌+◌, ◌<◌, List, [], ◌∷◌, length, get_or, take, Option, arith}
+use Rattle.slab.specs.Slab.{Slab}
 use Rattle.shm_fault.specs.declared.touched.Move.{Move}
-use Rattle.shm_fault.specs.declared.touched.Move.TheVariants.{Gone, Came}
-use Rattle.shm_fault.specs.Steps.{is_page, moved}
-use Rattle.shm_attach.specs.Entries.{Entry, TrueSlot, AllTrue}
+use Rattle.shm_fault.specs.Steps.{moved}
+use Rattle.shm_attach.specs.Entries.{Entry, AllTrue}
 
 -- THE MOVES, ONE AFTER ANOTHER
 
 moved-step : (ms : List Move) (i : ℕ) (d : Move) (seg page : ℕ) (f : Option ℕ) → i < length ms
     → moved (take (suc i) ms) seg page f ≡ moved (get_or ms i d ∷ []) seg page (moved (take i ms) seg page f)
 moved-step [] i d seg page f lt = absurd (omega arith)
-moved-step (Gone r ∷ ms) zero d seg page f lt = refl
-moved-step (Came r k ∷ ms) zero d seg page f lt = refl
-moved-step (Gone r ∷ ms) (suc i) d seg page f lt = moved-step ms i d seg page (if is_page r seg page then None else f) (omega (arith, lt))
-moved-step (Came r k ∷ ms) (suc i) d seg page f lt = moved-step ms i d seg page (if is_page r seg page then Some k else f) (omega (arith, lt))
+moved-step (m ∷ ms) zero d seg page f lt = grind arith
+moved-step (m ∷ ms) (suc i) d seg page f lt = grind (arith, moved-step ms i d seg page)
 
 pub moved-more : (ms : List Move) (i : ℕ) (d : Move) (seg page : ℕ) (f : Option ℕ) → i < length ms
     → moved (take (i + 1) ms) seg page f ≡ moved (get_or ms i d ∷ []) seg page (moved (take i ms) seg page f)
@@ -22,8 +19,4 @@ moved-more ms i d seg page f lt = let next : i + 1 ≡ suc i = omega arith in rw
 
 -- what holds of one residency holds of another that is the same
 pub true-same : (at by : ℕ → ℕ → Option ℕ) (t : Slab Entry) → ((seg page : ℕ) → at seg page ≡ by seg page) → AllTrue at t → AllTrue by t
-true-same at by t same all = λ k. over (get t k) (all k)
-  where
-    over : (o : Option Entry) → TrueSlot at o → TrueSlot by o
-    over None tr = tt
-    over (Some e) tr = λ j lt. tr j lt ∙ same e.seg j
+true-same at by t same all k = grind arith

@@ -28,20 +28,12 @@ view-insert_entry (e ∷ es) k r others =
     rw (ne_eqb k e.0 (λ same. others 0 (omega arith) (sym same)))
     (ap (λ (rs : List flat.Runner). runner_view e ∷ rs) (view-insert_entry es k r (λ j l. others (suc j) (omega arith))))
 
-abbrev tail_of : List flat.Runner → List flat.Runner
-tail_of [] = []
-tail_of (r ∷ rs) = rs
-
-abbrev pid_first : List flat.Runner → ℕ
-pid_first [] = 0
-pid_first (r ∷ rs) = r.pid
-
 pub key-declared : (es : List (ℕ × Runner)) (qs : List Process) (j : ℕ) (d : Process) → runners_view es ≡ map runner_at_start qs → j < length es
     → (get_or es j nobody).0 ≡ (get_or qs j d).pid
 key-declared [] qs j d same l = absurd (omega arith)
 key-declared (e ∷ es) [] j d same l = absurd (cc same)
-key-declared (e ∷ es) (q ∷ qs) zero d same l = ap pid_first same
-key-declared (e ∷ es) (q ∷ qs) (suc j) d same l = key-declared es qs j d (ap tail_of same) (omega arith)
+key-declared (e ∷ es) (q ∷ qs) zero d same l = grind arith
+key-declared (e ∷ es) (q ∷ qs) (suc j) d same l = key-declared es qs j d (cc same) (omega arith)
 
 -- one more process
 pub view-more : (es : List (ℕ × Runner)) (ps : List Process) (i : ℕ) (d : Process) (r : Runner) → runners_view es ≡ map runner_at_start (take i ps) → i < length ps

@@ -1,9 +1,7 @@
 -- One table for each segment with pieces: what a change of the map and of the slab leaves.
-use Rattle.std.proofs.Common.{◌≡◌, ◌≢◌, inl, inr, ℕ, zero, suc, ◌-◌, ◌<◌, List, [], ◌∷◌, length, get_or, Option, Some, None, refl, ap, sym, subst, ◌∙◌, arith, ne_eqb}
-use Rattle.std.proofs.lemmas.Bool.{cases_eq}
+use Rattle.std.proofs.Common.{◌≡◌, ◌≢◌, ℕ, ◌<◌, List, length, get_or, Option, Some, None, refl, sym, ◌∙◌, arith}
+use Rattle.std.proofs.lemmas.Grind.{common_steps}
 use Rattle.std.proofs.lemmas.Option.{none-some}
-use Rattle.std.proofs.lemmas.List.{get_or-set_same, get_or-set_other}
-use Rattle.std.specs.HashMap as hash
 use Rattle.slab.specs.Slab.{Slab, get, with_value, Updates}
 use Rattle.shm_base.specs.declared.paging.PageRef.{PageRef}
 use Rattle.shm_attach.specs.declared.tables.Tables.{Tables}
@@ -13,25 +11,14 @@ use Rattle.shm_attach.specs.Tables.{counted_under, key_of, IsTied}
 -- A TABLE WITH OTHER FRAMES
 
 within : {X : Type 0} (xs : List (Option X)) (k : ℕ) (x : X) → get_or xs k None ≡ Some x → k < length xs
-within [] k x at = absurd (none-some x at)
-within (y ∷ xs) zero x at = omega arith
-within (y ∷ xs) (suc k) x at = let rest = within xs k x at in omega (arith, rest)
+within xs k x at = grind (arith, common_steps)
 
 pub update-value : (s : Slab Entry) (key : ℕ) (e v : Entry) → get s key ≡ Some e → Updates s (with_value s key v) key (Some v)
-update-value s key e v at =
-    record {
-      changed = get_or-set_same s.slots key (Some v) None (within s.slots key e at);
-      others = λ other apart. get_or-set_other s.slots key other (Some v) None apart;
-    }
+update-value s key e v at = grind (arith, common_steps)
 
 module _ (t : Tables) (key : ℕ) (e v : Entry) (tied : IsTied t) (at : get t.slab key ≡ Some e) (rest : v ≡ record e { frames = v.frames }) where
   same : (k : ℕ) → (seg_in (get (with_value t.slab key v) k) ≡ seg_in (get t.slab k)) × (count_in (get (with_value t.slab key v) k) ≡ count_in (get t.slab k))
-  same k =
-      let up = update-value t.slab key e v at in
-      elim (cases_eq k key) [
-        | inl is ↦ rw (is, up.changed, at) (ap (λ (x : Entry). Some x.seg) rest, ap (λ (x : Entry). x.count) rest)
-        | inr apart ↦ (ap seg_in (up.others k apart), ap count_in (up.others k apart))
-      ]
+  same k = grind (arith, common_steps)
 
   counted-same : (o : Option ℕ) → counted_under (with_value t.slab key v) o ≡ counted_under t.slab o
   counted-same None = refl
@@ -49,8 +36,7 @@ module _ (t : Tables) (key : ℕ) (e v : Entry) (tied : IsTied t) (at : get t.sl
 
 -- the tables of other segments are true still
 true-apart : (at : ℕ → ℕ → Option ℕ) (r : PageRef) (f : Option ℕ) (o : Option Entry) → seg_in o ≢ Some r.seg → TrueSlot at o → TrueSlot (with_frame r f at) o
-true-apart at r f None other now = tt
-true-apart at r f (Some e) other now = λ j lt. rw (ne_eqb r.seg e.seg (λ same. other (ap Some (sym same)))) (now j lt)
+true-apart at r f o other now = grind (arith, common_steps)
 
 pub true-unknown : (at : ℕ → ℕ → Option ℕ) (r : PageRef) (f : Option ℕ) (t : Tables) → IsTied t → key_of t r.seg ≡ None → AllTrue at t.slab → AllTrue (with_frame r f at) t.slab
 true-unknown at r f t tied none all k =
@@ -59,9 +45,7 @@ true-unknown at r f t tied none all k =
 pub true-set : (at : ℕ → ℕ → Option ℕ) (r : PageRef) (f : Option ℕ) (t : Tables) (s : Slab Entry) (key : ℕ) (v : Entry) → IsTied t → key_of t r.seg ≡ Some key
     → Updates t.slab s key (Some v) → TrueEntry (with_frame r f at) v → AllTrue at t.slab → AllTrue (with_frame r f at) s
 true-set at r f t s key v tied own up new all k =
-    elim (cases_eq k key) [
-      | inl same ↦ rw same (subst (λ o. TrueSlot (with_frame r f at) o) (sym up.changed) new)
-      | inr apart ↦
-          let other : seg_in (get t.slab k) ≢ Some r.seg = λ is. let both : Some k ≡ Some key = sym (tied.named r.seg k is) ∙ own in apart (cc both) in
-          subst (λ o. TrueSlot (with_frame r f at) o) (sym (up.others k apart)) (true-apart at r f (get t.slab k) other (all k))
-    ]
+    let apart = true-apart at r f (get t.slab k) in
+    let others = up.others k in
+    let named = tied.named r.seg k in
+    grind (arith, all k, up.changed, own, new)

@@ -1,11 +1,10 @@
 -- What stands at each index after a change.
-use Rattle.std.proofs.Common.{◌≡◌, ◌≢◌, ◌⊎◌, ℕ, ◌+◌, ◌<◌, ◌≤◌, List, [], ◌∷◌, ◌++◌, length, set, Option, Some, sym, ap, ◌∙◌, inl, inr, arith, length-set, length-append}
-use Rattle.std.proofs.lemmas.List.{get_or-set_same, get_or-set_other, get_or_past, get_or_push, get_or_append_left, set-set}
-use Rattle.std.proofs.lemmas.Bool.{cases_eq, cases_lt}
+use Rattle.std.proofs.Common.{◌≡◌, ◌≢◌, ℕ, ◌<◌, ◌≤◌, List, [], ◌∷◌, ◌++◌, length, set, Some, arith}
+use Rattle.std.proofs.lemmas.List.{get_or-set_same, get_or-set_other, get_or_past, set-set}
 use Rattle.std.proofs.lemmas.Grind.{common_steps}
 use Rattle.shm_ids.specs.declared.table.Entry.{Entry}
 use Rattle.shm_ids.specs.declared.table.Row.{Row}
-use Rattle.shm_ids.specs.Table.{unused, entry_at, held, with_row, with_key, row_with_key, with_value, row_with_value}
+use Rattle.shm_ids.specs.Table.{unused, entry_at, held, with_row, with_key, with_value}
 
 module _ {T : Type 0} where
   pub at_past : (t : List (Entry T)) (i : ℕ) → length t ≤ i → entry_at t i ≡ unused
@@ -18,43 +17,14 @@ module _ {T : Type 0} where
   with_row-end t i key v h = grind (arith, common_steps)
 
   pub at_row : (t : List (Entry T)) (i key : ℕ) (v : T) → i ≤ length t → entry_at (with_row t i key v) i ≡ held (entry_at t i) key v
-  at_row t i key v h = by (cases_eq i (length t))
-    where
-      by : (i ≡ length t) ⊎ (i ≢ length t) → entry_at (with_row t i key v) i ≡ held (entry_at t i) key v
-      by (inl e) =
-          ap (λ x. entry_at x i) (with_row-end t i key v e) ∙ get_or_push t (held unused key v) unused i (sym e)
-          ∙ ap (λ x. held x key v) (sym (at_past t i (omega arith)))
-      by (inr n) = ap (λ x. entry_at x i) (with_row-within t i key v (omega arith)) ∙ get_or-set_same t i _ unused (omega arith)
+  at_row t i key v h = grind (arith, common_steps)
 
   pub at_row_other : (t : List (Entry T)) (i k key : ℕ) (v : T) → i ≤ length t → k ≢ i → entry_at (with_row t i key v) k ≡ entry_at t k
-  at_row_other t i k key v h other = by (cases_eq i (length t))
-    where
-      past : k < length t ⊎ length t < k → i ≡ length t → entry_at (t ++ held unused key v ∷ []) k ≡ entry_at t k
-      past (inl l) e = get_or_append_left t (held unused key v ∷ []) unused k l
-      past (inr l) e = get_or_past (t ++ held unused key v ∷ []) k unused (omega (arith, length-append t (held unused key v ∷ []))) ∙ sym (at_past t k (omega arith))
-
-      by : (i ≡ length t) ⊎ (i ≢ length t) → entry_at (with_row t i key v) k ≡ entry_at t k
-      by (inl e) = ap (λ x. entry_at x k) (with_row-end t i key v e) ∙ past (split (cases_lt k (length t))) e
-        where
-          split : k < length t ⊎ length t ≤ k → k < length t ⊎ length t < k
-          split (inl l) = inl l
-          split (inr l) = inr (omega arith)
-      by (inr n) = ap (λ x. entry_at x k) (with_row-within t i key v (omega arith)) ∙ get_or-set_other t i k _ unused other
-
-  pub length-with_row : (t : List (Entry T)) (i key : ℕ) (v : T) → i ≤ length t → length (with_row t i key v) ≤ length t + 1
-  length-with_row t i key v h = by (cases_eq i (length t))
-    where
-      by : (i ≡ length t) ⊎ (i ≢ length t) → length (with_row t i key v) ≤ length t + 1
-      by (inl e) = rw (with_row-end t i key v e) (omega (arith, length-append t (held unused key v ∷ [])))
-      by (inr n) = rw (with_row-within t i key v (omega arith)) (omega (arith, length-set t i (held (entry_at t i) key v)))
+  at_row_other t i k key v h other = grind (arith, common_steps)
 
   -- a table of at most 32768 entries stays so
   pub with_row-few : (t : List (Entry T)) (i key : ℕ) (v : T) → i ≤ length t → i < 32768 → length t ≤ 32768 → length (with_row t i key v) ≤ 32768
-  with_row-few t i key v within small few = by (cases_eq i (length t))
-    where
-      by : (i ≡ length t) ⊎ (i ≢ length t) → length (with_row t i key v) ≤ 32768
-      by (inl e) = omega (arith, length-with_row t i key v within)
-      by (inr n) = rw (with_row-within t i key v (omega arith)) (omega (arith, length-set t i (held (entry_at t i) key v)))
+  with_row-few t i key v within small few = grind (arith, common_steps)
 
   -- an entry that is set
   pub at_set : (t : List (Entry T)) (i : ℕ) (e : Entry T) → i < length t → entry_at (set t i e) i ≡ e
@@ -66,8 +36,4 @@ module _ {T : Type 0} where
   -- a row that gets another value and then another key
   pub with_key-with_value : (t : List (Entry T)) (i key : ℕ) (r : Row T) (v : T) → i < length t → (entry_at t i).row ≡ Some r
       → with_key (with_value t i v) i key ≡ set t i (record (entry_at t i) { row = Some (record { key = key; value = v }) })
-  with_key-with_value t i key r v within there =
-      let at : entry_at (with_value t i v) i ≡ record (entry_at t i) { row = row_with_value v (entry_at t i).row } = at_set t i _ within in
-      ap (λ (e : Entry T). set (with_value t i v) i (record e { row = row_with_key key e.row })) at
-      ∙ ap (λ (o : Option (Row T)). set (with_value t i v) i (record (entry_at t i) { row = row_with_key key (row_with_value v o) })) there
-      ∙ set-set t i _ _
+  with_key-with_value t i key r v within there = grind (arith, common_steps, set-set)

@@ -1,6 +1,7 @@
 -- The table's words agree with the flat machine's.
-use Rattle.std.proofs.Common.{◌≡◌, ◌≢◌, ◌⊎◌, ℕ, zero, suc, ◌+◌, ◌/◌, ◌%◌, ◌<◌, ◌≤◌, ◌==◌, ◌&&◌, ℤ, pos, negsuc, nat_lt, is_none, is_some, cond, if◌then◌else◌, List, [], ◌∷◌, ◌++◌, length, set, slice_get, slice_set, Option, Some, None, Ok, IsOk, refl, sym, ap, ◌∙◌, inl, inr, arith, eq-eqb, ne_eqb}
-use Rattle.std.proofs.lemmas.Bool.{cases_eq, cases_lt, cases_Bool, lt-ltb, le-ltb}
+use Rattle.std.proofs.Common.{◌≡◌, ◌≢◌, ℕ, zero, suc, ◌+◌, ◌/◌, ◌%◌, ◌<◌, ◌≤◌, ◌==◌, ℤ, pos, negsuc, is_none, is_some, cond, List, [], ◌∷◌, ◌++◌, length, set, slice_get, slice_set, Option, Some, None, IsOk, refl, sym, ap, ◌∙◌, inl, inr, arith, eq-eqb, ne_eqb}
+use Rattle.std.proofs.lemmas.Grind.{common_steps}
+use Rattle.std.proofs.lemmas.Bool.{cases_eq, cases_lt}
 use Rattle.std.proofs.lemmas.List.Sums.{sum_by-cons}
 use Rattle.shm_base.specs.State.{Segment, Entry as FlatEntry}
 use Rattle.shm_base.specs.Identifier as flat
@@ -8,10 +9,10 @@ use Rattle.shm_base.specs.Segments as flat_segments
 use Rattle.shm_base.specs.Access.{set_in}
 use Rattle.shm_ids.specs.declared.table.Entry.{Entry}
 use Rattle.shm_ids.specs.declared.table.Row.{Row}
-use Rattle.shm_ids.specs.Table.{unused, entry_at, is_free, free_from, free_index, identifier, index_of, key_at, row_key, key_from, find_key, look, look_entry, held, with_row, with_key, with_value, row_with_value, without_row, row_count}
+use Rattle.shm_ids.specs.Table.{unused, entry_at, free_from, free_index, identifier, index_of, row_key, key_from, find_key, look, look_entry, held, with_row, row_count}
 use Rattle.shm_ids.specs.Flat.{flat_row, flat_entry, flat_from, flat_table, flat_answer, flat_look, flat_found, number_of, ShowsKeys}
-use Rattle.shm_ids.proofs.Entries.{at_past, with_key-with_value}
-use Rattle.shm_ids.proofs.Look.{live_at, live_number, live_row}
+use Rattle.shm_ids.proofs.Entries.{at_past}
+use Rattle.shm_ids.proofs.Look.{live_at, live_number}
 
 module _ {T : Type 0} (make : ℕ → Row T → Segment) where
   -- THE ENTRIES
@@ -64,14 +65,14 @@ module _ {T : Type 0} (make : ℕ → Row T → Segment) where
   -- THE LEAST FREE INDEX
 
   same_none : (id : ℕ) (r : Option (Row T)) → is_none (flat_row make id r) ≡ is_none r
-  same_none id None = refl
-  same_none id (Some r) = refl
+  same_none id r = grind arith
 
   pub free_from-flat : (i j : ℕ) (t : List (Entry T)) → flat.free_from j (flat_from make i t) ≡ free_from j t
   free_from-flat i j [] = refl
   free_from-flat i j (e ∷ es) =
-      ap (λ b. if b && nat_lt e.destroyed 65536 then Some j else flat.free_from (j + 1) (flat_from make (i + 1) es)) (same_none (identifier i e.destroyed) e.row)
-      ∙ ap (λ r. if is_free e then Some j else r) (free_from-flat (i + 1) (j + 1) es)
+      let rest = free_from-flat (i + 1) (j + 1) es in
+      let same = same_none (identifier i e.destroyed) e.row in
+      grind arith
 
   pub free_index-flat : (t : List (Entry T)) → flat.free_index (flat_table make t) ≡ free_index t
   free_index-flat t = free_from-flat 0 0 t
@@ -79,45 +80,31 @@ module _ {T : Type 0} (make : ℕ → Row T → Segment) where
   -- HOW MANY WERE DESTROYED
 
   pub destroyed_at-flat : (t : List (Entry T)) (i : ℕ) → flat.destroyed_at (flat_table make t) i ≡ (entry_at t i).destroyed
-  destroyed_at-flat t i = by (cases_lt i (length t))
-    where
-      by : (i < length t) ⊎ (length t ≤ i) → flat.destroyed_at (flat_table make t) i ≡ (entry_at t i).destroyed
-      by (inl l) = ap flat.destroyed_in (at-table i t l)
-      by (inr p) = ap flat.destroyed_in (past-flat 0 i t p) ∙ sym (ap (λ (e : Entry T). e.destroyed) (at_past t i p))
+  destroyed_at-flat t i =
+      elim (cases_lt i (length t)) [
+        | inl l ↦ ap flat.destroyed_in (at-table i t l)
+        | inr p ↦ ap flat.destroyed_in (past-flat 0 i t p) ∙ sym (ap (λ (e : Entry T). e.destroyed) (at_past t i p))
+      ]
 
   -- LOOKING UP
 
-  look_parts : (i q d id : ℕ) (r : Option (Row T)) → (q ≡ d → identifier i d ≡ id) → (q < d) ⊎ (d ≤ q) → (q ≡ d) ⊎ (q ≢ d)
+  look_parts : (i q d id : ℕ) (r : Option (Row T)) → (q ≡ d → identifier i d ≡ id)
       → flat.look_entry i q (Some (flat_entry make i (record { destroyed = d; row = r }))) ≡ flat_answer make i id (row_key r) (look_entry q (record { destroyed = d; row = r }))
-  look_parts i q d id r own (inl below) same = rw (lt-ltb q d below) refl
-  look_parts i q d id r own (inr above) (inr other) = rw (le-ltb q d above, ne_eqb q d other) refl
-  look_parts i q d id None own (inr above) (inl same) = rw (le-ltb q d above, eq-eqb q d same) refl
-  look_parts i q d id (Some r) own (inr above) (inl same) = rw (le-ltb q d above, eq-eqb q d same, own same) refl
+  look_parts i q d id r own = grind (arith, common_steps)
 
   -- what is live, removed or never issued is so for both
   pub look-flat : (t : List (Entry T)) (id : ℤ) → flat.look (flat_table make t) id ≡ flat_look make t id (look t id)
   look-flat t (negsuc n) = refl
-  look-flat t (pos n) = by (cases_lt (n % 32768) (length t))
-    where
-      e : Entry T
-      e = entry_at t (n % 32768)
-
-      own : (n / 32768 ≡ e.destroyed) → identifier (n % 32768) e.destroyed ≡ n
-      own same = omega (arith, same)
-
-      by : (n % 32768 < length t) ⊎ (length t ≤ n % 32768) → flat.look (flat_table make t) (pos n) ≡ flat_look make t (pos n) (look t (pos n))
-      by (inr past) = rw (past-flat 0 (n % 32768) t past, at_past t (n % 32768) past) (look_unused (n / 32768) (cases_eq (n / 32768) 0))
-        where
-          look_unused : (q : ℕ) → (q ≡ 0) ⊎ (q ≢ 0) → flat.Invalid ≡ flat_answer make (n % 32768) n 0 (look_entry q unused)
-          look_unused q (inl z) = rw (le-ltb q 0 (omega arith), eq-eqb q 0 z) refl
-          look_unused q (inr m) = rw (le-ltb q 0 (omega arith), ne_eqb q 0 m) refl
-      by (inl there) =
-          rw (at-table (n % 32768) t there)
-          (look_parts (n % 32768) (n / 32768) e.destroyed n e.row own (cases_lt (n / 32768) e.destroyed) (cases_eq (n / 32768) e.destroyed))
+  look-flat t (pos n) =
+      elim (cases_lt (n % 32768) (length t)) [
+        | inl there ↦
+            let e = entry_at t (n % 32768) in
+            rw (at-table (n % 32768) t there) (look_parts (n % 32768) (n / 32768) e.destroyed n e.row (λ same. omega (arith, same)))
+        | inr past ↦ rw (past-flat 0 (n % 32768) t past, at_past t (n % 32768) past) (grind (arith, common_steps))
+      ]
 
   same_key : ShowsKeys make → (id key : ℕ) (r : Option (Row T)) → key ≢ 0 → flat.has_key key (flat_row make id r) ≡ (row_key r == key)
-  same_key shows id key None live = sym (ne_eqb 0 key (λ z. live (sym z)))
-  same_key shows id key (Some r) live = ap (λ k. k == key) (shows id r)
+  same_key shows id key r live = grind (arith, common_steps)
 
   found_from : ShowsKeys make → (n key : ℕ) (t : List (Entry T)) (at : ℕ → Entry T) → ((k : ℕ) → k < length t → entry_at t k ≡ at (n + k)) → key ≢ 0
       → flat.key_from key n (flat_from make n t) ≡ flat_found make at (key_from key n t)
@@ -125,10 +112,8 @@ module _ {T : Type 0} (make : ℕ → Row T → Segment) where
   found_from shows n key (e ∷ es) at same live =
       let here : e ≡ at n = same 0 (omega arith) ∙ ap at (omega arith) in
       let rest = found_from shows (n + 1) key es at (λ k l. same (suc k) (omega arith) ∙ ap at (omega arith)) live in
-      elim (cases_Bool (row_key e.row == key)) [
-        | inl h ↦ rw (same_key shows (identifier n e.destroyed) key e.row live, h) (ap (λ (x : Entry T). flat.look_segment n (flat_row make (identifier n x.destroyed) x.row)) here)
-        | inr h ↦ rw (same_key shows (identifier n e.destroyed) key e.row live, h) rest
-      ]
+      let own = same_key shows (identifier n e.destroyed) key e.row live in
+      grind arith
 
   -- the row with a key
   pub find_key-flat : ShowsKeys make → (t : List (Entry T)) (key : ℕ) → key ≢ 0 → flat.find_key (flat_table make t) key ≡ flat_found make (entry_at t) (find_key t key)
@@ -147,29 +132,26 @@ module _ {T : Type 0} (make : ℕ → Row T → Segment) where
 
   pub with_segment-flat : (t : List (Entry T)) (i key : ℕ) (v : T) → i ≤ length t
       → flat.with_segment (flat_table make t) i (make (identifier i (entry_at t i).destroyed) (record { key = key; value = v })) ≡ flat_table make (with_row t i key v)
-  with_segment-flat t i key v within = by (cases_eq i (length t))
-    where
-      by : (i ≡ length t) ⊎ (i ≢ length t)
-          → flat.with_segment (flat_table make t) i (make (identifier i (entry_at t i).destroyed) (record { key = key; value = v })) ≡ flat_table make (with_row t i key v)
-      by (inl e) =
-          let d : (entry_at t i).destroyed ≡ 0 = ap (λ (x : Entry T). x.destroyed) (at_past t i (omega arith)) in
-          let long : length (flat_table make t) ≡ length t = length-flat 0 t in
-          rw (long, eq-eqb i (length t) e, d) (ap (λ n. flat_table make t ++ flat_entry make n (held unused key v) ∷ []) e ∙ push-table t (held unused key v))
-      by (inr n) =
-          let long : length (flat_table make t) ≡ length t = length-flat 0 t in
-          rw (long, ne_eqb i (length t) n, destroyed_at-flat t i) (set-table i t (held (entry_at t i) key v))
+  with_segment-flat t i key v within =
+      let long : length (flat_table make t) ≡ length t = length-flat 0 t in
+      elim (cases_eq i (length t)) [
+        | inl e ↦
+            let d : (entry_at t i).destroyed ≡ 0 = ap (λ (x : Entry T). x.destroyed) (at_past t i (omega arith)) in
+            rw (long, eq-eqb i (length t) e, d) (ap (λ n. flat_table make t ++ flat_entry make n (held unused key v) ∷ []) e ∙ push-table t (held unused key v))
+        | inr n ↦ rw (long, ne_eqb i (length t) n, destroyed_at-flat t i) (set-table i t (held (entry_at t i) key v))
+      ]
 
   same_some : (id : ℕ) (r : Option (Row T)) → is_some (flat_row make id r) ≡ is_some r
-  same_some id None = refl
-  same_some id (Some r) = refl
+  same_some id r = grind arith
 
   pub segment_count-flat : (i : ℕ) (t : List (Entry T)) → flat_segments.segment_count (flat_from make i t) ≡ row_count t
   segment_count-flat i [] = refl
   segment_count-flat i (e ∷ es) =
-      sum_by-cons (λ (x : FlatEntry). cond (is_some x.segment) 1 0) (flat_entry make i e) (flat_from make (i + 1) es)
-      ∙ ap (λ n. cond (is_some (flat_row make (identifier i e.destroyed) e.row)) 1 0 + n) (segment_count-flat (i + 1) es)
-      ∙ ap (λ b. cond b 1 0 + row_count es) (same_some (identifier i e.destroyed) e.row)
-      ∙ sym (sum_by-cons (λ (x : Entry T). cond (is_some x.row) 1 0) e es)
+      let first = sum_by-cons (λ (x : FlatEntry). cond (is_some x.segment) 1 0) (flat_entry make i e) (flat_from make (i + 1) es) in
+      let own = sum_by-cons (λ (x : Entry T). cond (is_some x.row) 1 0) e es in
+      let same = same_some (identifier i e.destroyed) e.row in
+      let rest = segment_count-flat (i + 1) es in
+      grind arith
 
   -- one row is shown changed by f
   pub change-flat : (t : List (Entry T)) (id : ℕ) (f : Segment → Segment) (r s : Row T) → id % 32768 < length t → (entry_at t (id % 32768)).row ≡ Some r
@@ -183,33 +165,7 @@ module _ {T : Type 0} (make : ℕ → Row T → Segment) where
 
   -- the flat machine looks at the index in an identifier alone
   pub change-index : (table : List FlatEntry) (id : ℕ) (f : Segment → Segment) → flat_segments.change table (id % 32768) f ≡ flat_segments.change table id f
-  change-index table id f =
-      let same : id % 32768 % 32768 ≡ id % 32768 = omega arith in
-      ap (λ i. set_in table i (flat_segments.with_entry f) (slice_get table i)) same
-
-  -- a live row is shown with another value
-  pub change-with_value : (t : List (Entry T)) (id : ℕ) (f : Segment → Segment) (v w : T) → look t (pos id) ≡ Ok v
-      → f (make id (record { key = key_at t (id % 32768); value = v })) ≡ make id (record { key = key_at t (id % 32768); value = w })
-      → flat_segments.change (flat_table make t) id f ≡ flat_table make (with_value t (id % 32768) w)
-  change-with_value t id f v w looked same =
-      let l = live_row t id v looked in
-      let own : identifier (id % 32768) (entry_at t (id % 32768)).destroyed ≡ id = l.own in
-      change-flat t id f (record { key = key_at t (id % 32768); value = v }) (record { key = key_at t (id % 32768); value = w }) l.within l.there (rw own same)
-      ∙ ap (λ r. flat_table make (set t (id % 32768) (record (entry_at t (id % 32768)) { row = r }))) (sym (ap (row_with_value w) l.there))
-
-  -- a live row is shown with another value and no key
-  pub change-hidden : (t : List (Entry T)) (id : ℕ) (f : Segment → Segment) (v w : T) → look t (pos id) ≡ Ok v
-      → f (make id (record { key = key_at t (id % 32768); value = v })) ≡ make id (record { key = 0; value = w })
-      → flat_segments.change (flat_table make t) id f ≡ flat_table make (with_key (with_value t (id % 32768) w) (id % 32768) 0)
-  change-hidden t id f v w looked same =
-      let l = live_row t id v looked in
-      let own : identifier (id % 32768) (entry_at t (id % 32768)).destroyed ≡ id = l.own in
-      change-flat t id f (record { key = key_at t (id % 32768); value = v }) (record { key = 0; value = w }) l.within l.there (rw own same)
-      ∙ ap (λ u. flat_table make u) (sym (with_key-with_value t (id % 32768) 0 (record { key = key_at t (id % 32768); value = v }) w l.within l.there))
-
-  -- a row destroyed
-  pub destroyed-flat : (t : List (Entry T)) (i : ℕ) → slice_set (flat_table make t) i (record { destroyed = (entry_at t i).destroyed + 1; segment = None }) ≡ flat_table make (without_row t i)
-  destroyed-flat t i = set-table i t (record { destroyed = (entry_at t i).destroyed + 1; row = None })
+  change-index table id f = grind (arith, common_steps)
 
 -- two ways of showing rows that agree on those of a table
 module _ {T : Type 0} (make made : ℕ → Row T → Segment) where
@@ -223,10 +179,8 @@ module _ {T : Type 0} (make made : ℕ → Row T → Segment) where
   flat_from-make i [] same = refl
   flat_from-make i (e ∷ es) same =
       let here : i + 0 ≡ i = omega arith in
-      let first : flat_row make (identifier i e.destroyed) e.row ≡ flat_row made (identifier i e.destroyed) e.row =
-      same_row (identifier i e.destroyed) e.row (λ x is. rw here at (same 0 x (omega arith) is)) in
-      let rest = flat_from-make (i + 1) es
-      (λ k r l is. let next : i + suc k ≡ (i + 1) + k = omega arith in rw next at (same (suc k) r (omega arith) is)) in
+      let first = same_row (identifier i e.destroyed) e.row (λ x is. rw here at (same 0 x (omega arith) is)) in
+      let rest = flat_from-make (i + 1) es (λ k r l is. let next : i + suc k ≡ (i + 1) + k = omega arith in rw next at (same (suc k) r (omega arith) is)) in
       rw (first, rest) refl
 
   pub flat_table-make : (t : List (Entry T))

@@ -1,7 +1,8 @@
 -- The least free index.
-use Rattle.std.proofs.Common.{rules, ◌≡◌, ◌⊎◌, ℕ, zero, suc, ◌+◌, ◌<◌, ◌≤◌, true, false, List, [], ◌∷◌, length, drop, Some, if◌then◌else◌, refl, sym, ap, ◌∙◌, inl, inr, arith, true≢false}
+use Rattle.std.proofs.Common.{◌≡◌, ◌⊎◌, ℕ, zero, suc, ◌+◌, ◌<◌, ◌≤◌, true, false, List, [], ◌∷◌, length, drop, Some, if◌then◌else◌, refl, ap, ◌∙◌, inl, inr, arith}
+use Rattle.std.proofs.lemmas.Grind.{common_steps}
 use Rattle.std.proofs.lemmas.List.{drop_more}
-use Rattle.std.proofs.lemmas.Bool.{cases_lt, cases_Bool}
+use Rattle.std.proofs.lemmas.Bool.{cases_Bool}
 use Rattle.shm_ids.specs.declared.table.Entry.{Entry}
 use Rattle.shm_ids.specs.Table.{unused, entry_at, is_free, free_from, free_index}
 use Rattle.shm_ids.specs.Sound.{UsedBelow}
@@ -10,11 +11,7 @@ use Rattle.shm_ids.proofs.Entries.{at_past}
 module _ {T : Type 0} where
   -- an index below which none is free lies in the table
   pub used_within : (t : List (Entry T)) (first : ℕ) → UsedBelow first t → first ≤ length t
-  used_within t first used = by (cases_lt (length t) first)
-    where
-      by : length t < first ⊎ first ≤ length t → first ≤ length t
-      by (inl l) = absurd (true≢false (sym (ap is_free (at_past t (length t) (omega arith))) ∙ used (length t) l))
-      by (inr l) = l
+  used_within t first used = let past = used (length t) in grind (arith, common_steps, at_past)
 
   -- so the search may begin there
   pub skip : (t : List (Entry T)) (first : ℕ) → UsedBelow first t → free_index t ≡ free_from first (drop first t)
@@ -38,21 +35,14 @@ module _ {T : Type 0} where
     pub used : UsedBelow place t
 
   pub free_found : (n j : ℕ) (t : List (Entry T)) → free_from n t ≡ Some j → FreeAt n j t
-  free_found n j [] h = by (cases_lt n 32768)
-    where
-      by : n < 32768 ⊎ 32768 ≤ n → FreeAt n j []
-      by (inl l) =
-          let e : n ≡ j = search rules in
-          record { place = 0; at = omega arith; within = omega arith; free = refl; small = λ _. omega arith; used = λ i l. absurd (omega arith) }
-      by (inr l) = absurd (search rules)
+  free_found n j [] h = record { place = 0; at = grind arith; within = omega arith; free = refl; small = λ _. grind (arith, common_steps); used = λ i l. absurd (omega arith) }
   free_found n j (e ∷ es) h = by (cases_Bool (is_free e)) (free_found (n + 1) j es)
     where
       by : (is_free e ≡ true) ⊎ (is_free e ≡ false) → (free_from (n + 1) es ≡ Some j → FreeAt (n + 1) j es) → FreeAt n j (e ∷ es)
       by (inl y) more =
-          let i : n ≡ j = search (rules, y) in
-          record { place = 0; at = omega arith; within = omega arith; free = y; small = λ (z : 0 ≡ suc (length es)). absurd (omega arith); used = λ i l. absurd (omega arith) }
+          record { place = 0; at = grind arith; within = omega arith; free = y; small = λ (z : 0 ≡ suc (length es)). absurd (omega arith); used = λ i l. absurd (omega arith) }
       by (inr busy) more =
-          let rest = more (ap (λ b. if b then Some n else free_from (n + 1) es) (sym busy) ∙ h) in
+          let rest = more (rw busy at h) in
           record {
             place = suc rest.place;
             at = omega (arith, rest.at);
@@ -61,7 +51,3 @@ module _ {T : Type 0} where
             small = λ (z : suc rest.place ≡ suc (length es)). rest.small (omega arith);
             used = elim [ zero ↦ λ _. busy | suc k ↦ λ l. rest.used k (omega arith) ];
           }
-
-  -- the least free index lies in the table or at its end
-  pub free_index-within : (t : List (Entry T)) (i : ℕ) → free_index t ≡ Some i → i ≤ length t
-  free_index-within t i h = let f = free_found 0 i t h in omega (arith, f.at, f.within)

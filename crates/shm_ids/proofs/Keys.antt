@@ -7,6 +7,15 @@ use Rattle.shm_ids.specs.declared.table.Entry.{Entry}
 use Rattle.shm_ids.specs.Table.{key_at, row_key, key_from, find_key}
 use Rattle.shm_ids.specs.Sound.{Keyed}
 
+-- what a key put into the map, or taken out of it, leaves
+put-answer : (key q i j : ℕ) (before after : Option ℕ) → after ≡ (if not (nat_eq key 0) && nat_eq key q then Some i else before) → after ≡ Some j
+    → ((key ≡ q) × (q ≢ 0) × (i ≡ j)) ⊎ (before ≡ Some j)
+put-answer key q i j before after put got = grind (arith, common_steps)
+
+drop-answer : (key q j : ℕ) (before after : Option ℕ) → after ≡ (if not (nat_eq key 0) && nat_eq key q then None else before) → after ≡ Some j
+    → (before ≡ Some j) × ((key ≡ 0) ⊎ (key ≢ q))
+drop-answer key q j before after put got = grind (arith, common_steps)
+
 module _ {T : Type 0} where
   pub key_from-at : (n i key : ℕ) (t : List (Entry T)) → key ≢ 0 → key_at t i ≡ key → ((j : ℕ) → key_at t j ≡ key → j ≡ i) → key_from key n t ≡ Some (n + i)
   key_from-at n i key [] live at alone = absurd (live (sym at))
@@ -39,13 +48,6 @@ module _ {T : Type 0} where
           let found = key_from-at 0 i key t n there.0 alone in
           grind (arith, common_steps)
 
-  -- a key that is not found is on no row
-  pub key_at-absent : {S : Type 0} (t : List (Entry T)) (keys : IndexMap ℕ ℕ S) (key i : ℕ) → Keyed t keys → find_key t key ≡ None → key ≢ 0 → key_at t i ≢ key
-  key_at-absent t keys key i keyed none live same =
-      let found = keyed.live i (λ z. live (sym same ∙ z)) in
-      let same_found = find_key-get t keys key keyed in
-      absurd (search (rules, found, same, none))
-
   -- one row gets another key where it had none
   pub Keyed-put : {S : Type 0} (t u : List (Entry T)) (keys after : IndexMap ℕ ℕ S) (i key : ℕ)
       → Keyed t keys → find_key t key ≡ None → key_at t i ≡ 0 → key_at u i ≡ key → ((j : ℕ) → j ≢ i → key_at u j ≡ key_at t j)
@@ -58,21 +60,14 @@ module _ {T : Type 0} where
       absent = sym (find_key-get t keys key keyed) ∙ none
 
       found : (q j : ℕ) → get nat_eq after q ≡ Some j → (key_at u j ≡ q) × (q ≢ 0)
-      found q j e = by (cases_eq key 0) (cases_eq key q)
+      found q j e = by (put-answer key q i j (get nat_eq keys q) (get nat_eq after q) (put q) e)
         where
-          kept : get nat_eq keys q ≡ Some j → (key_at u j ≡ q) × (q ≢ 0)
-          kept had =
+          by : ((key ≡ q) × (q ≢ 0) × (i ≡ j)) ⊎ (get nat_eq keys q ≡ Some j) → (key_at u j ≡ q) × (q ≢ 0)
+          by (inl h) = (ap (key_at u) (sym h.2) ∙ now ∙ h.0, h.1)
+          by (inr had) =
               let there = keyed.found q j had in
               let other : j ≢ i = λ same. there.1 (sym there.0 ∙ ap (key_at t) same ∙ was) in
               (others j other ∙ there.0, there.1)
-
-          by : (key ≡ 0) ⊎ (key ≢ 0) → (key ≡ q) ⊎ (key ≢ q) → (key_at u j ≡ q) × (q ≢ 0)
-          by (inl z) s = kept (let p = put q in grind (arith, common_steps))
-          by (inr n) (inl s) =
-              let p = put q in
-              let at : i ≡ j = grind (arith, common_steps) in
-              (ap (key_at u) (sym at) ∙ now ∙ s, λ z. n (s ∙ z))
-          by (inr n) (inr d) = kept (let p = put q in grind (arith, common_steps))
 
       live : (j : ℕ) → key_at u j ≢ 0 → get nat_eq after (key_at u j) ≡ Some j
       live j some = by (cases_eq j i)
@@ -98,23 +93,11 @@ module _ {T : Type 0} where
       record { found = found; live = live }
     where
       found : (q j : ℕ) → get nat_eq after q ≡ Some j → (key_at u j ≡ q) × (q ≢ 0)
-      found q j e = by (cases_eq key 0) (cases_eq key q)
-        where
-          kept : get nat_eq keys q ≡ Some j → ((key ≡ 0) ⊎ (key ≢ q)) → (key_at u j ≡ q) × (q ≢ 0)
-          kept had why =
-              let there = keyed.found q j had in
-              let at_i : j ≡ i → key ≡ q = λ same. sym was ∙ ap (key_at t) (sym same) ∙ there.0 in
-              let other : j ≢ i = λ same. differ (at_i same) there.1 why in
-              (others j other ∙ there.0, there.1)
-            where
-              differ : key ≡ q → q ≢ 0 → ((key ≡ 0) ⊎ (key ≢ q)) → ⊥
-              differ s n (inl z) = n (sym s ∙ z)
-              differ s n (inr d) = d s
-
-          by : (key ≡ 0) ⊎ (key ≢ 0) → (key ≡ q) ⊎ (key ≢ q) → (key_at u j ≡ q) × (q ≢ 0)
-          by (inl z) s = kept (let p = put q in grind (arith, common_steps)) (inl z)
-          by (inr n) (inl s) = let p = put q in absurd (grind (arith, common_steps))
-          by (inr n) (inr d) = kept (let p = put q in grind (arith, common_steps)) (inr d)
+      found q j e =
+          let left = drop-answer key q j (get nat_eq keys q) (get nat_eq after q) (put q) e in
+          let there = keyed.found q j left.0 in
+          let other : j ≢ i = λ same. absurd (omega (arith, left.1, was, there.0, there.1, ap (key_at t) same)) in
+          (others j other ∙ there.0, there.1)
 
       live : (j : ℕ) → key_at u j ≢ 0 → get nat_eq after (key_at u j) ≡ Some j
       live j some = by (cases_eq j i)

@@ -1,6 +1,5 @@
 -- What a live identifier has.
-use Rattle.std.proofs.Common.{rules, ◌≡◌, ◌≢◌, ◌⊎◌, ℕ, ◌/◌, ◌%◌, ◌<◌, ◌≤◌, ℤ, pos, negsuc, nat_eq, List, length, Option, Some, None, Ok, IsOk, refl, sym, ap, ◌∙◌, inl, inr, arith, true≢false}
-use Rattle.std.proofs.lemmas.Bool.{cases_eq, cases_lt}
+use Rattle.std.proofs.Common.{◌≡◌, ℕ, ◌/◌, ◌%◌, ◌<◌, ℤ, pos, negsuc, nat_eq, List, length, Option, Some, None, Ok, IsOk, refl, sym, ap, ◌∙◌, arith, true≢false}
 use Rattle.std.proofs.lemmas.Grind.{common_steps}
 use Rattle.shm_ids.specs.declared.table.Entry.{Entry}
 use Rattle.shm_ids.specs.declared.table.Row.{Row}
@@ -26,59 +25,33 @@ module _ {T : Type 0} where
     pub looked : look t id ≡ Ok row.value
 
   pub live_entry : (sequence : ℕ) (e : Entry T) → IsOk (look_entry sequence e) → (row : Row T) × (e.row ≡ Some row) × (look_entry sequence e ≡ Ok row.value)
-  live_entry sequence e ok = by (cases_lt sequence e.destroyed) (cases_eq sequence e.destroyed) e.row refl
+  live_entry sequence e ok = by e.row refl
     where
-      by : sequence < e.destroyed ⊎ e.destroyed ≤ sequence → (sequence ≡ e.destroyed) ⊎ (sequence ≢ e.destroyed) → (r : Option (Row T)) → e.row ≡ r
-          → (row : Row T) × (e.row ≡ Some row) × (look_entry sequence e ≡ Ok row.value)
-      by (inl l) _ r p = absurd (grind (arith, common_steps))
-      by (inr g) (inr n) r p = absurd (grind (arith, common_steps))
-      by (inr g) (inl s) None p = absurd (grind (arith, common_steps))
-      by (inr g) (inl s) (Some r) p = (r, p, grind (arith, common_steps))
+      by : (r : Option (Row T)) → e.row ≡ r → (row : Row T) × (e.row ≡ Some row) × (look_entry sequence e ≡ Ok row.value)
+      by None p = absurd (grind (arith, common_steps))
+      by (Some r) p = (r, p, grind (arith, common_steps))
 
   pub live_at : (t : List (Entry T)) (id : ℤ) → IsOk (look t id) → Live t id
   live_at t (negsuc n) ok = absurd (true≢false (sym ok))
   live_at t (pos n) ok =
       let e = live_entry (n / 32768) (entry_at t (n % 32768)) ok in
-      record { within = within e.0 e.1 (cases_lt (n % 32768) (length t)); row = e.0; there = e.1; looked = e.2 }
-    where
-      none_some : {r : Row T} → None ≡ Some r → ⊥
-      none_some h = search rules
-
-      within : (r : Row T) → (entry_at t (n % 32768)).row ≡ Some r → (n % 32768 < length t) ⊎ (length t ≤ n % 32768) → n % 32768 < length t
-      within r p (inl l) = l
-      within r p (inr past) = absurd (none_some (sym (ap (λ e. e.row) (at_past t (n % 32768) past)) ∙ p))
+      record { within = grind (arith, common_steps, at_past); row = e.0; there = e.1; looked = e.2 }
 
   look_entry-own : (e : Entry T) → look_entry e.destroyed e ≡ look_row e.row
   look_entry-own e = grind (arith, common_steps)
 
   -- what is found under the identifier that an index has now
   pub look-id_at : (t : List (Entry T)) (i : ℕ) → i < 32768 → look t (id_at t i) ≡ look_row (entry_at t i).row
-  look-id_at t i small =
-      let d = (entry_at t i).destroyed in
-      rw (identifier-mod i d small, identifier-div i d small) (look_entry-own (entry_at t i))
+  look-id_at t i small = grind (arith, common_steps)
 
   -- a row that is found by its key is live
   pub look-found : {S : Type 0} (t : List (Entry T)) (first key i : ℕ) (keys : IndexMap ℕ ℕ S) → Sound t first keys → get nat_eq keys key ≡ Some i → IsOk (look t (id_at t i))
-  look-found t first key i keys s got =
-      let there = s.keyed.found key i got in
-      by (entry_at t i).row refl (named t first key i keys s got).small there.0 there.1
-    where
-      by : (r : Option (Row T)) → (entry_at t i).row ≡ r → i < 32768 → key_at t i ≡ key → key ≢ 0 → IsOk (look t (id_at t i))
-      by None p small at some = absurd (some (sym at ∙ ap row_key p))
-      by (Some r) p small at some = rw (look-id_at t i small, p) refl
-
-  stale : (q : ℕ) (e : Entry T) → q ≢ e.destroyed → IsOk (look_entry q e) → ⊥
-  stale q e other ok = absurd (grind (arith, common_steps))
+  look-found t first key i keys s got = grind (arith, common_steps)
 
   -- a live identifier is that of its index
   pub live_number : (t : List (Entry T)) (id : ℤ) → IsOk (look t id) → identifier (index_of id) (entry_at t (index_of id)).destroyed ≡ number_of id
   live_number t (negsuc n) ok = absurd (true≢false (sym ok))
-  live_number t (pos n) ok = by (cases_eq (n / 32768) (entry_at t (n % 32768)).destroyed)
-    where
-      by : (n / 32768 ≡ (entry_at t (n % 32768)).destroyed) ⊎ (n / 32768 ≢ (entry_at t (n % 32768)).destroyed)
-          → identifier (n % 32768) (entry_at t (n % 32768)).destroyed ≡ n
-      by (inl same) = omega (arith, same)
-      by (inr other) = absurd (stale (n / 32768) (entry_at t (n % 32768)) other ok)
+  live_number t (pos n) ok = grind (arith, common_steps)
 
   -- what stands at the index of a live identifier
   pub record LiveRow (t : List (Entry T)) (n : ℕ) (v : T) : Type 0 where
@@ -87,13 +60,4 @@ module _ {T : Type 0} where
     pub own : identifier (n % 32768) (entry_at t (n % 32768)).destroyed ≡ n
 
   pub live_row : (t : List (Entry T)) (n : ℕ) (v : T) → look t (pos n) ≡ Ok v → LiveRow t n v
-  live_row t n v looked =
-      let ok : IsOk (look t (pos n)) = rw looked refl in
-      let l = live_at t (pos n) ok in
-      let value : l.row.value ≡ v = cc (l.looked, looked) in
-      let key : key_at t (n % 32768) ≡ l.row.key = ap row_key l.there in
-      record {
-        within = l.within;
-        there = l.there ∙ ap (λ w. Some (record { key = l.row.key; value = w })) value ∙ ap (λ k. Some (record { key = k; value = v })) (sym key);
-        own = live_number t (pos n) ok;
-      }
+  live_row t n v looked = grind (arith, common_steps)

@@ -1,11 +1,10 @@
 -- What each change of a table keeps.
-use Rattle.std.proofs.Common.{rules, ◌≡◌, ◌≢◌, ◌⊎◌, ℕ, ◌+◌, ◌<◌, ◌≤◌, true, false, nat_eq, nat_lt, not, ◌&&◌, List, length, drop, set, Option, Some, None, is_none, if◌then◌else◌, refl, sym, ap, subst, ◌∙◌, inl, inr, arith, length-set}
-use Rattle.std.proofs.lemmas.Bool.{cases_eq, cases_lt}
+use Rattle.std.proofs.Common.{◌≡◌, ◌≢◌, ◌⊎◌, ℕ, ◌+◌, ◌<◌, ◌≤◌, true, false, nat_eq, not, ◌&&◌, List, length, drop, set, Some, None, if◌then◌else◌, refl, sym, ap, subst, ◌∙◌, inl, inr, arith, length-set}
 use Rattle.std.proofs.lemmas.Grind.{common_steps}
 use Rattle.indexmap.specs.IndexMap.{IndexMap, get}
 use Rattle.shm_ids.specs.declared.table.Entry.{Entry}
 use Rattle.shm_ids.specs.declared.table.Row.{Row}
-use Rattle.shm_ids.specs.Table.{entry_at, key_at, row_key, find_key, is_free, free_from, held, with_row, with_key, without_row, with_value, row_with_value}
+use Rattle.shm_ids.specs.Table.{entry_at, key_at, row_key, find_key, is_free, free_from, held, with_row, with_key, without_row, with_value}
 use Rattle.shm_ids.specs.Sound.{holds, UsedBelow, Keyed, Sound}
 use Rattle.shm_ids.proofs.Entries.{at_past, at_row, at_row_other, at_set, at_set_other, with_row-few}
 use Rattle.shm_ids.proofs.Free.{skip, free_found}
@@ -21,18 +20,10 @@ module _ {T : Type 0} where
       subst (λ x. Sound x first after) (sym e) (record { fits = s.fits; used = s.used; keyed = Keyed-same t keys after s.keyed same })
 
   pub free_row : (e : Entry T) → is_free e ≡ true → e.row ≡ None
-  free_row e h = by e.row refl
-    where
-      by : (r : Option (Row T)) → e.row ≡ r → e.row ≡ None
-      by None p = p
-      by (Some r) p = absurd (search (rules, p, h))
+  free_row e h = grind arith
 
   pub free_wear : (e : Entry T) → is_free e ≡ true → e.destroyed < 65536
-  free_wear e h = by (cases_lt e.destroyed 65536)
-    where
-      by : e.destroyed < 65536 ⊎ 65536 ≤ e.destroyed → e.destroyed < 65536
-      by (inl l) = l
-      by (inr l) = absurd (grind (arith, common_steps))
+  free_wear e h = grind (arith, common_steps)
 
   -- what an insert may use of the index that it finds
   pub record Fresh (t : List (Entry T)) (i : ℕ) : Type 0 where
@@ -49,15 +40,11 @@ module _ {T : Type 0} where
       let free : is_free (entry_at t i) ≡ true = subst (λ p. is_free (entry_at t p) ≡ true) at f.free in
       record {
         within = omega (arith, f.within, at);
-        small = small at (cases_eq i (length t)) f.small f.within;
+        small = grind (arith, f.small, f.within, at, s.fits.indexes);
         row = free_row _ free;
         wear = free_wear _ free;
         used = subst (λ p. UsedBelow p t) at f.used;
       }
-    where
-      small : {p : ℕ} → p ≡ i → (i ≡ length t) ⊎ (i ≢ length t) → (p ≡ length t → i < 32768) → p ≤ length t → i < 32768
-      small at (inl e) f w = f (at ∙ e)
-      small at (inr n) f w = omega (arith, s.fits.indexes)
 
   pub Sound-put : {S : Type 0} (t : List (Entry T)) (first i key : ℕ) (v : T) (keys after : IndexMap ℕ ℕ S)
       → Sound t first keys → Fresh t i → find_key t key ≡ None
@@ -77,18 +64,10 @@ module _ {T : Type 0} where
       there j n = at_row_other t i j key v f.within n
 
       sequences : (j : ℕ) → (entry_at (with_row t i key v) j).destroyed + holds (entry_at (with_row t i key v) j).row ≤ 65536
-      sequences j = by (cases_eq j i)
-        where
-          by : (j ≡ i) ⊎ (j ≢ i) → (entry_at (with_row t i key v) j).destroyed + holds (entry_at (with_row t i key v) j).row ≤ 65536
-          by (inl e) = rw (e, here) (omega (arith, f.wear))
-          by (inr n) = rw (there j n) (s.fits.sequences j)
+      sequences j = let before = s.fits.sequences j in let same = there j in grind (arith, here, f.wear)
 
       used : UsedBelow (i + 1) (with_row t i key v)
-      used j l = by (cases_eq j i)
-        where
-          by : (j ≡ i) ⊎ (j ≢ i) → is_free (entry_at (with_row t i key v) j) ≡ false
-          by (inl e) = rw (e, here) refl
-          by (inr n) = rw (there j n) (f.used j (omega arith))
+      used j l = let before = f.used j in let same = there j in grind (arith, here)
 
   -- a change of an entry that leaves it as free as it was, and perhaps takes its key
   pub Sound-drop : {S : Type 0} (t : List (Entry T)) (first later i key : ℕ) (e : Entry T) (keys after : IndexMap ℕ ℕ S)
@@ -110,19 +89,10 @@ module _ {T : Type 0} where
       there j n = at_set_other t i j e n
 
       sequences : (j : ℕ) → (entry_at (set t i e) j).destroyed + holds (entry_at (set t i e) j).row ≤ 65536
-      sequences j = by (cases_eq j i)
-        where
-          by : (j ≡ i) ⊎ (j ≢ i) → (entry_at (set t i e) j).destroyed + holds (entry_at (set t i e) j).row ≤ 65536
-          by (inl same) = rw (same, here) wear
-          by (inr n) = rw (there j n) (s.fits.sequences j)
+      sequences j = let before = s.fits.sequences j in let same = there j in grind (arith, here, wear)
 
       used : UsedBelow later (set t i e)
-      used j l = by (cases_eq j i) still
-        where
-          by : (j ≡ i) ⊎ (j ≢ i) → (is_free e ≡ false) ⊎ (later ≤ i) → is_free (entry_at (set t i e) j) ≡ false
-          by (inl same) (inl busy) = rw (same, here) busy
-          by (inl same) (inr past) = absurd (omega arith)
-          by (inr n) _ = rw (there j n) (s.used j (omega arith))
+      used j l = let before = s.used j in let same = there j in grind (arith, here, still, below)
 
   -- a change of a value
   pub Sound-value : {S : Type 0} (t : List (Entry T)) (first i : ℕ) (v : T) (keys : IndexMap ℕ ℕ S) → Sound t first keys → i < length t → Sound (with_value t i v) first keys
@@ -133,31 +103,17 @@ module _ {T : Type 0} where
         keyed = record { found = λ key j h. rw (key_same j) (s.keyed.found key j h); live = λ j n. rw (key_same j) (s.keyed.live j (λ z. n (key_same j ∙ z))) };
       }
     where
-      e : Entry T
-      e = record (entry_at t i) { row = row_with_value v (entry_at t i).row }
-
-      through : {X : Type 0} (f : Entry T → X) → f e ≡ f (entry_at t i) → (j : ℕ) → f (entry_at (with_value t i v) j) ≡ f (entry_at t j)
-      through f same j = by (cases_eq j i)
-        where
-          by : (j ≡ i) ⊎ (j ≢ i) → f (entry_at (with_value t i v) j) ≡ f (entry_at t j)
-          by (inl k) = ap (λ x. f (entry_at (with_value t i v) x)) k ∙ ap f (at_set t i e within) ∙ same ∙ ap (λ x. f (entry_at t x)) (sym k)
-          by (inr n) = ap f (at_set_other t i j e n)
-
-      row_same : {X : Type 0} (f : Option (Row T) → X) → ((r : Row T) → f (Some (record r { value = v })) ≡ f (Some r)) → (r : Option (Row T)) → f (row_with_value v r) ≡ f r
-      row_same f h None = refl
-      row_same f h (Some r) = h r
-
       destroyed : (j : ℕ) → (entry_at (with_value t i v) j).destroyed ≡ (entry_at t j).destroyed
-      destroyed = through (λ x. x.destroyed) refl
+      destroyed j = grind (arith, common_steps)
 
       held_same : (j : ℕ) → holds (entry_at (with_value t i v) j).row ≡ holds (entry_at t j).row
-      held_same = through (λ x. holds x.row) (row_same holds (λ r. refl) (entry_at t i).row)
+      held_same j = grind (arith, common_steps)
 
       free_same : (j : ℕ) → is_free (entry_at (with_value t i v) j) ≡ is_free (entry_at t j)
-      free_same = through is_free (row_same (λ r. is_none r && nat_lt (entry_at t i).destroyed 65536) (λ r. refl) (entry_at t i).row)
+      free_same j = grind (arith, common_steps)
 
       key_same : (j : ℕ) → key_at (with_value t i v) j ≡ key_at t j
-      key_same = through (λ x. row_key x.row) (row_same row_key (λ r. refl) (entry_at t i).row)
+      key_same j = grind (arith, common_steps)
 
   -- the row that the map names
   pub record Named (t : List (Entry T)) (i : ℕ) : Type 0 where
@@ -168,16 +124,8 @@ module _ {T : Type 0} where
   pub named : {S : Type 0} (t : List (Entry T)) (first key i : ℕ) (keys : IndexMap ℕ ℕ S) → Sound t first keys → get nat_eq keys key ≡ Some i → Named t i
   named t first key i keys s h =
       let there = s.keyed.found key i h in
-      let within = inside (cases_lt i (length t)) there in
-      record { within = within; small = omega (arith, s.fits.indexes); wear = wear (entry_at t i).row refl there (s.fits.sequences i) }
-    where
-      inside : (i < length t) ⊎ (length t ≤ i) → (key_at t i ≡ key) × (key ≢ 0) → i < length t
-      inside (inl l) _ = l
-      inside (inr past) there = absurd (there.1 (sym there.0 ∙ ap (λ e. row_key e.row) (at_past t i past)))
-
-      wear : (r : Option (Row T)) → (entry_at t i).row ≡ r → (key_at t i ≡ key) × (key ≢ 0) → (entry_at t i).destroyed + holds (entry_at t i).row ≤ 65536 → (entry_at t i).destroyed < 65536
-      wear None p there _ = absurd (there.1 (sym there.0 ∙ ap row_key p))
-      wear (Some r) p there below = omega (arith, rw p at below)
+      let within : i < length t = grind (arith, common_steps, at_past) in
+      record { within = within; small = omega (arith, s.fits.indexes); wear = let sequence = s.fits.sequences i in grind (arith, there) }
 
   -- a row's key is hidden
   pub Sound-hide : {S : Type 0} (t : List (Entry T)) (first i : ℕ) (r : Row T) (keys after : IndexMap ℕ ℕ S)

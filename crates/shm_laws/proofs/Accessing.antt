@@ -1,10 +1,11 @@
 -- The places of an access: each lies in a piece, and each of a write in one that is writable.
-use Rattle.std.proofs.Common.{◌≡◌, ◌⊎◌, ℕ, suc, zero, ◌+◌, ◌<◌, true, false, List, [], ◌∷◌, length, Option, Some, None, slice_get, refl, sym, ap, ◌∙◌, inl, inr, arith}
+use Rattle.std.proofs.Common.{◌≡◌, ℕ, suc, zero, ◌+◌, ◌<◌, true, false, List, [], ◌∷◌, length, Option, Some, slice_get, refl, sym, ap, ◌∙◌, inl, inr, arith, get_or}
+use Rattle.std.proofs.lemmas.Grind.{common_steps}
 use Rattle.std.specs.Prelude.{Contains}
 use Rattle.std.proofs.lemmas.Bool.{cases_Bool, and_parts}
-use Rattle.std.proofs.lemmas.Option.{none-some}
+use Rattle.std.proofs.lemmas.Option.{none-some, slice_get-get_or}
 use Rattle.shm_base.specs.State.{Piece}
-use Rattle.shm_base.specs.Access.{Place, covers, place_by, place, joined, places, all_writable, only_writable}
+use Rattle.shm_base.specs.Access.{Place, covers, place_by, place, places, all_writable, only_writable}
 
 -- the piece in which an address lies
 pub record LiesIn (ps : List Piece) (a : ℕ) (q : Place) : Type 0 where
@@ -15,15 +16,18 @@ pub record LiesIn (ps : List Piece) (a : ℕ) (q : Place) : Type 0 where
 
 pub lies-in : (ps : List Piece) (a : ℕ) (q : Place) → place ps a ≡ Some q → LiesIn ps a q
 lies-in [] a q found = absurd (none-some q found)
-lies-in (p ∷ ps) a q found = by (cases_Bool (covers p a)) (lies-in ps a q)
-  where
-    by : (covers p a ≡ true) ⊎ (covers p a ≡ false) → (place ps a ≡ Some q → LiesIn ps a q) → LiesIn (p ∷ ps) a q
-    by (inl h) more =
-        let same : Some (place_by p a) ≡ Some q = rw h at found in
-        record { piece = p; is = (0, omega arith, refl); covered = h; spot = sym (cc same) }
-    by (inr h) more =
-        let l = more (rw h at found) in
-        record { piece = l.piece; is = (suc l.is.0, omega (arith, l.is.1), l.is.2); covered = l.covered; spot = l.spot }
+lies-in (p ∷ ps) a q found =
+    elim (cases_Bool (covers p a)) [
+      | inl h ↦ record { piece = p; is = (0, omega arith, refl); covered = h; spot = grind arith }
+      | inr h ↦
+          let l = lies-in ps a q (rw h at found) in
+          record { piece = l.piece; is = (suc l.is.0, omega (arith, l.is.1), l.is.2); covered = l.covered; spot = l.spot }
+    ]
+
+-- there are as many
+pub places-length : (ps : List Piece) (a n : ℕ) (qs : List Place) → places ps a n ≡ Some qs → length qs ≡ n
+places-length ps a zero qs found = let same : [] ≡ qs = cc found in ap length (sym same)
+places-length ps a (suc n) qs found = grind (arith, places-length ps (a + 1) n)
 
 -- the place of one address of an access
 pub record PlaceOf (ps : List Piece) (a : ℕ) (qs : List Place) (k : ℕ) : Type 0 where
@@ -31,49 +35,25 @@ pub record PlaceOf (ps : List Piece) (a : ℕ) (qs : List Place) (k : ℕ) : Typ
   pub at : slice_get qs k ≡ Some spot
   pub is : place ps (a + k) ≡ Some spot
 
-pub place-of : (ps : List Piece) (a n : ℕ) (qs : List Place) → places ps a n ≡ Some qs → (k : ℕ) → k < n → PlaceOf ps a qs k
-place-of ps a zero qs found k lt = absurd (omega (arith, lt))
-place-of ps a (suc n) qs found k lt = by (place ps a) (places ps (a + 1) n) refl refl found k lt (place-of ps (a + 1) n)
-  where
-    by : (o : Option Place) (r : Option (List Place)) → place ps a ≡ o → places ps (a + 1) n ≡ r → joined o r ≡ Some qs → (k : ℕ) → k < suc n
-        → ((rs : List Place) → places ps (a + 1) n ≡ Some rs → (j : ℕ) → j < n → PlaceOf ps (a + 1) rs j) → PlaceOf ps a qs k
-    by None r first rest whole k lt more = absurd (none-some qs whole)
-    by (Some q) None first rest whole k lt more = absurd (none-some qs whole)
-    by (Some q) (Some rs) first rest whole zero lt more =
-        let is : q ∷ rs ≡ qs = cc whole in
-        let here : a + 0 ≡ a = omega arith in
-        record { spot = q; at = ap (λ (xs : List Place). slice_get xs 0) (sym is); is = ap (place ps) here ∙ first }
-    by (Some q) (Some rs) first rest whole (suc k) lt more =
-        let is : q ∷ rs ≡ qs = cc whole in
-        let next : a + suc k ≡ (a + 1) + k = omega arith in
-        let m = more rs rest k (omega (arith, lt)) in
-        record { spot = m.spot; at = ap (λ (xs : List Place). slice_get xs (suc k)) (sym is) ∙ m.at; is = ap (place ps) next ∙ m.is }
+places-at : (ps : List Piece) (a n : ℕ) (qs : List Place) → places ps a n ≡ Some qs → (k : ℕ) → k < n → slice_get qs k ≡ place ps (a + k)
+places-at ps a zero qs found k lt = absurd (omega (arith, lt))
+places-at ps a (suc n) qs found zero lt = let here : a + 0 ≡ a = omega arith in rw here (grind arith)
+places-at ps a (suc n) qs found (suc k) lt = let next : a + suc k ≡ (a + 1) + k = omega arith in rw next (grind (arith, places-at ps (a + 1) n))
 
--- there are as many
-pub places-length : (ps : List Piece) (a n : ℕ) (qs : List Place) → places ps a n ≡ Some qs → length qs ≡ n
-places-length ps a zero qs found = let same : [] ≡ qs = cc found in ap length (sym same)
-places-length ps a (suc n) qs found = by (place ps a) (places ps (a + 1) n) found (places-length ps (a + 1) n)
-  where
-    by : (o : Option Place) (r : Option (List Place)) → joined o r ≡ Some qs → ((rs : List Place) → r ≡ Some rs → length rs ≡ n) → length qs ≡ suc n
-    by None r whole more = absurd (none-some qs whole)
-    by (Some q) None whole more = absurd (none-some qs whole)
-    by (Some q) (Some rs) whole more = let is : q ∷ rs ≡ qs = cc whole in ap length (sym is) ∙ ap suc (more rs refl)
+nowhere : Place
+nowhere = record { seg = 0; at = 0; writable = false }
+
+pub place-of : (ps : List Piece) (a n : ℕ) (qs : List Place) → places ps a n ≡ Some qs → (k : ℕ) → k < n → PlaceOf ps a qs k
+place-of ps a n qs found k lt =
+    let long = places-length ps a n qs found in
+    let at = slice_get-get_or qs k nowhere (omega (arith, lt, long)) in
+    record { spot = get_or qs k nowhere; at = at; is = sym (places-at ps a n qs found k lt) ∙ at }
 
 pub writable-at : (qs : List Place) (k : ℕ) (q : Place) → all_writable qs ≡ true → slice_get qs k ≡ Some q → q.writable ≡ true
 writable-at [] k q all at = absurd (none-some q at)
-writable-at (p ∷ ps) zero q all at =
-    let is : p ≡ q = cc at in
-    ap (λ (r : Place). r.writable) (sym is) ∙ (and_parts p.writable (all_writable ps) all).0
+writable-at (p ∷ ps) zero q all at = grind (arith, common_steps)
 writable-at (p ∷ ps) (suc k) q all at = writable-at ps k q (and_parts p.writable (all_writable ps) all).1 at
 
 -- the places of a write are those of the access, and all are writable
 pub writable-parts : (o : Option (List Place)) (qs : List Place) → only_writable o ≡ Some qs → (o ≡ Some qs) × (all_writable qs ≡ true)
-writable-parts None qs found = absurd (none-some qs found)
-writable-parts (Some rs) qs found = by (cases_Bool (all_writable rs))
-  where
-    by : (all_writable rs ≡ true) ⊎ (all_writable rs ≡ false) → (Some rs ≡ Some qs) × (all_writable qs ≡ true)
-    by (inl h) =
-        let same : Some rs ≡ Some qs = rw h at found in
-        let is : rs ≡ qs = cc same in
-        (same, ap all_writable (sym is) ∙ h)
-    by (inr h) = absurd (none-some qs (rw h at found))
+writable-parts o qs found = grind arith

@@ -1,89 +1,76 @@
 -- By how much each move changes how many pieces there are.
-use Rattle.std.proofs.Common.{◌≡◌, ◌≢◌, ◌⊎◌, ℕ, ◌+◌, ◌*◌, ◌/◌, ◌%◌, ◌<◌, ◌==◌, ℤ, pos, negsuc, true, false, not, if◌then◌else◌, List, [], ◌∷◌, get_or, Option, Some, None, slice_get, slice_set, refl, sym, ap, subst, ◌∙◌, inl, inr, arith, eq-eqb, ne_eqb, true≢false}
+use Rattle.std.proofs.Common.{◌≡◌, ◌≢◌, ◌⊎◌, ℕ, ◌+◌, ◌*◌, ◌<◌, ◌==◌, ℤ, pos, negsuc, Bool, true, false, not, if◌then◌else◌, List, [], ◌∷◌, Option, Some, None, slice_set, refl, sym, ap, subst, ◌∙◌, inl, inr, arith}
+use Rattle.std.proofs.lemmas.Grind.{common_steps}
 use Rattle.std.specs.Prelude.{filter}
-use Rattle.std.proofs.lemmas.Bool.{cases_Bool, and_parts, eqb-true}
 use Rattle.std.proofs.lemmas.List.Concat.{flat_map-cons}
-use Rattle.std.proofs.lemmas.Option.{none-some, slice_get-get_or}
-use Rattle.shm_base.specs.declared.errno.Errno.TheVariants.{Eacces}
+use Rattle.std.proofs.lemmas.Option.{none-some}
 use Rattle.shm_base.specs.declared.call.ShmidDs.{ShmidDs}
 use Rattle.shm_base.specs.declared.call.Call.{Call}
 use Rattle.shm_base.specs.declared.call.Call.TheVariants.{Shmat, Shmdt, Fork, Exec, Exit}
 use Rattle.shm_base.specs.declared.call.Call.TheVariants as calls
-use Rattle.shm_base.specs.declared.call.Reply.{Reply}
 use Rattle.shm_base.specs.declared.call.Reply.TheVariants.{Addr, Done, Refused}
 use Rattle.shm_base.specs.declared.call.Reply.TheVariants as replies
 use Rattle.shm_base.specs.declared.call.Event.{Event}
 use Rattle.shm_base.specs.declared.flags.AtFlags.{AtFlags}
-use Rattle.shm_base.specs.Permission.{grants}
-use Rattle.shm_base.specs.State.{Piece, Live, Unborn, Runner, Machine, pages_in}
-use Rattle.shm_base.specs.Identifier.{Look, Found, Removed, Invalid, identifier, destroyed_at, destroyed_in, look}
-use Rattle.shm_base.specs.Space.{meets, occupied, parts, cut, has_origin, origin_of, is_named, without_named, pieces_of}
+use Rattle.shm_base.specs.State.{Piece, Live, Runner, Machine, pages_in}
+use Rattle.shm_base.specs.Identifier.{Look, look}
+use Rattle.shm_base.specs.Space.{occupied, parts, cut, origin_of, is_named, without_named, pieces_of}
 use Rattle.shm_base.specs.Segments.{attach_count}
-use Rattle.shm_base.specs.Step.{Caller, Outcome, caller_of, acts, step_by, is_remap, is_rdonly, pieces_with, shown, stat, refuses, gives}
+use Rattle.shm_base.specs.Step.{Caller, Outcome, caller_of, acts, step_by, is_remap, is_rdonly, pieces_with, stat, gives}
 use Rattle.shm_base.specs.History.{is_refusal, IsMove}
-use Rattle.shm_attach.specs.Spaces.{life_in}
 use Rattle.shm_attach.specs.Views.{one_if}
-use Rattle.shm_attach.proofs.Callers.{first_runner, child_at}
 use Rattle.shm_attach.proofs.Processes.{one_more, pieces_of-inserted, pieces_of-filter}
 use Rattle.shm_segments.proofs.Entries.{sum-set}
 use Rattle.shm_laws.specs.Pieces.{held, hands_pieces, CountsPieces}
 use Rattle.shm_laws.specs.Writing.{held_by}
-use Rattle.shm_laws.proofs.Handing.{Takes, caller-at, Rests, Hands, pick_by, none-stay, hands-acts}
-use Rattle.shm_laws.proofs.Looks.{entry-found}
+use Rattle.shm_laws.proofs.Handing.{Takes, caller-at, Rests, Attaches, Leaves, Forks, Hands, none-stay, hands-acts}
+use Rattle.shm_laws.proofs.Looks.{found-own}
 use Rattle.shm_laws.proofs.Refusing.{failure-refusal}
-use Rattle.shm_laws.proofs.Stepping.{Bare}
+use Rattle.shm_laws.proofs.Stepping.{Bare, unborn-bare}
 
 -- PIECES THAT ARE CUT OR NAMED
 
 -- where nothing lies nothing is cut
 cut-free : (from to : ℕ) (ps : List Piece) → occupied ps from to ≡ false → cut from to ps ≡ ps
 cut-free from to [] free = refl
-cut-free from to (p ∷ ps) free = by (cases_Bool (meets from to p)) (cut-free from to ps)
-  where
-    by : (meets from to p ≡ true) ⊎ (meets from to p ≡ false) → (occupied ps from to ≡ false → cut from to ps ≡ ps) → cut from to (p ∷ ps) ≡ p ∷ ps
-    by (inl m) more = absurd (true≢false (rw m at free))
-    by (inr m) more = flat_map-cons (parts from to) p ps ∙ rw m (ap (λ qs. p ∷ qs) (more (rw m at free)))
+cut-free from to (p ∷ ps) free =
+    let rest = cut-free from to ps in
+    let whole = flat_map-cons (parts from to) p ps in
+    grind (arith, common_steps)
 
 -- of other segments none is named
 named-other : (addr seg j : ℕ) (ps : List Piece) → j ≢ seg → pieces_of j (without_named addr seg ps) ≡ pieces_of j ps
 named-other addr seg j [] apart = refl
-named-other addr seg j (p ∷ ps) apart = by (cases_Bool (is_named addr seg p)) (named-other addr seg j ps apart)
-  where
-    own : pieces_of j (p ∷ ps) ≡ pieces_of j ps + one_if j p.seg
-    own = one_more j p ps
-
-    by : (is_named addr seg p ≡ true) ⊎ (is_named addr seg p ≡ false) → pieces_of j (without_named addr seg ps) ≡ pieces_of j ps → pieces_of j (without_named addr seg (p ∷ ps)) ≡ pieces_of j (p ∷ ps)
-    by (inl h) rest =
-        let same : p.seg ≡ seg = eqb-true p.seg seg (and_parts (has_origin addr p) (p.seg == seg) h).1 in
-        let zero : one_if j p.seg ≡ 0 = rw (ne_eqb p.seg j (λ k. apart (sym k ∙ same))) refl in
-        rw h (omega (arith, rest, own, zero))
-    by (inr h) rest = let more = one_more j p (without_named addr seg ps) in rw h (omega (arith, rest, own, more))
+named-other addr seg j (p ∷ ps) apart =
+    let rest = named-other addr seg j ps apart in
+    let own = one_more j p ps in
+    let more = one_more j p (without_named addr seg ps) in
+    grind (arith, common_steps)
 
 -- of the segment that is named one at least is
 named-fewer : (addr : ℕ) (ps : List Piece) (p : Piece) → origin_of addr ps ≡ Some p → pieces_of p.seg (without_named addr p.seg ps) < pieces_of p.seg ps
 named-fewer addr [] p found = absurd (none-some p found)
-named-fewer addr (q ∷ qs) p found = by (cases_Bool (has_origin addr q)) (named-fewer addr qs p)
-  where
-    own : pieces_of p.seg (q ∷ qs) ≡ pieces_of p.seg qs + one_if p.seg q.seg
-    own = one_more p.seg q qs
-
-    by : (has_origin addr q ≡ true) ⊎ (has_origin addr q ≡ false) → (origin_of addr qs ≡ Some p → pieces_of p.seg (without_named addr p.seg qs) < pieces_of p.seg qs)
-        → pieces_of p.seg (without_named addr p.seg (q ∷ qs)) < pieces_of p.seg (q ∷ qs)
-    by (inl h) more =
-        let same : Some q ≡ Some p = rw h at found in
-        let is : q ≡ p = cc same in
-        let seg : q.seg ≡ p.seg = ap (λ (r : Piece). r.seg) is in
-        let one : one_if p.seg q.seg ≡ 1 = rw (eq-eqb q.seg p.seg seg) refl in
-        let named : is_named addr p.seg q ≡ true = rw (h, eq-eqb q.seg p.seg seg) refl in
-        let fewer = pieces_of-filter p.seg (λ r. not (is_named addr p.seg r)) qs in
-        rw named (omega (arith, own, one, fewer))
-    by (inr h) more =
-        let named : is_named addr p.seg q ≡ false = rw h refl in
-        let rest = more (rw h at found) in
-        let kept = one_more p.seg q (without_named addr p.seg qs) in
-        rw named (omega (arith, own, rest, kept))
+named-fewer addr (q ∷ qs) p found =
+    let rest = named-fewer addr qs p in
+    let own = one_more p.seg q qs in
+    let fewer = pieces_of-filter p.seg (λ r. not (is_named addr p.seg r)) qs in
+    let kept = one_more p.seg q (without_named addr p.seg qs) in
+    grind (arith, common_steps)
 
 -- ONE CALL
+
+-- a call that did one of the four things did none of the others
+no-rest : (s : Machine) (call : Call) (o : Outcome) → Rests s call o → hands_pieces call ≡ true → is_refusal o.reply ≡ false → ⊥
+no-rest s call o k gives clear = grind arith
+
+no-fork : (c : Caller) (call : Call) (stays : Piece → Bool) (child : ℕ) → Takes c call stays → call ≡ Fork child → ⊥
+no-fork c call stays child taken asked = grind arith
+
+all-hands : (call : Call) → (call ≡ Exec) ⊎ (call ≡ Exit) → hands_pieces call ≡ true
+all-hands call which = grind arith
+
+no-quiet : (s : Machine) (c : Caller) (call : Call) (o : Outcome) → Attaches s c call o ⊎ (Leaves s c call o ⊎ Forks s c call o) → (hands_pieces call ≡ false) ⊎ (is_refusal o.reply ≡ true) → ⊥
+no-quiet s c call o k why = grind arith
 
 module _ (s : Machine) (pid : ℕ) (c : Caller) (live : caller_of s pid ≡ Some c) (bare : Bare s.runners) (call : Call) (o : Outcome) where
   -- the caller's pieces go and others come
@@ -96,124 +83,71 @@ module _ (s : Machine) (pid : ℕ) (c : Caller) (live : caller_of s pid ≡ Some
   mine : (j : ℕ) → held s pid j ≡ pieces_of j c.pieces
   mine j = ap (λ h. pieces_of j (held_by h)) live
 
-  -- why another thing was not done
-  hands : (d : Call) → call ≡ d → hands_pieces d ≡ true → hands_pieces call ≡ false → ⊥
-  hands d asked given none = true≢false (sym given ∙ ap hands_pieces (sym asked) ∙ none)
-
-  done : (r : Reply) → o.reply ≡ r → is_refusal r ≡ false → is_refusal o.reply ≡ true → ⊥
-  done r answer clear refused = true≢false (sym refused ∙ ap is_refusal answer ∙ clear)
-
-  idle : (d : Call) (r : Reply) → call ≡ d → hands_pieces d ≡ true → o.reply ≡ r → is_refusal r ≡ false → Rests s call o → ⊥
-  idle d r asked given answer clear k = by k.why
-    where
-      by : (hands_pieces call ≡ false) ⊎ (is_refusal o.reply ≡ true) → ⊥
-      by (inl none) = hands d asked given none
-      by (inr refused) = done r answer clear refused
-
   attach-counts : Hands s c call o → (id addr base : ℕ) (flags : AtFlags) → call ≡ Shmat (pos id) addr flags → o.reply ≡ Addr base → is_remap flags ≡ false
       → (j : ℕ) → attach_count o.state.runners j ≡ attach_count s.runners j + (if id == j then 1 else 0)
-  attach-counts (inl k) id addr base flags asked answer plain j = absurd (idle (Shmat (pos id) addr flags) (Addr base) asked refl answer refl k)
   attach-counts (inr (inl k)) id addr base flags asked answer plain j =
-      let same : Shmat (pos id) addr flags ≡ Shmat (pos k.seg) k.addr k.flags = sym asked ∙ k.asked in
-      let seg : k.seg ≡ id = cc same in
-      let flag : flags ≡ k.flags = cc same in
-      let free = cut-free k.base (k.base + 4096 * pages_in k.segment) c.pieces (k.free (ap is_remap (sym flag) ∙ plain)) in
+      let seg : k.seg ≡ id = cc in
+      let flag : k.flags ≡ flags = cc in
+      let free = cut-free k.base (k.base + 4096 * pages_in k.segment) c.pieces (k.free (ap is_remap flag ∙ plain)) in
       let piece : Piece = record { base = k.base; seg = k.seg; first_page = 0; pages = pages_in k.segment; writable = not (is_rdonly k.flags) } in
       let more = pieces_of-inserted j piece (cut k.base (k.base + 4096 * pages_in k.segment) c.pieces) in
       let left = ap (pieces_of j) free in
       let all = swap (record { pid = c.pid; life = Live c.cred; pieces = pieces_with c k.seg k.segment k.flags k.base }) j in
       let one : one_if j k.seg ≡ (if id == j then 1 else 0) = ap (one_if j) seg in
       rw k.runners (omega (arith, all, more, left, one))
-  attach-counts (inr (inr (inl k))) id addr base flags asked answer plain j = absurd (by k.taken)
-    where
-      by : Takes c call k.stays → ⊥
-      by (inl t) = let no : Shmat (pos id) addr flags ≡ Shmdt t.0 = sym asked ∙ t.2 in cc no
-      by (inr (inl e, t)) = let no : Shmat (pos id) addr flags ≡ Exec = sym asked ∙ e in cc no
-      by (inr (inr e, t)) = let no : Shmat (pos id) addr flags ≡ Exit = sym asked ∙ e in cc no
-  attach-counts (inr (inr (inr k))) id addr base flags asked answer plain j =
-      let no : Shmat (pos id) addr flags ≡ Fork k.child = sym asked ∙ k.asked in absurd (cc no)
+  attach-counts (inl k) id addr base flags asked answer plain j = absurd (no-rest s call o k (ap hands_pieces asked) (ap is_refusal answer))
+  attach-counts (inr (inr (inl k))) id addr base flags asked answer plain j = cc
+  attach-counts (inr (inr (inr k))) id addr base flags asked answer plain j = cc
 
   fork-counts : Hands s c call o → (child : ℕ) → call ≡ Fork child → o.reply ≡ Done → (j : ℕ) → attach_count o.state.runners j ≡ attach_count s.runners j + held s pid j
-  fork-counts (inl k) child asked answer j = absurd (idle (Fork child) Done asked refl answer refl k)
-  fork-counts (inr (inl k)) child asked answer j = let no : Addr k.base ≡ Done = sym k.answer ∙ answer in absurd (cc no)
-  fork-counts (inr (inr (inl k))) child asked answer j = absurd (by k.taken)
-    where
-      by : Takes c call k.stays → ⊥
-      by (inl t) = let no : Fork child ≡ Shmdt t.0 = sym asked ∙ t.2 in cc no
-      by (inr (inl e, t)) = let no : Fork child ≡ Exec = sym asked ∙ e in cc no
-      by (inr (inr e, t)) = let no : Fork child ≡ Exit = sym asked ∙ e in cc no
   fork-counts (inr (inr (inr k))) child asked answer j =
-      let at = child_at k.child k.index s.runners k.unborn in
-      let old : Runner = get_or s.runners k.index first_runner in
-      let there : slice_get s.runners k.index ≡ Some old = slice_get-get_or s.runners k.index first_runner at.within in
-      let unborn : old.life ≡ Unborn = sym (ap life_in there) ∙ at.unborn in
-      let none : pieces_of j old.pieces ≡ 0 = ap (pieces_of j) (bare k.index old there unborn) in
-      let all = sum-set (λ (y : Runner). pieces_of j y.pieces) s.runners k.index (record { pid = k.child; life = Live c.cred; pieces = c.pieces }) old there in
+      let old = unborn-bare k.child k.index s.runners k.unborn bare in
+      let none : pieces_of j old.0.pieces ≡ 0 = ap (pieces_of j) old.2 in
+      let all = sum-set (λ (y : Runner). pieces_of j y.pieces) s.runners k.index (record { pid = k.child; life = Live c.cred; pieces = c.pieces }) old.0 old.1 in
       let own = mine j in
       rw k.runners (omega (arith, all, none, own))
+  fork-counts (inl k) child asked answer j = absurd (no-rest s call o k (ap hands_pieces asked) (ap is_refusal answer))
+  fork-counts (inr (inl k)) child asked answer j = cc
+  fork-counts (inr (inr (inl k))) child asked answer j = absurd (no-fork c call k.stays child k.taken asked)
 
   left-counts : Hands s c call o → (call ≡ Exec) ⊎ (call ≡ Exit) → o.reply ≡ Done → (j : ℕ) → attach_count o.state.runners j + held s pid j ≡ attach_count s.runners j
-  left-counts (inl k) (inl e) answer j = absurd (idle Exec Done e refl answer refl k)
-  left-counts (inl k) (inr e) answer j = absurd (idle Exit Done e refl answer refl k)
-  left-counts (inr (inl k)) which answer j = let no : Addr k.base ≡ Done = sym k.answer ∙ answer in absurd (cc no)
-  left-counts (inr (inr (inl k))) which answer j = by k.taken which
+  left-counts (inr (inr (inl k))) which answer j = by k.taken
     where
-      by : Takes c call k.stays
-          → (call ≡ Exec) ⊎ (call ≡ Exit) → attach_count o.state.runners j + held s pid j ≡ attach_count s.runners j
-      by (inl t) (inl e) = let no : Exec ≡ Shmdt t.0 = sym e ∙ t.2 in absurd (cc no)
-      by (inl t) (inr e) = let no : Exit ≡ Shmdt t.0 = sym e ∙ t.2 in absurd (cc no)
-      by (inr t) e =
+      by : Takes c call k.stays → attach_count o.state.runners j + held s pid j ≡ attach_count s.runners j
+      by (inl t) = absurd (grind arith)
+      by (inr t) =
           let none : pieces_of j (filter k.stays c.pieces) ≡ 0 = ap (λ f. pieces_of j (filter f c.pieces)) t.1 ∙ ap (pieces_of j) (sym (none-stay c.pieces)) in
           let all = swap (record { pid = c.pid; life = k.life; pieces = filter k.stays c.pieces }) j in
           let own = mine j in
           rw k.runners (omega (arith, all, none, own))
-  left-counts (inr (inr (inr k))) (inl e) answer j = let no : Exec ≡ Fork k.child = sym e ∙ k.asked in absurd (cc no)
-  left-counts (inr (inr (inr k))) (inr e) answer j = let no : Exit ≡ Fork k.child = sym e ∙ k.asked in absurd (cc no)
+  left-counts (inl k) which answer j = absurd (no-rest s call o k (all-hands call which) (ap is_refusal answer))
+  left-counts (inr (inl k)) which answer j = cc
+  left-counts (inr (inr (inr k))) (inl e) answer j = cc
+  left-counts (inr (inr (inr k))) (inr e) answer j = cc
 
   abbrev Loses : Type 0
   Loses = (id : ℕ) × (attach_count o.state.runners id < attach_count s.runners id) × ((j : ℕ) → j ≢ id → attach_count o.state.runners j ≡ attach_count s.runners j)
 
   detach-counts : Hands s c call o → (addr : ℕ) → call ≡ Shmdt addr → o.reply ≡ Done → Loses
-  detach-counts (inl k) addr asked answer = absurd (idle (Shmdt addr) Done asked refl answer refl k)
-  detach-counts (inr (inl k)) addr asked answer = let no : Addr k.base ≡ Done = sym k.answer ∙ answer in absurd (cc no)
   detach-counts (inr (inr (inl k))) addr asked answer = by k.taken
     where
       by : Takes c call k.stays → Loses
-      by (inr (inl e, t)) = let no : Shmdt addr ≡ Exec = sym asked ∙ e in absurd (cc no)
-      by (inr (inr e, t)) = let no : Shmdt addr ≡ Exit = sym asked ∙ e in absurd (cc no)
-      by (inl (a, p, e, found, stays)) = (p.seg, fewer, others)
-        where
-          rest : (j : ℕ) → pieces_of j (filter k.stays c.pieces) ≡ pieces_of j (without_named a p.seg c.pieces)
-          rest j = ap (λ f. pieces_of j (filter f c.pieces)) stays
-
-          fewer : attach_count o.state.runners p.seg < attach_count s.runners p.seg
-          fewer =
-              let all = swap (record { pid = c.pid; life = k.life; pieces = filter k.stays c.pieces }) p.seg in
-              let less = named-fewer a c.pieces p found in
-              let now = rest p.seg in
-              rw k.runners (omega (arith, all, less, now))
-
-          others : (j : ℕ) → j ≢ p.seg → attach_count o.state.runners j ≡ attach_count s.runners j
-          others j apart =
-              let all = swap (record { pid = c.pid; life = k.life; pieces = filter k.stays c.pieces }) j in
-              let same = named-other a p.seg j c.pieces apart in
-              let now = rest j in
-              rw k.runners (omega (arith, all, same, now))
-  detach-counts (inr (inr (inr k))) addr asked answer = let no : Shmdt addr ≡ Fork k.child = sym asked ∙ k.asked in absurd (cc no)
+      by (inr t) = absurd (grind arith)
+      by (inl (a, p, e, found, stays)) =
+          let rest = λ (j : ℕ). ap (λ f. pieces_of j (filter f c.pieces)) stays in
+          let all = λ (j : ℕ). swap (record { pid = c.pid; life = k.life; pieces = filter k.stays c.pieces }) j in
+          let less = named-fewer a c.pieces p found in (
+            p.seg,
+            rw k.runners (omega (arith, all p.seg, less, rest p.seg)),
+            λ j apart. let same = named-other a p.seg j c.pieces apart in rw k.runners (omega (arith, all j, same, rest j)),
+          )
+  detach-counts (inl k) addr asked answer = absurd (no-rest s call o k (ap hands_pieces asked) (ap is_refusal answer))
+  detach-counts (inr (inl k)) addr asked answer = absurd (cc)
+  detach-counts (inr (inr (inr k))) addr asked answer = absurd (cc)
 
   quiet-counts : Hands s c call o → (hands_pieces call ≡ false) ⊎ (is_refusal o.reply ≡ true) → (j : ℕ) → attach_count o.state.runners j ≡ attach_count s.runners j
   quiet-counts (inl k) why j = ap (λ rs. attach_count rs j) k.runners
-  quiet-counts (inr (inl k)) (inl none) j = absurd (hands (Shmat (pos k.seg) k.addr k.flags) k.asked refl none)
-  quiet-counts (inr (inl k)) (inr refused) j = absurd (done (Addr k.base) k.answer refl refused)
-  quiet-counts (inr (inr (inl k))) (inr refused) j = absurd (done Done k.answer refl refused)
-  quiet-counts (inr (inr (inl k))) (inl none) j = absurd (by k.taken)
-    where
-      by : Takes c call k.stays → ⊥
-      by (inl t) = hands (Shmdt t.0) t.2 refl none
-      by (inr (inl e, t)) = hands Exec e refl none
-      by (inr (inr e, t)) = hands Exit e refl none
-  quiet-counts (inr (inr (inr k))) (inl none) j = absurd (hands (Fork k.child) k.asked refl none)
-  quiet-counts (inr (inr (inr k))) (inr refused) j = absurd (done Done k.answer refl refused)
+  quiet-counts (inr k) why j = absurd (no-quiet s c call o k why)
 
 -- WHAT STAT SHOWS
 
@@ -221,19 +155,7 @@ abbrev Shows : Machine → ℤ → ShmidDs → Type 0
 Shows s id d = (n : ℕ) × (id ≡ pos n) × (d.nattch ≡ attach_count s.runners n)
 
 stat-shows : (s : Machine) (c : Caller) (m : ℕ) (d : ShmidDs) (l : Look) → look s.table (pos m) ≡ l → (stat s c l).reply ≡ replies.Stat d → Shows s (pos m) d
-stat-shows s c m d Invalid is told = absurd (cc told)
-stat-shows s c m d Removed is told = absurd (cc told)
-stat-shows s c m d (Found i x) is told =
-    let e = entry-found (m % 32768) (m / 32768) i x (slice_get s.table (m % 32768)) is in
-    let count : destroyed_at s.table i ≡ m / 32768 = ap (destroyed_at s.table) e.0 ∙ ap destroyed_in e.1 in
-    let own : identifier i (destroyed_at s.table i) ≡ m = omega (arith, e.0, count) in
-    pick_by (λ o. o.reply ≡ replies.Stat d → Shows s (pos m) d) (not (grants c.cred x.perm (record { read = true; write = false })))
-    (refuses s Eacces) (gives s (replies.Stat (shown s (identifier i (destroyed_at s.table i)) x)))
-    (λ h refused. absurd (cc refused))
-    (λ h same.
-    let is : shown s (identifier i (destroyed_at s.table i)) x ≡ d = cc same in
-    (m, refl, ap (λ (w : ShmidDs). w.nattch) (sym is) ∙ ap (attach_count s.runners) own))
-    told
+stat-shows s c m d l is told = (m, refl, grind (arith, found-own s.table m))
 
 stat-by : (s : Machine) (n : ℕ) (id : ℤ) (d : ShmidDs) (o : Option Caller) → (step_by s n (calls.Stat id) o).reply ≡ replies.Stat d → Shows s id d
 stat-by s n id d None told = absurd (cc told)
@@ -242,17 +164,13 @@ stat-by s n (negsuc m) d (Some c) told = absurd (cc told)
 
 -- EACH MOVE
 
+-- a refusal counts nothing
+counts-refused : (s : Machine) (e : Event) (t : Machine) → is_refusal e.reply ≡ true → t.runners ≡ s.runners → CountsPieces s e t
+counts-refused s e t refused same = grind (arith, common_steps)
+
 counts-by : (s : Machine) (n pid : ℕ) (call : Call) (o : Option Caller) → caller_of s pid ≡ o → Bare s.runners
     → let r = step_by s n call o in CountsPieces s (record { pid = pid; call = call; reply = r.reply }) r.state
-counts-by s n pid call None is bare =
-    record {
-      shown = λ id d asked told. absurd (cc told);
-      attached = λ id addr base flags asked told plain j. absurd (cc told);
-      forked = λ child asked told j. absurd (cc told);
-      left = λ which told j. absurd (cc told);
-      detached = λ addr asked told. absurd (cc told);
-      quiet = λ why j. refl;
-    }
+counts-by s n pid call None is bare = counts-refused s _ s refl refl
 counts-by s n pid call (Some c) is bare =
     let o = acts s n c call in
     let k = hands-acts s n c call in
@@ -268,15 +186,4 @@ counts-by s n pid call (Some c) is bare =
 pub counts-move : (s : Machine) (n : ℕ) (e : Event) (t : Machine) → Bare s.runners → IsMove s n e t → CountsPieces s e t
 counts-move s n e t bare (inl m) =
     subst (λ (o : Outcome). CountsPieces s (record { pid = e.pid; call = e.call; reply = o.reply }) o.state) m (counts-by s n e.pid e.call (caller_of s e.pid) refl bare)
-counts-move s n e t bare (inr x) =
-    record {
-      shown = λ id d asked told. absurd (clear (replies.Stat d) told refl);
-      attached = λ id addr base flags asked told plain j. absurd (clear (Addr base) told refl);
-      forked = λ child asked told j. absurd (clear Done told refl);
-      left = λ which told j. absurd (clear Done told refl);
-      detached = λ addr asked told. absurd (clear Done told refl);
-      quiet = λ why j. ap (λ (u : Machine). attach_count u.runners j) x.unchanged;
-    }
-  where
-    clear : (r : Reply) → e.reply ≡ r → is_refusal r ≡ false → ⊥
-    clear r told other = true≢false (sym (failure-refusal e.call e.reply x.failure) ∙ ap is_refusal told ∙ other)
+counts-move s n e t bare (inr x) = counts-refused s e t (failure-refusal e.call e.reply x.failure) (ap (λ (u : Machine). u.runners) x.unchanged)

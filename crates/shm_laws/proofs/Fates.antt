@@ -1,49 +1,33 @@
 -- What becomes of each index of the table in a step, and of what is kept.
-use Rattle.std.proofs.Common.{◌≡◌, ◌≢◌, ◌⊎◌, ℕ, ◌/◌, ◌%◌, ◌<◌, ◌≤◌, ◌==◌, ◌&&◌, ◌||◌, pos, negsuc, Bool, true, false, List, replicate, Option, Some, None, slice_get, refl, sym, ap, subst, ◌∙◌, inl, inr, arith, eq-eqb, ne_eqb, true≢false}
+use Rattle.std.proofs.Common.{◌≡◌, ◌≢◌, ◌⊎◌, ℕ, ◌/◌, ◌%◌, ◌<◌, ◌≤◌, ◌==◌, ◌||◌, pos, Bool, false, List, replicate, Option, Some, None, slice_get, refl, sym, ap, subst, ◌∙◌, inl, inr, arith, eq-eqb, ne_eqb}
+use Rattle.std.proofs.lemmas.Grind.{common_steps}
 use Rattle.std.specs.Prelude.{option_map}
-use Rattle.std.proofs.lemmas.Bool.{cases_Bool, cases_eq}
-use Rattle.std.proofs.lemmas.Option.{none-some}
+use Rattle.std.proofs.lemmas.Bool.{cases_eq}
 use Rattle.shm_base.specs.declared.call.Call.{Call}
-use Rattle.shm_base.specs.declared.call.Call.TheVariants.{Shmget, Shmat, Shmdt, Stat, Set, Rmid, Lock, Unlock, Load, Store, Xadd, Fork, Exec, Exit, Swapoff}
+use Rattle.shm_base.specs.declared.call.Call.TheVariants.{Rmid}
 use Rattle.shm_base.specs.declared.call.Reply.{Reply}
-use Rattle.shm_base.specs.declared.call.Reply.TheVariants.{Id, Addr, Bytes, Number, Done, Refused}
-use Rattle.shm_base.specs.declared.call.Reply.TheVariants as replies
+use Rattle.shm_base.specs.declared.call.Reply.TheVariants.{Id, Done}
 use Rattle.shm_base.specs.declared.call.Event.{Event}
 use Rattle.shm_base.specs.State.{Segment, Entry, Runner, Machine}
-use Rattle.shm_base.specs.Identifier.{identifier, destroyed_in, with_segment}
+use Rattle.shm_base.specs.Identifier.{identifier, destroyed_in, with_segment, destroyed_at}
 use Rattle.shm_base.specs.Segments.{attach_count, with_entry, marked, change, swept_at}
 use Rattle.shm_base.specs.Step.{Outcome, Caller, step_by, caller_of}
 use Rattle.shm_base.specs.History.{IsMove}
-use Rattle.shm_segments.specs.Table.{segment_in}
 use Rattle.shm_segments.specs.Left.{orphan_in, orphan}
 use Rattle.shm_laws.specs.Identity.{IsSame}
-use Rattle.shm_laws.proofs.Turning.{same_refl, set_in-here, set_in-there, swept_entry, swept-get}
+use Rattle.shm_laws.proofs.Turning.{same_refl, set_in-here, set_in-there, swept_entry, swept-get, Turned, unchanged, turned-over, turned-as, entry-none}
 use Rattle.shm_laws.proofs.Fresh.{IsEmpty, made-at}
-use Rattle.shm_laws.proofs.Looks.{holds, bare_entry, stands-at}
+use Rattle.shm_laws.proofs.Looks.{holds, stands-at}
 use Rattle.shm_laws.specs.Writing.{put, held_by}
 use Rattle.shm_laws.proofs.Refusing.{failure-removed, failure-put}
-use Rattle.shm_laws.proofs.Stepping.{Bare, StillTo, SweepTo, MakeTo, RemoveTo, IsIdle, Kind, over_put, overlay, MadeBy, made_by, Moved, removed, removed_by, kind-acts, still}
+use Rattle.shm_laws.proofs.Stepping.{Bare, SweepTo, MakeTo, RemoveTo, IsIdle, Kind, over_put, overlay, MadeBy, made_by, Moved, removed, kind-acts, still}
 
 -- WHAT EACH MOVE IS
 
 kind-by : (s : Machine) (n : ℕ) (call : Call) (o : Option Caller) → Bare s.runners
     → let r = step_by s n call o in Kind (over_put (held_by o) (put call r.reply)) (made_by o call) s (removed call r.reply) r.reply r.state
 kind-by s n (Rmid (pos id)) None bare = still _ s _
-kind-by s n (Rmid (negsuc id)) None bare = still _ s _
-kind-by s n (Shmget key size mode flags) None bare = still _ s _
-kind-by s n (Shmat id addr flags) None bare = still _ s _
-kind-by s n (Shmdt addr) None bare = still _ s _
-kind-by s n (Stat id) None bare = still _ s _
-kind-by s n (Set id uid gid mode) None bare = still _ s _
-kind-by s n (Lock id) None bare = still _ s _
-kind-by s n (Unlock id) None bare = still _ s _
-kind-by s n (Load a len) None bare = still _ s _
-kind-by s n (Store a bytes) None bare = still _ s _
-kind-by s n (Xadd a add) None bare = still _ s _
-kind-by s n (Fork child) None bare = still _ s _
-kind-by s n Exec None bare = still _ s _
-kind-by s n Exit None bare = still _ s _
-kind-by s n (Swapoff area) None bare = still _ s _
+kind-by s n call None bare = still _ s _
 kind-by s n call (Some c) bare =
     kind-acts (MadeBy c call) s n c call bare
     (λ key size mode flags asked k. record { key = key; mode = mode; flags = flags; asked = asked; process = refl; user = refl; group = refl })
@@ -57,41 +41,8 @@ kind-move s n e t bare (inr x) =
 
 -- WHICH CALL REMOVED
 
-no_name : (reply : Reply) (k id : ℕ) → removed_by reply (negsuc k) ≡ Some id → ⊥
-no_name (Id i) k id h = none-some id h
-no_name (Addr a) k id h = none-some id h
-no_name (Bytes b) k id h = none-some id h
-no_name (Number m) k id h = none-some id h
-no_name (replies.Stat d) k id h = none-some id h
-no_name Done k id h = none-some id h
-no_name (Refused e) k id h = none-some id h
-
-by_done : (reply : Reply) (k id : ℕ) → removed_by reply (pos k) ≡ Some id → (k ≡ id) × (reply ≡ Done)
-by_done (Id i) k id h = absurd (none-some id h)
-by_done (Addr a) k id h = absurd (none-some id h)
-by_done (Bytes b) k id h = absurd (none-some id h)
-by_done (Number m) k id h = absurd (none-some id h)
-by_done (replies.Stat d) k id h = absurd (none-some id h)
-by_done Done k id h = (cc h, refl)
-by_done (Refused e) k id h = absurd (none-some id h)
-
 pub removed-call : (call : Call) (reply : Reply) (id : ℕ) → removed call reply ≡ Some id → (call ≡ Rmid (pos id)) × (reply ≡ Done)
-removed-call (Rmid (pos k)) reply id h = let d = by_done reply k id h in (ap (λ m. Rmid (pos m)) d.0, d.1)
-removed-call (Rmid (negsuc k)) reply id h = absurd (no_name reply k id h)
-removed-call (Shmget key size mode flags) reply id h = absurd (none-some id h)
-removed-call (Shmat z addr flags) reply id h = absurd (none-some id h)
-removed-call (Shmdt addr) reply id h = absurd (none-some id h)
-removed-call (Stat z) reply id h = absurd (none-some id h)
-removed-call (Set z uid gid mode) reply id h = absurd (none-some id h)
-removed-call (Lock z) reply id h = absurd (none-some id h)
-removed-call (Unlock z) reply id h = absurd (none-some id h)
-removed-call (Load a len) reply id h = absurd (none-some id h)
-removed-call (Store a bytes) reply id h = absurd (none-some id h)
-removed-call (Xadd a add) reply id h = absurd (none-some id h)
-removed-call (Fork child) reply id h = absurd (none-some id h)
-removed-call Exec reply id h = absurd (none-some id h)
-removed-call Exit reply id h = absurd (none-some id h)
-removed-call (Swapoff area) reply id h = absurd (none-some id h)
+removed-call call reply id h = grind arith
 
 -- WHAT IS KEPT
 
@@ -104,7 +55,15 @@ abbrev pub names : Option ℕ → ℕ → Bool
 names None id = false
 names (Some n) id = n == id
 
--- a segment that stood: it is swept as it is now, which is as it was but for a mark
+-- an index whose segment, if it holds one, is swept as it is now, which is as it was but for a mark
+record Goes (over : List ℕ → List ℕ) (i : ℕ) (rs : List Runner) (b : Bool) (before after : Option Entry) : Type 0 where
+  turn : Segment → Segment
+  same : (x : Segment) → IsSame x (turn x)
+  dest : (x : Segment) → (turn x).dest ≡ (b || x.dest)
+  bytes : (x : Segment) → (turn x).bytes ≡ over x.bytes
+  at : after ≡ option_map (swept_entry i rs) (option_map (with_entry turn) before)
+
+-- a segment that stood
 pub record Stays (over : List ℕ → List ℕ) (i : ℕ) (rs : List Runner) (b : Bool) (d : ℕ) (x : Segment) (after : Option Entry) : Type 0 where
   pub now : Segment
   pub same : IsSame x now
@@ -121,178 +80,133 @@ pub record IsNew (like : Segment → Type 0) (i : ℕ) (reply : Reply) (d : ℕ)
   pub zeros : (n : ℕ) × (now.bytes ≡ replicate n 0)
   pub at : after ≡ holds d now
 
-left-less : (b : Bool) (m k : ℕ) → b && (m == 0) ≡ false → m ≤ k → b && (k == 0) ≡ false
-left-less false m k h le = refl
-left-less true m k h le =
-    elim (cases_eq k 0) [
-      | inl z ↦ (let none : m ≡ 0 = omega (arith, z, le) in absurd (true≢false (sym (eq-eqb m 0 none) ∙ h)))
-      | inr apart ↦ ne_eqb k 0 apart
-    ]
+record Comes (like : Segment → Type 0) (i : ℕ) (reply : Reply) (before after : Option Entry) : Type 0 where
+  destroyed : ℕ
+  empty : IsEmpty destroyed before
+  new : IsNew like i reply destroyed after
 
-pub not-left : (i : ℕ) (rs : List Runner) (d : ℕ) (y : Segment) → y.dest && (attach_count rs (identifier i d) == 0) ≡ false → holds d y ≡ Some (swept_at i rs d (Some y))
-not-left i rs d y h = rw h refl
+-- where no orphan was and none loses a piece, none is swept
+unswept : (rs qs : List Runner) (i : ℕ) (f : Segment → Segment) → ((id : ℕ) → attach_count rs id ≤ attach_count qs id) → ((x : Segment) → (f x).dest ≡ x.dest) → (o : Option Entry)
+    → orphan_in i rs o ≡ false → option_map (swept_entry i qs) (option_map (with_entry f) o) ≡ option_map (with_entry f) o
+unswept rs qs i f grows dest o none = grind (arith, common_steps, grows, dest)
 
-stays-same : (over : List ℕ → List ℕ) (s t : Machine) (i d : ℕ) (x y : Segment) → orphan s.runners s.table i ≡ false → slice_get s.table i ≡ holds d x → IsSame x y
-    → y.dest ≡ x.dest → y.bytes ≡ over x.bytes
-    → ((id : ℕ) → attach_count s.runners id ≤ attach_count t.runners id) → slice_get t.table i ≡ holds d y → Stays over i t.runners false d x (slice_get t.table i)
-stays-same over s t i d x y none is same dest bytes grows at =
-    let was : x.dest && (attach_count s.runners (identifier i d) == 0) ≡ false = rw is at none in
-    let now : y.dest && (attach_count t.runners (identifier i d) == 0) ≡ false = rw dest (left-less x.dest _ _ was (grows (identifier i d))) in
-    record { now = y; same = same; dest = dest; bytes = bytes; at = at ∙ not-left i t.runners d y now }
+empty-count : (d : ℕ) (o : Option Entry) → IsEmpty d o → destroyed_in o ≡ d
+empty-count d o empty = grind arith
 
-turned-empty : (f : Segment → Segment) (d : ℕ) (o : Option Entry) → IsEmpty d o → option_map (with_entry f) o ≡ o
-turned-empty f d o (inl h) = rw h refl
-turned-empty f d o (inr h) = rw h.0 refl
+still-empty : (i : ℕ) (rs : List Runner) (f : Segment → Segment) (d : ℕ) (o : Option Entry) → IsEmpty d o → option_map (swept_entry i rs) (option_map (with_entry f) o) ≡ o
+still-empty i rs f d o empty = grind arith
 
-swept-empty : (i : ℕ) (rs : List Runner) (d : ℕ) (o : Option Entry) → IsEmpty d o → option_map (swept_entry i rs) o ≡ o
-swept-empty i rs d o (inl h) = rw h refl
-swept-empty i rs d o (inr h) = rw h.0 refl
-
-same-count : (d e : ℕ) (o : Option Entry) → IsEmpty d o → IsEmpty e o → d ≡ e
-same-count d e o (inl a) (inl b) = ap destroyed_in (sym a ∙ b)
-same-count d e o (inl a) (inr b) = absurd (none-some _ (sym b.0 ∙ a))
-same-count d e o (inr a) (inl b) = absurd (none-some _ (sym a.0 ∙ b))
-same-count d e o (inr a) (inr b) = a.1 ∙ sym b.1
+pub holds-empty : (d e : ℕ) (x : Segment) (o : Option Entry) → o ≡ holds d x → IsEmpty e o → ⊥
+holds-empty d e x o is empty = grind arith
 
 -- what is swept is no orphan
-swept-sound : (i : ℕ) (rs : List Runner) (d : ℕ) (y : Segment) → orphan_in i rs (Some (swept_at i rs d (Some y))) ≡ false
-swept-sound i rs d y =
-    elim (cases_Bool (y.dest && (attach_count rs (identifier i d) == 0))) [
-      | inl h ↦ rw h refl
-      | inr h ↦ rw h h
-    ]
+swept-sound : (i : ℕ) (rs : List Runner) (o : Option Entry) → orphan_in i rs (option_map (swept_entry i rs) o) ≡ false
+swept-sound i rs o = grind arith
 
 module _ (over : ℕ → List ℕ → List ℕ) (like : Segment → Type 0) (r : Option ℕ) (reply : Reply) (s t : Machine) (sound : IsMachineSound s) (i : ℕ) (small : i < 32768) where
-  stays-still : (d : ℕ) (x : Segment) → StillTo over s t → slice_get s.table i ≡ holds d x → Stays (over i) i t.runners false d x (slice_get t.table i)
-  stays-still d x k is =
+  -- what becomes of the index
+  abbrev Fate : Bool → Type 0
+  Fate b = Goes (over i) i t.runners b (slice_get s.table i) (slice_get t.table i) ⊎ Comes like i reply (slice_get s.table i) (slice_get t.table i)
+
+  fate-still : Turned (over i) s.table t.table i → ((id : ℕ) → attach_count s.runners id ≤ attach_count t.runners id) → Fate false
+  fate-still u grows = grind (arith, common_steps)
+
+  fate-swept : IsIdle over → SweepTo s t → Fate false
+  fate-swept none k =
       let u = k.turned i in
-      stays-same (over i) s t i d x (u.turn x) (sound.orphans i small) is (u.same x) (u.dest x) (u.bytes x) k.grows (u.at ∙ ap (option_map (with_entry u.turn)) is)
+      let at = ap (λ (es : List Entry). slice_get es i) k.table ∙ swept-get t.runners k.middle i ∙ ap (option_map (swept_entry i t.runners)) u.at in
+      inl (record { turn = u.turn; same = u.same; dest = u.dest; bytes = λ x. u.bytes x ∙ sym (none i x.bytes); at = at })
 
-  stays-swept : (d : ℕ) (x : Segment) → IsIdle over → SweepTo s t → slice_get s.table i ≡ holds d x → Stays (over i) i t.runners false d x (slice_get t.table i)
-  stays-swept d x none k is =
-      let u = k.turned i in
-      record {
-        now = u.turn x;
-        same = u.same x;
-        dest = u.dest x;
-        bytes = u.bytes x ∙ sym (none i x.bytes);
-        at = ap (λ (es : List Entry). slice_get es i) k.table ∙ swept-get t.runners k.middle i ∙ ap (option_map (swept_entry i t.runners)) (u.at ∙ ap (option_map (with_entry u.turn)) is);
-      }
-
-  holds-empty : (d e : ℕ) (x : Segment) (o : Option Entry) → o ≡ holds d x → IsEmpty e o → ⊥
-  holds-empty d e x o is (inl h) = none-some x (ap segment_in (sym h ∙ is))
-  holds-empty d e x o is (inr h) = none-some _ (sym h.0 ∙ is)
-
-  stays-made : (d : ℕ) (x : Segment) → IsIdle over → MakeTo like s reply t → slice_get s.table i ≡ holds d x → Stays (over i) i t.runners false d x (slice_get t.table i)
-  stays-made d x none k is =
-      let m = made-at s.table k.index k.segment k.free in
-      elim (cases_eq k.index i) [
-        | inl h ↦ absurd (holds-empty d m.destroyed x (slice_get s.table k.index) (rw h is) m.empty)
-        | inr apart ↦
-            stays-same (over i) s t i d x x (sound.orphans i small) is (same_refl x) refl (sym (none i x.bytes)) (λ id. rw k.runners (omega arith))
-            (ap (λ (es : List Entry). slice_get es i) k.table ∙ m.there i apart ∙ is)
-      ]
-
-  marked-at : (id d : ℕ) (x : Segment) → id % 32768 ≡ i → slice_get s.table i ≡ holds d x → slice_get (change s.table (id % 32768) marked) i ≡ holds d (marked x)
-  marked-at id d x here is =
-      let twice : (id % 32768) % 32768 ≡ i = omega (arith, here) in
-      rw twice (set_in-here s.table i (with_entry marked) (slice_get s.table i) refl ∙ ap (option_map (with_entry marked)) is)
-
-  stays-removed : (d : ℕ) (x : Segment) (id : ℕ) → IsIdle over → RemoveTo s t id → slice_get s.table i ≡ holds d x → Stays (over i) i t.runners (id == identifier i d) d x (slice_get t.table i)
-  stays-removed d x id none k is = by (cases_eq (id % 32768) i)
-    where
-      after : slice_get t.table i ≡ option_map (swept_entry i t.runners) (slice_get (change s.table (id % 32768) marked) i)
-      after = rw k.runners (ap (λ (es : List Entry). slice_get es i) k.table ∙ swept-get s.runners (change s.table (id % 32768) marked) i)
-
-      by : (id % 32768 ≡ i) ⊎ (id % 32768 ≢ i) → Stays (over i) i t.runners (id == identifier i d) d x (slice_get t.table i)
-      by (inl here) =
-          let there : holds (id / 32768) k.segment ≡ holds d x = sym (stays-found) ∙ is in
-          let count : id / 32768 ≡ d = ap destroyed_in there in
-          let own : id ≡ identifier i d = omega (arith, here, count) in
-          rw (eq-eqb id (identifier i d) own)
-          (record {
-            now = marked x;
-            same = record { size = refl; cpid = refl; cuid = refl; cgid = refl };
-            dest = refl;
-            bytes = sym (none i x.bytes);
-            at = after ∙ ap (option_map (swept_entry i t.runners)) (marked-at id d x here is);
-          })
-        where
-          stays-found : slice_get s.table i ≡ holds (id / 32768) k.segment
-          stays-found = rw here at (stands-at s.table id k.segment k.found)
-      by (inr apart) =
-          let other : id ≢ identifier i d = λ same. apart (omega (arith, same, small)) in
-          let twice : (id % 32768) % 32768 ≢ i = λ same. apart (omega (arith, same)) in
-          rw (ne_eqb id (identifier i d) other)
-          (record {
-            now = x;
-            same = same_refl x;
-            dest = refl;
-            bytes = sym (none i x.bytes);
-            at = after ∙ ap (option_map (swept_entry i t.runners)) (set_in-there s.table _ i (with_entry marked) _ twice ∙ is);
-          })
-
-  -- a segment that stood
-  pub stays : (d : ℕ) (x : Segment) → Kind over like s r reply t → slice_get s.table i ≡ holds d x → Stays (over i) i t.runners (names r (identifier i d)) d x (slice_get t.table i)
-  stays d x (inl (none, inl k)) is = rw none (stays-still d x k is)
-  stays d x (inl (none, inr (no_byte, inl k))) is = rw none (stays-swept d x no_byte k is)
-  stays d x (inl (none, inr (no_byte, inr k))) is = rw none (stays-made d x no_byte k is)
-  stays d x (inr (no_byte, k)) is = rw k.named (stays-removed d x k.id no_byte k.removes is)
-
-  -- an index that held no segment
-  pub comes : (d : ℕ) (o : Option Entry) → Kind over like s r reply t → slice_get s.table i ≡ o → IsEmpty d o → (slice_get t.table i ≡ o) ⊎ IsNew like i reply d (slice_get t.table i)
-  comes d o (inl (none, inl k)) is empty = inl ((k.turned i).at ∙ ap (option_map (with_entry (k.turned i).turn)) is ∙ turned-empty (k.turned i).turn d o empty)
-  comes d o (inl (none, inr (no_byte, inl k))) is empty =
-      inl (ap (λ (es : List Entry). slice_get es i) k.table ∙ swept-get t.runners k.middle i
-      ∙ ap (option_map (swept_entry i t.runners)) ((k.turned i).at ∙ ap (option_map (with_entry (k.turned i).turn)) is ∙ turned-empty (k.turned i).turn d o empty)
-      ∙ swept-empty i t.runners d o empty)
-  comes d o (inl (none, inr (no_byte, inr k))) is empty =
+  fate-made : IsIdle over → MakeTo like s reply t → Fate false
+  fate-made none k =
       let m = made-at s.table k.index k.segment k.free in
       let table = ap (λ (es : List Entry). slice_get es i) k.table in
       elim (cases_eq k.index i) [
         | inl h ↦
-            (let count : m.destroyed ≡ d = same-count m.destroyed d o (subst (IsEmpty m.destroyed) (ap (slice_get s.table) h ∙ is) m.empty) empty in
             inr (record {
-              now = k.segment;
-              made = k.made;
-              answer = k.answer ∙ (λ j. Id (pos (identifier (h j) ((m.count ∙ count) j))));
-              dest = k.fresh;
-              zeros = k.zeros;
-              at = table ∙ sym (ap (slice_get (with_segment s.table k.index k.segment)) h) ∙ m.here ∙ ap (λ c. holds c k.segment) count;
-            }))
-        | inr apart ↦ inl (table ∙ m.there i apart ∙ is)
+              destroyed = m.destroyed;
+              empty = subst (IsEmpty m.destroyed) (ap (slice_get s.table) h) m.empty;
+              new =
+                  record {
+                    now = k.segment;
+                    made = k.made;
+                    answer = k.answer ∙ (λ j. Id (pos (identifier (h j) (m.count j))));
+                    dest = k.fresh;
+                    zeros = k.zeros;
+                    at = table ∙ sym (ap (slice_get (with_segment s.table k.index k.segment)) h) ∙ m.here;
+                  };
+            })
+        | inr apart ↦
+            fate-still (turned-over unchanged (over i) s.table t.table i (λ bytes. sym (none i bytes)) (turned-as s.table t.table i (table ∙ m.there i apart)))
+            (λ id. rw k.runners (omega arith))
       ]
-  comes d o (inr (no_byte, k)) is empty =
-      inl (ap (λ (es : List Entry). slice_get es i) k.removes.table ∙ swept-get s.runners (change s.table (k.id % 32768) marked) i
-      ∙ ap (option_map (swept_entry i s.runners)) (marked-empty (cases_eq ((k.id % 32768) % 32768) i)) ∙ swept-empty i s.runners d o empty)
+
+  fate-removed : (d id : ℕ) → destroyed_at s.table i ≡ d → IsIdle over → RemoveTo s t id → Fate (id == identifier i d)
+  fate-removed d id count none k =
+      elim (cases_eq (id % 32768) i) [
+        | inl here ↦
+            let there : slice_get s.table i ≡ holds (id / 32768) k.segment = rw here at (stands-at s.table id k.segment k.found) in
+            let held : id / 32768 ≡ d = sym (ap destroyed_in there) ∙ count in
+            let twice : (id % 32768) % 32768 ≡ i = omega (arith, here) in
+            rw (eq-eqb id (identifier i d) (omega (arith, here, held)))
+            (inl (record {
+              turn = marked;
+              same = λ x. record { size = refl; cpid = refl; cuid = refl; cgid = refl };
+              dest = λ x. refl;
+              bytes = λ x. sym (none i x.bytes);
+              at = after (with_entry marked) (rw twice (set_in-here s.table i (with_entry marked) (slice_get s.table i) refl));
+            }))
+        | inr apart ↦
+            let other : id ≢ identifier i d = λ same. apart (omega (arith, same, small)) in
+            let twice : (id % 32768) % 32768 ≢ i = λ same. apart (omega (arith, same)) in
+            rw (ne_eqb id (identifier i d) other)
+            (inl (record {
+              turn = λ x. x;
+              same = same_refl;
+              dest = λ x. refl;
+              bytes = λ x. sym (none i x.bytes);
+              at = after (with_entry (λ x. x)) (set_in-there s.table _ i (with_entry marked) _ twice ∙ sym (entry-none (slice_get s.table i)));
+            }))
+      ]
     where
-      marked-empty : (((k.id % 32768) % 32768) ≡ i) ⊎ (((k.id % 32768) % 32768) ≢ i) → slice_get (change s.table (k.id % 32768) marked) i ≡ o
-      marked-empty (inl h) = rw h (set_in-here s.table i (with_entry marked) (slice_get s.table i) refl ∙ ap (option_map (with_entry marked)) is ∙ turned-empty marked d o empty)
-      marked-empty (inr apart) = set_in-there s.table _ i (with_entry marked) _ apart ∙ is
+      after : (g : Entry → Entry) → slice_get (change s.table (id % 32768) marked) i ≡ option_map g (slice_get s.table i)
+          → slice_get t.table i ≡ option_map (swept_entry i t.runners) (option_map g (slice_get s.table i))
+      after g changed =
+          rw k.runners (ap (λ (es : List Entry). slice_get es i) k.table ∙ swept-get s.runners (change s.table (id % 32768) marked) i ∙ ap (option_map (swept_entry i s.runners)) changed)
 
-  -- WHAT IS KEPT STAYS SO
+  fate : (d : ℕ) → destroyed_at s.table i ≡ d → Kind over like s r reply t → Fate (names r (identifier i d))
+  fate d count (inl (none, inl k)) = rw none (fate-still (k.turned i) k.grows)
+  fate d count (inl (none, inr (no_byte, inl k))) = rw none (fate-swept no_byte k)
+  fate d count (inl (none, inr (no_byte, inr k))) = rw none (fate-made no_byte k)
+  fate d count (inr (no_byte, k)) = rw k.named (fate-removed d k.id count no_byte k.removes)
 
-  stays-sound : (b : Bool) (d : ℕ) (x : Segment) → Stays (over i) i t.runners b d x (slice_get t.table i) → orphan t.runners t.table i ≡ false
-  stays-sound b d x k = ap (orphan_in i t.runners) k.at ∙ swept-sound i t.runners d k.now
-
-  new-sound : (d : ℕ) → IsNew like i reply d (slice_get t.table i) → orphan t.runners t.table i ≡ false
-  new-sound d k = ap (orphan_in i t.runners) k.at ∙ rw k.dest refl
-
-  orphan-after : Kind over like s r reply t → (o : Option Entry) → slice_get s.table i ≡ o → orphan t.runners t.table i ≡ false
-  orphan-after k None is = either (comes 0 None k is (inr (refl, refl)))
+  -- a segment that stood
+  pub stays : (d : ℕ) (x : Segment) → Kind over like s r reply t → slice_get s.table i ≡ holds d x → Stays (over i) i t.runners (names r (identifier i d)) d x (slice_get t.table i)
+  stays d x k is = by (fate d (ap destroyed_in is) k)
     where
-      either : (slice_get t.table i ≡ None) ⊎ IsNew like i reply 0 (slice_get t.table i) → orphan t.runners t.table i ≡ false
-      either (inl h) = ap (orphan_in i t.runners) h
-      either (inr h) = new-sound 0 h
-  orphan-after k (Some e) is = in_entry e.destroyed e.segment is
+      by : Fate (names r (identifier i d)) → Stays (over i) i t.runners (names r (identifier i d)) d x (slice_get t.table i)
+      by (inl f) =
+          let at = f.at ∙ ap (λ o. option_map (swept_entry i t.runners) (option_map (with_entry f.turn) o)) is in
+          record { now = f.turn x; same = f.same x; dest = f.dest x; bytes = f.bytes x; at = at }
+      by (inr f) = absurd (holds-empty d f.destroyed x (slice_get s.table i) is f.empty)
+
+  -- an index that held no segment
+  pub comes : (d : ℕ) (o : Option Entry) → Kind over like s r reply t → slice_get s.table i ≡ o → IsEmpty d o → (slice_get t.table i ≡ o) ⊎ IsNew like i reply d (slice_get t.table i)
+  comes d o k is empty = by (fate d count k)
     where
-      in_entry : (d : ℕ) (p : Option Segment) → slice_get s.table i ≡ Some (record { destroyed = d; segment = p }) → orphan t.runners t.table i ≡ false
-      in_entry d (Some x) is = stays-sound (names r (identifier i d)) d x (stays d x k is)
-      in_entry d None is = either (comes d (bare_entry d) k is (inl refl))
-        where
-          either : (slice_get t.table i ≡ bare_entry d) ⊎ IsNew like i reply d (slice_get t.table i) → orphan t.runners t.table i ≡ false
-          either (inl h) = ap (orphan_in i t.runners) h
-          either (inr h) = new-sound d h
+      count : destroyed_at s.table i ≡ d
+      count = ap destroyed_in is ∙ empty-count d o empty
+
+      by : Fate (names r (identifier i d)) → (slice_get t.table i ≡ o) ⊎ IsNew like i reply d (slice_get t.table i)
+      by (inl f) = inl (f.at ∙ ap (λ e. option_map (swept_entry i t.runners) (option_map (with_entry f.turn) e)) is ∙ still-empty i t.runners f.turn d o empty)
+      by (inr f) = inr (subst (λ n. IsNew like i reply n (slice_get t.table i)) (sym (empty-count f.destroyed (slice_get s.table i) f.empty) ∙ count) f.new)
+
+  orphan-after : Kind over like s r reply t → orphan t.runners t.table i ≡ false
+  orphan-after k = by (fate (destroyed_at s.table i) refl k)
+    where
+      by : Fate (names r (identifier i (destroyed_at s.table i))) → orphan t.runners t.table i ≡ false
+      by (inl f) = ap (orphan_in i t.runners) f.at ∙ swept-sound i t.runners (option_map (with_entry f.turn) (slice_get s.table i))
+      by (inr f) = ap (orphan_in i t.runners) f.new.at ∙ rw f.new.dest refl
 
 bare-after : (s : Machine) (e : Event) (t : Machine) → Moved s e t → Bare s.runners → Bare t.runners
 bare-after s e t (inl (none, inl k)) bare = k.bare bare
@@ -303,6 +217,6 @@ bare-after s e t (inr (no_byte, k)) bare = rw k.removes.runners bare
 pub sound-after : (s : Machine) (e : Event) (t : Machine) → Moved s e t → IsMachineSound s → IsMachineSound t
 sound-after s e t k sound =
     record {
-      orphans = λ i small. orphan-after (overlay s e) (made_by (caller_of s e.pid) e.call) (removed e.call e.reply) e.reply s t sound i small k (slice_get s.table i) refl;
+      orphans = λ i small. orphan-after (overlay s e) (made_by (caller_of s e.pid) e.call) (removed e.call e.reply) e.reply s t sound i small k;
       bare = bare-after s e t k sound.bare;
     }

@@ -1,55 +1,42 @@
 -- Each piece lies within a segment that stands.
-use Rattle.std.proofs.Common.{◌≡◌, ℕ, suc, zero, ◌+◌, ◌*◌, ◌/◌, ◌%◌, ◌≤◌, true, List, [], ◌∷◌, length, get_or, Option, Some, None, slice_get, refl, sym, ap, subst, ◌∙◌, inl, inr, arith, eq-eqb}
+use Rattle.std.proofs.Common.{◌≡◌, ℕ, suc, zero, ◌+◌, ◌*◌, ◌%◌, ◌≤◌, true, List, [], ◌∷◌, length, get_or, Option, Some, None, slice_get, refl, sym, ap, subst, ◌∙◌, inl, inr, arith}
+use Rattle.std.proofs.lemmas.Grind.{common_steps}
 use Rattle.std.specs.Prelude.{Contains}
 use Rattle.std.proofs.lemmas.Option.{none-some, slice_get-get_or}
 use Rattle.std.proofs.lemmas.List.Elements.{All-contains, Contains-get_or}
 use Rattle.shm_base.specs.declared.call.Event.{Event}
 use Rattle.shm_base.specs.State.{Segment, Piece, Runner, Machine, Opening, start_of}
-use Rattle.shm_base.specs.Identifier.{Invalid, Found, destroyed_in}
+use Rattle.shm_base.specs.Identifier.{Invalid, Found}
 use Rattle.shm_base.specs.Access.{Place, covers, place_by, place}
 use Rattle.shm_base.specs.Space.{pieces_of}
 use Rattle.shm_base.specs.Segments.{attach_count}
 use Rattle.shm_base.specs.Step.{Caller, caller_of}
 use Rattle.shm_base.specs.History.{IsMove}
-use Rattle.shm_attach.specs.Views.{one_if}
 use Rattle.shm_attach.proofs.Processes.{one_more}
-use Rattle.shm_segments.specs.Table.{segment_in}
 use Rattle.shm_laws.specs.Standing.{Stands, Has, EachPiece}
 use Rattle.shm_laws.specs.Writing.{held_by, put}
 use Rattle.shm_laws.proofs.Fates.{kind-move}
 use Rattle.shm_laws.proofs.Accessing.{lies-in}
 use Rattle.shm_laws.proofs.Granting.{IsPieceGiven, Aligned, each-has, has-own, mine, each-start, given-move, aligned-move}
 use Rattle.shm_laws.proofs.Handing.{IsAligned}
-use Rattle.shm_laws.proofs.Looks.{holds, stands-at}
 use Rattle.shm_laws.proofs.Naming.{Before, came-from}
-use Rattle.shm_laws.proofs.Piecing.{IsWhole, runner-count, whole-move, whole-start}
+use Rattle.shm_laws.proofs.Piecing.{IsWhole, whole-move, whole-start}
 use Rattle.shm_laws.proofs.Putting.{over-length}
 
 -- ONE SEGMENT UNDER ONE IDENTIFIER
 
 pub one-segment : (s : Machine) (id : ℕ) (x y : Segment) → Stands s id x → Stands s id y → x ≡ y
-one-segment s id x y a b =
-    let same : holds (id / 32768) x ≡ holds (id / 32768) y = sym (stands-at s.table id x a) ∙ stands-at s.table id y b in
-    cc (ap segment_in same)
+one-segment s id x y a b = cc
 
 -- two segments at one index are one
 pub one-index : (s : Machine) (a b : ℕ) (x y : Segment) → Stands s a x → Stands s b y → a % 32768 ≡ b % 32768 → a ≡ b
-one-index s a b x y h k same =
-    let both : holds (a / 32768) x ≡ holds (b / 32768) y =
-    sym (stands-at s.table a x h) ∙ ap (λ n. slice_get s.table n) same ∙ stands-at s.table b y k in
-    let count : a / 32768 ≡ b / 32768 = ap destroyed_in both in
-    omega (arith, same, count)
+one-index s a b x y h k same = grind (arith, common_steps)
 
 -- WHO HAS A PIECE IS COUNTED
 
 piece-count : (ps : List Piece) (k : ℕ) (p : Piece) → slice_get ps k ≡ Some p → 1 ≤ pieces_of p.seg ps
 piece-count [] k p is = absurd (cc is)
-piece-count (q ∷ qs) zero p is =
-    let same : q ≡ p = cc is in
-    let seg : q.seg ≡ p.seg = ap (λ (r : Piece). r.seg) same in
-    let more = one_more p.seg q qs in
-    let one : one_if p.seg q.seg ≡ 1 = rw (eq-eqb q.seg p.seg seg) refl in
-    omega (arith, more, one)
+piece-count (q ∷ qs) zero p is = let more = one_more p.seg q qs in grind (arith, common_steps)
 piece-count (q ∷ qs) (suc k) p is =
     let more = one_more p.seg q qs in
     let rest = piece-count qs k p is in
@@ -59,10 +46,7 @@ pub contained : {X : Type 0} (xs : List X) (x : X) (h : Contains xs x) → slice
 contained xs x h = slice_get-get_or xs h.0 x h.1 ∙ ap (λ y. Some y) h.2
 
 pub has-count : (s : Machine) (pid : ℕ) (p : Piece) → Has s pid p → 1 ≤ attach_count s.runners p.seg
-has-count s pid p h =
-    let own = piece-count h.process.pieces h.has.0 p (contained h.process.pieces p h.has) in
-    let all = runner-count s.runners h.is.0 h.process p.seg (contained s.runners h.process h.is) in
-    omega (arith, own, all)
+has-count s pid p h = grind (arith, common_steps)
 
 -- WITHIN ITS SEGMENT
 
@@ -95,10 +79,9 @@ fits-given s e pid p all (inr (inr h)) =
 fits-on : (s : Machine) (e : Event) (t : Machine) (p : Piece) (y : Segment) → Fits s p → Stands t p.seg y → Before s e p.seg y → Fits t p
 fits-on s e t p y old stands (inr new) = let no : Invalid ≡ Found (p.seg % 32768) old.segment = sym new.makes.0 ∙ old.stands in absurd (cc no)
 fits-on s e t p y old stands (inl h) =
-    let same : old.segment ≡ h.segment = one-segment s p.seg old.segment h.segment old.stands h.stood in
-    let long : length y.bytes ≡ length h.segment.bytes = ap length h.bytes ∙ over-length _ (put e.call e.reply) (p.seg % 32768) h.segment.bytes in
-    let was : length old.segment.bytes ≡ length h.segment.bytes = ap (λ (x : Segment). length x.bytes) same in
-    record { segment = y; stands = stands; within = let within = old.within in omega (arith, within, long, was) }
+    let same = one-segment s p.seg old.segment h.segment old.stands h.stood in
+    let long = ap length h.bytes ∙ over-length _ (put e.call e.reply) (p.seg % 32768) h.segment.bytes in
+    record { segment = y; stands = stands; within = grind (arith, old.within) }
 
 -- WHAT HOLDS OF A MACHINE AT ALL TIMES
 

@@ -1,7 +1,8 @@
 -- Where a new segment goes: to an index that holds none.
-use Rattle.std.proofs.Common.{◌≡◌, ◌≢◌, ◌⊎◌, ℕ, suc, zero, ◌+◌, ◌&&◌, true, false, nat_lt, is_none, List, [], ◌∷◌, ◌++◌, length, Option, Some, None, slice_get, refl, sym, ap, ◌∙◌, inl, inr, arith, eq-eqb, ne_eqb, true≢false}
+use Rattle.std.proofs.Common.{◌≡◌, ◌≢◌, ◌⊎◌, ℕ, suc, ◌+◌, ◌&&◌, true, nat_lt, is_none, List, [], ◌∷◌, ◌++◌, length, Option, Some, None, slice_get, refl, sym, ap, ◌∙◌, inl, inr, arith, eq-eqb, ne_eqb, length-append}
+use Rattle.std.proofs.lemmas.Grind.{common_steps}
 use Rattle.std.proofs.lemmas.Bool.{cases_Bool, cases_eq}
-use Rattle.std.proofs.lemmas.Option.{none-some}
+use Rattle.std.proofs.lemmas.Option.{slice_get_past, gets}
 use Rattle.shm_base.specs.State.{Segment, Entry}
 use Rattle.shm_base.specs.Identifier.{free_from, free_index, destroyed_at, destroyed_in, with_segment}
 use Rattle.shm_segments.proofs.Entries.{get-set_same, get-set_other}
@@ -16,49 +17,29 @@ pub record FreeAt (n j : ℕ) (t : List Entry) : Type 0 where
   pub end : (place ≡ length t) ⊎ ((d : ℕ) × (slice_get t place ≡ Some (record { destroyed = d; segment = None })))
 
 entry-bare : (e : Entry) → is_none e.segment && nat_lt e.destroyed 65536 ≡ true → e ≡ record { destroyed = e.destroyed; segment = None }
-entry-bare e h = by e.segment refl h
-  where
-    by : (o : Option Segment) → e.segment ≡ o → is_none o && nat_lt e.destroyed 65536 ≡ true → e ≡ record { destroyed = e.destroyed; segment = None }
-    by None is h = ap (λ (p : Option Segment). record { destroyed = e.destroyed; segment = p }) is
-    by (Some x) is h = absurd (true≢false (sym h))
+entry-bare e h = grind arith
 
 end-found : (n j : ℕ) → free_from n [] ≡ Some j → n ≡ j
-end-found n j h =
-    elim (cases_Bool (nat_lt n 32768)) [
-      | inl b ↦ (let same : Some n ≡ Some j = rw b at h in cc same)
-      | inr b ↦ absurd (none-some j (rw b at h))
-    ]
+end-found n j h = grind arith
 
 pub free_found : (n j : ℕ) (t : List Entry) → free_from n t ≡ Some j → FreeAt n j t
 free_found n j [] h = record { place = 0; at = let same = end-found n j h in omega (arith, same); end = inl refl }
-free_found n j (e ∷ es) h = by (cases_Bool (is_none e.segment && nat_lt e.destroyed 65536)) (free_found (n + 1) j es)
-  where
-    by : (is_none e.segment && nat_lt e.destroyed 65536 ≡ true) ⊎ (is_none e.segment && nat_lt e.destroyed 65536 ≡ false) → (free_from (n + 1) es ≡ Some j → FreeAt (n + 1) j es) → FreeAt n j (e ∷ es)
-    by (inl b) more =
-        let same : Some n ≡ Some j = rw b at h in
-        let is : n ≡ j = cc same in
-        record { place = 0; at = omega (arith, is); end = inr (e.destroyed, ap (λ (x : Entry). Some x) (entry-bare e b)) }
-    by (inr b) more =
-        let f = more (rw b at h) in
-        record { place = suc f.place; at = omega (arith, f.at); end = ends f.end }
-      where
-        ends : {k : ℕ} → (k ≡ length es) ⊎ ((d : ℕ) × (slice_get es k ≡ Some (record { destroyed = d; segment = None }))) → (suc k ≡ suc (length es)) ⊎ ((d : ℕ) × (slice_get es k ≡ Some (record { destroyed = d; segment = None })))
-        ends (inl x) = inl (ap suc x)
-        ends (inr x) = inr x
+free_found n j (e ∷ es) h =
+    elim (cases_Bool (is_none e.segment && nat_lt e.destroyed 65536)) [
+      | inl b ↦ record { place = 0; at = grind arith; end = inr (e.destroyed, ap (λ (x : Entry). Some x) (entry-bare e b)) }
+      | inr b ↦
+          let f = free_found (n + 1) j es (rw b at h) in
+          record { place = suc f.place; at = omega (arith, f.at); end = grind (arith, f.end) }
+    ]
 
 snoc-last : (t : List Entry) (e : Entry) → slice_get (t ++ e ∷ []) (length t) ≡ Some e
-snoc-last [] e = refl
-snoc-last (x ∷ xs) e = snoc-last xs e
+snoc-last t e = grind (arith, common_steps, gets)
 
 snoc-other : (t : List Entry) (e : Entry) (j : ℕ) → j ≢ length t → slice_get (t ++ e ∷ []) j ≡ slice_get t j
-snoc-other [] e zero apart = absurd (apart refl)
-snoc-other [] e (suc j) apart = refl
-snoc-other (x ∷ xs) e zero apart = refl
-snoc-other (x ∷ xs) e (suc j) apart = snoc-other xs e j (λ k. apart (ap suc k))
+snoc-other t e j apart = grind (arith, common_steps, gets, length-append)
 
 behind : (t : List Entry) → slice_get t (length t) ≡ None
-behind [] = refl
-behind (x ∷ xs) = behind xs
+behind t = slice_get_past t (length t) (omega arith)
 
 -- another index keeps what it has, and the free one gets the segment
 pub record MadeAt (t : List Entry) (i : ℕ) (x : Segment) : Type 0 where

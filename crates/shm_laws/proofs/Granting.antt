@@ -1,7 +1,7 @@
 -- Each piece goes back to a shmat that was granted, and each move keeps out who has no leave.
-use Rattle.std.proofs.Common.{◌≡◌, ◌⊎◌, ℕ, ◌+◌, ◌-◌, ◌*◌, ◌/◌, ◌%◌, ◌<◌, ◌≤◌, ◌==◌, ℤ, pos, negsuc, Bool, true, false, not, List, [], ◌∷◌, ◌++◌, length, get_or, Option, Some, None, slice_get, slice_set, refl, sym, ap, subst, ◌∙◌, inl, inr, arith, true≢false}
+use Rattle.std.proofs.Common.{◌≡◌, ◌⊎◌, ℕ, ◌+◌, ◌*◌, ◌%◌, ◌<◌, ℤ, pos, negsuc, Bool, true, false, not, List, [], ◌∷◌, ◌++◌, length, get_or, Option, Some, None, slice_get, slice_set, refl, sym, ap, subst, ◌∙◌, inl, inr, arith, true≢false}
 use Rattle.std.specs.Prelude.{All, Contains}
-use Rattle.std.proofs.lemmas.Bool.{cases_Bool, cases_lt, lt-ltb, le-ltb, eqb-true, not-false}
+use Rattle.std.proofs.lemmas.Bool.{cases_Bool, cases_lt, lt-ltb, le-ltb}
 use Rattle.std.proofs.lemmas.Option.{none-some, slice_get_within, get_or_from_slice_get}
 use Rattle.std.proofs.lemmas.List.Elements.{All-nil, All-append, All-filter, All-map, All-weaker, All-contains, Contains-get_or}
 use Rattle.std.proofs.lemmas.List.Concat.{flat_map-cons}
@@ -9,24 +9,23 @@ use Rattle.std.proofs.lemmas.Grind.{common_steps}
 use Rattle.shm_base.specs.declared.owner.Cred.{Cred}
 use Rattle.shm_base.specs.declared.owner.Perm.{Perm}
 use Rattle.shm_base.specs.declared.call.Call.{Call}
-use Rattle.shm_base.specs.declared.call.Call.TheVariants.{Shmget, Shmat, Shmdt, Stat, Set, Rmid, Lock, Unlock, Load, Store, Xadd, Fork, Exec, Exit, Swapoff}
+use Rattle.shm_base.specs.declared.call.Call.TheVariants.{Set, Rmid, Lock, Unlock, Load, Store, Xadd}
 use Rattle.shm_base.specs.declared.call.Reply.TheVariants.{Done}
 use Rattle.shm_base.specs.declared.call.Event.{Event}
-use Rattle.shm_base.specs.declared.errno.Errno.TheVariants.{Eperm}
-use Rattle.shm_base.specs.Access.{Place, covers, end_of, places, writable_places}
+use Rattle.shm_base.specs.Access.{Place, covers, places, writable_places}
 use Rattle.shm_base.specs.Permission.{owns}
 use Rattle.shm_base.specs.State.{Segment, Piece, Live, Runner, Machine, Opening, start_of, runner_at_start, pages_in}
 use Rattle.shm_base.specs.Identifier.{Look, Found, Removed, Invalid, look}
 use Rattle.shm_base.specs.Space.{meets, part_below, part_above, parts, cut, inserted}
-use Rattle.shm_base.specs.Step.{Caller, Outcome, caller_of, acts, step_by, pieces_with, is_rdonly, refuses, controls, sets, removes, locks, unlocks, load, store, xadd}
+use Rattle.shm_base.specs.Step.{Caller, Outcome, caller_of, acts, step_by, pieces_with, is_rdonly, controls, sets, removes, locks, unlocks, load, store, xadd}
 use Rattle.shm_base.specs.History.{is_refusal, IsMove, IsHistory}
 use Rattle.shm_life.proofs.Pieces.{all-cons, all-head, all-tail, all-slice_set}
 use Rattle.shm_laws.specs.Standing.{Has, EachPiece}
 use Rattle.shm_laws.specs.Leave.{IsPart, IsGranted, IsInherited, GoesBack, Granted, Kept, Inherited, Reach, StaysInside, controlled, IsOwner, OwnerAsks, KeepsOut, NoWayIn}
 use Rattle.shm_laws.proofs.Accessing.{lies-in, place-of, writable-at, writable-parts}
-use Rattle.shm_laws.proofs.Handing.{CallerAt, caller-at, IsAligned, Attaches, Leaves, Forks, Hands, pick_by, hands-acts}
+use Rattle.shm_laws.proofs.Handing.{CallerAt, caller-at, IsAligned, Attaches, Leaves, Forks, Hands, hands-acts}
 use Rattle.shm_laws.proofs.Inducting.{each_move, at_all_times}
-use Rattle.shm_laws.proofs.Looks.{entry-found}
+use Rattle.shm_laws.proofs.Looks.{found-own}
 use Rattle.shm_laws.proofs.Refusing.{failure-refusal}
 
 -- PARTS
@@ -36,35 +35,10 @@ part_refl p = record { seg = refl; writable = refl; pages = refl; from = omega a
 
 module _ (from to : ℕ) (page_from : from % 4096 ≡ 0) (page_to : to % 4096 ≡ 0) where
   below-parts : (p : Piece) → IsAligned p → meets from to p ≡ true → All (λ q. IsPart q p) (part_below from p)
-  below-parts p page m = by (cases_lt p.base from)
-    where
-      inside : from < end_of p
-      inside = grind (arith, common_steps, m)
-
-      part : p.base < from → IsPart (record p { pages = (from - p.base) / 4096 }) p
-      part l = record { seg = refl; writable = refl; pages = refl; from = omega arith; to = omega (arith, inside, l) }
-
-      by : (p.base < from) ⊎ (from ≤ p.base) → All (λ q. IsPart q p) (part_below from p)
-      by (inl l) = rw (lt-ltb p.base from l) (all-cons (λ q. IsPart q p) (record p { pages = (from - p.base) / 4096 }) [] (part l) (All-nil (λ q. IsPart q p)))
-      by (inr n) = rw (le-ltb p.base from n) (All-nil (λ q. IsPart q p))
+  below-parts p page m = grind (arith, common_steps)
 
   above-parts : (p : Piece) → IsAligned p → meets from to p ≡ true → All (λ q. IsPart q p) (part_above to p)
-  above-parts p page m = by (cases_lt to (end_of p))
-    where
-      before : p.base < to
-      before = grind (arith, common_steps, m)
-
-      rest : Piece
-      rest = record p { base = to; first_page = p.first_page + (to - p.base) / 4096; pages = (end_of p - to) / 4096 }
-
-      part : to < end_of p → IsPart (record p { base = to; first_page = p.first_page + (to - p.base) / 4096; pages = (end_of p - to) / 4096 }) p
-      part l = record { seg = refl; writable = refl; pages = omega (arith, before, page, page_to); from = omega (arith, before); to = omega (arith, l) }
-
-      by : (to < end_of p) ⊎ (end_of p ≤ to) → All (λ q. IsPart q p) (part_above to p)
-      by (inl l) =
-          rw (lt-ltb to (end_of p) l)
-          (all-cons (λ q. IsPart q p) (record p { base = to; first_page = p.first_page + (to - p.base) / 4096; pages = (end_of p - to) / 4096 }) [] (part l) (All-nil (λ q. IsPart q p)))
-      by (inr n) = rw (le-ltb to (end_of p) n) (All-nil (λ q. IsPart q p))
+  above-parts p page m = grind (arith, common_steps)
 
   all-parts : (p : Piece) → IsAligned p → All (λ q. IsPart q p) (parts from to p)
   all-parts p page =
@@ -90,9 +64,7 @@ all-inserted P p (q ∷ qs) h hs =
 -- WHERE A PIECE COMES FROM IN A MOVE
 
 pub each-has : (law : ℕ → Piece → Type 0) (s : Machine) (pid : ℕ) (p : Piece) → EachPiece law s → Has s pid p → law pid p
-each-has law s pid p each h =
-    let own = All-contains (λ (r : Runner). All (law r.pid) r.pieces) s.runners h.process each h.is in
-    subst (λ n. law n p) h.named (All-contains (law h.process.pid) h.process.pieces p own h.has)
+each-has law s pid p each h = grind (arith, common_steps)
 
 pub has-own : (s : Machine) (r : Runner) → Contains s.runners r → All (Has s r.pid) r.pieces
 has-own s r is = λ k d lt. record { process = r; is = is; named = refl; has = Contains-get_or r.pieces k d lt }
@@ -205,12 +177,10 @@ given-move s n e t aligned (inr x) = rw x.unchanged (kept-all s e)
 -- what is given holds where it held of what it is given from
 each-given : (law next : ℕ → Piece → Type 0) (s : Machine) (e : Event) (t : Machine)
     → ((pid : ℕ) (p : Piece) → IsPieceGiven s e pid p → next pid p) → EachPiece (IsPieceGiven s e) t → EachPiece next t
-each-given law next s e t each given =
-    All-weaker (λ (r : Runner). All (IsPieceGiven s e r.pid) r.pieces) (λ (r : Runner). All (next r.pid) r.pieces)
-    (λ r all. All-weaker (IsPieceGiven s e r.pid) (next r.pid) (each r.pid) r.pieces all) t.runners given
+each-given law next s e t each given = grind (arith, common_steps)
 
 part-page : (p q : Piece) → IsPart p q → IsAligned q → IsAligned p
-part-page p q part page = let pages = part.pages in let from = part.from in omega (arith, pages, from, page)
+part-page p q part page = omega arith
 
 pub aligned-move : (s : Machine) (n : ℕ) (e : Event) (t : Machine) → Aligned s → IsMove s n e t → Aligned t
 aligned-move s n e t aligned m = each-given (λ pid p. IsAligned p) (λ pid p. IsAligned p) s e t page (given-move s n e t aligned m)
@@ -284,48 +254,26 @@ module _ (s : Machine) (n pid : ℕ) (c : Caller) (live : caller_of s pid ≡ So
   inside-acts (Load a len) clear r reached k lt = inside-load a len (places c.pieces a len) refl clear r reached k lt
   inside-acts (Store a bytes) clear r reached k lt = inside-store a bytes (writable_places c.pieces a (length bytes)) refl clear r reached k lt
   inside-acts (Xadd a add) clear r reached k lt = inside-xadd a add (writable_places c.pieces a 8) refl clear r reached k lt
-  inside-acts (Shmget key size mode flags) clear r reached k lt = absurd (none-some r reached)
-  inside-acts (Shmat id addr flags) clear r reached k lt = absurd (none-some r reached)
-  inside-acts (Shmdt addr) clear r reached k lt = absurd (none-some r reached)
-  inside-acts (Stat id) clear r reached k lt = absurd (none-some r reached)
-  inside-acts (Set id uid gid mode) clear r reached k lt = absurd (none-some r reached)
-  inside-acts (Rmid id) clear r reached k lt = absurd (none-some r reached)
-  inside-acts (Lock id) clear r reached k lt = absurd (none-some r reached)
-  inside-acts (Unlock id) clear r reached k lt = absurd (none-some r reached)
-  inside-acts (Fork child) clear r reached k lt = absurd (none-some r reached)
-  inside-acts Exec clear r reached k lt = absurd (none-some r reached)
-  inside-acts Exit clear r reached k lt = absurd (none-some r reached)
-  inside-acts (Swapoff area) clear r reached k lt = absurd (none-some r reached)
+  inside-acts call clear r reached k lt = absurd (none-some r reached)
 
   -- who owns it
   owner-of : (cred : Cred) (perm : Perm) → owns cred perm ≡ true → IsOwner cred perm
-  owner-of cred perm own =
-      elim (cases_Bool (cred.uid == 0)) [
-        | inl h ↦ inl (eqb-true cred.uid 0 h)
-        | inr h ↦
-            elim (cases_Bool (cred.uid == perm.uid)) [
-              | inl k ↦ inr (inl (eqb-true cred.uid perm.uid k))
-              | inr k ↦ inr (inr (eqb-true cred.uid perm.cuid (rw (h, k) at own)))
-            ]
-      ]
+  owner-of cred perm own = grind (arith, common_steps)
 
   asks-found : (m : ℕ) (act : ℕ → Segment → Outcome) (l : Look) → look s.table (pos m) ≡ l → (controls s c act l).reply ≡ Done → OwnerAsks s pid (pos m)
   asks-found m act Invalid is done = absurd (cc done)
   asks-found m act Removed is done = absurd (cc done)
   asks-found m act (Found i x) is done =
-      let e = entry-found (m % 32768) (m / 32768) i x (slice_get s.table (m % 32768)) is in
-      pick_by (λ o. o.reply ≡ Done → OwnerAsks s pid (pos m)) (not (owns c.cred x.perm)) (refuses s Eperm) (act i x)
-      (λ h refused. absurd (cc refused))
-      (λ h ok. record {
+      let owned : owns c.cred x.perm ≡ true = grind arith in
+      record {
         caller = c;
         live = live;
         number = m;
         named = refl;
         segment = x;
-        stands = is ∙ ap (λ k. Found k x) e.0;
-        owner = owner-of c.cred x.perm (not-false (owns c.cred x.perm) h);
-      })
-      done
+        stands = is ∙ ap (λ k. Found k x) (found-own s.table m i x is).0;
+        owner = owner-of c.cred x.perm owned;
+      }
 
   asks : (id : ℤ) (act : ℕ → Segment → Outcome) → (controls s c act (look s.table id)).reply ≡ Done → OwnerAsks s pid id
   asks (pos m) act done = asks-found m act (look s.table (pos m)) refl done
@@ -342,17 +290,7 @@ module _ (s : Machine) (n pid : ℕ) (c : Caller) (live : caller_of s pid ≡ So
   asks-acts (Rmid own) id is done = asked own (removes s) id is done
   asks-acts (Lock own) id is done = asked own (locks s) id is done
   asks-acts (Unlock own) id is done = asked own (unlocks s) id is done
-  asks-acts (Load a len) id is done = absurd (none-some id is)
-  asks-acts (Store a bytes) id is done = absurd (none-some id is)
-  asks-acts (Xadd a add) id is done = absurd (none-some id is)
-  asks-acts (Shmget key size mode flags) id is done = absurd (none-some id is)
-  asks-acts (Shmat z addr flags) id is done = absurd (none-some id is)
-  asks-acts (Shmdt addr) id is done = absurd (none-some id is)
-  asks-acts (Stat z) id is done = absurd (none-some id is)
-  asks-acts (Fork child) id is done = absurd (none-some id is)
-  asks-acts Exec id is done = absurd (none-some id is)
-  asks-acts Exit id is done = absurd (none-some id is)
-  asks-acts (Swapoff area) id is done = absurd (none-some id is)
+  asks-acts call id is done = absurd (none-some id is)
 
 abbrev Out : Machine → ℕ → Call → Outcome → Type 0
 Out s pid call o = StaysInside s (record { pid = pid; call = call; reply = o.reply }) × ((id : ℤ) → controlled call ≡ Some id → o.reply ≡ Done → OwnerAsks s pid id)

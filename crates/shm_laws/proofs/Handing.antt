@@ -1,29 +1,26 @@
 -- What each call does to the pieces of processes: nothing, or the caller attaches a segment, or loses pieces, or has a child.
-use Rattle.std.proofs.Common.{◌≡◌, ◌≢◌, ◌⊎◌, ℕ, suc, ◌+◌, ◌-◌, ◌*◌, ◌/◌, ◌%◌, ◌==◌, ◌&&◌, ℤ, pos, negsuc, Bool, true, false, not, nat_le, nat_lt, if◌then◌else◌, List, [], ◌∷◌, length, map, get_or, Option, Some, None, slice_get, slice_set, refl, sym, ap, subst, ◌∙◌, inl, inr, arith, eq-eqb, ne_eqb}
+use Rattle.std.proofs.Common.{◌≡◌, ◌⊎◌, ℕ, suc, ◌+◌, ◌-◌, ◌*◌, ◌%◌, ◌==◌, ◌&&◌, ℤ, pos, negsuc, Bool, true, false, not, nat_lt, if◌then◌else◌, List, [], ◌∷◌, length, map, get_or, Option, Some, None, slice_get, slice_set, refl, sym, ap, ◌∙◌, inl, inr, arith, ne_eqb}
+use Rattle.std.proofs.lemmas.Grind.{common_steps}
 use Rattle.std.specs.Prelude.{All, filter, find}
-use Rattle.std.proofs.lemmas.Bool.{cases_eq, cases_Bool, not-false, not-true, and_parts}
+use Rattle.std.proofs.lemmas.Bool.{cases_eq, not-false}
 use Rattle.std.proofs.lemmas.Option.{none-some}
 use Rattle.std.proofs.lemmas.List.Elements.{All-map}
-use Rattle.shm_base.specs.declared.owner.Cred.{Cred}
 use Rattle.shm_base.specs.declared.errno.Errno.{Errno}
 use Rattle.shm_base.specs.declared.call.Call.{Call}
-use Rattle.shm_base.specs.declared.call.Call.TheVariants.{Shmget, Shmat, Shmdt, Stat, Set, Rmid, Lock, Unlock, Load, Store, Xadd, Fork, Exec, Exit, Swapoff}
+use Rattle.shm_base.specs.declared.call.Call.TheVariants.{Shmget, Shmat, Shmdt, Load, Fork, Exec, Exit}
 use Rattle.shm_base.specs.declared.call.Reply.TheVariants.{Addr, Done}
 use Rattle.shm_base.specs.declared.flags.AtFlags.{AtFlags}
-use Rattle.shm_base.specs.declared.flags.GetFlags.{GetFlags}
-use Rattle.shm_base.specs.Bounds.{within}
-use Rattle.shm_base.specs.Access.{Place, places, writable_places, end_of}
-use Rattle.shm_base.specs.Permission.{grants, owns, wish_of}
-use Rattle.shm_base.specs.State.{Segment, Piece, Life, Unborn, Live, Ended, Runner, Machine, pages_of, pages_in}
-use Rattle.shm_base.specs.Identifier.{Look, Found, Removed, Invalid, identifier, destroyed_at, destroyed_in, free_index, find_key, look}
-use Rattle.shm_base.specs.Space.{inside, occupied, choose, is_gap, first_chosen, last_address, origin_of, is_named}
-use Rattle.shm_base.specs.Segments.{segment_count, reserved, locked, slots}
+use Rattle.shm_base.specs.Access.{end_of}
+use Rattle.shm_base.specs.Permission.{grants}
+use Rattle.shm_base.specs.State.{Segment, Piece, Life, Live, Ended, Runner, Machine, pages_in}
+use Rattle.shm_base.specs.Identifier.{Look, Found, Removed, Invalid, identifier, destroyed_at, look}
+use Rattle.shm_base.specs.Space.{inside, occupied, choose, is_gap, first_chosen, origin_of, is_named}
 use Rattle.shm_base.specs.History.{is_refusal}
-use Rattle.shm_base.specs.Step.{refuses, creates_at, creates, gets, wants_no_other, wants_creation, stat, controls, sets, removes, locks, unlocks, load, store, xadd, takes_away, Caller, Outcome, caller_from, acts, at_wish, is_rnd, is_remap, pieces_with, with_pieces, attaches, attaches_chosen, attaches_fixed, attaches_found, shmat, detaches, forks, unborn_from}
+use Rattle.shm_base.specs.Step.{refuses, creates, Caller, Outcome, caller_from, acts, at_wish, is_rnd, is_remap, pieces_with, with_pieces, attaches, attaches_chosen, attaches_fixed, attaches_found, shmat, detaches, forks, unborn_from}
 use Rattle.shm_life.proofs.Pieces.{all-cons, all-head, all-tail}
 use Rattle.shm_laws.specs.Standing.{Stands}
 use Rattle.shm_laws.specs.Pieces.{hands_pieces}
-use Rattle.shm_laws.proofs.Looks.{entry-found}
+use Rattle.shm_laws.proofs.Looks.{found-own}
 use Rattle.shm_laws.proofs.Stepping.{pick}
 
 -- THE CALLER
@@ -35,25 +32,15 @@ pub record CallerAt (n pid : ℕ) (rs : List Runner) (c : Caller) : Type 0 where
   pub own : c.pid ≡ pid
   pub there : slice_get rs place ≡ Some (record { pid = pid; life = Live c.cred; pieces = c.pieces })
 
-caller_first : (n pid : ℕ) (r : Runner) (rs : List Runner) (c : Caller) (cred : Cred) → r.pid ≡ pid → r.life ≡ Live cred
-    → Some (record { index = n; pid = pid; cred = cred; pieces = r.pieces }) ≡ Some c → CallerAt n pid (r ∷ rs) c
-caller_first n pid r rs c cred same live found =
-    let whole : Some r ≡ Some (record { pid = pid; life = Live cred; pieces = r.pieces }) =
-    ap (λ p. Some (record { pid = p; life = r.life; pieces = r.pieces })) same ∙ ap (λ l. Some (record { pid = pid; life = l; pieces = r.pieces })) live in
-    let is : record { index = n; pid = pid; cred = cred; pieces = r.pieces } ≡ c = cc found in
-    subst (CallerAt n pid (r ∷ rs)) is (record { place = 0; at = omega arith; own = refl; there = whole })
-
 pub caller-at : (n pid : ℕ) (rs : List Runner) (c : Caller) → caller_from n pid rs ≡ Some c → CallerAt n pid rs c
 caller-at n pid [] c found = absurd (none-some c found)
-caller-at n pid (r ∷ rs) c found = by (cases_eq r.pid pid) r.life refl (caller-at (n + 1) pid rs c)
-  where
-    by : (r.pid ≡ pid) ⊎ (r.pid ≢ pid) → (l : Life) → r.life ≡ l → (caller_from (n + 1) pid rs ≡ Some c → CallerAt (n + 1) pid rs c) → CallerAt n pid (r ∷ rs) c
-    by (inr other) l is more =
-        let s = more (rw (ne_eqb r.pid pid other) at found) in
-        record { place = suc s.place; at = omega (arith, s.at); own = s.own; there = s.there }
-    by (inl same) Unborn is more = absurd (none-some c (rw (eq-eqb r.pid pid same, is) at found))
-    by (inl same) Ended is more = absurd (none-some c (rw (eq-eqb r.pid pid same, is) at found))
-    by (inl same) (Live cred) is more = caller_first n pid r rs c cred same is (rw (eq-eqb r.pid pid same, is) at found)
+caller-at n pid (r ∷ rs) c found =
+    elim (cases_eq r.pid pid) [
+      | inl same ↦ record { place = 0; at = grind (arith, common_steps); own = grind (arith, common_steps); there = grind (arith, common_steps) }
+      | inr other ↦
+          let s = caller-at (n + 1) pid rs c (rw (ne_eqb r.pid pid other) at found) in
+          record { place = suc s.place; at = omega (arith, s.at); own = s.own; there = s.there }
+    ]
 
 -- FOUR THINGS
 
@@ -112,10 +99,9 @@ pick_by P false o p h k = k refl
 find-all : {X : Type 0} (P : X → Type 0) (test : X → Bool) (xs : List X) (x : X) → find test xs ≡ Some x → All P xs → P x
 find-all P test [] x found all = absurd (none-some x found)
 find-all P test (y ∷ ys) x found all =
-    elim (cases_Bool (test y)) [
-      | inl h ↦ (let same : Some y ≡ Some x = rw h at found in let is : y ≡ x = cc same in subst P is (all-head P y ys all))
-      | inr h ↦ find-all P test ys x (rw h at found) (all-tail P y ys all)
-    ]
+    let first = all-head P y ys all in
+    let rest = λ (h : find test ys ≡ Some x). find-all P test ys x h (all-tail P y ys all) in
+    grind arith
 
 chosen-page : (ps : List Piece) (pages base : ℕ) → choose ps pages ≡ Some base → All IsAligned ps → base % 4096 ≡ 0
 chosen-page ps pages base found all =
@@ -127,18 +113,11 @@ chosen-page ps pages base found all =
 
 find-passes : {X : Type 0} (test : X → Bool) (xs : List X) (x : X) → find test xs ≡ Some x → test x ≡ true
 find-passes test [] x found = absurd (none-some x found)
-find-passes test (y ∷ ys) x found =
-    elim (cases_Bool (test y)) [
-      | inl h ↦ (let same : Some y ≡ Some x = rw h at found in let is : y ≡ x = cc same in ap test (sym is) ∙ h)
-      | inr h ↦ find-passes test ys x (rw h at found)
-    ]
+find-passes test (y ∷ ys) x found = let rest = find-passes test ys x in grind arith
 
 -- what is chosen is free
 chosen-free : (ps : List Piece) (pages base : ℕ) → choose ps pages ≡ Some base → occupied ps base (base + 4096 * pages) ≡ false
-chosen-free ps pages base found =
-    let gap = find-passes (is_gap ps pages) (first_chosen ∷ map end_of ps) base found in
-    let last = and_parts (nat_le first_chosen base && nat_le (base + 4096 * pages) last_address) (not (occupied ps base (base + 4096 * pages))) gap in
-    not-true (occupied ps base (base + 4096 * pages)) last.1
+chosen-free ps pages base found = grind (arith, common_steps, find-passes, map, arith)
 
 pub none-stay : (ps : List Piece) → [] ≡ filter (λ (p : Piece). false) ps
 none-stay [] = refl
@@ -191,10 +170,9 @@ module _ (s : Machine) (n : ℕ) (c : Caller) where
   hands-found m flags addr at Invalid is = refused _ _
   hands-found m flags addr at Removed is = refused _ _
   hands-found m flags addr at (Found i x) is =
-      let e = entry-found (m % 32768) (m / 32768) i x (slice_get s.table (m % 32768)) is in
-      let count : destroyed_at s.table i ≡ m / 32768 = ap (destroyed_at s.table) e.0 ∙ ap destroyed_in e.1 in
-      let own : identifier i (destroyed_at s.table i) ≡ m = omega (arith, e.0, count) in
-      let there : Stands s (identifier i (destroyed_at s.table i)) x = rw own (is ∙ ap (λ k. Found k x) e.0) in
+      let found = found-own s.table m i x is in
+      let own : identifier i (destroyed_at s.table i) ≡ m = found.1 in
+      let there : Stands s (identifier i (destroyed_at s.table i)) x = rw own (is ∙ ap (λ k. Found k x) found.0) in
       let asked : Shmat (pos m) at flags ≡ Shmat (pos (identifier i (destroyed_at s.table i))) at flags = ap (λ k. Shmat (pos k) at flags) (sym own) in
       pick_by (Hands s c (Shmat (pos m) at flags)) (not (grants c.cred x.perm (at_wish flags))) _ _ (λ h. refused _ _)
       (λ h.
@@ -236,65 +214,15 @@ module _ (s : Machine) (n : ℕ) (c : Caller) where
   abbrev Leave : Outcome → Type 0
   Leave o = o.state.runners ≡ s.runners
 
-  same-creates_at : (key size mode : ℕ) (o : Option ℕ) → Leave (creates_at s n c key size mode o)
-  same-creates_at key size mode None = refl
-  same-creates_at key size mode (Some i) = pick Leave (nat_lt (slots s.areas) (reserved s.table + pages_of size)) _ _ refl refl
-
   same-creates : (key size mode : ℕ) → Leave (creates s n c key size mode)
-  same-creates key size mode =
-      pick Leave (not (within 1 s.limits.shmmax size)) _ _ refl
-      (pick Leave (nat_lt s.limits.shmall (reserved s.table + pages_of size)) _ _ refl
-      (pick Leave (nat_le s.limits.shmmni (segment_count s.table)) _ _ refl (same-creates_at key size mode (free_index s.table))))
-
-  same-gets : (key size mode : ℕ) (flags : GetFlags) (l : Look) → Leave (gets s n c key size mode flags l)
-  same-gets key size mode flags (Found i x) =
-      pick Leave (wants_no_other flags) _ _ refl (pick Leave (nat_lt x.size size) _ _ refl (pick Leave (not (grants c.cred x.perm (wish_of mode))) _ _ refl refl))
-  same-gets key size mode flags Removed = pick Leave (wants_creation flags) _ _ (same-creates key size mode) refl
-  same-gets key size mode flags Invalid = pick Leave (wants_creation flags) _ _ (same-creates key size mode) refl
-
-  same-stat : (l : Look) → Leave (stat s c l)
-  same-stat Invalid = refl
-  same-stat Removed = refl
-  same-stat (Found i x) = pick Leave (not (grants c.cred x.perm (record { read = true; write = false }))) _ _ refl refl
-
-  same-controls : (act : ℕ → Segment → Outcome) → ((i : ℕ) (x : Segment) → Leave (act i x)) → (l : Look) → Leave (controls s c act l)
-  same-controls act acts Invalid = refl
-  same-controls act acts Removed = refl
-  same-controls act acts (Found i x) = pick Leave (not (owns c.cred x.perm)) _ _ refl (acts i x)
-
-  same-locks : (i : ℕ) (x : Segment) → Leave (locks s i x)
-  same-locks i x = pick Leave (not x.locked && nat_lt s.limits.memlock (locked s.table + pages_in x)) _ _ refl refl
-
-  same-load : (o : Option (List Place)) → Leave (load s o)
-  same-load None = refl
-  same-load (Some ps) = refl
-
-  same-store : (bytes : List ℕ) (o : Option (List Place)) → Leave (store s bytes o)
-  same-store bytes None = refl
-  same-store bytes (Some ps) = refl
-
-  same-xadd : (add : ℕ) (o : Option (List Place)) → Leave (xadd s add o)
-  same-xadd add None = refl
-  same-xadd add (Some ps) = refl
-
-  same-takes : (area : ℕ) (o : Option (Option ℕ)) → Leave (takes_away s area o)
-  same-takes area None = refl
-  same-takes area (Some None) = refl
-  same-takes area (Some (Some k)) = pick Leave (nat_lt (slots (slice_set s.areas area None)) (reserved s.table)) _ _ refl refl
+  same-creates key size mode = grind arith
 
   pub hands-acts : (call : Call) → Hands s c call (acts s n c call)
-  hands-acts (Shmget key size mode flags) = rests _ _ refl (pick Leave (key == 0) _ _ (same-creates 0 size mode) (same-gets key size mode flags (find_key s.table key)))
+  hands-acts (Shmget key size mode flags) = rests _ _ refl (grind (arith, same-creates))
   hands-acts (Shmat id addr flags) = hands-shmat id addr flags
   hands-acts (Shmdt addr) = hands-detaches addr (origin_of addr c.pieces) refl
-  hands-acts (Stat id) = rests _ _ refl (same-stat (look s.table id))
-  hands-acts (Set id uid gid mode) = rests _ _ refl (same-controls (sets s n uid gid mode) (λ i x. refl) (look s.table id))
-  hands-acts (Rmid id) = rests _ _ refl (same-controls (removes s) (λ i x. refl) (look s.table id))
-  hands-acts (Lock id) = rests _ _ refl (same-controls (locks s) same-locks (look s.table id))
-  hands-acts (Unlock id) = rests _ _ refl (same-controls (unlocks s) (λ i x. refl) (look s.table id))
-  hands-acts (Load a len) = rests _ _ refl (same-load (places c.pieces a len))
-  hands-acts (Store a bytes) = rests _ _ refl (same-store bytes (writable_places c.pieces a (length bytes)))
-  hands-acts (Xadd a add) = rests _ _ refl (same-xadd add (writable_places c.pieces a 8))
   hands-acts (Fork child) = hands-forks child (unborn_from 0 child s.runners) refl
   hands-acts Exec = hands-all Exec _ (Live c.cred) (inl refl) refl refl
   hands-acts Exit = hands-all Exit _ Ended (inr refl) refl refl
-  hands-acts (Swapoff area) = rests _ _ refl (pick Leave (not (c.cred.uid == 0)) _ _ refl (same-takes area (slice_get s.areas area)))
+  hands-acts (Load a len) = rests _ _ refl (grind arith)
+  hands-acts call = rests _ _ refl (grind arith)

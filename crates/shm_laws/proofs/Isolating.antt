@@ -1,25 +1,24 @@
 -- A call sees no byte that is hidden from its process.
-use Rattle.std.proofs.Common.{◌≡◌, ◌⊎◌, ℕ, ◌+◌, ◌-◌, ◌*◌, ◌/◌, ◌%◌, ◌^◌, ◌==◌, ◌&&◌, ℤ, pos, Bool, true, false, not, nat_le, nat_lt, if◌then◌else◌, List, [], ◌∷◌, length, replicate, Option, Some, None, slice_get, slice_set, refl, sym, ap, subst, ◌∙◌, inl, inr, arith}
+use Rattle.std.proofs.Common.{◌≡◌, ◌⊎◌, ℕ, ◌+◌, ◌-◌, ◌*◌, ◌/◌, ◌%◌, ◌^◌, ◌==◌, ◌&&◌, ℤ, Bool, true, false, not, nat_lt, if◌then◌else◌, List, [], ◌∷◌, length, Option, Some, None, slice_get, refl, sym, ap, subst, ◌∙◌, inl, inr, arith}
+use Rattle.std.proofs.lemmas.Grind.{common_steps}
 use Rattle.std.specs.Int.{w64, to_le_bytes, from_le_bytes}
 use Rattle.std.proofs.lemmas.List.{length-replicate}
 use Rattle.std.proofs.lemmas.Option.{none-some, slice_get_within}
 use Rattle.shm_base.specs.declared.errno.Errno.{Errno}
-use Rattle.shm_base.specs.declared.errno.Errno.TheVariants.{Eperm, Enoent, Enomem, Eacces, Eexist, Einval, Emfile, Enospc}
+use Rattle.shm_base.specs.declared.errno.Errno.TheVariants.{Eperm, Enomem, Eacces, Emfile}
 use Rattle.shm_base.specs.declared.flags.GetFlags.{GetFlags}
 use Rattle.shm_base.specs.declared.flags.AtFlags.{AtFlags}
 use Rattle.shm_base.specs.declared.call.Call.{Call}
 use Rattle.shm_base.specs.declared.call.Call.TheVariants.{Shmget, Shmat, Shmdt, Stat, Set, Rmid, Lock, Unlock, Load, Store, Xadd, Fork, Exec, Exit, Swapoff}
-use Rattle.shm_base.specs.declared.call.Reply.TheVariants.{Id, Addr, Bytes, Number, Done}
-use Rattle.shm_base.specs.declared.call.Reply.TheVariants as replies
+use Rattle.shm_base.specs.declared.call.Reply.TheVariants.{Addr, Bytes, Number, Done}
 use Rattle.shm_base.specs.declared.call.Event.{Event}
-use Rattle.shm_base.specs.Bounds.{within}
 use Rattle.shm_base.specs.Access.{Place, place, places, writable_places, stored}
-use Rattle.shm_base.specs.Permission.{grants, owns, wish_of}
-use Rattle.shm_base.specs.State.{Segment, Entry, Piece, Runner, Machine, Opening, pages_of, pages_in}
-use Rattle.shm_base.specs.Identifier.{Look, Found, Removed, Invalid, identifier, destroyed_in, destroyed_at, free_index, find_key, look}
-use Rattle.shm_base.specs.Space.{inside, occupied, cut_segments, choose, origin_of}
-use Rattle.shm_base.specs.Segments.{slots, change, attached, marked, detach_all, swept, after_detach}
-use Rattle.shm_base.specs.Step.{Outcome, gives, refuses, Caller, caller_of, with_pieces, with_end, segments_of, new_segment, creates_at, creates, gets, shmget, wants_creation, wants_no_other, pieces_with, attaches, attaches_chosen, attaches_fixed, attaches_found, shmat, is_rnd, is_remap, at_wish, detaches, forks, unborn_from, shown, stat, controls, sets, removes, locks, unlocks, load, store, xadd, number_at, takes_away, acts, step_by, step}
+use Rattle.shm_base.specs.Permission.{grants}
+use Rattle.shm_base.specs.State.{Segment, Entry, Piece, Runner, Machine, Opening, pages_in}
+use Rattle.shm_base.specs.Identifier.{Look, Found, Removed, Invalid, identifier, destroyed_in, destroyed_at, find_key, look}
+use Rattle.shm_base.specs.Space.{cut_segments, choose, origin_of}
+use Rattle.shm_base.specs.Segments.{change, attached, detach_all, swept, after_detach}
+use Rattle.shm_base.specs.Step.{Outcome, gives, refuses, Caller, caller_of, with_pieces, with_end, segments_of, new_segment, creates_at, creates, gets, shmget, pieces_with, attaches, attaches_chosen, attaches_fixed, attaches_found, shmat, at_wish, detaches, forks, unborn_from, stat, controls, sets, removes, locks, unlocks, load, store, xadd, number_at, takes_away, acts, step_by, step}
 use Rattle.shm_base.specs.History.{is_refusal, is_failure, IsMove, IsHistory}
 use Rattle.shm_laws.specs.Standing.{Has}
 use Rattle.shm_laws.specs.Leave.{Reach, reach}
@@ -66,37 +65,23 @@ module _ (hidden : ℕ → Bool) (s : Machine) (n : ℕ) (c : Caller) where
   -- SHMGET
 
   new-zeros : (key size mode : ℕ) (b : Bool) → veiled b (new_segment n c key size mode) ≡ new_segment n c key size mode
-  new-zeros key size mode true = ap (λ (k : ℕ). record (new_segment n c key size mode) { bytes = replicate k 0 }) (length-replicate (4096 * pages_of size) 0)
-  new-zeros key size mode false = refl
+  new-zeros key size mode b = grind (arith, length-replicate {A = ℕ})
 
   out-creates_at : (key size mode : ℕ) (o : Option ℕ) → creates_at B n c key size mode o ≡ out hidden (creates_at s n c key size mode o)
-  out-creates_at key size mode None = refl
-  out-creates_at key size mode (Some i) =
-      tests Enomem _ _ _ _ (ap (λ r. nat_lt (slots s.areas) (r + pages_of size)) (reserved-veiled hidden T))
-      (λ j. record {
-        reply = Id (pos (identifier i (veiled-destroyed hidden T i j)));
-        state = record s { table = made-veiled hidden T i (new_segment n c key size mode) (new-zeros key size mode) j };
-      })
+  out-creates_at key size mode o = grind (arith, common_steps, reserved-veiled, new-zeros, arith, veiled-destroyed, made-veiled)
 
   out-creates : (key size mode : ℕ) → creates B n c key size mode ≡ out hidden (creates s n c key size mode)
-  out-creates key size mode =
-      tests Einval (not (within 1 s.limits.shmmax size)) _ _ _ refl
-      (tests Enospc _ _ _ _ (ap (λ r. nat_lt s.limits.shmall (r + pages_of size)) (reserved-veiled hidden T))
-      (tests Enospc _ _ _ _ (ap (nat_le s.limits.shmmni) (count-veiled hidden T))
-      (ap (creates_at B n c key size mode) (free-veiled hidden 0 0 T) ∙ out-creates_at key size mode (free_index T))))
+  out-creates key size mode = grind (arith, common_steps, reserved-veiled, count-veiled, free-veiled, out-creates_at, arith)
 
   out-gets : (key size mode : ℕ) (flags : GetFlags) (b : Bool) (l : Look) → gets B n c key size mode flags (veiled_look b l) ≡ out hidden (gets s n c key size mode flags l)
-  out-gets key size mode flags b (Found i x) =
-      tests Eexist (wants_no_other flags) _ _ _ refl
-      (tests Einval (nat_lt x.size size) _ _ _ refl
-      (tests Eacces (not (grants c.cred x.perm (wish_of mode))) _ _ _ refl (λ j. record { reply = Id (pos (identifier i (veiled-destroyed hidden T i j))); state = B })))
-  out-gets key size mode flags b Removed = both (wants_creation flags) _ _ _ _ (refuses s Enoent) refl (out-creates key size mode) refl
-  out-gets key size mode flags b Invalid = both (wants_creation flags) _ _ _ _ (refuses s Enoent) refl (out-creates key size mode) refl
+  out-gets key size mode flags b l = let made = out-creates key size mode in grind (arith, veiled-destroyed hidden T)
 
   out-shmget : (key size mode : ℕ) (flags : GetFlags) → shmget B n c key size mode flags ≡ out hidden (shmget s n c key size mode flags)
   out-shmget key size mode flags =
       let f = find-veiled hidden key T in
-      both (key == 0) _ _ _ _ _ refl (out-creates 0 size mode) (ap (gets B n c key size mode flags) f.1 ∙ out-gets key size mode flags f.0 (find_key T key))
+      let made = out-creates 0 size mode in
+      let found = out-gets key size mode flags f.0 (find_key T key) in
+      grind arith
 
   -- SHMAT
 
@@ -122,9 +107,7 @@ module _ (hidden : ℕ → Bool) (s : Machine) (n : ℕ) (c : Caller) where
   out-chosen b id x flags (Some base) = out-attaches b id x flags base
 
   out-fixed : (b : Bool) (id : ℕ) (x : Segment) (flags : AtFlags) (base : ℕ) → attaches_fixed B n c id (veiled b x) flags base ≡ out hidden (attaches_fixed s n c id x flags base)
-  out-fixed b id x flags base =
-      tests Einval _ _ _ _ (ap (λ p. not (inside base p)) (veiled-pages b x))
-      (tests Einval _ _ _ _ (ap (λ p. not (is_remap flags) && occupied c.pieces base (base + 4096 * p)) (veiled-pages b x)) (out-attaches b id x flags base))
+  out-fixed b id x flags base = let pages = veiled-pages b x in let all = out-attaches b id x flags base in grind arith
 
   out-found : (flags : AtFlags) (addr : ℕ) (b : Bool) (l : Look) → attaches_found B n c flags addr (veiled_look b l) ≡ out hidden (attaches_found s n c flags addr l)
   out-found flags addr b Invalid = refl
@@ -139,48 +122,32 @@ module _ (hidden : ℕ → Bool) (s : Machine) (n : ℕ) (c : Caller) where
       (ap (λ d. attaches_fixed B n c (identifier i d) (veiled b x) flags (addr - addr % 4096)) same ∙ out-fixed b (identifier i (destroyed_at T i)) x flags (addr - addr % 4096)))
 
   out-shmat : (id : ℤ) (addr : ℕ) (flags : AtFlags) → shmat B n c id addr flags ≡ out hidden (shmat s n c id addr flags)
-  out-shmat id addr flags =
-      let l = look-veiled hidden T id in
-      tests Einval ((addr == 0) && is_remap flags) _ _ _ refl
-      (tests Einval (not (addr % 4096 == 0) && not (is_rnd flags)) _ _ _ refl (ap (attaches_found B n c flags addr) l.1 ∙ out-found flags addr l.0 (look T id)))
+  out-shmat id addr flags = let l = look-veiled hidden T id in let found = out-found flags addr l.0 (look T id) in grind arith
 
   -- DETACHING, FORK AND CONTROL
 
   out-after : (rs : List Runner) (lost : List ℕ) → gives (after_detach B n c.pid rs lost) Done ≡ out hidden (gives (after_detach s n c.pid rs lost) Done)
-  out-after rs lost =
-      let table : swept rs (detach_all n c.pid (V T) lost) ≡ V (swept rs (detach_all n c.pid T lost)) =
-      ap (swept rs) (detach-veiled hidden n c.pid lost T) ∙ swept-veiled hidden 0 rs (detach_all n c.pid T lost) in
-      λ j. record { reply = Done; state = record s { table = table j; runners = rs } }
+  out-after rs lost = grind (arith, common_steps, detach-veiled, swept-veiled, arith)
 
   out-detaches : (addr : ℕ) (o : Option Piece) → detaches B n c addr o ≡ out hidden (detaches s n c addr o)
   out-detaches addr None = refl
   out-detaches addr (Some p) = out-after _ (p.seg ∷ [])
 
   out-forks : (child : ℕ) (o : Option ℕ) → forks B c child o ≡ out hidden (forks s c child o)
-  out-forks child None = refl
-  out-forks child (Some i) = refl
+  out-forks child o = grind arith
 
   out-stat : (b : Bool) (l : Look) → stat B c (veiled_look b l) ≡ out hidden (stat s c l)
-  out-stat b Invalid = refl
-  out-stat b Removed = refl
-  out-stat b (Found i x) =
-      tests Eacces (not (grants c.cred x.perm (record { read = true; write = false }))) _ _ _ refl
-      (λ j. record { reply = replies.Stat (shown s (identifier i (veiled-destroyed hidden T i j)) x); state = B })
+  out-stat b l = grind (arith, veiled-destroyed hidden T)
 
   out-changed : (i : ℕ) (f : Segment → Segment) → ((b : Bool) (x : Segment) → f (veiled b x) ≡ veiled b (f x))
       → gives (record B { table = change (V T) i f }) Done ≡ out hidden (gives (record s { table = change T i f }) Done)
   out-changed i f same = λ j. record { reply = Done; state = record s { table = change-veiled hidden f same T i j } }
 
   out-controls : (f g : ℕ → Segment → Outcome) → ((b : Bool) (i : ℕ) (x : Segment) → f i (veiled b x) ≡ out hidden (g i x)) → (b : Bool) (l : Look) → controls B c f (veiled_look b l) ≡ out hidden (controls s c g l)
-  out-controls f g acts b Invalid = refl
-  out-controls f g acts b Removed = refl
-  out-controls f g acts b (Found i x) = tests Eperm (not (owns c.cred x.perm)) _ _ _ refl (acts b i x)
+  out-controls f g acts b l = grind (arith, acts)
 
   out-removes : (b : Bool) (i : ℕ) (x : Segment) → removes B i (veiled b x) ≡ out hidden (removes s i x)
-  out-removes b i x =
-      let table : swept s.runners (change (V T) i marked) ≡ V (swept s.runners (change T i marked)) =
-      ap (swept s.runners) (change-veiled hidden marked (λ b x. refl) T i) ∙ swept-veiled hidden 0 s.runners (change T i marked) in
-      λ j. record { reply = Done; state = record s { table = table j } }
+  out-removes b i x = grind (arith, common_steps, change-veiled, refl, swept-veiled, arith)
 
   out-locks : (b : Bool) (i : ℕ) (x : Segment) → locks B i (veiled b x) ≡ out hidden (locks s i x)
   out-locks b i x =
@@ -215,9 +182,7 @@ module _ (hidden : ℕ → Bool) (s : Machine) (n : ℕ) (c : Caller) where
         ∙ (λ j. record { reply = Number (number_at s qs); state = record s { table = stored-veiled hidden T qs (to_le_bytes w64 ((number_at s qs + add) % 2 ^ 64)) seen j } })
 
     out-takes : (area : ℕ) (o : Option (Option ℕ)) → takes_away B area o ≡ out hidden (takes_away s area o)
-    out-takes area None = refl
-    out-takes area (Some None) = refl
-    out-takes area (Some (Some k)) = tests Enomem _ _ _ _ (ap (nat_lt (slots (slice_set s.areas area None))) (reserved-veiled hidden T)) refl
+    out-takes area o = let same = reserved-veiled hidden T in grind arith
 
     out-acts : (call : Call) → acts B n c call ≡ out hidden (acts s n c call)
     out-acts (Shmget key size mode flags) = out-shmget key size mode flags
@@ -308,38 +273,17 @@ module _ (hidden : ℕ → Bool) (s : Machine) (n : ℕ) (c : Caller) (hid : (a 
   hid-places a len qs found k q is = let spot = spot-at c.pieces a len qs found k q is in hid (a + k) q spot
 
   private-store : (a len : ℕ) (vs : List ℕ) (qs : List Place) → writable_places c.pieces a len ≡ Some qs → veil hidden (record s { table = stored s.table qs vs }) ≡ veil hidden s
-  private-store a len vs qs is =
-      let found = (writable-parts (places c.pieces a len) qs is).0 in
-      λ j. record s { table = stored-hidden hidden s.table qs vs (hid-places a len qs found) j }
+  private-store a len vs qs is = grind (arith, common_steps, writable-parts, stored-hidden, hid-places)
 
   private-acts : (call : Call) (r : Reach) → reach call ≡ Some r → veil hidden (acts s n c call).state ≡ veil hidden s
-  private-acts (Load a len) r is = by (places c.pieces a len)
-    where
-      by : (o : Option (List Place)) → veil hidden (load s o).state ≡ veil hidden s
-      by None = refl
-      by (Some qs) = refl
-  private-acts (Store a bytes) r is = by (writable_places c.pieces a (length bytes)) refl
-    where
-      by : (o : Option (List Place)) → writable_places c.pieces a (length bytes) ≡ o → veil hidden (store s bytes o).state ≡ veil hidden s
-      by None found = refl
-      by (Some qs) found = private-store a (length bytes) bytes qs found
+  private-acts (Load a len) r is = grind arith
+  private-acts (Store a bytes) r is = grind (arith, private-store a (length bytes) bytes)
   private-acts (Xadd a add) r is = by (writable_places c.pieces a 8) refl
     where
       by : (o : Option (List Place)) → writable_places c.pieces a 8 ≡ o → veil hidden (xadd s add o).state ≡ veil hidden s
       by None found = refl
       by (Some qs) found = private-store a 8 (to_le_bytes w64 ((number_at s qs + add) % 2 ^ 64)) qs found
-  private-acts (Shmget key size mode flags) r is = absurd (none-some r is)
-  private-acts (Shmat id addr flags) r is = absurd (none-some r is)
-  private-acts (Shmdt addr) r is = absurd (none-some r is)
-  private-acts (Stat id) r is = absurd (none-some r is)
-  private-acts (Set id uid gid mode) r is = absurd (none-some r is)
-  private-acts (Rmid id) r is = absurd (none-some r is)
-  private-acts (Lock id) r is = absurd (none-some r is)
-  private-acts (Unlock id) r is = absurd (none-some r is)
-  private-acts (Fork child) r is = absurd (none-some r is)
-  private-acts Exec r is = absurd (none-some r is)
-  private-acts Exit r is = absurd (none-some r is)
-  private-acts (Swapoff area) r is = absurd (none-some r is)
+  private-acts call r is = absurd (none-some r is)
 
 private-by : (hidden : ℕ → Bool) (s : Machine) (n : ℕ) (call : Call) (r : Reach) (o : Option Caller) → reach call ≡ Some r
     → ((a : ℕ) (q : Place) → place (held_by o) a ≡ Some q → Hid hidden s.table q) → veil hidden (step_by s n call o).state ≡ veil hidden s

@@ -1,13 +1,11 @@
 -- An identifier names one segment.
-use Rattle.std.proofs.Common.{◌≡◌, ◌⊎◌, ℕ, ◌+◌, ◌/◌, ◌%◌, ◌<◌, ◌==◌, ◌&&◌, pos, List, [], ◌∷◌, ◌++◌, length, replicate, Option, Some, None, slice_get, refl, sym, ap, subst, ◌∙◌, inl, inr, arith}
-use Rattle.std.proofs.lemmas.Bool.{cases_Bool}
-use Rattle.std.proofs.lemmas.Option.{none-some}
-use Rattle.shm_base.specs.declared.call.Call.TheVariants.{Shmget}
+use Rattle.std.proofs.Common.{◌≡◌, ◌⊎◌, ℕ, ◌+◌, ◌/◌, ◌%◌, ◌<◌, pos, List, [], ◌∷◌, ◌++◌, length, replicate, Option, Some, None, slice_get, refl, sym, ap, subst, ◌∙◌, inl, inr, arith}
+use Rattle.std.proofs.lemmas.Grind.{common_steps}
 use Rattle.shm_base.specs.declared.call.Reply.TheVariants.{Id}
 use Rattle.shm_base.specs.declared.call.Event.{Event}
 use Rattle.shm_base.specs.State.{Segment, Entry, Runner, Machine, Opening, start_of}
 use Rattle.shm_base.specs.Identifier.{Invalid, identifier, destroyed_in, look}
-use Rattle.shm_base.specs.Segments.{attach_count, swept_at}
+use Rattle.shm_base.specs.Segments.{swept_at}
 use Rattle.shm_base.specs.Step.{Caller, caller_of}
 use Rattle.shm_base.specs.History.{IsMove, LeadsFrom, IsHistory}
 use Rattle.shm_segments.specs.Table.{segment_in}
@@ -18,9 +16,9 @@ use Rattle.shm_laws.proofs.Fresh.{IsEmpty}
 use Rattle.shm_laws.proofs.Turning.{same_refl, same_trans}
 use Rattle.shm_laws.proofs.Handing.{caller-at}
 use Rattle.shm_laws.proofs.Inducting.{GoesOn, at_all_times, since-map}
-use Rattle.shm_laws.proofs.Looks.{holds, bare_entry, stands-at, at-stands, at-gone, at-never, at-next, entry-gone}
+use Rattle.shm_laws.proofs.Looks.{holds, bare_entry, stands-at, at-gone, entry-gone}
 use Rattle.shm_laws.proofs.Stepping.{overlay, made_by, Moved, removed}
-use Rattle.shm_laws.proofs.Fates.{IsMachineSound, IsNew, stays, comes, sound-after, kind-move}
+use Rattle.shm_laws.proofs.Fates.{IsMachineSound, IsNew, stays, comes, sound-after, kind-move, holds-empty}
 use Rattle.shm_laws.proofs.Removing.{sound-start, stands-or-gone}
 
 -- ONE MOVE
@@ -41,25 +39,25 @@ pub record Made (s : Machine) (e : Event) (id : ℕ) (y : Segment) : Type 0 wher
 abbrev pub Before : Machine → Event → ℕ → Segment → Type 0
 Before s e id y = Stood s e id y ⊎ Made s e id y
 
+-- the next identifier of an index that holds none was never issued
+never : (t : List Entry) (id d : ℕ) (o : Option Entry) → slice_get t (id % 32768) ≡ o → IsEmpty d o → d ≡ id / 32768 → look t (pos id) ≡ Invalid
+never t id d o is empty count = grind (arith, common_steps)
+
 module _ (s t : Machine) (e : Event) (sound : IsMachineSound s) (k : Moved s e t) (id : ℕ) where
   small : id % 32768 < 32768
   small = omega arith
 
   gone-swept : (rs : List Runner) (d : ℕ) (y : Segment) → id / 32768 < d → slice_get t.table (id % 32768) ≡ Some (swept_at (id % 32768) rs d (Some y)) → IsGone t id
-  gone-swept rs d y past at =
-      elim (cases_Bool (y.dest && (attach_count rs (identifier (id % 32768) d) == 0))) [
-        | inl h ↦ at-gone t.table id (d + 1) None (at ∙ rw h refl) (omega (arith, past))
-        | inr h ↦ at-gone t.table id d (Some y) (at ∙ rw h refl) past
-      ]
+  gone-swept rs d y past at = grind (arith, common_steps)
 
   gone-entry : (d : ℕ) (p : Option Segment) → slice_get s.table (id % 32768) ≡ Some (record { destroyed = d; segment = p }) → id / 32768 < d → IsGone t id
   gone-entry d (Some x) is past =
       let q = stays (overlay s e) (made_by (caller_of s e.pid) e.call) (removed e.call e.reply) e.reply s t sound (id % 32768) small d x k is in gone-swept t.runners d q.now past q.at
-  gone-entry d None is past = either (comes (overlay s e) (made_by (caller_of s e.pid) e.call) (removed e.call e.reply) e.reply s t sound (id % 32768) small d (bare_entry d) k is (inl refl))
-    where
-      either : (slice_get t.table (id % 32768) ≡ bare_entry d) ⊎ IsNew (made_by (caller_of s e.pid) e.call) (id % 32768) e.reply d (slice_get t.table (id % 32768)) → IsGone t id
-      either (inl h) = at-gone t.table id d None h past
-      either (inr h) = at-gone t.table id d (Some h.now) h.at past
+  gone-entry d None is past =
+      elim (comes (overlay s e) (made_by (caller_of s e.pid) e.call) (removed e.call e.reply) e.reply s t sound (id % 32768) small d (bare_entry d) k is (inl refl)) [
+        | inl h ↦ at-gone t.table id d None h past
+        | inr h ↦ at-gone t.table id d (Some h.now) h.at past
+      ]
 
   gone-on : IsGone s id → IsGone t id
   gone-on gone =
@@ -68,35 +66,22 @@ module _ (s t : Machine) (e : Event) (sound : IsMachineSound s) (k : Moved s e t
 
   was-swept : (d : ℕ) (x y z : Segment) → slice_get s.table (id % 32768) ≡ holds d x → IsSame x z → z.bytes ≡ overlay s e (id % 32768) x.bytes
       → Some (swept_at (id % 32768) t.runners d (Some z)) ≡ holds (id / 32768) y → Before s e id y
-  was-swept d x y z is same bytes now =
-      elim (cases_Bool (z.dest && (attach_count t.runners (identifier (id % 32768) d) == 0))) [
-        | inl h ↦ absurd (none-some y (ap segment_in (rw h at now)))
-        | inr h ↦
-            (let left : holds d z ≡ holds (id / 32768) y = rw h at now in
-            let count : d ≡ id / 32768 = ap destroyed_in left in
-            let own : z ≡ y = cc (ap segment_in left) in
-            inl (record {
-              segment = x;
-              stood = at-stands s.table id x (is ∙ ap (λ n. holds n x) count);
-              same = subst (IsSame x) own same;
-              bytes = ap (λ (w : Segment). w.bytes) (sym own) ∙ bytes;
-            }))
-      ]
+  was-swept d x y z is same bytes now = grind (arith, common_steps)
 
   -- a segment that is new
   was-empty : (y : Segment) → slice_get t.table (id % 32768) ≡ holds (id / 32768) y → (d : ℕ) (o : Option Entry) → slice_get s.table (id % 32768) ≡ o → IsEmpty d o
-      → (o ≡ holds (id / 32768) y → ⊥) → (d ≡ id / 32768 → look s.table (pos id) ≡ Invalid) → Before s e id y
-  was-empty y at d o is empty other never = either (comes (overlay s e) (made_by (caller_of s e.pid) e.call) (removed e.call e.reply) e.reply s t sound (id % 32768) small d o k is empty)
+      → Before s e id y
+  was-empty y at d o is empty = either (comes (overlay s e) (made_by (caller_of s e.pid) e.call) (removed e.call e.reply) e.reply s t sound (id % 32768) small d o k is empty)
     where
       either : (slice_get t.table (id % 32768) ≡ o) ⊎ IsNew (made_by (caller_of s e.pid) e.call) (id % 32768) e.reply d (slice_get t.table (id % 32768)) → Before s e id y
-      either (inl h) = absurd (other (sym h ∙ at))
+      either (inl h) = absurd (holds-empty (id / 32768) d y o (sym h ∙ at) empty)
       either (inr h) =
           let same : holds d h.now ≡ holds (id / 32768) y = sym h.at ∙ at in
           let count : d ≡ id / 32768 = ap destroyed_in same in
           let own : identifier (id % 32768) d ≡ id = omega (arith, count) in
           let segment : h.now ≡ y = cc (ap segment_in same) in
           inr (record {
-            makes = (never count, h.answer ∙ ap (λ n. Id (pos n)) own);
+            makes = (never s.table id d o is empty count, h.answer ∙ ap (λ n. Id (pos n)) own);
             zeros = (h.zeros.0, ap (λ (w : Segment). w.bytes) (sym segment) ∙ h.zeros.1);
             made = subst (made_by (caller_of s e.pid) e.call) segment h.made;
           })
@@ -104,11 +89,10 @@ module _ (s t : Machine) (e : Event) (sound : IsMachineSound s) (k : Moved s e t
   was-entry : (y : Segment) → slice_get t.table (id % 32768) ≡ holds (id / 32768) y → (d : ℕ) (p : Option Segment) → slice_get s.table (id % 32768) ≡ Some (record { destroyed = d; segment = p }) → Before s e id y
   was-entry y at d (Some x) is =
       let q = stays (overlay s e) (made_by (caller_of s e.pid) e.call) (removed e.call e.reply) e.reply s t sound (id % 32768) small d x k is in was-swept d x y q.now is q.same q.bytes (sym q.at ∙ at)
-  was-entry y at d None is =
-      was-empty y at d (bare_entry d) is (inl refl) (λ h. none-some y (ap segment_in h)) (λ count. at-next s.table id (is ∙ ap bare_entry count))
+  was-entry y at d None is = was-empty y at d (bare_entry d) is (inl refl)
 
   was-before : (y : Segment) → slice_get t.table (id % 32768) ≡ holds (id / 32768) y → (o : Option Entry) → slice_get s.table (id % 32768) ≡ o → Before s e id y
-  was-before y at None is = was-empty y at 0 None is (inr (refl, refl)) (λ h. none-some _ h) (λ count. at-never s.table id is)
+  was-before y at None is = was-empty y at 0 None is (inr (refl, refl))
   was-before y at (Some x) is = was-entry y at x.destroyed x.segment is
 
   -- what stands stood before, with bytes that became these, or was made
@@ -116,11 +100,11 @@ module _ (s t : Machine) (e : Event) (sound : IsMachineSound s) (k : Moved s e t
   came-from y stands = was-before y (stands-at t.table id y stands) (slice_get s.table (id % 32768)) refl
 
   named : (y : Segment) → Stands t id y → ((x : Segment) × Stands s id x × IsSame x y) ⊎ (look s.table (pos id) ≡ Invalid)
-  named y stands = by (came-from y stands)
-    where
-      by : Before s e id y → ((x : Segment) × Stands s id x × IsSame x y) ⊎ (look s.table (pos id) ≡ Invalid)
-      by (inl h) = inl (h.segment, h.stood, h.same)
-      by (inr h) = inr h.makes.0
+  named y stands =
+      elim (came-from y stands) [
+        | inl h ↦ inl (h.segment, h.stood, h.same)
+        | inr h ↦ inr h.makes.0
+      ]
 
 -- KEPT FROM ONE TIME TO ANOTHER
 
@@ -128,15 +112,7 @@ keeps-refl : (s : Machine) → KeepsNames s s
 keeps-refl s = record { stands = λ id x h. inl (x, h, same_refl x); gone = λ id h. h }
 
 keeps-trans : (s u t : Machine) → KeepsNames s u → KeepsNames u t → KeepsNames s t
-keeps-trans s u t a b = record { stands = λ id x h. by id x (a.stands id x h); gone = λ id h. b.gone id (a.gone id h) }
-  where
-    on : (id : ℕ) (x y : Segment) → IsSame x y → ((z : Segment) × Stands t id z × IsSame y z) ⊎ IsGone t id → ((z : Segment) × Stands t id z × IsSame x z) ⊎ IsGone t id
-    on id x y same (inl h) = inl (h.0, h.1, same_trans x y h.0 same h.2)
-    on id x y same (inr h) = inr h
-
-    by : (id : ℕ) (x : Segment) → ((y : Segment) × Stands u id y × IsSame x y) ⊎ IsGone u id → ((z : Segment) × Stands t id z × IsSame x z) ⊎ IsGone t id
-    by id x (inl h) = on id x h.0 h.2 (b.stands id h.0 h.1)
-    by id x (inr h) = inr (b.gone id h)
+keeps-trans s u t a b = grind (arith, common_steps)
 
 -- WHOLE HISTORIES
 
@@ -193,25 +169,10 @@ made-now s e id y m = by (caller_of s e.pid) refl m.made
 
 -- who made a segment made the same one
 made-same : (s : Machine) (e : Event) (id : ℕ) (x y : Segment) → IsSame x y → IsMadeBy s e id x → IsMadeBy s e id y
-made-same s e id x y same m =
-    record {
-      key = m.key;
-      mode = m.mode;
-      flags = m.flags;
-      call = m.call ∙ ap (λ n. Shmget m.key n m.mode m.flags) (sym same.size);
-      reply = m.reply;
-      never = m.never;
-      process = m.process ∙ sym same.cpid;
-      caller = m.caller;
-      live = m.live;
-      user = same.cuid ∙ m.user;
-      group = same.cgid ∙ m.group;
-    }
+made-same s e id x y same m = grind (arith, common_steps)
 
 since-same : (o : Opening) (before : List Event) (id : ℕ) (x y : Segment) → IsSame x y → Since o (λ u e. IsMadeBy u e id x) (λ u e. StandsAs u id x) before → Since o (λ u e. IsMadeBy u e id y) (λ u e. StandsAs u id y) before
-since-same o before id x y same since =
-    since-map o (λ u e. IsMadeBy u e id x) (λ u e. IsMadeBy u e id y) (λ u e. StandsAs u id x) (λ u e. StandsAs u id y)
-    (λ u e. made-same u e id x y same) (λ u e h. (h.0, h.1, same_trans h.0 x y h.2 same)) before since
+since-same o before id x y same since = grind (arith, common_steps, since-map, made-same, same_trans)
 
 record Known (o : Opening) (before : List Event) (s : Machine) : Type 0 where
   sound : IsMachineSound s

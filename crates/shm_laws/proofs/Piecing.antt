@@ -1,5 +1,6 @@
 -- What a piece names stands.
-use Rattle.std.proofs.Common.{◌≡◌, ◌≢◌, ◌⊎◌, ℕ, suc, zero, ◌+◌, ◌*◌, ◌≤◌, not, List, [], ◌∷◌, length, map, Option, Some, None, slice_get, slice_set, refl, ap, subst, inl, inr, arith, eq-eqb, ne_eqb}
+use Rattle.std.proofs.Common.{◌≡◌, ◌⊎◌, ℕ, suc, zero, ◌+◌, ◌*◌, ◌≤◌, not, List, [], ◌∷◌, map, Option, Some, None, slice_get, slice_set, refl, ap, subst, inl, inr, arith}
+use Rattle.std.proofs.lemmas.Grind.{common_steps}
 use Rattle.std.proofs.lemmas.Bool.{cases_eq}
 use Rattle.std.specs.Prelude.{filter}
 use Rattle.std.proofs.lemmas.List.Sums.{sum_by-cons}
@@ -7,15 +8,13 @@ use Rattle.shm_base.specs.declared.call.Call.{Call}
 use Rattle.shm_base.specs.declared.call.Event.{Event}
 use Rattle.shm_base.specs.declared.call.Process.{Process}
 use Rattle.shm_base.specs.State.{Segment, Piece, Live, Runner, Machine, Opening, start_of, runner_at_start, pages_in}
-use Rattle.shm_base.specs.Space.{cut, parts, pieces_of}
+use Rattle.shm_base.specs.Space.{cut, pieces_of}
 use Rattle.shm_base.specs.Segments.{attach_count}
 use Rattle.shm_base.specs.Step.{Caller, Outcome, caller_of, acts, step_by, is_rdonly, pieces_with}
 use Rattle.shm_base.specs.History.{IsMove, IsHistory}
-use Rattle.shm_attach.specs.Views.{one_if, some_if}
 use Rattle.shm_attach.proofs.Processes.{one_more, pieces_of-inserted, pieces_of-cut_cons, pieces_of-filter}
 use Rattle.shm_segments.proofs.Entries.{sum-set}
-use Rattle.shm_laws.specs.Standing.{Stands, IsGone}
-use Rattle.shm_laws.specs.Identity.{IsSame}
+use Rattle.shm_laws.specs.Standing.{Stands}
 use Rattle.shm_laws.specs.Removal.{IsDue}
 use Rattle.shm_laws.specs.Pieces.{PiecesNameWhatStands, GivesPieces, CountsPieces, PiecesAreOfSegments}
 use Rattle.shm_laws.proofs.Counting.{counts-move}
@@ -53,19 +52,11 @@ caller-count s pid c id found = let at = caller-at 0 pid s.runners c found in ru
 -- a cut makes no first piece
 cut-none : (id from to : ℕ) (ps : List Piece) → pieces_of id ps ≡ 0 → pieces_of id (cut from to ps) ≡ 0
 cut-none id from to [] none = refl
-cut-none id from to (p ∷ ps) none = by (cases_eq p.seg id) (cut-none id from to ps)
-  where
-    more : pieces_of id (p ∷ ps) ≡ pieces_of id ps + one_if id p.seg
-    more = one_more id p ps
-
-    by : (p.seg ≡ id) ⊎ (p.seg ≢ id) → (pieces_of id ps ≡ 0 → pieces_of id (cut from to ps) ≡ 0) → pieces_of id (cut from to (p ∷ ps)) ≡ 0
-    by (inl own) rest = let one : one_if id p.seg ≡ 1 = rw (eq-eqb p.seg id own) refl in absurd (omega (arith, more, none, one))
-    by (inr other) rest =
-        let zero : some_if id p.seg (length (parts from to p)) ≡ 0 = rw (ne_eqb p.seg id other) refl in
-        let left : pieces_of id ps ≡ 0 = omega (arith, more, none) in
-        let rest' = rest left in
-        let all = pieces_of-cut_cons id from to p ps in
-        omega (arith, all, zero, rest')
+cut-none id from to (p ∷ ps) none =
+    let rest = cut-none id from to ps in
+    let more = one_more id p ps in
+    let all = pieces_of-cut_cons id from to p ps in
+    grind (arith, common_steps)
 
 -- EACH CALL
 
@@ -81,29 +72,21 @@ module _ (s : Machine) (c : Caller) (mine : (id : ℕ) → attach_count s.runner
 
   -- the process at a place gets pieces of no segments but some that stand
   set-first : (i : ℕ) (r : Runner) → ((id : ℕ) → attach_count s.runners id ≡ 0 → (pieces_of id r.pieces ≡ 0) ⊎ ((x : Segment) × Stands s id x)) → First s (slice_set s.runners i r)
-  set-first i r own id none = by (own id none)
-    where
-      by : (pieces_of id r.pieces ≡ 0) ⊎ ((x : Segment) × Stands s id x) → (attach_count (slice_set s.runners i r) id ≡ 0) ⊎ ((x : Segment) × Stands s id x)
-      by (inr h) = inr h
-      by (inl h) = let le = count-set s.runners i r id in inl (omega (arith, le, h, none))
+  set-first i r own id none = grind (arith, common_steps, count-set, arith)
 
   first-attaches : (call : Call) (o : Outcome) → Attaches s c call o → Gives o
   first-attaches call o k =
       rw k.runners (set-first c.index (record { pid = c.pid; life = Live c.cred; pieces = pieces_with c k.seg k.segment k.flags k.base }) own)
     where
       own : (j : ℕ) → attach_count s.runners j ≡ 0 → (pieces_of j (pieces_with c k.seg k.segment k.flags k.base) ≡ 0) ⊎ ((y : Segment) × Stands s j y)
-      own j none = by (cases_eq k.seg j)
-        where
-          piece : Piece
-          piece = record { base = k.base; seg = k.seg; first_page = 0; pages = pages_in k.segment; writable = not (is_rdonly k.flags) }
-
-          by : (k.seg ≡ j) ⊎ (k.seg ≢ j) → (pieces_of j (pieces_with c k.seg k.segment k.flags k.base) ≡ 0) ⊎ ((y : Segment) × Stands s j y)
-          by (inl h) = inr (k.segment, subst (λ n. Stands s n k.segment) h k.stands)
-          by (inr apart) =
-              let left = cut-none j k.base (k.base + 4096 * pages_in k.segment) c.pieces (mine j none) in
-              let more = pieces_of-inserted j piece (cut k.base (k.base + 4096 * pages_in k.segment) c.pieces) in
-              let zero : one_if j k.seg ≡ 0 = rw (ne_eqb k.seg j apart) refl in
-              inl (omega (arith, left, more, zero))
+      own j none =
+          let piece : Piece = record { base = k.base; seg = k.seg; first_page = 0; pages = pages_in k.segment; writable = not (is_rdonly k.flags) } in
+          let left = cut-none j k.base (k.base + 4096 * pages_in k.segment) c.pieces (mine j none) in
+          let more = pieces_of-inserted j piece (cut k.base (k.base + 4096 * pages_in k.segment) c.pieces) in
+          elim (cases_eq k.seg j) [
+            | inl h ↦ inr (k.segment, subst (λ n. Stands s n k.segment) h k.stands)
+            | inr apart ↦ inl (grind (arith, common_steps, left, more))
+          ]
 
   first-hands : (call : Call) (o : Outcome) → Hands s c call o → Gives o
   first-hands call o (inl k) = rw k.runners stays
@@ -127,29 +110,25 @@ first-move s n e t (inr x) = rw x.unchanged (λ id none. inl none)
 
 -- what had pieces and was destroyed lost them
 pieces-after : (s t : Machine) (e : Event) → IsMachineSound s → Moved s e t → PiecesNameWhatStands s → First s t.runners → PiecesNameWhatStands t
-pieces-after s t e sound k all first id some = by (cases_eq (attach_count s.runners id) 0)
+pieces-after s t e sound k all first id some =
+    elim (cases_eq (attach_count s.runners id) 0) [
+      | inl none ↦ elim (first id none) [ inl h ↦ absurd (omega (arith, h, some)) | inr h ↦ on h.0 h.1 ]
+      | inr had ↦ (let x = all id (omega (arith, had)) in on x.0 x.1)
+    ]
   where
-    on : (x : Segment) → Stands s id x → (y : Segment) × Stands t id y
-    on x stood = left (stands-or-gone s t e sound k id x stood)
-      where
-        left : ((y : Segment) × Stands t id y × IsSame x y) ⊎ IsGone t id → (y : Segment) × Stands t id y
-        left (inl h) = (h.0, h.1)
-        left (inr gone) = absurd (not_due (just s t e sound k id x stood gone))
-          where
-            not_due : IsDue s e t id x → ⊥
-            not_due (inr d) = omega (arith, some, d.after)
-            not_due (inl d) =
-                let r : removed e.call e.reply ≡ Some id = rw (d.call, d.reply) refl in
-                let same : attach_count t.runners id ≡ attach_count s.runners id = ap (λ rs. attach_count rs id) (same-runners s t e sound k id x stood r) in
-                omega (arith, some, same, d.bare)
+    not_due : (x : Segment) → Stands s id x → IsDue s e t id x → ⊥
+    not_due x stood (inr d) = omega (arith, some, d.after)
+    not_due x stood (inl d) =
+        let r : removed e.call e.reply ≡ Some id = rw (d.call, d.reply) refl in
+        let same : attach_count t.runners id ≡ attach_count s.runners id = ap (λ rs. attach_count rs id) (same-runners s t e sound k id x stood r) in
+        omega (arith, some, same, d.bare)
 
-    by : (attach_count s.runners id ≡ 0) ⊎ (attach_count s.runners id ≢ 0) → (y : Segment) × Stands t id y
-    by (inr had) = let x = all id (omega (arith, had)) in on x.0 x.1
-    by (inl none) = got (first id none)
-      where
-        got : (attach_count t.runners id ≡ 0) ⊎ ((x : Segment) × Stands s id x) → (y : Segment) × Stands t id y
-        got (inl h) = absurd (omega (arith, h, some))
-        got (inr h) = on h.0 h.1
+    on : (x : Segment) → Stands s id x → (y : Segment) × Stands t id y
+    on x stood =
+        elim (stands-or-gone s t e sound k id x stood) [
+          | inl h ↦ (h.0, h.1)
+          | inr gone ↦ absurd (not_due x stood (just s t e sound k id x stood gone))
+        ]
 
 -- what is sound and has pieces of what stands
 pub record IsWhole (s : Machine) : Type 0 where

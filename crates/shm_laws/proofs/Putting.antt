@@ -1,12 +1,12 @@
 -- A byte after an access: what the last of its places put there, or what was there.
-use Rattle.std.proofs.Common.{◌≡◌, ◌≢◌, ◌⊎◌, ℕ, suc, zero, ◌%◌, ◌<◌, List, [], ◌∷◌, length, replicate, Option, Some, None, slice_get, slice_set, refl, sym, ap, subst, ◌∙◌, inl, inr, arith, eq-eqb, ne_eqb}
-use Rattle.std.proofs.lemmas.Bool.{cases_eq}
+use Rattle.std.proofs.Common.{◌≡◌, ◌⊎◌, ℕ, suc, zero, ◌%◌, ◌<◌, List, [], ◌∷◌, length, replicate, Option, Some, slice_get, refl, sym, subst, ◌∙◌, inl, inr, arith}
+use Rattle.std.proofs.lemmas.Grind.{common_steps}
 use Rattle.std.proofs.lemmas.Option.{none-some}
 use Rattle.shm_base.specs.State.{Piece}
-use Rattle.shm_base.specs.Access.{Place, places}
+use Rattle.shm_base.specs.Access.{Place}
 use Rattle.shm_segments.proofs.Entries.{get-set_other, length-slice_set}
 use Rattle.shm_laws.specs.Writing.{Put}
-use Rattle.shm_laws.proofs.Turning.{byte_in, puts_in}
+use Rattle.shm_laws.proofs.Turning.{byte_in, puts_in, set-got}
 use Rattle.shm_laws.proofs.Stepping.{over_put}
 
 -- a place that is byte `at` of the segment at the index
@@ -26,34 +26,15 @@ pub record Hit (i at b : ℕ) (qs : List Place) (vs : List ℕ) : Type 0 where
 abbrev pub Miss : ℕ → ℕ → List Place → List ℕ → Type 0
 Miss i at qs vs = (k : ℕ) (p : Place) → k < length vs → slice_get qs k ≡ Some p → IsSpot i at p → ⊥
 
--- what is read where it was set
-set-got : (xs : List ℕ) (i v b : ℕ) → slice_get (slice_set xs i v) i ≡ Some b → v ≡ b
-set-got [] i v b h = absurd (none-some b h)
-set-got (x ∷ xs) zero v b h = cc h
-set-got (x ∷ xs) (suc i) v b h = set-got xs i v b h
-
 spot-cases : (i at : ℕ) (p : Place) → IsSpot i at p ⊎ (IsSpot i at p → ⊥)
-spot-cases i at p = by (cases_eq (p.seg % 32768) i) (cases_eq p.at at)
-  where
-    by : (p.seg % 32768 ≡ i) ⊎ (p.seg % 32768 ≢ i) → (p.at ≡ at) ⊎ (p.at ≢ at) → IsSpot i at p ⊎ (IsSpot i at p → ⊥)
-    by (inl a) (inl b) = inl (record { index = a; here = b })
-    by (inl a) (inr b) = inr (λ s. b s.here)
-    by (inr a) b = inr (λ s. a s.index)
+spot-cases i at p = grind (arith, common_steps)
 
 -- one byte that is put
 byte-here : (i at b : ℕ) (p : Place) (v : ℕ) (bytes : List ℕ) → IsSpot i at p → slice_get (byte_in i p v bytes) at ≡ Some b → v ≡ b
-byte-here i at b p v bytes s h =
-    let there : slice_get (slice_set bytes p.at v) at ≡ Some b = rw (eq-eqb (p.seg % 32768) i s.index) at h in
-    set-got bytes at v b (ap (λ n. slice_get (slice_set bytes n v) at) (sym s.here) ∙ there)
+byte-here i at b p v bytes s h = grind (arith, set-got)
 
 byte-there : (i at b : ℕ) (p : Place) (v : ℕ) (bytes : List ℕ) → (IsSpot i at p → ⊥) → slice_get (byte_in i p v bytes) at ≡ Some b → slice_get bytes at ≡ Some b
-byte-there i at b p v bytes other h = by (cases_eq (p.seg % 32768) i)
-  where
-    by : (p.seg % 32768 ≡ i) ⊎ (p.seg % 32768 ≢ i) → slice_get bytes at ≡ Some b
-    by (inl same) =
-        let there : slice_get (slice_set bytes p.at v) at ≡ Some b = rw (eq-eqb (p.seg % 32768) i same) at h in
-        sym (get-set_other bytes p.at at v (λ here. other (record { index = same; here = here }))) ∙ there
-    by (inr apart) = rw (ne_eqb (p.seg % 32768) i apart) at h
+byte-there i at b p v bytes other h = grind (arith, get-set_other)
 
 hit-more : (i at b : ℕ) (p : Place) (v : ℕ) (qs : List Place) (vs : List ℕ) → Hit i at b qs vs → Hit i at b (p ∷ qs) (v ∷ vs)
 hit-more i at b p v qs vs h = record { k = suc h.k; byte = h.byte; spot = h.spot; is = h.is; hits = h.hits; last = later }
@@ -63,12 +44,7 @@ hit-more i at b p v qs vs h = record { k = suc h.k; byte = h.byte; spot = h.spot
     later (suc j) q gt lt is s = h.last j q (omega (arith, gt)) (omega (arith, lt)) is s
 
 hit-first : (i at b : ℕ) (p : Place) (v : ℕ) (qs : List Place) (vs : List ℕ) → IsSpot i at p → v ≡ b → Miss i at qs vs → Hit i at b (p ∷ qs) (v ∷ vs)
-hit-first i at b p v qs vs s same miss =
-    record { k = 0; byte = ap (λ (n : ℕ). Some n) same; spot = p; is = refl; hits = s; last = later }
-  where
-    later : (j : ℕ) (q : Place) → 0 < j → j < length (v ∷ vs) → slice_get (p ∷ qs) j ≡ Some q → IsSpot i at q → ⊥
-    later zero q gt lt is t = omega (arith, gt)
-    later (suc j) q gt lt is t = miss j q (omega (arith, lt)) is t
+hit-first i at b p v qs vs s same miss = grind (arith, common_steps)
 
 miss-more : (i at : ℕ) (p : Place) (v : ℕ) (qs : List Place) (vs : List ℕ) → (IsSpot i at p → ⊥) → Miss i at qs vs → Miss i at (p ∷ qs) (v ∷ vs)
 miss-more i at p v qs vs other miss zero q lt is s = let same : p ≡ q = cc is in other (subst (IsSpot i at) (sym same) s)
@@ -88,11 +64,7 @@ byte-after i at b (p ∷ qs) (v ∷ vs) bytes h = by (byte-after i at b qs vs (b
 
 -- there stay as many
 byte-length : (i : ℕ) (p : Place) (v : ℕ) (bytes : List ℕ) → length (byte_in i p v bytes) ≡ length bytes
-byte-length i p v bytes = by (cases_eq (p.seg % 32768) i)
-  where
-    by : (p.seg % 32768 ≡ i) ⊎ (p.seg % 32768 ≢ i) → length (byte_in i p v bytes) ≡ length bytes
-    by (inl same) = rw (eq-eqb (p.seg % 32768) i same) (length-slice_set bytes p.at v)
-    by (inr apart) = rw (ne_eqb (p.seg % 32768) i apart) refl
+byte-length i p v bytes = grind (arith, length-slice_set)
 
 puts-length : (i : ℕ) (qs : List Place) (vs bytes : List ℕ) → length (puts_in i qs vs bytes) ≡ length bytes
 puts-length i [] vs bytes = refl
@@ -100,14 +72,9 @@ puts-length i (p ∷ qs) [] bytes = refl
 puts-length i (p ∷ qs) (v ∷ vs) bytes = puts-length i qs vs (byte_in i p v bytes) ∙ byte-length i p v bytes
 
 pub over-length : (ps : List Piece) (o : Option Put) (i : ℕ) (bytes : List ℕ) → length (over_put ps o i bytes) ≡ length bytes
-over-length ps None i bytes = refl
-over-length ps (Some p) i bytes = by (places ps p.from (length p.bytes)) refl
-  where
-    by : (o : Option (List Place)) → places ps p.from (length p.bytes) ≡ o → length (over_put ps (Some p) i bytes) ≡ length bytes
-    by None is = rw is refl
-    by (Some qs) is = rw is (puts-length i qs p.bytes bytes)
+over-length ps o i bytes = grind (arith, puts-length)
 
 pub zero-byte : (n at b : ℕ) → slice_get (replicate n 0) at ≡ Some b → b ≡ 0
 zero-byte zero at b h = absurd (none-some b h)
-zero-byte (suc n) zero b h = let same : 0 ≡ b = cc h in sym same
+zero-byte (suc n) zero b h = cc
 zero-byte (suc n) (suc at) b h = zero-byte n at b h

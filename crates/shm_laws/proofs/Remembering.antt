@@ -1,13 +1,13 @@
 -- Each byte is that of its last writer, and so is each byte that an event answers.
-use Rattle.std.proofs.Common.{◌≡◌, ◌⊎◌, ℕ, ◌+◌, ◌-◌, ◌*◌, ◌%◌, ◌<◌, ◌≤◌, ◌^◌, true, false, List, [], ◌∷◌, ◌++◌, length, get_or, Option, Some, None, slice_get, refl, sym, ap, subst, ◌∙◌, inl, inr, arith, true≢false}
-use Rattle.std.specs.Int.{w64, to_le_bytes, from_le_bytes}
+use Rattle.std.proofs.Common.{◌≡◌, ◌⊎◌, ℕ, ◌+◌, ◌-◌, ◌*◌, ◌%◌, ◌<◌, ◌≤◌, true, false, List, [], ◌∷◌, ◌++◌, length, get_or, Option, Some, None, slice_get, refl, sym, ap, subst, ◌∙◌, inl, inr, arith, true≢false}
+use Rattle.std.specs.Int.{w64, from_le_bytes}
 use Rattle.std.specs.Prelude.{option_map}
 use Rattle.std.proofs.lemmas.List.{length-map}
 use Rattle.std.proofs.lemmas.Grind.{common_steps}
 use Rattle.std.proofs.lemmas.Option.{none-some, slice_get-map, slice_get-get_or, slice_get_within}
 use Rattle.shm_base.specs.declared.errno.Errno.TheVariants.{Esrch}
 use Rattle.shm_base.specs.declared.call.Call.{Call}
-use Rattle.shm_base.specs.declared.call.Call.TheVariants.{Shmget, Shmat, Shmdt, Stat, Set, Rmid, Lock, Unlock, Load, Store, Xadd, Fork, Exec, Exit, Swapoff}
+use Rattle.shm_base.specs.declared.call.Call.TheVariants.{Load, Store, Xadd}
 use Rattle.shm_base.specs.declared.call.Reply.{Reply}
 use Rattle.shm_base.specs.declared.call.Reply.TheVariants.{Bytes, Number}
 use Rattle.shm_base.specs.declared.call.Event.{Event}
@@ -35,32 +35,16 @@ module _ (s : Machine) (n : ℕ) (c : Caller) where
 
   placed-store : (a : ℕ) (bytes : List ℕ) (o : Option (List Place)) → writable_places c.pieces a (length bytes) ≡ o → Placed (Store a bytes) (store s bytes o)
   placed-store a bytes None is p puts = absurd (none-some p puts)
-  placed-store a bytes (Some qs) is p puts =
-      let same : record { from = a; bytes = bytes } ≡ p = cc puts in
-      (qs, ap (λ (q : Put). places c.pieces q.from (length q.bytes)) (sym same) ∙ (writable-parts (places c.pieces a (length bytes)) qs is).0)
+  placed-store a bytes (Some qs) is p puts = (qs, grind arith)
 
   placed-xadd : (a add : ℕ) (o : Option (List Place)) → writable_places c.pieces a 8 ≡ o → Placed (Xadd a add) (xadd s add o)
   placed-xadd a add None is p puts = absurd (none-some p puts)
-  placed-xadd a add (Some qs) is p puts =
-      let same : record { from = a; bytes = to_le_bytes w64 ((number_at s qs + add) % 2 ^ 64) } ≡ p = cc puts in
-      (qs, ap (λ (q : Put). places c.pieces q.from (length q.bytes)) (sym same) ∙ (writable-parts (places c.pieces a 8) qs is).0)
+  placed-xadd a add (Some qs) is p puts = (qs, grind arith)
 
   placed-acts : (call : Call) → Placed call (acts s n c call)
   placed-acts (Store a bytes) p puts = placed-store a bytes (writable_places c.pieces a (length bytes)) refl p puts
   placed-acts (Xadd a add) p puts = placed-xadd a add (writable_places c.pieces a 8) refl p puts
-  placed-acts (Load a len) p puts = absurd (none-some p puts)
-  placed-acts (Swapoff area) p puts = absurd (none-some p puts)
-  placed-acts (Shmget key size mode flags) p puts = absurd (none-some p puts)
-  placed-acts (Shmat id addr flags) p puts = absurd (none-some p puts)
-  placed-acts (Shmdt addr) p puts = absurd (none-some p puts)
-  placed-acts (Stat id) p puts = absurd (none-some p puts)
-  placed-acts (Set id uid gid mode) p puts = absurd (none-some p puts)
-  placed-acts (Rmid id) p puts = absurd (none-some p puts)
-  placed-acts (Lock id) p puts = absurd (none-some p puts)
-  placed-acts (Unlock id) p puts = absurd (none-some p puts)
-  placed-acts (Fork child) p puts = absurd (none-some p puts)
-  placed-acts Exec p puts = absurd (none-some p puts)
-  placed-acts Exit p puts = absurd (none-some p puts)
+  placed-acts call p puts = absurd (none-some p puts)
 
 abbrev PlacedBy : Option Caller → Call → Reply → Type 0
 PlacedBy o call reply = (p : Put) → put call reply ≡ Some p → (qs : List Place) × (places (held_by o) p.from (length p.bytes) ≡ Some qs)

@@ -1,23 +1,22 @@
 -- Each move destroys what is due, and what is marked has a piece.
-use Rattle.std.proofs.Common.{◌≡◌, ◌⊎◌, ℕ, suc, zero, ◌+◌, ◌/◌, ◌%◌, ◌≤◌, ◌==◌, ◌&&◌, ◌||◌, pos, Bool, true, false, List, [], ◌∷◌, map, Option, Some, None, slice_get, refl, sym, ap, ◌∙◌, inl, inr, arith, eq-eqb, true≢false}
-use Rattle.std.proofs.lemmas.Bool.{cases_Bool, cases_eq, eqb-true}
+use Rattle.std.proofs.Common.{◌≡◌, ◌⊎◌, ℕ, suc, zero, ◌+◌, ◌/◌, ◌%◌, ◌≤◌, ◌==◌, ◌&&◌, ◌||◌, pos, Bool, true, false, List, [], ◌∷◌, map, Some, None, slice_get, refl, sym, ap, ◌∙◌, inl, inr, arith, eq-eqb}
+use Rattle.std.proofs.lemmas.Grind.{common_steps}
+use Rattle.std.proofs.lemmas.Bool.{or_right}
 use Rattle.std.proofs.lemmas.Option.{none-some}
 use Rattle.shm_base.specs.declared.call.Process.{Process}
 use Rattle.shm_base.specs.declared.call.Event.{Event}
 use Rattle.shm_base.specs.State.{Segment, Runner, Machine, Opening, start_of, runner_at_start}
-use Rattle.shm_base.specs.Identifier.{identifier, look}
+use Rattle.shm_base.specs.Identifier.{identifier}
 use Rattle.shm_base.specs.Segments.{attach_count}
 use Rattle.shm_base.specs.Step.{caller_of}
 use Rattle.shm_base.specs.History.{IsHistory}
-use Rattle.shm_segments.specs.Left.{orphan_in}
-use Rattle.shm_life.proofs.Sweeping.{left-parts}
 use Rattle.shm_laws.specs.Standing.{Stands, IsGone}
 use Rattle.shm_laws.specs.Identity.{IsSame}
 use Rattle.shm_laws.specs.Removal.{MarkedHavePieces, IsDue, DestroysWhatIsDue, GoesWhenItMust}
 use Rattle.shm_laws.proofs.Inducting.{Keeps, each_move}
 use Rattle.shm_laws.proofs.Looks.{stands-at, at-stands, at-gone, not-both}
 use Rattle.shm_laws.proofs.Stepping.{Bare, overlay, made_by, Moved, removed}
-use Rattle.shm_laws.proofs.Fates.{IsMachineSound, names, Stays, stays, sound-after, kind-move, removed-call}
+use Rattle.shm_laws.proofs.Fates.{IsMachineSound, names, Stays, stays, sound-after, kind-move}
 
 -- WHERE A MACHINE STARTS
 
@@ -32,19 +31,10 @@ sound-start o = record { orphans = λ i small. refl; bare = bare-start o.process
 -- WHAT IS MARKED
 
 some-piece : (b : Bool) (n : ℕ) → b && (n == 0) ≡ false → b ≡ true → 1 ≤ n
-some-piece b n h marked =
-    elim (cases_eq n 0) [
-      | inl z ↦ absurd (true≢false (sym (rw (marked, eq-eqb n 0 z) refl) ∙ h))
-      | inr apart ↦ omega (arith, apart)
-    ]
+some-piece b n h marked = grind (arith, common_steps)
 
 pub marked-pieces : (s : Machine) → IsMachineSound s → MarkedHavePieces s
-marked-pieces s sound id x stands dest =
-    let is = stands-at s.table id x stands in
-    let own : identifier (id % 32768) (id / 32768) ≡ id = omega arith in
-    let none : x.dest && (attach_count s.runners (identifier (id % 32768) (id / 32768)) == 0) ≡ false =
-    sym (ap (orphan_in (id % 32768) s.runners) is) ∙ sound.orphans (id % 32768) (omega arith) in
-    some-piece x.dest (attach_count s.runners id) (rw own at none) dest
+marked-pieces s sound id x stands dest = grind (arith, common_steps)
 
 -- ONE SEGMENT IN ONE MOVE
 
@@ -56,18 +46,10 @@ module _ (s t : Machine) (e : Event) (sound : IsMachineSound s) (k : Moved s e t
   after = stays (overlay s e) (made_by (caller_of s e.pid) e.call) (removed e.call e.reply) e.reply s t sound (id % 32768) (omega arith) (id / 32768) x k (stands-at s.table id x stood)
 
   by_name : names (removed e.call e.reply) id ≡ true → removed e.call e.reply ≡ Some id
-  by_name h = at (removed e.call e.reply) refl h
-    where
-      at : (r : Option ℕ) → removed e.call e.reply ≡ r → names r id ≡ true → removed e.call e.reply ≡ Some id
-      at None is h = absurd (true≢false (sym h))
-      at (Some n) is h = is ∙ ap (λ m. Some m) (eqb-true n id h)
+  by_name h = grind (arith, common_steps)
 
   pub same-runners : removed e.call e.reply ≡ Some id → t.runners ≡ s.runners
-  same-runners h = at k
-    where
-      at : Moved s e t → t.runners ≡ s.runners
-      at (inl (none, q)) = absurd (none-some id (sym none ∙ h))
-      at (inr (no_byte, q)) = q.removes.runners
+  same-runners h = grind arith
 
   -- it is swept
   abbrev goes : Bool
@@ -80,27 +62,10 @@ module _ (s t : Machine) (e : Event) (sound : IsMachineSound s) (k : Moved s e t
   goes-now h = at-gone t.table id (id / 32768 + 1) None (after.at ∙ rw h refl) (omega arith)
 
   due : goes ≡ true → IsDue s e t id x
-  due h =
-      let parts = left-parts after.now.dest _ h in
-      let none : attach_count t.runners id ≡ 0 = rw own at parts.1 in
-      by none (after.dest ∙ ap (λ m. names (removed e.call e.reply) m || x.dest) own) parts.0 (cases_Bool (names (removed e.call e.reply) id))
-    where
-      by : attach_count t.runners id ≡ 0 → after.now.dest ≡ (names (removed e.call e.reply) id || x.dest) → after.now.dest ≡ true
-          → (names (removed e.call e.reply) id ≡ true) ⊎ (names (removed e.call e.reply) id ≡ false) → IsDue s e t id x
-      by none dest marked (inl named) =
-          let r = by_name named in
-          let c = removed-call e.call e.reply id r in
-          inl (record { call = c.0; reply = c.1; bare = ap (λ rs. attach_count rs id) (sym (same-runners r)) ∙ none })
-      by none dest marked (inr other) =
-          let old : x.dest ≡ true = ap (λ b. b || x.dest) (sym other) ∙ sym dest ∙ marked in
-          inr (record { marked = old; before = marked-pieces s sound id x stood old; after = none })
+  due h = grind (arith, common_steps)
 
   pub just : IsGone t id → IsDue s e t id x
-  just gone =
-      elim (cases_Bool goes) [
-        | inl h ↦ due h
-        | inr h ↦ absurd (not-both (look t.table (pos id)) (id % 32768) after.now gone (stands-on h))
-      ]
+  just gone = grind (arith, common_steps, inl, due, inr, not-both, pos, after, stands-on)
 
   goes-by : after.now.dest ≡ true → attach_count t.runners id ≡ 0 → goes ≡ true
   goes-by dest none = rw (dest, own) (eq-eqb _ 0 none)
@@ -110,20 +75,11 @@ module _ (s t : Machine) (e : Event) (sound : IsMachineSound s) (k : Moved s e t
       let r : removed e.call e.reply ≡ Some id = rw (d.call, d.reply) refl in
       let named : names (removed e.call e.reply) (identifier (id % 32768) (id / 32768)) ≡ true = rw (own, r) (eq-eqb id id refl) in
       goes-now (goes-by (after.dest ∙ ap (λ b. b || x.dest) named) (ap (λ rs. attach_count rs id) (same-runners r) ∙ d.bare))
-  must (inr d) =
-      goes-now (goes-by (after.dest ∙ or-true (names (removed e.call e.reply) (identifier (id % 32768) (id / 32768))) x.dest d.marked) d.after)
-    where
-      or-true : (a b : Bool) → b ≡ true → (a || b) ≡ true
-      or-true true b h = refl
-      or-true false b h = h
+  must (inr d) = goes-now (goes-by (after.dest ∙ or_right (names (removed e.call e.reply) (identifier (id % 32768) (id / 32768))) x.dest d.marked) d.after)
 
   -- what stood stands on as the same segment, or is gone
   pub stands-or-gone : ((y : Segment) × Stands t id y × IsSame x y) ⊎ IsGone t id
-  stands-or-gone =
-      elim (cases_Bool goes) [
-        | inl h ↦ inr (goes-now h)
-        | inr h ↦ inl (after.now, stands-on h, after.same)
-      ]
+  stands-or-gone = grind (arith, common_steps, inl, inr, goes-now, after, stands-on)
 
 -- WHOLE HISTORIES
 

@@ -1,14 +1,12 @@
 -- Of legal histories without failures there is one for each opening and calls.
-use Rattle.std.proofs.Common.{◌≡◌, ℕ, ◌+◌, true, false, ◌==◌, drop, List, [], ◌∷◌, Option, Some, None, nat_lt, slice_get, slice_set, refl, sym, ap, ◌∙◌, subst, arith, inl, inr, true≢false}
-use Rattle.std.proofs.lemmas.Bool.{cases_Bool}
+use Rattle.std.proofs.Common.{◌≡◌, ℕ, ◌+◌, true, false, drop, List, [], ◌∷◌, Option, Some, None, refl, sym, ap, ◌∙◌, subst, arith, inl, inr, true≢false}
+use Rattle.std.proofs.lemmas.Grind.{common_steps}
 use Rattle.shm_base.specs.declared.call.Call.{Call}
-use Rattle.shm_base.specs.declared.call.Call.TheVariants.{Shmget, Shmat, Shmdt, Stat, Set, Rmid, Lock, Unlock, Load, Store, Xadd, Fork, Exec, Exit, Swapoff}
+use Rattle.shm_base.specs.declared.call.Call.TheVariants.{Load}
 use Rattle.shm_base.specs.declared.call.Reply.TheVariants.{Bytes}
 use Rattle.shm_base.specs.declared.call.Event.{Event}
-use Rattle.shm_base.specs.Access.{Place}
-use Rattle.shm_base.specs.State.{Machine, Opening, start_of}
-use Rattle.shm_base.specs.Segments.{slots, reserved}
-use Rattle.shm_base.specs.Step.{Caller, Outcome, acts, step_by, step, caller_of, load, store, xadd, swapoff, takes_away}
+use Rattle.shm_base.specs.State.{Machine, Opening}
+use Rattle.shm_base.specs.Step.{Caller, Outcome, acts, step_by, step, caller_of}
 use Rattle.shm_base.specs.History.{is_refusal, is_failure, IsExcused, IsMove, LeadsFrom, IsHistory}
 use Rattle.shm_history.specs.WorldState.{calls_of, failures_in}
 use Rattle.shm_history.proofs.Clear.{clear_step, failures-cons, first_clear, rest_clear}
@@ -16,71 +14,12 @@ use Rattle.shm_laws.specs.Replay.{undone, without_failures, IsReplayed}
 
 -- THE STEP NAMES NO FAILURE
 
-load-clear : (s : Machine) (a n : ℕ) (o : Option (List Place)) → is_failure (Load a n) (load s o).reply ≡ false
-load-clear s a n None = refl
-load-clear s a n (Some ps) = refl
-
-store-clear : (s : Machine) (a : ℕ) (bs : List ℕ) (o : Option (List Place)) → is_failure (Store a bs) (store s bs o).reply ≡ false
-store-clear s a bs None = refl
-store-clear s a bs (Some ps) = refl
-
-xadd-clear : (s : Machine) (a add : ℕ) (o : Option (List Place)) → is_failure (Xadd a add) (xadd s add o).reply ≡ false
-xadd-clear s a add None = refl
-xadd-clear s a add (Some ps) = refl
-
-takes-clear : (s : Machine) (area : ℕ) (o : Option (Option ℕ)) → is_failure (Swapoff area) (takes_away s area o).reply ≡ false
-takes-clear s area None = refl
-takes-clear s area (Some None) = refl
-takes-clear s area (Some (Some n)) =
-    elim (cases_Bool (nat_lt (slots (slice_set s.areas area None)) (reserved s.table))) [
-      | inl h ↦ rw h refl
-      | inr h ↦ rw h refl
-    ]
-
-swapoff-clear : (s : Machine) (c : Caller) (area : ℕ) → is_failure (Swapoff area) (swapoff s c area).reply ≡ false
-swapoff-clear s c area =
-    elim (cases_Bool (c.cred.uid == 0)) [
-      | inl h ↦ rw h (takes-clear s area (slice_get s.areas area))
-      | inr h ↦ rw h refl
-    ]
-
 acts-clear : (s : Machine) (n : ℕ) (c : Caller) (call : Call) → is_failure call (acts s n c call).reply ≡ false
-acts-clear s n c (Shmget key size mode flags) = refl
-acts-clear s n c (Shmat id addr flags) = refl
-acts-clear s n c (Shmdt addr) = refl
-acts-clear s n c (Stat id) = refl
-acts-clear s n c (Set id uid gid mode) = refl
-acts-clear s n c (Rmid id) = refl
-acts-clear s n c (Lock id) = refl
-acts-clear s n c (Unlock id) = refl
-acts-clear s n c (Load a len) = load-clear s a len _
-acts-clear s n c (Store a bs) = store-clear s a bs _
-acts-clear s n c (Xadd a add) = xadd-clear s a add _
-acts-clear s n c (Fork child) = refl
-acts-clear s n c Exec = refl
-acts-clear s n c Exit = refl
-acts-clear s n c (Swapoff area) = swapoff-clear s c area
-
-nobody-clear : (s : Machine) (n : ℕ) (call : Call) → is_failure call (step_by s n call None).reply ≡ false
-nobody-clear s n (Load a len) = refl
-nobody-clear s n (Store a bs) = refl
-nobody-clear s n (Xadd a add) = refl
-nobody-clear s n (Swapoff area) = refl
-nobody-clear s n (Shmget key size mode flags) = refl
-nobody-clear s n (Shmat id addr flags) = refl
-nobody-clear s n (Shmdt addr) = refl
-nobody-clear s n (Stat id) = refl
-nobody-clear s n (Set id uid gid mode) = refl
-nobody-clear s n (Rmid id) = refl
-nobody-clear s n (Lock id) = refl
-nobody-clear s n (Unlock id) = refl
-nobody-clear s n (Fork child) = refl
-nobody-clear s n Exec = refl
-nobody-clear s n Exit = refl
+acts-clear s n c call = grind arith
 
 by-clear : (s : Machine) (n : ℕ) (call : Call) (o : Option Caller) → is_failure call (step_by s n call o).reply ≡ false
-by-clear s n call None = nobody-clear s n call
 by-clear s n call (Some c) = acts-clear s n c call
+by-clear s n call None = grind arith
 
 step-clear : (s : Machine) (n pid : ℕ) (call : Call) → is_failure call (step s n pid call).reply ≡ false
 step-clear s n pid call = by-clear s n call (caller_of s pid)
@@ -99,20 +38,10 @@ idle-by s n call None live = absurd (true≢false live)
 idle-by s n call (Some c) live = refl
 
 undone-move : (s : Machine) (n : ℕ) (e : Event) (t : Machine) → IsMove s n e t → IsMove s n (undone e) t
-undone-move s n e t m =
-    elim (cases_Bool (is_failure e.call e.reply)) [
-      | inl h ↦
-          (let x = is-excused s n e t h m in
-          rw h (inl (rw x.unchanged (idle-by s n e.call (caller_of s e.pid) x.instead))))
-      | inr h ↦ rw h m
-    ]
+undone-move s n e t m = let idle = idle-by s n e.call (caller_of s e.pid) in let excused = is-excused s n e t in grind (arith, m)
 
 undone-clear : (e : Event) → is_failure (undone e).call (undone e).reply ≡ false
-undone-clear e =
-    elim (cases_Bool (is_failure e.call e.reply)) [
-      | inl h ↦ rw h refl
-      | inr h ↦ rw h h
-    ]
+undone-clear e = grind arith
 
 -- WHOLE HISTORIES
 
@@ -137,26 +66,16 @@ one-way n s [] [] t u h k a b same = (refl, h ∙ sym k)
 one-way n s [] (f ∷ fs) t u h k a b same = absurd (cc same)
 one-way n s (e ∷ es) [] t u h k a b same = absurd (cc same)
 one-way n s (e ∷ es) (f ∷ fs) t u h k a b same =
-    let asked : (e.pid, e.call) ≡ (f.pid, f.call) = cc same in
-    let pids : e.pid ≡ f.pid = ap (λ (p : ℕ × Call). p.0) asked in
-    let calls : e.call ≡ f.call = ap (λ (p : ℕ × Call). p.1) asked in
+    let pids : e.pid ≡ f.pid = grind arith in
+    let calls : e.call ≡ f.call = grind arith in
     let rest : calls_of es ≡ calls_of fs = ap (drop 1) same in
     let left = clear_step s n e h.0 (first_clear e es a) h.1 in
     let right = clear_step s n f k.0 (first_clear f fs b) k.1 in
-    let both : record { reply = e.reply; state = h.0 } ≡ record { reply = f.reply; state = k.0 } =
-    sym left ∙ ap (λ (p : ℕ × Call). step s n p.0 p.1) (λ i. (pids i, calls i)) ∙ right in
-    let replies : e.reply ≡ f.reply = ap (λ (o : Outcome). o.reply) both in
-    let states : k.0 ≡ h.0 = sym (ap (λ (o : Outcome). o.state) both) in
-    let first : e ≡ f = λ i. record { pid = pids i; call = calls i; reply = replies i } in
+    let states : k.0 ≡ h.0 = grind arith in
+    let first : e ≡ f = grind arith in
     let more = one-way (n + 1) h.0 es fs t u h.2 (subst (λ v. LeadsFrom (n + 1) v fs u) states k.2) (rest_clear e es a) (rest_clear f fs b) rest in
     ((λ i. first i ∷ more.0 i), more.1)
 
 -- every legal history is replayed
 pub replayed : (o : Opening) (events : List Event) (end : Machine) → IsHistory o events end → IsReplayed o events end
-replayed o events end h =
-    record {
-      legal = leads-undone 1 (start_of o) events end h;
-      clear = all-clear events;
-      same = none-undone events;
-      only = λ others other k clear calls. one-way 1 (start_of o) others (without_failures events) other end k (leads-undone 1 (start_of o) events end h) clear (all-clear events) calls;
-    }
+replayed o events end h = grind (arith, common_steps, leads-undone, all-clear, none-undone, one-way)

@@ -1,5 +1,7 @@
 -- The four kinds of step on the segments: still, a sweep after a detach, a creation, a removal.
-use Rattle.std.proofs.Common.{◌≡◌, ◌⊎◌, ℕ, suc, zero, ◌+◌, ◌*◌, ◌%◌, ◌^◌, ◌≤◌, ◌==◌, ◌&&◌, ℤ, pos, negsuc, Bool, true, false, not, nat_le, nat_lt, if◌then◌else◌, List, [], ◌∷◌, length, replicate, get_or, Option, Some, None, slice_get, slice_set, refl, sym, ap, subst, ◌∙◌, inl, inr, arith}
+use Rattle.std.proofs.Common.{◌≡◌, ◌⊎◌, ℕ, ◌+◌, ◌*◌, ◌%◌, ◌^◌, ◌≤◌, ◌==◌, ◌&&◌, ℤ, pos, negsuc, Bool, true, false, not, nat_le, nat_lt, if◌then◌else◌, List, [], ◌∷◌, length, replicate, get_or, Option, Some, None, slice_get, slice_set, refl, sym, ap, subst, ◌∙◌, inl, inr, arith}
+use Rattle.std.proofs.lemmas.Grind.{common_steps}
+use Rattle.shm_segments.proofs.Entries.{get-set_other}
 use Rattle.std.specs.Int.{w64, to_le_bytes}
 use Rattle.std.proofs.lemmas.Option.{slice_get-get_or}
 use Rattle.shm_base.specs.declared.errno.Errno.TheVariants.{Emfile}
@@ -24,7 +26,7 @@ use Rattle.shm_life.proofs.Leaving.{keeps-set}
 use Rattle.shm_laws.specs.Identity.{IsSame}
 use Rattle.shm_laws.specs.Writing.{Put, put, held_by}
 use Rattle.shm_laws.proofs.Accessing.{writable-parts}
-use Rattle.shm_laws.proofs.Turning.{Turned, unchanged, puts_in, turned-refl, turned-trans, turned-change, turned-detach, turned-stored}
+use Rattle.shm_laws.proofs.Turning.{Turned, unchanged, puts_in, turned-refl, turned-trans, turned-change, turned-detach, turned-stored, set-got}
 use Rattle.shm_laws.proofs.Looks.{entry-found}
 
 -- PROCESSES THAT ARE NOT BORN HAVE NO PIECES
@@ -33,17 +35,14 @@ abbrev pub Bare : List Runner → Type 0
 Bare rs = (k : ℕ) (r : Runner) → slice_get rs k ≡ Some r → r.life ≡ Unborn → r.pieces ≡ []
 
 pub bare-set : (rs : List Runner) (i : ℕ) (x : Runner) → Bare rs → (x.life ≡ Unborn → ⊥) → Bare (slice_set rs i x)
-bare-set [] i x h born = h
-bare-set (r ∷ rs) zero x h born = at
-  where
-    at : (k : ℕ) (q : Runner) → slice_get (x ∷ rs) k ≡ Some q → q.life ≡ Unborn → q.pieces ≡ []
-    at zero q is u = let same : x ≡ q = cc is in absurd (born (ap (λ (y : Runner). y.life) same ∙ u))
-    at (suc k) q is u = h (suc k) q is u
-bare-set (r ∷ rs) (suc i) x h born = at (bare-set rs i x (λ k q. h (suc k) q) born)
-  where
-    at : Bare (slice_set rs i x) → (k : ℕ) (q : Runner) → slice_get (r ∷ slice_set rs i x) k ≡ Some q → q.life ≡ Unborn → q.pieces ≡ []
-    at more zero q is u = h 0 q is u
-    at more (suc k) q is u = more k q is u
+bare-set rs i x h born k r is u = grind (arith, common_steps, inl, ap, set-got, inr, sym, get-set_other)
+
+-- a child that may be born
+pub unborn-bare : (child i : ℕ) (rs : List Runner) → unborn_from 0 child rs ≡ Some i → Bare rs → (old : Runner) × (slice_get rs i ≡ Some old) × (old.pieces ≡ [])
+unborn-bare child i rs found bare =
+    let k = child_at child i rs found in
+    let there = slice_get-get_or rs i first_runner k.within in
+    (get_or rs i first_runner, there, bare i (get_or rs i first_runner) there (sym (ap life_in there) ∙ k.unborn))
 
 -- THE KINDS
 
@@ -230,17 +229,13 @@ module _ (like : Segment → Type 0) (s : Machine) (n : ℕ) (c : Caller) where
   kind-forks : (child : ℕ) (o : Option ℕ) → Bare s.runners → unborn_from 0 child s.runners ≡ o → Plain s (forks s c child o)
   kind-forks child None bare is = still like s _
   kind-forks child (Some i) bare is =
-      let k = child_at child i s.runners is in
-      let old : Runner = get_or s.runners i first_runner in
+      let old = unborn-bare child i s.runners is bare in
       let new : Runner = record { pid = child; life = Live c.cred; pieces = c.pieces } in
-      let there : slice_get s.runners i ≡ Some old = slice_get-get_or s.runners i first_runner k.within in
-      let unborn : old.life ≡ Unborn = sym (ap life_in there) ∙ k.unborn in
-      let none : old.pieces ≡ [] = bare i old there unborn in
       inl (
         refl,
         inl (record {
           turned = turned-refl s.table;
-          grows = λ id. keeps-set [] s.runners i new old there (λ j other. rw none (omega arith)) id refl;
+          grows = λ id. keeps-set [] s.runners i new old.0 old.1 (λ j other. rw old.2 (omega arith)) id refl;
           bare = λ h. bare-set s.runners i new h (λ (e : Live c.cred ≡ Unborn). cc e);
         }),
       )

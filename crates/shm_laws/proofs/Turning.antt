@@ -1,5 +1,7 @@
 -- Changes of a table that keep what a segment was made as, and its mark; and what becomes of its bytes.
-use Rattle.std.proofs.Common.{◌≡◌, ◌≢◌, ◌⊎◌, ℕ, suc, zero, ◌+◌, ◌%◌, ◌==◌, if◌then◌else◌, List, [], ◌∷◌, Option, Some, None, slice_get, slice_set, refl, sym, ap, subst, ◌∙◌, inl, inr, arith, eq-eqb, ne_eqb}
+use Rattle.std.proofs.Common.{◌≡◌, ◌≢◌, ◌⊎◌, ℕ, suc, zero, ◌+◌, ◌%◌, ◌==◌, if◌then◌else◌, List, [], ◌∷◌, Option, Some, slice_get, slice_set, refl, sym, ap, subst, ◌∙◌, inl, inr, arith, eq-eqb, ne_eqb}
+use Rattle.std.proofs.lemmas.Grind.{common_steps}
+use Rattle.std.proofs.lemmas.Option.{none-some}
 use Rattle.std.specs.Prelude.{option_map}
 use Rattle.std.proofs.lemmas.Bool.{cases_eq}
 use Rattle.shm_base.specs.State.{Segment, Entry, Runner}
@@ -22,23 +24,13 @@ pub record Turned (over : List ℕ → List ℕ) (t u : List Entry) (i : ℕ) : 
   pub bytes : (x : Segment) → (turn x).bytes ≡ over x.bytes
   pub at : slice_get u i ≡ option_map (with_entry turn) (slice_get t i)
 
-map-none : (o : Option Segment) → option_map (λ x. x) o ≡ o
-map-none None = refl
-map-none (Some x) = refl
-
-entry-none : (o : Option Entry) → option_map (with_entry (λ x. x)) o ≡ o
-entry-none None = refl
-entry-none (Some e) = ap (λ (p : Option Segment). Some (record { destroyed = e.destroyed; segment = p })) (map-none e.segment)
-
-map-twice : (f g : Segment → Segment) (o : Option Segment) → option_map g (option_map f o) ≡ option_map (λ x. g (f x)) o
-map-twice f g None = refl
-map-twice f g (Some x) = refl
+pub entry-none : (o : Option Entry) → option_map (with_entry (λ x. x)) o ≡ o
+entry-none o = grind arith
 
 entry-twice : (f g : Segment → Segment) (o : Option Entry) → option_map (with_entry g) (option_map (with_entry f) o) ≡ option_map (with_entry (λ x. g (f x))) o
-entry-twice f g None = refl
-entry-twice f g (Some e) = ap (λ (p : Option Segment). Some (record { destroyed = e.destroyed; segment = p })) (map-twice f g e.segment)
+entry-twice f g o = grind arith
 
-turned-over : (f g : List ℕ → List ℕ) (t u : List Entry) (i : ℕ) → ((bytes : List ℕ) → f bytes ≡ g bytes) → Turned f t u i → Turned g t u i
+pub turned-over : (f g : List ℕ → List ℕ) (t u : List Entry) (i : ℕ) → ((bytes : List ℕ) → f bytes ≡ g bytes) → Turned f t u i → Turned g t u i
 turned-over f g t u i alike a = record { turn = a.turn; same = a.same; dest = a.dest; bytes = λ x. a.bytes x ∙ alike x.bytes; at = a.at }
 
 -- they stay
@@ -63,13 +55,17 @@ turned-trans f g t u v i a b =
 
 -- ONE ENTRY
 
+-- what is read where it was set
+pub set-got : {X : Type 0} (xs : List X) (i : ℕ) (v x : X) → slice_get (slice_set xs i v) i ≡ Some x → v ≡ x
+set-got [] i v x h = absurd (none-some x h)
+set-got (y ∷ ys) zero v x h = cc h
+set-got (y ∷ ys) (suc i) v x h = set-got ys i v x h
+
 pub set_in-here : (t : List Entry) (k : ℕ) (g : Entry → Entry) (o : Option Entry) → slice_get t k ≡ o → slice_get (set_in t k g o) k ≡ option_map g o
-set_in-here t k g None is = is
-set_in-here t k g (Some e) is = get-set_same t k (g e) e is
+set_in-here t k g o is = grind (arith, get-set_same)
 
 pub set_in-there : (t : List Entry) (k i : ℕ) (g : Entry → Entry) (o : Option Entry) → k ≢ i → slice_get (set_in t k g o) i ≡ slice_get t i
-set_in-there t k i g None apart = refl
-set_in-there t k i g (Some e) apart = get-set_other t k i (g e) apart
+set_in-there t k i g o apart = grind (arith, get-set_other)
 
 module _ (f : Segment → Segment) (same : (x : Segment) → IsSame x (f x)) (dest : (x : Segment) → (f x).dest ≡ x.dest) where
   turned-here : (over : List ℕ → List ℕ) (t : List Entry) (k : ℕ) → ((x : Segment) → (f x).bytes ≡ over x.bytes) → Turned over t (set_in t k (with_entry f) (slice_get t k)) k
@@ -79,11 +75,7 @@ module _ (f : Segment → Segment) (same : (x : Segment) → IsSame x (f x)) (de
   turned-there t k i apart = turned-as t (set_in t k (with_entry f) (slice_get t k)) i (set_in-there t k i (with_entry f) (slice_get t k) apart)
 
   pub turned-change : ((x : Segment) → (f x).bytes ≡ x.bytes) → (t : List Entry) (id i : ℕ) → Turned unchanged t (change t id f) i
-  turned-change bytes t id i = by (cases_eq (id % 32768) i)
-    where
-      by : (id % 32768 ≡ i) ⊎ (id % 32768 ≢ i) → Turned unchanged t (change t id f) i
-      by (inl h) = rw (← h) (turned-here unchanged t (id % 32768) bytes)
-      by (inr apart) = turned-there t (id % 32768) i apart
+  turned-change bytes t id i = grind (arith, common_steps, inl, turned-here, inr, turned-there)
 
 -- MANY
 

@@ -1,13 +1,14 @@
 -- A table with the bytes of some segments hidden: what it counts and finds, and what becomes of it.
-use Rattle.std.proofs.Common.{◌≡◌, ◌⊎◌, ℕ, suc, zero, ◌+◌, ◌/◌, ◌%◌, ◌==◌, ◌&&◌, ℤ, pos, negsuc, Bool, true, false, nat_lt, is_none, if◌then◌else◌, cond, List, [], ◌∷◌, ◌++◌, length, replicate, Option, Some, None, slice_get, slice_set, refl, sym, ap, ◌∙◌, inl, inr, arith}
-use Rattle.std.specs.Prelude.{option_map, sum_by, is_some, slice_index}
+use Rattle.std.proofs.Common.{◌≡◌, ℕ, suc, zero, ◌+◌, ◌/◌, ◌%◌, ℤ, pos, negsuc, Bool, true, false, is_none, cond, List, [], ◌∷◌, ◌++◌, length, Option, Some, None, slice_get, slice_set, refl, ap, ◌∙◌, inl, inr, arith}
+use Rattle.std.proofs.lemmas.Grind.{common_steps}
+use Rattle.std.specs.Prelude.{option_map, sum_by, is_some}
 use Rattle.std.proofs.lemmas.Bool.{cases_Bool}
 use Rattle.std.proofs.lemmas.List.{length-replicate}
 use Rattle.std.proofs.lemmas.List.Sums.{sum_by-cons}
 use Rattle.shm_base.specs.State.{Segment, Entry, Runner, pages_in}
-use Rattle.shm_base.specs.Access.{Place, set_in, entry_byte_set, with_byte, stored, bytes_at, bytes_at_entry, byte_at, loaded}
+use Rattle.shm_base.specs.Access.{Place, set_in, entry_byte_set, with_byte, stored, bytes_at_entry, byte_at, loaded}
 use Rattle.shm_base.specs.Identifier.{Look, Found, Removed, Invalid, identifier, free_from, destroyed_in, destroyed_at, with_segment, look_segment, look_entry, look, has_key, key_from, find_key}
-use Rattle.shm_base.specs.Segments.{attach_count, pages_held, pages_locked, reserved, locked, segment_count, with_entry, change, detached, detach_all, swept_at, swept_from}
+use Rattle.shm_base.specs.Segments.{pages_held, pages_locked, reserved, locked, segment_count, with_entry, change, detached, detach_all, swept_at, swept_from}
 use Rattle.shm_segments.proofs.Entries.{length-slice_set}
 use Rattle.shm_laws.specs.Isolation.{veiled, veiled_entry, veiled_from}
 use Rattle.shm_laws.proofs.Turning.{turned-byte}
@@ -22,27 +23,22 @@ pub veiled-pages : (b : Bool) (x : Segment) → pages_in (veiled b x) ≡ pages_
 veiled-pages b x = ap (λ n. n / 4096) (veiled-length b x)
 
 held-veiled : (b : Bool) (o : Option Segment) → pages_held (option_map (veiled b) o) ≡ pages_held o
-held-veiled b None = refl
-held-veiled b (Some x) = veiled-pages b x
+held-veiled b o = grind (arith, veiled-pages)
 
 locked-veiled : (b : Bool) (o : Option Segment) → pages_locked (option_map (veiled b) o) ≡ pages_locked o
-locked-veiled b None = refl
-locked-veiled b (Some x) = ap (λ n. if x.locked then n else 0) (veiled-pages b x)
+locked-veiled b o = grind (arith, veiled-pages)
 
 abbrev one_where : Bool → ℕ
 one_where b = cond b 1 0
 
 there-veiled : (b : Bool) (o : Option Segment) → one_where (is_some (option_map (veiled b) o)) ≡ one_where (is_some o)
-there-veiled b None = refl
-there-veiled b (Some x) = refl
+there-veiled b o = grind arith
 
 none-veiled : (b : Bool) (o : Option Segment) → is_none (option_map (veiled b) o) ≡ is_none o
-none-veiled b None = refl
-none-veiled b (Some x) = refl
+none-veiled b o = grind arith
 
 key-veiled : (key : ℕ) (b : Bool) (o : Option Segment) → has_key key (option_map (veiled b) o) ≡ has_key key o
-key-veiled key b None = refl
-key-veiled key b (Some x) = refl
+key-veiled key b o = grind arith
 
 -- what a look found, hidden or not
 abbrev pub veiled_look : Bool → Look → Look
@@ -51,17 +47,12 @@ veiled_look b Removed = Removed
 veiled_look b Invalid = Invalid
 
 segment-veiled : (i : ℕ) (b : Bool) (o : Option Segment) → look_segment i (option_map (veiled b) o) ≡ veiled_look b (look_segment i o)
-segment-veiled i b None = refl
-segment-veiled i b (Some x) = refl
-
-look-if : (c b : Bool) (l m : Look) → (if c then veiled_look b l else veiled_look b m) ≡ veiled_look b (if c then l else m)
-look-if true b l m = refl
-look-if false b l m = refl
+segment-veiled i b o = grind arith
 
 -- what is set to what it is
 set-same : (t : List Entry) (i : ℕ) (e : Entry) → slice_get t i ≡ Some e → slice_set t i e ≡ t
 set-same [] i e is = refl
-set-same (x ∷ xs) zero e is = let same : x ≡ e = cc is in ap (λ y. y ∷ xs) (sym same)
+set-same (x ∷ xs) zero e is = grind arith
 set-same (x ∷ xs) (suc i) e is = ap (λ ys. x ∷ ys) (set-same xs i e is)
 
 module _ (hidden : ℕ → Bool) where
@@ -75,15 +66,14 @@ module _ (hidden : ℕ → Bool) where
 
   veiled-at : (k i : ℕ) (t : List Entry) → slice_get (V k t) i ≡ option_map (veiled_entry hidden (k + i)) (slice_get t i)
   veiled-at k i [] = refl
-  veiled-at k zero (e ∷ es) = let here : k + 0 ≡ k = omega arith in rw here refl
-  veiled-at k (suc i) (e ∷ es) = let next : k + suc i ≡ (k + 1) + i = omega arith in rw next (veiled-at (k + 1) i es)
+  veiled-at k zero (e ∷ es) = grind arith
+  veiled-at k (suc i) (e ∷ es) = grind (arith, veiled-at (k + 1) i es)
 
   pub veiled-get : (t : List Entry) (i : ℕ) → slice_get (V 0 t) i ≡ option_map (veiled_entry hidden i) (slice_get t i)
   veiled-get t i = let here : 0 + i ≡ i = omega arith in rw here at (veiled-at 0 i t)
 
   destroyed-entry : (i : ℕ) (o : Option Entry) → destroyed_in (option_map (veiled_entry hidden i) o) ≡ destroyed_in o
-  destroyed-entry i None = refl
-  destroyed-entry i (Some e) = refl
+  destroyed-entry i o = grind arith
 
   pub veiled-destroyed : (t : List Entry) (i : ℕ) → destroyed_at (V 0 t) i ≡ destroyed_at t i
   veiled-destroyed t i = ap destroyed_in (veiled-get t i) ∙ destroyed-entry i (slice_get t i)
@@ -108,12 +98,7 @@ module _ (hidden : ℕ → Bool) where
 
   sum-veiled : (f : Entry → ℕ) → ((k : ℕ) (e : Entry) → f (veiled_entry hidden k e) ≡ f e) → (k : ℕ) (t : List Entry) → sum_by f (V k t) ≡ sum_by f t
   sum-veiled f same k [] = refl
-  sum-veiled f same k (e ∷ es) =
-      let a = sum_by-cons f (veiled_entry hidden k e) (V (k + 1) es) in
-      let b = sum_by-cons f e es in
-      let first = same k e in
-      let rest = sum-veiled f same (k + 1) es in
-      omega (arith, a, b, first, rest)
+  sum-veiled f same k (e ∷ es) = grind (arith, sum_by-cons f, same, sum-veiled f same (k + 1) es)
 
   pub reserved-veiled : (t : List Entry) → reserved (V 0 t) ≡ reserved t
   reserved-veiled t = sum-veiled (λ e. pages_held e.segment) (λ k e. held-veiled (hides k e) e.segment) 0 t
@@ -127,31 +112,27 @@ module _ (hidden : ℕ → Bool) where
   pub free-veiled : (k j : ℕ) (t : List Entry) → free_from j (V k t) ≡ free_from j t
   free-veiled k j [] = refl
   free-veiled k j (e ∷ es) =
-      ap (λ b. if b && nat_lt e.destroyed 65536 then Some j else free_from (j + 1) (V (k + 1) es)) (none-veiled (hides k e) e.segment)
-      ∙ ap (λ r. if is_none e.segment && nat_lt e.destroyed 65536 then Some j else r) (free-veiled (k + 1) (j + 1) es)
+      let same = none-veiled (hides k e) e.segment in
+      let rest = free-veiled (k + 1) (j + 1) es in
+      grind arith
 
   key-found : (key k j : ℕ) (t : List Entry) → (b : Bool) × (key_from key j (V k t) ≡ veiled_look b (key_from key j t))
   key-found key k j [] = (false, refl)
-  key-found key k j (e ∷ es) = by (cases_Bool (has_key key e.segment)) (key-found key (k + 1) (j + 1) es)
-    where
-      first : has_key key (option_map (veiled (hides k e)) e.segment) ≡ has_key key e.segment
-      first = key-veiled key (hides k e) e.segment
-
-      by : (has_key key e.segment ≡ true) ⊎ (has_key key e.segment ≡ false) → (b : Bool) × (key_from key (j + 1) (V (k + 1) es) ≡ veiled_look b (key_from key (j + 1) es))
-          → (b : Bool) × (key_from key j (V k (e ∷ es)) ≡ veiled_look b (key_from key j (e ∷ es)))
-      by (inl h) more = (hides k e, rw (first ∙ h, h) (segment-veiled j (hides k e) e.segment))
-      by (inr h) more = (more.0, rw (first ∙ h, h) more.1)
+  key-found key k j (e ∷ es) =
+      let rest = key-found key (k + 1) (j + 1) es in
+      let same = key-veiled key (hides k e) e.segment in
+      let own = segment-veiled j (hides k e) e.segment in
+      elim (cases_Bool (has_key key e.segment)) [
+        | inl h ↦ (hides k e, grind arith)
+        | inr h ↦ (rest.0, grind arith)
+      ]
 
   pub find-veiled : (key : ℕ) (t : List Entry) → (b : Bool) × (find_key (V 0 t) key ≡ veiled_look b (find_key t key))
   find-veiled key t = key-found key 0 0 t
 
   entry-veiled : (i q : ℕ) (o : Option Entry) → (b : Bool) × (look_entry i q (option_map (veiled_entry hidden i) o) ≡ veiled_look b (look_entry i q o))
   entry-veiled i q None = (false, refl)
-  entry-veiled i q (Some e) =
-      let b = hides i e in
-      let last : (if q == e.destroyed then look_segment i (option_map (veiled b) e.segment) else Invalid) ≡ veiled_look b (if q == e.destroyed then look_segment i e.segment else Invalid) =
-      ap (λ l. if q == e.destroyed then l else Invalid) (segment-veiled i b e.segment) ∙ look-if (q == e.destroyed) b (look_segment i e.segment) Invalid in
-      (b, ap (λ l. if nat_lt q e.destroyed then Removed else l) last ∙ look-if (nat_lt q e.destroyed) b Removed (if q == e.destroyed then look_segment i e.segment else Invalid))
+  entry-veiled i q (Some e) = (hides i e, grind arith)
 
   pub look-veiled : (t : List Entry) (id : ℤ) → (b : Bool) × (look (V 0 t) id ≡ veiled_look b (look t id))
   look-veiled t (pos n) =
@@ -164,16 +145,10 @@ module _ (hidden : ℕ → Bool) where
   -- one entry, by a change that sees no bytes
   in-veiled : (t : List Entry) (i : ℕ) (g : Entry → Entry) (o : Option Entry) → slice_get t i ≡ o → ((e : Entry) → o ≡ Some e → g (veiled_entry hidden i e) ≡ veiled_entry hidden i (g e))
       → set_in (V 0 t) i g (slice_get (V 0 t) i) ≡ V 0 (set_in t i g (slice_get t i))
-  in-veiled t i g None is same = rw (veiled-get t i, is) refl
-  in-veiled t i g (Some e) is same =
-      rw (veiled-get t i, is) (ap (slice_set (V 0 t) i) (same e refl) ∙ sym (veiled-set0 i t (g e)))
+  in-veiled t i g o is same = grind (arith, common_steps, veiled-get, veiled-set0, arith)
 
   pub change-veiled : (f : Segment → Segment) → ((b : Bool) (x : Segment) → f (veiled b x) ≡ veiled b (f x)) → (t : List Entry) (id : ℕ) → change (V 0 t) id f ≡ V 0 (change t id f)
-  change-veiled f same t id = in-veiled t (id % 32768) (with_entry f) (slice_get t (id % 32768)) refl (λ e is. entry e.destroyed e.segment)
-    where
-      entry : (d : ℕ) (o : Option Segment) → with_entry f (veiled_entry hidden (id % 32768) (record { destroyed = d; segment = o })) ≡ veiled_entry hidden (id % 32768) (with_entry f (record { destroyed = d; segment = o }))
-      entry d None = refl
-      entry d (Some x) = ap (λ (y : Segment). record { destroyed = d; segment = Some y }) (same (hidden (identifier (id % 32768) d)) x)
+  change-veiled f same t id = in-veiled t (id % 32768) (with_entry f) (slice_get t (id % 32768)) refl (λ e is. grind (arith, same))
 
   pub detach-veiled : (n pid : ℕ) (ids : List ℕ) (t : List Entry) → detach_all n pid (V 0 t) ids ≡ V 0 (detach_all n pid t ids)
   detach-veiled n pid [] t = refl
@@ -182,34 +157,14 @@ module _ (hidden : ℕ → Bool) where
 
   swept-entry : (k : ℕ) (rs : List Runner) (d : ℕ) (o : Option Segment)
       → swept_at k rs d (option_map (veiled (hidden (identifier k d))) o) ≡ veiled_entry hidden k (swept_at k rs d o)
-  swept-entry k rs d None = refl
-  swept-entry k rs d (Some x) =
-      elim (cases_Bool (x.dest && (attach_count rs (identifier k d) == 0))) [
-        | inl h ↦ rw h refl
-        | inr h ↦ rw h refl
-      ]
+  swept-entry k rs d o = grind arith
 
   pub swept-veiled : (k : ℕ) (rs : List Runner) (t : List Entry) → swept_from k rs (V k t) ≡ V k (swept_from k rs t)
   swept-veiled k rs [] = refl
   swept-veiled k rs (e ∷ es) = λ j. swept-entry k rs e.destroyed e.segment j ∷ swept-veiled (k + 1) rs es j
 
   pub made-veiled : (t : List Entry) (i : ℕ) (x : Segment) → ((b : Bool) → veiled b x ≡ x) → with_segment (V 0 t) i x ≡ V 0 (with_segment t i x)
-  made-veiled t i x zeros = rw (veiled-count 0 t) (by (cases_Bool (i == length t)))
-    where
-      new : (d : ℕ) → veiled_entry hidden i (record { destroyed = d; segment = Some x }) ≡ record { destroyed = d; segment = Some x }
-      new d = ap (λ (y : Segment). record { destroyed = d; segment = Some y }) (zeros (hidden (identifier i d)))
-
-      last : veiled_entry hidden (0 + length t) (record { destroyed = 0; segment = Some x }) ≡ record { destroyed = 0; segment = Some x }
-      last = ap (λ (y : Segment). record { destroyed = 0; segment = Some y }) (zeros (hidden (identifier (0 + length t) 0)))
-
-      by : (i == length t ≡ true) ⊎ (i == length t ≡ false)
-          → (if i == length t then V 0 t ++ record { destroyed = 0; segment = Some x } ∷ [] else slice_set (V 0 t) i (record { destroyed = destroyed_at (V 0 t) i; segment = Some x }))
-          ≡ V 0 (if i == length t then t ++ record { destroyed = 0; segment = Some x } ∷ [] else slice_set t i (record { destroyed = destroyed_at t i; segment = Some x }))
-      by (inl h) = rw h (ap (λ (e : Entry). V 0 t ++ e ∷ []) (sym last) ∙ sym (veiled-snoc 0 t (record { destroyed = 0; segment = Some x })))
-      by (inr h) =
-          rw h
-          (ap (λ d. slice_set (V 0 t) i (record { destroyed = d; segment = Some x })) (veiled-destroyed t i)
-          ∙ ap (slice_set (V 0 t) i) (sym (new (destroyed_at t i))) ∙ sym (veiled-set0 i t (record { destroyed = destroyed_at t i; segment = Some x })))
+  made-veiled t i x zeros = grind (arith, common_steps, veiled-count, veiled-snoc, veiled-set0, veiled-destroyed, arith)
 
   -- BYTES THAT ARE SEEN
 
@@ -218,40 +173,20 @@ module _ (hidden : ℕ → Bool) where
   Seen t q = hidden (identifier (q.seg % 32768) (destroyed_at t (q.seg % 32768))) ≡ false
 
   seen-bytes : (i : ℕ) (o : Option Entry) → hidden (identifier i (destroyed_in o)) ≡ false → bytes_at_entry (option_map (veiled_entry hidden i) o) ≡ bytes_at_entry o
-  seen-bytes i None clear = refl
-  seen-bytes i (Some e) clear = by e.segment
-    where
-      by : (o : Option Segment) → bytes_at_entry (Some (veiled_entry hidden i (record { destroyed = e.destroyed; segment = o }))) ≡ bytes_at_entry (Some (record { destroyed = e.destroyed; segment = o }))
-      by None = refl
-      by (Some x) = rw clear refl
+  seen-bytes i o clear = grind arith
 
   pub byte-veiled : (t : List Entry) (q : Place) → Seen t q → byte_at (V 0 t) q ≡ byte_at t q
-  byte-veiled t q clear =
-      let i = q.seg % 32768 in
-      let same : bytes_at (V 0 t) q.seg ≡ bytes_at t q.seg = ap bytes_at_entry (veiled-get t i) ∙ seen-bytes i (slice_get t i) clear in
-      ap (λ bs. slice_index bs q.at) same
+  byte-veiled t q clear = grind (arith, common_steps, ap, veiled-get, seen-bytes, slice_get)
 
   pub loaded-veiled : (t : List Entry) (qs : List Place) → ((k : ℕ) (q : Place) → slice_get qs k ≡ Some q → Seen t q) → loaded (V 0 t) qs ≡ loaded t qs
   loaded-veiled t [] clear = refl
   loaded-veiled t (q ∷ qs) clear = λ j. byte-veiled t q (clear 0 q refl) j ∷ loaded-veiled t qs (λ k p is. clear (suc k) p is) j
 
   byte-stored : (t : List Entry) (q : Place) (v : ℕ) → Seen t q → with_byte (V 0 t) q v ≡ V 0 (with_byte t q v)
-  byte-stored t q v clear = in-veiled t (q.seg % 32768) (entry_byte_set q.at v) (slice_get t (q.seg % 32768)) refl same
-    where
-      entry : (d : ℕ) (o : Option Segment) → hidden (identifier (q.seg % 32768) d) ≡ false
-          → entry_byte_set q.at v (veiled_entry hidden (q.seg % 32768) (record { destroyed = d; segment = o })) ≡ veiled_entry hidden (q.seg % 32768) (entry_byte_set q.at v (record { destroyed = d; segment = o }))
-      entry d None h = refl
-      entry d (Some x) h = rw h refl
-
-      same : (e : Entry) → slice_get t (q.seg % 32768) ≡ Some e → entry_byte_set q.at v (veiled_entry hidden (q.seg % 32768) e) ≡ veiled_entry hidden (q.seg % 32768) (entry_byte_set q.at v e)
-      same e is = entry e.destroyed e.segment (ap (λ o. hidden (identifier (q.seg % 32768) (destroyed_in o))) (sym is) ∙ clear)
+  byte-stored t q v clear = in-veiled t (q.seg % 32768) (entry_byte_set q.at v) (slice_get t (q.seg % 32768)) refl (λ e is. grind (arith, is, clear))
 
   destroyed-byte : (t : List Entry) (q : Place) (v i : ℕ) → destroyed_at (with_byte t q v) i ≡ destroyed_at t i
-  destroyed-byte t q v i = let u = turned-byte q v t i in ap destroyed_in u.at ∙ kept u.turn (slice_get t i)
-    where
-      kept : (f : Segment → Segment) (o : Option Entry) → destroyed_in (option_map (with_entry f) o) ≡ destroyed_in o
-      kept f None = refl
-      kept f (Some e) = refl
+  destroyed-byte t q v i = let u = turned-byte q v t i in ap destroyed_in u.at ∙ grind arith
 
   pub stored-veiled : (t : List Entry) (qs : List Place) (vs : List ℕ) → ((k : ℕ) (q : Place) → slice_get qs k ≡ Some q → Seen t q) → stored (V 0 t) qs vs ≡ V 0 (stored t qs vs)
   stored-veiled t [] vs clear = refl
@@ -267,21 +202,7 @@ module _ (hidden : ℕ → Bool) where
   Hid t q = hidden (identifier (q.seg % 32768) (destroyed_at t (q.seg % 32768))) ≡ true
 
   byte-hidden : (t : List Entry) (q : Place) (v : ℕ) → Hid t q → V 0 (with_byte t q v) ≡ V 0 t
-  byte-hidden t q v hid = by (slice_get t (q.seg % 32768)) refl
-    where
-      entry : (d : ℕ) (o : Option Segment) → hidden (identifier (q.seg % 32768) d) ≡ true
-          → veiled_entry hidden (q.seg % 32768) (entry_byte_set q.at v (record { destroyed = d; segment = o })) ≡ veiled_entry hidden (q.seg % 32768) (record { destroyed = d; segment = o })
-      entry d None h = refl
-      entry d (Some x) h =
-          rw h (ap (λ (k : ℕ). record { destroyed = d; segment = Some (record x { bytes = replicate k 0 }) }) (length-slice_set x.bytes q.at v))
-
-      by : (o : Option Entry) → slice_get t (q.seg % 32768) ≡ o → V 0 (with_byte t q v) ≡ V 0 t
-      by None is = rw is refl
-      by (Some e) is =
-          let own : hidden (identifier (q.seg % 32768) e.destroyed) ≡ true = ap (λ o. hidden (identifier (q.seg % 32768) (destroyed_in o))) (sym is) ∙ hid in
-          rw is
-          (veiled-set0 (q.seg % 32768) t (entry_byte_set q.at v e) ∙ ap (slice_set (V 0 t) (q.seg % 32768)) (entry e.destroyed e.segment own)
-          ∙ set-same (V 0 t) (q.seg % 32768) (veiled_entry hidden (q.seg % 32768) e) (veiled-get t (q.seg % 32768) ∙ ap (option_map (veiled_entry hidden (q.seg % 32768))) is))
+  byte-hidden t q v hid = grind (arith, common_steps, veiled-get, veiled-set0, length-slice_set, arith, set-same)
 
   pub stored-hidden : (t : List Entry) (qs : List Place) (vs : List ℕ) → ((k : ℕ) (q : Place) → slice_get qs k ≡ Some q → Hid t q) → V 0 (stored t qs vs) ≡ V 0 t
   stored-hidden t [] vs hid = refl

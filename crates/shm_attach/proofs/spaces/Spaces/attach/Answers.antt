@@ -45,16 +45,11 @@ held g c =
     sound-holds no_holds (λ id. one_if id c.args.seg) c.self.inside.processes.entries c.self.inside.tables c.hold.new.self c.self.invariant
     (λ id. omega (arith, c.in_ok-key.ensures.counts id)) c.in_ok-key.ensures.tied (λ p own _. c.in_ok-key.ensures.held p own)
 
-pub take-requires : goal.take-requires
-take-requires g c =
-    let b = goal.at.take-requires g c in
-    let room : length (cut c.args.base (c.args.base + 4096 * c.args.pages) (pieces_at (runners_view c.self.inside.processes.entries) c.args.caller.now.index)) + 1 ≤ 256 =
-    rw (← c.self.view_is) at c.requires.room in
-    record {
-      there = stands g b.After-self;
-      part = record { from_page = c.requires.range.aligned; to_page = omega (arith, c.requires.range.aligned); order = omega arith; few = omega (arith, room) };
-      holds = record { extra = λ id. one_if id c.args.seg; few = λ id. one_if-le id c.args.seg; sound = held g b.In_ok-key };
-    }
+pub take-requires-clause-there : goal.take-requires-clause-there
+take-requires-clause-there g c = stands g (goal.at.take-requires-clause-there g c).After-self
+
+pub take-requires-clause-holds : goal.take-requires-clause-holds
+take-requires-clause-holds g c = record { extra = λ id. one_if id c.args.seg; few = λ id. one_if-le id c.args.seg; sound = held g (goal.at.take-requires-clause-holds g c).In_ok-key }
 
 -- THE RANGE IS FREE
 

@@ -1,21 +1,14 @@
 use Rattle.std.proofs.Common.{◌∙◌, ap}
-use Rattle.shm_base.specs.State as flat
 use Rattle.shm_base.specs.Space.{without_named}
 use Rattle.shm_attach.specs.Views.{runners_view}
 use Rattle.shm_attach.specs.Spaces.{SpacesView}
 use Rattle.shm_attach.specs.Exact.{no_holds}
 use Rattle.shm_attach.proofs.Callers.{caller_within, with_pieces-of}
-use Rattle.shm_attach.proofs.Sound.{none_held}
 use Rattle.shm_attach.proofs.Translations.{keeps}
 use Rattle.shm_attach.proofs.spaces.Spaces.detach.Goals as goal
 
-pub take-requires : goal.take-requires
-take-requires c =
-    record {
-      there = caller_within c.args.caller.now c.self.inside.processes.entries (rw (← c.self.view_is) at c.requires);
-      part = tt;
-      holds = none_held c.self.inside.processes.entries c.self.inside.tables c.self.invariant;
-    }
+pub take-requires-clause-there : goal.take-requires-clause-there
+take-requires-clause-there c = caller_within c.args.caller.now c.self.inside.processes.entries (rw (← c.self.view_is) at c.requires)
 
 pub invariant_of-self : goal.invariant_of-self
 invariant_of-self c = c.take.ensures.sound no_holds c.self.invariant

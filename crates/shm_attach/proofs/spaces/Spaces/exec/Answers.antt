@@ -10,7 +10,6 @@ use Rattle.shm_attach.specs.Spaces.{SpacesView, pieces_at, caller_seen}
 use Rattle.shm_attach.specs.Exact.{no_holds}
 use Rattle.shm_attach.proofs.Callers.{caller_within, with_pieces-of}
 use Rattle.shm_attach.proofs.Keeping.{cut-all}
-use Rattle.shm_attach.proofs.Sound.{none_held}
 use Rattle.shm_attach.proofs.Translations.{keeps}
 use Rattle.shm_attach.proofs.spaces.Spaces.exec.Goals.{After-self}
 use Rattle.shm_attach.proofs.spaces.Spaces.exec.Goals as goal
@@ -24,14 +23,11 @@ all_go c = cut-all lowest_address (pieces_at (runners_view c.self.inside.process
 pub space_at-requires : goal.space_at-requires
 space_at-requires c = within (goal.at.space_at-requires c).After-self
 
-pub take-requires : goal.take-requires
-take-requires c =
-    let b = goal.at.take-requires c in
-    record {
-      there = within b.After-self;
-      part = record { from_page = refl; to_page = refl; order = omega arith; few = omega (arith, ap length (all_go b.After-self)) };
-      holds = none_held c.self.inside.processes.entries c.self.inside.tables c.self.invariant;
-    }
+pub take-requires-clause-there : goal.take-requires-clause-there
+take-requires-clause-there c = within (goal.at.take-requires-clause-there c).After-self
+
+pub take-requires-clause-part : goal.take-requires-clause-part
+take-requires-clause-part c = record { from_page = refl; to_page = refl; order = omega arith; few = omega (arith, ap length (all_go (goal.at.take-requires-clause-part c).After-self)) }
 
 pub invariant_of-self : goal.invariant_of-self
 invariant_of-self c = c.take.ensures.sound no_holds c.self.invariant

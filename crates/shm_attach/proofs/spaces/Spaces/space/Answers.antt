@@ -1,10 +1,5 @@
-use Rattle.std.proofs.Common.{◌∙◌, ap}
-use Rattle.shm_attach.specs.Spaces.{SpacesView, pieces_at}
 use Rattle.shm_attach.proofs.Callers.{caller_within}
 use Rattle.shm_attach.proofs.spaces.Spaces.space.Goals as goal
 
 pub space_at-requires : goal.space_at-requires
 space_at-requires c = caller_within c.args.caller.now c.self.inside.processes.entries (rw (← c.self.view_is) at c.requires)
-
-pub returns : goal.returns
-returns c = c.space_at.ensures.flat ∙ ap (λ (v : SpacesView). pieces_at v.runners c.args.caller.now.index) c.self.view_is

@@ -1,5 +1,5 @@
-use Rattle.std.proofs.Common.{rules, ◌≡◌, ◌%◌, refl, sym, ap, ◌∙◌, arith, option_map, Some, None, to_z, of_z, w32}
-use Rattle.shm_ids.specs.Table.{id_at, entry_at, identifier, free_index}
+use Rattle.std.proofs.Common.{rules, ◌≡◌, ◌%◌, refl, sym, ap, ◌∙◌, option_map, to_z, of_z, w32}
+use Rattle.shm_ids.specs.Table.{id_at, entry_at, identifier}
 use Rattle.shm_ids.proofs.Free.{skip}
 use Rattle.shm_ids.proofs.Steps.{fresh}
 use Rattle.shm_ids.proofs.Free.{used_within}
