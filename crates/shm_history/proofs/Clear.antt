@@ -1,5 +1,5 @@
 -- Histories in which no call names a pager's failure.
-use Rattle.std.proofs.Common.{◌≡◌, ℕ, ◌+◌, Bool, true, false, cond, List, [], ◌∷◌, refl, sym, ◌∙◌, arith, inl, inr, true≢false}
+use Rattle.std.proofs.Common.{◌≡◌, ℕ, ◌+◌, Bool, true, false, cond, List, ◌∷◌, refl, sym, ◌∙◌, arith, inl, inr, true≢false}
 use Rattle.std.proofs.lemmas.Grind.{common_steps}
 use Rattle.shm_base.specs.declared.call.Event.{Event}
 use Rattle.shm_base.specs.State.{Machine}

@@ -1,5 +1,5 @@
 -- What contracts see of a world: its opening, its history, the flat machine at its end, and its memory.
-use Rattle.std.specs.Prelude.{◌≡◌, ◌<◌, ◌≤◌, ◌+◌, ◌-◌, ◌^◌, ℕ, true, false, List, [], ◌∷◌, ◌++◌, length, map, min, take, count_by}
+use Rattle.std.specs.Prelude.{◌≡◌, ◌<◌, ◌≤◌, ◌+◌, ◌-◌, ◌^◌, ℕ, true, false, List, [], ◌∷◌, ◌++◌, length, map, min, count_by}
 use Rattle.std.specs.List.{flat_map}
 use Rattle.shm_base.specs.declared.call.Step.{Step}
 use Rattle.shm_base.specs.declared.call.Step.TheVariants as steps

@@ -1,4 +1,4 @@
-use Rattle.std.proofs.Common.{◌≡◌, ℕ, ◌+◌, length, ◌++◌, ◌∷◌, [], ap, sym, ◌∙◌, length-append, List}
+use Rattle.std.proofs.Common.{◌≡◌, ℕ, ◌+◌, length, ◌++◌, ◌∷◌, [], ap, sym, refl, ◌∙◌, length-append, List}
 use Rattle.shm_base.specs.declared.call.Event.{Event}
 use Rattle.shm_base.specs.History.{IsMove}
 use Rattle.shm_history.specs.WorldState.{event}
@@ -11,8 +11,9 @@ pub invariant_of-self-in-Ok : goal.invariant_of-self-in-Ok
 invariant_of-self-in-Ok g c =
     let old : List Event = c.self.inside.history.items in
     let e : Event = event c.args.pid c.args.call.now c.in-Ok.reply in
-    let items : c.push.new.self.items ≡ old ++ e ∷ [] = rw (c.push.ensures.items, c.unwrap.ensures, c.make_room.ensures.items, c.copied.ensures) in
-    let counted : c.call.new.self.calls ≡ length old + 1 = c.in-Ok.ensures.counted ∙ ap (λ (n : ℕ). n + 1) c.self.invariant.0 in
-    let moved : IsMove c.self.inside.system.machine (length old + 1) e c.call.new.self.machine = rw c.self.invariant.0 at c.in-Ok.ensures.move_of in
-    rw (items, c.call.ensures.opening)
-    (counted ∙ sym (length-append old (e ∷ [])), history_more c.self.inside.system.opening old e _ _ c.self.invariant.1 moved, counted_more old e c.self.inside.system.memory.swap c.call.new.self.memory.swap c.call.ensures.keeps.goes_on c.store.ensures.exact.sound.swap.unspent c.in-Ok.ensures.cause c.self.invariant.2)
+    let called = c.call-answer.ensures in
+    let items : c.push.new.self.items ≡ old ++ e ∷ [] = rw (c.push.ensures.items, c.unwrap.ensures, c.make_room.ensures.items, c.copied.ensures, c.copied-in-Ok.ensures) refl in
+    let counted : c.call-answer.new.self.calls ≡ length old + 1 = rw c.in-Ok.is at called.counted ∙ ap (λ (n : ℕ). n + 1) c.self.invariant.0 in
+    let moved : IsMove c.self.inside.system.machine (length old + 1) e c.call-answer.new.self.machine = rw (c.in-Ok.is, c.self.invariant.0) at called.move_of in
+    rw (items, called.opening)
+    (counted ∙ sym (length-append old (e ∷ [])), history_more c.self.inside.system.opening old e _ _ c.self.invariant.1 moved, counted_more old e c.self.inside.system.memory.swap c.call-answer.new.self.memory.swap called.keeps.goes_on c.store.ensures.exact.sound.swap.unspent (rw c.in-Ok.is at called.cause) c.self.invariant.2)
