@@ -45,27 +45,30 @@ impl<P: Pager> Kernel<P> {
         let Some(caller) = self.spaces.caller(pid) else {
             return Ok(Reply::Refused(Errno::Esrch));
         };
-        match call {
+        let reply = match call {
             Call::Shmget {
                 key,
                 size,
                 mode,
                 flags,
-            } => self.shmget(time, &caller, *key, *size, *mode, *flags),
-            Call::Shmat { id, addr, flags } => self.shmat(time, &caller, *id, *addr, *flags),
-            Call::Shmdt { addr } => Ok(self.shmdt(time, &caller, *addr)),
-            Call::Stat { id } => Ok(self.stat(&caller, *id)),
-            Call::Set { id, uid, gid, mode } => Ok(self.set(time, &caller, *id, *uid, *gid, *mode)),
-            Call::Rmid { id } => Ok(self.rmid(&caller, *id)),
-            Call::Lock { id } => Ok(self.lock(&caller, *id)),
-            Call::Unlock { id } => Ok(self.unlock(&caller, *id)),
-            Call::Load { addr, len } => Ok(self.load(&caller, *addr, *len)),
-            Call::Store { addr, chunk } => Ok(self.store(&caller, *addr, chunk)),
-            Call::Xadd { addr, add } => Ok(self.xadd(&caller, *addr, *add)),
-            Call::Fork { child } => Ok(self.fork(&caller, *child)),
-            Call::Exec => Ok(self.exec(time, &caller)),
-            Call::Exit => Ok(self.exit(time, &caller)),
-            Call::Swapoff { area } => Ok(self.swapoff(&caller, *area)),
-        }
+            } => return self.shmget(time, &caller, *key, *size, *mode, *flags),
+            Call::Shmat { id, addr, flags } => {
+                return self.shmat(time, &caller, *id, *addr, *flags);
+            }
+            Call::Shmdt { addr } => self.shmdt(time, &caller, *addr),
+            Call::Stat { id } => self.stat(&caller, *id),
+            Call::Set { id, uid, gid, mode } => self.set(time, &caller, *id, *uid, *gid, *mode),
+            Call::Rmid { id } => self.rmid(&caller, *id),
+            Call::Lock { id } => self.lock(&caller, *id),
+            Call::Unlock { id } => self.unlock(&caller, *id),
+            Call::Load { addr, len } => self.load(&caller, *addr, *len),
+            Call::Store { addr, chunk } => self.store(&caller, *addr, chunk),
+            Call::Xadd { addr, add } => self.xadd(&caller, *addr, *add),
+            Call::Fork { child } => self.fork(&caller, *child),
+            Call::Exec => self.exec(time, &caller),
+            Call::Exit => self.exit(time, &caller),
+            Call::Swapoff { area } => self.swapoff(&caller, *area),
+        };
+        Ok(reply)
     }
 }
