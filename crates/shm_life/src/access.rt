@@ -19,10 +19,10 @@ use shm_pager::Pager;
 
 /// Notes in the translations which pages an access moved, and tells whether it was done. Where a pager
 /// failed pages may have moved before.
-fn note(spaces: &mut Spaces, access: Result<Touched, PagerFailed>) -> bool
-    ensures done { result ≡ is_ok access }
+fn note(spaces: &mut Spaces, access: &Result<Touched, PagerFailed>) -> bool
+    ensures done { result ≡ is_ok access.now }
     ensures runners { spaces.new.runners ≡ spaces.old.runners }
-    ensures translated { (m n : StoreView) → AreTrue spaces.old.translations m → Moves (touched_of access).moved.items m n → AreTrue spaces.new.translations n }
+    ensures translated { (m n : StoreView) → AreTrue spaces.old.translations m → Moves (touched_of access.now).moved.items m n → AreTrue spaces.new.translations n }
 {
     match access {
         Ok(touched) => {
@@ -51,7 +51,7 @@ impl<P: Pager> Kernel<P> {
         let mut bytes = [0; 64];
         let out = &mut bytes[..len.get()];
         let read = self.segments.read(spans.as_slice(), out);
-        if !note(&mut self.spaces, read) {
+        if !note(&mut self.spaces, &read) {
             return Reply::Refused(Errno::Sigbus);
         }
         match Chunk::new(out) {
@@ -74,7 +74,7 @@ impl<P: Pager> Kernel<P> {
             return Reply::Refused(Errno::Sigsegv);
         };
         let written = self.segments.write(spans.as_slice(), bytes);
-        if !note(&mut self.spaces, written) {
+        if !note(&mut self.spaces, &written) {
             return Reply::Refused(Errno::Sigbus);
         }
         Reply::Done
@@ -94,7 +94,7 @@ impl<P: Pager> Kernel<P> {
         };
         let mut number = 0;
         let added = self.segments.add(spans.as_slice(), add, &mut number);
-        if !note(&mut self.spaces, added) {
+        if !note(&mut self.spaces, &added) {
             return Reply::Refused(Errno::Sigbus);
         }
         Reply::Number(number)
