@@ -62,10 +62,6 @@ abbrev pub touched_of : Result Touched PagerFailed → Touched
 touched_of (Ok u) = u
 touched_of (Err e) = e.touched
 
-abbrev pub brought_of : Result (InFrames × Touched) PagerFailed → Touched
-brought_of (Ok b) = b.1
-brought_of (Err e) = e.touched
-
 -- What an access leaves. A pager was asked for no more than the pages had to have: a read for each page that was in
 -- a slot, a write for each that had to go, and each is counted, in the answer and in the store.
 pub record Accessed (ps : List Span) (s t : StoreView) (result : Result Touched PagerFailed) : Type 0 where

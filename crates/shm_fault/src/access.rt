@@ -8,7 +8,7 @@ ghost use Rattle.shm_fault.specs.Segs.{HasPage};
 ghost use Rattle.shm_fault.specs.Store.{held, frame_of, page_of, ref_of};
 ghost use Rattle.shm_fault.specs.Sound.{IsStoreSound};
 ghost use Rattle.shm_fault.specs.Goes.{frame_by, referenced_at};
-ghost use Rattle.shm_fault.specs.Access.{AreIn, Brings, Accessed, brought_of};
+ghost use Rattle.shm_fault.specs.Access.{AreIn, Brings, Accessed};
 ghost use Rattle.shm_fault.specs.Adding.{number_in, added};
 
 use crate::store::PageStore;
@@ -128,23 +128,21 @@ impl<P: Pager> PageStore<P> {
         }
     }
 
-    // Brings in the pages of at most two stretches, the first page first, and answers their frames.
-    fn bring(&mut self, spans: &[Span]) -> Result<(InFrames, Touched), PagerFailed>
+    // Brings in the pages of at most two stretches, the first page first, and answers their frames. The store is sound
+    // then.
+    fn bring(&mut self, spans: &[Span], touched: &mut Touched) -> Result<InFrames, PagerFault>
         requires few { length spans.now ≤ 2 }
         requires fit { All (FitsPage (held self.old)) spans.now }
         requires frames { All (λ (p : Stretch). p.frame ≡ frame_of self.old p.seg (page_of p)) spans.now }
-        ensures here { IfOk result (λ b. AreIn self.new spans.now b.0) }
-        ensures brings { Brings spans.now self.old self.new (brought_of result) (is_ok result) }
+        requires none { (touched.old.moved.items ≡ []) × (touched.old.ins ≡ 0) × (touched.old.outs ≡ 0) }
+        ensures here { IfOk result (AreIn self.new spans.now) }
+        ensures brings { Brings spans.now self.old self.new touched.new (is_ok result) }
         ensures sound { IsStoreSound self.new }
     {
-        let mut touched = Touched::none();
-        let brought = self.bring_spans(spans, &mut touched);
+        let brought = self.bring_spans(spans, touched);
         // What is read of the store has a proof know what is true of it.
         let _ = &self.segs;
-        match brought {
-            Ok(here) => Ok((here, touched)),
-            Err(_) => Err(PagerFailed { touched }),
-        }
+        brought
     }
 
     // Copies the bytes of a stretch out of the frame that its page is in.
@@ -241,7 +239,11 @@ impl<P: Pager> PageStore<P> {
         ensures held { held self.new ≡ held self.old }
         ensures access { Accessed spans.now self.old self.new result }
     {
-        let (here, touched) = self.bring(spans)?;
+        let mut touched = Touched::none();
+        let here = match self.bring(spans, &mut touched) {
+            Ok(here) => here,
+            Err(_) => return Err(PagerFailed { touched }),
+        };
         self.copy_spans(spans, here, out);
         Ok(touched)
     }
@@ -258,7 +260,11 @@ impl<P: Pager> PageStore<P> {
         ensures same { OnErr result (held self.new ≡ held self.old) }
         ensures access { Accessed spans.now self.old self.new result }
     {
-        let (here, touched) = self.bring(spans)?;
+        let mut touched = Touched::none();
+        let here = match self.bring(spans, &mut touched) {
+            Ok(here) => here,
+            Err(_) => return Err(PagerFailed { touched }),
+        };
         self.store_spans(spans, here, bytes);
         Ok(touched)
     }
@@ -276,7 +282,11 @@ impl<P: Pager> PageStore<P> {
         ensures same { OnErr result (held self.new ≡ held self.old) }
         ensures access { Accessed spans.now self.old self.new result }
     {
-        let (here, touched) = self.bring(spans)?;
+        let mut touched = Touched::none();
+        let here = match self.bring(spans, &mut touched) {
+            Ok(here) => here,
+            Err(_) => return Err(PagerFailed { touched }),
+        };
         let mut bytes = [0; 8];
         self.copy_spans(spans, here, &mut bytes);
         *old = u64::from_le_bytes(bytes);
