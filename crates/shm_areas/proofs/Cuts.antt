@@ -1,5 +1,6 @@
 -- The pieces that a range meets stand side by side. Taking it out leaves a part of the first of them below, and one of the last above.
 use Rattle.std.proofs.Common.{◌≡◌, ◌⊎◌, inl, inr, ℕ, zero, suc, ◌+◌, ◌-◌, ◌<◌, ◌≤◌, true, false, nat_lt, List, [], ◌∷◌, ◌++◌, length, get_or, take, drop, refl, ap, ◌∙◌, arith, ◌≢◌, append_assoc, append-nil, length-append, length-take, length-drop}
+use Rattle.std.proofs.lemmas.Grind.{common_steps}
 use Rattle.std.specs.Prelude.{slice_range}
 use Rattle.std.specs.List.{splice}
 use Rattle.std.proofs.lemmas.Bool.{lt-ltb, le-ltb, cases_lt, cases_eq, and_right}
@@ -114,11 +115,7 @@ above-none to p le = rw (le-ltb to (end_of (bare p)) le) refl
 
 -- a piece with another of the run behind it ends in the range
 ends_in : (from to last low : ℕ) (p : Piece) (ps : List Piece) → Arranged low (bare_all (p ∷ ps)) → IsRun from to (p ∷ ps) 0 (suc (suc last)) → end_of (bare p) ≤ to
-ends_in from to last low p ps ar r =
-    let bound = r.bound in
-    let next : end_of (bare p) ≤ (get_or ps 0 p).base = low_bound (end_of (bare p)) ps 0 p ar.1.1 (omega arith) in
-    let begins : (get_or ps 0 p).base < to = r.below 1 p (omega arith) in
-    omega (arith, next, begins)
+ends_in from to last low p ps ar r = grind (arith, common_steps, low_bound)
 
 -- all pieces of the run begin in the range
 cut-begun : (from to last low : ℕ) (ps : List Piece) (d : Piece) → Arranged low (bare_all ps) → from ≤ low → IsRun from to ps 0 (suc last)
@@ -195,16 +192,10 @@ run_from low from to count last ps e ar lt c l some reaches =
   where
     order : (last < count - 1) ⊎ (count - 1 ≤ last) → count - 1 ≤ last
     order (inr g) = g
-    order (inl h) =
-        let high : to - 1 < (get_or ps (count - 1) e).base = l.above (count - 1) e (omega arith) (omega (arith, c.bound, some)) in
-        let begins : (get_or ps (count - 1) e).base ≤ from = c.below (count - 1) e (omega (arith, some)) in
-        absurd (omega (arith, high, begins, lt))
+    order (inl h) = grind (arith, common_steps)
 
     after : (k : ℕ) (d : Piece) → count - 1 ≤ k → k < length ps → (k < count) ⊎ (count ≤ k) → from < end_of (bare (get_or ps k d))
-    after k d g h (inl below) =
-        let same : k ≡ count - 1 = omega arith in
-        let at : get_or ps k d ≡ get_or ps (count - 1) e = get_or_default ps k d e h ∙ ap (λ n. get_or ps n e) same in
-        rw at reaches
+    after k d g h (inl below) = grind (arith, common_steps, get_or_default)
     after k d g h (inr past) = let begins : from < (get_or ps k d).base = c.above k d past h in omega (arith, begins)
 
 -- or it does not, or there is none
@@ -229,16 +220,10 @@ run_behind low from to count last ps e ar lt c l over =
 
     before : (k : ℕ) (d : Piece) → k < count → (count ≡ 0) ⊎ (end_of (bare (get_or ps (count - 1) e)) ≤ from) → (k ≡ count - 1) ⊎ (k ≢ count - 1) → end_of (bare (get_or ps k d)) ≤ from
     before k d h (inl none) which = absurd (omega arith)
-    before k d h (inr ended) (inl same) =
-        let at : get_or ps k d ≡ get_or ps (count - 1) e = get_or_default ps k d e (omega (arith, c.bound)) ∙ ap (λ n. get_or ps n e) same in
-        rw at ended
-    before k d h (inr ended) (inr other) =
-        let next : end_of (bare (get_or ps k d)) ≤ (get_or ps (count - 1) e).base = ends_before low ps k (count - 1) d e ar (omega arith) (omega (arith, c.bound)) in
-        let begins : (get_or ps (count - 1) e).base ≤ from = c.below (count - 1) e (omega arith) in
-        omega (arith, next, begins)
+    before k d h (inr ended) (inl same) = grind (arith, common_steps, get_or_default)
+    before k d h (inr ended) (inr other) = grind (arith, common_steps, ends_before)
 
 -- HOW MANY ARE LEFT
 
 pub length-splice : (ps xs : List Piece) (first last : ℕ) → first ≤ last → last ≤ length ps → length (splice ps first last xs) ≡ first + (length xs + (length ps - last))
-length-splice ps xs first last order bound =
-    simp (length-append, length-take, length-drop) (omega arith)
+length-splice ps xs first last order bound = grind (arith, common_steps, length-append, length-take, length-drop)

@@ -1,12 +1,13 @@
 -- Pieces stay in order through an insertion, a cut and a detach.
-use Rattle.std.proofs.Common.{◌≡◌, ℕ, zero, suc, ◌+◌, ◌-◌, ◌*◌, ◌/◌, ◌%◌, ◌<◌, ◌≤◌, ◌⊎◌, inl, inr, Bool, false, not, nat_lt, List, [], ◌∷◌, ◌++◌, length, get_or, filter, insert, refl, ap, arith}
-use Rattle.std.proofs.lemmas.Bool.{lt-ltb, le-ltb, cases_lt, cases_Bool, or_parts, both_ways}
+use Rattle.std.proofs.Common.{◌≡◌, ℕ, zero, suc, ◌+◌, ◌-◌, ◌*◌, ◌/◌, ◌%◌, ◌<◌, ◌≤◌, ◌⊎◌, inl, inr, Bool, false, nat_lt, List, [], ◌∷◌, ◌++◌, length, get_or, filter, insert, refl, ap, arith}
+use Rattle.std.proofs.lemmas.Grind.{common_steps}
+use Rattle.std.proofs.lemmas.Bool.{lt-ltb, le-ltb, cases_Bool, or_parts, both_ways}
 use Rattle.shm_base.specs.State as flat
 use Rattle.shm_base.specs.Access.{end_of}
-use Rattle.shm_base.specs.Space.{last_address, meets, occupied, inserted, cut, parts, part_below, part_above, without_named}
+use Rattle.shm_base.specs.Space.{meets, occupied, inserted, cut, parts, part_below, part_above, without_named}
 use Rattle.shm_areas.specs.declared.piece.Piece.{Piece}
 use Rattle.shm_areas.specs.Arranged.{bare, bare_all, IsFit, Arranged}
-use Rattle.shm_areas.specs.Edit.{kept_inserted, kept_below, kept_above, kept_parts, kept_cut, kept_named, kept_without}
+use Rattle.shm_areas.specs.Edit.{kept_inserted, kept_below, kept_above, kept_parts, kept_cut, kept_without}
 
 pub lower : (low low' : ℕ) (ps : List flat.Piece) → low ≤ low' → Arranged low' ps → Arranged low ps
 lower low low' [] le ar = ar
@@ -14,11 +15,7 @@ lower low low' (p ∷ ps) le ar = let first : low' ≤ p.base = ar.0 in (omega (
 
 pub bare_inserted : (p : Piece) (qs : List Piece) → bare_all (kept_inserted p qs) ≡ inserted (bare p) (bare_all qs)
 bare_inserted p [] = refl
-bare_inserted p (q ∷ qs) =
-    elim (cases_lt p.base q.base) [
-      | inl lt ↦ rw (lt-ltb p.base q.base lt) refl
-      | inr le ↦ rw (le-ltb p.base q.base le) (ap (λ (xs : List flat.Piece). bare q ∷ xs) (bare_inserted p qs))
-    ]
+bare_inserted p (q ∷ qs) = grind (arith, common_steps, bare_inserted p qs)
 
 pub length_inserted : (p : Piece) (qs : List Piece) → length (kept_inserted p qs) ≡ length qs + 1
 length_inserted p [] = refl
@@ -41,50 +38,20 @@ inserted_at p (q ∷ qs) (suc n) le below above =
 
 -- a fit piece that meets no other may be put in its place
 pub apart : (p q : flat.Piece) → IsFit p → IsFit q → meets q.base (end_of q) p ≡ false → (end_of q ≤ p.base) ⊎ (end_of p ≤ q.base)
-apart p q fp fq away =
-    elim (cases_lt p.base (end_of q)) [
-      | inr h ↦ inl h
-      | inl a ↦ elim (cases_lt q.base (end_of p)) [
-        | inr h ↦ inr h
-        | inl b ↦ absurd (both_ways (meets q.base (end_of q) p) away (rw (lt-ltb p.base (end_of q) a, lt-ltb q.base (end_of p) b) refl))
-      ]
-    ]
+apart p q fp fq away = grind (arith, common_steps, both_ways)
 
 pub arranged_inserted : (low : ℕ) (q : flat.Piece) (ps : List flat.Piece) → Arranged low ps → low ≤ q.base → IsFit q → occupied ps q.base (end_of q) ≡ false
     → Arranged low (inserted q ps)
 arranged_inserted low q [] ar le fit free = (le, (fit, tt))
-arranged_inserted low q (p ∷ ps) ar le fit free =
-    let two = or_parts (meets q.base (end_of q) p) (occupied ps q.base (end_of q)) free in
-    let some_p : 1 ≤ p.pages = ar.1.0.some in
-    let some_q : 1 ≤ q.pages = fit.some in
-    elim (cases_lt q.base p.base) [
-      | inl lt ↦ elim (apart p q ar.1.0 fit two.0) [
-        | inl h ↦ rw (lt-ltb q.base p.base lt) (le, (fit, (h, ar.1)))
-        | inr h ↦ absurd (omega (arith, h, lt, some_p))
-      ]
-      | inr ge ↦ elim (apart p q ar.1.0 fit two.0) [
-        | inl h ↦ absurd (omega (arith, h, ge, some_q))
-        | inr h ↦ rw (le-ltb q.base p.base ge) (ar.0, (ar.1.0, arranged_inserted (end_of p) q ps ar.1.1 h fit two.1))
-      ]
-    ]
+arranged_inserted low q (p ∷ ps) ar le fit free = grind (arith, common_steps, or_parts, apart, arranged_inserted (end_of p) q ps ar.1.1)
 
 pub arranged_filter : (f : Piece → Bool) (low : ℕ) (ps : List Piece) → Arranged low (bare_all ps) → Arranged low (bare_all (filter f ps))
 arranged_filter f low [] ar = ar
-arranged_filter f low (p ∷ ps) ar =
-    let rest = arranged_filter f (end_of (bare p)) ps ar.1.1 in
-    let first : low ≤ p.base = ar.0 in
-    elim (cases_Bool (f p)) [
-      | inl h ↦ rw h (ar.0, (ar.1.0, rest))
-      | inr h ↦ rw h (lower low (end_of (bare p)) (bare_all (filter f ps)) (omega (arith, first)) rest)
-    ]
+arranged_filter f low (p ∷ ps) ar = grind (arith, common_steps, lower, arranged_filter f (end_of (bare p)) ps ar.1.1)
 
 pub bare_filter : (addr seg : ℕ) (ps : List Piece) → bare_all (kept_without addr seg ps) ≡ without_named addr seg (bare_all ps)
 bare_filter addr seg [] = refl
-bare_filter addr seg (p ∷ ps) =
-    elim (cases_Bool (not (kept_named addr seg p))) [
-      | inl h ↦ rw h (ap (λ (xs : List flat.Piece). bare p ∷ xs) (bare_filter addr seg ps))
-      | inr h ↦ rw h (bare_filter addr seg ps)
-    ]
+bare_filter addr seg (p ∷ ps) = grind (arith, common_steps, bare_filter addr seg ps)
 
 pub bare_append : (xs ys : List Piece) → bare_all (xs ++ ys) ≡ bare_all xs ++ bare_all ys
 bare_append [] ys = refl
@@ -97,11 +64,7 @@ pub bare_above : (to : ℕ) (p : Piece) → bare_all (kept_above to p) ≡ part_
 bare_above to p = elim (cases_Bool (nat_lt to (end_of (bare p)))) [ inl h ↦ rw h refl | inr h ↦ rw h refl ]
 
 pub bare_parts : (from to : ℕ) (p : Piece) → bare_all (kept_parts from to p) ≡ parts from to (bare p)
-bare_parts from to p =
-    elim (cases_Bool (meets from to (bare p))) [
-      | inl h ↦ rw (h, bare_append, bare_below, bare_above) refl
-      | inr h ↦ rw h refl
-    ]
+bare_parts from to p = grind (arith, common_steps, bare_append, bare_below, bare_above)
 
 pub bare_cut : (from to : ℕ) (ps : List Piece) → bare_all (kept_cut from to ps) ≡ cut from to (bare_all ps)
 bare_cut from to [] = refl
@@ -118,66 +81,21 @@ abbrev pub beyond : ℕ → flat.Piece → flat.Piece
 beyond to p = record { base = to; seg = p.seg; first_page = p.first_page + (to - p.base) / 4096; pages = (end_of p - to) / 4096; writable = p.writable }
 
 pub fit_upto : (from : ℕ) (p : flat.Piece) → IsFit p → from % 4096 ≡ 0 → p.base < from → from ≤ end_of p → IsFit (upto from p)
-fit_upto from p fit e lt le =
-    let aligned : p.base % 4096 ≡ 0 = fit.aligned in
-    let few : p.first_page + p.pages ≤ 4096 = fit.few in
-    let within : end_of p ≤ last_address = fit.within in
-    let all : p.base + 4096 * ((from - p.base) / 4096) ≡ from = whole p.base from aligned e (omega (arith, lt)) in
-    record { aligned = aligned; some = omega (arith, all, lt); few = omega (arith, all, le, few); within = omega (arith, all, le, within) }
+fit_upto from p fit e lt le = grind (arith, common_steps, whole)
 
 pub fit_beyond : (to : ℕ) (p : flat.Piece) → IsFit p → to % 4096 ≡ 0 → p.base ≤ to → to < end_of p → IsFit (beyond to p)
-fit_beyond to p fit e le lt =
-    let aligned : p.base % 4096 ≡ 0 = fit.aligned in
-    let few : p.first_page + p.pages ≤ 4096 = fit.few in
-    let within : end_of p ≤ last_address = fit.within in
-    let ended : end_of p % 4096 ≡ 0 = omega (arith, aligned) in
-    let all : to + 4096 * ((end_of p - to) / 4096) ≡ end_of p = whole to (end_of p) e ended (omega (arith, lt)) in
-    let skipped : p.base + 4096 * ((to - p.base) / 4096) ≡ to = whole p.base to aligned e le in
-    record { aligned = e; some = omega (arith, all, lt); few = omega (arith, all, skipped, few); within = omega (arith, all, within) }
+fit_beyond to p fit e le lt = grind (arith, common_steps, whole)
 
 pub end_upto : (from : ℕ) (p : flat.Piece) → IsFit p → from % 4096 ≡ 0 → p.base < from → end_of (upto from p) ≡ from
 end_upto from p fit e lt = whole p.base from fit.aligned e (omega (arith, lt))
 
 pub end_beyond : (to : ℕ) (p : flat.Piece) → IsFit p → to % 4096 ≡ 0 → to < end_of p → end_of (beyond to p) ≡ end_of p
-end_beyond to p fit e lt =
-    let aligned : p.base % 4096 ≡ 0 = fit.aligned in
-    let ended : end_of p % 4096 ≡ 0 = omega (arith, aligned) in
-    whole to (end_of p) e ended (omega (arith, lt))
+end_beyond to p fit e lt = grind (arith, common_steps, whole)
 
 pub arranged_parts : (low from to : ℕ) (p : flat.Piece) (rest : List flat.Piece) → low ≤ p.base → IsFit p → from % 4096 ≡ 0 → to % 4096 ≡ 0 → from ≤ to
     → Arranged (end_of p) rest → Arranged low (parts from to p ++ rest)
-arranged_parts low from to p rest first fit ef et le ar =
-    elim (cases_lt p.base to) [
-      | inr after ↦ rw (le-ltb p.base to after) (first, (fit, ar))
-      | inl before ↦ elim (cases_lt from (end_of p)) [
-        | inr over ↦ rw (lt-ltb p.base to before, le-ltb from (end_of p) over) (first, (fit, ar))
-        | inl under ↦ elim (cases_lt p.base from) [
-          | inl b ↦ elim (cases_lt to (end_of p)) [
-            | inl a ↦
-                rw (lt-ltb p.base to before, lt-ltb from (end_of p) under, lt-ltb p.base from b, lt-ltb to (end_of p) a) (
-                  first,
-                  (
-                    fit_upto from p fit ef b (omega (arith, under)),
-                    (rw (end_upto from p fit ef b) le, (fit_beyond to p fit et (omega (arith, before)) a, rw (end_beyond to p fit et a) ar)),
-                  ),
-                )
-            | inr a ↦
-                rw (lt-ltb p.base to before, lt-ltb from (end_of p) under, lt-ltb p.base from b, le-ltb to (end_of p) a)
-                (first, (fit_upto from p fit ef b (omega (arith, under)), rw (end_upto from p fit ef b) (lower from (end_of p) rest (omega (arith, under)) ar)))
-          ]
-          | inr b ↦ elim (cases_lt to (end_of p)) [
-            | inl a ↦
-                rw (lt-ltb p.base to before, lt-ltb from (end_of p) under, le-ltb p.base from b, lt-ltb to (end_of p) a)
-                (omega (arith, first, before), (fit_beyond to p fit et (omega (arith, before)) a, rw (end_beyond to p fit et a) ar))
-            | inr a ↦
-                rw (lt-ltb p.base to before, lt-ltb from (end_of p) under, le-ltb p.base from b, le-ltb to (end_of p) a)
-                (lower low (end_of p) rest (omega (arith, first)) ar)
-          ]
-        ]
-      ]
-    ]
+arranged_parts low from to p rest first fit ef et le ar = grind (arith, common_steps, fit_upto, end_upto, fit_beyond, end_beyond, lower)
 
 pub arranged_cut : (low from to : ℕ) (ps : List flat.Piece) → Arranged low ps → from % 4096 ≡ 0 → to % 4096 ≡ 0 → from ≤ to → Arranged low (cut from to ps)
 arranged_cut low from to [] ar ef et le = ar
-arranged_cut low from to (p ∷ ps) ar ef et le =
-    arranged_parts low from to p (cut from to ps) ar.0 ar.1.0 ef et le (arranged_cut (end_of p) from to ps ar.1.1 ef et le)
+arranged_cut low from to (p ∷ ps) ar ef et le = grind (arith, common_steps, arranged_parts, arranged_cut (end_of p) from to ps ar.1.1 ef et le)

@@ -1,6 +1,7 @@
 -- Walking up the pieces finds the least gap, which is the definition's.
-use Rattle.std.proofs.Common.{◌≡◌, ℕ, ◌+◌, ◌*◌, ◌%◌, ◌<◌, ◌≤◌, ◌⊎◌, inl, inr, Bool, true, false, nat_lt, List, [], ◌∷◌, length, get_or, map, find, max, MatchOption, refl, ◌∙◌, arith, drop, drop-cons, add-one}
-use Rattle.std.proofs.lemmas.Bool.{lt-ltb, le-ltb, le-leb, lt-leb, cases_lt, false_from_ne_true, and_right, both_ways}
+use Rattle.std.proofs.Common.{◌≡◌, ℕ, ◌+◌, ◌*◌, ◌%◌, ◌<◌, ◌≤◌, ◌⊎◌, inl, inr, Bool, true, false, List, [], ◌∷◌, length, get_or, map, find, max, MatchOption, refl, ◌∙◌, arith, drop, drop-cons, add-one}
+use Rattle.std.proofs.lemmas.Grind.{common_steps}
+use Rattle.std.proofs.lemmas.Bool.{le-leb, lt-leb, cases_lt, false_from_ne_true, and_right, both_ways}
 use Rattle.shm_base.specs.State.{Piece}
 use Rattle.shm_base.specs.Access.{end_of}
 use Rattle.shm_base.specs.Space.{lowest_address, first_chosen, last_address, occupied, is_gap, choose}
@@ -10,10 +11,7 @@ use Rattle.shm_areas.specs.Gap.{gap_from, IsLeastGap, HasNoGap}
 
 pub free_below : (low from to : ℕ) (ps : List Piece) → Arranged low ps → to ≤ low → occupied ps from to ≡ false
 free_below low from to [] ar le = refl
-free_below low from to (p ∷ ps) ar le =
-    let first : low ≤ p.base = ar.0 in
-    let away : nat_lt p.base to ≡ false = le-ltb p.base to (omega (arith, first, le)) in
-    rw away (free_below (end_of p) from to ps ar.1.1 (omega (arith, first, le)))
+free_below low from to (p ∷ ps) ar le = grind (arith, common_steps, free_below (end_of p) from to ps ar.1.1)
 
 pub gap_here : (all ps : List Piece) (pages c : ℕ) → first_chosen ≤ c → c + 4096 * pages ≤ last_address
     → occupied all c (c + 4096 * pages) ≡ false → is_gap all pages c ≡ true
@@ -22,11 +20,7 @@ gap_here all ps pages c low high free = rw (le-leb first_chosen c low, le-leb (c
 -- a piece that begins below the end of a range and ends above its beginning is in the way
 pub met : (all ps : List Piece) (p : Piece) (pages b : ℕ) → occupied all b (b + 4096 * pages) ≡ occupied (p ∷ ps) b (b + 4096 * pages)
     → p.base < b + 4096 * pages → b < end_of p → is_gap all pages b ≡ false
-met all ps p pages b same below above =
-    let one : nat_lt p.base (b + 4096 * pages) ≡ true = lt-ltb _ _ below in
-    let two : nat_lt b (end_of p) ≡ true = lt-ltb _ _ above in
-    let full : occupied (p ∷ ps) b (b + 4096 * pages) ≡ true = rw (one, two) refl in
-    rw (same, full) (grind arith)
+met all ps p pages b same below above = grind (arith, common_steps)
 
 pub too_high : (all : List Piece) (pages b : ℕ) → last_address < b + 4096 * pages → is_gap all pages b ≡ false
 too_high all pages b high = rw (lt-leb (b + 4096 * pages) last_address high) (grind arith)
@@ -48,45 +42,23 @@ still_first c low e (inl h) lt le = h
 still_first c low e (inr h) lt le = absurd (omega (arith, h))
 
 pub left_past : (ps : List Piece) (p : Piece) (from to : ℕ) → end_of p ≤ from → occupied (p ∷ ps) from to ≡ occupied ps from to
-left_past ps p from to le =
-    rw (and_right (nat_lt p.base to) (nat_lt from (end_of p)) (le-ltb from (end_of p) le)) refl
+left_past ps p from to le = grind (arith, common_steps, and_right)
 
 pub least_over : (all ps : List Piece) (p : Piece) (pages c b : ℕ) → p.base < c + 4096 * pages
     → ((from to : ℕ) → c ≤ from → occupied all from to ≡ occupied (p ∷ ps) from to)
     → c ≤ b → is_gap all pages b ≡ true → (b < end_of p) ⊎ (end_of p ≤ b) → end_of p ≤ b
 least_over all ps p pages c b below left low gap (inr h) = h
-least_over all ps p pages c b below left low gap (inl h) =
-    let none : is_gap all pages b ≡ false = met all ps p pages b (left b (b + 4096 * pages) low) (omega (arith, below, low)) h in
-    absurd (both_ways _ none gap)
+least_over all ps p pages c b below left low gap (inl h) = grind (arith, common_steps, met, both_ways)
 
 pub walk_past : (all ps : List Piece) (p : Piece) (pages c low : ℕ) → Walk all pages c low (p ∷ ps) → end_of p ≤ c → Walk all pages c (end_of p) ps
-walk_past all ps p pages c low w le =
-    let base : low ≤ p.base = w.arranged.0 in
-    let some : 1 ≤ p.pages = w.arranged.1.0.some in
-    record {
-      arranged = w.arranged.1.1;
-      first = w.first;
-      order = inl (still_first c low (end_of p) w.order (omega (arith, base, some)) le);
-      left = λ from to l. w.left from to l ∙ left_past ps p from to (omega (arith, l, le));
-      least = w.least;
-      aligned = w.aligned;
-    }
+walk_past all ps p pages c low w le = grind (arith, common_steps, still_first, left_past)
 
 pub end_aligned : (p : Piece) → p.base % 4096 ≡ 0 → end_of p % 4096 ≡ 0
 end_aligned p e = omega (arith, e)
 
 pub walk_over : (all ps : List Piece) (p : Piece) (pages c low : ℕ) → Walk all pages c low (p ∷ ps) → p.base < c + 4096 * pages → c < end_of p
     → Walk all pages (end_of p) (end_of p) ps
-walk_over all ps p pages c low w below lt =
-    let first : first_chosen ≤ c = w.first in
-    record {
-      arranged = w.arranged.1.1;
-      first = omega (arith, first, lt);
-      order = inr (omega arith);
-      left = λ from to l. w.left from to (omega (arith, l, lt)) ∙ left_past ps p from to l;
-      least = λ b gap. least_over all ps p pages c b below w.left (w.least b gap) gap (cases_lt b (end_of p));
-      aligned = end_aligned p w.arranged.1.0.aligned;
-    }
+walk_over all ps p pages c low w below lt = grind (arith, common_steps, left_past, least_over, end_aligned)
 
 pub find_past : (g : ℕ → Bool) (c e : ℕ) (es : List ℕ) → (e ≡ c) ⊎ (g e ≡ false) → find g (c ∷ es) ≡ find g (c ∷ e ∷ es)
 find_past g c e es (inl h) = grind (arith, h)
@@ -97,17 +69,10 @@ past_or_low all pages c e h le (inl lt) = inr (too_low all pages e (omega (arith
 past_or_low all pages c e h le (inr ge) = inl (omega (arith, le, ge))
 
 pub fits_here : (all ps : List Piece) (p : Piece) (pages c low : ℕ) → Walk all pages c low (p ∷ ps) → c + 4096 * pages ≤ p.base → is_gap all pages c ≡ true
-fits_here all ps p pages c low w fits =
-    let high : end_of p ≤ last_address = w.arranged.1.0.within in
-    let again : Arranged p.base (p ∷ ps) = (omega arith, w.arranged.1) in
-    gap_here all ps pages c w.first (omega (arith, high, fits)) (w.left c (c + 4096 * pages) (omega arith) ∙ free_below p.base c (c + 4096 * pages) (p ∷ ps) again fits)
+fits_here all ps p pages c low w fits = grind (arith, common_steps, gap_here, free_below)
 
 pub find_walk : (all ps : List Piece) (pages c low : ℕ) → Walk all pages c low ps → gap_from pages c ps ≡ find (is_gap all pages) (c ∷ map end_of ps)
-find_walk all [] pages c low w =
-    elim (cases_lt last_address (c + 4096 * pages)) [
-      | inl high ↦ rw (too_high all pages c high, lt-leb (c + 4096 * pages) last_address high) refl
-      | inr ok ↦ rw (gap_here all [] pages c w.first ok (w.left c (c + 4096 * pages) (omega arith)), le-leb (c + 4096 * pages) last_address ok) refl
-    ]
+find_walk all [] pages c low w = grind (arith, common_steps, too_high, lt-leb, gap_here, le-leb)
 find_walk all (p ∷ ps) pages c low w =
     elim (cases_lt p.base (c + 4096 * pages)) [
       | inl below ↦ elim (cases_lt c (end_of p)) [
@@ -129,20 +94,10 @@ find_walk all (p ∷ ps) pages c low w =
     ]
 
 pub none_left : (all : List Piece) (pages c : ℕ) → ((b : ℕ) → is_gap all pages b ≡ true → c ≤ b) → last_address < c + 4096 * pages → HasNoGap all pages
-none_left all pages c least high b =
-    elim (cases_lt b c) [
-      | inl lt ↦ false_from_ne_true (is_gap all pages b) (λ yes. let le : c ≤ b = least b yes in omega (arith, le, lt))
-      | inr le ↦ too_high all pages b (omega (arith, high, le))
-    ]
+none_left all pages c least high b = grind (arith, common_steps, false_from_ne_true, too_high)
 
 pub law_walk : (all ps : List Piece) (pages c low : ℕ) → Walk all pages c low ps → MatchOption (gap_from pages c ps) (HasNoGap all pages) (λ base. IsLeastGap all pages base)
-law_walk all [] pages c low w =
-    elim (cases_lt last_address (c + 4096 * pages)) [
-      | inl high ↦ rw (lt-leb (c + 4096 * pages) last_address high) (none_left all pages c w.least high)
-      | inr ok ↦
-          rw (le-leb (c + 4096 * pages) last_address ok)
-          (record { gap = gap_here all [] pages c w.first ok (w.left c (c + 4096 * pages) (omega arith)); aligned = w.aligned; least = w.least })
-    ]
+law_walk all [] pages c low w = grind (arith, common_steps, lt-leb, none_left, le-leb, gap_here)
 law_walk all (p ∷ ps) pages c low w =
     elim (cases_lt p.base (c + 4096 * pages)) [
       | inl below ↦ elim (cases_lt c (end_of p)) [
@@ -163,15 +118,7 @@ low_gap all pages b gap (inr h) = h
 low_gap all pages b gap (inl h) = let none : is_gap all pages b ≡ false = too_low all pages b h in absurd (both_ways _ none gap)
 
 pub start : (ps : List Piece) (pages : ℕ) → Arranged lowest_address ps → Walk ps pages first_chosen lowest_address ps
-start ps pages ar =
-    record {
-      arranged = ar;
-      first = omega arith;
-      order = inl refl;
-      left = λ from to l. refl;
-      least = λ b gap. low_gap ps pages b gap (cases_lt b first_chosen);
-      aligned = refl;
-    }
+start ps pages ar = grind (arith, common_steps, low_gap)
 
 pub choose_is : (ps : List Piece) (pages : ℕ) → Arranged lowest_address ps → gap_from pages first_chosen ps ≡ choose ps pages
 choose_is ps pages ar = find_walk ps ps pages first_chosen lowest_address (start ps pages ar)
@@ -181,5 +128,4 @@ gap_is_least ps pages ar = law_walk ps ps pages first_chosen lowest_address (sta
 
 pub gap_step : (ps : List Stored) (i pages base : ℕ) (d : Stored) → i < length ps → (get_or ps i d).base < base + 4096 * pages
     → gap_from pages base (bare_all (drop i ps)) ≡ gap_from pages (max base (end_of (bare (get_or ps i d)))) (bare_all (drop (i + 1) ps))
-gap_step ps i pages base d lt below =
-    rw (add-one, drop-cons ps i d lt, lt-leb (base + 4096 * pages) (get_or ps i d).base below) refl
+gap_step ps i pages base d lt below = grind (arith, common_steps, add-one, drop-cons, lt-leb)

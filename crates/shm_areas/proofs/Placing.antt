@@ -1,10 +1,11 @@
 -- Pieces in order: which one an address lies in.
-use Rattle.std.proofs.Common.{◌≡◌, ℕ, zero, suc, ◌+◌, ◌<◌, ◌≤◌, true, false, nat_le, nat_lt, if◌then◌else◌, List, [], ◌∷◌, length, get_or, Option, Some, None, option_map, IfSome, inl, inr, refl, sym, arith}
+use Rattle.std.proofs.Common.{◌≡◌, ℕ, zero, suc, ◌+◌, ◌<◌, ◌≤◌, true, false, nat_le, nat_lt, if◌then◌else◌, List, [], ◌∷◌, length, get_or, Option, Some, None, option_map, IfSome, refl, sym, arith}
+use Rattle.std.proofs.lemmas.Grind.{common_steps}
 use Rattle.std.specs.List.Sorted.{IsNonDecreasingBy}
-use Rattle.std.proofs.lemmas.Bool.{lt-ltb, le-ltb, le-leb, cases_Bool, and_right}
+use Rattle.std.proofs.lemmas.Bool.{le-leb, and_right}
 use Rattle.std.proofs.lemmas.Option.{none-some}
 use Rattle.shm_base.specs.State as flat
-use Rattle.shm_base.specs.Access.{place, place_by, end_of, covers}
+use Rattle.shm_base.specs.Access.{place, place_by, end_of}
 use Rattle.shm_areas.specs.declared.piece.Piece.{Piece}
 use Rattle.shm_areas.specs.Arranged.{bare, bare_all, IsFit, Arranged, covering}
 
@@ -15,34 +16,25 @@ nothing = record { base = 0; seg = 0; first_page = 0; pages = 0; writable = fals
 pub low_bound : (low : ℕ) (ps : List Piece) (j : ℕ) (d : Piece) → Arranged low (bare_all ps) → j < length ps → low ≤ (get_or ps j d).base
 low_bound low [] j d ar lt = absurd (omega arith)
 low_bound low (p ∷ ps) zero d ar lt = ar.0
-low_bound low (p ∷ ps) (suc j) d ar lt =
-    let rest : end_of (bare p) ≤ (get_or ps j d).base = low_bound (end_of (bare p)) ps j d ar.1.1 (omega arith) in
-    let first : low ≤ p.base = ar.0 in
-    omega (arith, rest, first)
+low_bound low (p ∷ ps) (suc j) d ar lt = grind (arith, common_steps, low_bound (end_of (bare p)) ps j d ar.1.1)
 
 pub rising : (low : ℕ) (ps : List Piece) → Arranged low (bare_all ps) → IsNonDecreasingBy (λ (p : Piece). p.base) ps
 rising low [] ar i j d le lt = absurd (omega arith)
 rising low (p ∷ ps) ar zero zero d le lt = omega arith
-rising low (p ∷ ps) ar zero (suc j) d le lt =
-    let rest : end_of (bare p) ≤ (get_or ps j d).base = low_bound (end_of (bare p)) ps j d ar.1.1 (omega arith) in
-    omega (arith, rest)
+rising low (p ∷ ps) ar zero (suc j) d le lt = grind (arith, common_steps, low_bound)
 rising low (p ∷ ps) ar (suc i) zero d le lt = absurd (omega arith)
 rising low (p ∷ ps) ar (suc i) (suc j) d le lt = rising (end_of (bare p)) ps ar.1.1 i j d (omega arith) (omega arith)
 
 -- where all pieces begin above the address
 pub none_above : (a low : ℕ) (ps : List Piece) → a < low → Arranged low (bare_all ps) → covering a (bare_all ps) ≡ None
 none_above a low [] lt ar = refl
-none_above a low (p ∷ ps) lt ar =
-    let first : low ≤ p.base = ar.0 in
-    let away : nat_le p.base a ≡ false = grind (arith, first) in
-    rw away (none_above a (end_of (bare p)) ps (omega (arith, first)) ar.1.1)
+none_above a low (p ∷ ps) lt ar = grind (arith, common_steps, none_above a (end_of (bare p)) ps)
 
 pub none_at : (a low : ℕ) (ps : List Piece) → Arranged low (bare_all ps) → ((k : ℕ) (d : Piece) → k < length ps → a < (get_or ps k d).base) → covering a (bare_all ps) ≡ None
 none_at a low [] ar above = refl
 none_at a low (p ∷ ps) ar above =
     let first : a < p.base = above 0 p (omega arith) in
-    let away : nat_le p.base a ≡ false = grind (arith, first) in
-    rw away (none_above a (end_of (bare p)) ps (omega (arith, first)) ar.1.1)
+    grind (arith, common_steps, none_above)
 
 -- the last piece that begins at or below the address is the only one that may cover it
 pub covering_last : (a low n : ℕ) (ps : List Piece) (d : Piece) → Arranged low (bare_all ps) → n < length ps
@@ -52,9 +44,8 @@ pub covering_last : (a low n : ℕ) (ps : List Piece) (d : Piece) → Arranged l
 covering_last a low n [] d ar lt below above = absurd (omega arith)
 covering_last a low zero (p ∷ ps) d ar lt below above =
     let begins : p.base ≤ a = below 0 d (omega arith) in
-    let here : nat_le p.base a ≡ true = grind (arith, begins) in
     let rest : covering a (bare_all ps) ≡ None = none_at a (end_of (bare p)) ps ar.1.1 (λ k e l. above (suc k) e (omega arith) (omega arith)) in
-    rw (here, rest) refl
+    grind (arith, common_steps)
 covering_last a low (suc n) (p ∷ ps) d ar lt below above =
     let next : end_of (bare p) ≤ (get_or ps 0 d).base = low_bound (end_of (bare p)) ps 0 d ar.1.1 (omega arith) in
     let next_begins : (get_or ps 0 d).base ≤ a = below 1 d (omega arith) in
@@ -77,27 +68,12 @@ fit_at low (p ∷ ps) (suc j) d ar lt = fit_at (end_of (bare p)) ps j d ar.1.1 (
 
 pub covering_low : (a low : ℕ) (ps : List flat.Piece) (p : flat.Piece) → Arranged low ps → covering a ps ≡ Some p → low ≤ p.base
 covering_low a low [] p ar found = absurd (none-some p found)
-covering_low a low (q ∷ ps) p ar found =
-    let first : low ≤ q.base = ar.0 in
-    elim (cases_Bool (covers q a)) [
-      | inl h ↦ let same : q ≡ p = cc (rw h at found) in rw (← same) first
-      | inr h ↦ let rest : end_of q ≤ p.base = covering_low a (end_of q) ps p ar.1.1 (rw h at found) in omega (arith, first, rest)
-    ]
+covering_low a low (q ∷ ps) p ar found = grind (arith, common_steps, covering_low a (end_of q) ps p ar.1.1)
 
 -- every address of the piece that an address lies in lies in it
 pub covering_whole : (a b low : ℕ) (ps : List flat.Piece) (p : flat.Piece) → Arranged low ps → covering a ps ≡ Some p → p.base ≤ b → b < end_of p → covering b ps ≡ Some p
 covering_whole a b low [] p ar found from to = absurd (none-some p found)
-covering_whole a b low (q ∷ ps) p ar found from to =
-    elim (cases_Bool (covers q a)) [
-      | inl h ↦
-          let same : q ≡ p = cc (rw h at found) in
-          rw (same, le-leb p.base b from, lt-ltb b (end_of p) to) refl
-      | inr h ↦
-          let later : covering a ps ≡ Some p = rw h at found in
-          let above : end_of q ≤ p.base = covering_low a (end_of q) ps p ar.1.1 later in
-          rw (and_right (nat_le q.base b) (nat_lt b (end_of q)) (le-ltb b (end_of q) (omega (arith, above, from))))
-          (covering_whole a b (end_of q) ps p ar.1.1 later from to)
-    ]
+covering_whole a b low (q ∷ ps) p ar found from to = grind (arith, common_steps, le-leb, covering_low, and_right, covering_whole a b (end_of q) ps p ar.1.1)
 
 pub whole_of : (addr low : ℕ) (ps : List Piece) (o : Option Piece) → Arranged low (bare_all ps) → option_map bare o ≡ covering addr (bare_all ps)
     → IfSome o (λ p. (b : ℕ) → p.base ≤ b → b < end_of (bare p) → covering b (bare_all ps) ≡ Some (bare p))

@@ -1,12 +1,12 @@
 -- An access within one page asks for a run of one piece; one over two pages asks for the places of both.
-use Rattle.std.proofs.Common.{◌≡◌, inl, inr, ℕ, zero, suc, ◌+◌, ◌-◌, ◌*◌, ◌%◌, ◌<◌, ◌≤◌, Bool, true, false, not, ◌&&◌, List, [], ◌∷◌, ◌++◌, map, Option, Some, None, option_map, refl, ap, sym, subst, ◌∙◌, arith}
+use Rattle.std.proofs.Common.{◌≡◌, inl, inr, ℕ, zero, suc, ◌+◌, ◌-◌, ◌*◌, ◌%◌, ◌<◌, ◌≤◌, Bool, true, false, not, ◌&&◌, List, [], ◌∷◌, ◌++◌, map, Option, Some, None, option_map, refl, ap, subst, ◌∙◌, arith}
 use Rattle.std.proofs.lemmas.Grind.{common_steps}
 use Rattle.std.specs.Prelude.{All}
 use Rattle.std.proofs.lemmas.Bool.{cases_Bool}
 use Rattle.std.proofs.lemmas.Option.{none-some}
 use Rattle.std.proofs.lemmas.List.{map-append}
 use Rattle.shm_base.specs.State.{Piece}
-use Rattle.shm_base.specs.Access.{Place, place, places, place_by, joined, covers, all_writable, only_writable, writable_places}
+use Rattle.shm_base.specs.Access.{Place, places, joined, covers, all_writable, only_writable}
 use Rattle.shm_areas.specs.Arranged.{covering}
 use Rattle.shm_areas.proofs.Placing.{place_covering}
 use Rattle.shm_base.specs.Spans.{run}
@@ -26,10 +26,7 @@ joined-both : (p : Option Place) (x y : Option (List Place)) → joined p (both 
 joined-both p x y = grind arith
 
 places-sum : (ps : List Piece) (a n m : ℕ) → places ps a (n + m) ≡ both (places ps a n) (places ps (a + n) m)
-places-sum ps a zero m =
-    let here : a + 0 ≡ a = omega arith in
-    let all : 0 + m ≡ m = omega arith in
-    rw (here, all) (sym (both-nil (places ps a m)))
+places-sum ps a zero m = grind (arith, common_steps, both-nil)
 places-sum ps a (suc n) m =
     let next : a + suc n ≡ (a + 1) + n = omega arith in
     let more : suc n + m ≡ suc (n + m) = omega arith in
@@ -48,10 +45,7 @@ map-both x y = grind (arith, map-append unmarked)
 
 pub wanted_in-sum : (w : Bool) (ps : List Piece) (a n m : ℕ) → wanted_in w ps a (n + m) ≡ both (wanted_in w ps a n) (wanted_in w ps (a + n) m)
 wanted_in-sum false ps a n m = ap (option_map (map unmarked)) (places-sum ps a n m) ∙ map-both (places ps a n) (places ps (a + n) m)
-wanted_in-sum true ps a n m =
-    ap (λ o. option_map (map unmarked) (only_writable o)) (places-sum ps a n m)
-    ∙ ap (option_map (map unmarked)) (only_writable-both (places ps a n) (places ps (a + n) m))
-    ∙ map-both (writable_places ps a n) (writable_places ps (a + n) m)
+wanted_in-sum true ps a n m = grind (arith, common_steps, places-sum, only_writable-both, map-both)
 
 pub wanted_in-first : (w : Bool) (ps : List Piece) (a n m len : ℕ) → n + m ≡ len → wanted_in w ps a n ≡ None → wanted_in w ps a len ≡ None
 wanted_in-first w ps a n m len sum none = rw (← sum) (wanted_in-sum w ps a n m ∙ ap (λ o. both o (wanted_in w ps (a + n) m)) none)
@@ -70,12 +64,7 @@ wanted_in-both w ps a n m len xs ys sum some more = rw (← sum) (wanted_in-sum 
 pub places-run : (ps : List Piece) (p : Piece) (a n : ℕ) → p.base ≤ a → ((b : ℕ) → a ≤ b → b < a + n → covering b ps ≡ Some p)
     → places ps a n ≡ Some (run p.seg (4096 * p.first_page + (a - p.base)) n p.writable)
 places-run ps p a zero le all = refl
-places-run ps p a (suc n) le all =
-    let here : place ps a ≡ Some (place_by p a) = place_covering a ps ∙ ap (option_map (λ (q : Piece). place_by q a)) (all a (omega arith) (omega arith)) in
-    let next : 4096 * p.first_page + ((a + 1) - p.base) ≡ 4096 * p.first_page + (a - p.base) + 1 = omega (arith, le) in
-    let rest = places-run ps p (a + 1) n (omega (arith, le)) (λ b g l. all b (omega (arith, g)) (omega (arith, l))) in
-    let after : places ps (a + 1) n ≡ Some (run p.seg (4096 * p.first_page + (a - p.base) + 1) n p.writable) = rw next at rest in
-    rw (here, after) refl
+places-run ps p a (suc n) le all = grind (arith, common_steps, place_covering, places-run ps p (a + 1) n)
 
 unmarked-run : (seg at n : ℕ) (w : Bool) → map unmarked (run seg at n w) ≡ run seg at n false
 unmarked-run seg at zero w = refl
@@ -98,16 +87,12 @@ wanted_in-run true ps p a n may le all =
 -- an address without a piece
 pub wanted_in-none : (w : Bool) (ps : List Piece) (a n : ℕ) → 1 ≤ n → covering a ps ≡ None → wanted_in w ps a n ≡ None
 wanted_in-none w ps a zero some none = absurd (omega arith)
-wanted_in-none w ps a (suc n) some none =
-    let here : place ps a ≡ None = place_covering a ps ∙ ap (option_map (λ (q : Piece). place_by q a)) none in
-    grind arith
+wanted_in-none w ps a (suc n) some none = grind (arith, common_steps, place_covering)
 
 -- a write through a piece that is read-only
 pub wanted_in-readonly : (ps : List Piece) (p : Piece) (a n : ℕ) → 1 ≤ n → covering a ps ≡ Some p → p.writable ≡ false → wanted_in true ps a n ≡ None
 wanted_in-readonly ps p a zero some found only = absurd (omega arith)
-wanted_in-readonly ps p a (suc n) some found only =
-    let here : place ps a ≡ Some (place_by p a) = place_covering a ps ∙ ap (option_map (λ (q : Piece). place_by q a)) found in
-    grind arith
+wanted_in-readonly ps p a (suc n) some found only = grind (arith, common_steps, place_covering)
 
 -- THE PIECE OF AN ADDRESS
 

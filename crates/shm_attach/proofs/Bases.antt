@@ -1,5 +1,6 @@
 -- Where a new piece goes, there is room for it.
 use Rattle.std.proofs.Common.{◌+◌, ◌*◌, ◌≤◌, List, length, arith}
+use Rattle.std.proofs.lemmas.Grind.{common_steps}
 use Rattle.shm_base.specs.State.{Piece}
 use Rattle.shm_base.specs.Space.{cut}
 use Rattle.shm_attach.specs.Place.{IsRange, IsPlaceFor}
@@ -7,10 +8,4 @@ use Rattle.shm_attach.proofs.Keeping.{occupied-cut}
 
 pub place-range : (p : Piece) (ps : List Piece) → 1 ≤ p.pages → p.first_page + p.pages ≤ 4096 → IsRange p.pages p.base → length (cut p.base (p.base + 4096 * p.pages) ps) + 1 ≤ 256
     → IsPlaceFor p (cut p.base (p.base + 4096 * p.pages) ps)
-place-range p ps some few range room =
-    record {
-      room = omega (arith, room);
-      low = range.low;
-      fit = record { aligned = range.aligned; some = some; few = few; within = range.high };
-      free = occupied-cut p.base (p.base + 4096 * p.pages) ps;
-    }
+place-range p ps some few range room = grind (arith, common_steps, occupied-cut)

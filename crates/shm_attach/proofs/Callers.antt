@@ -1,5 +1,5 @@
 -- Which process a pid names, and what changes of its pieces are for the flat machine.
-use Rattle.std.proofs.Common.{◌≡◌, ◌≢◌, ◌⊎◌, inl, inr, ℕ, zero, suc, ◌+◌, ◌<◌, ◌≤◌, false, nat_eq, ◌==◌, if◌then◌else◌, List, [], ◌∷◌, length, map, get_or, Option, Some, None, slice_get, refl, ap, sym, subst, ◌∙◌, arith, eq-eqb, ne_eqb, length-set}
+use Rattle.std.proofs.Common.{◌≡◌, ◌≢◌, ◌⊎◌, inl, inr, ℕ, zero, suc, ◌+◌, ◌<◌, ◌≤◌, false, nat_eq, ◌==◌, if◌then◌else◌, List, [], ◌∷◌, length, map, get_or, Option, Some, None, slice_get, refl, ap, sym, ◌∙◌, arith, eq-eqb, ne_eqb, length-set}
 use Rattle.std.proofs.lemmas.Grind.{common_steps}
 use Rattle.std.specs.Prelude.{position}
 use Rattle.std.specs.List.{position_or_len}
@@ -53,9 +53,7 @@ unborn_from-first n pid (r ∷ rs) = ap (λ o. if r.pid == pid then as_child n r
 first-found : {X : Type 0} (f : ℕ → flat.Runner → Option X) (n pid i : ℕ) (es : List (ℕ × Runner)) → i < length es → (get_or es i nobody).0 ≡ pid
     → ((k : ℕ) → k < i → (get_or es k nobody).0 ≢ pid) → first f n pid (runners_view es) ≡ f (n + i) (runner_view (get_or es i nobody))
 first-found f n pid i [] lt own others = absurd (omega arith)
-first-found f n pid zero (e ∷ es) lt own others =
-    let here : n + 0 ≡ n = omega arith in
-    rw (eq-eqb e.0 pid own, here) refl
+first-found f n pid zero (e ∷ es) lt own others = grind (arith, common_steps)
 first-found f n pid (suc i) (e ∷ es) lt own others =
     let next : n + suc i ≡ (n + 1) + i = omega arith in
     rw (ne_eqb e.0 pid (others 0 (omega arith)), next) (first-found f (n + 1) pid i es (omega arith) own (λ k l. others (suc k) (omega arith)))
@@ -122,8 +120,7 @@ first-position : {X : Type 0} (f : ℕ → flat.Runner → Option X) (pid i : �
 first-position f pid i es e found at =
     let p = first_place pid i es e found at in
     let is : get_or es i nobody ≡ e = get_or_from_slice_get es i e nobody at in
-    let here : 0 + i ≡ i = omega arith in
-    rw (here, is) at (first-found f 0 pid i es p.within p.own p.others)
+    grind (arith, common_steps, first-found)
 
 pub caller_from-position : (pid i : ℕ) (es : List (ℕ × Runner)) (e : ℕ × Runner) → position (nat_eq pid) (keys_in es) ≡ Some i → slice_get es i ≡ Some e
     → caller_from 0 pid (runners_view es) ≡ caller_by i pid (bare_all e.1.space) (life_view e.1.life)
@@ -155,10 +152,9 @@ caller_there c rs is =
     let t = first-there (as_caller c.pid) 0 c.pid rs (caller_seen c rs) (sym (caller_from-first 0 c.pid rs) ∙ is) in
     let r = get_or rs t.place first_runner in
     let l = live_is (0 + t.place) c.pid r.pieces r.life (caller_seen c rs) t.said in
-    let place : t.place ≡ c.index = omega (arith, l.at) in
     let own : r ≡ record { pid = c.pid; life = flat.Live c.cred; pieces = pieces_at rs c.index } =
     grind arith in
-    rw place at (slice_get-get_or rs t.place first_runner t.within ∙ ap (λ (x : flat.Runner). Some x) own)
+    grind (arith, common_steps, slice_get-get_or)
 
 -- its pieces are changed as the flat machine changes them
 pub with_pieces-at : (c : Caller) (rs : List flat.Runner) (f : List flat.Piece → List flat.Piece) → IsCaller c rs → with_pieces rs (caller_seen c rs) (f (pieces_at rs c.index)) ≡ with_pieces_at rs c.index f
@@ -209,6 +205,5 @@ pub child_at : (pid j : ℕ) (rs : List flat.Runner) → unborn_from 0 pid rs �
 child_at pid j rs found =
     let t = first-there as_child 0 pid rs j (sym (unborn_from-first 0 pid rs) ∙ found) in
     let a = asleep_is (0 + t.place) j (get_or rs t.place first_runner).life t.said in
-    let at : t.place ≡ j = omega (arith, a.at) in
     let life : life_at rs t.place ≡ flat.Unborn = life_at-get_or rs t.place ∙ a.life in
-    subst (λ k. ChildAt pid k rs) at (record { within = t.within; named = t.named; unborn = life })
+    grind (arith, common_steps)

@@ -1,5 +1,6 @@
 -- The flat machine's steps, by what the address spaces answer. For the machine above.
-use Rattle.std.proofs.Common.{◌≡◌, ℕ, true, false, List, [], ◌∷◌, length, map, Option, Some, None, option_map, refl, ap, sym, ◌∙◌, arith}
+use Rattle.std.proofs.Common.{◌≡◌, ℕ, true, false, List, [], ◌∷◌, length, map, Option, Some, None, option_map, refl, ap, arith}
+use Rattle.std.proofs.lemmas.Grind.{common_steps}
 use Rattle.std.proofs.lemmas.Option.{none-some}
 use Rattle.shm_base.specs.declared.call.Reply.TheVariants.{Bytes, Done}
 use Rattle.shm_base.specs.State.{Entry, Piece, Runner, Machine}
@@ -43,13 +44,8 @@ are_asked (Some ps) wanted is = record { ps = ps; there = refl; same = cc is }
 
 pub load-wanted : (s : Machine) (ps : List Piece) (addr len : ℕ) (wanted : List Place) → wanted_in false ps addr len ≡ Some wanted
     → load s (places ps addr len) ≡ gives s (Bytes (loaded s.table wanted))
-load-wanted s ps addr len wanted is =
-    let a = are_asked (places ps addr len) wanted is in
-    ap (load s) a.there ∙ ap (λ bs. gives s (Bytes bs)) (sym (loaded-unmarked s.table a.ps) ∙ ap (loaded s.table) a.same)
+load-wanted s ps addr len wanted is = grind (arith, common_steps, are_asked, loaded-unmarked)
 
 pub store-wanted : (s : Machine) (ps : List Piece) (addr : ℕ) (bytes : List ℕ) (wanted : List Place) → wanted_in true ps addr (length bytes) ≡ Some wanted
     → store s bytes (writable_places ps addr (length bytes)) ≡ gives (record s { table = stored s.table wanted bytes }) Done
-store-wanted s ps addr bytes wanted is =
-    let a = are_asked (writable_places ps addr (length bytes)) wanted is in
-    ap (store s bytes) a.there
-    ∙ ap (λ t. gives (record s { table = t }) Done) (sym (stored-unmarked s.table a.ps bytes) ∙ ap (λ (ws : List Place). stored s.table ws bytes) a.same)
+store-wanted s ps addr bytes wanted is = grind (arith, common_steps, are_asked, stored-unmarked)

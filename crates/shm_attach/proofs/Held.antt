@@ -9,11 +9,10 @@ use Rattle.std.proofs.lemmas.List.{length-map}
 use Rattle.indexmap.specs.IndexMap.{set_value_at}
 use Rattle.slab.specs.Slab.{Slab, get}
 use Rattle.shm_base.specs.State as flat
-use Rattle.shm_base.specs.Access.{end_of}
 use Rattle.shm_base.specs.Space.{pieces_of}
 use Rattle.shm_areas.specs.declared.piece.Piece.{Piece}
 use Rattle.shm_areas.specs.Arranged.{bare, bare_all}
-use Rattle.shm_areas.specs.Edit.{kept_inserted, kept_below, kept_above, kept_parts, kept_cut}
+use Rattle.shm_areas.specs.Edit.{kept_inserted, kept_parts, kept_cut}
 use Rattle.shm_attach.specs.declared.process.Runner.{Runner}
 use Rattle.shm_attach.specs.declared.tables.Tables.{Tables}
 use Rattle.shm_attach.specs.Views.{runner_view, runners_view}
@@ -91,12 +90,6 @@ module _ (t : Slab Entry) where
 
   pub held-filter : (f : Piece → Bool) (ps : List Piece) → All (IsHeld t) ps → All (IsHeld t) (filter f ps)
   held-filter f ps all = All-filter f (IsHeld t) ps all
-
-  held-below : (from : ℕ) (p : Piece) → from < end_of (bare p) → IsHeld t p → All (IsHeld t) (kept_below from p)
-  held-below from p ends own = grind (arith, common_steps)
-
-  held-above : (to : ℕ) (p : Piece) → p.base < to → IsHeld t p → All (IsHeld t) (kept_above to p)
-  held-above to p begins own = grind (arith, common_steps)
 
   held-parts : (from to : ℕ) (p : Piece) → IsHeld t p → All (IsHeld t) (kept_parts from to p)
   held-parts from to p own = grind (arith, common_steps)

@@ -1,13 +1,13 @@
 -- The counts stay exact, and no process gets too many pieces.
 use Rattle.std.proofs.Common.{◌≡◌, ◌≢◌, ◌⊎◌, inl, inr, ℕ, zero, suc, ◌+◌, ◌*◌, ◌<◌, ◌≤◌, false, ◌==◌, List, [], ◌∷◌, ◌++◌, length, get_or, set, take, refl, ap, sym, ◌∙◌, arith, length-set, length-take}
 use Rattle.std.proofs.lemmas.Grind.{common_steps}
-use Rattle.std.proofs.lemmas.Bool.{cases_eq, cases_Bool}
+use Rattle.std.proofs.lemmas.Bool.{cases_eq}
 use Rattle.std.proofs.lemmas.Option.{slice_get-get_or, gets}
 use Rattle.std.proofs.lemmas.List.{set-set, get_or-map, set-get_or}
 use Rattle.std.proofs.lemmas.List.Sums.{sum_by-cons, sum_by-set, count_by-le-length}
 use Rattle.shm_base.specs.State.{Piece, Life, Unborn, Runner}
 use Rattle.shm_base.specs.Access.{end_of}
-use Rattle.shm_base.specs.Space.{lowest_address, last_address, without_named, is_named, inserted, occupied, cut, parts, part_below, part_above, pieces_of}
+use Rattle.shm_base.specs.Space.{lowest_address, last_address, without_named, inserted, occupied, cut, parts, part_below, part_above, pieces_of}
 use Rattle.shm_base.specs.Segments.{attach_count}
 use Rattle.shm_areas.specs.Arranged.{bare, bare_all, IsFit, Arranged}
 use Rattle.shm_areas.specs.declared.piece.Piece.{Piece as Stored}
@@ -78,10 +78,7 @@ module _ (rs : List Runner) (i j : ℕ) (l : Life) (lt : j < length rs) where
 
 -- a process that had no piece takes none from a count
 pub attach_count-more : (rs : List Runner) (j id : ℕ) (r : Runner) → j < length rs → pieces_at rs j ≡ [] → attach_count rs id ≤ attach_count (set rs j r) id
-attach_count-more rs j id r lt none =
-    let moved = sum_by-set (λ (x : Runner). pieces_of id x.pieces) rs j r nobody lt in
-    let empty : pieces_of id (get_or rs j nobody).pieces ≡ 0 = ap (pieces_of id) (sym (pieces_at-get_or rs j) ∙ none) in
-    omega (arith, moved, empty)
+attach_count-more rs j id r lt none = grind (arith, common_steps, sum_by-set, pieces_at-get_or)
 
 -- one process is replaced by another, and the counts follow
 pub IsExact-set : (extra : ℕ → ℕ) (rs : List Runner) (i : ℕ) (r : Runner) (c d : Tables) → AreCountsExact extra rs c → i < length rs → length r.pieces ≤ 256
@@ -100,15 +97,10 @@ IsExact-set extra rs i r c d exact lt few order asleep counts =
     }
   where
     each : (P : List Piece → Type 0) → P r.pieces → ((j : ℕ) → P (pieces_at rs j)) → (j : ℕ) → P (pieces_at (set rs i r) j)
-    each P own old j =
-        elim (cases_eq j i) [
-          | inl same ↦ rw (same, pieces_at-set rs i r lt) own
-          | inr other ↦ rw (pieces_at-set_other rs i j r other) (old j)
-        ]
+    each P own old j = grind (arith, common_steps, pieces_at-set, pieces_at-set_other)
 
     empty : (j : ℕ) → life_at (set rs i r) j ≡ Unborn → (j ≡ i) ⊎ (j ≢ i) → pieces_at (set rs i r) j ≡ []
-    empty j none (inl same) =
-        rw (same, pieces_at-set rs i r lt) (asleep (sym (life_at-set rs i r lt) ∙ ap (life_at (set rs i r)) (sym same) ∙ none))
+    empty j none (inl same) = grind (arith, common_steps, pieces_at-set, life_at-set)
     empty j none (inr other) = rw (pieces_at-set_other rs i j r other) (exact.unborn j (sym (life_at-set_other rs i j r other) ∙ none))
 
 pub IsExact-changed : (extra : ℕ → ℕ) (rs : List Runner) (i : ℕ) (f : List Piece → List Piece) (c d : Tables) → AreCountsExact extra rs c → i < length rs → length (f (pieces_at rs i)) ≤ 256
@@ -170,30 +162,18 @@ occupied-cut from to (p ∷ ps) = occupied-append (parts from to p) (cut from to
 -- the addresses hold every piece
 pub cut-all : (low : ℕ) (ps : List Piece) → lowest_address ≤ low → Arranged low ps → cut lowest_address last_address ps ≡ []
 cut-all low [] le ar = refl
-cut-all low (p ∷ ps) le ar =
-    let first : low ≤ p.base = ar.0 in
-    let some : 1 ≤ p.pages = ar.1.0.some in
-    let within : end_of p ≤ last_address = ar.1.0.within in
-    let rest = cut-all (end_of p) ps (omega (arith, first, le)) ar.1.1 in
-    grind (arith, common_steps)
+cut-all low (p ∷ ps) le ar = grind (arith, common_steps, cut-all (end_of p) ps)
 
 pub arranged-without : (addr seg low : ℕ) (ps : List Piece) → Arranged low ps → Arranged low (without_named addr seg ps)
 arranged-without addr seg low [] ar = ar
-arranged-without addr seg low (p ∷ ps) ar =
-    let rest = arranged-without addr seg (end_of p) ps ar.1.1 in
-    elim (cases_Bool (is_named addr seg p)) [
-      | inl h ↦ rw h (lower low (end_of p) (without_named addr seg ps) (omega (arith, ar.0)) rest)
-      | inr h ↦ rw h (ar.0, (ar.1.0, rest))
-    ]
+arranged-without addr seg low (p ∷ ps) ar = grind (arith, common_steps, lower, arranged-without addr seg (end_of p) ps ar.1.1)
 
 -- A COPY OF PIECES
 
 pub pieces_of-there : (k : ℕ) (ps : List Piece) (d : Piece) → k < length ps → 1 ≤ pieces_of (get_or ps k d).seg ps
 pieces_of-there k [] d l = absurd (omega arith)
 pieces_of-there zero (p ∷ ps) d l = let own = one_more p.seg p ps in grind (arith, common_steps)
-pieces_of-there (suc k) (p ∷ ps) d l =
-    let rest = pieces_of-there k ps d (omega arith) in
-    omega (arith, rest, one_more (get_or ps k d).seg p ps)
+pieces_of-there (suc k) (p ∷ ps) d l = grind (arith, common_steps, one_more, pieces_of-there k ps d)
 
 pub bare-get_or : (ps : List Stored) (k : ℕ) (d : Stored) (e : Piece) → k < length ps → bare (get_or ps k d) ≡ get_or (bare_all ps) k e
 bare-get_or ps k d e l = grind (arith, common_steps, get_or-map)
@@ -216,19 +196,12 @@ fit_next low (suc k) (p ∷ ps) d ar lt = fit_next (end_of p) k ps d ar.1.1 (ome
 free_next : (low k to : ℕ) (ps : List Piece) (d : Piece) → Arranged low ps → k < length ps → occupied (take k ps) (get_or ps k d).base to ≡ false
 free_next low k to [] d ar lt = absurd (omega arith)
 free_next low zero to (p ∷ ps) d ar lt = refl
-free_next low (suc k) to (p ∷ ps) d ar lt =
-    let behind = base_behind (end_of p) k ps d ar.1.1 (omega arith) in
-    let rest = free_next (end_of p) k to ps d ar.1.1 (omega arith) in
-    grind (arith, common_steps)
+free_next low (suc k) to (p ∷ ps) d ar lt = grind (arith, common_steps, base_behind, free_next (end_of p) k to ps d ar.1.1)
 
 pub inserted_next : (low k : ℕ) (ps : List Piece) (d : Piece) → Arranged low ps → k < length ps → inserted (get_or ps k d) (take k ps) ≡ take (k + 1) ps
 inserted_next low k [] d ar lt = absurd (omega arith)
 inserted_next low zero (p ∷ ps) d ar lt = refl
-inserted_next low (suc k) (p ∷ ps) d ar lt =
-    let behind = base_behind (end_of p) k ps d ar.1.1 (omega arith) in
-    let next : suc k + 1 ≡ suc (k + 1) = omega arith in
-    let rest = inserted_next (end_of p) k ps d ar.1.1 (omega arith) in
-    rw next (grind (arith, common_steps))
+inserted_next low (suc k) (p ∷ ps) d ar lt = grind (arith, common_steps, base_behind, inserted_next (end_of p) k ps d ar.1.1)
 
 pub place_next : (k : ℕ) (ps : List Piece) (d : Piece) → Arranged lowest_address ps → length ps ≤ 256 → k < length ps → IsPlaceFor (get_or ps k d) (take k ps)
 place_next k ps d ar few lt =

@@ -1,19 +1,19 @@
 -- One process's pieces change, and the counts with them.
-use Rattle.std.proofs.Common.{◌≡◌, ℕ, zero, suc, ◌+◌, ◌-◌, ◌<◌, ◌≤◌, Bool, true, ◌==◌, List, [], ◌∷◌, length, map, get_or, Option, Some, None, slice_get, not, filter, refl, ap, sym, ◌∙◌, arith, ◌++◌, cond, drop, drop-cons, add-one}
+use Rattle.std.proofs.Common.{◌≡◌, ℕ, zero, suc, ◌+◌, ◌-◌, ◌<◌, ◌≤◌, Bool, true, ◌==◌, List, [], ◌∷◌, length, map, get_or, Option, Some, None, slice_get, filter, refl, ap, sym, arith, ◌++◌, cond, drop, drop-cons, add-one}
 use Rattle.std.proofs.lemmas.Grind.{common_steps}
 use Rattle.std.proofs.lemmas.List.Elements.{filter_passes}
 use Rattle.std.proofs.lemmas.List.Sums.{sum_by-cons, sum_by-set, sum_by-append, length-filter, count_by-le-length}
 use Rattle.std.proofs.lemmas.Option.{none-some, slice_get-get_or}
 use Rattle.indexmap.specs.IndexMap.{set_value_at}
 use Rattle.shm_base.specs.State as flat
-use Rattle.shm_base.specs.Space.{pieces_of, meets, parts, cut, cut_segments, inserted, without_named, is_named}
+use Rattle.shm_base.specs.Space.{pieces_of, meets, parts, cut, cut_segments, inserted, without_named}
 use Rattle.shm_base.specs.Segments.{attach_count}
 use Rattle.shm_areas.specs.Arranged.{bare, bare_all}
 use Rattle.shm_areas.specs.Met.{met}
 use Rattle.shm_areas.specs.declared.piece.Piece.{Piece as Stored}
 use Rattle.shm_attach.specs.declared.process.Runner.{Runner}
 use Rattle.shm_attach.specs.declared.process.Life.{Life}
-use Rattle.shm_attach.specs.Views.{one_if, with_own, with_pieces_at, with_life_at, some_if, life_view, runner_view, runners_view}
+use Rattle.shm_attach.specs.Views.{one_if, with_own, with_pieces_at, with_life_at, some_if, life_view, runners_view}
 use Rattle.shm_attach.specs.Spaces.{pieces_at}
 
 abbrev pub held : Runner → Option Runner → Runner
@@ -38,12 +38,7 @@ one_more id p ps = let sum = sum_by-cons (λ (q : flat.Piece). cond (q.seg == id
 
 pub pieces_of-inserted : (id : ℕ) (p : flat.Piece) (ps : List flat.Piece) → pieces_of id (inserted p ps) ≡ pieces_of id ps + one_if id p.seg
 pieces_of-inserted id p [] = one_more id p []
-pieces_of-inserted id p (q ∷ qs) =
-    let rest = pieces_of-inserted id p qs in
-    let more = one_more id q (inserted p qs) in
-    let less = one_more id q qs in
-    let first = one_more id p (q ∷ qs) in
-    grind (arith, common_steps)
+pieces_of-inserted id p (q ∷ qs) = grind (arith, common_steps, one_more, pieces_of-inserted id p qs)
 
 -- the count follows the pieces of the one process that changes
 pub attach_count-changed : (id i : ℕ) (f : List flat.Piece → List flat.Piece) (rs : List flat.Runner) → i < length rs
@@ -62,9 +57,7 @@ pub runners_set : (f : List flat.Piece → List flat.Piece) (es : List (ℕ × R
     → v.life ≡ w.life → bare_all v.space ≡ f (bare_all w.space) → runners_view (set_value_at es i v) ≡ with_pieces_at (runners_view es) i f
 runners_set f [] i w v at life space = absurd (none-some w (sym at))
 runners_set f (e ∷ es) zero w v at life space = grind (arith, life, space)
-runners_set f (e ∷ es) (suc i) w v at life space =
-    ap (λ (rs : List flat.Runner). runner_view e ∷ rs) (runners_set f es i w v at life space)
-    ∙ sym (with_own-cons (runner_view e) (runners_view es) i f (slice_get (runners_view es) i))
+runners_set f (e ∷ es) (suc i) w v at life space = grind (arith, common_steps, with_own-cons, runners_set f es i w v at life space)
 
 pub length_set : (es : List (ℕ × Runner)) (i : ℕ) (v : Runner) → length (set_value_at es i v) ≡ length es
 length_set [] i v = refl
@@ -78,12 +71,9 @@ pub pieces_of-without : (id addr seg : ℕ) (ps : List flat.Piece) (n : ℕ) →
     → pieces_of id (without_named addr seg ps) + some_if id seg n ≡ pieces_of id ps
 pieces_of-without id addr seg [] n gone = grind (arith, common_steps)
 pieces_of-without id addr seg (p ∷ ps) n gone =
-    let shorter = shorter_filter (λ (q : flat.Piece). not (is_named addr seg q)) ps in
     let rest = pieces_of-without id addr seg ps n in
     let fewer = pieces_of-without id addr seg ps (n - 1) in
-    let more = one_more id p ps in
-    let less = one_more id p (without_named addr seg ps) in
-    grind (arith, common_steps)
+    grind (arith, common_steps, shorter_filter, one_more)
 
 -- WHAT A CUT LEAVES OF A COUNT
 
@@ -96,8 +86,7 @@ pieces_of-parts id from to p = grind arith
 
 pub pieces_of-cut_cons : (id from to : ℕ) (p : flat.Piece) (ps : List flat.Piece)
     → pieces_of id (cut from to (p ∷ ps)) ≡ some_if id p.seg (length (parts from to p)) + pieces_of id (cut from to ps)
-pieces_of-cut_cons id from to p ps =
-    pieces_of-append id (parts from to p) (cut from to ps) ∙ ap (λ n. n + pieces_of id (cut from to ps)) (pieces_of-parts id from to p)
+pieces_of-cut_cons id from to p ps = grind (arith, common_steps, pieces_of-append, pieces_of-parts)
 
 pub few_parts : (from to : ℕ) (p : flat.Piece) → length (parts from to p) ≤ 2
 few_parts from to p = grind arith
@@ -124,11 +113,7 @@ pieces_of-cut_met id from to (p ∷ ps) =
 
 pub pieces_of-filter : (id : ℕ) (f : flat.Piece → Bool) (ps : List flat.Piece) → pieces_of id (filter f ps) ≤ pieces_of id ps
 pieces_of-filter id f [] = omega arith
-pieces_of-filter id f (p ∷ ps) =
-    let rest = pieces_of-filter id f ps in
-    let own = one_more id p ps in
-    let kept = one_more id p (filter f ps) in
-    grind arith
+pieces_of-filter id f (p ∷ ps) = grind (arith, common_steps, one_more, pieces_of-filter id f ps)
 
 -- the pieces that are met, with their keys and without
 pub bare-met : (from to : ℕ) (ps : List Stored) → bare_all (met from to ps) ≡ filter (meets from to) (bare_all ps)
@@ -151,6 +136,4 @@ pub runners_live : (l : Life) (es : List (ℕ × Runner)) (i : ℕ) (w v : Runne
     → runners_view (set_value_at es i v) ≡ with_life_at (runners_view es) i (life_view l)
 runners_live l [] i w v at life space = absurd (none-some w (sym at))
 runners_live l (e ∷ es) zero w v at life space = grind (arith, life, space)
-runners_live l (e ∷ es) (suc i) w v at life space =
-    let rest = runners_live l es i w v at life space in
-    grind arith
+runners_live l (e ∷ es) (suc i) w v at life space = grind (arith, common_steps, runners_live l es i w v at life space)

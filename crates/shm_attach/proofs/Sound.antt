@@ -1,10 +1,11 @@
 -- The counts stay exact, and each piece has its segment's table, where one process changes.
-use Rattle.std.proofs.Common.{◌≡◌, ◌≢◌, ℕ, ◌+◌, ◌<◌, ◌≤◌, not, List, [], length, Some, slice_get, ap, sym, subst, arith}
+use Rattle.std.proofs.Common.{◌≡◌, ◌≢◌, ℕ, ◌+◌, ◌<◌, ◌≤◌, List, [], length, Some, slice_get, sym, subst, arith}
+use Rattle.std.proofs.lemmas.Grind.{common_steps}
 use Rattle.std.specs.Prelude.{All}
 use Rattle.std.proofs.lemmas.List.{length-map}
 use Rattle.indexmap.specs.IndexMap.{set_value_at}
 use Rattle.shm_base.specs.State as flat
-use Rattle.shm_base.specs.Space.{lowest_address, inserted, cut, without_named, is_named, pieces_of}
+use Rattle.shm_base.specs.Space.{lowest_address, inserted, cut, without_named, pieces_of}
 use Rattle.shm_base.specs.State.{Unborn}
 use Rattle.shm_areas.specs.Arranged.{bare_all, Arranged}
 use Rattle.shm_areas.specs.declared.piece.Piece.{Piece}
@@ -32,13 +33,7 @@ pub record IsChanged (es fs : List (ℕ × Runner)) (i : ℕ) (f : List flat.Pie
 
 pub changed : (es : List (ℕ × Runner)) (i : ℕ) (w v : Runner) (f : List flat.Piece → List flat.Piece) → Some w ≡ slice_get (values_of es) i → v.life ≡ w.life
     → bare_all v.space ≡ f (bare_all w.space) → IsChanged es (set_value_at es i v) i f v.space
-changed es i w v f at life space =
-    record {
-      runners = runners_set f es i w v at life space;
-      count = length_set es i v;
-      own = stored_at-set es i w v at;
-      others = λ j other. stored_at-other es i j v other;
-    }
+changed es i w v f at life space = grind (arith, common_steps, runners_set, length_set, stored_at-set, stored_at-other)
 
 -- the tables follow pieces that give way to others
 pub record IsRecounted (t u : Tables) (before after : List flat.Piece) : Type 0 where
@@ -55,37 +50,17 @@ pub record AreFit (rs : List flat.Runner) (i : ℕ) (ps : List flat.Piece) : Typ
 -- one more piece, where there is a place for it
 pub fit-inserted : (extra : ℕ → ℕ) (es : List (ℕ × Runner)) (t : Tables) (i : ℕ) (p : flat.Piece) → AreTablesSound extra es t → IsPlaceFor p (pieces_at (runners_view es) i)
     → life_at (runners_view es) i ≢ Unborn → AreFit (runners_view es) i (inserted p (pieces_at (runners_view es) i))
-fit-inserted extra es t i p sound place born =
-    let ps = pieces_at (runners_view es) i in
-    record {
-      few = omega (arith, length-inserted p ps, place.room);
-      order = arranged_inserted lowest_address p ps (sound.exact.arranged i) place.low place.fit place.free;
-      unborn = λ none. absurd (born none);
-    }
+fit-inserted extra es t i p sound place born = grind (arith, common_steps, length-inserted, arranged_inserted)
 
 -- a range of whole pages is cut out
 pub fit-cut : (extra : ℕ → ℕ) (es : List (ℕ × Runner)) (t : Tables) (i from to : ℕ) → AreTablesSound extra es t → IsCuttable from to (pieces_at (runners_view es) i)
     → AreFit (runners_view es) i (cut from to (pieces_at (runners_view es) i))
-fit-cut extra es t i from to sound can =
-    let ps = pieces_at (runners_view es) i in
-    let order : from ≤ to = omega (arith, can.order) in
-    record {
-      few = can.few;
-      order = arranged_cut lowest_address from to ps (sound.exact.arranged i) can.from_page can.to_page order;
-      unborn = λ none. ap (cut from to) (sound.exact.unborn i none);
-    }
+fit-cut extra es t i from to sound can = grind (arith, common_steps, arranged_cut)
 
 -- the pieces of an attach go
 pub fit-without : (extra : ℕ → ℕ) (es : List (ℕ × Runner)) (t : Tables) (i addr seg : ℕ) → AreTablesSound extra es t
     → AreFit (runners_view es) i (without_named addr seg (pieces_at (runners_view es) i))
-fit-without extra es t i addr seg sound =
-    let ps = pieces_at (runners_view es) i in
-    let fewer = shorter_filter (λ (q : flat.Piece). not (is_named addr seg q)) ps in
-    record {
-      few = omega (arith, fewer, sound.exact.pieces i);
-      order = arranged-without addr seg lowest_address ps (sound.exact.arranged i);
-      unborn = λ none. ap (without_named addr seg) (sound.exact.unborn i none);
-    }
+fit-without extra es t i addr seg sound = grind (arith, common_steps, shorter_filter, arranged-without)
 
 pub sound-changed : (extra : ℕ → ℕ) (es fs : List (ℕ × Runner)) (t u : Tables) (i : ℕ) (f : List flat.Piece → List flat.Piece) (own : List Piece) → i < length es
     → AreTablesSound extra es t → IsChanged es fs i f own → AreFit (runners_view es) i (f (pieces_at (runners_view es) i)) → All (IsHeld t.slab) own

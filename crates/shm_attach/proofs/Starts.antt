@@ -1,5 +1,6 @@
 -- The processes as they are declared.
 use Rattle.std.proofs.Common.{◌≡◌, ◌≢◌, ℕ, zero, suc, ◌+◌, ◌<◌, ◌≤◌, nat_eq, List, [], ◌∷◌, ◌++◌, length, map, get_or, take, refl, ap, sym, ◌∙◌, arith, ne_eqb, length-take}
+use Rattle.std.proofs.lemmas.Grind.{common_steps}
 use Rattle.std.proofs.lemmas.List.{length-map, get_or-take, take_more, map-append}
 use Rattle.std.proofs.lemmas.List.Sums.{sum_by-cons}
 use Rattle.indexmap.specs.IndexMap.{insert_entry}
@@ -59,14 +60,7 @@ pieces_at-start (p ∷ ps) zero = refl
 pieces_at-start (p ∷ ps) (suc i) = pieces_at-start ps i
 
 pub IsExact-start : (ps : List Process) (c : Tables) → length ps ≤ 64 → ((id : ℕ) → counted c id ≡ 0) → AreCountsExact no_holds (map runner_at_start ps) c
-IsExact-start ps c few none =
-    record {
-      counts = λ id. omega (arith, none id, attach_count-start id ps);
-      processes = omega (arith, length-map ps runner_at_start, few);
-      pieces = λ i. rw (pieces_at-start ps i) (omega arith);
-      unborn = λ i none. pieces_at-start ps i;
-      arranged = λ i. rw (pieces_at-start ps i) tt;
-    }
+IsExact-start ps c few none = grind (arith, common_steps, attach_count-start, length-map, pieces_at-start)
 
 -- no piece has a table yet
 pub AllHeld-start : (es : List (ℕ × Runner)) (ps : List Process) (t : Slab Entry) → runners_view es ≡ map runner_at_start ps → AllHeld es t

@@ -1,7 +1,6 @@
 -- One table for each segment with pieces: what a change of the map and of the slab leaves.
-use Rattle.std.proofs.Common.{◌≡◌, ◌≢◌, ℕ, ◌<◌, List, length, get_or, Option, Some, None, refl, sym, ◌∙◌, arith}
+use Rattle.std.proofs.Common.{◌≡◌, ◌≢◌, ℕ, ◌<◌, List, length, get_or, Option, Some, None, refl, arith}
 use Rattle.std.proofs.lemmas.Grind.{common_steps}
-use Rattle.std.proofs.lemmas.Option.{none-some}
 use Rattle.slab.specs.Slab.{Slab, get, with_value, Updates}
 use Rattle.shm_base.specs.declared.paging.PageRef.{PageRef}
 use Rattle.shm_attach.specs.declared.tables.Tables.{Tables}
@@ -25,12 +24,7 @@ module _ (t : Tables) (key : ℕ) (e v : Entry) (tied : IsTied t) (at : get t.sl
   counted-same (Some k) = (same k).1
 
   pub tied-table : IsTied (record t { slab = with_value t.slab key v })
-  tied-table =
-      record {
-        keyed = λ id k own. (same k).0 ∙ tied.keyed id k own;
-        named = λ id k own. tied.named id k (sym (same k).0 ∙ own);
-        some = λ id none. tied.some id (sym (counted-same (key_of t id)) ∙ none);
-      }
+  tied-table = grind (arith, common_steps, same, counted-same)
 
 -- A MOVE
 
@@ -39,8 +33,7 @@ true-apart : (at : ℕ → ℕ → Option ℕ) (r : PageRef) (f : Option ℕ) (o
 true-apart at r f o other now = grind (arith, common_steps)
 
 pub true-unknown : (at : ℕ → ℕ → Option ℕ) (r : PageRef) (f : Option ℕ) (t : Tables) → IsTied t → key_of t r.seg ≡ None → AllTrue at t.slab → AllTrue (with_frame r f at) t.slab
-true-unknown at r f t tied none all k =
-    true-apart at r f (get t.slab k) (λ own. none-some k (sym none ∙ tied.named r.seg k own)) (all k)
+true-unknown at r f t tied none all k = grind (arith, common_steps, true-apart)
 
 pub true-set : (at : ℕ → ℕ → Option ℕ) (r : PageRef) (f : Option ℕ) (t : Tables) (s : Slab Entry) (key : ℕ) (v : Entry) → IsTied t → key_of t r.seg ≡ Some key
     → Updates t.slab s key (Some v) → TrueEntry (with_frame r f at) v → AllTrue at t.slab → AllTrue (with_frame r f at) s

@@ -1,5 +1,6 @@
 -- The translations of all pieces are true where each entry is.
 use Rattle.std.proofs.Common.{◌≡◌, ◌≢◌, ℕ, zero, suc, ◌+◌, ◌<◌, List, [], ◌∷◌, ◌++◌, length, get_or, Option, Some, None, refl, ap, sym, subst, ◌∙◌, arith}
+use Rattle.std.proofs.lemmas.Grind.{common_steps}
 use Rattle.std.specs.Prelude.{All, ⊤}
 use Rattle.std.specs.List.{flat_map}
 use Rattle.std.proofs.lemmas.List.Elements.{All-append, All-nil, All-cons, All-head, All-tail}
@@ -30,8 +31,7 @@ frames-of at seg first (f ∷ fs) all zero lt =
     let here : first + 0 ≡ first = omega arith in
     rw here (All-head (Holds at) (record { seg = seg; page = first; frame = f }) (translations_from seg (first + 1) fs) all)
 frames-of at seg first (f ∷ fs) all (suc j) lt =
-    let next : first + suc j ≡ (first + 1) + j = omega arith in
-    rw next (frames-of at seg (first + 1) fs (All-tail (Holds at) (record { seg = seg; page = first; frame = f }) (translations_from seg (first + 1) fs) all) j (omega (arith, lt)))
+    grind (arith, common_steps, frames-of at seg (first + 1) fs (All-tail (Holds at) (record { seg = seg; page = first; frame = f }) (translations_from seg (first + 1) fs) all) j)
 
 of-frames : (at : ℕ → ℕ → Option ℕ) (seg first : ℕ) (fs : List (Option ℕ)) → ((j : ℕ) → j < length fs → get_or fs j None ≡ at seg (first + j))
     → All (Holds at) (translations_from seg first fs)
@@ -77,8 +77,7 @@ Apart seg t = t.seg ≢ seg
 
 frames-apart : (seg own first : ℕ) (fs : List (Option ℕ)) → own ≢ seg → All (Apart seg) (translations_from own first fs)
 frames-apart seg own first [] other = All-nil (Apart seg)
-frames-apart seg own first (f ∷ fs) other =
-    All-cons (Apart seg) (record { seg = own; page = first; frame = f }) (translations_from own (first + 1) fs) other (frames-apart seg own (first + 1) fs other)
+frames-apart seg own first (f ∷ fs) other = grind (arith, common_steps, frames-apart seg own (first + 1) fs other)
 
 abbrev pub SlotApart : ℕ → Option Entry → Type 0
 SlotApart seg None = ⊤

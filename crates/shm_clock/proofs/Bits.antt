@@ -1,5 +1,6 @@
 -- What clearing the bits of a list of frames does to each frame.
 use Rattle.std.proofs.Common.{◌≡◌, ◌≢◌, ◌⊎◌, ℕ, zero, suc, ◌+◌, ◌<◌, ◌≤◌, List, [], ◌∷◌, ◌++◌, length, take, filter, Bool, true, false, not, ◌&&◌, ◌||◌, Option, refl, sym, ap, ◌∙◌, inl, inr, arith, length-set}
+use Rattle.std.proofs.lemmas.Grind.{common_steps}
 use Rattle.std.specs.Prelude.{nat_eq, nat_lt}
 use Rattle.std.specs.List.{list_any}
 use Rattle.std.proofs.lemmas.Bool.{cases_lt, cases_eq, cases_Bool, eq-eqb, ne_eqb, lt-ltb, le-ltb}
@@ -42,9 +43,7 @@ is_among list i = list_any (λ k. nat_eq k i) list
 
 pub unset_all-at : (frames : List Frame) (list : List ℕ) (i : ℕ) → frame_at (unset_all frames list) i ≡ with_bit (frame_at frames i) (not (is_among list i))
 unset_all-at frames [] i = rw (and-true (frame_at frames i).referenced) refl
-unset_all-at frames (k ∷ rest) i =
-    unset_all-at (unset frames k) rest i ∙ ap (λ f. with_bit f (not (is_among rest i))) (unset-at frames k i)
-    ∙ ap (λ b. record (frame_at frames i) { referenced = b }) (either (frame_at frames i).referenced (nat_eq k i) (is_among rest i))
+unset_all-at frames (k ∷ rest) i = grind (arith, common_steps, unset-at, either, unset_all-at (unset frames k) rest i)
 
 pub length-unset_all : (frames : List Frame) (list : List ℕ) → length (unset_all frames list) ≡ length frames
 length-unset_all frames [] = refl

@@ -1,5 +1,6 @@
 -- The first of a list that fails a test, and what stands before it.
-use Rattle.std.proofs.Common.{◌≡◌, ℕ, ◌+◌, ◌<◌, ◌≤◌, List, [], ◌∷◌, ◌++◌, length, get_or, take, drop, filter, Bool, true, false, not, Option, Some, None, unwrap_or, refl, sym, ap, ◌∙◌, add-one, drop-cons, append-nil}
+use Rattle.std.proofs.Common.{◌≡◌, ℕ, ◌+◌, ◌<◌, ◌≤◌, List, [], ◌∷◌, ◌++◌, length, get_or, take, drop, filter, Bool, true, false, not, Option, Some, None, unwrap_or, refl, sym, ap, ◌∙◌, add-one, drop-cons, append-nil, arith}
+use Rattle.std.proofs.lemmas.Grind.{common_steps}
 use Rattle.std.specs.Prelude.{find, take_while, slice_index}
 use Rattle.std.proofs.lemmas.List.{take-append-drop, take_all}
 use Rattle.std.proofs.lemmas.List.Elements.{filter-append, filter_more}
@@ -29,9 +30,7 @@ first_of-none (y ∷ ys) e = cc
 
 pub first_of-passes : (r : ℕ → Bool) (xs : List ℕ) (v : ℕ) → EachPasses r xs → first_of xs ≡ Some v → r v ≡ true
 first_of-passes r [] v each e = cc
-first_of-passes r (y ∷ ys) v each e =
-    let same : y ≡ v = cc in
-    rw (← same) each.0
+first_of-passes r (y ∷ ys) v each e = grind (arith, common_steps)
 
 first_of-some : (xs : List ℕ) (v : ℕ) → first_of xs ≡ Some v → slice_index xs 0 ≡ v
 first_of-some [] v e = cc
@@ -67,9 +66,7 @@ module _ (p : ℕ → Bool) (xs : List ℕ) (j : ℕ) (lt : j < length xs) where
   split = rw (add-one, ← drop-cons xs j 0) (sym (take-append-drop j xs))
 
   pub filter-split : p (get_or xs j 0) ≡ true → filter p xs ≡ filter p (take j xs) ++ get_or xs j 0 ∷ filter p (drop (j + 1) xs)
-  filter-split hit =
-      let e : filter p xs ≡ filter p (take j xs ++ get_or xs j 0 ∷ drop (j + 1) xs) = ap (filter p) split in
-      e ∙ filter-append p (take j xs) _ ∙ ap (λ t. filter p (take j xs) ++ t) (rw hit refl)
+  filter-split hit = grind (arith, common_steps, split, filter-append)
 
 -- what the list of those that pass p gives, under the test r
 pub record Stops (r : ℕ → Bool) (list : List ℕ) (victim : ℕ) (before : List ℕ) : Type 0 where
@@ -88,11 +85,4 @@ module _ (p r : ℕ → Bool) (xs : List ℕ) (j : ℕ) where
 
   -- the scan comes to the end
   pub ends : (v : ℕ) → length xs ≤ j → EachPasses r (filter p (take j xs)) → first_of (filter p (take j xs)) ≡ Some v → Stops r (filter p xs) v (filter p (take j xs))
-  ends v le each first =
-      let e : take j xs ≡ xs = take_all j xs le in
-      let a : EachPasses r (filter p xs) = rw e at each in
-      let f : first_of (filter p xs) ≡ Some v = rw e at first in
-      record {
-        victim_is = rw (find-none r (filter p xs) a) (first_of-some (filter p xs) v f);
-        before_is = rw e (take_while-all r (filter p xs) a);
-      }
+  ends v le each first = grind (arith, common_steps, take_all, find-none, first_of-some, take_while-all)

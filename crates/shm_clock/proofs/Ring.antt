@@ -1,29 +1,19 @@
 -- Where a frame stands on the ring, and how far on from the hand.
 use Rattle.std.proofs.Common.{◌≡◌, ◌⊎◌, ℕ, ◌+◌, ◌-◌, ◌<◌, ◌≤◌, length, refl, ◌∙◌, inl, inr, arith, zero-add, length-append}
-use Rattle.std.specs.List.{range_with_len}
+use Rattle.std.proofs.lemmas.Grind.{common_steps}
 use Rattle.std.proofs.lemmas.Bool.{cases_lt, lt-ltb, le-ltb}
 use Rattle.std.proofs.lemmas.List.{get_or_append_left, get_or-append_right}
 use Rattle.std.proofs.lemmas.List.FromFn.{length-range_with_len, get_or-range_with_len}
 use Rattle.shm_clock.specs.Clock.{ring, ring_at, distance}
 
 pub ring_at-low : (hand n j : ℕ) → hand < n → j < n - hand → ring_at hand n j ≡ hand + j
-ring_at-low hand n j on lt =
-    let h : j < length (range_with_len hand (n - hand)) = rw length-range_with_len lt in
-    get_or_append_left _ _ 0 j h ∙ get_or-range_with_len hand (n - hand) j 0 lt
+ring_at-low hand n j on lt = grind (arith, common_steps, length-range_with_len, get_or_append_left, get_or-range_with_len)
 
 pub ring_at-high : (hand n j : ℕ) → hand < n → n - hand ≤ j → j < n → ring_at hand n j ≡ j - (n - hand)
-ring_at-high hand n j on le lt =
-    let h : j - (n - hand) < hand = omega arith in
-    get_or-append_right (range_with_len hand (n - hand)) _ (n - hand) j 0 (length-range_with_len hand (n - hand)) le
-    ∙ get_or-range_with_len 0 hand (j - (n - hand)) 0 h
-    ∙ zero-add _
+ring_at-high hand n j on le lt = grind (arith, common_steps, get_or-append_right, length-range_with_len, get_or-range_with_len, zero-add)
 
 pub length-ring : (hand n : ℕ) → hand < n → length (ring hand n) ≡ n
-length-ring hand n on =
-    let a = length-append (range_with_len hand (n - hand)) (range_with_len 0 hand) in
-    let b = length-range_with_len hand (n - hand) in
-    let c = length-range_with_len 0 hand in
-    omega arith
+length-ring hand n on = grind (arith, common_steps, length-append, length-range_with_len)
 
 distance-before : (hand n i : ℕ) → i < hand → distance hand n i ≡ n - hand + i
 distance-before hand n i lt = rw (lt-ltb i hand lt) refl

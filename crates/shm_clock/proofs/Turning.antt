@@ -1,14 +1,14 @@
 -- The hand on its way round the ring.
-use Rattle.std.proofs.Common.{◌≡◌, ℕ, ◌+◌, ◌<◌, ◌≤◌, List, [], ◌∷◌, take, filter, length, get_or, Option, Some, None, unwrap_or, Bool, true, false, not, ◌&&◌, refl, sym, ap, ◌∙◌, arith, length-set, length-append}
+use Rattle.std.proofs.Common.{◌≡◌, ℕ, ◌+◌, ◌<◌, ◌≤◌, List, [], ◌∷◌, take, filter, length, get_or, Option, Some, None, unwrap_or, Bool, true, false, ◌&&◌, refl, sym, ap, ◌∙◌, arith, length-set, length-append}
+use Rattle.std.proofs.lemmas.Grind.{common_steps}
 use Rattle.std.specs.Prelude.{IfSome}
-use Rattle.std.proofs.lemmas.Bool.{le-ltb}
 use Rattle.std.proofs.lemmas.List.{take_all}
 use Rattle.shm_base.specs.declared.paging.PageRef.{PageRef}
 use Rattle.shm_frames.specs.Frame.{Frame, frame_at}
-use Rattle.shm_clock.specs.Clock.{ring, ring_at, distance, may_go, is_referenced, unset, unset_all, listed, looked_at}
+use Rattle.shm_clock.specs.Clock.{ring, ring_at, may_go, is_referenced, unset, unset_all, listed, looked_at}
 use Rattle.shm_clock.proofs.Ring.{length-ring, distance-ring_at, ring_at-lt}
 use Rattle.shm_clock.proofs.Firsts.{EachPasses, EachPasses-push, first_of, first_of-push, first_of-none, first_of-passes, filter_more-true, filter_more-false, stops, ends}
-use Rattle.shm_clock.proofs.Bits.{is_among, unset_all-at, unset_all-push, may_go-unset_all, among_is}
+use Rattle.shm_clock.proofs.Bits.{unset_all-at, unset_all-push, may_go-unset_all, among_is}
 use Rattle.shm_clock.proofs.Rule.{IsRule}
 
 -- after so many steps: the frames now, the first eligible frame met, and the looks
@@ -50,13 +50,7 @@ module _ (passes : PageRef → Bool) (pinned : Option ℕ) (hand : ℕ) (before 
 
     -- nor has the bit of a frame that was not met yet
     bit-same : is_referenced now i ≡ is_referenced before i
-    bit-same =
-        let u = unset_all-at before (filter p (take step xs)) i in
-        let inside : i < length before = rw at (ring_at-lt hand (length before) step on lt) in
-        let far : distance hand (length before) i ≡ step = rw at (distance-ring_at hand (length before) step on lt) in
-        let a : is_among (filter p (take step xs)) i ≡ false =
-        among_is p hand (length before) i on inside step (omega arith) ∙ rw (far, le-ltb step step (omega arith)) (and-false (p i)) in
-        ap (λ fs. is_referenced fs i) way.bits ∙ ap (λ (f : Frame). f.referenced) u ∙ ap (λ b. is_referenced before i && not b) a ∙ and-true (is_referenced before i)
+    bit-same = grind (arith, common_steps, unset_all-at, ring_at-lt, distance-ring_at, among_is, and-false, and-true)
 
     pub stops_here : may_go passes pinned now i ≡ true → is_referenced now i ≡ false → IsRule p hand before on i now
     stops_here may clear =
@@ -89,18 +83,7 @@ module _ (passes : PageRef → Bool) (pinned : Option ℕ) (hand : ℕ) (before 
         }
 
     pub passes_over : may_go passes pinned now i ≡ false → IsOnWay passes pinned hand before looked (step + 1) now first looks
-    passes_over may =
-        let miss : p (get_or xs step 0) ≡ false = rw (← at) (may-same ∙ may) in
-        let more = filter_more-false p xs step within miss in
-        record {
-          bits = rw more way.bits;
-          set = rw more way.set;
-          first_is = rw more way.first_is;
-          small = way.small;
-          counted = omega (arith, way.counted);
-          looks_are = rw more way.looks_are;
-          size = way.size;
-        }
+    passes_over may = grind (arith, common_steps, may-same, filter_more-false, within)
 
   module _ (looked step : ℕ) (now : List Frame) (first : Option ℕ) (looks : ℕ) (way : IsOnWay passes pinned hand before looked step now first looks) (round : length before ≤ step) where
     past : length xs ≤ step

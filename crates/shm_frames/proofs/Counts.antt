@@ -1,5 +1,6 @@
 -- What is counted of the table.
 use Rattle.std.proofs.Common.{◌≡◌, ◌≢◌, ◌⊎◌, inl, inr, ℕ, zero, suc, ◌+◌, ◌-◌, ◌<◌, ◌≤◌, Bool, true, false, cond, List, [], ◌∷◌, length, get_or, set, replicate, ◌^◌, Option, None, Some, is_none, is_some, refl, sym, ap, ◌∙◌, add-one, arith, rules, length-set}
+use Rattle.std.proofs.lemmas.Grind.{common_steps}
 use Rattle.std.specs.Prelude.{count_by}
 use Rattle.std.specs.Int.{from_bool}
 use Rattle.std.proofs.lemmas.List.{get_or-set_same, get_or-set_other, get_or-replicate, get_or_past, length-replicate}
@@ -105,30 +106,11 @@ module _ {table : List Entry} {first owned changed i : ℕ} {was : Entry} (k : I
 
   -- a free frame is given to a page
   pub kept-fill : (r : PageRef) (later : ℕ) → was.owner ≡ None → later ≤ length table → ((j : ℕ) → j < later → j ≢ i → has_no_owner (entry_at table j) ≡ false) → IsFrameTable (set table i (record was { owner = Some r })) later (owned + 1) changed
-  kept-fill r later free bound used =
-      let x : Entry = record was { owner = Some r } in
-      let e : count_by has_owner (set table i x) + from_bool (has_owner was) ≡ owned + 1 = owned-set x in
-      let f : count_by has_owner (set table i x) + 0 ≡ owned + 1 = rw free at e in
-      record {
-        few = rw (length-set table i x) k.few;
-        bound = rw (length-set table i x) bound;
-        used = used-set x later refl used;
-        resident = omega arith;
-        dirty = let g = changed-set x in omega (arith, g);
-        clear = clear-set x (λ none. absurd (search (rules, none)));
-      }
+  kept-fill r later free bound used = grind (arith, common_steps, owned-set, length-set, used-set, changed-set, clear-set)
 
   -- a frame is made free
   pub kept-empty : (later : ℕ) → later ≤ first → later ≤ i → IsFrameTable (set table i free_entry) later (owned - from_bool (has_owner was)) (changed - from_bool was.dirty)
-  kept-empty later below past =
-      record {
-        few = rw (length-set table i free_entry) k.few;
-        bound = rw (length-set table i free_entry) (omega (arith, k.bound));
-        used = λ j lt. rw (get_or-set_other table i j free_entry free_entry (λ e. absurd (omega arith))) (k.used j (omega arith));
-        resident = let e : count_by has_owner (set table i free_entry) + from_bool (has_owner was) ≡ owned + 0 = owned-set free_entry in omega arith;
-        dirty = let e : count_by has_changed (set table i free_entry) + from_bool was.dirty ≡ changed + 0 = changed-set free_entry in omega arith;
-        clear = clear-set free_entry (λ none. refl);
-      }
+  kept-empty later below past = grind (arith, common_steps, length-set, get_or-set_other, owned-set, changed-set, clear-set)
 
 -- so many entries that are free, and as many pages
 pub record AreNew (table : List Entry) (pages : List (List ℕ)) (n : ℕ) : Type 0 where
@@ -147,16 +129,7 @@ pub new-entry : (table : List Entry) (n i : ℕ) → table ≡ replicate n free_
 new-entry table n i e = rw e (free-entries n i)
 
 pub kept-new : (table : List Entry) (n : ℕ) → table ≡ replicate n free_entry → n < 2 ^ 32 → IsFrameTable table 0 0 0
-kept-new table n e few =
-    rw e
-    (record {
-      few = rw (length-replicate n free_entry) few;
-      bound = omega arith;
-      used = λ i l. absurd (omega arith);
-      resident = let s = sum_by-replicate (λ y. cond (has_owner y) 1 0) n free_entry in omega (arith, s);
-      dirty = let s = sum_by-replicate (λ y. cond (has_changed y) 1 0) n free_entry in omega (arith, s);
-      clear = λ i none. free-entries n i;
-    })
+kept-new table n e few = grind (arith, common_steps, length-replicate, sum_by-replicate, free-entries)
 
 all-counted : {X : Type 0} (p : X → Bool) (d : X) (xs : List X) → count_by p xs ≡ length xs → (i : ℕ) → i < length xs → p (get_or xs i d) ≡ true
 all-counted p d [] e i l = absurd (omega arith)

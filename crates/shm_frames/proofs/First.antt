@@ -1,5 +1,6 @@
 -- The first place of a list at which a test passes.
 use Rattle.std.proofs.Common.{◌≡◌, ℕ, ◌<◌, ◌≤◌, Bool, true, false, List, length, get_or, Option, Some, None, unwrap_or, ◌⊎◌, inl, inr, refl, sym, ◌∙◌, arith, rules}
+use Rattle.std.proofs.lemmas.Grind.{common_steps}
 use Rattle.std.specs.List.{position, position_or_len}
 use Rattle.std.proofs.lemmas.List.Sums.{position_or_len_is, fails_before_first}
 use Rattle.std.proofs.lemmas.List.Quantifiers.{position-Some}
@@ -11,8 +12,7 @@ use Rattle.std.proofs.lemmas.Bool.Decides.{nat_tests}
 module _ {X : Type 0} (p : X → Bool) (xs : List X) (d : X) where
   -- it passes here, and at no place before
   pub position_is : (i : ℕ) → i < length xs → p (get_or xs i d) ≡ true → ((k : ℕ) → k < i → p (get_or xs k d) ≡ false) → position p xs ≡ Some i
-  position_is i there here before =
-      let e : position_or_len p xs ≡ i = position_or_len_is p xs i d (omega arith) before (λ l. here) in rw e (grind (arith, nat_tests))
+  position_is i there here before = grind (arith, common_steps, position_or_len_is, nat_tests)
 
   -- it passes at no place
   pub position-none : ((k : ℕ) → k < length xs → p (get_or xs k d) ≡ false) → position p xs ≡ None

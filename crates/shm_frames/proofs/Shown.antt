@@ -1,5 +1,6 @@
 -- A table with the bytes beside it, and the frames that it shows.
-use Rattle.std.proofs.Common.{◌≡◌, ℕ, zero, suc, ◌<◌, Bool, List, [], ◌∷◌, length, get_or, set, cond, None, refl, sym, ap, ◌∙◌, arith}
+use Rattle.std.proofs.Common.{◌≡◌, ℕ, zero, suc, ◌<◌, Bool, List, [], ◌∷◌, length, get_or, set, None, refl, sym, ap, ◌∙◌, arith}
+use Rattle.std.proofs.lemmas.Grind.{common_steps}
 use Rattle.std.specs.Prelude.{count_by}
 use Rattle.std.specs.List.{position, position_or_len}
 use Rattle.std.proofs.lemmas.List.Sums.{sum_by-cons}
@@ -46,8 +47,7 @@ paste-frames_of (y ∷ table) (b ∷ pages) (suc i) w = ap (λ fs. frame_of y b 
 count-frames_of : (p : Frame → Bool) (q : Entry → Bool) → ((x : Entry) (b : List ℕ) → p (frame_of x b) ≡ q x) → (table : List Entry) (pages : List (List ℕ)) → length pages ≡ length table → count_by p (frames_of table pages) ≡ count_by q table
 count-frames_of p q same [] pages e = refl
 count-frames_of p q same (x ∷ table) [] e = absurd (omega arith)
-count-frames_of p q same (x ∷ table) (b ∷ pages) e =
-    rw (sum_by-cons (λ f. cond (p f) 1 0) (frame_of x b) (frames_of table pages), sum_by-cons (λ y. cond (q y) 1 0) x table, same x b, count-frames_of p q same table pages (omega arith)) refl
+count-frames_of p q same (x ∷ table) (b ∷ pages) e = grind (arith, common_steps, sum_by-cons, count-frames_of p q same table pages)
 
 -- how many entries at the beginning are owned
 prefix-frames_of : (table : List Entry) (pages : List (List ℕ)) → length pages ≡ length table → position_or_len is_free (frames_of table pages) ≡ position_or_len has_no_owner table
@@ -73,13 +73,11 @@ module _ {table : List Entry} {pages : List (List ℕ)} {frames : List Frame} (s
 
   -- what an edit of the entry that was read makes of the frames
   pub edit-shown : (i : ℕ) (x : Entry) (f : Entry → Entry) (g : Frame → Frame) → ((y : Entry) (b : List ℕ) → frame_of (f y) b ≡ g (frame_of y b)) → i < length frames → x ≡ get_or table i x → frames_of (set table i (f x)) pages ≡ set frames i (g (frame_at frames i))
-  edit-shown i x f g same there read =
-      rw (frame-shown i, ← entry-is i x there read, ← same x (get_or pages i []), ← s.is) (set-frames_of table pages i (f x))
+  edit-shown i x f g same there read = grind (arith, common_steps, frame-shown, entry-is, set-frames_of)
 
   -- the entry, and the bytes, that were read at a number
   pub entry-read : (i : ℕ) (x : Entry) → i < length frames → x ≡ get_or table i x → frame_at frames i ≡ frame_of x (frame_at frames i).bytes
-  entry-read i x there read =
-      rw (entry-is i x there read, frame-shown i) refl
+  entry-read i x there read = grind (arith, common_steps, entry-is, frame-shown)
 
   pub bytes-read : (i : ℕ) (b : List ℕ) → i < length frames → b ≡ get_or pages i b → b ≡ (frame_at frames i).bytes
   bytes-read i b there read = rw (frame-shown i) (get_or_read pages i b (rw (s.beside, ← length-shown) there) read [])

@@ -1,16 +1,15 @@
 -- The table's words agree with the flat machine's.
-use Rattle.std.proofs.Common.{◌≡◌, ◌≢◌, ℕ, zero, suc, ◌+◌, ◌/◌, ◌%◌, ◌<◌, ◌≤◌, ◌==◌, ℤ, pos, negsuc, is_none, is_some, cond, List, [], ◌∷◌, ◌++◌, length, set, slice_get, slice_set, Option, Some, None, IsOk, refl, sym, ap, ◌∙◌, inl, inr, arith, eq-eqb, ne_eqb}
+use Rattle.std.proofs.Common.{◌≡◌, ◌≢◌, ℕ, zero, suc, ◌+◌, ◌%◌, ◌<◌, ◌≤◌, ◌==◌, ℤ, pos, negsuc, is_none, is_some, List, [], ◌∷◌, ◌++◌, length, set, slice_get, slice_set, Option, Some, None, IsOk, refl, sym, ap, ◌∙◌, inl, inr, arith, eq-eqb, ne_eqb}
 use Rattle.std.proofs.lemmas.Grind.{common_steps}
-use Rattle.std.proofs.lemmas.Bool.{cases_eq, cases_lt}
+use Rattle.std.proofs.lemmas.Bool.{cases_eq}
 use Rattle.std.proofs.lemmas.List.Sums.{sum_by-cons}
 use Rattle.shm_base.specs.State.{Segment, Entry as FlatEntry}
 use Rattle.shm_base.specs.Identifier as flat
 use Rattle.shm_base.specs.Segments as flat_segments
-use Rattle.shm_base.specs.Access.{set_in}
 use Rattle.shm_ids.specs.declared.table.Entry.{Entry}
 use Rattle.shm_ids.specs.declared.table.Row.{Row}
 use Rattle.shm_ids.specs.Table.{unused, entry_at, free_from, free_index, identifier, index_of, row_key, key_from, find_key, look, look_entry, held, with_row, row_count}
-use Rattle.shm_ids.specs.Flat.{flat_row, flat_entry, flat_from, flat_table, flat_answer, flat_look, flat_found, number_of, ShowsKeys}
+use Rattle.shm_ids.specs.Flat.{flat_row, flat_entry, flat_from, flat_table, flat_answer, flat_look, flat_found, ShowsKeys}
 use Rattle.shm_ids.proofs.Entries.{at_past}
 use Rattle.shm_ids.proofs.Look.{live_at, live_number}
 
@@ -36,18 +35,12 @@ module _ {T : Type 0} (make : ℕ → Row T → Segment) where
   pub set-flat : (i k : ℕ) (t : List (Entry T)) (e : Entry T) → slice_set (flat_from make i t) k (flat_entry make (i + k) e) ≡ flat_from make i (set t k e)
   set-flat i k [] e = refl
   set-flat i zero (x ∷ xs) e = ap (λ n. flat_entry make n e ∷ flat_from make (i + 1) xs) (omega arith)
-  set-flat i (suc k) (x ∷ xs) e =
-      let next : i + suc k ≡ (i + 1) + k = omega arith in
-      ap (λ n. flat_entry make i x ∷ slice_set (flat_from make (i + 1) xs) k (flat_entry make n e)) next
-      ∙ ap (λ es. flat_entry make i x ∷ es) (set-flat (i + 1) k xs e)
+  set-flat i (suc k) (x ∷ xs) e = grind (arith, common_steps, set-flat (i + 1) k xs e)
 
   -- an entry at the end
   pub push-flat : (i : ℕ) (t : List (Entry T)) (e : Entry T) → flat_from make i t ++ flat_entry make (i + length t) e ∷ [] ≡ flat_from make i (t ++ e ∷ [])
   push-flat i [] e = ap (λ n. flat_entry make n e ∷ []) (omega arith)
-  push-flat i (x ∷ xs) e =
-      let next : i + suc (length xs) ≡ (i + 1) + length xs = omega arith in
-      ap (λ n. flat_entry make i x ∷ (flat_from make (i + 1) xs ++ flat_entry make n e ∷ [])) next
-      ∙ ap (λ es. flat_entry make i x ∷ es) (push-flat (i + 1) xs e)
+  push-flat i (x ∷ xs) e = grind (arith, common_steps, push-flat (i + 1) xs e)
 
   zero_plus : (n : ℕ) → 0 + n ≡ n
   zero_plus n = omega arith
@@ -69,10 +62,7 @@ module _ {T : Type 0} (make : ℕ → Row T → Segment) where
 
   pub free_from-flat : (i j : ℕ) (t : List (Entry T)) → flat.free_from j (flat_from make i t) ≡ free_from j t
   free_from-flat i j [] = refl
-  free_from-flat i j (e ∷ es) =
-      let rest = free_from-flat (i + 1) (j + 1) es in
-      let same = same_none (identifier i e.destroyed) e.row in
-      grind arith
+  free_from-flat i j (e ∷ es) = grind (arith, common_steps, same_none, free_from-flat (i + 1) (j + 1) es)
 
   pub free_index-flat : (t : List (Entry T)) → flat.free_index (flat_table make t) ≡ free_index t
   free_index-flat t = free_from-flat 0 0 t
@@ -80,11 +70,7 @@ module _ {T : Type 0} (make : ℕ → Row T → Segment) where
   -- HOW MANY WERE DESTROYED
 
   pub destroyed_at-flat : (t : List (Entry T)) (i : ℕ) → flat.destroyed_at (flat_table make t) i ≡ (entry_at t i).destroyed
-  destroyed_at-flat t i =
-      elim (cases_lt i (length t)) [
-        | inl l ↦ ap flat.destroyed_in (at-table i t l)
-        | inr p ↦ ap flat.destroyed_in (past-flat 0 i t p) ∙ sym (ap (λ (e : Entry T). e.destroyed) (at_past t i p))
-      ]
+  destroyed_at-flat t i = grind (arith, common_steps, at-table, past-flat, at_past)
 
   -- LOOKING UP
 
@@ -95,13 +81,7 @@ module _ {T : Type 0} (make : ℕ → Row T → Segment) where
   -- what is live, removed or never issued is so for both
   pub look-flat : (t : List (Entry T)) (id : ℤ) → flat.look (flat_table make t) id ≡ flat_look make t id (look t id)
   look-flat t (negsuc n) = refl
-  look-flat t (pos n) =
-      elim (cases_lt (n % 32768) (length t)) [
-        | inl there ↦
-            let e = entry_at t (n % 32768) in
-            rw (at-table (n % 32768) t there) (look_parts (n % 32768) (n / 32768) e.destroyed n e.row (λ same. omega (arith, same)))
-        | inr past ↦ rw (past-flat 0 (n % 32768) t past, at_past t (n % 32768) past) (grind (arith, common_steps))
-      ]
+  look-flat t (pos n) = grind (arith, common_steps, at-table, look_parts, past-flat, at_past)
 
   same_key : ShowsKeys make → (id key : ℕ) (r : Option (Row T)) → key ≢ 0 → flat.has_key key (flat_row make id r) ≡ (row_key r == key)
   same_key shows id key r live = grind (arith, common_steps)
@@ -122,11 +102,7 @@ module _ {T : Type 0} (make : ℕ → Row T → Segment) where
   -- a key that is found leads where its row's identifier does
   pub find_key-look : ShowsKeys make → (t : List (Entry T)) (key : ℕ) (id : ℤ) → key ≢ 0 → find_key t key ≡ Some (index_of id) → IsOk (look t id)
       → flat.find_key (flat_table make t) key ≡ flat.look (flat_table make t) id
-  find_key-look shows t key id live found ok =
-      let l = live_at t id ok in
-      let own : identifier (index_of id) (entry_at t (index_of id)).destroyed ≡ number_of id = live_number t id ok in
-      find_key-flat shows t key live ∙ ap (flat_found make (entry_at t)) found
-      ∙ rw (look-flat t id, l.looked, l.there, own) refl
+  find_key-look shows t key id live found ok = grind (arith, common_steps, live_at, live_number, find_key-flat, look-flat)
 
   -- ROWS THAT COME, CHANGE AND GO
 
@@ -146,12 +122,7 @@ module _ {T : Type 0} (make : ℕ → Row T → Segment) where
 
   pub segment_count-flat : (i : ℕ) (t : List (Entry T)) → flat_segments.segment_count (flat_from make i t) ≡ row_count t
   segment_count-flat i [] = refl
-  segment_count-flat i (e ∷ es) =
-      let first = sum_by-cons (λ (x : FlatEntry). cond (is_some x.segment) 1 0) (flat_entry make i e) (flat_from make (i + 1) es) in
-      let own = sum_by-cons (λ (x : Entry T). cond (is_some x.row) 1 0) e es in
-      let same = same_some (identifier i e.destroyed) e.row in
-      let rest = segment_count-flat (i + 1) es in
-      grind arith
+  segment_count-flat i (e ∷ es) = grind (arith, common_steps, sum_by-cons, same_some, segment_count-flat (i + 1) es)
 
   -- one row is shown changed by f
   pub change-flat : (t : List (Entry T)) (id : ℕ) (f : Segment → Segment) (r s : Row T) → id % 32768 < length t → (entry_at t (id % 32768)).row ≡ Some r

@@ -1,6 +1,5 @@
 -- What is left of the entries after the first.
 use Rattle.std.proofs.Common.{◌≡◌, ℕ, suc, ◌+◌, ◌≤◌, List, ◌∷◌, None, sym, ap, subst, ◌∙◌, arith}
-use Rattle.std.proofs.lemmas.Grind.{common_steps}
 use Rattle.shm_ids.specs.declared.table.Entry.{Entry}
 use Rattle.shm_ids.specs.Sound.{holds}
 use Rattle.shm_ids.specs.Rows.{rows_from, rows_row, Left}

@@ -1,21 +1,17 @@
 -- What a live identifier has.
-use Rattle.std.proofs.Common.{◌≡◌, ℕ, ◌/◌, ◌%◌, ◌<◌, ℤ, pos, negsuc, nat_eq, List, length, Option, Some, None, Ok, IsOk, refl, sym, ap, ◌∙◌, arith, true≢false}
+use Rattle.std.proofs.Common.{◌≡◌, ℕ, ◌/◌, ◌%◌, ◌<◌, ℤ, pos, negsuc, nat_eq, List, length, Option, Some, None, Ok, IsOk, refl, sym, arith, true≢false}
 use Rattle.std.proofs.lemmas.Grind.{common_steps}
 use Rattle.shm_ids.specs.declared.table.Entry.{Entry}
 use Rattle.shm_ids.specs.declared.table.Row.{Row}
 use Rattle.indexmap.specs.IndexMap.{IndexMap, get}
-use Rattle.shm_ids.specs.Table.{entry_at, key_at, row_key, look, look_entry, look_row, index_of, identifier, id_at}
+use Rattle.shm_ids.specs.Table.{entry_at, key_at, look, look_entry, look_row, index_of, identifier, id_at}
 use Rattle.shm_ids.specs.Flat.{number_of}
 use Rattle.shm_ids.specs.Sound.{Sound}
 use Rattle.shm_ids.proofs.Entries.{at_past}
-use Rattle.shm_ids.proofs.Steps.{named}
 
 -- the parts of an identifier
 pub identifier-mod : (i d : ℕ) → i < 32768 → identifier i d % 32768 ≡ i
 identifier-mod i d small = omega (arith, small)
-
-pub identifier-div : (i d : ℕ) → i < 32768 → identifier i d / 32768 ≡ d
-identifier-div i d small = omega (arith, small)
 
 module _ {T : Type 0} where
   pub record Live (t : List (Entry T)) (id : ℤ) : Type 0 where
@@ -36,9 +32,6 @@ module _ {T : Type 0} where
   live_at t (pos n) ok =
       let e = live_entry (n / 32768) (entry_at t (n % 32768)) ok in
       record { within = grind (arith, common_steps, at_past); row = e.0; there = e.1; looked = e.2 }
-
-  look_entry-own : (e : Entry T) → look_entry e.destroyed e ≡ look_row e.row
-  look_entry-own e = grind (arith, common_steps)
 
   -- what is found under the identifier that an index has now
   pub look-id_at : (t : List (Entry T)) (i : ℕ) → i < 32768 → look t (id_at t i) ≡ look_row (entry_at t i).row

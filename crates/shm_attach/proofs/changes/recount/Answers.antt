@@ -1,4 +1,5 @@
-use Rattle.std.proofs.Common.{◌≡◌, ℕ, ◌+◌, ◌<◌, ◌≤◌, ◌∷◌, ◌∙◌, ap, sym, subst, refl, eq-eqb, get_or, drop, arith}
+use Rattle.std.proofs.Common.{◌≡◌, ℕ, ◌+◌, ◌<◌, ◌≤◌, ◌∷◌, ◌∙◌, ap, sym, subst, get_or, drop, arith}
+use Rattle.std.proofs.lemmas.Grind.{common_steps}
 use Rattle.shm_base.specs.Space.{lowest_address, pieces_of, cut}
 use Rattle.shm_areas.specs.Arranged.{bare, bare_all}
 use Rattle.shm_areas.proofs.Placing.{nothing, fit_at}
@@ -13,14 +14,7 @@ parts_outside-parts-requires-clause-fit c = fit_at lowest_address c.args.met.now
 
 -- the piece that is met is counted still
 counted_still : (c : After-parts_outside-parts) → 0 < counted c.loop-piece.tables (get_or c.args.met.now c.loop-piece.piece-index nothing).seg
-counted_still c =
-    let i = c.loop-piece.piece-index in
-    let met = c.args.met.now in
-    let p = bare (get_or met i nothing) in
-    let here : pieces_of p.seg (bare_all (drop i met)) ≡ pieces_of p.seg (bare_all (drop (i + 1) met)) + one_if p.seg p.seg =
-    ap (pieces_of p.seg) (drop-bare met i nothing c.loop-piece-test.true) ∙ one_more p.seg p (bare_all (drop (i + 1) met)) in
-    let one : one_if p.seg p.seg ≡ 1 = rw (eq-eqb p.seg p.seg refl) refl in
-    omega (arith, c.loop-piece.invariant.some p.seg, here, one)
+counted_still c = grind (arith, common_steps, drop-bare, one_more)
 
 pub loop-piece-preserved : goal.loop-piece-preserved
 loop-piece-preserved c =

@@ -1,8 +1,9 @@
-use Rattle.std.proofs.Common.{◌≡◌, ℕ, ◌+◌, ◌-◌, ◌≤◌, ◌∙◌, not, ap, sym, refl, arith, eq-eqb, List, Some, slice_get, length, filter}
+use Rattle.std.proofs.Common.{◌≡◌, ℕ, ◌+◌, ◌-◌, ◌≤◌, ◌∙◌, not, ap, refl, arith, eq-eqb, List, Some, slice_get, length, filter}
+use Rattle.std.proofs.lemmas.Grind.{common_steps}
 use Rattle.std.specs.Prelude.{All}
 use Rattle.std.proofs.lemmas.List.{length-map}
 use Rattle.indexmap.specs.IndexMap.{set_value_at}
-use Rattle.shm_base.specs.Space.{lowest_address, meets, cut, without_named, pieces_of}
+use Rattle.shm_base.specs.Space.{meets, cut, without_named, pieces_of}
 use Rattle.shm_areas.specs.Arranged.{bare, bare_all}
 use Rattle.shm_areas.specs.Edit.{kept_named, kept_without}
 use Rattle.shm_areas.specs.declared.piece.Piece.{Piece}
@@ -36,9 +37,7 @@ can : (c : In-Range) → IsCuttable c.in-Range.from c.in-Range.to (pieces_at (ru
 can c = rw c.in-Range.is at c.requires.part
 
 pub recount-requires-clause-fit : goal.recount-requires-clause-fit
-recount-requires-clause-fit c =
-    rw c.met.ensures.value
-    (arranged_filter (λ (p : Piece). meets c.in-Range.from c.in-Range.to (bare p)) lowest_address c.in-Some.runner.now.space c.met.ensures.arranged)
+recount-requires-clause-fit c = grind (arith, common_steps, arranged_filter)
 
 pub recount-requires-clause-meets : goal.recount-requires-clause-meets
 recount-requires-clause-meets c = rw c.met.ensures.value (met-meets c.in-Range.from c.in-Range.to c.in-Some.runner.now.space)
@@ -61,9 +60,7 @@ pub recount-requires-clause-small : goal.recount-requires-clause-small
 recount-requires-clause-small c = λ id. omega (arith, counts-small c.args.processes.now.entries c.args.tables.now c.requires.holds id)
 
 pub cut-requires-clause-few : goal.cut-requires-clause-few
-cut-requires-clause-few c =
-    let few = (can (goal.at.cut-requires-clause-few c).In-Range).few in
-    rw (← shown (goal.at.cut-requires-clause-few c).In-Some) few
+cut-requires-clause-few c = grind (arith, common_steps, can, shown)
 
 -- what the met pieces are recounted to is what all are
 cut_counts : (from to a b id : ℕ) (met own : List Piece) → bare_all met ≡ filter (meets from to) (bare_all own)
@@ -101,36 +98,25 @@ returns-in-Range c =
 -- AN ATTACH
 
 fewer : (addr seg b a : ℕ) (own left : List Piece) → left ≡ kept_without addr seg own → b ≡ length own → a ≡ length left → a ≤ b
-fewer addr seg b a own left kept before after =
-    let less = shorter_filter (λ (p : Piece). not (kept_named addr seg p)) own in
-    omega (arith, less, before, after, ap length kept)
+fewer addr seg b a own left kept before after = grind (arith, common_steps, shorter_filter)
 
 gone_by : (addr seg b a : ℕ) (own left : List Piece) → left ≡ kept_without addr seg own → b ≡ length own → a ≡ length left
     → length (without_named addr seg (bare_all own)) + (b - a) ≡ length (bare_all own)
-gone_by addr seg b a own left kept before after =
-    let less = fewer addr seg b a own left kept before after in
-    let shorter : length (without_named addr seg (bare_all own)) ≡ length left =
-    ap length (sym (bare_filter addr seg own)) ∙ length-map (kept_without addr seg own) bare ∙ ap length (sym kept) in
-    omega (arith, less, before, after, shorter, length-map own bare)
+gone_by addr seg b a own left kept before after = grind (arith, common_steps, fewer, bare_filter, length-map)
 
 gone : (c : After-pieces)
     → length (without_named c.in-Attach.addr c.in-Attach.seg (bare_all c.in-Some.runner.now.space)) + (length c.pieces-before.result.now - length c.pieces.result.now)
     ≡ length (bare_all c.in-Some.runner.now.space)
-gone c =
-    gone_by c.in-Attach.addr c.in-Attach.seg (length c.pieces-before.result.now) (length c.pieces.result.now) c.in-Some.runner.now.space c.take_at.new.self
-    c.take_at.ensures.kept (ap length c.pieces-before.ensures.value) (ap length c.pieces.ensures.value)
+gone c = grind (arith, common_steps, gone_by)
 
 pub overflow_sub-gone : goal.overflow_sub-gone
-overflow_sub-gone c =
-    fewer c.in-Attach.addr c.in-Attach.seg (length c.pieces-before.result.now) (length c.pieces.result.now) c.in-Some.runner.now.space c.take_at.new.self
-    c.take_at.ensures.kept (ap length c.pieces-before.ensures.value) (ap length c.pieces.ensures.value)
+overflow_sub-gone c = grind (arith, common_steps, fewer)
 
 named : (c : After-pieces) (id : ℕ)
     → pieces_of id (without_named c.in-Attach.addr c.in-Attach.seg (bare_all c.in-Some.runner.now.space))
     + some_if id c.in-Attach.seg (length c.pieces-before.result.now - length c.pieces.result.now)
     ≡ pieces_of id (bare_all c.in-Some.runner.now.space)
-named c id =
-    pieces_of-without id c.in-Attach.addr c.in-Attach.seg (bare_all c.in-Some.runner.now.space) (length c.pieces-before.result.now - length c.pieces.result.now) (gone c)
+named c id = grind (arith, common_steps, pieces_of-without, gone)
 
 pub leave-requires-clause-gone : goal.leave-requires-clause-gone
 leave-requires-clause-gone c =

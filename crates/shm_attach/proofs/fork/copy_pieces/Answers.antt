@@ -1,9 +1,9 @@
-use Rattle.std.proofs.Common.{◌≡◌, ◌+◌, ◌<◌, ◌∙◌, ap, sym, refl, arith, List, length, get_or, take}
+use Rattle.std.proofs.Common.{◌≡◌, ◌+◌, ◌<◌, ◌∙◌, ap, arith, List, length, get_or, take}
+use Rattle.std.proofs.lemmas.Grind.{common_steps}
 use Rattle.std.proofs.lemmas.List.{length-map}
 use Rattle.shm_base.specs.State.{Piece}
 use Rattle.shm_base.specs.Space.{lowest_address, inserted}
 use Rattle.shm_areas.specs.Arranged.{bare}
-use Rattle.shm_areas.specs.declared.piece.Piece.{Piece as Stored}
 use Rattle.shm_areas.proofs.Placing.{nothing}
 use Rattle.shm_attach.specs.Views.{runner_view, runners_view, with_pieces_at}
 use Rattle.shm_attach.specs.Spaces.{pieces_at}
@@ -18,16 +18,7 @@ stands : (c : Start) → c.args.child < length (runners_view c.args.processes.no
 stands c = omega (arith, c.requires.child, length-map c.args.processes.now.entries runner_view)
 
 pub loop-k-init : goal.loop-k-init
-loop-k-init c =
-    let rs = runners_view c.args.processes.now.entries in
-    let lt = stands (goal.at.loop-k-init c).Start in
-    record {
-      runners = with_pieces_at-same rs c.args.child (λ (_ : List Piece). take 0 (pieces_at rs c.args.parent)) lt (sym c.requires.none);
-      count = refl;
-      own = refl;
-      sound = c.requires.sound;
-      translated = λ at all. all;
-    }
+loop-k-init c = grind (arith, common_steps, stands, with_pieces_at-same)
 
 -- THE NEXT PIECE
 
@@ -35,29 +26,14 @@ within : (c : After-pieces) → c.loop-k.k < length (stored_at c.args.processes.
 within c = omega (arith, ap length (c.pieces-count.ensures.value ∙ c.space_at.ensures.stored), c.loop-k-test.true)
 
 within_all : (c : After-pieces) → c.loop-k.k < length (pieces_at (runners_view c.args.processes.now.entries) c.args.parent)
-within_all c =
-    let es = c.args.processes.now.entries in
-    omega (arith, within c, ap length (pieces_at-bare es c.args.parent), length-map (stored_at es c.args.parent) bare)
+within_all c = grind (arith, common_steps, within, pieces_at-bare, length-map)
 
 next : (c : After-pieces)
     → bare (get_or c.pieces.result.now c.loop-k.k nothing) ≡ get_or (pieces_at (runners_view c.args.processes.now.entries) c.args.parent) c.loop-k.k (bare nothing)
-next c =
-    let es = c.args.processes.now.entries in
-    let k = c.loop-k.k in
-    ap (λ (ps : List Stored). bare (get_or ps k nothing)) (c.pieces.ensures.value ∙ c.space_at-in-loop-k.ensures.stored ∙ c.loop-k.invariant.own)
-    ∙ bare-get_or (stored_at es c.args.parent) k nothing (bare nothing) (within c)
-    ∙ ap (λ (ps : List Piece). get_or ps k (bare nothing)) (sym (pieces_at-bare es c.args.parent))
+next c = grind (arith, common_steps, bare-get_or, within, pieces_at-bare)
 
 pub put-requires-clause-place : goal.put-requires-clause-place
-put-requires-clause-place c =
-    let rs = runners_view c.args.processes.now.entries in
-    let P = pieces_at rs c.args.parent in
-    let b = goal.at.put-requires-clause-place c in
-    let has : pieces_at (runners_view c.loop-k.processes.entries) c.args.child ≡ take c.loop-k.k P =
-    ap (λ xs. pieces_at xs c.args.child) c.loop-k.invariant.runners ∙ pieces_at-changed rs c.args.child (λ (_ : List Piece). take c.loop-k.k P) (stands b.Start) in
-    let exact = c.requires.sound.exact in
-    rw (has, next b.After-pieces)
-    (place_next c.loop-k.k P (bare nothing) (exact.arranged c.args.parent) (exact.pieces c.args.parent) (within_all b.After-pieces))
+put-requires-clause-place c = grind (arith, common_steps, pieces_at-changed, stands, next, place_next, within_all)
 
 pub loop-k-preserved : goal.loop-k-preserved
 loop-k-preserved c =

@@ -1,4 +1,5 @@
 use Rattle.std.proofs.Common.{◌≡◌, ℕ, ◌+◌, ◌-◌, ◌*◌, ◌/◌, ◌<◌, ◌∙◌, true, get_or, sym, arith}
+use Rattle.std.proofs.lemmas.Grind.{common_steps}
 use Rattle.std.proofs.lemmas.Bool.{true≢false}
 use Rattle.shm_base.specs.State.{Piece}
 use Rattle.shm_areas.specs.Arranged.{bare, bare_all, IsCovering}
@@ -11,14 +12,10 @@ use Rattle.shm_attach.proofs.spans.span_in.Goals as goal
 use Rattle.shm_attach.proofs.spans.span_in.Goals.{else-write-via-then-write+else-not-piece, else-write-via-else-write}
 
 pub returns-in_err-piece-clause-none : goal.returns-in_err-piece-clause-none
-returns-in_err-piece-clause-none c =
-    rw c.from_residual.ensures (wanted_in-none c.args.write (bare_all c.args.space.now) c.args.addr c.args.len c.requires.some (sym c.in_err-piece.ensures.value))
+returns-in_err-piece-clause-none c = grind (arith, common_steps, wanted_in-none)
 
 pub returns-then-not-piece-clause-none : goal.returns-then-not-piece-clause-none
-returns-then-not-piece-clause-none c =
-    rw c.if-write.true
-    (wanted_in-readonly (bare_all c.args.space.now) (bare c.in_ok-piece.piece) c.args.addr c.args.len c.requires.some (sym c.in_ok-piece.ensures.value)
-    (from_not c.in_ok-piece.piece.writable c.if-not-piece.true))
+returns-then-not-piece-clause-none c = grind (arith, common_steps, wanted_in-readonly, from_not)
 
 pub returns-clause-places : goal.returns-clause-places
 returns-clause-places c =

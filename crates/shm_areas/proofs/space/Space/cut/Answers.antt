@@ -1,8 +1,9 @@
 use Rattle.std.proofs.Common.{◌≡◌, ◌≤◌, ◌∙◌, length, List, arith}
+use Rattle.std.proofs.lemmas.Grind.{common_steps}
 use Rattle.std.proofs.lemmas.List.{length-map}
-use Rattle.shm_base.specs.Space.{lowest_address, cut}
+use Rattle.shm_base.specs.Space.{cut}
 use Rattle.shm_areas.specs.declared.piece.Piece.{Piece}
-use Rattle.shm_areas.specs.Arranged.{bare, bare_all, Arranged}
+use Rattle.shm_areas.specs.Arranged.{bare, bare_all}
 use Rattle.shm_areas.specs.Edit.{kept_cut, left_by}
 use Rattle.shm_areas.proofs.Edits.{bare_cut, arranged_cut}
 use Rattle.shm_areas.proofs.space.Space.cut.Goals.{After-cut_of-cut}
@@ -12,15 +13,10 @@ few : (from to : _) (ps : List Piece) → length (cut from to (bare_all ps)) ≤
 few from to ps h = rw (← length-map (kept_cut from to ps) bare, bare_cut from to ps) h
 
 left : (c : After-cut_of-cut) → left_by c.self.inside.pieces.items c.cut_of-cut.result ≡ kept_cut c.args.from c.args.to c.args.self.now
-left c =
-    let own : c.self.inside.pieces.items ≡ c.args.self.now = c.self.view_is in
-    let same : c.deref.result.now ≡ c.args.self.now = cc in
-    rw (own, ← same) c.cut_of-cut.ensures.leaves
+left c = grind (arith, common_steps)
 
 pub replace-requires-clause-room : goal.replace-requires-clause-room
-replace-requires-clause-room c =
-    let short = few c.args.from c.args.to c.args.self.now c.requires.few in
-    rw (left (goal.at.replace-requires-clause-room c).After-cut_of-cut) (omega (arith, short, c.self.invariant.2))
+replace-requires-clause-room c = grind (arith, common_steps, few, left)
 
 pub returns-clause-kept : goal.returns-clause-kept
 returns-clause-kept c = c.replace.ensures.items ∙ left (goal.at.returns-clause-kept c).After-cut_of-cut
@@ -29,11 +25,4 @@ pub returns-clause-flat : goal.returns-clause-flat
 returns-clause-flat c = rw (returns-clause-kept c) (bare_cut c.args.from c.args.to c.args.self.now)
 
 pub invariant_of-self : goal.invariant_of-self
-invariant_of-self c =
-    let before : Arranged lowest_address (bare_all c.args.self.now) = rw (← c.self.view_is) c.self.invariant.0 in
-    let order : c.args.from ≤ c.args.to = omega (arith, c.requires.order) in
-    let after = arranged_cut lowest_address c.args.from c.args.to (bare_all c.args.self.now) before c.requires.from c.requires.to order in (
-      rw (returns-clause-flat c) after,
-      rw (returns-clause-kept c) (few c.args.from c.args.to c.args.self.now c.requires.few),
-      omega (arith, c.replace.ensures.capacity, c.self.invariant.2),
-    )
+invariant_of-self c = grind (arith, common_steps, arranged_cut, returns-clause-flat, returns-clause-kept, few)

@@ -1,13 +1,13 @@
-use Rattle.std.proofs.Common.{◌≡◌, ℕ, ◌+◌, ◌*◌, ◌<◌, ◌≤◌, ◌∙◌, ap, sym, subst, refl, arith, eq-eqb, List, length, map}
-use Rattle.shm_base.specs.Space.{inserted, cut, cut_segments}
+use Rattle.std.proofs.Common.{◌≡◌, ℕ, ◌+◌, ◌*◌, ◌<◌, ◌≤◌, ◌∙◌, ap, sym, subst, arith, List, length}
+use Rattle.std.proofs.lemmas.Grind.{common_steps}
+use Rattle.shm_base.specs.Space.{cut}
 use Rattle.shm_areas.specs.Arranged.{bare}
 use Rattle.shm_areas.specs.declared.piece.Piece.{Piece}
 use Rattle.shm_fault.specs.Store.{frame_of}
 use Rattle.shm_attach.specs.declared.process.Runner.{Runner}
 use Rattle.shm_attach.specs.declared.tables.Tables.{Tables}
-use Rattle.shm_attach.specs.Views.{one_if, runner_view, runners_view, with_pieces_at}
+use Rattle.shm_attach.specs.Views.{one_if, runner_view, runners_view}
 use Rattle.shm_attach.specs.Spaces.{SpacesView, Translation, AreTrue, IsCaller, pieces_at, life_at}
-use Rattle.shm_attach.specs.Place.{new_piece}
 use Rattle.shm_attach.specs.Exact.{AreTablesSound, no_holds}
 use Rattle.shm_attach.specs.Entries.{AllTrue, translations_of}
 use Rattle.shm_attach.specs.Tables.{counted, IsHeld}
@@ -41,9 +41,7 @@ space_at-requires g c = stands g (goal.at.space_at-requires g c).After-self
 -- THE SEGMENT IS HELD
 
 held : (g : Over) (c : In_ok-key g) → AreTablesSound (λ id. one_if id c.args.seg) c.self.inside.processes.entries c.hold.new.self
-held g c =
-    sound-holds no_holds (λ id. one_if id c.args.seg) c.self.inside.processes.entries c.self.inside.tables c.hold.new.self c.self.invariant
-    (λ id. omega (arith, c.in_ok-key.ensures.counts id)) c.in_ok-key.ensures.tied (λ p own _. c.in_ok-key.ensures.held p own)
+held g c = grind (arith, common_steps, sound-holds)
 
 pub take-requires-clause-there : goal.take-requires-clause-there
 take-requires-clause-there g c = stands g (goal.at.take-requires-clause-there g c).After-self
@@ -55,9 +53,7 @@ take-requires-clause-holds g c = record { extra = λ id. one_if id c.args.seg; f
 
 -- a segment that is held is counted
 counts_hold : (seg : ℕ) (es : List (ℕ × Runner)) (t : Tables) → AreTablesSound (λ id. one_if id seg) es t → 1 ≤ counted t seg
-counts_hold seg es t sound =
-    let one : one_if seg seg ≡ 1 = rw (eq-eqb seg seg refl) refl in
-    omega (arith, sound.exact.counts seg, one)
+counts_hold seg es t sound = grind (arith, common_steps)
 
 abbrev new : (g : Over) (c : In_ok-key g) → Piece
 new g c = record { base = c.args.base; seg = c.args.seg; first_page = 0; pages = c.args.pages; writable = c.args.writable; key = c.in_ok-key.key }
@@ -120,28 +116,10 @@ invariant_of-self-2 g c =
 -- WHAT IT ENSURES
 
 pub returns-clause-lost : goal.returns-clause-lost
-returns-clause-lost g c =
-    let base = c.args.base in
-    let end = base + 4096 * c.args.pages in
-    c.of-lost.ensures
-    ∙ ap (λ (ps : List Piece). map (λ (p : Piece). p.seg) ps) c.met.ensures.value
-    ∙ seg-met base end c.space_at.result.now
-    ∙ ap (cut_segments base end) c.space_at.ensures.flat
-    ∙ ap (λ (v : SpacesView). cut_segments base end (pieces_at v.runners c.args.caller.now.index)) c.self.view_is
+returns-clause-lost g c = grind (arith, common_steps, seg-met)
 
 pub returns-clause-runners : goal.returns-clause-runners
-returns-clause-runners g c =
-    let es = c.self.inside.processes.entries in
-    let rs = runners_view es in
-    let i = c.args.caller.now.index in
-    let b = goal.at.returns-clause-runners g c in
-    let lt : i < length rs = omega (arith, stands g b.After-self, length-map es runner_view) in
-    let p = new_piece c.args.seg c.args.base c.args.pages c.args.writable in
-    let f = cut c.args.base (c.args.base + 4096 * c.args.pages) in
-    c.put.ensures.runners
-    ∙ ap (λ xs. with_pieces_at xs i (inserted p)) c.take.ensures.runners
-    ∙ with_pieces_at-twice rs i f (inserted p) lt
-    ∙ with_pieces-of c.args.caller.now rs c.args.self.now.runners (λ qs. inserted p (f qs)) (ap (λ (v : SpacesView). v.runners) c.self.view_is) c.requires.live
+returns-clause-runners g c = grind (arith, common_steps, stands, length-map, with_pieces_at-twice, with_pieces-of)
 
 pub returns-clause-translated : goal.returns-clause-translated
 returns-clause-translated g c = λ old.

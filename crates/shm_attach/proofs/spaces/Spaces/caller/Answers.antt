@@ -1,4 +1,5 @@
-use Rattle.std.proofs.Common.{◌≡◌, ◌∙◌, sym}
+use Rattle.std.proofs.Common.{◌≡◌, sym, arith}
+use Rattle.std.proofs.lemmas.Grind.{common_steps}
 use Rattle.shm_base.specs.Step.{caller_by, caller_from}
 use Rattle.shm_areas.specs.Arranged.{bare_all}
 use Rattle.shm_attach.specs.Views.{life_view, runners_view}
@@ -15,8 +16,7 @@ from c =
     c.in_ok-index.ensures.entry
 
 pub returns-in_err-index-clause-none : goal.returns-in_err-index-clause-none
-returns-in_err-index-clause-none c =
-    rw (c.from_residual.ensures, ← c.self.view_is) (caller_from-absent c.args.pid c.self.inside.processes.entries c.in_err-index.ensures.index)
+returns-in_err-index-clause-none c = grind (arith, common_steps, caller_from-absent)
 
 pub returns-in-Live-clause-live : goal.returns-in-Live-clause-live
 returns-in-Live-clause-live c =
@@ -24,6 +24,4 @@ returns-in-Live-clause-live c =
     rw (← c.self.view_is, shown) (rw c.in-Live.is at (from (goal.at.returns-in-Live-clause-live c).In_ok-index))
 
 pub returns-in_default-clause-none : goal.returns-in_default-clause-none
-returns-in_default-clause-none c =
-    let none = not_live c.in_ok-index.index c.args.pid (bare_all c.in_ok-index.runner.now.space) c.in_ok-index.runner.now.life c.in_default.not-Live in
-    rw (← c.self.view_is) (from (goal.at.returns-in_default-clause-none c).In_ok-index ∙ none)
+returns-in_default-clause-none c = grind (arith, common_steps, not_live, from)

@@ -1,6 +1,5 @@
-use Rattle.std.proofs.Common.{◌∙◌, ap}
-use Rattle.shm_base.specs.Space.{without_named}
-use Rattle.shm_attach.specs.Views.{runners_view}
+use Rattle.std.proofs.Common.{ap, arith}
+use Rattle.std.proofs.lemmas.Grind.{common_steps}
 use Rattle.shm_attach.specs.Spaces.{SpacesView}
 use Rattle.shm_attach.specs.Exact.{no_holds}
 use Rattle.shm_attach.proofs.Callers.{caller_within, with_pieces-of}
@@ -14,10 +13,7 @@ pub invariant_of-self : goal.invariant_of-self
 invariant_of-self c = c.take.ensures.sound no_holds c.self.invariant
 
 pub returns-clause-gone : goal.returns-clause-gone
-returns-clause-gone c =
-    c.take.ensures.runners
-    ∙ with_pieces-of c.args.caller.now (runners_view c.self.inside.processes.entries) c.args.self.now.runners (without_named c.args.addr c.args.seg)
-    (ap (λ (v : SpacesView). v.runners) c.self.view_is) c.requires
+returns-clause-gone c = grind (arith, common_steps, with_pieces-of)
 
 pub returns-clause-translated : goal.returns-clause-translated
 returns-clause-translated c =

@@ -1,9 +1,9 @@
-use Rattle.std.proofs.Common.{◌≡◌, ◌<◌, ◌∙◌, ap, arith, List, [], length}
+use Rattle.std.proofs.Common.{◌≡◌, ◌<◌, ◌∙◌, ap, arith, [], length}
+use Rattle.std.proofs.lemmas.Grind.{common_steps}
 use Rattle.std.proofs.lemmas.List.{length-map}
 use Rattle.std.proofs.lemmas.Option.{slice_get_within}
-use Rattle.shm_base.specs.State as flat
 use Rattle.shm_base.specs.Step.{with_pieces}
-use Rattle.shm_attach.specs.Views.{runner_view, runners_view, with_life_at}
+use Rattle.shm_attach.specs.Views.{runners_view}
 use Rattle.shm_attach.specs.Spaces.{SpacesView, caller_seen}
 use Rattle.shm_attach.proofs.Callers.{caller_there, with_end-at, length-with_pieces}
 use Rattle.shm_attach.proofs.Sound.{sound-life}
@@ -14,21 +14,13 @@ after : (c : After-self) → runners_view c.self.inside.processes.entries ≡ wi
 after c = ap (λ (v : SpacesView). v.runners) c.self.view_is ∙ c.exec-lost.ensures.runners
 
 within : (c : After-self) → c.args.caller.now.index < length c.self.inside.processes.entries
-within c =
-    let rs = c.args.self.now.runners in
-    let lt = slice_get_within rs c.args.caller.now.index _ (caller_there c.args.caller.now rs c.requires) in
-    omega (arith, lt, length-map c.self.inside.processes.entries runner_view, ap length (after c), length-with_pieces c.args.caller.now rs [])
+within c = grind (arith, common_steps, slice_get_within, caller_there, length-map, after, length-with_pieces)
 
 pub set_life_at-requires : goal.set_life_at-requires
 set_life_at-requires c = within (goal.at.set_life_at-requires c).After-self
 
 pub invariant_of-self : goal.invariant_of-self
-invariant_of-self c =
-    sound-life c.self.inside.processes.entries c.set_life_at.new.processes.entries c.self.inside.tables c.args.caller.now.index flat.Ended
-    (within (goal.at.invariant_of-self c).After-self) (λ same. cc same) c.self.invariant c.set_life_at.ensures.runners c.set_life_at.ensures.stored
+invariant_of-self c = grind (arith, common_steps, sound-life, within)
 
 pub returns-clause-runners : goal.returns-clause-runners
-returns-clause-runners c =
-    c.set_life_at.ensures.runners
-    ∙ ap (λ (xs : List flat.Runner). with_life_at xs c.args.caller.now.index flat.Ended) (after (goal.at.returns-clause-runners c).After-self)
-    ∙ with_end-at c.args.caller.now c.args.self.now.runners c.requires
+returns-clause-runners c = grind (arith, common_steps, after, with_end-at)

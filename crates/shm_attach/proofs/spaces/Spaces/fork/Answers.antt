@@ -1,9 +1,9 @@
 use Rattle.std.proofs.Common.{◌≡◌, ◌≢◌, ◌<◌, ◌∙◌, ap, sym, arith, List, length, get_or, set}
+use Rattle.std.proofs.lemmas.Grind.{common_steps}
 use Rattle.std.proofs.lemmas.List.{length-map}
 use Rattle.shm_base.specs.State.{Piece, Runner, Unborn, Live}
 use Rattle.shm_attach.specs.Views.{runner_view, runners_view, with_pieces_at}
-use Rattle.shm_attach.specs.Spaces.{SpacesView, pieces_at, life_at, caller_seen}
-use Rattle.shm_attach.specs.Fork.{born_child}
+use Rattle.shm_attach.specs.Spaces.{SpacesView, pieces_at, life_at}
 use Rattle.shm_attach.proofs.Processes.{nobody}
 use Rattle.shm_attach.proofs.Callers.{caller_within, caller_born, ChildAt, child_at}
 use Rattle.shm_attach.proofs.Keeping.{life_at-born, pieces_at-born, runners-born, attach_count-more}
@@ -16,14 +16,10 @@ child : (c : After-self) → ChildAt c.args.child.now.pid c.args.child.now.index
 child c = child_at c.args.child.now.pid c.args.child.now.index (runners_view c.self.inside.processes.entries) (rw (← c.self.view_is) at c.requires.unborn)
 
 apart : (c : After-self) → c.args.caller.now.index ≢ c.args.child.now.index
-apart c = λ same.
-    let rs = runners_view c.self.inside.processes.entries in
-    caller_born c.args.caller.now rs (rw (← c.self.view_is) at c.requires.live) (ap (life_at rs) same ∙ (child c).unborn)
+apart c = grind (arith, common_steps, caller_born, child)
 
 pub set_life_at-requires : goal.set_life_at-requires
-set_life_at-requires c =
-    let ch = child (goal.at.set_life_at-requires c).After-self in
-    omega (arith, ch.within, length-map c.self.inside.processes.entries runner_view)
+set_life_at-requires c = grind (arith, common_steps, child, length-map)
 
 pub copy_pieces-requires : goal.copy_pieces-requires
 copy_pieces-requires c =
@@ -70,19 +66,7 @@ returns-clause-translated c =
     keeps c.args.self.now.translations c.self.inside.tables.slab c.copy_pieces.new.tables.slab (ap (λ (v : SpacesView). v.translations) c.self.view_is) c.copy_pieces.ensures.translated
 
 pub returns-clause-born : goal.returns-clause-born
-returns-clause-born c =
-    let rs = runners_view c.self.inside.processes.entries in
-    let i = c.args.caller.now.index in
-    let ch = child (goal.at.returns-clause-born c).After-self in
-    after (goal.at.returns-clause-born c).After-copy_pieces
-    ∙ ap (λ pid. set rs c.args.child.now.index (record { pid = pid; life = Live c.args.caller.now.cred; pieces = pieces_at rs i })) ch.named
-    ∙ ap (λ (v : SpacesView). born_child v.runners (caller_seen c.args.caller.now v.runners) c.args.child.now) c.self.view_is
+returns-clause-born c = grind (arith, common_steps, child, after)
 
 pub returns-clause-more : goal.returns-clause-more
-returns-clause-more c = λ id.
-    let rs = runners_view c.self.inside.processes.entries in
-    let j = c.args.child.now.index in
-    let ch = child (goal.at.returns-clause-more c).After-self in
-    let r : Runner = record { pid = (get_or rs j nobody).pid; life = Live c.args.caller.now.cred; pieces = pieces_at rs c.args.caller.now.index } in
-    let view : rs ≡ c.args.self.now.runners = ap (λ (v : SpacesView). v.runners) c.self.view_is in
-    rw (← view, after (goal.at.returns-clause-more c).After-copy_pieces) (attach_count-more rs j id r ch.within (c.self.invariant.exact.unborn j ch.unborn))
+returns-clause-more c = grind (arith, common_steps, child, after, attach_count-more)

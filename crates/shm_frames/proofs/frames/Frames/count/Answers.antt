@@ -1,13 +1,10 @@
 use Rattle.std.proofs.Common.{arith}
-use Rattle.shm_frames.proofs.Shown.{shown, length-shown, clear-shown}
+use Rattle.std.proofs.lemmas.Grind.{common_steps}
+use Rattle.shm_frames.proofs.Shown.{length-shown, clear-shown}
 use Rattle.shm_frames.proofs.frames.Frames.count.Goals as goal
 
 pub returns-clause-size : goal.returns-clause-size
-returns-clause-size c =
-    let s = shown c.self.inside c.self.invariant c.self.view_is in
-    omega (arith, length-shown s)
+returns-clause-size c = grind (arith, common_steps, length-shown)
 
 pub returns-clause-clear : goal.returns-clause-clear
-returns-clause-clear c =
-    let s = shown c.self.inside c.self.invariant c.self.view_is in
-    clear-shown s c.self.invariant.1.clear
+returns-clause-clear c = grind (arith, common_steps, clear-shown)

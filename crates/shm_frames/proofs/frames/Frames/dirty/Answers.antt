@@ -1,12 +1,11 @@
-use Rattle.std.proofs.Common.{sym, ◌∙◌}
+use Rattle.std.proofs.Common.{arith}
+use Rattle.std.proofs.lemmas.Grind.{common_steps}
 use Rattle.shm_frames.proofs.Shown.{shown, resident-shown, dirty-shown}
 use Rattle.shm_frames.proofs.Counts.{dirty-le-resident}
 use Rattle.shm_frames.proofs.frames.Frames.dirty.Goals as goal
 
 pub returns-clause-count : goal.returns-clause-count
-returns-clause-count c =
-    let s = shown c.self.inside c.self.invariant c.self.view_is in
-    c.from.ensures ∙ c.self.invariant.1.dirty ∙ sym (dirty-shown s)
+returns-clause-count c = grind (arith, common_steps, dirty-shown)
 
 pub returns-clause-few : goal.returns-clause-few
 returns-clause-few c =

@@ -1,6 +1,6 @@
-use Rattle.std.proofs.Common.{arith, refl, sym, ◌∙◌, ◌≡◌, ◌<◌, ◌≤◌, length, length-set}
-use Rattle.std.specs.Int.{from_bool}
-use Rattle.shm_frames.specs.Table.{entry_at, has_owner, free_entry}
+use Rattle.std.proofs.Common.{arith, refl, ◌≡◌, ◌<◌, length, length-set}
+use Rattle.std.proofs.lemmas.Grind.{common_steps}
+use Rattle.shm_frames.specs.Table.{entry_at, free_entry}
 use Rattle.shm_frames.specs.Frame.{no_frame}
 use Rattle.shm_frames.proofs.Shown.{shown, length-shown, edit-shown, entry-is}
 use Rattle.shm_frames.proofs.Counts.{kept-empty, owned-there, changed-there}
@@ -20,23 +20,13 @@ pub index_mut-requires : goal.index_mut-requires
 index_mut-requires c = omega (arith, there (goal.at.index_mut-requires c).After-self)
 
 pub overflow_sub-self : goal.overflow_sub-self
-overflow_sub-self c =
-    let p = goal.at.overflow_sub-self c in
-    let o : from_bool (has_owner c.index.result.now) ≤ c.self.inside.resident = owned-there c.self.invariant.1 (there p.After-self) (at p.After-index) in
-    rw (c.from.ensures, c.is_some.ensures) o
+overflow_sub-self c = grind (arith, common_steps, owned-there, there)
 
 pub overflow_sub-self-2 : goal.overflow_sub-self-2
-overflow_sub-self-2 c =
-    let p = goal.at.overflow_sub-self-2 c in
-    rw c.from-2.ensures (changed-there c.self.invariant.1 (there p.After-self) (at p.After-index))
+overflow_sub-self-2 c = grind (arith, common_steps, changed-there, there)
 
 pub invariant_of-self : goal.invariant_of-self
-invariant_of-self c =
-    let p = goal.at.invariant_of-self c in
-    let least = c.min-self-inside.ensures in
-    let same = c.self.invariant.0 ∙ sym (length-set c.self.inside.table.items c.args.frame _) in
-    let kept = kept-empty c.self.invariant.1 (there p.After-self) (at p.After-index) c.min-self-inside.result (omega (arith, least)) (omega (arith, least)) in
-    (same, rw (c.from.ensures, c.is_some.ensures, c.from-2.ensures) kept)
+invariant_of-self c = grind (arith, common_steps, length-set, kept-empty, there)
 
 pub returns : goal.returns
 returns c =

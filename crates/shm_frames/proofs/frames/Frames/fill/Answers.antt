@@ -1,4 +1,5 @@
-use Rattle.std.proofs.Common.{arith, refl, ap, sym, ◌∙◌, ◌≡◌, ◌<◌, ◌≤◌, length, length-set, None, Some, ◌+◌}
+use Rattle.std.proofs.Common.{arith, refl, sym, ◌∙◌, ◌≡◌, ◌<◌, ◌≤◌, length, length-set, None, Some, ◌+◌}
+use Rattle.std.proofs.lemmas.Grind.{common_steps}
 use Rattle.shm_frames.specs.Table.{entry_at}
 use Rattle.shm_frames.proofs.Shown.{shown, length-shown, edit-shown, entry-is, entry-read}
 use Rattle.shm_frames.proofs.Counts.{kept-fill, owned-more}
@@ -12,9 +13,7 @@ at : (c : After-index_mut-entry) → c.index_mut-entry.result.now ≡ entry_at c
 at c = entry-is (shown c.self.inside c.self.invariant c.self.view_is) c.args.frame c.index_mut-entry.result.now c.requires.there c.index_mut-entry.ensures.value
 
 free : (c : After-index_mut-entry) → c.index_mut-entry.result.now.owner ≡ None
-free c =
-    let s = shown c.self.inside c.self.invariant c.self.view_is in
-    ap (λ f. f.owner) (sym (entry-read s c.args.frame c.index_mut-entry.result.now c.requires.there c.index_mut-entry.ensures.value)) ∙ c.requires.free
+free c = grind (arith, common_steps, entry-read)
 
 pub index_mut-entry-requires : goal.index_mut-entry-requires
 index_mut-entry-requires c = omega (arith, there (goal.at.index_mut-entry-requires c).After-self)

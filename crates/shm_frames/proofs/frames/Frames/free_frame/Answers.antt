@@ -1,5 +1,5 @@
-use Rattle.std.proofs.Common.{◌≡◌, length, None, unwrap_or, sym, ◌∙◌, arith}
-use Rattle.std.specs.Prelude.{position}
+use Rattle.std.proofs.Common.{length, None, sym, ◌∙◌, arith}
+use Rattle.std.proofs.lemmas.Grind.{common_steps}
 use Rattle.shm_frames.specs.Table.{free_entry, has_no_owner, UsedBelow}
 use Rattle.shm_frames.proofs.First.{position-none, before-position, position-le, least_is}
 use Rattle.shm_frames.proofs.Counts.{none-free, kept-later}
@@ -19,17 +19,10 @@ returns-then-self-count-clause-least c =
     least_is c.args.self.now None (free-shown s ∙ position-none has_no_owner c.self.inside.table.items free_entry used)
 
 pub invariant_of-self : goal.invariant_of-self
-invariant_of-self c =
-    let e : position has_no_owner c.self.inside.table.items ≡ c.free_from-found.result = sym c.free_from-found.ensures in
-    let later : c.unwrap_or-self-inside.result ≡ unwrap_or c.free_from-found.result (length c.self.inside.table.items) = (let n : c.len-count.result ≡ length c.self.inside.table.items = omega arith in rw (← n) c.unwrap_or-self-inside.ensures) in
-    (c.self.invariant.0, rw later (kept-later c.self.inside.table.items c.self.inside.first_free c.self.inside.resident c.self.inside.dirty _ c.self.invariant.1 (position-le has_no_owner c.self.inside.table.items free_entry c.free_from-found.result e) (before-position has_no_owner c.self.inside.table.items free_entry c.free_from-found.result e)))
+invariant_of-self c = grind (arith, common_steps, kept-later, position-le, before-position)
 
 pub returns-clause-value : goal.returns-clause-value
-returns-clause-value c =
-    let s = shown c.self.inside c.self.invariant c.self.view_is in
-    c.free_from-found.ensures ∙ sym (free-shown s)
+returns-clause-value c = grind (arith, common_steps, free-shown)
 
 pub returns-clause-least : goal.returns-clause-least
-returns-clause-least c =
-    let s = shown c.self.inside c.self.invariant c.self.view_is in
-    least_is c.args.self.now c.free_from-found.result (free-shown s ∙ sym c.free_from-found.ensures)
+returns-clause-least c = grind (arith, common_steps, least_is, free-shown)

@@ -1,4 +1,5 @@
-use Rattle.std.proofs.Common.{arith, refl, ap, sym, ◌∙◌, ◌≡◌, ◌<◌, ◌≤◌, length, length-set, is_some, ◌+◌, ◌-◌, true}
+use Rattle.std.proofs.Common.{arith, refl, ◌≡◌, ◌<◌, ◌≤◌, length, length-set, ◌+◌, ◌-◌}
+use Rattle.std.proofs.lemmas.Grind.{common_steps}
 use Rattle.std.specs.Int.{from_bool}
 use Rattle.shm_frames.specs.Table.{entry_at}
 use Rattle.shm_frames.proofs.Shown.{shown, length-shown, edit-shown, entry-is, entry-read}
@@ -16,9 +17,7 @@ pub index_mut-entry-requires : goal.index_mut-entry-requires
 index_mut-entry-requires c = omega (arith, there (goal.at.index_mut-entry-requires c).After-self)
 
 pub overflow_sub-self : goal.overflow_sub-self
-overflow_sub-self c =
-    let o = goal.at.overflow_sub-self c in
-    rw c.from.ensures (changed-there c.self.invariant.1 (there o.After-self) (at o.After-index_mut-entry))
+overflow_sub-self c = grind (arith, common_steps, changed-there, there)
 
 pub overflow_add-self : goal.overflow_add-self
 overflow_add-self c =
@@ -29,14 +28,7 @@ overflow_add-self c =
     rw (c.from.ensures, c.from-2.ensures) (omega (arith, m, c.self.invariant.1.few))
 
 pub invariant_of-self : goal.invariant_of-self
-invariant_of-self c =
-    let o = goal.at.invariant_of-self c in
-    let s = shown c.self.inside c.self.invariant c.self.view_is in
-    let was = c.index_mut-entry.result.now in
-    let some : is_some was.owner ≡ true = ap (λ f. is_some f.owner) (sym (entry-read s c.args.frame was c.requires.there c.index_mut-entry.ensures.value)) ∙ c.requires.owned in
-    let same = c.self.invariant.0 ∙ sym (length-set c.self.inside.table.items c.args.frame _) in
-    let less = changed-there c.self.invariant.1 (there o.After-self) (at o.After-index_mut-entry) in
-    (same, kept-bits c.self.invariant.1 (there o.After-self) (at o.After-index_mut-entry) (record was { dirty = c.args.dirty }) _ some refl (rw (c.from.ensures, c.from-2.ensures) (omega (arith, less))))
+invariant_of-self c = grind (arith, common_steps, entry-read, length-set, changed-there, there, kept-bits)
 
 pub returns : goal.returns
 returns c =

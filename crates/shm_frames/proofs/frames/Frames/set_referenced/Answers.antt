@@ -1,23 +1,14 @@
-use Rattle.std.proofs.Common.{arith, refl, ap, sym, ◌∙◌, ◌≡◌, ◌<◌, length, length-set, is_some, true}
-use Rattle.shm_frames.specs.Table.{entry_at}
-use Rattle.shm_frames.specs.declared.frames.Entry.{Entry}
+use Rattle.std.proofs.Common.{arith, refl, length-set}
+use Rattle.std.proofs.lemmas.Grind.{common_steps}
 use Rattle.shm_frames.proofs.Shown.{shown, length-shown, edit-shown, entry-is, entry-read}
 use Rattle.shm_frames.proofs.Counts.{kept-bits}
 use Rattle.shm_frames.proofs.frames.Frames.set_referenced.Goals as goal
 
 pub index_mut-entry-requires : goal.index_mut-entry-requires
-index_mut-entry-requires c =
-    let s = shown c.self.inside c.self.invariant c.self.view_is in
-    omega (arith, length-shown s)
+index_mut-entry-requires c = grind (arith, common_steps, length-shown)
 
 pub invariant_of-self : goal.invariant_of-self
-invariant_of-self c =
-    let s = shown c.self.inside c.self.invariant c.self.view_is in
-    let was : Entry = c.index_mut-entry.result.now in
-    let at : was ≡ entry_at c.self.inside.table.items c.args.frame = entry-is s c.args.frame was c.requires.there c.index_mut-entry.ensures.value in
-    let there : c.args.frame < length c.self.inside.table.items = omega (arith, length-shown s) in
-    let some : is_some was.owner ≡ true = ap (λ f. is_some f.owner) (sym (entry-read s c.args.frame was c.requires.there c.index_mut-entry.ensures.value)) ∙ c.requires.owned in
-    (c.self.invariant.0 ∙ sym (length-set c.self.inside.table.items c.args.frame _), kept-bits c.self.invariant.1 there at (record was { referenced = c.args.referenced }) c.self.inside.dirty some refl refl)
+invariant_of-self c = grind (arith, common_steps, entry-is, length-shown, entry-read, length-set, kept-bits)
 
 pub returns : goal.returns
 returns c =

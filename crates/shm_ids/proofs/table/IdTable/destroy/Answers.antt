@@ -1,4 +1,5 @@
 use Rattle.std.proofs.Common.{◌≡◌, ◌∙◌, ap, arith, rules, to_z, of_z, w32}
+use Rattle.std.proofs.lemmas.Grind.{common_steps}
 use Rattle.shm_ids.specs.Table.{index_of}
 use Rattle.shm_ids.proofs.Look.{live_at}
 use Rattle.shm_ids.proofs.Steps.{Sound-destroy}
@@ -17,9 +18,4 @@ invariant_of-self g c =
     )
 
 pub overflow_sub-self : goal.overflow_sub-self
-overflow_sub-self g c =
-    let l = live_at _ c.args.id (rw (← c.self.view_is) at c.requires.live) in
-    let signed : to_z w32 (of_z w32 c.args.id) ≡ c.args.id = search rules in
-    let i : c.index_in-index.result ≡ index_of c.args.id = c.index_in-index.ensures ∙ ap index_of signed in
-    let gone = row_count-without_row c.self.inside.entries.items c.index_in-index.result c.take_row-row.result (rw i l.within) c.take_row-row.ensures.row in
-    omega (arith, gone, c.self.invariant.1)
+overflow_sub-self g c = grind (arith, common_steps, live_at, row_count-without_row)

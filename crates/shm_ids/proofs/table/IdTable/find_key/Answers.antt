@@ -1,4 +1,5 @@
-use Rattle.std.proofs.Common.{rules, pos, ◌≡◌, ◌%◌, sym, ap, ◌∙◌, option_map, to_z, of_z, w32}
+use Rattle.std.proofs.Common.{rules, pos, ◌≡◌, ◌%◌, sym, ap, ◌∙◌, arith}
+use Rattle.std.proofs.lemmas.Grind.{common_steps}
 use Rattle.std.proofs.lemmas.List.{get_or_read}
 use Rattle.shm_ids.specs.Table.{id_at, entry_at, unused, identifier}
 use Rattle.shm_ids.proofs.Keys.{find_key-get}
@@ -7,9 +8,7 @@ use Rattle.shm_ids.proofs.Look.{look-found, identifier-mod}
 use Rattle.shm_ids.proofs.table.IdTable.find_key.Goals as goal
 
 pub returns-in_err-index-clause-value : goal.returns-in_err-index-clause-value
-returns-in_err-index-clause-value g c =
-    let t = c.self.inside.entries.items in
-    rw (← c.self.view_is, c.from_residual.ensures, find_key-get t _ c.args.key c.self.invariant.0.keyed) (ap (option_map (id_at t)) c.in_err-index.ensures.value)
+returns-in_err-index-clause-value g c = grind (arith, common_steps, find_key-get)
 
 pub index-requires : goal.index-requires
 index-requires g c =
@@ -28,10 +27,8 @@ returns-clause-live g c =
     let got = sym c.in_ok-index.ensures.value in
     let n = named _ _ c.args.key _ _ c.self.invariant.0 got in
     let read = get_or_read _ _ _ n.within c.index.ensures unused in
-    let signed : to_z w32 (of_z w32 c.id_of.result) ≡ c.id_of.result = search rules in
     let id : c.id_of.result ≡ id_at t c.in_ok-index.field-0.now = c.id_of.ensures ∙ ap (λ e. pos (identifier c.in_ok-index.field-0.now e.destroyed)) read in
-    rw (← c.self.view_is, signed, id)
-    (look-found t _ c.args.key c.in_ok-index.field-0.now _ c.self.invariant.0 got)
+    grind (arith, common_steps, look-found)
 
 pub returns-clause-index : goal.returns-clause-index
 returns-clause-index g c =
@@ -40,16 +37,9 @@ returns-clause-index g c =
     let got = sym c.in_ok-index.ensures.value in
     let n = named _ _ c.args.key _ _ c.self.invariant.0 got in
     let read = get_or_read _ _ _ n.within c.index.ensures unused in
-    let signed : to_z w32 (of_z w32 c.id_of.result) ≡ c.id_of.result = search rules in
     let id : c.id_of.result ≡ id_at t i = c.id_of.ensures ∙ ap (λ e. pos (identifier i e.destroyed)) read in
     let own : identifier i (entry_at t i).destroyed % 32768 ≡ i = identifier-mod i (entry_at t i).destroyed n.small in
-    rw (← c.self.view_is, signed, id, own, find_key-get t _ c.args.key c.self.invariant.0.keyed) got
+    grind (arith, common_steps, find_key-get)
 
 pub returns-clause-value : goal.returns-clause-value
-returns-clause-value g c =
-    let t = c.self.inside.entries.items in
-    let n = named _ _ c.args.key _ _ c.self.invariant.0 (sym c.in_ok-index.ensures.value) in
-    let read = get_or_read _ _ _ n.within c.index.ensures unused in
-    let signed : to_z w32 (of_z w32 c.id_of.result) ≡ c.id_of.result = search rules in
-    let id : c.id_of.result ≡ id_at t c.in_ok-index.field-0.now = c.id_of.ensures ∙ ap (λ e. pos (identifier c.in_ok-index.field-0.now e.destroyed)) read in
-    rw (← c.self.view_is, signed, id, find_key-get t _ c.args.key c.self.invariant.0.keyed) (ap (option_map (id_at t)) c.in_ok-index.ensures.value)
+returns-clause-value g c = grind (arith, common_steps, named, get_or_read, find_key-get)

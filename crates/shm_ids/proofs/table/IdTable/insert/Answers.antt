@@ -1,5 +1,5 @@
-use Rattle.std.proofs.Common.{rules, ◌≡◌, ◌%◌, refl, sym, ap, ◌∙◌, arith, option_map, is_some, to_z, of_z, w32}
-use Rattle.shm_ids.specs.Table.{id_at, with_row, entry_at, look_row, identifier}
+use Rattle.std.proofs.Common.{refl, sym, ap, ◌∙◌, arith, is_some}
+use Rattle.std.proofs.lemmas.Grind.{common_steps}
 use Rattle.shm_ids.proofs.Free.{used_within, skip}
 use Rattle.shm_ids.proofs.Entries.{with_row-few}
 use Rattle.shm_ids.proofs.Steps.{Sound-same, fresh, Sound-put}
@@ -30,9 +30,7 @@ put_row-id-requires-clause-within g c =
     rw c.room_at.ensures.items (f.within, f.small)
 
 pub put_row-id-requires-clause-wear : goal.put_row-id-requires-clause-wear
-put_row-id-requires-clause-wear g c =
-    let f = fresh _ _ c.in-Some.index _ c.self.invariant.0 (sym c.free_from.ensures ∙ c.in-Some.is) in
-    rw c.room_at.ensures.items f.wear
+put_row-id-requires-clause-wear g c = grind (arith, common_steps, fresh)
 
 pub invariant_of-self-2 : goal.invariant_of-self-2
 invariant_of-self-2 g c =
@@ -45,53 +43,22 @@ invariant_of-self-2 g c =
     )
 
 pub overflow_add-self-2 : goal.overflow_add-self-2
-overflow_add-self-2 g c =
-    let few = row_count-le-length c.self.inside.entries.items in
-    omega (arith, few, c.self.invariant.1, c.self.invariant.0.fits.indexes)
+overflow_add-self-2 g c = grind (arith, common_steps, row_count-le-length)
 
 pub returns-clause-index : goal.returns-clause-index
-returns-clause-index g c =
-    let t = c.self.inside.entries.items in
-    let found = skip _ _ c.self.invariant.0.used ∙ sym c.free_from.ensures ∙ c.in-Some.is in
-    let f = fresh _ _ c.in-Some.index _ c.self.invariant.0 (sym c.free_from.ensures ∙ c.in-Some.is) in
-    let signed : to_z w32 (of_z w32 c.put_row-id.result) ≡ c.put_row-id.result = search rules in
-    let id : c.put_row-id.result ≡ id_at t c.in-Some.index = rw (← c.room_at.ensures.items) c.put_row-id.ensures.id in
-    let own : identifier c.in-Some.index (entry_at t c.in-Some.index).destroyed % 32768 ≡ c.in-Some.index = identifier-mod c.in-Some.index _ f.small in
-    rw (← c.self.view_is, signed, id, own) found
+returns-clause-index g c = grind (arith, common_steps, skip, fresh, identifier-mod)
 
 pub returns-clause-few : goal.returns-clause-few
-returns-clause-few g c =
-    let t = c.self.inside.entries.items in
-    let f = fresh _ _ c.in-Some.index _ c.self.invariant.0 (sym c.free_from.ensures ∙ c.in-Some.is) in
-    let items : c.put_row-id.new.entries.items ≡ with_row t c.in-Some.index c.args.key c.args.value = rw (← c.room_at.ensures.items) c.put_row-id.ensures.items in
-    rw items (with_row-few t c.in-Some.index c.args.key c.args.value f.within f.small c.self.invariant.0.fits.indexes)
+returns-clause-few g c = grind (arith, common_steps, fresh, with_row-few)
 
 pub returns-clause-fresh : goal.returns-clause-fresh
-returns-clause-fresh g c =
-    let t = c.self.inside.entries.items in
-    let f = fresh _ _ c.in-Some.index _ c.self.invariant.0 (sym c.free_from.ensures ∙ c.in-Some.is) in
-    let signed : to_z w32 (of_z w32 c.put_row-id.result) ≡ c.put_row-id.result = search rules in
-    let id : c.put_row-id.result ≡ id_at t c.in-Some.index = rw (← c.room_at.ensures.items) c.put_row-id.ensures.id in
-    rw (← c.self.view_is, signed, id) (look-id_at t c.in-Some.index f.small ∙ ap look_row f.row)
+returns-clause-fresh g c = grind (arith, common_steps, fresh, look-id_at)
 
 pub returns-clause-ok : goal.returns-clause-ok
-returns-clause-ok g c =
-    let t = c.self.inside.entries.items in
-    let found = skip _ _ c.self.invariant.0.used ∙ sym c.free_from.ensures ∙ c.in-Some.is in
-    let signed : to_z w32 (of_z w32 c.put_row-id.result) ≡ c.put_row-id.result = search rules in
-    let id : c.put_row-id.result ≡ id_at t c.in-Some.index = rw (← c.room_at.ensures.items) c.put_row-id.ensures.id in
-    let items : c.put_row-id.new.entries.items ≡ with_row t c.in-Some.index c.args.key c.args.value = rw (← c.room_at.ensures.items) c.put_row-id.ensures.items in
-    rw (← c.self.view_is, signed, id, items) (ap (option_map (λ i. (id_at t i, with_row t i c.args.key c.args.value))) found)
+returns-clause-ok g c = grind (arith, common_steps, skip)
 
 pub returns-in_default-clause-no_memory : goal.returns-in_default-clause-no_memory
-returns-in_default-clause-no_memory g c =
-    let full = skip _ _ c.self.invariant.0.used ∙ sym c.free_from.ensures ∙ c.in_default.is in
-    λ _. rw (← c.self.view_is, full) tt
+returns-in_default-clause-no_memory g c = grind (arith, common_steps, skip)
 
 pub returns-then-is_err-clause-no_memory : goal.returns-then-is_err-clause-no_memory
-returns-then-is_err-clause-no_memory g c =
-    let found = skip _ _ c.self.invariant.0.used ∙ sym c.free_from.ensures ∙ c.in-Some.is in
-    λ no_key. rw (← c.self.view_is, found) (λ within. elim c.then-is_err.branch [
-      | then-is_err-via-then-is_err w ↦ let ok = c.room_at.ensures.no_memory within in search rules
-      | then-is_err-via-else-is_err+then-is_err-2 w ↦ let ok = w.room_for.ensures.no_memory no_key in search rules
-    ])
+returns-then-is_err-clause-no_memory g c = grind (arith, common_steps, skip)
