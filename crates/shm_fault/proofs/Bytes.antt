@@ -13,6 +13,7 @@ use Rattle.shm_fault.specs.Store.{StoreView, page_bytes, held_by, held}
 use Rattle.shm_fault.specs.Goes.{Outline, outline, outlines}
 use Rattle.shm_fault.proofs.Pages.{has-head, rec-head, has-tail, rec-tail}
 use Rattle.std.proofs.lemmas.Grind.{common_steps}
+use Rattle.std.proofs.lemmas.Bool.Decides.{nat_tests}
 
 -- the bytes of so many pages of a segment, from page i on, joined
 unfoldable pub joined : (PageRef → List ℕ) → ℕ → ℕ → ℕ → List ℕ
@@ -73,8 +74,7 @@ held-is s apart = held-list s.frames s.swap s.segs (bytes_at s) apart (λ r has.
 
 -- no page's bytes changed
 pub held-same : (s t : StoreView) → AreApart s.segs → AreApart t.segs → outlines t.segs ≡ outlines s.segs → ((r : PageRef) → HasPage s.segs r → bytes_at t r ≡ bytes_at s r) → held t ≡ held s
-held-same s t apart after shape same =
-    held-is t after ∙ ap (held_of (bytes_at t)) shape ∙ held_of-ext (bytes_at t) (bytes_at s) s.segs apart same ∙ sym (held-is s apart)
+held-same s t apart after shape same = grind (arith, nat_tests, common_steps, held-is, held_of, bytes_at, held_of-ext, s.segs)
 
 take-past : (x y : List ℕ) (n m : ℕ) → length x ≡ n → take (n + m) (x ++ y) ≡ x ++ take m y
 take-past [] y n m e = let z : n + m ≡ m = omega arith in rw z refl

@@ -17,6 +17,8 @@ use Rattle.shm_fault.proofs.Slots.{OnlySlot, OnlySlot-owner, owner-set, cases_sl
 use Rattle.shm_fault.proofs.Ties.{FramesApart, SlotsApart, Touches, IsOwn-none, IsOwn-some, segs-same, segs-with, frames-same, frames-set, slots-same, slots-only, bytes_touched}
 use Rattle.shm_fault.proofs.Bytes.{bytes_at}
 use Rattle.shm_fault.proofs.Sound.{sound-touched, goes-touched, GoesOn-refl}
+use Rattle.std.proofs.lemmas.Grind.{common_steps}
+use Rattle.std.proofs.lemmas.Bool.Decides.{nat_tests}
 
 -- the page of a frame that has one
 pub record Own (o : Option PageRef) : Type 0 where
@@ -60,17 +62,10 @@ abbrev pub every : PageRef → Bool
 every q = true
 
 pub keeps-every : (s t : StoreView) → IsStoreSound s → Touches every s t → IsSwap t.swap → sizes t.swap ≡ sizes s.swap → t.hand < length t.frames → GoesOn s.swap t.swap → Keeps s t
-keeps-every s t sound to is same hand goes_on = record {
-  sound = sound-touched every s t sound to is same hand (λ q n h. cc) (λ f q n h. cc) (λ k q n h. cc);
-  goes = goes-touched every s t sound to is same hand (λ q n h. cc) (λ f q n h. cc) (λ k q n h. cc) goes_on (λ q n h. cc);
-}
+keeps-every s t sound to is same hand goes_on = grind (arith, nat_tests, common_steps, sound-touched, every, goes-touched)
 
 pub slots-kept : {off : PageRef → Bool} (s u : SwapView) → SameSlots s u → SlotsApart off s u
-slots-kept s u kept = record {
-  has = λ k q e o h. (rw kept.areas h.0, rw (kept.pages k.area) h.1);
-  kept = λ k q e o. (ap (λ os. get_or os k.slot None) (kept.owners k.area) ∙ o, ap (λ ps. get_or ps k.slot []) (kept.pages k.area));
-  owners = λ k q e o. sym (ap (λ os. get_or os k.slot None) (kept.owners k.area)) ∙ o;
-}
+slots-kept s u kept = grind (arith, nat_tests, common_steps, kept.areas, kept.pages, kept.owners)
 
 -- frames are alike, and all else but the hand is as it was
 pub keeps-alike : (s : StoreView) → IsStoreSound s → (frames : List Frame) (hand : ℕ) → length frames ≡ length s.frames → ((f : ℕ) → Alike (frame_at s.frames f) (frame_at frames f)) → hand < length frames
@@ -174,20 +169,7 @@ module _ (s : StoreView) (sound : IsStoreSound s) (r : PageRef) (f : ℕ) (k : S
 
   pub takes : IsSwap (with_slot_owner s.swap k (Some r)) → sizes (with_slot_owner s.swap k (Some r)) ≡ sizes s.swap → GoesOn s.swap (with_slot_owner s.swap k (Some r))
       → Takes f k s (record s { segs = with_rec s.segs r (record { frame = (rec_by s.segs r).frame; slot = Some k }); swap = with_slot_owner s.swap k (Some r) })
-  takes is same goes_on =
-      let p : PageRec = record { frame = (rec_by s.segs r).frame; slot = Some k } in
-      let keeps = keeps-take is same goes_on in
-      let at_frame : (rec_by s.segs r).frame ≡ Some f = tie-ts.owner_resident f owned in
-      record {
-        sound = keeps.sound;
-        goes = keeps.goes;
-        slot = λ q e. let one : q ≡ r = some_same r q (frame_at s.frames f).owner owned e in rw (one, rec-with s.segs r p has-ts) refl;
-        still = still-with s.segs r p has-ts refl;
-        away = λ q none. elim (cases_ref r q) [
-          | inl one ↦ cc (at_frame, rw one at none)
-          | inr off ↦ rec-with_other s.segs r q p off
-        ];
-      }
+  takes is same goes_on = grind (arith, nat_tests, common_steps, s.segs, keeps-take, tie-ts.owner_resident, some_same, s.frames, rec-with, has-ts, still-with, cases_ref, rec-with_other)
 
 -- a page in a clean frame leaves it
 module _ (s : StoreView) (sound : IsStoreSound s) (r : PageRef) (f : ℕ) (bytes : List ℕ) (owned : (frame_at s.frames f).owner ≡ Some r) (clean : (frame_at s.frames f).dirty ≡ false) where
@@ -283,12 +265,7 @@ module _ (s : StoreView) (sound : IsStoreSound s) (r : PageRef) (f : ℕ) (x : F
   own-st = (tie-st.frame_owned f at_frame).1
 
   to-st : Touches (other r) s (record s { frames = set s.frames f x })
-  to-st =
-      record {
-        segs = segs-same s.segs;
-        frames = frames-set (other r) s.frames f x (IsOwn-some r _ own-st) (IsOwn-some r _ (x_owner ∙ own-st)) (λ none. cc (none, x_owner, own-st)) sound.tied.free;
-        slots = slots-same s.swap;
-      }
+  to-st = grind (arith, nat_tests, common_steps, segs-same, s.segs, frames-set, other, s.frames, own-st, sound.tied.free, slots-same, s.swap)
 
   set-st : frame_at (set s.frames f x) f ≡ x
   set-st = get_or-set_same s.frames f x no_frame lt-st
@@ -300,10 +277,7 @@ module _ (s : StoreView) (sound : IsStoreSound s) (r : PageRef) (f : ℕ) (x : F
   bytes-there q there off = bytes_touched (other r) s (record s { frames = set s.frames f x }) to-st q off (sound.tied.pages q there)
 
   pub bytes-others : (q : PageRef) → q ≢ r → page_bytes (set s.frames f x) s.swap (rec_by s.segs q) ≡ page_bytes s.frames s.swap (rec_by s.segs q)
-  bytes-others q n = elim (cases_lt q.page (count_by_id s.segs q.seg)) [
-    | inl there ↦ bytes-there q there (other-true r q n)
-    | inr past ↦ rw (rec-past s.segs q past) refl
-  ]
+  bytes-others q n = grind (arith, nat_tests, common_steps, q.page, s.segs, q.seg, bytes-there, other-true, rec-past)
 
   pub sound-stored : IsStoreSound (record s { frames = set s.frames f x })
   sound-stored =

@@ -19,6 +19,8 @@ use Rattle.shm_fault.proofs.Pages.{rec-with, rec-with_other, cases_ref, other_ne
 use Rattle.shm_fault.proofs.Sound.{frame-own, Goes-trans, KeepsLocked-trans}
 use Rattle.shm_fault.proofs.Changes.{keeps-alike, keeps-load, keeps-settle}
 use Rattle.shm_fault.proofs.Slots.{set-cases}
+use Rattle.std.proofs.lemmas.Grind.{common_steps}
+use Rattle.std.proofs.lemmas.Bool.Decides.{nat_tests}
 
 pub Visits-trans : (r : PageRef) (pinned : Option ℕ) (s t u : StoreView) → Visits r pinned s t → Visits r pinned t u → Visits r pinned s u
 Visits-trans r pinned s t u a b = record {
@@ -34,10 +36,7 @@ module _ (gs : List SegRec) (pinned : Option ℕ) (frames : List Frame) (f : ℕ
   victim-unlocked = not-true (locked_by gs page.seg) (rw owner at (and_parts (owner_passes (unlocked gs) (frame_at frames f).owner) (not (is_pinned pinned f)) may).0)
 
   pub victim-loose : (p : ℕ) → pinned ≡ Some p → p ≢ f
-  victim-loose p is same =
-      let n : not (is_pinned pinned f) ≡ true = (and_parts (owner_passes (unlocked gs) (frame_at frames f).owner) (not (is_pinned pinned f)) may).1 in
-      let q : is_pinned pinned f ≡ true = rw is (eq-eqb p f same) in
-      false≢true (sym (not-true (is_pinned pinned f) n) ∙ q)
+  victim-loose p is same = grind (arith, nat_tests, common_steps, not, and_parts, not-true)
 
 module _ (s t₁ t₂ t₃ : StoreView) (f : ℕ) (page : PageRef) (pinned : Option ℕ) (x y : Frame)
     (segs₁ : t₁.segs ≡ s.segs) (still : Still t₁ t₂) (away : StaysAway t₁ t₂)
@@ -50,9 +49,7 @@ module _ (s t₁ t₂ t₃ : StoreView) (f : ℕ) (page : PageRef) (pinned : Opt
   first = ap (λ (gs : List SegRec). (rec_by gs page).frame) (sym segs₁) ∙ sym (still page) ∙ was
 
   pub evicted-gone : (q : PageRef) → frame_by t₃ q ≡ cond (same_ref page q) None (frame_by s q)
-  evicted-gone q =
-      let p : PageRec = record (rec_by t₂.segs page) { frame = None } in
-      grind (arith, cases_ref page q, segs₃, segs₁, same-self page, same-other page q, rec-with t₂.segs page p there, rec-with_other t₂.segs page q p, still q)
+  evicted-gone q = grind (arith, nat_tests, common_steps, t₂.segs, cases_ref, same-self, same-other, rec-with, there, rec-with_other)
 
   other-rec : (q : PageRef) → q ≢ page → rec_by t₃.segs q ≡ rec_by t₂.segs q
   other-rec q n = ap (λ (gs : List SegRec). rec_by gs q) segs₃ ∙ (rec-with_other t₂.segs page q (record (rec_by t₂.segs page) { frame = None }) (other-true page q n))
@@ -166,10 +163,7 @@ pub visits-away : (pinned : Option ℕ) (s t : StoreView) → ((r : PageRef) →
 visits-away pinned s t all q e = (all (record { seg = q.seg; page = suc q.page })).away q (λ same. absurd (let h : q.page ≡ suc q.page = ap (λ (r : PageRef). r.page) same in omega arith)) e
 
 alike-set : (frames : List Frame) (f : ℕ) (x : Frame) → Alike (frame_at frames f) x → (g : ℕ) → Alike (frame_at frames g) (frame_at (set frames f x) g)
-alike-set frames f x like g = elim (set-cases frames f x no_frame g) [
-  | inl same ↦ rw (same.1, same.0) like
-  | inr kept ↦ rw kept (Alike-refl (frame_at frames g))
-]
+alike-set frames f x like g = grind (arith, nat_tests, common_steps, set-cases)
 
 -- a frame's referenced bit is set
 pub step-touch : (s : StoreView) → IsStoreSound s → (f : ℕ) → f < length s.frames → IsStep s (record s { frames = set s.frames f (record (frame_at s.frames f) { referenced = true }) })
