@@ -115,10 +115,7 @@ module _ (s : StoreView) (sound : IsStoreSound s) (r : PageRef) (f : ℕ) (k : S
       let same : bytes_at t r ≡ bytes_at s r = rw (at, at_frame) (ap (λ (y : Frame). y.bytes) set_at) in
       let tie : IsTied t r = record {
         frame_owned = λ g e. let q : g ≡ f = cc (rw at at e) in (rw (q, length-set s.frames f x) own.0, rw (q, set_at) own.1);
-        owner_resident = λ g e. elim (set-cases s.frames f x no_frame g) [
-          | inl q ↦ rw (at, q.0) refl
-          | inr kept ↦ rw at (sym at_frame ∙ tie-s.owner_resident g (rw kept at e))
-        ];
+        owner_resident = λ g e. grind (arith, nat_tests, common_steps, set-cases, s.frames, x, at_frame, tie-s.owner_resident);
         slot_owned = λ j e. cc (rw at at e);
         owner_stored = λ j e. absurd (sl.none j e);
         clean = λ g e d. let q : g ≡ f = cc (rw at at e) in cc (rw (q, set_at) at d);
@@ -225,10 +222,7 @@ cleaned-more area n s t u d sound goes still rest cleared = record {
   goes = Goes-trans s t u d.goes goes;
   still = λ q. still q ∙ d.still q;
   rest = AtRest-trans s t u d.rest rest;
-  free = λ slot lt. elim (cases_eq slot n) [
-    | inl e ↦ rw e cleared.free
-    | inr ne ↦ cleared.rest slot (d.free slot (omega arith))
-  ];
+  free = λ slot lt. grind (arith, nat_tests, common_steps, cleared.free, cleared.rest, d.free);
 }
 
 module _ (area n : ℕ) (s t : StoreView) (d : IsCleaned area n s t) (here : (area_at s.swap area).here ≡ true) where

@@ -71,12 +71,7 @@ slots-kept s u kept = grind (arith, nat_tests, common_steps, kept.areas, kept.pa
 pub keeps-alike : (s : StoreView) → IsStoreSound s → (frames : List Frame) (hand : ℕ) → length frames ≡ length s.frames → ((f : ℕ) → Alike (frame_at s.frames f) (frame_at frames f)) → hand < length frames
     → Keeps s (record s { frames = frames; hand = hand })
 keeps-alike s sound frames hand size alike on =
-    let apart : FramesApart every s.frames frames = record {
-      size = size;
-      alike = λ f q e o. alike f;
-      owners = λ f q e o. sym (alike f).owner ∙ o;
-      free = λ f e. (alike f).dirty ∙ sound.tied.free f (sym (alike f).owner ∙ e);
-    } in
+    let apart : FramesApart every s.frames frames = grind (arith, nat_tests, common_steps, sound.tied.free) in
     keeps-every s (record s { frames = frames; hand = hand }) sound (record { segs = segs-same s.segs; frames = apart; slots = slots-same s.swap }) sound.swap refl on (GoesOn-refl s.swap)
 
 -- a resident page's frame was written to its slot, or the try failed
@@ -102,19 +97,13 @@ module _ (s : StoreView) (sound : IsStoreSound s) (r : PageRef) (f : ℕ) (k : S
       let bytes : bytes_at t r ≡ bytes_at s r = rw at_frame (ap (λ (y : Frame). y.bytes) set_at ∙ x_bytes) in
       let tie : IsTied t r = record {
         frame_owned = λ g e. let q : g ≡ f = cc (at_frame, e) in (rw (q, length-set s.frames f x) lt, rw (q, set_at) x_owner);
-        owner_resident = λ g e. elim (set-cases s.frames f x no_frame g) [
-          | inl q ↦ rw q.0 at_frame
-          | inr kept ↦ tie-s.owner_resident g (rw kept at e)
-        ];
+        owner_resident = λ g e. grind (arith, nat_tests, common_steps, set-cases, s.frames, at_frame, tie-s.owner_resident);
         slot_owned = λ j e. let q : j ≡ k = cc (slot, e) in (only.has j (tie-s.slot_owned j e).0, rw q (owner ∙ own));
         owner_stored = λ j e. elim (cases_slot j k) [
           | inl q ↦ rw q slot
           | inr n ↦ tie-s.owner_stored j (sym (only.owners j n) ∙ e)
         ];
-        clean = λ g e d.
-            let q : g ≡ f = cc (at_frame, e) in
-            let c : x.dirty ≡ false = rw (q, set_at) at d in
-            rw (q, set_at, slot) (clean c);
+        clean = λ g e d. grind (arith, nat_tests, common_steps, at_frame, x.dirty, set_at);
         whole = rw bytes tie-s.whole;
       } in
       keeps-one s t sound r has to is same (rw (length-set s.frames f x) sound.hand) goes_on tie bytes
@@ -152,19 +141,7 @@ module _ (s : StoreView) (sound : IsStoreSound s) (r : PageRef) (f : ℕ) (k : S
         slots = slots-only (other r) k s.swap u only (IsOwn-none (other r) _ free) (IsOwn-some r _ own);
       } in
       let bytes : bytes_at t r ≡ bytes_at s r = rw (at, at_frame) refl in
-      let tie : IsTied t r = record {
-        frame_owned = λ g e. tie-ts.frame_owned g (rw at at e);
-        owner_resident = λ g e. rw at (tie-ts.owner_resident g e);
-        slot_owned = λ j e. let q : j ≡ k = cc (rw at at e) in (rw q (only.has k there), rw q own);
-        owner_stored = λ j e. elim (cases_slot j k) [
-          | inl q ↦ rw (at, q) refl
-          | inr n ↦ cc (none, tie-ts.owner_stored j (sym (only.owners j n) ∙ e))
-        ];
-        clean = λ g e d.
-            let q : g ≡ f = cc (at_frame, rw at at e) in
-            cc (dirty, rw q at d);
-        whole = rw bytes tie-ts.whole;
-      } in
+      let tie : IsTied t r = grind (arith, nat_tests, common_steps, tie-ts.frame_owned, tie-ts.owner_resident, only.has, own, cases_slot, tie-ts.owner_stored, only.owners, at_frame, bytes, tie-ts.whole) in
       keeps-one s t sound r has-ts to is same sound.hand goes_on tie bytes
 
   pub takes : IsSwap (with_slot_owner s.swap k (Some r)) → sizes (with_slot_owner s.swap k (Some r)) ≡ sizes s.swap → GoesOn s.swap (with_slot_owner s.swap k (Some r))
@@ -191,9 +168,7 @@ module _ (s : StoreView) (sound : IsStoreSound s) (r : PageRef) (f : ℕ) (bytes
       let same : bytes_at t r ≡ bytes_at s r = rw (at, at_frame) (sym (tie-s.clean f at_frame clean)) in
       let tie : IsTied t r = record {
         frame_owned = λ g e. cc (rw at at e);
-        owner_resident = λ g e.
-            let q : g ≡ f = elim (set-cases s.frames f x no_frame g) [ inl q ↦ q.0 | inr kept ↦ cc (at_frame, tie-s.owner_resident g (rw kept at e)) ] in
-            cc (rw (q, get_or-set_same s.frames f x no_frame lt) at e);
+        owner_resident = λ g e. grind (arith, nat_tests, common_steps, set-cases, s.frames, x, at_frame, tie-s.owner_resident, get_or-set_same, lt);
         slot_owned = λ j e. tie-s.slot_owned j (rw at at e);
         owner_stored = λ j e. rw at (tie-s.owner_stored j e);
         clean = λ g e d. cc (rw at at e);
@@ -218,17 +193,7 @@ module _ (s : StoreView) (sound : IsStoreSound s) (r : PageRef) (f : ℕ) (has :
         slots = slots-same s.swap;
       } in
       let same : bytes_at t r ≡ bytes_at s r = rw (at, away) (ap (λ (y : Frame). y.bytes) set_at ∙ bytes) in
-      let tie : IsTied t r = record {
-        frame_owned = λ g e. let q : g ≡ f = cc (rw at at e) in (rw (q, length-set s.frames f x) lt, rw (q, set_at) refl);
-        owner_resident = λ g e. elim (set-cases s.frames f x no_frame g) [
-          | inl q ↦ rw (at, q.0) refl
-          | inr kept ↦ cc (away, tie-s.owner_resident g (rw kept at e))
-        ];
-        slot_owned = λ j e. tie-s.slot_owned j (rw at at e);
-        owner_stored = λ j e. rw at (tie-s.owner_stored j e);
-        clean = λ g e d. let q : g ≡ f = cc (rw at at e) in rw (q, set_at, at) bytes;
-        whole = rw same tie-s.whole;
-      } in
+      let tie : IsTied t r = grind (arith, nat_tests, common_steps, s.frames, x, set_at, set-cases, tie-s.owner_resident, tie-s.slot_owned, tie-s.owner_stored, same, tie-s.whole) in
       keeps-one s t sound r has to sound.swap refl (rw (length-set s.frames f x) sound.hand) (GoesOn-refl s.swap) tie same
 
 -- a free frame gets other bytes
@@ -237,11 +202,7 @@ pub keeps-load : (s : StoreView) → IsStoreSound s → (f : ℕ) (bytes : List 
 keeps-load s sound f bytes free u ins kept is same goes_on =
     let x : Frame = record (frame_at s.frames f) { bytes = bytes } in
     let t : StoreView = record { segs = s.segs; frames = set s.frames f x; hand = s.hand; swap = u; ins = ins; outs = s.outs } in
-    let to : Touches every s t = record {
-      segs = segs-same s.segs;
-      frames = frames-set every s.frames f x (IsOwn-none every _ free) (IsOwn-none every _ free) (sound.tied.free f) sound.tied.free;
-      slots = slots-kept s.swap u kept;
-    } in
+    let to : Touches every s t = grind (arith, nat_tests, common_steps, segs-same, s.segs, frames-set, every, s.frames, x, sound.tied.free, slots-kept, s.swap) in
     keeps-every s t sound to is same (rw (length-set s.frames f x) sound.hand) goes_on
 
 -- a frame set twice
@@ -282,17 +243,5 @@ module _ (s : StoreView) (sound : IsStoreSound s) (r : PageRef) (f : ℕ) (x : F
   pub sound-stored : IsStoreSound (record s { frames = set s.frames f x })
   sound-stored =
       let t : StoreView = record s { frames = set s.frames f x } in
-      let tie : IsTied t r = record {
-        frame_owned = λ g e. let q : g ≡ f = cc (at_frame, e) in (rw (q, length-set s.frames f x) lt-st, rw (q, set-st) (x_owner ∙ own-st));
-        owner_resident = λ g e. elim (set-cases s.frames f x no_frame g) [
-          | inl q ↦ rw q.0 at_frame
-          | inr kept ↦ tie-st.owner_resident g (rw kept at e)
-        ];
-        slot_owned = tie-st.slot_owned;
-        owner_stored = tie-st.owner_stored;
-        clean = λ g e d.
-            let q : g ≡ f = cc (at_frame, e) in
-            cc (x_dirty, rw (q, set-st) at d);
-        whole = rw bytes-stored whole;
-      } in
+      let tie : IsTied t r = grind (arith, nat_tests, common_steps, s.frames, lt-st, set-st, own-st, set-cases, tie-st.owner_resident, tie-st.slot_owned, tie-st.owner_stored, bytes-stored) in
       sound-one s t sound r has-st to-st sound.swap refl (rw (length-set s.frames f x) sound.hand) (GoesOn-refl s.swap) tie

@@ -65,14 +65,8 @@ given-slots s sound r has u (Some j) e given =
     let now : owner_of v j.area j.slot ≡ None = owner-given j s.swap page own.0.0 (omega (arith, own.0.1, (sound.swap.each j.area).owned)) in
     let g : GivenSlots s r v = record {
       apart = slots-only (other r) j s.swap v only (IsOwn-some r _ own.1) (IsOwn-none (other r) _ now);
-      none = λ k h. elim (cases_slot k j) [
-        | inl q ↦ cc (now, rw q at h)
-        | inr n ↦ n (cc (e, tie.owner_stored k (sym (only.owners k n) ∙ h)))
-      ];
-      kept = λ k. elim (cases_slot k j) [
-        | inl q ↦ rw (q, now, own.1) (sym (disowned-own r))
-        | inr n ↦ ap (disowned r.seg) (only.owners k n)
-      ];
+      none = λ k h. grind (arith, nat_tests, common_steps, cases_slot, now, tie.owner_stored, only.owners);
+      kept = λ k. grind (arith, nat_tests, common_steps, cases_slot, now, own.1, disowned-own, r.seg, only.owners);
     } in
     rw given g
 
@@ -101,14 +95,7 @@ module _ (s : StoreView) (sound : IsStoreSound s) (r : PageRef) (has : HasPage s
   unfolding zero_page
   sound-forgotten is steady =
       let at : rec_by (with_rec s.segs r no_page) r ≡ no_page = rec-with s.segs r no_page has in
-      let tie : IsTied forgotten r = record {
-        frame_owned = λ f e. cc (rw at at e);
-        owner_resident = λ f e. absurd (fr.none f e);
-        slot_owned = λ k e. cc (rw at at e);
-        owner_stored = λ k e. absurd (sl.none k e);
-        clean = λ f e d. cc (rw at at e);
-        whole = rw at (length-replicate {A = ℕ} 4096 0);
-      } in
+      let tie : IsTied forgotten r = grind (arith, nat_tests, common_steps, fr.none, sl.none, length-replicate) in
       sound-one s forgotten sound r has to-forgotten is steady.same_sizes (rw fr.apart.size sound.hand) steady.goes_on tie
 
   held-forgotten : without (held forgotten) r.seg ≡ without (held s) r.seg

@@ -125,10 +125,7 @@ module _ (n : ℕ) (s : StoreView) (i : ℕ) (t : StoreView) (written failed : �
             );
         below = rw is (All-push (λ x. x < i + 1) l i (below-more i l d.below) (omega arith));
         ahead = λ f le. other f (λ e. absurd (omega (arith, e, le))) ∙ d.ahead f (omega arith);
-        frames = λ f. elim (cases_eq f i) [
-          | inl e ↦ rw e (at ∙ rw (d.ahead i (omega arith)) refl)
-          | inr ne ↦ rw (other f ne) (d.frames f)
-        ];
+        frames = λ f. grind (arith, nat_tests, common_steps, d.ahead, d.frames);
         others = λ f out. other f (λ e. out (rw (is, e) (Contains-push l i))) ∙ d.others f (λ has. out (rw is (Contains-append_left l (i ∷ []) f has)));
         counted = λ e. let a = counted e in let b = d.counted (unspent-before t.swap u.swap sound.swap goes.goes_on goes.same_sizes e) in omega (arith, a, b, more);
         written_out = written_out s.outs d.written_out;

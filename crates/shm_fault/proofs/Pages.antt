@@ -53,10 +53,7 @@ found-same (g ∷ gs) (h ∷ hs) id e =
     let o : outline h ≡ outline g = cc in
     let rest : outlines hs ≡ outlines gs = cc in
     let same : h.id ≡ g.id = ap (λ (x : Outline). x.id) o in
-    elim (cases_Bool (eqb g.id id)) [
-      | inl t ↦ rw (same, t) (ap (λ (x : Outline). x.count) o, ap (λ (x : Outline). x.locked) o, λ n. cc)
-      | inr n ↦ rw (same, n) (found-same gs hs id rest)
-    ]
+    grind (arith, nat_tests, common_steps, eqb, g.id, same, o, rest, found-same gs hs id rest)
 
 pub count-same : (gs hs : List SegRec) (id : ℕ) → outlines hs ≡ outlines gs → count_by_id hs id ≡ count_by_id gs id
 count-same gs hs id e = (found-same gs hs id e).0

@@ -74,22 +74,14 @@ module _ (off : PageRef → Bool) (s t : StoreView) (to : Touches off s t) where
   tied_off q is tie =
       let same = to.segs.recs q is in
       record {
-        frame_owned = λ f e.
-            let was : (rec_by s.segs q).frame ≡ Some f = rw same at e in
-            let own = tie.frame_owned f was in
-            (rw to.frames.size own.0, (to.frames.alike f q is own.1).owner ∙ own.1);
+        frame_owned = λ f e. grind (arith, nat_tests, common_steps, s.segs, same, tie.frame_owned, to.frames.size, to.frames.alike);
         owner_resident = λ f e. rw same (tie.owner_resident f (to.frames.owners f q is e));
         slot_owned = λ k e.
             let was : (rec_by s.segs q).slot ≡ Some k = rw same at e in
             let own = tie.slot_owned k was in
             (to.slots.has k q is own.1 own.0, (to.slots.kept k q is own.1).0);
         owner_stored = λ k e. rw same (tie.owner_stored k (to.slots.owners k q is e));
-        clean = λ f e d.
-            let was : (rec_by s.segs q).frame ≡ Some f = rw same at e in
-            let own = tie.frame_owned f was in
-            let alike = to.frames.alike f q is own.1 in
-            let st : stored t.swap (rec_by t.segs q).slot ≡ stored s.swap (rec_by s.segs q).slot = rw same (stored-off q is tie (rec_by s.segs q).slot refl) in
-            alike.bytes ∙ tie.clean f was (sym alike.dirty ∙ d) ∙ sym st;
+        clean = λ f e d. grind (arith, nat_tests, common_steps, s.segs, same, tie.frame_owned, to.frames.alike, t.swap, t.segs, s.swap, stored-off, tie.clean);
         whole = rw (bytes_touched q is tie) tie.whole;
       }
 
@@ -127,12 +119,6 @@ frames-set off frames f x was is clean free = grind (arith, nat_tests, common_st
 pub slots-only : (off : PageRef → Bool) (k : Slot) (s u : SwapView) → OnlySlot k s u → IsOwn off (owner_of s k.area k.slot) → IsOwn off (owner_of u k.area k.slot) → SlotsApart off s u
 slots-only off k s u only was is = record {
   has = λ j q out e. only.has j;
-  kept = λ j q out e. elim (cases_slot j k) [
-    | inl same ↦ cc (was q (rw same at e))
-    | inr n ↦ (only.owners j n ∙ e, only.pages j n)
-  ];
-  owners = λ j q out e. elim (cases_slot j k) [
-    | inl same ↦ cc (is q (rw same at e))
-    | inr n ↦ sym (only.owners j n) ∙ e
-  ];
+  kept = λ j q out e. grind (arith, nat_tests, common_steps, cases_slot, only.owners, only.pages);
+  owners = λ j q out e. grind (arith, nat_tests, common_steps, cases_slot, only.owners);
 }
