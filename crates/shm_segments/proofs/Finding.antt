@@ -50,8 +50,7 @@ found_at hs rows i r agree sizes is =
     ap (λ k. bytes_at_entry (slice_get (joined hs rows) k)) own ∙ ap bytes_at_entry there in
     let lives : live rows (identifier i d) ≡ Some r = at-live rows i small ∙ is in
     record {
-      entry = subst (λ k. slice_get (joined hs rows) k ≡ Some (record { destroyed = identifier i d / 32768; segment = Some (segment_seen (joined hs rows) (record { seg = identifier i d; id = pos (identifier i d); key = r.key; head = r.value })) })) (sym own)
-          (there ∙ ap (λ (e : FlatEntry). Some e) (shown sequence bytes));
+      entry = grind (arith, common_steps, slice_get, d, pos, own, there, sequence, bytes);
       id = refl;
       long = ap length bytes ∙ (held-as hs rows (identifier i d) r agree lives).size;
       size = sizes (identifier i d) r lives;

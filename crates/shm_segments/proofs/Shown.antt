@@ -113,9 +113,7 @@ agree-pasted hs rows p new agree fit few =
     by : (at : ℕ) (o : Option Held) → find_held hs at ≡ o → option_map shape_held (option_map (pasted p.seg p.at new) (find_held hs at)) ≡ option_map shape_held (find_held hs at)
     by at None is = rw is refl
     by at (Some g) is =
-        let fits : g.id ≡ p.seg → p.at + length new ≤ length g.bytes = λ own.
-        let bytes : bytes_of hs p.seg ≡ g.bytes = ap (bytes_of hs) (sym own ∙ find_held-id hs at g is) ∙ ap bytes_in is in
-        omega (arith, fit.1, few, ap length bytes) in
+        let fits : g.id ≡ p.seg → p.at + length new ≤ length g.bytes = grind (arith, common_steps, find_held-id, fit.1) in
         rw is (ap Some (paste-shape p new g fits))
 
 each-agree : (ps : List Span) (hs : List Held) (rows : List (Entry Head)) (new : List ℕ) → Agree hs rows → Each (FitsPage hs) ps → Agree (written hs ps new) rows
