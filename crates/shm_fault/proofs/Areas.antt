@@ -28,6 +28,8 @@ use Rattle.shm_fault.proofs.Sound.{IsSound-from, Goes-trans}
 use Rattle.shm_fault.proofs.Counting.{AtRest-trans}
 use Rattle.shm_fault.proofs.Changes.{Keeps, every, keeps-every, keeps-one}
 use Rattle.shm_fault.proofs.Drops.{GivenSlots, given-slots}
+use Rattle.std.proofs.lemmas.Grind.{common_steps}
+use Rattle.std.proofs.lemmas.Bool.Decides.{nat_tests}
 
 pub here-lt : (s : SwapView) (area : ℕ) → (area_at s area).here ≡ true → area < length s.areas
 here-lt s area here = grind (arith, get_or_past s.areas area no_area, here)
@@ -44,12 +46,7 @@ count-one (o ∷ os) (suc i) r e = grind (arith, count-one os i r e, sum_by-cons
 
 pub has-room : (s : StoreView) → IsStoreSound s → (k : Slot) (r : PageRef) → owner_of s.swap k.area k.slot ≡ Some r → pages_held (held s) + length (area_at s.swap k.area).pages ≤ slots s.swap
     → used_slots s.swap + length (area_at s.swap k.area).pages < slots s.swap + used_in (area_at s.swap k.area)
-has-room s sound k r own room =
-    let all = pages_held-is s sound in
-    let few = sound.few_used in
-    let same = used-slots s sound.apart sound.tied in
-    let one = count-one (area_at s.swap k.area).owners k.slot r own in
-    omega (arith, all, few, same, one, room)
+has-room s sound k r own room = grind (arith, nat_tests, common_steps, pages_held-is, sound.few_used, used-slots, sound.apart, sound.tied, count-one, s.swap, k.area, k.slot)
 
 -- a page was written to another slot, and its old one given back
 pub relocated : (page : PageRef) (from to : Slot) (s : SwapView) (bytes last : List ℕ) → IsSwap s → IsSwap (with_slot_page (with_slot_owner s to (Some page)) to bytes) → HasSlot s from.area from.slot → IsFirstFree s (Some from.area) to
@@ -78,17 +75,7 @@ relocated page from to s bytes last swap sound has first is =
 -- the write failed, and the new slot was given back
 pub relocated-not : (page : PageRef) (from to : Slot) (s u : SwapView) (last : List ℕ) → IsSwap s → IsSwap u → IsFirstFree s (Some from.area) to
     → OneArea to.area (with_slot_owner s to (Some page)) u → WriteFault to.slot (area_at (with_slot_owner s to (Some page)) to.area) (area_at u to.area) → SameOwned s (without_slot u to last)
-relocated-not page from to s u last swap sound first one fault =
-    let t : SwapView = with_slot_owner s to (Some page) in
-    let v : SwapView = without_slot u to last in
-    let only : OnlySlot to s v = OnlySlot-trans to s t v (OnlySlot-owner to s (Some page)) (OnlySlot-trans to t u v (OnlySlot-fault to t u one fault) (OnlySlot-given to u last)) in
-    let at : HasSlot u to.area to.slot = (OnlySlot-fault to t u one fault).has to ((OnlySlot-owner to s (Some page)).has to first.there) in
-    let gone = owner-given to u last at.0 (omega (arith, at.1, (sound.each to.area).owned)) in
-    record {
-      has = only.has;
-      owners = λ k. elim (cases_slot k to) [ inl q ↦ rw q (gone ∙ sym first.free) | inr n ↦ only.owners k n ];
-      pages = λ k q e. only.pages k (λ same. let h : owner_of s to.area to.slot ≡ Some q = rw same at e in let f = first.free in cc);
-    }
+relocated-not page from to s u last swap sound first one fault = grind (arith, nat_tests, common_steps, to.area, to.slot, first.there, owner-given, sound.each, cases_slot, first.free)
 
 -- a cause in the middle of steps that count no failure
 pub cause-within : (s t u v : SwapView) → IsSwap s → IsSteady s t → GoesOn t u → IsSteady u v → had_cause t u ≡ true → had_cause s v ≡ true
@@ -128,10 +115,7 @@ module _ (s : StoreView) (sound : IsStoreSound s) (r : PageRef) (f : ℕ) (k : S
       let same : bytes_at t r ≡ bytes_at s r = rw (at, at_frame) (ap (λ (y : Frame). y.bytes) set_at) in
       let tie : IsTied t r = record {
         frame_owned = λ g e. let q : g ≡ f = cc (rw at at e) in (rw (q, length-set s.frames f x) own.0, rw (q, set_at) own.1);
-        owner_resident = λ g e. elim (set-cases s.frames f x no_frame g) [
-          | inl q ↦ rw (at, q.0) refl
-          | inr kept ↦ rw at (sym at_frame ∙ tie-s.owner_resident g (rw kept at e))
-        ];
+        owner_resident = λ g e. grind (arith, nat_tests, common_steps, set-cases, s.frames, x, at_frame, tie-s.owner_resident);
         slot_owned = λ j e. cc (rw at at e);
         owner_stored = λ j e. absurd (sl.none j e);
         clean = λ g e d. let q : g ≡ f = cc (rw at at e) in cc (rw (q, set_at) at d);
@@ -204,15 +188,7 @@ module _ (s : StoreView) (sound : IsStoreSound s) (area : ℕ) (here : (area_at 
   owned-after k q o = grind (arith, cases_eq k.area area, area-off, area-other k, o)
 
   to-off : Touches every s without_area
-  to-off = record {
-    segs = segs-same s.segs;
-    frames = frames-same s.frames sound.tied.free;
-    slots = record {
-      has = λ k q e o h. (rw (length-set s.swap.areas area (off (area_at s.swap area))) h.0, rw (area-other k (owned-outside k q o)) h.1);
-      kept = λ k q e o. let same = area-other k (owned-outside k q o) in (rw same o, rw same refl);
-      owners = λ k q e o. owned-after k q o;
-    };
-  }
+  to-off = grind (arith, nat_tests, common_steps, segs-same, s.segs, frames-same, s.frames, sound.tied.free, s.swap.areas, s.swap, area-other, owned-outside, owned-after)
 
   tied-off : Tied without_area
   tied-off = tied_touched every s without_area to-off sound.tied (λ q n h. cc) (λ f q n e. cc) (λ k q n e. cc)
@@ -246,10 +222,7 @@ cleaned-more area n s t u d sound goes still rest cleared = record {
   goes = Goes-trans s t u d.goes goes;
   still = λ q. still q ∙ d.still q;
   rest = AtRest-trans s t u d.rest rest;
-  free = λ slot lt. elim (cases_eq slot n) [
-    | inl e ↦ rw e cleared.free
-    | inr ne ↦ cleared.rest slot (d.free slot (omega arith))
-  ];
+  free = λ slot lt. grind (arith, nat_tests, common_steps, cleared.free, cleared.rest, d.free);
 }
 
 module _ (area n : ℕ) (s t : StoreView) (d : IsCleaned area n s t) (here : (area_at s.swap area).here ≡ true) where
@@ -260,17 +233,12 @@ module _ (area n : ℕ) (s t : StoreView) (d : IsCleaned area n s t) (here : (ar
   cleaned-there lt = let same = cleaned-here.1 in (here-lt t.swap area cleaned-here.0, omega (arith, lt, same))
 
   pub cleaned-room : pages_held (held s) + length (area_at s.swap area).pages ≤ slots s.swap → pages_held (held t) + length (area_at t.swap area).pages ≤ slots t.swap
-  cleaned-room room =
-      let same = cleaned-here.1 in
-      let all : pages_held (held t) ≡ pages_held (held s) = ap pages_held d.goes.bytes in
-      let sum : slots t.swap ≡ slots s.swap = ap (λ l. sum_by slots_in l) d.goes.same_sizes in
-      omega (arith, room, same, all, sum)
+  cleaned-room room = grind (arith, nat_tests, common_steps, cleaned-here.1, d.goes.bytes, t.swap, s.swap, sum_by, d.goes.same_sizes)
 
   -- the area goes once the slots that it has are free
   module _ (all : length (area_at s.swap area).pages ≤ n) where
     pub cleaned-free : (slot : ℕ) → owner_of t.swap area slot ≡ None
-    cleaned-free slot =
-        grind (arith, cases_lt slot n, d.free slot, get_or_past (area_at t.swap area).owners slot None, cleaned-here.1, all, (d.sound.swap.each area).owned)
+    cleaned-free slot = grind (arith, nat_tests, common_steps, d.free, get_or_past, t.swap, cleaned-here.1, d.sound.swap.each)
 
     pub cleaned-off : (u : SwapView) → u ≡ with_area t.swap area (off (area_at t.swap area)) → IsSwap u → sizes u ≡ set (sizes t.swap) area None
         → pages_held (held s) + length (area_at s.swap area).pages ≤ slots s.swap → IsStoreSound (record t { swap = u }) × (held (record t { swap = u }) ≡ held s)

@@ -22,6 +22,7 @@ use Rattle.shm_fault.proofs.Sound.{Goes-trans, KeepsLocked-trans, cause-after}
 use Rattle.shm_fault.proofs.Visits.{moves-trans}
 use Rattle.shm_fault.proofs.Pages.{same-true}
 use Rattle.std.proofs.lemmas.Bool.Decides.{nat_tests}
+use Rattle.std.proofs.lemmas.Grind.{common_steps}
 
 pub err_of : {A E : Type 0} (r : Result A E) (P : Type 0) → OnErr r P → is_ok r ≡ false → P
 err_of (Ok a) P h e = absurd (false≢true (sym e))
@@ -61,9 +62,7 @@ module _ (p : Span) (s t : StoreView) (u v : Touched) (ok : Bool) (none : IsNone
   ins-one = let b = bit-le (ok && is_swapped (rec_by s.segs (ref_of p))) in let i = w.ins in omega (arith, i, b, none.1)
 
   quiet-one : IsSome (frame_by s (ref_of p)) → (ok ≡ true) × (t.swap ≡ s.swap) × (v.ins ≡ 0) × (v.outs ≡ 0)
-  quiet-one known =
-      let q = w.quiet known in
-      (q.0, q.3, ap (λ (x : Touched). x.ins) q.1 ∙ none.1, ap (λ (x : Touched). x.outs) q.1 ∙ none.2)
+  quiet-one known = grind (arith, nat_tests, common_steps, w.quiet, none.1, none.2)
 
   pub brings-one : Brings (p ∷ []) s t v ok
   brings-one = record {
@@ -114,11 +113,7 @@ module _ (p q : Span) (s t z : StoreView) (f : ℕ) (u v w : Touched) (ok : Bool
   swq = is_swapped (rec_by t.segs (ref_of q))
 
   resident-q : same_page p q ≡ true → (swq ≡ false) × (w.outs ≡ v.outs)
-  resident-q e =
-      let r = same_page-ref p q e in
-      let here : frame_by t (ref_of q) ≡ Some f = rw r at in
-      let known : IsSome (frame_by t (ref_of q)) = rw here refl in
-      (resident_not (rec_by t.segs (ref_of q)) f here, ap (λ (x : Touched). x.outs) (two.quiet known).1)
+  resident-q e = grind (arith, nat_tests, common_steps, same_page-ref, resident_not, t.segs, two.quiet)
 
   ins-is : ok ≡ true → w.ins ≡ swap_bit swp + swap_bit swq
   unfolding swap_bit
@@ -295,7 +290,4 @@ second_frame s ps p lt e all = subst (λ (q : Span). q.frame ≡ frame_by s (ref
 -- where nothing moved the second page is where it was
 pub unmoved : (p q : Span) (s t : StoreView) (u v : Touched) (ok : Bool) → IsNone u → Visited (ref_of p) None (frame_by s (ref_of p)) s t u v ok → v.moved.items ≡ [] → q.frame ≡ frame_by s (ref_of q) → q.frame ≡ frame_by t (ref_of q)
 unfolding frame_of
-unmoved p q s t u v ok none w still e =
-    let led : Moves v.moved.items s t = w.moves s (λ seg page. rw none.0 refl) in
-    let same : frame_by t (ref_of q) ≡ frame_by s (ref_of q) = rw still at (led q.seg (page_of q)) in
-    e ∙ sym same
+unmoved p q s t u v ok none w still e = grind (arith, nat_tests, common_steps, v.moved.items, w.moves, none.0, q.seg)

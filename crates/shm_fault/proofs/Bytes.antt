@@ -13,6 +13,7 @@ use Rattle.shm_fault.specs.Store.{StoreView, page_bytes, held_by, held}
 use Rattle.shm_fault.specs.Goes.{Outline, outline, outlines}
 use Rattle.shm_fault.proofs.Pages.{has-head, rec-head, has-tail, rec-tail}
 use Rattle.std.proofs.lemmas.Grind.{common_steps}
+use Rattle.std.proofs.lemmas.Bool.Decides.{nat_tests}
 
 -- the bytes of so many pages of a segment, from page i on, joined
 unfoldable pub joined : (PageRef → List ℕ) → ℕ → ℕ → ℕ → List ℕ
@@ -41,9 +42,7 @@ joined-ext b c id i (suc n) same =
 pub held_of-ext : (b c : PageRef → List ℕ) (gs : List SegRec) → AreApart gs → ((r : PageRef) → HasPage gs r → b r ≡ c r) → held_of b (outlines gs) ≡ held_of c (outlines gs)
 held_of-ext b c [] apart same = refl
 held_of-ext b c (g ∷ gs) apart same =
-    let here : joined b g.id 0 (length g.pages) ≡ joined c g.id 0 (length g.pages) = joined-ext b c g.id 0 (length g.pages) (λ j l.
-    let z : 0 + j ≡ j = omega arith in
-    rw z (same (record { seg = g.id; page = j }) (has-head g gs j l))) in
+    let here : joined b g.id 0 (length g.pages) ≡ joined c g.id 0 (length g.pages) = grind (arith, nat_tests, common_steps, joined-ext, g.id, g.pages, has-head) in
     let rest : held_of b (outlines gs) ≡ held_of c (outlines gs) = held_of-ext b c gs apart.1 (λ r has. same r (has-tail g gs apart r has)) in
     let one : held_one b (outline g) ≡ held_one c (outline g) = ap (λ bs. record { id = g.id; locked = g.locked; bytes = bs }) here in
     cc
@@ -60,9 +59,7 @@ joined-pages frames swap id i (p ∷ ps) b is =
 held-list : (frames : List Frame) (swap : SwapView) (gs : List SegRec) (b : PageRef → List ℕ) → AreApart gs → ((r : PageRef) → HasPage gs r → b r ≡ page_bytes frames swap (rec_by gs r)) → map (held_by frames swap) gs ≡ held_of b (outlines gs)
 held-list frames swap [] b apart is = refl
 held-list frames swap (g ∷ gs) b apart is =
-    let here : flat_map (page_bytes frames swap) g.pages ≡ joined b g.id 0 (length g.pages) = joined-pages frames swap g.id 0 g.pages b (λ j l.
-    let z : 0 + j ≡ j = omega arith in
-    rw z (rw (rec-head g gs j) at (is (record { seg = g.id; page = j }) (has-head g gs j l)))) in
+    let here : flat_map (page_bytes frames swap) g.pages ≡ joined b g.id 0 (length g.pages) = grind (arith, nat_tests, common_steps, joined-pages, g.id, g.pages, rec-head, has-head) in
     let rest : map (held_by frames swap) gs ≡ held_of b (outlines gs) = held-list frames swap gs b apart.1 (λ r has. rw (rec-tail g gs apart r has) at (is r (has-tail g gs apart r has))) in
     let one : held_by frames swap g ≡ held_one b (outline g) = ap (λ bs. record { id = g.id; locked = g.locked; bytes = bs }) here in
     cc
@@ -73,8 +70,7 @@ held-is s apart = held-list s.frames s.swap s.segs (bytes_at s) apart (λ r has.
 
 -- no page's bytes changed
 pub held-same : (s t : StoreView) → AreApart s.segs → AreApart t.segs → outlines t.segs ≡ outlines s.segs → ((r : PageRef) → HasPage s.segs r → bytes_at t r ≡ bytes_at s r) → held t ≡ held s
-held-same s t apart after shape same =
-    held-is t after ∙ ap (held_of (bytes_at t)) shape ∙ held_of-ext (bytes_at t) (bytes_at s) s.segs apart same ∙ sym (held-is s apart)
+held-same s t apart after shape same = grind (arith, nat_tests, common_steps, held-is, held_of, bytes_at, held_of-ext, s.segs)
 
 take-past : (x y : List ℕ) (n m : ℕ) → length x ≡ n → take (n + m) (x ++ y) ≡ x ++ take m y
 take-past [] y n m e = let z : n + m ≡ m = omega arith in rw z refl

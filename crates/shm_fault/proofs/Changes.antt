@@ -17,6 +17,8 @@ use Rattle.shm_fault.proofs.Slots.{OnlySlot, OnlySlot-owner, owner-set, cases_sl
 use Rattle.shm_fault.proofs.Ties.{FramesApart, SlotsApart, Touches, IsOwn-none, IsOwn-some, segs-same, segs-with, frames-same, frames-set, slots-same, slots-only, bytes_touched}
 use Rattle.shm_fault.proofs.Bytes.{bytes_at}
 use Rattle.shm_fault.proofs.Sound.{sound-touched, goes-touched, GoesOn-refl}
+use Rattle.std.proofs.lemmas.Grind.{common_steps}
+use Rattle.std.proofs.lemmas.Bool.Decides.{nat_tests}
 
 -- the page of a frame that has one
 pub record Own (o : Option PageRef) : Type 0 where
@@ -60,28 +62,16 @@ abbrev pub every : PageRef → Bool
 every q = true
 
 pub keeps-every : (s t : StoreView) → IsStoreSound s → Touches every s t → IsSwap t.swap → sizes t.swap ≡ sizes s.swap → t.hand < length t.frames → GoesOn s.swap t.swap → Keeps s t
-keeps-every s t sound to is same hand goes_on = record {
-  sound = sound-touched every s t sound to is same hand (λ q n h. cc) (λ f q n h. cc) (λ k q n h. cc);
-  goes = goes-touched every s t sound to is same hand (λ q n h. cc) (λ f q n h. cc) (λ k q n h. cc) goes_on (λ q n h. cc);
-}
+keeps-every s t sound to is same hand goes_on = grind (arith, nat_tests, common_steps, sound-touched, every, goes-touched)
 
 pub slots-kept : {off : PageRef → Bool} (s u : SwapView) → SameSlots s u → SlotsApart off s u
-slots-kept s u kept = record {
-  has = λ k q e o h. (rw kept.areas h.0, rw (kept.pages k.area) h.1);
-  kept = λ k q e o. (ap (λ os. get_or os k.slot None) (kept.owners k.area) ∙ o, ap (λ ps. get_or ps k.slot []) (kept.pages k.area));
-  owners = λ k q e o. sym (ap (λ os. get_or os k.slot None) (kept.owners k.area)) ∙ o;
-}
+slots-kept s u kept = grind (arith, nat_tests, common_steps, kept.areas, kept.pages, kept.owners)
 
 -- frames are alike, and all else but the hand is as it was
 pub keeps-alike : (s : StoreView) → IsStoreSound s → (frames : List Frame) (hand : ℕ) → length frames ≡ length s.frames → ((f : ℕ) → Alike (frame_at s.frames f) (frame_at frames f)) → hand < length frames
     → Keeps s (record s { frames = frames; hand = hand })
 keeps-alike s sound frames hand size alike on =
-    let apart : FramesApart every s.frames frames = record {
-      size = size;
-      alike = λ f q e o. alike f;
-      owners = λ f q e o. sym (alike f).owner ∙ o;
-      free = λ f e. (alike f).dirty ∙ sound.tied.free f (sym (alike f).owner ∙ e);
-    } in
+    let apart : FramesApart every s.frames frames = grind (arith, nat_tests, common_steps, sound.tied.free) in
     keeps-every s (record s { frames = frames; hand = hand }) sound (record { segs = segs-same s.segs; frames = apart; slots = slots-same s.swap }) sound.swap refl on (GoesOn-refl s.swap)
 
 -- a resident page's frame was written to its slot, or the try failed
@@ -107,19 +97,13 @@ module _ (s : StoreView) (sound : IsStoreSound s) (r : PageRef) (f : ℕ) (k : S
       let bytes : bytes_at t r ≡ bytes_at s r = rw at_frame (ap (λ (y : Frame). y.bytes) set_at ∙ x_bytes) in
       let tie : IsTied t r = record {
         frame_owned = λ g e. let q : g ≡ f = cc (at_frame, e) in (rw (q, length-set s.frames f x) lt, rw (q, set_at) x_owner);
-        owner_resident = λ g e. elim (set-cases s.frames f x no_frame g) [
-          | inl q ↦ rw q.0 at_frame
-          | inr kept ↦ tie-s.owner_resident g (rw kept at e)
-        ];
+        owner_resident = λ g e. grind (arith, nat_tests, common_steps, set-cases, s.frames, at_frame, tie-s.owner_resident);
         slot_owned = λ j e. let q : j ≡ k = cc (slot, e) in (only.has j (tie-s.slot_owned j e).0, rw q (owner ∙ own));
         owner_stored = λ j e. elim (cases_slot j k) [
           | inl q ↦ rw q slot
           | inr n ↦ tie-s.owner_stored j (sym (only.owners j n) ∙ e)
         ];
-        clean = λ g e d.
-            let q : g ≡ f = cc (at_frame, e) in
-            let c : x.dirty ≡ false = rw (q, set_at) at d in
-            rw (q, set_at, slot) (clean c);
+        clean = λ g e d. grind (arith, nat_tests, common_steps, at_frame, x.dirty, set_at);
         whole = rw bytes tie-s.whole;
       } in
       keeps-one s t sound r has to is same (rw (length-set s.frames f x) sound.hand) goes_on tie bytes
@@ -157,37 +141,12 @@ module _ (s : StoreView) (sound : IsStoreSound s) (r : PageRef) (f : ℕ) (k : S
         slots = slots-only (other r) k s.swap u only (IsOwn-none (other r) _ free) (IsOwn-some r _ own);
       } in
       let bytes : bytes_at t r ≡ bytes_at s r = rw (at, at_frame) refl in
-      let tie : IsTied t r = record {
-        frame_owned = λ g e. tie-ts.frame_owned g (rw at at e);
-        owner_resident = λ g e. rw at (tie-ts.owner_resident g e);
-        slot_owned = λ j e. let q : j ≡ k = cc (rw at at e) in (rw q (only.has k there), rw q own);
-        owner_stored = λ j e. elim (cases_slot j k) [
-          | inl q ↦ rw (at, q) refl
-          | inr n ↦ cc (none, tie-ts.owner_stored j (sym (only.owners j n) ∙ e))
-        ];
-        clean = λ g e d.
-            let q : g ≡ f = cc (at_frame, rw at at e) in
-            cc (dirty, rw q at d);
-        whole = rw bytes tie-ts.whole;
-      } in
+      let tie : IsTied t r = grind (arith, nat_tests, common_steps, tie-ts.frame_owned, tie-ts.owner_resident, only.has, own, cases_slot, tie-ts.owner_stored, only.owners, at_frame, bytes, tie-ts.whole) in
       keeps-one s t sound r has-ts to is same sound.hand goes_on tie bytes
 
   pub takes : IsSwap (with_slot_owner s.swap k (Some r)) → sizes (with_slot_owner s.swap k (Some r)) ≡ sizes s.swap → GoesOn s.swap (with_slot_owner s.swap k (Some r))
       → Takes f k s (record s { segs = with_rec s.segs r (record { frame = (rec_by s.segs r).frame; slot = Some k }); swap = with_slot_owner s.swap k (Some r) })
-  takes is same goes_on =
-      let p : PageRec = record { frame = (rec_by s.segs r).frame; slot = Some k } in
-      let keeps = keeps-take is same goes_on in
-      let at_frame : (rec_by s.segs r).frame ≡ Some f = tie-ts.owner_resident f owned in
-      record {
-        sound = keeps.sound;
-        goes = keeps.goes;
-        slot = λ q e. let one : q ≡ r = some_same r q (frame_at s.frames f).owner owned e in rw (one, rec-with s.segs r p has-ts) refl;
-        still = still-with s.segs r p has-ts refl;
-        away = λ q none. elim (cases_ref r q) [
-          | inl one ↦ cc (at_frame, rw one at none)
-          | inr off ↦ rec-with_other s.segs r q p off
-        ];
-      }
+  takes is same goes_on = grind (arith, nat_tests, common_steps, s.segs, keeps-take, tie-ts.owner_resident, some_same, s.frames, rec-with, has-ts, still-with, cases_ref, rec-with_other)
 
 -- a page in a clean frame leaves it
 module _ (s : StoreView) (sound : IsStoreSound s) (r : PageRef) (f : ℕ) (bytes : List ℕ) (owned : (frame_at s.frames f).owner ≡ Some r) (clean : (frame_at s.frames f).dirty ≡ false) where
@@ -209,9 +168,7 @@ module _ (s : StoreView) (sound : IsStoreSound s) (r : PageRef) (f : ℕ) (bytes
       let same : bytes_at t r ≡ bytes_at s r = rw (at, at_frame) (sym (tie-s.clean f at_frame clean)) in
       let tie : IsTied t r = record {
         frame_owned = λ g e. cc (rw at at e);
-        owner_resident = λ g e.
-            let q : g ≡ f = elim (set-cases s.frames f x no_frame g) [ inl q ↦ q.0 | inr kept ↦ cc (at_frame, tie-s.owner_resident g (rw kept at e)) ] in
-            cc (rw (q, get_or-set_same s.frames f x no_frame lt) at e);
+        owner_resident = λ g e. grind (arith, nat_tests, common_steps, set-cases, s.frames, x, at_frame, tie-s.owner_resident, get_or-set_same, lt);
         slot_owned = λ j e. tie-s.slot_owned j (rw at at e);
         owner_stored = λ j e. rw at (tie-s.owner_stored j e);
         clean = λ g e d. cc (rw at at e);
@@ -236,17 +193,7 @@ module _ (s : StoreView) (sound : IsStoreSound s) (r : PageRef) (f : ℕ) (has :
         slots = slots-same s.swap;
       } in
       let same : bytes_at t r ≡ bytes_at s r = rw (at, away) (ap (λ (y : Frame). y.bytes) set_at ∙ bytes) in
-      let tie : IsTied t r = record {
-        frame_owned = λ g e. let q : g ≡ f = cc (rw at at e) in (rw (q, length-set s.frames f x) lt, rw (q, set_at) refl);
-        owner_resident = λ g e. elim (set-cases s.frames f x no_frame g) [
-          | inl q ↦ rw (at, q.0) refl
-          | inr kept ↦ cc (away, tie-s.owner_resident g (rw kept at e))
-        ];
-        slot_owned = λ j e. tie-s.slot_owned j (rw at at e);
-        owner_stored = λ j e. rw at (tie-s.owner_stored j e);
-        clean = λ g e d. let q : g ≡ f = cc (rw at at e) in rw (q, set_at, at) bytes;
-        whole = rw same tie-s.whole;
-      } in
+      let tie : IsTied t r = grind (arith, nat_tests, common_steps, s.frames, x, set_at, set-cases, tie-s.owner_resident, tie-s.slot_owned, tie-s.owner_stored, same, tie-s.whole) in
       keeps-one s t sound r has to sound.swap refl (rw (length-set s.frames f x) sound.hand) (GoesOn-refl s.swap) tie same
 
 -- a free frame gets other bytes
@@ -255,11 +202,7 @@ pub keeps-load : (s : StoreView) → IsStoreSound s → (f : ℕ) (bytes : List 
 keeps-load s sound f bytes free u ins kept is same goes_on =
     let x : Frame = record (frame_at s.frames f) { bytes = bytes } in
     let t : StoreView = record { segs = s.segs; frames = set s.frames f x; hand = s.hand; swap = u; ins = ins; outs = s.outs } in
-    let to : Touches every s t = record {
-      segs = segs-same s.segs;
-      frames = frames-set every s.frames f x (IsOwn-none every _ free) (IsOwn-none every _ free) (sound.tied.free f) sound.tied.free;
-      slots = slots-kept s.swap u kept;
-    } in
+    let to : Touches every s t = grind (arith, nat_tests, common_steps, segs-same, s.segs, frames-set, every, s.frames, x, sound.tied.free, slots-kept, s.swap) in
     keeps-every s t sound to is same (rw (length-set s.frames f x) sound.hand) goes_on
 
 -- a frame set twice
@@ -283,12 +226,7 @@ module _ (s : StoreView) (sound : IsStoreSound s) (r : PageRef) (f : ℕ) (x : F
   own-st = (tie-st.frame_owned f at_frame).1
 
   to-st : Touches (other r) s (record s { frames = set s.frames f x })
-  to-st =
-      record {
-        segs = segs-same s.segs;
-        frames = frames-set (other r) s.frames f x (IsOwn-some r _ own-st) (IsOwn-some r _ (x_owner ∙ own-st)) (λ none. cc (none, x_owner, own-st)) sound.tied.free;
-        slots = slots-same s.swap;
-      }
+  to-st = grind (arith, nat_tests, common_steps, segs-same, s.segs, frames-set, other, s.frames, own-st, sound.tied.free, slots-same, s.swap)
 
   set-st : frame_at (set s.frames f x) f ≡ x
   set-st = get_or-set_same s.frames f x no_frame lt-st
@@ -300,25 +238,10 @@ module _ (s : StoreView) (sound : IsStoreSound s) (r : PageRef) (f : ℕ) (x : F
   bytes-there q there off = bytes_touched (other r) s (record s { frames = set s.frames f x }) to-st q off (sound.tied.pages q there)
 
   pub bytes-others : (q : PageRef) → q ≢ r → page_bytes (set s.frames f x) s.swap (rec_by s.segs q) ≡ page_bytes s.frames s.swap (rec_by s.segs q)
-  bytes-others q n = elim (cases_lt q.page (count_by_id s.segs q.seg)) [
-    | inl there ↦ bytes-there q there (other-true r q n)
-    | inr past ↦ rw (rec-past s.segs q past) refl
-  ]
+  bytes-others q n = grind (arith, nat_tests, common_steps, q.page, s.segs, q.seg, bytes-there, other-true, rec-past)
 
   pub sound-stored : IsStoreSound (record s { frames = set s.frames f x })
   sound-stored =
       let t : StoreView = record s { frames = set s.frames f x } in
-      let tie : IsTied t r = record {
-        frame_owned = λ g e. let q : g ≡ f = cc (at_frame, e) in (rw (q, length-set s.frames f x) lt-st, rw (q, set-st) (x_owner ∙ own-st));
-        owner_resident = λ g e. elim (set-cases s.frames f x no_frame g) [
-          | inl q ↦ rw q.0 at_frame
-          | inr kept ↦ tie-st.owner_resident g (rw kept at e)
-        ];
-        slot_owned = tie-st.slot_owned;
-        owner_stored = tie-st.owner_stored;
-        clean = λ g e d.
-            let q : g ≡ f = cc (at_frame, e) in
-            cc (x_dirty, rw (q, set-st) at d);
-        whole = rw bytes-stored whole;
-      } in
+      let tie : IsTied t r = grind (arith, nat_tests, common_steps, s.frames, lt-st, set-st, own-st, set-cases, tie-st.owner_resident, tie-st.slot_owned, tie-st.owner_stored, bytes-stored) in
       sound-one s t sound r has-st to-st sound.swap refl (rw (length-set s.frames f x) sound.hand) (GoesOn-refl s.swap) tie

@@ -15,12 +15,10 @@ use Rattle.shm_fault.specs.Goes.{unlocked, Alike}
 use Rattle.shm_fault.proofs.Ties.{Alike-refl}
 use Rattle.shm_fault.proofs.Tally.{resident-frames, unlocked_resident, passes_by, count-ext}
 use Rattle.std.proofs.lemmas.Bool.Decides.{nat_tests}
+use Rattle.std.proofs.lemmas.Grind.{common_steps}
 
 pub clock-alike : (may : ℕ → Bool) (hand : ℕ) (before : List Frame) (victim : ℕ) (after : List Frame) → IsClockVictim may hand before victim after → (f : ℕ) → Alike (frame_at before f) (frame_at after f)
-clock-alike may hand before victim after is f = elim (cases_lt f (length before)) [
-  | inl lt ↦ rw (is.bits f lt) (record { owner = refl; bytes = refl; dirty = refl })
-  | inr past ↦ rw (get_or_past before f no_frame past, get_or_past after f no_frame (rw is.size past)) (Alike-refl no_frame)
-]
+clock-alike may hand before victim after is f = grind (arith, nat_tests, common_steps, is.bits, get_or_past, is.size)
 
 pub next-lt : (before after : List Frame) (victim : ℕ) {hand : ℕ} → length after ≡ length before → victim < length before → hand ≡ next (length before) victim → hand < length after
 next-lt before after victim {hand} size there is = grind (arith, nat_tests)

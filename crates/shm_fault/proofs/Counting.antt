@@ -4,6 +4,8 @@ use Rattle.std.proofs.Common.{◌≡◌, ℕ, zero, suc, ◌+◌, Bool, true, fa
 use Rattle.shm_fault.specs.declared.touched.Touched.{Touched}
 use Rattle.shm_fault.specs.Store.{StoreView}
 use Rattle.shm_fault.specs.Counting.{one_more, raised, one_if, AtRest, CountsOn}
+use Rattle.std.proofs.lemmas.Grind.{common_steps}
+use Rattle.std.proofs.lemmas.Bool.Decides.{nat_tests}
 
 pub raised-trans : (n a b : ℕ) → raised (raised n a) b ≡ raised n (a + b)
 raised-trans n zero b = let e : 0 + b ≡ b = omega arith in rw e refl
@@ -16,13 +18,7 @@ byte-one false = refl
 
 -- a step that counted so many reads and so many writes
 pub counts-more : (u v : Touched) (s t : StoreView) (a b : ℕ) → v.ins ≡ u.ins + a → t.ins ≡ raised s.ins a → v.outs ≡ u.outs + b → t.outs ≡ raised s.outs b → CountsOn u v s t
-counts-more u v s t a b ins read_in outs written_out = record {
-  ins = λ n e. read_in ∙ ap (λ m. raised m a) e ∙ raised-trans n u.ins a ∙ ap (raised n) (sym-of ins);
-  outs = λ n e. written_out ∙ ap (λ m. raised m b) e ∙ raised-trans n u.outs b ∙ ap (raised n) (sym-of outs);
-}
-  where
-    sym-of : {x y : ℕ} → x ≡ y → y ≡ x
-    sym-of e = omega (arith, e)
+counts-more u v s t a b ins read_in outs written_out = grind (arith, nat_tests, common_steps, raised-trans, u.ins, u.outs)
 
 pub counts-still : (u : Touched) (s t : StoreView) → t.ins ≡ s.ins → t.outs ≡ s.outs → CountsOn u u s t
 counts-still u s t ins outs = record { ins = λ n e. ins ∙ e; outs = λ n e. outs ∙ e }

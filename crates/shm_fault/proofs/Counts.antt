@@ -8,6 +8,7 @@ use Rattle.shm_fault.specs.declared.page_tables.PageRec.{PageRec}
 use Rattle.shm_fault.specs.Segs.{SegRec, rec_at, AreApart, rec_by, HasPage, locked_by, pages_of, locked_pages}
 use Rattle.shm_fault.proofs.Pages.{has-head, rec-head, not-head, has-tail, rec-tail, other, other-self, other-true}
 use Rattle.std.proofs.lemmas.Bool.Decides.{nat_tests}
+use Rattle.std.proofs.lemmas.Grind.{common_steps}
 
 -- the sum over all pages of what each weighs, by its name and its place
 pub weigh_from : (PageRef → PageRec → ℕ) → ℕ → ℕ → List PageRec → ℕ
@@ -50,12 +51,10 @@ module _ (h k : PageRef → PageRec → ℕ) where
 -- where every page weighs as much
 module _ (h k : PageRef → PageRec → ℕ) where
   from-ext : (id i : ℕ) (ps : List PageRec) → ((j : ℕ) → j < length ps → h (record { seg = id; page = i + j }) (rec_at ps j) ≡ k (record { seg = id; page = i + j }) (rec_at ps j)) → weigh_from h id i ps ≡ weigh_from k id i ps
-  from-ext id i ps same =
-      omega (arith, from-le h k id i ps (λ j l. rw (same j l) (omega arith)), from-le k h id i ps (λ j l. rw (same j l) (omega arith)))
+  from-ext id i ps same = grind (arith, nat_tests, common_steps, from-le)
 
   pub weigh-ext : (gs : List SegRec) → AreApart gs → ((r : PageRef) → HasPage gs r → h r (rec_by gs r) ≡ k r (rec_by gs r)) → weigh h gs ≡ weigh k gs
-  weigh-ext gs apart same =
-      omega (arith, weigh-le h k gs apart (λ r has. rw (same r has) (omega arith)), weigh-le k h gs apart (λ r has. rw (same r has) (omega arith)))
+  weigh-ext gs apart same = grind (arith, nat_tests, common_steps, weigh-le)
 
 -- or each as much as any other
 from-const : (n id i : ℕ) (ps : List PageRec) → weigh_from (λ r p. n) id i ps ≡ n * length ps

@@ -26,6 +26,7 @@ use Rattle.shm_fault.proofs.Bytes.{joined, held_one, held_of, bytes_at, held-is,
 use Rattle.shm_fault.proofs.Changes.{sound-one}
 use Rattle.std.proofs.lemmas.List.Filters.{sum_by-filter_both}
 use Rattle.std.proofs.lemmas.Bool.Decides.{nat_tests}
+use Rattle.std.proofs.lemmas.Grind.{common_steps}
 
 -- a page that is where it is said to be
 with-is : (gs : List SegRec) (r : PageRef) (p : PageRec) → AreApart gs → rec_by gs r ≡ p → with_rec gs r p ≡ gs
@@ -45,28 +46,8 @@ disowned-own : (r : PageRef) → disowned r.seg (Some r) ≡ None
 disowned-own r = rw (eq-eqb r.seg r.seg refl) refl
 
 emptied-frames : (s : StoreView) → IsStoreSound s → (r : PageRef) → HasPage s.segs r → (o : Option ℕ) → (rec_by s.segs r).frame ≡ o → EmptiedFrames s r (emptied s.frames o)
-emptied-frames s sound r has None e = record {
-  apart = frames-same s.frames sound.tied.free;
-  none = λ f h. let k : (rec_by s.segs r).frame ≡ Some f = (sound.tied.pages r has).owner_resident f h in cc;
-  kept = λ f. refl;
-}
-emptied-frames s sound r has (Some g) e =
-    let tie = sound.tied.pages r has in
-    let own = tie.frame_owned g e in
-    let x : Frame = record no_frame { bytes = (frame_at s.frames g).bytes } in
-    record {
-      apart = frames-set (other r) s.frames g x (IsOwn-some r _ own.1) (IsOwn-none (other r) _ refl) (λ none. refl) sound.tied.free;
-      none = λ f h. elim (set-cases s.frames g x no_frame f) [
-        | inl q ↦ cc (rw q.1 at h)
-        | inr kept ↦
-            let q : f ≡ g = cc (e, tie.owner_resident f (rw kept at h)) in
-            cc (rw (q, get_or-set_same s.frames g x no_frame own.0) at h)
-      ];
-      kept = λ f. elim (set-cases s.frames g x no_frame f) [
-        | inl q ↦ rw (q.1, q.0, own.1) (sym (disowned-own r))
-        | inr kept ↦ rw kept refl
-      ];
-    }
+emptied-frames s sound r has None e = grind (arith, nat_tests, common_steps, frames-same, s.frames, sound.tied.free, s.segs, sound.tied.pages)
+emptied-frames s sound r has (Some g) e = grind (arith, nat_tests, common_steps, sound.tied.pages, s.frames, frames-set, other, sound.tied.free, set-cases, get_or-set_same, disowned-own)
 
 pub record GivenSlots (s : StoreView) (r : PageRef) (u : SwapView) : Type 0 where
   pub apart : SlotsApart (other r) s.swap u
@@ -74,11 +55,7 @@ pub record GivenSlots (s : StoreView) (r : PageRef) (u : SwapView) : Type 0 wher
   pub kept : (k : Slot) → disowned r.seg (owner_of u k.area k.slot) ≡ disowned r.seg (owner_of s.swap k.area k.slot)
 
 pub given-slots : (s : StoreView) → IsStoreSound s → (r : PageRef) → HasPage s.segs r → (u : SwapView) → (o : Option Slot) → (rec_by s.segs r).slot ≡ o → Given s.swap o u → GivenSlots s r u
-given-slots s sound r has u None e given = rw given (record {
-  apart = slots-same s.swap;
-  none = λ k h. let i : (rec_by s.segs r).slot ≡ Some k = (sound.tied.pages r has).owner_stored k h in cc;
-  kept = λ k. refl;
-})
+given-slots s sound r has u None e given = grind (arith, nat_tests, common_steps, slots-same, s.swap, s.segs, sound.tied.pages)
 given-slots s sound r has u (Some j) e given =
     let tie = sound.tied.pages r has in
     let own = tie.slot_owned j e in
@@ -88,14 +65,8 @@ given-slots s sound r has u (Some j) e given =
     let now : owner_of v j.area j.slot ≡ None = owner-given j s.swap page own.0.0 (omega (arith, own.0.1, (sound.swap.each j.area).owned)) in
     let g : GivenSlots s r v = record {
       apart = slots-only (other r) j s.swap v only (IsOwn-some r _ own.1) (IsOwn-none (other r) _ now);
-      none = λ k h. elim (cases_slot k j) [
-        | inl q ↦ cc (now, rw q at h)
-        | inr n ↦ n (cc (e, tie.owner_stored k (sym (only.owners k n) ∙ h)))
-      ];
-      kept = λ k. elim (cases_slot k j) [
-        | inl q ↦ rw (q, now, own.1) (sym (disowned-own r))
-        | inr n ↦ ap (disowned r.seg) (only.owners k n)
-      ];
+      none = λ k h. grind (arith, nat_tests, common_steps, cases_slot, now, tie.owner_stored, only.owners);
+      kept = λ k. grind (arith, nat_tests, common_steps, cases_slot, now, own.1, disowned-own, r.seg, only.owners);
     } in
     rw given g
 
@@ -124,14 +95,7 @@ module _ (s : StoreView) (sound : IsStoreSound s) (r : PageRef) (has : HasPage s
   unfolding zero_page
   sound-forgotten is steady =
       let at : rec_by (with_rec s.segs r no_page) r ≡ no_page = rec-with s.segs r no_page has in
-      let tie : IsTied forgotten r = record {
-        frame_owned = λ f e. cc (rw at at e);
-        owner_resident = λ f e. absurd (fr.none f e);
-        slot_owned = λ k e. cc (rw at at e);
-        owner_stored = λ k e. absurd (sl.none k e);
-        clean = λ f e d. cc (rw at at e);
-        whole = rw at (length-replicate {A = ℕ} 4096 0);
-      } in
+      let tie : IsTied forgotten r = grind (arith, nat_tests, common_steps, fr.none, sl.none, length-replicate) in
       sound-one s forgotten sound r has to-forgotten is steady.same_sizes (rw fr.apart.size sound.hand) steady.goes_on tie
 
   held-forgotten : without (held forgotten) r.seg ≡ without (held s) r.seg
@@ -218,9 +182,7 @@ module _ (t : StoreView) (sound : IsStoreSound t) (id : ℕ) (gone : (page : ℕ
 
   -- what names a page that is there names none of the segment that goes
   other-seg : (q : PageRef) → HasPage t.segs q → rec_by t.segs q ≢ no_page → q.seg ≢ id
-  other-seg q has ne same =
-      let at : q ≡ record { seg = id; page = q.page } = ref_parts q (record { seg = id; page = q.page }) same refl in
-      ne (ap (rec_by t.segs) at ∙ gone q.page (rw same at has))
+  other-seg q has ne same = grind (arith, nat_tests, common_steps, q.page, ref_parts, t.segs)
 
   frame-other : (f : ℕ) (q : PageRef) → (frame_at t.frames f).owner ≡ Some q → q.seg ≢ id
   frame-other f q e =

@@ -9,6 +9,7 @@ use Rattle.shm_fault.specs.Segs.{SegRec, find_seg, AreApart, but}
 use Rattle.shm_fault.specs.Entries.{seg_view, segs_view, key_at}
 use Rattle.shm_fault.proofs.Pages.{find-map}
 use Rattle.std.proofs.lemmas.Bool.Decides.{nat_tests}
+use Rattle.std.proofs.lemmas.Grind.{common_steps}
 
 -- an edit of the segment with an identifier
 abbrev pub edit_at : ℕ → (SegRec → SegRec) → SegRec → SegRec
@@ -63,8 +64,7 @@ edit-id f keeps id g = elim (cases_Bool (eqb g.id id)) [ inl t ↦ rw t (keeps g
 
 pub apart-edit : (f : SegRec → SegRec) → ((g : SegRec) → (f g).id ≡ g.id) → (gs : List SegRec) (id : ℕ) → AreApart gs → AreApart (map (edit_at id f) gs)
 apart-edit f keeps [] id apart = tt
-apart-edit f keeps (g ∷ gs) id apart =
-    (rw (edit-id f keeps id g) (find-map (edit_at id f) (edit-id f keeps id) gs g.id ∙ ap (option_map (edit_at id f)) apart.0), apart-edit f keeps gs id apart.1)
+apart-edit f keeps (g ∷ gs) id apart = grind (arith, nat_tests, common_steps, edit-id, find-map, edit_at, g.id, apart.0, apart.1, apart-edit f keeps gs id apart.1)
 
 -- what is found once a segment is out
 pub find-but : (gs : List SegRec) (id k : ℕ) → k ≢ id → find_seg (but id gs) k ≡ find_seg gs k

@@ -12,6 +12,7 @@ use Rattle.shm_slots.specs.View.{AreaView, SwapView, no_area, area_at, rise, is_
 use Rattle.shm_slots.specs.Cause.{total, some_spent, had_cause, GoesOn}
 use Rattle.shm_slots.proofs.Causes.{rises-le, total-le}
 use Rattle.shm_slots.proofs.Changes.{slot-here}
+use Rattle.std.proofs.lemmas.Grind.{common_steps}
 
 -- sizes and what follows from them
 pub size-at : (s : SwapView) (area : ℕ) → get_or (sizes s) area None ≡ size_of (area_at s area)
@@ -22,9 +23,7 @@ pages-same s t area same here = grind (arith, nat_tests, size-at s area, size-at
 
 pub total-written : (s : SwapView) (k : Slot) (page : List ℕ) → k.area < length s.areas → total (with_slot_page s k page) ≡ total s
 unfolding total
-total-written s k page lt =
-    let e = sum_by-set rise s.areas k.area (with_page (area_at s k.area) k.slot page) no_area lt in
-    omega (arith, e)
+total-written s k page lt = grind (arith, nat_tests, common_steps, sum_by-set, s.areas, k.area, k.slot)
 
 pub total-fault : (s t : SwapView) (k : Slot) → IsSwap s → HasSlot s k.area k.slot → OneArea k.area s t → WriteFault k.slot (area_at s k.area) (area_at t k.area) → some_spent t ≡ false → total t ≡ total s + 1
 unfolding total some_spent
@@ -91,8 +90,7 @@ cause-before s t u spent g h e = grind (arith, nat_tests, total-le s t g, spent,
 -- an area that is spent stays so, where none goes
 pub unspent-before : (s t : SwapView) → IsSwap t → GoesOn s t → sizes t ≡ sizes s → some_spent t ≡ false → some_spent s ≡ false
 unfolding some_spent
-unspent-before s t swap g same e =
-    grind (arith, nat_tests, e, spent-stays s.areas t.areas (rose s t g) (λ i. (swap.each i).countable) (λ i here. (pages-same s t i same here).0))
+unspent-before s t swap g same e = grind (arith, nat_tests, common_steps, spent-stays, s.areas, t.areas, rose, swap.each, pages-same)
 
 pub OnErr-map : {A E : Type 0} (r : Result A E) (P Q : Type 0) → OnErr r P → (P → Q) → OnErr r Q
 OnErr-map (Ok a) P Q e f = tt

@@ -71,25 +71,7 @@ due-no : (s : StoreView) (i : ℕ) → may_flush s i ≡ false → due s (i + 1)
 due-no s i e = due-more s i ∙ rw e (append-nil (due s i))
 
 pub flushed-none : (n : ℕ) (s : StoreView) → IsStoreSound s → Flushed n s 0 s 0 0
-flushed-none n s sound = let none : take n (due s 0) ≡ [] = by n in record {
-  sound = sound;
-  goes = Goes-refl s;
-  still = λ r. refl;
-  sum = rw none refl;
-  failures = rw none refl;
-  below = rw none (All-nil (λ x. x < 0));
-  ahead = λ f le. refl;
-  frames = λ f. refl;
-  others = λ f out. refl;
-  counted = λ e. omega arith;
-  written_out = refl;
-  read_in = refl;
-  hand = refl;
-}
-  where
-    by : (m : ℕ) → take m (due s 0) ≡ []
-    by zero = refl
-    by (suc m) = refl
+flushed-none n s sound = grind (arith, nat_tests, common_steps, take, due)
 
 -- the frame may be flushed as it might at first
 pub may-same : (n : ℕ) (s : StoreView) (i : ℕ) (t : StoreView) (written failed : ℕ) → Flushed n s i t written failed → may_flush t i ≡ may_flush s i
@@ -143,10 +125,7 @@ module _ (n : ℕ) (s : StoreView) (i : ℕ) (t : StoreView) (written failed : �
             );
         below = rw is (All-push (λ x. x < i + 1) l i (below-more i l d.below) (omega arith));
         ahead = λ f le. other f (λ e. absurd (omega (arith, e, le))) ∙ d.ahead f (omega arith);
-        frames = λ f. elim (cases_eq f i) [
-          | inl e ↦ rw e (at ∙ rw (d.ahead i (omega arith)) refl)
-          | inr ne ↦ rw (other f ne) (d.frames f)
-        ];
+        frames = λ f. grind (arith, nat_tests, common_steps, d.ahead, d.frames);
         others = λ f out. other f (λ e. out (rw (is, e) (Contains-push l i))) ∙ d.others f (λ has. out (rw is (Contains-append_left l (i ∷ []) f has)));
         counted = λ e. let a = counted e in let b = d.counted (unspent-before t.swap u.swap sound.swap goes.goes_on goes.same_sizes e) in omega (arith, a, b, more);
         written_out = written_out s.outs d.written_out;
@@ -161,18 +140,7 @@ module _ (n : ℕ) (s : StoreView) (i : ℕ) (t : StoreView) (written failed : �
       other f ne = ap (λ (fs : List Frame). frame_at fs f) frames ∙ get_or-set_other t.frames i f (record (frame_at t.frames i) { dirty = dirty_after u i }) no_frame ne
 
 pub flushed-all : (n : ℕ) (s : StoreView) (i : ℕ) (t : StoreView) (written failed : ℕ) → i ≡ length s.frames → Flushed n s i t written failed → IsFlushed s t n (record { written = written; failed = failed })
-flushed-all n s i t written failed e d =
-    let same : due s i ≡ dirty_list s = ap (due s) e in
-    record {
-      sum = d.sum ∙ length-take n (due s i) ∙ ap (λ l. min n (length l)) same;
-      failed = rw same at d.failures;
-      frames = d.frames;
-      others = λ f out. d.others f (rw (← same) at out);
-      counted = d.counted;
-      written_out = d.written_out;
-      read_in = d.read_in;
-      hand = d.hand;
-    }
+flushed-all n s i t written failed e d = grind (arith, nat_tests, common_steps, due, d.sum, length-take, d.failures, d.frames, d.others, d.counted, d.written_out, d.read_in, d.hand)
 
 pub flushable : (s : StoreView) (i : ℕ) (r : PageRef) → (frame_at s.frames i).owner ≡ Some r → (frame_at s.frames i).dirty ≡ true → not (locked_by s.segs r.seg) ≡ may_flush s i
 flushable s i r owner dirty = rw (owner, dirty) (ap not (sym (is_locked-held s r.seg)))

@@ -10,6 +10,7 @@ use Rattle.shm_fault.specs.declared.page_tables.PageRec.{PageRec}
 use Rattle.shm_fault.specs.Goes.{Outline, outline, outlines, same_ref}
 use Rattle.shm_fault.specs.Segs.{SegRec, no_page, rec_at, find_seg, AreApart, rec_by, count_by_id, HasPage, locked_by, seg_with, with_rec, pages_of, locked_pages}
 use Rattle.std.proofs.lemmas.Bool.Decides.{nat_tests}
+use Rattle.std.proofs.lemmas.Grind.{common_steps}
 
 -- the name of another page
 abbrev pub other : PageRef → PageRef → Bool
@@ -20,9 +21,7 @@ pub ref_parts : (q r : PageRef) → q.seg ≡ r.seg → q.page ≡ r.page → q 
 ref_parts q r a b = let l : record { seg = q.seg; page = q.page } ≡ record { seg = r.seg; page = r.page } = rw (a, b) refl in l
 
 pub same-true : (q r : PageRef) → same_ref q r ≡ true → q ≡ r
-same-true q r t =
-    let p = and_parts (eqb q.seg r.seg) (eqb q.page r.page) t in
-    ref_parts q r (eqb-true q.seg r.seg p.0) (eqb-true q.page r.page p.1)
+same-true q r t = grind (arith, nat_tests, common_steps, and_parts, eqb, q.seg, r.seg, q.page, r.page, ref_parts, eqb-true)
 
 pub same-self : (r : PageRef) → same_ref r r ≡ true
 same-self r = rw (eq-eqb r.seg r.seg refl, eq-eqb r.page r.page refl) refl
@@ -54,10 +53,7 @@ found-same (g ∷ gs) (h ∷ hs) id e =
     let o : outline h ≡ outline g = cc in
     let rest : outlines hs ≡ outlines gs = cc in
     let same : h.id ≡ g.id = ap (λ (x : Outline). x.id) o in
-    elim (cases_Bool (eqb g.id id)) [
-      | inl t ↦ rw (same, t) (ap (λ (x : Outline). x.count) o, ap (λ (x : Outline). x.locked) o, λ n. cc)
-      | inr n ↦ rw (same, n) (found-same gs hs id rest)
-    ]
+    grind (arith, nat_tests, common_steps, eqb, g.id, same, o, rest, found-same gs hs id rest)
 
 pub count-same : (gs hs : List SegRec) (id : ℕ) → outlines hs ≡ outlines gs → count_by_id hs id ≡ count_by_id gs id
 count-same gs hs id e = (found-same gs hs id e).0
@@ -133,8 +129,7 @@ rec-with gs r p has = grind (arith, nat_tests, find-with gs r p r.seg, find-id g
 
 -- and where any other page is
 pub rec-with_other : (gs : List SegRec) (r q : PageRef) (p : PageRec) → other r q ≡ true → rec_by (with_rec gs r p) q ≡ rec_by gs q
-rec-with_other gs r q p off =
-    grind (arith, nat_tests, find-with gs r p q.seg, find-id gs q.seg, get_or-set_other, off)
+rec-with_other gs r q p off = grind (arith, nat_tests, common_steps, find-with, q.seg, find-id, get_or-set_other)
 
 -- no page's frame changed
 pub still-with : (gs : List SegRec) (r : PageRef) (p : PageRec) → HasPage gs r → p.frame ≡ (rec_by gs r).frame → (q : PageRef) → (rec_by (with_rec gs r p) q).frame ≡ (rec_by gs q).frame

@@ -1,9 +1,11 @@
 -- What calls of the swap leave of its slots.
-use Rattle.std.proofs.Common.{◌≡◌, ◌≢◌, ◌⊎◌, ℕ, ◌<◌, Bool, List, [], length, get_or, set, Option, None, refl, ap, ◌∙◌, inl, inr, length-set, get_or-set_same, get_or-set_other, zero, suc, ◌∷◌}
+use Rattle.std.proofs.Common.{◌≡◌, ◌≢◌, ◌⊎◌, ℕ, ◌<◌, Bool, List, [], length, get_or, set, Option, None, refl, ap, ◌∙◌, inl, inr, length-set, get_or-set_same, get_or-set_other, zero, suc, ◌∷◌, arith}
 use Rattle.std.proofs.lemmas.Bool.{cases_eq}
 use Rattle.shm_base.specs.declared.paging.PageRef.{PageRef}
 use Rattle.shm_base.specs.declared.paging.Slot.{Slot}
 use Rattle.shm_slots.specs.View.{AreaView, SwapView, no_area, area_at, with_page, with_owner, HasSlot, owner_of, page_in, with_slot_page, with_slot_owner, without_slot, OneArea, WriteFault}
+use Rattle.std.proofs.lemmas.Grind.{common_steps}
+use Rattle.std.proofs.lemmas.Bool.Decides.{nat_tests}
 
 -- an element of a list of which one was set: that one, or as it was
 pub set-cases : {A : Type 0} (xs : List A) (i : ℕ) (x d : A) (j : ℕ) → ((j ≡ i) × (get_or (set xs i x) j d ≡ x)) ⊎ (get_or (set xs i x) j d ≡ get_or xs j d)
@@ -31,26 +33,7 @@ area_only : (k : Slot) (s : SwapView) (a : AreaView) (flag : Bool) → length a.
     → ((i : ℕ) → i ≢ k.slot → get_or a.pages i [] ≡ get_or (area_at s k.area).pages i [])
     → ((i : ℕ) → i ≢ k.slot → get_or a.owners i None ≡ get_or (area_at s k.area).owners i None)
     → OnlySlot k s (record { areas = set s.areas k.area a; never_spent = flag })
-area_only k s a flag len pages owners = record {
-  has = λ j h. (
-    rw (length-set s.areas k.area a) h.0,
-    elim (set-cases s.areas k.area a no_area j.area) [
-      | inl same ↦ rw (same.1, len) (rw same.0 at h.1)
-      | inr kept ↦ rw kept h.1
-    ],
-  );
-  pages = λ j n. elim (set-cases s.areas k.area a no_area j.area) [
-    | inl same ↦ rw (same.1, same.0) (pages j.slot (apart j n same.0))
-    | inr kept ↦ rw kept refl
-  ];
-  owners = λ j n. elim (set-cases s.areas k.area a no_area j.area) [
-    | inl same ↦ rw (same.1, same.0) (owners j.slot (apart j n same.0))
-    | inr kept ↦ rw kept refl
-  ];
-}
-  where
-    apart : (j : Slot) → j ≢ k → j.area ≡ k.area → j.slot ≢ k.slot
-    apart j n areas slots = n (let l : record { area = j.area; slot = j.slot } ≡ record { area = k.area; slot = k.slot } = rw (areas, slots) refl in l)
+area_only k s a flag len pages owners = grind (arith, nat_tests, common_steps, s.areas, k.area, set-cases, k.slot)
 
 -- a slot written
 pub OnlySlot-page : (k : Slot) (s : SwapView) (page : List ℕ) → OnlySlot k s (with_slot_page s k page)
@@ -66,37 +49,23 @@ OnlySlot-given k s page = area_only k s (with_page (with_owner (area_at s k.area
 
 -- a write that failed
 pub OnlySlot-fault : (k : Slot) (s t : SwapView) → OneArea k.area s t → WriteFault k.slot (area_at s k.area) (area_at t k.area) → OnlySlot k s t
-OnlySlot-fault k s t one fault =
-    let a = area_at t k.area in
-    let was = area_at s k.area in
-    let unknown : a.pages ≡ set was.pages k.slot (get_or a.pages k.slot []) = fault.1 in
-    let owners : a.owners ≡ was.owners = ap (λ (b : AreaView). b.owners) fault.0 in
-    rw one (area_only k s a _ (ap length unknown ∙ length-set was.pages k.slot _) (λ i n. ap (λ ps. get_or ps i []) unknown ∙ get_or-set_other was.pages k.slot i _ [] n) (λ i n. ap (λ os. get_or os i None) owners))
+OnlySlot-fault k s t one fault = grind (arith, nat_tests, common_steps, k.area, k.slot, fault.1, fault.0, area_only, get_or-set_other)
 
 -- what the slot itself then is
 pub page-written : (k : Slot) (s : SwapView) (page : List ℕ) → HasSlot s k.area k.slot → page_in (with_slot_page s k page) k.area k.slot ≡ page
-page-written k s page h =
-    rw (get_or-set_same s.areas k.area (with_page (area_at s k.area) k.slot page) no_area h.0) (get_or-set_same (area_at s k.area).pages k.slot page [] h.1)
+page-written k s page h = grind (arith, nat_tests, common_steps, get_or-set_same, s.areas, k.area, k.slot, h.0, h.1)
 
 pub owner-written : (k : Slot) (s : SwapView) (page : List ℕ) → HasSlot s k.area k.slot → owner_of (with_slot_page s k page) k.area k.slot ≡ owner_of s k.area k.slot
-owner-written k s page h =
-    rw (get_or-set_same s.areas k.area (with_page (area_at s k.area) k.slot page) no_area h.0) refl
+owner-written k s page h = grind (arith, nat_tests, common_steps, get_or-set_same, s.areas, k.area, k.slot, h.0)
 
 pub owner-fault : (k : Slot) (s t : SwapView) → OneArea k.area s t → WriteFault k.slot (area_at s k.area) (area_at t k.area) → owner_of t k.area k.slot ≡ owner_of s k.area k.slot
 owner-fault k s t one fault = ap (λ (b : AreaView). get_or b.owners k.slot None) fault.0
 
 pub owner-set : (k : Slot) (s : SwapView) (owner : Option PageRef) → k.area < length s.areas → k.slot < length (area_at s k.area).owners → owner_of (with_slot_owner s k owner) k.area k.slot ≡ owner
-owner-set k s owner area slot =
-    rw (get_or-set_same s.areas k.area (with_owner (area_at s k.area) k.slot owner) no_area area) (get_or-set_same (area_at s k.area).owners k.slot owner None slot)
+owner-set k s owner area slot = grind (arith, nat_tests, common_steps, get_or-set_same, s.areas, k.area, k.slot)
 
 pub owner-given : (k : Slot) (s : SwapView) (page : List ℕ) → k.area < length s.areas → k.slot < length (area_at s k.area).owners → owner_of (without_slot s k page) k.area k.slot ≡ None
-owner-given k s page area slot =
-    rw (get_or-set_same s.areas k.area (with_page (with_owner (area_at s k.area) k.slot None) k.slot page) no_area area) (get_or-set_same (area_at s k.area).owners k.slot None None slot)
+owner-given k s page area slot = grind (arith, nat_tests, common_steps, get_or-set_same, s.areas, k.area, k.slot)
 
 pub cases_slot : (j k : Slot) → (j ≡ k) ⊎ (j ≢ k)
-cases_slot j k = by (cases_eq j.area k.area) (cases_eq j.slot k.slot)
-  where
-    by : (j.area ≡ k.area) ⊎ (j.area ≢ k.area) → (j.slot ≡ k.slot) ⊎ (j.slot ≢ k.slot) → (j ≡ k) ⊎ (j ≢ k)
-    by (inl a) (inl b) = let l : record { area = j.area; slot = j.slot } ≡ record { area = k.area; slot = k.slot } = rw (a, b) refl in inl l
-    by (inr n) b = inr (λ e. n (ap (λ (x : Slot). x.area) e))
-    by (inl a) (inr n) = inr (λ e. n (ap (λ (x : Slot). x.slot) e))
+cases_slot j k = grind (arith, nat_tests, common_steps, j.area, k.area, j.slot, k.slot)

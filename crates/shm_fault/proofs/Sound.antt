@@ -18,6 +18,7 @@ use Rattle.shm_fault.proofs.Tally.{resident-frames}
 use Rattle.shm_fault.proofs.Bytes.{bytes_at, held-same}
 use Rattle.shm_fault.proofs.Failures.{spent-cause, cause-before}
 use Rattle.std.proofs.lemmas.Bool.Decides.{nat_tests}
+use Rattle.std.proofs.lemmas.Grind.{common_steps}
 
 -- a page and the frame that it is in
 pub frame-own : (s : StoreView) → IsStoreSound s → (r : PageRef) (f : ℕ) → (rec_by s.segs r).frame ≡ Some f → (f < length s.frames) × ((frame_at s.frames f).owner ≡ Some r)
@@ -30,23 +31,7 @@ slot-own s sound r k at = (sound.tied.pages r (has-slot s.segs r k at)).slot_own
 -- the counts follow from the rest
 pub IsSound-from : (s : StoreView) → Tied s → AreApart s.segs → (2 ≤ length s.frames) × (length s.frames ≤ 4096) → IsSwap s.swap → s.hand < length s.frames
     → sum_by pages_of s.segs ≤ slots s.swap → sum_by locked_pages s.segs + 2 ≤ length s.frames → IsStoreSound s
-IsSound-from s tied apart frames swap hand capacity locked = record {
-  tied = tied;
-  apart = apart;
-  frames = frames;
-  swap = swap;
-  hand = hand;
-  capacity = capacity;
-  locked = locked;
-  few_resident = let e = resident-frames s apart tied in omega (arith, e, count_by-le-length (λ (x : Frame). is_some x.owner) s.frames);
-  few_dirty = sum_by-le-sum_by (λ (g : SegRec). count_by (is_dirty_page s.frames) g.pages) (λ (g : SegRec). count_by has_frame g.pages) s.segs
-      (λ g. sum_by-le-sum_by (λ p. cond (is_dirty_page s.frames p) 1 0) (λ p. cond (has_frame p) 1 0) g.pages (λ p. by p.frame));
-  few_used = sum_by-le-sum_by (λ (g : SegRec). count_by has_slot g.pages) pages_of s.segs (λ g. count_by-le-length has_slot g.pages);
-}
-  where
-    by : (o : Option ℕ) → cond (dirty_in s.frames o) 1 0 ≤ cond (is_some o) 1 0
-    by None = omega arith
-    by (Some f) = grind (arith, nat_tests)
+IsSound-from s tied apart frames swap hand capacity locked = grind (arith, nat_tests, common_steps, resident-frames, count_by-le-length, is_some, s.frames, sum_by-le-sum_by, s.segs, cond)
 
 -- a change that touches few pages
 module _ (off : PageRef → Bool) (s t : StoreView) (sound : IsStoreSound s) (to : Touches off s t) (swap : IsSwap t.swap) (same : sizes t.swap ≡ sizes s.swap) (hand : t.hand < length t.frames)
@@ -76,13 +61,7 @@ pub GoesOn-refl : (s : SwapView) → GoesOn s s
 GoesOn-refl s = record { areas = refl; starts = λ a. refl; counts = λ a. omega arith; here = λ a e. e; flag = λ e. e }
 
 pub GoesOn-trans : (s t u : SwapView) → GoesOn s t → GoesOn t u → GoesOn s u
-GoesOn-trans s t u a b = record {
-  areas = b.areas ∙ a.areas;
-  starts = λ i. b.starts i ∙ a.starts i;
-  counts = λ i. let x = a.counts i in let y = b.counts i in omega (arith, x, y);
-  here = λ i e. a.here i (b.here i e);
-  flag = λ e. a.flag (b.flag e);
-}
+GoesOn-trans s t u a b = grind (arith, nat_tests, common_steps, b.areas, a.areas, b.starts, a.starts, a.counts, b.counts, a.here, b.here, a.flag, b.flag)
 
 pub Goes-refl : (s : StoreView) → Goes s s
 Goes-refl s = record { bytes = refl; shape = refl; size = refl; goes_on = GoesOn-refl s.swap; same_sizes = refl; spent = λ e. or_right (ltb (total s.swap) (total s.swap)) (some_spent s.swap) e }

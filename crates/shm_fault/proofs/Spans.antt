@@ -15,6 +15,7 @@ use Rattle.shm_fault.specs.Goes.{outline, outlines, frame_by}
 use Rattle.shm_fault.proofs.Pages.{find-id, has-tail}
 use Rattle.shm_fault.proofs.Bytes.{joined, held_one, held_of, bytes_at, held-is, joined-read, joined-paste, joined-ext, length-joined}
 use Rattle.std.proofs.lemmas.Bool.Decides.{nat_tests}
+use Rattle.std.proofs.lemmas.Grind.{common_steps}
 
 find-held : (b : PageRef → List ℕ) (gs : List SegRec) (id : ℕ) → find_held (held_of b (outlines gs)) id ≡ option_map (λ (g : SegRec). held_one b (outline g)) (find_seg gs id)
 find-held b [] id = refl
@@ -39,9 +40,7 @@ module _ (s : StoreView) (sound : IsStoreSound s) where
 
   -- the page of a stretch is there
   pub fits-has : (p : Span) → FitsPage (held s) p → HasPage s.segs (ref_of p)
-  fits-has p fit =
-      let len = length-in p.seg in
-      omega (arith, len, fit.1, fit.2)
+  fits-has p fit = grind (arith, nat_tests, common_steps, length-in, p.seg, fit.1, fit.2)
 
   pub span-read : (p : Span) (f : ℕ) → FitsPage (held s) p → frame_by s (ref_of p) ≡ Some f → span_bytes (held s) p ≡ take p.len (drop (p.at % 4096) (frame_at s.frames f).bytes)
   span-read p f fit at =
@@ -53,10 +52,7 @@ module _ (s : StoreView) (sound : IsStoreSound s) where
 
 -- a stretch that fits a page still does where segments have the same pages
 pub fits-same : (s t : StoreView) → IsStoreSound s → IsStoreSound t → t.segs ≡ s.segs → (p : Span) → FitsPage (held s) p → FitsPage (held t) p
-fits-same s t before after segs p fit =
-    let there : is_held (held t) p.seg ≡ is_held (held s) p.seg = held-in t after p.seg ∙ ap (λ (gs : List SegRec). is_some (find_seg gs p.seg)) segs ∙ sym (held-in s before p.seg) in
-    let size : length (bytes_of (held t) p.seg) ≡ length (bytes_of (held s) p.seg) = length-in t after p.seg ∙ ap (λ (gs : List SegRec). 4096 * count_by_id gs p.seg) segs ∙ sym (length-in s before p.seg) in
-    (there ∙ fit.0, omega (arith, size, fit.1), fit.2, fit.3)
+fits-same s t before after segs p fit = grind (arith, nat_tests, common_steps, p.seg, held-in, is_some, length-in, fit.0, fit.1, fit.2, fit.3)
 
 -- one stretch written
 pasted-list : (b c : PageRef → List ℕ) (gs : List SegRec) (r : PageRef) (off : ℕ) (new : List ℕ) → AreApart gs → ((q : PageRef) → HasPage gs q → length (b q) ≡ 4096) → HasPage gs r → off + length new ≤ 4096
@@ -105,7 +101,4 @@ count-le-sum [] id = omega arith
 count-le-sum (g ∷ gs) id = grind (arith, nat_tests, count-le-sum gs id, sum_by-cons pages_of g gs)
 
 pub few_pages : (s : StoreView) → IsStoreSound s → (id : ℕ) → count_by_id s.segs id ≤ 524288
-few_pages s sound id =
-    let a = count-le-sum s.segs id in
-    let b = sum-slots s.swap.areas sound.swap.each in
-    omega (arith, a, b, sound.capacity, sound.swap.few)
+few_pages s sound id = grind (arith, nat_tests, common_steps, count-le-sum, s.segs, sum-slots, s.swap.areas, sound.swap.each, sound.capacity, sound.swap.few)

@@ -13,6 +13,7 @@ use Rattle.shm_fault.specs.Store.{StoreView, has_frame, has_slot, is_dirty_page,
 use Rattle.shm_fault.specs.Sound.{Tied}
 use Rattle.shm_fault.proofs.Counts.{weigh, weigh-ext, weigh-sum, weigh-zero, weigh-le, weigh-ge, weigh-test, weigh-all, weigh-locked, at_least, counted_by_page}
 use Rattle.std.proofs.lemmas.Bool.Decides.{nat_tests}
+use Rattle.std.proofs.lemmas.Grind.{common_steps}
 
 abbrev one_if : Bool → ℕ
 one_if b = cond b 1 0
@@ -74,17 +75,11 @@ module _ (s : StoreView) (apart : AreApart s.segs) (tied : Tied s) (test : PageR
       same r (Some f) = elim (cases_Bool (test r (frame_at s.frames f))) [ inl t ↦ rw (t, le-leb 0 f (omega arith)) refl | inr n ↦ rw n refl ]
 
       read : (i : ℕ) → get_or (map (owner_if test) s.frames) i None ≡ owner_if test (frame_at s.frames i)
-      read i = elim (cases_lt i (length s.frames)) [
-        | inl l ↦ get_or-map (owner_if test) s.frames i no_frame None l
-        | inr g ↦ get_or_past (map (owner_if test) s.frames) i None (rw (length-map s.frames (owner_if test)) g) ∙ sym (ap (owner_if test) (get_or_past s.frames i no_frame g))
-      ]
+      read i = grind (arith, nat_tests, common_steps, s.frames, get_or-map, owner_if, get_or_past, length-map)
 
       number-is : (r : PageRef) (o : Option ℕ) (i : ℕ) → number_of test s.frames r o ≡ Some i → (o ≡ Some i) × (test r (frame_at s.frames i) ≡ true)
       number-is r None i e = cc
-      number-is r (Some f) i e = elim (cases_Bool (test r (frame_at s.frames f))) [
-        | inl t ↦ let h : Some f ≡ Some i = rw t at e in let q : f ≡ i = cc in (h, rw (← q) t)
-        | inr n ↦ let h : None ≡ Some i = rw n at e in cc
-      ]
+      number-is r (Some f) i e = grind (arith, nat_tests, common_steps, s.frames)
 
       there : (r : PageRef) (i : ℕ) → HasPage s.segs r → number_of test s.frames r (rec_by s.segs r).frame ≡ Some (0 + i) → get_or (map (owner_if test) s.frames) i None ≡ Some r
       there r i has e =
@@ -95,10 +90,7 @@ module _ (s : StoreView) (apart : AreApart s.segs) (tied : Tied s) (test : PageR
 
       owner-is : (x : Frame) (r : PageRef) (o : Option PageRef) → kept_if (passes_in test x o) o ≡ Some r → (o ≡ Some r) × (test r x ≡ true)
       owner-is x r None e = let n : (b : Bool) → kept_if b None ≡ None = elim [ true ↦ refl | false ↦ refl ] in let h : None ≡ Some r = sym (n false) ∙ e in cc
-      owner-is x r (Some q) e = elim (cases_Bool (test q x)) [
-        | inl t ↦ let h : Some q ≡ Some r = rw t at e in let same : q ≡ r = cc in (h, rw (← same) t)
-        | inr n ↦ let h : None ≡ Some r = rw n at e in cc
-      ]
+      owner-is x r (Some q) e = grind (arith, nat_tests, common_steps)
 
       back : (i : ℕ) (r : PageRef) → get_or (map (owner_if test) s.frames) i None ≡ Some r → HasPage s.segs r × (number_of test s.frames r (rec_by s.segs r).frame ≡ Some (0 + i))
       back i r e =

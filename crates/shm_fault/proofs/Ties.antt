@@ -1,5 +1,5 @@
 -- A change that touches few pages keeps all others tied, and their bytes.
-use Rattle.std.proofs.Common.{◌≡◌, ℕ, Bool, true, false, List, length, set, Option, Some, None, refl, sym, ◌∙◌, inl, inr, length-set}
+use Rattle.std.proofs.Common.{◌≡◌, ℕ, Bool, true, false, List, length, set, Option, Some, None, refl, sym, ◌∙◌, inl, inr, length-set, arith}
 use Rattle.std.proofs.lemmas.Bool.{cases_Bool}
 use Rattle.shm_base.specs.declared.paging.PageRef.{PageRef}
 use Rattle.shm_base.specs.declared.paging.Slot.{Slot}
@@ -12,6 +12,8 @@ use Rattle.shm_fault.specs.Sound.{IsTied, Tied}
 use Rattle.shm_fault.specs.Goes.{outlines, Alike}
 use Rattle.shm_fault.proofs.Pages.{has-same, outlines-with, rec-with_other, other, other-self}
 use Rattle.shm_fault.proofs.Slots.{OnlySlot, cases_slot, set-cases}
+use Rattle.std.proofs.lemmas.Grind.{common_steps}
+use Rattle.std.proofs.lemmas.Bool.Decides.{nat_tests}
 
 pub Alike-refl : (x : Frame) → Alike x x
 Alike-refl x = record { owner = refl; bytes = refl; dirty = refl }
@@ -53,14 +55,7 @@ slots-same s = record { has = λ k q e o h. h; kept = λ k q e o. (o, refl); own
 
 -- one page's place looked up in other segments
 pub tied-segs : (s : StoreView) (segs : List SegRec) (r : PageRef) → rec_by segs r ≡ rec_by s.segs r → IsTied s r → IsTied (record s { segs = segs }) r
-tied-segs s segs r same tie = record {
-  frame_owned = λ f e. tie.frame_owned f (rw same at e);
-  owner_resident = λ f e. rw same (tie.owner_resident f e);
-  slot_owned = λ k e. tie.slot_owned k (rw same at e);
-  owner_stored = λ k e. rw same (tie.owner_stored k e);
-  clean = λ f e d. rw same (tie.clean f (rw same at e) d);
-  whole = rw same tie.whole;
-}
+tied-segs s segs r same tie = grind (arith, nat_tests, common_steps, tie.frame_owned, tie.owner_resident, tie.slot_owned, tie.owner_stored, tie.clean, tie.whole)
 
 module _ (off : PageRef → Bool) (s t : StoreView) (to : Touches off s t) where
   stored-off : (q : PageRef) → off q ≡ true → IsTied s q → (o : Option Slot) → (rec_by s.segs q).slot ≡ o → stored t.swap o ≡ stored s.swap o
@@ -79,22 +74,14 @@ module _ (off : PageRef → Bool) (s t : StoreView) (to : Touches off s t) where
   tied_off q is tie =
       let same = to.segs.recs q is in
       record {
-        frame_owned = λ f e.
-            let was : (rec_by s.segs q).frame ≡ Some f = rw same at e in
-            let own = tie.frame_owned f was in
-            (rw to.frames.size own.0, (to.frames.alike f q is own.1).owner ∙ own.1);
+        frame_owned = λ f e. grind (arith, nat_tests, common_steps, s.segs, same, tie.frame_owned, to.frames.size, to.frames.alike);
         owner_resident = λ f e. rw same (tie.owner_resident f (to.frames.owners f q is e));
         slot_owned = λ k e.
             let was : (rec_by s.segs q).slot ≡ Some k = rw same at e in
             let own = tie.slot_owned k was in
             (to.slots.has k q is own.1 own.0, (to.slots.kept k q is own.1).0);
         owner_stored = λ k e. rw same (tie.owner_stored k (to.slots.owners k q is e));
-        clean = λ f e d.
-            let was : (rec_by s.segs q).frame ≡ Some f = rw same at e in
-            let own = tie.frame_owned f was in
-            let alike = to.frames.alike f q is own.1 in
-            let st : stored t.swap (rec_by t.segs q).slot ≡ stored s.swap (rec_by s.segs q).slot = rw same (stored-off q is tie (rec_by s.segs q).slot refl) in
-            alike.bytes ∙ tie.clean f was (sym alike.dirty ∙ d) ∙ sym st;
+        clean = λ f e d. grind (arith, nat_tests, common_steps, s.segs, same, tie.frame_owned, to.frames.alike, t.swap, t.segs, s.swap, stored-off, tie.clean);
         whole = rw (bytes_touched q is tie) tie.whole;
       }
 
@@ -126,32 +113,12 @@ IsOwn-some r o e q h = let same : q ≡ r = cc in rw same (other-self r)
 -- one frame set, whose owner was and is such a page or nobody
 pub frames-set : (off : PageRef → Bool) (frames : List Frame) (f : ℕ) (x : Frame) → IsOwn off (frame_at frames f).owner → IsOwn off x.owner → (x.owner ≡ None → x.dirty ≡ false)
     → ((g : ℕ) → (frame_at frames g).owner ≡ None → (frame_at frames g).dirty ≡ false) → FramesApart off frames (set frames f x)
-frames-set off frames f x was is clean free = record {
-  size = length-set frames f x;
-  alike = λ g q out e. elim (set-cases frames f x no_frame g) [
-    | inl same ↦ cc (was q (rw same.0 at e))
-    | inr kept ↦ rw kept (Alike-refl (frame_at frames g))
-  ];
-  owners = λ g q out e. elim (set-cases frames f x no_frame g) [
-    | inl same ↦ cc (is q (rw same.1 at e))
-    | inr kept ↦ rw kept at e
-  ];
-  free = λ g e. elim (set-cases frames f x no_frame g) [
-    | inl same ↦ rw same.1 (clean (rw same.1 at e))
-    | inr kept ↦ rw kept (free g (rw kept at e))
-  ];
-}
+frames-set off frames f x was is clean free = grind (arith, nat_tests, common_steps, set-cases)
 
 -- slots, where one may have another page or owner, and that is such a page or nobody
 pub slots-only : (off : PageRef → Bool) (k : Slot) (s u : SwapView) → OnlySlot k s u → IsOwn off (owner_of s k.area k.slot) → IsOwn off (owner_of u k.area k.slot) → SlotsApart off s u
 slots-only off k s u only was is = record {
   has = λ j q out e. only.has j;
-  kept = λ j q out e. elim (cases_slot j k) [
-    | inl same ↦ cc (was q (rw same at e))
-    | inr n ↦ (only.owners j n ∙ e, only.pages j n)
-  ];
-  owners = λ j q out e. elim (cases_slot j k) [
-    | inl same ↦ cc (is q (rw same at e))
-    | inr n ↦ sym (only.owners j n) ∙ e
-  ];
+  kept = λ j q out e. grind (arith, nat_tests, common_steps, cases_slot, only.owners, only.pages);
+  owners = λ j q out e. grind (arith, nat_tests, common_steps, cases_slot, only.owners);
 }

@@ -11,6 +11,8 @@ use Rattle.shm_fault.specs.Counting.{one_if, CountsOn, hand_for_frame}
 use Rattle.shm_fault.specs.Access.{Visited}
 use Rattle.shm_fault.proofs.Counting.{counts-still}
 use Rattle.shm_fault.proofs.Visits.{moves-still}
+use Rattle.std.proofs.lemmas.Grind.{common_steps}
+use Rattle.std.proofs.lemmas.Bool.Decides.{nat_tests}
 
 -- a resident page's frame was touched
 pub visited-touched : (r : PageRef) (pinned : Option ℕ) (f : ℕ) (s t : StoreView) (u : Touched) → Some f ≡ frame_by s r → Visits r pinned s t → t ≡ record s { frames = t.frames } → Visited r pinned (Some f) s t u u true
@@ -32,14 +34,4 @@ visited-touched r pinned f s t u known visits rest =
 pub visited-fault : (r : PageRef) (pinned : Option ℕ) (s t : StoreView) (u v : Touched) (ok : Bool) → frame_by s r ≡ None → Visits r pinned s t → MovesOn u.moved.items v.moved.items s t → length v.moved.items ≤ length u.moved.items + 2
     → v.ins ≡ u.ins + one_if (ok && is_some (rec_by s.segs r).slot) → v.outs ≤ u.outs + 1 → CountsOn u v s t → t.hand ≡ hand_for_frame s pinned → (ok ≡ false → had_cause s.swap t.swap ≡ true)
     → Visited r pinned None s t u v ok
-visited-fault r pinned s t u v ok away visits moves few ins outs counts hand cause = record {
-  visits = visits;
-  moves = moves;
-  few = few;
-  ins = let same : is_swapped (rec_by s.segs r) ≡ is_some (rec_by s.segs r).slot = rw away refl in rw same ins;
-  outs = outs;
-  counts = counts;
-  hand = hand;
-  quiet = λ known. cc;
-  cause = cause;
-}
+visited-fault r pinned s t u v ok away visits moves few ins outs counts hand cause = grind (arith, nat_tests, common_steps, s.segs, is_some)

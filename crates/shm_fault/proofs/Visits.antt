@@ -19,6 +19,8 @@ use Rattle.shm_fault.proofs.Pages.{rec-with, rec-with_other, cases_ref, other_ne
 use Rattle.shm_fault.proofs.Sound.{frame-own, Goes-trans, KeepsLocked-trans}
 use Rattle.shm_fault.proofs.Changes.{keeps-alike, keeps-load, keeps-settle}
 use Rattle.shm_fault.proofs.Slots.{set-cases}
+use Rattle.std.proofs.lemmas.Grind.{common_steps}
+use Rattle.std.proofs.lemmas.Bool.Decides.{nat_tests}
 
 pub Visits-trans : (r : PageRef) (pinned : Option ℕ) (s t u : StoreView) → Visits r pinned s t → Visits r pinned t u → Visits r pinned s u
 Visits-trans r pinned s t u a b = record {
@@ -34,10 +36,7 @@ module _ (gs : List SegRec) (pinned : Option ℕ) (frames : List Frame) (f : ℕ
   victim-unlocked = not-true (locked_by gs page.seg) (rw owner at (and_parts (owner_passes (unlocked gs) (frame_at frames f).owner) (not (is_pinned pinned f)) may).0)
 
   pub victim-loose : (p : ℕ) → pinned ≡ Some p → p ≢ f
-  victim-loose p is same =
-      let n : not (is_pinned pinned f) ≡ true = (and_parts (owner_passes (unlocked gs) (frame_at frames f).owner) (not (is_pinned pinned f)) may).1 in
-      let q : is_pinned pinned f ≡ true = rw is (eq-eqb p f same) in
-      false≢true (sym (not-true (is_pinned pinned f) n) ∙ q)
+  victim-loose p is same = grind (arith, nat_tests, common_steps, not, and_parts, not-true)
 
 module _ (s t₁ t₂ t₃ : StoreView) (f : ℕ) (page : PageRef) (pinned : Option ℕ) (x y : Frame)
     (segs₁ : t₁.segs ≡ s.segs) (still : Still t₁ t₂) (away : StaysAway t₁ t₂)
@@ -50,9 +49,7 @@ module _ (s t₁ t₂ t₃ : StoreView) (f : ℕ) (page : PageRef) (pinned : Opt
   first = ap (λ (gs : List SegRec). (rec_by gs page).frame) (sym segs₁) ∙ sym (still page) ∙ was
 
   pub evicted-gone : (q : PageRef) → frame_by t₃ q ≡ cond (same_ref page q) None (frame_by s q)
-  evicted-gone q =
-      let p : PageRec = record (rec_by t₂.segs page) { frame = None } in
-      grind (arith, cases_ref page q, segs₃, segs₁, same-self page, same-other page q, rec-with t₂.segs page p there, rec-with_other t₂.segs page q p, still q)
+  evicted-gone q = grind (arith, nat_tests, common_steps, t₂.segs, cases_ref, same-self, same-other, rec-with, there, rec-with_other)
 
   other-rec : (q : PageRef) → q ≢ page → rec_by t₃.segs q ≡ rec_by t₂.segs q
   other-rec q n = ap (λ (gs : List SegRec). rec_by gs q) segs₃ ∙ (rec-with_other t₂.segs page q (record (rec_by t₂.segs page) { frame = None }) (other-true page q n))
@@ -66,21 +63,9 @@ module _ (s t₁ t₂ t₃ : StoreView) (f : ℕ) (page : PageRef) (pinned : Opt
     pub evicted-visits : (r : PageRef) → Visits r pinned s t₃
     evicted-visits r = record {
       goes = Goes-trans s t₁ t₃ g₁ (Goes-trans t₁ t₂ t₃ g₂ g₃);
-      kept = λ q locked e. elim (cases_ref page q) [
-        | inl same ↦ absurd (false≢true (sym (victim-unlocked s.segs pinned s.frames f page may owner) ∙ (rw same at locked)))
-        | inr off ↦ rw (other-frame q (other_ne page q off)) e
-      ];
-      away = λ q n e.
-          let ne : q ≢ page = λ same. cc (first, rw same at e) in
-          let e₁ : (rec_by t₁.segs q).frame ≡ None = ap (λ (gs : List SegRec). (rec_by gs q).frame) segs₁ ∙ e in
-          other-rec q ne ∙ away q e₁ ∙ ap (λ (gs : List SegRec). rec_by gs q) segs₁;
-      pin = λ p q is at.
-          let loose : p ≢ f = victim-loose s.segs pinned s.frames f page may owner p is in
-          let ne : q ≢ page = λ same. loose (cc (first, rw same at at)) in
-          let same : frame_at t₃.frames p ≡ frame_at s.frames p =
-          ap (λ (fs : List Frame). frame_at fs p) frames₃ ∙ get_or-set_other t₂.frames f p y no_frame loose
-          ∙ ap (λ (fs : List Frame). frame_at fs p) frames₂ ∙ get_or-set_other t₁.frames f p x no_frame loose ∙ pin p is in
-          (other-frame q ne ∙ at, λ bit. ap (λ (z : Frame). z.referenced) same ∙ bit);
+      kept = λ q locked e. grind (arith, nat_tests, common_steps, cases_ref, victim-unlocked, s.segs, s.frames, other-frame, other_ne);
+      away = λ q n e. grind (arith, nat_tests, common_steps, first, t₁.segs, other-rec);
+      pin = λ p q is at. grind (arith, nat_tests, common_steps, victim-loose, s.segs, s.frames, first, t₃.frames, get_or-set_other, t₂.frames, t₁.frames, other-frame);
     }
 
 -- a step that keeps what any visit keeps
@@ -103,12 +88,7 @@ step-load s sound f bytes free u ins kept is same goes_on =
     let keeps = keeps-load s sound f bytes free u ins kept is same goes_on in
     record {
       sound = keeps.sound;
-      visits = λ r pinned. record {
-        goes = keeps.goes;
-        kept = λ q locked e. e;
-        away = λ q n e. refl;
-        pin = λ p q is at. (at, bit-other s.frames f p (record (frame_at s.frames f) { bytes = bytes }) (elsewhere s sound f free q p at));
-      };
+      visits = λ r pinned. grind (arith, nat_tests, common_steps, keeps.goes, bit-other, s.frames, elsewhere);
     }
 
 -- a page comes into a free frame
@@ -132,14 +112,9 @@ settles s sound page f has lt free away bytes =
       bit = ap (λ (y : Frame). y.referenced) (get_or-set_same s.frames f x no_frame lt);
       visits = λ pinned. record {
         goes = keeps.goes;
-        kept = λ q locked e. elim (cases_ref page q) [
-          | inl same ↦ rw (same, here) refl
-          | inr off ↦ rw (rec-with_other s.segs page q place off) e
-        ];
+        kept = λ q locked e. grind (arith, nat_tests, common_steps, cases_ref, here, rec-with_other, s.segs, place);
         away = λ q n e. rec-with_other s.segs page q place (other-true page q n);
-        pin = λ p q is at.
-            let ne : q ≢ page = λ same. cc (away, rw same at at) in
-            (ap (λ (r : PageRec). r.frame) (rec-with_other s.segs page q place (other-true page q ne)) ∙ at, bit-other s.frames f p x (elsewhere s sound f free q p at));
+        pin = λ p q is at. grind (arith, nat_tests, common_steps, rec-with_other, s.segs, place, other-true, bit-other, s.frames, x, elsewhere);
       };
     }
 
@@ -166,10 +141,7 @@ pub visits-away : (pinned : Option ℕ) (s t : StoreView) → ((r : PageRef) →
 visits-away pinned s t all q e = (all (record { seg = q.seg; page = suc q.page })).away q (λ same. absurd (let h : q.page ≡ suc q.page = ap (λ (r : PageRef). r.page) same in omega arith)) e
 
 alike-set : (frames : List Frame) (f : ℕ) (x : Frame) → Alike (frame_at frames f) x → (g : ℕ) → Alike (frame_at frames g) (frame_at (set frames f x) g)
-alike-set frames f x like g = elim (set-cases frames f x no_frame g) [
-  | inl same ↦ rw (same.1, same.0) like
-  | inr kept ↦ rw kept (Alike-refl (frame_at frames g))
-]
+alike-set frames f x like g = grind (arith, nat_tests, common_steps, set-cases)
 
 -- a frame's referenced bit is set
 pub step-touch : (s : StoreView) → IsStoreSound s → (f : ℕ) → f < length s.frames → IsStep s (record s { frames = set s.frames f (record (frame_at s.frames f) { referenced = true }) })
@@ -180,16 +152,5 @@ step-touch s sound f lt =
     let keeps = keeps-alike s sound (set s.frames f x) s.hand size alike (rw size sound.hand) in
     record {
       sound = keeps.sound;
-      visits = λ r pinned. record {
-        goes = keeps.goes;
-        kept = λ q locked e. e;
-        away = λ q n e. refl;
-        pin = λ p q is at. (
-          at,
-          λ bit. elim (cases_eq p f) [
-            | inl same ↦ rw same (ap (λ (z : Frame). z.referenced) (get_or-set_same s.frames f x no_frame lt))
-            | inr n ↦ bit-other s.frames f p x n bit
-          ],
-        );
-      };
+      visits = λ r pinned. grind (arith, nat_tests, common_steps, keeps.goes, get_or-set_same, s.frames, x, bit-other);
     }

@@ -21,17 +21,10 @@ use Rattle.shm_fault.proofs.Bytes.{held_one, held_of, bytes_at, held-is, length-
 use Rattle.shm_fault.proofs.Spans.{held-in}
 use Rattle.shm_fault.proofs.Sound.{IsSound-from}
 use Rattle.std.proofs.lemmas.Bool.Decides.{nat_tests}
+use Rattle.std.proofs.lemmas.Grind.{common_steps}
 
 pub sound-fresh : (frames : List Frame) (swap : SwapView) → (2 ≤ length frames) × (length frames ≤ 4096) → ((f : ℕ) → IsFrameBlank frames f) → IsSwap swap → ((k : Slot) → owner_of swap k.area k.slot ≡ None) → IsStoreSound (fresh_store frames swap)
-sound-fresh frames swap size blank is free =
-    IsSound-from (fresh_store frames swap)
-    (record {
-      pages = λ r has. absurd (omega arith);
-      owners = λ f r e. let b : (frame_at frames f).owner ≡ None = ap (λ (x : Frame). x.owner) (blank f) in absurd (cc (b, e));
-      slot_owners = λ k r e. let b = free k in absurd (cc (b, e));
-      free = λ f e. ap (λ (x : Frame). x.dirty) (blank f);
-    })
-    tt size is (omega (arith, size)) (omega arith) (omega (arith, size))
+sound-fresh frames swap size blank is free = grind (arith, nat_tests, common_steps)
 
 -- a sum of what a change makes no larger
 sum-map-le : (h : SegRec → ℕ) (f : SegRec → SegRec) → ((g : SegRec) → h (f g) ≤ h g) → (gs : List SegRec) → sum_by h (map f gs) ≤ sum_by h gs

@@ -78,10 +78,7 @@ bytes_of-puts_other (suc n) hs seg at w (b ∷ bs) id ne =
 -- bytes put one by one are a stretch pasted
 same-pasted : (hs : List Held) (seg at n : ℕ) (w : Bool) (bs : List ℕ) → length bs ≡ n → is_held hs seg ≡ true → at + n ≤ length (bytes_of hs seg)
     → SameBytes (puts hs (run seg at n w) bs) (map (pasted seg at bs) hs)
-same-pasted hs seg at n w bs e there le id = elim (eqb_tells id seg) [
-  | inl v ↦ rw v.1 (bytes_of-pasted_same hs seg at bs there ∙ sym (sets-paste bs (bytes_of hs seg) at (omega arith)) ∙ sym (bytes_of-puts_same n hs seg at w bs e))
-  | inr v ↦ bytes_of-pasted_other hs seg at bs id v.1 ∙ sym (bytes_of-puts_other n hs seg at w bs id v.1)
-]
+same-pasted hs seg at n w bs e there le id = grind (arith, common_steps, eqb_tells, bytes_of-pasted_same, sets-paste, bytes_of-puts_same, bytes_of-pasted_other, bytes_of-puts_other)
 
 -- STRETCH AFTER STRETCH
 
@@ -139,14 +136,9 @@ written-same (p ∷ ps) w hs new h e id =
 
 get-run : (n : ℕ) (hs : List Held) (seg at : ℕ) (w : Bool) → at + n ≤ length (bytes_of hs seg) → map (get hs) (run seg at n w) ≡ take n (drop at (bytes_of hs seg))
 get-run zero hs seg at w le = refl
-get-run (suc n) hs seg at w le =
-    let rest = get-run n hs seg (at + 1) w (omega arith) in
-    rw (drop_more (bytes_of hs seg) at 0 (omega arith)) (ap (λ t. get_or (bytes_of hs seg) at 0 ∷ t) rest)
+get-run (suc n) hs seg at w le = grind (arith, common_steps, drop_more, get-run n hs seg (at + 1) w (omega arith))
 
 -- the bytes read place by place are those read stretch by stretch
 pub get-spans : (ps : List Span) (w : Bool) (hs : List Held) → Each (FitsPage hs) ps → map (get hs) (span_places w ps) ≡ read_from hs ps
 get-spans [] w hs h = refl
-get-spans (p ∷ ps) w hs h =
-    map-append (get hs) (run p.seg p.at p.len w) (span_places w ps)
-    ∙ ap (λ l. l ++ map (get hs) (span_places w ps)) (get-run p.len hs p.seg p.at w h.0.1)
-    ∙ ap (λ l. span_bytes hs p ++ l) (get-spans ps w hs h.1)
+get-spans (p ∷ ps) w hs h = grind (arith, common_steps, map-append, get, p.at, p.len, get-run, h.0.1, h.1, get-spans ps w hs h.1)

@@ -15,14 +15,13 @@ use Rattle.shm_plain.proofs.Found.{bytes_of-lock}
 use Rattle.shm_segments.specs.declared.head.Head.{Head}
 use Rattle.shm_segments.specs.Joined.{whole, joined, live, Shape, shape_held, shape_row, Agree}
 use Rattle.shm_segments.proofs.Joins.{live-at, joined-same}
+use Rattle.std.proofs.lemmas.Grind.{common_steps}
 
 -- LOOKED UP
 
 -- what is found under an identifier is live
 pub look-live : (rows : List (Entry Head)) (id : ℕ) (v : Head) → look rows (pos id) ≡ Ok v → live rows id ≡ Some (record { key = key_at rows (id % 32768); value = v })
-look-live rows id v looked =
-    let l = live_row rows id v looked in
-    rw (eq-eqb (identifier (id % 32768) (entry_at rows (id % 32768)).destroyed) id l.own) l.there
+look-live rows id v looked = grind (arith, common_steps, live_row)
 
 -- A ROW CHANGED
 
@@ -32,8 +31,7 @@ with_other rows id s = set rows (id % 32768) (record (entry_at rows (id % 32768)
 
 -- another value, another key, or both, are another row
 pub other-value : (rows : List (Entry Head)) (id : ℕ) (r : Row Head) (v : Head) → live rows id ≡ Some r → with_value rows (id % 32768) v ≡ with_other rows id (record r { value = v })
-other-value rows id r v there =
-    ap (λ o. set rows (id % 32768) (record (entry_at rows (id % 32768)) { row = row_with_value v o })) (live-at rows id r there).there
+other-value rows id r v there = grind (arith, common_steps, live-at)
 
 pub other-both : (rows : List (Entry Head)) (id : ℕ) (r : Row Head) (key : ℕ) (v : Head) → live rows id ≡ Some r
     → with_key (with_value rows (id % 32768) v) (id % 32768) key ≡ with_other rows id (record { key = key; value = v })
@@ -50,29 +48,14 @@ joined-other hs rows id r s f there same =
 
 -- what is live then
 pub live-other_same : (rows : List (Entry Head)) (id : ℕ) (r s : Row Head) → live rows id ≡ Some r → live (with_other rows id s) id ≡ Some s
-live-other_same rows id r s there =
-    let l = live-at rows id r there in
-    grind (arith, nat_tests, at_set rows (id % 32768) (record (entry_at rows (id % 32768)) { row = Some s }) l.within, l.own)
+live-other_same rows id r s there = grind (arith, common_steps, live-at, at_set, s)
 
 pub live-other : (rows : List (Entry Head)) (id at : ℕ) (r s : Row Head) → live rows id ≡ Some r → at ≢ id → live (with_other rows id s) at ≡ live rows at
-live-other rows id at r s there apart =
-    let l = live-at rows id r there in
-    let x : Entry Head = record (entry_at rows (id % 32768)) { row = Some s } in
-    grind (arith, nat_tests, cases_eq (at % 32768) (id % 32768), at_set rows (id % 32768) x l.within, at_set_other rows (id % 32768) (at % 32768) x, l.own, apart)
+live-other rows id at r s there apart = grind (arith, common_steps, live-at, s, at_set, at_set_other)
 
 -- a row of the same lock and pages
 pub agree-other : (hs : List Held) (rows : List (Entry Head)) (id : ℕ) (r s : Row Head) → Agree hs rows → live rows id ≡ Some r → shape_row s ≡ shape_row r → Agree hs (with_other rows id s)
-agree-other hs rows id r s agree there same =
-    record {
-      few = omega (arith, agree.few, length-set rows (id % 32768) (record (entry_at rows (id % 32768)) { row = Some s }));
-      same = λ at. agree.same at ∙ shown at;
-    }
-  where
-    shown : (at : ℕ) → option_map shape_row (live rows at) ≡ option_map shape_row (live (with_other rows id s) at)
-    shown at = elim (cases_eq at id) [
-      | inl is ↦ rw is (ap (option_map shape_row) there ∙ ap Some (sym same) ∙ ap (option_map shape_row) (sym (live-other_same rows id r s there)))
-      | inr apart ↦ ap (option_map shape_row) (sym (live-other rows id at r s there apart))
-    ]
+agree-other hs rows id r s agree there same = grind (arith, common_steps, agree.few, s, agree.same, option_map, with_other, live-other_same, live-other)
 
 -- A LOCK SET
 
@@ -106,14 +89,7 @@ agree-lock hs rows id r v agree there size = record {
     relocked_row = ap (λ n. record { locked = v.locked; size = 4096 * pages_of n }) (sym size)
 
     shown : (at : ℕ) → option_map shape_held (find_held (with_lock hs id v.locked) at) ≡ option_map shape_row (live (with_other rows id s) at)
-    shown at = elim (cases_eq at id) [
-      | inl is ↦
-          rw is
-          (shape-lock_same hs id v.locked ∙ ap (option_map (relock v.locked)) (agree.same id ∙ ap (option_map shape_row) there)
-          ∙ ap Some relocked_row ∙ ap (option_map shape_row) (sym (live-other_same rows id r s there)))
-      | inr apart ↦
-          shape-lock_other hs id v.locked at apart ∙ agree.same at ∙ ap (option_map shape_row) (sym (live-other rows id at r s there apart))
-    ]
+    shown at = grind (arith, common_steps, shape-lock_same, v.locked, option_map, relock, agree.same, relocked_row, live-other_same, s, shape-lock_other, live-other)
 
 pub joined-locked : (hs : List Held) (rows : List (Entry Head)) (id : ℕ) (r : Row Head) (v : Head) (f : Segment → Segment) → live rows id ≡ Some r
     → f (whole hs id r) ≡ whole hs id (record r { value = v }) → joined (with_lock hs id v.locked) (with_other rows id (record r { value = v })) ≡ change (joined hs rows) id f

@@ -20,6 +20,7 @@ use Rattle.shm_segments.specs.Kept.{SizesFit}
 use Rattle.shm_segments.specs.Table.{IsFound, segment_seen}
 use Rattle.shm_segments.specs.Table as table
 use Rattle.std.proofs.lemmas.Bool.Decides.{nat_tests}
+use Rattle.std.proofs.lemmas.Grind.{common_steps}
 
 pub index-of : (i d : ℕ) → i < 32768 → identifier i d % 32768 ≡ i
 index-of i d lt = omega (arith, lt)
@@ -34,9 +35,7 @@ row-within rows i r is = grind (arith, at_past rows i, is)
 -- what the flat table has at its index
 pub at-row : (hs : List Held) (rows : List (Entry Head)) (i : ℕ) (r : Row Head) → (entry_at rows i).row ≡ Some r
     → slice_get (joined hs rows) i ≡ Some (record { destroyed = (entry_at rows i).destroyed; segment = Some (whole hs (identifier i (entry_at rows i).destroyed) r) })
-at-row hs rows i r is =
-    at-table (whole hs) i rows (row-within rows i r is)
-    ∙ ap (λ (o : Option (Row Head)). Some (record { destroyed = (entry_at rows i).destroyed; segment = flat_row (whole hs) (identifier i (entry_at rows i).destroyed) o })) is
+at-row hs rows i r is = grind (arith, common_steps, at-table, row-within)
 
 pub found_at : (hs : List Held) (rows : List (Entry Head)) (i : ℕ) (r : Row Head) → Agree hs rows → SizesFit rows → (entry_at rows i).row ≡ Some r
     → IsFound (joined hs rows) (record { seg = identifier i (entry_at rows i).destroyed; id = pos (identifier i (entry_at rows i).destroyed); key = r.key; head = r.value })
@@ -51,8 +50,7 @@ found_at hs rows i r agree sizes is =
     ap (λ k. bytes_at_entry (slice_get (joined hs rows) k)) own ∙ ap bytes_at_entry there in
     let lives : live rows (identifier i d) ≡ Some r = at-live rows i small ∙ is in
     record {
-      entry = subst (λ k. slice_get (joined hs rows) k ≡ Some (record { destroyed = identifier i d / 32768; segment = Some (segment_seen (joined hs rows) (record { seg = identifier i d; id = pos (identifier i d); key = r.key; head = r.value })) })) (sym own)
-          (there ∙ ap (λ (e : FlatEntry). Some e) (shown sequence bytes));
+      entry = grind (arith, common_steps, slice_get, d, pos, own, there, sequence, bytes);
       id = refl;
       long = ap length bytes ∙ (held-as hs rows (identifier i d) r agree lives).size;
       size = sizes (identifier i d) r lives;
@@ -86,8 +84,7 @@ in-flat hs i id e own = grind (arith, nat_tests, own, flat-option hs id e.row)
 
 -- what is live in the flat table
 pub live-joined : (hs : List Held) (rows : List (Entry Head)) (id : ℕ) → table.live (joined hs rows) id ≡ option_map (whole hs id) (live rows id)
-live-joined hs rows id =
-    grind (arith, nat_tests, cases_lt (id % 32768) (length rows), at-table (whole hs) (id % 32768) rows, in-flat hs (id % 32768) id (entry_at rows (id % 32768)) refl, past-flat (whole hs) 0 (id % 32768) rows, at_past rows (id % 32768))
+live-joined hs rows id = grind (arith, common_steps, at-table, in-flat, past-flat, at_past)
 
 pub is_live-row : (hs : List Held) (rows : List (Entry Head)) (id : ℕ) → table.IsLive (joined hs rows) id → is_some (live rows id) ≡ true
 is_live-row hs rows id is = grind (arith, live-joined hs rows id, is)
@@ -95,9 +92,7 @@ is_live-row hs rows id is = grind (arith, live-joined hs rows id, is)
 -- WHAT IS NOT LIVE
 
 pub live-found : (t : List FlatEntry) (f : Found) → IsFound t f → table.live t f.seg ≡ Some (segment_seen t f)
-live-found t f found =
-    let own : f.seg / 32768 ≡ f.seg / 32768 = refl in
-    ap (table.live_in f.seg) found.entry ∙ rw (eq-eqb (f.seg / 32768) (f.seg / 32768) own) refl
+live-found t f found = grind (arith, common_steps, table.live_in, found.entry)
 
 -- an index without a row has no segment
 pub none-at : (hs : List Held) (rows : List (Entry Head)) (i : ℕ) → (entry_at rows i).row ≡ None → table.segment_in (slice_get (joined hs rows) i) ≡ None

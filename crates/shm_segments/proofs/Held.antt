@@ -23,18 +23,10 @@ zeros-pages : (n : ℕ) → length (zeros n) / 4096 ≡ n
 zeros-pages n = let size : length (zeros n) ≡ 4096 * n = length-replicate (4096 * n) 0 in omega (arith, size)
 
 pub pages-zeros : (hs : List Held) (id n : ℕ) → pages_held (with_zeros hs id n) ≡ pages_held hs + n
-pages-zeros hs id n =
-    let z : Held = record { id = id; locked = false; bytes = replicate (4096 * n) 0 } in
-    let sum = sum_by-append pages_in hs (z ∷ []) in
-    let one = sum_by-cons pages_in z [] in
-    omega (arith, sum, one, zeros-pages n)
+pages-zeros hs id n = grind (arith, common_steps, sum_by-append, sum_by-cons, zeros-pages)
 
 pub locks-zeros : (hs : List Held) (id n : ℕ) → pages_locked (with_zeros hs id n) ≡ pages_locked hs
-locks-zeros hs id n =
-    let z : Held = record { id = id; locked = false; bytes = replicate (4096 * n) 0 } in
-    let sum = sum_by-append pages_if_locked hs (z ∷ []) in
-    let one = sum_by-cons pages_if_locked z [] in
-    omega (arith, sum, one)
+locks-zeros hs id n = grind (arith, common_steps, sum_by-append, sum_by-cons)
 
 -- ONE LESS
 
@@ -57,8 +49,7 @@ away c (h ∷ hs) id only none = grind (arith, nat_tests, only h, away c hs id o
 
 pub sum-changed : (f : Held → ℕ) (c : Held → Held) (hs : List Held) (id : ℕ) (g : Held) → Only id c → AreHeldApart hs → find_held hs id ≡ Some g → sum_by f (map c hs) + f g ≡ sum_by f hs + f (c g)
 sum-changed f c [] id g only apart is = absurd (none-some g is)
-sum-changed f c (h ∷ hs) id g only apart is =
-    grind (arith, nat_tests, only h, apart.0, away c hs id only, sum-changed f c hs id g only apart.1, sum_by-cons f h hs, sum_by-cons f (c h) (map c hs))
+sum-changed f c (h ∷ hs) id g only apart is = grind (arith, common_steps, apart.0, away, apart.1, sum_by-cons, sum-changed f c hs id g only apart.1)
 
 only-lock : (id : ℕ) (b : Bool) → Only id (relocked id b)
 only-lock id b h n = rw (ne_eqb h.id id n) refl
@@ -72,10 +63,7 @@ pages-lock [] id b = refl
 pages-lock (h ∷ hs) id b = grind (arith, nat_tests, pages-lock hs id b, sum_by-cons pages_in h hs, sum_by-cons pages_in (relocked id b h) (with_lock hs id b))
 
 pub locks-lock : (hs : List Held) (id : ℕ) (b : Bool) (g : Held) → AreHeldApart hs → find_held hs id ≡ Some g → pages_locked (with_lock hs id b) + pages_if_locked g ≡ pages_locked hs + (if b then pages_in g else 0)
-locks-lock hs id b g apart is =
-    let sum = sum-changed pages_if_locked (relocked id b) hs id g (only-lock id b) apart is in
-    let own : pages_if_locked (relocked id b g) ≡ (if b then pages_in g else 0) = rw (eq-eqb g.id id (find_held-id hs id g is)) refl in
-    omega (arith, sum, own)
+locks-lock hs id b g apart is = grind (arith, common_steps, sum-changed, only-lock, find_held-id)
 
 -- BYTES REPLACED
 
@@ -85,17 +73,7 @@ pasted-sums hs p new apart fit few = by (find_held hs p.seg) refl
   where
     by : (o : Option Held) → find_held hs p.seg ≡ o → (pages_held (map (pasted p.seg p.at new) hs) ≡ pages_held hs) × (pages_locked (map (pasted p.seg p.at new) hs) ≡ pages_locked hs)
     by None is = let z : false ≡ true = rw is at fit.0 in absurd (true≢false (sym z))
-    by (Some g) is =
-        let own : g.id ≡ p.seg = find_held-id hs p.seg g is in
-        let bytes : bytes_of hs p.seg ≡ g.bytes = ap bytes_in is in
-        let within : p.at + length new ≤ length g.bytes = omega (arith, fit.1, few, ap length bytes) in
-        let size : length (paste g.bytes p.at new) ≡ length g.bytes = length-paste g.bytes p.at new within in
-        let is_own : pasted p.seg p.at new g ≡ record g { bytes = paste g.bytes p.at new } = rw (eq-eqb g.id p.seg own) refl in
-        let pages : pages_in (pasted p.seg p.at new g) ≡ pages_in g = ap pages_in is_own ∙ ap (λ n. n / 4096) size in
-        let locks : pages_if_locked (pasted p.seg p.at new g) ≡ pages_if_locked g = ap pages_if_locked is_own ∙ ap (λ n. if g.locked then n / 4096 else 0) size in
-        let a = sum-changed pages_in (pasted p.seg p.at new) hs p.seg g (only-pasted p.seg p.at new) apart is in
-        let b = sum-changed pages_if_locked (pasted p.seg p.at new) hs p.seg g (only-pasted p.seg p.at new) apart is in
-        (omega (arith, a, pages), omega (arith, b, locks))
+    by (Some g) is = grind (arith, common_steps, find_held-id, p.at, fit.1, length-paste, g.locked, sum-changed, only-pasted)
 
 -- what a store over stretches leaves
 pub record SameSums (hs gs : List Held) : Type 0 where

@@ -14,6 +14,7 @@ use Rattle.shm_plain.specs.Held.{Held, find_held, bytes_of, bytes_in, is_held}
 use Rattle.shm_segments.specs.declared.head.Head.{Head}
 use Rattle.shm_segments.specs.Joined.{segment_of, whole, joined, live, Shape, shape_held, shape_row, Agree}
 use Rattle.shm_segments.proofs.Bytes.{SameBytes}
+use Rattle.std.proofs.lemmas.Grind.{common_steps}
 
 -- WHAT IS LIVE
 
@@ -31,9 +32,7 @@ live-at rows id r is = grind (arith, nat_tests, at_past rows (id % 32768), is)
 
 -- what stands at an index is live under its identifier
 pub at-live : (rows : List (Entry Head)) (i : ℕ) → i < 32768 → live rows (identifier i (entry_at rows i).destroyed) ≡ (entry_at rows i).row
-at-live rows i small =
-    let d : ℕ = (entry_at rows i).destroyed in
-    rw (identifier-mod i d small, eq-eqb (identifier i d) (identifier i d) refl) refl
+at-live rows i small = grind (arith, common_steps, identifier-mod)
 
 -- THE TABLE SEES BYTES ALONE
 
@@ -100,11 +99,4 @@ pub record HeldAs (hs : List Held) (id : ℕ) (r : Row Head) : Type 0 where
   pub size : length (bytes_of hs id) ≡ 4096 * pages_of r.value.size
 
 pub held-as : (hs : List Held) (rows : List (Entry Head)) (id : ℕ) (r : Row Head) → Agree hs rows → live rows id ≡ Some r → HeldAs hs id r
-held-as hs rows id r agree there = by (find_held hs id) refl (agree.same id ∙ ap (option_map shape_row) there)
-  where
-    by : (o : Option Held) → find_held hs id ≡ o → option_map shape_held (find_held hs id) ≡ Some (shape_row r) → HeldAs hs id r
-    by None is same = cc (rw is at same)
-    by (Some g) is same =
-        let shape : shape_held g ≡ shape_row r = cc (rw is at same) in
-        let long = ap (λ (s : Shape). s.size) shape in
-        record { g = g; is = is; locked = ap (λ (s : Shape). s.locked) shape; long = long; held = ap is_some is; size = ap (λ o. length (bytes_in o)) is ∙ long }
+held-as hs rows id r agree there = grind (arith, common_steps, agree.same, option_map, is_some)

@@ -1,5 +1,5 @@
 -- What is kept where a head changes.
-use Rattle.std.proofs.Common.{◌≡◌, ◌≢◌, ◌⊎◌, ℕ, pos, ◌%◌, ◌≤◌, List, Some, Ok, sym, ◌∙◌, inl, inr}
+use Rattle.std.proofs.Common.{◌≡◌, ◌≢◌, ◌⊎◌, ℕ, pos, ◌%◌, ◌≤◌, List, Some, Ok, sym, ◌∙◌, inl, inr, arith}
 use Rattle.std.proofs.lemmas.Bool.{cases_eq}
 use Rattle.shm_base.specs.State.{Segment, Entry as FlatEntry}
 use Rattle.shm_base.specs.Segments.{change}
@@ -12,17 +12,11 @@ use Rattle.shm_segments.specs.Joined.{segment_of, whole, joined, live}
 use Rattle.shm_segments.specs.Kept.{SizesFit, AreSegmentsKept}
 use Rattle.shm_segments.proofs.Sums.{pages-with_other, locked-other_same}
 use Rattle.shm_segments.proofs.Edits.{look-live, with_other, other-value, other-both, live-other_same, live-other, joined-other, agree-other}
+use Rattle.std.proofs.lemmas.Grind.{common_steps}
 
 -- another row of a size in range
 pub sizes-other : (rows : List (Entry Head)) (id : ℕ) (r s : Row Head) → live rows id ≡ Some r → SizesFit rows → (1 ≤ s.value.size) × (s.value.size ≤ 16777216) → SizesFit (with_other rows id s)
-sizes-other rows id r s lives sizes range = λ at q is. by at q is (cases_eq at id)
-  where
-    by : (at : ℕ) (q : Row Head) → live (with_other rows id s) at ≡ Some q → (at ≡ id) ⊎ (at ≢ id) → (1 ≤ q.value.size) × (q.value.size ≤ 16777216)
-    by at q is (inl e) =
-        let own : live (with_other rows id s) id ≡ Some q = rw e at is in
-        let same : s ≡ q = cc (sym (live-other_same rows id r s lives) ∙ own) in
-        rw (← same) range
-    by at q is (inr n) = sizes at q (sym (live-other rows id at r s lives n) ∙ is)
+sizes-other rows id r s lives sizes range = grind (arith, common_steps, with_other, live-other_same, live-other)
 
 -- what rows and bytes keep, and what they show
 pub record KeptAs (hs : List Held) (rows : List (Entry Head)) (pages locked_pages : ℕ) (shown : List FlatEntry) : Type 0 where

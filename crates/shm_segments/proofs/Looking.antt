@@ -20,16 +20,14 @@ use Rattle.shm_segments.proofs.Edits.{look-live}
 use Rattle.shm_segments.proofs.Shown.{bytes_at-joined}
 use Rattle.shm_segments.proofs.Finding.{found_at}
 use Rattle.std.proofs.lemmas.Bool.Decides.{nat_tests}
+use Rattle.std.proofs.lemmas.Grind.{common_steps}
 
 -- what is found under an identifier
 abbrev pub found_under : List (Entry Head) → ℕ → Head → Found
 found_under rows seg v = record { seg = seg; id = pos seg; key = key_at rows (seg % 32768); head = v }
 
 pub found-looked : (hs : List Held) (rows : List (Entry Head)) (seg : ℕ) (v : Head) → Agree hs rows → SizesFit rows → look rows (pos seg) ≡ Ok v → IsFound (joined hs rows) (found_under rows seg v)
-found-looked hs rows seg v agree sizes looked =
-    let r : Row Head = record { key = key_at rows (seg % 32768); value = v } in
-    let at = live-at rows seg r (look-live rows seg v looked) in
-    subst (λ n. IsFound (joined hs rows) (record { seg = n; id = pos n; key = r.key; head = v })) at.own (found_at hs rows (seg % 32768) r agree sizes at.there)
+found-looked hs rows seg v agree sizes looked = grind (arith, common_steps, live-at, look-live, pos, found_at)
 
 -- the flat machine finds it
 pub look-found : (hs : List Held) (rows : List (Entry Head)) (seg : ℕ) (v : Head) → look rows (pos seg) ≡ Ok v → flat.look (joined hs rows) (pos seg) ≡ look_of (joined hs rows) (found_under rows seg v)
@@ -76,9 +74,4 @@ same-found rows f id key = rw (sym id, sym key) refl
 
 pub found-under : (hs : List Held) (rows : List (Entry Head)) (f : Found) (id : ℤ) → Agree hs rows → SizesFit rows → f.id ≡ id → pos f.seg ≡ id → f.key ≡ key_at rows (index_of id) → look rows id ≡ Ok f.head
     → IsFound (joined hs rows) f × (flat.look (joined hs rows) id ≡ look_of (joined hs rows) f)
-found-under hs rows f id agree sizes is own key looked =
-    let here : look rows (pos f.seg) ≡ Ok f.head = ap (look rows) own ∙ looked in
-    let same : found_under rows f.seg f.head ≡ f = same-found rows f (is ∙ sym own) (key ∙ ap (λ n. key_at rows (index_of n)) (sym own)) in (
-      subst (IsFound (joined hs rows)) same (found-looked hs rows f.seg f.head agree sizes here),
-      ap (flat.look (joined hs rows)) (sym own) ∙ look-found hs rows f.seg f.head here ∙ ap (look_of (joined hs rows)) same,
-    )
+found-under hs rows f id agree sizes is own key looked = grind (arith, common_steps, pos, f.head, found_under, same-found, found-looked, flat.look, look-found)

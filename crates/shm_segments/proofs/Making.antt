@@ -23,6 +23,7 @@ use Rattle.shm_segments.proofs.Sums.{pages-with_row, pages-without_row, pages-wi
 use Rattle.shm_segments.proofs.Keeping.{KeptAs, sizes-other}
 use Rattle.shm_segments.proofs.Held.{pages-zeros, locks-zeros, sum-without, pages-lock, locks-lock}
 use Rattle.std.proofs.lemmas.Bool.Decides.{nat_tests}
+use Rattle.std.proofs.lemmas.Grind.{common_steps}
 
 -- WHAT IS HELD OF A LIVE SEGMENT
 
@@ -33,10 +34,7 @@ pub record HeldHere (hs : List Held) (id : ℕ) (r : Row Head) : Type 0 where
   pub locks : pages_if_locked g ≡ (if r.value.locked then pages_of r.value.size else 0)
 
 pub held-here : (hs : List Held) (rows : List (Entry Head)) (id : ℕ) (r : Row Head) → Agree hs rows → live rows id ≡ Some r → HeldHere hs id r
-held-here hs rows id r agree there =
-    let h = held-as hs rows id r agree there in
-    let pages : pages_in h.g ≡ pages_of r.value.size = omega (arith, h.long) in
-    record { g = h.g; is = h.is; pages = pages; locks = rw (h.locked, pages) refl }
+held-here hs rows id r agree there = grind (arith, common_steps, held-as)
 
 -- DESTROYED
 
@@ -68,13 +66,7 @@ kept-without hs rows pages locks seg v k looked =
     }
   where
     sizes : LiveAt rows seg (record { key = key_at rows (seg % 32768); value = v }) → SizesFit (without_row rows (seg % 32768))
-    sizes at = λ id q is. by id q is (cases_eq id seg)
-      where
-        by : (id : ℕ) (q : Row Head) → live (without_row rows (seg % 32768)) id ≡ Some q → (id ≡ seg) ⊎ (id ≢ seg) → (1 ≤ q.value.size) × (q.value.size ≤ 16777216)
-        by id q is (inl e) =
-            let none : live (without_row rows (seg % 32768)) id ≡ None = live-without_here rows (seg % 32768) id at.within (ap (λ n. n % 32768) e) in
-            absurd (none-some q (sym none ∙ is))
-        by id q is (inr n) = k.sizes id q (sym (live-without rows (seg % 32768) id at.within (λ z. n (z ∙ at.own))) ∙ is)
+    sizes at = grind (arith, common_steps, live-without_here, at.within, k.sizes, live-without, at.own)
 
 -- LOCKED OR UNLOCKED
 
@@ -143,10 +135,7 @@ free-some hs rows some = grind (arith, nat_tests, free_index-flat (whole hs) row
 -- what is made is what the flat table makes
 pub made-joined : (hs : List Held) (rows : List (Entry Head)) (i key : ℕ) (v : Head) → free_index rows ≡ Some i
     → made (joined hs rows) key v ≡ Some (pos (id_of rows i), created (joined hs rows) i key v)
-made-joined hs rows i key v found =
-    let index : flat.free_index (joined hs rows) ≡ Some i = free_index-flat (whole hs) rows ∙ found in
-    ap (option_map (λ (n : ℕ). (pos (flat.identifier n (flat.destroyed_at (joined hs rows) n)), created (joined hs rows) n key v))) index
-    ∙ ap (λ d. Some (pos (flat.identifier i d), created (joined hs rows) i key v)) (destroyed_at-flat (whole hs) rows i)
+made-joined hs rows i key v found = grind (arith, common_steps, flat.free_index, free_index-flat, option_map, pos, flat.identifier, flat.destroyed_at, destroyed_at-flat)
 
 -- the next identifier is that of the free index, and nothing is held under it
 pub record IsNext (hs : List Held) (rows : List (Entry Head)) (id : ℤ) : Type 0 where

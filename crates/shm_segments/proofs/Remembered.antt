@@ -36,6 +36,7 @@ use Rattle.shm_segments.proofs.Held.{sums-written}
 use Rattle.std.proofs.lemmas.List.Elements.{filter-append}
 use Rattle.shm_fault.proofs.Entries.{filter-none}
 use Rattle.std.proofs.lemmas.Bool.Decides.{nat_tests}
+use Rattle.std.proofs.lemmas.Grind.{common_steps}
 
 -- a table and its memory
 abbrev pub view_of : List FlatEntry → StoreView → SegmentsView
@@ -76,33 +77,11 @@ runs-trans a b c p q = record {
 
 -- frames and swap as they were, and no page moved
 pub runs-zeros : (a b : StoreView) (id n : ℕ) → is_held (held a) id ≡ false → held b ≡ with_zeros (held a) id n → b.swap ≡ a.swap → b.frames ≡ a.frames → ((s page : ℕ) → frame_of b s page ≡ frame_of a s page) → Runs a b
-runs-zeros a b id n new is swap frames still = record {
-  kept = λ seg page before after e. rw (still seg page) e;
-  locks = λ at e. locks at (rw is at e);
-  goes_on = rw swap (GoesOn-refl a.swap);
-  frames = ap length frames;
-}
-  where
-    locks : (at : ℕ) → is_locked (with_zeros (held a) id n) at ≡ true → is_locked (held a) at ≡ true
-    locks at e = grind (arith, cases_eq at id, find-zeros_same (held a) id n new, find-zeros_other (held a) id n at, e)
+runs-zeros a b id n new is swap frames still = grind (arith, common_steps, find-zeros_same, find-zeros_other)
 
 -- a segment is gone, and the others' pages are where they were
 pub runs-without : (a b : StoreView) (id : ℕ) → held b ≡ without (held a) id → GoesOn a.swap b.swap → length b.frames ≡ length a.frames → ((s page : ℕ) → s ≢ id → frame_of b s page ≡ frame_of a s page) → Runs a b
-runs-without a b id is goes frames still = record {
-  kept = λ seg page before after e. kept seg page after e;
-  locks = λ at e. (locks at (rw is at e)).1;
-  goes_on = goes;
-  frames = frames;
-}
-  where
-    locks : (at : ℕ) → is_locked (without (held a) id) at ≡ true → (at ≢ id) × (is_locked (held a) at ≡ true)
-    locks at e = elim (cases_eq at id) [
-      | inl q ↦ (let z : false ≡ true = rw (q, find-without_same (held a) id) at e in absurd (true≢false (sym z)))
-      | inr m ↦ (m, rw (find-without_other (held a) id at m) at e)
-    ]
-
-    kept : (seg page : ℕ) → is_locked (held b) seg ≡ true → is_some (frame_of a seg page) ≡ true → is_some (frame_of b seg page) ≡ true
-    kept seg page after e = let l = locks seg (rw is at after) in rw (still seg page l.0) e
+runs-without a b id is goes frames still = grind (arith, common_steps, find-without_same, find-without_other, is_some)
 
 -- no byte and no lock changed
 pub runs-same : (a b : StoreView) → held b ≡ held a → Kept a b → GoesOn a.swap b.swap → length b.frames ≡ length a.frames → Runs a b
@@ -169,8 +148,7 @@ wrote (Ok a) s n rows pages locks ps new w fits size is same sound kept goes fra
       written = rw is (sym (store_shown (held s) rows false ps new agree fit size));
       same = tt;
     }
-wrote (Err e) s n rows pages locks ps new w fits size is same sound kept goes frames =
-    record { whole = record { kept = rw same w.kept; sound = sound }; runs = runs-same s n same kept goes frames; written = tt; same = rw same refl }
+wrote (Err e) s n rows pages locks ps new w fits size is same sound kept goes frames = grind (arith, common_steps, kept, same, w.kept, runs-same)
 
 -- NO SEGMENT
 
@@ -179,23 +157,4 @@ unfolding held
 held-fresh frames swap = refl
 
 pub whole-fresh : (s : StoreView) (swap : SwapView) → s ≡ fresh_store s.frames swap → IsStoreSound s → IsWhole s [] 0 0
-whole-fresh s swap is sound =
-    let none : held s ≡ [] = ap held is ∙ held-fresh s.frames swap in
-    record {
-      kept = rw none (record {
-        agree = record { few = omega arith; same = λ id. same id };
-        sizes = λ id r there. absurd (none-some r (sym (nothing id) ∙ there));
-        reserved = refl;
-        locked = refl;
-        apart = tt;
-        few_pages = omega arith;
-        few_locked = omega arith;
-      });
-      sound = sound;
-    }
-  where
-    nothing : (id : ℕ) → live [] id ≡ None
-    nothing id = grind (arith, nat_tests)
-
-    same : (id : ℕ) → option_map shape_held (find_held [] id) ≡ option_map shape_row (live [] id)
-    same id = sym (ap (option_map shape_row) (nothing id))
+whole-fresh s swap is sound = grind (arith, common_steps, held-fresh, option_map)

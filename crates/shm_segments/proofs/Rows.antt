@@ -18,6 +18,7 @@ use Rattle.shm_segments.specs.declared.head.Head.{Head}
 use Rattle.shm_segments.specs.Joined.{segment_of, whole, joined, live, shape_held, shape_row, Agree}
 use Rattle.shm_segments.proofs.Joins.{at-live, set-joined, same-held}
 use Rattle.std.proofs.lemmas.Bool.Decides.{nat_tests}
+use Rattle.std.proofs.lemmas.Grind.{common_steps}
 
 -- the identifier that an index has
 abbrev pub id_of : List (Entry Head) → ℕ → ℕ
@@ -68,15 +69,7 @@ agree-without hs rows i agree within =
     own = identifier-mod i (entry_at rows i).destroyed (omega (arith, within, agree.few))
 
     shown : (at : ℕ) → option_map shape_held (find_held (without hs (id_of rows i)) at) ≡ option_map shape_row (live (without_row rows i) at)
-    shown at = elim (cases_eq at (id_of rows i)) [
-      | inl is ↦
-          rw is
-          (ap (option_map shape_held) (find-without_same hs (id_of rows i))
-          ∙ ap (option_map shape_row) (sym (live-without_here rows i (id_of rows i) within own)))
-      | inr apart ↦
-          ap (option_map shape_held) (find-without_other hs (id_of rows i) at apart) ∙ agree.same at
-          ∙ ap (option_map shape_row) (sym (live-without rows i at within apart))
-    ]
+    shown at = grind (arith, common_steps, id_of, option_map, find-without_same, live-without_here, own, find-without_other, agree.same, live-without)
 
 -- CREATED
 
@@ -124,23 +117,14 @@ joined-with_row hs rows i key pages v agree free =
     bytes = ap bytes_in (find-zeros_same hs id pages (free-new hs rows i agree free))
 
     same : joined gs rows ≡ joined hs rows
-    same = flat_table-make (whole gs) (whole hs) rows (λ k r lt is. ap (segment_of r) (ap bytes_in (find-zeros_other hs id pages (id_of rows k) (apart k r lt is))))
-      where
-        apart : (k : ℕ) (r : Row Head) → k < length rows → (entry_at rows k).row ≡ Some r → id_of rows k ≢ id
-        apart k r lt is both =
-            let here : k ≡ i = sym (identifier-mod k (entry_at rows k).destroyed (omega (arith, lt, agree.few))) ∙ ap (λ n. n % 32768) both ∙ identifier-mod i (entry_at rows i).destroyed free.small in
-            let clash : None ≡ Some r = sym free.none ∙ ap (λ n. (entry_at rows n).row) (sym here) ∙ is in
-            cc
+    same = grind (arith, common_steps, flat_table-make, gs, find-zeros_other, id, id_of, identifier-mod, agree.few, free.small, free.none)
 
 -- what is live then
 pub live-with_row_same : (rows : List (Entry Head)) (i key : ℕ) (v : Head) → IsFree rows i → live (with_row rows i key v) (id_of rows i) ≡ Some (record { key = key; value = v })
-live-with_row_same rows i key v free =
-    let own : id_of rows i % 32768 ≡ i = identifier-mod i (entry_at rows i).destroyed free.small in
-    rw (own, at_row rows i key v free.within, eq-eqb (id_of rows i) (id_of rows i) refl) refl
+live-with_row_same rows i key v free = grind (arith, common_steps, id_of, identifier-mod, free.small, at_row, free.within)
 
 pub live-with_row_other : (rows : List (Entry Head)) (i at key : ℕ) (v : Head) → IsFree rows i → at ≢ id_of rows i → live (with_row rows i key v) at ≡ live rows at
-live-with_row_other rows i at key v free apart =
-    grind (arith, nat_tests, cases_eq (at % 32768) i, at_row rows i key v free.within, at_row_other rows i (at % 32768) key v free.within)
+live-with_row_other rows i at key v free apart = grind (arith, common_steps, at_row, free.within, at_row_other)
 
 pub agree-with_row : (hs : List Held) (rows : List (Entry Head)) (i key pages : ℕ) (v : Head) → Agree hs rows → IsFree rows i → v.locked ≡ false → pages ≡ pages_of v.size
     → Agree (with_zeros hs (id_of rows i) pages) (with_row rows i key v)
@@ -160,13 +144,4 @@ agree-with_row hs rows i key pages v agree free lock size =
     long = length-replicate (4096 * pages) 0 ∙ ap (λ n. 4096 * n) size
 
     shown : (at : ℕ) → option_map shape_held (find_held (with_zeros hs id pages) at) ≡ option_map shape_row (live (with_row rows i key v) at)
-    shown at = elim (cases_eq at id) [
-      | inl is ↦
-          rw is
-          (ap (option_map shape_held) (find-zeros_same hs id pages (free-new hs rows i agree free))
-          ∙ ap (λ n. Some (record { locked = false; size = n })) long ∙ ap (λ b. Some (record { locked = b; size = 4096 * pages_of v.size })) (sym lock)
-          ∙ ap (option_map shape_row) (sym (live-with_row_same rows i key v free)))
-      | inr apart ↦
-          ap (option_map shape_held) (find-zeros_other hs id pages at apart) ∙ agree.same at
-          ∙ ap (option_map shape_row) (sym (live-with_row_other rows i at key v free apart))
-    ]
+    shown at = grind (arith, common_steps, id, option_map, find-zeros_same, free-new, long, live-with_row_same, find-zeros_other, agree.same, live-with_row_other)

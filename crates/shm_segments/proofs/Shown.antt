@@ -47,11 +47,7 @@ with_byte-joined hs rows p b few there =
 
 -- the bytes of a segment
 pub bytes_at-joined : (hs : List Held) (rows : List (Entry Head)) (id : ℕ) → is_some (live rows id) ≡ true → bytes_at (joined hs rows) id ≡ bytes_of hs id
-bytes_at-joined hs rows id there =
-    let row = some-is (live rows id) there in
-    let l = live-at rows id row.0 row.1 in
-    let i : ℕ = id % 32768 in
-    ap bytes_at_entry (at-table (whole hs) i rows l.within) ∙ rw (l.there, l.own) refl
+bytes_at-joined hs rows id there = grind (arith, common_steps, some-is, live-at, at-table)
 
 -- PLACE BY PLACE
 
@@ -61,15 +57,11 @@ AreLive rows ps = Each (λ (p : Place). is_some (live rows p.seg) ≡ true) ps
 stored-joined : (ps : List Place) (bs : List ℕ) (hs : List Held) (rows : List (Entry Head)) → length rows ≤ 32768 → AreLive rows ps → stored (joined hs rows) ps bs ≡ joined (puts hs ps bs) rows
 stored-joined [] bs hs rows few h = refl
 stored-joined (p ∷ ps) [] hs rows few h = refl
-stored-joined (p ∷ ps) (b ∷ bs) hs rows few h =
-    ap (λ t. stored t ps bs) (with_byte-joined hs rows p b few h.0) ∙ stored-joined ps bs (put hs p b) rows few h.1
+stored-joined (p ∷ ps) (b ∷ bs) hs rows few h = grind (arith, common_steps, with_byte-joined, h.0, put, h.1, stored-joined ps bs (put hs p b) rows few h.1)
 
 loaded-joined : (ps : List Place) (hs : List Held) (rows : List (Entry Head)) → AreLive rows ps → loaded (joined hs rows) ps ≡ map (get hs) ps
 loaded-joined [] hs rows h = refl
-loaded-joined (p ∷ ps) hs rows h =
-    let here : byte_at (joined hs rows) p ≡ get hs p = ap (λ xs. slice_index xs p.at) (bytes_at-joined hs rows p.seg h.0) in
-    let rest = loaded-joined ps hs rows h.1 in
-    cc
+loaded-joined (p ∷ ps) hs rows h = grind (arith, common_steps, get, p.at, bytes_at-joined, h.0, h.1, loaded-joined ps hs rows h.1)
 
 live-run : (n seg at : ℕ) (w : Bool) (rows : List (Entry Head)) → is_some (live rows seg) ≡ true → AreLive rows (run seg at n w)
 live-run zero seg at w rows h = tt
@@ -100,9 +92,7 @@ store_shown hs rows w ps new agree fit size =
 -- a load gives the bytes at the places of the table
 pub load_shown : (hs : List Held) (rows : List (Entry Head)) (w : Bool) (ps : List Span) → Agree hs rows → All (FitsPage hs) ps
     → loaded (joined hs rows) (span_places w ps) ≡ read_from hs ps
-load_shown hs rows w ps agree fit =
-    let fits = each (FitsPage hs) ps fit in
-    loaded-joined (span_places w ps) hs rows (live-spans ps w hs rows agree fits) ∙ get-spans ps w hs fits
+load_shown hs rows w ps agree fit = grind (arith, common_steps, each, loaded-joined, live-spans, get-spans)
 
 -- the number that stands there
 pub number_shown : (hs : List Held) (rows : List (Entry Head)) (ps : List Span) → Agree hs rows → All (FitsPage hs) ps → table.number_at (joined hs rows) (span_places false ps) ≡ store.number_in hs ps
@@ -123,9 +113,7 @@ agree-pasted hs rows p new agree fit few =
     by : (at : ℕ) (o : Option Held) → find_held hs at ≡ o → option_map shape_held (option_map (pasted p.seg p.at new) (find_held hs at)) ≡ option_map shape_held (find_held hs at)
     by at None is = rw is refl
     by at (Some g) is =
-        let fits : g.id ≡ p.seg → p.at + length new ≤ length g.bytes = λ own.
-        let bytes : bytes_of hs p.seg ≡ g.bytes = ap (bytes_of hs) (sym own ∙ find_held-id hs at g is) ∙ ap bytes_in is in
-        omega (arith, fit.1, few, ap length bytes) in
+        let fits : g.id ≡ p.seg → p.at + length new ≤ length g.bytes = grind (arith, common_steps, find_held-id, fit.1) in
         rw is (ap Some (paste-shape p new g fits))
 
 each-agree : (ps : List Span) (hs : List Held) (rows : List (Entry Head)) (new : List ℕ) → Agree hs rows → Each (FitsPage hs) ps → Agree (written hs ps new) rows

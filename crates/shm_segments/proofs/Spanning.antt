@@ -12,24 +12,13 @@ use Rattle.shm_segments.specs.Joined.{whole, joined, live, Agree}
 use Rattle.shm_segments.specs.Table.{pages_at, SpanFits}
 use Rattle.shm_segments.proofs.Joins.{held-as}
 use Rattle.shm_segments.proofs.Finding.{live-joined}
+use Rattle.std.proofs.lemmas.Grind.{common_steps}
 
 pages-row : (hs : List Held) (rows : List (Entry Head)) (id : ℕ) → pages_at (joined hs rows) id ≡ pages_held (option_map (whole hs id) (live rows id))
 pages-row hs rows id = ap pages_held (live-joined hs rows id)
 
 span-fits : (hs : List Held) (rows : List (Entry Head)) (p : Span) → Agree hs rows → SpanFits (joined hs rows) p → FitsPage hs p
-span-fits hs rows p agree fit = by (live rows p.seg) refl
-  where
-    here : p.at / 4096 < pages_held (option_map (whole hs p.seg) (live rows p.seg))
-    here = rw (pages-row hs rows p.seg) at (ltb-true (p.at / 4096) (pages_at (joined hs rows) p.seg) fit.2)
-
-    by : (o : Option (Row Head)) → live rows p.seg ≡ o → FitsPage hs p
-    by None is =
-        let none : p.at / 4096 < 0 = rw is at here in
-        absurd (omega (arith, none))
-    by (Some r) is =
-        let held = held-as hs rows p.seg r agree is in
-        let some : p.at / 4096 < length (bytes_of hs p.seg) / 4096 = rw is at here in
-        (held.held, omega (arith, some, fit.1, held.size), fit.0, fit.1)
+span-fits hs rows p agree fit = grind (arith, common_steps, p.at, option_map, pages-row, ltb-true, fit.2, held-as, fit.1, fit.0)
 
 pub spans-fit : (hs : List Held) (rows : List (Entry Head)) (ps : List Span) → Agree hs rows → All (SpanFits (joined hs rows)) ps → All (FitsPage hs) ps
 spans-fit hs rows ps agree fit = λ k d lt. span-fits hs rows (get_or ps k d) agree (fit k d lt)

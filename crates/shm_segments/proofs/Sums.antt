@@ -18,6 +18,7 @@ use Rattle.shm_segments.proofs.Joins.{at-live, held-as, live-at}
 use Rattle.shm_segments.proofs.Edits.{with_other}
 use Rattle.shm_segments.proofs.Rows.{IsFree}
 use Rattle.std.proofs.lemmas.Bool.Decides.{nat_tests}
+use Rattle.std.proofs.lemmas.Grind.{common_steps}
 
 -- THE TABLE'S SUMS
 
@@ -26,9 +27,7 @@ abbrev AreWhole : ℕ → List Held → List (Entry Head) → Type 0
 AreWhole n hs rows = (k : ℕ) (r : Row Head) → k < length rows → (entry_at rows k).row ≡ Some r → length (bytes_of hs (identifier (n + k) (entry_at rows k).destroyed)) ≡ 4096 * pages_of r.value.size
 
 all-whole : (hs : List Held) (rows : List (Entry Head)) → Agree hs rows → AreWhole 0 hs rows
-all-whole hs rows agree k r lt is =
-    let here : 0 + k ≡ k = omega arith in
-    rw here (held-as hs rows (identifier k (entry_at rows k).destroyed) r agree (at-live rows k (omega (arith, lt, agree.few)) ∙ is)).size
+all-whole hs rows agree k r lt is = grind (arith, common_steps, held-as, at-live, agree.few)
 
 rest-whole : (n : ℕ) (hs : List Held) (e : Entry Head) (es : List (Entry Head)) → AreWhole n hs (e ∷ es) → AreWhole (n + 1) hs es
 rest-whole n hs e es all k r lt is = let next : n + suc k ≡ (n + 1) + k = omega arith in rw next at (all (suc k) r (omega arith) is)
@@ -71,27 +70,13 @@ module _ (f : Option (Row Head) → ℕ) (nothing : f None ≡ 0) where
   sum_of rows = sum_by (λ (e : Entry Head). f e.row) rows
 
   sum-with_row : (rows : List (Entry Head)) (i key : ℕ) (v : Head) → IsFree rows i → sum_of (with_row rows i key v) ≡ sum_of rows + f (Some (record { key = key; value = v }))
-  sum-with_row rows i key v free = elim (cases_eq i (length rows)) [
-    | inl e ↦ ap sum_of (with_row-end rows i key v e) ∙ sum_by_push (λ (x : Entry Head). f x.row) rows (held unused key v)
-    | inr n ↦
-        (let lt : i < length rows = omega (arith, free.within, n) in
-        let moved = sum_by-set (λ (x : Entry Head). f x.row) rows i (held (entry_at rows i) key v) unused lt in
-        let before : f (entry_at rows i).row ≡ 0 = ap f free.none ∙ nothing in
-        rw (with_row-within rows i key v lt) (omega (arith, moved, before)))
-  ]
+  sum-with_row rows i key v free = grind (arith, common_steps, sum_of, with_row-end, sum_by_push, free.within, sum_by-set, free.none, with_row-within)
 
   sum-without_row : (rows : List (Entry Head)) (i : ℕ) (r : Row Head) → i < length rows → (entry_at rows i).row ≡ Some r → sum_of (without_row rows i) + f (Some r) ≡ sum_of rows
-  sum-without_row rows i r within there =
-      let moved = sum_by-set (λ (x : Entry Head). f x.row) rows i (record { destroyed = (entry_at rows i).destroyed + 1; row = None }) unused within in
-      let before : f (entry_at rows i).row ≡ f (Some r) = ap f there in
-      omega (arith, moved, before, nothing)
+  sum-without_row rows i r within there = grind (arith, common_steps, sum_by-set)
 
   sum-other : (rows : List (Entry Head)) (id : ℕ) (r s : Row Head) → live rows id ≡ Some r → sum_of (with_other rows id s) + f (Some r) ≡ sum_of rows + f (Some s)
-  sum-other rows id r s there =
-      let l = live-at rows id r there in
-      let moved = sum_by-set (λ (x : Entry Head). f x.row) rows (id % 32768) (record (entry_at rows (id % 32768)) { row = Some s }) unused l.within in
-      let before : f (entry_at rows (id % 32768)).row ≡ f (Some r) = ap f l.there in
-      omega (arith, moved, before)
+  sum-other rows id r s there = grind (arith, common_steps, live-at, sum_by-set)
 
 -- PAGES
 
@@ -102,18 +87,12 @@ pub pages-without_row : (rows : List (Entry Head)) (i : ℕ) (r : Row Head) → 
 pages-without_row rows i r within there = sum-without_row pages_in_row refl rows i r within there
 
 pub pages-with_other : (rows : List (Entry Head)) (id : ℕ) (r s : Row Head) → live rows id ≡ Some r → s.value.size ≡ r.value.size → pages_of_rows (with_other rows id s) ≡ pages_of_rows rows
-pages-with_other rows id r s there size =
-    let moved = sum-other pages_in_row refl rows id r s there in
-    let same : pages_of s.value.size ≡ pages_of r.value.size = ap pages_of size in
-    omega (arith, moved, same)
+pages-with_other rows id r s there size = grind (arith, common_steps, sum-other)
 
 -- LOCKED PAGES
 
 pub locked-with_row : (rows : List (Entry Head)) (i key : ℕ) (v : Head) → IsFree rows i → v.locked ≡ false → locked_of_rows (with_row rows i key v) ≡ locked_of_rows rows
-locked-with_row rows i key v free lock =
-    let more = sum-with_row locked_in_row refl rows i key v free in
-    let none : locked_in_row (Some (record { key = key; value = v })) ≡ 0 = rw lock refl in
-    omega (arith, more, none)
+locked-with_row rows i key v free lock = grind (arith, common_steps, sum-with_row)
 
 pub locked-without_row : (rows : List (Entry Head)) (i : ℕ) (r : Row Head) → i < length rows → (entry_at rows i).row ≡ Some r → locked_of_rows (without_row rows i) + locked_in_row (Some r) ≡ locked_of_rows rows
 locked-without_row rows i r within there = sum-without_row locked_in_row refl rows i r within there
@@ -123,15 +102,8 @@ locked-with_other rows id r s there = sum-other locked_in_row refl rows id r s t
 
 -- the same where size and lock stay
 pub locked-other_same : (rows : List (Entry Head)) (id : ℕ) (r s : Row Head) → live rows id ≡ Some r → s.value.size ≡ r.value.size → s.value.locked ≡ r.value.locked → locked_of_rows (with_other rows id s) ≡ locked_of_rows rows
-locked-other_same rows id r s there size lock =
-    let moved = locked-with_other rows id r s there in
-    let same : locked_in_row (Some s) ≡ locked_in_row (Some r) = rw (size, lock) refl in
-    omega (arith, moved, same)
+locked-other_same rows id r s there size lock = grind (arith, common_steps, locked-with_other)
 
 -- a locked segment's pages are among those of all locked ones, and these among all
 pub locked-within : (rows : List (Entry Head)) (id : ℕ) (r : Row Head) → live rows id ≡ Some r → locked_in_row (Some r) ≤ locked_of_rows rows
-locked-within rows id r there =
-    let l = live-at rows id r there in
-    let within = get_or-le-sum_by (λ (e : Entry Head). locked_in_row e.row) rows (id % 32768) unused l.within in
-    let own : locked_in_row (entry_at rows (id % 32768)).row ≡ locked_in_row (Some r) = ap locked_in_row l.there in
-    omega (arith, within, own)
+locked-within rows id r there = grind (arith, common_steps, live-at, get_or-le-sum_by)

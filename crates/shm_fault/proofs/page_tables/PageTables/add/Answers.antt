@@ -1,9 +1,11 @@
-use Rattle.std.proofs.Common.{◌≡◌, None, List, ◌++◌, ◌∷◌, [], ap}
+use Rattle.std.proofs.Common.{◌≡◌, None, List, ◌++◌, ◌∷◌, [], ap, arith}
 use Rattle.shm_fault.specs.declared.page_tables.PageRec.{PageRec}
 use Rattle.shm_fault.specs.Segs.{find_seg}
 use Rattle.shm_fault.specs.Entries.{segs_view}
 use Rattle.shm_fault.proofs.Entries.{insert-view, apart-append}
 use Rattle.shm_fault.proofs.page_tables.PageTables.add.Goals as goal
+use Rattle.std.proofs.lemmas.Grind.{common_steps}
+use Rattle.std.proofs.lemmas.Bool.Decides.{nat_tests}
 
 pub invariant_of-self-2 : goal.invariant_of-self-2
 invariant_of-self-2 c =
@@ -11,7 +13,4 @@ invariant_of-self-2 c =
     rw (c.in_ok-insert.ensures.entries, insert-view c.self.inside.by_id.entries c.args.id _ none) (apart-append _ _ c.self.invariant none)
 
 pub returns-clause-ok : goal.returns-clause-ok
-returns-clause-ok c =
-    let none : find_seg (segs_view c.self.inside.by_id.entries) c.args.id ≡ None = rw (← c.self.view_is) at c.requires.new in
-    rw (c.in_ok-insert.ensures.entries, insert-view c.self.inside.by_id.entries c.args.id _ none, ← c.self.view_is)
-    (ap (λ (ps : List PageRec). segs_view c.self.inside.by_id.entries ++ record { id = c.args.id; locked = _; pages = ps } ∷ []) c.in_ok-pages.ensures)
+returns-clause-ok c = grind (arith, nat_tests, common_steps, c.self.inside.by_id.entries, c.args.id, c.self.view_is, c.requires.new, c.in_ok-insert.ensures.entries, insert-view, c.in_ok-pages.ensures)

@@ -1,10 +1,12 @@
-use Rattle.std.proofs.Common.{refl, sym}
+use Rattle.std.proofs.Common.{refl, sym, arith}
 use Rattle.shm_fault.specs.Segs.{SegRec}
 use Rattle.shm_fault.specs.Entries.{segs_view}
 use Rattle.indexmap.specs.IndexMap.{set_value_at}
 use Rattle.shm_fault.proofs.Entries.{edit-none, IsEdited, edited, value_there}
 use Rattle.shm_fault.proofs.page_tables.PageTables.set_locked.Goals as goal
 use Rattle.shm_fault.proofs.page_tables.PageTables.set_locked.Goals.{In-Some-get_index_mut}
+use Rattle.std.proofs.lemmas.Grind.{common_steps}
+use Rattle.std.proofs.lemmas.Bool.Decides.{nat_tests}
 
 pub returns-in_default : goal.returns-in_default
 returns-in_default c =
@@ -12,8 +14,7 @@ returns-in_default c =
     rw (← c.self.view_is) (sym (edit-none lock (segs_view c.self.inside.by_id.entries) c.args.id c.in_default.ensures.none))
 
 pub unreachable-requires : goal.unreachable-requires
-unreachable-requires c =
-    value_there c.self.inside.by_id.entries c.in-Some.index c.args.id c.in-Some.ensures.some (sym c.in_default-get_index_mut.ensures.value)
+unreachable-requires c = grind (arith, nat_tests, common_steps, value_there, c.self.inside.by_id.entries, c.in-Some.index, c.args.id, c.in-Some.ensures.some, c.in_default-get_index_mut.ensures.value)
 
 done : (c : In-Some-get_index_mut) → IsEdited (λ (g : SegRec). record g { locked = c.args.locked }) c.args.id c.self.inside.by_id.entries
     (set_value_at c.self.inside.by_id.entries c.in-Some.index (record c.in-Some-get_index_mut.table.now { locked = c.args.locked }))

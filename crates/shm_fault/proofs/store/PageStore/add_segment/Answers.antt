@@ -1,4 +1,4 @@
-use Rattle.std.proofs.Common.{◌≡◌, ◌≤◌, ◌+◌, None, sum_by, refl, inl, inr, ap}
+use Rattle.std.proofs.Common.{◌≡◌, ◌≤◌, ◌+◌, None, sum_by, refl, inl, inr, ap, arith}
 use Rattle.shm_plain.specs.Held.{pages_held}
 use Rattle.shm_slots.specs.View.{slots}
 use Rattle.shm_fault.specs.declared.page_tables.PageRec.{PageRec}
@@ -11,6 +11,8 @@ use Rattle.shm_fault.proofs.Whole.{not-held, pages_held-is, sound-added, held-ad
 use Rattle.shm_fault.proofs.store.PageStore.add_segment.Given as given
 use Rattle.shm_fault.proofs.store.PageStore.add_segment.Goals as goal
 use Rattle.shm_fault.proofs.store.PageStore.add_segment.Goals.{After-self, After-add}
+use Rattle.std.proofs.lemmas.Grind.{common_steps}
+use Rattle.std.proofs.lemmas.Bool.Decides.{nat_tests}
 
 new : (g : given.Over) (c : After-self g) → find_seg c.self.inside.segs c.args.seg ≡ None
 new g c = not-held (seen c.self.inside) c.self.invariant c.args.seg (rw (← c.self.view_is) at c.requires.new)
@@ -44,7 +46,4 @@ unfolding frame_of
 returns-clause-still g c = λ seg page.
     let none = new g (goal.at.returns-clause-still g c).After-self in
     let rec = rec-added (seen c.self.inside) c.self.invariant c.args.seg c.args.pages none (record { seg = seg; page = page }) in
-    elim (either_way c.add.result _ _ c.add.ensures.ok c.add.ensures.err) [
-      | inl ok ↦ rw (ok, ← c.self.view_is) (ap (λ (p : PageRec). p.frame) rec)
-      | inr err ↦ rw (err, ← c.self.view_is) refl
-    ]
+    grind (arith, nat_tests, common_steps, either_way, c.add.result, c.add.ensures.ok, c.add.ensures.err, c.self.view_is, rec)

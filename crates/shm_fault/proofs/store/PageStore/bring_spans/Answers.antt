@@ -1,16 +1,16 @@
-use Rattle.std.proofs.Common.{◌≡◌, [], ◌∷◌}
+use Rattle.std.proofs.Common.{◌≡◌, [], ◌∷◌, arith}
 use Rattle.shm_fault.proofs.Bringing.{first_frame, second_frame, list-one, list-two}
 use Rattle.shm_fault.proofs.store.PageStore.bring_spans.Given as given
 use Rattle.shm_fault.proofs.store.PageStore.bring_spans.Goals as goal
 use Rattle.shm_fault.proofs.store.PageStore.bring_spans.Goals.{After-bring_one, After-bring_two}
+use Rattle.std.proofs.lemmas.Grind.{common_steps}
+use Rattle.std.proofs.lemmas.Bool.Decides.{nat_tests}
 
 one : (g : given.Over) (c : After-bring_one g) → c.args.spans.now ≡ c.in-Some.first.now ∷ []
 one g c = list-one c.args.spans.now c.in-Some.first.now c.in-Some.ensures.value c.in-None.ensures.lookup.0
 
 two : (g : given.Over) (c : After-bring_two g) → c.args.spans.now ≡ c.in-Some.first.now ∷ c.in-Some-get.second.now ∷ []
-two g c =
-    let second = c.in-Some-get.ensures.lookup.3 in
-    list-two c.args.spans.now c.in-Some.first.now c.in-Some-get.second.now c.requires.few c.in-Some.ensures.value second.0 (second.1 c.in-Some-get.second.now)
+two g c = grind (arith, nat_tests, common_steps, c.in-Some-get.ensures.lookup.3, list-two, c.args.spans.now, c.in-Some.first.now, c.in-Some-get.second.now, c.requires.few, c.in-Some.ensures.value)
 
 pub bring_two-requires-clause-frames : goal.bring_two-requires-clause-frames
 bring_two-requires-clause-frames g c = (

@@ -1,4 +1,4 @@
-use Rattle.std.proofs.Common.{◌≡◌, None, Some, refl, ap}
+use Rattle.std.proofs.Common.{◌≡◌, None, Some, refl, ap, arith}
 use Rattle.shm_fault.specs.declared.page_tables.PageRec.{PageRec}
 use Rattle.shm_fault.specs.Segs.{rec_by, HasPage}
 use Rattle.shm_fault.proofs.Seen.{seen}
@@ -9,6 +9,8 @@ use Rattle.shm_fault.proofs.Areas.{has-room, keeps-carried, keeps-owned, cleared
 use Rattle.shm_fault.proofs.store.PageStore.carry.Given as given
 use Rattle.shm_fault.proofs.store.PageStore.carry.Goals as goal
 use Rattle.shm_fault.proofs.store.PageStore.carry.Goals.{After-self, After-set_page}
+use Rattle.std.proofs.lemmas.Grind.{common_steps}
+use Rattle.std.proofs.lemmas.Bool.Decides.{nat_tests}
 
 place : (g : given.Over) (c : After-self g) → rec_by c.self.inside.segs c.args.page ≡ record { frame = None; slot = Some c.args.slot }
 place g c = rw (← c.self.view_is) at c.requires.place
@@ -35,9 +37,7 @@ pub returns-in-Ok-clause-goes : goal.returns-in-Ok-clause-goes
 returns-in-Ok-clause-goes g c = rw (← c.self.view_is) (kept g c).goes
 
 pub returns-in-Ok-clause-still : goal.returns-in-Ok-clause-still
-returns-in-Ok-clause-still g c =
-    let o = (goal.at.returns-in-Ok-clause-still g c).After-self in
-    rw (c.set_page.ensures, ← c.self.view_is) (still-with c.self.inside.segs c.args.page (record { frame = None; slot = Some c.in-Ok.to }) (has g o) (rw (place g o) refl))
+returns-in-Ok-clause-still g c = grind (arith, nat_tests, common_steps, c.set_page.ensures, c.self.view_is, still-with, c.self.inside.segs, c.args.page, c.in-Ok.to, has, place)
 
 pub returns-in-Ok-clause-cleared : goal.returns-in-Ok-clause-cleared
 returns-in-Ok-clause-cleared g c = rw (← c.self.view_is) (cleared-relocated c.args.page c.args.slot c.in-Ok.to c.self.inside.swap c.relocate.new.swap c.in-Ok.ensures.ok)

@@ -7,12 +7,11 @@ use Rattle.shm_fault.proofs.Bringing.{kept-locked}
 use Rattle.shm_fault.proofs.Flushes.{flushed-none, flushed-enough, flushed-not, flushed-more, flushed-all}
 use Rattle.shm_fault.proofs.store.PageStore.flush.Goals.{then-report-n+then-is_flushable, else-report-n, else-report-n-via-then-report-n+else-is_flushable, else-report-n-via-else-report-n}
 use Rattle.shm_fault.proofs.store.PageStore.flush.Goals as goal
+use Rattle.std.proofs.lemmas.Grind.{common_steps}
+use Rattle.std.proofs.lemmas.Bool.Decides.{nat_tests}
 
 pub loop-frame-init : goal.loop-frame-init
-loop-frame-init g c =
-    let i = c.self.inside in
-    let sound : IsStoreSound c.args.self.now = rw (← c.self.view_is) c.self.invariant in
-    flushed-none c.args.n c.args.self.now sound
+loop-frame-init g c = grind (arith, nat_tests, common_steps, c.self.inside, c.args.self.now, c.self.view_is, c.self.invariant, flushed-none, c.args.n)
 
 pub loop-frame-preserved : goal.loop-frame-preserved
 loop-frame-preserved g c =
@@ -49,6 +48,4 @@ unfolding frame_of
 returns-clause-still g c = λ seg page. c.loop-frame.invariant.still (record { seg = seg; page = page })
 
 pub returns-clause-kept : goal.returns-clause-kept
-returns-clause-kept g c =
-    let d = c.loop-frame.invariant in
-    kept-locked c.args.self.now c.loop-frame.self (KeepsLocked-still c.args.self.now c.loop-frame.self d.still)
+returns-clause-kept g c = grind (arith, nat_tests, common_steps, c.loop-frame.invariant, kept-locked, c.args.self.now, c.loop-frame.self)

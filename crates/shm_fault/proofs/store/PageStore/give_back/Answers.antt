@@ -1,4 +1,4 @@
-use Rattle.std.proofs.Common.{◌≡◌, None, Some, refl, ap}
+use Rattle.std.proofs.Common.{◌≡◌, None, Some, refl, ap, arith}
 use Rattle.shm_fault.specs.declared.page_tables.PageRec.{PageRec}
 use Rattle.shm_fault.specs.Segs.{rec_by, HasPage}
 use Rattle.shm_fault.proofs.Seen.{seen}
@@ -9,6 +9,8 @@ use Rattle.shm_fault.proofs.Areas.{keeps-back}
 use Rattle.shm_fault.proofs.store.PageStore.give_back.Given as given
 use Rattle.shm_fault.proofs.store.PageStore.give_back.Goals as goal
 use Rattle.shm_fault.proofs.store.PageStore.give_back.Goals.{After-self, After-set_page}
+use Rattle.std.proofs.lemmas.Grind.{common_steps}
+use Rattle.std.proofs.lemmas.Bool.Decides.{nat_tests}
 
 place : (g : given.Over) (c : After-self g) → rec_by c.self.inside.segs c.args.page ≡ record { frame = Some c.args.frame; slot = Some c.args.slot }
 place g c = rw (← c.self.view_is) at c.requires.place
@@ -39,9 +41,7 @@ pub returns-clause-goes : goal.returns-clause-goes
 returns-clause-goes g c = rw (← c.self.view_is) (kept g c).goes
 
 pub returns-clause-still : goal.returns-clause-still
-returns-clause-still g c =
-    let o = (goal.at.returns-clause-still g c).After-self in
-    rw (c.set_page.ensures, ← c.self.view_is) (still-with c.self.inside.segs c.args.page (record { frame = Some c.args.frame; slot = None }) (has g o) (rw (place g o) refl))
+returns-clause-still g c = grind (arith, nat_tests, common_steps, c.set_page.ensures, c.self.view_is, still-with, c.self.inside.segs, c.args.page, c.args.frame, has, place)
 
 pub returns-clause-sound : goal.returns-clause-sound
 returns-clause-sound g c = (kept g c).sound

@@ -1,10 +1,12 @@
-use Rattle.std.proofs.Common.{◌≡◌, Some, sym, ◌∙◌}
+use Rattle.std.proofs.Common.{◌≡◌, Some, sym, ◌∙◌, arith}
 use Rattle.shm_frames.specs.Frame.{frame_at}
 use Rattle.shm_fault.proofs.Seen.{seen}
 use Rattle.shm_fault.proofs.Changes.{Keeps, keeps-leave}
 use Rattle.shm_fault.proofs.store.PageStore.leave.Given as given
 use Rattle.shm_fault.proofs.store.PageStore.leave.Goals as goal
 use Rattle.shm_fault.proofs.store.PageStore.leave.Goals.{After-set_page}
+use Rattle.std.proofs.lemmas.Grind.{common_steps}
+use Rattle.std.proofs.lemmas.Bool.Decides.{nat_tests}
 
 owned : (g : given.Over) (c : After-set_page g) → (frame_at c.self.inside.frames c.args.frame).owner ≡ Some c.in-Some.page
 owned g c = sym c.owner.ensures ∙ c.in-Some.is
@@ -25,6 +27,4 @@ pub returns-clause-sound : goal.returns-clause-sound
 returns-clause-sound g c = (kept g c).sound
 
 pub returns-clause-was : goal.returns-clause-was
-returns-clause-was g c =
-    let tied = c.self.invariant.tied in
-    rw (← c.self.view_is) ((tied.pages c.in-Some.page (tied.owners c.args.frame c.in-Some.page (owned g c))).owner_resident c.args.frame (owned g c))
+returns-clause-was g c = grind (arith, nat_tests, common_steps, c.self.invariant.tied, c.self.view_is, c.in-Some.page, c.args.frame, owned)

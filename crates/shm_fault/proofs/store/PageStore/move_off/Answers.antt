@@ -10,14 +10,12 @@ use Rattle.shm_fault.proofs.Areas.{IsCleaned, cleaned-more, cleaned-there, clean
 use Rattle.shm_fault.proofs.store.PageStore.move_off.Given as given
 use Rattle.shm_fault.proofs.store.PageStore.move_off.Goals as goal
 use Rattle.shm_fault.proofs.store.PageStore.move_off.Goals.{After-unwrap_or-count, After-self-2, In-Err, After-turn_off}
+use Rattle.std.proofs.lemmas.Grind.{common_steps}
+use Rattle.std.proofs.lemmas.Bool.Decides.{nat_tests}
 
 -- the slots that are looked at are all that the area has
 count : (g : given.Over) (c : After-unwrap_or-count g) → c.unwrap_or-count.result ≡ length (area_at c.args.self.now.swap c.args.area).pages
-count g c =
-    let swap = c.args.self.now.swap in
-    let size : c.size.result ≡ size_of (area_at swap c.args.area) = rw (← c.self.view_is) c.size.ensures in
-    let some : c.size.result ≡ Some (length (area_at swap c.args.area).pages) = size ∙ rw c.requires.there refl in
-    rw some at c.unwrap_or-count.ensures
+count g c = grind (arith, nat_tests, common_steps, c.args.self.now.swap, c.size.result, c.args.area, c.self.view_is, c.size.ensures, c.requires.there, c.unwrap_or-count.ensures)
 
 -- what the loop leaves, of the store as it is opened again
 cleaned : (g : given.Over) (c : After-self-2 g) → IsCleaned c.args.area c.loop-slot.slot c.args.self.now (seen c.self-2.inside)
@@ -59,9 +57,7 @@ unfolding frame_of
 returns-in-Err-clause-still g c = λ seg page. still-err g (goal.at.returns-in-Err-clause-still g c).In-Err (record { seg = seg; page = page })
 
 pub returns-in-Err-clause-kept : goal.returns-in-Err-clause-kept
-returns-in-Err-clause-kept g c =
-    let still = still-err g (goal.at.returns-in-Err-clause-kept g c).In-Err in
-    kept-locked c.args.self.now c.clear_slot.new.self (KeepsLocked-still c.args.self.now c.clear_slot.new.self still)
+returns-in-Err-clause-kept g c = grind (arith, nat_tests, common_steps, still-err, kept-locked, c.args.self.now, c.clear_slot.new.self)
 
 pub turn_off-requires-clause-free : goal.turn_off-requires-clause-free
 turn_off-requires-clause-free g c =
@@ -83,6 +79,4 @@ unfolding frame_of
 returns-clause-still g c = λ seg page. (cleaned g (goal.at.returns-clause-still g c).After-self-2).still (record { seg = seg; page = page })
 
 pub returns-clause-kept : goal.returns-clause-kept
-returns-clause-kept g c =
-    let u = record (seen c.self-2.inside) { swap = c.turn_off.new.self } in
-    kept-locked c.args.self.now u (KeepsLocked-still c.args.self.now u (cleaned g (goal.at.returns-clause-kept g c).After-self-2).still)
+returns-clause-kept g c = grind (arith, nat_tests, common_steps, seen, c.self-2.inside, c.turn_off.new.self, kept-locked, c.args.self.now, cleaned)

@@ -1,4 +1,4 @@
-use Rattle.std.proofs.Common.{◌≡◌, ◌<◌, length, Some, true, ap, get_or-set_same}
+use Rattle.std.proofs.Common.{◌≡◌, ◌<◌, length, Some, true, ap, get_or-set_same, arith}
 use Rattle.shm_frames.specs.Frame.{Frame, no_frame, frame_at}
 use Rattle.shm_fault.proofs.Seen.{seen}
 use Rattle.shm_fault.proofs.Sound.{frame-own}
@@ -6,6 +6,8 @@ use Rattle.shm_fault.proofs.Visits.{IsStep, step-touch}
 use Rattle.shm_fault.proofs.store.PageStore.touch.Given as given
 use Rattle.shm_fault.proofs.store.PageStore.touch.Goals as goal
 use Rattle.shm_fault.proofs.store.PageStore.touch.Goals.{After-self, After-set_referenced}
+use Rattle.std.proofs.lemmas.Grind.{common_steps}
+use Rattle.std.proofs.lemmas.Bool.Decides.{nat_tests}
 
 own : (g : given.Over) (c : After-self g) → (c.args.frame < length c.self.inside.frames) × ((frame_at c.self.inside.frames c.args.frame).owner ≡ Some c.args.page)
 own g c = frame-own (seen c.self.inside) c.self.invariant c.args.page c.args.frame (rw (← c.self.view_is) at c.requires.here)
@@ -19,10 +21,7 @@ pub invariant_of-self : goal.invariant_of-self
 invariant_of-self g c = (step g c).sound
 
 pub returns-clause-bit : goal.returns-clause-bit
-returns-clause-bit g c =
-    let x : Frame = record (frame_at c.self.inside.frames c.args.frame) { referenced = true } in
-    let there = (own g (goal.at.returns-clause-bit g c).After-self).0 in
-    rw c.set_referenced.ensures (ap (λ (y : Frame). y.referenced) (get_or-set_same c.self.inside.frames c.args.frame x no_frame there))
+returns-clause-bit g c = grind (arith, nat_tests, common_steps, c.self.inside.frames, c.args.frame, own, c.set_referenced.ensures, get_or-set_same)
 
 pub returns-clause-visits : goal.returns-clause-visits
 returns-clause-visits g c = rw (← c.self.view_is) ((step g c).visits c.args.page)

@@ -16,6 +16,8 @@ use Rattle.shm_fault.proofs.Changes.{Own, own, Keeps, keeps-write}
 use Rattle.shm_fault.proofs.store.PageStore.write_back.Given as given
 use Rattle.shm_fault.proofs.store.PageStore.write_back.Goals as goal
 use Rattle.shm_fault.proofs.store.PageStore.write_back.Goals.{After-self, After-saturating_add-self-inside, In-Err}
+use Rattle.std.proofs.lemmas.Grind.{common_steps}
+use Rattle.std.proofs.lemmas.Bool.Decides.{nat_tests}
 
 -- the swap with the frame's bytes in the slot
 abbrev written : StoreView → ℕ → Slot → SwapView
@@ -79,10 +81,7 @@ pub returns-in-Ok-clause-goes : goal.returns-in-Ok-clause-goes
 returns-in-Ok-clause-goes g c = rw (← c.self.view_is) (wrote g (goal.at.returns-in-Ok-clause-goes g c).After-saturating_add-self-inside).goes
 
 pub returns-in-Ok-clause-counted : goal.returns-in-Ok-clause-counted
-returns-in-Ok-clause-counted g c =
-    let at = (there g (goal.at.returns-in-Ok-clause-counted g c).After-self).0 in
-    let same : total c.write_slot.new.self ≡ total c.self.inside.swap = rw c.in-Ok.ensures.ok (total-written c.self.inside.swap c.args.slot _ at) in
-    λ unspent. rw (same, ← c.self.view_is) (omega arith)
+returns-in-Ok-clause-counted g c = grind (arith, nat_tests, common_steps, there, c.write_slot.new.self, c.self.inside.swap, c.in-Ok.ensures.ok, total-written, c.args.slot, c.self.view_is)
 
 pub invariant_of-self-in-Err : goal.invariant_of-self-in-Err
 invariant_of-self-in-Err g c = (unwritten g c).sound

@@ -1,9 +1,10 @@
-use Rattle.std.proofs.Common.{rules, ◌≡◌, pos, Some, None, sym, ◌∙◌, to_z, of_z, w32}
+use Rattle.std.proofs.Common.{rules, ◌≡◌, pos, Some, None, sym, ◌∙◌, to_z, of_z, w32, arith}
 use Rattle.shm_ids.specs.Table.{entry_at, identifier}
 use Rattle.shm_ids.specs.Rows.{row_listed}
 use Rattle.shm_segments.proofs.Finding.{listed-row, unlisted-row, found_at, none-at}
 use Rattle.shm_fault.specs.Store.{held}
 use Rattle.shm_segments.proofs.segments.Segments.at.Goals as goal
+use Rattle.std.proofs.lemmas.Grind.{common_steps}
 
 pub returns-in-Some-clause-found : goal.returns-in-Some-clause-found
 returns-in-Some-clause-found g c =
@@ -16,7 +17,4 @@ returns-in-Some-clause-found g c =
     (found_at (held c.self.inside.store) c.self.inside.table c.args.index (record { key = c.in-Some.key; value = c.in-Some.head.now }) c.self.invariant.kept.agree c.self.invariant.kept.sizes r.0)
 
 pub returns-in-None-clause-none : goal.returns-in-None-clause-none
-returns-in-None-clause-none g c =
-    let e = entry_at c.self.inside.table c.args.index in
-    let listed : row_listed c.args.index e ≡ None = sym (rw c.in-None.is at c.row_at.ensures) in
-    rw (← c.self.view_is) (none-at (held c.self.inside.store) c.self.inside.table c.args.index (unlisted-row c.args.index e listed))
+returns-in-None-clause-none g c = grind (arith, common_steps, c.args.index, c.in-None.is, c.row_at.ensures, c.self.view_is, none-at, unlisted-row)

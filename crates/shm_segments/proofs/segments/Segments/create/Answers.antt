@@ -17,18 +17,14 @@ use Rattle.shm_segments.proofs.segments.Segments.create.Given.{Over}
 use Rattle.shm_segments.proofs.segments.Segments.create.Goals as goal
 use Rattle.shm_segments.proofs.segments.Segments.create.Goals.{In-Some, In_ok-add_segment, In-Ok, After-drop_segment}
 use Rattle.shm_plain.proofs.Found.{find-zeros_same}
+use Rattle.std.proofs.lemmas.Grind.{common_steps}
 
 pub unreachable-requires : goal.unreachable-requires
-unreachable-requires g c =
-    let some : is_some (free_index c.self.inside.table) ≡ true = free-some (held c.self.inside.store) c.self.inside.table (rw (← c.self.view_is) at c.requires.free) in
-    let none : free_index c.self.inside.table ≡ None = none-mapped (id_at c.self.inside.table) (free_index c.self.inside.table) (sym c.next_id.ensures.value ∙ c.in_default.is) in
-    true≢false (sym some ∙ ap is_some none)
+unreachable-requires g c = grind (arith, common_steps, is_some, free-some, c.self.view_is, c.requires.free, none-mapped, c.in_default.is)
 
 -- the identifier that the table gives, as the store takes it
 next : (g : Over) (c : In-Some g) → IsNext (held c.self.inside.store) c.self.inside.table (to_z w32 (of_z w32 c.in-Some.id))
-next g c =
-    let signed : to_z w32 (of_z w32 c.in-Some.id) ≡ c.in-Some.id = search rules in
-    rw signed (next-free (held c.self.inside.store) c.self.inside.table c.in-Some.id c.self.invariant.kept.agree (sym c.in-Some.is ∙ c.next_id.ensures.value))
+next g c = grind (arith, common_steps, to_z, w32, of_z, next-free, c.self.invariant.kept.agree, c.in-Some.is)
 
 pub add_segment-requires-clause-new : goal.add_segment-requires-clause-new
 add_segment-requires-clause-new g c =
@@ -36,11 +32,7 @@ add_segment-requires-clause-new g c =
     rw n.is n.new
 
 pub add_segment-requires-clause-room : goal.add_segment-requires-clause-room
-add_segment-requires-clause-room g c =
-    let s = c.self.inside.store in
-    let k = c.self.invariant.kept in
-    let room : reserved (joined (held s) c.self.inside.table) + pages_of c.args.head.size ≤ slots s.swap = rw (← c.self.view_is) at c.requires.room in
-    omega (arith, room, k.few_pages, k.reserved, reserved-joined (held s) c.self.inside.table k.agree, c.pages_of-pages.ensures.value)
+add_segment-requires-clause-room g c = grind (arith, common_steps, c.self.invariant.kept, c.self.view_is, c.requires.room, reserved-joined)
 
 pub put-requires-clause-absent : goal.put-requires-clause-absent
 put-requires-clause-absent g c = rw c.next_id.ensures.same (key-absent (held c.self.inside.store) c.self.inside.table c.args.key (rw (← c.self.view_is) at c.requires.absent))
@@ -93,9 +85,7 @@ overflow_add-self g c =
 
 -- the row is there
 row : (g : Over) (c : In-Ok g) (n : IsNext (held c.self.inside.store) c.self.inside.table (to_z w32 (of_z w32 c.in-Some.id))) → c.put.new.table ≡ with_row c.self.inside.table n.i c.args.key c.args.head
-row g c n =
-    let more : Some (with_row c.self.inside.table n.i c.args.key c.args.head) ≡ Some c.put.new.table = rw (c.next_id.ensures.same, n.found) at c.in-Ok.ensures.ok in
-    sym (cc more)
+row g c n = grind (arith, common_steps, n.i, c.args.head, c.next_id.ensures.same, n.found, c.in-Ok.ensures.ok)
 
 pub invariant_of-self-in-Ok : goal.invariant_of-self-in-Ok
 invariant_of-self-in-Ok g c =

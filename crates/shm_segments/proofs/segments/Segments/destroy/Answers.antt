@@ -1,4 +1,4 @@
-use Rattle.std.proofs.Common.{ap, ◌∙◌}
+use Rattle.std.proofs.Common.{ap, ◌∙◌, arith}
 use Rattle.shm_segments.specs.Table.{destroyed}
 use Rattle.shm_segments.proofs.Finding.{is_live-row}
 use Rattle.shm_segments.proofs.Making.{kept-without}
@@ -6,6 +6,7 @@ use Rattle.shm_segments.proofs.Remembered.{runs-without}
 use Rattle.shm_fault.specs.Store.{held}
 use Rattle.shm_segments.specs.View.{SegmentsView}
 use Rattle.shm_segments.proofs.segments.Segments.destroy.Goals as goal
+use Rattle.std.proofs.lemmas.Grind.{common_steps}
 
 pub take-head-requires : goal.take-head-requires
 take-head-requires g c = is_live-row (held c.self.inside.store) c.self.inside.table c.args.seg (rw (← c.self.view_is) at c.requires)
@@ -21,6 +22,4 @@ returns-clause-table g c =
     rw (c.drop_segment.ensures.held, c.take-head.ensures.after) (k.is ∙ ap (λ (v : SegmentsView). destroyed v.table c.args.seg) c.self.view_is)
 
 pub returns-clause-runs : goal.returns-clause-runs
-returns-clause-runs g c =
-    let e = c.drop_segment.ensures in
-    rw (← c.self.view_is) (runs-without c.self.inside.store c.drop_segment.new.self c.args.seg e.held e.counts.1 e.count e.still)
+returns-clause-runs g c = grind (arith, common_steps, c.drop_segment.ensures, c.self.view_is, runs-without)

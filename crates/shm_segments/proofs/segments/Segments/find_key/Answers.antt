@@ -1,8 +1,9 @@
-use Rattle.std.proofs.Common.{rules, ◌≡◌, None, sym, ◌∙◌, to_z, of_z, w32}
+use Rattle.std.proofs.Common.{rules, ◌≡◌, None, sym, ◌∙◌, to_z, of_z, w32, arith}
 use Rattle.shm_ids.specs.Table.{find_key, id_at}
 use Rattle.shm_segments.proofs.Looking.{found-under, key-some, key-none, none-mapped}
 use Rattle.shm_fault.specs.Store.{held}
 use Rattle.shm_segments.proofs.segments.Segments.find_key.Goals as goal
+use Rattle.std.proofs.lemmas.Grind.{common_steps}
 
 pub returns-in-Some-clause-found : goal.returns-in-Some-clause-found
 returns-in-Some-clause-found g c =
@@ -17,6 +18,4 @@ returns-in-Some-clause-some g c =
     rw (← c.self.view_is) (key-some (held c.self.inside.store) c.self.inside.table c.args.key c.in-Some.id c.requires c.in-Some.ensures.index c.in-Some.ensures.live ∙ under.1)
 
 pub returns-in-None-clause-none : goal.returns-in-None-clause-none
-returns-in-None-clause-none g c =
-    let none : find_key c.self.inside.table c.args.key ≡ None = none-mapped (id_at c.self.inside.table) (find_key c.self.inside.table c.args.key) (sym c.find_key.ensures.value ∙ c.in-None.is) in
-    rw (← c.self.view_is) (key-none (held c.self.inside.store) c.self.inside.table c.args.key c.requires none)
+returns-in-None-clause-none g c = grind (arith, common_steps, none-mapped, c.in-None.is, c.self.view_is, key-none, c.requires)

@@ -1,7 +1,8 @@
-use Rattle.std.proofs.Common.{ap}
+use Rattle.std.proofs.Common.{ap, arith}
 use Rattle.shm_segments.specs.View.{SegmentsView}
 use Rattle.shm_segments.proofs.Remembered.{runs-same}
 use Rattle.shm_segments.proofs.segments.Segments.flush.Goals as goal
+use Rattle.std.proofs.lemmas.Grind.{common_steps}
 
 pub invariant_of-self : goal.invariant_of-self
 invariant_of-self g c = record { kept = rw c.flush.ensures.held c.self.invariant.kept; sound = c.flush.ensures.sound }
@@ -10,6 +11,4 @@ pub returns-clause-table : goal.returns-clause-table
 returns-clause-table g c = rw c.flush.ensures.held (ap (λ (v : SegmentsView). v.table) c.self.view_is)
 
 pub returns-clause-runs : goal.returns-clause-runs
-returns-clause-runs g c =
-    let e = c.flush.ensures in
-    rw (← c.self.view_is) (runs-same c.self.inside.store c.flush.new.self e.held e.kept e.counts e.count)
+returns-clause-runs g c = grind (arith, common_steps, c.flush.ensures, c.self.view_is, runs-same)

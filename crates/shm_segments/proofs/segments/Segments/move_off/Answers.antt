@@ -7,6 +7,7 @@ use Rattle.shm_segments.proofs.Sums.{reserved-joined}
 use Rattle.shm_segments.specs.View.{SegmentsView}
 use Rattle.shm_segments.proofs.Remembered.{runs-same}
 use Rattle.shm_segments.proofs.segments.Segments.move_off.Goals as goal
+use Rattle.std.proofs.lemmas.Grind.{common_steps}
 
 pub invariant_of-self : goal.invariant_of-self
 invariant_of-self g c = record { kept = rw c.move_off.ensures.held c.self.invariant.kept; sound = c.move_off.ensures.sound }
@@ -15,13 +16,7 @@ pub returns-clause-table : goal.returns-clause-table
 returns-clause-table g c = rw c.move_off.ensures.held (ap (λ (v : SegmentsView). v.table) c.self.view_is)
 
 pub returns-clause-runs : goal.returns-clause-runs
-returns-clause-runs g c =
-    let e = c.move_off.ensures in
-    rw (← c.self.view_is) (runs-same c.self.inside.store c.move_off.new.self e.held e.kept e.counts e.count)
+returns-clause-runs g c = grind (arith, common_steps, c.move_off.ensures, c.self.view_is, runs-same)
 
 pub move_off-requires-clause-room : goal.move_off-requires-clause-room
-move_off-requires-clause-room g c =
-    let s = c.self.inside.store in
-    let room : reserved (joined (held s) c.self.inside.table) + length (area_at s.swap c.args.area).pages ≤ slots s.swap = rw (← c.self.view_is) at c.requires.room in
-    let k = c.self.invariant.kept in
-    omega (arith, room, k.few_pages, k.reserved, reserved-joined (held s) c.self.inside.table k.agree)
+move_off-requires-clause-room g c = grind (arith, common_steps, c.self.view_is, c.requires.room, c.self.invariant.kept, reserved-joined)

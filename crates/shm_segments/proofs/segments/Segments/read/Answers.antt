@@ -1,10 +1,11 @@
-use Rattle.std.proofs.Common.{false, ap}
+use Rattle.std.proofs.Common.{false, ap, arith}
 use Rattle.shm_fault.specs.Store.{held}
 use Rattle.shm_segments.specs.View.{SegmentsView}
 use Rattle.shm_segments.proofs.Spanning.{spans-fit}
 use Rattle.shm_segments.proofs.Shown.{load_shown}
 use Rattle.shm_segments.proofs.Remembered.{runs-same}
 use Rattle.shm_segments.proofs.segments.Segments.read.Goals as goal
+use Rattle.std.proofs.lemmas.Grind.{common_steps}
 
 pub read-requires-clause-fit : goal.read-requires-clause-fit
 read-requires-clause-fit g c = spans-fit (held c.self.inside.store) c.self.inside.table c.args.spans.now c.self.invariant.kept.agree (rw (← c.self.view_is) at c.requires.fit)
@@ -21,6 +22,4 @@ pub returns-clause-table : goal.returns-clause-table
 returns-clause-table g c = rw c.read.ensures.held (ap (λ (v : SegmentsView). v.table) c.self.view_is)
 
 pub returns-clause-runs : goal.returns-clause-runs
-returns-clause-runs g c =
-    let e = c.read.ensures.access in
-    rw (← c.self.view_is) (runs-same c.self.inside.store c.read.new.self c.read.ensures.held e.kept e.counts e.size)
+returns-clause-runs g c = grind (arith, common_steps, c.read.ensures.access, c.self.view_is, runs-same, c.read.ensures.held)
