@@ -1,9 +1,9 @@
 -- What pagers that show blank areas start as.
-use Rattle.std.proofs.Common.{◌≡◌, ◌⊎◌, ℕ, List, [], ◌∷◌, map, length, Option, Some, None, refl, sym, ap, ◌∙◌, inl, inr}
-use Rattle.std.proofs.lemmas.List.{length-replicate}
+use Rattle.std.proofs.Common.{◌≡◌, ◌⊎◌, ℕ, List, [], ◌∷◌, map, length, Some, refl, sym, ap, ◌∙◌, inl, inr, arith}
+use Rattle.std.proofs.lemmas.Grind.{common_steps}
 use Rattle.shm_base.specs.declared.call.Process.{Process}
-use Rattle.shm_pager.specs.Pages.{PagerView, pager_seen, zero_page}
-use Rattle.shm_slots.specs.View.{AreaView, fresh}
+use Rattle.shm_pager.specs.Pages.{PagerView, pager_seen}
+use Rattle.shm_slots.specs.View.{fresh}
 use Rattle.shm_life.specs.Start.{IsFirstError, start_error}
 use Rattle.shm_life.specs.declared.start.StartError.{StartError}
 use Rattle.shm_life.specs.declared.start.StartError.TheVariants.{HostMemory}
@@ -21,8 +21,7 @@ map-after f g (x ∷ xs) = ap (λ ys. f (g x) ∷ ys) (map-after f g xs)
 
 blank-sizes : (areas : List Area) → map (λ (v : PagerView). length v.pages) (blanks areas) ≡ sizes_of areas
 blank-sizes [] = refl
-blank-sizes (a ∷ areas) =
-    ap (λ n. n ∷ map (λ (v : PagerView). length v.pages) (blanks areas)) (length-replicate a.slots zero_page) ∙ ap (λ ns. a.slots ∷ ns) (blank-sizes areas)
+blank-sizes (a ∷ areas) = grind (arith, common_steps, (blank-sizes areas))
 
 pub pager-sizes : (ps : List AreaPager) (areas : List Area) → map (pager_seen pages_in failed_in) ps ≡ blanks areas → map (λ (p : AreaPager). length (pages_in p)) ps ≡ sizes_of areas
 pager-sizes ps areas is =

@@ -1,5 +1,6 @@
 -- No identifier stands twice, whatever is added, dropped or changed.
-use Rattle.std.proofs.Common.{◌≡◌, ◌≢◌, ℕ, zero, suc, ◌+◌, ◌<◌, Bool, true, false, List, [], ◌∷◌, ◌++◌, length, get_or, set, drop, map, Some, option_map, refl, sym, ap, ◌∙◌, inl, inr, eq-eqb, ne_eqb}
+use Rattle.std.proofs.Common.{◌≡◌, ◌≢◌, ℕ, zero, suc, ◌<◌, Bool, true, false, List, [], ◌∷◌, ◌++◌, length, get_or, set, drop, map, Some, option_map, refl, ◌∙◌, inl, inr, ne_eqb, arith}
+use Rattle.std.proofs.lemmas.Grind.{common_steps}
 use Rattle.std.proofs.lemmas.Bool.Decides.{eqb_tells}
 use Rattle.std.proofs.lemmas.List.{drop_more}
 use Rattle.std.proofs.lemmas.Option.{slice_get_read}
@@ -15,62 +16,37 @@ true_false e = cc
 -- what is found under an identifier has it
 pub find_held-id : (hs : List Held) (id : ℕ) (g : Held) → find_held hs id ≡ Some g → g.id ≡ id
 find_held-id [] id g found = cc
-find_held-id (h ∷ hs) id g found = elim (eqb_tells h.id id) [
-  | inl w ↦ (let same : h ≡ g = let f : Some h ≡ Some g = rw w.0 at found in cc in ap (λ (x : Held). x.id) (sym same) ∙ w.1)
-  | inr w ↦ find_held-id hs id g (rw w.0 at found)
-]
+find_held-id (h ∷ hs) id g found = grind (arith, common_steps, (find_held-id hs id g))
 
 -- a segment that stands somewhere is held
 pub stands-held : (hs : List Held) (i : ℕ) (g : Held) → slice_get hs i ≡ Some g → is_held hs g.id ≡ true
 stands-held [] i g at = cc
-stands-held (h ∷ hs) zero g at =
-    let same : h ≡ g = cc in
-    rw same (elim (eqb_tells g.id g.id) [ inl w ↦ rw w.0 refl | inr w ↦ absurd (w.1 refl) ])
-stands-held (h ∷ hs) (suc i) g at = elim (eqb_tells h.id g.id) [
-  | inl w ↦ rw w.0 refl
-  | inr w ↦ rw w.0 (stands-held hs i g at)
-]
+stands-held (h ∷ hs) zero g at = grind (arith, common_steps)
+stands-held (h ∷ hs) (suc i) g at = grind (arith, common_steps, (stands-held hs i g at))
 
 -- the search from a place on finds the segment there
 pub found_here : (hs : List Held) (i : ℕ) (g : Held) (id : ℕ) → i < length hs → g ≡ get_or hs i g → g.id ≡ id → find_held (drop i hs) id ≡ find_held hs id → find_held hs id ≡ slice_get hs i
-found_here hs i g id within is own rest =
-    let here : drop i hs ≡ g ∷ drop (i + 1) hs = drop_more hs i g within ∙ ap (λ x. x ∷ drop (i + 1) hs) (sym is) in
-    sym rest ∙ ap (λ t. find_held t id) here ∙ rw (eq-eqb g.id id own) refl ∙ sym (slice_get_read hs (length hs) i g refl within is)
+found_here hs i g id within is own rest = grind (arith, common_steps, drop_more, slice_get_read)
 
 -- ADDED
 
 held-push : (hs : List Held) (g : Held) (id : ℕ) → is_held hs id ≡ false → g.id ≢ id → is_held (hs ++ g ∷ []) id ≡ false
 held-push [] g id none other = elim (eqb_tells g.id id) [ inl w ↦ absurd (other w.1) | inr w ↦ rw w.0 refl ]
-held-push (h ∷ hs) g id none other = elim (eqb_tells h.id id) [
-  | inl w ↦ absurd (true_false (rw w.0 at none))
-  | inr w ↦ rw w.0 (held-push hs g id (rw w.0 at none) other)
-]
+held-push (h ∷ hs) g id none other = grind (arith, common_steps, (held-push hs g id))
 
 pub apart-push : (hs : List Held) (g : Held) → is_held hs g.id ≡ false → AreHeldApart hs → AreHeldApart (hs ++ g ∷ [])
 apart-push [] g none apart = (refl, tt)
-apart-push (h ∷ hs) g none apart = elim (eqb_tells h.id g.id) [
-  | inl w ↦ absurd (true_false (rw w.0 at none))
-  | inr w ↦ (held-push hs g h.id apart.0 (λ same. w.1 (sym same)), apart-push hs g (rw w.0 at none) apart.1)
-]
+apart-push (h ∷ hs) g none apart = grind (arith, common_steps, (apart-push hs g), eqb_tells, true_false, held-push)
 
 -- DROPPED
 
 held-without : (hs : List Held) (id at : ℕ) → is_held hs at ≡ false → is_held (without hs id) at ≡ false
 held-without [] id at none = refl
-held-without (h ∷ hs) id at none = elim (eqb_tells h.id at) [
-  | inl w ↦ absurd (true_false (rw w.0 at none))
-  | inr w ↦ elim (eqb_tells h.id id) [
-    | inl v ↦ rw v.0 (held-without hs id at (rw w.0 at none))
-    | inr v ↦ rw (v.0, w.0) (held-without hs id at (rw w.0 at none))
-  ]
-]
+held-without (h ∷ hs) id at none = grind (arith, common_steps, (held-without hs id at))
 
 pub apart-without : (hs : List Held) (id : ℕ) → AreHeldApart hs → AreHeldApart (without hs id)
 apart-without [] id apart = tt
-apart-without (h ∷ hs) id apart = elim (eqb_tells h.id id) [
-  | inl w ↦ rw w.0 (apart-without hs id apart.1)
-  | inr w ↦ rw w.0 (held-without hs id h.id apart.0, apart-without hs id apart.1)
-]
+apart-without (h ∷ hs) id apart = grind (arith, common_steps, (apart-without hs id apart.1), eqb_tells, held-without)
 
 -- CHANGED
 
@@ -80,19 +56,11 @@ KeepsId f = (g : Held) → (f g).id ≡ g.id
 
 pub find-map : (f : Held → Held) → KeepsId f → (hs : List Held) (id : ℕ) → find_held (map f hs) id ≡ option_map f (find_held hs id)
 find-map f keeps [] id = refl
-find-map f keeps (h ∷ hs) id = elim (eqb_tells (f h).id id) [
-  | inl w ↦ rw (w.0, eq-eqb h.id id (sym (keeps h) ∙ w.1)) refl
-  | inr w ↦ rw (w.0, ne_eqb h.id id (λ is. w.1 (keeps h ∙ is))) (find-map f keeps hs id)
-]
+find-map f keeps (h ∷ hs) id = grind (arith, common_steps, (find-map f keeps hs id))
 
 pub held-map : (f : Held → Held) → KeepsId f → (hs : List Held) (id : ℕ) → is_held (map f hs) id ≡ is_held hs id
 held-map f keeps [] id = refl
-held-map f keeps (h ∷ hs) id =
-    let same : (f h).id ≡ h.id = keeps h in
-    elim (eqb_tells h.id id) [
-      | inl w ↦ rw (same, w.0) refl
-      | inr w ↦ rw (same, w.0) (held-map f keeps hs id)
-    ]
+held-map f keeps (h ∷ hs) id = grind (arith, common_steps, (held-map f keeps hs id))
 
 pub apart-map : (f : Held → Held) → KeepsId f → (hs : List Held) → AreHeldApart hs → AreHeldApart (map f hs)
 apart-map f keeps [] apart = tt
@@ -101,34 +69,19 @@ apart-map f keeps (h ∷ hs) apart = (rw (keeps h) (held-map f keeps hs h.id ∙
 -- a change of the segments with an identifier, of which none is held
 map-none : (f : Held → Held) (id : ℕ) → ((g : Held) → g.id ≢ id → f g ≡ g) → (hs : List Held) → is_held hs id ≡ false → map f hs ≡ hs
 map-none f id others [] none = refl
-map-none f id others (h ∷ hs) none = elim (eqb_tells h.id id) [
-  | inl w ↦ absurd (true_false (rw w.0 at none))
-  | inr w ↦ (let here = others h w.1 in let rest = map-none f id others hs (rw w.0 at none) in cc)
-]
+map-none f id others (h ∷ hs) none = grind (arith, common_steps, (map-none f id others hs))
 
 -- the segment with an identifier is changed where it stands
 pub map-set : (f : Held → Held) (id : ℕ) → ((g : Held) → g.id ≢ id → f g ≡ g) → (hs : List Held) (i : ℕ) (g : Held)
     → AreHeldApart hs → find_held hs id ≡ slice_get hs i → slice_get hs i ≡ Some g → map f hs ≡ set hs i (f g)
 map-set f id others [] i g apart found at = refl
-map-set f id others (h ∷ hs) zero g apart found at =
-    let same : h ≡ g = cc in
-    let own : h.id ≡ id = find_held-id (h ∷ hs) id h found in
-    let rest = map-none f id others hs (rw own at apart.0) in
-    cc
-map-set f id others (h ∷ hs) (suc i) g apart found at = elim (eqb_tells h.id id) [
-  | inl w ↦
-      (let f : Some h ≡ Some g = rw w.0 at found ∙ at in
-      let same : h ≡ g = cc in
-      absurd (true_false (sym (stands-held hs i g at) ∙ ap (λ (x : Held). is_held hs x.id) (sym same) ∙ apart.0)))
-  | inr w ↦ (let here = others h w.1 in let rest = map-set f id others hs i g apart.1 (rw w.0 at found) at in cc)
-]
+map-set f id others (h ∷ hs) zero g apart found at = grind (arith, common_steps, find_held-id, map-none)
+map-set f id others (h ∷ hs) (suc i) g apart found at = grind (arith, common_steps, (map-set f id others hs i g apart.1), eqb_tells, true_false, stands-held)
 
 -- the same, by what stands there before and after
 pub set-map : (f : Held → Held) (id : ℕ) → ((g : Held) → g.id ≢ id → f g ≡ g) → (hs : List Held) (i : ℕ) (g y : Held)
     → AreHeldApart hs → find_held hs id ≡ slice_get hs i → i < length hs → g ≡ get_or hs i g → (g.id ≡ id → y ≡ f g) → set hs i y ≡ map f hs
-set-map f id others hs i g y apart found within is after =
-    let at : slice_get hs i ≡ Some g = slice_get_read hs (length hs) i g refl within is in
-    ap (set hs i) (after (find_held-id hs id g (found ∙ at))) ∙ sym (map-set f id others hs i g apart found at)
+set-map f id others hs i g y apart found within is after = grind (arith, common_steps, slice_get_read, set, find_held-id, map-set)
 
 -- A LOCK SET
 
@@ -140,8 +93,7 @@ relocked-keeps id locked g = elim (eqb_tells g.id id) [ inl w ↦ rw w.0 refl | 
 
 pub lock-set : (hs : List Held) (id i : ℕ) (locked : Bool) (g y : Held) → AreHeldApart hs → find_held hs id ≡ slice_get hs i → i < length hs → g ≡ get_or hs i g → y ≡ record g { locked = locked }
     → set hs i y ≡ with_lock hs id locked
-lock-set hs id i locked g y apart found within is after =
-    set-map (relocked id locked) id (relocked-others id locked) hs i g y apart found within is (λ own. rw (eq-eqb g.id id own) after)
+lock-set hs id i locked g y apart found within is after = grind (arith, common_steps, set-map, relocked-others)
 
 pub apart-lock : (hs : List Held) (id : ℕ) (locked : Bool) → AreHeldApart hs → AreHeldApart (with_lock hs id locked)
 apart-lock hs id locked apart = apart-map (relocked id locked) (relocked-keeps id locked) hs apart

@@ -1,5 +1,5 @@
 -- Bytes pasted into a segment, and what stays of the others.
-use Rattle.std.proofs.Common.{◌≡◌, ◌≢◌, ℕ, ◌+◌, ◌<◌, ◌≤◌, true, List, [], ◌∷◌, length, get_or, set, take, drop, map, refl, sym, ap, ◌∙◌, inl, inr, arith, eq-eqb, ne_eqb}
+use Rattle.std.proofs.Common.{◌≡◌, ◌≢◌, ℕ, ◌+◌, ◌<◌, ◌≤◌, true, List, [], ◌∷◌, length, get_or, set, take, drop, map, refl, inl, inr, arith, ne_eqb}
 use Rattle.std.proofs.lemmas.Bool.Decides.{eqb_tells}
 use Rattle.std.proofs.lemmas.Grind.{common_steps}
 use Rattle.std.proofs.lemmas.List.Elements.{All-head, All-tail, All-get_or}
@@ -14,20 +14,11 @@ length-paste xs at bs le = grind (arith, common_steps)
 
 pub bytes_of-pasted_same : (hs : List Held) (seg at : ℕ) (new : List ℕ) → is_held hs seg ≡ true → bytes_of (map (pasted seg at new) hs) seg ≡ paste (bytes_of hs seg) at new
 bytes_of-pasted_same [] seg at new e = cc
-bytes_of-pasted_same (g ∷ gs) seg at new e = elim (eqb_tells g.id seg) [
-  | inl w ↦ rw (w.0, w.0) refl
-  | inr w ↦ rw (w.0, w.0) (bytes_of-pasted_same gs seg at new (rw w.0 at e))
-]
+bytes_of-pasted_same (g ∷ gs) seg at new e = grind (arith, common_steps, (bytes_of-pasted_same gs seg at new))
 
 pub bytes_of-pasted_other : (hs : List Held) (seg at : ℕ) (new : List ℕ) (id : ℕ) → id ≢ seg → bytes_of (map (pasted seg at new) hs) id ≡ bytes_of hs id
 bytes_of-pasted_other [] seg at new id ne = refl
-bytes_of-pasted_other (g ∷ gs) seg at new id ne = elim (eqb_tells g.id id) [
-  | inl w ↦ elim (eqb_tells g.id seg) [ inl v ↦ absurd (ne (sym w.1 ∙ v.1)) | inr v ↦ rw (v.0, w.0) refl ]
-  | inr w ↦ elim (eqb_tells g.id seg) [
-    | inl v ↦ rw (v.0, w.0) (bytes_of-pasted_other gs seg at new id ne)
-    | inr v ↦ rw (v.0, w.0) (bytes_of-pasted_other gs seg at new id ne)
-  ]
-]
+bytes_of-pasted_other (g ∷ gs) seg at new id ne = grind (arith, common_steps, (bytes_of-pasted_other gs seg at new id ne))
 
 pub pasted-keeps : (seg at : ℕ) (new : List ℕ) → KeepsId (pasted seg at new)
 pasted-keeps seg at new g = elim (eqb_tells g.id seg) [ inl w ↦ rw w.0 refl | inr w ↦ rw w.0 refl ]
@@ -37,8 +28,7 @@ pasted-others seg at new g other = rw (ne_eqb g.id seg other) refl
 
 pub pasted-set : (hs : List Held) (seg at i : ℕ) (new : List ℕ) (g y : Held) → AreHeldApart hs → find_held hs seg ≡ slice_get hs i → i < length hs → g ≡ get_or hs i g → y ≡ record g { bytes = paste g.bytes at new }
     → set hs i y ≡ map (pasted seg at new) hs
-pasted-set hs seg at i new g y apart found within is after =
-    set-map (pasted seg at new) seg (pasted-others seg at new) hs i g y apart found within is (λ own. rw (eq-eqb g.id seg own) after)
+pasted-set hs seg at i new g y apart found within is after = grind (arith, common_steps, set-map, pasted-others)
 
 pub apart-pasted : (hs : List Held) (seg at : ℕ) (new : List ℕ) → AreHeldApart hs → AreHeldApart (map (pasted seg at new) hs)
 apart-pasted hs seg at new apart = apart-map (pasted seg at new) (pasted-keeps seg at new) hs apart
@@ -48,16 +38,11 @@ is_held-pasted hs seg at new id = held-map (pasted seg at new) (pasted-keeps seg
 
 -- each segment stays as long as it is
 pub length-pasted : (hs : List Held) (p : Span) (new : List ℕ) (id : ℕ) → length new ≤ p.len → FitsPage hs p → length (bytes_of (map (pasted p.seg p.at new) hs) id) ≡ length (bytes_of hs id)
-length-pasted hs p new id le fit = elim (eqb_tells id p.seg) [
-  | inl w ↦ rw w.1 (ap length (bytes_of-pasted_same hs p.seg p.at new fit.0) ∙ length-paste (bytes_of hs p.seg) p.at new (omega (arith, fit.1, le)))
-  | inr w ↦ ap length (bytes_of-pasted_other hs p.seg p.at new id w.1)
-]
+length-pasted hs p new id le fit = grind (arith, common_steps, eqb_tells, bytes_of-pasted_same, length-paste, bytes_of-pasted_other)
 
 -- what fits before fits after
 pub fits-pasted : (hs : List Held) (p q : Span) (new : List ℕ) → length new ≤ p.len → FitsPage hs p → FitsPage hs q → FitsPage (map (pasted p.seg p.at new) hs) q
-fits-pasted hs p q new le fit fits =
-    let n = length-pasted hs p new q.seg le fit in
-    (is_held-pasted hs p.seg p.at new q.seg ∙ fits.0, omega (arith, n, fits.1), fits.2, fits.3)
+fits-pasted hs p q new le fit fits = grind (arith, common_steps, length-pasted, is_held-pasted)
 
 pub fits-written : (hs : List Held) (ps : List Span) (q : Span) (new : List ℕ) → All (FitsPage hs) ps → FitsPage hs q → FitsPage (written hs ps new) q
 fits-written hs [] q new fit fits = fits

@@ -1,5 +1,5 @@
 -- Stretches read and written one after another.
-use Rattle.std.proofs.Common.{◌≡◌, ℕ, ◌+◌, ◌<◌, ◌≤◌, List, ◌++◌, length, get_or, take, drop, map, None, sym, ap, ◌∙◌, arith, append_assoc}
+use Rattle.std.proofs.Common.{◌≡◌, ℕ, ◌+◌, ◌<◌, ◌≤◌, List, ◌++◌, length, get_or, take, drop, map, None, arith, append_assoc}
 use Rattle.std.proofs.lemmas.Grind.{common_steps}
 use Rattle.std.proofs.lemmas.List.{drop_more}
 use Rattle.std.proofs.lemmas.Slice.{take-put_mid}
@@ -22,24 +22,13 @@ length-put_mid at room out new within size = grind (arith, common_steps)
 pub read_more : (hs : List Held) (ps : List Span) (k : ℕ) (out new : List ℕ) (done room : ℕ)
     → k < length ps → done ≤ length out → new ≡ span_bytes hs (span_at ps k) → length new ≡ (span_at ps k).len
     → take (done + (span_at ps k).len) (put_mid done room out new) ++ read_from hs (drop (k + 1) ps) ≡ take done out ++ read_from hs (drop k ps)
-read_more hs ps k out new done room lt within bytes size =
-    let p : Span = span_at ps k in
-    let filled : take (done + p.len) (put_mid done room out new) ≡ take done out ++ new = take-put_mid done room out new (done + p.len) (ap (λ n. done + n) (sym size)) within in
-    ap (λ t. t ++ read_from hs (drop (k + 1) ps)) filled
-    ∙ append_assoc (take done out) new (read_from hs (drop (k + 1) ps))
-    ∙ ap (λ t. take done out ++ (t ++ read_from hs (drop (k + 1) ps))) bytes
-    ∙ ap (λ t. take done out ++ read_from hs t) (sym (drop_more ps k no_span lt))
+read_more hs ps k out new done room lt within bytes size = grind (arith, common_steps, take-put_mid, append_assoc, drop_more)
 
 -- one stretch more is written
 pub write_more : (hs : List Held) (ps : List Span) (k : ℕ) (bytes new : List ℕ) (done : ℕ)
     → k < length ps → new ≡ take (span_at ps k).len (drop done bytes)
     → written (map (pasted (span_at ps k).seg (span_at ps k).at new) hs) (drop (k + 1) ps) (drop (done + (span_at ps k).len) bytes) ≡ written hs (drop k ps) (drop done bytes)
-write_more hs ps k bytes new done lt taken =
-    let p : Span = span_at ps k in
-    let rest : drop (done + p.len) bytes ≡ drop p.len (drop done bytes) = grind (arith, common_steps) in
-    ap (λ t. written (map (pasted p.seg p.at t) hs) (drop (k + 1) ps) (drop (done + p.len) bytes)) taken
-    ∙ ap (λ t. written (map (pasted p.seg p.at (take p.len (drop done bytes))) hs) (drop (k + 1) ps) t) rest
-    ∙ ap (λ t. written hs t (drop done bytes)) (sym (drop_more ps k no_span lt))
+write_more hs ps k bytes new done lt taken = grind (arith, common_steps)
 
 -- what fits before one is written fits after
 pub all_fit : (hs : List Held) (ps : List Span) (k : ℕ) (new : List ℕ) → k < length ps → length new ≤ (span_at ps k).len → All (FitsPage hs) ps

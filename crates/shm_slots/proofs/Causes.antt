@@ -13,13 +13,11 @@ pub rises-le : (xs ys : List AreaView) → length ys ≡ length xs
     → ((k : ℕ) → (get_or ys k no_area).start ≡ (get_or xs k no_area).start)
     → ((k : ℕ) → (get_or xs k no_area).failed ≤ (get_or ys k no_area).failed)
     → sum_by rise xs ≤ sum_by rise ys
-rises-le [] [] e s f = omega arith
-rises-le [] (y ∷ ys) e s f = absurd (omega (arith, e))
-rises-le (x ∷ xs) [] e s f = absurd (omega (arith, e))
 rises-le (x ∷ xs) (y ∷ ys) e s f =
     let rest = rises-le xs ys (omega (arith, e)) (λ k. s (suc k)) (λ k. f (suc k)) in
     let first : rise x ≤ rise y = omega (arith, s 0, f 0) in
     omega (arith, rest, first, sum_by-cons rise x xs, sum_by-cons rise y ys)
+rises-le xs ys e s f = grind (arith, common_steps)
 
 -- the sum of failures never falls
 pub total-le : (s t : SwapView) → GoesOn s t → total s ≤ total t

@@ -1,12 +1,10 @@
 -- One area of a swap changed.
-use Rattle.std.proofs.Common.{rules, ◌≡◌, ◌≢◌, ◌⊎◌, ℕ, zero, suc, ◌<◌, ◌≤◌, Bool, true, false, not, ◌&&◌, ◌||◌, List, [], ◌∷◌, ◌++◌, Option, None, length, get_or, set, map, sum, sum_by, refl, sym, ap, ◌∙◌, inl, inr, arith, length-set, get_or-set_same, get_or-set_other}
+use Rattle.std.proofs.Common.{◌≡◌, ℕ, zero, suc, ◌<◌, ◌≤◌, Bool, true, not, ◌&&◌, List, [], ◌∷◌, ◌++◌, Option, None, length, get_or, set, map, sum, sum_by, refl, sym, ap, ◌∙◌, inl, inr, arith, length-set}
 use Rattle.std.specs.List.{list_any}
 use Rattle.std.proofs.lemmas.List.{set_past, get_or_default, map-set}
 use Rattle.std.proofs.lemmas.List.Folds.{list_any_at}
 use Rattle.std.proofs.lemmas.List.Sums.{sum_by-set, sum-map}
-use Rattle.std.proofs.lemmas.Bool.{cases_Bool, cases_eq, cases_lt, eq-eqb, false≢true}
 use Rattle.std.proofs.lemmas.Grind.{common_steps}
-use Rattle.std.proofs.lemmas.Bool.Decides.{eqb_tells}
 use Rattle.shm_base.specs.declared.paging.PageRef.{PageRef}
 use Rattle.shm_pager.specs.Pages.{last_count}
 use Rattle.shm_slots.specs.View.{AreaView, SwapView, area_at, no_area, rise, is_spent, is_spent_here, size_of, sizes, with_owner, off, HasSlot, CountedFault, IsArea, IsSwap, SameSlots}
@@ -17,53 +15,29 @@ abbrev pub changed : SwapView → ℕ → AreaView → Bool → SwapView
 changed s i a flag = record { areas = set s.areas i a; never_spent = flag }
 
 both_true : (x y : Bool) → (x && y) ≡ true → (x ≡ true) × (y ≡ true)
-both_true false y h = absurd (search rules)
-both_true true y h = (refl, h)
+both_true m0 y h = grind (arith, common_steps)
 
 unspent_area : (a : AreaView) → IsArea a → not (is_spent a) ≡ true → a.failed < last_count
-unspent_area a area flag = elim (eqb_tells a.failed last_count) [
-  | inl w ↦ absurd (let h = ap not w.0 in search rules)
-  | inr w ↦ omega (arith, area.countable, w.1)
-]
+unspent_area a area flag = grind (arith, common_steps)
 
 -- an area that has a slot is there
 pub slot-here : (a : AreaView) → IsArea a → (slot : ℕ) → slot < length a.pages → a.here ≡ true
-slot-here a area slot lt = elim (cases_Bool a.here) [
-  | inl here ↦ here
-  | inr gone ↦ absurd (let none : length a.pages ≡ 0 = ap length (area.gone gone) in omega (arith, none, lt))
-]
+slot-here a area slot lt = grind (arith, common_steps)
 
 -- one more area
 pub areas-push : (xs : List AreaView) (a : AreaView) → ((k : ℕ) → IsArea (get_or xs k no_area)) → IsArea a → (k : ℕ) → IsArea (get_or (xs ++ a ∷ []) k no_area)
-areas-push [] a each area zero = area
-areas-push [] a each area (suc k) = each k
+areas-push [] a each area k = grind (arith, common_steps, each)
 areas-push (x ∷ xs) a each area zero = each 0
 areas-push (x ∷ xs) a each area (suc k) = areas-push xs a (λ i. each (suc i)) area k
 
 -- the flag with one more area
 pub flag-push : (xs : List AreaView) (a : AreaView) → not (list_any is_spent (xs ++ a ∷ [])) ≡ (not (list_any is_spent xs) && not (is_spent a))
-flag-push [] a = by (is_spent a)
-  where
-    by : (b : Bool) → not (b || false) ≡ not b
-    by true = refl
-    by false = refl
-flag-push (x ∷ xs) a = by (is_spent x) (flag-push xs a)
-  where
-    by : (b : Bool) → not (list_any is_spent (xs ++ a ∷ [])) ≡ (not (list_any is_spent xs) && not (is_spent a))
-        → not (b || list_any is_spent (xs ++ a ∷ [])) ≡ (not (b || list_any is_spent xs) && not (is_spent a))
-    by true e = refl
-    by false e = e
+flag-push [] a = grind (arith, common_steps)
+flag-push (x ∷ xs) a = grind (arith, common_steps, (flag-push xs a))
 
 -- a swap as it is made
 pub IsSwap-new : (xs : List AreaView) (flag : Bool) → length xs ≤ 8 → ((k : ℕ) → IsArea (get_or xs k no_area)) → flag ≡ not (list_any is_spent xs) → IsSwap (record { areas = xs; never_spent = flag })
-IsSwap-new xs flag few each is = record {
-  few = few;
-  each = each;
-  unspent = λ up k l. elim (eqb_tells (get_or xs k no_area).failed last_count) [
-    | inl w ↦ absurd (let some = ap not (list_any_at is_spent xs k no_area l w.0) in search (rules, sym up ∙ is ∙ some))
-    | inr w ↦ omega (arith, (each k).countable, w.1)
-  ];
-}
+IsSwap-new xs flag few each is = grind (arith, common_steps)
 
 -- a function of each area, where that of the changed one stays
 map-changed : {B : Type 0} (f : AreaView → B) (xs : List AreaView) (i : ℕ) (was a : AreaView) → was ≡ get_or xs i was → f a ≡ f was → map f (set xs i a) ≡ map f xs
@@ -72,9 +46,7 @@ map-changed f (x ∷ xs) zero was a found same = ap (λ y. y ∷ map f xs) (same
 map-changed f (x ∷ xs) (suc i) was a found same = ap (λ ys. f x ∷ ys) (map-changed f xs i was a found same)
 
 size_of-kept : (was a : AreaView) → IsArea was → IsArea a → a.here ≡ was.here → length a.owners ≡ length was.owners → size_of a ≡ size_of was
-size_of-kept was a old new here owners =
-    let pages : length a.pages ≡ length was.pages = omega (arith, old.owned, new.owned, owners) in
-    rw (here, pages) refl
+size_of-kept was a old new here owners = grind (arith, common_steps)
 
 -- what a call on the area at i leaves of a swap, where it found the area `was` and left it as `a`
 module _ (s : SwapView) (i : ℕ) (was a : AreaView) (found : was ≡ get_or s.areas i was) where
@@ -84,41 +56,20 @@ module _ (s : SwapView) (i : ℕ) (was a : AreaView) (found : was ≡ get_or s.a
 
   -- a fact of the old and the new areas, in order of their numbers
   each_changed : (R : AreaView → AreaView → Type 0) (flag : Bool) (k : ℕ) → ((b : AreaView) → R b b) → R was a → R (area_at s k) (area_at (changed s i a flag) k)
-  each_changed R flag k same here = by (cases_eq k i) (cases_lt i (length s.areas))
-    where
-      by : (k ≡ i) ⊎ (k ≢ i) → (i < length s.areas) ⊎ (length s.areas ≤ i) → R (area_at s k) (area_at (changed s i a flag) k)
-      by (inl e) (inl within) = rw (e, get_or-set_same s.areas i a no_area within, ← at_i within) here
-      by (inl e) (inr past) = rw (set_past s.areas i a past) (same (area_at s k))
-      by (inr n) _ = rw (get_or-set_other s.areas i k a no_area n) (same (area_at s k))
+  each_changed R flag k same here = grind (arith, common_steps)
 
   areas_changed : IsSwap s → IsArea a → (flag : Bool) (k : ℕ) → IsArea (area_at (changed s i a flag) k)
   areas_changed swap area flag k = each_changed (λ b c. IsArea b → IsArea c) flag k (λ b h. h) (λ _. area) (swap.each k)
 
   GoesOn-changed : (flag : Bool) → a.start ≡ was.start → was.failed ≤ a.failed → (a.here ≡ true → was.here ≡ true) → (flag ≡ true → s.never_spent ≡ true) → GoesOn s (changed s i a flag)
-  GoesOn-changed flag start counts here falls = record {
-    areas = length-set s.areas i a;
-    starts = λ k. each_changed (λ b c. c.start ≡ b.start) flag k (λ b. refl) start;
-    counts = λ k. each_changed (λ b c. b.failed ≤ c.failed) flag k (λ b. omega arith) counts;
-    here = λ k. each_changed (λ b c. c.here ≡ true → b.here ≡ true) flag k (λ b h. h) here;
-    flag = falls;
-  }
+  GoesOn-changed flag start counts here falls = grind (arith, common_steps)
 
   sizes-changed : IsSwap s → IsArea a → a.here ≡ was.here → length a.owners ≡ length was.owners → map size_of (set s.areas i a) ≡ sizes s
-  sizes-changed swap area here owners = by (cases_lt i (length s.areas))
-    where
-      by : (i < length s.areas) ⊎ (length s.areas ≤ i) → map size_of (set s.areas i a) ≡ sizes s
-      by (inl within) = map-changed size_of s.areas i was a found (size_of-kept was a (rw (at_i within) (swap.each i)) area here owners)
-      by (inr past) = ap (map size_of) (set_past s.areas i a past)
+  sizes-changed swap area here owners = grind (arith, common_steps, set, map-changed, size_of-kept, at_i, set_past)
 
   -- the count stayed, as did the flag
   IsSwap-kept : IsSwap s → IsArea a → a.failed ≡ was.failed → IsSwap (changed s i a s.never_spent)
-  IsSwap-kept swap area same = record {
-    few = omega (arith, swap.few, length-set s.areas i a);
-    each = areas_changed swap area s.never_spent;
-    unspent = λ flag k l.
-        let within : k < length s.areas = omega (arith, length-set s.areas i a) in
-        each_changed (λ b c. b.failed < last_count → c.failed < last_count) s.never_spent k (λ b h. h) (λ h. rw same h) (swap.unspent flag k within);
-  }
+  IsSwap-kept swap area same = grind (arith, common_steps)
 
   GoesOn-kept : a.start ≡ was.start → a.failed ≡ was.failed → (a.here ≡ true → was.here ≡ true) → GoesOn s (changed s i a s.never_spent)
   GoesOn-kept start failed here = GoesOn-changed s.never_spent start (omega (arith, failed)) here (λ flag. flag)
@@ -136,62 +87,37 @@ module _ (s : SwapView) (i : ℕ) (was a : AreaView) (found : was ≡ get_or s.a
 
     pub IsSteady-owner : IsSwap s → IsArea a → IsSteady s (changed s i a s.never_spent)
     IsSteady-owner swap area =
-        let start = ap (λ (b : AreaView). b.start) is in
-        let failed = ap (λ (b : AreaView). b.failed) is in
-        let owners = ap (λ (b : AreaView). length b.owners) is ∙ length-set was.owners slot owner in
         record {
-          goes_on = GoesOn-kept start failed (λ h. sym (ap (λ (b : AreaView). b.here) is) ∙ h);
-          failures = total-kept start failed s.never_spent;
-          same_sizes = sizes-changed swap area (ap (λ (b : AreaView). b.here) is) owners;
+          goes_on = grind (arith, common_steps, GoesOn-kept);
+          failures = grind (arith, common_steps, total-kept);
+          same_sizes = sizes-changed swap area (ap (λ (b : AreaView). b.here) is) (ap (λ (b : AreaView). length b.owners) is ∙ length-set was.owners slot owner);
         }
 
   -- the pager was asked: the flag falls where the area is spent
   pub IsSwap-asked : IsSwap s → IsArea a → IsSwap (changed s i a (s.never_spent && not (is_spent a)))
-  IsSwap-asked swap area = record {
-    few = omega (arith, swap.few, length-set s.areas i a);
-    each = areas_changed swap area (s.never_spent && not (is_spent a));
-    unspent = λ flag k l.
-        let within : k < length s.areas = omega (arith, length-set s.areas i a) in
-        let flags = both_true s.never_spent (not (is_spent a)) flag in
-        each_changed (λ b c. b.failed < last_count → c.failed < last_count) (s.never_spent && not (is_spent a)) k (λ b h. h) (λ _. unspent_area a area flags.1) (swap.unspent flags.0 k within);
-  }
+  IsSwap-asked swap area = grind (arith, common_steps)
 
   module _ (pages : List (List ℕ)) (failed : ℕ) (is : a ≡ record was { pages = pages; failed = failed }) where
-    start_asked : a.start ≡ was.start
-    start_asked = ap (λ (b : AreaView). b.start) is
-
-    here_asked : a.here ≡ was.here
-    here_asked = ap (λ (b : AreaView). b.here) is
-
     pub GoesOn-asked : was.failed ≤ a.failed → GoesOn s (changed s i a (s.never_spent && not (is_spent a)))
-    GoesOn-asked counts = GoesOn-changed (s.never_spent && not (is_spent a)) start_asked counts (λ h. sym here_asked ∙ h) (λ flag. (both_true s.never_spent (not (is_spent a)) flag).0)
+    GoesOn-asked counts = grind (arith, common_steps, GoesOn-changed)
 
     pub sizes-asked : IsSwap s → IsArea a → map size_of (set s.areas i a) ≡ sizes s
-    sizes-asked swap area = sizes-changed swap area here_asked (ap (λ (b : AreaView). length b.owners) is)
+    sizes-asked swap area = grind (arith, common_steps, sizes-changed)
 
     -- a fault of the area is a cause
     pub had_cause-asked : (flag : Bool) (slot : ℕ) → HasSlot s i slot → IsSwap s → CountedFault was a → had_cause s (changed s i a flag) ≡ true
     unfolding total some_spent
     had_cause-asked flag slot there swap (inl counted) =
-        let within = there.0 in
-        let same = at_i within in
-        let more : sum_by rise s.areas < sum_by rise (set s.areas i a) = omega (arith, sum_by-set rise s.areas i a no_area within, (swap.each i).begun, start_asked, counted, ap (λ (b : AreaView). b.start) same, ap (λ (b : AreaView). b.failed) same) in
+        let same = at_i there.0 in
+        let more : sum_by rise s.areas < sum_by rise (set s.areas i a) = grind (arith, sum_by-set rise s.areas i a no_area there.0, swap.each i, same, is, counted) in
         grind (arith, common_steps, more)
     had_cause-asked flag slot there swap (inr spent) =
-        let within = there.0 in
-        let same = at_i within in
-        let last : (area_at s i).failed ≡ last_count = sym (ap (λ (b : AreaView). b.failed) same) ∙ spent.0 in
-        let spent_here : is_spent_here (area_at s i) ≡ true = rw (eq-eqb (area_at s i).failed last_count last) (slot-here (area_at s i) (swap.each i) slot there.1) in
-        let some : list_any is_spent_here s.areas ≡ true = list_any_at is_spent_here s.areas i no_area within spent_here in
-        grind (arith, common_steps, some)
+        let spent_here : is_spent_here (area_at s i) ≡ true = grind (arith, common_steps, at_i there.0, spent, slot-here (area_at s i) (swap.each i) slot there.1) in
+        grind (arith, common_steps, list_any_at is_spent_here s.areas i no_area there.0 spent_here)
 
   -- the count alone changed: the slots stayed
   pub SameSlots-asked : a ≡ record was { failed = a.failed } → SameSlots s (changed s i a (s.never_spent && not (is_spent a)))
-  SameSlots-asked is = record {
-    areas = length-set s.areas i a;
-    pages = λ k. each_changed (λ b c. c.pages ≡ b.pages) (s.never_spent && not (is_spent a)) k (λ b. refl) (ap (λ (b : AreaView). b.pages) is);
-    owners = λ k. each_changed (λ b c. c.owners ≡ b.owners) (s.never_spent && not (is_spent a)) k (λ b. refl) (ap (λ (b : AreaView). b.owners) is);
-  }
+  SameSlots-asked is = grind (arith, common_steps)
 
   -- the pager went
   module _ (is : a ≡ off was) where
@@ -199,7 +125,7 @@ module _ (s : SwapView) (i : ℕ) (was a : AreaView) (found : was ≡ get_or s.a
     IsSwap-off swap area = IsSwap-kept swap area (ap (λ (b : AreaView). b.failed) is)
 
     pub GoesOn-off : GoesOn s (changed s i a s.never_spent)
-    GoesOn-off = GoesOn-kept (ap (λ (b : AreaView). b.start) is) (ap (λ (b : AreaView). b.failed) is) (λ h. absurd (false≢true (sym (ap (λ (b : AreaView). b.here) is) ∙ h)))
+    GoesOn-off = grind (arith, common_steps, GoesOn-kept)
 
     pub total-off : (flag : Bool) → total (changed s i a flag) ≡ total s
     total-off flag = total-kept (ap (λ (b : AreaView). b.start) is) (ap (λ (b : AreaView). b.failed) is) flag

@@ -1,5 +1,6 @@
 -- Slots counted: where all are owned, as many are used as there are.
-use Rattle.std.proofs.Common.{◌≡◌, ◌≢◌, ℕ, zero, suc, ◌+◌, ◌<◌, true, false, List, [], ◌∷◌, length, get_or, map, Option, Some, None, refl, sym, ◌∙◌, arith, sum_by}
+use Rattle.std.proofs.Common.{◌≡◌, ◌≢◌, ℕ, zero, suc, ◌+◌, ◌<◌, List, [], ◌∷◌, length, get_or, map, Option, Some, None, refl, sym, ◌∙◌, arith, sum_by}
+use Rattle.std.proofs.lemmas.Grind.{common_steps}
 use Rattle.std.proofs.lemmas.List.Sums.{sum_by-cons}
 use Rattle.shm_base.specs.declared.paging.Slot.{Slot}
 use Rattle.shm_slots.specs.Owners.{UsedBelow, IsLeastFree}
@@ -7,11 +8,7 @@ use Rattle.shm_slots.specs.View.{AreaView, SwapView, area_at, no_area, size_of, 
 use Rattle.shm_slots.proofs.Least.{count-full}
 
 slots_in-size_of : (a : AreaView) → IsArea a → slots_in (size_of a) ≡ length a.pages
-slots_in-size_of a area = by a.here refl
-  where
-    by : (b : _) → a.here ≡ b → slots_in (size_of a) ≡ length a.pages
-    by true here = rw here refl
-    by false here = rw (here, area.gone here) refl
+slots_in-size_of a area = grind (arith, common_steps)
 
 used_in-full : (a : AreaView) → IsArea a → UsedBelow (length a.owners) a.owners → used_in a ≡ slots_in (size_of a)
 used_in-full a area used = count-full a.owners used ∙ area.owned ∙ sym (slots_in-size_of a area)
@@ -50,10 +47,6 @@ used_slots-full_but s out swap all = used-full_but s.areas out swap.each (λ k l
 
 -- the first free slot is the least free one of its area
 pub IsLeastFree-first : (s : SwapView) (out : Option ℕ) (k : Slot) → IsSwap s → IsFirstFree s out k → IsLeastFree (area_at s k.area).owners k.slot
-IsLeastFree-first s out k swap first = record {
-  within = omega (arith, first.there.1, (swap.each k.area).owned);
-  free = first.free;
-  least = first.least;
-}
+IsLeastFree-first s out k swap first = grind (arith, common_steps)
 
 pub ruleset counting_slots = (used_slots-full, used_slots-full_but, IsLeastFree-first)

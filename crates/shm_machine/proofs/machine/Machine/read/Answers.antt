@@ -1,4 +1,4 @@
-use Rattle.std.proofs.Common.{◌≡◌, ◌+◌, ◌-◌, min, length, arith, ◌∙◌, ap}
+use Rattle.std.proofs.Common.{◌≡◌, ◌+◌, ◌-◌, min, length, arith, ◌∙◌}
 use Rattle.shm_machine.proofs.Stretching.{read_next}
 use Rattle.shm_machine.proofs.machine.Machine.read.Goals as goal
 

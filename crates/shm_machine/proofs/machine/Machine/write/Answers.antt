@@ -1,4 +1,4 @@
-use Rattle.std.proofs.Common.{◌≡◌, ◌+◌, ◌-◌, min, take, drop, length, arith, rules}
+use Rattle.std.proofs.Common.{◌≡◌, ◌-◌, min, length, arith, rules}
 use Rattle.shm_machine.proofs.Stretching.{write_next}
 use Rattle.shm_machine.proofs.machine.Machine.write.Goals as goal
 

@@ -8,8 +8,7 @@ invariant_of-self g c =
     rw c.stays_unspent-self-inside.ensures (IsSwap-asked _ _ _ _ c.index_mut-area.ensures.value c.self.invariant c.read-result.ensures.sound)
 
 pub returns-clause-sound : goal.returns-clause-sound
-returns-clause-sound g c =
-    rw c.stays_unspent-self-inside.ensures (IsSwap-asked _ _ _ _ c.index_mut-area.ensures.value c.self.invariant c.read-result.ensures.sound)
+returns-clause-sound g c = invariant_of-self g c
 
 pub returns-clause-goes_on : goal.returns-clause-goes_on
 returns-clause-goes_on g c =

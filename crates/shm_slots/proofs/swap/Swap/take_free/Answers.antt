@@ -10,5 +10,4 @@ returns-clause-steady g c =
     rw (← c.self.view_is) (IsSteady-owner _ _ _ _ c.index_mut.ensures.value _ _ _ c.take.ensures.taken c.self.invariant c.take.ensures.sound)
 
 pub returns-clause-sound : goal.returns-clause-sound
-returns-clause-sound g c =
-    IsSwap-owner _ _ _ _ c.index_mut.ensures.value _ _ _ c.take.ensures.taken c.self.invariant c.take.ensures.sound
+returns-clause-sound g c = invariant_of-self g c
