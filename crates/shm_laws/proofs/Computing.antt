@@ -1,5 +1,6 @@
 -- A history is legal where each reply is the step's, or a pager's failure in its place.
-use Rattle.std.proofs.Common.{◌≡◌, ℕ, ◌+◌, Bool, true, false, if◌then◌else◌, List, [], ◌∷◌, refl, inl, inr}
+use Rattle.std.proofs.Common.{◌≡◌, ℕ, ◌+◌, Bool, true, false, if◌then◌else◌, List, [], ◌∷◌, refl, inr, arith}
+use Rattle.std.proofs.lemmas.Grind.{common_steps}
 use Rattle.shm_base.specs.declared.call.Event.{Event}
 use Rattle.shm_base.specs.State.{Machine, Opening, start_of}
 use Rattle.shm_base.specs.Step.{Outcome, step}
@@ -25,9 +26,7 @@ leads_one : (n : ℕ) (s : Machine) (e : Event) (es : List Event) (b : Bool) →
     → Leads (n + 1) (if b then s else (step s n e.pid e.call).state) es → Leads n s (e ∷ es)
 leads_one n s e es true failure fit more =
     (more.0, (s, inr (record { failure = failure; instead = fit; unchanged = refl }), more.1))
-leads_one n s e es false failure fit more =
-    let o = step s n e.pid e.call in
-    (more.0, (o.state, inl (λ i. record { reply = fit i; state = o.state }), more.1))
+leads_one n s e es false failure fit more = grind (arith, common_steps)
 
 leads-fit : (n : ℕ) (s : Machine) (es : List Event) → FitsFrom n s es → Leads n s es
 leads-fit n s [] h = (s, refl)

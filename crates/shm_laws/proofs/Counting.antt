@@ -14,7 +14,7 @@ use Rattle.shm_base.specs.declared.call.Event.{Event}
 use Rattle.shm_base.specs.declared.flags.AtFlags.{AtFlags}
 use Rattle.shm_base.specs.State.{Piece, Live, Runner, Machine, pages_in}
 use Rattle.shm_base.specs.Identifier.{Look, look}
-use Rattle.shm_base.specs.Space.{occupied, parts, cut, origin_of, is_named, without_named, pieces_of}
+use Rattle.shm_base.specs.Space.{occupied, cut, origin_of, is_named, without_named, pieces_of}
 use Rattle.shm_base.specs.Segments.{attach_count}
 use Rattle.shm_base.specs.Step.{Caller, Outcome, caller_of, acts, step_by, is_remap, is_rdonly, pieces_with, stat, gives}
 use Rattle.shm_base.specs.History.{is_refusal, IsMove}
@@ -33,19 +33,12 @@ use Rattle.shm_laws.proofs.Stepping.{Bare, unborn-bare}
 -- where nothing lies nothing is cut
 cut-free : (from to : ℕ) (ps : List Piece) → occupied ps from to ≡ false → cut from to ps ≡ ps
 cut-free from to [] free = refl
-cut-free from to (p ∷ ps) free =
-    let rest = cut-free from to ps in
-    let whole = flat_map-cons (parts from to) p ps in
-    grind (arith, common_steps)
+cut-free from to (p ∷ ps) free = grind (arith, common_steps, flat_map-cons, cut-free from to ps)
 
 -- of other segments none is named
 named-other : (addr seg j : ℕ) (ps : List Piece) → j ≢ seg → pieces_of j (without_named addr seg ps) ≡ pieces_of j ps
 named-other addr seg j [] apart = refl
-named-other addr seg j (p ∷ ps) apart =
-    let rest = named-other addr seg j ps apart in
-    let own = one_more j p ps in
-    let more = one_more j p (without_named addr seg ps) in
-    grind (arith, common_steps)
+named-other addr seg j (p ∷ ps) apart = grind (arith, common_steps, one_more, named-other addr seg j ps apart)
 
 -- of the segment that is named one at least is
 named-fewer : (addr : ℕ) (ps : List Piece) (p : Piece) → origin_of addr ps ≡ Some p → pieces_of p.seg (without_named addr p.seg ps) < pieces_of p.seg ps
@@ -100,12 +93,7 @@ module _ (s : Machine) (pid : ℕ) (c : Caller) (live : caller_of s pid ≡ Some
   attach-counts (inr (inr (inr k))) id addr base flags asked answer plain j = cc
 
   fork-counts : Hands s c call o → (child : ℕ) → call ≡ Fork child → o.reply ≡ Done → (j : ℕ) → attach_count o.state.runners j ≡ attach_count s.runners j + held s pid j
-  fork-counts (inr (inr (inr k))) child asked answer j =
-      let old = unborn-bare k.child k.index s.runners k.unborn bare in
-      let none : pieces_of j old.0.pieces ≡ 0 = ap (pieces_of j) old.2 in
-      let all = sum-set (λ (y : Runner). pieces_of j y.pieces) s.runners k.index (record { pid = k.child; life = Live c.cred; pieces = c.pieces }) old.0 old.1 in
-      let own = mine j in
-      rw k.runners (omega (arith, all, none, own))
+  fork-counts (inr (inr (inr k))) child asked answer j = grind (arith, common_steps, unborn-bare, sum-set, mine)
   fork-counts (inl k) child asked answer j = absurd (no-rest s call o k (ap hands_pieces asked) (ap is_refusal answer))
   fork-counts (inr (inl k)) child asked answer j = cc
   fork-counts (inr (inr (inl k))) child asked answer j = absurd (no-fork c call k.stays child k.taken asked)

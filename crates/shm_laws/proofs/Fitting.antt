@@ -1,5 +1,5 @@
 -- Each piece lies within a segment that stands.
-use Rattle.std.proofs.Common.{◌≡◌, ℕ, suc, zero, ◌+◌, ◌*◌, ◌%◌, ◌≤◌, true, List, [], ◌∷◌, length, get_or, Option, Some, None, slice_get, refl, sym, ap, subst, ◌∙◌, inl, inr, arith}
+use Rattle.std.proofs.Common.{◌≡◌, ℕ, suc, zero, ◌+◌, ◌*◌, ◌%◌, ◌≤◌, true, List, [], ◌∷◌, length, get_or, Option, Some, None, slice_get, refl, sym, ap, ◌∙◌, inl, inr, arith}
 use Rattle.std.proofs.lemmas.Grind.{common_steps}
 use Rattle.std.specs.Prelude.{Contains}
 use Rattle.std.proofs.lemmas.Option.{none-some, slice_get-get_or}
@@ -14,7 +14,7 @@ use Rattle.shm_base.specs.Step.{Caller, caller_of}
 use Rattle.shm_base.specs.History.{IsMove}
 use Rattle.shm_attach.proofs.Processes.{one_more}
 use Rattle.shm_laws.specs.Standing.{Stands, Has, EachPiece}
-use Rattle.shm_laws.specs.Writing.{held_by, put}
+use Rattle.shm_laws.specs.Writing.{held_by}
 use Rattle.shm_laws.proofs.Fates.{kind-move}
 use Rattle.shm_laws.proofs.Accessing.{lies-in}
 use Rattle.shm_laws.proofs.Granting.{IsPieceGiven, Aligned, each-has, has-own, mine, each-start, given-move, aligned-move}
@@ -37,10 +37,7 @@ one-index s a b x y h k same = grind (arith, common_steps)
 piece-count : (ps : List Piece) (k : ℕ) (p : Piece) → slice_get ps k ≡ Some p → 1 ≤ pieces_of p.seg ps
 piece-count [] k p is = absurd (cc is)
 piece-count (q ∷ qs) zero p is = let more = one_more p.seg q qs in grind (arith, common_steps)
-piece-count (q ∷ qs) (suc k) p is =
-    let more = one_more p.seg q qs in
-    let rest = piece-count qs k p is in
-    omega (arith, more, rest)
+piece-count (q ∷ qs) (suc k) p is = grind (arith, common_steps, one_more, piece-count qs k p is)
 
 pub contained : {X : Type 0} (xs : List X) (x : X) (h : Contains xs x) → slice_get xs h.0 ≡ Some x
 contained xs x h = slice_get-get_or xs h.0 x h.1 ∙ ap (λ y. Some y) h.2
@@ -59,29 +56,14 @@ abbrev pub AllFit : Machine → Type 0
 AllFit s = EachPiece (λ pid p. Fits s p) s
 
 fits-given : (s : Machine) (e : Event) (pid : ℕ) (p : Piece) → AllFit s → IsPieceGiven s e pid p → Fits s p
-fits-given s e pid p all (inl h) =
-    let part = h.2 in
-    let old = each-has (λ n q. Fits s q) s pid h.0 all h.1 in
-    record {
-      segment = old.segment;
-      stands = subst (λ n. Stands s n old.segment) (sym part.seg) old.stands;
-      within = let pages = part.pages in let from = part.from in let to = part.to in let within = old.within in omega (arith, pages, from, to, within);
-    }
+fits-given s e pid p all (inl h) = grind (arith, common_steps, each-has)
 fits-given s e pid p all (inr (inl h)) = each-has (λ n q. Fits s q) s e.pid p all h.parent
-fits-given s e pid p all (inr (inr h)) =
-    record {
-      segment = h.segment;
-      stands = h.stands;
-      within = let first = h.whole.0 in let pages = h.whole.1 in omega (arith, first, pages);
-    }
+fits-given s e pid p all (inr (inr h)) = grind (arith, common_steps)
 
 -- what fitted, and stands on, fits
 fits-on : (s : Machine) (e : Event) (t : Machine) (p : Piece) (y : Segment) → Fits s p → Stands t p.seg y → Before s e p.seg y → Fits t p
 fits-on s e t p y old stands (inr new) = let no : Invalid ≡ Found (p.seg % 32768) old.segment = sym new.makes.0 ∙ old.stands in absurd (cc no)
-fits-on s e t p y old stands (inl h) =
-    let same = one-segment s p.seg old.segment h.segment old.stands h.stood in
-    let long = ap length h.bytes ∙ over-length _ (put e.call e.reply) (p.seg % 32768) h.segment.bytes in
-    record { segment = y; stands = stands; within = grind (arith, old.within) }
+fits-on s e t p y old stands (inl h) = grind (arith, common_steps, one-segment, over-length)
 
 -- WHAT HOLDS OF A MACHINE AT ALL TIMES
 

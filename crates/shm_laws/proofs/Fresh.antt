@@ -1,10 +1,10 @@
 -- Where a new segment goes: to an index that holds none.
-use Rattle.std.proofs.Common.{◌≡◌, ◌≢◌, ◌⊎◌, ℕ, suc, ◌+◌, ◌&&◌, true, nat_lt, is_none, List, [], ◌∷◌, ◌++◌, length, Option, Some, None, slice_get, refl, sym, ap, ◌∙◌, inl, inr, arith, eq-eqb, ne_eqb, length-append}
+use Rattle.std.proofs.Common.{◌≡◌, ◌≢◌, ◌⊎◌, ℕ, suc, ◌+◌, ◌&&◌, true, nat_lt, is_none, List, [], ◌∷◌, ◌++◌, length, Option, Some, None, slice_get, refl, sym, ap, ◌∙◌, inl, inr, arith, length-append}
 use Rattle.std.proofs.lemmas.Grind.{common_steps}
 use Rattle.std.proofs.lemmas.Bool.{cases_Bool, cases_eq}
 use Rattle.std.proofs.lemmas.Option.{slice_get_past, gets}
 use Rattle.shm_base.specs.State.{Segment, Entry}
-use Rattle.shm_base.specs.Identifier.{free_from, free_index, destroyed_at, destroyed_in, with_segment}
+use Rattle.shm_base.specs.Identifier.{free_from, free_index, destroyed_at, with_segment}
 use Rattle.shm_segments.proofs.Entries.{get-set_same, get-set_other}
 
 -- an entry with no segment, or the place behind the last
@@ -50,26 +50,10 @@ pub record MadeAt (t : List Entry) (i : ℕ) (x : Segment) : Type 0 where
   pub there : (j : ℕ) → i ≢ j → slice_get (with_segment t i x) j ≡ slice_get t j
 
 made-end : (t : List Entry) (i : ℕ) (x : Segment) → i ≡ length t → MadeAt t i x
-made-end t i x is =
-    let none : slice_get t i ≡ None = rw is (behind t) in
-    record {
-      destroyed = 0;
-      empty = inr (none, refl);
-      count = ap destroyed_in none;
-      here = rw (eq-eqb i (length t) is, is) (snoc-last t (record { destroyed = 0; segment = Some x }));
-      there = λ j apart. rw (eq-eqb i (length t) is) (snoc-other t (record { destroyed = 0; segment = Some x }) j (λ k. apart (is ∙ sym k)));
-    }
+made-end t i x is = grind (arith, common_steps, behind, snoc-last, snoc-other)
 
 made-within : (t : List Entry) (i d : ℕ) (x : Segment) → i ≢ length t → slice_get t i ≡ Some (record { destroyed = d; segment = None }) → MadeAt t i x
-made-within t i d x apart is =
-    let count : destroyed_at t i ≡ d = ap destroyed_in is in
-    record {
-      destroyed = d;
-      empty = inl is;
-      count = count;
-      here = rw (ne_eqb i (length t) apart) (get-set_same t i (record { destroyed = destroyed_at t i; segment = Some x }) _ is ∙ ap (λ (n : ℕ). Some (record { destroyed = n; segment = Some x })) count);
-      there = λ j other. rw (ne_eqb i (length t) apart) (get-set_other t i j (record { destroyed = destroyed_at t i; segment = Some x }) other);
-    }
+made-within t i d x apart is = grind (arith, common_steps, get-set_same, get-set_other)
 
 pub made-at : (t : List Entry) (i : ℕ) (x : Segment) → free_index t ≡ Some i → MadeAt t i x
 made-at t i x free = by f.end (cases_eq i (length t))

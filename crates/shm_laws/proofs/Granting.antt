@@ -1,7 +1,7 @@
 -- Each piece goes back to a shmat that was granted, and each move keeps out who has no leave.
 use Rattle.std.proofs.Common.{◌≡◌, ◌⊎◌, ℕ, ◌+◌, ◌*◌, ◌%◌, ◌<◌, ℤ, pos, negsuc, Bool, true, false, not, List, [], ◌∷◌, ◌++◌, length, get_or, Option, Some, None, slice_get, slice_set, refl, sym, ap, subst, ◌∙◌, inl, inr, arith, true≢false}
 use Rattle.std.specs.Prelude.{All, Contains}
-use Rattle.std.proofs.lemmas.Bool.{cases_Bool, cases_lt, lt-ltb, le-ltb}
+use Rattle.std.proofs.lemmas.Bool.{cases_Bool}
 use Rattle.std.proofs.lemmas.Option.{none-some, slice_get_within, get_or_from_slice_get}
 use Rattle.std.proofs.lemmas.List.Elements.{All-nil, All-append, All-filter, All-map, All-weaker, All-contains, Contains-get_or}
 use Rattle.std.proofs.lemmas.List.Concat.{flat_map-cons}
@@ -55,11 +55,7 @@ all-cut P Q from to each (p ∷ ps) h =
 
 all-inserted : (P : Piece → Type 0) (p : Piece) (ps : List Piece) → P p → All P ps → All P (inserted p ps)
 all-inserted P p [] h hs = all-cons P p [] h hs
-all-inserted P p (q ∷ qs) h hs =
-    elim (cases_lt p.base q.base) [
-      | inl l ↦ rw (lt-ltb p.base q.base l) (all-cons P p (q ∷ qs) h hs)
-      | inr n ↦ rw (le-ltb p.base q.base n) (all-cons P q (inserted p qs) (all-head P q qs hs) (all-inserted P p qs h (all-tail P q qs hs)))
-    ]
+all-inserted P p (q ∷ qs) h hs = grind (arith, common_steps, all-cons, all-head, all-tail, all-inserted P p qs h (all-tail P q qs hs))
 
 -- WHERE A PIECE COMES FROM IN A MOVE
 
@@ -153,10 +149,7 @@ module _ (s : Machine) (pid : ℕ) (c : Caller) (is : caller_of s pid ≡ Some c
         (rw there.own (All-filter k.stays (IsPieceGiven s e pid) c.pieces (All-weaker (Has s pid) (IsPieceGiven s e pid) (λ p h. inl (p, h, part_refl p)) c.pieces mine))))
 
     given-forks : Forks s c call o → AllGiven s e o.state.runners
-    given-forks k =
-        rw k.runners
-        (given-set k.index (record { pid = k.child; life = Live c.cred; pieces = c.pieces })
-        (All-weaker (Has s pid) (IsPieceGiven s e k.child) (λ p h. inr (inl (record { call = k.asked; reply = k.answer; parent = h }))) c.pieces mine))
+    given-forks k = grind (arith, common_steps, given-set, mine)
 
     given-hands : Hands s c call o → AllGiven s e o.state.runners
     given-hands (inl k) = rw k.runners (kept-all s e)
@@ -263,17 +256,7 @@ module _ (s : Machine) (n pid : ℕ) (c : Caller) (live : caller_of s pid ≡ So
   asks-found : (m : ℕ) (act : ℕ → Segment → Outcome) (l : Look) → look s.table (pos m) ≡ l → (controls s c act l).reply ≡ Done → OwnerAsks s pid (pos m)
   asks-found m act Invalid is done = absurd (cc done)
   asks-found m act Removed is done = absurd (cc done)
-  asks-found m act (Found i x) is done =
-      let owned : owns c.cred x.perm ≡ true = grind arith in
-      record {
-        caller = c;
-        live = live;
-        number = m;
-        named = refl;
-        segment = x;
-        stands = is ∙ ap (λ k. Found k x) (found-own s.table m i x is).0;
-        owner = owner-of c.cred x.perm owned;
-      }
+  asks-found m act (Found i x) is done = grind (arith, common_steps, found-own, owner-of)
 
   asks : (id : ℤ) (act : ℕ → Segment → Outcome) → (controls s c act (look s.table id)).reply ≡ Done → OwnerAsks s pid id
   asks (pos m) act done = asks-found m act (look s.table (pos m)) refl done

@@ -1,11 +1,11 @@
 -- A call sees no byte that is hidden from its process.
-use Rattle.std.proofs.Common.{◌≡◌, ◌⊎◌, ℕ, ◌+◌, ◌-◌, ◌*◌, ◌/◌, ◌%◌, ◌^◌, ◌==◌, ◌&&◌, ℤ, Bool, true, false, not, nat_lt, if◌then◌else◌, List, [], ◌∷◌, length, Option, Some, None, slice_get, refl, sym, ap, subst, ◌∙◌, inl, inr, arith}
+use Rattle.std.proofs.Common.{◌≡◌, ◌⊎◌, ℕ, ◌+◌, ◌*◌, ◌/◌, ◌%◌, ◌^◌, ◌==◌, ℤ, Bool, true, false, not, nat_lt, if◌then◌else◌, List, [], ◌∷◌, length, Option, Some, None, slice_get, refl, sym, ap, subst, ◌∙◌, inl, inr, arith}
 use Rattle.std.proofs.lemmas.Grind.{common_steps}
 use Rattle.std.specs.Int.{w64, to_le_bytes, from_le_bytes}
 use Rattle.std.proofs.lemmas.List.{length-replicate}
 use Rattle.std.proofs.lemmas.Option.{none-some, slice_get_within}
 use Rattle.shm_base.specs.declared.errno.Errno.{Errno}
-use Rattle.shm_base.specs.declared.errno.Errno.TheVariants.{Eperm, Enomem, Eacces, Emfile}
+use Rattle.shm_base.specs.declared.errno.Errno.TheVariants.{Eperm, Emfile}
 use Rattle.shm_base.specs.declared.flags.GetFlags.{GetFlags}
 use Rattle.shm_base.specs.declared.flags.AtFlags.{AtFlags}
 use Rattle.shm_base.specs.declared.call.Call.{Call}
@@ -13,13 +13,12 @@ use Rattle.shm_base.specs.declared.call.Call.TheVariants.{Shmget, Shmat, Shmdt, 
 use Rattle.shm_base.specs.declared.call.Reply.TheVariants.{Addr, Bytes, Number, Done}
 use Rattle.shm_base.specs.declared.call.Event.{Event}
 use Rattle.shm_base.specs.Access.{Place, place, places, writable_places, stored}
-use Rattle.shm_base.specs.Permission.{grants}
 use Rattle.shm_base.specs.State.{Segment, Entry, Piece, Runner, Machine, Opening, pages_in}
 use Rattle.shm_base.specs.Identifier.{Look, Found, Removed, Invalid, identifier, destroyed_in, destroyed_at, find_key, look}
-use Rattle.shm_base.specs.Space.{cut_segments, choose, origin_of}
+use Rattle.shm_base.specs.Space.{cut_segments, origin_of}
 use Rattle.shm_base.specs.Segments.{change, attached, detach_all, swept, after_detach}
-use Rattle.shm_base.specs.Step.{Outcome, gives, refuses, Caller, caller_of, with_pieces, with_end, segments_of, new_segment, creates_at, creates, gets, shmget, pieces_with, attaches, attaches_chosen, attaches_fixed, attaches_found, shmat, at_wish, detaches, forks, unborn_from, stat, controls, sets, removes, locks, unlocks, load, store, xadd, number_at, takes_away, acts, step_by, step}
-use Rattle.shm_base.specs.History.{is_refusal, is_failure, IsMove, IsHistory}
+use Rattle.shm_base.specs.Step.{Outcome, gives, refuses, Caller, caller_of, with_pieces, with_end, segments_of, new_segment, creates_at, creates, gets, shmget, pieces_with, attaches, attaches_chosen, attaches_fixed, attaches_found, shmat, detaches, forks, unborn_from, stat, controls, sets, removes, locks, unlocks, load, store, xadd, number_at, takes_away, acts, step_by, step}
+use Rattle.shm_base.specs.History.{is_failure, IsMove, IsHistory}
 use Rattle.shm_laws.specs.Standing.{Has}
 use Rattle.shm_laws.specs.Leave.{Reach, reach}
 use Rattle.shm_laws.specs.Isolation.{veiled, veiled_from, veil, DifferIn, HasNone, IsPrivate, IsAsked, IsBlindOn, IsIsolated}
@@ -112,14 +111,7 @@ module _ (hidden : ℕ → Bool) (s : Machine) (n : ℕ) (c : Caller) where
   out-found : (flags : AtFlags) (addr : ℕ) (b : Bool) (l : Look) → attaches_found B n c flags addr (veiled_look b l) ≡ out hidden (attaches_found s n c flags addr l)
   out-found flags addr b Invalid = refl
   out-found flags addr b Removed = refl
-  out-found flags addr b (Found i x) =
-      let same = veiled-destroyed hidden T i in
-      tests Eacces (not (grants c.cred x.perm (at_wish flags))) _ _ _ refl
-      (both (addr == 0) _ _ _ _ _ refl
-      (ap (λ d. attaches_chosen B n c (identifier i d) (veiled b x) flags (choose c.pieces (pages_in (veiled b x)))) same
-      ∙ ap (λ p. attaches_chosen B n c (identifier i (destroyed_at T i)) (veiled b x) flags (choose c.pieces p)) (veiled-pages b x)
-      ∙ out-chosen b (identifier i (destroyed_at T i)) x flags (choose c.pieces (pages_in x)))
-      (ap (λ d. attaches_fixed B n c (identifier i d) (veiled b x) flags (addr - addr % 4096)) same ∙ out-fixed b (identifier i (destroyed_at T i)) x flags (addr - addr % 4096)))
+  out-found flags addr b (Found i x) = grind (arith, common_steps, veiled-destroyed, tests, both, veiled-pages, out-chosen, out-fixed)
 
   out-shmat : (id : ℤ) (addr : ℕ) (flags : AtFlags) → shmat B n c id addr flags ≡ out hidden (shmat s n c id addr flags)
   out-shmat id addr flags = let l = look-veiled hidden T id in let found = out-found flags addr l.0 (look T id) in grind arith
@@ -150,9 +142,7 @@ module _ (hidden : ℕ → Bool) (s : Machine) (n : ℕ) (c : Caller) where
   out-removes b i x = grind (arith, common_steps, change-veiled, refl, swept-veiled, arith)
 
   out-locks : (b : Bool) (i : ℕ) (x : Segment) → locks B i (veiled b x) ≡ out hidden (locks s i x)
-  out-locks b i x =
-      tests Enomem _ _ _ _ (λ j. not x.locked && nat_lt s.limits.memlock (locked-sum hidden T j + veiled-pages b x j))
-      (out-changed i (λ (y : Segment). record y { locked = true }) (λ b x. refl))
+  out-locks b i x = grind (arith, common_steps, tests, locked-sum, veiled-pages, out-changed)
 
   out-look : (f g : ℕ → Segment → Outcome) → ((b : Bool) (i : ℕ) (x : Segment) → f i (veiled b x) ≡ out hidden (g i x)) → (id : ℤ) → controls B c f (look (V T) id) ≡ out hidden (controls s c g (look T id))
   out-look f g acts id = let l = look-veiled hidden T id in ap (controls B c f) l.1 ∙ out-controls f g acts l.0 (look T id)
@@ -254,14 +244,8 @@ blind-move s n e t fit m hidden other none differ = by m
     reply = ap (λ (o : Outcome). o.reply) (sym same)
 
     by : IsMove s n e t → (after : Machine) × IsMove other n e after × DifferIn hidden t after
-    by (inl step_to) =
-        let told : (step other n e.pid e.call).reply ≡ e.reply = reply ∙ ap (λ (o : Outcome). o.reply) step_to in
-        let there : veil hidden t ≡ veil hidden (step other n e.pid e.call).state =
-        ap (λ (o : Outcome). veil hidden o.state) (sym step_to) ∙ ap (λ (o : Outcome). o.state) same in
-        ((step other n e.pid e.call).state, inl (λ j. record { reply = told j; state = (step other n e.pid e.call).state }), there)
-    by (inr x) =
-        let unchanged : t ≡ s = x.unchanged in
-        (other, inr (record { failure = x.failure; instead = ap is_refusal reply ∙ x.instead; unchanged = refl }), ap (veil hidden) unchanged ∙ differ)
+    by (inl step_to) = grind (arith, common_steps, reply, same)
+    by (inr x) = grind (arith, common_steps, reply)
 
 -- WHAT IS PRIVATE
 

@@ -60,9 +60,7 @@ module _ (s t : Machine) (e : Event) (sound : IsMachineSound s) (k : Moved s e t
       ]
 
   gone-on : IsGone s id → IsGone t id
-  gone-on gone =
-      let g = entry-gone (id % 32768) (id / 32768) (slice_get s.table (id % 32768)) gone in
-      gone-entry g.destroyed g.segment g.at g.past
+  gone-on gone = grind (arith, common_steps, entry-gone, gone-entry)
 
   was-swept : (d : ℕ) (x y z : Segment) → slice_get s.table (id % 32768) ≡ holds d x → IsSame x z → z.bytes ≡ overlay s e (id % 32768) x.bytes
       → Some (swept_at (id % 32768) t.runners d (Some z)) ≡ holds (id / 32768) y → Before s e id y

@@ -29,15 +29,8 @@ use Rattle.shm_laws.proofs.Removing.{sound-start, just, stands-or-gone, same-run
 -- no count rises by more than the pieces that one process gets
 count-set : (rs : List Runner) (i : ℕ) (r : Runner) (id : ℕ) → attach_count (slice_set rs i r) id ≤ attach_count rs id + pieces_of id r.pieces
 count-set [] i r id = omega arith
-count-set (x ∷ xs) zero r id =
-    let a = sum_by-cons (λ (y : Runner). pieces_of id y.pieces) x xs in
-    let b = sum_by-cons (λ (y : Runner). pieces_of id y.pieces) r xs in
-    omega (arith, a, b)
-count-set (x ∷ xs) (suc i) r id =
-    let a = sum_by-cons (λ (y : Runner). pieces_of id y.pieces) x xs in
-    let b = sum_by-cons (λ (y : Runner). pieces_of id y.pieces) x (slice_set xs i r) in
-    let c = count-set xs i r id in
-    omega (arith, a, b, c)
+count-set (x ∷ xs) zero r id = grind (arith, common_steps, sum_by-cons)
+count-set (x ∷ xs) (suc i) r id = grind (arith, common_steps, sum_by-cons, count-set xs i r id)
 
 -- a process's pieces are counted
 pub runner-count : (rs : List Runner) (i : ℕ) (r : Runner) (id : ℕ) → slice_get rs i ≡ Some r → pieces_of id r.pieces ≤ attach_count rs id
@@ -52,11 +45,7 @@ caller-count s pid c id found = let at = caller-at 0 pid s.runners c found in ru
 -- a cut makes no first piece
 cut-none : (id from to : ℕ) (ps : List Piece) → pieces_of id ps ≡ 0 → pieces_of id (cut from to ps) ≡ 0
 cut-none id from to [] none = refl
-cut-none id from to (p ∷ ps) none =
-    let rest = cut-none id from to ps in
-    let more = one_more id p ps in
-    let all = pieces_of-cut_cons id from to p ps in
-    grind (arith, common_steps)
+cut-none id from to (p ∷ ps) none = grind (arith, common_steps, one_more, pieces_of-cut_cons, cut-none id from to ps)
 
 -- EACH CALL
 
@@ -144,10 +133,7 @@ whole-move s n e t now m =
 
 none-start : (ps : List Process) (id : ℕ) → attach_count (map runner_at_start ps) id ≡ 0
 none-start [] id = refl
-none-start (p ∷ ps) id =
-    let sum = sum_by-cons (λ (y : Runner). pieces_of id y.pieces) (runner_at_start p) (map runner_at_start ps) in
-    let rest = none-start ps id in
-    omega (arith, sum, rest)
+none-start (p ∷ ps) id = grind (arith, common_steps, sum_by-cons, none-start ps id)
 
 pub whole-start : (o : Opening) → IsWhole (start_of o)
 whole-start o =

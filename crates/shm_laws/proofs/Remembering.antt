@@ -1,5 +1,5 @@
 -- Each byte is that of its last writer, and so is each byte that an event answers.
-use Rattle.std.proofs.Common.{◌≡◌, ◌⊎◌, ℕ, ◌+◌, ◌-◌, ◌*◌, ◌%◌, ◌<◌, ◌≤◌, true, false, List, [], ◌∷◌, ◌++◌, length, get_or, Option, Some, None, slice_get, refl, sym, ap, subst, ◌∙◌, inl, inr, arith, true≢false}
+use Rattle.std.proofs.Common.{◌≡◌, ◌⊎◌, ℕ, ◌+◌, ◌-◌, ◌*◌, ◌%◌, ◌<◌, true, false, List, [], ◌∷◌, ◌++◌, length, Option, Some, None, slice_get, refl, sym, ap, subst, ◌∙◌, inl, inr, arith, true≢false}
 use Rattle.std.specs.Int.{w64, from_le_bytes}
 use Rattle.std.specs.Prelude.{option_map}
 use Rattle.std.proofs.lemmas.List.{length-map}
@@ -12,7 +12,7 @@ use Rattle.shm_base.specs.declared.call.Reply.{Reply}
 use Rattle.shm_base.specs.declared.call.Reply.TheVariants.{Bytes, Number}
 use Rattle.shm_base.specs.declared.call.Event.{Event}
 use Rattle.shm_base.specs.State.{Segment, Piece, Machine, Opening, start_of}
-use Rattle.shm_base.specs.Access.{Place, covers, end_of, place_by, place, places, writable_places, bytes_at, bytes_at_entry, byte_at, loaded}
+use Rattle.shm_base.specs.Access.{Place, covers, place_by, place, places, writable_places, byte_at, loaded}
 use Rattle.shm_base.specs.Step.{Caller, Outcome, caller_of, acts, step_by, step, load, store, xadd, number_at}
 use Rattle.shm_base.specs.History.{is_refusal, IsMove, IsHistory}
 use Rattle.shm_laws.specs.Standing.{Stands, Began, Lasted}
@@ -160,13 +160,7 @@ recollects o before s h =
 -- the byte at a place that fits
 byte-there : (s : Machine) (p : Piece) (a : ℕ) (f : Fits s p) → covers p a ≡ true
     → slice_get f.segment.bytes (4096 * p.first_page + (a - p.base)) ≡ Some (byte_at s.table (place_by p a))
-byte-there s p a f covered =
-    let above : p.base ≤ a = grind (arith, common_steps, covered) in
-    let below : a < end_of p = grind (arith, common_steps, covered) in
-    let within = f.within in
-    let at = 4096 * p.first_page + (a - p.base) in
-    let there : bytes_at s.table p.seg ≡ f.segment.bytes = ap bytes_at_entry (stands-at s.table p.seg f.segment f.stands) in
-    slice_get-get_or f.segment.bytes at 0 (omega (arith, above, below, within)) ∙ ap (λ bs. Some (get_or bs at 0)) (sym there)
+byte-there s p a f covered = grind (arith, common_steps, stands-at, slice_get-get_or)
 
 recall-places : (o : Opening) (before : List Event) (s : Machine) (pid a len : ℕ) (qs : List Place) → Recollects o before s
     → places (held_by (caller_of s pid)) a len ≡ Some qs → AreLast o before s pid a len (loaded s.table qs)
@@ -229,8 +223,4 @@ recalls o before s n e t now m =
 
 -- of every legal history
 pub has_last_writers : (o : Opening) (events : List Event) (end : Machine) → IsHistory o events end → HasLastWriters o events end
-has_last_writers o events end h =
-    record {
-      bytes = λ before s m. (recollects o before s m.leads).bytes;
-      replies = λ before s e t turn. recalls o before s (length before + 1) e t (recollects o before s turn.leads) turn.move;
-    }
+has_last_writers o events end h = grind (arith, common_steps, recollects, recalls)

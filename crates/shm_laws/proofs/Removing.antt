@@ -1,5 +1,5 @@
 -- Each move destroys what is due, and what is marked has a piece.
-use Rattle.std.proofs.Common.{◌≡◌, ◌⊎◌, ℕ, suc, zero, ◌+◌, ◌/◌, ◌%◌, ◌≤◌, ◌==◌, ◌&&◌, ◌||◌, pos, Bool, true, false, List, [], ◌∷◌, map, Some, None, slice_get, refl, sym, ap, ◌∙◌, inl, inr, arith, eq-eqb}
+use Rattle.std.proofs.Common.{◌≡◌, ◌⊎◌, ℕ, suc, zero, ◌+◌, ◌/◌, ◌%◌, ◌≤◌, ◌==◌, ◌&&◌, pos, Bool, true, false, List, [], ◌∷◌, map, Some, None, slice_get, refl, sym, ap, ◌∙◌, inl, inr, arith, eq-eqb}
 use Rattle.std.proofs.lemmas.Grind.{common_steps}
 use Rattle.std.proofs.lemmas.Bool.{or_right}
 use Rattle.std.proofs.lemmas.Option.{none-some}
@@ -71,10 +71,7 @@ module _ (s t : Machine) (e : Event) (sound : IsMachineSound s) (k : Moved s e t
   goes-by dest none = rw (dest, own) (eq-eqb _ 0 none)
 
   pub must : IsDue s e t id x → IsGone t id
-  must (inl d) =
-      let r : removed e.call e.reply ≡ Some id = rw (d.call, d.reply) refl in
-      let named : names (removed e.call e.reply) (identifier (id % 32768) (id / 32768)) ≡ true = rw (own, r) (eq-eqb id id refl) in
-      goes-now (goes-by (after.dest ∙ ap (λ b. b || x.dest) named) (ap (λ rs. attach_count rs id) (same-runners r) ∙ d.bare))
+  must (inl d) = grind (arith, common_steps, own, goes-now, goes-by, same-runners)
   must (inr d) = goes-now (goes-by (after.dest ∙ or_right (names (removed e.call e.reply) (identifier (id % 32768) (id / 32768))) x.dest d.marked) d.after)
 
   -- what stood stands on as the same segment, or is gone

@@ -1,5 +1,5 @@
 -- Of legal histories without failures there is one for each opening and calls.
-use Rattle.std.proofs.Common.{◌≡◌, ℕ, ◌+◌, true, false, drop, List, [], ◌∷◌, Option, Some, None, refl, sym, ap, ◌∙◌, subst, arith, inl, inr, true≢false}
+use Rattle.std.proofs.Common.{◌≡◌, ℕ, ◌+◌, true, false, List, [], ◌∷◌, Option, Some, None, refl, sym, ap, ◌∙◌, arith, inl, inr, true≢false}
 use Rattle.std.proofs.lemmas.Grind.{common_steps}
 use Rattle.shm_base.specs.declared.call.Call.{Call}
 use Rattle.shm_base.specs.declared.call.Call.TheVariants.{Load}
@@ -65,16 +65,7 @@ one-way : (n : ℕ) (s : Machine) (es fs : List Event) (t u : Machine) → Leads
 one-way n s [] [] t u h k a b same = (refl, h ∙ sym k)
 one-way n s [] (f ∷ fs) t u h k a b same = absurd (cc same)
 one-way n s (e ∷ es) [] t u h k a b same = absurd (cc same)
-one-way n s (e ∷ es) (f ∷ fs) t u h k a b same =
-    let pids : e.pid ≡ f.pid = grind arith in
-    let calls : e.call ≡ f.call = grind arith in
-    let rest : calls_of es ≡ calls_of fs = ap (drop 1) same in
-    let left = clear_step s n e h.0 (first_clear e es a) h.1 in
-    let right = clear_step s n f k.0 (first_clear f fs b) k.1 in
-    let states : k.0 ≡ h.0 = grind arith in
-    let first : e ≡ f = grind arith in
-    let more = one-way (n + 1) h.0 es fs t u h.2 (subst (λ v. LeadsFrom (n + 1) v fs u) states k.2) (rest_clear e es a) (rest_clear f fs b) rest in
-    ((λ i. first i ∷ more.0 i), more.1)
+one-way n s (e ∷ es) (f ∷ fs) t u h k a b same = grind (arith, common_steps, clear_step, first_clear, rest_clear, one-way (n + 1) h.0 es fs t u h.2)
 
 -- every legal history is replayed
 pub replayed : (o : Opening) (events : List Event) (end : Machine) → IsHistory o events end → IsReplayed o events end

@@ -111,10 +111,7 @@ module _ (hidden : ℕ → Bool) where
 
   pub free-veiled : (k j : ℕ) (t : List Entry) → free_from j (V k t) ≡ free_from j t
   free-veiled k j [] = refl
-  free-veiled k j (e ∷ es) =
-      let same = none-veiled (hides k e) e.segment in
-      let rest = free-veiled (k + 1) (j + 1) es in
-      grind arith
+  free-veiled k j (e ∷ es) = grind (arith, common_steps, none-veiled, free-veiled (k + 1) (j + 1) es)
 
   key-found : (key k j : ℕ) (t : List Entry) → (b : Bool) × (key_from key j (V k t) ≡ veiled_look b (key_from key j t))
   key-found key k j [] = (false, refl)
