@@ -1,5 +1,6 @@
 -- The pages that a mirror shows, slot by slot.
 use Rattle.std.proofs.Common.{◌≡◌, ℕ, zero, suc, ◌<◌, ◌⊎◌, Bool, true, false, if◌then◌else◌, List, [], ◌∷◌, length, get_or, set, drop, replicate, refl, sym, ap, ◌∙◌, inl, inr, arith, get_or-set_same}
+use Rattle.std.proofs.lemmas.Grind.{common_steps}
 use Rattle.shm_pager.specs.Pages.{SlotUnknown}
 use Rattle.shm_pager.specs.Mirror.{merged, no_side}
 use Rattle.shm_pager.specs.declared.mirror.Good.{Good}
@@ -9,8 +10,7 @@ abbrev pub shown : Good → List ℕ → List ℕ → List ℕ
 shown g l r = if g.left then l else r
 
 get_or-tail : (xs : List (List ℕ)) (i : ℕ) → get_or (drop 1 xs) i [] ≡ get_or xs (suc i) []
-get_or-tail [] i = refl
-get_or-tail (x ∷ xs) i = refl
+get_or-tail m0 i = grind (arith, common_steps)
 
 pub length-merged : (gs : List Good) (ls rs : List (List ℕ)) → length (merged gs ls rs) ≡ length gs
 length-merged [] ls rs = refl
@@ -20,8 +20,7 @@ pub get_or-merged : (gs : List Good) (ls rs : List (List ℕ)) (i : ℕ) → i <
     → get_or (merged gs ls rs) i [] ≡ shown (get_or gs i no_side) (get_or ls i []) (get_or rs i [])
 get_or-merged [] ls rs i within = absurd (omega arith)
 get_or-merged (g ∷ gs) ls rs zero within = refl
-get_or-merged (g ∷ gs) ls rs (suc i) within =
-    rw (← get_or-tail ls i, ← get_or-tail rs i) (get_or-merged gs (drop 1 ls) (drop 1 rs) i (omega arith))
+get_or-merged (g ∷ gs) ls rs (suc i) within = grind (arith, common_steps, (get_or-merged gs (drop 1 ls) (drop 1 rs) i))
 
 -- one slot of both sides written, and its marks
 merged-set : (gs : List Good) (ls rs : List (List ℕ)) (i : ℕ) (g : Good) (l r : List ℕ) → length ls ≡ length gs → length rs ≡ length gs
@@ -30,22 +29,17 @@ merged-set [] ls rs i g l r el er = refl
 merged-set (g₀ ∷ gs) [] rs i g l r el er = absurd (omega arith)
 merged-set (g₀ ∷ gs) (l₀ ∷ ls) [] i g l r el er = absurd (omega arith)
 merged-set (g₀ ∷ gs) (l₀ ∷ ls) (r₀ ∷ rs) zero g l r el er = refl
-merged-set (g₀ ∷ gs) (l₀ ∷ ls) (r₀ ∷ rs) (suc i) g l r el er =
-    ap (λ xs. shown g₀ l₀ r₀ ∷ xs) (merged-set gs ls rs i g l r (omega arith) (omega arith))
+merged-set (g₀ ∷ gs) (l₀ ∷ ls) (r₀ ∷ rs) (suc i) g l r el er = grind (arith, common_steps, (merged-set gs ls rs i g l r))
 
 -- one slot of both sides unknown, and its marks
 merged-unknown : (gs : List Good) (ls rs ls' rs' : List (List ℕ)) (i : ℕ) (g : Good) → length ls ≡ length gs → length rs ≡ length gs
     → SlotUnknown i ls ls' → SlotUnknown i rs rs'
     → merged (set gs i g) ls' rs' ≡ set (merged gs ls rs) i (shown g (get_or ls' i []) (get_or rs' i []))
-merged-unknown gs ls rs ls' rs' i g el er ul ur =
-    ap (λ xs. merged (set gs i g) xs rs') ul ∙ ap (λ ys. merged (set gs i g) (set ls i (get_or ls' i [])) ys) ur
-    ∙ merged-set gs ls rs i g (get_or ls' i []) (get_or rs' i []) el er
+merged-unknown gs ls rs ls' rs' i g el er ul ur = grind (arith, common_steps, set, merged-set)
 
 -- where one slot was set, it is unknown
 unknown-set : (xs ys : List (List ℕ)) (i : ℕ) (x : List ℕ) → i < length xs → ys ≡ set xs i x → SlotUnknown i xs ys
-unknown-set xs ys i x within e =
-    let same : get_or ys i [] ≡ x = ap (λ zs. get_or zs i []) e ∙ get_or-set_same xs i x [] within in
-    e ∙ ap (set xs i) (sym same)
+unknown-set xs ys i x within e = grind (arith, common_steps)
 
 -- one slot of both sides unknown: so it is in what is shown
 pub unknown-merged : (gs : List Good) (ls rs ls' rs' : List (List ℕ)) (i : ℕ) (g : Good) → i < length gs → length ls ≡ length gs → length rs ≡ length gs
@@ -70,21 +64,12 @@ merged-written gs ls rs ls' rs' i g page within el er ul ur on_left on_right too
 -- both sides filled with one page, and both good
 merged-replicate : (n : ℕ) (g : Good) (x : List ℕ) → merged (replicate n g) (replicate n x) (replicate n x) ≡ replicate n x
 merged-replicate zero g x = refl
-merged-replicate (suc n) g x = by g.left (merged-replicate n g x)
-  where
-    by : (b : Bool) → merged (replicate n g) (replicate n x) (replicate n x) ≡ replicate n x
-        → (if b then x else x) ∷ merged (replicate n g) (replicate n x) (replicate n x) ≡ x ∷ replicate n x
-    by true e = ap (λ xs. x ∷ xs) e
-    by false e = ap (λ xs. x ∷ xs) e
+merged-replicate (suc n) g x = grind (arith, common_steps, (merged-replicate n g x))
 
 -- both sides wiped, and both good
 pub merged-wiped : (gs gs' : List Good) (ls rs ls' rs' : List (List ℕ)) (g : Good) (x : List ℕ) → length ls ≡ length gs → length rs ≡ length gs
     → gs' ≡ replicate (length gs) g → ls' ≡ replicate (length ls) x → rs' ≡ replicate (length rs) x
     → merged gs' ls' rs' ≡ replicate (length (merged gs ls rs)) x
-merged-wiped gs gs' ls rs ls' rs' g x el er eg l r =
-    let n = length gs in
-    ap (λ ys. merged ys ls' rs') eg ∙ ap (λ ys. merged (replicate n g) ys rs') (l ∙ ap (λ k. replicate k x) el)
-    ∙ ap (λ ys. merged (replicate n g) (replicate n x) ys) (r ∙ ap (λ k. replicate k x) er)
-    ∙ merged-replicate n g x ∙ ap (λ k. replicate k x) (sym (length-merged gs ls rs))
+merged-wiped gs gs' ls rs ls' rs' g x el er eg l r = grind (arith, common_steps, merged-replicate, length-merged)
 
 pub ruleset merging = (length-merged, get_or-merged)

@@ -1,5 +1,6 @@
 -- Pages of zeros, and places that have no room for them.
 use Rattle.std.proofs.Common.{rules, ◌≡◌, ◌≢◌, ◌==◌, ◌↔◌, ◌<◌, ◌⊎◌, ℕ, zero, suc, true, List, [], ◌∷◌, length, take, replicate, map, get_or, set, Option, Some, None, refl, ap, sym, ◌∙◌, inl, inr, arith, get_or-set_same, get_or-set_other}
+use Rattle.std.proofs.lemmas.Grind.{common_steps}
 use Rattle.std.specs.List.{list_all}
 use Rattle.std.proofs.lemmas.List.{map-set, take_all, length-map}
 use Rattle.std.proofs.lemmas.Bool.{cases_eq}
@@ -33,20 +34,10 @@ pages-replicate (suc n) = ap (λ xs. zero_page ∷ xs) (pages-replicate n)
 -- all rooms given back
 pub pages-wiped : (before after : List (Option Room)) (n : ℕ) → length after ≡ length before → n ≡ length before → take n after ≡ replicate n None
     → map page_behind after ≡ replicate (length (map page_behind before)) zero_page
-pages-wiped before after n same all e =
-    let whole : after ≡ replicate n None = sym (take_all n after (omega arith)) ∙ e in
-    ap (map page_behind) whole ∙ pages-replicate n ∙ ap (λ k. replicate k zero_page) (all ∙ sym (length-map before page_behind))
+pages-wiped before after n same all e = grind (arith, common_steps, take_all, pages-replicate, length-map)
 
 -- a room whose page is not zeros
 pub NoZeros-set : (places : List (Option Room)) (i : ℕ) (room : Room) → i < length places → NoZeros places → (room.value ≡ zero_page → ⊥) → NoZeros (set places i (Some room))
-NoZeros-set places i room within before other slot found at zeros = by (cases_eq slot i)
-  where
-    by : (slot ≡ i) ⊎ (slot ≢ i) → ⊥
-    by (inl e) =
-        let here : get_or (set places i (Some room)) i None ≡ Some room = get_or-set_same places i (Some room) None within in
-        let at_i : get_or (set places i (Some room)) i None ≡ Some found = ap (λ k. get_or (set places i (Some room)) k None) (sym e) ∙ at in
-        let same : room ≡ found = (cc) in
-        other (ap (λ (r : Room). r.value) same ∙ zeros)
-    by (inr n) = before slot found (sym (get_or-set_other places i slot (Some room) None n) ∙ at) zeros
+NoZeros-set places i room within before other slot found at zeros = grind (arith, common_steps)
 
 pub ruleset rooms = (pages-set, pages-replicate, NoZeros-set)
