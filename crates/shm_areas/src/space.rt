@@ -58,6 +58,7 @@ impl Space {
     }
 
     /// The piece that an address lies in, as it is stored. Every address of it lies in it alone.
+    #[inline(always)]
     pub fn piece_at(&self, addr: u64) -> Option<Piece>
         ensures value { option_map bare result ≡ covering addr (bare_all self.now) }
         ensures within { IfSome result (λ p. IsCovering addr p) }

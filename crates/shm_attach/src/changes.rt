@@ -29,6 +29,7 @@ pub(crate) enum Part {
 }
 
 /// The address space of the process at a place.
+#[inline(always)]
 pub(crate) fn space_at(processes: &IndexMap<u32, Runner>, index: usize) -> &Space
     requires { index < length processes.now.entries }
     ensures flat { bare_all result.now ≡ pieces_at (runners_view processes.now.entries) index }

@@ -76,6 +76,7 @@ impl Spaces {
     }
 
     /// The live process with a pid.
+    #[inline(always)]
     pub fn caller(&self, pid: u32) -> Option<Caller>
         ensures pid { IfSome result (λ c. c.pid ≡ pid) }
         ensures live { IfSome result (λ c. IsCaller c self.now.runners) }
@@ -133,6 +134,7 @@ impl Spaces {
     }
 
     /// As [`Spaces::spans`], of a process that is known to be live.
+    #[inline(always)]
     pub fn spans_of(&self, caller: &Caller, addr: u64, len: u64, write: bool) -> Result<Spans, Segv>
         requires live { IsCaller caller.now self.now.runners }
         requires size { (1 ≤ len) × (len ≤ 64) }
@@ -148,6 +150,7 @@ impl Spaces {
     }
 
     /// Notes which pages moved, one after another, for all pieces at once. It takes no memory.
+    #[inline(always)]
     pub fn note(&mut self, moved: &[Move])
         ensures runners { self.new.runners ≡ self.old.runners }
         ensures translated { (m n : StoreView) → AreTrue self.old.translations m → Moves moved.now m n → AreTrue self.new.translations n }

@@ -37,6 +37,7 @@ impl Model for Spans {
 }
 
 impl Spans {
+    #[inline(always)]
     fn one(first: Span) -> Spans
         ensures { result ≡ first ∷ [] }
     {
@@ -46,6 +47,7 @@ impl Spans {
         }
     }
 
+    #[inline(always)]
     fn two(first: Span, second: Span) -> Spans
         ensures { result ≡ first ∷ second ∷ [] }
     {
@@ -55,6 +57,7 @@ impl Spans {
         }
     }
 
+    #[inline(always)]
     pub fn as_slice(&self) -> &[Span]
         ensures value { result.now ≡ self.now }
         ensures few { (1 ≤ length result.now) × (length result.now ≤ 2) }
@@ -64,6 +67,7 @@ impl Spans {
 }
 
 /// The span of an access to addresses of one page.
+#[inline(always)]
 fn span_in(space: &Space, tables: &Tables, addr: u64, len: u64, write: bool) -> Option<Span>
     requires some { 1 ≤ len }
     requires held { All (IsHeld tables.now.slab) space.now }
@@ -90,6 +94,7 @@ fn span_in(space: &Space, tables: &Tables, addr: u64, len: u64, write: bool) -> 
 }
 
 /// The spans of an access to addresses of a process. An access of at most 64 bytes has at most two pages.
+#[inline(always)]
 pub(crate) fn spans_in(
     space: &Space,
     tables: &Tables,

@@ -60,6 +60,7 @@ impl Tables {
     }
 
     /// The frame of a page of the segment whose table lies under a key.
+    #[inline(always)]
     pub(crate) fn frame(&self, key: usize, page: usize) -> Option<FrameNo>
         ensures { result ≡ frame_in (get self.now.slab key) page }
     {

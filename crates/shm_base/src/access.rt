@@ -1,6 +1,5 @@
 ghost use Rattle.std.specs.Prelude.{◌≡◌, ℕ, List, ◌+◌, ◌≤◌, ◌<◌, length, IsSome, IfSome, ◌↔◌};
 
-use arrayvec::ArrayVec;
 use std::marker::Model;
 
 /// How many bytes an access takes: 1 to 64.
@@ -41,51 +40,70 @@ impl AccessLen {
 }
 
 /// The bytes of an access, 1 to 64 of them.
-#[derive(Debug, Drop, PartialEq)]
+#[derive(Clone, Copy, Debug)]
 pub struct Chunk {
-    bytes: ArrayVec<u8, 64>,
+    // Those behind the length are zeros, so that its bytes tell a chunk's fields.
+    bytes: [u8; 64],
+    len: AccessLen,
 }
 
 impl Model for Chunk {
+    ghost use Rattle.std.specs.Prelude.{◌≡◌, ◌≤◌, ◌-◌, ◌++◌, ℕ, List, length, take, replicate};
+    ghost use Rattle.std.proofs.Common.{arith, ap, sym, ◌∙◌, length-take-le};
+
     ghost Value = { List ℕ };
 
-    ghost view = { λ c. c.bytes.items };
+    ghost view = { λ c. take c.len c.bytes };
 
-    ghost inverse = { λ xs. record { bytes = record { items = xs } } };
+    ghost inverse = { λ xs. record { bytes = xs ++ replicate (64 - length xs) 0; len = length xs } };
 
-    ghost invariant = { λ c. (1 ≤ length c.bytes.items) × (length c.bytes.items ≤ 64) };
+    ghost invariant = { λ c. (1 ≤ c.len) × (c.len ≤ 64) × (length c.bytes ≡ 64) × (c.bytes ≡ take c.len c.bytes ++ replicate (64 - c.len) 0) };
+
+    ghost inverse_ok = { λ c h i. record {
+      bytes = (ap (λ k. take c.len c.bytes ++ replicate (64 - k) 0) (length-take-le c.len c.bytes (omega (arith, h.1, h.2))) ∙ sym h.3) i;
+      len = length-take-le c.len c.bytes (omega (arith, h.1, h.2)) i;
+    } };
 }
 
 impl Chunk {
     /// A copy of the bytes, or none where there are not 1 to 64 of them. It takes no memory.
+    #[inline(always)]
     pub fn new(bytes: &[u8]) -> Option<Chunk>
         ensures which { IsSome result ↔ (1 ≤ length bytes.now) × (length bytes.now ≤ 64) }
         ensures value { IfSome result (λ c. c ≡ bytes.now) }
     {
-        if bytes.is_empty() {
-            return None;
-        }
-        match ArrayVec::<u8, 64>::try_from(bytes) {
-            Ok(bytes) => Some(Chunk { bytes }),
-            Err(_) => None,
-        }
+        let len = AccessLen::new(bytes.len() as u64)?;
+        let mut all = [0; 64];
+        all[..bytes.len()].copy_from_slice(bytes);
+        Some(Chunk { bytes: all, len })
     }
 
     /// The bytes.
+    #[inline(always)]
     pub fn as_slice(&self) -> &[u8]
         ensures value { result.now ≡ self.now }
         ensures range { (1 ≤ length result.now) × (length result.now ≤ 64) }
     {
-        self.bytes.as_slice()
+        &self.bytes[..self.len.get()]
     }
+}
 
-    /// The same bytes again. It takes no memory.
-    pub fn copied(&self) -> Chunk
-        ensures { result ≡ self.now }
-    {
-        match ArrayVec::<u8, 64>::try_from(self.bytes.as_slice()) {
-            Ok(bytes) => Chunk { bytes },
-            Err(_) => unreachable!(),
-        }
+impl PartialEq for Chunk {
+    ghost use Rattle.std.specs.Prelude.{nat_eq};
+    ghost use Rattle.std.specs.Cmp.{partial_equiv_from_equiv};
+    ghost use Rattle.std.specs.Cmp.Lexicographic.{pointwise, nat_list_eq_equiv};
+
+    ghost eq = { pointwise nat_eq };
+
+    ghost laws = { partial_equiv_from_equiv nat_list_eq_equiv };
+
+    fn eq(&self, other: &Chunk) -> bool {
+        self.as_slice() == other.as_slice()
     }
+}
+
+impl Eq for Chunk {
+    ghost use Rattle.std.specs.Cmp.Lexicographic.{nat_list_eq_equiv};
+
+    ghost laws = { nat_list_eq_equiv };
 }

@@ -15,7 +15,7 @@ pub struct Process {
 
 /// A call of a process: the shared memory calls (shmget(2), shmop(2), shmctl(2)), accesses to attached
 /// memory, process events, and taking a swap area away. Of a mode only the low nine bits count.
-#[derive(Debug, Drop, PartialEq)]
+#[derive(Clone, Copy, Debug, PartialEq, Eq)]
 pub enum Call {
     Shmget {
         key: u32,
@@ -89,7 +89,7 @@ pub struct ShmidDs {
 
 /// The answer to a call: `Id` of shmget, `Addr` of shmat, `Bytes` of a load, `Number` of an xadd, which
 /// is the old number, `Stat`, `Done` of all else, or a refusal.
-#[derive(Debug, Drop, PartialEq)]
+#[derive(Clone, Copy, Debug, PartialEq, Eq)]
 pub enum Reply {
     Id(ShmId),
     Addr(u64),
@@ -101,7 +101,7 @@ pub enum Reply {
 }
 
 /// A call with its process and its reply.
-#[derive(Debug, Drop, PartialEq)]
+#[derive(Clone, Copy, Debug, PartialEq, Eq)]
 pub struct Event {
     pub pid: u32,
     pub call: Call,
@@ -109,82 +109,8 @@ pub struct Event {
 }
 
 /// One step of a run: a call of a process, or a flush round that writes at most so many pages.
-#[derive(Debug, Drop, PartialEq)]
+#[derive(Clone, Copy, Debug, PartialEq, Eq)]
 pub enum Step {
     Call(u32, Call),
     Flush(u64),
-}
-
-impl Call {
-    ghost use Rattle.std.specs.Prelude.{◌≡◌};
-
-    /// The same call again. It takes no memory.
-    pub fn copied(&self) -> Call
-        ensures { result ≡ self.now }
-    {
-        match self {
-            Call::Shmget {
-                key,
-                size,
-                mode,
-                flags,
-            } => Call::Shmget {
-                key: *key,
-                size: *size,
-                mode: *mode,
-                flags: *flags,
-            },
-            Call::Shmat { id, addr, flags } => Call::Shmat {
-                id: *id,
-                addr: *addr,
-                flags: *flags,
-            },
-            Call::Shmdt { addr } => Call::Shmdt { addr: *addr },
-            Call::Stat { id } => Call::Stat { id: *id },
-            Call::Set { id, uid, gid, mode } => Call::Set {
-                id: *id,
-                uid: *uid,
-                gid: *gid,
-                mode: *mode,
-            },
-            Call::Rmid { id } => Call::Rmid { id: *id },
-            Call::Lock { id } => Call::Lock { id: *id },
-            Call::Unlock { id } => Call::Unlock { id: *id },
-            Call::Load { addr, len } => Call::Load {
-                addr: *addr,
-                len: *len,
-            },
-            Call::Store { addr, chunk } => Call::Store {
-                addr: *addr,
-                chunk: chunk.copied(),
-            },
-            Call::Xadd { addr, add } => Call::Xadd {
-                addr: *addr,
-                add: *add,
-            },
-            Call::Fork { child } => Call::Fork { child: *child },
-            Call::Exec => Call::Exec,
-            Call::Exit => Call::Exit,
-            Call::Swapoff { area } => Call::Swapoff { area: *area },
-        }
-    }
-}
-
-impl Reply {
-    ghost use Rattle.std.specs.Prelude.{◌≡◌};
-
-    /// The same reply again. It takes no memory.
-    pub fn copied(&self) -> Reply
-        ensures { result ≡ self.now }
-    {
-        match self {
-            Reply::Id(id) => Reply::Id(*id),
-            Reply::Addr(addr) => Reply::Addr(*addr),
-            Reply::Bytes(chunk) => Reply::Bytes(chunk.copied()),
-            Reply::Number(number) => Reply::Number(*number),
-            Reply::Stat(shown) => Reply::Stat(*shown),
-            Reply::Done => Reply::Done,
-            Reply::Refused(errno) => Reply::Refused(*errno),
-        }
-    }
 }

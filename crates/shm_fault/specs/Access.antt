@@ -62,6 +62,11 @@ abbrev pub touched_of : Result Touched PagerFailed → Touched
 touched_of (Ok u) = u
 touched_of (Err e) = e.touched
 
+-- the answer of an access that counted and named in a place of its caller's
+abbrev pub answer_of : {A E : Type 0} → Touched → Result A E → Result Touched PagerFailed
+answer_of u (Ok a) = Ok u
+answer_of u (Err e) = Err (record { touched = u })
+
 -- What an access leaves. A pager was asked for no more than the pages had to have: a read for each page that was in
 -- a slot, a write for each that had to go, and each is counted, in the answer and in the store.
 pub record Accessed (ps : List Span) (s t : StoreView) (result : Result Touched PagerFailed) : Type 0 where

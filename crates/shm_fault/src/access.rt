@@ -8,7 +8,7 @@ ghost use Rattle.shm_fault.specs.Segs.{HasPage};
 ghost use Rattle.shm_fault.specs.Store.{held, frame_of, page_of, ref_of};
 ghost use Rattle.shm_fault.specs.Sound.{IsStoreSound};
 ghost use Rattle.shm_fault.specs.Goes.{frame_by, referenced_at};
-ghost use Rattle.shm_fault.specs.Access.{AreIn, Brings, Accessed};
+ghost use Rattle.shm_fault.specs.Access.{AreIn, Brings, Accessed, answer_of};
 ghost use Rattle.shm_fault.specs.Adding.{number_in, added};
 
 use crate::store::PageStore;
@@ -33,6 +33,7 @@ impl InFrames {
 }
 
 // Puts bytes into a frame.
+#[inline(always)]
 fn paste_into(frames: &mut Frames, frame: FrameNo, from: usize, bytes: &[u8])
     requires there { frame < length frames.old }
     requires fit { from + length bytes.now ≤ 4096 }
@@ -71,6 +72,7 @@ impl<P: Pager> PageStore<P> {
     }
 
     // Brings in the page of a stretch.
+    #[inline(always)]
     fn bring_one(&mut self, first: &Span, touched: &mut Touched) -> Result<InFrames, PagerFault>
         requires fit { FitsPage (held self.old) first.now }
         requires frame { first.now.frame ≡ frame_by self.old (ref_of first.now) }
@@ -87,6 +89,7 @@ impl<P: Pager> PageStore<P> {
     }
 
     // Brings in the pages of two stretches. Where that of the first fails the second is not tried.
+    #[inline(never)]
     fn bring_two(
         &mut self,
         first: &Span,
@@ -111,6 +114,7 @@ impl<P: Pager> PageStore<P> {
     }
 
     // Brings in the pages of at most two stretches.
+    #[inline(always)]
     fn bring_spans(&mut self, spans: &[Span], touched: &mut Touched) -> Result<InFrames, PagerFault>
         requires few { length spans.now ≤ 2 }
         requires fit { All (FitsPage (held self.old)) spans.now }
@@ -130,6 +134,7 @@ impl<P: Pager> PageStore<P> {
 
     // Brings in the pages of at most two stretches, the first page first, and answers their frames. The store is sound
     // then.
+    #[inline(always)]
     fn bring(&mut self, spans: &[Span], touched: &mut Touched) -> Result<InFrames, PagerFault>
         requires few { length spans.now ≤ 2 }
         requires fit { All (FitsPage (held self.old)) spans.now }
@@ -146,6 +151,7 @@ impl<P: Pager> PageStore<P> {
     }
 
     // Copies the bytes of a stretch out of the frame that its page is in.
+    #[inline(always)]
     fn copy_out(&self, span: &Span, frame: FrameNo, out: &mut [u8])
         requires fit { FitsPage (held self.now) span.now }
         requires here { frame_by self.now (ref_of span.now) ≡ Some frame }
@@ -158,6 +164,7 @@ impl<P: Pager> PageStore<P> {
     }
 
     // Puts bytes into the frame that the page of a stretch is in.
+    #[inline(always)]
     fn store(&mut self, span: &Span, frame: FrameNo, bytes: &[u8])
         requires fit { FitsPage (held self.old) span.now }
         requires here { frame_by self.old (ref_of span.now) ≡ Some frame }
@@ -175,6 +182,7 @@ impl<P: Pager> PageStore<P> {
     }
 
     // Copies the bytes of stretches out of the frames that their pages are in.
+    #[inline(always)]
     fn copy_spans(&self, spans: &[Span], here: InFrames, out: &mut [u8])
         requires few { length spans.now ≤ 2 }
         requires fit { All (FitsPage (held self.now)) spans.now }
@@ -196,6 +204,7 @@ impl<P: Pager> PageStore<P> {
     }
 
     // Puts bytes into the frames that the pages of stretches are in.
+    #[inline(always)]
     fn store_spans(&mut self, spans: &[Span], here: InFrames, bytes: &[u8])
         requires few { length spans.now ≤ 2 }
         requires fit { All (FitsPage (held self.old)) spans.now }
@@ -224,12 +233,37 @@ impl<P: Pager> PageStore<P> {
 
     /// Reads the bytes of at most two stretches, one after another. A page that is not resident comes in,
     /// for which another may have to leave its frame; the first page stays while the second comes in. Where
-    /// the first fails the second is not tried. No pager is asked for more than that, and `Accessed` says
-    /// what is counted.
+    /// the first fails the second is not tried. No pager is asked for more than that. What is counted, and
+    /// which pages moved, goes into `touched`, which begins as [`Touched::none`]; `Accessed` says what.
     ///
     /// An error is a pager's, whose count then rose or stood at its last value before. What is in `out` is
     /// unknown then. Each stretch lies in one page of a segment that is held and names the frame that the
     /// page is in, and their lengths sum up to that of `out`.
+    #[inline(always)]
+    pub fn read_with(
+        &mut self,
+        spans: &[Span],
+        out: &mut [u8],
+        touched: &mut Touched,
+    ) -> Result<(), PagerFault>
+        requires few { length spans.now ≤ 2 }
+        requires fit { All (FitsPage (held self.old)) spans.now }
+        requires frames { All (λ (p : Stretch). p.frame ≡ frame_of self.old p.seg (page_of p)) spans.now }
+        requires size { sum_by (λ (p : Stretch). p.len) spans.now ≡ length out.old }
+        requires none { (touched.old.moved.items ≡ []) × (touched.old.ins ≡ 0) × (touched.old.outs ≡ 0) }
+        ensures bytes { OnOk result (out.new ≡ read_from (held self.old) spans.now) }
+        ensures held { held self.new ≡ held self.old }
+        ensures access { Accessed spans.now self.old self.new (answer_of touched.new result) }
+    {
+        let here = match self.bring(spans, touched) {
+            Ok(here) => here,
+            Err(fault) => return Err(fault),
+        };
+        self.copy_spans(spans, here, out);
+        Ok(())
+    }
+
+    /// As [`PageStore::read_with`], with an answer that counts and names.
     pub fn read(&mut self, spans: &[Span], out: &mut [u8]) -> Result<Touched, PagerFailed>
         requires few { length spans.now ≤ 2 }
         requires fit { All (FitsPage (held self.old)) spans.now }
@@ -240,17 +274,40 @@ impl<P: Pager> PageStore<P> {
         ensures access { Accessed spans.now self.old self.new result }
     {
         let mut touched = Touched::none();
-        let here = match self.bring(spans, &mut touched) {
-            Ok(here) => here,
-            Err(_) => return Err(PagerFailed { touched }),
-        };
-        self.copy_spans(spans, here, out);
-        Ok(touched)
+        match self.read_with(spans, out, &mut touched) {
+            Ok(()) => Ok(touched),
+            Err(_) => Err(PagerFailed { touched }),
+        }
     }
 
     /// Replaces the bytes of at most two stretches, in their order, once all their pages are resident;
-    /// their frames are dirty then. Pages come in as for [`PageStore::read`], and on an error no byte of
+    /// their frames are dirty then. Pages come in as for [`PageStore::read_with`], and on an error no byte of
     /// any segment has changed.
+    #[inline(always)]
+    pub fn write_with(
+        &mut self,
+        spans: &[Span],
+        bytes: &[u8],
+        touched: &mut Touched,
+    ) -> Result<(), PagerFault>
+        requires few { length spans.now ≤ 2 }
+        requires fit { All (FitsPage (held self.old)) spans.now }
+        requires frames { All (λ (p : Stretch). p.frame ≡ frame_of self.old p.seg (page_of p)) spans.now }
+        requires size { sum_by (λ (p : Stretch). p.len) spans.now ≡ length bytes.now }
+        requires none { (touched.old.moved.items ≡ []) × (touched.old.ins ≡ 0) × (touched.old.outs ≡ 0) }
+        ensures written { OnOk result (held self.new ≡ written (held self.old) spans.now bytes.now) }
+        ensures same { OnErr result (held self.new ≡ held self.old) }
+        ensures access { Accessed spans.now self.old self.new (answer_of touched.new result) }
+    {
+        let here = match self.bring(spans, touched) {
+            Ok(here) => here,
+            Err(fault) => return Err(fault),
+        };
+        self.store_spans(spans, here, bytes);
+        Ok(())
+    }
+
+    /// As [`PageStore::write_with`], with an answer that counts and names.
     pub fn write(&mut self, spans: &[Span], bytes: &[u8]) -> Result<Touched, PagerFailed>
         requires few { length spans.now ≤ 2 }
         requires fit { All (FitsPage (held self.old)) spans.now }
@@ -261,36 +318,41 @@ impl<P: Pager> PageStore<P> {
         ensures access { Accessed spans.now self.old self.new result }
     {
         let mut touched = Touched::none();
-        let here = match self.bring(spans, &mut touched) {
-            Ok(here) => here,
-            Err(_) => return Err(PagerFailed { touched }),
-        };
-        self.store_spans(spans, here, bytes);
-        Ok(touched)
+        match self.write_with(spans, bytes, &mut touched) {
+            Ok(()) => Ok(touched),
+            Err(_) => Err(PagerFailed { touched }),
+        }
     }
 
     /// Adds to the eight little-endian bytes of at most two stretches, modulo 2^64, once all their pages are
     /// resident; `old` is then the number that stood there, and unknown after an error. Pages come in once, as
-    /// for [`PageStore::read`], and on an error no byte of any segment has changed.
-    pub fn add(&mut self, spans: &[Span], more: u64, old: &mut u64) -> Result<Touched, PagerFailed>
+    /// for [`PageStore::read_with`], and on an error no byte of any segment has changed.
+    #[inline(always)]
+    pub fn add_with(
+        &mut self,
+        spans: &[Span],
+        more: u64,
+        old: &mut u64,
+        touched: &mut Touched,
+    ) -> Result<(), PagerFault>
         requires few { length spans.now ≤ 2 }
         requires fit { All (FitsPage (held self.old)) spans.now }
         requires frames { All (λ (p : Stretch). p.frame ≡ frame_of self.old p.seg (page_of p)) spans.now }
         requires size { sum_by (λ (p : Stretch). p.len) spans.now ≡ 8 }
+        requires none { (touched.old.moved.items ≡ []) × (touched.old.ins ≡ 0) × (touched.old.outs ≡ 0) }
         ensures number { OnOk result (old.new ≡ number_in (held self.old) spans.now) }
         ensures written { OnOk result (held self.new ≡ added (held self.old) spans.now more) }
         ensures same { OnErr result (held self.new ≡ held self.old) }
-        ensures access { Accessed spans.now self.old self.new result }
+        ensures access { Accessed spans.now self.old self.new (answer_of touched.new result) }
     {
-        let mut touched = Touched::none();
-        let here = match self.bring(spans, &mut touched) {
+        let here = match self.bring(spans, touched) {
             Ok(here) => here,
-            Err(_) => return Err(PagerFailed { touched }),
+            Err(fault) => return Err(fault),
         };
         let mut bytes = [0; 8];
         self.copy_spans(spans, here, &mut bytes);
         *old = u64::from_le_bytes(bytes);
         self.store_spans(spans, here, &old.wrapping_add(more).to_le_bytes());
-        Ok(touched)
+        Ok(())
     }
 }

@@ -362,6 +362,7 @@ impl<P: Pager> PageStore<P> {
     }
 
     // Brings in a page that is not resident.
+    #[inline(never)]
     fn fault(
         &mut self,
         page: PageRef,
@@ -392,6 +393,7 @@ impl<P: Pager> PageStore<P> {
     }
 
     // Sets the referenced bit of a resident page's frame.
+    #[inline(always)]
     fn touch(&mut self, page: PageRef, frame: FrameNo)
         requires here { frame_by self.old page ≡ Some frame }
         ensures bit { referenced_at self.new frame ≡ true }
@@ -403,6 +405,7 @@ impl<P: Pager> PageStore<P> {
 
     /// Visits a page: it is resident afterwards, with its referenced bit set. `known` is its frame where it
     /// is resident, and the pinned frame stays as it is.
+    #[inline(always)]
     pub(crate) fn visit(
         &mut self,
         page: PageRef,

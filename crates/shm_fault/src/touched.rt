@@ -46,8 +46,9 @@ pub struct PageTally {
 }
 
 impl Touched {
-    // Nothing yet.
-    pub(crate) fn none() -> Touched
+    /// Nothing yet: an access begins with it.
+    #[inline(always)]
+    pub fn none() -> Touched
         ensures moved { result.moved.items ≡ [] }
         ensures ins { result.ins ≡ 0 }
         ensures outs { result.outs ≡ 0 }

@@ -47,6 +47,7 @@ impl<P: Pager> Model for World<P> {
 }
 
 // Makes room for one more event, where there is none.
+#[inline(always)]
 fn make_room(history: &mut Vec<Event>) -> Result<(), HostMemory>
     ensures items { history.new.items ≡ history.old.items }
     ensures room { OnOk result (vec_len history.new < vec_capacity history.new) }
@@ -156,13 +157,11 @@ impl<P: Pager> World<P> {
         let _ = self.system.store();
         let answer = self.system.call(pid, call);
         if let Ok(reply) = &answer {
-            self.history
-                .push(Event {
-                    pid,
-                    call: call.copied(),
-                    reply: reply.copied(),
-                })
-                .unwrap();
+            self.history.push_reserved(Event {
+                pid,
+                call: *call,
+                reply: *reply,
+            });
         }
         answer
     }

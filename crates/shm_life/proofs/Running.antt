@@ -1,7 +1,7 @@
 -- What calls keep of the memory.
 use Rattle.std.proofs.Common.{◌≡◌, ◌<◌, ◌+◌, ℕ, suc, true, false, List, [], ◌∷◌, length, drop, get_or, refl, sym, subst, ◌∙◌, arith, true≢false, ◌≤◌}
 use Rattle.std.proofs.Math.Seq.{drop-cons}
-use Rattle.std.specs.Prelude.{Result, Ok, Err, is_ok, is_err, OnOk, OnErr}
+use Rattle.std.specs.Prelude.{Result, Ok, Err, is_err, OnOk, OnErr}
 use Rattle.shm_base.specs.Bounds.{Bounds}
 use Rattle.shm_base.specs.State.{Entry, Runner}
 use Rattle.shm_slots.specs.View.{sizes}
@@ -76,10 +76,6 @@ among-next rs t u lost i d lt among fewer =
     fewer (drop (i + 1) lost) (subst (λ k. OrphansAmong (get_or lost i d ∷ drop k lost) rs t) next all)
 
 -- WHAT IS KNOWN OF A RESULT THAT WAS ASKED WHETHER IT IS AN ERROR
-
-pub done_fact : {A E : Type 0} (r : Result A E) (P : Type 0) → is_ok r ≡ true → OnOk r P → P
-done_fact (Ok a) P is fact = fact
-done_fact (Err e) P is fact = absurd (true≢false (sym is))
 
 pub ok_fact : {A E : Type 0} (r : Result A E) (P : Type 0) → is_err r ≡ false → OnOk r P → P
 ok_fact (Ok a) P none fact = fact

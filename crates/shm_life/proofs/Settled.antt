@@ -3,13 +3,16 @@ use Rattle.std.proofs.Common.{◌≡◌, ℕ, zero, suc, ◌+◌, ◌<◌, take,
 use Rattle.std.proofs.lemmas.List.Elements.{All-nil, All-map, All-filter}
 use Rattle.std.proofs.lemmas.Bool.{cases_Bool}
 use Rattle.std.proofs.lemmas.Option.{none-some}
-use Rattle.std.specs.Prelude.{All, find}
+use Rattle.std.specs.Prelude.{All, Result, Ok, Err, find}
 use Rattle.shm_base.specs.Bounds.{Bounds}
 use Rattle.shm_base.specs.State.{Piece, Live, Entry, Runner}
+use Rattle.shm_base.specs.declared.paging.Span.{Span}
 use Rattle.shm_base.specs.Space.{meets, cut_segments, has_origin, origin_of}
 use Rattle.shm_fault.specs.Store.{StoreView}
 use Rattle.shm_fault.specs.declared.touched.Move.{Move}
+use Rattle.shm_fault.specs.declared.touched.Touched.{Touched}
 use Rattle.shm_fault.specs.Steps.{Moves}
+use Rattle.shm_fault.specs.Access.{Accessed, answer_of}
 use Rattle.shm_attach.specs.declared.process.Caller.{Caller}
 use Rattle.shm_attach.specs.Spaces.{Translation, AreTrue, IsCaller, pieces_at}
 use Rattle.shm_attach.proofs.Callers.{caller_there}
@@ -40,6 +43,11 @@ still-well limits t u rs ts us m n w same frames all = record { kept = settled-t
 pub noted-well : (limits : Bounds) (t u : List Entry) (rs after : List Runner) (ts us : List Translation) (m n : StoreView) (ms : List Move) → IsWell limits t rs ts m → SameTable t u → length n.frames ≡ length m.frames
     → after ≡ rs → ((a b : StoreView) → AreTrue ts a → Moves ms a b → AreTrue us b) → Moves ms m n → IsWell limits u after us n
 noted-well limits t u rs after ts us m n ms w same frames runners noted moved = rw runners (still-well limits t u rs ts us m n w same frames (noted m n w.translated moved))
+
+-- what an access names has moved, whether it was done or not
+pub moved-by : {A E : Type 0} (ps : List Span) (m n : StoreView) (u : Touched) (r : Result A E) → Accessed ps m n (answer_of u r) → Moves u.moved.items m n
+moved-by ps m n u (Ok a) accessed = accessed.moved
+moved-by ps m n u (Err e) accessed = accessed.moved
 
 -- WHAT PIECES NAME IS LIVE
 

@@ -1,40 +1,18 @@
 //! Loads, stores and additions.
-ghost use Rattle.std.specs.Prelude.{◌≡◌, true, false, is_ok, length};
+ghost use Rattle.std.specs.Prelude.{◌≡◌, true, false, length};
 ghost use Rattle.shm_base.specs.Access.{places, writable_places};
 ghost use Rattle.shm_base.specs.History.{is_failure};
 ghost use Rattle.shm_base.specs.Step as flat;
 ghost use Rattle.shm_base.specs.declared.call.Call.TheVariants as call;
-ghost use Rattle.shm_attach.specs.Spaces.{caller_seen, AreTrue};
-ghost use Rattle.shm_fault.specs.Store.{StoreView};
-ghost use Rattle.shm_fault.specs.Steps.{Moves};
-ghost use Rattle.shm_fault.specs.Access.{touched_of};
+ghost use Rattle.shm_attach.specs.Spaces.{caller_seen};
 ghost use Rattle.shm_life.specs.MachineView.{IsFailed, KeepsOn};
 ghost use Rattle.shm_life.specs.Tied.{IsCallerOf};
 
 use crate::kernel::Kernel;
-use shm_attach::{Caller, Spaces};
+use shm_attach::Caller;
 use shm_base::{AccessLen, Chunk, Errno, Reply};
-use shm_fault::{PagerFailed, Touched};
+use shm_fault::Touched;
 use shm_pager::Pager;
-
-/// Notes in the translations which pages an access moved, and tells whether it was done. Where a pager
-/// failed pages may have moved before.
-fn note(spaces: &mut Spaces, access: &Result<Touched, PagerFailed>) -> bool
-    ensures done { result ≡ is_ok access.now }
-    ensures runners { spaces.new.runners ≡ spaces.old.runners }
-    ensures translated { (m n : StoreView) → AreTrue spaces.old.translations m → Moves (touched_of access.now).moved.items m n → AreTrue spaces.new.translations n }
-{
-    match access {
-        Ok(touched) => {
-            spaces.note(touched.moved.as_slice());
-            true
-        }
-        Err(failed) => {
-            spaces.note(failed.touched.moved.as_slice());
-            false
-        }
-    }
-}
 
 impl<P: Pager> Kernel<P> {
     #[tactic(auto, using(crate::proofs::Running::keeps_refl))]
@@ -50,8 +28,11 @@ impl<P: Pager> Kernel<P> {
         };
         let mut bytes = [0; 64];
         let out = &mut bytes[..len.get()];
-        let read = self.segments.read(spans.as_slice(), out);
-        if !note(&mut self.spaces, &read) {
+        let mut touched = Touched::none();
+        let read = self.segments.read(spans.as_slice(), out, &mut touched);
+        // Where a pager failed pages may have moved before.
+        self.spaces.note(touched.moved.as_slice());
+        if read.is_err() {
             return Reply::Refused(Errno::Sigbus);
         }
         match Chunk::new(out) {
@@ -73,8 +54,11 @@ impl<P: Pager> Kernel<P> {
         let Ok(spans) = self.spaces.spans_of(caller, addr, bytes.len() as u64, true) else {
             return Reply::Refused(Errno::Sigsegv);
         };
-        let written = self.segments.write(spans.as_slice(), bytes);
-        if !note(&mut self.spaces, &written) {
+        let mut touched = Touched::none();
+        let written = self.segments.write(spans.as_slice(), bytes, &mut touched);
+        // Where a pager failed pages may have moved before.
+        self.spaces.note(touched.moved.as_slice());
+        if written.is_err() {
             return Reply::Refused(Errno::Sigbus);
         }
         Reply::Done
@@ -93,8 +77,13 @@ impl<P: Pager> Kernel<P> {
             return Reply::Refused(Errno::Sigsegv);
         };
         let mut number = 0;
-        let added = self.segments.add(spans.as_slice(), add, &mut number);
-        if !note(&mut self.spaces, &added) {
+        let mut touched = Touched::none();
+        let added = self
+            .segments
+            .add(spans.as_slice(), add, &mut number, &mut touched);
+        // Where a pager failed pages may have moved before.
+        self.spaces.note(touched.moved.as_slice());
+        if added.is_err() {
             return Reply::Refused(Errno::Sigbus);
         }
         Reply::Number(number)

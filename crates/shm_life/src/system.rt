@@ -148,6 +148,7 @@ impl<P: Pager> System<P> {
     /// One call of a process, at the time that is its place among the calls. Want of memory changes
     /// nothing and is not counted; it comes only where the flat machine refuses nothing. Where a pager fails the reply says so in place of the flat machine's,
     /// and nothing else changes.
+    #[inline(always)]
     pub fn call(&mut self, pid: u32, call: &Call) -> Result<Reply, HostMemory>
         requires room { self.old.calls < 2 ^ 64 - 1 }
         ensures move_of { IfOk result (λ r. IsMove self.old.machine (self.old.calls + 1) (record { pid = pid; call = call.now; reply = r }) self.new.machine) }

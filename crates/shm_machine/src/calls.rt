@@ -51,10 +51,10 @@ impl Machine {
         ensures answered { Answered self.old.system pid (call.Load addr len) (told (λ b. reply.Bytes b) result) self.new.system }
         ensures length { IfOk result (λ b. length b ≡ len) }
     {
-        match self.answer(pid, &Call::Load { addr, len }) {
-            Ok(Reply::Bytes(chunk)) => Ok(chunk),
+        match &self.answer(pid, &Call::Load { addr, len }) {
+            Ok(Reply::Bytes(chunk)) => Ok(*chunk),
             Ok(_) => unreachable!(),
-            Err(refusal) => Err(refusal),
+            Err(refusal) => Err(*refusal),
         }
     }
 

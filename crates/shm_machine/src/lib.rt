@@ -8,8 +8,6 @@ mod machine;
 mod opening;
 mod refusal;
 mod stretch;
-#[cfg(test)]
-mod tests;
 
 pub use area::{AreaKind, AreaPager, Failing};
 pub use machine::Machine;

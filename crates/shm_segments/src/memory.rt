@@ -1,5 +1,5 @@
 //! The bytes of the segments, and the pages that they lie in.
-ghost use Rattle.std.specs.Prelude.{◌≡◌, ◌≤◌, ◌+◌, ℕ, OnOk, OnErr, All, sum_by, length, set, None, true, false};
+ghost use Rattle.std.specs.Prelude.{◌≡◌, ◌≤◌, ◌+◌, ℕ, [], OnOk, OnErr, All, sum_by, length, set, None, true, false};
 ghost use Rattle.shm_base.specs.declared.paging.Span.{Span as Stretch};
 ghost use Rattle.shm_base.specs.Access.{loaded, stored};
 ghost use Rattle.shm_base.specs.Segments.{reserved};
@@ -7,7 +7,7 @@ ghost use Rattle.shm_base.specs.Spans.{span_places, page_of};
 ghost use Rattle.shm_slots.specs.View.{slots, sizes, area_at};
 ghost use Rattle.shm_slots.specs.Cause.{had_cause};
 ghost use Rattle.shm_fault.specs.Store.{frame_of};
-ghost use Rattle.shm_fault.specs.Access.{Accessed};
+ghost use Rattle.shm_fault.specs.Access.{Accessed, answer_of};
 ghost use Rattle.shm_fault.specs.Flushing.{IsFlushed};
 ghost use Rattle.shm_segments.specs.Table.{SpanFits, number_at, added};
 ghost use Rattle.shm_segments.specs.View.{IsTableExact, Runs};
@@ -15,7 +15,7 @@ ghost use Rattle.shm_segments.specs.View.{IsTableExact, Runs};
 use crate::segments::Segments;
 use shm_base::{FlushReport, Span};
 use shm_fault::{PageStore, PagerFailed, Touched};
-use shm_pager::Pager;
+use shm_pager::{Pager, PagerFault};
 
 impl<P: Pager> Segments<P> {
     /// The pages and their places. They are sound, and show the table, at all times.
@@ -27,48 +27,71 @@ impl<P: Pager> Segments<P> {
     }
 
     /// Copies the bytes of one or two spans, each with the frame that its page is in. Pages that are not
-    /// resident come in. An error is a pager's, and what is in `out` is unknown then.
-    pub fn read(&mut self, spans: &[Span], out: &mut [u8]) -> Result<Touched, PagerFailed>
+    /// resident come in. What is counted, and which pages moved, goes into `touched`. An error is a pager's,
+    /// and what is in `out` is unknown then.
+    #[inline(always)]
+    pub fn read(
+        &mut self,
+        spans: &[Span],
+        out: &mut [u8],
+        touched: &mut Touched,
+    ) -> Result<(), PagerFault>
         requires few { length spans.now ≤ 2 }
         requires fit { All (SpanFits self.old.table) spans.now }
         requires frames { All (λ (p : Stretch). p.frame ≡ frame_of self.old.memory p.seg (page_of p)) spans.now }
         requires size { sum_by (λ (p : Stretch). p.len) spans.now ≡ length out.old }
+        requires none { (touched.old.moved.items ≡ []) × (touched.old.ins ≡ 0) × (touched.old.outs ≡ 0) }
         ensures bytes { OnOk result (out.new ≡ loaded self.old.table (span_places false spans.now)) }
         ensures table { self.new.table ≡ self.old.table }
-        ensures access { Accessed spans.now self.old.memory self.new.memory result }
+        ensures access { Accessed spans.now self.old.memory self.new.memory (answer_of touched.new result) }
         ensures runs { Runs self.old.memory self.new.memory }
     {
-        self.store.read(spans, out)
+        self.store.read_with(spans, out, touched)
     }
 
     /// Replaces the bytes of one or two spans, as `read` reads them. On an error no byte has changed.
-    pub fn write(&mut self, spans: &[Span], bytes: &[u8]) -> Result<Touched, PagerFailed>
+    #[inline(always)]
+    pub fn write(
+        &mut self,
+        spans: &[Span],
+        bytes: &[u8],
+        touched: &mut Touched,
+    ) -> Result<(), PagerFault>
         requires few { length spans.now ≤ 2 }
         requires fit { All (SpanFits self.old.table) spans.now }
         requires frames { All (λ (p : Stretch). p.frame ≡ frame_of self.old.memory p.seg (page_of p)) spans.now }
         requires size { sum_by (λ (p : Stretch). p.len) spans.now ≡ length bytes.now }
+        requires none { (touched.old.moved.items ≡ []) × (touched.old.ins ≡ 0) × (touched.old.outs ≡ 0) }
         ensures written { OnOk result (self.new.table ≡ stored self.old.table (span_places false spans.now) bytes.now) }
         ensures same { OnErr result (self.new.table ≡ self.old.table) }
-        ensures access { Accessed spans.now self.old.memory self.new.memory result }
+        ensures access { Accessed spans.now self.old.memory self.new.memory (answer_of touched.new result) }
         ensures runs { Runs self.old.memory self.new.memory }
     {
-        self.store.write(spans, bytes)
+        self.store.write_with(spans, bytes, touched)
     }
 
     /// Adds to the eight little-endian bytes of one or two spans, modulo 2^64; `old` is then the number that
     /// stood there. Pages come in as for `read`, and on an error no byte has changed.
-    pub fn add(&mut self, spans: &[Span], more: u64, old: &mut u64) -> Result<Touched, PagerFailed>
+    #[inline(always)]
+    pub fn add(
+        &mut self,
+        spans: &[Span],
+        more: u64,
+        old: &mut u64,
+        touched: &mut Touched,
+    ) -> Result<(), PagerFault>
         requires few { length spans.now ≤ 2 }
         requires fit { All (SpanFits self.old.table) spans.now }
         requires frames { All (λ (p : Stretch). p.frame ≡ frame_of self.old.memory p.seg (page_of p)) spans.now }
         requires size { sum_by (λ (p : Stretch). p.len) spans.now ≡ 8 }
+        requires none { (touched.old.moved.items ≡ []) × (touched.old.ins ≡ 0) × (touched.old.outs ≡ 0) }
         ensures number { OnOk result (old.new ≡ number_at self.old.table (span_places false spans.now)) }
         ensures written { OnOk result (self.new.table ≡ added self.old.table (span_places false spans.now) more) }
         ensures same { OnErr result (self.new.table ≡ self.old.table) }
-        ensures access { Accessed spans.now self.old.memory self.new.memory result }
+        ensures access { Accessed spans.now self.old.memory self.new.memory (answer_of touched.new result) }
         ensures runs { Runs self.old.memory self.new.memory }
     {
-        self.store.add(spans, more, old)
+        self.store.add_with(spans, more, old, touched)
     }
 
     /// Writes the first `n` dirty frames of segments that are not locked out to their slots.

@@ -1,6 +1,8 @@
 -- One area of a swap changed.
 use Rattle.std.proofs.Common.{◌≡◌, ℕ, zero, suc, ◌<◌, ◌≤◌, Bool, true, not, ◌&&◌, List, [], ◌∷◌, ◌++◌, Option, None, length, get_or, set, map, sum, sum_by, refl, sym, ap, ◌∙◌, inl, inr, arith, length-set}
+use Rattle.std.specs.Prelude.{Result, IfErr, OnErr}
 use Rattle.std.specs.List.{list_any}
+use Rattle.std.proofs.lemmas.Result.{IfErr-weaker}
 use Rattle.std.proofs.lemmas.List.{set_past, get_or_default, map-set}
 use Rattle.std.proofs.lemmas.List.Folds.{list_any_at}
 use Rattle.std.proofs.lemmas.List.Sums.{sum_by-set, sum-map}
@@ -13,6 +15,10 @@ use Rattle.shm_slots.specs.Cause.{some_spent, total, had_cause, GoesOn, IsSteady
 -- the areas with one of them changed
 abbrev pub changed : SwapView → ℕ → AreaView → Bool → SwapView
 changed s i a flag = record { areas = set s.areas i a; never_spent = flag }
+
+-- the area's pager was asked: the flag falls where the area is spent
+abbrev pub asked_of : SwapView → ℕ → AreaView → SwapView
+asked_of s i a = changed s i a (s.never_spent && not (is_spent a))
 
 both_true : (x y : Bool) → (x && y) ≡ true → (x ≡ true) × (y ≡ true)
 both_true m0 y h = grind (arith, common_steps)
@@ -47,6 +53,13 @@ map-changed f (x ∷ xs) (suc i) was a found same = ap (λ ys. f x ∷ ys) (map-
 
 size_of-kept : (was a : AreaView) → IsArea was → IsArea a → a.here ≡ was.here → length a.owners ≡ length was.owners → size_of a ≡ size_of was
 size_of-kept was a old new here owners = grind (arith, common_steps)
+
+-- what asking the pager of the area at i leaves of a swap
+pub record Asked {A E : Type 0} (r : Result A E) (s : SwapView) (i : ℕ) (a : AreaView) : Type 0 where
+  pub sound : IsSwap (asked_of s i a)
+  pub goes_on : GoesOn s (asked_of s i a)
+  pub same_sizes : sizes (asked_of s i a) ≡ sizes s
+  pub cause : OnErr r (had_cause s (asked_of s i a) ≡ true)
 
 -- what a call on the area at i leaves of a swap, where it found the area `was` and left it as `a`
 module _ (s : SwapView) (i : ℕ) (was a : AreaView) (found : was ≡ get_or s.areas i was) where
@@ -93,19 +106,19 @@ module _ (s : SwapView) (i : ℕ) (was a : AreaView) (found : was ≡ get_or s.a
           same_sizes = sizes-changed swap area (ap (λ (b : AreaView). b.here) is) (ap (λ (b : AreaView). length b.owners) is ∙ length-set was.owners slot owner);
         }
 
-  -- the pager was asked: the flag falls where the area is spent
-  pub IsSwap-asked : IsSwap s → IsArea a → IsSwap (changed s i a (s.never_spent && not (is_spent a)))
+  -- the pager was asked
+  IsSwap-asked : IsSwap s → IsArea a → IsSwap (asked_of s i a)
   IsSwap-asked swap area = grind (arith, common_steps)
 
   module _ (pages : List (List ℕ)) (failed : ℕ) (is : a ≡ record was { pages = pages; failed = failed }) where
-    pub GoesOn-asked : was.failed ≤ a.failed → GoesOn s (changed s i a (s.never_spent && not (is_spent a)))
+    GoesOn-asked : was.failed ≤ a.failed → GoesOn s (asked_of s i a)
     GoesOn-asked counts = grind (arith, common_steps, GoesOn-changed)
 
-    pub sizes-asked : IsSwap s → IsArea a → map size_of (set s.areas i a) ≡ sizes s
+    sizes-asked : IsSwap s → IsArea a → map size_of (set s.areas i a) ≡ sizes s
     sizes-asked swap area = grind (arith, common_steps, sizes-changed)
 
     -- a fault of the area is a cause
-    pub had_cause-asked : (flag : Bool) (slot : ℕ) → HasSlot s i slot → IsSwap s → CountedFault was a → had_cause s (changed s i a flag) ≡ true
+    had_cause-asked : (flag : Bool) (slot : ℕ) → HasSlot s i slot → IsSwap s → CountedFault was a → had_cause s (changed s i a flag) ≡ true
     unfolding total some_spent
     had_cause-asked flag slot there swap (inl counted) =
         let same = at_i there.0 in
@@ -115,8 +128,17 @@ module _ (s : SwapView) (i : ℕ) (was a : AreaView) (found : was ≡ get_or s.a
         let spent_here : is_spent_here (area_at s i) ≡ true = grind (arith, common_steps, at_i there.0, spent, slot-here (area_at s i) (swap.each i) slot there.1) in
         grind (arith, common_steps, list_any_at is_spent_here s.areas i no_area there.0 spent_here)
 
+    pub asked : {A E : Type 0} (r : Result A E) (slot : ℕ) → HasSlot s i slot → IsSwap s → was.failed ≤ a.failed → IsArea a → IfErr r (λ _. CountedFault was a) → Asked r s i a
+    asked r slot there swap counts area fault =
+        record {
+          sound = IsSwap-asked swap area;
+          goes_on = GoesOn-asked counts;
+          same_sizes = sizes-asked swap area;
+          cause = IfErr-weaker r _ _ (λ _ f. had_cause-asked _ slot there swap f) fault;
+        }
+
   -- the count alone changed: the slots stayed
-  pub SameSlots-asked : a ≡ record was { failed = a.failed } → SameSlots s (changed s i a (s.never_spent && not (is_spent a)))
+  pub SameSlots-asked : a ≡ record was { failed = a.failed } → SameSlots s (asked_of s i a)
   SameSlots-asked is = grind (arith, common_steps)
 
   -- the pager went

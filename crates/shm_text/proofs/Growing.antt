@@ -1,5 +1,10 @@
--- How far a number grows by a digit.
-use Rattle.std.proofs.Common.{arith, ◌≡◌, ◌≤◌, ◌<◌, ◌+◌, ◌*◌, ◌^◌, ◌∙◌, ap, refl, ℕ, pow-add}
+-- How far a number grows by a digit, and a word that is digits to its end.
+use Rattle.std.proofs.Common.{arith, ◌≡◌, ◌≤◌, ◌<◌, ◌+◌, ◌*◌, ◌^◌, ◌∙◌, ap, refl, subst, ℕ, Bool, List, true, take, length, pow-add}
+use Rattle.std.specs.Prelude.{All}
+use Rattle.std.specs.List.{list_all}
+use Rattle.std.specs.Char.{is_digit}
+use Rattle.std.proofs.lemmas.List.{take_all}
+use Rattle.std.proofs.lemmas.List.Sums.{list_all-from_AllPass}
 use Rattle.std.proofs.Math.Pow.{pow_mono}
 use Rattle.std.proofs.Math.Nat.{mul-le-mul}
 use Rattle.std.proofs.lemmas.Bool.{lt-ltb}
@@ -26,3 +31,8 @@ fits v i small few =
 -- such a number is kept as it is
 pub kept : (n v : ℕ) → v ≡ n → v < 2 ^ 64 → number_from n ≡ Fits v
 kept n v is small = rw (← is, lt-ltb v (2 ^ 64) small) refl
+
+-- the first bytes of a word are all of it, and are digits
+pub all_digits : (radix i : ℕ) (word : List ℕ) → length word ≤ i → All (λ b. is_digit b radix ≡ true) (take i word) → list_all (λ b. is_digit b radix) word ≡ true
+all_digits radix i word whole digits =
+    list_all-from_AllPass (λ b. is_digit b radix) word (subst (All (λ b. is_digit b radix ≡ true)) (take_all i word whole) digits)

@@ -131,7 +131,7 @@ impl Vars {
             },
             LineCall::Store { addr, chunk } => Call::Store {
                 addr: self.addr(*addr),
-                chunk: chunk.copied(),
+                chunk: *chunk,
             },
             LineCall::Xadd { addr, add } => Call::Xadd {
                 addr: self.addr(*addr),

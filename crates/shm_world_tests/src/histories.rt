@@ -203,10 +203,10 @@ fn up_to_the_last_count(alloc: Global) -> Result<Vec<(Call, Reply)>, Fail> {
         (shmget(12288), Reply::Id(0)),
         (shmat(0), Reply::Addr(0x40000000)),
         (store(0x40000000, &[0x2a])?, Reply::Done),
-        (load(0x40001000, 1)?, zero.copied()),
+        (load(0x40001000, 1)?, zero),
         (load(0x40002000, 1)?, Reply::Refused(Errno::Sigbus)),
         (load(0x40000000, 1)?, bytes(&[0x2a])?),
-        (load(0x40002000, 1)?, zero.copied()),
+        (load(0x40002000, 1)?, zero),
         (load(0x40001000, 1)?, Reply::Refused(Errno::Sigbus)),
         (load(0x40001000, 1)?, zero),
     ]?;

@@ -1,14 +1,12 @@
-use Rattle.std.proofs.Common.{rules, arith, ◌≡◌, ◌<◌, ◌+◌, ◌*◌, ◌^◌, ap, sym, subst, length, take, get_or, true, Some}
+use Rattle.std.proofs.Common.{rules, arith, ◌≡◌, ◌<◌, ◌+◌, ◌*◌, ◌^◌, ap, sym, length, take, get_or, true, Some}
 use Rattle.std.specs.Prelude.{All, not, ◌==◌}
 use Rattle.std.specs.Char.{is_digit, digit_value}
-use Rattle.std.specs.List.{list_all}
 use Rattle.std.specs.Str.Parse.{digits_value}
 use Rattle.std.proofs.lemmas.Bool.{lt-ltb}
 use Rattle.std.proofs.lemmas.Int.Digits.{digits_value_more}
 use Rattle.std.proofs.lemmas.List.{take_all}
 use Rattle.std.proofs.lemmas.List.Elements.{All-more}
-use Rattle.std.proofs.lemmas.List.Sums.{list_all-from_AllPass}
-use Rattle.shm_text.proofs.Growing.{grown, fits, kept}
+use Rattle.shm_text.proofs.Growing.{grown, fits, kept, all_digits}
 use Rattle.shm_text.proofs.number.few_digits.Goals as goal
 use Rattle.shm_text.proofs.number.few_digits.Goals.{In_ok-digit}
 
@@ -49,8 +47,7 @@ returns c =
     let word = c.args.word.now in
     let radix = c.args.radix in
     let whole : take c.loop-byte.byte-index word ≡ word = take_all c.loop-byte.byte-index word (omega (arith, c.loop-byte-test.false)) in
-    let digits : list_all (λ b. is_digit b radix) word ≡ true =
-    list_all-from_AllPass (λ b. is_digit b radix) word (subst (All (λ b. is_digit b radix ≡ true)) whole c.loop-byte.invariant.digits) in
+    let digits = all_digits radix c.loop-byte.byte-index word (omega (arith, c.loop-byte-test.false)) c.loop-byte.invariant.digits in
     let some : (not (length word == 0)) ≡ true = search rules in
     let value : c.loop-byte.value ≡ digits_value radix word = rw whole at c.loop-byte.invariant.value in
     rw (some, digits) (ap Some (kept (digits_value radix word) c.loop-byte.value value (omega arith)))

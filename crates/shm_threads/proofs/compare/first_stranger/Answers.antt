@@ -9,8 +9,8 @@ pub loop-event-preserved : goal.loop-event-preserved
 loop-event-preserved c =
     let P : Event → Type 0 = IsAdmitted c.args.processes.now in
     let i = c.loop-event.event-index in
-    let x = c.event-item.result in
     let Q : Option ℕ → Type 0 = IsFound P c.args.history.now (i + 1) in
+    let x = c.event-item.result in
     elim c.if-not-is_admitted.branch [
       | then-not-is_admitted w ↦
           subst Q (sym w.found-is) (one_fails P _ i x w.least.result c.loop-event-test.true c.event-item.is (λ p. (let k = c.is_admitted.ensures.1 p in let no = w.if-not-is_admitted.true in cc)))

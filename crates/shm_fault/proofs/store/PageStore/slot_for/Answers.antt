@@ -10,6 +10,18 @@ use Rattle.shm_fault.proofs.store.PageStore.slot_for.Given as given
 use Rattle.shm_fault.proofs.store.PageStore.slot_for.Goals as goal
 use Rattle.shm_fault.proofs.store.PageStore.slot_for.Goals.{After-set_page}
 
+pub unreachable-requires-in_default-take_slot : goal.unreachable-requires-in_default-take_slot
+unreachable-requires-in_default-take_slot g c =
+    let i = c.self.inside in
+    let sound = c.self.invariant in
+    let page = c.in-Some.page in
+    let owned : (frame_at i.frames c.args.frame).owner ≡ Some page = sym c.owner.ensures ∙ c.in-Some.is in
+    let none : (rec_by i.segs page).slot ≡ None = ap (λ (p : PageRec). p.slot) (sym c.page-place.ensures) ∙ c.in_default-slot.is in
+    let full : used_slots i.swap ≡ slots i.swap = c.in_default-take_slot.ensures.full in
+    let few = some_slotless (seen i) sound.apart page (sound.tied.owners c.args.frame page owned) none in
+    let same = used-slots (seen i) sound.apart sound.tied in
+    omega (arith, full, few, same, sound.capacity)
+
 done : (g : given.Over) (c : After-set_page g)
     → Takes c.args.frame c.in-Some-take_slot.slot (seen c.self.inside) (record (seen c.self.inside) { segs = c.set_page.new.self; swap = c.take_slot.new.self })
 done g c =
@@ -24,24 +36,6 @@ done g c =
     (takes (seen i) c.self.invariant page c.args.frame slot (sym c.owner.ensures ∙ c.in-Some.is) (rw (← c.self.view_is) at c.requires.dirty) none
     first.there first.free (rw u at e.sound) (rw u at e.steady.same_sizes) (rw u at e.steady.goes_on))
 
-pub unreachable-requires-in_default-take_slot : goal.unreachable-requires-in_default-take_slot
-unreachable-requires-in_default-take_slot g c =
-    let i = c.self.inside in
-    let sound = c.self.invariant in
-    let page = c.in-Some.page in
-    let owned : (frame_at i.frames c.args.frame).owner ≡ Some page = sym c.owner.ensures ∙ c.in-Some.is in
-    let none : (rec_by i.segs page).slot ≡ None = ap (λ (p : PageRec). p.slot) (sym c.page-place.ensures) ∙ c.in_default-slot.is in
-    let full : used_slots i.swap ≡ slots i.swap = c.in_default-take_slot.ensures.full in
-    let few = some_slotless (seen i) sound.apart page (sound.tied.owners c.args.frame page owned) none in
-    let same = used-slots (seen i) sound.apart sound.tied in
-    omega (arith, full, few, same, sound.capacity)
-
-pub invariant_of-self : goal.invariant_of-self
-invariant_of-self g c = (done g c).sound
-
-pub returns-clause-sound : goal.returns-clause-sound
-returns-clause-sound g c = (done g c).sound
-
 pub returns-clause-goes : goal.returns-clause-goes
 returns-clause-goes g c = rw (← c.self.view_is) (done g c).goes
 
@@ -53,3 +47,9 @@ returns-clause-still g c = rw (← c.self.view_is) (done g c).still
 
 pub returns-clause-away : goal.returns-clause-away
 returns-clause-away g c = rw (← c.self.view_is) (done g c).away
+
+pub invariant_of-self : goal.invariant_of-self
+invariant_of-self g c = (done g c).sound
+
+pub returns-clause-sound : goal.returns-clause-sound
+returns-clause-sound g c = (done g c).sound

@@ -12,7 +12,7 @@ invariant_of-self-in-Ok g c =
     let old : List Event = c.self.inside.history.items in
     let e : Event = event c.args.pid c.args.call.now c.in-Ok.reply in
     let called = c.call-answer.ensures in
-    let items : c.push.new.self.items ≡ old ++ e ∷ [] = rw (c.push.ensures.items, c.unwrap.ensures, c.make_room.ensures.items, c.copied.ensures, c.copied-in-Ok.ensures) refl in
+    let items : c.push_reserved.new.self.items ≡ old ++ e ∷ [] = rw (c.push_reserved.ensures.items, c.make_room.ensures.items) refl in
     let counted : c.call-answer.new.self.calls ≡ length old + 1 = rw c.in-Ok.is at called.counted ∙ ap (λ (n : ℕ). n + 1) c.self.invariant.0 in
     let moved : IsMove c.self.inside.system.machine (length old + 1) e c.call-answer.new.self.machine = rw (c.in-Ok.is, c.self.invariant.0) at called.move_of in
     rw (items, called.opening)

@@ -10,10 +10,9 @@ use Rattle.shm_attach.proofs.FlatSteps.{load-wanted}
 use Rattle.shm_slots.specs.View.{sizes}
 use Rattle.shm_segments.proofs.Same.{SameTable, same-refl}
 use Rattle.shm_life.specs.Kept.{IsWell}
-use Rattle.shm_fault.specs.Access.{touched_of}
-use Rattle.shm_life.proofs.Settled.{noted-well}
+use Rattle.shm_life.proofs.Settled.{noted-well, moved-by}
 use Rattle.shm_life.proofs.Changed.{spans-there, asked}
-use Rattle.shm_life.proofs.Running.{done_fact}
+use Rattle.shm_life.proofs.Running.{ok_fact}
 use Rattle.shm_life.proofs.kernel.Kernel.load.Given.{Over}
 use Rattle.shm_life.proofs.kernel.Kernel.load.Goals as goal
 use Rattle.shm_life.proofs.kernel.Kernel.load.Goals.{After-note}
@@ -21,18 +20,6 @@ use Rattle.shm_life.proofs.kernel.Kernel.load.Goals.{After-note}
 pub read-read-requires-clause-fit : goal.read-read-requires-clause-fit
 read-read-requires-clause-fit g c =
     rw c.as_slice.ensures.value (spans-there _ _ c.args.caller.now c.in-Ok.spans (rw (← c.self.view_is) at c.requires) c.self.invariant.kept.pieces c.in-Ok.ensures.within c.in-Ok.ensures.pages)
-
--- done or not
-well : (g : Over) (c : After-note g) → IsWell c.self.inside.limits c.read-read.new.self.table c.note.new.spaces.runners c.note.new.spaces.translations c.read-read.new.self.memory
-well g c =
-    let same : SameTable c.self.inside.segments.table c.read-read.new.self.table = rw c.read-read.ensures.table (same-refl _) in
-    noted-well _ _ _ _ _ _ _ _ _ (touched_of c.read-read.result).moved.items c.self.invariant same c.read-read.ensures.runs.frames c.note.ensures.runners c.note.ensures.translated c.read-read.ensures.access.moved
-
-pub invariant_of-self : goal.invariant_of-self
-invariant_of-self g c = well g (goal.at.invariant_of-self g c).After-note
-
-pub invariant_of-self-2 : goal.invariant_of-self-2
-invariant_of-self-2 g c = well g (goal.at.invariant_of-self-2 g c).After-note
 
 pub returns-clause-step : goal.returns-clause-step
 returns-clause-step g c = λ _.
@@ -43,6 +30,18 @@ returns-clause-step g c = λ _.
     let is : IsCaller caller rs = rw (← c.self.view_is) at c.requires in
     let places : wanted false caller.pid c.args.addr c.args.len rs ≡ Some spans = rw c.get.ensures.value at c.in-Ok.ensures.places in
     let step = load-wanted m (pieces_at rs caller.index) c.args.addr c.args.len spans (asked false rs caller c.args.addr c.args.len _ is places) in
-    let out = done_fact c.read-read.result _ (sym c.note.ensures.done ∙ c.if-not-note.false) c.read-read.ensures.bytes in
+    let out = ok_fact c.read-read.result _ (sym c.is_err.ensures.value ∙ c.if-is_err.false) c.read-read.ensures.bytes in
     let bytes : c.in-Some.chunk ≡ loaded m.table spans = c.in-Some.ensures.value ∙ rw c.as_slice.ensures.value at out in
     rw (← c.self.view_is, c.note.ensures.runners, c.read-read.ensures.table, c.read-read.ensures.access.same_sizes) (step ∙ ap (λ bs. gives m (Bytes bs)) (sym bytes))
+
+-- done or not
+well : (g : Over) (c : After-note g) → IsWell c.self.inside.limits c.read-read.new.self.table c.note.new.self.runners c.note.new.self.translations c.read-read.new.self.memory
+well g c =
+    let same : SameTable c.self.inside.segments.table c.read-read.new.self.table = rw c.read-read.ensures.table (same-refl _) in
+    noted-well _ _ _ _ _ _ _ _ _ c.read-read.new.touched.moved.items c.self.invariant same c.read-read.ensures.runs.frames c.note.ensures.runners (rw c.as_slice-2.ensures.value at c.note.ensures.translated) (moved-by _ _ _ _ c.read-read.result c.read-read.ensures.access)
+
+pub invariant_of-self : goal.invariant_of-self
+invariant_of-self g c = well g (goal.at.invariant_of-self g c).After-note
+
+pub invariant_of-self-2 : goal.invariant_of-self-2
+invariant_of-self-2 g c = well g (goal.at.invariant_of-self-2 g c).After-note

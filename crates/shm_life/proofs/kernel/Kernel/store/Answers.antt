@@ -6,10 +6,9 @@ use Rattle.shm_attach.proofs.FlatSteps.{store-wanted}
 use Rattle.shm_slots.specs.View.{sizes}
 use Rattle.shm_segments.proofs.Same.{SameTable, stored-same}
 use Rattle.shm_life.specs.Kept.{IsWell}
-use Rattle.shm_fault.specs.Access.{touched_of}
-use Rattle.shm_life.proofs.Settled.{noted-well}
+use Rattle.shm_life.proofs.Settled.{noted-well, moved-by}
 use Rattle.shm_life.proofs.Changed.{spans-there, asked, either-same}
-use Rattle.shm_life.proofs.Running.{done_fact}
+use Rattle.shm_life.proofs.Running.{ok_fact}
 use Rattle.shm_life.proofs.kernel.Kernel.store.Given.{Over}
 use Rattle.shm_life.proofs.kernel.Kernel.store.Goals as goal
 use Rattle.shm_life.proofs.kernel.Kernel.store.Goals.{After-note}
@@ -19,11 +18,11 @@ write-written-requires-clause-fit g c =
     rw c.as_slice.ensures.value (spans-there _ _ c.args.caller.now c.in-Ok.spans (rw (← c.self.view_is) at c.requires) c.self.invariant.kept.pieces c.in-Ok.ensures.within c.in-Ok.ensures.pages)
 
 -- done or not
-well : (g : Over) (c : After-note g) → IsWell c.self.inside.limits c.write-written.new.self.table c.note.new.spaces.runners c.note.new.spaces.translations c.write-written.new.self.memory
+well : (g : Over) (c : After-note g) → IsWell c.self.inside.limits c.write-written.new.self.table c.note.new.self.runners c.note.new.self.translations c.write-written.new.self.memory
 well g c =
     let t = c.self.inside.segments.table in
     let same : SameTable t c.write-written.new.self.table = either-same c.write-written.result t _ _ c.write-written.ensures.written c.write-written.ensures.same (stored-same (span_places false c.as_slice.result.now) c.as_slice-bytes.result.now t) in
-    noted-well _ _ _ _ _ _ _ _ _ (touched_of c.write-written.result).moved.items c.self.invariant same c.write-written.ensures.runs.frames c.note.ensures.runners c.note.ensures.translated c.write-written.ensures.access.moved
+    noted-well _ _ _ _ _ _ _ _ _ c.write-written.new.touched.moved.items c.self.invariant same c.write-written.ensures.runs.frames c.note.ensures.runners (rw c.as_slice-2.ensures.value at c.note.ensures.translated) (moved-by _ _ _ _ c.write-written.result c.write-written.ensures.access)
 
 pub invariant_of-self : goal.invariant_of-self
 invariant_of-self g c = well g (goal.at.invariant_of-self g c).After-note
@@ -40,5 +39,5 @@ returns-clause-step g c = λ _.
     let spans = span_places false c.in-Ok.spans in
     let is : IsCaller caller rs = rw (← c.self.view_is) at c.requires in
     let step = store-wanted m (pieces_at rs caller.index) c.args.addr bytes spans (asked true rs caller c.args.addr (length bytes) _ is c.in-Ok.ensures.places) in
-    let written = done_fact c.write-written.result _ (sym c.note.ensures.done ∙ c.if-not-note.false) c.write-written.ensures.written in
+    let written = ok_fact c.write-written.result _ (sym c.is_err.ensures.value ∙ c.if-is_err.false) c.write-written.ensures.written in
     rw (← c.self.view_is, ← c.as_slice-bytes.ensures.value) (step ∙ rw (c.note.ensures.runners, written, c.write-written.ensures.access.same_sizes, c.as_slice.ensures.value) refl)

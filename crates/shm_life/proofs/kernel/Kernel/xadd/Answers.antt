@@ -2,8 +2,7 @@ use Rattle.std.proofs.Common.{false}
 use Rattle.shm_base.specs.Spans.{span_places}
 use Rattle.shm_segments.proofs.Same.{SameTable, stored-same}
 use Rattle.shm_life.specs.Kept.{IsWell}
-use Rattle.shm_fault.specs.Access.{touched_of}
-use Rattle.shm_life.proofs.Settled.{noted-well}
+use Rattle.shm_life.proofs.Settled.{noted-well, moved-by}
 use Rattle.shm_life.proofs.Changed.{spans-there, either-same}
 use Rattle.shm_life.proofs.kernel.Kernel.xadd.Given.{Over}
 use Rattle.shm_life.proofs.kernel.Kernel.xadd.Goals as goal
@@ -14,11 +13,11 @@ add-added-requires-clause-fit g c =
     rw c.as_slice.ensures.value (spans-there _ _ c.args.caller.now c.in-Ok.spans (rw (← c.self.view_is) at c.requires) c.self.invariant.kept.pieces c.in-Ok.ensures.within c.in-Ok.ensures.pages)
 
 -- done or not
-well : (g : Over) (c : After-note g) → IsWell c.self.inside.limits c.add-added.new.self.table c.note.new.spaces.runners c.note.new.spaces.translations c.add-added.new.self.memory
+well : (g : Over) (c : After-note g) → IsWell c.self.inside.limits c.add-added.new.self.table c.note.new.self.runners c.note.new.self.translations c.add-added.new.self.memory
 well g c =
     let t = c.self.inside.segments.table in
     let same : SameTable t c.add-added.new.self.table = either-same c.add-added.result t _ _ c.add-added.ensures.written c.add-added.ensures.same (stored-same (span_places false c.as_slice.result.now) _ t) in
-    noted-well _ _ _ _ _ _ _ _ _ (touched_of c.add-added.result).moved.items c.self.invariant same c.add-added.ensures.runs.frames c.note.ensures.runners c.note.ensures.translated c.add-added.ensures.access.moved
+    noted-well _ _ _ _ _ _ _ _ _ c.add-added.new.touched.moved.items c.self.invariant same c.add-added.ensures.runs.frames c.note.ensures.runners (rw c.as_slice-2.ensures.value at c.note.ensures.translated) (moved-by _ _ _ _ c.add-added.result c.add-added.ensures.access)
 
 pub invariant_of-self : goal.invariant_of-self
 invariant_of-self g c = well g (goal.at.invariant_of-self g c).After-note

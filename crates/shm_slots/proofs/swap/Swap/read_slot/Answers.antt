@@ -1,29 +1,32 @@
 use Rattle.std.proofs.lemmas.Result.{IfErr-weaker}
 use Rattle.shm_slots.specs.View.{SwapView, HasSlot}
-use Rattle.shm_slots.proofs.Changes.{IsSwap-asked, GoesOn-asked, sizes-asked, had_cause-asked, SameSlots-asked}
+use Rattle.shm_slots.proofs.Changes.{Asked, asked, SameSlots-asked}
+use Rattle.shm_slots.proofs.swap.Swap.read_slot.Given.{Over}
 use Rattle.shm_slots.proofs.swap.Swap.read_slot.Goals as goal
+use Rattle.shm_slots.proofs.swap.Swap.read_slot.Goals.{After-stays_unspent-self-inside}
 
-pub invariant_of-self : goal.invariant_of-self
-invariant_of-self g c =
-    rw c.stays_unspent-self-inside.ensures (IsSwap-asked _ _ _ _ c.index_mut-area.ensures.value c.self.invariant c.read-result.ensures.sound)
-
-pub returns-clause-sound : goal.returns-clause-sound
-returns-clause-sound g c = invariant_of-self g c
-
-pub returns-clause-goes_on : goal.returns-clause-goes_on
-returns-clause-goes_on g c =
-    rw (← c.self.view_is, c.stays_unspent-self-inside.ensures) (GoesOn-asked _ _ _ _ c.index_mut-area.ensures.value _ _ c.read-result.ensures.rest c.read-result.ensures.counts)
-
-pub returns-clause-sizes : goal.returns-clause-sizes
-returns-clause-sizes g c =
-    rw (← c.self.view_is) (sizes-asked _ _ _ _ c.index_mut-area.ensures.value _ _ c.read-result.ensures.rest c.self.invariant c.read-result.ensures.sound)
+done : (g : Over) (c : After-stays_unspent-self-inside g)
+    → Asked c.read-result.result (record { areas = c.self.inside.areas.items; never_spent = c.self.inside.never_spent }) c.args.slot.area c.read-result.new.self
+done g c =
+    let there : HasSlot (record { areas = c.self.inside.areas.items; never_spent = c.self.inside.never_spent }) c.args.slot.area c.args.slot.slot = rw (← c.self.view_is) at c.requires in
+    let e = c.read-result.ensures in
+    asked _ _ _ _ c.index_mut-area.ensures.value _ _ e.rest c.read-result.result _ there c.self.invariant e.counts e.sound (IfErr-weaker c.read-result.result _ _ (λ _ fault. fault.1) e.err)
 
 pub returns-clause-kept : goal.returns-clause-kept
 returns-clause-kept g c =
     rw (← c.self.view_is, c.stays_unspent-self-inside.ensures) (SameSlots-asked _ _ _ _ c.index_mut-area.ensures.value c.read-result.ensures.rest)
 
+pub returns-clause-goes_on : goal.returns-clause-goes_on
+returns-clause-goes_on g c = rw (← c.self.view_is, c.stays_unspent-self-inside.ensures) (done g (goal.at.returns-clause-goes_on g c).After-stays_unspent-self-inside).goes_on
+
+pub invariant_of-self : goal.invariant_of-self
+invariant_of-self g c = rw c.stays_unspent-self-inside.ensures (done g (goal.at.invariant_of-self g c).After-stays_unspent-self-inside).sound
+
 pub returns-clause-cause : goal.returns-clause-cause
-returns-clause-cause g c =
-    let s : SwapView = record { areas = c.self.inside.areas.items; never_spent = c.self.inside.never_spent } in
-    let there : HasSlot s c.args.slot.area c.args.slot.slot = rw (← c.self.view_is) at c.requires in
-    rw (← c.self.view_is) (IfErr-weaker c.read-result.result _ _ (λ _ fault. had_cause-asked _ _ _ _ c.index_mut-area.ensures.value _ _ c.read-result.ensures.rest _ _ there c.self.invariant fault.1) c.read-result.ensures.err)
+returns-clause-cause g c = rw (← c.self.view_is, c.stays_unspent-self-inside.ensures) (done g (goal.at.returns-clause-cause g c).After-stays_unspent-self-inside).cause
+
+pub returns-clause-sizes : goal.returns-clause-sizes
+returns-clause-sizes g c = rw (← c.self.view_is) (done g (goal.at.returns-clause-sizes g c).After-stays_unspent-self-inside).same_sizes
+
+pub returns-clause-sound : goal.returns-clause-sound
+returns-clause-sound g c = invariant_of-self g c

@@ -1,7 +1,7 @@
 //! Each method on its happy path, and failures at the places and of the sides that are listed.
-use super::*;
 use bitflags::Flags;
 use shm_base::{AccessLen, AtFlags, Call, Chunk, Cred, Errno, GetFlags, Limits, Process};
+use shm_machine::{Area, AreaKind, Failure, Machine, Refusal, Side};
 use std::alloc::{AllocError, Global};
 use std::test::Fail;
 

@@ -1,5 +1,5 @@
 use Rattle.shm_fault.proofs.Bringing.{accessed, accessed-not}
-use Rattle.shm_fault.proofs.store.PageStore.write.Goals as goal
+use Rattle.shm_fault.proofs.store.PageStore.write_with.Goals as goal
 
 pub returns-in-Err-clause-access : goal.returns-in-Err-clause-access
 returns-in-Err-clause-access g c = accessed-not c.args.spans.now c.args.self.now c.bring.new.self _ c.bring.ensures.sound c.in-Err.ensures.brings

@@ -1,0 +1,11 @@
+use Rattle.std.proofs.Common.{arith, ◌≤◌, refl}
+use Rattle.shm_base.proofs.Padded.{padded}
+use Rattle.shm_base.proofs.access.Chunk.new.Goals as goal
+
+pub invariant_of-result : goal.invariant_of-result
+invariant_of-result c =
+    let e = c.in_ok-len.ensures in
+    let size = e.which.0 refl in
+    let few : c.in_ok-len.len ≤ 64 = omega (arith, e.value, size.1) in
+    let p = padded c.args.bytes.now _ c.in_ok-len.len e.value few c.copy_from_slice.ensures.after in
+    (omega (arith, e.value, size.0), few, p.0, p.1)
