@@ -1,7 +1,5 @@
 -- What both proofs of `Parts` share. Assumes `Logic`.
-use Rattle.std.proofs.Common.{List, [], ◌∷◌}
-use mir.Val.{Val, vptr}
-use base.Fml.{Fml, ftrue, flft, Lft, Share}
+use base.Fml.{ftrue, flft, Lft, Share}
 use contract.BorrowLft.{◌⊑◌}
 use contract.Monad.{fact}
 use seplogic.Ra.Ura.{Ura}

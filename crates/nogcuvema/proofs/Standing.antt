@@ -1,5 +1,5 @@
 -- A machine that stands was refused nothing.
-use Rattle.std.proofs.Common.{◌≡◌, ℕ, ◌+◌, Bool, true, false, not, ◌&&◌, nat_lt, if◌then◌else◌, List, map, None, Result, Ok, refl, sym, ap, ◌∙◌}
+use Rattle.std.proofs.Common.{◌≡◌, ℕ, ◌+◌, Bool, true, false, not, nat_lt, if◌then◌else◌, List, map, None, Result, Ok, refl, sym}
 use Rattle.shm_base.specs.Bounds.{Bounds, within, bad, limits_of}
 use Rattle.shm_base.specs.declared.limits.BadLimits.{BadLimits}
 use Rattle.shm_base.specs.declared.call.Process.{Process}
@@ -11,7 +11,7 @@ use Rattle.nogcuvema.specs.declared.structs.NogLimits.{NogLimits}
 use Rattle.nogcuvema.specs.declared.structs.NogArea.{NogArea}
 use Rattle.nogcuvema.specs.declared.structs.NogFailure.{NogFailure}
 use Rattle.nogcuvema.specs.declared.structs.NogProcess.{NogProcess}
-use Rattle.nogcuvema.specs.Opens.{area_of, process_of, are_kinds, are_there, bounds_of, opening_code, Opens}
+use Rattle.nogcuvema.specs.Opens.{area_of, process_of, are_kinds, are_there, bounds_of, Opens}
 
 past : (b : Bool) (n : ℕ) (r : Result Bounds BadLimits) (x : Bounds) → (if b then bad n else r) ≡ Ok x → r ≡ Ok x
 past true n r x h = absurd (cc h)

@@ -1,9 +1,8 @@
 -- What nog_open answers, and which machine it opens.
-use Rattle.std.specs.Prelude.{ℕ, ◌≡◌, ◌≢◌, ◌+◌, ◌⊎◌, Bool, true, false, not, ◌&&◌, ◌==◌, nat_le, nat_lt, if◌then◌else◌, List, map, Option, Some, None, Result, Ok, Err, slice_get, IsSomeAnd}
+use Rattle.std.specs.Prelude.{ℕ, ◌≡◌, ◌≢◌, ◌+◌, ◌⊎◌, Bool, false, not, ◌&&◌, ◌==◌, nat_le, nat_lt, if◌then◌else◌, List, map, Option, Some, None, Result, Ok, Err, slice_get, IsSomeAnd}
 use Rattle.std.specs.List.{list_all}
 use Rattle.shm_base.specs.Bounds.{Bounds, within, limits_of}
 use Rattle.shm_base.specs.declared.limits.BadLimits.{BadLimits}
-use Rattle.shm_base.specs.declared.owner.Cred.{Cred}
 use Rattle.shm_base.specs.declared.call.Process.{Process}
 use Rattle.shm_life.specs.Start.{start_error, number_of}
 use Rattle.shm_life.specs.declared.start.StartError.{StartError}

@@ -1,5 +1,5 @@
 -- Loads and stores of any length, as calls of at most 64 bytes each from the first on.
-use Rattle.std.specs.Prelude.{ℕ, ◌≡◌, ◌+◌, ◌-◌, ◌*◌, ◌/◌, ◌^◌, ◌<◌, ◌≤◌, ◌⊎◌, min, List, length, take, drop, Option, Some, None, Err, MatchOption}
+use Rattle.std.specs.Prelude.{ℕ, ◌≡◌, ◌+◌, ◌-◌, ◌/◌, ◌^◌, ◌<◌, ◌≤◌, ◌⊎◌, min, List, length, take, drop, Err, MatchOption}
 use Rattle.shm_base.specs.declared.call.Call.{Call}
 use Rattle.shm_base.specs.declared.call.Call.TheVariants.{Load, Store}
 use Rattle.shm_base.specs.declared.call.Reply.TheVariants.{Bytes, Done}
