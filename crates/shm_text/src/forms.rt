@@ -203,6 +203,7 @@ fn is_command(seen: &Seen, words: &Words<'_>) -> bool
 }
 
 // The command of a process, whose pid is tested behind the call. What it says is put together once, here.
+#[inline(always)]
 #[tactic(auto, using(crate::proofs::FirstWords::command_words))]
 fn command(seen: &Seen, words: &Words<'_>) -> Result<Option<Item>, FaultKind>
     requires words { 0 < length words.now }
@@ -230,6 +231,7 @@ pub(crate) fn is_skipped(words: &Words<'_>) -> bool
 }
 
 /// What the line that was read last says, with what the lines above it said.
+#[inline(always)]
 #[tactic(auto, using(crate::proofs::FirstWords::same_words), unfolding(crate::specs::Reading::line_item))]
 pub(crate) fn line_item(seen: &Seen, lines: &Lines<'_>) -> Result<Option<Item>, FaultKind>
     ensures value { result ≡ line_item seen.now lines.now.line }

@@ -123,6 +123,7 @@ fn letter_addr(var: Variable, word: &[u8]) -> Result<AddrWord, FaultKind>
 }
 
 /// A word that has to be an address.
+#[inline(always)]
 pub(crate) fn addr_word(word: &[u8]) -> Result<AddrWord, FaultKind>
     ensures { result ≡ addr_word word.now }
 {
@@ -138,6 +139,7 @@ pub(crate) fn addr_word(word: &[u8]) -> Result<AddrWord, FaultKind>
     }
 }
 
+#[inline(always)]
 pub(crate) fn ranged_addr(word: AddrWord) -> Result<LineAddr, FaultKind>
     ensures { result ≡ ranged_addr word }
 {
