@@ -4,7 +4,7 @@ ghost use Rattle.std.specs.Prelude.{◌≡◌, [], IfOk};
 use crate::serial::run_lines;
 use crate::tests::{OUTPUT, SCRIPT, Sink, reader, writer};
 use crate::threaded::{run_gated, run_threaded, write_outcome};
-use shm_base::Call;
+use shm_base::{Call, Reply};
 use shm_history::World;
 use shm_pager::RamPager;
 use shm_program::{RunFault, open_world};
@@ -100,11 +100,20 @@ fn ran(alloc: Global) -> Result<World<RamPager>, Fail> {
     Ok(world)
 }
 
+// What a worker keeps of a call: its reply, or that the host refused memory.
+fn answer_of(reply: Option<Reply>) -> Answer {
+    match reply {
+        Some(reply) => Answer::Reply(reply),
+        None => Answer::HostMemory,
+    }
+}
+
 // A transcript with one call, for which the host refused memory, or with none.
 fn transcripts(alloc: Global, marked: bool) -> Result<Vec<Transcript>, Fail> {
     let mut entries = Vec::new(alloc);
     if marked {
-        let (call, answer) = (Call::Exit, Answer::HostMemory);
+        let refused: Option<Reply> = None;
+        let (call, answer) = (Call::Exit, answer_of(refused));
         entries.push(Entry { call, answer })?;
     }
     Ok(vec![in alloc; Transcript { pid: 1, entries }]?)
