@@ -106,19 +106,20 @@ fn made_reply(made: Made) -> Reply {
     }
 }
 
-fn made_answer(made: Made) -> Answer {
+fn made_answer(made: Made, reply: Reply) -> Answer {
     match made {
         Made::ExitMarked => Answer::HostMemory,
-        _ => Answer::Reply(made_reply(made)),
+        _ => Answer::Reply(reply),
     }
 }
 
 fn transcript(alloc: Global, pid: u32, all: &[Made]) -> Result<Transcript, Fail> {
     let mut entries = Vec::new(alloc);
     for made in all {
+        let reply = made_reply(*made);
         entries.push(Entry {
             call: made_call(*made)?,
-            answer: made_answer(*made),
+            answer: made_answer(*made, reply),
         })?;
     }
     Ok(Transcript { pid, entries })
