@@ -18,7 +18,7 @@ use Rattle.shm_slots.specs.Cause.{total, had_cause}
 use Rattle.shm_fault.specs.Store.{StoreView, resident, dirty, used}
 use Rattle.shm_fault.specs.Flushing.{IsFlushed}
 use Rattle.shm_life.specs.MachineView.{KeepsOn}
-use Rattle.shm_life.specs.SystemState.{TakesNoMemory}
+use Rattle.shm_base.specs.Memory.{TakesNoMemory}
 
 pub record WorldState : Type 0 where
   pub opening : Opening

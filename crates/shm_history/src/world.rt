@@ -10,7 +10,7 @@ ghost use mathlib.Core.List.{IsPrefix};
 ghost use Rattle.shm_slots.specs.Cause.{had_cause};
 ghost use Rattle.shm_fault.specs.Flushing.{IsFlushed};
 ghost use Rattle.shm_life.specs.MachineView.{IsExactly, KeepsOn};
-ghost use Rattle.shm_life.specs.SystemState.{TakesNoMemory};
+ghost use Rattle.shm_base.specs.Memory.{TakesNoMemory};
 ghost use Rattle.shm_life.specs.Listed.{segment_at};
 ghost use Rattle.shm_history.specs.WorldState.{event, tally_of, AreCounted, calls_of, step_calls, IsRun, RunTo, MayStop, StopsIn, StepTakesNone};
 

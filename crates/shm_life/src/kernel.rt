@@ -3,7 +3,7 @@ ghost use Rattle.std.specs.Prelude.{◌≡◌, true, false, IfOk, OnErr, IsOk};
 ghost use Rattle.shm_base.specs.Step.{step};
 ghost use Rattle.shm_base.specs.History.{is_failure, is_refusal};
 ghost use Rattle.shm_life.specs.MachineView.{IsFailed, KeepsOn};
-ghost use Rattle.shm_life.specs.SystemState.{TakesNoMemory};
+ghost use Rattle.shm_base.specs.Memory.{TakesNoMemory};
 
 use shm_attach::Spaces;
 use shm_base::{Call, Errno, HostMemory, Limits, Reply};

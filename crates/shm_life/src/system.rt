@@ -10,7 +10,7 @@ ghost use Rattle.shm_pager.specs.Pages.{pager_seen};
 ghost use Rattle.shm_fault.specs.Store.{fresh_store};
 ghost use Rattle.shm_fault.specs.Flushing.{IsFlushed};
 ghost use Rattle.shm_life.specs.MachineView.{KeepsOn, IsExactly};
-ghost use Rattle.shm_life.specs.SystemState.{TakesNoMemory};
+ghost use Rattle.shm_base.specs.Memory.{TakesNoMemory};
 ghost use Rattle.shm_life.specs.Counts.{Counts};
 ghost use Rattle.shm_life.specs.Listed.{segment_at};
 

@@ -11,7 +11,8 @@ use Rattle.shm_base.specs.declared.paging.FlushReport.{FlushReport}
 use Rattle.shm_fault.specs.Flushing.{IsFlushed}
 use Rattle.shm_slots.specs.Cause.{had_cause}
 use Rattle.shm_life.specs.MachineView.{KeepsOn}
-use Rattle.shm_life.specs.SystemState.{SystemState, TakesNoMemory}
+use Rattle.shm_base.specs.Memory.{TakesNoMemory}
+use Rattle.shm_life.specs.SystemState.{SystemState}
 use Rattle.shm_machine.specs.declared.refusal.Refusal.{Refusal}
 use Rattle.shm_machine.specs.declared.refusal.Refusal.TheVariants.{Refused, HostMemory, Spent}
 

@@ -1,3 +1,0 @@
-mod Following
-mod Found
-mod Own

@@ -1,30 +1,9 @@
-//! What a run gives: the world, and what each worker called and was answered.
-use shm_base::{Call, HostMemory, Reply};
+//! What a run gives, and why it gives nothing.
+use shm_base::HostMemory;
 use shm_history::World;
 use shm_pager::Pager;
+use shm_transcripts::Transcript;
 use thiserror::Error;
-
-/// The answer to a worker's call: the system's reply, or that the host refused memory. A call without
-/// memory changed nothing and is not in the history.
-#[derive(Debug, Drop, PartialEq)]
-pub enum Answer {
-    Reply(Reply),
-    HostMemory,
-}
-
-/// A worker's call with its answer.
-#[derive(Debug, Drop, PartialEq)]
-pub struct Entry {
-    pub call: Call,
-    pub answer: Answer,
-}
-
-/// The calls of one process's worker, in order.
-#[derive(Debug, Drop)]
-pub struct Transcript {
-    pub pid: u32,
-    pub entries: Vec<Entry>,
-}
 
 /// The world after a run, and a transcript for each process of the script, in the script's order.
 #[derive(Drop)]

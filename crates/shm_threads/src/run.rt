@@ -2,18 +2,19 @@
 ghost use Rattle.std.specs.Prelude.{◌≡◌, ◌+◌, ◌≤◌, true, false, IfOk, OnOk, IfNone, IfSome, length, vec_len, vec_capacity};
 ghost use Rattle.shm_threads.specs.Ends.{IsFirst};
 ghost use Rattle.shm_threads.specs.Keepers.{cell_of, IsCaughtUp};
-ghost use Rattle.shm_threads.specs.Transcripts.{HasRoom, IsOutcome};
-ghost use Rattle.shm_threads.specs.Plans.{IsPlan};
+ghost use Rattle.shm_threads.specs.Outcomes.{IsOutcome};
+ghost use Rattle.shm_threads.specs.Plans.{HasRoom, IsPlan};
 
-use crate::compare::{copied, least, mismatch};
 use crate::gate::Gate;
-use crate::outcome::{Outcome, RunError, Transcript};
+use crate::mismatch::{copied, mismatch};
+use crate::outcome::{Outcome, RunError};
 use crate::shared::{ProcessState, Shared, states};
 use crate::worker::{Ended, Flushed, flush_all, jobs, work};
 use shm_base::HostMemory;
 use shm_history::{Keeper, Opening, World};
 use shm_pager::Pager;
 use shm_text::Script;
+use shm_transcripts::{Transcript, least};
 use std::alloc::Global;
 use std::snapshot::Snapshot;
 use std::sync::Wait;
@@ -42,7 +43,7 @@ pub fn run_threads<R: Threads + Wait + Sync, G: Gate, P: Pager + Send>(
 ) -> Result<Outcome<P>, RunError>
     ensures { IfOk result (λ o. IsOutcome script.now world.opening o.world o.transcripts.items) }
 {
-    let (outcome, _) = run_with(rt, alloc, world, None, script, gate, usize::MAX)?;
+    let (outcome, _) = run_with(rt, alloc, world, None, script, gate)?;
     Ok(outcome)
 }
 
@@ -62,7 +63,7 @@ pub fn run_threads_gauged<R: Threads + Wait + Sync, G: Gate, P: Pager + Send>(
     ensures cell { IfOk result (λ r. r.1.cell ≡ keeper.cell) }
     ensures numbers { IfOk result (λ r. IsCaughtUp r.0.world r.1.numbers) }
 {
-    let (outcome, keeper) = run_with(rt, alloc, world, Some(keeper), script, gate, usize::MAX)?;
+    let (outcome, keeper) = run_with(rt, alloc, world, Some(keeper), script, gate)?;
     let Some(mut keeper) = keeper else {
         unreachable!()
     };
@@ -70,21 +71,20 @@ pub fn run_threads_gauged<R: Threads + Wait + Sync, G: Gate, P: Pager + Send>(
     Ok((outcome, keeper))
 }
 
-// The one body of both, with or without a keeper. From this place on, a worker is refused its thread.
-pub(crate) fn run_with<R: Threads + Wait + Sync, G: Gate, P: Pager + Send>(
+// The one body of both, with or without a keeper.
+fn run_with<R: Threads + Wait + Sync, G: Gate, P: Pager + Send>(
     rt: &R,
     alloc: Global,
     mut world: World<P>,
     keeper: Option<Keeper>,
     script: &Script,
     gate: &G,
-    refused_from: usize,
 ) -> Result<(Outcome<P>, Option<Keeper>), RunError>
     ensures outcome { IfOk result (λ r. IsOutcome script.now world.opening r.0.world r.0.transcripts.items) }
     ensures cell { IfOk result (λ r. cell_of r.1 ≡ cell_of keeper) }
 {
     let start = prepared(alloc, &mut world, script)?;
-    run_prepared(rt, world, start, keeper, script, gate, refused_from)
+    run_prepared(rt, world, start, keeper, script, gate)
 }
 
 // A run on a world that has room for an event of each line, with all else that a run takes memory for.
@@ -95,7 +95,6 @@ fn run_prepared<R: Threads + Wait + Sync, G: Gate, P: Pager + Send>(
     keeper: Option<Keeper>,
     script: &Script,
     gate: &G,
-    refused_from: usize,
 ) -> Result<(Outcome<P>, Option<Keeper>), RunError>
     requires opening { start.opening ≡ world.opening }
     requires plan { IsPlan script.now.lines start.plan.jobs start.plan.handles start.plan.transcripts }
@@ -109,7 +108,7 @@ fn run_prepared<R: Threads + Wait + Sync, G: Gate, P: Pager + Send>(
         plan,
     } = start;
     let shared = Shared::new(world, processes);
-    let run = run_all(rt, &shared, keeper, script, gate, plan, refused_from);
+    let run = run_all(rt, &shared, keeper, script, gate, plan);
     let world = shared.into_world();
     match fault(&opening, &world, script, &run) {
         None => Ok(ended(world, run)),
@@ -237,7 +236,6 @@ fn run_all<R: Threads + Wait + Sync, G: Gate, P: Pager + Send>(
     script: &Script,
     gate: &G,
     plan: Plan,
-    refused_from: usize,
 ) -> Run
     requires { IsPlan script.now.lines plan.jobs plan.handles plan.transcripts }
     ensures { result.is_refused ≡ false → cell_of result.keeper ≡ cell_of keeper }
@@ -247,9 +245,6 @@ fn run_all<R: Threads + Wait + Sync, G: Gate, P: Pager + Send>(
         handles,
         transcripts,
     } = plan;
-    if refused_from == 0 {
-        return refused(transcripts);
-    }
     thread::scope(
         thread::scope_env(),
         rt,
@@ -272,7 +267,7 @@ fn run_all<R: Threads + Wait + Sync, G: Gate, P: Pager + Send>(
                     shared.end(rt, pid);
                     continue;
                 }
-                let started = builder(handles.len() < refused_from).spawn_scoped(
+                let started = Builder::new().spawn_scoped(
                     scope,
                     move || -> Ended
                         requires { HasRoom script.now.lines job }
@@ -311,15 +306,6 @@ fn refused(transcripts: Vec<Transcript>) -> Run
         keeper: None,
         expired: None,
         is_refused: true,
-    }
-}
-
-// A thread as the host makes it, or one whose stack no host can have.
-fn builder(can_start: bool) -> Builder {
-    if can_start {
-        Builder::new()
-    } else {
-        Builder::new().stack_size(usize::MAX)
     }
 }
 

@@ -4,13 +4,13 @@
 ghost use Rattle.std.specs.Prelude.{◌≡◌, ◌++◌, []};
 ghost use Rattle.shm_threads.specs.Keepers.{cell_of, HasPublished};
 ghost use Rattle.shm_text.specs.Variables.{call_of};
-ghost use Rattle.shm_threads.specs.Transcripts.{events_of};
+ghost use Rattle.shm_transcripts.specs.Transcripts.{events_of};
 
-use crate::outcome::{Answer, Entry};
 use shm_base::{Call, HostMemory, Process, Reply};
 use shm_history::{Keeper, World};
 use shm_pager::Pager;
 use shm_text::{Command, Vars};
+use shm_transcripts::{Answer, Entry};
 use std::alloc::Global;
 use std::sync::{Condvar, Mutex, Wait};
 

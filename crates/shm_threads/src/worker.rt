@@ -1,16 +1,16 @@
 //! What a process's thread runs.
 ghost use Rattle.std.specs.Prelude.{◌≡◌, IfOk, All, length};
 ghost use Rattle.shm_threads.specs.Keepers.{cell_of};
-ghost use Rattle.shm_threads.specs.Transcripts.{HasRoom, commands_of, is_line_of};
+ghost use Rattle.shm_threads.specs.Plans.{HasRoom, is_line_of};
+ghost use Rattle.shm_transcripts.specs.Transcripts.{commands_of};
 
-use crate::compare::{ends, reply_in};
 use crate::gate::Gate;
-use crate::outcome::Transcript;
 use crate::shared::Shared;
 use shm_base::HostMemory;
 use shm_history::Keeper;
 use shm_pager::Pager;
 use shm_text::{Line, Script, Vars};
+use shm_transcripts::Transcript;
 use std::alloc::Global;
 use std::sync::Wait;
 
@@ -146,8 +146,8 @@ fn run_lines<R: Wait, G: Gate, P: Pager>(
         }
         let entry = shared.call(rt, command, &vars);
         gate.after(pid, n);
-        vars.took(command, reply_in(&entry.answer));
-        let has_ended = ends(&entry);
+        vars.took(command, entry.answer.reply());
+        let has_ended = entry.is_end();
         let Ok(()) = transcript.entries.push(entry) else {
             unreachable!()
         };

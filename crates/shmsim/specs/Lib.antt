@@ -1,5 +1,1 @@
-pub mod Output
-pub mod Flat
-pub mod Threaded
-pub mod Faults
 pub mod Stop

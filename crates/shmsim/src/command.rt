@@ -1,6 +1,9 @@
 //! The command line, and why the program stops.
 ghost use Rattle.std.specs.Prelude.{◌≡◌, Some};
-ghost use Rattle.shmsim.specs.Stop.{stop_text, stop_status};
+ghost use Rattle.std.specs.IoError.{error_kind};
+ghost use Rattle.shm_program.specs.declared.fault.RunFault.TheVariants.{HostMemory};
+ghost use Rattle.shmsim.specs.Stop.{stop_text, stop_status, io_stop};
+ghost use Rattle.shmsim.specs.declared.command.Stop.TheVariants.{Fault};
 
 use clap::error::ErrorKind;
 use clap::{Arg, ArgAction, ArgMatches, Command, Error};
@@ -41,12 +44,16 @@ impl fmt::Display for Stop {
 }
 
 impl From<AllocError> for Stop {
+    ghost from_gives = { λ _ r. r ≡ Fault HostMemory };
+
     fn from(_e: AllocError) -> Stop {
         Stop::Fault(RunFault::HostMemory)
     }
 }
 
 impl<T: Drop> From<AllocFailed<T>> for Stop {
+    ghost from_gives = { λ _ r. r ≡ Fault HostMemory };
+
     fn from(_e: AllocFailed<T>) -> Stop {
         Stop::Fault(RunFault::HostMemory)
     }
@@ -54,6 +61,8 @@ impl<T: Drop> From<AllocFailed<T>> for Stop {
 
 // The two sides have one size, so memory was wanting.
 impl<L: Pager, R: Pager> From<MirrorRefused<L, R>> for Stop {
+    ghost from_gives = { λ _ r. r ≡ Fault HostMemory };
+
     fn from(_e: MirrorRefused<L, R>) -> Stop {
         Stop::Fault(RunFault::HostMemory)
     }
@@ -61,6 +70,8 @@ impl<L: Pager, R: Pager> From<MirrorRefused<L, R>> for Stop {
 
 // A word that is no text is a usage fault.
 impl From<io::Error> for Stop {
+    ghost from_gives = { λ e r. r ≡ io_stop (error_kind e) };
+
     fn from(e: io::Error) -> Stop {
         match e.kind() {
             io::ErrorKind::OutOfMemory => Stop::Fault(RunFault::HostMemory),

@@ -2,28 +2,17 @@
 #![tactic(auto)]
 
 mod command;
-mod fault;
-mod serial;
-#[cfg(test)]
-mod sweeps;
-#[cfg(test)]
-mod tests;
-mod threaded;
-#[cfg(test)]
-mod threaded_tests;
-mod world;
 
 use command::{Mode, Stop, read_command};
-use serial::run_serial;
 use shm_pager::{AnyPager, FusePager, MirrorPager, RamPager, SparsePager};
 use shm_program::SwapWord;
+use shm_runner::{run_serial, run_threaded};
 use std::alloc::Global;
 use std::io;
 use std::process::ExitCode;
 use std::rt::Env;
 use std::sync::Wait;
 use std::thread::Threads;
-use threaded::run_threaded;
 
 // Two areas in memory, kept alike.
 fn mirror(alloc: Global, slots: u32) -> Result<MirrorPager<RamPager, RamPager>, Stop> {

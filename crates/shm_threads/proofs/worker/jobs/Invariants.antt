@@ -1,5 +1,5 @@
 use Rattle.std.proofs.Common.{All}
-use Rattle.shm_threads.specs.Transcripts.{HasRoom}
+use Rattle.shm_threads.specs.Plans.{HasRoom}
 use Rattle.shm_threads.proofs.worker.jobs.Given as goal
 
 abbrev pub invariant-loop-process : goal.invariant-loop-process

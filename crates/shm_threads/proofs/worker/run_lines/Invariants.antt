@@ -1,5 +1,5 @@
 use Rattle.std.proofs.Common.{◌+◌, ◌≤◌, length, drop, vec_len, vec_capacity}
-use Rattle.shm_threads.specs.Transcripts.{commands_of}
+use Rattle.shm_transcripts.specs.Transcripts.{commands_of}
 use Rattle.shm_threads.proofs.worker.run_lines.Given as goal
 
 -- the transcript has room for the lines that are left

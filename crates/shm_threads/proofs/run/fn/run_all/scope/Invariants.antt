@@ -1,6 +1,6 @@
 use Rattle.std.proofs.Common.{◌+◌, ◌≤◌, All, vec_len, vec_capacity}
 use Rattle.std.specs.Vec.Iter.{into_iter_items, into_iter_len}
-use Rattle.shm_threads.specs.Transcripts.{HasRoom}
+use Rattle.shm_threads.specs.Plans.{HasRoom}
 use Rattle.shm_threads.proofs.run.fn.run_all.scope.Given as goal
 
 -- both lists have room for each worker that may still start

@@ -1,0 +1,24 @@
+use Rattle.std.proofs.Common.{subst, ℕ, List, map, length}
+use Rattle.std.specs.Prelude.{OnOk}
+use Rattle.shm_program.specs.Runs.{Writes}
+use Rattle.shm_runner.specs.Output.{IsOutput}
+use Rattle.shm_program.proofs.Causes.{world_causes, world_serials, stop_cause, stop_serial, silent_kept}
+use Rattle.shm_runner.proofs.serial.run_script.Goals as goal
+
+pub returns-in-Ok-clause-ok : goal.returns-in-Ok-clause-ok
+returns-in-Ok-clause-ok g c = subst (λ (areas : List ℕ). OnOk c.run_in.result (Writes (IsOutput c.args.script areas) (g.W.Write.contents c.args.writer.now) (g.W.Write.contents c.run_in.new.writer))) c.in-Ok.ensures.areas c.run_in.ensures.ok
+
+pub returns-in-Ok-clause-cause : goal.returns-in-Ok-clause-cause
+returns-in-Ok-clause-cause g c = world_causes c.run_in.result (map (λ p. length (g.P.Pager.content p)) c.args.pagers.items) c.args.script c.run_in.ensures.fault
+
+pub returns-in-Ok-clause-serial : goal.returns-in-Ok-clause-serial
+returns-in-Ok-clause-serial g c = world_serials c.run_in.result c.run_in.ensures.fault
+
+pub returns-in-Err-clause-cause : goal.returns-in-Err-clause-cause
+returns-in-Err-clause-cause g c = stop_cause c.in-Err.fault (map (λ p. length (g.P.Pager.content p)) c.args.pagers.items) c.args.script c.in-Err.ensures.err
+
+pub returns-in-Err-clause-serial : goal.returns-in-Err-clause-serial
+returns-in-Err-clause-serial g c = stop_serial c.in-Err.fault _ c.in-Err.ensures.err
+
+pub returns-in-Err-clause-silent : goal.returns-in-Err-clause-silent
+returns-in-Err-clause-silent g c = silent_kept c.in-Err.fault (g.W.Write.contents c.args.writer.now)

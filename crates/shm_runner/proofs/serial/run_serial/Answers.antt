@@ -1,0 +1,21 @@
+use Rattle.std.proofs.Common.{map, length}
+use Rattle.std.specs.Io.KnownBytes.{IsAtEnd}
+use Rattle.shm_runner.specs.Output.{IsOutput}
+use Rattle.shm_program.proofs.Causes.{anyway, causes, early_cause, silent_kept}
+use Rattle.shm_program.proofs.Texts.{shows}
+use Rattle.shm_runner.proofs.serial.run_serial.Goals as goal
+
+pub returns-in-Ok-clause-ok : goal.returns-in-Ok-clause-ok
+returns-in-Ok-clause-ok g c = shows IsOutput c.run_script.result (g.R.Read.remaining c.args.reader.now) (g.W.Write.contents c.args.writer.now) (g.W.Write.contents c.run_script.new.writer) (map (λ p. length (g.P.Pager.content p)) c.args.pagers.items) c.in-Ok.script c.in-Ok.ensures.read c.run_script.ensures.ok
+
+pub returns-in-Ok-clause-whole : goal.returns-in-Ok-clause-whole
+returns-in-Ok-clause-whole g c = anyway c.run_script.result (IsAtEnd (g.R.Read.remaining c.whole_script.new.reader)) c.in-Ok.ensures.whole
+
+pub returns-in-Ok-clause-cause : goal.returns-in-Ok-clause-cause
+returns-in-Ok-clause-cause g c = causes c.run_script.result (g.R.Read.remaining c.args.reader.now) (map (λ p. length (g.P.Pager.content p)) c.args.pagers.items) c.in-Ok.script c.in-Ok.ensures.read c.run_script.ensures.cause
+
+pub returns-in-Err-clause-cause : goal.returns-in-Err-clause-cause
+returns-in-Err-clause-cause g c = early_cause c.in-Err.fault (g.R.Read.remaining c.args.reader.now) (map (λ p. length (g.P.Pager.content p)) c.args.pagers.items) c.in-Err.ensures.cause
+
+pub returns-in-Err-clause-silent : goal.returns-in-Err-clause-silent
+returns-in-Err-clause-silent g c = silent_kept c.in-Err.fault (g.W.Write.contents c.args.writer.now)

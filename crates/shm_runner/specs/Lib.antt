@@ -1,0 +1,4 @@
+pub mod Output
+pub mod Flat
+pub mod Threaded
+pub mod Faults

@@ -1,0 +1,52 @@
+-- What a run with threads prints, and what its faults say of its input.
+use Rattle.std.specs.Prelude.{◌≡◌, ◌⊎◌, ℕ, Bool, true, false, List, map, Option, Result, All, OnOk, IfErr, IfSome}
+use Rattle.std.specs.List.{list_any}
+use Rattle.std.specs.Io.KnownBytes.{IsAtEnd}
+use Rattle.shm_history.specs.WorldState.{WorldState}
+use Rattle.shm_text.specs.Script.{ScriptView}
+use Rattle.shm_transcripts.specs.Transcripts.{IsTranscript, IsAdmitted, pid_in, pid_of}
+use Rattle.shm_transcripts.specs.declared.transcript.Answer.{Answer}
+use Rattle.shm_transcripts.specs.declared.transcript.Answer.TheVariants as answers
+use Rattle.shm_transcripts.specs.declared.transcript.Entry.{Entry}
+use Rattle.shm_transcripts.specs.declared.transcript.Transcript.{Transcript}
+use Rattle.shm_program.specs.Runs.{IsWorldOf, IsSilent, IsCause, Prints}
+use Rattle.shm_runner.specs.Output.{world_text}
+use Rattle.shm_program.specs.declared.fault.RunFault.{RunFault}
+use Rattle.shm_program.specs.declared.fault.RunFault.TheVariants.{HostMemory}
+
+-- a call for which the host refused memory
+abbrev pub is_marked : Answer → Bool
+is_marked (answers.Reply r) = false
+is_marked answers.HostMemory = true
+
+abbrev pub has_mark : List Entry → Bool
+has_mark entries = list_any (λ (e : Entry). is_marked e.answer) entries
+
+abbrev pub have_mark : List Transcript → Bool
+have_mark transcripts = list_any (λ (t : Transcript). has_mark t.entries.items) transcripts
+
+-- a history that the script's processes made, each in its own order
+pub record IsRunOf (script : ScriptView) (world : WorldState) (transcripts : List Transcript) : Type 0 where
+  pub processes : map pid_of transcripts ≡ map pid_in script.processes
+  pub follow : All (IsTranscript script world.events) transcripts
+  pub admitted : All (IsAdmitted script.processes) world.events
+
+-- the text of the world of such a run; and whether one of its calls is marked for want of memory
+pub record IsThreadedOutput (marked : Bool) (script : ScriptView) (areas : List ℕ) (text : List ℕ) : Type 0 where
+  pub world : WorldState
+  pub transcripts : List Transcript
+  pub is_world : IsWorldOf script areas world
+  pub is_run : IsRunOf script world transcripts
+  pub marks : have_mark transcripts ≡ marked
+  pub printed : text ≡ world_text world
+
+-- nothing is written, or all, where a call of the run found no memory
+abbrev pub IsAllOrNothing : RunFault → Option (List ℕ) → Option (List ℕ) → Type 0 → Type 0
+IsAllOrNothing fault old new Marked = IsSilent fault old new ⊎ ((fault ≡ HostMemory) × Marked)
+
+-- a run with threads, from what is left of the input before it and behind it, and what is written
+pub record IsThreadedRun (result : Result (Unit {0}) RunFault) (input rest old new : Option (List ℕ)) (areas : List ℕ) : Type 0 where
+  pub ok : OnOk result (IfSome input (λ bytes. Prints (IsThreadedOutput false) old new areas bytes))
+  pub whole : OnOk result (IsAtEnd rest)
+  pub cause : IfErr result (λ f. IfSome input (λ bytes. IsCause f areas bytes))
+  pub written : IfErr result (λ f. IsAllOrNothing f old new (IsAtEnd rest × IfSome input (λ bytes. Prints (IsThreadedOutput true) old new areas bytes)))

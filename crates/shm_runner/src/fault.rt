@@ -1,0 +1,17 @@
+//! How a run with threads ends, as a fault of the program.
+ghost use Rattle.std.specs.Prelude.{◌≡◌};
+ghost use Rattle.shm_runner.specs.Faults.{ended_as};
+
+use shm_program::RunFault;
+use shm_threads::RunError;
+
+pub(crate) fn ended(error: RunError) -> RunFault
+    ensures { result ≡ ended_as error }
+{
+    match error {
+        RunError::HostMemory => RunFault::HostMemory,
+        RunError::GateExpired { pid } => RunFault::Gate { pid },
+        RunError::HistoryMismatch { pid } => RunFault::Mismatch { pid },
+        RunError::ThreadRefused => RunFault::ThreadRefused,
+    }
+}

@@ -1,0 +1,105 @@
+//! A serial run: a script comes from a reader, its lines run in file order, and the texts of what was
+//! answered go to a writer.
+ghost use Rattle.std.specs.Prelude.{◌≡◌, ◌⊎◌, [], length, true, map, OnOk, IfErr, IfSome};
+ghost use Rattle.std.specs.Io.KnownBytes.{IsAtEnd};
+ghost use Rattle.shm_program.specs.Runs.{Prints, Writes, IsCause, IsCauseIn, is_serial, IsSilent, IsOpening};
+ghost use Rattle.shm_runner.specs.Output.{IsOutput, RunsInOrder};
+ghost use Rattle.shm_program.specs.Values.{fresh_holder};
+
+use crate::world::write_world;
+use shm_base::HostMemory;
+use shm_history::World;
+use shm_pager::Pager;
+use shm_program::{RunFault, Values, open_world, whole_script};
+use shm_text::{Line, Script};
+use std::alloc::Global;
+use std::io::{Read, Write};
+
+/// Runs the script that the reader gives over swap areas behind these pagers, and writes an event line for
+/// each command line, the listing of the segments, and the usage. Before the first byte is written the whole
+/// output is there, so at any fault but `WriteFailed` nothing is written. Faults are looked for in this order:
+/// reading, script, start, run, writing.
+pub fn run_serial<R: Read, W: Write, P: Pager>(
+    alloc: Global,
+    reader: &mut R,
+    writer: &mut W,
+    pagers: Vec<P>,
+) -> Result<(), RunFault>
+    ensures ok { OnOk result (IfSome (R.remaining reader.old) (λ input. Prints IsOutput (W.contents writer.old) (W.contents writer.new) (map (λ p. length (P.content p)) pagers.items) input)) }
+    ensures whole { OnOk result (IsAtEnd (R.remaining reader.new)) }
+    ensures cause { IfErr result (λ f. IfSome (R.remaining reader.old) (λ input. IsCause f (map (λ p. length (P.content p)) pagers.items) input)) }
+    ensures serial { IfErr result (λ f. is_serial f ≡ true) }
+    ensures silent { IfErr result (λ f. IsSilent f (W.contents writer.old) (W.contents writer.new)) }
+{
+    match whole_script(alloc, reader) {
+        Ok(script) => run_script(alloc, writer, script, pagers),
+        Err(fault) => Err(fault),
+    }
+}
+
+// Runs a script, and writes what is printed of it.
+fn run_script<W: Write, P: Pager>(
+    alloc: Global,
+    writer: &mut W,
+    script: Script,
+    pagers: Vec<P>,
+) -> Result<(), RunFault>
+    ensures ok { OnOk result (Writes (IsOutput script (map (λ p. length (P.content p)) pagers.items)) (W.contents writer.old) (W.contents writer.new)) }
+    ensures cause { IfErr result (λ f. IsCauseIn f (map (λ p. length (P.content p)) pagers.items) script) }
+    ensures serial { IfErr result (λ f. is_serial f ≡ true) }
+    ensures silent { IfErr result (λ f. IsSilent f (W.contents writer.old) (W.contents writer.new)) }
+{
+    match open_world(alloc, &script, pagers) {
+        Ok(mut world) => run_in(alloc, writer, &mut world, script),
+        Err(fault) => Err(fault),
+    }
+}
+
+// Runs a script in a world that it opened, and writes what is printed of it. The script's memory is given back before.
+fn run_in<W: Write, P: Pager>(
+    alloc: Global,
+    writer: &mut W,
+    world: &mut World<P>,
+    script: Script,
+) -> Result<(), RunFault>
+    requires events { world.old.events ≡ [] }
+    requires opened { IsOpening script world.old.opening }
+    ensures ok { OnOk result (Writes (IsOutput script world.old.opening.areas) (W.contents writer.old) (W.contents writer.new)) }
+    ensures fault { IfErr result (λ f. (f ≡ RunFault.HostMemory) ⊎ (f ≡ RunFault.WriteFailed)) }
+    ensures silent { IfErr result (λ f. IsSilent f (W.contents writer.old) (W.contents writer.new)) }
+{
+    let ran = run_lines(alloc, world, &script);
+    drop(script);
+    match ran {
+        Ok(()) => write_world(alloc, writer, world),
+        Err(HostMemory) => Err(RunFault::HostMemory),
+    }
+}
+
+// Runs the lines of a script in file order, in a world without history. It stops at the first want of
+// memory.
+fn run_lines<P: Pager>(
+    alloc: Global,
+    world: &mut World<P>,
+    script: &Script,
+) -> Result<(), HostMemory>
+    requires { world.old.events ≡ [] }
+    ensures follows { OnOk result (RunsInOrder (map fresh_holder script.now.processes) script.now.lines world.new.events) }
+    ensures opening { world.new.opening ≡ world.old.opening }
+{
+    let mut values = Values::new(alloc, &script.processes)?;
+    world.reserve(script.lines.len())?;
+    for line in &script.lines {
+        match line {
+            Line::Command(command) => {
+                let call = values.call(command);
+                let reply = world.call(command.pid(), &call)?;
+                values.took(command, &reply);
+            }
+            Line::Flush(round) => {
+                let _report = world.flush(u64::from(round.pages()));
+            }
+        }
+    }
+    Ok(())
+}

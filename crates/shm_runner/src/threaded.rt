@@ -1,0 +1,139 @@
+//! A run with threads: a script comes from a reader, each of its processes runs in a thread of its own, and
+//! the texts of the history that they made go to a writer.
+ghost use Rattle.std.specs.Prelude.{◌≡◌, ◌⊎◌, true, false, length, map, OnOk, IfErr};
+ghost use Rattle.std.specs.Io.KnownBytes.{Appends};
+ghost use Rattle.shm_program.specs.Runs.{IsCauseIn, IsOpening, IsWorldSound, Writes};
+ghost use Rattle.shm_runner.specs.Output.{world_text};
+ghost use Rattle.shm_runner.specs.Threaded.{is_marked, has_mark, have_mark, IsThreadedOutput, IsThreadedRun, IsAllOrNothing};
+
+use crate::fault::ended;
+use crate::world::write_world;
+use shm_history::World;
+use shm_pager::Pager;
+use shm_program::{RunFault, open_world, whole_script};
+use shm_text::Script;
+use shm_threads::{Answer, Entry, Gate, Outcome, Transcript, run_threads};
+use std::alloc::Global;
+use std::io::{Read, Write};
+use std::sync::Wait;
+use std::thread::Threads;
+
+/// Lets every worker pass.
+#[derive(Drop)]
+struct Open;
+
+impl Gate for Open {
+    fn before(&self, _pid: u32, _n: u64) -> bool {
+        true
+    }
+
+    fn after(&self, _pid: u32, _n: u64) {}
+}
+
+/// Runs the script that the reader gives over swap areas behind these pagers, each process in a thread of
+/// its own, and writes an event line for each call in the order of the history, the listing of the segments,
+/// and the usage. Before the first byte is written the whole output is there. At any fault but `WriteFailed`
+/// nothing is written, with one exception: where the host refused memory to a call of the run, the whole
+/// output is written and the answer is `HostMemory`; that call is not in the history. Faults are looked for
+/// in this order: reading, script, start, run, writing. Nothing is said of the order in which the processes'
+/// calls come, nor that a run ends: its threads wait for each other.
+pub fn run_threaded<T: Threads + Wait + Sync, R: Read, W: Write, P: Pager + Send>(
+    rt: &T,
+    alloc: Global,
+    reader: &mut R,
+    writer: &mut W,
+    pagers: Vec<P>,
+) -> Result<(), RunFault>
+    ensures { IsThreadedRun result (R.remaining reader.old) (R.remaining reader.new) (W.contents writer.old) (W.contents writer.new) (map (λ p. length (P.content p)) pagers.items) }
+{
+    match whole_script(alloc, reader) {
+        Ok(script) => run_script(rt, alloc, writer, &script, pagers),
+        Err(fault) => Err(fault),
+    }
+}
+
+// Runs a script, and writes what is printed of it.
+fn run_script<T: Threads + Wait + Sync, W: Write, P: Pager + Send>(
+    rt: &T,
+    alloc: Global,
+    writer: &mut W,
+    script: &Script,
+    pagers: Vec<P>,
+) -> Result<(), RunFault>
+    ensures ok { OnOk result (Writes (IsThreadedOutput false script.now (map (λ p. length (P.content p)) pagers.items)) (W.contents writer.old) (W.contents writer.new)) }
+    ensures cause { IfErr result (λ f. IsCauseIn f (map (λ p. length (P.content p)) pagers.items) script.now) }
+    ensures written { IfErr result (λ f. IsAllOrNothing f (W.contents writer.old) (W.contents writer.new) (Writes (IsThreadedOutput true script.now (map (λ p. length (P.content p)) pagers.items)) (W.contents writer.old) (W.contents writer.new))) }
+{
+    match open_world(alloc, script, pagers) {
+        Ok(world) => run_in(rt, alloc, writer, world, script),
+        Err(fault) => Err(fault),
+    }
+}
+
+// Runs a script in a world that it opened, and writes what is printed of it.
+fn run_in<T: Threads + Wait + Sync, W: Write, P: Pager + Send>(
+    rt: &T,
+    alloc: Global,
+    writer: &mut W,
+    world: World<P>,
+    script: &Script,
+) -> Result<(), RunFault>
+    requires { IsOpening script.now world.opening }
+    ensures ok { OnOk result (Writes (IsThreadedOutput false script.now world.opening.areas) (W.contents writer.old) (W.contents writer.new)) }
+    ensures cause { IfErr result (λ f. IsCauseIn f world.opening.areas script.now) }
+    ensures written { IfErr result (λ f. IsAllOrNothing f (W.contents writer.old) (W.contents writer.new) (Writes (IsThreadedOutput true script.now world.opening.areas) (W.contents writer.old) (W.contents writer.new))) }
+{
+    match run_threads(rt, alloc, world, script, &Open) {
+        Ok(outcome) => write_outcome(alloc, writer, &outcome),
+        Err(error) => Err(ended(error)),
+    }
+}
+
+/// Writes what is printed of a run with threads, as `run_threaded` does. The whole text is there before its first byte is
+/// written: it fails by `WriteFailed` where the writer does, and by `HostMemory` before the first byte, or behind the last
+/// one where the host refused memory to a call of the run.
+pub fn write_outcome<W: Write, P: Pager>(
+    alloc: Global,
+    writer: &mut W,
+    outcome: &Outcome<P>,
+) -> Result<(), RunFault>
+    ensures ok { OnOk result ((have_mark outcome.now.transcripts.items ≡ false) × Appends (W.contents writer.old) (W.contents writer.new) (world_text outcome.now.world)) }
+    ensures sound { IsWorldSound outcome.now.world }
+    ensures fault { IfErr result (λ f. (f ≡ RunFault.HostMemory) ⊎ (f ≡ RunFault.WriteFailed)) }
+    ensures written { IfErr result (λ f. IsAllOrNothing f (W.contents writer.old) (W.contents writer.new) ((have_mark outcome.now.transcripts.items ≡ true) × Appends (W.contents writer.old) (W.contents writer.new) (world_text outcome.now.world))) }
+{
+    match write_world(alloc, writer, &outcome.world) {
+        Ok(()) => {
+            if have_mark(&outcome.transcripts) {
+                Err(RunFault::HostMemory)
+            } else {
+                Ok(())
+            }
+        }
+        Err(fault) => Err(fault),
+    }
+}
+
+// Whether a call of the run found no memory.
+fn have_mark(transcripts: &[Transcript]) -> bool
+    ensures { result ≡ have_mark transcripts.now }
+{
+    transcripts
+        .iter()
+        .any(|transcript| has_mark(&transcript.entries))
+}
+
+fn has_mark(entries: &[Entry]) -> bool
+    ensures { result ≡ has_mark entries.now }
+{
+    entries.iter().any(|entry| is_marked(&entry.answer))
+}
+
+fn is_marked(answer: &Answer) -> bool
+    ensures { result ≡ is_marked answer.now }
+{
+    match answer {
+        Answer::Reply(_) => false,
+        Answer::HostMemory => true,
+    }
+}

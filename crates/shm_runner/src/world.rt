@@ -1,0 +1,60 @@
+//! The text of a world is written.
+ghost use Rattle.std.specs.Prelude.{◌≡◌, ◌⊎◌, OnOk, IfErr, IfOk, string_bytes};
+ghost use Rattle.std.specs.Io.KnownBytes.{Appends};
+ghost use Rattle.shm_print.specs.Text.{events_text};
+ghost use Rattle.shm_program.specs.Runs.{IsSilent, IsWorldSound};
+ghost use Rattle.shm_runner.specs.Output.{world_text};
+
+use shm_base::Event;
+use shm_history::World;
+use shm_laws::lawful;
+use shm_pager::Pager;
+use shm_print::push_event;
+use shm_program::{RunFault, write_output};
+use shm_report::{listing, usage};
+use std::alloc::{AllocError, Global};
+use std::io::Write;
+
+// The lines of a history.
+fn history_text(alloc: Global, history: &[Event]) -> Result<String, AllocError>
+    ensures { IfOk result (λ text. string_bytes text ≡ events_text 1 history.now) }
+{
+    let mut text = String::new(alloc);
+    let mut place = 1u64;
+    for event in history {
+        push_event(&mut text, place, event)?;
+        place += 1;
+    }
+    Ok(text)
+}
+
+// What is printed of a world: its event lines, the listing of its segments, and its usage.
+fn world_text<P: Pager>(alloc: Global, world: &World<P>) -> Result<String, AllocError>
+    ensures text { IfOk result (λ text. string_bytes text ≡ world_text world.now) }
+    ensures sound { IsWorldSound world.now }
+{
+    let mut text = history_text(alloc, lawful(world))?;
+    text.push_str(&listing(alloc, world)?)?;
+    text.push_str(&usage(alloc, world)?)?;
+    Ok(text)
+}
+
+/// Writes what is printed of a world. The whole text is there before its first byte is written.
+pub(crate) fn write_world<W: Write, P: Pager>(
+    alloc: Global,
+    writer: &mut W,
+    world: &World<P>,
+) -> Result<(), RunFault>
+    ensures written { OnOk result (Appends (W.contents writer.old) (W.contents writer.new) (world_text world.now)) }
+    ensures sound { IsWorldSound world.now }
+    ensures fault { IfErr result (λ f. (f ≡ RunFault.HostMemory) ⊎ (f ≡ RunFault.WriteFailed)) }
+    ensures silent { IfErr result (λ f. IsSilent f (W.contents writer.old) (W.contents writer.new)) }
+{
+    match world_text(alloc, world) {
+        Ok(text) => match write_output(writer, text.as_bytes()) {
+            Ok(()) => Ok(()),
+            Err(_) => Err(RunFault::WriteFailed),
+        },
+        Err(_) => Err(RunFault::HostMemory),
+    }
+}

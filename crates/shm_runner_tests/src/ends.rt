@@ -1,0 +1,227 @@
+//! Readers and writers that fail, are interrupted, or go byte by byte; and the texts and statuses of faults.
+use shm_base::{BadLimits, HostMemory};
+use shm_history::StartError;
+use shm_pager::{PagerFault, RamPager};
+use shm_program::RunFault;
+use shm_runner::run_serial;
+use shm_threads::RunError;
+use std::alloc::Global;
+use std::io::{ErrorKind, Read, Write};
+use std::test::Fail;
+use std::{fmt, io};
+
+pub(crate) const SCRIPT: &[u8] =
+    b"limits 65536 16 64 4 1\nprocess 1 100 100\n1 s = shmget private 8192 600\n1 a = shmat s null -\n1 store a+4094 01020304\n1 load a+4093 6\n";
+
+pub(crate) const OUTPUT: &[u8] =
+    b"1 1 shmget 0x00000000 8192 600 = 0\n2 1 shmat 0 null - = 0x40000000\n3 1 store 0x40000ffe 01020304 = ok\n4 1 load 0x40000ffd 6 = 000102030400\nkey        shmid      owner      perms      bytes      nattch     status\n0x00000000 0          100        600        8192       1          -\nusage events 4 segments 1 reserved 2 locked 0\nusage frames 2/4 dirty 2 slots 0/64\nusage in 0 out 0 failures 0\n";
+
+/// Gives so many bytes at each ask, and fails at one of them, from 1 on.
+#[derive(Drop)]
+pub(crate) struct Source {
+    rest: &'static [u8],
+    most: usize,
+    asks: u32,
+    fails: u32,
+    kind: ErrorKind,
+}
+
+pub(crate) fn reader(most: usize, fails: u32) -> Source {
+    Source {
+        rest: SCRIPT,
+        most,
+        asks: 0,
+        fails,
+        kind: ErrorKind::Other,
+    }
+}
+
+impl Read for Source {
+    fn read(&mut self, buf: &mut [u8]) -> io::Result<usize> {
+        self.asks = self.asks.saturating_add(1);
+        if self.asks == self.fails {
+            return Err(io::Error::from(self.kind));
+        }
+        let rest = self.rest;
+        let count = rest.len().min(buf.len()).min(self.most);
+        let (now, later) = rest.split_at(count);
+        buf[..count].copy_from_slice(now);
+        self.rest = later;
+        Ok(count)
+    }
+}
+
+/// Is always interrupted.
+#[derive(Drop)]
+struct Restless {
+    asks: u32,
+}
+
+impl Read for Restless {
+    fn read(&mut self, _buf: &mut [u8]) -> io::Result<usize> {
+        self.asks = self.asks.saturating_add(1);
+        Err(io::Error::from(ErrorKind::Interrupted))
+    }
+}
+
+/// Takes so many bytes at each write, and fails at one of them, from 1 on.
+#[derive(Drop)]
+pub(crate) struct Sink {
+    pub(crate) taken: Vec<u8>,
+    most: usize,
+    writes: u32,
+    fails: u32,
+    kind: ErrorKind,
+}
+
+pub(crate) fn writer(alloc: Global, most: usize, fails: u32, kind: ErrorKind) -> Sink {
+    Sink {
+        taken: Vec::new(alloc),
+        most,
+        writes: 0,
+        fails,
+        kind,
+    }
+}
+
+impl Write for Sink {
+    fn write(&mut self, buf: &[u8]) -> io::Result<usize> {
+        self.writes = self.writes.saturating_add(1);
+        if self.writes == self.fails {
+            return Err(io::Error::from(self.kind));
+        }
+        let count = buf.len().min(self.most);
+        if self.taken.extend_from_slice(&buf[..count]).is_err() {
+            return Err(io::Error::from(ErrorKind::OutOfMemory));
+        }
+        Ok(count)
+    }
+
+    fn flush(&mut self) -> io::Result<()> {
+        Ok(())
+    }
+}
+
+fn run<R: Read>(
+    alloc: Global,
+    reader: &mut R,
+    writer: &mut Sink,
+    areas: usize,
+) -> Result<Option<RunFault>, Fail> {
+    let mut pagers = Vec::new(alloc);
+    for _ in 0..areas {
+        pagers.push(RamPager::new(alloc, 64)?)?;
+    }
+    Ok(run_serial(alloc, reader, writer, pagers).err())
+}
+
+#[test]
+fn byte_by_byte(rt: HostRuntime) -> Result<(), Fail> {
+    let alloc = rt.alloc();
+    for most in [1, 7, 4096] {
+        let mut taker = writer(alloc, most, 0, ErrorKind::Other);
+        assert!(rt; run(alloc, &mut reader(most, 0), &mut taker, 1)?.is_none());
+        assert!(rt; taker.taken.as_slice() == OUTPUT, "at {most}");
+    }
+    Ok(())
+}
+
+#[test]
+fn failing_reads(rt: HostRuntime) -> Result<(), Fail> {
+    let alloc = rt.alloc();
+    // 6 asks of 25 bytes for the 132 of the script, and one that finds its end
+    for fails in 1..=7 {
+        let mut taker = writer(alloc, 4096, 0, ErrorKind::Other);
+        let fault = run(alloc, &mut reader(25, fails), &mut taker, 1)?;
+        assert!(rt; fault == Some(RunFault::ReadFailed), "at {fails}");
+        assert!(rt; taker.taken.is_empty());
+    }
+    let mut taker = writer(alloc, 4096, 0, ErrorKind::Other);
+    assert!(rt; run(alloc, &mut reader(25, 8), &mut taker, 1)?.is_none());
+    Ok(())
+}
+
+#[test]
+fn interrupted_reads(rt: HostRuntime) -> Result<(), Fail> {
+    let alloc = rt.alloc();
+    let mut taker = writer(alloc, 4096, 0, ErrorKind::Other);
+    let mut once = reader(25, 3);
+    once.kind = ErrorKind::Interrupted;
+    assert!(rt; run(alloc, &mut once, &mut taker, 1)?.is_none());
+    assert!(rt; taker.taken.as_slice() == OUTPUT);
+    let mut taker = writer(alloc, 4096, 0, ErrorKind::Other);
+    let mut always = Restless { asks: 0 };
+    assert!(rt; run(alloc, &mut always, &mut taker, 1)? == Some(RunFault::ReadFailed));
+    assert_eq!(rt; always.asks, 2097152);
+    assert!(rt; taker.taken.is_empty());
+    Ok(())
+}
+
+#[test]
+fn failing_writes(rt: HostRuntime) -> Result<(), Fail> {
+    let alloc = rt.alloc();
+    for kind in [ErrorKind::Other, ErrorKind::Interrupted] {
+        for fails in 1..=3 {
+            let mut taker = writer(alloc, 50, fails, kind);
+            let fault = run(alloc, &mut reader(4096, 0), &mut taker, 1)?;
+            assert!(rt; fault == Some(RunFault::WriteFailed), "at {fails}");
+        }
+    }
+    let mut taker = writer(alloc, 0, 0, ErrorKind::Other);
+    assert!(rt; run(alloc, &mut reader(4096, 0), &mut taker, 1)? == Some(RunFault::WriteFailed));
+    Ok(())
+}
+
+#[test]
+fn refused_starts(rt: HostRuntime) -> Result<(), Fail> {
+    let alloc = rt.alloc();
+    for areas in [0, 9] {
+        let mut taker = writer(alloc, 4096, 0, ErrorKind::Other);
+        let fault = run(alloc, &mut reader(4096, 0), &mut taker, areas)?;
+        assert!(rt; fault == Some(RunFault::StartRefused(1)), "at {areas}");
+        assert!(rt; taker.taken.is_empty());
+    }
+    Ok(())
+}
+
+fn has_text<T: fmt::Display>(alloc: Global, error: &T, text: &str) -> Result<bool, Fail> {
+    Ok(format!(in alloc; "{error}")?.as_str() == text)
+}
+
+#[test]
+fn texts_of_refused_starts(rt: HostRuntime) -> Result<(), Fail> {
+    let alloc = rt.alloc();
+    for (error, text) in [
+        (StartError::Areas, "not 1 to 8 swap areas"),
+        (StartError::AreaSize, "a swap area without 1 to 65536 slots"),
+        (StartError::Processes, "more than 64 processes"),
+        (StartError::Pid, "a pid out of range, or twice"),
+        (StartError::HostMemory, "out of memory"),
+    ] {
+        assert!(rt; has_text(alloc, &error, text)?, "{text}");
+    }
+    Ok(())
+}
+
+#[test]
+fn texts_of_ended_runs(rt: HostRuntime) -> Result<(), Fail> {
+    let alloc = rt.alloc();
+    for (error, text) in [
+        (RunError::HostMemory, "out of memory"),
+        (RunError::GateExpired { pid: 7 }, "gate expired 7"),
+        (RunError::HistoryMismatch { pid: 0 }, "history mismatch 0"),
+        (RunError::ThreadRefused, "thread refused"),
+    ] {
+        assert!(rt; has_text(alloc, &error, text)?, "{text}");
+    }
+    Ok(())
+}
+
+#[test]
+fn texts_of_lower_errors(rt: HostRuntime) -> Result<(), Fail> {
+    let alloc = rt.alloc();
+    assert!(rt; has_text(alloc, &BadLimits(5), "bad limits 5")?);
+    assert!(rt; has_text(alloc, &HostMemory, "out of memory")?);
+    assert!(rt; has_text(alloc, &PagerFault, "a pager failed")?);
+    Ok(())
+}

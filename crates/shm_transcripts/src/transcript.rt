@@ -1,0 +1,55 @@
+//! What a worker called and was answered.
+use shm_base::{Call, Reply};
+
+/// The answer to a worker's call: the system's reply, or that the host refused memory. A call without
+/// memory changed nothing and is not in the history.
+#[derive(Debug, Drop, PartialEq)]
+pub enum Answer {
+    Reply(Reply),
+    HostMemory,
+}
+
+impl Answer {
+    ghost use Rattle.std.specs.Prelude.{◌≡◌};
+    ghost use Rattle.std.specs.Option.{option_copied};
+    ghost use Rattle.shm_transcripts.specs.Transcripts.{reply_in};
+
+    /// The reply, where there is one.
+    pub fn reply(&self) -> Option<&Reply>
+        ensures { option_copied result ≡ reply_in self.now }
+    {
+        match self {
+            Answer::Reply(reply) => Some(reply),
+            Answer::HostMemory => None,
+        }
+    }
+}
+
+/// A worker's call with its answer.
+#[derive(Debug, Drop, PartialEq)]
+pub struct Entry {
+    pub call: Call,
+    pub answer: Answer,
+}
+
+impl Entry {
+    ghost use Rattle.std.specs.Prelude.{◌≡◌};
+    ghost use Rattle.shm_transcripts.specs.Transcripts.{is_end};
+
+    /// Whether the process ends by this call.
+    pub fn is_end(&self) -> bool
+        ensures { result ≡ is_end self.now.call self.now.answer }
+    {
+        match (&self.call, &self.answer) {
+            (Call::Exit, Answer::Reply(Reply::Done)) => true,
+            _ => false,
+        }
+    }
+}
+
+/// The calls of one process's worker, in order.
+#[derive(Debug, Drop)]
+pub struct Transcript {
+    pub pid: u32,
+    pub entries: Vec<Entry>,
+}
