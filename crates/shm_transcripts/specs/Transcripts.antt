@@ -1,5 +1,5 @@
 -- What transcripts say of a history.
-use Rattle.std.specs.Prelude.{◌≡◌, ◌≢◌, ◌⊎◌, ◌==◌, ℕ, List, [], ◌∷◌, Bool, true, false, not, ◌&&◌, is_some, if◌then◌else◌, Option, Some, None, MatchBool, All, map, min}
+use Rattle.std.specs.Prelude.{◌≡◌, ◌≢◌, ◌⊎◌, ◌==◌, ℕ, List, [], ◌∷◌, Bool, true, false, not, ◌&&◌, is_some, if◌then◌else◌, Option, Some, None, MatchBool, All, min}
 use Rattle.std.specs.List.{list_any}
 use Rattle.shm_base.specs.History.{own_part}
 use Rattle.shm_base.specs.declared.call.Call.{Call}
