@@ -128,6 +128,22 @@ static void test_processes(nog_machine *m) {
     ANSWER(nog_open(m, &limits, &ram, 1, &none, 0, many, 2), NOG_DONE);
 }
 
+/* of several faults the first is answered: limits, what is out of range, then areas and processes */
+static void test_first_fault(nog_machine *m) {
+    static const nog_limits no_frames = {1, 1, 1, 1, 0};
+    static const nog_area strange = {4, 8}, large = {NOG_RAM, 65537};
+    static const nog_failure far = {.area = 2, .call = 1};
+    nog_process many[65];
+    for (int i = 0; i < 65; i++) many[i] = (nog_process){0, 1, 0, 0};
+    ANSWER(nog_open(m, &no_frames, &strange, 1, &far, 1, many, 65), NOG_BAD_FRAMES);
+    ANSWER(nog_open(m, &limits, &strange, 1, &none, 0, many, 65), NOG_OUT_OF_RANGE);
+    ANSWER(nog_open(m, &limits, &large, 1, &far, 1, many, 65), NOG_OUT_OF_RANGE);
+    ANSWER(nog_open(m, &limits, &large, 0, &none, 0, many, 65), NOG_BAD_AREAS);
+    ANSWER(nog_open(m, &limits, &large, 1, &none, 0, many, 65), NOG_BAD_AREA_SIZE);
+    ANSWER(nog_open(m, &limits, &ram, 1, &none, 0, many, 65), NOG_BAD_PROCESSES);
+    ANSWER(nog_open(m, &limits, &ram, 1, &none, 0, many, 64), NOG_BAD_PID);
+}
+
 /* an open that is refused leaves the machine that the handle had, and one that is done begins anew */
 static void test_opened_again(nog_machine *m) {
     uint64_t calls = 0;
@@ -350,6 +366,8 @@ static void test_texts(void) {
         ANSWER(nog_text(codes[i], cut, 0, &again), NOG_DONE);
         TEST(again == len && memcmp(cut, text, 2) == 0);
     }
+    ANSWER(nog_text(NOG_EINVAL, text, sizeof text, &len), NOG_DONE);
+    TEST(len == 6 && strcmp((char *)text, "EINVAL") == 0);
     for (size_t i = 0; i < sizeof no_codes / sizeof *no_codes; i++) {
         len = 77;
         memset(text, UNTOUCHED, sizeof text);
@@ -383,6 +401,7 @@ int main(void) {
     test_areas(&machine);
     test_failures(&machine);
     test_processes(&machine);
+    test_first_fault(&machine);
     test_opened_again(&machine);
     test_segments(&machine);
     test_each_field(&machine);

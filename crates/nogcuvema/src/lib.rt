@@ -13,8 +13,6 @@ mod perform;
 mod segments;
 mod stretch;
 mod structs;
-#[cfg(test)]
-mod tests;
 
 pub use about::{nog_layout, nog_text, nog_version};
 pub use access::{nog_add, nog_load};
