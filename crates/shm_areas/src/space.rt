@@ -19,9 +19,14 @@ use std::marker::Model;
 
 /// The pieces of a process by rising base. There is room for 256, the most that a process may have,
 /// from the beginning, so that no change takes memory.
-#[derive(Drop)]
 pub struct Space {
     pieces: Vec<Piece>,
+}
+
+impl Drop for Space {
+    fn drop(self) {
+        let Space { pieces: _ } = self;
+    }
 }
 
 impl Model for Space {

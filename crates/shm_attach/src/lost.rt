@@ -8,9 +8,15 @@ use std::marker::Model;
 
 /// The segments that lost pieces in one call, by rising base: a segment stands here once for each piece
 /// that went or was cut. There are at most 256.
-#[derive(Debug, Drop)]
+#[derive(Debug)]
 pub struct Lost {
     segments: ArrayVec<u32, 256>,
+}
+
+impl Drop for Lost {
+    fn drop(self) {
+        let Lost { segments: _ } = self;
+    }
 }
 
 impl Model for Lost {

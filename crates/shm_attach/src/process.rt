@@ -10,10 +10,15 @@ pub(crate) enum Life {
     Ended,
 }
 
-#[derive(Drop)]
 pub(crate) struct Runner {
     pub(crate) life: Life,
     pub(crate) space: Space,
+}
+
+impl Drop for Runner {
+    fn drop(self) {
+        let Runner { life: _, space: _ } = self;
+    }
 }
 
 /// A child that was declared and is not born yet: its place among the processes.

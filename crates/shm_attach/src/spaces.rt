@@ -27,10 +27,18 @@ use std::marker::Model;
 
 /// The processes in the order in which they were declared, each with its pieces, the attach count of each
 /// segment, and the translations: for each page of each attached segment the frame that it is in, or none.
-#[derive(Drop)]
 pub struct Spaces {
     pub(crate) processes: IndexMap<u32, Runner>,
     pub(crate) tables: Tables,
+}
+
+impl Drop for Spaces {
+    fn drop(self) {
+        let Spaces {
+            processes: _,
+            tables: _,
+        } = self;
+    }
 }
 
 impl Model for Spaces {

@@ -11,11 +11,20 @@ use std::marker::Model;
 
 /// How many pieces a segment has, and the frames of its first pages: where each is resident, and none where it
 /// is not.
-#[derive(Drop)]
 pub(crate) struct Table {
     seg: u32,
     count: u32,
     frames: Vec<Option<FrameNo>>,
+}
+
+impl Drop for Table {
+    fn drop(self) {
+        let Table {
+            seg: _,
+            count: _,
+            frames: _,
+        } = self;
+    }
 }
 
 impl Model for Table {

@@ -18,11 +18,20 @@ use std::alloc::Global;
 use std::collections::HashMap;
 
 /// The tables of the attached segments, and the key of each segment's.
-#[derive(Drop)]
 pub(crate) struct Tables {
     alloc: Global,
     keys: HashMap<u32, usize>,
     slab: Slab<Table>,
+}
+
+impl Drop for Tables {
+    fn drop(self) {
+        let Tables {
+            alloc: _,
+            keys: _,
+            slab: _,
+        } = self;
+    }
 }
 
 impl Tables {

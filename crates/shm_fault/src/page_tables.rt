@@ -17,18 +17,31 @@ pub struct PageRec {
 }
 
 /// Where the pages of a segment are, and whether it is locked.
-#[derive(Drop)]
 pub(crate) struct PageTable {
     pub(crate) locked: bool,
     pub(crate) pages: Vec<PageRec>,
 }
 
+impl Drop for PageTable {
+    fn drop(self) {
+        let PageTable {
+            locked: _,
+            pages: _,
+        } = self;
+    }
+}
+
 /// The page tables of segments, in the order in which they were added. Finding one by its segment takes no
 /// longer where there are more of them.
-#[derive(Drop)]
 pub(crate) struct PageTables {
     alloc: Global,
     by_id: IndexMap<u32, PageTable>,
+}
+
+impl Drop for PageTables {
+    fn drop(self) {
+        let PageTables { alloc: _, by_id: _ } = self;
+    }
 }
 
 impl Model for PageTables {

@@ -18,7 +18,6 @@ use std::alloc::Global;
 use std::marker::Model;
 
 /// Pages of segments, over frames and swap.
-#[derive(Drop)]
 pub struct PageStore<P: Pager> {
     pub(crate) segs: PageTables,
     pub(crate) frames: Frames,
@@ -28,6 +27,19 @@ pub struct PageStore<P: Pager> {
     // Pager reads for faults, and pager writes for evictions and flushes.
     pub(crate) ins: u64,
     pub(crate) outs: u64,
+}
+
+impl<P: Pager> Drop for PageStore<P> {
+    fn drop(self) {
+        let PageStore {
+            segs: _,
+            frames: _,
+            hand: _,
+            swap: _,
+            ins: _,
+            outs: _,
+        } = self;
+    }
 }
 
 impl<P: Pager> Model for PageStore<P> {

@@ -18,17 +18,33 @@ impl Default for Move {
 }
 
 /// The pager reads and writes that were done for an access, and the pages that moved, in order.
-#[derive(Debug, Drop)]
+#[derive(Debug)]
 pub struct Touched {
     pub ins: u64,
     pub outs: u64,
     pub moved: ArrayVec<Move, 4>,
 }
 
+impl Drop for Touched {
+    fn drop(self) {
+        let Touched {
+            ins: _,
+            outs: _,
+            moved: _,
+        } = self;
+    }
+}
+
 /// A pager failed. What was read and written before is counted, and the pages that moved are named.
-#[derive(Debug, Drop)]
+#[derive(Debug)]
 pub struct PagerFailed {
     pub touched: Touched,
+}
+
+impl Drop for PagerFailed {
+    fn drop(self) {
+        let PagerFailed { touched: _ } = self;
+    }
 }
 
 /// The pages in frames, those of them that are dirty, the slots of the areas that are there, the slots

@@ -21,7 +21,6 @@ struct Entry {
 }
 
 /// The frames of a machine. They are seen as a list, each with its owner, its bytes and its two bits.
-#[derive(Drop)]
 pub struct Frames {
     table: Vec<Entry>,
     pages: Vec<[u8; 4096]>,
@@ -30,6 +29,18 @@ pub struct Frames {
     // How many frames are owned, and how many are dirty.
     resident: u32,
     dirty: u32,
+}
+
+impl Drop for Frames {
+    fn drop(self) {
+        let Frames {
+            table: _,
+            pages: _,
+            first_free: _,
+            resident: _,
+            dirty: _,
+        } = self;
+    }
 }
 
 impl Model for Frames {

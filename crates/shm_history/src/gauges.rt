@@ -14,9 +14,14 @@ use std::sync::{Arc, Wait};
 
 /// Shows the counts that its keeper stored last. It is shared by reference. To a contract it is the name of
 /// its cell.
-#[derive(Drop)]
 pub struct Gauge {
     cell: Arc<Cell, Global>,
+}
+
+impl Drop for Gauge {
+    fn drop(self) {
+        let Gauge { cell: _ } = self;
+    }
 }
 
 impl Model for Gauge {
@@ -30,11 +35,20 @@ impl Model for Gauge {
 }
 
 /// The one seat that stores. To a contract it is the name of its cell, and the counts that it stored last.
-#[derive(Drop)]
 pub struct Keeper {
     cell: Arc<Cell, Global>,
     pass: SeatPass,
     last: Reading,
+}
+
+impl Drop for Keeper {
+    fn drop(self) {
+        let Keeper {
+            cell: _,
+            pass: _,
+            last: _,
+        } = self;
+    }
 }
 
 impl Model for Keeper {
@@ -53,9 +67,14 @@ impl Model for Keeper {
 }
 
 /// A reader's seat. To a contract it is the name of its cell, and what its last reading was.
-#[derive(Drop)]
 pub struct ReaderSeat {
     pass: SeatPass,
+}
+
+impl Drop for ReaderSeat {
+    fn drop(self) {
+        let ReaderSeat { pass: _ } = self;
+    }
 }
 
 impl Model for ReaderSeat {

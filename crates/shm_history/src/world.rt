@@ -21,10 +21,18 @@ use std::alloc::Global;
 use std::marker::Model;
 
 /// A system with its history, which is legal.
-#[derive(Drop)]
 pub struct World<P: Pager> {
     system: System<P>,
     history: Vec<Event>,
+}
+
+impl<P: Pager> Drop for World<P> {
+    fn drop(self) {
+        let World {
+            system: _,
+            history: _,
+        } = self;
+    }
 }
 
 impl<P: Pager> Model for World<P> {

@@ -46,14 +46,21 @@ pub struct Row<T> {
 }
 
 /// What stands at one index: how many rows were destroyed there, and the row that holds it.
-#[derive(Drop)]
 pub struct Entry<T> {
     pub destroyed: u32,
     pub row: Option<Row<T>>,
 }
 
+impl<T: Drop> Drop for Entry<T> {
+    fn drop(self) {
+        let Entry {
+            destroyed: _,
+            row: _,
+        } = self;
+    }
+}
+
 /// Rows under identifiers. It is seen as the list of its entries.
-#[derive(Drop)]
 pub struct IdTable<T> {
     entries: Vec<Entry<T>>,
     // No index below this one is free.
@@ -62,6 +69,17 @@ pub struct IdTable<T> {
     rows: usize,
     // The index of each live key but 0, in order of creation.
     keys: IndexMap<u32, u32>,
+}
+
+impl<T: Drop> Drop for IdTable<T> {
+    fn drop(self) {
+        let IdTable {
+            entries: _,
+            first_free: _,
+            rows: _,
+            keys: _,
+        } = self;
+    }
 }
 
 impl<T> Model for IdTable<T> {

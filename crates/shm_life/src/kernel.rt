@@ -12,11 +12,20 @@ use shm_segments::Segments;
 use std::marker::Model;
 
 /// The machine's state: its segments with their memory, and the pieces of its processes.
-#[derive(Drop)]
 pub(crate) struct Kernel<P: Pager> {
     pub(crate) limits: Limits,
     pub(crate) segments: Segments<P>,
     pub(crate) spaces: Spaces,
+}
+
+impl<P: Pager> Drop for Kernel<P> {
+    fn drop(self) {
+        let Kernel {
+            limits: _,
+            segments: _,
+            spaces: _,
+        } = self;
+    }
 }
 
 impl<P: Pager> Model for Kernel<P> {

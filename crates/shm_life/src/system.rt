@@ -25,11 +25,20 @@ use std::alloc::{AllocError, Global};
 use std::marker::Model;
 
 /// What a machine starts from: its limits, the slot counts of its swap areas, and its processes.
-#[derive(Drop)]
 pub struct Opening {
     pub limits: Limits,
     pub areas: Vec<u32>,
     pub processes: Vec<Process>,
+}
+
+impl Drop for Opening {
+    fn drop(self) {
+        let Opening {
+            limits: _,
+            areas: _,
+            processes: _,
+        } = self;
+    }
 }
 
 impl Model for Opening {
@@ -42,11 +51,20 @@ impl Model for Opening {
 
 /// A machine over swap areas. It is pager_seen as how it opened, how many calls it answered, and the flat
 /// machine; before the first call that is as the opening says.
-#[derive(Drop)]
 pub struct System<P: Pager> {
     opening: Opening,
     calls: u64,
     pub(crate) kernel: Kernel<P>,
+}
+
+impl<P: Pager> Drop for System<P> {
+    fn drop(self) {
+        let System {
+            opening: _,
+            calls: _,
+            kernel: _,
+        } = self;
+    }
 }
 
 impl<P: Pager> Model for System<P> {

@@ -24,11 +24,20 @@ pub struct Failing {
 }
 
 /// A swap area whose listed reads and writes fail.
-#[derive(Drop)]
 pub enum AreaPager {
     Ram(FusePager<RamPager>),
     Sparse(FusePager<SparsePager>),
     Mirror(MirrorPager<FusePager<RamPager>, FusePager<RamPager>>),
+}
+
+impl Drop for AreaPager {
+    fn drop(self) {
+        match self {
+            AreaPager::Ram(_) => {}
+            AreaPager::Sparse(_) => {}
+            AreaPager::Mirror(_) => {}
+        }
+    }
 }
 
 // A side in memory.

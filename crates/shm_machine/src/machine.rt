@@ -19,9 +19,14 @@ use shm_life::{StartError, System};
 use std::alloc::Global;
 
 /// A machine over swap areas of the kinds that there are.
-#[derive(Drop)]
 pub struct Machine {
     pub system: System<AreaPager>,
+}
+
+impl Drop for Machine {
+    fn drop(self) {
+        let Machine { system: _ } = self;
+    }
 }
 
 // The error of a refusal.

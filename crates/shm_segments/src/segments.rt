@@ -22,13 +22,23 @@ use std::alloc::Global;
 use std::marker::Model;
 
 /// The segments, seen as the flat machine's table beside the memory that their bytes lie in.
-#[derive(Drop)]
 pub struct Segments<P: Pager> {
     pub(crate) table: IdTable<Head>,
     pub(crate) store: PageStore<P>,
     // The pages of all segments, and of the locked ones.
     pub(crate) reserved: u64,
     pub(crate) locked: u64,
+}
+
+impl<P: Pager> Drop for Segments<P> {
+    fn drop(self) {
+        let Segments {
+            table: _,
+            store: _,
+            reserved: _,
+            locked: _,
+        } = self;
+    }
 }
 
 impl<P: Pager> Model for Segments<P> {

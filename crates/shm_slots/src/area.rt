@@ -11,12 +11,22 @@ use std::marker::Model;
 
 /// A swap area. It keeps what its pager's count stood at when it was handed in, and, once the pager is
 /// gone, what it stood at then.
-#[derive(Drop)]
 pub struct Area<P: Pager> {
     pager: Option<P>,
     owners: Owners,
     start: u64,
     last: u64,
+}
+
+impl<P: Pager> Drop for Area<P> {
+    fn drop(self) {
+        let Area {
+            pager: _,
+            owners: _,
+            start: _,
+            last: _,
+        } = self;
+    }
 }
 
 impl<P: Pager> Model for Area<P> {

@@ -8,11 +8,20 @@ use std::alloc::{AllocError, Global};
 use std::marker::Model;
 
 /// The owners of an area's slots.
-#[derive(Drop)]
 pub struct Owners {
     slots: Vec<Option<PageRef>>,
     first_free: usize,
     used: usize,
+}
+
+impl Drop for Owners {
+    fn drop(self) {
+        let Owners {
+            slots: _,
+            first_free: _,
+            used: _,
+        } = self;
+    }
 }
 
 impl Model for Owners {

@@ -118,11 +118,21 @@ pub enum LineCall {
 
 /// A command line: the process, the variable that takes the answer, and the call. It has a form of the
 /// script's language, with the ranges there.
-#[derive(Debug, Drop, PartialEq)]
+#[derive(Debug, PartialEq)]
 pub struct Command {
     pub(crate) pid: u32,
     pub(crate) var: Option<Variable>,
     pub(crate) call: LineCall,
+}
+
+impl Drop for Command {
+    fn drop(self) {
+        let Command {
+            pid: _,
+            var: _,
+            call: _,
+        } = self;
+    }
 }
 
 impl Model for Command {
@@ -208,18 +218,37 @@ impl FlushLine {
 }
 
 /// A command line or a flush line.
-#[derive(Debug, Drop, PartialEq)]
+#[derive(Debug, PartialEq)]
 pub enum Line {
     Command(Command),
     Flush(FlushLine),
 }
 
+impl Drop for Line {
+    fn drop(self) {
+        match self {
+            Line::Command(_) => {}
+            Line::Flush(_) => {}
+        }
+    }
+}
+
 /// A script: the limits, the declared processes, and the other lines in file order.
-#[derive(Debug, Drop)]
+#[derive(Debug)]
 pub struct Script {
     pub limits: Limits,
     pub processes: Vec<Process>,
     pub lines: Vec<Line>,
+}
+
+impl Drop for Script {
+    fn drop(self) {
+        let Script {
+            limits: _,
+            processes: _,
+            lines: _,
+        } = self;
+    }
 }
 
 impl Model for Script {

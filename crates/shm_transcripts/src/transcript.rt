@@ -3,10 +3,19 @@ use shm_base::{Call, Reply};
 
 /// The answer to a worker's call: the system's reply, or that the host refused memory. A call without
 /// memory changed nothing and is not in the history.
-#[derive(Debug, Drop, PartialEq)]
+#[derive(Debug, PartialEq)]
 pub enum Answer {
     Reply(Reply),
     HostMemory,
+}
+
+impl Drop for Answer {
+    fn drop(self) {
+        match self {
+            Answer::Reply(_) => {}
+            Answer::HostMemory => {}
+        }
+    }
 }
 
 impl Answer {
@@ -26,10 +35,16 @@ impl Answer {
 }
 
 /// A worker's call with its answer.
-#[derive(Debug, Drop, PartialEq)]
+#[derive(Debug, PartialEq)]
 pub struct Entry {
     pub call: Call,
     pub answer: Answer,
+}
+
+impl Drop for Entry {
+    fn drop(self) {
+        let Entry { call: _, answer: _ } = self;
+    }
 }
 
 impl Entry {
@@ -48,8 +63,14 @@ impl Entry {
 }
 
 /// The calls of one process's worker, in order.
-#[derive(Debug, Drop)]
+#[derive(Debug)]
 pub struct Transcript {
     pub pid: u32,
     pub entries: Vec<Entry>,
+}
+
+impl Drop for Transcript {
+    fn drop(self) {
+        let Transcript { pid: _, entries: _ } = self;
+    }
 }

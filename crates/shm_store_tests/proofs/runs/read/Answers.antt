@@ -11,5 +11,5 @@ read-requires-clause-frames g c = rw c.name_frames.ensures (frames-named c.args.
 pub returns-in-Ok-clause-spans : goal.returns-in-Ok-clause-spans
 returns-in-Ok-clause-spans g c = rw c.name_frames.ensures (access-named c.args.pair.now.paged c.read.new.self c.args.spans.now _ (rw c.read.auto.out c.requires.spans) c.read.ensures.held)
 
-pub returns-in-Err-clause-spans : goal.returns-in-Err-clause-spans
-returns-in-Err-clause-spans g c = rw c.name_frames.ensures (access-named c.args.pair.now.paged c.read.new.self c.args.spans.now _ (rw c.read.auto.out c.requires.spans) c.read.ensures.held)
+pub returns-clause-spans : goal.returns-clause-spans
+returns-clause-spans g c = rw c.name_frames.ensures (access-named c.args.pair.now.paged c.read.new.self c.args.spans.now _ (rw c.read.auto.out c.requires.spans) c.read.ensures.held)
