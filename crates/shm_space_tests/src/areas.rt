@@ -1,75 +1,155 @@
-ghost use Rattle.std.specs.Prelude.{◌≡◌, ◌+◌, ◌*◌, ◌%◌, ◌≤◌, true};
-
 use bitflags::Flags;
-use shm_areas::{Piece, Place, Space};
-use shm_base::{AtFlags, Errno, HostMemory};
+use shm_areas::{Piece, Space};
+use shm_base::{AtFlags, END_ADDRESS, Errno, HostMemory, LOWEST_ADDRESS, PAGE_SIZE};
+use std::alloc::Global;
+use std::process::Abort;
 
-fn piece(base: u64, seg: u32, first_page: u32, pages: u32) -> Piece
-    ensures { result ≡ record { base = base; seg = seg; first_page = first_page; pages = pages; writable = true; key = 0 } }
-{
-    Piece {
-        base,
-        seg,
-        first_page,
-        pages,
-        writable: true,
-        key: 0,
-    }
+/// What is done to a space, or asked of it, with the answer that is wanted.
+enum Act {
+    /// Pages of a segment are put at an address, or cannot be.
+    Put(u64, u32, u32, bool),
+    /// The byte that an address denotes: its segment, its place there, and whether it may be written.
+    Byte(u64, Option<(u32, u64, bool)>),
+    /// The piece that an address lies in.
+    PieceAt(u64, Option<Piece>),
+    /// The address of the least gap for a page.
+    Choose(u64),
+    /// How many pieces meet a range, and how many there would be without it.
+    Met(u64, u64, usize),
+    Outside(u64, u64, usize),
+    /// A range is taken out.
+    Cut(u64, u64),
+    /// The lowest piece whose segment would begin at an address.
+    Origin(u64, Option<Piece>),
+    /// The pieces of a segment that would begin at an address are taken out.
+    Take(u64, u32),
+    /// All pieces, and how many they are.
+    Pieces(&'static [Piece]),
+    Count(usize),
 }
 
 /// Puts whole pages of a segment at an address, if nothing is there and there is room; whether it did.
-fn put(space: &mut Space, base: u64, seg: u32, pages: u32) -> bool
-    requires aligned { base % 4096 ≡ 0 }
-    requires low { 0x10000 ≤ base }
-    requires pages { (1 ≤ pages) × (pages ≤ 4096) }
-    requires high { base + 4096 * pages ≤ 0x7ffffffff000 }
-{
-    if space.is_occupied(base, base + 4096 * pages as u64) {
+fn put(space: &mut Space, base: u64, seg: u32, pages: u32) -> bool {
+    if pages < 1 || pages > 4096 || base % PAGE_SIZE != 0 || base < LOWEST_ADDRESS {
         return false;
     }
-    if space.pieces().len() >= 256 {
+    if base > END_ADDRESS - PAGE_SIZE * pages as u64 || space.pieces().len() >= 256 {
         return false;
     }
-    space.insert(piece(base, seg, 0, pages));
+    if space.is_occupied(base, base + PAGE_SIZE * pages as u64) {
+        return false;
+    }
+    space.insert(Piece {
+        base,
+        seg,
+        first_page: 0,
+        pages,
+        writable: true,
+        key: 0,
+    });
     true
 }
 
+/// Takes a range out, if it is one of whole pages and there is room for what is left; whether it did.
+fn cut(space: &mut Space, from: u64, to: u64) -> bool {
+    if from % PAGE_SIZE != 0 || to % PAGE_SIZE != 0 || from >= to {
+        return false;
+    }
+    if space.count_outside(from, to) > 256 {
+        return false;
+    }
+    space.cut(from, to);
+    true
+}
+
+fn byte_at(space: &Space, addr: u64) -> Option<(u32, u64, bool)> {
+    let place = space.place(addr)?;
+    Some((place.seg, place.at, place.writable))
+}
+
+/// Does an act; whether its answer is the wanted one.
+fn answers(space: &mut Space, act: &Act) -> bool {
+    match *act {
+        Act::Put(base, seg, pages, done) => put(space, base, seg, pages) == done,
+        Act::Byte(addr, byte) => byte_at(space, addr) == byte,
+        Act::PieceAt(addr, piece) => space.piece_at(addr) == piece,
+        Act::Choose(base) => space.choose(1) == Some(base),
+        Act::Met(from, to, count) => from < to && space.met(from, to).len() == count,
+        Act::Outside(from, to, count) => from < to && space.count_outside(from, to) == count,
+        Act::Cut(from, to) => cut(space, from, to),
+        Act::Origin(addr, piece) => space.origin_of(addr) == piece,
+        Act::Take(addr, seg) => {
+            space.take_at(addr, seg);
+            true
+        }
+        Act::Pieces(pieces) => space.pieces() == pieces,
+        Act::Count(count) => space.pieces().len() == count,
+    }
+}
+
+/// Each act has its answer, one after another. A message counts the rows from 0.
+fn answers_all(rt: &impl Abort, space: &mut Space, acts: &[Act]) {
+    for (row, act) in acts.iter().enumerate() {
+        assert!(rt; answers(space, act), "at row {row}");
+    }
+}
+
+/// As `answers_all`, in a space that begins with no piece.
+fn in_a_space(rt: &impl Abort, alloc: Global, acts: &[Act]) -> Result<(), HostMemory> {
+    let mut space = Space::new(alloc)?;
+    answers_all(rt, &mut space, acts);
+    Ok(())
+}
+
+const ONE_PAGE: Piece = Piece {
+    base: 0x50000000,
+    seg: 0,
+    first_page: 0,
+    pages: 1,
+    writable: true,
+    key: 0,
+};
+
+const DENOTED: &[Act] = &[
+    Act::Put(0x50000000, 0, 1, true),
+    Act::Put(0x50000000, 1, 1, false),
+    Act::Byte(0x50000fff, Some((0, 4095, true))),
+    Act::Byte(0x50001000, None),
+    Act::Byte(0x4fffffff, None),
+    Act::Byte(u64::MAX, None),
+    Act::PieceAt(0x50000000, Some(ONE_PAGE)),
+];
+
 #[test]
 fn addresses_denote_bytes(rt: HostRuntime) -> Result<(), HostMemory> {
-    let mut space = Space::new(rt.alloc())?;
-    assert!(rt; put(&mut space, 0x50000000, 0, 1));
-    assert!(rt; !put(&mut space, 0x50000000, 1, 1));
-    let last = Place {
-        seg: 0,
-        at: 4095,
-        writable: true,
-    };
-    assert!(rt; space.place(0x50000fff) == Some(last));
-    assert!(rt; space.place(0x50001000).is_none());
-    assert!(rt; space.place(0x4fffffff).is_none());
-    assert!(rt; space.place(u64::MAX).is_none());
-    assert!(rt; space.piece_at(0x50000000) == Some(piece(0x50000000, 0, 0, 1)));
-    Ok(())
+    in_a_space(&rt, rt.alloc(), DENOTED)
+}
+
+const FULL: &[Act] = &[
+    Act::Choose(0x40100000),
+    Act::Put(0x40100000, 0, 1, false),
+    Act::Count(256),
+];
+
+fn puts_side_by_side(rt: &impl Abort, space: &mut Space) {
+    for k in 0..256u64 {
+        let base = 0x40000000 + 4096 * k;
+        assert!(rt; space.choose(1) == Some(base), "at {base}");
+        assert!(rt; put(space, base, 0, 1), "at {base}");
+    }
+    answers_all(rt, space, FULL);
 }
 
 #[test]
 fn pieces_are_put_side_by_side(rt: HostRuntime) -> Result<(), HostMemory> {
     let mut space = Space::new(rt.alloc())?;
-    for k in 0..256u64 {
-        let base = 0x40000000 + 4096 * k;
-        assert!(rt; space.choose(1) == Some(base));
-        assert!(rt; put(&mut space, base, 0, 1));
-    }
-    assert!(rt; space.choose(1) == Some(0x40100000));
-    assert!(rt; !put(&mut space, 0x40100000, 0, 1));
-    assert!(rt; space.pieces().len() == 256);
+    puts_side_by_side(&rt, &mut space);
     Ok(())
 }
 
-#[test]
-fn fixed_addresses_are_checked(rt: HostRuntime) -> Result<(), HostMemory> {
-    let mut space = Space::new(rt.alloc())?;
-    assert!(rt; put(&mut space, 0x50000000, 0, 1));
+// A page of the space is occupied.
+fn checks_fixed(rt: &impl Abort, space: &mut Space) {
+    assert!(rt; put(space, 0x50000000, 0, 1));
     let rows = [
         (0x60000fff, AtFlags::RND, Ok(0x60000000)),
         (0x50000000, AtFlags::empty(), Err(Errno::Einval)),
@@ -82,28 +162,52 @@ fn fixed_addresses_are_checked(rt: HostRuntime) -> Result<(), HostMemory> {
     for (addr, flags, want) in rows {
         assert!(rt; space.check_fixed(addr, 1, flags) == want, "at {addr}");
     }
+}
+
+#[test]
+fn fixed_addresses_are_checked(rt: HostRuntime) -> Result<(), HostMemory> {
+    let mut space = Space::new(rt.alloc())?;
+    checks_fixed(&rt, &mut space);
     Ok(())
 }
 
-/// A page in the middle of three is taken out.
+const BELOW: Piece = Piece {
+    base: 0x40000000,
+    seg: 7,
+    first_page: 0,
+    pages: 1,
+    writable: true,
+    key: 0,
+};
+
+const ABOVE: Piece = Piece {
+    base: 0x40002000,
+    seg: 7,
+    first_page: 2,
+    pages: 1,
+    writable: true,
+    key: 0,
+};
+
+// A page in the middle of three is taken out.
+const CUT: &[Act] = &[
+    Act::Put(0x40000000, 7, 3, true),
+    Act::Met(0x40001000, 0x40002000, 1),
+    Act::Outside(0x40001000, 0x40002000, 2),
+    Act::Cut(0x40001000, 0x40002000),
+    Act::Pieces(&[BELOW, ABOVE]),
+    Act::Byte(0x40002001, Some((7, 8193, true))),
+    Act::Origin(0x40000000, Some(BELOW)),
+    Act::Origin(0x40002000, None),
+    Act::Outside(0x40000000, 0x40001000, 1),
+    Act::Cut(0x40000000, 0x40001000),
+    Act::Pieces(&[ABOVE]),
+    Act::Origin(0x40000000, Some(ABOVE)),
+    Act::Take(0x40000000, 7),
+    Act::Pieces(&[]),
+];
+
 #[test]
 fn a_cut_leaves_two_parts(rt: HostRuntime) -> Result<(), HostMemory> {
-    let mut space = Space::new(rt.alloc())?;
-    assert!(rt; put(&mut space, 0x40000000, 7, 3));
-    assert!(rt; space.met(0x40001000, 0x40002000).len() == 1);
-    assert!(rt; space.count_outside(0x40001000, 0x40002000) == 2);
-    space.cut(0x40001000, 0x40002000);
-    let below = piece(0x40000000, 7, 0, 1);
-    let above = piece(0x40002000, 7, 2, 1);
-    assert!(rt; space.pieces() == [below, above].as_slice());
-    assert!(rt; space.place(0x40002001).is_some_and(|p| p.at == 8193));
-    assert!(rt; space.origin_of(0x40000000) == Some(below));
-    assert!(rt; space.origin_of(0x40002000).is_none());
-    assert!(rt; space.count_outside(0x40000000, 0x40001000) == 1);
-    space.cut(0x40000000, 0x40001000);
-    assert!(rt; space.pieces() == [above].as_slice());
-    assert!(rt; space.origin_of(0x40000000) == Some(above));
-    space.take_at(0x40000000, 7);
-    assert!(rt; space.pieces().is_empty());
-    Ok(())
+    in_a_space(&rt, rt.alloc(), CUT)
 }

@@ -1,13 +1,41 @@
-ghost use Rattle.std.specs.Prelude.{◌≡◌, ◌≤◌};
+ghost use Rattle.std.specs.Prelude.{◌≡◌, ◌≤◌, true};
 ghost use Rattle.shm_attach.specs.Place.{IsRange};
 
 use shm_attach::Spaces;
-use shm_base::{Cred, FrameNo, HostMemory, PAGE_SIZE, PageRef, Process, Span};
+use shm_base::{
+    Cred, END_ADDRESS, FrameNo, HostMemory, LOWEST_ADDRESS, PAGE_SIZE, PageRef, Process, Span,
+};
 use shm_fault::{Move, PageStore};
 use shm_pager::RamPager;
 use shm_slots::Swap;
 use std::alloc::Global;
 use std::process::Abort;
+
+/// What is done to the spaces of a family, or asked of them, with the answer that is wanted.
+enum Act {
+    /// Process 1 attaches a segment at an address: so many pages, to be written too or only read.
+    Attach(u32, u64, u32, bool),
+    /// Process 1 has no room for one more piece.
+    Full,
+    /// Process 1 detaches what the lowest piece of an origin names: a segment, or nothing.
+    Detach(u64, Option<u32>),
+    /// Process 1 forks a child, or cannot.
+    Fork(u32, bool),
+    /// A process loses all its pieces: their segments.
+    Exec(u32, &'static [u32]),
+    /// As `Exec`, and the process ends.
+    Exit(u32, &'static [u32]),
+    /// The user of a process, if it is live.
+    User(u32, Option<u32>),
+    /// How many pieces name a segment.
+    Count(u32, u32),
+    /// The spans of an access of process 1 to so many addresses, which writes or reads; none if it is refused.
+    Spans(u64, u64, bool, &'static [Span]),
+    /// The frames that a process has for its pages from an address on.
+    Frames(u32, u64, &'static [Option<FrameNo>]),
+    /// Pages move.
+    Note(&'static [Move]),
+}
 
 /// Process 1 of user 100, and child 2.
 fn family(alloc: Global) -> Result<Spaces, HostMemory> {
@@ -28,11 +56,21 @@ fn bare_store(alloc: Global) -> Result<PageStore<RamPager>, HostMemory> {
     PageStore::new(alloc, 2, swap)
 }
 
-/// Attaches pages of a segment to a process that should be live, where there is room for one more piece.
+/// Whether pages at a base lie within the addresses.
+fn is_range(base: u64, pages: u32) -> bool
+    ensures { result ≡ true → (1 ≤ pages) × (pages ≤ 4096) × IsRange pages base }
+{
+    1 <= pages
+        && pages <= 4096
+        && base % PAGE_SIZE == 0
+        && LOWEST_ADDRESS <= base
+        && base <= END_ADDRESS - PAGE_SIZE * pages as u64
+}
+
+/// Attaches pages of a segment to process 1, where there is room for one more piece.
 fn attach(
     spaces: &mut Spaces,
     store: &PageStore<RamPager>,
-    pid: u32,
     seg: u32,
     base: u64,
     pages: u32,
@@ -41,7 +79,7 @@ fn attach(
     requires pages { (1 ≤ pages) × (pages ≤ 4096) }
     requires range { IsRange pages base }
 {
-    let Some(caller) = spaces.caller(pid) else {
+    let Some(caller) = spaces.caller(1) else {
         return false;
     };
     let left = spaces
@@ -56,15 +94,15 @@ fn attach(
 }
 
 /// Detaches what the lowest piece of an origin names, and tells the segment.
-fn detach(spaces: &mut Spaces, pid: u32, addr: u64) -> Option<u32> {
-    let caller = spaces.caller(pid)?;
+fn detach(spaces: &mut Spaces, addr: u64) -> Option<u32> {
+    let caller = spaces.caller(1)?;
     let seg = spaces.space(&caller).origin_of(addr)?.seg;
     spaces.detach(&caller, addr, seg);
     Some(seg)
 }
 
-fn fork(spaces: &mut Spaces, pid: u32, child: u32) -> bool {
-    match (spaces.caller(pid), spaces.child(child)) {
+fn fork(spaces: &mut Spaces, child: u32) -> bool {
+    match (spaces.caller(1), spaces.child(child)) {
         (Some(caller), Some(child)) => {
             spaces.fork(&caller, &child);
             true
@@ -73,12 +111,17 @@ fn fork(spaces: &mut Spaces, pid: u32, child: u32) -> bool {
     }
 }
 
-fn span(seg: u32, at: u64, len: u64) -> Span {
-    Span {
-        seg,
-        at,
-        len,
-        frame: None,
+fn execs(spaces: &mut Spaces, pid: u32, lost: &[u32]) -> bool {
+    match spaces.caller(pid) {
+        Some(caller) => spaces.exec(&caller).as_slice() == lost,
+        None => false,
+    }
+}
+
+fn exits(spaces: &mut Spaces, pid: u32, lost: &[u32]) -> bool {
+    match spaces.caller(pid) {
+        Some(caller) => spaces.exit(&caller).as_slice() == lost,
+        None => false,
     }
 }
 
@@ -88,174 +131,241 @@ fn frame_at(spaces: &Spaces, pid: u32, addr: u64) -> Option<FrameNo> {
     spans.as_slice()[0].frame
 }
 
+/// Whether a process has these frames for its pages from an address on.
+fn has_frames(spaces: &Spaces, pid: u32, from: u64, wanted: &[Option<FrameNo>]) -> bool {
+    let mut addr = from;
+    for &frame in wanted {
+        if frame_at(spaces, pid, addr) != frame {
+            return false;
+        }
+        addr = addr.wrapping_add(PAGE_SIZE);
+    }
+    true
+}
+
 /// Whether an access has just these spans.
-fn has_spans(spaces: &Spaces, addr: u64, len: u64, write: bool, want: &[Span]) -> bool
-    requires { (1 ≤ len) × (len ≤ 64) }
-{
+fn has_spans(spaces: &Spaces, addr: u64, len: u64, write: bool, wanted: &[Span]) -> bool {
+    if len < 1 || len > 64 {
+        return false;
+    }
     match spaces.spans(1, addr, len, write) {
-        Ok(spans) => spans.as_slice() == want,
-        Err(_) => want.is_empty(),
+        Ok(spans) => spans.as_slice() == wanted,
+        Err(_) => wanted.is_empty(),
     }
 }
 
+/// Does an act; whether its answer is the wanted one.
+fn answers(spaces: &mut Spaces, store: &PageStore<RamPager>, act: &Act) -> bool {
+    match *act {
+        Act::Attach(seg, base, pages, writable) => {
+            is_range(base, pages) && attach(spaces, store, seg, base, pages, writable)
+        }
+        Act::Full => !attach(spaces, store, 0, 0x50000000, 1, true),
+        Act::Detach(addr, seg) => detach(spaces, addr) == seg,
+        Act::Fork(child, done) => fork(spaces, child) == done,
+        Act::Exec(pid, lost) => execs(spaces, pid, lost),
+        Act::Exit(pid, lost) => exits(spaces, pid, lost),
+        Act::User(pid, user) => spaces.caller(pid).map(|c| c.cred.uid) == user,
+        Act::Count(seg, count) => spaces.count(seg) == count,
+        Act::Spans(addr, len, write, spans) => has_spans(spaces, addr, len, write, spans),
+        Act::Frames(pid, from, frames) => has_frames(spaces, pid, from, frames),
+        Act::Note(moves) => {
+            spaces.note(moves);
+            true
+        }
+    }
+}
+
+/// Each act has its answer, one after another. A message counts the rows from 0.
+fn answers_all(rt: &impl Abort, spaces: &mut Spaces, store: &PageStore<RamPager>, acts: &[Act]) {
+    for (row, act) in acts.iter().enumerate() {
+        assert!(rt; answers(spaces, store, act), "at row {row}");
+    }
+}
+
+/// As `answers_all`, in a family that begins with no piece.
+fn in_a_family(rt: &impl Abort, alloc: Global, acts: &[Act]) -> Result<(), HostMemory> {
+    let store = bare_store(alloc)?;
+    let mut spaces = family(alloc)?;
+    answers_all(rt, &mut spaces, &store, acts);
+    Ok(())
+}
+
+const BELOW: Span = Span {
+    seg: 0,
+    at: 4094,
+    len: 2,
+    frame: None,
+};
+
+const ABOVE: Span = Span {
+    seg: 0,
+    at: 0,
+    len: 2,
+    frame: None,
+};
+
+const TWO_PIECES: &[Act] = &[
+    Act::Attach(0, 0x40000000, 1, true),
+    Act::Attach(0, 0x40001000, 1, false),
+    Act::Spans(0x40000ffe, 4, false, &[BELOW, ABOVE]),
+    Act::Spans(0x40000ffe, 4, true, &[]),
+    Act::Spans(0x40000ffe, 2, true, &[BELOW]),
+    Act::Spans(0x40001fff, 2, false, &[]),
+    Act::Spans(u64::MAX, 64, false, &[]),
+    Act::Count(0, 2),
+];
+
 #[test]
 fn an_access_over_two_pieces_has_two_spans(rt: HostRuntime) -> Result<(), HostMemory> {
-    let store = bare_store(rt.alloc())?;
-    let mut spaces = family(rt.alloc())?;
-    assert!(rt; attach(&mut spaces, &store, 1, 0, 0x40000000, 1, true));
-    assert!(rt; attach(&mut spaces, &store, 1, 0, 0x40001000, 1, false));
-    let both = [span(0, 4094, 2), span(0, 0, 2)];
-    assert!(rt; has_spans(&spaces, 0x40000ffe, 4, false, both.as_slice()));
-    assert!(rt; has_spans(&spaces, 0x40000ffe, 4, true, [].as_slice()));
-    assert!(rt; has_spans(&spaces, 0x40000ffe, 2, true, [span(0, 4094, 2)].as_slice()));
-    assert!(rt; has_spans(&spaces, 0x40001fff, 2, false, [].as_slice()));
-    assert!(rt; has_spans(&spaces, u64::MAX, 64, false, [].as_slice()));
-    assert!(rt; spaces.count(0) == 2);
-    Ok(())
+    in_a_family(&rt, rt.alloc(), TWO_PIECES)
+}
+
+const FULL: &[Act] = &[Act::Full, Act::Count(0, 256)];
+
+// Process 1 attaches 256 pages, each a piece.
+fn fills(rt: &impl Abort, spaces: &mut Spaces, store: &PageStore<RamPager>) {
+    for k in 0..256u64 {
+        let base = 0x40000000 + 4096 * k;
+        assert!(rt; attach(spaces, store, 0, base, 1, true), "at {base}");
+    }
+    answers_all(rt, spaces, store, FULL);
 }
 
 #[test]
 fn a_process_has_room_for_256_pieces(rt: HostRuntime) -> Result<(), HostMemory> {
     let store = bare_store(rt.alloc())?;
     let mut spaces = family(rt.alloc())?;
-    for k in 0..256u64 {
-        assert!(rt; attach(&mut spaces, &store, 1, 0, 0x40000000 + 4096 * k, 1, true));
-    }
-    assert!(rt; !attach(&mut spaces, &store, 1, 0, 0x50000000, 1, true));
-    assert!(rt; spaces.count(0) == 256);
+    fills(&rt, &mut spaces, &store);
     Ok(())
 }
+
+const THIRD_PAGE: Span = Span {
+    seg: 0,
+    at: 8192,
+    len: 1,
+    frame: None,
+};
+
+const OTHER_SEGMENT: Span = Span {
+    seg: 1,
+    at: 0,
+    len: 1,
+    frame: None,
+};
+
+const PARTS: &[Act] = &[
+    Act::Attach(0, 0x40000000, 3, true),
+    Act::Attach(1, 0x40001000, 1, true),
+    Act::Count(0, 2),
+    Act::Spans(0x40002000, 1, true, &[THIRD_PAGE]),
+    Act::Detach(0x40000000, Some(0)),
+    Act::Count(0, 0),
+    Act::Spans(0x40001000, 1, true, &[OTHER_SEGMENT]),
+    Act::Detach(0x40001000, Some(1)),
+    Act::Detach(0x40001000, None),
+];
 
 #[test]
 fn parts_of_one_attach_go_together(rt: HostRuntime) -> Result<(), HostMemory> {
-    let store = bare_store(rt.alloc())?;
-    let mut spaces = family(rt.alloc())?;
-    assert!(rt; attach(&mut spaces, &store, 1, 0, 0x40000000, 3, true));
-    assert!(rt; attach(&mut spaces, &store, 1, 1, 0x40001000, 1, true));
-    assert!(rt; spaces.count(0) == 2);
-    assert!(rt; has_spans(&spaces, 0x40002000, 1, true, [span(0, 8192, 1)].as_slice()));
-    assert!(rt; detach(&mut spaces, 1, 0x40000000) == Some(0));
-    assert!(rt; spaces.count(0) == 0);
-    assert!(rt; has_spans(&spaces, 0x40001000, 1, true, [span(1, 0, 1)].as_slice()));
-    assert!(rt; detach(&mut spaces, 1, 0x40001000) == Some(1));
-    assert!(rt; detach(&mut spaces, 1, 0x40001000).is_none());
-    Ok(())
+    in_a_family(&rt, rt.alloc(), PARTS)
 }
+
+const SAME_ORIGIN: &[Act] = &[
+    Act::Attach(0, 0x40000000, 2, true),
+    Act::Attach(1, 0x40000000, 1, true),
+    Act::Detach(0x40000000, Some(1)),
+    Act::Count(0, 1),
+    Act::Count(1, 0),
+    Act::Detach(0x40000000, Some(0)),
+    Act::Count(0, 0),
+];
 
 #[test]
 fn the_lowest_piece_names_the_segment(rt: HostRuntime) -> Result<(), HostMemory> {
-    let store = bare_store(rt.alloc())?;
-    let mut spaces = family(rt.alloc())?;
-    assert!(rt; attach(&mut spaces, &store, 1, 0, 0x40000000, 2, true));
-    assert!(rt; attach(&mut spaces, &store, 1, 1, 0x40000000, 1, true));
-    assert!(rt; detach(&mut spaces, 1, 0x40000000) == Some(1));
-    assert!(rt; (spaces.count(0), spaces.count(1)) == (1, 0));
-    assert!(rt; detach(&mut spaces, 1, 0x40000000) == Some(0));
-    assert!(rt; spaces.count(0) == 0);
-    Ok(())
+    in_a_family(&rt, rt.alloc(), SAME_ORIGIN)
 }
 
 // Process 1 forks its child, and each goes.
-fn forks_and_goes(rt: &impl Abort, spaces: &mut Spaces) {
-    assert!(rt; spaces.caller(2).is_none());
-    assert!(rt; fork(spaces, 1, 2));
-    assert!(rt; spaces.count(0) == 2);
-    let child = spaces.caller(2);
-    assert!(rt; child.is_some_and(|c| c.cred.uid == 100));
-    if let Some(child) = child {
-        let lost = spaces.exec(&child);
-        assert!(rt; lost.as_slice() == [0].as_slice());
-    }
-    assert!(rt; spaces.count(0) == 1);
-    assert!(rt; !fork(spaces, 1, 2));
-    assert!(rt; !fork(spaces, 1, 1));
-    assert!(rt; !fork(spaces, 1, 3));
-    if let Some(parent) = spaces.caller(1) {
-        let lost = spaces.exit(&parent);
-        assert!(rt; lost.as_slice() == [0].as_slice());
-    }
-    assert!(rt; spaces.count(0) == 0);
-    assert!(rt; spaces.caller(1).is_none());
-    assert!(rt; detach(spaces, 1, 0x40000000).is_none());
-}
+const FORKS_AND_GOES: &[Act] = &[
+    Act::Attach(0, 0x40000000, 1, true),
+    Act::User(2, None),
+    Act::Fork(2, true),
+    Act::Count(0, 2),
+    Act::User(2, Some(100)),
+    Act::Exec(2, &[0]),
+    Act::Count(0, 1),
+    Act::Fork(2, false),
+    Act::Fork(1, false),
+    Act::Fork(3, false),
+    Act::Exit(1, &[0]),
+    Act::Count(0, 0),
+    Act::User(1, None),
+    Act::Detach(0x40000000, None),
+];
 
 #[test]
 fn a_child_has_its_parents_pieces(rt: HostRuntime) -> Result<(), HostMemory> {
-    let store = bare_store(rt.alloc())?;
-    let mut spaces = family(rt.alloc())?;
-    assert!(rt; attach(&mut spaces, &store, 1, 0, 0x40000000, 1, true));
-    forks_and_goes(&rt, &mut spaces);
-    Ok(())
+    in_a_family(&rt, rt.alloc(), FORKS_AND_GOES)
 }
+
+const FIRST: PageRef = PageRef { seg: 0, page: 0 };
+
+const LAST: PageRef = PageRef { seg: 0, page: 2 };
+
+const OTHER: PageRef = PageRef { seg: 1, page: 2 };
+
+const MOVES: &[Act] = &[
+    Act::Attach(0, 0x40000000, 3, true),
+    Act::Fork(2, true),
+    Act::Frames(2, 0x40002000, &[None]),
+    Act::Note(&[Move::Came(FIRST, 5), Move::Came(LAST, 6)]),
+    Act::Frames(1, 0x40002000, &[Some(6)]),
+    Act::Frames(2, 0x40002000, &[Some(6)]),
+    Act::Frames(2, 0x40001000, &[None]),
+    Act::Note(&[Move::Gone(LAST), Move::Came(OTHER, 6)]),
+    Act::Frames(1, 0x40002fff, &[None]),
+    Act::Frames(2, 0x40002fff, &[None]),
+    Act::Frames(2, 0x40000000, &[Some(5)]),
+];
 
 #[test]
 fn moves_reach_each_piece_and_each_process(rt: HostRuntime) -> Result<(), HostMemory> {
-    let store = bare_store(rt.alloc())?;
-    let mut spaces = family(rt.alloc())?;
-    assert!(rt; attach(&mut spaces, &store, 1, 0, 0x40000000, 3, true));
-    assert!(rt; fork(&mut spaces, 1, 2));
-    assert!(rt; frame_at(&spaces, 2, 0x40002000).is_none());
-    let last = PageRef { seg: 0, page: 2 };
-    spaces.note(&[
-        Move::Came(PageRef { seg: 0, page: 0 }, 5),
-        Move::Came(last, 6),
-    ]);
-    assert!(rt; frame_at(&spaces, 1, 0x40002000) == Some(6));
-    assert!(rt; frame_at(&spaces, 2, 0x40002000) == Some(6));
-    assert!(rt; frame_at(&spaces, 2, 0x40001000).is_none());
-    spaces.note(&[Move::Gone(last), Move::Came(PageRef { seg: 1, page: 2 }, 6)]);
-    assert!(rt; frame_at(&spaces, 1, 0x40002fff).is_none());
-    assert!(rt; frame_at(&spaces, 2, 0x40002fff).is_none());
-    assert!(rt; frame_at(&spaces, 2, 0x40000000) == Some(5));
-    Ok(())
+    in_a_family(&rt, rt.alloc(), MOVES)
 }
+
+const GONE: &[Act] = &[
+    Act::Attach(0, 0x40000000, 1, true),
+    Act::Note(&[Move::Came(FIRST, 5)]),
+    Act::Attach(0, 0x40001000, 2, true),
+    Act::Detach(0x40000000, Some(0)),
+    Act::Frames(1, 0x40001000, &[Some(5), None]),
+    Act::Detach(0x40001000, Some(0)),
+    Act::Attach(0, 0x40000000, 1, true),
+    Act::Frames(1, 0x40000000, &[None]),
+];
 
 #[test]
 fn a_gone_segment_has_no_frames(rt: HostRuntime) -> Result<(), HostMemory> {
-    let store = bare_store(rt.alloc())?;
-    let mut spaces = family(rt.alloc())?;
-    assert!(rt; attach(&mut spaces, &store, 1, 0, 0x40000000, 1, true));
-    spaces.note(&[Move::Came(PageRef { seg: 0, page: 0 }, 5)]);
-    assert!(rt; attach(&mut spaces, &store, 1, 0, 0x40001000, 2, true));
-    assert!(rt; detach(&mut spaces, 1, 0x40000000) == Some(0));
-    assert!(rt; frame_at(&spaces, 1, 0x40001000) == Some(5));
-    assert!(rt; frame_at(&spaces, 1, 0x40002000).is_none());
-    assert!(rt; detach(&mut spaces, 1, 0x40001000) == Some(0));
-    assert!(rt; attach(&mut spaces, &store, 1, 0, 0x40000000, 1, true));
-    assert!(rt; frame_at(&spaces, 1, 0x40000000).is_none());
-    Ok(())
-}
-
-// Whether process 1 has these frames for the pages from 0x40000000 on.
-fn has_frames(spaces: &Spaces, want: &[Option<FrameNo>]) -> bool {
-    let mut addr = 0x40000000u64;
-    for &frame in want {
-        if frame_at(spaces, 1, addr) != frame {
-            return false;
-        }
-        addr = addr.wrapping_add(4096);
-    }
-    true
+    in_a_family(&rt, rt.alloc(), GONE)
 }
 
 // Of four pages in frames 10 to 13, two are replaced, and one goes.
-fn cut_twice(rt: &impl Abort, spaces: &mut Spaces, store: &PageStore<RamPager>) {
-    assert!(rt; attach(spaces, store, 1, 0, 0x40000000, 4, true));
-    for page in 0..4 {
-        spaces.note(&[Move::Came(PageRef { seg: 0, page }, 10 + page)]);
-    }
-    assert!(rt; attach(spaces, store, 1, 1, 0x40001000, 1, true));
-    assert!(rt; has_frames(spaces, [Some(10), None, Some(12), Some(13)].as_slice()));
-    assert!(rt; attach(spaces, store, 1, 1, 0x40002000, 1, true));
-    assert!(rt; has_frames(spaces, [Some(10), None, None, Some(13)].as_slice()));
-    spaces.note(&[Move::Gone(PageRef { seg: 0, page: 3 })]);
-    assert!(rt; has_frames(spaces, [Some(10), None, None, None].as_slice()));
-}
+const CUT_TWICE: &[Act] = &[
+    Act::Attach(0, 0x40000000, 4, true),
+    Act::Note(&[Move::Came(FIRST, 10)]),
+    Act::Note(&[Move::Came(PageRef { seg: 0, page: 1 }, 11)]),
+    Act::Note(&[Move::Came(LAST, 12)]),
+    Act::Note(&[Move::Came(PageRef { seg: 0, page: 3 }, 13)]),
+    Act::Attach(1, 0x40001000, 1, true),
+    Act::Frames(1, 0x40000000, &[Some(10), None, Some(12), Some(13)]),
+    Act::Attach(1, 0x40002000, 1, true),
+    Act::Frames(1, 0x40000000, &[Some(10), None, None, Some(13)]),
+    Act::Note(&[Move::Gone(PageRef { seg: 0, page: 3 })]),
+    Act::Frames(1, 0x40000000, &[Some(10), None, None, None]),
+];
 
 #[test]
 fn parts_keep_their_translations(rt: HostRuntime) -> Result<(), HostMemory> {
-    let store = bare_store(rt.alloc())?;
-    let mut spaces = family(rt.alloc())?;
-    cut_twice(&rt, &mut spaces, &store);
-    Ok(())
+    in_a_family(&rt, rt.alloc(), CUT_TWICE)
 }

@@ -1,10 +1,43 @@
 ghost use Rattle.std.specs.Prelude.{◌≡◌};
 
 use shm_ids::{IdTable, InsertRefused, LookRefused};
+use std::alloc::Global;
+use std::process::Abort;
 
-/// An insert under no key: its identifier, or why it was refused.
-fn put(table: &mut IdTable<u8>, value: u8) -> Result<i32, (u8, InsertRefused)> {
-    table.insert(0, value)
+/// A row of a table: its identifier, its key and its value.
+type Row = (i32, u32, u8);
+
+/// What is done to a table, or asked of it, with the answer that is wanted.
+enum Act {
+    /// A value is put under a key, which is 0 for none: its identifier.
+    Put(u32, u8, i32),
+    /// A value cannot be put.
+    Full(u8),
+    /// A live row is destroyed.
+    Destroy(i32),
+    /// The value under an identifier.
+    Look(i32, Result<u8, LookRefused>),
+    /// The value under an identifier is written.
+    Write(i32, u8),
+    /// The identifier under a key, and the key of an identifier.
+    FindKey(u32, Option<i32>),
+    KeyOf(i32, u32),
+    /// The key of an identifier is hidden.
+    HideKey(i32),
+    /// How many rows there are.
+    Count(u64),
+    /// The row of an index.
+    RowAt(usize, Option<Row>),
+    /// All rows, by rising index.
+    Rows(&'static [Row]),
+}
+
+/// What comes of a value under a key that no row has.
+fn put(table: &mut IdTable<u8>, key: u32, value: u8) -> Option<Result<i32, (u8, InsertRefused)>> {
+    if table.find_key(key).is_some() {
+        return None;
+    }
+    Some(table.insert(key, value))
 }
 
 /// Destroys a row; whether it was live.
@@ -16,80 +49,158 @@ fn destroy(table: &mut IdTable<u8>, id: i32) -> bool {
     live
 }
 
+/// Writes a value; whether its row is live.
+fn write(table: &mut IdTable<u8>, id: i32, value: u8) -> bool {
+    match table.look_mut(id) {
+        Ok(place) => {
+            *place = value;
+            true
+        }
+        Err(_) => false,
+    }
+}
+
+/// Hides a key; whether its row is live.
+fn hide_key(table: &mut IdTable<u8>, id: i32) -> bool {
+    let live = table.look(id).is_ok();
+    if live {
+        table.hide_key(id);
+    }
+    live
+}
+
+/// Whether the table has just these rows.
+fn has_rows(table: &IdTable<u8>, wanted: &[Row]) -> bool {
+    let mut rows = table.rows();
+    for row in wanted {
+        if rows.next() != Some((row.0, row.1, &row.2)) {
+            return false;
+        }
+    }
+    rows.next().is_none()
+}
+
+fn row_at(table: &IdTable<u8>, index: usize) -> Option<Row> {
+    let (id, key, value) = table.row_at(index)?;
+    Some((id, key, *value))
+}
+
+/// Does an act; whether its answer is the wanted one.
+fn answers(table: &mut IdTable<u8>, act: &Act) -> bool {
+    match *act {
+        Act::Put(key, value, id) => put(table, key, value) == Some(Ok(id)),
+        Act::Full(value) => put(table, 0, value) == Some(Err((value, InsertRefused::IdFull))),
+        Act::Destroy(id) => destroy(table, id),
+        Act::Look(id, value) => table.look(id).copied() == value,
+        Act::Write(id, value) => write(table, id, value),
+        Act::FindKey(key, id) => table.find_key(key) == id,
+        Act::KeyOf(id, key) => table.look(id).is_ok() && table.key_of(id) == key,
+        Act::HideKey(id) => hide_key(table, id),
+        Act::Count(count) => table.row_count() == count,
+        Act::RowAt(index, row) => row_at(table, index) == row,
+        Act::Rows(rows) => has_rows(table, rows),
+    }
+}
+
+/// Each act has its answer, one after another. A message counts the rows from 0.
+fn answers_all(rt: &impl Abort, table: &mut IdTable<u8>, acts: &[Act]) {
+    for (row, act) in acts.iter().enumerate() {
+        assert!(rt; answers(table, act), "at row {row}");
+    }
+}
+
+/// As `answers_all`, in a table that begins with no row.
+fn in_a_table(rt: &impl Abort, alloc: Global, acts: &[Act]) {
+    let mut table: IdTable<u8> = IdTable::new(alloc);
+    answers_all(rt, &mut table, acts);
+}
+
+const DESTROYED: &[Act] = &[
+    Act::Put(0, 5, 0),
+    Act::Destroy(0),
+    Act::Put(0, 6, 32768),
+    Act::Look(0, Err(LookRefused::Removed)),
+    Act::Look(7, Err(LookRefused::Invalid)),
+    Act::Look(65536, Err(LookRefused::Invalid)),
+    Act::Look(-1, Err(LookRefused::Invalid)),
+    Act::Look(32768, Ok(6)),
+    Act::Put(0, 7, 1),
+    Act::Count(2),
+];
+
 #[test]
 fn a_destroyed_identifier_never_comes_again(rt: HostRuntime) {
-    let mut table: IdTable<u8> = IdTable::new(rt.alloc());
-    assert!(rt; put(&mut table, 5) == Ok(0));
-    assert!(rt; destroy(&mut table, 0));
-    assert!(rt; put(&mut table, 6) == Ok(32768));
-    let looks = [
-        (0, Err(LookRefused::Removed)),
-        (7, Err(LookRefused::Invalid)),
-        (65536, Err(LookRefused::Invalid)),
-        (-1, Err(LookRefused::Invalid)),
-        (32768, Ok(6)),
-    ];
-    for (id, want) in looks {
-        assert!(rt; table.look(id).copied() == want, "at {id}");
+    in_a_table(&rt, rt.alloc(), DESTROYED);
+}
+
+const WORN_OUT: &[Act] = &[
+    Act::Put(0, 2, 1),
+    Act::Look(2147450880, Err(LookRefused::Removed)),
+];
+
+fn wears_out(rt: &impl Abort, table: &mut IdTable<u8>) {
+    for round in 0..65536u32 {
+        let id = (round * 32768) as i32;
+        assert!(rt; put(table, 0, 1) == Some(Ok(id)), "at {id}");
+        assert!(rt; destroy(table, id), "at {id}");
     }
-    assert!(rt; put(&mut table, 7) == Ok(1));
-    assert!(rt; table.row_count() == 2);
+    answers_all(rt, table, WORN_OUT);
 }
 
 #[test]
 fn an_index_wears_out(rt: HostRuntime) {
     let mut table: IdTable<u8> = IdTable::new(rt.alloc());
-    for round in 0..65536u32 {
-        let id = (round * 32768) as i32;
-        assert!(rt; put(&mut table, 1) == Ok(id));
-        assert!(rt; destroy(&mut table, id));
+    wears_out(&rt, &mut table);
+}
+
+const FULL: &[Act] = &[Act::Full(9)];
+
+fn takes_all(rt: &impl Abort, table: &mut IdTable<u8>) {
+    for index in 0..32768i32 {
+        assert!(rt; put(table, 0, 3) == Some(Ok(index)), "at {index}");
     }
-    assert!(rt; put(&mut table, 2) == Ok(1));
-    assert!(rt; table.look(2147450880).copied() == Err(LookRefused::Removed));
+    answers_all(rt, table, FULL);
 }
 
 #[test]
 fn all_indexes_are_taken(rt: HostRuntime) {
     let mut table: IdTable<u8> = IdTable::new(rt.alloc());
-    for index in 0..32768i32 {
-        assert!(rt; put(&mut table, 3) == Ok(index));
-    }
-    assert!(rt; put(&mut table, 9) == Err((9, InsertRefused::IdFull)));
+    takes_all(&rt, &mut table);
 }
+
+const KEYS: &[Act] = &[
+    Act::Put(42, 5, 0),
+    Act::Put(0, 6, 1),
+    Act::FindKey(42, Some(0)),
+    Act::FindKey(0, None),
+    Act::KeyOf(0, 42),
+    Act::Write(0, 8),
+    Act::Look(0, Ok(8)),
+    Act::HideKey(0),
+    Act::FindKey(42, None),
+    Act::Put(42, 7, 2),
+    Act::FindKey(42, Some(2)),
+    Act::Destroy(2),
+    Act::FindKey(42, None),
+];
 
 #[test]
 fn keys(rt: HostRuntime) {
-    let mut table: IdTable<u8> = IdTable::new(rt.alloc());
-    assert!(rt; table.insert(42, 5) == Ok(0));
-    assert!(rt; put(&mut table, 6) == Ok(1));
-    assert!(rt; table.find_key(42) == Some(0));
-    assert!(rt; table.find_key(0).is_none());
-    assert!(rt; table.look(0).is_ok());
-    assert!(rt; table.key_of(0) == 42);
-    if let Ok(value) = table.look_mut(0) {
-        *value = 8;
-    }
-    assert!(rt; table.look(0).copied() == Ok(8));
-    table.hide_key(0);
-    assert!(rt; table.find_key(42).is_none());
-    assert!(rt; table.insert(42, 7) == Ok(2));
-    assert!(rt; table.find_key(42) == Some(2));
-    assert!(rt; destroy(&mut table, 2));
-    assert!(rt; table.find_key(42).is_none());
+    in_a_table(&rt, rt.alloc(), KEYS);
 }
+
+const ROWS: &[Act] = &[
+    Act::Put(42, 5, 0),
+    Act::Put(0, 6, 1),
+    Act::Put(0, 7, 2),
+    Act::Destroy(1),
+    Act::Rows(&[(0, 42, 5), (2, 0, 7)]),
+    Act::RowAt(0, Some((0, 42, 5))),
+    Act::RowAt(1, None),
+    Act::RowAt(3, None),
+];
 
 #[test]
 fn rows_by_rising_index(rt: HostRuntime) {
-    let mut table: IdTable<u8> = IdTable::new(rt.alloc());
-    assert!(rt; table.insert(42, 5) == Ok(0));
-    assert!(rt; put(&mut table, 6) == Ok(1));
-    assert!(rt; put(&mut table, 7) == Ok(2));
-    assert!(rt; destroy(&mut table, 1));
-    let mut rows = table.rows();
-    assert!(rt; rows.next() == Some((0, 42, &5)));
-    assert!(rt; rows.next() == Some((2, 0, &7)));
-    assert!(rt; rows.next().is_none());
-    assert!(rt; table.row_at(0) == Some((0, 42, &5)));
-    assert!(rt; table.row_at(1).is_none());
-    assert!(rt; table.row_at(3).is_none());
+    in_a_table(&rt, rt.alloc(), ROWS);
 }

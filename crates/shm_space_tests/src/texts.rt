@@ -2,39 +2,44 @@
 use shm_attach::Segv;
 use shm_ids::{InsertRefused, LookRefused};
 use shm_pager::{MirrorCause, PagerFault};
-use std::alloc::{AllocError, Global};
+use std::alloc::Global;
 use std::fmt::Display;
+use std::process::Abort;
 
-fn text_of(alloc: Global, error: &impl Display) -> Result<String, AllocError> {
-    format!(in alloc; "{error}")
+fn tells(rt: &impl Abort, alloc: Global, error: &impl Display, text: &str) {
+    let told = format!(in alloc; "{error}");
+    assert!(rt; told.is_ok_and(|t| t.as_str() == text), "{text}");
 }
 
 #[test]
 fn errors_are_told(rt: HostRuntime) {
     let alloc = rt.alloc();
-    let texts = [
-        (
-            text_of(alloc, &InsertRefused::IdFull),
-            "every identifier is in use or worn out",
-        ),
-        (text_of(alloc, &InsertRefused::HostMemory), "out of memory"),
-        (
-            text_of(alloc, &LookRefused::Removed),
-            "the identifier was removed",
-        ),
-        (
-            text_of(alloc, &LookRefused::Invalid),
-            "the identifier was never issued",
-        ),
-        (
-            text_of(alloc, &MirrorCause::Unequal),
-            "the two sides differ in size",
-        ),
-        (text_of(alloc, &MirrorCause::HostMemory), "out of memory"),
-        (text_of(alloc, &PagerFault), "a pager failed"),
-        (text_of(alloc, &Segv), "address not mapped, or not writable"),
-    ];
-    for (text, want) in texts {
-        assert!(rt; text.is_ok_and(|t| t.as_str() == want));
-    }
+    tells(
+        &rt,
+        alloc,
+        &InsertRefused::IdFull,
+        "every identifier is in use or worn out",
+    );
+    tells(&rt, alloc, &InsertRefused::HostMemory, "out of memory");
+    tells(
+        &rt,
+        alloc,
+        &LookRefused::Removed,
+        "the identifier was removed",
+    );
+    tells(
+        &rt,
+        alloc,
+        &LookRefused::Invalid,
+        "the identifier was never issued",
+    );
+    tells(
+        &rt,
+        alloc,
+        &MirrorCause::Unequal,
+        "the two sides differ in size",
+    );
+    tells(&rt, alloc, &MirrorCause::HostMemory, "out of memory");
+    tells(&rt, alloc, &PagerFault, "a pager failed");
+    tells(&rt, alloc, &Segv, "address not mapped, or not writable");
 }
