@@ -1,8 +1,9 @@
-//! What tests of runs share: gates, worlds, and what is seen behind a run.
+//! What tests of runs share: a gate, worlds, and what is seen behind a run.
+use shm_base::{AccessLen, Call, Reply, Tally};
 use shm_history::{System, World};
 use shm_pager::{Pager, RamPager};
 use shm_text::{Script, read_script};
-use shm_threads::{Gate, Outcome, RunError, run_threads};
+use shm_threads::{Gate, Outcome, RunError, Transcript, run_threads};
 use std::alloc::Global;
 use std::sync::Wait;
 use std::sync::atomic::{AtomicU64, Ordering};
@@ -11,9 +12,6 @@ use std::thread;
 use std::thread::Threads;
 
 const TURNS: u64 = 1_000_000;
-
-/// No pid is so large.
-pub(crate) const OPEN: u32 = u32::MAX;
 
 /// Waits until a count is so high, for so many turns. False if it was not.
 pub(crate) fn comes_to(count: &AtomicU64, least: u64) -> bool {
@@ -26,24 +24,152 @@ pub(crate) fn comes_to(count: &AtomicU64, least: u64) -> bool {
     false
 }
 
-/// Ends the workers from this pid on.
-#[derive(Drop)]
-pub(crate) struct Below(pub(crate) u32);
+/// What a gate does.
+#[derive(Clone, Copy)]
+pub(crate) enum Rule {
+    /// Lets every worker pass.
+    Open,
+    /// Ends the workers from this pid on.
+    Below(u32),
+    /// Ends one worker.
+    Without(u32),
+    /// Lets so many of the flusher's rounds pass.
+    Rounds(u64),
+    /// Holds each of two processes until the other comes as far.
+    Meet,
+    /// Holds process 1 behind its first call until process 2 has made one.
+    ChildFirst,
+    /// Has process 2 make its call while process 1 is told of its own.
+    WhileTold,
+    /// Holds the flusher's first round until process 1 has made four calls.
+    BehindFour,
+}
 
-impl Gate for Below {
-    fn before(&self, pid: u32, _n: u64) -> bool {
-        pid < self.0
+/// Of which call a gate was asked last for a worker, and of which it was told.
+struct Turn {
+    asked: AtomicU64,
+    told: AtomicU64,
+}
+
+impl Turn {
+    fn none() -> Turn {
+        Turn {
+            asked: AtomicU64::new(0),
+            told: AtomicU64::new(0),
+        }
     }
 
-    fn after(&self, _pid: u32, _n: u64) {}
+    // Whether the gate is asked of the next call, and was told of all before.
+    fn ask(&self, n: u64) -> bool {
+        let before = n.wrapping_sub(1);
+        self.asked.swap(n, Ordering::SeqCst) == before && self.told.load(Ordering::SeqCst) == before
+    }
+
+    // Whether the gate is told of the call of which it was asked last.
+    fn tell(&self, n: u64) -> bool {
+        let before = n.wrapping_sub(1);
+        self.told.swap(n, Ordering::SeqCst) == before && self.asked.load(Ordering::SeqCst) == n
+    }
+}
+
+impl Drop for Turn {
+    fn drop(self) {
+        let Turn { asked: _, told: _ } = self;
+    }
+}
+
+/// Keeps a rule, and counts for the flusher, process 1 and process 2 what it was asked and told, and when out of
+/// turn. Another process counts as process 2.
+pub(crate) struct Ruled {
+    rule: Rule,
+    flusher: Turn,
+    first: Turn,
+    second: Turn,
+    wrong: AtomicU64,
+}
+
+impl Ruled {
+    pub(crate) fn by(rule: Rule) -> Ruled {
+        Ruled {
+            rule,
+            flusher: Turn::none(),
+            first: Turn::none(),
+            second: Turn::none(),
+            wrong: AtomicU64::new(0),
+        }
+    }
+
+    /// Of which call it was asked last and told last for the flusher, for process 1 and for process 2; and how often
+    /// it was out of turn.
+    pub(crate) fn counts(&self) -> [u64; 7] {
+        [
+            self.flusher.asked.load(Ordering::SeqCst),
+            self.flusher.told.load(Ordering::SeqCst),
+            self.first.asked.load(Ordering::SeqCst),
+            self.first.told.load(Ordering::SeqCst),
+            self.second.asked.load(Ordering::SeqCst),
+            self.second.told.load(Ordering::SeqCst),
+            self.wrong.load(Ordering::SeqCst),
+        ]
+    }
+
+    /// How many rounds it was told of.
+    pub(crate) fn rounds(&self) -> u64 {
+        self.flusher.told.load(Ordering::SeqCst)
+    }
+
+    fn turn(&self, pid: u32) -> &Turn {
+        match pid {
+            0 => &self.flusher,
+            1 => &self.first,
+            _ => &self.second,
+        }
+    }
+
+    fn note(&self, is_in_turn: bool) {
+        if !is_in_turn {
+            self.wrong.fetch_add(1, Ordering::SeqCst);
+        }
+    }
+}
+
+impl Drop for Ruled {
+    fn drop(self) {
+        let Ruled {
+            rule: _,
+            flusher: _,
+            first: _,
+            second: _,
+            wrong: _,
+        } = self;
+    }
+}
+
+impl Gate for Ruled {
+    fn before(&self, pid: u32, n: u64) -> bool {
+        self.note(self.turn(pid).ask(n));
+        match self.rule {
+            Rule::Open => true,
+            Rule::Below(end) => pid < end,
+            Rule::Without(ended) => pid != ended,
+            Rule::Rounds(most) => pid != 0 || n <= most,
+            Rule::Meet => comes_to(&self.turn(3u32.wrapping_sub(pid)).asked, n),
+            Rule::ChildFirst => pid != 1 || n == 1 || comes_to(&self.second.told, 1),
+            Rule::WhileTold => pid == 1 || comes_to(&self.first.told, 1),
+            Rule::BehindFour => pid != 0 || comes_to(&self.first.told, 4),
+        }
+    }
+
+    fn after(&self, pid: u32, n: u64) {
+        self.note(self.turn(pid).tell(n));
+        if matches!(self.rule, Rule::WhileTold) && pid == 1 {
+            let _in_time = comes_to(&self.second.told, 1);
+        }
+    }
 }
 
 pub(crate) fn script(alloc: Global, text: &[u8]) -> Result<Script, Fail> {
-    Ok(read_script(alloc, text).ok().ok_or("a script")?)
-}
-
-pub(crate) fn world(alloc: Global, script: &Script) -> Result<World<RamPager>, Fail> {
-    world_over(alloc, script, RamPager::new(alloc, 64)?)
+    Ok(read_script(alloc, text)?)
 }
 
 pub(crate) fn world_over<P: Pager>(
@@ -53,65 +179,119 @@ pub(crate) fn world_over<P: Pager>(
 ) -> Result<World<P>, Fail> {
     let mut pagers = Vec::new(alloc);
     pagers.push(pager)?;
-    let system = System::start(alloc, script.limits, pagers, &script.processes)
-        .ok()
-        .ok_or("it starts")?;
+    let system = System::start(alloc, script.limits, pagers, &script.processes)?;
     Ok(World::new(alloc, system))
 }
 
 /// What a test looks at behind a run.
-#[derive(Drop)]
+#[derive(Clone, Copy)]
 pub(crate) struct Seen {
     pub(crate) events: usize,
-    /// How many calls each transcript has.
-    pub(crate) calls: Vec<usize>,
+    pub(crate) transcripts: usize,
+    /// How many calls each of the first five transcripts has; 0 where there is none.
+    pub(crate) calls: [usize; 5],
     pub(crate) indexes: u32,
+    pub(crate) tally: Tally,
+    /// The last event's process and reply.
+    pub(crate) last: Option<(u32, Reply)>,
+    /// What process 1 loads behind the run from where the first segment is attached.
+    pub(crate) loaded: Option<Reply>,
 }
 
-pub(crate) fn look_at(alloc: Global, outcome: &Outcome<RamPager>) -> Result<Seen, Fail> {
-    let mut calls = Vec::new(alloc);
-    for transcript in &outcome.transcripts {
-        calls.push(transcript.entries.len())?;
+impl Seen {
+    /// Whether there are so many transcripts, with so many calls each.
+    pub(crate) fn has_calls(&self, calls: &[usize]) -> bool {
+        self.transcripts == calls.len() && self.calls.starts_with(calls)
     }
-    let (events, indexes) = (outcome.world.history().len(), outcome.world.indexes());
-    Ok(Seen {
-        events,
-        calls,
-        indexes,
-    })
 }
 
-/// Runs a script behind this gate.
-pub(crate) fn run_behind<R: Threads + Wait + Sync, G: Gate>(
+fn calls_of(transcripts: &[Transcript]) -> [usize; 5] {
+    let mut calls = [0; 5];
+    for (count, transcript) in calls.iter_mut().zip(transcripts) {
+        *count = transcript.entries.len();
+    }
+    calls
+}
+
+fn last_of(world: &World<RamPager>) -> Option<(u32, Reply)> {
+    let event = world.history().last()?;
+    Some((event.pid, event.reply))
+}
+
+fn loaded(world: &mut World<RamPager>) -> Option<Reply> {
+    let len = AccessLen::new(8)?;
+    let addr = 0x40000000;
+    world.call(1, &Call::Load { addr, len }).ok()
+}
+
+fn look(world: &mut World<RamPager>, transcripts: &[Transcript]) -> Seen {
+    Seen {
+        events: world.history().len(),
+        transcripts: transcripts.len(),
+        calls: calls_of(transcripts),
+        indexes: world.indexes(),
+        tally: world.tally(),
+        last: last_of(world),
+        loaded: loaded(world),
+    }
+}
+
+fn ended(run: Result<Outcome<RamPager>, RunError>) -> Result<Seen, RunError> {
+    let Outcome {
+        mut world,
+        transcripts,
+    } = run?;
+    Ok(look(&mut world, &transcripts))
+}
+
+/// What is seen behind a run of a script behind this gate, or why it has no outcome.
+pub(crate) fn run_script<R: Threads + Wait + Sync, G: Gate>(
     rt: &R,
     alloc: Global,
-    text: &[u8],
+    script: &Script,
     gate: &G,
-) -> Result<Outcome<RamPager>, Fail> {
-    let script = script(alloc, text)?;
-    let world = world(alloc, &script)?;
-    let run = run_threads(rt, alloc, world, &script, gate);
-    Ok(run.ok().ok_or("a run")?)
+) -> Result<Result<Seen, RunError>, Fail> {
+    let world = world_over(alloc, script, RamPager::new(alloc, 64)?)?;
+    Ok(ended(run_threads(rt, alloc, world, script, gate)))
 }
 
-/// What is seen behind such a run.
-pub(crate) fn seen_behind<R: Threads + Wait + Sync, G: Gate>(
-    rt: &R,
-    alloc: Global,
-    text: &[u8],
-    gate: &G,
-) -> Result<Seen, Fail> {
-    look_at(alloc, &run_behind(rt, alloc, text, gate)?)
-}
-
-/// Why a run behind this gate has no outcome.
+/// Why such a run has no outcome.
 pub(crate) fn fault_behind<R: Threads + Wait + Sync, G: Gate>(
     rt: &R,
     alloc: Global,
     script: &Script,
     gate: &G,
 ) -> Result<Option<RunError>, Fail> {
-    let world = world(alloc, script)?;
-    let run = run_threads(rt, alloc, world, script, gate);
-    Ok(run.err())
+    Ok(run_script(rt, alloc, script, gate)?.err())
+}
+
+/// What is seen behind a run of a text, or why it has no outcome.
+pub(crate) fn run_behind<R: Threads + Wait + Sync, G: Gate>(
+    rt: &R,
+    alloc: Global,
+    text: &[u8],
+    gate: &G,
+) -> Result<Result<Seen, RunError>, Fail> {
+    let script = script(alloc, text)?;
+    run_script(rt, alloc, &script, gate)
+}
+
+/// What is seen behind a run by this rule.
+pub(crate) fn seen_by<R: Threads + Wait + Sync>(
+    rt: &R,
+    alloc: Global,
+    text: &[u8],
+    rule: Rule,
+) -> Result<Seen, Fail> {
+    Ok(run_behind(rt, alloc, text, &Ruled::by(rule))??)
+}
+
+/// Why a run by this rule has no outcome.
+pub(crate) fn fault_by<R: Threads + Wait + Sync>(
+    rt: &R,
+    alloc: Global,
+    text: &[u8],
+    rule: Rule,
+) -> Result<Option<RunError>, Fail> {
+    Ok(run_behind(rt, alloc, text, &Ruled::by(rule))?.err())
 }

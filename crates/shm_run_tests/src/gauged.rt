@@ -1,20 +1,19 @@
 //! Gauged runs beside a reader, which waits for no lock.
 ghost use Rattle.std.specs.Prelude.{◌≡◌};
 
-use crate::behind::{Below, OPEN, comes_to, script, world, world_over};
-use crate::runs::{BehindFour, COUNTER, COUNTS, late, repeated};
+use crate::behind::{Rule, Ruled, comes_to, script, world_over};
+use crate::runs::{COUNTER, COUNTS, late, repeated};
 use shm_history::{Gauge, Keeper, ReaderSeat, Reading, World, gauge};
 use shm_pager::{Pager, PagerFault, RamPager};
 use shm_text::Script;
-use shm_threads::{Gate, RunError, run_threads_gauged};
-use std::alloc::{AllocError, Global};
+use shm_threads::{Gate, Outcome, RunError, run_threads_gauged};
+use std::alloc::Global;
+use std::sync::Wait;
 use std::sync::atomic::{AtomicU64, Ordering};
-use std::sync::{Arc, Wait};
 use std::test::Fail;
 use std::thread::{Threads, join};
 
 /// What a reader tells others, and they it.
-#[derive(Drop)]
 struct Readings {
     /// How many have ended.
     ended: AtomicU64,
@@ -64,6 +63,18 @@ impl Readings {
     }
 }
 
+impl Drop for Readings {
+    fn drop(self) {
+        let Readings {
+            ended: _,
+            wrong: _,
+            flushed: _,
+            done: _,
+            late: _,
+        } = self;
+    }
+}
+
 /// Reads until the run has ended, and so often at least.
 fn watch<R: Wait>(
     rt: &R,
@@ -99,55 +110,95 @@ fn run_gauged<R: Threads + Wait + Sync, G: Gate, P: Pager + Send>(
 ) -> Option<RunError> {
     let run = run_threads_gauged(rt, alloc, world, keeper, script, gate);
     readings.done.store(1, Ordering::SeqCst);
-    run.err()
+    match run {
+        Ok(
+            (
+                Outcome {
+                    world: _,
+                    transcripts: _,
+                },
+                _,
+            ),
+        ) => None,
+        Err(fault) => Some(fault),
+    }
 }
 
-/// What is read behind a gauged run, in which a reader on a thread of its own reads so often at least.
+/// How a gauged run ended beside a reader.
+#[derive(Clone, Copy)]
+struct Ending {
+    fault: Option<RunError>,
+    /// How many events were read at the end.
+    events: u64,
+    /// How many readings were none that a world can have, or went back in events.
+    wrong: u64,
+    /// How often a reading that was waited for did not come.
+    late: u64,
+}
+
+/// Runs a script, gauged, beside a reader on a thread of its own, which reads so often at least.
 fn beside_a_reader<R: Threads + Wait + Sync, G: Gate, P: Pager + Send>(
     rt: &R,
     alloc: Global,
-    world: World<P>,
     script: &Script,
+    pager: P,
     gate: &G,
     readings: &Readings,
     least: u64,
-) -> Result<(Option<RunError>, Reading), Fail> {
+) -> Result<Ending, Fail> {
+    let world = world_over(alloc, script, pager)?;
     let (gauge, keeper, seat) = gauge(rt, alloc, &world)?;
     let (mut seat, fault) = join(
         rt,
         || watch(rt, &gauge, seat, readings, least),
         || run_gauged(rt, alloc, world, keeper, script, gate, readings),
     );
-    Ok((fault, gauge.read(rt, &mut seat)))
+    Ok(Ending {
+        fault,
+        events: gauge.read(rt, &mut seat).events,
+        wrong: readings.wrong.load(Ordering::SeqCst),
+        late: readings.late.load(Ordering::SeqCst),
+    })
+}
+
+// Of 64 pages in memory.
+fn over_memory<R: Threads + Wait + Sync, G: Gate>(
+    rt: &R,
+    alloc: Global,
+    text: &[u8],
+    gate: &G,
+    readings: &Readings,
+    least: u64,
+) -> Result<Ending, Fail> {
+    let script = script(alloc, text)?;
+    let pager = RamPager::new(alloc, 64)?;
+    beside_a_reader(rt, alloc, &script, pager, gate, readings, least)
 }
 
 #[test]
 fn readings_beside_four_that_count(rt: HostRuntime) -> Result<(), Fail> {
-    let alloc = rt.alloc();
-    let readings = Readings::none();
-    let script = script(alloc, &repeated(alloc, COUNTER, COUNTS, 50)?)?;
-    let world = world(alloc, &script)?;
-    let (fault, last) = beside_a_reader(
-        &rt,
-        alloc,
-        world,
-        &script,
-        &Below(OPEN),
-        &readings,
-        100_000,
-    )?;
-    assert!(rt; fault.is_none());
-    assert_eq!(rt; last.events, 412);
-    assert_eq!(rt; readings.wrong.load(Ordering::SeqCst), 0);
+    let text = repeated(rt.alloc(), COUNTER, COUNTS, 50)?;
+    let (gate, readings) = (Ruled::by(Rule::Open), Readings::none());
+    let ending = over_memory(&rt, rt.alloc(), &text, &gate, &readings, 100_000)?;
+    assert!(rt; ending.fault.is_none());
+    assert_eq!(rt; (ending.events, ending.wrong), (412, 0));
     Ok(())
 }
 
 /// Lets the flusher's round come behind process 1's fourth call, and holds the flusher until what it published is
 /// read.
-#[derive(Drop)]
 struct UntilRead<'a> {
-    behind: BehindFour,
+    behind: Ruled,
     readings: &'a Readings,
+}
+
+impl Drop for UntilRead<'_> {
+    fn drop(self) {
+        let UntilRead {
+            behind: _,
+            readings: _,
+        } = self;
+    }
 }
 
 impl Gate for UntilRead<'_> {
@@ -165,40 +216,27 @@ impl Gate for UntilRead<'_> {
 
 #[test]
 fn a_round_is_published(rt: HostRuntime) -> Result<(), Fail> {
-    let alloc = rt.alloc();
+    let text = late(rt.alloc(), 2)?;
     let readings = Readings::none();
     let gate = UntilRead {
-        behind: BehindFour::new(),
+        behind: Ruled::by(Rule::BehindFour),
         readings: &readings,
     };
-    let script = script(alloc, &late(alloc, 2)?)?;
-    let world = world(alloc, &script)?;
-    let (fault, last) = beside_a_reader(&rt, alloc, world, &script, &gate, &readings, 0)?;
-    assert!(rt; fault.is_none());
-    assert_eq!(rt; last.events, 4);
-    assert_eq!(rt; readings.late.load(Ordering::SeqCst), 0);
+    let ending = over_memory(&rt, rt.alloc(), &text, &gate, &readings, 0)?;
+    assert!(rt; ending.fault.is_none());
+    assert_eq!(rt; (ending.events, ending.late), (4, 0));
     Ok(())
 }
 
 /// Pages in memory. The first write, which comes under the world's lock, ends only when a reading was begun and
 /// ended since.
-struct WaitingPager {
+struct WaitingPager<'a> {
     inner: RamPager,
-    readings: Arc<Readings, Global>,
+    readings: &'a Readings,
     has_waited: bool,
 }
 
-impl WaitingPager {
-    fn new(alloc: Global, readings: &Arc<Readings, Global>) -> Result<WaitingPager, AllocError> {
-        Ok(WaitingPager {
-            inner: RamPager::new(alloc, 64)?,
-            readings: Arc::try_clone(readings)?,
-            has_waited: false,
-        })
-    }
-}
-
-impl Pager for WaitingPager {
+impl Pager for WaitingPager<'_> {
     ghost content = { λ p. p.inner };
 
     ghost failed = { λ _. 0 };
@@ -235,7 +273,7 @@ impl Pager for WaitingPager {
     }
 }
 
-impl Drop for WaitingPager {
+impl Drop for WaitingPager<'_> {
     fn drop(self) {
         let WaitingPager {
             inner: _,
@@ -249,36 +287,36 @@ impl Drop for WaitingPager {
 const SHORT: &[u8] =
     b"limits 65536 16 64 2 0\nprocess 1 100 100\n1 s = shmget private 12288 600\n1 a = shmat s null -\n1 store a 2a\n1 load a+4096 1\n1 load a+8192 1\n1 load a 1\n";
 
-// How many events were read at the end, and how often a write waited in vain.
-fn over_a_waiting_pager<R: Threads + Wait + Sync, G: Gate>(
+fn over_a_waiting_pager<R: Threads + Wait + Sync>(
     rt: &R,
     alloc: Global,
     text: &[u8],
-    gate: &G,
-) -> Result<(Option<RunError>, u64, u64), Fail> {
-    let readings = Arc::new(alloc, Readings::none())?;
-    let pager = WaitingPager::new(alloc, &readings)?;
+    rule: Rule,
+) -> Result<Ending, Fail> {
     let script = script(alloc, text)?;
-    let world = world_over(alloc, &script, pager)?;
-    let shared: &Readings = &readings;
-    let (fault, last) = beside_a_reader(rt, alloc, world, &script, gate, shared, 0)?;
-    Ok((fault, last.events, shared.late.load(Ordering::SeqCst)))
+    let readings = Readings::none();
+    let pager = WaitingPager {
+        inner: RamPager::new(alloc, 64)?,
+        readings: &readings,
+        has_waited: false,
+    };
+    let gate = Ruled::by(rule);
+    beside_a_reader(rt, alloc, &script, pager, &gate, &readings, 0)
 }
 
 #[test]
 fn readings_while_a_call_holds_the_lock(rt: HostRuntime) -> Result<(), Fail> {
-    let (fault, events, in_vain) = over_a_waiting_pager(&rt, rt.alloc(), SHORT, &Below(OPEN))?;
-    assert!(rt; fault.is_none());
-    assert_eq!(rt; (events, in_vain), (6, 0));
+    let ending = over_a_waiting_pager(&rt, rt.alloc(), SHORT, Rule::Open)?;
+    assert!(rt; ending.fault.is_none());
+    assert_eq!(rt; (ending.events, ending.late), (6, 0));
     Ok(())
 }
 
 #[test]
 fn readings_while_the_flusher_holds_the_lock(rt: HostRuntime) -> Result<(), Fail> {
     let text = late(rt.alloc(), 2)?;
-    let gate = BehindFour::new();
-    let (fault, events, in_vain) = over_a_waiting_pager(&rt, rt.alloc(), &text, &gate)?;
-    assert!(rt; fault.is_none());
-    assert_eq!(rt; (events, in_vain), (4, 0));
+    let ending = over_a_waiting_pager(&rt, rt.alloc(), &text, Rule::BehindFour)?;
+    assert!(rt; ending.fault.is_none());
+    assert_eq!(rt; (ending.events, ending.late), (4, 0));
     Ok(())
 }

@@ -1,17 +1,10 @@
 //! Whole runs: whatever the schedule, they end as stated.
-use crate::behind::{
-    Below, OPEN, Seen, comes_to, fault_behind, look_at, run_behind, script, seen_behind,
-};
-use shm_base::{AccessLen, Call, Chunk, Reply, Tally};
-use shm_history::World;
-use shm_pager::RamPager;
-use shm_text::{FlushLine, Line};
-use shm_threads::{Gate, RunError};
+use crate::behind::{Rule, Ruled, fault_behind, fault_by, script, seen_by};
+use shm_base::{Chunk, Reply, Tally};
+use shm_text::{FlushLine, Line, Script};
+use shm_threads::RunError;
 use std::alloc::Global;
-use std::sync::Wait;
-use std::sync::atomic::{AtomicU64, Ordering};
 use std::test::Fail;
-use std::thread::Threads;
 
 const TWO: &[u8] =
     b"limits 65536 16 64 4 1\nprocess 1 100 100\nprocess 2 100 100\n1 shmget private 1 600\n1 shmget private 1 600\n2 shmget private 1 600\n2 shmget private 1 600\n";
@@ -19,45 +12,18 @@ const TWO: &[u8] =
 const CHILD: &[u8] =
     b"limits 65536 16 64 4 1\nprocess 1 100 100\nchild 2\n1 exit\n2 exit\n1 exit\n";
 
-/// Holds each of two processes until the other comes as far.
-#[derive(Drop)]
-struct Meet {
-    first: AtomicU64,
-    second: AtomicU64,
-}
-
-impl Gate for Meet {
-    fn before(&self, pid: u32, n: u64) -> bool {
-        let (mine, other) = if pid == 1 {
-            (&self.first, &self.second)
-        } else {
-            (&self.second, &self.first)
-        };
-        mine.store(n, Ordering::SeqCst);
-        comes_to(other, n)
-    }
-
-    fn after(&self, _pid: u32, _n: u64) {}
-}
-
 #[test]
 fn two_run_at_once(rt: HostRuntime) -> Result<(), Fail> {
-    let gate = Meet {
-        first: AtomicU64::new(0),
-        second: AtomicU64::new(0),
-    };
-    let seen = seen_behind(&rt, rt.alloc(), TWO, &gate)?;
+    let seen = seen_by(&rt, rt.alloc(), TWO, Rule::Meet)?;
     assert_eq!(rt; seen.events, 4);
-    assert!(rt; seen.calls.as_slice() == [2, 2].as_slice());
+    assert!(rt; seen.has_calls(&[2, 2]));
     Ok(())
 }
 
 #[test]
 fn a_gate_ends_workers(rt: HostRuntime) -> Result<(), Fail> {
-    let alloc = rt.alloc();
-    let script = script(alloc, TWO)?;
     for pid in 1..3 {
-        let ended = fault_behind(&rt, alloc, &script, &Below(pid))?;
+        let ended = fault_by(&rt, rt.alloc(), TWO, Rule::Below(pid))?;
         assert!(rt; ended == Some(RunError::GateExpired { pid }));
     }
     Ok(())
@@ -65,9 +31,9 @@ fn a_gate_ends_workers(rt: HostRuntime) -> Result<(), Fail> {
 
 #[test]
 fn a_child_is_never_born(rt: HostRuntime) -> Result<(), Fail> {
-    let seen = seen_behind(&rt, rt.alloc(), CHILD, &Below(OPEN))?;
+    let seen = seen_by(&rt, rt.alloc(), CHILD, Rule::Open)?;
     assert_eq!(rt; seen.events, 1);
-    assert!(rt; seen.calls.as_slice() == [1, 0].as_slice());
+    assert!(rt; seen.has_calls(&[1, 0]));
     Ok(())
 }
 
@@ -92,27 +58,16 @@ pub(crate) const COUNTER: &[u8] =
 pub(crate) const COUNTS: &[u8] =
     b"1 xadd 0x40000000 1\n2 xadd 0x40000000 1\n3 xadd 0x40000000 1\n4 xadd 0x40000000 1\n1 xadd 0x40000000 1\n2 xadd 0x40000000 1\n3 xadd 0x40000000 1\n4 xadd 0x40000000 1\n0 flush 2\n";
 
-// Whether the counter of process 1 has counted all 400.
-fn has_counted(world: &mut World<RamPager>) -> Result<bool, Fail> {
-    let len = AccessLen::new(8).ok_or("1 to 64")?;
-    let addr = 0x40000000;
-    let sum = Chunk::new(&[0x90, 1, 0, 0, 0, 0, 0, 0]).ok_or("8 bytes")?;
-    let loaded = world.call(1, &Call::Load { addr, len });
-    Ok(matches!(&loaded, Ok(Reply::Bytes(bytes)) if *bytes == sum))
-}
-
-fn counted<R: Threads + Wait + Sync>(rt: &R, alloc: Global) -> Result<(Seen, bool), Fail> {
-    let text = repeated(alloc, COUNTER, COUNTS, 50)?;
-    let mut outcome = run_behind(rt, alloc, &text, &Below(OPEN))?;
-    Ok((look_at(alloc, &outcome)?, has_counted(&mut outcome.world)?))
-}
-
 #[test]
 fn four_count_together(rt: HostRuntime) -> Result<(), Fail> {
-    let (seen, has_counted) = counted(&rt, rt.alloc())?;
+    let alloc = rt.alloc();
+    let text = repeated(alloc, COUNTER, COUNTS, 50)?;
+    let seen = seen_by(&rt, alloc, &text, Rule::Open)?;
     assert_eq!(rt; seen.events, 412);
-    assert!(rt; seen.calls.as_slice() == [112, 100, 100, 100].as_slice());
-    assert!(rt; has_counted);
+    assert!(rt; seen.has_calls(&[112, 100, 100, 100]));
+    // the counter of process 1 has counted all 400
+    let sum = Chunk::new(&[0x90, 1, 0, 0, 0, 0, 0, 0]).ok_or("8 bytes")?;
+    assert!(rt; seen.loaded == Some(Reply::Bytes(sum)));
     Ok(())
 }
 
@@ -124,9 +79,18 @@ const TREE: &[u8] =
 fn children_of_children(rt: HostRuntime) -> Result<(), Fail> {
     let alloc = rt.alloc();
     let text = repeated(alloc, TREE, b"4 exec\n3 exec\n2 exec\n1 exec\n", 10)?;
-    let seen = seen_behind(&rt, alloc, &text, &Below(OPEN))?;
+    let seen = seen_by(&rt, alloc, &text, Rule::Open)?;
     assert_eq!(rt; seen.events, 43);
-    assert!(rt; seen.calls.as_slice() == [12, 11, 10, 10, 0].as_slice());
+    assert!(rt; seen.has_calls(&[12, 11, 10, 10, 0]));
+    Ok(())
+}
+
+// Adds a line for each of 64 processes, which begins and ends so.
+fn push_lines(alloc: Global, text: &mut Vec<u8>, head: &str, tail: &str) -> Result<(), Fail> {
+    for pid in 1..65 {
+        let line = format!(in alloc; "{head}{pid}{tail}\n")?;
+        text.extend_from_slice(line.as_bytes())?;
+    }
     Ok(())
 }
 
@@ -134,15 +98,9 @@ fn children_of_children(rt: HostRuntime) -> Result<(), Fail> {
 fn as_many_processes_as_there_may_be(rt: HostRuntime) -> Result<(), Fail> {
     let alloc = rt.alloc();
     let mut text = Vec::from_slice(alloc, b"limits 65536 16 64 4 1\n".as_slice())?;
-    for pid in 1..65 {
-        let line = format!(in alloc; "process {pid} 100 100\n")?;
-        text.extend_from_slice(line.as_bytes())?;
-    }
-    for pid in 1..65 {
-        let line = format!(in alloc; "{pid} shmget 5 4096 600,creat\n")?;
-        text.extend_from_slice(line.as_bytes())?;
-    }
-    let seen = seen_behind(&rt, alloc, &text, &Below(OPEN))?;
+    push_lines(alloc, &mut text, "process ", " 100 100")?;
+    push_lines(alloc, &mut text, "", " shmget 5 4096 600,creat")?;
+    let seen = seen_by(&rt, alloc, &text, Rule::Open)?;
     assert_eq!(rt; seen.events, 64);
     assert_eq!(rt; seen.indexes, 1);
     Ok(())
@@ -153,78 +111,35 @@ fn as_many_lines_as_there_may_be(rt: HostRuntime) -> Result<(), Fail> {
     let alloc = rt.alloc();
     let head = b"limits 65536 16 64 4 1\nprocess 1 100 100\nprocess 2 100 100\n";
     let text = repeated(alloc, head, b"1 exec\n2 exec\n", 50_000)?;
-    let seen = seen_behind(&rt, alloc, &text, &Below(OPEN))?;
+    let seen = seen_by(&rt, alloc, &text, Rule::Open)?;
     assert_eq!(rt; seen.events, 100_000);
-    assert!(rt; seen.calls.as_slice() == [50_000, 50_000].as_slice());
+    assert!(rt; seen.has_calls(&[50_000, 50_000]));
     Ok(())
-}
-
-/// Lets so many of the flusher's rounds pass, and counts them.
-#[derive(Drop)]
-struct Rounds {
-    most: u64,
-    made: AtomicU64,
-}
-
-impl Gate for Rounds {
-    fn before(&self, pid: u32, n: u64) -> bool {
-        pid != 0 || n <= self.most
-    }
-
-    fn after(&self, pid: u32, n: u64) {
-        if pid == 0 {
-            self.made.store(n, Ordering::SeqCst);
-        }
-    }
 }
 
 const THREE_CALLS: &[u8] =
     b"limits 65536 16 64 4 1\nprocess 1 100 100\nprocess 2 100 100\n1 exec\n2 exec\n1 exit\n";
 
-#[test]
-fn the_flusher_makes_its_rounds(rt: HostRuntime) -> Result<(), Fail> {
-    let alloc = rt.alloc();
-    let mut script = script(alloc, THREE_CALLS)?;
+// Adds three rounds, of one page to three.
+fn push_rounds(script: &mut Script) -> Result<(), Fail> {
     for pages in 1..4 {
         let round = FlushLine::new(pages).ok_or("1 to 4096")?;
         script.lines.push(Line::Flush(round))?;
     }
-    for (most, fault) in [(3, None), (1, Some(RunError::GateExpired { pid: 0 }))] {
-        let made = AtomicU64::new(0);
-        let gate = Rounds { most, made };
-        assert!(rt; fault_behind(&rt, alloc, &script, &gate)? == fault);
-        assert_eq!(rt; gate.made.load(Ordering::SeqCst), most);
-    }
     Ok(())
 }
 
-/// Holds the flusher's first round until process 1 has made four calls.
-#[derive(Drop)]
-pub(crate) struct BehindFour {
-    made: AtomicU64,
-}
-
-impl BehindFour {
-    pub(crate) fn new() -> BehindFour {
-        BehindFour {
-            made: AtomicU64::new(0),
-        }
+#[test]
+fn the_flusher_makes_its_rounds(rt: HostRuntime) -> Result<(), Fail> {
+    let alloc = rt.alloc();
+    let mut script = script(alloc, THREE_CALLS)?;
+    push_rounds(&mut script)?;
+    for (most, fault) in [(3, None), (1, Some(RunError::GateExpired { pid: 0 }))] {
+        let gate = Ruled::by(Rule::Rounds(most));
+        assert!(rt; fault_behind(&rt, alloc, &script, &gate)? == fault);
+        assert_eq!(rt; gate.rounds(), most);
     }
-}
-
-impl Gate for BehindFour {
-    fn before(&self, pid: u32, _n: u64) -> bool {
-        if pid != 0 {
-            return true;
-        }
-        comes_to(&self.made, 4)
-    }
-
-    fn after(&self, pid: u32, n: u64) {
-        if pid == 1 {
-            self.made.store(n, Ordering::SeqCst);
-        }
-    }
+    Ok(())
 }
 
 const FOUR_CALLS: &[u8] =
@@ -234,12 +149,6 @@ const FOUR_CALLS: &[u8] =
 pub(crate) fn late(alloc: Global, pages: u64) -> Result<Vec<u8>, Fail> {
     let round = format!(in alloc; "0 flush {pages}\n")?;
     repeated(alloc, FOUR_CALLS, round.as_bytes(), 1)
-}
-
-// The tally behind such a run.
-fn flushed<R: Threads + Wait + Sync>(rt: &R, alloc: Global, pages: u64) -> Result<Tally, Fail> {
-    let outcome = run_behind(rt, alloc, &late(alloc, pages)?, &BehindFour::new())?;
-    Ok(outcome.world.tally())
 }
 
 #[test]
@@ -259,7 +168,9 @@ fn a_round_behind_the_last_call(rt: HostRuntime) -> Result<(), Fail> {
             outs: pages,
             failures: 0,
         };
-        assert!(rt; flushed(&rt, rt.alloc(), pages)? == wanted);
+        let text = late(rt.alloc(), pages)?;
+        let seen = seen_by(&rt, rt.alloc(), &text, Rule::BehindFour)?;
+        assert!(rt; seen.tally == wanted);
     }
     Ok(())
 }
