@@ -9,10 +9,6 @@ use std::alloc::{AllocError, Global};
 use std::process::Abort;
 use std::test::Fail;
 
-const P: [u8; 4096] = [0x50; 4096];
-
-const Q: [u8; 4096] = [0x51; 4096];
-
 fn write<X: Pager>(
     rt: &impl Abort,
     pager: &mut X,
@@ -39,30 +35,40 @@ fn places(alloc: Global, listed: &[u64]) -> Result<Vec<u64>, AllocError> {
     listed.to_vec(alloc)
 }
 
-/// A page of one byte that is written to slot 0, and whether it is taken; or the byte of the page that is read there,
-/// none where the read fails.
+/// A page of one byte that is written to a slot, and whether it is taken; the byte of the page that is read in a slot,
+/// none where the read fails; or a slot that is discarded, or all wiped.
 #[derive(Clone, Copy)]
 enum Access {
-    Write(u8, bool),
-    Read(Option<u8>),
+    Write(u32, u8, bool),
+    Read(u32, Option<u8>),
+    Discard(u32),
+    Wipe,
 }
 
-use Access::{Read, Write};
+use Access::{Discard, Read, Wipe, Write};
 
-// Makes these accesses in order, and sees what comes of each.
-fn accessed<X: Pager>(rt: &impl Abort, pager: &mut X, accesses: &[Access]) {
-    for access in accesses {
-        match access {
-            Write(byte, is_taken) => {
-                let written = write(rt, pager, 0, [*byte; 4096]);
-                assert_eq!(rt; written.is_ok(), *is_taken);
-            }
-            Read(byte) => {
-                let page = read(rt, pager, 0);
-                assert_eq!(rt; page.ok(), byte.map(|byte| [byte; 4096]));
-            }
+// Makes an access, and sees what comes of it.
+fn make_access<X: Pager>(rt: &impl Abort, pager: &mut X, number: usize, access: Access) {
+    match access {
+        Write(slot, byte, is_taken) => {
+            let written = write(rt, pager, slot, [byte; 4096]);
+            assert_eq!(rt; written.is_ok(), is_taken, "access {number}");
         }
+        Read(slot, byte) => {
+            let page = read(rt, pager, slot).ok();
+            assert_eq!(rt; page, byte.map(|byte| [byte; 4096]), "access {number}");
+        }
+        Discard(slot) => discard(rt, pager, slot),
+        Wipe => pager.wipe(),
     }
+}
+
+// Makes these accesses in order. The pager has counted so many failures then.
+fn accessed<X: Pager>(rt: &impl Abort, pager: &mut X, accesses: &[Access], failures: u64) {
+    for (number, &one) in accesses.iter().enumerate() {
+        make_access(rt, pager, number, one);
+    }
+    assert_eq!(rt; pager.failures(), failures);
 }
 
 // A pager in memory behind a fuse that fails these reads and writes.
@@ -81,9 +87,13 @@ fn fuse(
 #[test]
 fn a_fuse_scorches_the_slot(rt: HostRuntime) -> Result<(), Fail> {
     let mut fuse = fuse(rt.alloc(), 2, &[], &[1])?;
-    accessed(&rt, &mut fuse, &[Write(0x50, false), Read(Some(0xa5))]);
-    assert_eq!(rt; fuse.failures(), 1);
-    accessed(&rt, &mut fuse, &[Write(0x50, true), Read(Some(0x50))]);
+    let accesses = [
+        Write(0, 0x50, false),
+        Read(0, Some(0xa5)),
+        Write(0, 0x50, true),
+        Read(0, Some(0x50)),
+    ];
+    accessed(&rt, &mut fuse, &accesses, 1);
     Ok(())
 }
 
@@ -93,9 +103,12 @@ fn a_mirror_reads_the_side_that_took_the_page(rt: HostRuntime) -> Result<(), Fai
     let left = fuse(alloc, 1, &[], &[2])?;
     let right = RamPager::new(alloc, 1)?;
     let mut mirror = MirrorPager::new(alloc, left, right).map_err(|e| e.cause)?;
-    let accesses = [Write(0x50, true), Write(0x51, true), Read(Some(0x51))];
-    accessed(&rt, &mut mirror, &accesses);
-    assert_eq!(rt; mirror.failures(), 0);
+    let accesses = [
+        Write(0, 0x50, true),
+        Write(0, 0x51, true),
+        Read(0, Some(0x51)),
+    ];
+    accessed(&rt, &mut mirror, &accesses, 0);
     Ok(())
 }
 
@@ -105,18 +118,16 @@ fn a_mirror_fails_where_its_one_good_side_does(rt: HostRuntime) -> Result<(), Fa
     let left = fuse(alloc, 1, &[], &[1])?;
     let right = fuse(alloc, 1, &[1], &[])?;
     let mut mirror = MirrorPager::new(alloc, left, right).map_err(|e| e.cause)?;
-    let accesses = [Write(0x50, true), Read(None), Read(Some(0x50))];
-    accessed(&rt, &mut mirror, &accesses);
-    assert_eq!(rt; mirror.failures(), 1);
+    let accesses = [Write(0, 0x50, true), Read(0, None), Read(0, Some(0x50))];
+    accessed(&rt, &mut mirror, &accesses, 1);
     Ok(())
 }
 
 #[test]
 fn a_sparse_pager_reads_back(rt: HostRuntime) -> Result<(), Fail> {
     let mut sparse = SparsePager::new(rt.alloc(), 1)?;
-    let accesses = [Read(Some(0)), Write(0x50, true), Read(Some(0x50))];
-    accessed(&rt, &mut sparse, &accesses);
-    assert_eq!(rt; sparse.failures(), 0);
+    let accesses = [Read(0, Some(0)), Write(0, 0x50, true), Read(0, Some(0x50))];
+    accessed(&rt, &mut sparse, &accesses, 0);
     Ok(())
 }
 
@@ -131,46 +142,49 @@ fn a_mirror_of_unequal_sides_is_refused(rt: HostRuntime) -> Result<(), Fail> {
     Ok(())
 }
 
+// A fuse whose first write fails, over a pager that can count no failure more.
+fn over_a_spent_pager(alloc: Global) -> Result<FusePager<FusePager<RamPager>>, AllocError> {
+    let ram = RamPager::new(alloc, 1)?;
+    let spent = FusePager::new_at(ram, Vec::new(alloc), Vec::new(alloc), u64::MAX);
+    Ok(FusePager::new(spent, Vec::new(alloc), places(alloc, &[1])?))
+}
+
 // A spent pager is not asked, by a fuse or by a mirror, but it is discarded and wiped.
 #[test]
 fn a_spent_pager_is_not_asked(rt: HostRuntime) -> Result<(), Fail> {
     let alloc = rt.alloc();
-    let spent = FusePager::new_at(
-        RamPager::new(alloc, 1)?,
-        places(alloc, &[])?,
-        places(alloc, &[])?,
-        u64::MAX,
-    );
-    let mut fuse = FusePager::new(spent, places(alloc, &[])?, places(alloc, &[1])?);
-    assert_eq!(rt; write(&rt, &mut fuse, 0, P), Err(PagerFault));
-    assert_eq!(rt; read(&rt, &mut fuse, 0), Err(PagerFault));
-    assert_eq!(rt; fuse.failures(), 2);
-
-    let mut mirror = MirrorPager::new(alloc, fuse, RamPager::new(alloc, 1)?).map_err(|e| e.cause)?;
-    assert_eq!(rt; write(&rt, &mut mirror, 0, P), Ok(()));
-    assert_eq!(rt; read(&rt, &mut mirror, 0), Ok(P));
-    discard(&rt, &mut mirror, 0);
-    assert_eq!(rt; read(&rt, &mut mirror, 0), Err(PagerFault));
-    mirror.wipe();
-    assert_eq!(rt; read(&rt, &mut mirror, 0), Ok([0; 4096]));
-    assert_eq!(rt; mirror.failures(), 1);
+    let mut fuse = over_a_spent_pager(alloc)?;
+    accessed(&rt, &mut fuse, &[Write(0, 0x50, false), Read(0, None)], 2);
+    let right = RamPager::new(alloc, 1)?;
+    let mut mirror = MirrorPager::new(alloc, fuse, right).map_err(|e| e.cause)?;
+    let accesses = [
+        Write(0, 0x50, true),
+        Read(0, Some(0x50)),
+        Discard(0),
+        Read(0, None),
+        Wipe,
+        Read(0, Some(0)),
+    ];
+    accessed(&rt, &mut mirror, &accesses, 1);
     Ok(())
 }
 
 // What every kind does, through its trait alone: it takes pages, gives them back and is wiped.
 fn runs<X: Pager>(rt: &impl Abort, mut pager: X) {
     assert_eq!(rt; pager.slots(), 2);
-    assert_eq!(rt; write(rt, &mut pager, 0, P), Ok(()));
-    assert_eq!(rt; write(rt, &mut pager, 1, Q), Ok(()));
-    discard(rt, &mut pager, 0);
-    assert_eq!(rt; read(rt, &mut pager, 1), Ok(Q));
-    assert_eq!(rt; write(rt, &mut pager, 1, [0; 4096]), Ok(()));
-    assert_eq!(rt; read(rt, &mut pager, 1), Ok([0; 4096]));
-    assert_eq!(rt; write(rt, &mut pager, 1, P), Ok(()));
-    pager.wipe();
-    assert_eq!(rt; read(rt, &mut pager, 0), Ok([0; 4096]));
-    assert_eq!(rt; read(rt, &mut pager, 1), Ok([0; 4096]));
-    assert_eq!(rt; pager.failures(), 0);
+    let accesses = [
+        Write(0, 0x50, true),
+        Write(1, 0x51, true),
+        Discard(0),
+        Read(1, Some(0x51)),
+        Write(1, 0, true),
+        Read(1, Some(0)),
+        Write(1, 0x50, true),
+        Wipe,
+        Read(0, Some(0)),
+        Read(1, Some(0)),
+    ];
+    accessed(rt, &mut pager, &accesses, 0);
 }
 
 #[test]
@@ -240,28 +254,41 @@ fn each_drop_runs_once_and_wipes(rt: HostRuntime) -> Result<(), Fail> {
     Ok(())
 }
 
+// Discards of what a fuse, a box and a mirror have, and the last slot.
+fn discarded_in_a_fuse(rt: &impl Abort, alloc: Global) -> Result<(u64, u64), AllocError> {
+    let counter = Counter::new(alloc)?;
+    let inner = counter.pager(2, 0)?;
+    let mut fuse = FusePager::new(inner, Vec::new(alloc), Vec::new(alloc));
+    discard(rt, &mut fuse, 1);
+    Ok(counter.discards())
+}
+
+fn discarded_in_a_box(rt: &impl Abort, alloc: Global) -> Result<(u64, u64), Fail> {
+    let counter = Counter::new(alloc)?;
+    let mut boxed: AnyPager = Box::new(alloc, counter.pager(3, 0)?)?;
+    discard(rt, &mut boxed, 2);
+    Ok(counter.discards())
+}
+
+// One of the sides is spent.
+fn discarded_in_a_mirror(rt: &impl Abort, alloc: Global) -> Result<(u64, u64), Fail> {
+    let counter = Counter::new(alloc)?;
+    let (left, right) = (counter.pager(2, 0)?, counter.pager(2, u64::MAX)?);
+    let mut mirror = MirrorPager::new(alloc, left, right).map_err(|e| e.cause)?;
+    discard(rt, &mut mirror, 1);
+    Ok(counter.discards())
+}
+
 // No clause can say it, since nobody knows what a discarded slot holds.
 #[test]
 fn a_discard_reaches_the_pagers_behind(rt: HostRuntime) -> Result<(), Fail> {
     let alloc = rt.alloc();
-    let counter = Counter::new(alloc)?;
-
-    let inner = counter.pager(2, 0)?;
-    let mut fuse = FusePager::new(inner, places(alloc, &[])?, places(alloc, &[])?);
-    discard(&rt, &mut fuse, 1);
-    assert_eq!(rt; counter.discards(), (1, 1), "a fuse");
-
-    let mut boxed: AnyPager = Box::new(alloc, counter.pager(3, 0)?)?;
-    discard(&rt, &mut boxed, 2);
-    assert_eq!(rt; counter.discards(), (2, 2), "a box");
-
-    let mirror = MirrorPager::new(alloc, counter.pager(2, 0)?, counter.pager(2, u64::MAX)?);
-    let mut mirror = mirror.map_err(|e| e.cause)?;
-    discard(&rt, &mut mirror, 1);
+    assert_eq!(rt; discarded_in_a_fuse(&rt, alloc)?, (1, 1), "a fuse");
+    assert_eq!(rt; discarded_in_a_box(&rt, alloc)?, (1, 2), "a box");
     assert_eq!(rt;
-        counter.discards(),
-        (4, 1),
-        "both sides of a mirror, of which one is spent"
+        discarded_in_a_mirror(&rt, alloc)?,
+        (2, 1),
+        "both sides of a mirror"
     );
     Ok(())
 }

@@ -6,7 +6,7 @@ ghost use Rattle.shm_fault.specs.Store.{held, frame_of, page_of};
 ghost use Rattle.shm_store_tests.specs.Trial.{HasThree};
 
 use shm_base::{FlushReport, HostMemory, Span};
-use shm_fault::PageStore;
+use shm_fault::{PageStore, PageTally};
 use shm_pager::{FusePager, Pager, RamPager};
 use shm_slots::Swap;
 use std::alloc::{AllocError, Global};
@@ -119,6 +119,63 @@ fn move_off<P: Pager>(rt: &impl Abort, store: &mut PageStore<P>, area: u32) -> b
     }
 }
 
+/// What a store of three pages in two frames is asked, and what it must answer.
+#[derive(Clone, Copy)]
+enum Ask {
+    /// Stores a byte at a place. A pager may fail.
+    Save(u64, u8, bool),
+    /// Loads the byte at a place; none where a pager fails.
+    Load(u64, Option<u8>),
+    /// Flushes so many pages, of which so many are written and so many fail, and so many stay dirty.
+    Flush(u64, u64, u64, u64),
+    /// Takes an area away. It stays where a pager fails, or where it is gone.
+    MoveOff(u32, bool),
+}
+
+use Ask::{Flush, Load, MoveOff, Save};
+
+fn ask_one<P: Pager>(rt: &impl Abort, store: &mut PageStore<P>, number: usize, ask: Ask)
+    requires { HasThree store.old }
+    ensures { HasThree store.new }
+{
+    match ask {
+        Save(at, byte, is_done) => {
+            assert_eq!(rt; save(rt, store, at, byte), is_done, "ask {number}");
+        }
+        Load(at, byte) => assert_eq!(rt; load(rt, store, at), byte, "ask {number}"),
+        Flush(pages, written, failed, dirty) => {
+            let report = store.flush(pages);
+            assert_eq!(rt; report, FlushReport { written, failed }, "ask {number}");
+            assert_eq!(rt; store.tally().dirty, dirty, "ask {number}");
+        }
+        MoveOff(area, goes) => assert_eq!(rt; move_off(rt, store, area), goes, "ask {number}"),
+    }
+}
+
+fn ask_all<P: Pager>(rt: &impl Abort, store: &mut PageStore<P>, asks: &[Ask])
+    requires { HasThree store.old }
+{
+    for (number, &one) in asks.iter().enumerate() {
+        ask_one(rt, store, number, one);
+    }
+}
+
+// Asks a store over these areas in turn, and looks what it counts then.
+fn asked<P: Pager>(
+    rt: &impl Abort,
+    alloc: Global,
+    pagers: Vec<P>,
+    asks: &[Ask],
+) -> Result<PageTally, HostMemory> {
+    match store_over(rt, alloc, pagers) {
+        Ok(mut store) => {
+            ask_all(rt, &mut store, asks);
+            Ok(store.tally())
+        }
+        Err(error) => Err(error),
+    }
+}
+
 // An area whose reads and writes of these numbers fail.
 pub(crate) fn fuse(
     alloc: Global,
@@ -142,59 +199,95 @@ fn one_area(
     Ok(pagers)
 }
 
+// Two frames are full, one of 64 slots is used.
+const FULL: PageTally = PageTally {
+    resident: 2,
+    dirty: 0,
+    slots: 64,
+    used: 1,
+    ins: 1,
+    outs: 1,
+    failures: 0,
+};
+
 #[test]
 fn pages_go_out_and_come_in(rt: HostRuntime) -> Result<(), Fail> {
-    let mut store = store_over(&rt, rt.alloc(), one_area(rt.alloc(), &[], &[])?)?;
-    assert!(rt; save(&rt, &mut store, 0, 0x2a));
-    assert_eq!(rt; load(&rt, &mut store, 4096), Some(0));
-    assert_eq!(rt; load(&rt, &mut store, 8192), Some(0));
-    assert_eq!(rt; load(&rt, &mut store, 0), Some(0x2a));
-    let t = store.tally();
-    assert_eq!(rt; (t.resident, t.dirty, t.used, t.slots), (2, 0, 1, 64));
-    assert_eq!(rt; (t.ins, t.outs, t.failures), (1, 1, 0));
+    let alloc = rt.alloc();
+    let asks = [
+        Save(0, 0x2a, true),
+        Load(4096, Some(0)),
+        Load(8192, Some(0)),
+        Load(0, Some(0x2a)),
+    ];
+    let tally = asked(&rt, alloc, one_area(alloc, &[], &[])?, &asks)?;
+    assert_eq!(rt; tally, FULL);
     Ok(())
 }
 
 #[test]
 fn a_read_that_fails_loses_nothing(rt: HostRuntime) -> Result<(), Fail> {
-    let mut store = store_over(&rt, rt.alloc(), one_area(rt.alloc(), &[1], &[])?)?;
-    assert!(rt; save(&rt, &mut store, 0, 0x2a));
-    assert_eq!(rt; load(&rt, &mut store, 4096), Some(0));
-    assert_eq!(rt; load(&rt, &mut store, 8192), Some(0));
-    assert_eq!(rt; load(&rt, &mut store, 0), None);
-    assert_eq!(rt; load(&rt, &mut store, 0), Some(0x2a));
-    let t = store.tally();
-    assert_eq!(rt; (t.ins, t.outs, t.failures), (1, 1, 1));
+    let alloc = rt.alloc();
+    let asks = [
+        Save(0, 0x2a, true),
+        Load(4096, Some(0)),
+        Load(8192, Some(0)),
+        Load(0, None),
+        Load(0, Some(0x2a)),
+    ];
+    let tally = asked(&rt, alloc, one_area(alloc, &[1], &[])?, &asks)?;
+    let failures = 1;
+    assert_eq!(rt; tally, PageTally { failures, ..FULL });
     Ok(())
 }
 
 #[test]
 fn a_write_that_fails_keeps_the_page(rt: HostRuntime) -> Result<(), Fail> {
-    let mut store = store_over(&rt, rt.alloc(), one_area(rt.alloc(), &[], &[1])?)?;
-    assert!(rt; save(&rt, &mut store, 0, 0x2a));
-    assert_eq!(rt; load(&rt, &mut store, 4096), Some(0));
-    assert_eq!(rt; load(&rt, &mut store, 8192), None);
-    assert_eq!(rt; load(&rt, &mut store, 0), Some(0x2a));
-    assert_eq!(rt; load(&rt, &mut store, 8192), Some(0));
-    let t = store.tally();
-    assert_eq!(rt; (t.resident, t.dirty, t.used, t.slots), (2, 1, 1, 64));
-    assert_eq!(rt; (t.ins, t.outs, t.failures), (0, 0, 1));
+    let alloc = rt.alloc();
+    let asks = [
+        Save(0, 0x2a, true),
+        Load(4096, Some(0)),
+        Load(8192, None),
+        Load(0, Some(0x2a)),
+        Load(8192, Some(0)),
+    ];
+    let tally = asked(&rt, alloc, one_area(alloc, &[], &[1])?, &asks)?;
+    let (dirty, ins, outs, failures) = (1, 0, 0, 1);
+    assert_eq!(rt;
+        tally,
+        PageTally {
+            dirty,
+            ins,
+            outs,
+            failures,
+            ..FULL
+        }
+    );
     Ok(())
 }
 
 #[test]
 fn a_flush_writes_the_first_dirty_frames(rt: HostRuntime) -> Result<(), Fail> {
-    let mut store = store_over(&rt, rt.alloc(), one_area(rt.alloc(), &[], &[2])?)?;
-    assert!(rt; save(&rt, &mut store, 0, 0x2a));
-    assert!(rt; save(&rt, &mut store, 4096, 0x2b));
-    let rounds = [(1, 1, 0, 1), (2, 0, 1, 1), (2, 1, 0, 0), (2, 0, 0, 0)];
-    for (n, written, failed, dirty) in rounds {
-        assert_eq!(rt; store.flush(n), FlushReport { written, failed });
-        assert_eq!(rt; store.tally().dirty, dirty);
-    }
-    let t = store.tally();
-    assert_eq!(rt; (t.resident, t.used), (2, 2));
-    assert_eq!(rt; (t.ins, t.outs, t.failures), (0, 2, 1));
+    let alloc = rt.alloc();
+    let asks = [
+        Save(0, 0x2a, true),
+        Save(4096, 0x2b, true),
+        Flush(1, 1, 0, 1),
+        Flush(2, 0, 1, 1),
+        Flush(2, 1, 0, 0),
+        Flush(2, 0, 0, 0),
+    ];
+    let tally = asked(&rt, alloc, one_area(alloc, &[], &[2])?, &asks)?;
+    let (used, ins, outs, failures) = (2, 0, 2, 1);
+    assert_eq!(rt;
+        tally,
+        PageTally {
+            used,
+            ins,
+            outs,
+            failures,
+            ..FULL
+        }
+    );
     Ok(())
 }
 
@@ -204,38 +297,57 @@ fn pages_move_where_their_area_goes(rt: HostRuntime) -> Result<(), Fail> {
     let mut pagers = Vec::with_capacity(alloc, 2)?;
     pagers.push(RamPager::new(alloc, 3)?)?;
     pagers.push(RamPager::new(alloc, 3)?)?;
-    let mut store = store_over(&rt, alloc, pagers)?;
-    assert!(rt; save(&rt, &mut store, 0, 0x2a));
-    assert_eq!(rt; load(&rt, &mut store, 4096), Some(0));
-    assert_eq!(rt; load(&rt, &mut store, 8192), Some(0));
-    assert!(rt; move_off(&rt, &mut store, 0));
-    assert_eq!(rt; load(&rt, &mut store, 0), Some(0x2a));
-    assert!(rt; !move_off(&rt, &mut store, 0));
-    let t = store.tally();
-    assert_eq!(rt; (t.resident, t.dirty, t.used, t.slots), (2, 0, 1, 3));
-    assert_eq!(rt; (t.ins, t.outs, t.failures), (1, 1, 0));
+    let asks = [
+        Save(0, 0x2a, true),
+        Load(4096, Some(0)),
+        Load(8192, Some(0)),
+        MoveOff(0, true),
+        Load(0, Some(0x2a)),
+        MoveOff(0, false),
+    ];
+    let tally = asked(&rt, alloc, pagers, &asks)?;
+    let slots = 3;
+    assert_eq!(rt; tally, PageTally { slots, ..FULL });
     Ok(())
+}
+
+// Two areas, of which reads of the first and writes of the second fail.
+fn two_areas(
+    alloc: Global,
+    reads: &[u64],
+    writes: &[u64],
+) -> Result<Vec<FusePager<RamPager>>, AllocError> {
+    let mut pagers = Vec::with_capacity(alloc, 2)?;
+    pagers.push(fuse(alloc, 64, reads, &[])?)?;
+    pagers.push(fuse(alloc, 64, &[], writes)?)?;
+    Ok(pagers)
 }
 
 #[test]
 fn an_area_stays_where_a_pager_fails(rt: HostRuntime) -> Result<(), Fail> {
     let alloc = rt.alloc();
+    let asks = [
+        Save(0, 0x2a, true),
+        Load(4096, Some(0)),
+        Load(8192, Some(0)),
+        MoveOff(0, false),
+        Load(0, Some(0x2a)),
+        MoveOff(0, true),
+    ];
     // The first write to the other area fails, and then the first read of the area that goes.
     let rounds: [(&[u64], &[u64]); 2] = [(&[], &[1]), (&[1], &[])];
     for (reads, writes) in rounds {
-        let mut pagers = Vec::with_capacity(alloc, 2)?;
-        pagers.push(fuse(alloc, 64, reads, &[])?)?;
-        pagers.push(fuse(alloc, 64, &[], writes)?)?;
-        let mut store = store_over(&rt, alloc, pagers)?;
-        assert!(rt; save(&rt, &mut store, 0, 0x2a));
-        assert_eq!(rt; load(&rt, &mut store, 4096), Some(0));
-        assert_eq!(rt; load(&rt, &mut store, 8192), Some(0));
-        assert!(rt; !move_off(&rt, &mut store, 0));
-        assert_eq!(rt; load(&rt, &mut store, 0), Some(0x2a));
-        assert!(rt; move_off(&rt, &mut store, 0));
-        let t = store.tally();
-        assert_eq!(rt; (t.resident, t.dirty, t.used, t.slots), (2, 1, 0, 64));
-        assert_eq!(rt; (t.ins, t.outs, t.failures), (1, 1, 1));
+        let tally = asked(&rt, alloc, two_areas(alloc, reads, writes)?, &asks)?;
+        let (dirty, used, failures) = (1, 0, 1);
+        assert_eq!(rt;
+            tally,
+            PageTally {
+                dirty,
+                used,
+                failures,
+                ..FULL
+            }
+        );
     }
     Ok(())
 }
