@@ -4,42 +4,27 @@ use shm_ids::{InsertRefused, LookRefused};
 use shm_pager::{MirrorCause, PagerFault};
 use std::alloc::Global;
 use std::fmt::Display;
-use std::process::Abort;
 
-fn tells(rt: &impl Abort, alloc: Global, error: &impl Display, text: &str) {
-    let told = format!(in alloc; "{error}");
-    assert!(rt; told.is_ok_and(|t| t.as_str() == text), "{text}");
+fn tells(alloc: Global, error: &impl Display, wanted: &str) -> bool {
+    format!(in alloc; "{error}").is_ok_and(|text| text.as_str() == wanted)
 }
 
 #[test]
 fn errors_are_told(rt: HostRuntime) {
     let alloc = rt.alloc();
-    tells(
-        &rt,
-        alloc,
-        &InsertRefused::IdFull,
-        "every identifier is in use or worn out",
+    let full = "every identifier is in use or worn out";
+    assert!(rt; tells(alloc, &InsertRefused::IdFull, full));
+    assert!(rt; tells(alloc, &InsertRefused::HostMemory, "out of memory"));
+    assert!(rt; tells(alloc, &LookRefused::Removed, "the identifier was removed"));
+    assert!(rt;
+        tells(
+            alloc,
+            &LookRefused::Invalid,
+            "the identifier was never issued"
+        )
     );
-    tells(&rt, alloc, &InsertRefused::HostMemory, "out of memory");
-    tells(
-        &rt,
-        alloc,
-        &LookRefused::Removed,
-        "the identifier was removed",
-    );
-    tells(
-        &rt,
-        alloc,
-        &LookRefused::Invalid,
-        "the identifier was never issued",
-    );
-    tells(
-        &rt,
-        alloc,
-        &MirrorCause::Unequal,
-        "the two sides differ in size",
-    );
-    tells(&rt, alloc, &MirrorCause::HostMemory, "out of memory");
-    tells(&rt, alloc, &PagerFault, "a pager failed");
-    tells(&rt, alloc, &Segv, "address not mapped, or not writable");
+    assert!(rt; tells(alloc, &MirrorCause::Unequal, "the two sides differ in size"));
+    assert!(rt; tells(alloc, &MirrorCause::HostMemory, "out of memory"));
+    assert!(rt; tells(alloc, &PagerFault, "a pager failed"));
+    assert!(rt; tells(alloc, &Segv, "address not mapped, or not writable"));
 }
