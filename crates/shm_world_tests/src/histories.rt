@@ -1,3 +1,5 @@
+ghost use Rattle.std.specs.Prelude.{◌≡◌};
+
 use bitflags::Flags;
 use shm_base::{
     AccessLen, AtFlags, Call, Chunk, Cred, Errno, GetFlags, Limits, Process, Reply, Step, Tally,
@@ -9,12 +11,36 @@ use std::process::Abort;
 use std::sync::Wait;
 use std::test::Fail;
 
-fn world(rt: &HostRuntime, shmmax: u64) -> Result<World<RamPager>, Fail> {
+/// A call of process 1.
+enum Ask {
+    /// shmget of so many bytes, with no key.
+    Get(u64),
+    /// shmat of an identifier, where the system chooses.
+    At(i32),
+    /// Bytes at an address are written.
+    Store(u64, &'static [u8]),
+    /// So many bytes at an address are read.
+    Load(u64, u64),
+    Exit,
+}
+
+/// What a call has to answer.
+enum Want {
+    Id(i32),
+    Addr(u64),
+    Bytes(&'static [u8]),
+    Done,
+    Refused(Errno),
+}
+
+type Row = (Ask, Want);
+
+fn world(alloc: Global, shmmax: u64) -> Result<World<RamPager>, Fail> {
     let limits = Limits::new(shmmax, 16, 64, 4, 1)
         .ok()
         .ok_or("the limits hold")?;
-    let pagers = vec![in rt.alloc(); RamPager::new(rt.alloc(), 64)?]?;
-    opened(rt.alloc(), limits, pagers)
+    let pagers = vec![in alloc; RamPager::new(alloc, 64)?]?;
+    opened(alloc, limits, pagers)
 }
 
 fn opened<P: Pager>(alloc: Global, limits: Limits, pagers: Vec<P>) -> Result<World<P>, Fail> {
@@ -28,190 +54,202 @@ fn opened<P: Pager>(alloc: Global, limits: Limits, pagers: Vec<P>) -> Result<Wor
     Ok(World::new(alloc, system))
 }
 
-fn shmget(size: u64) -> Call {
-    Call::Shmget {
-        key: 0,
-        size,
-        mode: 0o600,
-        flags: GetFlags::empty(),
-    }
+fn call_of(ask: &Ask) -> Option<Call> {
+    Some(match *ask {
+        Ask::Get(size) => Call::Shmget {
+            key: 0,
+            size,
+            mode: 0o600,
+            flags: GetFlags::empty(),
+        },
+        Ask::At(id) => Call::Shmat {
+            id,
+            addr: 0,
+            flags: AtFlags::empty(),
+        },
+        Ask::Store(addr, bytes) => Call::Store {
+            addr,
+            chunk: Chunk::new(bytes)?,
+        },
+        Ask::Load(addr, len) => Call::Load {
+            addr,
+            len: AccessLen::new(len)?,
+        },
+        Ask::Exit => Call::Exit,
+    })
 }
 
-fn shmat(id: i32) -> Call {
-    Call::Shmat {
-        id,
-        addr: 0,
-        flags: AtFlags::empty(),
-    }
+fn reply_of(want: &Want) -> Option<Reply> {
+    Some(match *want {
+        Want::Id(id) => Reply::Id(id),
+        Want::Addr(addr) => Reply::Addr(addr),
+        Want::Bytes(bytes) => Reply::Bytes(Chunk::new(bytes)?),
+        Want::Done => Reply::Done,
+        Want::Refused(errno) => Reply::Refused(errno),
+    })
 }
 
-fn load(addr: u64, len: u64) -> Result<Call, Fail> {
-    let len = AccessLen::new(len).ok_or("1 to 64")?;
-    Ok(Call::Load { addr, len })
+fn made(row: &Row) -> Option<(Call, Reply)> {
+    Some((call_of(&row.0)?, reply_of(&row.1)?))
 }
 
-fn store(addr: u64, bytes: &[u8]) -> Result<Call, Fail> {
-    let chunk = Chunk::new(bytes).ok_or("1 to 64 bytes")?;
-    Ok(Call::Store { addr, chunk })
-}
-
-fn bytes(bytes: &[u8]) -> Result<Reply, Fail> {
-    Ok(Reply::Bytes(Chunk::new(bytes).ok_or("1 to 64 bytes")?))
+fn called<P: Pager>(world: &mut World<P>, call: &Call) -> Option<Reply> {
+    world.call(1, call).ok()
 }
 
 // The reply to a call. Where memory was wanting the history stays, and the call is made once more.
-fn reply<P: Pager>(rt: &impl Abort, world: &mut World<P>, call: &Call) -> Result<Reply, Fail> {
+fn reply<P: Pager>(rt: &impl Abort, world: &mut World<P>, call: &Call) -> Option<Reply> {
     let before = world.history().len();
-    if let Ok(reply) = world.call(1, call) {
-        return Ok(reply);
+    if let Some(reply) = called(world, call) {
+        return Some(reply);
     }
     assert_eq!(rt; world.history().len(), before);
-    Ok(world.call(1, call).ok().ok_or("memory comes back")?)
+    called(world, call)
 }
 
-// Each call has its reply.
-fn replies<P: Pager>(
-    rt: &impl Abort,
-    world: &mut World<P>,
-    calls: &[(Call, Reply)],
-) -> Result<(), Fail> {
-    for (call, wanted) in calls {
-        assert!(rt; reply(rt, world, call)? == *wanted);
+fn answers<P: Pager>(rt: &impl Abort, world: &mut World<P>, row: &Row) -> bool {
+    match made(row) {
+        Some((call, wanted)) => reply(rt, world, &call) == Some(wanted),
+        None => false,
     }
-    Ok(())
 }
 
-fn over_a_page(alloc: Global) -> Result<Vec<(Call, Reply)>, Fail> {
-    let calls = vec![in alloc;
-        (shmget(8192), Reply::Id(0)),
-        (shmat(0), Reply::Addr(0x40000000)),
-        (store(0x40000ffe, &[1, 2, 3, 4])?, Reply::Done),
-        (load(0x40000ffd, 6)?, bytes(&[0, 1, 2, 3, 4, 0])?),
-        (shmget(4096), Reply::Id(1)),
-        (Call::Exit, Reply::Done),
-        (Call::Exit, Reply::Refused(Errno::Esrch)),
-    ]?;
-    Ok(calls)
+// Each call has its reply. A message counts the rows from 0.
+fn answers_all<P: Pager>(rt: &impl Abort, world: &mut World<P>, rows: &[Row]) {
+    for (at, row) in rows.iter().enumerate() {
+        assert!(rt; answers(rt, world, row), "at row {at}");
+    }
 }
 
-fn goes_across(rt: &impl Abort, alloc: Global, world: &mut World<RamPager>) -> Result<(), Fail> {
-    replies(rt, world, &over_a_page(alloc)?)?;
+const OVER_A_PAGE: &[Row] = &[
+    (Ask::Get(8192), Want::Id(0)),
+    (Ask::At(0), Want::Addr(0x40000000)),
+    (Ask::Store(0x40000ffe, &[1, 2, 3, 4]), Want::Done),
+    (Ask::Load(0x40000ffd, 6), Want::Bytes(&[0, 1, 2, 3, 4, 0])),
+    (Ask::Get(4096), Want::Id(1)),
+    (Ask::Exit, Want::Done),
+    (Ask::Exit, Want::Refused(Errno::Esrch)),
+];
+
+fn goes_across(rt: &impl Abort, world: &mut World<RamPager>) {
+    answers_all(rt, world, OVER_A_PAGE);
     assert_eq!(rt; world.history().len(), 7);
-    Ok(())
 }
 
 #[test]
 fn across_a_page(rt: HostRuntime) -> Result<(), Fail> {
-    goes_across(&rt, rt.alloc(), &mut world(&rt, 65536)?)
+    goes_across(&rt, &mut world(rt.alloc(), 65536)?);
+    Ok(())
 }
 
-fn seen_twice(alloc: Global) -> Result<Vec<(Call, Reply)>, Fail> {
-    let calls = vec![in alloc;
-        (shmget(4096), Reply::Id(0)),
-        (shmat(0), Reply::Addr(0x40000000)),
-        (shmat(0), Reply::Addr(0x40001000)),
-        (store(0x40000ffe, &[1, 2, 3, 4])?, Reply::Done),
-        (load(0x40000000, 2)?, bytes(&[3, 4])?),
-        (load(0x40001ffe, 2)?, bytes(&[1, 2])?),
-    ]?;
-    Ok(calls)
-}
+const SEEN_TWICE: &[Row] = &[
+    (Ask::Get(4096), Want::Id(0)),
+    (Ask::At(0), Want::Addr(0x40000000)),
+    (Ask::At(0), Want::Addr(0x40001000)),
+    (Ask::Store(0x40000ffe, &[1, 2, 3, 4]), Want::Done),
+    (Ask::Load(0x40000000, 2), Want::Bytes(&[3, 4])),
+    (Ask::Load(0x40001ffe, 2), Want::Bytes(&[1, 2])),
+];
 
 #[test]
 fn one_page_twice(rt: HostRuntime) -> Result<(), Fail> {
-    let calls = seen_twice(rt.alloc())?;
-    replies(&rt, &mut world(&rt, 65536)?, &calls)
+    answers_all(&rt, &mut world(rt.alloc(), 65536)?, SEEN_TWICE);
+    Ok(())
 }
 
-fn creates_sizes(rt: &impl Abort, world: &mut World<RamPager>) -> Result<(), Fail> {
-    let wanted = [
-        (8193, Reply::Refused(Errno::Einval)),
-        (0, Reply::Refused(Errno::Einval)),
-        (8192, Reply::Id(0)),
-    ];
-    for (size, reply) in wanted {
-        assert!(rt; world.call(1, &shmget(size)) == Ok(reply), "at {size}");
+const SIZES: &[Row] = &[
+    (Ask::Get(8193), Want::Refused(Errno::Einval)),
+    (Ask::Get(0), Want::Refused(Errno::Einval)),
+    (Ask::Get(8192), Want::Id(0)),
+];
+
+// As `answers`, and the first time.
+fn answers_at_once(world: &mut World<RamPager>, row: &Row) -> bool {
+    match made(row) {
+        Some((call, wanted)) => called(world, &call) == Some(wanted),
+        None => false,
     }
-    Ok(())
+}
+
+fn creates_sizes(rt: &impl Abort, world: &mut World<RamPager>) {
+    for (at, row) in SIZES.iter().enumerate() {
+        assert!(rt; answers_at_once(world, row), "at row {at}");
+    }
 }
 
 #[test]
 fn sizes(rt: HostRuntime) -> Result<(), Fail> {
-    creates_sizes(&rt, &mut world(&rt, 8192)?)
+    creates_sizes(&rt, &mut world(rt.alloc(), 8192)?);
+    Ok(())
 }
 
-fn steps(alloc: Global, sizes: &[u64]) -> Result<Vec<Step>, Fail> {
+fn steps_of(alloc: Global, rows: &[Row]) -> Result<Vec<Step>, Fail> {
     let mut steps = Vec::new(alloc);
-    for size in sizes {
-        steps.push(Step::Call(1, shmget(*size)))?;
+    for row in rows {
+        steps.push(Step::Call(1, call_of(&row.0).ok_or("a call")?))?;
     }
     Ok(steps)
 }
 
-fn runs_steps(rt: &impl Abort, alloc: Global, world: &mut World<RamPager>) -> Result<(), Fail> {
-    let steps = steps(alloc, &[8193, 0, 8192])?;
+// The history has just the calls' replies.
+fn has_replies(rt: &impl Abort, world: &World<RamPager>, rows: &[Row]) {
+    let history = world.history();
+    assert_eq!(rt; history.len(), rows.len());
+    for (at, row) in rows.iter().enumerate() {
+        let reply = history[at].reply;
+        assert!(rt; reply_of(&row.1) == Some(reply), "at row {at}");
+    }
+}
+
+fn runs_steps(rt: &impl Abort, world: &mut World<RamPager>, steps: &[Step]) {
     assert!(rt; world.reserve(3).is_ok());
     assert!(rt; world.room() >= 3);
-    assert!(rt; world.run_steps(&steps).is_ok());
-    let replies = [
-        Reply::Refused(Errno::Einval),
-        Reply::Refused(Errno::Einval),
-        Reply::Id(0),
-    ];
-    assert_eq!(rt; world.history().len(), 3);
-    for (event, reply) in world.history().iter().zip(&replies) {
-        assert!(rt; event.reply == *reply);
-    }
+    assert!(rt; world.run_steps(steps).is_ok());
+    has_replies(rt, world, SIZES);
     assert_eq!(rt; world.opening().areas.len(), 1);
-    Ok(())
 }
 
 #[test]
 fn steps_with_room(rt: HostRuntime) -> Result<(), Fail> {
-    runs_steps(&rt, rt.alloc(), &mut world(&rt, 8192)?)
+    let steps = steps_of(rt.alloc(), SIZES)?;
+    runs_steps(&rt, &mut world(rt.alloc(), 8192)?, &steps);
+    Ok(())
 }
 
-fn two_stores_and_a_round(alloc: Global) -> Result<Vec<Step>, Fail> {
-    let (first, second) = (store(0x40000000, &[1])?, store(0x40001000, &[2])?);
-    let steps = vec![in alloc;
-        Step::Call(1, shmget(8192)),
-        Step::Call(1, shmat(0)),
-        Step::Call(1, first),
-        Step::Call(1, second),
-        Step::Flush(1),
-    ]?;
-    Ok(steps)
-}
+const TWO_STORES: &[Row] = &[
+    (Ask::Get(8192), Want::Id(0)),
+    (Ask::At(0), Want::Addr(0x40000000)),
+    (Ask::Store(0x40000000, &[1]), Want::Done),
+    (Ask::Store(0x40001000, &[2]), Want::Done),
+];
 
-fn makes_a_round(rt: &impl Abort, alloc: Global, world: &mut World<RamPager>) -> Result<(), Fail> {
-    let steps = two_stores_and_a_round(alloc)?;
-    world.run_steps(&steps).ok().ok_or("memory is there")?;
+fn makes_a_round(rt: &impl Abort, world: &mut World<RamPager>, steps: &[Step]) {
+    assert!(rt; world.run_steps(steps).is_ok());
     let tally = world.tally();
     assert_eq!(rt; (tally.events, tally.dirty, tally.outs), (4, 1, 1));
-    Ok(())
+    has_replies(rt, world, TWO_STORES);
 }
 
 /// The round writes one of the two pages, and the calls none.
 #[test]
 fn a_round_among_steps(rt: HostRuntime) -> Result<(), Fail> {
-    makes_a_round(&rt, rt.alloc(), &mut world(&rt, 8192)?)
+    let mut steps = steps_of(rt.alloc(), TWO_STORES)?;
+    steps.push(Step::Flush(1))?;
+    makes_a_round(&rt, &mut world(rt.alloc(), 8192)?, &steps);
+    Ok(())
 }
 
-fn up_to_the_last_count(alloc: Global) -> Result<Vec<(Call, Reply)>, Fail> {
-    let zero = bytes(&[0])?;
-    let calls = vec![in alloc;
-        (shmget(12288), Reply::Id(0)),
-        (shmat(0), Reply::Addr(0x40000000)),
-        (store(0x40000000, &[0x2a])?, Reply::Done),
-        (load(0x40001000, 1)?, zero),
-        (load(0x40002000, 1)?, Reply::Refused(Errno::Sigbus)),
-        (load(0x40000000, 1)?, bytes(&[0x2a])?),
-        (load(0x40002000, 1)?, zero),
-        (load(0x40001000, 1)?, Reply::Refused(Errno::Sigbus)),
-        (load(0x40001000, 1)?, zero),
-    ]?;
-    Ok(calls)
-}
+const UP_TO_THE_LAST_COUNT: &[Row] = &[
+    (Ask::Get(12288), Want::Id(0)),
+    (Ask::At(0), Want::Addr(0x40000000)),
+    (Ask::Store(0x40000000, &[0x2a]), Want::Done),
+    (Ask::Load(0x40001000, 1), Want::Bytes(&[0])),
+    (Ask::Load(0x40002000, 1), Want::Refused(Errno::Sigbus)),
+    (Ask::Load(0x40000000, 1), Want::Bytes(&[0x2a])),
+    (Ask::Load(0x40002000, 1), Want::Bytes(&[0])),
+    (Ask::Load(0x40001000, 1), Want::Refused(Errno::Sigbus)),
+    (Ask::Load(0x40001000, 1), Want::Bytes(&[0])),
+];
 
 // An area whose first write fails, and which can count this one failure alone.
 fn almost_spent(alloc: Global) -> Result<FusePager<RamPager>, Fail> {
@@ -225,42 +263,40 @@ fn over_almost_spent(alloc: Global) -> Result<World<FusePager<RamPager>>, Fail> 
     opened(alloc, limits, vec![in alloc; almost_spent(alloc)?]?)
 }
 
-fn spends<P: Pager>(rt: &impl Abort, alloc: Global, world: &mut World<P>) -> Result<(), Fail> {
-    replies(rt, world, &up_to_the_last_count(alloc)?)?;
-    let wanted = Tally {
-        events: 9,
-        segments: 1,
-        reserved: 3,
-        locked: 0,
-        frames: 2,
-        resident: 2,
-        dirty: 1,
-        slots: 64,
-        used: 1,
-        ins: 0,
-        outs: 0,
-        failures: 1,
-    };
-    assert!(rt; world.tally() == wanted);
-    Ok(())
+const SPENT: Tally = Tally {
+    events: 9,
+    segments: 1,
+    reserved: 3,
+    locked: 0,
+    frames: 2,
+    resident: 2,
+    dirty: 1,
+    slots: 64,
+    used: 1,
+    ins: 0,
+    outs: 0,
+    failures: 1,
+};
+
+fn spends<P: Pager>(rt: &impl Abort, world: &mut World<P>) {
+    answers_all(rt, world, UP_TO_THE_LAST_COUNT);
+    assert!(rt; world.tally() == SPENT);
 }
 
 /// The first write counts the last failure that can be counted. Then the area is spent: the next page-out
 /// goes to it and fails without a call of its pager.
 #[test]
 fn a_spent_area(rt: HostRuntime) -> Result<(), Fail> {
-    spends(&rt, rt.alloc(), &mut over_almost_spent(rt.alloc())?)
+    spends(&rt, &mut over_almost_spent(rt.alloc())?);
+    Ok(())
 }
 
-fn two_pages(alloc: Global) -> Result<Vec<(Call, Reply)>, Fail> {
-    let calls = vec![in alloc;
-        (shmget(8192), Reply::Id(0)),
-        (shmat(0), Reply::Addr(0x40000000)),
-        (store(0x40000ffe, &[1, 2, 3, 4])?, Reply::Done),
-        (load(0x40000ffd, 6)?, bytes(&[0, 1, 2, 3, 4, 0])?),
-    ]?;
-    Ok(calls)
-}
+const TWO_PAGES: &[Row] = &[
+    (Ask::Get(8192), Want::Id(0)),
+    (Ask::At(0), Want::Addr(0x40000000)),
+    (Ask::Store(0x40000ffe, &[1, 2, 3, 4]), Want::Done),
+    (Ask::Load(0x40000ffd, 6), Want::Bytes(&[0, 1, 2, 3, 4, 0])),
+];
 
 fn counts(events: u64, resident: u64, dirty: u64, used: u64) -> Reading {
     Reading {
@@ -271,6 +307,33 @@ fn counts(events: u64, resident: u64, dirty: u64, used: u64) -> Reading {
     }
 }
 
+fn is_published<R: Wait>(rt: &R, world: &World<RamPager>, keeper: &mut Keeper) -> bool {
+    world.publish(rt, keeper)
+}
+
+fn publishes<R: Abort + Wait>(
+    rt: &R,
+    world: &mut World<RamPager>,
+    empty: &World<RamPager>,
+    gauge: &Gauge,
+    keeper: &mut Keeper,
+    seat: &mut ReaderSeat,
+)
+    requires { seat.old.cell ≡ gauge.now }
+{
+    answers_all(rt, world, TWO_PAGES);
+    // nothing is published yet
+    assert_eq!(rt; gauge.read(rt, seat), counts(0, 0, 0, 0));
+    assert!(rt; is_published(rt, world, keeper));
+    assert_eq!(rt; gauge.read(rt, seat), counts(4, 2, 2, 0));
+    world.flush(2);
+    assert!(rt; is_published(rt, world, keeper));
+    assert_eq!(rt; gauge.read(rt, seat), counts(4, 2, 0, 2));
+    // a world with fewer events is not published
+    assert!(rt; !is_published(rt, empty, keeper));
+    assert_eq!(rt; gauge.read(rt, seat), counts(4, 2, 0, 2));
+}
+
 fn shows_what_is_published<R: Abort + Wait>(
     rt: &R,
     alloc: Global,
@@ -278,28 +341,22 @@ fn shows_what_is_published<R: Abort + Wait>(
     empty: &World<RamPager>,
 ) -> Result<(), Fail> {
     let (gauge, mut keeper, mut seat) = gauge(rt, alloc, world)?;
-    replies(rt, world, &two_pages(alloc)?)?;
-    // nothing is published yet
-    assert_eq!(rt; gauge.read(rt, &mut seat), counts(0, 0, 0, 0));
-    assert!(rt; world.publish(rt, &mut keeper));
-    assert_eq!(rt; gauge.read(rt, &mut seat), counts(4, 2, 2, 0));
-    world.flush(2);
-    assert!(rt; world.publish(rt, &mut keeper));
-    assert_eq!(rt; gauge.read(rt, &mut seat), counts(4, 2, 0, 2));
-    // a world with fewer events is not published
-    assert!(rt; !empty.publish(rt, &mut keeper));
-    assert_eq!(rt; gauge.read(rt, &mut seat), counts(4, 2, 0, 2));
+    publishes(rt, world, empty, &gauge, &mut keeper, &mut seat);
     Ok(())
+}
+
+// Beside a world with no event.
+fn shows_beside<R: Abort + Wait>(
+    rt: &R,
+    alloc: Global,
+    empty: &World<RamPager>,
+) -> Result<(), Fail> {
+    shows_what_is_published(rt, alloc, &mut world(alloc, 65536)?, empty)
 }
 
 #[test]
 fn a_gauge_shows_what_is_published(rt: HostRuntime) -> Result<(), Fail> {
-    shows_what_is_published(
-        &rt,
-        rt.alloc(),
-        &mut world(&rt, 65536)?,
-        &world(&rt, 65536)?,
-    )
+    shows_beside(&rt, rt.alloc(), &world(rt.alloc(), 65536)?)
 }
 
 fn shows_the_world<R: Abort + Wait>(
@@ -307,7 +364,7 @@ fn shows_the_world<R: Abort + Wait>(
     alloc: Global,
     world: &mut World<RamPager>,
 ) -> Result<(), Fail> {
-    replies(rt, world, &two_pages(alloc)?)?;
+    answers_all(rt, world, TWO_PAGES);
     let (gauge, _keeper, mut seat) = gauge(rt, alloc, world)?;
     assert_eq!(rt; gauge.read(rt, &mut seat), counts(4, 2, 2, 0));
     Ok(())
@@ -315,5 +372,5 @@ fn shows_the_world<R: Abort + Wait>(
 
 #[test]
 fn a_new_gauge_shows_its_world(rt: HostRuntime) -> Result<(), Fail> {
-    shows_the_world(&rt, rt.alloc(), &mut world(&rt, 65536)?)
+    shows_the_world(&rt, rt.alloc(), &mut world(rt.alloc(), 65536)?)
 }

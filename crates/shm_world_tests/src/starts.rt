@@ -5,14 +5,22 @@ use shm_pager::RamPager;
 use std::alloc::Global;
 use std::test::Fail;
 
-fn start(alloc: Global, areas: &[u32], processes: &[Process]) -> Result<Option<StartError>, Fail> {
-    let limits = Limits::new(65536, 16, 64, 4, 1)
-        .ok()
-        .ok_or("the limits hold")?;
+/// What a system is started over: the slots of its areas, and its processes; and the error that has to come.
+type Row = (&'static [u32], &'static [Process], Option<StartError>);
+
+fn areas_of(alloc: Global, areas: &[u32]) -> Result<Vec<RamPager>, Fail> {
     let mut pagers = Vec::new(alloc);
     for slots in areas {
         pagers.push(RamPager::new(alloc, *slots)?)?;
     }
+    Ok(pagers)
+}
+
+fn start(alloc: Global, areas: &[u32], processes: &[Process]) -> Result<Option<StartError>, Fail> {
+    let limits = Limits::new(65536, 16, 64, 4, 1)
+        .ok()
+        .ok_or("the limits hold")?;
+    let pagers = areas_of(alloc, areas)?;
     match System::start(alloc, limits, pagers, processes) {
         Ok(system) => {
             let _calls = system.calls();
@@ -22,26 +30,43 @@ fn start(alloc: Global, areas: &[u32], processes: &[Process]) -> Result<Option<S
     }
 }
 
-fn born(pid: u32) -> Process {
-    Process {
-        pid,
-        born: Some(Cred { uid: 1, gid: 1 }),
-    }
-}
+const FIRST: Process = Process {
+    pid: 1,
+    born: Some(Cred { uid: 1, gid: 1 }),
+};
+
+const ZERO: Process = Process { pid: 0, ..FIRST };
+
+const LARGEST: Process = Process {
+    pid: 2147483647,
+    ..FIRST
+};
+
+const TOO_LARGE: Process = Process {
+    pid: 2147483648,
+    ..FIRST
+};
+
+const TWICE: &[Process] = &[FIRST, FIRST];
+
+const MANY: &[Process] = &[FIRST; 65];
+
+const ROWS: &[Row] = &[
+    (&[], TWICE, Some(StartError::Areas)),
+    (&[1; 9], TWICE, Some(StartError::Areas)),
+    (&[1, 0], MANY, Some(StartError::AreaSize)),
+    (&[65537], TWICE, Some(StartError::AreaSize)),
+    (&[1; 8], MANY, Some(StartError::Processes)),
+    (&[65536], TWICE, Some(StartError::Pid)),
+    (&[1], &[ZERO], Some(StartError::Pid)),
+    (&[1], &[TOO_LARGE], Some(StartError::Pid)),
+    (&[1], &[LARGEST, FIRST], None),
+];
 
 #[test]
 fn the_first_error_that_holds(rt: HostRuntime) -> Result<(), Fail> {
-    let alloc = rt.alloc();
-    let twice = [born(1), born(1)];
-    let many = [born(1); 65];
-    assert!(rt; start(alloc, &[], &twice)? == Some(StartError::Areas));
-    assert!(rt; start(alloc, &[1; 9], &twice)? == Some(StartError::Areas));
-    assert!(rt; start(alloc, &[1, 0], &many)? == Some(StartError::AreaSize));
-    assert!(rt; start(alloc, &[65537], &twice)? == Some(StartError::AreaSize));
-    assert!(rt; start(alloc, &[1; 8], &many)? == Some(StartError::Processes));
-    assert!(rt; start(alloc, &[65536], &twice)? == Some(StartError::Pid));
-    assert!(rt; start(alloc, &[1], &[born(0)])? == Some(StartError::Pid));
-    assert!(rt; start(alloc, &[1], &[born(2147483648)])? == Some(StartError::Pid));
-    assert!(rt; start(alloc, &[1], &[born(2147483647), born(1)])?.is_none());
+    for (at, row) in ROWS.iter().enumerate() {
+        assert!(rt; start(rt.alloc(), row.0, row.1)? == row.2, "at row {at}");
+    }
     Ok(())
 }
