@@ -6,6 +6,7 @@ use shm_text::{
     FaultKind, FlushLine, Line, LineCall, ReadRefused, Script, Vars, read_decimal, read_script,
 };
 use std::alloc::Global;
+use std::process::Abort;
 use std::test::Fail;
 
 const HEAD: &[u8] = b"limits 65536 16 64 4 1\nprocess 1 100 100\n";
@@ -39,6 +40,21 @@ fn call_of(alloc: Global, line: &[u8]) -> Result<Call, Fail> {
     }
 }
 
+// The lines' calls in order, each with what the one before it answered.
+fn are_in_file_order(rt: &impl Abort, lines: &[Line]) -> Result<(), Fail> {
+    assert_eq!(rt; lines.len(), 2);
+    let mut vars = Vars::new();
+    let calls = [Call::Xadd { addr: 0, add: 16 }, Call::Shmdt { addr: 3 }];
+    for (line, call) in lines.iter().zip(&calls) {
+        let Line::Command(command) = line else {
+            return Err("a command".into());
+        };
+        assert!(rt; vars.call(command) == *call);
+        vars.took(command, Some(&Reply::Number(2)));
+    }
+    Ok(())
+}
+
 #[test]
 fn lines_in_file_order(rt: HostRuntime) -> Result<(), Fail> {
     let alloc = rt.alloc();
@@ -48,16 +64,7 @@ fn lines_in_file_order(rt: HostRuntime) -> Result<(), Fail> {
         return Err("a script".into());
     };
     assert_eq!(rt; script.processes.len(), 2);
-    assert_eq!(rt; script.lines.len(), 2);
-    let mut vars = Vars::new();
-    let calls = [Call::Xadd { addr: 0, add: 16 }, Call::Shmdt { addr: 3 }];
-    for (line, call) in script.lines.iter().zip(&calls) {
-        let Line::Command(command) = line else {
-            return Err("a command".into());
-        };
-        assert!(rt; vars.call(command) == *call);
-        vars.took(command, Some(&Reply::Number(2)));
-    }
+    are_in_file_order(&rt, script.lines.as_slice())?;
     Ok(())
 }
 
@@ -182,6 +189,15 @@ fn each_other_form(rt: HostRuntime) -> Result<(), Fail> {
     Ok(())
 }
 
+fn are_rounds(rt: &impl Abort, lines: &[Line], all: &[u64]) -> Result<(), Fail> {
+    assert_eq!(rt; lines.len(), all.len());
+    for (line, pages) in lines.iter().zip(all) {
+        let round = FlushLine::new(*pages).ok_or("1 to 4096")?;
+        assert!(rt; *line == Line::Flush(round));
+    }
+    Ok(())
+}
+
 #[test]
 fn flush_lines(rt: HostRuntime) -> Result<(), Fail> {
     let alloc = rt.alloc();
@@ -190,11 +206,7 @@ fn flush_lines(rt: HostRuntime) -> Result<(), Fail> {
     let Ok(script) = read_script(alloc, &script) else {
         return Err("a script".into());
     };
-    assert_eq!(rt; script.lines.len(), 2);
-    for (line, pages) in script.lines.iter().zip(&[4096u64, 1]) {
-        let round = FlushLine::new(*pages).ok_or("1 to 4096")?;
-        assert!(rt; *line == Line::Flush(round));
-    }
+    are_rounds(&rt, script.lines.as_slice(), &[4096, 1])?;
     Ok(())
 }
 
