@@ -68,7 +68,7 @@ pub record Opens (l : NogLimits) (areas : List NogArea) (failures : List NogFail
   pub sound : opening_code l areas failures processes ≡ 0
   pub opened : IsOpened (bounds_of l) (map area_of areas) (map process_of processes) m.system
 
--- it was opened, or refused for the first reason or for want of memory, and nothing changed
+-- it was opened, or refused for the first reason or out of memory, and nothing changed
 abbrev pub OpenedTo : Option Machine → NogLimits → List NogArea → List NogFailure → List NogProcess → ℕ → Option Machine → Type 0
 OpenedTo before l areas failures processes code after =
     ((code ≡ 0) × IsSomeAnd after (Opens l areas failures processes))

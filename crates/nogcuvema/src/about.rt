@@ -1,5 +1,5 @@
 //! What the library says of itself.
-ghost use Rattle.std.specs.Prelude.{◌≡◌, ◌≢◌, option_map, slice_get};
+ghost use Rattle.std.specs.Prelude.{◌≡◌, option_map, slice_get};
 ghost use Rattle.nogcuvema.specs.About.{text_by, with_text, layout_by, TextTold, ValueTold};
 
 use crate::code::{DONE, OUT_OF_RANGE};

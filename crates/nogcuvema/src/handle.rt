@@ -1,5 +1,5 @@
 //! What a C program holds.
-ghost use Rattle.std.specs.Prelude.{◌≡◌, Option, Some, None, IsSome, IsNone, IfSome, option_map};
+ghost use Rattle.std.specs.Prelude.{◌≡◌, Option, Some, None, option_map};
 ghost use Rattle.nogcuvema.specs.Held.{IsOpenAs};
 
 use crate::held::Kept;

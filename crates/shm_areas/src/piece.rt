@@ -31,7 +31,7 @@ impl Model for Place {
 }
 
 impl Piece {
-    ghost use Rattle.std.specs.Prelude.{◌≡◌, ◌<◌, ◌^◌};
+    ghost use Rattle.std.specs.Prelude.{◌≡◌, ◌<◌};
     ghost use Rattle.shm_base.specs.Access as flat;
     ghost use Rattle.std.specs.Prelude.{length, true};
     ghost use Rattle.shm_base.specs.Space.{has_origin, meets, parts};

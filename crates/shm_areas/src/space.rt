@@ -43,7 +43,7 @@ impl Model for Space {
 }
 
 impl Space {
-    ghost use Rattle.std.specs.Prelude.{[], ◌∷◌, ◌++◌, MatchOption};
+    ghost use Rattle.std.specs.Prelude.{[], MatchOption};
 
     /// No pieces. It takes the room for 256.
     pub fn new(alloc: Global) -> Result<Space, HostMemory>

@@ -11,7 +11,7 @@ use Rattle.shm_fault.specs.declared.page_tables.PageRec.{PageRec}
 use Rattle.shm_fault.specs.declared.touched.Touched.{Touched}
 use Rattle.shm_fault.specs.Segs.{SegRec, rec_by, locked_by}
 use Rattle.shm_fault.specs.Store.{StoreView, held, held_by, frame_of, page_of, ref_of, is_swapped, IsResident, IsReferenced, pages_among, swapped_among, same_page}
-use Rattle.shm_fault.specs.Steps.{Moves, Kept}
+use Rattle.shm_fault.specs.Steps.{Kept}
 use Rattle.shm_fault.specs.Goes.{KeepsLocked, Visits, frame_by, referenced_at}
 use Rattle.shm_fault.specs.declared.access.InFrames.{InFrames}
 use Rattle.shm_fault.specs.declared.touched.PagerFailed.{PagerFailed}

@@ -1,14 +1,13 @@
 -- Each step of a page from one place to another, and what it keeps.
-use Rattle.std.proofs.Common.{◌≡◌, ◌≢◌, ℕ, ◌<◌, Bool, true, false, List, [], length, get_or, set, Option, Some, None, refl, sym, ap, ◌∙◌, inl, inr, arith, length-set, get_or-set_same, set-set}
+use Rattle.std.proofs.Common.{◌≡◌, ◌≢◌, ℕ, ◌<◌, Bool, true, false, List, length, set, Option, Some, None, refl, sym, ap, ◌∙◌, inl, inr, arith, length-set, get_or-set_same, set-set}
 use Rattle.std.specs.Prelude.{IsSome}
-use Rattle.std.proofs.lemmas.Bool.{cases_lt}
 use Rattle.shm_base.specs.declared.paging.PageRef.{PageRef}
 use Rattle.shm_base.specs.declared.paging.Slot.{Slot}
 use Rattle.shm_slots.specs.View.{SwapView, IsSwap, sizes, owner_of, page_in, HasSlot, SameSlots, with_slot_owner}
 use Rattle.shm_slots.specs.Cause.{GoesOn}
 use Rattle.shm_frames.specs.Frame.{Frame, no_frame, frame_at}
 use Rattle.shm_fault.specs.declared.page_tables.PageRec.{PageRec}
-use Rattle.shm_fault.specs.Segs.{rec_by, count_by_id, HasPage, with_rec}
+use Rattle.shm_fault.specs.Segs.{rec_by, HasPage, with_rec}
 use Rattle.shm_fault.specs.Store.{StoreView, stored, page_bytes}
 use Rattle.shm_fault.specs.Sound.{IsTied, IsStoreSound}
 use Rattle.shm_fault.specs.Goes.{Alike, Goes, Still, StaysAway}

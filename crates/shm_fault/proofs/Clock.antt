@@ -1,18 +1,16 @@
 -- What the clock needs, and what it leaves of the frames.
-use Rattle.std.proofs.Common.{◌≡◌, ℕ, suc, ◌<◌, ◌≤◌, Bool, true, false, not, cond, List, [], ◌∷◌, length, Option, Some, None, is_none, is_some, refl, ap, inl, inr, arith}
+use Rattle.std.proofs.Common.{◌≡◌, ℕ, suc, ◌<◌, ◌≤◌, Bool, true, false, not, cond, List, [], ◌∷◌, length, Option, Some, None, is_none, is_some, refl, ap, arith}
 use Rattle.std.specs.Prelude.{count_by}
-use Rattle.std.proofs.lemmas.Bool.{cases_lt}
 use Rattle.std.proofs.lemmas.List.{get_or_past}
 use Rattle.std.proofs.lemmas.List.Sums.{sum_by-cons}
 use Rattle.shm_base.specs.declared.paging.PageRef.{PageRef}
-use Rattle.shm_frames.specs.Frame.{Frame, no_frame, frame_at, is_owned, OwnedBelow}
+use Rattle.shm_frames.specs.Frame.{Frame, frame_at, is_owned, OwnedBelow}
 use Rattle.shm_clock.specs.Clock.{IsClockVictim, next}
 use Rattle.shm_clock.proofs.Eligible.{page_may_go}
 use Rattle.shm_fault.specs.Segs.{locked_by}
 use Rattle.shm_fault.specs.Store.{StoreView}
 use Rattle.shm_fault.specs.Sound.{IsStoreSound}
 use Rattle.shm_fault.specs.Goes.{unlocked, Alike}
-use Rattle.shm_fault.proofs.Ties.{Alike-refl}
 use Rattle.shm_fault.proofs.Tally.{resident-frames, unlocked_resident, passes_by, count-ext}
 use Rattle.std.proofs.lemmas.Bool.Decides.{nat_tests}
 use Rattle.std.proofs.lemmas.Grind.{common_steps}

@@ -1,6 +1,6 @@
 -- What steps count, one after another.
 use mir.Val.{bool_byte}
-use Rattle.std.proofs.Common.{◌≡◌, ℕ, zero, suc, ◌+◌, Bool, true, false, refl, ap, ◌∙◌, arith}
+use Rattle.std.proofs.Common.{◌≡◌, ℕ, zero, suc, ◌+◌, Bool, true, false, refl, ◌∙◌, arith}
 use Rattle.shm_fault.specs.declared.touched.Touched.{Touched}
 use Rattle.shm_fault.specs.Store.{StoreView}
 use Rattle.shm_fault.specs.Counting.{one_more, raised, one_if, AtRest, CountsOn}

@@ -8,7 +8,7 @@ use Rattle.shm_plain.specs.Held.{without}
 use Rattle.shm_pager.specs.Pages.{zero_page}
 use Rattle.shm_slots.specs.View.{SwapView, owner_of, page_in, without_slot, IsSwap}
 use Rattle.shm_slots.specs.Cause.{IsSteady}
-use Rattle.shm_frames.specs.Frame.{Frame, no_frame, frame_at}
+use Rattle.shm_frames.specs.Frame.{Frame, frame_at}
 use Rattle.shm_fault.specs.declared.page_tables.PageRec.{PageRec}
 use Rattle.shm_fault.specs.Segs.{SegRec, AreApart, but, no_page, find_seg, rec_by, count_by_id, HasPage, with_rec, pages_of, locked_pages}
 use Rattle.shm_fault.specs.Store.{StoreView, held_by, held, disowned}

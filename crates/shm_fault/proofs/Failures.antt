@@ -8,7 +8,7 @@ use Rattle.std.proofs.lemmas.List.Folds.{list_any_at}
 use Rattle.std.proofs.Math.ListN.{get_or-map}
 use Rattle.shm_base.specs.declared.paging.Slot.{Slot}
 use Rattle.shm_pager.specs.Pages.{last_count}
-use Rattle.shm_slots.specs.View.{AreaView, SwapView, no_area, area_at, rise, is_spent_here, size_of, sizes, with_page, with_slot_page, HasSlot, OneArea, WriteFault, IsSwap}
+use Rattle.shm_slots.specs.View.{AreaView, SwapView, no_area, area_at, rise, is_spent_here, size_of, sizes, with_slot_page, HasSlot, OneArea, WriteFault, IsSwap}
 use Rattle.shm_slots.specs.Cause.{total, some_spent, had_cause, GoesOn}
 use Rattle.shm_slots.proofs.Causes.{rises-le, total-le}
 use Rattle.shm_slots.proofs.Changes.{slot-here}

@@ -1,9 +1,8 @@
 -- What calls of the swap leave of its slots.
 use Rattle.std.proofs.Common.{◌≡◌, ◌≢◌, ◌⊎◌, ℕ, ◌<◌, Bool, List, [], length, get_or, set, Option, None, refl, ap, ◌∙◌, inl, inr, length-set, get_or-set_same, get_or-set_other, zero, suc, ◌∷◌, arith}
-use Rattle.std.proofs.lemmas.Bool.{cases_eq}
 use Rattle.shm_base.specs.declared.paging.PageRef.{PageRef}
 use Rattle.shm_base.specs.declared.paging.Slot.{Slot}
-use Rattle.shm_slots.specs.View.{AreaView, SwapView, no_area, area_at, with_page, with_owner, HasSlot, owner_of, page_in, with_slot_page, with_slot_owner, without_slot, OneArea, WriteFault}
+use Rattle.shm_slots.specs.View.{AreaView, SwapView, area_at, with_page, with_owner, HasSlot, owner_of, page_in, with_slot_page, with_slot_owner, without_slot, OneArea, WriteFault}
 use Rattle.std.proofs.lemmas.Grind.{common_steps}
 use Rattle.std.proofs.lemmas.Bool.Decides.{nat_tests}
 

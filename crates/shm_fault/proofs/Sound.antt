@@ -1,17 +1,16 @@
 -- What is true of every store, kept by a change that touches few pages.
-use Rattle.std.proofs.Common.{◌≡◌, ℕ, ◌<◌, ◌≤◌, ◌+◌, Bool, true, false, cond, ltb, length, sum_by, Option, Some, None, is_some, refl, ap, ◌∙◌, inl, inr, arith}
-use Rattle.std.specs.Prelude.{count_by}
-use Rattle.std.proofs.lemmas.Bool.{cases_Bool, or_right}
+use Rattle.std.proofs.Common.{◌≡◌, ℕ, ◌<◌, ◌≤◌, ◌+◌, Bool, true, false, cond, length, sum_by, Some, is_some, refl, ap, ◌∙◌, inl, inr, arith}
+use Rattle.std.proofs.lemmas.Bool.{cases_Bool}
 use Rattle.std.proofs.lemmas.List.Sums.{sum_by-le-sum_by, count_by-le-length}
 use Rattle.shm_base.specs.declared.paging.PageRef.{PageRef}
 use Rattle.shm_base.specs.declared.paging.Slot.{Slot}
 use Rattle.shm_slots.specs.View.{SwapView, IsSwap, slots, sizes, slots_in, owner_of, HasSlot}
-use Rattle.shm_slots.specs.Cause.{GoesOn, total, some_spent, had_cause}
-use Rattle.shm_frames.specs.Frame.{Frame, frame_at}
-use Rattle.shm_fault.specs.Segs.{SegRec, rec_by, HasPage, AreApart, pages_of, locked_pages}
-use Rattle.shm_fault.specs.Store.{StoreView, has_frame, has_slot, dirty_in, is_dirty_page}
+use Rattle.shm_slots.specs.Cause.{GoesOn, had_cause}
+use Rattle.shm_frames.specs.Frame.{frame_at}
+use Rattle.shm_fault.specs.Segs.{rec_by, HasPage, AreApart, pages_of, locked_pages}
+use Rattle.shm_fault.specs.Store.{StoreView}
 use Rattle.shm_fault.specs.Sound.{IsTied, Tied, IsStoreSound}
-use Rattle.shm_fault.specs.Goes.{outlines, Goes, Still, KeepsLocked}
+use Rattle.shm_fault.specs.Goes.{outlines, Goes, KeepsLocked}
 use Rattle.shm_fault.proofs.Pages.{has-frame, apart-same, sum_pages-same, sum_locked-same, locked-same, has-slot}
 use Rattle.shm_fault.proofs.Ties.{Touches, tied_touched, bytes_touched}
 use Rattle.shm_fault.proofs.Tally.{resident-frames}
@@ -63,9 +62,6 @@ GoesOn-refl s = record { areas = refl; starts = λ a. refl; counts = λ a. omega
 pub GoesOn-trans : (s t u : SwapView) → GoesOn s t → GoesOn t u → GoesOn s u
 GoesOn-trans s t u a b = grind (arith, nat_tests, common_steps, b.areas, a.areas, b.starts, a.starts, a.counts, b.counts, a.here, b.here, a.flag, b.flag)
 
-pub Goes-refl : (s : StoreView) → Goes s s
-Goes-refl s = record { bytes = refl; shape = refl; size = refl; goes_on = GoesOn-refl s.swap; same_sizes = refl; spent = λ e. or_right (ltb (total s.swap) (total s.swap)) (some_spent s.swap) e }
-
 pub Goes-trans : (s t u : StoreView) → Goes s t → Goes t u → Goes s u
 Goes-trans s t u a b = record {
   bytes = b.bytes ∙ a.bytes;
@@ -79,9 +75,6 @@ Goes-trans s t u a b = record {
 -- a cause at a later step is one of the whole
 pub cause-after : (s t u : StoreView) → Goes s t → Goes t u → had_cause t.swap u.swap ≡ true → had_cause s.swap u.swap ≡ true
 cause-after s t u a b e = cause-before s.swap t.swap u.swap a.spent a.goes_on b.goes_on e
-
-pub KeepsLocked-still : (s t : StoreView) → Still s t → KeepsLocked s t
-KeepsLocked-still s t still r locked e = rw (still r) e
 
 pub KeepsLocked-trans : (s t u : StoreView) → outlines t.segs ≡ outlines s.segs → KeepsLocked s t → KeepsLocked t u → KeepsLocked s u
 KeepsLocked-trans s t u shape a b r locked e = b r (rw (locked-same s.segs t.segs r.seg shape) locked) (a r locked e)

@@ -7,7 +7,7 @@ use Rattle.std.proofs.lemmas.List.Sums.{sum_by-cons}
 use Rattle.shm_base.specs.declared.paging.PageRef.{PageRef}
 use Rattle.shm_base.specs.declared.paging.Slot.{Slot}
 use Rattle.shm_slots.specs.View.{AreaView, no_area, used_in, used_slots}
-use Rattle.shm_frames.specs.Frame.{Frame, no_frame, frame_at, is_owned, is_dirty, resident_of, dirty_of}
+use Rattle.shm_frames.specs.Frame.{Frame, frame_at, is_owned, is_dirty, resident_of, dirty_of}
 use Rattle.shm_fault.specs.Segs.{SegRec, rec_by, AreApart, HasPage, locked_by, pages_of, locked_pages}
 use Rattle.shm_fault.specs.Store.{StoreView, has_frame, has_slot, is_dirty_page, dirty_in, resident, dirty, used}
 use Rattle.shm_fault.specs.Sound.{Tied}

@@ -9,7 +9,7 @@ use Rattle.shm_base.specs.declared.paging.Slot.{Slot}
 use Rattle.shm_plain.specs.Held.{is_held, pages_in, pages_held, pages_if_locked, pages_locked, with_zeros, with_lock}
 use Rattle.shm_pager.specs.Pages.{zero_page}
 use Rattle.shm_slots.specs.View.{SwapView, IsSwap, slots, owner_of}
-use Rattle.shm_frames.specs.Frame.{Frame, frame_at, IsFrameBlank}
+use Rattle.shm_frames.specs.Frame.{Frame, IsFrameBlank}
 use Rattle.shm_fault.specs.Segs.{SegRec, no_page, rec_at, find_seg, AreApart, rec_by, count_by_id, HasPage, with_seg_lock, new_seg, pages_of, locked_pages}
 use Rattle.shm_fault.specs.Store.{StoreView, page_bytes, held_by, held, fresh_store}
 use Rattle.shm_fault.specs.Sound.{IsStoreSound}

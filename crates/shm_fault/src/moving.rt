@@ -1,7 +1,7 @@
 //! Swap areas that go, whose pages move to the other areas.
 ghost use Rattle.std.specs.Prelude.{◌≡◌, ℕ, ◌+◌, ◌<◌, ◌≤◌, true, [], length, set, Some, None, IfOk, IfErr, OnOk, OnErr};
 ghost use Rattle.shm_plain.specs.Held.{pages_held};
-ghost use Rattle.shm_slots.specs.View.{HasSlot, IsSwap, area_at, owner_of, page_in, sizes, slots, used_in, used_slots};
+ghost use Rattle.shm_slots.specs.View.{HasSlot, IsSwap, area_at, page_in, sizes, slots, used_in, used_slots};
 ghost use Rattle.shm_slots.specs.Cause.{GoesOn, had_cause};
 ghost use Rattle.shm_fault.specs.Segs.{rec_by};
 ghost use Rattle.shm_fault.specs.Store.{held, frame_of};

@@ -1,5 +1,5 @@
 //! The page tables of the segments that the store holds: where each of their pages is.
-ghost use Rattle.std.specs.Prelude.{◌≡◌, ℕ, ◌<◌, [], ◌∷◌, ◌++◌, length, set, map, filter, not, ◌==◌, None, Some, IfSome, IfNone, IfOk, OnOk, OnErr, replicate};
+ghost use Rattle.std.specs.Prelude.{◌≡◌, ◌<◌, [], ◌∷◌, ◌++◌, length, set, map, filter, not, ◌==◌, None, Some, IfSome, IfNone, IfOk, OnOk, OnErr, replicate};
 ghost use Rattle.shm_fault.specs.Segs.{SegRec, find_seg, rec_at, rec_by, count_by_id, locked_by, HasPage, with_rec, with_seg_lock, no_page, new_seg};
 ghost use Rattle.shm_fault.specs.Entries.{segs_view, key_at};
 

@@ -1,12 +1,12 @@
 //! Pages that come into a frame and leave it. Each step here keeps all bytes of all segments.
-ghost use Rattle.std.specs.Prelude.{◌≡◌, ◌≢◌, ◌⊎◌, ℕ, ◌+◌, ◌<◌, ◌≤◌, ◌^◌, Bool, true, false, not, if◌then◌else◌, [], length, set, Option, Some, None, ◌&&◌, is_ok, is_some, IfOk, OnOk, OnErr, IsSome, MatchOption, MatchResult};
+ghost use Rattle.std.specs.Prelude.{◌≡◌, ◌≢◌, ℕ, ◌+◌, ◌<◌, ◌≤◌, ◌^◌, true, false, not, if◌then◌else◌, [], length, set, Option, Some, None, ◌&&◌, is_ok, is_some, IfOk, OnOk, OnErr, IsSome, MatchOption, MatchResult};
 ghost use Rattle.shm_base.specs.declared.paging.PageRef.{PageRef as Ref};
 ghost use Rattle.shm_slots.specs.View.{SameSlots, HasSlot, IsSwap, sizes};
 ghost use Rattle.shm_slots.specs.Cause.{had_cause, total, some_spent, GoesOn};
 ghost use Rattle.shm_frames.specs.Frame.{frame_at, no_frame, OwnedBelow};
 ghost use Rattle.shm_clock.specs.Clock.{may_go, listed, victim_of, next, IsClockVictim};
 ghost use Rattle.shm_fault.specs.Segs.{rec_by, HasPage, with_rec};
-ghost use Rattle.shm_fault.specs.Store.{StoreView, stored, is_swapped};
+ghost use Rattle.shm_fault.specs.Store.{stored};
 ghost use Rattle.shm_fault.specs.Sound.{IsStoreSound};
 ghost use Rattle.shm_fault.specs.Counting.{raised, one_if, CountsOn, victim_by, turned, hand_for_frame};
 ghost use Rattle.shm_fault.specs.Access.{Visited};

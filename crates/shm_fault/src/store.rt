@@ -96,7 +96,7 @@ impl<P: Pager> PageStore<P> {
     }
 
     /// One more segment, of so many pages of zeros, which is not locked. All room that it will ever need is
-    /// taken here; want of memory is the one refusal, and changes nothing. All pages have to be at most the
+    /// taken here; out of memory is the one refusal, and changes nothing. All pages have to be at most the
     /// slots.
     pub fn add_segment(&mut self, seg: u32, pages: u32) -> Result<(), HostMemory>
         requires new { is_held (held self.old) seg ≡ false }

@@ -4,7 +4,7 @@
 //! over owners and bits reads no page. The table keeps a bound below which no frame is free, and
 //! counts the frames that are owned and those that are dirty. A frame that is free has both bits
 //! clear; what its bytes are is nobody's concern.
-ghost use Rattle.std.specs.Prelude.{◌≡◌, ℕ, ◌+◌, ◌-◌, ◌<◌, ◌≤◌, ◌^◌, length, get_or, set, position, None, Some, IfOk, IsSome, MatchOption, false};
+ghost use Rattle.std.specs.Prelude.{◌≡◌, ℕ, ◌+◌, ◌-◌, ◌<◌, ◌≤◌, ◌^◌, length, set, position, None, Some, IfOk, IsSome, MatchOption, false};
 ghost use Rattle.std.specs.Borrow.{sem};
 
 use crate::looks::Looks;
@@ -64,7 +64,7 @@ impl Entry {
     };
 }
 
-ghost use Rattle.shm_frames.specs.Table.{free_entry, has_no_owner, UsedBelow};
+ghost use Rattle.shm_frames.specs.Table.{has_no_owner, UsedBelow};
 
 // The entry of least number, from `first` on, that nobody owns.
 fn free_from(table: &Vec<Entry>, first: FrameNo) -> Option<FrameNo>

@@ -2,8 +2,7 @@
 //!
 //! The rule that the type keeps: the history is legal on the flat machine from the opening, and leads
 //! to the machine that the system shows. A call and its reply are recorded together or not at all.
-ghost use Rattle.std.specs.Prelude.{◌≡◌, ℕ, ◌+◌, ◌-◌, ◌^◌, ◌<◌, ◌≤◌, List, [], ◌∷◌, ◌++◌, length, drop, vec_len, vec_capacity, IfOk, OnOk, OnErr, IsOk, All, true, false};
-ghost use Rattle.shm_base.specs.State.{start_of};
+ghost use Rattle.std.specs.Prelude.{◌≡◌, ◌+◌, ◌-◌, ◌<◌, ◌≤◌, [], ◌∷◌, ◌++◌, length, drop, vec_len, vec_capacity, IfOk, OnOk, OnErr, IsOk, All, true, false};
 ghost use Rattle.shm_base.specs.History.{IsHistory, IsMove, is_failure, is_refusal};
 ghost use Rattle.shm_base.specs.Step.{step};
 ghost use mathlib.Core.List.{IsPrefix};
@@ -145,8 +144,8 @@ impl<P: Pager> World<P> {
         Ok(())
     }
 
-    /// One call, which is recorded with its reply. Want of memory changes nothing but the room, and
-    /// nothing is recorded; with room left, it comes only where the flat machine refuses nothing, and the
+    /// One call, which is recorded with its reply. Where memory is out, nothing changes but the room, and
+    /// nothing is recorded; with room left, that comes only where the flat machine refuses nothing, and the
     /// calls that take no memory always get their reply.
     pub fn call(&mut self, pid: u32, call: &Call) -> Result<Reply, HostMemory>
         ensures recorded { IfOk result (λ r. self.new.events ≡ self.old.events ++ event pid call.now r ∷ []) }
@@ -192,7 +191,7 @@ impl<P: Pager> World<P> {
         self.system.tally()
     }
 
-    // One step. Want of memory changes nothing but the room, and comes only at a step that may find none.
+    // One step. Where memory is out, nothing changes but the room, and that comes only at a step that may find none.
     fn run_step(&mut self, step: &Step) -> Result<(), HostMemory>
         ensures ran { OnOk result (IsRun self.old step.now self.new) }
         ensures stopped { OnErr result (self.new ≡ record self.old { room = self.new.room }) }
@@ -209,7 +208,7 @@ impl<P: Pager> World<P> {
         Ok(())
     }
 
-    /// Runs the steps in order. It stops at the first want of memory, and the steps before it stand. With room for
+    /// Runs the steps in order. It stops where memory is out first, and the steps before it stand. With room for
     /// every call, and no call that takes memory, it runs them all.
     pub fn run_steps(&mut self, steps: &[Step]) -> Result<(), HostMemory>
         ensures steps { OnOk result (RunTo self.old steps.now self.new) }

@@ -1,5 +1,4 @@
 //! The rows of a table, by rising index.
-ghost use Rattle.std.specs.Prelude.{◌≡◌};
 ghost use Rattle.std.specs.Iterator.{YieldsFirstBy, item_count};
 
 use crate::table::{Entry, id_of};

@@ -9,8 +9,8 @@
 //! there. The entries are the indexes that were ever used, and the table grows by one at its end.
 //! It keeps a bound below which no index is free, the number of its rows, and the index of each live
 //! key other than 0, in the order in which the keys came.
-ghost use Rattle.std.specs.Prelude.{◌≡◌, ◌⊎◌, ℕ, ◌+◌, ◌*◌, ◌<◌, ◌≤◌, ◌==◌, pos, [], ◌∷◌, length, drop, set, Option, Some, None, option_map, IfOk, IfErr, OnOk, OnErr, IsOk, Ok, Err, IfSome, MatchOption, IsSome};
-ghost use Rattle.std.specs.Borrow.{Lends, sem};
+ghost use Rattle.std.specs.Prelude.{◌≡◌, ℕ, ◌+◌, ◌*◌, ◌<◌, ◌≤◌, ◌==◌, pos, [], length, drop, Option, Some, None, option_map, IfOk, IfErr, OnOk, IsOk, Ok, Err, IfSome, IsSome};
+ghost use Rattle.std.specs.Borrow.{sem};
 
 use crate::rows::Rows;
 use indexmap::IndexMap;
@@ -97,8 +97,8 @@ impl<T> Model for IdTable<T> {
     ghost invariant = { λ t. Sound t.entries.items t.first_free t.keys × (t.rows ≡ row_count t.entries.items) };
 }
 
-ghost use Rattle.std.specs.Prelude.{◌≢◌, vec_capacity, nat_eq, nat_lt, ◌&&◌, not, if◌then◌else◌};
-ghost use Rattle.indexmap.specs.IndexMap.{get, spare, IsUnchanged};
+ghost use Rattle.std.specs.Prelude.{◌≢◌, vec_capacity, nat_eq, ◌&&◌, not, if◌then◌else◌};
+ghost use Rattle.indexmap.specs.IndexMap.{get, spare};
 ghost use Rattle.shm_ids.specs.Table.{free_index, free_from, find_key, look, id_at, identifier, index_of, inserted, with_row, with_key, without_row, entry_at, key_at, look_row};
 
 // The least free index from `first` on.

@@ -8,7 +8,7 @@ use Rattle.shm_base.specs.declared.call.ShmidDs.{ShmidDs}
 use Rattle.shm_base.specs.declared.call.Call.{Call}
 use Rattle.shm_base.specs.declared.call.Call.TheVariants.{Shmat, Shmdt, Fork, Exec, Exit}
 use Rattle.shm_base.specs.declared.call.Call.TheVariants as calls
-use Rattle.shm_base.specs.declared.call.Reply.TheVariants.{Addr, Done, Refused}
+use Rattle.shm_base.specs.declared.call.Reply.TheVariants.{Addr, Done}
 use Rattle.shm_base.specs.declared.call.Reply.TheVariants as replies
 use Rattle.shm_base.specs.declared.call.Event.{Event}
 use Rattle.shm_base.specs.declared.flags.AtFlags.{AtFlags}

@@ -6,7 +6,7 @@ use Rattle.std.proofs.lemmas.Bool.{cases_eq}
 use Rattle.shm_base.specs.declared.call.Call.{Call}
 use Rattle.shm_base.specs.declared.call.Call.TheVariants.{Rmid}
 use Rattle.shm_base.specs.declared.call.Reply.{Reply}
-use Rattle.shm_base.specs.declared.call.Reply.TheVariants.{Id, Done}
+use Rattle.shm_base.specs.declared.call.Reply.TheVariants.{Id}
 use Rattle.shm_base.specs.declared.call.Event.{Event}
 use Rattle.shm_base.specs.State.{Segment, Entry, Runner, Machine}
 use Rattle.shm_base.specs.Identifier.{identifier, destroyed_in, with_segment, destroyed_at}
@@ -40,9 +40,6 @@ kind-move s n e t bare (inr x) =
     rw (failure-removed e.call e.reply x.failure, failure-put e.call e.reply x.failure, x.unchanged) (still (made_by (caller_of s e.pid) e.call) s e.reply)
 
 -- WHICH CALL REMOVED
-
-pub removed-call : (call : Call) (reply : Reply) (id : ℕ) → removed call reply ≡ Some id → (call ≡ Rmid (pos id)) × (reply ≡ Done)
-removed-call call reply id h = grind arith
 
 -- WHAT IS KEPT
 
@@ -84,11 +81,6 @@ record Comes (like : Segment → Type 0) (i : ℕ) (reply : Reply) (before after
   destroyed : ℕ
   empty : IsEmpty destroyed before
   new : IsNew like i reply destroyed after
-
--- where no orphan was and none loses a piece, none is swept
-unswept : (rs qs : List Runner) (i : ℕ) (f : Segment → Segment) → ((id : ℕ) → attach_count rs id ≤ attach_count qs id) → ((x : Segment) → (f x).dest ≡ x.dest) → (o : Option Entry)
-    → orphan_in i rs o ≡ false → option_map (swept_entry i qs) (option_map (with_entry f) o) ≡ option_map (with_entry f) o
-unswept rs qs i f grows dest o none = grind (arith, common_steps, grows, dest)
 
 empty-count : (d : ℕ) (o : Option Entry) → IsEmpty d o → destroyed_in o ≡ d
 empty-count d o empty = grind arith

@@ -1,8 +1,7 @@
 -- Each piece lies within a segment that stands.
-use Rattle.std.proofs.Common.{◌≡◌, ℕ, suc, zero, ◌+◌, ◌*◌, ◌%◌, ◌≤◌, true, List, [], ◌∷◌, length, get_or, Option, Some, None, slice_get, refl, sym, ap, ◌∙◌, inl, inr, arith}
+use Rattle.std.proofs.Common.{◌≡◌, ℕ, suc, zero, ◌+◌, ◌*◌, ◌%◌, ◌≤◌, true, List, [], ◌∷◌, length, get_or, Option, Some, None, slice_get, refl, sym, ◌∙◌, inl, inr, arith}
 use Rattle.std.proofs.lemmas.Grind.{common_steps}
-use Rattle.std.specs.Prelude.{Contains}
-use Rattle.std.proofs.lemmas.Option.{none-some, slice_get-get_or}
+use Rattle.std.proofs.lemmas.Option.{none-some}
 use Rattle.std.proofs.lemmas.List.Elements.{All-contains, Contains-get_or}
 use Rattle.shm_base.specs.declared.call.Event.{Event}
 use Rattle.shm_base.specs.State.{Segment, Piece, Runner, Machine, Opening, start_of}
@@ -38,9 +37,6 @@ piece-count : (ps : List Piece) (k : ℕ) (p : Piece) → slice_get ps k ≡ Som
 piece-count [] k p is = absurd (cc is)
 piece-count (q ∷ qs) zero p is = let more = one_more p.seg q qs in grind (arith, common_steps)
 piece-count (q ∷ qs) (suc k) p is = grind (arith, common_steps, one_more, piece-count qs k p is)
-
-pub contained : {X : Type 0} (xs : List X) (x : X) (h : Contains xs x) → slice_get xs h.0 ≡ Some x
-contained xs x h = slice_get-get_or xs h.0 x h.1 ∙ ap (λ y. Some y) h.2
 
 pub has-count : (s : Machine) (pid : ℕ) (p : Piece) → Has s pid p → 1 ≤ attach_count s.runners p.seg
 has-count s pid p h = grind (arith, common_steps)

@@ -1,5 +1,5 @@
 -- Each move destroys what is due, and what is marked has a piece.
-use Rattle.std.proofs.Common.{◌≡◌, ◌⊎◌, ℕ, suc, zero, ◌+◌, ◌/◌, ◌%◌, ◌≤◌, ◌==◌, ◌&&◌, pos, Bool, true, false, List, [], ◌∷◌, map, Some, None, slice_get, refl, sym, ap, ◌∙◌, inl, inr, arith, eq-eqb}
+use Rattle.std.proofs.Common.{◌≡◌, ◌⊎◌, ℕ, suc, zero, ◌+◌, ◌/◌, ◌%◌, ◌==◌, ◌&&◌, pos, Bool, true, false, List, [], ◌∷◌, map, Some, None, slice_get, refl, sym, ap, ◌∙◌, inl, inr, arith, eq-eqb}
 use Rattle.std.proofs.lemmas.Grind.{common_steps}
 use Rattle.std.proofs.lemmas.Bool.{or_right}
 use Rattle.std.proofs.lemmas.Option.{none-some}
@@ -29,9 +29,6 @@ pub sound-start : (o : Opening) → IsMachineSound (start_of o)
 sound-start o = record { orphans = λ i small. refl; bare = bare-start o.processes }
 
 -- WHAT IS MARKED
-
-some-piece : (b : Bool) (n : ℕ) → b && (n == 0) ≡ false → b ≡ true → 1 ≤ n
-some-piece b n h marked = grind (arith, common_steps)
 
 pub marked-pieces : (s : Machine) → IsMachineSound s → MarkedHavePieces s
 marked-pieces s sound id x stands dest = grind (arith, common_steps)

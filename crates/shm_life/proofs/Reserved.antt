@@ -10,7 +10,7 @@ use Rattle.shm_base.specs.Segments.{reserved, pages_held}
 use Rattle.shm_slots.specs.View.{slots}
 use Rattle.shm_plain.specs.Apart.{AreHeldApart}
 use Rattle.shm_plain.specs.Held.{Held, find_held, is_held, pages_in, pages_held as held_pages, without}
-use Rattle.shm_fault.specs.Segs.{SegRec, find_seg, pages_of}
+use Rattle.shm_fault.specs.Segs.{SegRec, find_seg}
 use Rattle.shm_fault.specs.Segs as segs
 use Rattle.shm_fault.specs.Store.{StoreView, held, held_by, used}
 use Rattle.shm_fault.specs.Sound.{IsStoreSound}

@@ -18,7 +18,7 @@ abbrev pub are_pids : List Process → Bool
 are_pids [] = true
 are_pids (p ∷ ps) = within 1 2147483647 p.pid && not (has_pid p.pid ps) && are_pids ps
 
--- the first error, want of memory aside
+-- the first error, out of memory aside
 abbrev pub start_error : List ℕ → List Process → Option StartError
 start_error areas processes =
     if not (within 1 8 (length areas)) then Some Areas else
@@ -27,7 +27,7 @@ start_error areas processes =
     if not (are_pids processes) then Some Pid else
     None
 
--- a refusal is the first error, or want of memory where no error holds
+-- a refusal is the first error, or out of memory where no error holds
 abbrev pub IsFirstError : StartError → Option StartError → Type 0
 IsFirstError e first = (first ≡ Some e) ⊎ ((e ≡ HostMemory) × (first ≡ None))
 

@@ -1,5 +1,5 @@
 //! What pieces that went leave behind: times and pids, and segments that go with their last piece.
-ghost use Rattle.std.specs.Prelude.{◌≡◌, ◌≢◌, true, ◌≤◌, ◌==◌, ◌&&◌, ℕ, List, [], ◌∷◌, length, All};
+ghost use Rattle.std.specs.Prelude.{◌≡◌, ◌≢◌, true, ◌≤◌, ◌==◌, ◌&&◌, ℕ, List, ◌∷◌, length, All};
 ghost use Rattle.shm_base.specs.Bounds.{Bounds};
 ghost use Rattle.shm_base.specs.Segments.{attach_count, detach_all, swept};
 ghost use Rattle.shm_attach.specs.Spaces.{Translation, AreTrue};

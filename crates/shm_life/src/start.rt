@@ -71,7 +71,7 @@ fn are_pids_sound(processes: &[Process]) -> bool
     true
 }
 
-/// The first start error that holds, want of memory aside. It takes no memory.
+/// The first start error that holds, out of memory aside. It takes no memory.
 pub(crate) fn first_error<P: Pager>(pagers: &[P], processes: &[Process]) -> Option<StartError>
     ensures { result ≡ start_error (map (λ p. length (P.content p)) pagers.now) processes.now }
 {

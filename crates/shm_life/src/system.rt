@@ -163,8 +163,8 @@ impl<P: Pager> System<P> {
     }
 
     #[tactic(auto, using(crate::proofs::Running::keeps_refl))]
-    /// One call of a process, at the time that is its place among the calls. Want of memory changes
-    /// nothing and is not counted; it comes only where the flat machine refuses nothing. Where a pager fails the reply says so in place of the flat machine's,
+    /// One call of a process, at the time that is its place among the calls. Where memory is out, nothing
+    /// changes and the call is not counted; that comes only where the flat machine refuses nothing. Where a pager fails the reply says so in place of the flat machine's,
     /// and nothing else changes.
     #[inline(always)]
     pub fn call(&mut self, pid: u32, call: &Call) -> Result<Reply, HostMemory>

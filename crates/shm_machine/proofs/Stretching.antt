@@ -8,7 +8,6 @@ use Rattle.std.proofs.lemmas.Slice.{take-put_mid, drop-put_mid}
 use Rattle.shm_base.specs.declared.call.Call.{Call}
 use Rattle.shm_base.specs.declared.call.Reply.{Reply}
 use Rattle.shm_plain.proofs.Stretches.{length-put_mid}
-use Rattle.shm_life.proofs.Running.{keeps_refl}
 use Rattle.shm_life.specs.SystemState.{SystemState}
 use Rattle.shm_machine.specs.Answered.{Moves}
 use Rattle.shm_machine.specs.Stretched.{Reached}
@@ -114,9 +113,6 @@ stores s t n pid a bs is = grind (arith, common_steps)
 reached-next : (before now after : SystemState) (done len pid : ℕ) (call : Call) (reply : Reply) → Reached before done now → Moves now pid call reply after → done % 64 ≡ 0 → 0 < len → len ≤ 64 → Reached before (done + len) after
 reached-next before now after done len pid call reply r moves full some few = grind (arith, common_steps)
 
-pub reached-none : (s : SystemState) → Reached s 0 s
-reached-none s = record { calls = omega arith; opening = refl; goes_on = (keeps_refl s.memory).goes_on }
-
 -- whole calls were done where there is more to do
 abbrev pub AreWhole : ℕ → ℕ → Type 0
 AreWhole done size = (done ≤ size) × (done < size → done % 64 ≡ 0)
@@ -131,9 +127,6 @@ pub record ReadSo (before : SystemState) (pid addr : ℕ) (old : List ℕ) (done
   pub bytes : 0 < done → (step before.machine (before.calls + 1) pid (Load addr done)).reply ≡ Bytes (take done new)
   pub reached : Reached before done now
   pub machine : now.machine ≡ before.machine
-
-pub read-none : (s : SystemState) (pid addr : ℕ) (old : List ℕ) → ReadSo s pid addr old 0 old s
-read-none s pid addr old = grind (arith, common_steps)
 
 pub read_next : (before now after : SystemState) (pid addr : ℕ) (old new xs : List ℕ) (done len room : ℕ) → ReadSo before pid addr old done new now → done < length old → len ≡ min (length old - done) 64 → room ≡ len
     → Moves now pid (Load (addr + done) len) (Bytes xs) after → length xs ≡ len → ReadSo before pid addr old (done + len) (put_mid done room new xs) after
@@ -166,9 +159,6 @@ pub record WrittenSo (before : SystemState) (pid addr : ℕ) (bytes : List ℕ) 
   pub none : done ≡ 0 → now.machine ≡ before.machine
   pub stored : 0 < done → Stores before.machine (before.calls + 1) pid addr (take done bytes) now.machine
   pub reached : Reached before done now
-
-pub written-none : (s : SystemState) (pid addr : ℕ) (bytes : List ℕ) → WrittenSo s pid addr bytes 0 s
-written-none s pid addr bytes = grind (arith, common_steps)
 
 pub write_next : (before now after : SystemState) (pid addr : ℕ) (bytes xs : List ℕ) (done len : ℕ) → WrittenSo before pid addr bytes done now → done < length bytes → len ≡ min (length bytes - done) 64
     → xs ≡ take len (drop done bytes) → Moves now pid (Store (addr + done) xs) Done after → WrittenSo before pid addr bytes (done + len) after

@@ -1,5 +1,5 @@
 //! The machine.
-ghost use Rattle.std.specs.Prelude.{◌≡◌, ◌⊎◌, true, map, length, IfOk, OnOk, IfErr, None, Some, false, MatchOption};
+ghost use Rattle.std.specs.Prelude.{◌≡◌, ◌⊎◌, true, length, IfOk, OnOk, IfErr, None, Some, false, MatchOption};
 ghost use Rattle.shm_life.specs.Start.{start_error};
 ghost use Rattle.shm_life.specs.Counts.{Counts};
 ghost use Rattle.shm_life.specs.Listed.{segment_at};
@@ -41,7 +41,7 @@ fn refused(reply: &Reply) -> Option<Errno>
 
 impl Machine {
     /// A machine as it opens, with zeros in each slot of its areas, whose listed calls will fail. It is refused by the
-    /// first start error that holds, or for want of memory; no memory is taken for areas that are refused. A
+    /// first start error that holds, or out of memory; no memory is taken for areas that are refused. A
     /// failure of an area or a side that is not there counts for nothing.
     pub fn open(
         alloc: Global,

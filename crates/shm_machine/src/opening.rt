@@ -1,5 +1,5 @@
 //! From what a machine is opened.
-ghost use Rattle.std.specs.Prelude.{◌≡◌, ◌==◌, ◌≤◌, IfOk, map, filter, length, true, false};
+ghost use Rattle.std.specs.Prelude.{◌≡◌, ◌==◌, ◌≤◌, IfOk, map, length, true, false};
 ghost use Rattle.shm_life.specs.Start.{are_sizes};
 ghost use Rattle.shm_pager.specs.Pages.{pager_seen};
 ghost use Rattle.shm_machine.specs.Areas.{blank, pages_in, failed_in, IsOfKind};

@@ -1,5 +1,5 @@
 -- The pages that a mirror shows, slot by slot.
-use Rattle.std.proofs.Common.{◌≡◌, ℕ, zero, suc, ◌<◌, ◌⊎◌, Bool, true, false, if◌then◌else◌, List, [], ◌∷◌, length, get_or, set, drop, replicate, refl, sym, ap, ◌∙◌, inl, inr, arith, get_or-set_same}
+use Rattle.std.proofs.Common.{◌≡◌, ℕ, zero, suc, ◌<◌, ◌⊎◌, true, false, if◌then◌else◌, List, [], ◌∷◌, length, get_or, set, drop, replicate, refl, ap, ◌∙◌, inl, inr, arith, get_or-set_same}
 use Rattle.std.proofs.lemmas.Grind.{common_steps}
 use Rattle.shm_pager.specs.Pages.{SlotUnknown}
 use Rattle.shm_pager.specs.Mirror.{merged, no_side}
@@ -8,9 +8,6 @@ use Rattle.shm_pager.specs.declared.mirror.Good.{Good}
 -- the page of one slot
 abbrev pub shown : Good → List ℕ → List ℕ → List ℕ
 shown g l r = if g.left then l else r
-
-get_or-tail : (xs : List (List ℕ)) (i : ℕ) → get_or (drop 1 xs) i [] ≡ get_or xs (suc i) []
-get_or-tail m0 i = grind (arith, common_steps)
 
 pub length-merged : (gs : List Good) (ls rs : List (List ℕ)) → length (merged gs ls rs) ≡ length gs
 length-merged [] ls rs = refl

@@ -1,9 +1,8 @@
 -- Pages of zeros, and places that have no room for them.
-use Rattle.std.proofs.Common.{rules, ◌≡◌, ◌≢◌, ◌==◌, ◌↔◌, ◌<◌, ◌⊎◌, ℕ, zero, suc, true, List, [], ◌∷◌, length, take, replicate, map, get_or, set, Option, Some, None, refl, ap, sym, ◌∙◌, inl, inr, arith, get_or-set_same, get_or-set_other}
+use Rattle.std.proofs.Common.{rules, ◌≡◌, ◌==◌, ◌↔◌, ◌<◌, ℕ, zero, suc, true, List, [], ◌∷◌, length, take, replicate, map, set, Option, Some, None, refl, ap, ◌∙◌, arith}
 use Rattle.std.proofs.lemmas.Grind.{common_steps}
 use Rattle.std.specs.List.{list_all}
 use Rattle.std.proofs.lemmas.List.{map-set, take_all, length-map}
-use Rattle.std.proofs.lemmas.Bool.{cases_eq}
 use Rattle.shm_pager.specs.Pages.{zero_page}
 use Rattle.shm_pager.specs.Sparse.{Room, page_behind, NoZeros}
 

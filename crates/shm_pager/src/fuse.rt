@@ -1,5 +1,5 @@
 //! A pager that fails where it is told to.
-ghost use Rattle.std.specs.Prelude.{◌≡◌, ◌<◌, List, [], length, set, get_or, replicate, true, false, not, ◌&&◌, if◌then◌else◌, is_ok, IfOk};
+ghost use Rattle.std.specs.Prelude.{◌≡◌, ◌<◌, [], length, set, get_or, replicate, true, false, not, ◌&&◌, if◌then◌else◌, is_ok, IfOk};
 ghost use Rattle.shm_pager.specs.Pages.{zero_page, last_count, pager_seen, served, SlotUnknown, CountsErr, TriesWrite, TriesRead};
 ghost use Rattle.shm_pager.specs.Fuse.{new_fuse, next_count, is_listed, read_is_bad, write_is_bad, scorched_page};
 

@@ -50,7 +50,7 @@ stop_cause (Gate pid) areas script stop = absurd stop
 stop_cause (Mismatch pid) areas script stop = absurd stop
 stop_cause ThreadRefused areas script stop = absurd stop
 
--- want of memory and a writer that fails say nothing of the input
+-- out of memory and a writer that fails say nothing of the input
 no_cause : (fault : RunFault) (areas : List ℕ) (script : ScriptView) → (fault ≡ HostMemory) ⊎ (fault ≡ WriteFailed) → IsCauseIn fault areas script
 no_cause fault areas script (inl e) = λ input read. subst (λ f. IsCause f areas input) (sym e) tt
 no_cause fault areas script (inr e) = λ input read. subst (λ f. IsCause f areas input) (sym e) tt

@@ -19,7 +19,7 @@ fault_text (Mismatch pid) = codes "history mismatch " ++ decimal pid
 fault_text ThreadRefused = codes "thread refused"
 fault_text HostMemory = codes "out of memory"
 
--- 1 is a script fault, 3 a fault of the run, 4 want of memory
+-- 1 is a script fault, 3 a fault of the run, 4 out of memory
 abbrev pub status_of : RunFault → ℕ
 status_of (Script f) = 1
 status_of (StartRefused n) = 3

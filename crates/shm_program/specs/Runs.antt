@@ -67,7 +67,7 @@ abbrev pub IsSilent : RunFault → Option (List ℕ) → Option (List ℕ) → T
 IsSilent WriteFailed old new = Unit {0}
 IsSilent _ old new = Keeps old new
 
--- a world is not opened for the first start error, or for want of memory where there is none
+-- a world is not opened for the first start error, or out of memory where there is none
 abbrev pub IsStop : RunFault → Option StartError → Type 0
 IsStop (StartRefused n) first = (e : StartError) × (first ≡ Some e) × (number_of e ≡ n)
 IsStop HostMemory first = first ≡ None

@@ -27,7 +27,7 @@ pub enum RunFault {
 impl RunFault {
     ghost use Rattle.shm_program.specs.Faults.{status_of};
 
-    /// The exit status of the program: 1 for a script fault, 3 for a fault of the run, 4 for want of memory.
+    /// The exit status of the program: 1 for a script fault, 3 for a fault of the run, 4 out of memory.
     pub fn status(self) -> u8
         ensures { result ≡ status_of self }
     {

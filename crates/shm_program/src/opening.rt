@@ -10,7 +10,7 @@ use shm_text::Script;
 use std::alloc::Global;
 
 /// A world as a script opens it, with no event yet. It fails as the start of its system does: by the first
-/// start error that holds, or for want of memory; the pagers are dropped then.
+/// start error that holds, or out of memory; the pagers are dropped then.
 pub fn open_world<P: Pager>(
     alloc: Global,
     script: &Script,

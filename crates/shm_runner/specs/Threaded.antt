@@ -31,7 +31,7 @@ pub record IsRunOf (script : ScriptView) (world : WorldState) (transcripts : Lis
   pub follow : All (IsTranscript script world.events) transcripts
   pub admitted : All (IsAdmitted script.processes) world.events
 
--- the text of the world of such a run; and whether one of its calls is marked for want of memory
+-- the text of the world of such a run; and whether one of its calls is marked out of memory
 pub record IsThreadedOutput (marked : Bool) (script : ScriptView) (areas : List ℕ) (text : List ℕ) : Type 0 where
   pub world : WorldState
   pub transcripts : List Transcript

@@ -76,7 +76,7 @@ fn run_in<W: Write, P: Pager>(
     }
 }
 
-// Runs the lines of a script in file order, in a world without history. It stops at the first want of
+// Runs the lines of a script in file order, in a world without history. It stops where it is first out of
 // memory.
 fn run_lines<P: Pager>(
     alloc: Global,

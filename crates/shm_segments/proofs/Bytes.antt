@@ -1,5 +1,5 @@
 -- Bytes by place and bytes by stretch.
-use Rattle.std.proofs.Common.{◌≡◌, ◌≢◌, ℕ, zero, suc, ◌+◌, ◌<◌, ◌≤◌, ◌==◌, if◌then◌else◌, Bool, true, List, [], ◌∷◌, ◌++◌, length, get_or, set, take, drop, map, refl, sym, ap, ◌∙◌, arith, inl, inr, length-set, append_assoc, append-nil}
+use Rattle.std.proofs.Common.{◌≡◌, ◌≢◌, ℕ, zero, suc, ◌+◌, ◌<◌, ◌≤◌, ◌==◌, if◌then◌else◌, Bool, true, List, [], ◌∷◌, ◌++◌, length, set, take, drop, map, refl, sym, ap, ◌∙◌, arith, length-set, append_assoc, append-nil}
 use Rattle.std.proofs.lemmas.List.{take-append-drop, drop_more, map-append, drop-set-lt}
 use Rattle.std.proofs.lemmas.List.Sums.{sum_by-cons}
 use Rattle.std.proofs.lemmas.Grind.{common_steps, take-set_at}
@@ -8,7 +8,7 @@ use Rattle.std.specs.Prelude.{slice_set, slice_index, sum_by, All}
 use Rattle.shm_base.specs.Access.{Place}
 use Rattle.shm_base.specs.declared.paging.Span.{Span}
 use Rattle.shm_base.specs.Spans.{run, span_places}
-use Rattle.shm_plain.specs.Held.{Held, bytes_of, is_held, paste, pasted, written, FitsPage, span_bytes, read_from}
+use Rattle.shm_plain.specs.Held.{Held, bytes_of, is_held, paste, pasted, written, FitsPage, read_from}
 use Rattle.shm_plain.proofs.Pasted.{bytes_of-pasted_same, bytes_of-pasted_other, fits-pasted}
 use Rattle.std.proofs.lemmas.Bool.{cases_eq}
 

@@ -1,12 +1,11 @@
 -- Rows that change, as the flat machine's table shows them.
-use Rattle.std.proofs.Common.{◌≡◌, ◌≢◌, ℕ, ◌*◌, ◌%◌, Bool, pos, List, [], ◌∷◌, set, Some, option_map, Ok, refl, sym, ap, ◌∙◌, arith, inl, inr, eq-eqb, length-set}
-use Rattle.std.proofs.lemmas.Bool.{cases_eq}
+use Rattle.std.proofs.Common.{◌≡◌, ◌≢◌, ℕ, ◌*◌, ◌%◌, Bool, pos, List, [], ◌∷◌, set, Some, option_map, Ok, refl, sym, ap, ◌∙◌, arith, length-set}
 use Rattle.std.proofs.lemmas.Bool.Decides.{nat_tests}
 use Rattle.shm_base.specs.State.{Segment, pages_of}
 use Rattle.shm_base.specs.Segments.{change}
 use Rattle.shm_ids.specs.declared.table.Entry.{Entry}
 use Rattle.shm_ids.specs.declared.table.Row.{Row}
-use Rattle.shm_ids.specs.Table.{identifier, entry_at, key_at, look, row_with_value, with_value, with_key}
+use Rattle.shm_ids.specs.Table.{entry_at, key_at, look, with_value, with_key}
 use Rattle.shm_ids.proofs.Entries.{at_set, at_set_other, with_key-with_value}
 use Rattle.shm_ids.proofs.Look.{live_row}
 use Rattle.shm_ids.proofs.Flat.{change-flat}

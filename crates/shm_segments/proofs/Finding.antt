@@ -1,5 +1,5 @@
 -- A row that the table has is a segment that was found.
-use Rattle.std.proofs.Common.{◌≡◌, ℕ, pos, ◌/◌, ◌%◌, ◌<◌, List, length, slice_get, Option, Some, None, ℤ, ◌==◌, Bool, true, is_some, if◌then◌else◌, option_map, eq-eqb, refl, sym, ap, subst, ◌∙◌, arith}
+use Rattle.std.proofs.Common.{◌≡◌, ℕ, pos, ◌/◌, ◌%◌, ◌<◌, List, length, slice_get, Option, Some, None, ℤ, ◌==◌, true, is_some, if◌then◌else◌, option_map, refl, ap, ◌∙◌, arith}
 use Rattle.std.proofs.lemmas.Bool.{cases_lt}
 use Rattle.std.proofs.lemmas.Option.{none-some}
 use Rattle.shm_base.specs.State.{Entry as FlatEntry}

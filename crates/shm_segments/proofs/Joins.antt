@@ -1,5 +1,5 @@
 -- The rows and the flat machine's table: what is live, what agrees, and what an edit shows.
-use Rattle.std.proofs.Common.{◌≡◌, ◌≢◌, ℕ, zero, suc, ◌+◌, ◌*◌, ◌%◌, ◌<◌, ◌≤◌, true, List, [], ◌∷◌, length, set, Option, Some, None, is_some, option_map, refl, sym, ap, ◌∙◌, arith, eq-eqb}
+use Rattle.std.proofs.Common.{◌≡◌, ◌≢◌, ℕ, zero, suc, ◌+◌, ◌*◌, ◌%◌, ◌<◌, ◌≤◌, true, List, [], ◌∷◌, length, set, Option, Some, is_some, option_map, refl, sym, ap, ◌∙◌, arith}
 use Rattle.std.proofs.lemmas.Bool.Decides.{nat_tests}
 use Rattle.std.specs.Prelude.{slice_set}
 use Rattle.shm_base.specs.State.{Segment, pages_of}
@@ -10,16 +10,13 @@ use Rattle.shm_ids.specs.Flat.{flat_row, flat_entry, flat_from}
 use Rattle.shm_ids.proofs.Entries.{at_past}
 use Rattle.shm_ids.proofs.Look.{identifier-mod}
 use Rattle.shm_ids.proofs.Flat.{flat_from-make, flat_table-make}
-use Rattle.shm_plain.specs.Held.{Held, find_held, bytes_of, bytes_in, is_held}
+use Rattle.shm_plain.specs.Held.{Held, find_held, bytes_of, is_held}
 use Rattle.shm_segments.specs.declared.head.Head.{Head}
-use Rattle.shm_segments.specs.Joined.{segment_of, whole, joined, live, Shape, shape_held, shape_row, Agree}
+use Rattle.shm_segments.specs.Joined.{segment_of, whole, joined, live, Agree}
 use Rattle.shm_segments.proofs.Bytes.{SameBytes}
 use Rattle.std.proofs.lemmas.Grind.{common_steps}
 
 -- WHAT IS LIVE
-
-none_some : {X : Type 0} {x : X} → None ≡ Some x → ⊥
-none_some e = cc
 
 -- what stands at the index of a live identifier
 pub record LiveAt (rows : List (Entry Head)) (id : ℕ) (r : Row Head) : Type 0 where

@@ -1,10 +1,9 @@
 -- What is found under an identifier, and what the flat machine says of it.
-use Rattle.std.proofs.Common.{◌≡◌, ◌≢◌, ℕ, pos, ℤ, ◌%◌, List, Option, Some, None, Ok, Err, IsOk, is_none, is_some, option_map, Bool, not, refl, sym, ap, subst, ◌∙◌, arith}
+use Rattle.std.proofs.Common.{◌≡◌, ◌≢◌, ℕ, pos, ℤ, ◌%◌, List, Option, Some, None, Ok, Err, IsOk, is_none, is_some, option_map, Bool, not, refl, sym, ap, ◌∙◌, arith}
 use Rattle.shm_base.specs.declared.errno.Errno.TheVariants.{Eidrm, Einval}
 use Rattle.shm_base.specs.Identifier as flat
 use Rattle.shm_base.specs.Access.{bytes_at}
 use Rattle.shm_ids.specs.declared.table.Entry.{Entry}
-use Rattle.shm_ids.specs.declared.table.Row.{Row}
 use Rattle.shm_ids.specs.declared.table.LookRefused.TheVariants.{Removed, Invalid}
 use Rattle.shm_ids.specs.Table.{entry_at, key_at, find_key, free_index, id_at, index_of, look}
 use Rattle.shm_ids.specs.Flat.{flat_answer, flat_found, number_of}

@@ -1,7 +1,5 @@
 -- What the memory keeps, and that it shows the table.
-use Rattle.std.proofs.Common.{◌≡◌, ◌≢◌, ℕ, ◌==◌, true, false, List, [], ◌∷◌, ◌++◌, length, Option, Some, None, is_some, option_map, refl, sym, ap, ◌∙◌, inl, inr, arith, eq-eqb, true≢false, not, append-nil}
-use Rattle.std.proofs.lemmas.Bool.{cases_eq}
-use Rattle.std.proofs.lemmas.Option.{none-some}
+use Rattle.std.proofs.Common.{◌≡◌, ◌≢◌, ℕ, ◌==◌, false, List, [], ◌∷◌, ◌++◌, length, Option, Some, None, is_some, option_map, refl, sym, ap, ◌∙◌, arith, eq-eqb, not, append-nil}
 use Rattle.std.specs.Prelude.{All, Result, Ok, Err, OnOk, OnErr, sum_by}
 use Rattle.shm_base.specs.declared.paging.Span.{Span}
 use Rattle.shm_base.specs.State.{Entry as FlatEntry}
@@ -35,7 +33,6 @@ use Rattle.shm_segments.specs.Table.{SpanFits}
 use Rattle.shm_segments.proofs.Held.{sums-written}
 use Rattle.std.proofs.lemmas.List.Elements.{filter-append}
 use Rattle.shm_fault.proofs.Entries.{filter-none}
-use Rattle.std.proofs.lemmas.Bool.Decides.{nat_tests}
 use Rattle.std.proofs.lemmas.Grind.{common_steps}
 
 -- a table and its memory

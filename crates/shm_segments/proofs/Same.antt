@@ -1,9 +1,9 @@
 -- Changes of a table that leave alone how many pages each segment has, which are locked, and which are marked.
-use Rattle.std.proofs.Common.{◌≡◌, ℕ, ◌%◌, List, [], ◌∷◌, length, slice_get, slice_set, Option, Some, None, refl, ◌∙◌, arith}
+use Rattle.std.proofs.Common.{◌≡◌, ℕ, ◌%◌, List, [], ◌∷◌, length, slice_get, slice_set, Option, Some, None, refl, arith}
 use Rattle.std.proofs.lemmas.Bool.{cases_eq}
 use Rattle.std.specs.Prelude.{is_some, option_map}
 use Rattle.shm_base.specs.State.{Segment, Entry, Runner}
-use Rattle.shm_base.specs.Access.{Place, set_in, with_byte, entry_byte_set, byte_set, stored}
+use Rattle.shm_base.specs.Access.{Place, set_in, with_byte, entry_byte_set, stored}
 use Rattle.shm_base.specs.Segments.{change, with_entry, pages_held, pages_locked, reserved, locked, detached, detach_all}
 use Rattle.shm_segments.specs.Table.{live, live_in, pages_at}
 use Rattle.shm_segments.specs.Left.{is_left, orphan_in, orphan, id_in, id_at}

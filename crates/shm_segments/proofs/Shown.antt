@@ -4,15 +4,15 @@ use Rattle.std.proofs.lemmas.Bool.Decides.{nat_tests}
 use Rattle.std.proofs.lemmas.Grind.{common_steps}
 use Rattle.std.proofs.lemmas.List.{set-get_or}
 use Rattle.std.specs.Int.{w64, from_le_bytes}
-use Rattle.std.specs.Prelude.{slice_set, slice_index, sum_by, All}
-use Rattle.shm_base.specs.Access.{Place, set_in, with_byte, entry_byte_set, stored, loaded, byte_at, bytes_at, bytes_at_entry}
+use Rattle.std.specs.Prelude.{slice_set, sum_by, All}
+use Rattle.shm_base.specs.Access.{Place, set_in, with_byte, entry_byte_set, stored, loaded, bytes_at}
 use Rattle.shm_base.specs.declared.paging.Span.{Span}
 use Rattle.shm_ids.specs.declared.table.Entry.{Entry}
 use Rattle.shm_ids.specs.Table.{identifier, unused, entry_at}
 use Rattle.shm_ids.specs.Flat.{flat_entry}
 use Rattle.shm_ids.proofs.Flat.{at-table}
 use Rattle.shm_base.specs.Spans.{run, span_places}
-use Rattle.shm_plain.specs.Held.{Held, find_held, bytes_of, bytes_in, pasted, written, FitsPage, read_from}
+use Rattle.shm_plain.specs.Held.{Held, find_held, bytes_of, pasted, written, FitsPage, read_from}
 use Rattle.shm_plain.proofs.Kept.{find_held-id, find-map}
 use Rattle.shm_plain.proofs.Pasted.{length-paste, pasted-keeps}
 use Rattle.shm_fault.specs.Adding as store

@@ -1,12 +1,11 @@
 -- Spans that lie in pages of live segments.
-use Rattle.std.proofs.Common.{◌≡◌, ℕ, ◌/◌, ◌<◌, List, length, get_or, Option, Some, None, option_map, refl, ap, arith}
+use Rattle.std.proofs.Common.{◌≡◌, ℕ, List, get_or, option_map, ap, arith}
 use Rattle.std.proofs.lemmas.Bool.{ltb-true}
 use Rattle.std.specs.Prelude.{All}
 use Rattle.shm_base.specs.Segments.{pages_held}
 use Rattle.shm_base.specs.declared.paging.Span.{Span}
 use Rattle.shm_ids.specs.declared.table.Entry.{Entry}
-use Rattle.shm_ids.specs.declared.table.Row.{Row}
-use Rattle.shm_plain.specs.Held.{Held, bytes_of, FitsPage}
+use Rattle.shm_plain.specs.Held.{Held, FitsPage}
 use Rattle.shm_segments.specs.declared.head.Head.{Head}
 use Rattle.shm_segments.specs.Joined.{whole, joined, live, Agree}
 use Rattle.shm_segments.specs.Table.{pages_at, SpanFits}

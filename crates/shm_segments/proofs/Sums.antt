@@ -1,13 +1,12 @@
 -- Segments and pages counted over the rows.
-use Rattle.std.proofs.Common.{◌≡◌, ℕ, suc, ◌+◌, ◌*◌, ◌%◌, ◌<◌, ◌≤◌, false, List, [], ◌∷◌, length, Option, Some, None, refl, ap, ◌∙◌, arith, inl, inr}
-use Rattle.std.proofs.lemmas.Bool.{cases_eq}
+use Rattle.std.proofs.Common.{◌≡◌, ℕ, suc, ◌+◌, ◌*◌, ◌<◌, ◌≤◌, false, List, [], ◌∷◌, length, Option, Some, None, refl, arith}
 use Rattle.std.proofs.lemmas.List.Sums.{sum_by-cons, sum_by-set, sum_by_push, get_or-le-sum_by}
 use Rattle.std.specs.Prelude.{sum_by}
 use Rattle.shm_base.specs.State.{Segment, Entry as FlatEntry, pages_of}
 use Rattle.shm_base.specs.Segments.{reserved, locked, segment_count, pages_held, pages_locked}
 use Rattle.shm_ids.specs.declared.table.Entry.{Entry}
 use Rattle.shm_ids.specs.declared.table.Row.{Row}
-use Rattle.shm_ids.specs.Table.{identifier, unused, entry_at, held, with_row, without_row, row_count}
+use Rattle.shm_ids.specs.Table.{identifier, entry_at, with_row, without_row, row_count}
 use Rattle.shm_ids.specs.Flat.{flat_row, flat_entry, flat_from}
 use Rattle.shm_ids.proofs.Entries.{with_row-within, with_row-end}
 use Rattle.shm_ids.proofs.Flat.{segment_count-flat}

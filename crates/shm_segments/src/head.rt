@@ -1,5 +1,5 @@
 //! What is kept of a segment beside its bytes.
-ghost use Rattle.std.specs.Prelude.{◌≡◌, ◌≤◌, ◌+◌, ◌*◌, ◌^◌};
+ghost use Rattle.std.specs.Prelude.{◌≡◌, ◌≤◌};
 ghost use Rattle.shm_base.specs.State as flat;
 
 use shm_base::{Perm, ShmId, pages_of};

@@ -54,7 +54,7 @@ impl<P: Pager> Model for Segments<P> {
     ghost invariant = { λ s. IsWhole s.store s.table s.reserved s.locked };
 }
 
-ghost use Rattle.shm_ids.specs.Table.{look, find_key, free_index, with_value, with_key, with_row, without_row, index_of, key_at};
+ghost use Rattle.shm_ids.specs.Table.{look, find_key, free_index, with_key, with_row, without_row, index_of, key_at};
 ghost use Rattle.shm_segments.specs.Joined.{live as live_row};
 
 // The identifier of a live segment, as the table has it.

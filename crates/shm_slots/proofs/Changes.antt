@@ -8,7 +8,6 @@ use Rattle.std.proofs.lemmas.List.Folds.{list_any_at}
 use Rattle.std.proofs.lemmas.List.Sums.{sum_by-set, sum-map}
 use Rattle.std.proofs.lemmas.Grind.{common_steps}
 use Rattle.shm_base.specs.declared.paging.PageRef.{PageRef}
-use Rattle.shm_pager.specs.Pages.{last_count}
 use Rattle.shm_slots.specs.View.{AreaView, SwapView, area_at, no_area, rise, is_spent, is_spent_here, size_of, sizes, with_owner, off, HasSlot, CountedFault, IsArea, IsSwap, SameSlots}
 use Rattle.shm_slots.specs.Cause.{some_spent, total, had_cause, GoesOn, IsSteady}
 
@@ -19,12 +18,6 @@ changed s i a flag = record { areas = set s.areas i a; never_spent = flag }
 -- the area's pager was asked: the flag falls where the area is spent
 abbrev pub asked_of : SwapView → ℕ → AreaView → SwapView
 asked_of s i a = changed s i a (s.never_spent && not (is_spent a))
-
-both_true : (x y : Bool) → (x && y) ≡ true → (x ≡ true) × (y ≡ true)
-both_true m0 y h = grind (arith, common_steps)
-
-unspent_area : (a : AreaView) → IsArea a → not (is_spent a) ≡ true → a.failed < last_count
-unspent_area a area flag = grind (arith, common_steps)
 
 -- an area that has a slot is there
 pub slot-here : (a : AreaView) → IsArea a → (slot : ℕ) → slot < length a.pages → a.here ≡ true

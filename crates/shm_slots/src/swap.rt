@@ -1,9 +1,8 @@
 //! All swap areas. A slot has one owner or none. Areas and slots are named by their numbers, which do
 //! not shift where an area goes.
-ghost use Rattle.std.specs.Prelude.{◌≡◌, ◌+◌, ◌<◌, ◌≤◌, ◌&&◌, [], length, get_or, set, map, min, true, not, Some, None, All, IfOk, IfErr, OnErr, IfNone, MatchOption, EachIndex};
-ghost use Rattle.std.specs.List.{list_any};
-ghost use Rattle.shm_pager.specs.Pages.{pager_seen, last_count, SlotUnknown};
-ghost use Rattle.shm_slots.specs.View.{AreaView, is_spent};
+ghost use Rattle.std.specs.Prelude.{◌≡◌, ◌+◌, ◌<◌, ◌≤◌, ◌&&◌, [], length, set, map, min, true, not, Some, None, All, IfOk, IfErr, OnErr, IfNone, EachIndex};
+ghost use Rattle.shm_pager.specs.Pages.{pager_seen, last_count};
+ghost use Rattle.shm_slots.specs.View.{is_spent};
 
 use crate::area::Area;
 use shm_base::{HostMemory, PageRef, Slot};

@@ -1,5 +1,3 @@
-ghost use Rattle.std.specs.Prelude.{◌≡◌};
-
 use shm_ids::{IdTable, InsertRefused, LookRefused};
 use std::alloc::Global;
 use std::process::Abort;

@@ -1,10 +1,8 @@
 //! Long runs of calls, each made of the paged store and of plain lists side by side. After each call
 //! every byte of every segment is the same in both, whichever pagers failed.
-ghost use Rattle.std.specs.Prelude.{◌≡◌, ◌+◌, ◌<◌, ◌==◌, ◌||◌, if◌then◌else◌, length, map, filter, not, sum_by, IfOk, IfSome, IsTrue, OnOk};
-ghost use Rattle.shm_base.specs.declared.paging.Span.{Span as Stretch};
+ghost use Rattle.std.specs.Prelude.{◌≡◌, ◌+◌, ◌<◌, ◌==◌, ◌||◌, length, map, filter, not, IfOk, IfSome, OnOk};
 ghost use Rattle.shm_plain.specs.Held.{FitsPage, is_held};
-ghost use Rattle.shm_slots.specs.View.{IsAreaSize};
-ghost use Rattle.shm_fault.specs.Store.{held, frame_of, page_of};
+ghost use Rattle.shm_fault.specs.Store.{held};
 ghost use Rattle.shm_store_tests.specs.Trial.{Row as Told, known, row_with_lock, pages_all, pages_pinned, with_frame, AreAlike, IsAccess};
 
 use crate::paging::{add_segment, fuse, is_area};

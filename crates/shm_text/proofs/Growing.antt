@@ -1,5 +1,5 @@
 -- How far a number grows by a digit, and a word that is digits to its end.
-use Rattle.std.proofs.Common.{arith, ◌≡◌, ◌≤◌, ◌<◌, ◌+◌, ◌*◌, ◌^◌, ◌∙◌, ap, refl, subst, ℕ, Bool, List, true, take, length, pow-add}
+use Rattle.std.proofs.Common.{arith, ◌≡◌, ◌≤◌, ◌<◌, ◌+◌, ◌*◌, ◌^◌, ◌∙◌, ap, refl, subst, ℕ, List, true, take, length, pow-add}
 use Rattle.std.specs.Prelude.{All}
 use Rattle.std.specs.List.{list_all}
 use Rattle.std.specs.Char.{is_digit}

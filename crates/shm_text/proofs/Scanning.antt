@@ -1,9 +1,9 @@
 -- The words of a line, cut off from left to right.
-use Rattle.std.proofs.Common.{arith, ◌≡◌, ◌≤◌, ◌<◌, ◌+◌, ◌-◌, ◌++◌, ◌∙◌, ap, sym, refl, ℕ, List, [], ◌∷◌, zero, suc, true, false, Bool, cond, length, take, drop, append_assoc, append-nil, length-append, length-drop, get_or, eqb}
+use Rattle.std.proofs.Common.{arith, ◌≡◌, ◌≤◌, ◌<◌, ◌+◌, ◌-◌, ◌++◌, ◌∙◌, ap, sym, refl, ℕ, List, [], ◌∷◌, zero, suc, true, false, Bool, cond, length, take, drop, append_assoc, append-nil, length-drop, get_or, eqb}
 use Rattle.std.specs.Prelude.{All, filter, not, ◌&&◌}
 use Rattle.std.specs.List.{list_all}
 use Rattle.std.proofs.lemmas.List.Splits.{slice_split_at, slice_split_none}
-use Rattle.std.proofs.lemmas.List.{take_all, take-append-le, take-append-drop, drop-drop, get_or-drop}
+use Rattle.std.proofs.lemmas.List.{take_all, take-append-drop, drop-drop, get_or-drop}
 use Rattle.std.proofs.Math.Seq.{drop-cons}
 use Rattle.std.proofs.Math.Numerals.{add-one}
 use Rattle.std.proofs.lemmas.List.Elements.{All-more}
@@ -31,13 +31,6 @@ words_of-cut w s rest inside space =
 pub words_of-last : (w : List ℕ) → All (λ b. is_space b ≡ false) w → words_of w ≡ with_word w
 words_of-last w inside = ap (filter (λ w. not (eqb (length w) 0))) (slice_split_none is_space w inside)
 
-take_append_at : (xs ys : List (List ℕ)) (n : ℕ) → length xs ≡ n → take n (xs ++ ys) ≡ xs
-take_append_at xs ys n e = take-append-le n xs ys (omega arith) ∙ take_all n xs (omega arith)
-
--- what is kept of the words so far and one more, by whether there is room and whether it has bytes
-pub kept_full : (found : List (List ℕ)) (w : List ℕ) → length found ≡ 8 → found ≡ take 8 (found ++ with_word w)
-kept_full found w full = sym (take_append_at found (with_word w) 8 full)
-
 with_none : (w : List ℕ) → eqb (length w) 0 ≡ true → with_word w ≡ []
 with_none w e = rw e refl
 
@@ -49,9 +42,6 @@ below n fits not_full = grind (arith, nat_tests)
 
 pub room_for : {A : Type 0} (found : List A) (texts : List (List ℕ)) → length texts ≡ length found → length found ≤ 8 → eqb (length found) 8 ≡ false → length texts < 8
 room_for found texts same fits not_full = rw same (below (length found) fits not_full)
-
-pub kept_more : (found : List (List ℕ)) (w : List ℕ) → length found < 8 → eqb (length w) 0 ≡ false → found ++ w ∷ [] ≡ take 8 (found ++ with_word w)
-kept_more found w room some = rw some (sym (take_all 8 (found ++ w ∷ []) (omega (arith, length-append found (w ∷ [])))))
 
 -- the line at a space, from where a word began
 pub at_space : (line : List ℕ) (start at : ℕ) → start ≤ at → at < length line → drop start line ≡ take (at - start) (drop start line) ++ get_or line at 0 ∷ drop (at + 1) line

@@ -255,7 +255,7 @@ abbrev pub IsFound : ReadRefused → Result ScriptView ScriptFault → Type 0
 IsFound refused.HostMemory read = Unit {0}
 IsFound (refused.Fault fault) read = read ≡ Err fault
 
--- a refusal is the script's fault, or want of memory where it has none
+-- a refusal is the script's fault, or out of memory where it has none
 abbrev pub IsFaultOf : ReadRefused → Result ScriptView ScriptFault → Type 0
 IsFaultOf refused.HostMemory read = IsOk read
 IsFaultOf (refused.Fault fault) read = read ≡ Err fault

@@ -67,7 +67,7 @@ number_in (Addr addr) = Some addr
 number_in (Number n) = Some n
 number_in _ = None
 
--- want of memory gives no reply
+-- a call that is out of memory gives no reply
 abbrev pub answer_in : Option Reply → Option ℕ
 answer_in None = None
 answer_in (Some r) = number_in r

@@ -1,8 +1,7 @@
 //! The calls of a line: a word, and behind it the operands.
 ghost use Rattle.std.specs.Prelude.{◌≡◌, ◌≤◌, ◌<◌, ◌+◌, length, take, drop, true, IfOk};
-ghost use Rattle.shm_text.specs.Words.{word_at};
 ghost use Rattle.shm_text.specs.Form.{is_id, is_call, has_answer, is_answer_taken};
-ghost use Rattle.shm_text.specs.Calls.{verb_of, operands, may_be_taken, id_operand, addr_operand, shmget_call, shmat_call, xadd_call, load_call, store_call, set_call, fork_call, swapoff_call, call_by, place_of, call_with, call_words};
+ghost use Rattle.shm_text.specs.Calls.{verb_of, operands, may_be_taken, id_operand, addr_operand, shmget_call, shmat_call, xadd_call, load_call, store_call, set_call, fork_call, swapoff_call, call_by, place_of, call_words};
 
 use crate::fault::FaultKind;
 use crate::operand::{

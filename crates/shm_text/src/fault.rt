@@ -1,5 +1,5 @@
 //! Why a script was refused.
-ghost use Rattle.std.specs.Prelude.{◌≡◌, Some};
+ghost use Rattle.std.specs.Prelude.{Some};
 ghost use Rattle.shm_text.specs.Fault.{kind_text};
 
 use std::fmt;
@@ -50,7 +50,7 @@ pub struct ScriptFault {
     pub kind: FaultKind,
 }
 
-/// Why no script was read: its fault, or want of memory where it has none.
+/// Why no script was read: its fault, or out of memory where it has none.
 #[derive(Debug, Drop)]
 pub enum ReadRefused {
     HostMemory,

@@ -1,8 +1,7 @@
 //! The operands of a line: a word each. What can't be read at all is a bad line; ranges are tested
 //! afterwards, so that a bad line comes before a bad number.
-ghost use Rattle.std.specs.Prelude.{◌≡◌, ◌≤◌, ◌<◌, ◌^◌, ◌==◌, ℕ, true, length, slice_index, drop, Ok, IfOk, Some};
-ghost use Rattle.std.specs.Str.{bytes_eq};
-ghost use Rattle.shm_text.specs.Operand.{wanted, ranged, any, key_word, letter_of, addr_by, id_word, id_by, addr_word, ranged_id, ranged_addr, is_mode, mode_word, mode_from, get_flags_word, names_of, times, flags_by, at_flags_word, chunk_word};
+ghost use Rattle.std.specs.Prelude.{◌≡◌, ◌≤◌, ◌<◌, ◌==◌, true, length, drop, Ok, IfOk, Some};
+ghost use Rattle.shm_text.specs.Operand.{wanted, ranged, any, key_word, letter_of, addr_by, id_word, addr_word, ranged_id, ranged_addr, mode_word, get_flags_word, names_of, times, at_flags_word, chunk_word};
 ghost use Rattle.shm_text.specs.Form.{is_id, is_get_flags, is_at_flags};
 
 use crate::fault::FaultKind;

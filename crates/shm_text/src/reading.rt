@@ -81,7 +81,7 @@ impl Seen {
     }
 }
 
-/// What a script says, or its first fault. Want of memory is answered only where the script has no fault.
+/// What a script says, or its first fault. Out of memory is answered only where the script has no fault.
 /// A script has at most 1,048,576 bytes.
 #[tactic(auto, unfolding(crate::specs::Reading::script_of))]
 pub fn read_script(alloc: Global, bytes: &[u8]) -> Result<Script, ReadRefused>
@@ -139,7 +139,7 @@ const NO_LIMITS: ScriptFault = ScriptFault {
     kind: FaultKind::NoLimits,
 };
 
-/// The first fault of a text's lines, or want of memory where they have none.
+/// The first fault of a text's lines, or out of memory where they have none.
 fn fault_or_memory(bytes: &[u8]) -> ReadRefused
     requires { length bytes.now ≤ LONGEST_SCRIPT }
     ensures { IsFaultOf result (told (lines_of bytes.now)) }

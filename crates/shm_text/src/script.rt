@@ -150,7 +150,7 @@ impl Model for Command {
 
 impl Command {
     ghost use Rattle.std.specs.Prelude.{true};
-    ghost use Rattle.shm_text.specs.Form.{is_pid, is_call};
+    ghost use Rattle.shm_text.specs.Form.{is_call};
 
     /// The process.
     pub fn pid(&self) -> u32

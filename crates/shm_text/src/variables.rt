@@ -1,5 +1,5 @@
 //! The variables of a process.
-ghost use Rattle.std.specs.Prelude.{◌≡◌, ◌-◌, ◌^◌, ◌<◌, ◌≤◌, List, Option, ℕ, ◌%◌, ◌+◌};
+ghost use Rattle.std.specs.Prelude.{◌≡◌, ◌-◌, ◌<◌, List, Option, ℕ};
 ghost use Rattle.std.specs.Option.{option_copied};
 ghost use Rattle.std.specs.Prelude.{true};
 ghost use Rattle.shm_text.specs.Form.{is_id};
@@ -9,7 +9,7 @@ use crate::script::{Command, LineAddr, LineCall, LineId, Variable};
 use shm_base::{Call, LAST_ID, Reply, ShmId};
 use std::marker::Model;
 
-/// The 26 variables of one process. Each is a number, or -1, which stands for a refusal or want of memory;
+/// The 26 variables of one process. Each is a number, or -1, which stands for a refusal or out of memory;
 /// as an identifier -1 was never issued, and as an address it is the last one. All begin as 0.
 pub struct Vars {
     values: [Option<u64>; 26],
@@ -145,7 +145,7 @@ impl Vars {
     }
 
     /// Takes the answer of a command line, where the line has a variable: the reply's identifier, address
-    /// or number, or -1 for a refusal and, with no reply, for want of memory.
+    /// or number, or -1 for a refusal and, with no reply, out of memory.
     pub fn took(&mut self, command: &Command, reply: Option<&Reply>)
         ensures { self.new ≡ values_after self.old command.now.var (option_copied reply.entry) }
     {

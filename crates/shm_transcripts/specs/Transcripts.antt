@@ -26,7 +26,7 @@ commands_of pid [] = []
 commands_of pid (Flush n ∷ ls) = commands_of pid ls
 commands_of pid (Command c ∷ ls) = if c.pid == pid then c ∷ commands_of pid ls else commands_of pid ls
 
--- want of memory is no reply
+-- that memory is out is no reply
 abbrev pub reply_in : Answer → Option Reply
 reply_in (Replied r) = Some r
 reply_in HostMemory = None
@@ -46,7 +46,7 @@ Follows values (c ∷ cs) (e ∷ es) =
     (e.call ≡ call_of values c.call)
     × MatchBool (is_end e.call e.answer) (es ≡ []) (Follows (values_after values c.var (reply_in e.answer)) cs es)
 
--- a call that was answered is an event of its process, and one marked for want of memory is none
+-- a call that was answered is an event of its process, and one marked out of memory is none
 abbrev pub events_of : ℕ → Call → Answer → List Event → List Event
 events_of pid call (Replied r) rest = record { pid = pid; call = call; reply = r } ∷ rest
 events_of pid call HostMemory rest = rest
@@ -88,7 +88,7 @@ HasLines script history t =
     Follows no_values (commands_of t.pid script.lines) t.entries.items
     ⊎ ((is_child t.pid script.processes ≡ true) × (t.entries.items ≡ []) × (is_forked t.pid history ≡ false))
 
--- only a call that may take memory is marked for want of it
+-- only a call that may take memory is marked as out of it
 abbrev pub FitsMark : Entry → Type 0
 FitsMark e = e.answer ≡ HostMemory → takes_memory e.call ≡ true
 

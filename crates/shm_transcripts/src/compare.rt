@@ -1,6 +1,6 @@
 //! The comparison of transcripts with a history. What a run with threads promises is what this finds: its workers
 //! themselves promise nothing.
-ghost use Rattle.std.specs.Prelude.{◌≡◌, ◌↔◌, ◌<◌, ◌≤◌, IsNone, IfOk, IsTrue, All, map, length, drop, true, slice_get};
+ghost use Rattle.std.specs.Prelude.{◌≡◌, ◌↔◌, ◌<◌, ◌≤◌, IsNone, IsTrue, All, map, length, drop, true, slice_get};
 ghost use Rattle.shm_base.specs.History.{own_part};
 ghost use Rattle.shm_text.specs.Variables.{no_values};
 ghost use Rattle.shm_transcripts.specs.Transcripts.{commands_of, Follows, told, is_fork_of, is_forked, is_declared, is_child, pid_in, pid_of, HasLines, FitsMark, IsTranscript, IsAdmitted, is_answered, least_of};

@@ -1,5 +1,5 @@
 //! A segment's bytes, and stretches of them read and written.
-ghost use Rattle.std.specs.Prelude.{◌≡◌, ℕ, ◌+◌, ◌*◌, ◌<◌, ◌≤◌, false, true, length, replicate, take, drop, IfOk};
+ghost use Rattle.std.specs.Prelude.{◌≡◌, ◌+◌, ◌*◌, ◌<◌, ◌≤◌, false, length, replicate, take, drop, IfOk};
 ghost use Rattle.shm_plain.specs.Held.{Held, paste};
 
 use shm_base::HostMemory;

@@ -1,5 +1,5 @@
 //! The store: its segments, in the order in which they were added.
-ghost use Rattle.std.specs.Prelude.{◌≡◌, ℕ, ◌+◌, ◌<◌, ◌≤◌, [], length, All, sum_by, map, slice_get, false, true, OnOk, OnErr};
+ghost use Rattle.std.specs.Prelude.{◌≡◌, ◌+◌, ◌<◌, ◌≤◌, [], length, All, sum_by, map, slice_get, false, true, OnOk, OnErr};
 ghost use Rattle.shm_base.specs.declared.paging.Span.{Span};
 ghost use Rattle.shm_plain.specs.Apart.{AreHeldApart};
 ghost use Rattle.shm_plain.specs.Held.{find_held, is_held, pasted, with_zeros, without, with_lock, FitsPage, span_bytes, read_from, written};

@@ -44,7 +44,7 @@ early_stop fault (Some bytes) asked areas cause serial = (cause areas, serial)
 pub open_stop : (fault : RunFault) (asked : Option Steps) (areas : List ℕ) (script : ScriptView) → IsStop fault (start_error areas script.processes) → IsStopIn (Fault fault) asked areas script
 open_stop fault asked areas script stop = (stop_cause fault areas script stop, stop_serial fault _ stop)
 
--- the world was opened: want of memory and a writer that fails say nothing of the script
+-- the world was opened: out of memory and a writer that fails say nothing of the script
 late_stop : (s : Stop) (asked : Option Steps) (areas : List ℕ) (script : ScriptView) → (s ≡ Fault HostMemory) ⊎ (s ≡ Fault WriteFailed) → IsStopIn s asked areas script
 late_stop s asked areas script (inl e) = subst (λ s. IsStopIn s asked areas script) (sym e) ((λ input read. tt), refl)
 late_stop s asked areas script (inr e) = subst (λ s. IsStopIn s asked areas script) (sym e) ((λ input read. tt), refl)

@@ -1,6 +1,5 @@
 //! Which steps of a run are shown.
-ghost use Rattle.std.specs.Prelude.{◌≡◌, ◌+◌, ◌<◌, length, take, drop, IfSome};
-ghost use Rattle.shm_text.specs.Number.{decimal_of};
+ghost use Rattle.std.specs.Prelude.{◌≡◌, ◌+◌, ◌<◌, length, IfSome};
 ghost use Rattle.shmview.specs.Steps.{is_among, hyphen, steps_of, steps_asked};
 
 use shm_text::read_decimal;

@@ -1,4 +1,4 @@
-use Rattle.std.proofs.Common.{Some, ap, arith}
+use Rattle.std.proofs.Common.{arith}
 use Rattle.shm_fault.proofs.Entries.{key_found, none_found}
 use Rattle.shm_fault.proofs.page_tables.index_of.Goals as goal
 use Rattle.std.proofs.lemmas.Grind.{common_steps}

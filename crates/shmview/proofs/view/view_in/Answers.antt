@@ -1,4 +1,4 @@
-use Rattle.std.proofs.Common.{rules, refl, subst, ℕ, List, map, ◌≡◌, ◌++◌, inl, string_bytes}
+use Rattle.std.proofs.Common.{rules, refl, subst, ℕ, List, map, ◌≡◌, ◌++◌, string_bytes}
 use Rattle.std.specs.Prelude.{OnOk}
 use Rattle.std.specs.Io.KnownBytes.{Appends}
 use Rattle.shm_view.specs.declared.action.Action.TheVariants.{Start}

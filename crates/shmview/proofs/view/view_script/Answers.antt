@@ -2,8 +2,7 @@ use Rattle.std.proofs.Common.{subst, ℕ, List, map, length}
 use Rattle.std.specs.Prelude.{OnOk}
 use Rattle.shm_program.specs.Runs.{Writes}
 use Rattle.shmview.specs.Record.{IsRecord}
-use Rattle.shmview.proofs.Stops.{late_stops, open_stop, nothing_written}
-use Rattle.shmview.specs.declared.stop.Stop.TheVariants.{Fault}
+use Rattle.shmview.proofs.Stops.{late_stops, open_stop}
 use Rattle.shmview.proofs.view.view_script.Goals as goal
 
 pub returns-in-Ok-clause-ok : goal.returns-in-Ok-clause-ok

@@ -1,5 +1,4 @@
-use Rattle.std.proofs.Common.{◌≡◌, None, List, ◌++◌, ◌∷◌, [], ap, arith}
-use Rattle.shm_fault.specs.declared.page_tables.PageRec.{PageRec}
+use Rattle.std.proofs.Common.{◌≡◌, None, arith}
 use Rattle.shm_fault.specs.Segs.{find_seg}
 use Rattle.shm_fault.specs.Entries.{segs_view}
 use Rattle.shm_fault.proofs.Entries.{insert-view, apart-append}

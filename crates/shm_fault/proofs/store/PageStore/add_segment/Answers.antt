@@ -1,7 +1,6 @@
-use Rattle.std.proofs.Common.{◌≡◌, ◌≤◌, ◌+◌, None, sum_by, refl, inl, inr, ap, arith}
+use Rattle.std.proofs.Common.{◌≡◌, ◌≤◌, ◌+◌, None, sum_by, inl, inr, arith}
 use Rattle.shm_plain.specs.Held.{pages_held}
 use Rattle.shm_slots.specs.View.{slots}
-use Rattle.shm_fault.specs.declared.page_tables.PageRec.{PageRec}
 use Rattle.shm_fault.specs.Segs.{find_seg, pages_of}
 use Rattle.shm_fault.specs.Store.{held, frame_of}
 use Rattle.shm_fault.specs.Sound.{IsStoreSound}

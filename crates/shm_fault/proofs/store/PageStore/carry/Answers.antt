@@ -1,4 +1,4 @@
-use Rattle.std.proofs.Common.{◌≡◌, None, Some, refl, ap, arith}
+use Rattle.std.proofs.Common.{◌≡◌, None, Some, ap, arith}
 use Rattle.shm_fault.specs.declared.page_tables.PageRec.{PageRec}
 use Rattle.shm_fault.specs.Segs.{rec_by, HasPage}
 use Rattle.shm_fault.proofs.Seen.{seen}

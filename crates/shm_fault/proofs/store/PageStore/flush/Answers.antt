@@ -1,8 +1,6 @@
 use Rattle.std.proofs.Common.{◌≡◌, ◌<◌, ◌+◌, true, length, sym, ◌∙◌, arith}
 use Rattle.shm_fault.specs.Store.{frame_of}
-use Rattle.shm_fault.specs.Sound.{IsStoreSound}
 use Rattle.shm_fault.specs.Flushing.{may_flush}
-use Rattle.shm_fault.proofs.Sound.{KeepsLocked-still}
 use Rattle.shm_fault.proofs.Bringing.{kept-locked}
 use Rattle.shm_fault.proofs.Flushes.{flushed-none, flushed-enough, flushed-not, flushed-more, flushed-all}
 use Rattle.shm_fault.proofs.store.PageStore.flush.Goals.{then-report-n+then-is_flushable, else-report-n, else-report-n-via-then-report-n+else-is_flushable, else-report-n-via-else-report-n}

@@ -1,10 +1,10 @@
-use Rattle.std.proofs.Common.{◌≡◌, length, Some, refl, ◌∙◌, arith}
-use Rattle.shm_slots.specs.View.{area_at, size_of}
+use Rattle.std.proofs.Common.{◌≡◌, length, ◌∙◌, arith}
+use Rattle.shm_slots.specs.View.{area_at}
 use Rattle.shm_fault.specs.Store.{held, frame_of}
 use Rattle.shm_fault.specs.Sound.{IsStoreSound}
 use Rattle.shm_fault.specs.Goes.{Still}
 use Rattle.shm_fault.proofs.Seen.{seen}
-use Rattle.shm_fault.proofs.Sound.{cause-after, KeepsLocked-still}
+use Rattle.shm_fault.proofs.Sound.{cause-after}
 use Rattle.shm_fault.proofs.Bringing.{kept-locked}
 use Rattle.shm_fault.proofs.Areas.{IsCleaned, cleaned-more, cleaned-there, cleaned-room, cleaned-free, cleaned-off}
 use Rattle.shm_fault.proofs.store.PageStore.move_off.Given as given

@@ -1,5 +1,5 @@
-use Rattle.std.proofs.Common.{◌≡◌, ◌<◌, length, Some, true, ap, get_or-set_same, arith}
-use Rattle.shm_frames.specs.Frame.{Frame, no_frame, frame_at}
+use Rattle.std.proofs.Common.{◌≡◌, ◌<◌, length, Some, get_or-set_same, arith}
+use Rattle.shm_frames.specs.Frame.{frame_at}
 use Rattle.shm_fault.proofs.Seen.{seen}
 use Rattle.shm_fault.proofs.Sound.{frame-own}
 use Rattle.shm_fault.proofs.Visits.{IsStep, step-touch}

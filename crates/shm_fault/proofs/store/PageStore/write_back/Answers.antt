@@ -4,7 +4,7 @@ use Rattle.std.specs.Prelude.{IsSome}
 use Rattle.shm_base.specs.declared.paging.PageRef.{PageRef}
 use Rattle.shm_base.specs.declared.paging.Slot.{Slot}
 use Rattle.shm_slots.specs.View.{SwapView, IsSwap, HasSlot, sizes, area_at, with_slot_page, OneArea, WriteFault}
-use Rattle.shm_slots.specs.Cause.{GoesOn, total}
+use Rattle.shm_slots.specs.Cause.{GoesOn}
 use Rattle.shm_frames.specs.Frame.{no_frame, frame_at}
 use Rattle.shm_fault.specs.Segs.{rec_by}
 use Rattle.shm_fault.specs.Store.{StoreView}

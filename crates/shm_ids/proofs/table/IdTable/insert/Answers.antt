@@ -5,7 +5,6 @@ use Rattle.shm_ids.proofs.Entries.{with_row-few}
 use Rattle.shm_ids.proofs.Steps.{Sound-same, fresh, Sound-put}
 use Rattle.shm_ids.proofs.Look.{look-id_at, identifier-mod}
 use Rattle.shm_ids.proofs.Counts.{row_count-with_row, row_count-le-length}
-use Rattle.shm_ids.proofs.table.IdTable.insert.Goals.{then-is_err-via-then-is_err, then-is_err-via-else-is_err+then-is_err-2}
 use Rattle.shm_ids.proofs.table.IdTable.insert.Goals as goal
 
 pub free_from-requires : goal.free_from-requires

@@ -1,6 +1,5 @@
-use Rattle.std.proofs.Common.{◌<◌, length, ap, arith}
+use Rattle.std.proofs.Common.{arith}
 use Rattle.std.proofs.lemmas.Grind.{common_steps}
-use Rattle.shm_pager.specs.Mirror.{MirrorView, pages_shown}
 use Rattle.shm_pager.proofs.Merged.{length-merged, unknown-merged}
 use Rattle.shm_pager.proofs.mirror.MirrorPagerPager.discard.Goals as goal
 

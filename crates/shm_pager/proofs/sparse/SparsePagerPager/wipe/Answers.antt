@@ -1,4 +1,4 @@
-use Rattle.std.proofs.Common.{ap, arith, ◌≡◌, length, rules}
+use Rattle.std.proofs.Common.{arith}
 use Rattle.std.proofs.lemmas.Grind.{common_steps}
 use Rattle.std.specs.Vec.{with_items}
 use Rattle.std.proofs.lemmas.List.{with_items_is}

@@ -1,4 +1,4 @@
-use Rattle.std.proofs.Common.{rules, ◌≡◌, pos, Some, None, sym, ◌∙◌, to_z, of_z, w32, arith}
+use Rattle.std.proofs.Common.{rules, ◌≡◌, pos, Some, sym, ◌∙◌, to_z, of_z, w32, arith}
 use Rattle.shm_ids.specs.Table.{entry_at, identifier}
 use Rattle.shm_ids.specs.Rows.{row_listed}
 use Rattle.shm_segments.proofs.Finding.{listed-row, unlisted-row, found_at, none-at}

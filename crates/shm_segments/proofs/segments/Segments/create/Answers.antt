@@ -1,16 +1,14 @@
-use Rattle.std.proofs.Common.{rules, ◌≡◌, ◌≤◌, pos, true, List, [], ◌∷◌, ◌++◌, ◌+◌, refl, Some, None, is_some, sym, ap, ◌∙◌, arith, true≢false, to_z, of_z, w32}
+use Rattle.std.proofs.Common.{◌≡◌, ◌≤◌, pos, true, List, [], ◌∷◌, ◌++◌, ◌+◌, refl, Some, is_some, sym, ap, ◌∙◌, arith, to_z, of_z, w32}
 use Rattle.shm_base.specs.State.{Entry as FlatEntry, pages_of}
 use Rattle.shm_base.specs.Segments.{reserved}
-use Rattle.shm_ids.specs.Table.{id_at, free_index, with_row}
+use Rattle.shm_ids.specs.Table.{with_row}
 use Rattle.shm_plain.specs.Held.{with_zeros}
 use Rattle.shm_segments.proofs.Rows.{id_of}
 use Rattle.shm_segments.proofs.Looking.{none-mapped}
 use Rattle.shm_segments.proofs.Making.{kept-made, made-joined, free-some, IsNext, next-free, key-absent, few-pages}
 use Rattle.shm_segments.proofs.Sums.{reserved-joined}
-use Rattle.shm_slots.specs.View.{slots}
 use Rattle.shm_fault.specs.Segs.{new_seg}
 use Rattle.shm_fault.specs.Store.{StoreView, held}
-use Rattle.shm_segments.specs.Joined.{joined}
 use Rattle.shm_segments.proofs.Remembered.{undone, runs-zeros}
 use Rattle.shm_segments.specs.View.{SegmentsView}
 use Rattle.shm_segments.proofs.segments.Segments.create.Given.{Over}

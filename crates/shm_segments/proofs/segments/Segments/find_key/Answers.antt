@@ -1,5 +1,4 @@
-use Rattle.std.proofs.Common.{rules, ◌≡◌, None, sym, ◌∙◌, to_z, of_z, w32, arith}
-use Rattle.shm_ids.specs.Table.{find_key, id_at}
+use Rattle.std.proofs.Common.{rules, ◌≡◌, ◌∙◌, to_z, of_z, w32, arith}
 use Rattle.shm_segments.proofs.Looking.{found-under, key-some, key-none, none-mapped}
 use Rattle.shm_fault.specs.Store.{held}
 use Rattle.shm_segments.proofs.segments.Segments.find_key.Goals as goal

@@ -1,9 +1,5 @@
-use Rattle.std.proofs.Common.{List, length, sym, ap, ◌∙◌, arith}
-use Rattle.shm_base.specs.State.{Entry as FlatEntry}
+use Rattle.std.proofs.Common.{arith}
 use Rattle.shm_ids.proofs.Flat.{length-flat}
-use Rattle.shm_segments.specs.Joined.{whole}
-use Rattle.shm_fault.specs.Store.{held}
-use Rattle.shm_segments.specs.View.{SegmentsView}
 use Rattle.shm_segments.proofs.segments.Segments.indexes.Goals as goal
 use Rattle.std.proofs.lemmas.Grind.{common_steps}
 

@@ -1,8 +1,5 @@
-use Rattle.std.proofs.Common.{◌≤◌, ◌+◌, length, ap, arith}
-use Rattle.shm_base.specs.Segments.{reserved}
-use Rattle.shm_slots.specs.View.{slots, area_at}
+use Rattle.std.proofs.Common.{ap, arith}
 use Rattle.shm_fault.specs.Store.{held}
-use Rattle.shm_segments.specs.Joined.{joined}
 use Rattle.shm_segments.proofs.Sums.{reserved-joined}
 use Rattle.shm_segments.specs.View.{SegmentsView}
 use Rattle.shm_segments.proofs.Remembered.{runs-same}

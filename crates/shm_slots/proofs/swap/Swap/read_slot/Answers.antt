@@ -1,5 +1,5 @@
 use Rattle.std.proofs.lemmas.Result.{IfErr-weaker}
-use Rattle.shm_slots.specs.View.{SwapView, HasSlot}
+use Rattle.shm_slots.specs.View.{HasSlot}
 use Rattle.shm_slots.proofs.Changes.{Asked, asked, SameSlots-asked}
 use Rattle.shm_slots.proofs.swap.Swap.read_slot.Given.{Over}
 use Rattle.shm_slots.proofs.swap.Swap.read_slot.Goals as goal
