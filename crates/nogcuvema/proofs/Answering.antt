@@ -1,14 +1,6 @@
 -- A refusal is answered by its code.
-use Rattle.std.proofs.Common.{◌≡◌, ℕ, List, Err, inr, subst}
-use Rattle.shm_base.specs.declared.call.Call.{Call}
-use Rattle.shm_base.specs.declared.call.Reply.{Reply}
-use Rattle.shm_machine.specs.declared.machine.Machine.{Machine}
-use Rattle.shm_machine.specs.declared.refusal.Refusal.{Refusal}
-use Rattle.shm_machine.specs.Answered.{Answered}
-use Rattle.shm_machine.specs.declared.stretch.Progress.{Progress}
-use Rattle.shm_machine.specs.Stretched.{ReadTo, WrittenTo}
-use Rattle.nogcuvema.specs.Through.{stop_code, ReadBy, WrittenBy}
-use Rattle.nogcuvema.specs.Answers.{refusal_code, AnswersFor}
+use Rattle.nogcuvema.proofs.Names.{ℕ, List, Err, inr, subst, Call, Reply, Machine, Refusal, Answered, Progress, ReadTo, WrittenTo, stop_code, ReadBy, WrittenBy, refusal_code, AnswersFor}
+use Rattle.std.proofs.Common.{◌≡◌}
 
 pub refused : (before after : Machine) (pid code : ℕ) (call : Call) (reply : Reply) (refusal : Refusal) → code ≡ refusal_code refusal → Answered before.system pid call (Err refusal) after.system
     → AnswersFor before pid call reply code after

@@ -1,36 +1,16 @@
 -- What a `Kept` owns, taken apart and put together. Assumes `Logic`.
-use Rattle.std.proofs.Common.{◌≡◌, List, [], ◌∷◌, ◌++◌, refl, sym, subst}
-use Rattle.std.specs.Prelude.{Option, Some, None, IsSome}
-use seplogic.Ra.Ura.{Ura}
-use mir.Syntax.{Ty, impl, tnil, dnil}
+use Rattle.nogcuvema.proofs.Names.{List, [], ◌∷◌, ◌++◌, refl, sym, subst, Option, Some, IsSome, Ura, Ty, impl, tnil, dnil, Val, vptr, vstruct, vcons, vnil, of_list, has_ty, WT, T, ◌&&◌, true≢false, never, fst∗, Fml, Logic, sem, Item, Goal, Seq, Step, step, ‵, ◌$◌, move, fsplit, fjoin, fpick, fpack, feq_i, feq_l, Valss, Ptr, block_ptr, null_ptr, ptr_val, in_a_block, nothing, layout, lone, shape, Al, Fits, handle_tells, and_tt, box_owns, ghosts, Machine, held, the_row, the_type, RattleType}
+use Rattle.std.proofs.Common.{◌≡◌}
+use Rattle.std.specs.Prelude.{None}
 use mir.Raw.{raw as bare}
-use mir.Val.{Val, vptr, vstruct, vcons, vnil, of_list, has_ty, WT}
-use lib.Dec.{T}
-use mathlib.Core.Bool.{true, ◌&&◌, true≢false}
-use base.Logic.{never, fst∗}
-use base.Fml.{Fml}
-use types.Logic.{Logic, sem}
-use types.Kit.{Item, Goal, Seq, Step, step, ‵, ◌$◌, move, drop, fsplit, fjoin, fpick, fpack, feq_i, feq_l}
-use denote.RattleType.{Valss}
+use mathlib.Core.Bool.{true}
+use types.Kit.{drop}
 use denote.Builtin.{RawPtr}
-use denote.RawPtr.{Ptr, block_ptr, null_ptr, ptr_val, in_a_block}
-use denote.Steps.{nothing}
-use denote.Param.{layout}
-use denote.Memory.{lone}
 use denote.Struct.Struct.{within}
-use denote.Struct.Owning.{shape}
-use Rattle.std.proofs.alloc.Calls.{Al, Fits, handle_tells}
-use Rattle.std.proofs.ResultValues.{and_tt}
-use Rattle.std.specs.Box.Ownership.{box_owns}
 use Rattle.shm_machine.specs.contracts.machine.Machine.{the_row as Inner}
 use Rattle.std.proofs.alloc.Global.TheLaws.{the_row_laws as global_laws}
 use Rattle.std.specs.contracts.alloc.Global.{the_row as Heap}
-use Rattle.std.specs.contracts.impls.GlobalAllocator.TheImpl.{ghosts}
-use Rattle.shm_machine.specs.declared.machine.Machine.{Machine}
-use Rattle.nogcuvema.specs.Held.{held}
-use Rattle.nogcuvema.specs.contracts.held.Kept.{the_row, the_type}
 use Rattle.nogcuvema.specs.contracts.parts.Parts as parts
-use denote.RattleType.{RattleType}
 
 abbrev pub alone : Val → Val
 alone v = vstruct (vcons v vnil)

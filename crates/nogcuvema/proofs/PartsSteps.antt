@@ -1,12 +1,5 @@
 -- What both proofs of `Parts` share. Assumes `Logic`.
-use base.Fml.{ftrue, flft, Lft, Share}
-use contract.BorrowLft.{◌⊑◌}
-use contract.Monad.{fact}
-use seplogic.Ra.Ura.{Ura}
-use types.Logic.{Logic}
-use types.Kit.{Item, ‵, raw, ◌⊛◌}
-use denote.RattleType.{RattleType}
-use Rattle.std.proofs.BoxSteps.Form.{Bx, R, P}
+use Rattle.nogcuvema.proofs.Names.{ftrue, flft, Lft, Share, ◌⊑◌, fact, Ura, Logic, Item, ‵, raw, ◌⊛◌, RattleType, Bx, R, P}
 use Rattle.nogcuvema.specs.contracts.parts.Parts as parts
 
 -- the parts of a box, as a row

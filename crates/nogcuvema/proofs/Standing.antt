@@ -1,17 +1,7 @@
 -- A machine that stands was refused nothing.
-use Rattle.std.proofs.Common.{◌≡◌, ℕ, ◌+◌, Bool, true, false, not, nat_lt, if◌then◌else◌, List, map, None, Result, Ok, refl, sym}
-use Rattle.shm_base.specs.Bounds.{Bounds, within, bad, limits_of}
-use Rattle.shm_base.specs.declared.limits.BadLimits.{BadLimits}
-use Rattle.shm_base.specs.declared.call.Process.{Process}
-use Rattle.shm_life.specs.Start.{start_error}
-use Rattle.shm_machine.specs.declared.machine.Machine.{Machine}
-use Rattle.shm_machine.specs.declared.opening.Area.{Area}
-use Rattle.shm_machine.specs.Opened.{IsOpened, sizes_of}
-use Rattle.nogcuvema.specs.declared.structs.NogLimits.{NogLimits}
-use Rattle.nogcuvema.specs.declared.structs.NogArea.{NogArea}
-use Rattle.nogcuvema.specs.declared.structs.NogFailure.{NogFailure}
-use Rattle.nogcuvema.specs.declared.structs.NogProcess.{NogProcess}
-use Rattle.nogcuvema.specs.Opens.{area_of, process_of, are_kinds, are_there, bounds_of, Opens}
+use Rattle.nogcuvema.proofs.Names.{ℕ, ◌+◌, Bool, false, not, nat_lt, if◌then◌else◌, List, map, Result, Ok, refl, sym, Bounds, bad, limits_of, BadLimits, Process, start_error, Machine, Area, IsOpened, sizes_of, NogLimits, NogArea, NogFailure, NogProcess, area_of, process_of, are_kinds, are_there, bounds_of, Opens}
+use Rattle.std.proofs.Common.{◌≡◌, true, None}
+use Rattle.shm_base.specs.Bounds.{within}
 
 past : (b : Bool) (n : ℕ) (r : Result Bounds BadLimits) (x : Bounds) → (if b then bad n else r) ≡ Ok x → r ≡ Ok x
 past true n r x h = absurd (cc h)

@@ -1,16 +1,6 @@
 -- An access within one page asks for a run of one piece; one over two pages asks for the places of both.
-use Rattle.std.proofs.Common.{◌≡◌, inl, inr, ℕ, zero, suc, ◌+◌, ◌-◌, ◌*◌, ◌%◌, ◌<◌, ◌≤◌, Bool, true, false, not, ◌&&◌, List, [], ◌∷◌, ◌++◌, map, Option, Some, None, option_map, refl, ap, subst, ◌∙◌, arith}
-use Rattle.std.proofs.lemmas.Grind.{common_steps}
-use Rattle.std.specs.Prelude.{All}
-use Rattle.std.proofs.lemmas.Bool.{cases_Bool}
-use Rattle.std.proofs.lemmas.Option.{none-some}
-use Rattle.std.proofs.lemmas.List.{map-append}
+use Rattle.shm_attach.proofs.Names.{◌≡◌, inl, inr, ℕ, zero, suc, ◌+◌, ◌-◌, ◌*◌, ◌%◌, ◌<◌, ◌≤◌, Bool, true, false, not, ◌&&◌, List, [], ◌∷◌, ◌++◌, map, Option, Some, None, option_map, refl, ap, subst, ◌∙◌, arith, common_steps, All, cases_Bool, none-some, map-append, Place, places, joined, covers, all_writable, only_writable, covering, place_covering, run, unmarked, wanted_in}
 use Rattle.shm_base.specs.State.{Piece}
-use Rattle.shm_base.specs.Access.{Place, places, joined, covers, all_writable, only_writable}
-use Rattle.shm_areas.specs.Arranged.{covering}
-use Rattle.shm_areas.proofs.Placing.{place_covering}
-use Rattle.shm_base.specs.Spans.{run}
-use Rattle.shm_attach.specs.Spans.{unmarked, wanted_in}
 
 -- TWO PARTS OF AN ACCESS
 

@@ -1,9 +1,6 @@
 -- Where a new piece goes, there is room for it.
-use Rattle.std.proofs.Common.{◌+◌, ◌*◌, ◌≤◌, List, length, arith}
-use Rattle.std.proofs.lemmas.Grind.{common_steps}
+use Rattle.shm_attach.proofs.Names.{◌+◌, ◌*◌, ◌≤◌, List, length, arith, common_steps, cut, IsRange, IsPlaceFor}
 use Rattle.shm_base.specs.State.{Piece}
-use Rattle.shm_base.specs.Space.{cut}
-use Rattle.shm_attach.specs.Place.{IsRange, IsPlaceFor}
 use Rattle.shm_attach.proofs.Keeping.{occupied-cut}
 
 pub place-range : (p : Piece) (ps : List Piece) → 1 ≤ p.pages → p.first_page + p.pages ≤ 4096 → IsRange p.pages p.base → length (cut p.base (p.base + 4096 * p.pages) ps) + 1 ≤ 256

@@ -1,14 +1,7 @@
 -- The flat machine's steps, by what the address spaces answer. For the machine above.
-use Rattle.std.proofs.Common.{◌≡◌, ℕ, true, false, List, [], ◌∷◌, length, map, Option, Some, None, option_map, refl, ap, arith}
-use Rattle.std.proofs.lemmas.Grind.{common_steps}
-use Rattle.std.proofs.lemmas.Option.{none-some}
-use Rattle.shm_base.specs.declared.call.Reply.TheVariants.{Bytes, Done}
-use Rattle.shm_base.specs.State.{Entry, Piece, Runner, Machine}
-use Rattle.shm_base.specs.Access.{Place, places, writable_places, byte_at, with_byte, loaded, stored}
-use Rattle.shm_base.specs.Space.{origin_of, without_named}
-use Rattle.shm_base.specs.Segments.{after_detach}
-use Rattle.shm_base.specs.Step.{Caller, caller_from, gives, with_pieces, shmdt, load, store}
-use Rattle.shm_attach.specs.Spans.{unmarked, wanted_in, pieces_by, pieces_of_caller}
+use Rattle.shm_attach.proofs.Names.{◌≡◌, ℕ, true, false, List, [], ◌∷◌, length, map, Option, Some, None, option_map, refl, ap, arith, common_steps, none-some, Bytes, Done, Machine, Place, places, writable_places, byte_at, with_byte, loaded, stored, origin_of, without_named, after_detach, caller_from, gives, with_pieces, shmdt, load, store, unmarked, wanted_in, pieces_by, pieces_of_caller}
+use Rattle.shm_base.specs.State.{Entry, Piece, Runner}
+use Rattle.shm_base.specs.Step.{Caller}
 
 -- DETACHING
 

@@ -1,25 +1,9 @@
 -- The table of each piece: what a change of the pieces and of the tables leaves.
-use Rattle.std.proofs.Common.{◌≡◌, ◌≢◌, inl, inr, ℕ, zero, suc, ◌+◌, ◌<◌, ◌≤◌, ◌==◌, ◌&&◌, Bool, true, false, nat_lt, List, [], ◌∷◌, length, filter, get_or, slice_get, Option, Some, None, refl, ap, sym, subst, ◌∙◌, arith}
-use Rattle.std.proofs.lemmas.Grind.{common_steps}
-use Rattle.std.specs.Prelude.{All}
-use Rattle.std.proofs.lemmas.Bool.{cases_Bool}
-use Rattle.std.proofs.lemmas.Option.{none-some, slice_get_cases}
-use Rattle.std.proofs.lemmas.List.Elements.{All-append, All-cons, All-head, All-tail, All-filter}
-use Rattle.std.proofs.lemmas.List.{length-map}
-use Rattle.indexmap.specs.IndexMap.{set_value_at}
-use Rattle.slab.specs.Slab.{Slab, get}
+use Rattle.shm_attach.proofs.Names.{◌≡◌, ◌≢◌, inl, inr, ℕ, zero, suc, ◌+◌, ◌<◌, ◌≤◌, ◌==◌, ◌&&◌, Bool, true, false, nat_lt, List, [], ◌∷◌, length, filter, get_or, slice_get, Option, Some, None, refl, ap, sym, subst, ◌∙◌, arith, common_steps, All, cases_Bool, none-some, slice_get_cases, All-append, All-cons, All-head, All-tail, All-filter, length-map, set_value_at, Slab, get, pieces_of, bare, bare_all, kept_inserted, kept_parts, kept_cut, Tables, runner_view, runners_view, pieces_at, seg_in, size_in, frame_in, TrueSlot, counted, stored_in, stored_at, IsHeld, AllHeld, AreCountsExact}
 use Rattle.shm_base.specs.State as flat
-use Rattle.shm_base.specs.Space.{pieces_of}
 use Rattle.shm_areas.specs.declared.piece.Piece.{Piece}
-use Rattle.shm_areas.specs.Arranged.{bare, bare_all}
-use Rattle.shm_areas.specs.Edit.{kept_inserted, kept_parts, kept_cut}
 use Rattle.shm_attach.specs.declared.process.Runner.{Runner}
-use Rattle.shm_attach.specs.declared.tables.Tables.{Tables}
-use Rattle.shm_attach.specs.Views.{runner_view, runners_view}
-use Rattle.shm_attach.specs.Spaces.{pieces_at}
-use Rattle.shm_attach.specs.Entries.{Entry, seg_in, size_in, frame_in, TrueSlot}
-use Rattle.shm_attach.specs.Tables.{counted, stored_in, stored_at, IsHeld, AllHeld}
-use Rattle.shm_attach.specs.Exact.{AreCountsExact}
+use Rattle.shm_attach.specs.Entries.{Entry}
 use Rattle.shm_attach.proofs.Processes.{values_of}
 use Rattle.shm_attach.proofs.Keeping.{own_counted, pieces_of-there, bare-get_or}
 

@@ -1,23 +1,7 @@
 -- The counts stay exact, and no process gets too many pieces.
-use Rattle.std.proofs.Common.{◌≡◌, ◌≢◌, ◌⊎◌, inl, inr, ℕ, zero, suc, ◌+◌, ◌*◌, ◌<◌, ◌≤◌, false, ◌==◌, List, [], ◌∷◌, ◌++◌, length, get_or, set, take, refl, ap, sym, ◌∙◌, arith, length-set, length-take}
-use Rattle.std.proofs.lemmas.Grind.{common_steps}
-use Rattle.std.proofs.lemmas.Bool.{cases_eq}
-use Rattle.std.proofs.lemmas.Option.{slice_get-get_or, gets}
-use Rattle.std.proofs.lemmas.List.{set-set, get_or-map, set-get_or}
-use Rattle.std.proofs.lemmas.List.Sums.{sum_by-cons, sum_by-set, count_by-le-length}
+use Rattle.shm_attach.proofs.Names.{◌≡◌, ◌≢◌, ◌⊎◌, inl, inr, ℕ, zero, suc, ◌+◌, ◌*◌, ◌<◌, ◌≤◌, false, ◌==◌, List, [], ◌∷◌, ◌++◌, length, get_or, set, take, refl, ap, sym, ◌∙◌, arith, length-set, length-take, common_steps, cases_eq, slice_get-get_or, gets, set-set, get_or-map, set-get_or, sum_by-cons, sum_by-set, count_by-le-length, end_of, lowest_address, last_address, without_named, inserted, occupied, cut, parts, part_below, part_above, pieces_of, attach_count, bare, bare_all, IsFit, Arranged, lower, Tables, counted, with_own, with_pieces_at, with_other_life, with_life_at, pieces_at, life_at, AreCountsExact, IsPlaceFor}
 use Rattle.shm_base.specs.State.{Piece, Life, Unborn, Runner}
-use Rattle.shm_base.specs.Access.{end_of}
-use Rattle.shm_base.specs.Space.{lowest_address, last_address, without_named, inserted, occupied, cut, parts, part_below, part_above, pieces_of}
-use Rattle.shm_base.specs.Segments.{attach_count}
-use Rattle.shm_areas.specs.Arranged.{bare, bare_all, IsFit, Arranged}
 use Rattle.shm_areas.specs.declared.piece.Piece.{Piece as Stored}
-use Rattle.shm_areas.proofs.Edits.{lower}
-use Rattle.shm_attach.specs.declared.tables.Tables.{Tables}
-use Rattle.shm_attach.specs.Tables.{counted}
-use Rattle.shm_attach.specs.Views.{with_own, with_pieces_at, with_other_life, with_life_at}
-use Rattle.shm_attach.specs.Spaces.{pieces_at, life_at}
-use Rattle.shm_attach.specs.Exact.{AreCountsExact}
-use Rattle.shm_attach.specs.Place.{IsPlaceFor}
 use Rattle.shm_attach.proofs.Processes.{nobody, attach_count-changed, one_more}
 
 -- THE PROCESS THAT CHANGES

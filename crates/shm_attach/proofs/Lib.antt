@@ -1,3 +1,4 @@
+pub mod Names
 pub mod Residency
 pub mod Processes
 pub mod Accesses

@@ -1,9 +1,6 @@
 -- Entries that are true of one residency, and of another.
-use Rattle.std.proofs.Common.{◌≡◌, ℕ, zero, suc, ◌+◌, ◌<◌, List, [], ◌∷◌, length, get_or, take, Option, arith}
-use Rattle.slab.specs.Slab.{Slab}
-use Rattle.shm_fault.specs.declared.touched.Move.{Move}
-use Rattle.shm_fault.specs.Steps.{moved}
-use Rattle.shm_attach.specs.Entries.{Entry, AllTrue}
+use Rattle.shm_attach.proofs.Names.{◌≡◌, ℕ, zero, suc, ◌+◌, ◌<◌, List, [], ◌∷◌, length, get_or, take, Option, arith, Slab, Move, moved, AllTrue}
+use Rattle.shm_attach.specs.Entries.{Entry}
 
 -- THE MOVES, ONE AFTER ANOTHER
 

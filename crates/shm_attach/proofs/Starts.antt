@@ -1,23 +1,8 @@
 -- The processes as they are declared.
-use Rattle.std.proofs.Common.{◌≡◌, ◌≢◌, ℕ, zero, suc, ◌+◌, ◌<◌, ◌≤◌, nat_eq, List, [], ◌∷◌, ◌++◌, length, map, get_or, take, refl, ap, sym, ◌∙◌, arith, ne_eqb, length-take}
-use Rattle.std.proofs.lemmas.Grind.{common_steps}
-use Rattle.std.proofs.lemmas.List.{length-map, get_or-take, take_more, map-append}
-use Rattle.std.proofs.lemmas.List.Sums.{sum_by-cons}
-use Rattle.indexmap.specs.IndexMap.{insert_entry}
+use Rattle.shm_attach.proofs.Names.{◌≡◌, ◌≢◌, ℕ, zero, suc, ◌+◌, ◌<◌, ◌≤◌, nat_eq, List, [], ◌∷◌, ◌++◌, length, map, get_or, take, refl, ap, sym, ◌∙◌, arith, ne_eqb, length-take, common_steps, length-map, get_or-take, take_more, map-append, sum_by-cons, insert_entry, runner_at_start, pieces_of, attach_count, Process, Tables, runner_view, runners_view, pieces_at, AreCountsExact, no_holds, Slab, bare, bare_all, counted, stored_at, AllHeld}
 use Rattle.shm_base.specs.State as flat
-use Rattle.shm_base.specs.State.{runner_at_start}
-use Rattle.shm_base.specs.Space.{pieces_of}
-use Rattle.shm_base.specs.Segments.{attach_count}
-use Rattle.shm_base.specs.declared.call.Process.{Process}
-use Rattle.shm_attach.specs.declared.tables.Tables.{Tables}
 use Rattle.shm_attach.specs.declared.process.Runner.{Runner}
-use Rattle.shm_attach.specs.Views.{runner_view, runners_view}
-use Rattle.shm_attach.specs.Spaces.{pieces_at}
-use Rattle.shm_attach.specs.Exact.{AreCountsExact, no_holds}
-use Rattle.slab.specs.Slab.{Slab}
-use Rattle.shm_areas.specs.Arranged.{bare, bare_all}
 use Rattle.shm_attach.specs.Entries.{Entry}
-use Rattle.shm_attach.specs.Tables.{counted, stored_at, AllHeld}
 use Rattle.shm_attach.proofs.Held.{pieces_at-bare}
 use Rattle.shm_attach.proofs.Callers.{nobody}
 

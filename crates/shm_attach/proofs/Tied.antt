@@ -1,11 +1,6 @@
 -- One table for each segment with pieces: what a change of the map and of the slab leaves.
-use Rattle.std.proofs.Common.{◌≡◌, ◌≢◌, ℕ, ◌<◌, List, length, get_or, Option, Some, None, refl, arith}
-use Rattle.std.proofs.lemmas.Grind.{common_steps}
-use Rattle.slab.specs.Slab.{Slab, get, with_value, Updates}
-use Rattle.shm_base.specs.declared.paging.PageRef.{PageRef}
-use Rattle.shm_attach.specs.declared.tables.Tables.{Tables}
-use Rattle.shm_attach.specs.Entries.{Entry, seg_in, count_in, TrueEntry, TrueSlot, AllTrue, with_frame}
-use Rattle.shm_attach.specs.Tables.{counted_under, key_of, IsTied}
+use Rattle.shm_attach.proofs.Names.{◌≡◌, ◌≢◌, ℕ, ◌<◌, List, length, get_or, Option, Some, None, refl, arith, common_steps, Slab, get, with_value, Updates, PageRef, Tables, seg_in, count_in, TrueEntry, TrueSlot, AllTrue, with_frame, counted_under, key_of, IsTied}
+use Rattle.shm_attach.specs.Entries.{Entry}
 
 -- A TABLE WITH OTHER FRAMES
 

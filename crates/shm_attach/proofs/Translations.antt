@@ -1,15 +1,6 @@
 -- The translations of all pieces are true where each entry is.
-use Rattle.std.proofs.Common.{◌≡◌, ◌≢◌, ℕ, zero, suc, ◌+◌, ◌<◌, List, [], ◌∷◌, ◌++◌, length, get_or, Option, Some, None, refl, ap, sym, subst, ◌∙◌, arith}
-use Rattle.std.proofs.lemmas.Grind.{common_steps}
-use Rattle.std.specs.Prelude.{All, ⊤}
-use Rattle.std.specs.List.{flat_map}
-use Rattle.std.proofs.lemmas.List.Elements.{All-append, All-nil, All-cons, All-head, All-tail}
-use Rattle.slab.specs.Slab.{Slab, get}
-use Rattle.shm_fault.specs.Store.{StoreView, frame_of}
-use Rattle.shm_attach.specs.declared.tables.Tables.{Tables}
-use Rattle.shm_attach.specs.Spaces.{Translation, AreTrue}
-use Rattle.shm_attach.specs.Entries.{Entry, translations_from, translations_in, translations_of, seg_in, TrueSlot, AllTrue}
-use Rattle.shm_attach.specs.Tables.{counted, IsTied}
+use Rattle.shm_attach.proofs.Names.{◌≡◌, ◌≢◌, ℕ, zero, suc, ◌+◌, ◌<◌, List, [], ◌∷◌, ◌++◌, length, get_or, Option, Some, None, refl, ap, sym, subst, ◌∙◌, arith, common_steps, All, ⊤, flat_map, All-append, All-nil, All-cons, All-head, All-tail, Slab, get, StoreView, frame_of, Tables, Translation, AreTrue, translations_from, translations_in, translations_of, seg_in, TrueSlot, AllTrue, counted, IsTied}
+use Rattle.shm_attach.specs.Entries.{Entry}
 
 abbrev Holds : (ℕ → ℕ → Option ℕ) → Translation → Type 0
 Holds at t = t.frame ≡ at t.seg t.page

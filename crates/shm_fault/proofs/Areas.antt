@@ -1,22 +1,5 @@
 -- Pages that leave a swap area, and the area that goes.
-use Rattle.std.proofs.Common.{◌≡◌, ◌≢◌, ℕ, zero, suc, ◌<◌, ◌≤◌, ◌+◌, Bool, true, cond, List, [], ◌∷◌, length, get_or, set, sum_by, Option, Some, None, is_some, refl, sym, ap, ◌∙◌, inl, inr, arith, length-set, get_or-set_same, get_or-set_other}
-use Rattle.std.proofs.lemmas.Bool.{cases_eq}
-use Rattle.std.proofs.lemmas.List.{get_or_past, length-map}
-use Rattle.std.proofs.lemmas.List.Sums.{sum_by-set, sum_by-cons}
-use Rattle.shm_base.specs.declared.paging.PageRef.{PageRef}
-use Rattle.shm_base.specs.declared.paging.Slot.{Slot}
-use Rattle.shm_plain.specs.Held.{pages_held}
-use Rattle.shm_slots.specs.Owners.{used_count}
-use Rattle.shm_slots.specs.View.{SwapView, no_area, area_at, with_area, off, HasSlot, IsSwap, IsFirstFree, OneArea, WriteFault, owner_of, page_in, size_of, sizes, slots, slots_in, used_in, used_slots, with_slot_owner, with_slot_page, without_slot}
-use Rattle.shm_slots.specs.Cause.{GoesOn, IsSteady, had_cause}
-use Rattle.shm_frames.specs.Frame.{Frame, no_frame, frame_at}
-use Rattle.shm_fault.specs.declared.page_tables.PageRec.{PageRec}
-use Rattle.shm_fault.specs.Segs.{rec_by, HasPage, with_rec}
-use Rattle.shm_fault.specs.Store.{StoreView, held}
-use Rattle.shm_fault.specs.Sound.{IsTied, Tied, IsStoreSound}
-use Rattle.shm_fault.specs.Goes.{Goes, Still}
-use Rattle.shm_fault.specs.Counting.{AtRest}
-use Rattle.shm_fault.specs.Moving.{SameOwned, IsRelocated, IsCleared}
+use Rattle.shm_fault.proofs.Names.{◌≡◌, ◌≢◌, ℕ, zero, suc, ◌<◌, ◌≤◌, ◌+◌, Bool, true, cond, List, [], ◌∷◌, length, get_or, set, sum_by, Option, Some, None, is_some, refl, sym, ap, ◌∙◌, inl, inr, arith, length-set, get_or-set_same, get_or-set_other, cases_eq, get_or_past, length-map, sum_by-set, sum_by-cons, PageRef, Slot, pages_held, used_count, SwapView, no_area, area_at, with_area, off, HasSlot, IsSwap, IsFirstFree, OneArea, WriteFault, owner_of, page_in, size_of, sizes, slots, slots_in, used_in, used_slots, with_slot_owner, with_slot_page, without_slot, GoesOn, IsSteady, had_cause, Frame, no_frame, frame_at, PageRec, rec_by, HasPage, with_rec, StoreView, held, IsTied, Tied, IsStoreSound, Goes, Still, AtRest, SameOwned, IsRelocated, IsCleared, common_steps, nat_tests}
 use Rattle.shm_fault.proofs.Pages.{rec-with, other, other_ne, has-frame, has-slot}
 use Rattle.shm_fault.proofs.Slots.{OnlySlot, OnlySlot-trans, OnlySlot-owner, OnlySlot-page, OnlySlot-given, page-written, owner-written, owner-set, owner-given, cases_slot, set-cases}
 use Rattle.shm_fault.proofs.Ties.{SlotsApart, Touches, IsOwn-some, segs-same, segs-with, frames-same, frames-set, tied_touched, bytes_touched}
@@ -28,8 +11,6 @@ use Rattle.shm_fault.proofs.Sound.{IsSound-from, Goes-trans}
 use Rattle.shm_fault.proofs.Counting.{AtRest-trans}
 use Rattle.shm_fault.proofs.Changes.{Keeps, every, keeps-every, keeps-one}
 use Rattle.shm_fault.proofs.Drops.{GivenSlots, given-slots}
-use Rattle.std.proofs.lemmas.Grind.{common_steps}
-use Rattle.std.proofs.lemmas.Bool.Decides.{nat_tests}
 
 pub here-lt : (s : SwapView) (area : ℕ) → (area_at s area).here ≡ true → area < length s.areas
 here-lt s area here = grind (arith, get_or_past s.areas area no_area, here)

@@ -1,28 +1,10 @@
 -- What an access leaves, put together from the visits to its pages.
-use Rattle.std.proofs.Common.{◌≡◌, ◌≢◌, ℕ, zero, suc, map, ◌<◌, ◌≤◌, ◌+◌, Bool, true, false, ◌&&◌, cond, ltb, List, [], ◌∷◌, length, get_or, subst, Option, Some, None, is_some, Result, Ok, Err, is_ok, OnErr, refl, sym, ap, ◌∙◌, arith}
-use Rattle.std.specs.Prelude.{All, IsSome, slice_get}
-use Rattle.std.proofs.lemmas.Bool.{false≢true}
-use Rattle.shm_base.specs.declared.paging.PageRef.{PageRef}
-use Rattle.shm_base.specs.declared.paging.Span.{Span}
-use Rattle.shm_plain.specs.Held.{is_locked}
-use Rattle.shm_slots.specs.View.{SwapView}
-use Rattle.shm_frames.specs.Frame.{Frame, frame_at}
-use Rattle.shm_fault.specs.declared.page_tables.PageRec.{PageRec}
-use Rattle.shm_fault.specs.declared.touched.Touched.{Touched}
-use Rattle.shm_fault.specs.Segs.{SegRec, rec_by, locked_by}
-use Rattle.shm_fault.specs.Store.{StoreView, held, held_by, frame_of, page_of, ref_of, is_swapped, IsResident, IsReferenced, pages_among, swapped_among, same_page}
-use Rattle.shm_fault.specs.Steps.{Kept}
-use Rattle.shm_fault.specs.Goes.{KeepsLocked, Visits, frame_by, referenced_at}
-use Rattle.shm_fault.specs.declared.access.InFrames.{InFrames}
-use Rattle.shm_fault.specs.declared.touched.PagerFailed.{PagerFailed}
-use Rattle.shm_fault.specs.Sound.{IsStoreSound}
-use Rattle.shm_fault.specs.Counting.{raised, one_if, hand_after}
-use Rattle.shm_fault.specs.Access.{Visited, IsIn, AreIn, Brings, Accessed}
+use Rattle.shm_fault.proofs.Names.{◌≡◌, ◌≢◌, ℕ, zero, suc, map, ◌<◌, ◌≤◌, ◌+◌, Bool, true, false, ◌&&◌, cond, ltb, List, [], ◌∷◌, length, get_or, subst, Option, Some, None, is_some, Result, Ok, Err, is_ok, OnErr, refl, sym, ap, ◌∙◌, arith, All, IsSome, false≢true, PageRef, Span, is_locked, SwapView, Frame, frame_at, PageRec, Touched, SegRec, rec_by, locked_by, StoreView, held_by, page_of, ref_of, is_swapped, IsResident, IsReferenced, pages_among, swapped_among, same_page, Kept, KeepsLocked, Visits, frame_by, referenced_at, InFrames, PagerFailed, IsStoreSound, raised, one_if, hand_after, Visited, IsIn, AreIn, Brings, Accessed, nat_tests, common_steps}
+use Rattle.std.specs.Prelude.{slice_get}
+use Rattle.shm_fault.specs.Store.{held, frame_of}
 use Rattle.shm_fault.proofs.Sound.{Goes-trans, KeepsLocked-trans, cause-after}
 use Rattle.shm_fault.proofs.Visits.{moves-trans}
 use Rattle.shm_fault.proofs.Pages.{same-true}
-use Rattle.std.proofs.lemmas.Bool.Decides.{nat_tests}
-use Rattle.std.proofs.lemmas.Grind.{common_steps}
 
 pub err_of : {A E : Type 0} (r : Result A E) (P : Type 0) → OnErr r P → is_ok r ≡ false → P
 err_of (Ok a) P h e = absurd (false≢true (sym e))

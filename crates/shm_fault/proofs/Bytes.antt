@@ -1,19 +1,7 @@
 -- The bytes of segments, from those of their pages.
-use Rattle.std.proofs.Common.{◌≡◌, ◌≢◌, ℕ, zero, suc, ◌<◌, ◌≤◌, ◌+◌, ◌-◌, ◌*◌, List, [], ◌∷◌, ◌++◌, map, length, take, drop, refl, sym, ap, ◌∙◌, inl, inr, arith, append_assoc, length-drop}
-use Rattle.std.specs.List.{flat_map}
-use Rattle.std.proofs.lemmas.Bool.{cases_eq}
-use Rattle.std.proofs.lemmas.List.{take-append-le, drop-append-le}
-use Rattle.shm_base.specs.declared.paging.PageRef.{PageRef}
-use Rattle.shm_plain.specs.Held.{Held, paste}
-use Rattle.shm_slots.specs.View.{SwapView}
-use Rattle.shm_frames.specs.Frame.{Frame}
-use Rattle.shm_fault.specs.declared.page_tables.PageRec.{PageRec}
-use Rattle.shm_fault.specs.Segs.{SegRec, rec_at, AreApart, rec_by, HasPage}
-use Rattle.shm_fault.specs.Store.{StoreView, page_bytes, held_by, held}
-use Rattle.shm_fault.specs.Goes.{Outline, outline, outlines}
+use Rattle.shm_fault.proofs.Names.{◌≡◌, ◌≢◌, ℕ, zero, suc, ◌<◌, ◌≤◌, ◌+◌, ◌-◌, ◌*◌, List, [], ◌∷◌, ◌++◌, map, length, take, drop, refl, sym, ap, ◌∙◌, inl, inr, arith, append_assoc, length-drop, flat_map, cases_eq, take-append-le, drop-append-le, PageRef, Held, paste, SwapView, Frame, PageRec, SegRec, rec_at, AreApart, rec_by, HasPage, StoreView, page_bytes, held_by, Outline, outline, outlines, common_steps, nat_tests}
+use Rattle.shm_fault.specs.Store.{held}
 use Rattle.shm_fault.proofs.Pages.{has-head, rec-head, has-tail, rec-tail}
-use Rattle.std.proofs.lemmas.Grind.{common_steps}
-use Rattle.std.proofs.lemmas.Bool.Decides.{nat_tests}
 
 -- the bytes of so many pages of a segment, from page i on, joined
 unfoldable pub joined : (PageRef → List ℕ) → ℕ → ℕ → ℕ → List ℕ

@@ -1,23 +1,10 @@
 -- Each step of a page from one place to another, and what it keeps.
-use Rattle.std.proofs.Common.{◌≡◌, ◌≢◌, ℕ, ◌<◌, Bool, true, false, List, length, set, Option, Some, None, refl, sym, ap, ◌∙◌, inl, inr, arith, length-set, get_or-set_same, set-set}
-use Rattle.std.specs.Prelude.{IsSome}
-use Rattle.shm_base.specs.declared.paging.PageRef.{PageRef}
-use Rattle.shm_base.specs.declared.paging.Slot.{Slot}
-use Rattle.shm_slots.specs.View.{SwapView, IsSwap, sizes, owner_of, page_in, HasSlot, SameSlots, with_slot_owner}
-use Rattle.shm_slots.specs.Cause.{GoesOn}
-use Rattle.shm_frames.specs.Frame.{Frame, no_frame, frame_at}
-use Rattle.shm_fault.specs.declared.page_tables.PageRec.{PageRec}
-use Rattle.shm_fault.specs.Segs.{rec_by, HasPage, with_rec}
-use Rattle.shm_fault.specs.Store.{StoreView, stored, page_bytes}
-use Rattle.shm_fault.specs.Sound.{IsTied, IsStoreSound}
-use Rattle.shm_fault.specs.Goes.{Alike, Goes, Still, StaysAway}
+use Rattle.shm_fault.proofs.Names.{◌≡◌, ◌≢◌, ℕ, ◌<◌, Bool, true, false, List, length, set, Option, Some, None, refl, sym, ap, ◌∙◌, inl, inr, arith, length-set, get_or-set_same, set-set, IsSome, PageRef, Slot, SwapView, IsSwap, sizes, owner_of, page_in, HasSlot, SameSlots, with_slot_owner, GoesOn, Frame, no_frame, frame_at, PageRec, rec_by, HasPage, with_rec, StoreView, stored, page_bytes, IsTied, IsStoreSound, Alike, Goes, Still, StaysAway, common_steps, nat_tests}
 use Rattle.shm_fault.proofs.Pages.{rec-with, rec-with_other, still-with, cases_ref, other, other-false, other-true, has-frame, rec-past}
 use Rattle.shm_fault.proofs.Slots.{OnlySlot, OnlySlot-owner, owner-set, cases_slot, set-cases}
 use Rattle.shm_fault.proofs.Ties.{FramesApart, SlotsApart, Touches, IsOwn-none, IsOwn-some, segs-same, segs-with, frames-same, frames-set, slots-same, slots-only, bytes_touched}
 use Rattle.shm_fault.proofs.Bytes.{bytes_at}
 use Rattle.shm_fault.proofs.Sound.{sound-touched, goes-touched, GoesOn-refl}
-use Rattle.std.proofs.lemmas.Grind.{common_steps}
-use Rattle.std.proofs.lemmas.Bool.Decides.{nat_tests}
 
 -- the page of a frame that has one
 pub record Own (o : Option PageRef) : Type 0 where

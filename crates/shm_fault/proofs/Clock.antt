@@ -1,19 +1,6 @@
 -- What the clock needs, and what it leaves of the frames.
-use Rattle.std.proofs.Common.{◌≡◌, ℕ, suc, ◌<◌, ◌≤◌, Bool, true, false, not, cond, List, [], ◌∷◌, length, Option, Some, None, is_none, is_some, refl, ap, arith}
-use Rattle.std.specs.Prelude.{count_by}
-use Rattle.std.proofs.lemmas.List.{get_or_past}
-use Rattle.std.proofs.lemmas.List.Sums.{sum_by-cons}
-use Rattle.shm_base.specs.declared.paging.PageRef.{PageRef}
-use Rattle.shm_frames.specs.Frame.{Frame, frame_at, is_owned, OwnedBelow}
-use Rattle.shm_clock.specs.Clock.{IsClockVictim, next}
-use Rattle.shm_clock.proofs.Eligible.{page_may_go}
-use Rattle.shm_fault.specs.Segs.{locked_by}
-use Rattle.shm_fault.specs.Store.{StoreView}
-use Rattle.shm_fault.specs.Sound.{IsStoreSound}
-use Rattle.shm_fault.specs.Goes.{unlocked, Alike}
+use Rattle.shm_fault.proofs.Names.{◌≡◌, ℕ, suc, ◌<◌, ◌≤◌, Bool, true, false, not, cond, List, [], ◌∷◌, length, Option, Some, None, is_none, is_some, refl, ap, arith, count_by, get_or_past, sum_by-cons, PageRef, Frame, frame_at, is_owned, OwnedBelow, IsClockVictim, next, page_may_go, locked_by, StoreView, IsStoreSound, unlocked, Alike, nat_tests, common_steps}
 use Rattle.shm_fault.proofs.Tally.{resident-frames, unlocked_resident, passes_by, count-ext}
-use Rattle.std.proofs.lemmas.Bool.Decides.{nat_tests}
-use Rattle.std.proofs.lemmas.Grind.{common_steps}
 
 pub clock-alike : (may : ℕ → Bool) (hand : ℕ) (before : List Frame) (victim : ℕ) (after : List Frame) → IsClockVictim may hand before victim after → (f : ℕ) → Alike (frame_at before f) (frame_at after f)
 clock-alike may hand before victim after is f = grind (arith, nat_tests, common_steps, is.bits, get_or_past, is.size)

@@ -1,11 +1,5 @@
 -- What steps count, one after another.
-use mir.Val.{bool_byte}
-use Rattle.std.proofs.Common.{◌≡◌, ℕ, zero, suc, ◌+◌, Bool, true, false, refl, ◌∙◌, arith}
-use Rattle.shm_fault.specs.declared.touched.Touched.{Touched}
-use Rattle.shm_fault.specs.Store.{StoreView}
-use Rattle.shm_fault.specs.Counting.{one_more, raised, one_if, AtRest, CountsOn}
-use Rattle.std.proofs.lemmas.Grind.{common_steps}
-use Rattle.std.proofs.lemmas.Bool.Decides.{nat_tests}
+use Rattle.shm_fault.proofs.Names.{bool_byte, ◌≡◌, ℕ, zero, suc, ◌+◌, Bool, true, false, refl, ◌∙◌, arith, Touched, StoreView, one_more, raised, one_if, AtRest, CountsOn, common_steps, nat_tests}
 
 pub raised-trans : (n a b : ℕ) → raised (raised n a) b ≡ raised n (a + b)
 raised-trans n zero b = let e : 0 + b ≡ b = omega arith in rw e refl

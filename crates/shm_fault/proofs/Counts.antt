@@ -1,14 +1,6 @@
 -- Frames and slots that are owned, counted by the pages that own them.
-use Rattle.std.proofs.Common.{◌≡◌, ◌≢◌, ℕ, zero, suc, ◌<◌, ◌≤◌, ◌+◌, ◌-◌, ◌*◌, Bool, cond, eqb, leb, List, [], ◌∷◌, length, get_or, sum_by, Option, Some, None, is_some, refl, sym, ap, ◌∙◌, inl, inr, arith}
-use Rattle.std.specs.Prelude.{count_by}
-use Rattle.std.proofs.lemmas.Bool.{cases_eq, cases_lt, eq-eqb, ne_eqb, lt-leb}
-use Rattle.std.proofs.lemmas.List.Sums.{sum_by-cons}
-use Rattle.shm_base.specs.declared.paging.PageRef.{PageRef}
-use Rattle.shm_fault.specs.declared.page_tables.PageRec.{PageRec}
-use Rattle.shm_fault.specs.Segs.{SegRec, rec_at, AreApart, rec_by, HasPage, locked_by, pages_of, locked_pages}
+use Rattle.shm_fault.proofs.Names.{◌≡◌, ◌≢◌, ℕ, zero, suc, ◌<◌, ◌≤◌, ◌+◌, ◌-◌, ◌*◌, Bool, cond, eqb, leb, List, [], ◌∷◌, length, get_or, sum_by, Option, Some, None, is_some, refl, sym, ap, ◌∙◌, inl, inr, arith, count_by, cases_eq, cases_lt, eq-eqb, ne_eqb, lt-leb, sum_by-cons, PageRef, PageRec, SegRec, rec_at, AreApart, rec_by, HasPage, locked_by, pages_of, locked_pages, nat_tests, common_steps}
 use Rattle.shm_fault.proofs.Pages.{has-head, rec-head, not-head, has-tail, rec-tail, other, other-self, other-true}
-use Rattle.std.proofs.lemmas.Bool.Decides.{nat_tests}
-use Rattle.std.proofs.lemmas.Grind.{common_steps}
 
 -- the sum over all pages of what each weighs, by its name and its place
 pub weigh_from : (PageRef → PageRec → ℕ) → ℕ → ℕ → List PageRec → ℕ

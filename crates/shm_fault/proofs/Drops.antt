@@ -1,22 +1,8 @@
 -- A page that leaves its frame and its slot for good.
-use Rattle.std.proofs.Common.{◌≡◌, ◌≢◌, ℕ, ◌<◌, ◌≤◌, ◌+◌, true, List, [], ◌∷◌, length, set, map, sum_by, Option, Some, None, refl, sym, ap, ◌∙◌, inl, inr, arith, get_or-set_same, not, eqb}
-use Rattle.std.proofs.lemmas.Bool.{cases_eq, cases_lt, eq-eqb, ne_eqb}
-use Rattle.std.proofs.lemmas.List.{length-replicate, set-get_or}
-use Rattle.shm_base.specs.declared.paging.PageRef.{PageRef}
-use Rattle.shm_base.specs.declared.paging.Slot.{Slot}
-use Rattle.shm_plain.specs.Held.{without}
+use Rattle.shm_fault.proofs.Names.{◌≡◌, ◌≢◌, ℕ, ◌<◌, ◌≤◌, ◌+◌, true, List, [], ◌∷◌, length, set, map, sum_by, Option, Some, None, refl, sym, ap, ◌∙◌, inl, inr, arith, get_or-set_same, not, eqb, cases_eq, cases_lt, eq-eqb, ne_eqb, length-replicate, set-get_or, PageRef, Slot, without, SwapView, owner_of, page_in, without_slot, IsSwap, IsSteady, Frame, frame_at, PageRec, SegRec, AreApart, but, no_page, find_seg, rec_by, count_by_id, HasPage, with_rec, pages_of, locked_pages, StoreView, held_by, disowned, IsTied, IsStoreSound, outline, outlines, emptied, Given, IsBlank, Dropped, AtRest, sum_by-filter_both, nat_tests, common_steps}
 use Rattle.shm_pager.specs.Pages.{zero_page}
-use Rattle.shm_slots.specs.View.{SwapView, owner_of, page_in, without_slot, IsSwap}
-use Rattle.shm_slots.specs.Cause.{IsSteady}
-use Rattle.shm_frames.specs.Frame.{Frame, frame_at}
-use Rattle.shm_fault.specs.declared.page_tables.PageRec.{PageRec}
-use Rattle.shm_fault.specs.Segs.{SegRec, AreApart, but, no_page, find_seg, rec_by, count_by_id, HasPage, with_rec, pages_of, locked_pages}
-use Rattle.shm_fault.specs.Store.{StoreView, held_by, held, disowned}
-use Rattle.shm_fault.specs.Sound.{IsTied, IsStoreSound}
-use Rattle.shm_fault.specs.Goes.{outline, outlines}
-use Rattle.shm_fault.specs.Dropping.{emptied, Given, IsBlank, Dropped}
+use Rattle.shm_fault.specs.Store.{held}
 use Rattle.shm_fault.proofs.Entries.{apart-filter, edit-none, find-but, find-out}
-use Rattle.shm_fault.specs.Counting.{AtRest}
 use Rattle.shm_fault.proofs.Counting.{AtRest-trans}
 use Rattle.shm_fault.proofs.Sound.{IsSound-from, GoesOn-trans}
 use Rattle.shm_fault.proofs.Pages.{outlines-with, rec-with, rec-with_other, rec-past, count-same, apart-same, other, other-true, ref_parts}
@@ -24,9 +10,6 @@ use Rattle.shm_fault.proofs.Slots.{OnlySlot, OnlySlot-given, owner-given, cases_
 use Rattle.shm_fault.proofs.Ties.{FramesApart, SlotsApart, Touches, IsOwn-none, IsOwn-some, segs-with, frames-set, frames-same, slots-only, slots-same, bytes_touched, tied-segs}
 use Rattle.shm_fault.proofs.Bytes.{joined, held_one, held_of, bytes_at, held-is, joined-ext}
 use Rattle.shm_fault.proofs.Changes.{sound-one}
-use Rattle.std.proofs.lemmas.List.Filters.{sum_by-filter_both}
-use Rattle.std.proofs.lemmas.Bool.Decides.{nat_tests}
-use Rattle.std.proofs.lemmas.Grind.{common_steps}
 
 -- a page that is where it is said to be
 with-is : (gs : List SegRec) (r : PageRef) (p : PageRec) → AreApart gs → rec_by gs r ≡ p → with_rec gs r p ≡ gs

@@ -1,15 +1,7 @@
 -- The stored segments and what they show: looked up, added, taken out, changed.
-use Rattle.std.proofs.Common.{◌≡◌, ◌≢◌, ℕ, zero, suc, not, cond, eqb, List, [], ◌∷◌, ◌++◌, map, filter, Some, None, slice_get, refl, sym, ap, ◌∙◌, inl, inr, arith}
-use Rattle.std.specs.Prelude.{option_map, nat_eq}
-use Rattle.std.specs.Map.{lookup, lookup_key, remove_entry, values_of}
-use Rattle.std.proofs.lemmas.Bool.{cases_Bool, cases_eq, eq-eqb, ne_eqb}
-use Rattle.indexmap.specs.IndexMap.{set_value_at, insert_entry}
-use Rattle.shm_fault.specs.declared.page_tables.PageTable.{PageTable}
-use Rattle.shm_fault.specs.Segs.{SegRec, find_seg, AreApart, but}
-use Rattle.shm_fault.specs.Entries.{seg_view, segs_view, key_at}
+use Rattle.shm_fault.proofs.Names.{◌≡◌, ◌≢◌, ℕ, zero, suc, not, cond, eqb, List, [], ◌∷◌, ◌++◌, map, filter, Some, None, refl, sym, ap, ◌∙◌, inl, inr, arith, option_map, nat_eq, lookup, lookup_key, remove_entry, values_of, cases_Bool, cases_eq, eq-eqb, ne_eqb, set_value_at, insert_entry, PageTable, SegRec, find_seg, AreApart, but, seg_view, segs_view, key_at, nat_tests, common_steps}
+use Rattle.std.proofs.Common.{slice_get}
 use Rattle.shm_fault.proofs.Pages.{find-map}
-use Rattle.std.proofs.lemmas.Bool.Decides.{nat_tests}
-use Rattle.std.proofs.lemmas.Grind.{common_steps}
 
 -- an edit of the segment with an identifier
 abbrev pub edit_at : ℕ → (SegRec → SegRec) → SegRec → SegRec

@@ -1,18 +1,7 @@
 -- Failures that are counted, and the areas that count them.
-use Rattle.std.proofs.Common.{◌≡◌, ◌⊎◌, ℕ, suc, [], ◌∷◌, None, Result, Ok, Err, OnOk, OnErr, ◌<◌, ◌≤◌, ◌+◌, true, false, List, length, get_or, set, sum_by, ap, ◌∙◌, inl, inr, arith, length-set}
-use Rattle.std.specs.List.{list_any}
-use Rattle.std.proofs.lemmas.Bool.{eq-eqb, false≢true}
-use Rattle.std.proofs.lemmas.Bool.Decides.{nat_tests}
-use Rattle.std.proofs.lemmas.List.Sums.{sum_by-set, sum_by-cons}
-use Rattle.std.proofs.lemmas.List.Folds.{list_any_at}
+use Rattle.shm_fault.proofs.Names.{◌≡◌, ◌⊎◌, ℕ, suc, [], ◌∷◌, None, Result, Ok, Err, OnOk, OnErr, ◌<◌, ◌≤◌, ◌+◌, true, false, List, length, get_or, set, sum_by, ap, ◌∙◌, inl, inr, arith, length-set, list_any, eq-eqb, false≢true, nat_tests, sum_by-set, sum_by-cons, list_any_at, Slot, last_count, AreaView, SwapView, no_area, area_at, rise, is_spent_here, size_of, sizes, with_slot_page, HasSlot, OneArea, WriteFault, IsSwap, had_cause, GoesOn, rises-le, total-le, slot-here, common_steps}
 use Rattle.std.proofs.Math.ListN.{get_or-map}
-use Rattle.shm_base.specs.declared.paging.Slot.{Slot}
-use Rattle.shm_pager.specs.Pages.{last_count}
-use Rattle.shm_slots.specs.View.{AreaView, SwapView, no_area, area_at, rise, is_spent_here, size_of, sizes, with_slot_page, HasSlot, OneArea, WriteFault, IsSwap}
-use Rattle.shm_slots.specs.Cause.{total, some_spent, had_cause, GoesOn}
-use Rattle.shm_slots.proofs.Causes.{rises-le, total-le}
-use Rattle.shm_slots.proofs.Changes.{slot-here}
-use Rattle.std.proofs.lemmas.Grind.{common_steps}
+use Rattle.shm_slots.specs.Cause.{total, some_spent}
 
 -- sizes and what follows from them
 pub size-at : (s : SwapView) (area : ℕ) → get_or (sizes s) area None ≡ size_of (area_at s area)

@@ -1,24 +1,8 @@
 -- A flush, frame after frame.
-use Rattle.std.proofs.Common.{◌≡◌, ◌≢◌, ℕ, zero, suc, ◌<◌, ◌≤◌, ◌+◌, Bool, true, false, not, cond, List, [], ◌∷◌, ◌++◌, length, set, take, filter, Some, refl, sym, ap, ◌∙◌, arith, append-nil, length-append, get_or-set_same, get_or-set_other}
-use Rattle.std.specs.Prelude.{count_by, Contains, All}
-use Rattle.std.specs.List.{range_with_len}
-use Rattle.std.proofs.lemmas.List.{length-take, take_all, take-append-le}
-use Rattle.std.proofs.lemmas.List.Elements.{filter-append, Contains-push, Contains-append_left, All-head, All-tail, All-push, All-weaker}
-use Rattle.std.proofs.lemmas.List.Sums.{sum_by-cons, sum_by_push}
-use Rattle.shm_base.specs.declared.paging.PageRef.{PageRef}
-use Rattle.shm_slots.specs.Cause.{total, some_spent}
-use Rattle.shm_frames.specs.Frame.{Frame, no_frame, frame_at}
-use Rattle.shm_fault.specs.Segs.{locked_by}
-use Rattle.shm_fault.specs.Store.{StoreView}
-use Rattle.shm_fault.specs.Sound.{IsStoreSound}
-use Rattle.shm_fault.specs.Goes.{Goes, Still}
-use Rattle.shm_fault.specs.Counting.{raised, one_if}
-use Rattle.shm_fault.specs.Flushing.{may_flush, dirty_after, IsFlushed}
+use Rattle.shm_fault.proofs.Names.{◌≡◌, ◌≢◌, ℕ, zero, suc, ◌<◌, ◌≤◌, ◌+◌, Bool, true, false, not, cond, List, [], ◌∷◌, ◌++◌, length, set, take, filter, Some, refl, sym, ap, ◌∙◌, arith, append-nil, length-append, get_or-set_same, get_or-set_other, count_by, Contains, All, range_with_len, length-take, take_all, take-append-le, filter-append, Contains-push, Contains-append_left, All-head, All-tail, All-push, All-weaker, sum_by-cons, sum_by_push, PageRef, total, some_spent, Frame, no_frame, frame_at, locked_by, StoreView, IsStoreSound, Goes, Still, raised, one_if, may_flush, dirty_after, IsFlushed, nat_tests, common_steps}
 use Rattle.shm_fault.proofs.Sound.{Goes-trans}
 use Rattle.shm_fault.proofs.Failures.{unspent-before}
 use Rattle.shm_fault.proofs.Bringing.{is_locked-held}
-use Rattle.std.proofs.lemmas.Bool.Decides.{nat_tests}
-use Rattle.std.proofs.lemmas.Grind.{common_steps}
 
 -- those of the frames below i that may be flushed
 abbrev pub due : StoreView → ℕ → List ℕ

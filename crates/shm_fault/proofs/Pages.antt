@@ -1,16 +1,5 @@
 -- Where pages are, looked up and changed; what a list of segments keeps where its pages move.
-use Rattle.std.proofs.Common.{◌≡◌, ◌≢◌, ◌⊎◌, ℕ, ◌<◌, ◌≤◌, Bool, true, false, not, cond, eqb, List, [], ◌∷◌, length, sum_by, Some, None, refl, sym, ap, ◌∙◌, inl, inr, arith, length-set, get_or-set_same, get_or-set_other, map}
-use Rattle.std.specs.Prelude.{option_map}
-use Rattle.std.proofs.lemmas.Bool.{cases_Bool, cases_lt, eq-eqb, ne_eqb, eqb-true, and_parts, false≢true, not-false, false_from_ne_true}
-use Rattle.std.proofs.lemmas.List.{get_or_past}
-use Rattle.std.proofs.lemmas.List.Sums.{sum_by-cons}
-use Rattle.shm_base.specs.declared.paging.Slot.{Slot}
-use Rattle.shm_base.specs.declared.paging.PageRef.{PageRef}
-use Rattle.shm_fault.specs.declared.page_tables.PageRec.{PageRec}
-use Rattle.shm_fault.specs.Goes.{Outline, outline, outlines, same_ref}
-use Rattle.shm_fault.specs.Segs.{SegRec, no_page, rec_at, find_seg, AreApart, rec_by, count_by_id, HasPage, locked_by, seg_with, with_rec, pages_of, locked_pages}
-use Rattle.std.proofs.lemmas.Bool.Decides.{nat_tests}
-use Rattle.std.proofs.lemmas.Grind.{common_steps}
+use Rattle.shm_fault.proofs.Names.{◌≡◌, ◌≢◌, ◌⊎◌, ℕ, ◌<◌, ◌≤◌, Bool, true, false, not, cond, eqb, List, [], ◌∷◌, length, sum_by, Some, None, refl, sym, ap, ◌∙◌, inl, inr, arith, length-set, get_or-set_same, get_or-set_other, map, option_map, cases_Bool, cases_lt, eq-eqb, ne_eqb, eqb-true, and_parts, false≢true, not-false, false_from_ne_true, get_or_past, sum_by-cons, Slot, PageRef, PageRec, Outline, outline, outlines, same_ref, SegRec, no_page, rec_at, find_seg, AreApart, rec_by, count_by_id, HasPage, locked_by, seg_with, with_rec, pages_of, locked_pages, nat_tests, common_steps}
 
 -- the name of another page
 abbrev pub other : PageRef → PageRef → Bool

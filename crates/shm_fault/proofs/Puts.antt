@@ -1,16 +1,9 @@
 -- Bytes put into a page that is in a frame, which is dirty then.
-use Rattle.std.proofs.Common.{◌≡◌, ℕ, ◌≤◌, ◌+◌, ◌*◌, ◌/◌, ◌%◌, List, length, map, set, Some, true, refl, sym, ap, ◌∙◌, arith}
-use Rattle.shm_base.specs.declared.paging.Span.{Span}
-use Rattle.shm_plain.specs.Held.{FitsPage, paste, pasted}
-use Rattle.shm_frames.specs.Frame.{Frame, frame_at}
-use Rattle.shm_fault.specs.Store.{StoreView, held, ref_of}
-use Rattle.shm_fault.specs.Sound.{IsStoreSound}
-use Rattle.shm_fault.specs.Goes.{frame_by}
+use Rattle.shm_fault.proofs.Names.{◌≡◌, ℕ, ◌≤◌, ◌+◌, ◌*◌, ◌/◌, ◌%◌, List, length, map, set, Some, true, refl, sym, ap, ◌∙◌, arith, Span, FitsPage, paste, pasted, Frame, frame_at, StoreView, held, ref_of, IsStoreSound, frame_by, length-paste}
 use Rattle.shm_fault.proofs.Pages.{has-frame}
 use Rattle.shm_fault.proofs.Bytes.{bytes_at}
 use Rattle.shm_fault.proofs.Spans.{held-pasted, fits-same}
 use Rattle.shm_fault.proofs.Changes.{sound-stored, bytes-stored, bytes-others}
-use Rattle.shm_plain.proofs.Pasted.{length-paste}
 
 abbrev pub put_in : Frame → ℕ → List ℕ → Frame
 put_in x off new = record x { bytes = paste x.bytes off new; dirty = true }

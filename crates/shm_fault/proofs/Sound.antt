@@ -1,23 +1,10 @@
 -- What is true of every store, kept by a change that touches few pages.
-use Rattle.std.proofs.Common.{◌≡◌, ℕ, ◌<◌, ◌≤◌, ◌+◌, Bool, true, false, cond, length, sum_by, Some, is_some, refl, ap, ◌∙◌, inl, inr, arith}
-use Rattle.std.proofs.lemmas.Bool.{cases_Bool}
-use Rattle.std.proofs.lemmas.List.Sums.{sum_by-le-sum_by, count_by-le-length}
-use Rattle.shm_base.specs.declared.paging.PageRef.{PageRef}
-use Rattle.shm_base.specs.declared.paging.Slot.{Slot}
-use Rattle.shm_slots.specs.View.{SwapView, IsSwap, slots, sizes, slots_in, owner_of, HasSlot}
-use Rattle.shm_slots.specs.Cause.{GoesOn, had_cause}
-use Rattle.shm_frames.specs.Frame.{frame_at}
-use Rattle.shm_fault.specs.Segs.{rec_by, HasPage, AreApart, pages_of, locked_pages}
-use Rattle.shm_fault.specs.Store.{StoreView}
-use Rattle.shm_fault.specs.Sound.{IsTied, Tied, IsStoreSound}
-use Rattle.shm_fault.specs.Goes.{outlines, Goes, KeepsLocked}
+use Rattle.shm_fault.proofs.Names.{◌≡◌, ℕ, ◌<◌, ◌≤◌, ◌+◌, Bool, true, false, cond, length, sum_by, Some, is_some, refl, ap, ◌∙◌, inl, inr, arith, cases_Bool, sum_by-le-sum_by, count_by-le-length, PageRef, Slot, SwapView, IsSwap, slots, sizes, slots_in, owner_of, HasSlot, GoesOn, had_cause, frame_at, rec_by, HasPage, AreApart, pages_of, locked_pages, StoreView, IsTied, Tied, IsStoreSound, outlines, Goes, KeepsLocked, nat_tests, common_steps}
 use Rattle.shm_fault.proofs.Pages.{has-frame, apart-same, sum_pages-same, sum_locked-same, locked-same, has-slot}
 use Rattle.shm_fault.proofs.Ties.{Touches, tied_touched, bytes_touched}
 use Rattle.shm_fault.proofs.Tally.{resident-frames}
 use Rattle.shm_fault.proofs.Bytes.{bytes_at, held-same}
 use Rattle.shm_fault.proofs.Failures.{spent-cause, cause-before}
-use Rattle.std.proofs.lemmas.Bool.Decides.{nat_tests}
-use Rattle.std.proofs.lemmas.Grind.{common_steps}
 
 -- a page and the frame that it is in
 pub frame-own : (s : StoreView) → IsStoreSound s → (r : PageRef) (f : ℕ) → (rec_by s.segs r).frame ≡ Some f → (f < length s.frames) × ((frame_at s.frames f).owner ≡ Some r)

@@ -1,21 +1,7 @@
 -- Stretches of pages, in the bytes of segments and in frames.
-use Rattle.std.proofs.Common.{◌≡◌, ◌≢◌, ℕ, suc, ◌<◌, ◌≤◌, ◌+◌, ◌-◌, ◌*◌, ◌/◌, ◌%◌, List, [], ◌∷◌, map, length, get_or, take, drop, sum_by, Some, None, is_some, refl, sym, ap, ◌∙◌, inl, inr, arith}
-use Rattle.std.specs.Prelude.{option_map}
-use Rattle.std.proofs.lemmas.Bool.{cases_eq, eq-eqb, ne_eqb}
-use Rattle.std.proofs.lemmas.List.Sums.{sum_by-cons}
-use Rattle.shm_base.specs.declared.paging.PageRef.{PageRef}
-use Rattle.shm_base.specs.declared.paging.Span.{Span}
-use Rattle.shm_plain.specs.Held.{find_held, bytes_of, is_held, FitsPage, span_bytes, paste, pasted}
-use Rattle.shm_slots.specs.View.{AreaView, IsArea, slots_in, size_of, no_area}
-use Rattle.shm_frames.specs.Frame.{frame_at}
-use Rattle.shm_fault.specs.Segs.{SegRec, find_seg, AreApart, count_by_id, HasPage, pages_of}
-use Rattle.shm_fault.specs.Store.{StoreView, held, ref_of}
-use Rattle.shm_fault.specs.Sound.{IsStoreSound}
-use Rattle.shm_fault.specs.Goes.{outline, outlines, frame_by}
+use Rattle.shm_fault.proofs.Names.{◌≡◌, ◌≢◌, ℕ, suc, ◌<◌, ◌≤◌, ◌+◌, ◌-◌, ◌*◌, ◌/◌, ◌%◌, List, [], ◌∷◌, map, length, get_or, take, drop, sum_by, Some, None, is_some, refl, sym, ap, ◌∙◌, inl, inr, arith, option_map, cases_eq, eq-eqb, ne_eqb, sum_by-cons, PageRef, Span, find_held, bytes_of, is_held, FitsPage, span_bytes, paste, pasted, AreaView, IsArea, slots_in, size_of, no_area, frame_at, SegRec, find_seg, AreApart, count_by_id, HasPage, pages_of, StoreView, held, ref_of, IsStoreSound, outline, outlines, frame_by, nat_tests, common_steps}
 use Rattle.shm_fault.proofs.Pages.{find-id, has-tail}
 use Rattle.shm_fault.proofs.Bytes.{joined, held_one, held_of, bytes_at, held-is, joined-read, joined-paste, joined-ext, length-joined}
-use Rattle.std.proofs.lemmas.Bool.Decides.{nat_tests}
-use Rattle.std.proofs.lemmas.Grind.{common_steps}
 
 find-held : (b : PageRef → List ℕ) (gs : List SegRec) (id : ℕ) → find_held (held_of b (outlines gs)) id ≡ option_map (λ (g : SegRec). held_one b (outline g)) (find_seg gs id)
 find-held b [] id = refl

@@ -1,19 +1,7 @@
 -- A change that touches few pages keeps all others tied, and their bytes.
-use Rattle.std.proofs.Common.{◌≡◌, ℕ, Bool, true, false, List, length, set, Option, Some, None, refl, sym, inl, inr, arith}
-use Rattle.std.proofs.lemmas.Bool.{cases_Bool}
-use Rattle.shm_base.specs.declared.paging.PageRef.{PageRef}
-use Rattle.shm_base.specs.declared.paging.Slot.{Slot}
-use Rattle.shm_slots.specs.View.{SwapView, HasSlot, owner_of, page_in}
-use Rattle.shm_frames.specs.Frame.{Frame, frame_at}
-use Rattle.shm_fault.specs.declared.page_tables.PageRec.{PageRec}
-use Rattle.shm_fault.specs.Segs.{SegRec, rec_by, HasPage, with_rec}
-use Rattle.shm_fault.specs.Store.{StoreView, stored, bytes_by, page_bytes}
-use Rattle.shm_fault.specs.Sound.{IsTied, Tied}
-use Rattle.shm_fault.specs.Goes.{outlines, Alike}
+use Rattle.shm_fault.proofs.Names.{◌≡◌, ℕ, Bool, true, false, List, length, set, Option, Some, None, refl, sym, inl, inr, arith, cases_Bool, PageRef, Slot, SwapView, HasSlot, owner_of, page_in, Frame, frame_at, PageRec, SegRec, rec_by, HasPage, with_rec, StoreView, stored, bytes_by, page_bytes, IsTied, Tied, outlines, Alike, common_steps, nat_tests}
 use Rattle.shm_fault.proofs.Pages.{has-same, outlines-with, rec-with_other, other, other-self}
 use Rattle.shm_fault.proofs.Slots.{OnlySlot, cases_slot, set-cases}
-use Rattle.std.proofs.lemmas.Grind.{common_steps}
-use Rattle.std.proofs.lemmas.Bool.Decides.{nat_tests}
 
 pub Alike-refl : (x : Frame) → Alike x x
 Alike-refl x = record { owner = refl; bytes = refl; dirty = refl }

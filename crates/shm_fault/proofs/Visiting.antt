@@ -1,18 +1,7 @@
 -- Visits to pages, resident or not.
-use Rattle.std.proofs.Common.{◌≡◌, ℕ, ◌≤◌, ◌+◌, ◌&&◌, Bool, true, false, length, Option, Some, None, is_some, refl, sym, ap, arith}
-use Rattle.std.proofs.lemmas.Bool.{false≢true}
-use Rattle.shm_base.specs.declared.paging.PageRef.{PageRef}
-use Rattle.shm_slots.specs.Cause.{had_cause}
-use Rattle.shm_fault.specs.declared.touched.Touched.{Touched}
-use Rattle.shm_fault.specs.Segs.{rec_by}
-use Rattle.shm_fault.specs.Store.{StoreView, is_swapped}
-use Rattle.shm_fault.specs.Goes.{Visits, MovesOn, frame_by}
-use Rattle.shm_fault.specs.Counting.{one_if, CountsOn, hand_for_frame}
-use Rattle.shm_fault.specs.Access.{Visited}
+use Rattle.shm_fault.proofs.Names.{◌≡◌, ℕ, ◌≤◌, ◌+◌, ◌&&◌, Bool, true, false, length, Option, Some, None, is_some, refl, sym, ap, arith, false≢true, PageRef, had_cause, Touched, rec_by, StoreView, is_swapped, Visits, MovesOn, frame_by, one_if, CountsOn, hand_for_frame, Visited, common_steps, nat_tests}
 use Rattle.shm_fault.proofs.Counting.{counts-still}
 use Rattle.shm_fault.proofs.Visits.{moves-still}
-use Rattle.std.proofs.lemmas.Grind.{common_steps}
-use Rattle.std.proofs.lemmas.Bool.Decides.{nat_tests}
 
 -- a resident page's frame was touched
 pub visited-touched : (r : PageRef) (pinned : Option ℕ) (f : ℕ) (s t : StoreView) (u : Touched) → Some f ≡ frame_by s r → Visits r pinned s t → t ≡ record s { frames = t.frames } → Visited r pinned (Some f) s t u u true

@@ -1,25 +1,10 @@
 -- Steps of a visit to a page, one after another.
-use Rattle.std.proofs.Common.{◌≡◌, ◌≢◌, ℕ, suc, ◌<◌, true, false, not, cond, List, [], ◌∷◌, ◌++◌, length, set, Option, Some, None, refl, sym, ap, ◌∙◌, arith, length-set, get_or-set_same, get_or-set_other}
-use Rattle.std.proofs.lemmas.Bool.{and_parts, not-true}
-use Rattle.shm_base.specs.declared.paging.PageRef.{PageRef}
-use Rattle.shm_frames.specs.Frame.{Frame, no_frame, frame_at}
-use Rattle.shm_clock.specs.Clock.{may_go, owner_passes, is_pinned}
-use Rattle.shm_fault.specs.declared.page_tables.PageRec.{PageRec}
-use Rattle.shm_fault.specs.Segs.{SegRec, rec_by, HasPage, with_rec, locked_by}
-use Rattle.shm_slots.specs.View.{SwapView, IsSwap, SameSlots, sizes}
-use Rattle.shm_slots.specs.Cause.{GoesOn}
-use Rattle.shm_fault.specs.Store.{StoreView, frame_of, stored}
-use Rattle.shm_fault.specs.Sound.{IsStoreSound}
-use Rattle.shm_fault.specs.Goes.{Goes, Still, StaysAway, Alike, Visits, MovesOn, unlocked, frame_by, referenced_at, same_ref}
-use Rattle.shm_fault.specs.declared.touched.Move.{Move}
-use Rattle.shm_fault.specs.declared.touched.Move.TheVariants.{Gone, Came}
-use Rattle.shm_fault.specs.Steps.{moved}
+use Rattle.shm_fault.proofs.Names.{◌≡◌, ◌≢◌, ℕ, suc, ◌<◌, true, false, not, cond, List, [], ◌∷◌, ◌++◌, length, set, Option, Some, None, refl, sym, ap, ◌∙◌, arith, length-set, get_or-set_same, get_or-set_other, and_parts, not-true, PageRef, Frame, no_frame, frame_at, may_go, owner_passes, is_pinned, PageRec, SegRec, rec_by, HasPage, with_rec, locked_by, SwapView, IsSwap, SameSlots, sizes, GoesOn, StoreView, stored, IsStoreSound, Goes, Still, StaysAway, Alike, Visits, MovesOn, unlocked, frame_by, referenced_at, same_ref, Move, Gone, Came, moved, common_steps, nat_tests}
+use Rattle.shm_fault.specs.Store.{frame_of}
 use Rattle.shm_fault.proofs.Pages.{rec-with, rec-with_other, cases_ref, other_ne, other-true, has-frame, same-self, same-other}
 use Rattle.shm_fault.proofs.Sound.{frame-own, Goes-trans, KeepsLocked-trans}
 use Rattle.shm_fault.proofs.Changes.{keeps-alike, keeps-load, keeps-settle}
 use Rattle.shm_fault.proofs.Slots.{set-cases}
-use Rattle.std.proofs.lemmas.Grind.{common_steps}
-use Rattle.std.proofs.lemmas.Bool.Decides.{nat_tests}
 
 pub Visits-trans : (r : PageRef) (pinned : Option ℕ) (s t u : StoreView) → Visits r pinned s t → Visits r pinned t u → Visits r pinned s u
 Visits-trans r pinned s t u a b = record {

@@ -1,27 +1,13 @@
 -- Stores as they are made, and whole segments that are added, locked or unlocked.
-use Rattle.std.proofs.Common.{◌≡◌, ℕ, zero, suc, ◌≤◌, ◌+◌, ◌*◌, Bool, true, false, cond, eqb, List, [], ◌∷◌, ◌++◌, map, length, replicate, sum_by, Option, Some, None, is_some, refl, sym, ap, ◌∙◌, inl, inr, arith}
-use Rattle.std.specs.List.{flat_map}
-use Rattle.std.proofs.lemmas.Bool.{cases_Bool, cases_lt}
-use Rattle.std.proofs.lemmas.List.{length-replicate, map-append, get_or-replicate, get_or_past, replicate-append-replicate}
-use Rattle.std.proofs.lemmas.List.Sums.{sum_by-cons, sum_by-append}
-use Rattle.shm_base.specs.declared.paging.PageRef.{PageRef}
-use Rattle.shm_base.specs.declared.paging.Slot.{Slot}
-use Rattle.shm_plain.specs.Held.{is_held, pages_in, pages_held, pages_if_locked, pages_locked, with_zeros, with_lock}
+use Rattle.shm_fault.proofs.Names.{◌≡◌, ℕ, zero, suc, ◌≤◌, ◌+◌, ◌*◌, Bool, true, false, cond, eqb, List, [], ◌∷◌, ◌++◌, map, length, replicate, sum_by, Option, Some, None, is_some, refl, sym, ap, ◌∙◌, inl, inr, arith, flat_map, cases_Bool, cases_lt, length-replicate, map-append, get_or-replicate, get_or_past, replicate-append-replicate, sum_by-cons, sum_by-append, PageRef, Slot, is_held, pages_in, pages_held, pages_if_locked, pages_locked, with_zeros, with_lock, SwapView, IsSwap, slots, owner_of, Frame, IsFrameBlank, SegRec, no_page, rec_at, find_seg, AreApart, rec_by, count_by_id, HasPage, with_seg_lock, new_seg, pages_of, locked_pages, StoreView, page_bytes, held_by, fresh_store, IsStoreSound, outline, outlines, nat_tests, common_steps}
 use Rattle.shm_pager.specs.Pages.{zero_page}
-use Rattle.shm_slots.specs.View.{SwapView, IsSwap, slots, owner_of}
-use Rattle.shm_frames.specs.Frame.{Frame, IsFrameBlank}
-use Rattle.shm_fault.specs.Segs.{SegRec, no_page, rec_at, find_seg, AreApart, rec_by, count_by_id, HasPage, with_seg_lock, new_seg, pages_of, locked_pages}
-use Rattle.shm_fault.specs.Store.{StoreView, page_bytes, held_by, held, fresh_store}
-use Rattle.shm_fault.specs.Sound.{IsStoreSound}
-use Rattle.shm_fault.specs.Goes.{outline, outlines}
+use Rattle.shm_fault.specs.Store.{held}
 use Rattle.shm_fault.proofs.Entries.{apart-append, apart-edit}
 use Rattle.shm_fault.proofs.Pages.{rec-past, has-head, has-tail, find-map}
 use Rattle.shm_fault.proofs.Ties.{tied-segs}
 use Rattle.shm_fault.proofs.Bytes.{held_one, held_of, bytes_at, held-is, length-joined}
 use Rattle.shm_fault.proofs.Spans.{held-in}
 use Rattle.shm_fault.proofs.Sound.{IsSound-from}
-use Rattle.std.proofs.lemmas.Bool.Decides.{nat_tests}
-use Rattle.std.proofs.lemmas.Grind.{common_steps}
 
 pub sound-fresh : (frames : List Frame) (swap : SwapView) → (2 ≤ length frames) × (length frames ≤ 4096) → ((f : ℕ) → IsFrameBlank frames f) → IsSwap swap → ((k : Slot) → owner_of swap k.area k.slot ≡ None) → IsStoreSound (fresh_store frames swap)
 sound-fresh frames swap size blank is free = grind (arith, nat_tests, common_steps)

@@ -1,11 +1,5 @@
 -- The places of an access: each lies in a piece, and each of a write in one that is writable.
-use Rattle.std.proofs.Common.{◌≡◌, ℕ, suc, zero, ◌+◌, ◌<◌, true, false, List, [], ◌∷◌, length, Option, Some, slice_get, refl, sym, ap, ◌∙◌, inl, inr, arith, get_or}
-use Rattle.std.proofs.lemmas.Grind.{common_steps}
-use Rattle.std.specs.Prelude.{Contains}
-use Rattle.std.proofs.lemmas.Bool.{cases_Bool, and_parts}
-use Rattle.std.proofs.lemmas.Option.{none-some, slice_get-get_or}
-use Rattle.shm_base.specs.State.{Piece}
-use Rattle.shm_base.specs.Access.{Place, covers, place_by, place, places, all_writable, only_writable}
+use Rattle.shm_laws.proofs.Names.{◌≡◌, ℕ, suc, zero, ◌+◌, ◌<◌, true, false, List, [], ◌∷◌, length, Option, Some, slice_get, refl, sym, ap, ◌∙◌, inl, inr, arith, get_or, common_steps, Contains, cases_Bool, and_parts, none-some, slice_get-get_or, Piece, Place, covers, place_by, place, places, all_writable, only_writable}
 
 -- the piece in which an address lies
 pub record LiesIn (ps : List Piece) (a : ℕ) (q : Place) : Type 0 where

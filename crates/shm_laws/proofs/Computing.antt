@@ -1,11 +1,5 @@
 -- A history is legal where each reply is the step's, or a pager's failure in its place.
-use Rattle.std.proofs.Common.{◌≡◌, ℕ, ◌+◌, Bool, true, false, if◌then◌else◌, List, [], ◌∷◌, refl, inr, arith}
-use Rattle.std.proofs.lemmas.Grind.{common_steps}
-use Rattle.shm_base.specs.declared.call.Event.{Event}
-use Rattle.shm_base.specs.State.{Machine, Opening, start_of}
-use Rattle.shm_base.specs.Step.{Outcome, step}
-use Rattle.shm_base.specs.History.{is_refusal, is_failure, LeadsFrom}
-use Rattle.shm_laws.specs.Worked.{IsLegal}
+use Rattle.shm_laws.proofs.Names.{◌≡◌, ℕ, ◌+◌, Bool, true, false, if◌then◌else◌, List, [], ◌∷◌, refl, inr, arith, common_steps, Event, Machine, Opening, start_of, Outcome, step, is_refusal, is_failure, LeadsFrom, IsLegal}
 
 -- a failure stands in place of a reply that refuses nothing, and another reply is the step's
 abbrev fits : Bool → Outcome → Event → Type 0

@@ -1,28 +1,7 @@
 -- By how much each move changes how many pieces there are.
-use Rattle.std.proofs.Common.{◌≡◌, ◌≢◌, ◌⊎◌, ℕ, ◌+◌, ◌*◌, ◌<◌, ◌==◌, ℤ, pos, negsuc, Bool, true, false, not, if◌then◌else◌, List, [], ◌∷◌, Option, Some, None, slice_set, refl, sym, ap, subst, ◌∙◌, inl, inr, arith}
-use Rattle.std.proofs.lemmas.Grind.{common_steps}
-use Rattle.std.specs.Prelude.{filter}
-use Rattle.std.proofs.lemmas.List.Concat.{flat_map-cons}
-use Rattle.std.proofs.lemmas.Option.{none-some}
-use Rattle.shm_base.specs.declared.call.ShmidDs.{ShmidDs}
-use Rattle.shm_base.specs.declared.call.Call.{Call}
-use Rattle.shm_base.specs.declared.call.Call.TheVariants.{Shmat, Shmdt, Fork, Exec, Exit}
+use Rattle.shm_laws.proofs.Names.{◌≡◌, ◌≢◌, ◌⊎◌, ℕ, ◌+◌, ◌*◌, ◌<◌, ◌==◌, ℤ, pos, negsuc, Bool, true, false, not, if◌then◌else◌, List, [], ◌∷◌, Option, Some, None, slice_set, refl, sym, ap, subst, ◌∙◌, inl, inr, arith, common_steps, filter, flat_map-cons, none-some, ShmidDs, Call, Shmat, Shmdt, Fork, Exec, Exit, Addr, Done, Event, AtFlags, Piece, Live, Runner, Machine, pages_in, Look, look, occupied, cut, origin_of, is_named, without_named, pieces_of, attach_count, Caller, Outcome, caller_of, acts, step_by, is_remap, is_rdonly, pieces_with, stat, gives, is_refusal, IsMove, one_if, one_more, pieces_of-inserted, pieces_of-filter, sum-set, held, hands_pieces, CountsPieces, held_by}
 use Rattle.shm_base.specs.declared.call.Call.TheVariants as calls
-use Rattle.shm_base.specs.declared.call.Reply.TheVariants.{Addr, Done}
 use Rattle.shm_base.specs.declared.call.Reply.TheVariants as replies
-use Rattle.shm_base.specs.declared.call.Event.{Event}
-use Rattle.shm_base.specs.declared.flags.AtFlags.{AtFlags}
-use Rattle.shm_base.specs.State.{Piece, Live, Runner, Machine, pages_in}
-use Rattle.shm_base.specs.Identifier.{Look, look}
-use Rattle.shm_base.specs.Space.{occupied, cut, origin_of, is_named, without_named, pieces_of}
-use Rattle.shm_base.specs.Segments.{attach_count}
-use Rattle.shm_base.specs.Step.{Caller, Outcome, caller_of, acts, step_by, is_remap, is_rdonly, pieces_with, stat, gives}
-use Rattle.shm_base.specs.History.{is_refusal, IsMove}
-use Rattle.shm_attach.specs.Views.{one_if}
-use Rattle.shm_attach.proofs.Processes.{one_more, pieces_of-inserted, pieces_of-filter}
-use Rattle.shm_segments.proofs.Entries.{sum-set}
-use Rattle.shm_laws.specs.Pieces.{held, hands_pieces, CountsPieces}
-use Rattle.shm_laws.specs.Writing.{held_by}
 use Rattle.shm_laws.proofs.Handing.{Takes, caller-at, Rests, Attaches, Leaves, Forks, Hands, none-stay, hands-acts}
 use Rattle.shm_laws.proofs.Looks.{found-own}
 use Rattle.shm_laws.proofs.Refusing.{failure-refusal}

@@ -1,24 +1,8 @@
 -- What becomes of each index of the table in a step, and of what is kept.
-use Rattle.std.proofs.Common.{◌≡◌, ◌≢◌, ◌⊎◌, ℕ, ◌/◌, ◌%◌, ◌<◌, ◌≤◌, ◌==◌, ◌||◌, pos, Bool, false, List, replicate, Option, Some, None, slice_get, refl, sym, ap, subst, ◌∙◌, inl, inr, arith, eq-eqb, ne_eqb}
-use Rattle.std.proofs.lemmas.Grind.{common_steps}
-use Rattle.std.specs.Prelude.{option_map}
-use Rattle.std.proofs.lemmas.Bool.{cases_eq}
-use Rattle.shm_base.specs.declared.call.Call.{Call}
-use Rattle.shm_base.specs.declared.call.Call.TheVariants.{Rmid}
-use Rattle.shm_base.specs.declared.call.Reply.{Reply}
-use Rattle.shm_base.specs.declared.call.Reply.TheVariants.{Id}
-use Rattle.shm_base.specs.declared.call.Event.{Event}
-use Rattle.shm_base.specs.State.{Segment, Entry, Runner, Machine}
-use Rattle.shm_base.specs.Identifier.{identifier, destroyed_in, with_segment, destroyed_at}
-use Rattle.shm_base.specs.Segments.{attach_count, with_entry, marked, change, swept_at}
-use Rattle.shm_base.specs.Step.{Outcome, Caller, step_by, caller_of}
-use Rattle.shm_base.specs.History.{IsMove}
-use Rattle.shm_segments.specs.Left.{orphan_in, orphan}
-use Rattle.shm_laws.specs.Identity.{IsSame}
+use Rattle.shm_laws.proofs.Names.{◌≡◌, ◌≢◌, ◌⊎◌, ℕ, ◌/◌, ◌%◌, ◌<◌, ◌≤◌, ◌==◌, ◌||◌, pos, Bool, false, List, replicate, Option, Some, None, slice_get, refl, sym, ap, subst, ◌∙◌, inl, inr, arith, eq-eqb, ne_eqb, common_steps, option_map, cases_eq, Call, Rmid, Reply, Id, Event, Segment, Entry, Runner, Machine, identifier, destroyed_in, with_segment, destroyed_at, attach_count, with_entry, marked, change, swept_at, Outcome, Caller, step_by, caller_of, IsMove, orphan_in, orphan, IsSame, put, held_by}
 use Rattle.shm_laws.proofs.Turning.{same_refl, set_in-here, set_in-there, swept_entry, swept-get, Turned, unchanged, turned-over, turned-as, entry-none}
 use Rattle.shm_laws.proofs.Fresh.{IsEmpty, made-at}
 use Rattle.shm_laws.proofs.Looks.{holds, stands-at}
-use Rattle.shm_laws.specs.Writing.{put, held_by}
 use Rattle.shm_laws.proofs.Refusing.{failure-removed, failure-put}
 use Rattle.shm_laws.proofs.Stepping.{Bare, SweepTo, MakeTo, RemoveTo, IsIdle, Kind, over_put, overlay, MadeBy, made_by, Moved, removed, kind-acts, still}
 

@@ -1,19 +1,5 @@
 -- Each piece lies within a segment that stands.
-use Rattle.std.proofs.Common.{◌≡◌, ℕ, suc, zero, ◌+◌, ◌*◌, ◌%◌, ◌≤◌, true, List, [], ◌∷◌, length, get_or, Option, Some, None, slice_get, refl, sym, ◌∙◌, inl, inr, arith}
-use Rattle.std.proofs.lemmas.Grind.{common_steps}
-use Rattle.std.proofs.lemmas.Option.{none-some}
-use Rattle.std.proofs.lemmas.List.Elements.{All-contains, Contains-get_or}
-use Rattle.shm_base.specs.declared.call.Event.{Event}
-use Rattle.shm_base.specs.State.{Segment, Piece, Runner, Machine, Opening, start_of}
-use Rattle.shm_base.specs.Identifier.{Invalid, Found}
-use Rattle.shm_base.specs.Access.{Place, covers, place_by, place}
-use Rattle.shm_base.specs.Space.{pieces_of}
-use Rattle.shm_base.specs.Segments.{attach_count}
-use Rattle.shm_base.specs.Step.{Caller, caller_of}
-use Rattle.shm_base.specs.History.{IsMove}
-use Rattle.shm_attach.proofs.Processes.{one_more}
-use Rattle.shm_laws.specs.Standing.{Stands, Has, EachPiece}
-use Rattle.shm_laws.specs.Writing.{held_by}
+use Rattle.shm_laws.proofs.Names.{◌≡◌, ℕ, suc, zero, ◌+◌, ◌*◌, ◌%◌, ◌≤◌, true, List, [], ◌∷◌, length, get_or, Option, Some, None, slice_get, refl, sym, ◌∙◌, inl, inr, arith, common_steps, none-some, All-contains, Contains-get_or, Event, Segment, Piece, Runner, Machine, Opening, start_of, Invalid, Found, Place, covers, place_by, place, pieces_of, attach_count, Caller, caller_of, IsMove, one_more, Stands, Has, EachPiece, held_by}
 use Rattle.shm_laws.proofs.Fates.{kind-move}
 use Rattle.shm_laws.proofs.Accessing.{lies-in}
 use Rattle.shm_laws.proofs.Granting.{IsPieceGiven, Aligned, each-has, has-own, mine, each-start, given-move, aligned-move}

@@ -1,27 +1,5 @@
 -- Each piece goes back to a shmat that was granted, and each move keeps out who has no leave.
-use Rattle.std.proofs.Common.{◌≡◌, ◌⊎◌, ℕ, ◌+◌, ◌*◌, ◌%◌, ◌<◌, ℤ, pos, negsuc, Bool, true, false, not, List, [], ◌∷◌, ◌++◌, length, get_or, Option, Some, None, slice_get, slice_set, refl, sym, ap, subst, ◌∙◌, inl, inr, arith, true≢false}
-use Rattle.std.specs.Prelude.{All, Contains}
-use Rattle.std.proofs.lemmas.Bool.{cases_Bool}
-use Rattle.std.proofs.lemmas.Option.{none-some, slice_get_within, get_or_from_slice_get}
-use Rattle.std.proofs.lemmas.List.Elements.{All-nil, All-append, All-filter, All-map, All-weaker, All-contains, Contains-get_or}
-use Rattle.std.proofs.lemmas.List.Concat.{flat_map-cons}
-use Rattle.std.proofs.lemmas.Grind.{common_steps}
-use Rattle.shm_base.specs.declared.owner.Cred.{Cred}
-use Rattle.shm_base.specs.declared.owner.Perm.{Perm}
-use Rattle.shm_base.specs.declared.call.Call.{Call}
-use Rattle.shm_base.specs.declared.call.Call.TheVariants.{Set, Rmid, Lock, Unlock, Load, Store, Xadd}
-use Rattle.shm_base.specs.declared.call.Reply.TheVariants.{Done}
-use Rattle.shm_base.specs.declared.call.Event.{Event}
-use Rattle.shm_base.specs.Access.{Place, covers, places, writable_places}
-use Rattle.shm_base.specs.Permission.{owns}
-use Rattle.shm_base.specs.State.{Segment, Piece, Live, Runner, Machine, Opening, start_of, runner_at_start, pages_in}
-use Rattle.shm_base.specs.Identifier.{Look, Found, Removed, Invalid, look}
-use Rattle.shm_base.specs.Space.{meets, part_below, part_above, parts, cut, inserted}
-use Rattle.shm_base.specs.Step.{Caller, Outcome, caller_of, acts, step_by, pieces_with, is_rdonly, controls, sets, removes, locks, unlocks, load, store, xadd}
-use Rattle.shm_base.specs.History.{is_refusal, IsMove, IsHistory}
-use Rattle.shm_life.proofs.Pieces.{all-cons, all-head, all-tail, all-slice_set}
-use Rattle.shm_laws.specs.Standing.{Has, EachPiece}
-use Rattle.shm_laws.specs.Leave.{IsPart, IsGranted, IsInherited, GoesBack, Granted, Kept, Inherited, Reach, StaysInside, controlled, IsOwner, OwnerAsks, KeepsOut, NoWayIn}
+use Rattle.shm_laws.proofs.Names.{◌≡◌, ◌⊎◌, ℕ, ◌+◌, ◌*◌, ◌%◌, ◌<◌, ℤ, pos, negsuc, Bool, true, false, not, List, [], ◌∷◌, ◌++◌, length, get_or, Option, Some, None, slice_get, slice_set, refl, sym, ap, subst, ◌∙◌, inl, inr, arith, true≢false, All, Contains, cases_Bool, none-some, slice_get_within, get_or_from_slice_get, All-nil, All-append, All-filter, All-map, All-weaker, All-contains, Contains-get_or, flat_map-cons, common_steps, Cred, Perm, Call, Set, Rmid, Lock, Unlock, Load, Store, Xadd, Done, Event, Place, covers, places, writable_places, owns, Segment, Piece, Live, Runner, Machine, Opening, start_of, runner_at_start, pages_in, Look, Found, Removed, Invalid, look, meets, part_below, part_above, parts, cut, inserted, Caller, Outcome, caller_of, acts, step_by, pieces_with, is_rdonly, controls, sets, removes, locks, unlocks, load, store, xadd, is_refusal, IsMove, IsHistory, all-cons, all-head, all-tail, all-slice_set, Has, EachPiece, IsPart, IsGranted, IsInherited, GoesBack, Granted, Kept, Inherited, Reach, StaysInside, controlled, IsOwner, OwnerAsks, KeepsOut, NoWayIn}
 use Rattle.shm_laws.proofs.Accessing.{lies-in, place-of, writable-at, writable-parts}
 use Rattle.shm_laws.proofs.Handing.{CallerAt, caller-at, IsAligned, Attaches, Leaves, Forks, Hands, hands-acts}
 use Rattle.shm_laws.proofs.Inducting.{each_move, at_all_times}

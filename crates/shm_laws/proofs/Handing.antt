@@ -1,25 +1,5 @@
 -- What each call does to the pieces of processes: nothing, or the caller attaches a segment, or loses pieces, or has a child.
-use Rattle.std.proofs.Common.{◌≡◌, ◌⊎◌, ℕ, suc, ◌+◌, ◌-◌, ◌*◌, ◌%◌, ◌==◌, ◌&&◌, ℤ, pos, negsuc, Bool, true, false, not, nat_lt, if◌then◌else◌, List, [], ◌∷◌, length, map, get_or, Option, Some, None, slice_get, slice_set, refl, sym, ap, ◌∙◌, inl, inr, arith, ne_eqb}
-use Rattle.std.proofs.lemmas.Grind.{common_steps}
-use Rattle.std.specs.Prelude.{All, filter, find}
-use Rattle.std.proofs.lemmas.Bool.{cases_eq, not-false}
-use Rattle.std.proofs.lemmas.Option.{none-some}
-use Rattle.std.proofs.lemmas.List.Elements.{All-map}
-use Rattle.shm_base.specs.declared.errno.Errno.{Errno}
-use Rattle.shm_base.specs.declared.call.Call.{Call}
-use Rattle.shm_base.specs.declared.call.Call.TheVariants.{Shmget, Shmat, Shmdt, Load, Fork, Exec, Exit}
-use Rattle.shm_base.specs.declared.call.Reply.TheVariants.{Addr, Done}
-use Rattle.shm_base.specs.declared.flags.AtFlags.{AtFlags}
-use Rattle.shm_base.specs.Access.{end_of}
-use Rattle.shm_base.specs.Permission.{grants}
-use Rattle.shm_base.specs.State.{Segment, Piece, Life, Live, Ended, Runner, Machine, pages_in}
-use Rattle.shm_base.specs.Identifier.{Look, Found, Removed, Invalid, identifier, destroyed_at, look}
-use Rattle.shm_base.specs.Space.{inside, occupied, choose, is_gap, first_chosen, origin_of, is_named}
-use Rattle.shm_base.specs.History.{is_refusal}
-use Rattle.shm_base.specs.Step.{refuses, creates, Caller, Outcome, caller_from, acts, at_wish, is_rnd, is_remap, pieces_with, with_pieces, attaches, attaches_chosen, attaches_fixed, attaches_found, shmat, detaches, forks, unborn_from}
-use Rattle.shm_life.proofs.Pieces.{all-cons, all-head, all-tail}
-use Rattle.shm_laws.specs.Standing.{Stands}
-use Rattle.shm_laws.specs.Pieces.{hands_pieces}
+use Rattle.shm_laws.proofs.Names.{◌≡◌, ◌⊎◌, ℕ, suc, ◌+◌, ◌-◌, ◌*◌, ◌%◌, ◌==◌, ◌&&◌, ℤ, pos, negsuc, Bool, true, false, not, nat_lt, if◌then◌else◌, List, [], ◌∷◌, length, map, get_or, Option, Some, None, slice_get, slice_set, refl, sym, ap, ◌∙◌, inl, inr, arith, ne_eqb, common_steps, All, filter, find, cases_eq, not-false, none-some, All-map, Errno, Call, Shmget, Shmat, Shmdt, Load, Fork, Exec, Exit, Addr, Done, AtFlags, end_of, grants, Segment, Piece, Life, Live, Ended, Runner, Machine, pages_in, Look, Found, Removed, Invalid, identifier, destroyed_at, look, inside, occupied, choose, is_gap, first_chosen, origin_of, is_named, is_refusal, refuses, creates, Caller, Outcome, caller_from, acts, at_wish, is_rnd, is_remap, pieces_with, with_pieces, attaches, attaches_chosen, attaches_fixed, attaches_found, shmat, detaches, forks, unborn_from, all-cons, all-head, all-tail, Stands, hands_pieces}
 use Rattle.shm_laws.proofs.Looks.{found-own}
 use Rattle.shm_laws.proofs.Stepping.{pick}
 

@@ -1,11 +1,5 @@
 -- What each move keeps holds at all times, and of each move.
-use Rattle.std.proofs.Common.{◌≡◌, ℕ, ◌+◌, List, [], ◌∷◌, ◌++◌, length, refl, sym, subst, arith, append_assoc, length-append}
-use Rattle.std.proofs.lemmas.List.{append-nil}
-use Rattle.shm_base.specs.declared.call.Event.{Event}
-use Rattle.shm_base.specs.State.{Machine, Opening, start_of}
-use Rattle.shm_base.specs.History.{IsMove, LeadsFrom, IsHistory}
-use Rattle.shm_history.proofs.Histories.{history_more}
-use Rattle.shm_laws.specs.Standing.{MovesBy, Always, Since, Began, Lasted}
+use Rattle.shm_laws.proofs.Names.{◌≡◌, ℕ, ◌+◌, List, [], ◌∷◌, ◌++◌, length, refl, sym, subst, arith, append_assoc, length-append, append-nil, Event, Machine, Opening, start_of, IsMove, LeadsFrom, IsHistory, history_more, MovesBy, Always, Since, Began, Lasted}
 
 -- what holds of a machine is kept by each move, and with it a law holds of the move
 abbrev pub Keeps : (Machine → Type 0) → (Machine → Event → Machine → Type 0) → Type 0

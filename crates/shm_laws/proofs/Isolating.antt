@@ -1,33 +1,10 @@
 -- A call sees no byte that is hidden from its process.
-use Rattle.std.proofs.Common.{◌≡◌, ◌⊎◌, ℕ, ◌+◌, ◌*◌, ◌/◌, ◌%◌, ◌^◌, ◌==◌, ℤ, Bool, true, false, not, nat_lt, if◌then◌else◌, List, [], ◌∷◌, length, Option, Some, None, slice_get, refl, sym, ap, subst, ◌∙◌, inl, inr, arith}
-use Rattle.std.proofs.lemmas.Grind.{common_steps}
-use Rattle.std.specs.Int.{w64, to_le_bytes, from_le_bytes}
-use Rattle.std.proofs.lemmas.List.{length-replicate}
-use Rattle.std.proofs.lemmas.Option.{none-some, slice_get_within}
-use Rattle.shm_base.specs.declared.errno.Errno.{Errno}
-use Rattle.shm_base.specs.declared.errno.Errno.TheVariants.{Eperm, Emfile}
-use Rattle.shm_base.specs.declared.flags.GetFlags.{GetFlags}
-use Rattle.shm_base.specs.declared.flags.AtFlags.{AtFlags}
-use Rattle.shm_base.specs.declared.call.Call.{Call}
-use Rattle.shm_base.specs.declared.call.Call.TheVariants.{Shmget, Shmat, Shmdt, Stat, Set, Rmid, Lock, Unlock, Load, Store, Xadd, Fork, Exec, Exit, Swapoff}
-use Rattle.shm_base.specs.declared.call.Reply.TheVariants.{Addr, Bytes, Number, Done}
-use Rattle.shm_base.specs.declared.call.Event.{Event}
-use Rattle.shm_base.specs.Access.{Place, place, places, writable_places, stored}
-use Rattle.shm_base.specs.State.{Segment, Entry, Piece, Runner, Machine, Opening, pages_in}
-use Rattle.shm_base.specs.Identifier.{Look, Found, Removed, Invalid, identifier, destroyed_in, destroyed_at, find_key, look}
-use Rattle.shm_base.specs.Space.{cut_segments, origin_of}
-use Rattle.shm_base.specs.Segments.{change, attached, detach_all, swept, after_detach}
-use Rattle.shm_base.specs.Step.{Outcome, gives, refuses, Caller, caller_of, with_pieces, with_end, segments_of, new_segment, creates_at, creates, gets, shmget, pieces_with, attaches, attaches_chosen, attaches_fixed, attaches_found, shmat, detaches, forks, unborn_from, stat, controls, sets, removes, locks, unlocks, load, store, xadd, number_at, takes_away, acts, step_by, step}
-use Rattle.shm_base.specs.History.{is_failure, IsMove, IsHistory}
-use Rattle.shm_laws.specs.Standing.{Has}
-use Rattle.shm_laws.specs.Leave.{Reach, reach}
-use Rattle.shm_laws.specs.Isolation.{veiled, veiled_from, veil, DifferIn, HasNone, IsPrivate, IsAsked, IsBlindOn, IsIsolated}
-use Rattle.shm_laws.specs.Writing.{held_by}
+use Rattle.shm_laws.proofs.Names.{◌≡◌, ◌⊎◌, ℕ, ◌+◌, ◌*◌, ◌/◌, ◌%◌, ◌^◌, ◌==◌, ℤ, Bool, true, false, not, nat_lt, if◌then◌else◌, List, [], ◌∷◌, length, Option, Some, None, slice_get, refl, sym, ap, subst, ◌∙◌, inl, inr, arith, common_steps, w64, to_le_bytes, from_le_bytes, length-replicate, none-some, slice_get_within, Errno, Eperm, Emfile, GetFlags, AtFlags, Call, Shmget, Shmat, Shmdt, Stat, Set, Rmid, Lock, Unlock, Load, Store, Xadd, Fork, Exec, Exit, Swapoff, Addr, Bytes, Number, Done, Event, Place, place, places, writable_places, stored, Segment, Entry, Piece, Runner, Machine, Opening, pages_in, Look, Found, Removed, Invalid, identifier, destroyed_in, destroyed_at, find_key, look, cut_segments, origin_of, change, attached, detach_all, swept, after_detach, Outcome, gives, refuses, Caller, caller_of, with_pieces, with_end, segments_of, new_segment, creates_at, creates, shmget, pieces_with, attaches, attaches_chosen, attaches_fixed, attaches_found, shmat, detaches, forks, unborn_from, stat, controls, sets, removes, locks, unlocks, load, store, xadd, number_at, takes_away, acts, step_by, step, is_failure, IsMove, IsHistory, Has, Reach, reach, veiled, veiled_from, veil, DifferIn, HasNone, IsPrivate, IsAsked, IsBlindOn, IsIsolated, held_by, clear_step, first_clear, rest_clear}
+use Rattle.shm_base.specs.Step.{gets}
 use Rattle.shm_laws.proofs.Accessing.{place-of, places-length, writable-parts}
 use Rattle.shm_laws.proofs.Fitting.{IsFit, fit-start, fit-move, spot-fits}
 use Rattle.shm_laws.proofs.Inducting.{always}
 use Rattle.shm_laws.proofs.Looks.{stands-at}
-use Rattle.shm_history.proofs.Clear.{clear_step, first_clear, rest_clear}
 use Rattle.shm_laws.proofs.Veiling.{veiled-pages, veiled_look, veiled-destroyed, reserved-veiled, locked-sum, count-veiled, free-veiled, find-veiled, look-veiled, change-veiled, detach-veiled, swept-veiled, made-veiled, Seen, Hid, loaded-veiled, stored-veiled, stored-hidden}
 
 -- the outcome with those bytes hidden

@@ -1,9 +1,5 @@
 -- Every legal history keeps all laws.
-use Rattle.std.proofs.Common.{List}
-use Rattle.shm_base.specs.declared.call.Event.{Event}
-use Rattle.shm_base.specs.State.{Machine, Opening}
-use Rattle.shm_base.specs.History.{IsHistory}
-use Rattle.shm_laws.specs.Lawful.{IsLawful}
+use Rattle.shm_laws.proofs.Names.{List, Event, Machine, Opening, IsHistory, IsLawful}
 use Rattle.shm_laws.proofs.Remembering.{has_last_writers}
 use Rattle.shm_laws.proofs.Naming.{names_one_segment}
 use Rattle.shm_laws.proofs.Removing.{goes_when_it_must}

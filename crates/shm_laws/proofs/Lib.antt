@@ -1,3 +1,4 @@
+pub mod Names
 pub mod Replaying
 pub mod Computing
 pub mod Turning

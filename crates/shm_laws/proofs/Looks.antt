@@ -1,8 +1,5 @@
 -- What a look finds, and what stands at the index.
-use Rattle.std.proofs.Common.{◌≡◌, ℕ, ◌/◌, ◌%◌, ◌<◌, pos, List, Option, Some, None, slice_get, refl, arith}
-use Rattle.std.proofs.lemmas.Grind.{common_steps}
-use Rattle.shm_base.specs.State.{Segment, Entry}
-use Rattle.shm_base.specs.Identifier.{Look, Found, Removed, Invalid, look_entry, look, identifier, destroyed_at}
+use Rattle.shm_laws.proofs.Names.{◌≡◌, ℕ, ◌/◌, ◌%◌, ◌<◌, pos, List, Option, Some, None, slice_get, refl, arith, common_steps, Segment, Entry, Look, Found, Removed, Invalid, look_entry, look, identifier, destroyed_at}
 
 abbrev pub holds : ℕ → Segment → Option Entry
 holds d x = Some (record { destroyed = d; segment = Some x })

@@ -1,17 +1,6 @@
 -- An identifier names one segment.
-use Rattle.std.proofs.Common.{◌≡◌, ◌⊎◌, ℕ, ◌+◌, ◌/◌, ◌%◌, ◌<◌, pos, List, [], ◌∷◌, ◌++◌, length, replicate, Option, Some, None, slice_get, refl, sym, ap, subst, ◌∙◌, inl, inr, arith}
-use Rattle.std.proofs.lemmas.Grind.{common_steps}
-use Rattle.shm_base.specs.declared.call.Reply.TheVariants.{Id}
-use Rattle.shm_base.specs.declared.call.Event.{Event}
-use Rattle.shm_base.specs.State.{Segment, Entry, Runner, Machine, Opening, start_of}
-use Rattle.shm_base.specs.Identifier.{Invalid, identifier, destroyed_in, look}
-use Rattle.shm_base.specs.Segments.{swept_at}
-use Rattle.shm_base.specs.Step.{Caller, caller_of}
-use Rattle.shm_base.specs.History.{IsMove, LeadsFrom, IsHistory}
-use Rattle.shm_segments.specs.Table.{segment_in}
-use Rattle.shm_laws.specs.Standing.{Stands, IsGone, MovesBy, MomentsBy, Since, Began, Lasted}
-use Rattle.shm_laws.specs.Identity.{IsSame, KeepsNames, NamesAnew, IsMadeBy, StandsAs, AreMade, NamesOneSegment}
-use Rattle.shm_laws.specs.Writing.{Makes}
+use Rattle.shm_laws.proofs.Names.{◌≡◌, ◌⊎◌, ℕ, ◌+◌, ◌/◌, ◌%◌, ◌<◌, pos, List, [], ◌∷◌, ◌++◌, length, replicate, Option, Some, None, slice_get, refl, sym, ap, subst, ◌∙◌, inl, inr, arith, common_steps, Id, Event, Segment, Entry, Runner, Machine, Opening, start_of, Invalid, identifier, destroyed_in, look, swept_at, Caller, caller_of, IsMove, LeadsFrom, IsHistory, segment_in, Stands, IsGone, MovesBy, MomentsBy, Since, Began, Lasted, IsSame, KeepsNames, NamesAnew, IsMadeBy, StandsAs, NamesOneSegment, Makes}
+use Rattle.shm_laws.specs.Identity.{AreMade}
 use Rattle.shm_laws.proofs.Fresh.{IsEmpty}
 use Rattle.shm_laws.proofs.Turning.{same_refl, same_trans}
 use Rattle.shm_laws.proofs.Handing.{caller-at}

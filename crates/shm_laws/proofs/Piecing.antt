@@ -1,22 +1,5 @@
 -- What a piece names stands.
-use Rattle.std.proofs.Common.{◌≡◌, ◌⊎◌, ℕ, suc, zero, ◌+◌, ◌*◌, ◌≤◌, not, List, [], ◌∷◌, map, Option, Some, None, slice_get, slice_set, refl, ap, subst, inl, inr, arith}
-use Rattle.std.proofs.lemmas.Grind.{common_steps}
-use Rattle.std.proofs.lemmas.Bool.{cases_eq}
-use Rattle.std.specs.Prelude.{filter}
-use Rattle.std.proofs.lemmas.List.Sums.{sum_by-cons}
-use Rattle.shm_base.specs.declared.call.Call.{Call}
-use Rattle.shm_base.specs.declared.call.Event.{Event}
-use Rattle.shm_base.specs.declared.call.Process.{Process}
-use Rattle.shm_base.specs.State.{Segment, Piece, Live, Runner, Machine, Opening, start_of, runner_at_start, pages_in}
-use Rattle.shm_base.specs.Space.{cut, pieces_of}
-use Rattle.shm_base.specs.Segments.{attach_count}
-use Rattle.shm_base.specs.Step.{Caller, Outcome, caller_of, acts, step_by, is_rdonly, pieces_with}
-use Rattle.shm_base.specs.History.{IsMove, IsHistory}
-use Rattle.shm_attach.proofs.Processes.{one_more, pieces_of-inserted, pieces_of-cut_cons, pieces_of-filter}
-use Rattle.shm_segments.proofs.Entries.{sum-set}
-use Rattle.shm_laws.specs.Standing.{Stands}
-use Rattle.shm_laws.specs.Removal.{IsDue}
-use Rattle.shm_laws.specs.Pieces.{PiecesNameWhatStands, GivesPieces, CountsPieces, PiecesAreOfSegments}
+use Rattle.shm_laws.proofs.Names.{◌≡◌, ◌⊎◌, ℕ, suc, zero, ◌+◌, ◌*◌, ◌≤◌, not, List, [], ◌∷◌, map, Option, Some, None, slice_get, slice_set, refl, ap, subst, inl, inr, arith, common_steps, cases_eq, filter, sum_by-cons, Call, Event, Process, Segment, Piece, Live, Runner, Machine, Opening, start_of, runner_at_start, pages_in, cut, pieces_of, attach_count, Caller, Outcome, caller_of, acts, step_by, is_rdonly, pieces_with, IsMove, IsHistory, one_more, pieces_of-inserted, pieces_of-cut_cons, pieces_of-filter, sum-set, Stands, IsDue, PiecesNameWhatStands, GivesPieces, CountsPieces, PiecesAreOfSegments}
 use Rattle.shm_laws.proofs.Counting.{counts-move}
 use Rattle.shm_laws.proofs.Handing.{Attaches, Hands, caller-at, hands-acts}
 use Rattle.shm_laws.proofs.Inducting.{Keeps, each_move}

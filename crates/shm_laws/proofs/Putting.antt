@@ -1,11 +1,5 @@
 -- A byte after an access: what the last of its places put there, or what was there.
-use Rattle.std.proofs.Common.{◌≡◌, ◌⊎◌, ℕ, suc, zero, ◌%◌, ◌<◌, List, [], ◌∷◌, length, replicate, Option, Some, slice_get, refl, sym, subst, ◌∙◌, inl, inr, arith}
-use Rattle.std.proofs.lemmas.Grind.{common_steps}
-use Rattle.std.proofs.lemmas.Option.{none-some}
-use Rattle.shm_base.specs.State.{Piece}
-use Rattle.shm_base.specs.Access.{Place}
-use Rattle.shm_segments.proofs.Entries.{get-set_other, length-slice_set}
-use Rattle.shm_laws.specs.Writing.{Put}
+use Rattle.shm_laws.proofs.Names.{◌≡◌, ◌⊎◌, ℕ, suc, zero, ◌%◌, ◌<◌, List, [], ◌∷◌, length, replicate, Option, Some, slice_get, refl, sym, subst, ◌∙◌, inl, inr, arith, common_steps, none-some, Piece, Place, get-set_other, length-slice_set, Put}
 use Rattle.shm_laws.proofs.Turning.{byte_in, puts_in, set-got}
 use Rattle.shm_laws.proofs.Stepping.{over_put}
 

@@ -1,11 +1,5 @@
 -- A pager's failure is a refusal, and does nothing.
-use Rattle.std.proofs.Common.{◌≡◌, true, None, arith}
-use Rattle.shm_base.specs.declared.errno.Errno.{Errno}
-use Rattle.shm_base.specs.declared.call.Call.{Call}
-use Rattle.shm_base.specs.declared.call.Reply.{Reply}
-use Rattle.shm_base.specs.declared.call.Reply.TheVariants.{Refused}
-use Rattle.shm_base.specs.History.{is_refusal, is_failure}
-use Rattle.shm_laws.specs.Writing.{put}
+use Rattle.shm_laws.proofs.Names.{◌≡◌, true, None, arith, Errno, Call, Reply, Refused, is_refusal, is_failure, put}
 use Rattle.shm_laws.proofs.Stepping.{removed}
 
 -- what names a failure is a refusal

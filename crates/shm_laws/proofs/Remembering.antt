@@ -1,22 +1,5 @@
 -- Each byte is that of its last writer, and so is each byte that an event answers.
-use Rattle.std.proofs.Common.{◌≡◌, ◌⊎◌, ℕ, ◌+◌, ◌-◌, ◌*◌, ◌%◌, ◌<◌, true, false, List, [], ◌∷◌, ◌++◌, length, Option, Some, None, slice_get, refl, sym, ap, subst, ◌∙◌, inl, inr, arith, true≢false}
-use Rattle.std.specs.Int.{w64, from_le_bytes}
-use Rattle.std.specs.Prelude.{option_map}
-use Rattle.std.proofs.lemmas.List.{length-map}
-use Rattle.std.proofs.lemmas.Grind.{common_steps}
-use Rattle.std.proofs.lemmas.Option.{none-some, slice_get-map, slice_get-get_or, slice_get_within}
-use Rattle.shm_base.specs.declared.errno.Errno.TheVariants.{Esrch}
-use Rattle.shm_base.specs.declared.call.Call.{Call}
-use Rattle.shm_base.specs.declared.call.Call.TheVariants.{Load, Store, Xadd}
-use Rattle.shm_base.specs.declared.call.Reply.{Reply}
-use Rattle.shm_base.specs.declared.call.Reply.TheVariants.{Bytes, Number}
-use Rattle.shm_base.specs.declared.call.Event.{Event}
-use Rattle.shm_base.specs.State.{Segment, Piece, Machine, Opening, start_of}
-use Rattle.shm_base.specs.Access.{Place, covers, place_by, place, places, writable_places, byte_at, loaded}
-use Rattle.shm_base.specs.Step.{Caller, Outcome, caller_of, acts, step_by, step, load, store, xadd, number_at}
-use Rattle.shm_base.specs.History.{is_refusal, IsMove, IsHistory}
-use Rattle.shm_laws.specs.Standing.{Stands, Began, Lasted}
-use Rattle.shm_laws.specs.Writing.{Put, put, held_by, IsByte, Writes, Spares, IsLast, Remembers, AreLast, Recalls, HasLastWriters}
+use Rattle.shm_laws.proofs.Names.{◌≡◌, ◌⊎◌, ℕ, ◌+◌, ◌-◌, ◌*◌, ◌%◌, ◌<◌, true, false, List, [], ◌∷◌, ◌++◌, length, Option, Some, None, slice_get, refl, sym, ap, subst, ◌∙◌, inl, inr, arith, true≢false, w64, from_le_bytes, option_map, length-map, common_steps, none-some, slice_get-map, slice_get-get_or, slice_get_within, Esrch, Call, Load, Store, Xadd, Reply, Bytes, Number, Event, Segment, Piece, Machine, Opening, start_of, Place, covers, place_by, place, places, writable_places, byte_at, loaded, Caller, Outcome, caller_of, acts, step_by, step, load, store, xadd, number_at, is_refusal, IsMove, IsHistory, Stands, Began, Lasted, Put, put, held_by, IsByte, Writes, Spares, IsLast, Remembers, AreLast, Recalls, HasLastWriters}
 use Rattle.shm_laws.proofs.Accessing.{place-of, places-length, writable-parts}
 use Rattle.shm_laws.proofs.Fates.{kind-move}
 use Rattle.shm_laws.proofs.Fitting.{one-index, Fits, AllFit, IsFit, fit-start, fit-move, spot-fits}

@@ -1,18 +1,5 @@
 -- Each move destroys what is due, and what is marked has a piece.
-use Rattle.std.proofs.Common.{◌≡◌, ◌⊎◌, ℕ, suc, zero, ◌+◌, ◌/◌, ◌%◌, ◌==◌, ◌&&◌, pos, Bool, true, false, List, [], ◌∷◌, map, Some, None, slice_get, refl, sym, ap, ◌∙◌, inl, inr, arith, eq-eqb}
-use Rattle.std.proofs.lemmas.Grind.{common_steps}
-use Rattle.std.proofs.lemmas.Bool.{or_right}
-use Rattle.std.proofs.lemmas.Option.{none-some}
-use Rattle.shm_base.specs.declared.call.Process.{Process}
-use Rattle.shm_base.specs.declared.call.Event.{Event}
-use Rattle.shm_base.specs.State.{Segment, Runner, Machine, Opening, start_of, runner_at_start}
-use Rattle.shm_base.specs.Identifier.{identifier}
-use Rattle.shm_base.specs.Segments.{attach_count}
-use Rattle.shm_base.specs.Step.{caller_of}
-use Rattle.shm_base.specs.History.{IsHistory}
-use Rattle.shm_laws.specs.Standing.{Stands, IsGone}
-use Rattle.shm_laws.specs.Identity.{IsSame}
-use Rattle.shm_laws.specs.Removal.{MarkedHavePieces, IsDue, DestroysWhatIsDue, GoesWhenItMust}
+use Rattle.shm_laws.proofs.Names.{◌≡◌, ◌⊎◌, ℕ, suc, zero, ◌+◌, ◌/◌, ◌%◌, ◌==◌, ◌&&◌, pos, Bool, true, false, List, [], ◌∷◌, map, Some, None, slice_get, refl, sym, ap, ◌∙◌, inl, inr, arith, eq-eqb, common_steps, or_right, none-some, Process, Event, Segment, Runner, Machine, Opening, start_of, runner_at_start, identifier, attach_count, caller_of, IsHistory, Stands, IsGone, IsSame, MarkedHavePieces, IsDue, DestroysWhatIsDue, GoesWhenItMust}
 use Rattle.shm_laws.proofs.Inducting.{Keeps, each_move}
 use Rattle.shm_laws.proofs.Looks.{stands-at, at-stands, at-gone, not-both}
 use Rattle.shm_laws.proofs.Stepping.{Bare, overlay, made_by, Moved, removed}

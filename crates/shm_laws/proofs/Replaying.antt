@@ -1,16 +1,5 @@
 -- Of legal histories without failures there is one for each opening and calls.
-use Rattle.std.proofs.Common.{◌≡◌, ℕ, ◌+◌, true, false, List, [], ◌∷◌, Option, Some, None, refl, sym, ap, ◌∙◌, arith, inl, inr, true≢false}
-use Rattle.std.proofs.lemmas.Grind.{common_steps}
-use Rattle.shm_base.specs.declared.call.Call.{Call}
-use Rattle.shm_base.specs.declared.call.Call.TheVariants.{Load}
-use Rattle.shm_base.specs.declared.call.Reply.TheVariants.{Bytes}
-use Rattle.shm_base.specs.declared.call.Event.{Event}
-use Rattle.shm_base.specs.State.{Machine, Opening}
-use Rattle.shm_base.specs.Step.{Caller, Outcome, acts, step_by, step, caller_of}
-use Rattle.shm_base.specs.History.{is_refusal, is_failure, IsExcused, IsMove, LeadsFrom, IsHistory}
-use Rattle.shm_history.specs.WorldState.{calls_of, failures_in}
-use Rattle.shm_history.proofs.Clear.{clear_step, failures-cons, first_clear, rest_clear}
-use Rattle.shm_laws.specs.Replay.{undone, without_failures, IsReplayed}
+use Rattle.shm_laws.proofs.Names.{◌≡◌, ℕ, ◌+◌, true, false, List, [], ◌∷◌, Option, Some, None, refl, sym, ap, ◌∙◌, arith, inl, inr, true≢false, common_steps, Call, Load, Bytes, Event, Machine, Opening, Caller, Outcome, acts, step_by, step, caller_of, is_refusal, is_failure, IsExcused, IsMove, LeadsFrom, IsHistory, calls_of, failures_in, clear_step, failures-cons, first_clear, rest_clear, undone, without_failures, IsReplayed}
 
 -- THE STEP NAMES NO FAILURE
 

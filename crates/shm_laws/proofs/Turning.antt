@@ -1,14 +1,5 @@
 -- Changes of a table that keep what a segment was made as, and its mark; and what becomes of its bytes.
-use Rattle.std.proofs.Common.{◌≡◌, ◌≢◌, ◌⊎◌, ℕ, suc, zero, ◌+◌, ◌%◌, ◌==◌, if◌then◌else◌, List, [], ◌∷◌, Option, Some, slice_get, slice_set, refl, sym, ap, subst, ◌∙◌, inl, inr, arith, eq-eqb, ne_eqb}
-use Rattle.std.proofs.lemmas.Grind.{common_steps}
-use Rattle.std.proofs.lemmas.Option.{none-some}
-use Rattle.std.specs.Prelude.{option_map}
-use Rattle.std.proofs.lemmas.Bool.{cases_eq}
-use Rattle.shm_base.specs.State.{Segment, Entry, Runner}
-use Rattle.shm_base.specs.Access.{Place, set_in, with_byte, byte_set, stored}
-use Rattle.shm_base.specs.Segments.{change, with_entry, detached, detach_all, swept_at, swept_from, swept}
-use Rattle.shm_laws.specs.Identity.{IsSame}
-use Rattle.shm_segments.proofs.Entries.{get-set_same, get-set_other}
+use Rattle.shm_laws.proofs.Names.{◌≡◌, ◌≢◌, ◌⊎◌, ℕ, suc, zero, ◌+◌, ◌%◌, ◌==◌, if◌then◌else◌, List, [], ◌∷◌, Option, Some, slice_get, slice_set, refl, sym, ap, subst, ◌∙◌, inl, inr, arith, eq-eqb, ne_eqb, common_steps, none-some, option_map, cases_eq, Segment, Entry, Runner, Place, set_in, with_byte, byte_set, stored, change, with_entry, detached, detach_all, swept_at, swept_from, swept, IsSame, get-set_same, get-set_other}
 
 pub same_refl : (x : Segment) → IsSame x x
 same_refl x = record { size = refl; cpid = refl; cuid = refl; cgid = refl }

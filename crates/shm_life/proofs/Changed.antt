@@ -1,36 +1,16 @@
 -- What is kept where a segment is locked, marked or written, and where a process forks.
-use Rattle.std.proofs.Common.{◌≡◌, ℕ, ◌+◌, ◌/◌, ◌%◌, ◌≤◌, ◌&&◌, nat_lt, not, Bool, true, false, if◌then◌else◌, List, [], ◌∷◌, length, ◌≢◌, ◌⊎◌, inl, inr, slice_get, slice_set, Some, ap, refl, sym, ◌∙◌, arith, eq-eqb, true≢false}
-use Rattle.std.specs.Prelude.{All, Option, Result, Ok, Err, OnOk, OnErr}
-use Rattle.shm_base.specs.Access.{Place}
-use Rattle.shm_base.specs.Bounds.{Bounds}
-use Rattle.shm_base.specs.State.{Live, Entry, Runner, pages_of, pages_in}
-use Rattle.shm_base.specs.Identifier.{identifier}
-use Rattle.shm_base.specs.Segments.{attach_count, change, marked, pages_locked, locked}
+use Rattle.shm_life.proofs.Names.{◌≡◌, ℕ, ◌+◌, ◌/◌, ◌%◌, ◌≤◌, ◌&&◌, nat_lt, not, Bool, true, false, if◌then◌else◌, List, [], ◌∷◌, length, ◌≢◌, ◌⊎◌, inl, inr, Some, ap, refl, sym, ◌∙◌, arith, eq-eqb, All, OnOk, OnErr, Place, Bounds, Live, Entry, Runner, pages_of, identifier, attach_count, change, marked, pages_locked, locked, Span, Translation, IsCaller, caller_seen, pieces_at, InPage, page_of, PassPages, pieces_by, wanted, wanted_in, Child, born_child, pieces_by-caller, IsFound, SpanFits, page_there, relocked, get-set_same, get-set_other, sum-set, SamePages, SameTable, same-refl, change-pages, change-locked, change-left, PieceFits, PiecesFit, IsMachineKept, IsWell, IsWellBut, is_among, orphan_in, orphan, id_at, StoreView, frame_of, cases_eq, nat_tests}
+use Rattle.std.proofs.Common.{slice_get, slice_set, true≢false}
+use Rattle.std.specs.Prelude.{Option, Result, Ok, Err}
+use Rattle.shm_base.specs.State.{pages_in}
 use Rattle.shm_base.specs.Step.{Caller as FlatCaller}
-use Rattle.shm_base.specs.declared.paging.Span.{Span}
 use Rattle.shm_attach.specs.declared.process.Caller.{Caller}
-use Rattle.shm_attach.specs.Spaces.{Translation, IsCaller, caller_seen, pieces_at}
-use Rattle.shm_base.specs.Spans.{InPage, page_of}
-use Rattle.shm_attach.specs.Spans.{PassPages, pieces_by, wanted, wanted_in}
-use Rattle.shm_attach.specs.declared.process.Child.{Child}
-use Rattle.shm_attach.specs.Fork.{born_child}
-use Rattle.shm_attach.proofs.FlatSteps.{pieces_by-caller}
 use Rattle.shm_segments.specs.declared.head.Found.{Found}
-use Rattle.shm_segments.specs.Table.{IsFound, SpanFits, page_there, relocked}
 use Rattle.shm_segments.specs.Table as table
-use Rattle.shm_segments.proofs.Entries.{get-set_same, get-set_other, sum-set}
-use Rattle.shm_segments.proofs.Same.{SamePages, SameTable, same-refl, change-pages, change-locked, change-left}
-use Rattle.shm_life.specs.Tied.{PieceFits, PiecesFit}
-use Rattle.shm_life.specs.Kept.{IsMachineKept, IsWell, IsWellBut}
-use Rattle.shm_life.specs.Orphans.{is_among}
-use Rattle.shm_segments.specs.Left.{orphan_in, orphan, id_at}
-use Rattle.shm_fault.specs.Store.{StoreView, frame_of}
-use Rattle.std.proofs.lemmas.Bool.{cases_eq}
 use Rattle.shm_life.proofs.Leaving.{orphans-among}
 use Rattle.shm_life.proofs.Pieces.{fit-set, fit-same}
 use Rattle.shm_life.proofs.Settled.{caller-fits}
 use Rattle.shm_life.proofs.Running.{true_still, kept-by}
-use Rattle.std.proofs.lemmas.Bool.Decides.{nat_tests}
 
 -- LOCKED
 

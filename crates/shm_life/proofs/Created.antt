@@ -1,22 +1,8 @@
 -- What is kept where a segment is made.
-use Rattle.std.proofs.Common.{◌≡◌, ◌≢◌, ◌⊎◌, ℕ, zero, suc, pos, ℤ, ◌+◌, ◌*◌, ◌/◌, ◌%◌, ◌<◌, ◌≤◌, ◌&&◌, nat_lt, Bool, true, false, is_none, is_some, List, [], ◌∷◌, ◌++◌, length, get_or, replicate, slice_get, slice_set, Option, Some, None, option_map, refl, sym, ap, ◌∙◌, inl, inr, arith, eq-eqb, ne_eqb}
-use Rattle.std.proofs.lemmas.Bool.{cases_eq, cases_Bool, cases_lt, lt-ltb, le-ltb}
-use Rattle.std.proofs.lemmas.Option.{none-some, slice_get_past, slice_get-get_or}
-use Rattle.std.proofs.lemmas.List.{length-append, length-replicate}
-use Rattle.std.proofs.lemmas.List.Sums.{sum_by-append, sum_by-cons}
-use Rattle.shm_base.specs.Bounds.{Bounds}
-use Rattle.shm_base.specs.State.{Segment, Piece, Entry, Runner, pages_of, pages_in}
-use Rattle.shm_base.specs.Identifier.{identifier, free_from, free_index, destroyed_at, destroyed_in, with_segment}
-use Rattle.shm_base.specs.Segments.{pages_held, pages_locked, reserved, locked}
-use Rattle.shm_segments.specs.declared.head.Head.{Head}
-use Rattle.shm_segments.specs.Joined.{segment_of}
-use Rattle.shm_segments.specs.Table.{live, made, created}
-use Rattle.shm_segments.proofs.Entries.{get-set_same, get-set_other, length-slice_set, sum-set}
-use Rattle.shm_life.specs.Tied.{PieceFits}
-use Rattle.shm_life.specs.Orphans.{OrphansAmong}
-use Rattle.shm_life.specs.Kept.{IsMachineKept}
+use Rattle.shm_life.proofs.Names.{◌≡◌, ◌≢◌, ◌⊎◌, ℕ, zero, suc, pos, ℤ, ◌+◌, ◌*◌, ◌/◌, ◌%◌, ◌<◌, ◌≤◌, ◌&&◌, nat_lt, Bool, true, false, is_none, List, [], ◌∷◌, ◌++◌, length, get_or, replicate, Some, None, refl, sym, ap, ◌∙◌, inl, inr, arith, eq-eqb, ne_eqb, cases_eq, cases_Bool, cases_lt, lt-ltb, le-ltb, none-some, slice_get_past, slice_get-get_or, length-append, length-replicate, sum_by-append, sum_by-cons, Bounds, Segment, Piece, Entry, Runner, pages_of, identifier, free_from, free_index, destroyed_at, destroyed_in, with_segment, pages_held, pages_locked, reserved, locked, Head, segment_of, live, made, created, get-set_same, get-set_other, length-slice_set, sum-set, PieceFits, OrphansAmong, IsMachineKept, nat_tests}
+use Rattle.std.proofs.Common.{is_some, slice_get, slice_set, Option, option_map}
+use Rattle.shm_base.specs.State.{pages_in}
 use Rattle.shm_life.proofs.Pieces.{fit-table}
-use Rattle.std.proofs.lemmas.Bool.Decides.{nat_tests}
 
 -- WHAT STANDS AT A FREE INDEX
 

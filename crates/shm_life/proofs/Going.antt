@@ -1,25 +1,8 @@
 -- A process whose pieces go, or come: what the calls on segments need, and what is kept but for segments that
 -- lost their last piece.
-use Rattle.std.proofs.Common.{◌≡◌, ◌≤◌, ℕ, ◌+◌, ◌*◌, ◌%◌, false, List, [], ◌∷◌, zero, suc, slice_get, slice_set, Some, None, Option, option_map, refl, sym, ap, ◌∙◌, arith}
-use Rattle.std.proofs.lemmas.List.Elements.{All-nil}
-use Rattle.std.specs.Prelude.{All}
-use Rattle.shm_base.specs.Access.{set_in}
-use Rattle.shm_base.specs.Bounds.{Bounds}
-use Rattle.shm_base.specs.State.{Piece, Life, Live, Entry, Runner}
-use Rattle.shm_base.specs.Space.{cut, pieces_of, origin_of, without_named}
-use Rattle.shm_base.specs.Segments.{change, with_entry, attached, detached, detach_all}
-use Rattle.shm_base.specs.Step.{segments_of}
-use Rattle.shm_base.specs.declared.flags.AtFlags.{AtFlags}
-use Rattle.shm_fault.specs.Store.{StoreView}
+use Rattle.shm_life.proofs.Names.{◌≡◌, ◌≤◌, ℕ, ◌+◌, ◌*◌, ◌%◌, false, List, [], ◌∷◌, zero, suc, Some, None, refl, sym, ap, ◌∙◌, arith, All-nil, All, set_in, Bounds, Piece, Life, Live, Entry, Runner, cut, pieces_of, origin_of, without_named, change, with_entry, attached, detached, detach_all, segments_of, AtFlags, StoreView, Translation, AreTrue, IsCaller, caller_seen, pieces_at, IsLive, SameTable, change-same, Placed, piece_for, pieces_after, lost_to, PieceFits, is_among, IsMachineKept, IsKeptBut, IsWell, IsWellBut}
+use Rattle.std.proofs.Common.{slice_get, slice_set, Option, option_map}
 use Rattle.shm_attach.specs.declared.process.Caller.{Caller}
-use Rattle.shm_attach.specs.Spaces.{Translation, AreTrue, IsCaller, caller_seen, pieces_at}
-use Rattle.shm_segments.specs.Table.{IsLive}
-use Rattle.shm_segments.proofs.Same.{SameTable, change-same}
-use Rattle.shm_life.specs.declared.attach.Placed.{Placed}
-use Rattle.shm_life.specs.Placing.{piece_for, pieces_after, lost_to}
-use Rattle.shm_life.specs.Tied.{PieceFits}
-use Rattle.shm_life.specs.Orphans.{is_among}
-use Rattle.shm_life.specs.Kept.{IsMachineKept, IsKeptBut, IsWell, IsWellBut}
 use Rattle.shm_life.proofs.Leaving.{keeps-set, keeps-all, keeps-without, keeps-cut, orphans-among}
 use Rattle.shm_life.proofs.Running.{kept-by}
 use Rattle.shm_life.proofs.Pieces.{fit-set, pass-cut, pass-inserted, pass-without, piece-same}

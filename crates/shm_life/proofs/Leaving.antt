@@ -1,13 +1,6 @@
 -- Which segments may be left without pieces when pieces go.
-use Rattle.std.proofs.Common.{◌≡◌, ℕ, ◌-◌, ◌≤◌, true, false, not, List, [], ◌∷◌, length, map, filter, slice_get, slice_set, Option, Some, refl, arith}
-use Rattle.shm_base.specs.State.{Piece, Entry, Runner}
-use Rattle.shm_base.specs.Segments.{attach_count}
-use Rattle.shm_base.specs.Space.{meets, cut, cut_segments, inserted, pieces_of, is_named, without_named}
-use Rattle.shm_attach.proofs.Processes.{one_more, shorter_filter, pieces_of-inserted, pieces_of-cut_met, pieces_of-without}
-use Rattle.shm_segments.specs.Left.{orphan_in, id_in, id_at}
-use Rattle.shm_life.specs.Orphans.{is_among, OrphansAmong}
-use Rattle.shm_segments.proofs.Entries.{sum-set}
-use Rattle.std.proofs.lemmas.Bool.Decides.{nat_tests}
+use Rattle.shm_life.proofs.Names.{◌≡◌, ℕ, ◌-◌, ◌≤◌, true, false, not, List, [], ◌∷◌, length, filter, Some, refl, arith, Piece, Entry, Runner, attach_count, meets, cut, cut_segments, inserted, pieces_of, is_named, without_named, one_more, shorter_filter, pieces_of-inserted, pieces_of-cut_met, pieces_of-without, orphan_in, id_in, id_at, is_among, OrphansAmong, sum-set, nat_tests}
+use Rattle.std.proofs.Common.{map, slice_get, slice_set, Option}
 
 -- other segments keep their pieces
 abbrev pub KeepsPieces : List ℕ → List Runner → List Runner → Type 0

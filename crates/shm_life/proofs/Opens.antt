@@ -1,22 +1,7 @@
 -- Where no start error holds, swap areas and processes are as their crates ask.
-use Rattle.std.proofs.Common.{◌≡◌, ◌≢◌, ℕ, zero, suc, ◌≤◌, ◌&&◌, nat_le, nat_lt, Bool, true, false, not, if◌then◌else◌, List, [], ◌∷◌, length, map, get_or, replicate, Option, Some, None, refl, sym, ap, arith, true≢false}
-use Rattle.std.proofs.lemmas.Grind.{common_steps}
-use Rattle.std.proofs.lemmas.Option.{none-some}
-use Rattle.std.proofs.lemmas.List.Elements.{All-nil, All-map}
-use Rattle.std.proofs.lemmas.List.{length-map, length-replicate, get_or-replicate, get_or_past}
-use Rattle.std.proofs.lemmas.List.Kept.{AllPairs-cons}
-use Rattle.std.specs.Prelude.{All, AllPairs}
-use Rattle.shm_base.specs.Bounds.{Bounds, within}
-use Rattle.shm_base.specs.State.{Runner, runner_at_start}
-use Rattle.shm_life.specs.Tied.{PieceFits}
-use Rattle.shm_life.specs.Kept.{IsMachineKept}
-use Rattle.shm_base.specs.declared.call.Process.{Process}
-use Rattle.shm_base.specs.declared.paging.PageRef.{PageRef}
-use Rattle.shm_pager.specs.Pages.{pager_seen}
-use Rattle.shm_slots.specs.View.{IsAreaSize, owner_of, sizes, new_swap, fresh}
-use Rattle.shm_life.specs.Start.{are_sizes, has_pid, are_pids, start_error}
+use Rattle.shm_life.proofs.Names.{◌≡◌, ◌≢◌, ℕ, zero, suc, ◌≤◌, ◌&&◌, nat_le, nat_lt, Bool, true, false, not, if◌then◌else◌, List, [], ◌∷◌, length, get_or, replicate, Some, None, refl, sym, ap, arith, common_steps, none-some, All-nil, All-map, length-map, length-replicate, get_or-replicate, get_or_past, AllPairs-cons, All, AllPairs, Bounds, within, Runner, runner_at_start, PieceFits, IsMachineKept, Process, PageRef, pager_seen, IsAreaSize, owner_of, sizes, new_swap, fresh, are_sizes, has_pid, are_pids, start_error, nat_tests}
+use Rattle.std.proofs.Common.{map, Option, true≢false}
 use Rattle.shm_life.proofs.Pieces.{all-cons}
-use Rattle.std.proofs.lemmas.Bool.Decides.{nat_tests}
 
 both : (a b : Bool) → a && b ≡ true → (a ≡ true) × (b ≡ true)
 both a b e = grind arith

@@ -1,12 +1,6 @@
 -- Sweeping: destroying one orphan after another is the sweep of the whole table.
-use Rattle.std.proofs.Common.{◌≡◌, ℕ, zero, suc, ◌+◌, true, false, List, [], ◌∷◌, slice_get, slice_set, Option, Some, None, refl, ap, arith}
-use Rattle.std.proofs.lemmas.Option.{none-some}
-use Rattle.shm_base.specs.State.{Segment, Entry, Runner}
-use Rattle.shm_base.specs.Identifier.{identifier}
-use Rattle.shm_base.specs.Segments.{swept_at, swept_from, swept}
-use Rattle.shm_segments.specs.Left.{is_left, orphan_in, orphan}
-use Rattle.shm_life.specs.Orphans.{OrphansAmong}
-use Rattle.std.proofs.lemmas.Bool.Decides.{nat_tests}
+use Rattle.shm_life.proofs.Names.{◌≡◌, ℕ, zero, suc, ◌+◌, true, false, List, [], ◌∷◌, Some, None, refl, ap, arith, none-some, Segment, Entry, Runner, identifier, swept_at, swept_from, swept, is_left, orphan_in, orphan, OrphansAmong, nat_tests}
+use Rattle.std.proofs.Common.{slice_get, slice_set, Option}
 
 swept_at-none : (i : ℕ) (rs : List Runner) (d : ℕ) (o : Option Segment) → is_left rs (identifier i d) o ≡ false → swept_at i rs d o ≡ record { destroyed = d; segment = o }
 swept_at-none i rs d o h = grind (arith, nat_tests)

@@ -1,16 +1,7 @@
 -- Pieces whose pages are there, through the changes that calls make to them.
-use Rattle.std.proofs.Common.{◌≡◌, ◌⊎◌, ℕ, zero, suc, ◌+◌, ◌-◌, ◌/◌, ◌<◌, ◌≤◌, true, not, nat_lt, List, [], ◌∷◌, length, get_or, slice_get, slice_set, Some, ap, ◌∙◌, inl, inr, arith}
-use Rattle.std.proofs.lemmas.Bool.{cases_Bool, cases_lt, lt-ltb, le-ltb}
-use Rattle.std.proofs.lemmas.List.Elements.{All-nil, All-filter, All-append}
-use Rattle.std.proofs.lemmas.List.Concat.{flat_map-cons}
-use Rattle.std.proofs.lemmas.Grind.{common_steps}
-use Rattle.std.specs.Prelude.{All, is_some}
-use Rattle.shm_base.specs.State.{Piece, Entry, Runner}
-use Rattle.shm_base.specs.Access.{end_of}
-use Rattle.shm_base.specs.Space.{meets, part_below, part_above, parts, cut, inserted, is_named, without_named}
-use Rattle.shm_segments.specs.Table.{live, pages_at, page_there}
-use Rattle.shm_segments.proofs.Same.{SamePages}
-use Rattle.shm_life.specs.Tied.{PieceFits, PiecesFit}
+use Rattle.shm_life.proofs.Names.{◌≡◌, ◌⊎◌, ℕ, zero, suc, ◌+◌, ◌-◌, ◌/◌, ◌<◌, ◌≤◌, true, not, nat_lt, List, [], ◌∷◌, length, get_or, Some, ap, ◌∙◌, inl, inr, arith, cases_Bool, cases_lt, lt-ltb, le-ltb, All-nil, All-filter, All-append, flat_map-cons, common_steps, All, Piece, Entry, Runner, end_of, meets, part_below, part_above, parts, cut, inserted, is_named, without_named, live, pages_at, page_there, SamePages, PieceFits, PiecesFit}
+use Rattle.std.proofs.Common.{slice_get, slice_set}
+use Rattle.std.specs.Prelude.{is_some}
 
 -- ALL OF A LIST
 

@@ -1,26 +1,11 @@
 -- The pages of the table's segments are those of the segments that the memory holds.
-use Rattle.std.proofs.Common.{◌≡◌, ◌≢◌, ◌⊎◌, ℕ, zero, suc, ◌+◌, ◌/◌, ◌%◌, ◌<◌, ◌≤◌, true, List, [], ◌∷◌, length, map, slice_get, slice_set, Option, Some, None, refl, sym, ap, ◌∙◌, inl, inr, arith, eq-eqb, ne_eqb}
-use Rattle.std.proofs.lemmas.Bool.{cases_eq}
-use Rattle.std.proofs.lemmas.Option.{none-some, slice_get_within}
-use Rattle.std.proofs.lemmas.List.Sums.{sum_by-cons}
+use Rattle.shm_life.proofs.Names.{◌≡◌, ◌≢◌, ◌⊎◌, ℕ, zero, suc, ◌+◌, ◌/◌, ◌%◌, ◌<◌, ◌≤◌, true, List, [], ◌∷◌, length, Some, None, refl, sym, ap, ◌∙◌, inl, inr, arith, eq-eqb, ne_eqb, cases_eq, none-some, slice_get_within, sum_by-cons, Segment, Entry, identifier, reserved, pages_held, AreHeldApart, Held, find_held, is_held, without, SegRec, find_seg, StoreView, held_by, used, IsStoreSound, pages_held-is, live, live_in, pages_at, ShowsTable, as_held, get-set_other, sum-set, sum-without, find-without_other, nat_tests}
+use Rattle.std.proofs.Common.{map, slice_get, slice_set, Option}
 use Rattle.std.specs.Prelude.{is_some, option_map}
-use Rattle.shm_base.specs.State.{Segment, Entry}
-use Rattle.shm_base.specs.Identifier.{identifier}
-use Rattle.shm_base.specs.Segments.{reserved, pages_held}
 use Rattle.shm_slots.specs.View.{slots}
-use Rattle.shm_plain.specs.Apart.{AreHeldApart}
-use Rattle.shm_plain.specs.Held.{Held, find_held, is_held, pages_in, pages_held as held_pages, without}
-use Rattle.shm_fault.specs.Segs.{SegRec, find_seg}
+use Rattle.shm_plain.specs.Held.{pages_in, pages_held as held_pages}
 use Rattle.shm_fault.specs.Segs as segs
-use Rattle.shm_fault.specs.Store.{StoreView, held, held_by, used}
-use Rattle.shm_fault.specs.Sound.{IsStoreSound}
-use Rattle.shm_fault.proofs.Whole.{pages_held-is}
-use Rattle.shm_segments.specs.Table.{live, live_in, pages_at}
-use Rattle.shm_segments.specs.View.{ShowsTable, as_held}
-use Rattle.shm_segments.proofs.Entries.{get-set_other, sum-set}
-use Rattle.shm_segments.proofs.Held.{sum-without}
-use Rattle.shm_plain.proofs.Found.{find-without_other}
-use Rattle.std.proofs.lemmas.Bool.Decides.{nat_tests}
+use Rattle.shm_fault.specs.Store.{held}
 
 -- no identifier stands twice in the memory
 

@@ -1,19 +1,7 @@
 -- What calls keep of the memory.
-use Rattle.std.proofs.Common.{◌≡◌, ◌<◌, ◌+◌, ℕ, suc, true, false, List, [], ◌∷◌, length, drop, get_or, refl, sym, subst, ◌∙◌, arith, true≢false, ◌≤◌}
-use Rattle.std.proofs.Math.Seq.{drop-cons}
-use Rattle.std.specs.Prelude.{Result, Ok, Err, is_err, OnOk, OnErr}
-use Rattle.shm_base.specs.Bounds.{Bounds}
-use Rattle.shm_base.specs.State.{Entry, Runner}
-use Rattle.shm_slots.specs.View.{sizes}
-use Rattle.shm_fault.specs.Store.{StoreView, frame_of}
-use Rattle.shm_fault.proofs.Sound.{GoesOn-refl}
-use Rattle.shm_attach.specs.Spaces.{Translation, AreTrue}
-use Rattle.shm_segments.specs.View.{Runs}
-use Rattle.shm_life.specs.Kept.{IsWell, IsWellBut, IsKeptBut}
-use Rattle.shm_life.specs.MachineView.{KeepsOn}
-use Rattle.shm_life.specs.Orphans.{OrphansAmong, Sweeps}
-use Rattle.shm_life.specs.Tied.{PiecesFit}
-use Rattle.shm_base.specs.Segments.{reserved, locked}
+use Rattle.shm_life.proofs.Names.{◌≡◌, ◌<◌, ◌+◌, ℕ, suc, true, false, List, [], ◌∷◌, length, drop, get_or, refl, sym, subst, ◌∙◌, arith, ◌≤◌, drop-cons, is_err, OnOk, OnErr, Bounds, Entry, Runner, sizes, StoreView, frame_of, GoesOn-refl, Translation, AreTrue, Runs, IsWell, IsWellBut, IsKeptBut, KeepsOn, OrphansAmong, Sweeps, PiecesFit, reserved, locked}
+use Rattle.std.proofs.Common.{true≢false}
+use Rattle.std.specs.Prelude.{Result, Ok, Err}
 
 pub keeps_refl : (m : StoreView) → KeepsOn m m
 keeps_refl m = record { kept = λ seg page a b e. e; goes_on = GoesOn-refl m.swap }

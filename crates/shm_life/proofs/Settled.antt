@@ -1,28 +1,8 @@
 -- What is kept through calls that take pieces out, and through those that put pieces in.
-use Rattle.std.proofs.Common.{◌≡◌, ℕ, zero, suc, ◌+◌, ◌<◌, take, Bool, List, [], ◌∷◌, length, get_or, map, filter, slice_get, Option, Some, None, option_map, refl, sym, ap, ◌∙◌, inl, inr, arith}
-use Rattle.std.proofs.lemmas.List.Elements.{All-nil, All-map, All-filter}
-use Rattle.std.proofs.lemmas.Bool.{cases_Bool}
-use Rattle.std.proofs.lemmas.Option.{none-some}
-use Rattle.std.specs.Prelude.{All, Result, Ok, Err, find}
-use Rattle.shm_base.specs.Bounds.{Bounds}
-use Rattle.shm_base.specs.State.{Piece, Live, Entry, Runner}
-use Rattle.shm_base.specs.declared.paging.Span.{Span}
-use Rattle.shm_base.specs.Space.{meets, cut_segments, has_origin, origin_of}
-use Rattle.shm_fault.specs.Store.{StoreView}
-use Rattle.shm_fault.specs.declared.touched.Move.{Move}
-use Rattle.shm_fault.specs.declared.touched.Touched.{Touched}
-use Rattle.shm_fault.specs.Steps.{Moves}
-use Rattle.shm_fault.specs.Access.{Accessed, answer_of}
+use Rattle.shm_life.proofs.Names.{◌≡◌, ℕ, zero, suc, ◌+◌, ◌<◌, take, Bool, List, [], ◌∷◌, length, get_or, filter, Some, None, refl, sym, ap, ◌∙◌, inl, inr, arith, All-nil, All-map, All-filter, cases_Bool, none-some, All, find, Bounds, Piece, Live, Entry, Runner, Span, meets, cut_segments, has_origin, origin_of, StoreView, Move, Touched, Moves, Accessed, answer_of, Translation, AreTrue, IsCaller, pieces_at, caller_there, IsLive, orphan, id_at, change, detached, detach_all, SameTable, detach_all-same, PieceFits, PiecesFit, is_among, OrphansAmong, IsKeptBut, IsWellBut, IsWell}
+use Rattle.std.proofs.Common.{map, slice_get, Option, option_map}
+use Rattle.std.specs.Prelude.{Result, Ok, Err}
 use Rattle.shm_attach.specs.declared.process.Caller.{Caller}
-use Rattle.shm_attach.specs.Spaces.{Translation, AreTrue, IsCaller, pieces_at}
-use Rattle.shm_attach.proofs.Callers.{caller_there}
-use Rattle.shm_segments.specs.Table.{IsLive}
-use Rattle.shm_segments.specs.Left.{orphan, id_at}
-use Rattle.shm_base.specs.Segments.{change, detached, detach_all}
-use Rattle.shm_segments.proofs.Same.{SameTable, detach_all-same}
-use Rattle.shm_life.specs.Tied.{PieceFits, PiecesFit}
-use Rattle.shm_life.specs.Orphans.{is_among, OrphansAmong}
-use Rattle.shm_life.specs.Kept.{IsKeptBut, IsWellBut, IsWell}
 use Rattle.shm_life.proofs.Running.{kept-by}
 use Rattle.shm_life.proofs.Pieces.{RunnerFits, all-cons, all-head, all-tail, all-at, fit-same}
 

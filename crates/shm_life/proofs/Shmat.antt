@@ -1,21 +1,11 @@
 -- The flat machine's shmat, by where its piece goes.
-use Rattle.std.proofs.Common.{◌≡◌, inl, inr, ℕ, ℤ, ◌+◌, ◌-◌, ◌*◌, ◌%◌, ◌<◌, ◌≤◌, ◌==◌, ◌&&◌, ◌||◌, not, nat_lt, if◌then◌else◌, Bool, true, false, List, length, Option, Some, None, Result, Ok, Err, refl, ap, ◌∙◌, arith}
-use Rattle.std.proofs.lemmas.Bool.{cases_Bool, lt-ltb, le-ltb, true≢false}
-use Rattle.shm_base.specs.declared.errno.Errno.TheVariants.{Emfile}
-use Rattle.shm_base.specs.declared.flags.AtFlags.{AtFlags}
-use Rattle.shm_base.specs.State.{Segment, Piece, Machine, pages_of, pages_in}
-use Rattle.shm_base.specs.Identifier.{Look, Invalid, Removed, Found, look, identifier, destroyed_at, destroyed_in}
-use Rattle.shm_base.specs.Permission.{grants}
-use Rattle.shm_base.specs.Space.{inside, occupied, choose, cut}
-use Rattle.shm_base.specs.Step.{Caller, pieces_with, is_remap, is_rnd, at_wish, shmat, attaches, attaches_chosen, attaches_fixed, attaches_found}
-use Rattle.std.specs.Prelude.{OnErr}
-use Rattle.shm_areas.specs.Fixed.{fixed_at}
-use Rattle.shm_attach.proofs.Processes.{length-inserted}
+use Rattle.shm_life.proofs.Names.{◌≡◌, inl, inr, ℕ, ℤ, ◌+◌, ◌-◌, ◌*◌, ◌%◌, ◌<◌, ◌≤◌, ◌==◌, ◌&&◌, ◌||◌, not, nat_lt, if◌then◌else◌, Bool, true, false, List, length, Some, None, refl, ap, ◌∙◌, arith, cases_Bool, lt-ltb, le-ltb, Emfile, AtFlags, Segment, Piece, Machine, pages_of, Look, Invalid, Removed, look, identifier, destroyed_at, destroyed_in, grants, inside, occupied, choose, cut, pieces_with, is_remap, is_rnd, at_wish, shmat, attaches, attaches_chosen, attaches_fixed, attaches_found, OnErr, fixed_at, length-inserted, IsFound, look_of, Placed, misplaced, chosen, if_few, base_for, placed_at, placed_found, placed, piece_for, placed_outcome}
+use Rattle.std.proofs.Common.{Option, Result, Ok, Err}
+use Rattle.std.proofs.lemmas.Bool.{true≢false}
+use Rattle.shm_base.specs.State.{pages_in}
+use Rattle.shm_base.specs.Identifier.{Found}
+use Rattle.shm_base.specs.Step.{Caller}
 use Rattle.shm_segments.specs.declared.head.Found.{Found as Live}
-use Rattle.shm_segments.specs.Table.{IsFound, look_of}
-use Rattle.shm_life.specs.declared.attach.Placed.{Placed}
-use Rattle.shm_life.specs.Address.{misplaced}
-use Rattle.shm_life.specs.Placing.{chosen, if_few, base_for, placed_at, placed_found, placed, piece_for, placed_outcome}
 use Rattle.shm_life.proofs.Changed.{pages-seen}
 
 neither : (a b : Bool) → a || b ≡ false → (a ≡ false) × (b ≡ false)

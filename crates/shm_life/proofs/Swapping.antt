@@ -1,16 +1,9 @@
 -- A swap area that is taken away, as the flat machine has it.
-use Rattle.std.proofs.Common.{◌≡◌, ℕ, zero, suc, ◌+◌, ◌<◌, ◌≤◌, List, [], ◌∷◌, get_or, Option, Some, None, refl, ap, arith, eq-eqb}
-use Rattle.std.proofs.lemmas.Bool.{lt-ltb, le-ltb}
-use Rattle.std.proofs.lemmas.Option.{none-some}
-use Rattle.std.proofs.lemmas.List.Sums.{sum_by-cons}
+use Rattle.shm_life.proofs.Names.{◌≡◌, ℕ, zero, suc, ◌+◌, ◌<◌, ◌≤◌, List, [], ◌∷◌, get_or, Some, None, refl, ap, arith, eq-eqb, lt-ltb, le-ltb, none-some, sum_by-cons, Machine, swapoff, refuses, gives, reserved, Done, Enomem, SwapView, AreaView, no_area, area_at, size_of, sizes}
+use Rattle.std.proofs.Common.{Option}
 use Rattle.std.specs.Prelude.{slice_get, slice_set, map}
-use Rattle.shm_base.specs.State.{Machine}
-use Rattle.shm_base.specs.Step.{Caller, swapoff, refuses, gives}
-use Rattle.shm_base.specs.Segments.{reserved}
+use Rattle.shm_base.specs.Step.{Caller}
 use Rattle.shm_base.specs.Segments as flat
-use Rattle.shm_base.specs.declared.call.Reply.TheVariants.{Done}
-use Rattle.shm_base.specs.declared.errno.Errno.TheVariants.{Enomem}
-use Rattle.shm_slots.specs.View.{SwapView, AreaView, no_area, area_at, size_of, sizes}
 
 -- what the flat machine has of an area, and of the slots without it
 pub record IsThere (areas : List (Option ℕ)) (a n : ℕ) : Type 0 where

@@ -1,22 +1,9 @@
 -- One segment destroyed in a sweep, or left where it is no orphan.
-use Rattle.std.proofs.Common.{◌≡◌, ◌≢◌, ◌⊎◌, ℕ, ◌+◌, ◌/◌, ◌%◌, ◌<◌, ◌≤◌, ◌==◌, ◌&&◌, Bool, true, false, List, ◌∷◌, length, get_or, slice_get, Option, Some, None, refl, sym, ap, ◌∙◌, inl, inr, arith, true≢false, ne_eqb}
-use Rattle.std.proofs.lemmas.Bool.{cases_eq}
-use Rattle.std.proofs.lemmas.Option.{slice_get_past}
-use Rattle.std.proofs.lemmas.List.Sums.{get_or-le-sum_by}
+use Rattle.shm_life.proofs.Names.{◌≡◌, ◌≢◌, ◌⊎◌, ℕ, ◌+◌, ◌/◌, ◌%◌, ◌<◌, ◌≤◌, ◌==◌, ◌&&◌, Bool, true, false, List, ◌∷◌, length, get_or, Some, None, refl, sym, ap, ◌∙◌, inl, inr, arith, ne_eqb, cases_eq, slice_get_past, get_or-le-sum_by, Segment, Piece, Entry, Runner, identifier, attach_count, pages_held, pages_locked, pieces_of, pieces_of-there, live, live_in, destroyed, is_left, orphan_in, orphan, id_in, id_at, get-set_same, get-set_other, length-slice_set, sum-set, PieceFits, is_among, OrphansAmong, Sweeps, nat_tests}
+use Rattle.std.proofs.Common.{slice_get, Option, true≢false}
 use Rattle.std.specs.Prelude.{is_some}
-use Rattle.shm_base.specs.State.{Segment, Piece, Entry, Runner}
-use Rattle.shm_base.specs.Identifier.{identifier}
-use Rattle.shm_base.specs.Segments.{attach_count, pages_held, pages_locked}
-use Rattle.shm_base.specs.Space.{pieces_of}
-use Rattle.shm_attach.proofs.Keeping.{pieces_of-there}
-use Rattle.shm_segments.specs.Table.{live, live_in, destroyed}
-use Rattle.shm_segments.specs.Left.{is_left, orphan_in, orphan, id_in, id_at}
-use Rattle.shm_segments.proofs.Entries.{get-set_same, get-set_other, length-slice_set, sum-set}
-use Rattle.shm_life.specs.Tied.{PieceFits}
-use Rattle.shm_life.specs.Orphans.{is_among, OrphansAmong, Sweeps}
 use Rattle.shm_life.proofs.Orphans.{swept-destroyed}
 use Rattle.shm_life.proofs.Pieces.{fit-table}
-use Rattle.std.proofs.lemmas.Bool.Decides.{nat_tests}
 
 -- WHERE AN ORPHAN STANDS
 

@@ -1,16 +1,6 @@
 -- Bytes by place and bytes by stretch.
-use Rattle.std.proofs.Common.{◌≡◌, ◌≢◌, ℕ, zero, suc, ◌+◌, ◌<◌, ◌≤◌, ◌==◌, if◌then◌else◌, Bool, true, List, [], ◌∷◌, ◌++◌, length, set, take, drop, map, refl, sym, ap, ◌∙◌, arith, length-set, append_assoc, append-nil}
-use Rattle.std.proofs.lemmas.List.{take-append-drop, drop_more, map-append, drop-set-lt}
-use Rattle.std.proofs.lemmas.List.Sums.{sum_by-cons}
-use Rattle.std.proofs.lemmas.Grind.{common_steps, take-set_at}
-use Rattle.std.proofs.lemmas.Bool.Decides.{eqb_tells, nat_tests}
-use Rattle.std.specs.Prelude.{slice_set, slice_index, sum_by, All}
-use Rattle.shm_base.specs.Access.{Place}
-use Rattle.shm_base.specs.declared.paging.Span.{Span}
-use Rattle.shm_base.specs.Spans.{run, span_places}
-use Rattle.shm_plain.specs.Held.{Held, bytes_of, is_held, paste, pasted, written, FitsPage, read_from}
-use Rattle.shm_plain.proofs.Pasted.{bytes_of-pasted_same, bytes_of-pasted_other, fits-pasted}
-use Rattle.std.proofs.lemmas.Bool.{cases_eq}
+use Rattle.shm_segments.proofs.Names.{◌≡◌, ◌≢◌, ℕ, zero, suc, ◌+◌, ◌<◌, ◌≤◌, ◌==◌, if◌then◌else◌, Bool, true, List, [], ◌∷◌, ◌++◌, length, set, take, drop, map, refl, sym, ap, ◌∙◌, arith, length-set, append_assoc, append-nil, take-append-drop, drop_more, map-append, drop-set-lt, sum_by-cons, common_steps, take-set_at, eqb_tells, nat_tests, slice_index, sum_by, All, Place, Span, run, span_places, Held, bytes_of, is_held, paste, pasted, written, FitsPage, read_from, bytes_of-pasted_same, bytes_of-pasted_other, fits-pasted, cases_eq}
+use Rattle.std.specs.Prelude.{slice_set}
 
 -- BYTES BY PLACE
 

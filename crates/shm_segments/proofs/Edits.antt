@@ -1,20 +1,9 @@
 -- Rows that change, as the flat machine's table shows them.
-use Rattle.std.proofs.Common.{◌≡◌, ◌≢◌, ℕ, ◌*◌, ◌%◌, Bool, pos, List, [], ◌∷◌, set, Some, option_map, Ok, refl, sym, ap, ◌∙◌, arith, length-set}
-use Rattle.std.proofs.lemmas.Bool.Decides.{nat_tests}
-use Rattle.shm_base.specs.State.{Segment, pages_of}
-use Rattle.shm_base.specs.Segments.{change}
+use Rattle.shm_segments.proofs.Names.{◌≡◌, ◌≢◌, ℕ, ◌*◌, ◌%◌, Bool, pos, List, [], ◌∷◌, set, Some, refl, sym, ap, ◌∙◌, arith, length-set, nat_tests, Segment, pages_of, change, Row, entry_at, key_at, look, with_value, with_key, at_set, at_set_other, with_key-with_value, live_row, change-flat, Held, find_held, with_lock, bytes_of-lock, Head, whole, joined, Shape, shape_held, shape_row, Agree, common_steps}
+use Rattle.std.proofs.Common.{option_map, Ok}
 use Rattle.shm_ids.specs.declared.table.Entry.{Entry}
-use Rattle.shm_ids.specs.declared.table.Row.{Row}
-use Rattle.shm_ids.specs.Table.{entry_at, key_at, look, with_value, with_key}
-use Rattle.shm_ids.proofs.Entries.{at_set, at_set_other, with_key-with_value}
-use Rattle.shm_ids.proofs.Look.{live_row}
-use Rattle.shm_ids.proofs.Flat.{change-flat}
-use Rattle.shm_plain.specs.Held.{Held, find_held, with_lock}
-use Rattle.shm_plain.proofs.Found.{bytes_of-lock}
-use Rattle.shm_segments.specs.declared.head.Head.{Head}
-use Rattle.shm_segments.specs.Joined.{whole, joined, live, Shape, shape_held, shape_row, Agree}
+use Rattle.shm_segments.specs.Joined.{live}
 use Rattle.shm_segments.proofs.Joins.{live-at, joined-same}
-use Rattle.std.proofs.lemmas.Grind.{common_steps}
 
 -- LOOKED UP
 

@@ -1,8 +1,6 @@
 -- One entry of a table set: what stands there, and sums over the entries.
-use Rattle.std.proofs.Common.{◌≡◌, ◌≢◌, ℕ, zero, suc, ◌+◌, List, [], ◌∷◌, length, slice_get, slice_set, Some, refl, ap, ◌∙◌, arith, get_or, length-set, get_or-set_same}
-use Rattle.std.specs.Prelude.{sum_by}
-use Rattle.std.proofs.lemmas.List.Sums.{sum_by-set}
-use Rattle.std.proofs.lemmas.Option.{slice_get_within, slice_get-get_or, get_or_from_slice_get}
+use Rattle.shm_segments.proofs.Names.{◌≡◌, ◌≢◌, ℕ, zero, suc, ◌+◌, List, [], ◌∷◌, length, slice_get, Some, refl, ap, ◌∙◌, arith, get_or, length-set, get_or-set_same, sum_by, sum_by-set, slice_get_within, slice_get-get_or, get_or_from_slice_get}
+use Rattle.std.proofs.Common.{slice_set}
 
 module _ {X : Type 0} where
   pub get-set_same : (t : List X) (i : ℕ) (e x : X) → slice_get t i ≡ Some x → slice_get (slice_set t i e) i ≡ Some e

@@ -1,26 +1,11 @@
 -- A row that the table has is a segment that was found.
-use Rattle.std.proofs.Common.{◌≡◌, ℕ, pos, ◌/◌, ◌%◌, ◌<◌, List, length, slice_get, Option, Some, None, ℤ, ◌==◌, true, is_some, if◌then◌else◌, option_map, refl, ap, ◌∙◌, arith}
-use Rattle.std.proofs.lemmas.Bool.{cases_lt}
-use Rattle.std.proofs.lemmas.Option.{none-some}
+use Rattle.shm_segments.proofs.Names.{◌≡◌, ℕ, pos, ◌/◌, ◌%◌, ◌<◌, List, length, slice_get, Option, Some, None, ℤ, ◌==◌, true, if◌then◌else◌, refl, ap, ◌∙◌, arith, cases_lt, none-some, bytes_at, bytes_at_entry, Row, entry_at, identifier, flat_entry, flat_row, row_shown, row_listed, at_past, at-table, past-flat, Held, bytes_of, Head, Found, segment_of, whole, joined, Agree, SizesFit, IsFound, segment_seen, nat_tests, common_steps}
+use Rattle.std.proofs.Common.{is_some, option_map}
 use Rattle.shm_base.specs.State.{Entry as FlatEntry}
-use Rattle.shm_base.specs.Access.{bytes_at, bytes_at_entry}
 use Rattle.shm_ids.specs.declared.table.Entry.{Entry}
-use Rattle.shm_ids.specs.declared.table.Row.{Row}
-use Rattle.shm_ids.specs.Table.{entry_at, identifier}
-use Rattle.shm_ids.specs.Flat.{flat_entry, flat_row}
-use Rattle.shm_ids.specs.Rows.{row_shown, row_listed}
-use Rattle.shm_ids.proofs.Entries.{at_past}
-use Rattle.shm_ids.proofs.Flat.{at-table, past-flat}
-use Rattle.shm_plain.specs.Held.{Held, bytes_of}
-use Rattle.shm_segments.specs.declared.head.Head.{Head}
-use Rattle.shm_segments.specs.declared.head.Found.{Found}
-use Rattle.shm_segments.specs.Joined.{segment_of, whole, joined, live, Agree}
+use Rattle.shm_segments.specs.Joined.{live}
 use Rattle.shm_segments.proofs.Joins.{at-live, held-as}
-use Rattle.shm_segments.specs.Kept.{SizesFit}
-use Rattle.shm_segments.specs.Table.{IsFound, segment_seen}
 use Rattle.shm_segments.specs.Table as table
-use Rattle.std.proofs.lemmas.Bool.Decides.{nat_tests}
-use Rattle.std.proofs.lemmas.Grind.{common_steps}
 
 pub index-of : (i d : ℕ) → i < 32768 → identifier i d % 32768 ≡ i
 index-of i d lt = omega (arith, lt)

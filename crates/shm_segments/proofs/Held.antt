@@ -1,18 +1,8 @@
 -- The pages of the segments that are held.
-use Rattle.std.proofs.Common.{◌≡◌, ◌≢◌, ℕ, ◌+◌, ◌*◌, ◌/◌, ◌≤◌, Bool, true, false, if◌then◌else◌, List, [], ◌∷◌, length, take, drop, map, Option, Some, None, refl, sym, ◌∙◌, arith, ne_eqb, true≢false, not, ◌==◌}
-use Rattle.std.proofs.lemmas.Option.{none-some}
-use Rattle.std.proofs.lemmas.Grind.{common_steps}
-use Rattle.std.proofs.lemmas.List.{length-replicate}
-use Rattle.std.proofs.lemmas.List.Sums.{sum_by-cons, sum_by-append}
-use Rattle.std.specs.Prelude.{sum_by, All, replicate}
-use Rattle.shm_base.specs.declared.paging.Span.{Span}
-use Rattle.shm_plain.specs.Apart.{AreHeldApart}
-use Rattle.shm_plain.specs.Held.{Held, find_held, is_held, pages_in, pages_held, pages_if_locked, pages_locked, with_zeros, without, relocked, with_lock, pasted, written, FitsPage}
-use Rattle.shm_plain.proofs.Kept.{find_held-id}
-use Rattle.shm_plain.proofs.Pasted.{length-paste, apart-pasted}
+use Rattle.shm_segments.proofs.Names.{◌≡◌, ◌≢◌, ℕ, ◌+◌, ◌*◌, ◌/◌, ◌≤◌, Bool, true, false, if◌then◌else◌, List, [], ◌∷◌, length, take, drop, map, Option, Some, None, refl, sym, ◌∙◌, arith, ne_eqb, true≢false, not, ◌==◌, none-some, common_steps, length-replicate, sum_by-cons, sum_by-append, sum_by, All, Span, AreHeldApart, Held, find_held, is_held, pages_in, pages_if_locked, with_zeros, without, with_lock, pasted, written, FitsPage, find_held-id, length-paste, apart-pasted, sum_by-filter_both, nat_tests}
+use Rattle.std.specs.Prelude.{replicate}
+use Rattle.shm_plain.specs.Held.{pages_held, pages_locked, relocked}
 use Rattle.shm_segments.proofs.Bytes.{Each, each, each-pasted}
-use Rattle.std.proofs.lemmas.List.Filters.{sum_by-filter_both}
-use Rattle.std.proofs.lemmas.Bool.Decides.{nat_tests}
 
 -- ZEROS
 

@@ -1,20 +1,10 @@
 -- The rows and the flat machine's table: what is live, what agrees, and what an edit shows.
-use Rattle.std.proofs.Common.{◌≡◌, ◌≢◌, ℕ, zero, suc, ◌+◌, ◌*◌, ◌%◌, ◌<◌, ◌≤◌, true, List, [], ◌∷◌, length, set, Option, Some, is_some, option_map, refl, sym, ap, ◌∙◌, arith}
-use Rattle.std.proofs.lemmas.Bool.Decides.{nat_tests}
+use Rattle.shm_segments.proofs.Names.{◌≡◌, ◌≢◌, ℕ, zero, suc, ◌+◌, ◌*◌, ◌%◌, ◌<◌, ◌≤◌, true, List, [], ◌∷◌, length, set, Option, Some, refl, sym, ap, ◌∙◌, arith, nat_tests, Segment, pages_of, Row, identifier, entry_at, flat_row, flat_entry, flat_from, at_past, identifier-mod, flat_from-make, flat_table-make, Held, find_held, bytes_of, is_held, Head, segment_of, whole, joined, Agree, common_steps}
+use Rattle.std.proofs.Common.{is_some, option_map}
 use Rattle.std.specs.Prelude.{slice_set}
-use Rattle.shm_base.specs.State.{Segment, pages_of}
 use Rattle.shm_ids.specs.declared.table.Entry.{Entry}
-use Rattle.shm_ids.specs.declared.table.Row.{Row}
-use Rattle.shm_ids.specs.Table.{identifier, entry_at}
-use Rattle.shm_ids.specs.Flat.{flat_row, flat_entry, flat_from}
-use Rattle.shm_ids.proofs.Entries.{at_past}
-use Rattle.shm_ids.proofs.Look.{identifier-mod}
-use Rattle.shm_ids.proofs.Flat.{flat_from-make, flat_table-make}
-use Rattle.shm_plain.specs.Held.{Held, find_held, bytes_of, is_held}
-use Rattle.shm_segments.specs.declared.head.Head.{Head}
-use Rattle.shm_segments.specs.Joined.{segment_of, whole, joined, live, Agree}
+use Rattle.shm_segments.specs.Joined.{live}
 use Rattle.shm_segments.proofs.Bytes.{SameBytes}
-use Rattle.std.proofs.lemmas.Grind.{common_steps}
 
 -- WHAT IS LIVE
 

@@ -1,17 +1,11 @@
 -- What is kept where a head changes.
-use Rattle.std.proofs.Common.{◌≡◌, ℕ, pos, ◌%◌, ◌≤◌, List, Some, Ok, sym, ◌∙◌, arith}
-use Rattle.shm_base.specs.State.{Segment, Entry as FlatEntry}
-use Rattle.shm_base.specs.Segments.{change}
+use Rattle.shm_segments.proofs.Names.{◌≡◌, ℕ, pos, ◌%◌, ◌≤◌, List, Some, sym, ◌∙◌, arith, Segment, change, Row, key_at, look, with_value, with_key, Held, bytes_of, Head, segment_of, whole, joined, SizesFit, AreSegmentsKept, common_steps}
+use Rattle.std.proofs.Common.{Ok}
+use Rattle.shm_base.specs.State.{Entry as FlatEntry}
 use Rattle.shm_ids.specs.declared.table.Entry.{Entry}
-use Rattle.shm_ids.specs.declared.table.Row.{Row}
-use Rattle.shm_ids.specs.Table.{key_at, look, with_value, with_key}
-use Rattle.shm_plain.specs.Held.{Held, bytes_of}
-use Rattle.shm_segments.specs.declared.head.Head.{Head}
-use Rattle.shm_segments.specs.Joined.{segment_of, whole, joined, live}
-use Rattle.shm_segments.specs.Kept.{SizesFit, AreSegmentsKept}
+use Rattle.shm_segments.specs.Joined.{live}
 use Rattle.shm_segments.proofs.Sums.{pages-with_other, locked-other_same}
 use Rattle.shm_segments.proofs.Edits.{look-live, with_other, other-value, other-both, live-other_same, live-other, joined-other, agree-other}
-use Rattle.std.proofs.lemmas.Grind.{common_steps}
 
 -- another row of a size in range
 pub sizes-other : (rows : List (Entry Head)) (id : ℕ) (r s : Row Head) → live rows id ≡ Some r → SizesFit rows → (1 ≤ s.value.size) × (s.value.size ≤ 16777216) → SizesFit (with_other rows id s)

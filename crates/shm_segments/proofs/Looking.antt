@@ -1,25 +1,14 @@
 -- What is found under an identifier, and what the flat machine says of it.
-use Rattle.std.proofs.Common.{◌≡◌, ◌≢◌, ℕ, pos, ℤ, ◌%◌, List, Option, Some, None, Ok, Err, IsOk, is_none, is_some, option_map, Bool, not, refl, sym, ap, ◌∙◌, arith}
-use Rattle.shm_base.specs.declared.errno.Errno.TheVariants.{Eidrm, Einval}
+use Rattle.shm_segments.proofs.Names.{◌≡◌, ◌≢◌, ℕ, pos, ℤ, ◌%◌, List, Option, Some, None, IsOk, is_none, Bool, not, refl, sym, ap, ◌∙◌, arith, Eidrm, Einval, bytes_at, Removed, Invalid, entry_at, key_at, find_key, index_of, look, flat_answer, flat_found, number_of, look-flat, find_key-flat, find_key-look, free_index-flat, Held, bytes_of, Head, Found, segment_of, whole, joined, Agree, SizesFit, IsFound, look_of, refused_look, nat_tests, common_steps}
+use Rattle.std.proofs.Common.{Ok, Err, is_some, option_map}
 use Rattle.shm_base.specs.Identifier as flat
-use Rattle.shm_base.specs.Access.{bytes_at}
 use Rattle.shm_ids.specs.declared.table.Entry.{Entry}
-use Rattle.shm_ids.specs.declared.table.LookRefused.TheVariants.{Removed, Invalid}
-use Rattle.shm_ids.specs.Table.{entry_at, key_at, find_key, free_index, id_at, index_of, look}
-use Rattle.shm_ids.specs.Flat.{flat_answer, flat_found, number_of}
-use Rattle.shm_ids.proofs.Flat.{look-flat, find_key-flat, find_key-look, free_index-flat}
-use Rattle.shm_plain.specs.Held.{Held, bytes_of}
-use Rattle.shm_segments.specs.declared.head.Head.{Head}
-use Rattle.shm_segments.specs.declared.head.Found.{Found}
-use Rattle.shm_segments.specs.Joined.{segment_of, whole, joined, live, Agree}
-use Rattle.shm_segments.specs.Kept.{SizesFit}
-use Rattle.shm_segments.specs.Table.{IsFound, look_of, refused_look}
+use Rattle.shm_ids.specs.Table.{free_index, id_at}
+use Rattle.shm_segments.specs.Joined.{live}
 use Rattle.shm_segments.proofs.Joins.{live-at}
 use Rattle.shm_segments.proofs.Edits.{look-live}
 use Rattle.shm_segments.proofs.Shown.{bytes_at-joined}
 use Rattle.shm_segments.proofs.Finding.{found_at}
-use Rattle.std.proofs.lemmas.Bool.Decides.{nat_tests}
-use Rattle.std.proofs.lemmas.Grind.{common_steps}
 
 -- what is found under an identifier
 abbrev pub found_under : List (Entry Head) → ℕ → Head → Found

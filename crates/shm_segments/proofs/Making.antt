@@ -1,29 +1,17 @@
 -- What is kept where a segment is made, destroyed, locked or written.
-use Rattle.std.proofs.Common.{◌≡◌, ◌≢◌, ◌⊎◌, ℕ, suc, pos, ℤ, ◌+◌, ◌-◌, ◌*◌, ◌/◌, ◌%◌, ◌<◌, ◌≤◌, ◌==◌, Bool, true, false, if◌then◌else◌, List, [], ◌∷◌, replicate, slice_set, Option, Some, None, Ok, is_some, is_none, option_map, refl, sym, ap, ◌∙◌, inl, inr, arith, eq-eqb, ne_eqb, eqb-true}
-use Rattle.std.proofs.lemmas.Bool.{cases_eq, cases_Bool}
-use Rattle.std.proofs.lemmas.Option.{none-some}
-use Rattle.shm_base.specs.State.{pages_of}
+use Rattle.shm_segments.proofs.Names.{◌≡◌, ◌≢◌, ◌⊎◌, ℕ, suc, pos, ℤ, ◌+◌, ◌-◌, ◌*◌, ◌/◌, ◌%◌, ◌<◌, ◌≤◌, ◌==◌, Bool, true, false, if◌then◌else◌, List, [], ◌∷◌, Option, Some, None, is_none, refl, sym, ap, ◌∙◌, inl, inr, arith, eq-eqb, ne_eqb, eqb-true, cases_eq, cases_Bool, none-some, pages_of, change, Row, entry_at, identifier, key_at, row_key, key_from, look, find_key, with_value, with_row, without_row, flat_row, flat_found, find_key-flat, free_index-flat, destroyed_at-flat, Held, find_held, is_held, pages_in, pages_if_locked, with_zeros, without, with_lock, apart-push, apart-without, apart-lock, Head, whole, joined, Agree, SizesFit, AreSegmentsKept, made, created, destroyed, nat_tests, common_steps}
+use Rattle.std.proofs.Common.{replicate, slice_set, Ok, is_some, option_map}
 use Rattle.shm_base.specs.Identifier as flat
-use Rattle.shm_base.specs.Segments.{change}
 use Rattle.shm_ids.specs.declared.table.Entry.{Entry}
-use Rattle.shm_ids.specs.declared.table.Row.{Row}
-use Rattle.shm_ids.specs.Table.{entry_at, identifier, key_at, row_key, key_from, look, find_key, free_index, id_at, with_value, with_row, without_row}
-use Rattle.shm_ids.specs.Flat.{flat_row, flat_found}
-use Rattle.shm_ids.proofs.Flat.{find_key-flat, free_index-flat, destroyed_at-flat}
-use Rattle.shm_plain.specs.Held.{Held, find_held, is_held, pages_in, pages_if_locked, with_zeros, without, with_lock}
-use Rattle.shm_plain.proofs.Kept.{apart-push, apart-without, apart-lock}
-use Rattle.shm_segments.specs.declared.head.Head.{Head}
-use Rattle.shm_segments.specs.Joined.{whole, joined, live, Agree}
-use Rattle.shm_segments.specs.Kept.{SizesFit, AreSegmentsKept}
-use Rattle.shm_segments.specs.Table.{made, created, destroyed, relocked}
+use Rattle.shm_ids.specs.Table.{free_index, id_at}
+use Rattle.shm_segments.specs.Joined.{live}
+use Rattle.shm_segments.specs.Table.{relocked}
 use Rattle.shm_segments.proofs.Joins.{LiveAt, live-at, held-as}
 use Rattle.shm_segments.proofs.Edits.{look-live, other-value, agree-lock, joined-locked}
 use Rattle.shm_segments.proofs.Rows.{id_of, IsFree, index-free, free-new, joined-with_row, live-with_row_same, live-with_row_other, agree-with_row, joined-without, live-without, live-without_here, agree-without}
 use Rattle.shm_segments.proofs.Sums.{pages-with_row, pages-without_row, pages-with_other, locked-with_row, locked-without_row, locked-with_other, locked-within}
 use Rattle.shm_segments.proofs.Keeping.{KeptAs, sizes-other}
 use Rattle.shm_segments.proofs.Held.{pages-zeros, locks-zeros, sum-without, pages-lock, locks-lock}
-use Rattle.std.proofs.lemmas.Bool.Decides.{nat_tests}
-use Rattle.std.proofs.lemmas.Grind.{common_steps}
 
 -- WHAT IS HELD OF A LIVE SEGMENT
 

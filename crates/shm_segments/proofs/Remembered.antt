@@ -1,39 +1,17 @@
 -- What the memory keeps, and that it shows the table.
-use Rattle.std.proofs.Common.{◌≡◌, ◌≢◌, ℕ, ◌==◌, false, List, [], ◌∷◌, ◌++◌, length, Option, Some, None, is_some, option_map, refl, sym, ap, ◌∙◌, arith, eq-eqb, not, append-nil}
-use Rattle.std.specs.Prelude.{All, Result, Ok, Err, OnOk, OnErr, sum_by}
-use Rattle.shm_base.specs.declared.paging.Span.{Span}
+use Rattle.shm_segments.proofs.Names.{◌≡◌, ◌≢◌, ℕ, ◌==◌, false, List, [], ◌∷◌, ◌++◌, length, Option, Some, None, refl, sym, ap, ◌∙◌, arith, eq-eqb, not, append-nil, All, Result, OnOk, OnErr, sum_by, Span, Row, Held, find_held, is_held, is_locked, bytes_in, bytes_of, with_zeros, without, FitsPage, written, find_held-id, find-without_same, find-without_other, find-zeros_same, find-zeros_other, StoreView, frame_of, fresh_store, Frame, SwapView, SegRec, find_seg, but, new_seg, rec_in, IsBlank, not-held, rec-added, Kept, IsStoreSound, GoesOn-refl, GoesOn-trans, GoesOn, Head, whole, joined, Shape, shape_held, shape_row, Agree, SegmentsView, as_held, ShowsTable, Runs, AreSegmentsKept, IsWhole, stored, span_places, SpanFits, filter-append, filter-none, common_steps}
+use Rattle.std.proofs.Common.{is_some, option_map}
+use Rattle.std.specs.Prelude.{Ok, Err}
 use Rattle.shm_base.specs.State.{Entry as FlatEntry}
 use Rattle.shm_ids.specs.declared.table.Entry.{Entry}
-use Rattle.shm_ids.specs.declared.table.Row.{Row}
-use Rattle.shm_plain.specs.Held.{Held, find_held, is_held, is_locked, bytes_in, bytes_of, with_zeros, without, FitsPage, written}
-use Rattle.shm_plain.proofs.Kept.{find_held-id}
-use Rattle.shm_plain.proofs.Found.{find-without_same, find-without_other, find-zeros_same, find-zeros_other}
-use Rattle.shm_fault.specs.Store.{StoreView, held, frame_of, fresh_store}
-use Rattle.shm_frames.specs.Frame.{Frame}
-use Rattle.shm_slots.specs.View.{SwapView}
-use Rattle.shm_fault.specs.Segs.{SegRec, find_seg, but, new_seg, rec_in}
-use Rattle.shm_fault.specs.Dropping.{IsBlank}
-use Rattle.shm_fault.proofs.Whole.{not-held, rec-added}
-use Rattle.shm_fault.specs.Steps.{Kept}
-use Rattle.shm_fault.specs.Sound.{IsStoreSound}
-use Rattle.shm_fault.proofs.Sound.{GoesOn-refl, GoesOn-trans}
-use Rattle.shm_slots.specs.Cause.{GoesOn}
-use Rattle.shm_segments.specs.declared.head.Head.{Head}
-use Rattle.shm_segments.specs.Joined.{whole, joined, live, Shape, shape_held, shape_row, Agree}
+use Rattle.shm_fault.specs.Store.{held}
+use Rattle.shm_segments.specs.Joined.{live}
 use Rattle.shm_segments.specs.Table as table
-use Rattle.shm_segments.specs.View.{SegmentsView, as_held, ShowsTable, Runs}
-use Rattle.shm_segments.specs.Kept.{AreSegmentsKept, IsWhole}
 use Rattle.shm_segments.proofs.Finding.{live-joined}
 use Rattle.shm_segments.proofs.Shown.{agree-written, store_shown}
 use Rattle.shm_segments.proofs.Bytes.{len_of}
 use Rattle.shm_segments.proofs.Spanning.{spans-fit}
-use Rattle.shm_base.specs.Access.{stored}
-use Rattle.shm_base.specs.Spans.{span_places}
-use Rattle.shm_segments.specs.Table.{SpanFits}
 use Rattle.shm_segments.proofs.Held.{sums-written}
-use Rattle.std.proofs.lemmas.List.Elements.{filter-append}
-use Rattle.shm_fault.proofs.Entries.{filter-none}
-use Rattle.std.proofs.lemmas.Grind.{common_steps}
 
 -- a table and its memory
 abbrev pub view_of : List FlatEntry → StoreView → SegmentsView

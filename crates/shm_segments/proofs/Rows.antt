@@ -1,24 +1,11 @@
 -- Segments that come and go, as the flat machine's table shows them.
-use Rattle.std.proofs.Common.{◌≡◌, ◌≢◌, ℕ, ◌+◌, ◌*◌, ◌%◌, ◌<◌, ◌≤◌, ◌==◌, ◌&&◌, if◌then◌else◌, nat_lt, Bool, true, false, List, length, replicate, Option, Some, None, is_some, is_none, option_map, sym, ap, ◌∙◌, arith, inl, inr, length-set}
-use Rattle.std.proofs.lemmas.Bool.{cases_lt, cases_eq}
-use Rattle.std.proofs.lemmas.List.{length-replicate}
+use Rattle.shm_segments.proofs.Names.{◌≡◌, ◌≢◌, ℕ, ◌+◌, ◌*◌, ◌%◌, ◌<◌, ◌≤◌, ◌==◌, ◌&&◌, if◌then◌else◌, nat_lt, Bool, true, false, List, length, Option, Some, None, is_none, sym, ap, ◌∙◌, arith, inl, inr, length-set, cases_lt, cases_eq, length-replicate, pages_of, with_segment, Row, identifier, entry_at, with_row, without_row, at_set, at_set_other, at_row, at_row_other, with_row-few, free_found, identifier-mod, with_segment-flat, flat_table-make, Held, find_held, bytes_of, bytes_in, is_held, with_zeros, without, find-without_same, find-without_other, find-zeros_same, find-zeros_other, Head, segment_of, whole, joined, shape_held, shape_row, Agree, nat_tests, common_steps}
+use Rattle.std.proofs.Common.{replicate, is_some, option_map}
 use Rattle.std.specs.Prelude.{slice_set}
-use Rattle.shm_base.specs.State.{pages_of}
-use Rattle.shm_base.specs.Identifier.{with_segment}
 use Rattle.shm_ids.specs.declared.table.Entry.{Entry}
-use Rattle.shm_ids.specs.declared.table.Row.{Row}
-use Rattle.shm_ids.specs.Table.{identifier, entry_at, free_index, with_row, without_row}
-use Rattle.shm_ids.proofs.Entries.{at_set, at_set_other, at_row, at_row_other, with_row-few}
-use Rattle.shm_ids.proofs.Free.{free_found}
-use Rattle.shm_ids.proofs.Look.{identifier-mod}
-use Rattle.shm_ids.proofs.Flat.{with_segment-flat, flat_table-make}
-use Rattle.shm_plain.specs.Held.{Held, find_held, bytes_of, bytes_in, is_held, with_zeros, without}
-use Rattle.shm_plain.proofs.Found.{find-without_same, find-without_other, find-zeros_same, find-zeros_other}
-use Rattle.shm_segments.specs.declared.head.Head.{Head}
-use Rattle.shm_segments.specs.Joined.{segment_of, whole, joined, live, shape_held, shape_row, Agree}
+use Rattle.shm_ids.specs.Table.{free_index}
+use Rattle.shm_segments.specs.Joined.{live}
 use Rattle.shm_segments.proofs.Joins.{at-live, set-joined, same-held}
-use Rattle.std.proofs.lemmas.Bool.Decides.{nat_tests}
-use Rattle.std.proofs.lemmas.Grind.{common_steps}
 
 -- the identifier that an index has
 abbrev pub id_of : List (Entry Head) → ℕ → ℕ

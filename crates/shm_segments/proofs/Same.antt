@@ -1,15 +1,12 @@
 -- Changes of a table that leave alone how many pages each segment has, which are locked, and which are marked.
-use Rattle.std.proofs.Common.{◌≡◌, ℕ, ◌%◌, List, [], ◌∷◌, length, slice_get, slice_set, Option, Some, None, refl, arith}
-use Rattle.std.proofs.lemmas.Bool.{cases_eq}
+use Rattle.shm_segments.proofs.Names.{◌≡◌, ℕ, ◌%◌, List, [], ◌∷◌, length, slice_get, Option, Some, None, refl, arith, cases_eq, Segment, Runner, Place, set_in, with_byte, entry_byte_set, stored, change, with_entry, reserved, locked, detached, detach_all, live_in, pages_at, is_left, orphan_in, orphan, id_in, nat_tests, common_steps}
+use Rattle.std.proofs.Common.{slice_set}
 use Rattle.std.specs.Prelude.{is_some, option_map}
-use Rattle.shm_base.specs.State.{Segment, Entry, Runner}
-use Rattle.shm_base.specs.Access.{Place, set_in, with_byte, entry_byte_set, stored}
-use Rattle.shm_base.specs.Segments.{change, with_entry, pages_held, pages_locked, reserved, locked, detached, detach_all}
-use Rattle.shm_segments.specs.Table.{live, live_in, pages_at}
-use Rattle.shm_segments.specs.Left.{is_left, orphan_in, orphan, id_in, id_at}
+use Rattle.shm_base.specs.State.{Entry}
+use Rattle.shm_base.specs.Segments.{pages_held, pages_locked}
+use Rattle.shm_segments.specs.Table.{live}
+use Rattle.shm_segments.specs.Left.{id_at}
 use Rattle.shm_segments.proofs.Entries.{get-set_same, get-set_other, length-slice_set, sum-set_same}
-use Rattle.std.proofs.lemmas.Bool.Decides.{nat_tests}
-use Rattle.std.proofs.lemmas.Grind.{common_steps}
 
 -- two segments, or none, of as many pages
 pub record AlikePages (o p : Option Segment) : Type 0 where

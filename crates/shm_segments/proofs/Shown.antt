@@ -1,24 +1,11 @@
 -- Loads and stores over stretches, as the flat machine's table shows them.
-use Rattle.std.proofs.Common.{◌≡◌, ℕ, zero, suc, ◌+◌, ◌%◌, ◌≤◌, Bool, true, false, List, [], ◌∷◌, ◌++◌, length, set, take, drop, map, Option, Some, None, is_some, option_map, refl, sym, ap, ◌∙◌, arith}
-use Rattle.std.proofs.lemmas.Bool.Decides.{nat_tests}
-use Rattle.std.proofs.lemmas.Grind.{common_steps}
-use Rattle.std.proofs.lemmas.List.{set-get_or}
-use Rattle.std.specs.Int.{w64, from_le_bytes}
-use Rattle.std.specs.Prelude.{slice_set, sum_by, All}
-use Rattle.shm_base.specs.Access.{Place, set_in, with_byte, entry_byte_set, stored, loaded, bytes_at}
-use Rattle.shm_base.specs.declared.paging.Span.{Span}
+use Rattle.shm_segments.proofs.Names.{◌≡◌, ℕ, zero, suc, ◌+◌, ◌%◌, ◌≤◌, Bool, true, false, List, [], ◌∷◌, ◌++◌, length, set, take, drop, map, Option, Some, None, refl, sym, ap, ◌∙◌, arith, nat_tests, common_steps, set-get_or, w64, from_le_bytes, sum_by, All, Place, set_in, with_byte, entry_byte_set, stored, loaded, bytes_at, Span, identifier, unused, entry_at, flat_entry, at-table, run, span_places, Held, find_held, bytes_of, pasted, written, FitsPage, read_from, find_held-id, find-map, length-paste, pasted-keeps, Head, segment_of, whole, joined, shape_held, Agree}
+use Rattle.std.proofs.Common.{is_some, option_map}
+use Rattle.std.specs.Prelude.{slice_set}
 use Rattle.shm_ids.specs.declared.table.Entry.{Entry}
-use Rattle.shm_ids.specs.Table.{identifier, unused, entry_at}
-use Rattle.shm_ids.specs.Flat.{flat_entry}
-use Rattle.shm_ids.proofs.Flat.{at-table}
-use Rattle.shm_base.specs.Spans.{run, span_places}
-use Rattle.shm_plain.specs.Held.{Held, find_held, bytes_of, pasted, written, FitsPage, read_from}
-use Rattle.shm_plain.proofs.Kept.{find_held-id, find-map}
-use Rattle.shm_plain.proofs.Pasted.{length-paste, pasted-keeps}
 use Rattle.shm_fault.specs.Adding as store
 use Rattle.shm_segments.specs.Table as table
-use Rattle.shm_segments.specs.declared.head.Head.{Head}
-use Rattle.shm_segments.specs.Joined.{segment_of, whole, joined, live, shape_held, Agree}
+use Rattle.shm_segments.specs.Joined.{live}
 use Rattle.shm_segments.proofs.Bytes.{put, puts, get, bytes_of-put_same, bytes_of-put_other, Each, each, each-pasted, len_of, written-same, get-spans}
 use Rattle.shm_segments.proofs.Joins.{live-at, joined-same, set-joined, same-held}
 

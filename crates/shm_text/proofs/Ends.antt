@@ -1,12 +1,6 @@
 -- Where the first line of a text ends.
-use Rattle.std.proofs.Common.{arith, inl, inr, ◌≡◌, ◌<◌, ◌≤◌, ◌+◌, ◌-◌, ◌∙◌, ap, sym, refl, ℕ, zero, suc, List, [], ◌∷◌, length, get_or, take, drop, true, false, eqb, ltb, min}
-use Rattle.std.proofs.lemmas.Bool.{cases_Bool}
-use Rattle.std.proofs.Math.Seq.{drop-length}
-use borrow.Author.Tests.{ltb-true, ltb-false}
+use Rattle.shm_text.proofs.Names.{arith, inl, inr, ◌≡◌, ◌<◌, ◌≤◌, ◌+◌, ◌-◌, ◌∙◌, ap, sym, refl, ℕ, zero, suc, List, [], ◌∷◌, length, get_or, take, drop, true, false, eqb, ltb, min, cases_Bool, drop-length, ltb-true, ltb-false, nat_tests, length-take-le, get_or-take, take_all, take-take, drop-take, is_allowed, lines_of, line_end, first_line}
 use Rattle.shm_text.proofs.Cut.{lines_of-cut, lines_of-last}
-use Rattle.std.proofs.lemmas.Bool.Decides.{nat_tests}
-use Rattle.std.proofs.lemmas.List.{length-take-le, get_or-take, take_all, take-take, drop-take}
-use Rattle.shm_text.specs.Words.{is_allowed, lines_of, line_end, first_line}
 
 -- it ends behind a byte of it that is no LF
 pub ends_behind : (text : List ℕ) (at : ℕ) → at ≤ line_end text → at < length text → eqb (get_or text at 0) 10 ≡ false → at + 1 ≤ line_end text

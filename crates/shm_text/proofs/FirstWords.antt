@@ -1,20 +1,9 @@
 -- The first words of a line decide what it says.
-use Rattle.std.proofs.Common.{arith, ◌≡◌, ◌≤◌, ◌<◌, ◌+◌, ◌∙◌, refl, ℕ, List, take, length, eqb, Bool, true, false}
-use Rattle.std.specs.Prelude.{is_some, Result, Ok, Err, codes, nat_lt, not, ◌&&◌, ◌||◌, if◌then◌else◌}
-use Rattle.std.specs.Option.{ok_or}
-use Rattle.std.proofs.lemmas.Bool.Decides.{nat_tests}
-use Rattle.std.proofs.lemmas.List.{length-take}
-use Rattle.std.proofs.lemmas.Grind.{common_steps}
-use Rattle.shm_text.specs.Words.{word_at}
-use Rattle.shm_text.specs.declared.fault.FaultKind.{FaultKind}
-use Rattle.shm_text.specs.declared.fault.FaultKind.TheVariants.{BadLine, NoLimits, TooMany}
-use Rattle.shm_text.specs.declared.number.Number.{Number}
-use Rattle.shm_text.specs.declared.script.LineCall.{LineCall}
-use Rattle.shm_text.specs.declared.calls.Verb.{Verb}
+use Rattle.shm_text.proofs.Names.{arith, ◌≡◌, ◌≤◌, ◌<◌, ◌+◌, ◌∙◌, refl, ℕ, List, take, length, eqb, Bool, true, false, is_some, codes, nat_lt, not, ◌&&◌, ◌||◌, if◌then◌else◌, ok_or, nat_tests, length-take, common_steps, word_at, FaultKind, BadLine, NoLimits, TooMany, Number, LineCall, Verb, ◌>>=◌, wanted, verb_of, operands, call_by, call_with, SeenView, taker, is_skipped, is_command, counted, command, has, declared_pid, command_of}
+use Rattle.std.specs.Prelude.{Result, Ok, Err}
 use Rattle.shm_text.specs.declared.calls.Verb.TheVariants as verbs
-use Rattle.shm_text.specs.Operand.{◌>>=◌, wanted}
-use Rattle.shm_text.specs.Calls.{verb_of, operands, shmget_call, shmat_call, xadd_call, load_call, store_call, set_call, fork_call, swapoff_call, call_by, call_with, call_words}
-use Rattle.shm_text.specs.Reading.{SeenView, limits_item, process_item, child_item, declaration, taker, flush_item, command_item, body_item, words_item, is_skipped, is_command, counted, command, has, declared_pid, command_of}
+use Rattle.shm_text.specs.Calls.{shmget_call, shmat_call, xadd_call, load_call, store_call, set_call, fork_call, swapoff_call, call_words}
+use Rattle.shm_text.specs.Reading.{limits_item, process_item, child_item, declaration, flush_item, command_item, body_item, words_item}
 
 pub short : (ws : List (List ℕ)) (k : ℕ) → k < 8 → eqb (length (take 8 ws)) k ≡ eqb (length ws) k
 short ws k h = rw length-take (grind (arith, nat_tests))

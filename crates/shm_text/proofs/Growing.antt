@@ -1,15 +1,6 @@
 -- How far a number grows by a digit, and a word that is digits to its end.
-use Rattle.std.proofs.Common.{arith, ◌≡◌, ◌≤◌, ◌<◌, ◌+◌, ◌*◌, ◌^◌, ◌∙◌, ap, refl, subst, ℕ, List, true, take, length, pow-add}
-use Rattle.std.specs.Prelude.{All}
-use Rattle.std.specs.List.{list_all}
-use Rattle.std.specs.Char.{is_digit}
-use Rattle.std.proofs.lemmas.List.{take_all}
-use Rattle.std.proofs.lemmas.List.Sums.{list_all-from_AllPass}
-use Rattle.std.proofs.Math.Pow.{pow_mono}
-use Rattle.std.proofs.Math.Nat.{mul-le-mul}
+use Rattle.shm_text.proofs.Names.{arith, ◌≡◌, ◌≤◌, ◌<◌, ◌+◌, ◌*◌, ◌^◌, ◌∙◌, ap, refl, subst, ℕ, List, true, take, length, pow-add, All, list_all, is_digit, take_all, list_all-from_AllPass, pow_mono, mul-le-mul, number_from, Fits}
 use Rattle.std.proofs.lemmas.Bool.{lt-ltb}
-use Rattle.shm_text.specs.Number.{number_from}
-use Rattle.shm_text.specs.declared.number.Number.TheVariants.{Fits}
 
 -- a digit more, of a base of 16 at most
 grown_by : (v r d p : ℕ) → v < p → r ≤ 16 → d < r → v * r + d < p * 16

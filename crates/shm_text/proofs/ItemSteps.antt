@@ -1,17 +1,9 @@
 -- Reading line by line, from left to right.
-use Rattle.std.proofs.Common.{arith, rules, ◌≡◌, ◌≤◌, ◌+◌, ◌++◌, ◌∙◌, ap, sym, refl, ℕ, List, [], ◌∷◌, true, false, Option, Some, None, Result, Ok, Err, Bool, cond, length, append_assoc, append-nil, length-append}
-use Rattle.std.specs.Prelude.{nat_lt, is_some, IsOk}
-use borrow.Author.Tests.{ltb-true, ltb-false, lt-ltb}
-use Rattle.shm_text.specs.declared.fault.FaultKind.{FaultKind}
-use Rattle.shm_text.specs.declared.fault.FaultKind.TheVariants.{NoLimits}
-use Rattle.shm_text.specs.declared.fault.ScriptFault.{ScriptFault}
-use Rattle.shm_text.specs.declared.script.Item.{Item}
+use Rattle.shm_text.proofs.Names.{arith, rules, ◌≡◌, ◌≤◌, ◌+◌, ◌++◌, ◌∙◌, ap, sym, refl, ℕ, List, [], ◌∷◌, true, false, Option, Some, None, Bool, cond, length, append_assoc, append-nil, length-append, nat_lt, is_some, IsOk, ltb-true, ltb-false, FaultKind, NoLimits, ScriptFault, Item, Bounds, ScriptView, SeenView, ◌>>=◌, line_item, at_line, with_item, seen_with, seen_next, limits_after, processes_in, lines_in, script_by, script_from}
+use Rattle.std.proofs.Common.{Result, Ok, Err}
+use borrow.Author.Tests.{lt-ltb}
 use Rattle.shm_text.specs.declared.script.Item.TheVariants as items
-use Rattle.shm_base.specs.Bounds.{Bounds}
-use Rattle.shm_text.specs.Script.{ScriptView}
-use Rattle.shm_text.specs.Reading.{SeenView}
-use Rattle.shm_text.specs.Operand.{◌>>=◌}
-use Rattle.shm_text.specs.Reading.{script_of, items_of, line_item, at_line, with_item, seen_with, seen_next, limits_after, processes_in, lines_in, script_by, script_from}
+use Rattle.shm_text.specs.Reading.{script_of, items_of}
 
 -- all is what the lines above say, and then what the lines from the n-th on say
 pub record Goes (all : Result (List Item) ScriptFault) (n : ℕ) (seen : SeenView) (lines : List (List ℕ)) (front : List Item) : Type 0 where

@@ -1,5 +1,4 @@
-use Rattle.std.proofs.Common.{rules}
-use borrow.Author.Tests.{tests}
+use Rattle.nogcuvema.proofs.Names.{rules, tests}
 use Rattle.nogcuvema.proofs.about.text_of.Goals as goal
 
 pub returns-in_default : goal.returns-in_default

@@ -1,5 +1,5 @@
+use Rattle.nogcuvema.proofs.Names.{are_there}
 use Rattle.std.proofs.Common.{◌≡◌, drop}
-use Rattle.nogcuvema.specs.Opens.{are_there}
 use Rattle.nogcuvema.proofs.open.are_there.Given as goal
 
 -- what is left decides

@@ -1,5 +1,5 @@
-use Rattle.std.proofs.Common.{◌≡◌, map, take}
-use Rattle.nogcuvema.specs.Opens.{area_of}
+use Rattle.nogcuvema.proofs.Names.{map, take, area_of}
+use Rattle.std.proofs.Common.{◌≡◌}
 use Rattle.nogcuvema.proofs.open.areas_of.Given as goal
 
 abbrev pub invariant-loop-area : goal.invariant-loop-area

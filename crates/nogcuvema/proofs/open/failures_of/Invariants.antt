@@ -1,5 +1,5 @@
-use Rattle.std.proofs.Common.{◌≡◌, map, take}
-use Rattle.nogcuvema.specs.Opens.{failure_of}
+use Rattle.nogcuvema.proofs.Names.{map, take, failure_of}
+use Rattle.std.proofs.Common.{◌≡◌}
 use Rattle.nogcuvema.proofs.open.failures_of.Given as goal
 
 abbrev pub invariant-loop-failure : goal.invariant-loop-failure

@@ -1,5 +1,5 @@
-use Rattle.std.proofs.Common.{sym, ◌∙◌, rules, true, ◌≡◌}
-use Rattle.nogcuvema.specs.Opens.{are_kinds, are_there}
+use Rattle.nogcuvema.proofs.Names.{sym, ◌∙◌, rules, are_kinds, are_there}
+use Rattle.std.proofs.Common.{true, ◌≡◌}
 use Rattle.nogcuvema.proofs.Standing.{opens}
 use Rattle.nogcuvema.proofs.open.machine_of.Goals as goal
 

@@ -1,5 +1,5 @@
-use Rattle.std.proofs.Common.{◌≡◌, map, take}
-use Rattle.nogcuvema.specs.Opens.{process_of}
+use Rattle.nogcuvema.proofs.Names.{map, take, process_of}
+use Rattle.std.proofs.Common.{◌≡◌}
 use Rattle.nogcuvema.proofs.open.processes_of.Given as goal
 
 abbrev pub invariant-loop-process : goal.invariant-loop-process

@@ -1,5 +1,5 @@
-use Rattle.std.proofs.Common.{◌≡◌, rules, to_z, of_z, w32}
-use Rattle.shm_base.specs.declared.flags.AtFlags.{AtFlags}
+use Rattle.nogcuvema.proofs.Names.{rules, to_z, of_z, w32, AtFlags}
+use Rattle.std.proofs.Common.{◌≡◌}
 use Rattle.shm_base.specs.declared.call.Call.TheVariants as call
 use Rattle.shm_base.specs.declared.call.Reply.TheVariants as reply
 use Rattle.nogcuvema.proofs.Answering.{refused_alike}

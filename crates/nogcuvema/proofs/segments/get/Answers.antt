@@ -1,5 +1,5 @@
-use Rattle.std.proofs.Common.{◌≡◌, rules}
-use Rattle.shm_base.specs.declared.flags.GetFlags.{GetFlags}
+use Rattle.nogcuvema.proofs.Names.{rules, GetFlags}
+use Rattle.std.proofs.Common.{◌≡◌}
 use Rattle.shm_base.specs.declared.call.Call.TheVariants as call
 use Rattle.shm_base.specs.declared.call.Reply.TheVariants as reply
 use Rattle.nogcuvema.proofs.Answering.{refused_alike}

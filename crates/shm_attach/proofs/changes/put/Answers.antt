@@ -1,14 +1,5 @@
-use Rattle.std.proofs.Common.{◌≡◌, refl, arith, Some, slice_get}
-use Rattle.std.specs.Prelude.{All}
-use Rattle.std.proofs.lemmas.List.{length-map}
-use Rattle.shm_base.specs.Space.{inserted}
-use Rattle.shm_areas.specs.Arranged.{bare, bare_all}
+use Rattle.shm_attach.proofs.Names.{◌≡◌, refl, arith, Some, slice_get, All, length-map, inserted, bare, bare_all, set_value_at, IsPlaceFor, runners_view, pieces_at, IsHeld}
 use Rattle.shm_attach.specs.declared.process.Runner.{Runner}
-use Rattle.indexmap.specs.IndexMap.{set_value_at}
-use Rattle.shm_attach.specs.Place.{IsPlaceFor}
-use Rattle.shm_attach.specs.Views.{runners_view}
-use Rattle.shm_attach.specs.Spaces.{pieces_at}
-use Rattle.shm_attach.specs.Tables.{IsHeld}
 use Rattle.shm_attach.proofs.Processes.{values_of, pieces_of-inserted, some_if-le}
 use Rattle.shm_attach.proofs.Held.{pieces_at-stored, stored_at-value, held-inserted}
 use Rattle.shm_attach.proofs.Sound.{IsChanged, changed, fit-inserted, sound-changed, counts-small}

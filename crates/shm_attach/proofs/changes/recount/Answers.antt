@@ -1,11 +1,5 @@
-use Rattle.std.proofs.Common.{◌≡◌, ℕ, ◌+◌, ◌<◌, ◌≤◌, ◌∷◌, ◌∙◌, ap, sym, subst, get_or, drop, arith}
-use Rattle.std.proofs.lemmas.Grind.{common_steps}
-use Rattle.shm_base.specs.Space.{lowest_address, pieces_of, cut}
-use Rattle.shm_areas.specs.Arranged.{bare, bare_all}
-use Rattle.shm_areas.proofs.Placing.{nothing, fit_at}
-use Rattle.shm_attach.specs.Views.{one_if, some_if}
+use Rattle.shm_attach.proofs.Names.{◌≡◌, ℕ, ◌+◌, ◌<◌, ◌≤◌, ◌∷◌, ◌∙◌, ap, sym, subst, get_or, drop, arith, common_steps, lowest_address, pieces_of, cut, bare, bare_all, nothing, fit_at, one_if, some_if, counted}
 use Rattle.shm_attach.proofs.Processes.{one_more, pieces_of-cut_cons, few_parts, drop-bare, some_if-le, was_counted}
-use Rattle.shm_attach.specs.Tables.{counted}
 use Rattle.shm_attach.proofs.changes.recount.Goals.{After-parts_outside-parts}
 use Rattle.shm_attach.proofs.changes.recount.Goals as goal
 

@@ -1,9 +1,5 @@
-use Rattle.std.proofs.Common.{◌≡◌, ℕ, ◌+◌, ◌*◌, ◌<◌, ◌≤◌, Option, drop}
-use Rattle.shm_base.specs.Space.{pieces_of, cut}
-use Rattle.shm_areas.specs.Arranged.{bare_all}
+use Rattle.shm_attach.proofs.Names.{◌≡◌, ℕ, ◌+◌, ◌*◌, ◌<◌, ◌≤◌, Option, drop, pieces_of, cut, bare_all, AllTrue, counted, IsHeld, IsTied}
 use Rattle.shm_areas.specs.declared.piece.Piece.{Piece}
-use Rattle.shm_attach.specs.Entries.{AllTrue}
-use Rattle.shm_attach.specs.Tables.{counted, IsHeld, IsTied}
 use Rattle.shm_attach.proofs.changes.recount.Given as goal
 
 -- what is left to count, and that there is room for it

@@ -1,5 +1,4 @@
-use Rattle.std.proofs.Common.{arith}
-use Rattle.std.proofs.lemmas.Grind.{common_steps}
+use Rattle.shm_attach.proofs.Names.{arith, common_steps}
 use Rattle.shm_attach.proofs.Processes.{runners_live, length_set}
 use Rattle.shm_attach.proofs.Held.{stored_at-set, stored_at-value, stored_at-other}
 use Rattle.shm_attach.proofs.changes.set_life_at.Goals as goal

@@ -1,5 +1,4 @@
-use Rattle.std.proofs.Common.{ap, sym}
-use Rattle.shm_attach.specs.Tables.{stored_in}
+use Rattle.shm_attach.proofs.Names.{ap, sym, stored_in}
 use Rattle.shm_attach.proofs.Held.{pieces_at-entry}
 use Rattle.shm_attach.proofs.changes.space_at.Goals as goal
 

@@ -1,18 +1,6 @@
-use Rattle.std.proofs.Common.{◌≡◌, ℕ, ◌+◌, ◌-◌, ◌≤◌, ◌∙◌, not, ap, refl, arith, eq-eqb, List, Some, slice_get, length, filter}
-use Rattle.std.proofs.lemmas.Grind.{common_steps}
-use Rattle.std.specs.Prelude.{All}
-use Rattle.std.proofs.lemmas.List.{length-map}
-use Rattle.indexmap.specs.IndexMap.{set_value_at}
-use Rattle.shm_base.specs.Space.{meets, cut, without_named, pieces_of}
-use Rattle.shm_areas.specs.Arranged.{bare, bare_all}
-use Rattle.shm_areas.specs.Edit.{kept_named, kept_without}
+use Rattle.shm_attach.proofs.Names.{◌≡◌, ℕ, ◌+◌, ◌-◌, ◌≤◌, ◌∙◌, not, ap, refl, arith, eq-eqb, List, Some, slice_get, length, filter, common_steps, All, length-map, set_value_at, meets, cut, without_named, pieces_of, bare, bare_all, kept_named, kept_without, arranged_filter, bare_filter, some_if, runners_view, pieces_at, IsCuttable, counted, stored_at, IsHeld}
 use Rattle.shm_areas.specs.declared.piece.Piece.{Piece}
-use Rattle.shm_areas.proofs.Edits.{arranged_filter, bare_filter}
 use Rattle.shm_attach.specs.declared.process.Runner.{Runner}
-use Rattle.shm_attach.specs.Views.{some_if, runners_view}
-use Rattle.shm_attach.specs.Spaces.{pieces_at}
-use Rattle.shm_attach.specs.Part.{IsCuttable}
-use Rattle.shm_attach.specs.Tables.{counted, stored_at, IsHeld}
 use Rattle.shm_attach.proofs.Processes.{values_of, bare-met, met-meets, pieces_of-filter, pieces_of-cut_met, pieces_of-without, shorter_filter}
 use Rattle.shm_attach.proofs.Held.{pieces_at-stored, stored_at-value, held-cut, held-filter}
 use Rattle.shm_attach.proofs.Sound.{changed, fit-cut, fit-without, sound-changed, counts-small, counts-own}

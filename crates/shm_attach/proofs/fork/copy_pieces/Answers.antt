@@ -1,14 +1,5 @@
-use Rattle.std.proofs.Common.{◌≡◌, ◌+◌, ◌<◌, ◌∙◌, ap, arith, List, length, get_or, take}
-use Rattle.std.proofs.lemmas.Grind.{common_steps}
-use Rattle.std.proofs.lemmas.List.{length-map}
+use Rattle.shm_attach.proofs.Names.{◌≡◌, ◌+◌, ◌<◌, ◌∙◌, ap, arith, List, length, get_or, take, common_steps, length-map, lowest_address, inserted, bare, nothing, runner_view, runners_view, with_pieces_at, pieces_at, stored_at, no_holds}
 use Rattle.shm_base.specs.State.{Piece}
-use Rattle.shm_base.specs.Space.{lowest_address, inserted}
-use Rattle.shm_areas.specs.Arranged.{bare}
-use Rattle.shm_areas.proofs.Placing.{nothing}
-use Rattle.shm_attach.specs.Views.{runner_view, runners_view, with_pieces_at}
-use Rattle.shm_attach.specs.Spaces.{pieces_at}
-use Rattle.shm_attach.specs.Tables.{stored_at}
-use Rattle.shm_attach.specs.Exact.{no_holds}
 use Rattle.shm_attach.proofs.Held.{pieces_at-bare}
 use Rattle.shm_attach.proofs.Keeping.{with_pieces_at-same, with_pieces_at-twice, pieces_at-changed, bare-get_or, inserted_next, place_next}
 use Rattle.shm_attach.proofs.fork.copy_pieces.Goals.{Start, After-pieces}

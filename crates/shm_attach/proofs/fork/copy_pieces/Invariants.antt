@@ -1,10 +1,5 @@
-use Rattle.std.proofs.Common.{◌≡◌, ℕ, List, Option, length, take}
+use Rattle.shm_attach.proofs.Names.{◌≡◌, ℕ, List, Option, length, take, with_pieces_at, runners_view, pieces_at, AllTrue, stored_at, AreTablesSound, no_holds}
 use Rattle.shm_base.specs.State.{Piece}
-use Rattle.shm_attach.specs.Views.{with_pieces_at, runners_view}
-use Rattle.shm_attach.specs.Spaces.{pieces_at}
-use Rattle.shm_attach.specs.Entries.{AllTrue}
-use Rattle.shm_attach.specs.Tables.{stored_at}
-use Rattle.shm_attach.specs.Exact.{AreTablesSound, no_holds}
 use Rattle.shm_attach.proofs.fork.copy_pieces.Given as goal
 
 -- the child has the first k pieces

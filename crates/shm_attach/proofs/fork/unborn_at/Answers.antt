@@ -1,6 +1,4 @@
-use Rattle.std.proofs.Common.{◌≡◌, ◌∙◌, sym, Some, None, if◌then◌else◌}
-use Rattle.shm_base.specs.Step.{is_unborn, unborn_from}
-use Rattle.shm_attach.specs.Views.{life_view, runners_view}
+use Rattle.shm_attach.proofs.Names.{◌≡◌, ◌∙◌, sym, Some, None, if◌then◌else◌, is_unborn, unborn_from, life_view, runners_view}
 use Rattle.shm_attach.proofs.Callers.{unborn_from-position, unborn_from-absent, not_unborn}
 use Rattle.shm_attach.proofs.fork.unborn_at.Goals.{In_ok-index}
 use Rattle.shm_attach.proofs.fork.unborn_at.Goals as goal

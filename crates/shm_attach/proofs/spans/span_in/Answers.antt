@@ -1,12 +1,6 @@
-use Rattle.std.proofs.Common.{◌≡◌, ℕ, ◌+◌, ◌-◌, ◌*◌, ◌/◌, ◌<◌, ◌∙◌, true, get_or, sym, arith}
-use Rattle.std.proofs.lemmas.Grind.{common_steps}
-use Rattle.std.proofs.lemmas.Bool.{true≢false}
+use Rattle.shm_attach.proofs.Names.{◌≡◌, ℕ, ◌+◌, ◌-◌, ◌*◌, ◌/◌, ◌<◌, ◌∙◌, true, get_or, sym, arith, common_steps, true≢false, bare, bare_all, IsCovering, get, size_in, IsHeld}
 use Rattle.shm_base.specs.State.{Piece}
-use Rattle.shm_areas.specs.Arranged.{bare, bare_all, IsCovering}
 use Rattle.shm_attach.proofs.Accesses.{wanted_in-run, wanted_in-none, wanted_in-readonly, covering-passes, in_page, from_not, from_not_false}
-use Rattle.slab.specs.Slab.{get}
-use Rattle.shm_attach.specs.Entries.{size_in}
-use Rattle.shm_attach.specs.Tables.{IsHeld}
 use Rattle.shm_attach.proofs.Held.{is_held, held-passes, held-passed, frame-true}
 use Rattle.shm_attach.proofs.spans.span_in.Goals as goal
 use Rattle.shm_attach.proofs.spans.span_in.Goals.{else-write-via-then-write+else-not-piece, else-write-via-else-write}

@@ -1,6 +1,4 @@
-use Rattle.std.proofs.Common.{◌-◌, arith, append-nil}
-use Rattle.std.proofs.lemmas.Grind.{common_steps}
-use Rattle.shm_areas.specs.Arranged.{bare_all}
+use Rattle.shm_attach.proofs.Names.{◌-◌, arith, append-nil, common_steps, bare_all}
 use Rattle.shm_attach.proofs.Accesses.{wanted_in-first, wanted_in-second, wanted_in-both}
 use Rattle.shm_attach.proofs.spans.spans_in.Goals as goal
 

@@ -1,5 +1,4 @@
-use Rattle.std.proofs.Common.{Some}
-use Rattle.shm_slots.specs.View.{IsSwap, with_slot_owner, with_slot_page}
+use Rattle.shm_fault.proofs.Names.{Some, IsSwap, with_slot_owner, with_slot_page}
 use Rattle.shm_fault.proofs.Areas.{relocated, relocated-not, cause-within}
 use Rattle.shm_fault.proofs.moving.write_outside.Goals as goal
 

@@ -1,5 +1,4 @@
-use Rattle.std.proofs.Common.{◌≡◌, replicate}
-use Rattle.shm_fault.specs.Segs.{no_page}
+use Rattle.shm_fault.proofs.Names.{◌≡◌, replicate, no_page}
 use Rattle.shm_fault.proofs.page_tables.blank_pages.Given as goal
 
 abbrev pub invariant-loop-page : goal.invariant-loop-page

@@ -1,8 +1,6 @@
-use Rattle.std.proofs.Common.{arith}
+use Rattle.shm_fault.proofs.Names.{arith, common_steps, nat_tests}
 use Rattle.shm_fault.proofs.Entries.{key_found, none_found}
 use Rattle.shm_fault.proofs.page_tables.index_of.Goals as goal
-use Rattle.std.proofs.lemmas.Grind.{common_steps}
-use Rattle.std.proofs.lemmas.Bool.Decides.{nat_tests}
 
 pub returns-in_err-index-clause-none : goal.returns-in_err-index-clause-none
 returns-in_err-index-clause-none c = rw c.from_residual.ensures (none_found c.args.by_id.now.entries c.args.id c.in_err-index.ensures.value)

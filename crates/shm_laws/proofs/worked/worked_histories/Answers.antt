@@ -1,5 +1,4 @@
-use Rattle.std.proofs.Common.{true, refl}
-use Rattle.shm_laws.specs.Worked.{opening, a_store_fails, two_go, three, others_read, two_write, stores_own}
+use Rattle.shm_laws.proofs.Names.{true, refl, opening, a_store_fails, two_go, three, others_read, two_write, stores_own}
 use Rattle.shm_laws.proofs.Computing.{legal}
 use Rattle.shm_laws.proofs.worked.worked_histories.Goals as goal
 

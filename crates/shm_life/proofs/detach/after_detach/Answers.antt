@@ -1,6 +1,4 @@
-use Rattle.std.proofs.Common.{refl}
-use Rattle.shm_base.specs.Segments.{detach_all}
-use Rattle.shm_segments.proofs.Same.{detach_all-same}
+use Rattle.shm_life.proofs.Names.{refl, detach_all, detach_all-same}
 use Rattle.shm_life.proofs.Settled.{orphans-same, still-well}
 use Rattle.shm_life.proofs.detach.after_detach.Goals as goal
 

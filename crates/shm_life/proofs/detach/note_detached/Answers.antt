@@ -1,9 +1,4 @@
-use Rattle.std.proofs.Common.{List, take, sym, ap, ◌∙◌}
-use Rattle.std.specs.Prelude.{slice_index_or}
-use Rattle.shm_base.specs.State.{Entry}
-use Rattle.shm_base.specs.Segments.{change, detached}
-use Rattle.shm_segments.specs.View.{SegmentsView}
-use Rattle.shm_segments.proofs.Remembered.{view_of}
+use Rattle.shm_life.proofs.Names.{List, take, sym, ap, ◌∙◌, slice_index_or, Entry, change, detached, SegmentsView, view_of}
 use Rattle.shm_life.proofs.Settled.{detach_all-more, live-detached}
 use Rattle.shm_life.proofs.detach.note_detached.Goals as goal
 

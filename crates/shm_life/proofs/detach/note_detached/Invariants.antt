@@ -1,5 +1,4 @@
-use Rattle.std.proofs.Common.{◌≡◌, take}
-use Rattle.shm_base.specs.Segments.{detach_all}
+use Rattle.shm_life.proofs.Names.{◌≡◌, take, detach_all}
 use Rattle.shm_life.proofs.detach.note_detached.Given as goal
 
 abbrev pub invariant-loop-seg : goal.invariant-loop-seg

@@ -1,7 +1,4 @@
-use Rattle.std.proofs.Common.{◌≡◌, drop, [], refl, sym, subst, ◌∙◌}
-use Rattle.std.proofs.lemmas.List.{drop_all}
-use Rattle.shm_segments.proofs.Remembered.{runs-refl, runs-trans}
-use Rattle.shm_life.specs.Orphans.{OrphansAmong}
+use Rattle.shm_life.proofs.Names.{◌≡◌, drop, [], refl, sym, subst, ◌∙◌, drop_all, runs-refl, runs-trans, OrphansAmong}
 use Rattle.shm_life.proofs.Orphans.{swept-none}
 use Rattle.shm_life.proofs.Running.{sweeps-none, sweeps-trans, among-next, swept-well, keeps_runs}
 use Rattle.shm_life.proofs.detach.sweep.Given.{Over}

@@ -1,5 +1,4 @@
-use Rattle.std.proofs.Common.{drop}
-use Rattle.shm_life.specs.Orphans.{OrphansAmong}
+use Rattle.shm_life.proofs.Names.{drop, OrphansAmong}
 use Rattle.shm_life.proofs.Running.{SweptTo}
 use Rattle.shm_life.proofs.detach.sweep.Given as goal
 

@@ -1,9 +1,4 @@
-use Rattle.std.proofs.Common.{◌≡◌, false, ℕ, List, ◌∷◌, ap, sym, ◌∙◌, refl}
-use Rattle.shm_base.specs.Segments.{attach_count}
-use Rattle.shm_segments.specs.Left.{is_left}
-use Rattle.shm_segments.specs.Table.{live, segment_seen}
-use Rattle.shm_segments.proofs.Finding.{live-found}
-use Rattle.shm_life.specs.Orphans.{OrphansAmong}
+use Rattle.shm_life.proofs.Names.{◌≡◌, false, ℕ, List, ◌∷◌, ap, sym, ◌∙◌, refl, attach_count, is_left, live, segment_seen, live-found, OrphansAmong}
 use Rattle.shm_life.proofs.Sweeping.{fewer-left, fewer-destroyed, sweeps-destroyed, left-parts}
 use Rattle.shm_life.proofs.detach.sweep_one.Given.{Over}
 use Rattle.shm_life.proofs.detach.sweep_one.Goals as goal

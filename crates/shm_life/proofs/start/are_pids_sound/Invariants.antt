@@ -1,5 +1,4 @@
-use Rattle.std.proofs.Common.{◌≡◌, drop}
-use Rattle.shm_life.specs.Start.{are_pids}
+use Rattle.shm_life.proofs.Names.{◌≡◌, drop, are_pids}
 use Rattle.shm_life.proofs.start.are_pids_sound.Given as goal
 
 -- what is left decides

@@ -1,5 +1,5 @@
-use Rattle.std.proofs.Common.{◌≡◌, map, drop, length}
-use Rattle.shm_life.specs.Start.{are_sizes}
+use Rattle.shm_life.proofs.Names.{◌≡◌, drop, length, are_sizes}
+use Rattle.std.proofs.Common.{map}
 use Rattle.shm_life.proofs.start.are_sizes_sound.Given as goal
 
 -- what is left decides

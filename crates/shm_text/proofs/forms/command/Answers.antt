@@ -1,5 +1,5 @@
-use Rattle.std.proofs.Common.{rules, ◌≡◌, ltb, true, false, refl}
-use Rattle.std.proofs.lemmas.Bool.{lt-ltb, le-ltb}
+use Rattle.shm_text.proofs.Names.{rules, ◌≡◌, ltb, true, false, refl, le-ltb}
+use Rattle.std.proofs.lemmas.Bool.{lt-ltb}
 use Rattle.shm_text.proofs.FirstWords.{command_said}
 use Rattle.shm_text.proofs.forms.command.Goals as goal
 

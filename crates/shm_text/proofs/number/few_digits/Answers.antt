@@ -1,11 +1,5 @@
-use Rattle.std.proofs.Common.{rules, arith, ◌≡◌, ◌<◌, ◌+◌, ◌*◌, ◌^◌, ap, sym, length, take, get_or, true, Some}
-use Rattle.std.specs.Prelude.{not, ◌==◌}
-use Rattle.std.specs.Char.{is_digit, digit_value}
-use Rattle.std.specs.Str.Parse.{digits_value}
+use Rattle.shm_text.proofs.Names.{rules, arith, ◌≡◌, ◌<◌, ◌+◌, ◌*◌, ◌^◌, ap, sym, length, take, get_or, true, Some, not, ◌==◌, is_digit, digit_value, digits_value, digits_value_more, take_all, All-more}
 use Rattle.std.proofs.lemmas.Bool.{lt-ltb}
-use Rattle.std.proofs.lemmas.Int.Digits.{digits_value_more}
-use Rattle.std.proofs.lemmas.List.{take_all}
-use Rattle.std.proofs.lemmas.List.Elements.{All-more}
 use Rattle.shm_text.proofs.Growing.{grown, fits, kept, all_digits}
 use Rattle.shm_text.proofs.number.few_digits.Goals as goal
 use Rattle.shm_text.proofs.number.few_digits.Goals.{In_ok-digit}

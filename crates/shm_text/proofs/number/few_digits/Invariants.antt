@@ -1,7 +1,4 @@
-use Rattle.std.proofs.Common.{◌≡◌, ◌<◌, ◌*◌, ◌^◌, take, true}
-use Rattle.std.specs.Prelude.{All}
-use Rattle.std.specs.Char.{is_digit}
-use Rattle.std.specs.Str.Parse.{digits_value}
+use Rattle.shm_text.proofs.Names.{◌≡◌, ◌<◌, ◌*◌, ◌^◌, take, true, All, is_digit, digits_value}
 use Rattle.shm_text.proofs.number.few_digits.Given as goal
 
 -- the bytes so far are digits, and the number is what they spell

@@ -1,8 +1,4 @@
-use Rattle.std.proofs.Common.{rules}
-use Rattle.std.specs.Prelude.{◌==◌}
-use Rattle.std.proofs.lemmas.Bool.Decides.{nat_tests}
-use Rattle.std.proofs.lemmas.Iterator.Consumers.{count_from_yields_List}
-use Rattle.std.proofs.lemmas.Iterator.Splits.{YieldsList-from_slice_split}
+use Rattle.shm_text.proofs.Names.{rules, ◌==◌, nat_tests, count_from_yields_List, YieldsList-from_slice_split}
 use Rattle.shm_text.proofs.operand.names.Goals as goal
 
 pub returns : goal.returns

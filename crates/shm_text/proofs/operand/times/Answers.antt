@@ -1,11 +1,4 @@
-use Rattle.std.proofs.Common.{rules, ◌∙◌}
-use Rattle.std.specs.Prelude.{◌==◌}
-use Rattle.std.specs.Str.{bytes_eq}
-use Rattle.std.proofs.lemmas.Bool.Decides.{nat_tests}
-use Rattle.std.proofs.lemmas.List.Sums.{length-filter}
-use Rattle.std.proofs.lemmas.Iterator.Consumers.{count_from_yields_List, YieldsList-from_filter}
-use Rattle.std.proofs.lemmas.Iterator.Splits.{YieldsList-from_slice_split}
-use Rattle.shm_text.specs.Operand.{names_of}
+use Rattle.shm_text.proofs.Names.{rules, ◌∙◌, ◌==◌, bytes_eq, nat_tests, length-filter, count_from_yields_List, YieldsList-from_filter, YieldsList-from_slice_split, names_of}
 use Rattle.shm_text.proofs.operand.times.Goals as goal
 
 pub returns : goal.returns

@@ -1,7 +1,4 @@
-use Rattle.std.proofs.Common.{◌≡◌, length}
-use Rattle.std.specs.List.{list_all}
-use Rattle.shm_text.specs.Reading.{is_wordless}
-use Rattle.shm_text.specs.Words.{lines_of}
+use Rattle.shm_text.proofs.Names.{◌≡◌, length, list_all, is_wordless, lines_of}
 use Rattle.shm_text.proofs.reading.has_words.Given as goal
 
 -- the lines that are left decide

@@ -1,7 +1,4 @@
-use Rattle.std.proofs.Common.{◌≡◌, ◌≤◌, ◌<◌, ◌+◌, List, length, None}
-use Rattle.shm_text.specs.Words.{lines_of}
-use Rattle.shm_text.specs.Reading.{items_of, nothing, limits_after, processes_in, lines_in}
-use Rattle.shm_text.specs.declared.script.Item.{Item}
+use Rattle.shm_text.proofs.Names.{◌≡◌, ◌≤◌, ◌<◌, ◌+◌, List, length, None, lines_of, items_of, nothing, limits_after, processes_in, lines_in, Item}
 use Rattle.shm_text.proofs.ItemSteps.{Goes}
 use Rattle.shm_text.proofs.reading.read_lines.Given as goal
 

@@ -1,24 +1,6 @@
 -- `into_parts` moves the pointer back, with what it owns.
-use Rattle.std.proofs.Common.{List, [], ◌∷◌, ◌++◌, refl, sym, subst, ap, ◌∙◌}
-use Rattle.std.specs.Prelude.{Some, ◌≡◌, IsSome}
-use mir.Val.{Val, vptr}
-use base.Logic.{SProp, ent, emp, id⊢}
-use base.Fml.{ftrue}
-use prog.Wp.{WpFn}
-use types.Kit.{‵, raw, ◌⊛◌, ◌$◌, ◌∵◌, !, qed, by, move, keep, split, fsplit, fjoin, suffices, use0}
-use types.Run.{stop, fld, of_opd, no_more, and_then, returns, enter}
-use types.ByLocal.{alloc_all, pass_all, free_all, look_at, get, get_in, sets}
-use types.Part.{agg, sub, whole}
-use contract.Monad.{fact, fact_i}
-use contract.Running.{tables}
-use denote.Exit.{yes}
-use denote.RattleType.{owns}
-use denote.Signature.{types_at, plain}
-use denote.RawPtr.{Ptr, block_ptr, ptr_val}
-use denote.Steps.{nothing, heard}
-use denote.Triple.Walked.{Stays, stay_dropped, walk_of}
-use Rattle.std.proofs.alloc.Calls.{Goes-blank, handle_tells}
-use Rattle.std.proofs.raw_atomic.Walks.{proved_at, leaves}
+use Rattle.nogcuvema.proofs.Names.{List, [], ◌∷◌, ◌++◌, refl, sym, subst, ap, ◌∙◌, Some, IsSome, Val, vptr, SProp, ent, emp, id⊢, ftrue, WpFn, ‵, raw, ◌⊛◌, ◌$◌, ◌∵◌, !, qed, by, move, keep, split, fsplit, fjoin, suffices, use0, stop, fld, of_opd, no_more, and_then, returns, enter, alloc_all, pass_all, free_all, look_at, get, get_in, sets, agg, sub, whole, fact, fact_i, tables, yes, owns, types_at, plain, Ptr, block_ptr, ptr_val, nothing, heard, Stays, stay_dropped, walk_of, Goes-blank, handle_tells, proved_at, leaves}
+use Rattle.std.specs.Prelude.{◌≡◌}
 use Rattle.std.specs.contracts.alloc.Global.{the_row as Heap}
 use Rattle.nogcuvema.proofs.KeptSteps.{al, alone, both, both_typed, held_some, kept_out, parts_in}
 use Rattle.nogcuvema.specs.contracts.held.Kept.{the_row as Row}

@@ -1,20 +1,6 @@
 -- `none` makes the null pointer.
-use Rattle.std.proofs.Common.{[], ◌∷◌, refl, lit<}
-use Rattle.std.specs.Prelude.{None, ◌≡◌, Option}
-use base.Logic.{emp, id⊢}
-use base.Fml.{ftrue}
-use types.Kit.{‵, raw, ◌⊛◌, ◌$◌, ◌∵◌, !, qed, by, keep, split, use0}
-use types.Run.{no_more, and_then, returns, enter, lit}
-use types.ByLocal.{alloc_all, pass_all, free_all, look_at, sets}
-use types.Part.{agg}
-use contract.Monad.{fact, fact_i}
-use contract.Running.{tables}
-use denote.RawPtr.{null_ptr, ptr_val}
-use denote.Steps.{nothing}
-use denote.Triple.Walked.{walk_of}
-use Rattle.std.proofs.raw_atomic.Walks.{proved_at, leaves}
-use Rattle.shm_machine.specs.declared.machine.Machine.{Machine}
-use Rattle.nogcuvema.specs.Held.{held}
+use Rattle.nogcuvema.proofs.Names.{[], ◌∷◌, refl, lit<, Option, emp, id⊢, ftrue, ‵, raw, ◌⊛◌, ◌$◌, ◌∵◌, !, qed, by, keep, split, use0, no_more, and_then, returns, enter, lit, alloc_all, pass_all, free_all, look_at, sets, agg, fact, fact_i, tables, null_ptr, ptr_val, nothing, walk_of, proved_at, leaves, Machine, held}
+use Rattle.std.specs.Prelude.{None, ◌≡◌}
 use Rattle.nogcuvema.proofs.KeptSteps.{alone, token, kept_in}
 use Rattle.nogcuvema.specs.contracts.held.Kept.none as f
 use Rattle.nogcuvema.proofs.held.Kept.none.Statement.{statement}

@@ -1,4 +1,4 @@
-use Rattle.std.proofs.Common.{◌≡◌, map, take}
+use Rattle.shm_attach.proofs.Names.{◌≡◌, map, take}
 use Rattle.shm_areas.specs.declared.piece.Piece.{Piece}
 use Rattle.shm_attach.proofs.lost.Lost.of.Given as goal
 

@@ -1,17 +1,6 @@
-use Rattle.std.proofs.Common.{◌≡◌, ℕ, ◌+◌, ◌*◌, ◌<◌, ◌≤◌, ◌∙◌, ap, sym, subst, arith, List, length}
-use Rattle.std.proofs.lemmas.Grind.{common_steps}
-use Rattle.shm_base.specs.Space.{cut}
-use Rattle.shm_areas.specs.Arranged.{bare}
+use Rattle.shm_attach.proofs.Names.{◌≡◌, ℕ, ◌+◌, ◌*◌, ◌<◌, ◌≤◌, ◌∙◌, ap, sym, subst, arith, List, length, common_steps, cut, bare, frame_of, Tables, one_if, runner_view, runners_view, SpacesView, Translation, AreTrue, IsCaller, pieces_at, life_at, AreTablesSound, no_holds, AllTrue, translations_of, counted, IsHeld, length-map}
 use Rattle.shm_areas.specs.declared.piece.Piece.{Piece}
-use Rattle.shm_fault.specs.Store.{frame_of}
 use Rattle.shm_attach.specs.declared.process.Runner.{Runner}
-use Rattle.shm_attach.specs.declared.tables.Tables.{Tables}
-use Rattle.shm_attach.specs.Views.{one_if, runner_view, runners_view}
-use Rattle.shm_attach.specs.Spaces.{SpacesView, Translation, AreTrue, IsCaller, pieces_at, life_at}
-use Rattle.shm_attach.specs.Exact.{AreTablesSound, no_holds}
-use Rattle.shm_attach.specs.Entries.{AllTrue, translations_of}
-use Rattle.shm_attach.specs.Tables.{counted, IsHeld}
-use Rattle.std.proofs.lemmas.List.{length-map}
 use Rattle.shm_attach.proofs.Processes.{one_if-le, some_if-le, seg-met}
 use Rattle.shm_attach.proofs.Callers.{caller_within, caller_born, with_pieces-of}
 use Rattle.shm_attach.proofs.Keeping.{pieces_at-changed, life_at-changed, with_pieces_at-twice}

@@ -1,8 +1,4 @@
-use Rattle.std.proofs.Common.{◌≡◌, sym, arith}
-use Rattle.std.proofs.lemmas.Grind.{common_steps}
-use Rattle.shm_base.specs.Step.{caller_by, caller_from}
-use Rattle.shm_areas.specs.Arranged.{bare_all}
-use Rattle.shm_attach.specs.Views.{life_view, runners_view}
+use Rattle.shm_attach.proofs.Names.{◌≡◌, sym, arith, common_steps, caller_by, caller_from, bare_all, life_view, runners_view}
 use Rattle.shm_attach.proofs.Held.{pieces_at-entry}
 use Rattle.shm_attach.proofs.Callers.{caller_from-position, caller_from-absent, not_live}
 use Rattle.shm_attach.proofs.spaces.Spaces.caller.Goals.{In_ok-index}

@@ -1,7 +1,4 @@
-use Rattle.std.proofs.Common.{ap, arith}
-use Rattle.std.proofs.lemmas.Grind.{common_steps}
-use Rattle.shm_attach.specs.Spaces.{SpacesView}
-use Rattle.shm_attach.specs.Exact.{no_holds}
+use Rattle.shm_attach.proofs.Names.{ap, arith, common_steps, SpacesView, no_holds}
 use Rattle.shm_attach.proofs.Callers.{caller_within, with_pieces-of}
 use Rattle.shm_attach.proofs.Translations.{keeps}
 use Rattle.shm_attach.proofs.spaces.Spaces.detach.Goals as goal

@@ -1,10 +1,4 @@
-use Rattle.std.proofs.Common.{◌≡◌, ◌<◌, ap, refl, arith, [], length}
-use Rattle.std.proofs.lemmas.Grind.{common_steps}
-use Rattle.std.proofs.lemmas.Simd.{map-map}
-use Rattle.shm_base.specs.Space.{lowest_address, last_address, cut}
-use Rattle.shm_attach.specs.Views.{runners_view}
-use Rattle.shm_attach.specs.Spaces.{SpacesView, pieces_at}
-use Rattle.shm_attach.specs.Exact.{no_holds}
+use Rattle.shm_attach.proofs.Names.{◌≡◌, ◌<◌, ap, refl, arith, [], length, common_steps, map-map, lowest_address, last_address, cut, runners_view, SpacesView, pieces_at, no_holds}
 use Rattle.shm_attach.proofs.Callers.{caller_within, with_pieces-of}
 use Rattle.shm_attach.proofs.Keeping.{cut-all}
 use Rattle.shm_attach.proofs.Translations.{keeps}

@@ -1,10 +1,4 @@
-use Rattle.std.proofs.Common.{◌≡◌, ◌<◌, ◌∙◌, ap, arith, [], length}
-use Rattle.std.proofs.lemmas.Grind.{common_steps}
-use Rattle.std.proofs.lemmas.List.{length-map}
-use Rattle.std.proofs.lemmas.Option.{slice_get_within}
-use Rattle.shm_base.specs.Step.{with_pieces}
-use Rattle.shm_attach.specs.Views.{runners_view}
-use Rattle.shm_attach.specs.Spaces.{SpacesView, caller_seen}
+use Rattle.shm_attach.proofs.Names.{◌≡◌, ◌<◌, ◌∙◌, ap, arith, [], length, common_steps, length-map, slice_get_within, with_pieces, runners_view, SpacesView, caller_seen}
 use Rattle.shm_attach.proofs.Callers.{caller_there, with_end-at, length-with_pieces}
 use Rattle.shm_attach.proofs.Sound.{sound-life}
 use Rattle.shm_attach.proofs.spaces.Spaces.exit.Goals.{After-self}

@@ -1,8 +1,4 @@
-use Rattle.std.proofs.Common.{◌≡◌, take, map, arith}
-use Rattle.std.proofs.lemmas.Grind.{common_steps}
-use Rattle.std.proofs.lemmas.List.{take_all}
-use Rattle.shm_base.specs.State.{runner_at_start}
-use Rattle.shm_attach.specs.Views.{runners_view}
+use Rattle.shm_attach.proofs.Names.{◌≡◌, take, map, arith, common_steps, take_all, runner_at_start, runners_view}
 use Rattle.shm_attach.proofs.Starts.{IsExact-start, view-more, AllHeld-start}
 use Rattle.shm_attach.proofs.spaces.Spaces.new.Goals as goal
 

@@ -1,6 +1,4 @@
-use Rattle.std.proofs.Common.{◌≡◌, map, take}
-use Rattle.shm_base.specs.State.{runner_at_start}
-use Rattle.shm_attach.specs.Views.{runners_view}
+use Rattle.shm_attach.proofs.Names.{◌≡◌, map, take, runner_at_start, runners_view}
 use Rattle.shm_attach.proofs.spaces.Spaces.new.Given as goal
 
 -- the processes so far stand in their order

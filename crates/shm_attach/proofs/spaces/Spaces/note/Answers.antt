@@ -1,8 +1,4 @@
-use Rattle.std.proofs.Common.{List, ap, sym, subst}
-use Rattle.shm_fault.specs.Store.{frame_of}
-use Rattle.shm_fault.specs.Steps.{moved}
-use Rattle.shm_attach.specs.Spaces.{SpacesView, Translation, AreTrue}
-use Rattle.shm_attach.specs.Entries.{translations_of}
+use Rattle.shm_attach.proofs.Names.{List, ap, sym, subst, frame_of, moved, SpacesView, Translation, AreTrue, translations_of}
 use Rattle.shm_attach.proofs.Residency.{true-same}
 use Rattle.shm_attach.proofs.Translations.{all-true, true-all}
 use Rattle.shm_attach.proofs.spaces.Spaces.note.Goals as goal

@@ -1,5 +1,4 @@
-use Rattle.std.proofs.Common.{arith}
-use Rattle.std.proofs.lemmas.Grind.{common_steps}
+use Rattle.shm_attach.proofs.Names.{arith, common_steps}
 use Rattle.shm_attach.proofs.Accesses.{wanted_in-none}
 use Rattle.shm_attach.proofs.spaces.Spaces.spans.Goals as goal
 

@@ -1,11 +1,4 @@
-use Rattle.std.proofs.Common.{◌≡◌, ℕ, ap, sym, subst, List, Option}
-use Rattle.std.specs.Prelude.{All}
-use Rattle.std.proofs.lemmas.Result.{IfOk-weaker}
-use Rattle.shm_base.specs.declared.paging.Span.{Span}
-use Rattle.shm_base.specs.Spans.{page_of}
-use Rattle.shm_fault.specs.Store.{StoreView, frame_of}
-use Rattle.shm_attach.specs.Spaces.{SpacesView, Translation, AreTrue}
-use Rattle.shm_attach.specs.Entries.{AllTrue}
+use Rattle.shm_attach.proofs.Names.{◌≡◌, ℕ, ap, sym, subst, List, Option, All, IfOk-weaker, Span, page_of, StoreView, frame_of, SpacesView, Translation, AreTrue, AllTrue}
 use Rattle.shm_attach.proofs.Callers.{caller_within}
 use Rattle.shm_attach.proofs.Translations.{all-true}
 use Rattle.shm_attach.proofs.spaces.Spaces.spans_of.Goals as goal

@@ -1,7 +1,4 @@
-use Rattle.std.proofs.Common.{◌≡◌, ◌≤◌, length}
-use Rattle.std.specs.Prelude.{vec_capacity}
-use Rattle.shm_fault.specs.Store.{frame_of}
-use Rattle.shm_attach.specs.Entries.{TrueEntry}
+use Rattle.shm_attach.proofs.Names.{◌≡◌, ◌≤◌, length, vec_capacity, frame_of, TrueEntry}
 use Rattle.shm_attach.proofs.table.Table.extend.Given as goal
 
 -- the pages so far, and room for the others

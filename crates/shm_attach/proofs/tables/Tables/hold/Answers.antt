@@ -1,9 +1,5 @@
-use Rattle.std.proofs.Common.{◌≡◌, ◌∙◌, sym, refl, arith, eq-eqb, false, Some}
-use Rattle.slab.specs.Slab.{get}
+use Rattle.shm_attach.proofs.Names.{◌≡◌, ◌∙◌, sym, refl, arith, eq-eqb, false, Some, get, frame_of, seg_in, IsHeld}
 use Rattle.shm_areas.specs.declared.piece.Piece.{Piece}
-use Rattle.shm_fault.specs.Store.{frame_of}
-use Rattle.shm_attach.specs.Entries.{seg_in}
-use Rattle.shm_attach.specs.Tables.{IsHeld}
 use Rattle.shm_attach.proofs.tables.Tables.hold.Given.{Over}
 use Rattle.shm_attach.proofs.tables.Tables.hold.Goals.{After-replace}
 use Rattle.shm_attach.proofs.tables.Tables.hold.Goals as goal

@@ -1,9 +1,4 @@
-use Rattle.std.proofs.Common.{◌≡◌, ◌+◌, ◌∙◌, List, [], ◌∷◌, get_or, sym, subst, take}
-use Rattle.std.proofs.lemmas.List.{take_all}
-use Rattle.shm_fault.specs.Steps.{moved}
-use Rattle.shm_fault.specs.declared.touched.Move.{Move}
-use Rattle.shm_fault.specs.declared.touched.Move.TheVariants.{Gone}
-use Rattle.shm_attach.specs.Entries.{AllTrue}
+use Rattle.shm_attach.proofs.Names.{◌≡◌, ◌+◌, ◌∙◌, List, [], ◌∷◌, get_or, sym, subst, take, take_all, moved, Move, Gone, AllTrue}
 use Rattle.shm_attach.proofs.Residency.{moved-more, true-same}
 use Rattle.shm_attach.proofs.tables.Tables.note.Goals as goal
 

@@ -1,8 +1,5 @@
-use Rattle.std.proofs.Common.{◌≡◌, ℕ, Option, take}
-use Rattle.shm_fault.specs.Steps.{moved}
+use Rattle.shm_attach.proofs.Names.{◌≡◌, ℕ, Option, take, moved, AllTrue, counted, IsHeld, IsTied}
 use Rattle.shm_areas.specs.declared.piece.Piece.{Piece}
-use Rattle.shm_attach.specs.Entries.{AllTrue}
-use Rattle.shm_attach.specs.Tables.{counted, IsHeld, IsTied}
 use Rattle.shm_attach.proofs.tables.Tables.note.Given as goal
 
 -- the moves so far are noted

@@ -1,6 +1,4 @@
-use Rattle.std.proofs.Common.{◌≡◌, ◌∙◌, ap, sym, subst, Some}
-use Rattle.slab.specs.Slab.{get, with_value}
-use Rattle.shm_attach.specs.Entries.{seg_in, TrueSlot}
+use Rattle.shm_attach.proofs.Names.{◌≡◌, ◌∙◌, ap, sym, subst, Some, get, with_value, seg_in, TrueSlot}
 use Rattle.shm_attach.proofs.Tied.{tied-table, update-value, true-unknown, true-set}
 use Rattle.shm_attach.proofs.tables.Tables.set.Goals.{In-Some}
 use Rattle.shm_attach.proofs.tables.Tables.set.Goals as goal

@@ -1,10 +1,6 @@
-use Rattle.std.proofs.Common.{◌≡◌, None, arith}
-use Rattle.shm_fault.specs.Segs.{find_seg}
-use Rattle.shm_fault.specs.Entries.{segs_view}
+use Rattle.shm_fault.proofs.Names.{◌≡◌, None, arith, find_seg, segs_view, common_steps, nat_tests}
 use Rattle.shm_fault.proofs.Entries.{insert-view, apart-append}
 use Rattle.shm_fault.proofs.page_tables.PageTables.add.Goals as goal
-use Rattle.std.proofs.lemmas.Grind.{common_steps}
-use Rattle.std.proofs.lemmas.Bool.Decides.{nat_tests}
 
 pub invariant_of-self-2 : goal.invariant_of-self-2
 invariant_of-self-2 c =

@@ -1,5 +1,4 @@
-use Rattle.std.proofs.Common.{◌≡◌, length, refl, arith}
-use Rattle.shm_fault.specs.Segs.{count_by_id}
+use Rattle.shm_fault.proofs.Names.{◌≡◌, length, refl, arith, count_by_id}
 use Rattle.shm_fault.proofs.Entries.{find-lookup}
 use Rattle.shm_fault.proofs.page_tables.PageTables.count.Goals as goal
 

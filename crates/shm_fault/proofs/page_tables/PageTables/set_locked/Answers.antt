@@ -1,12 +1,7 @@
-use Rattle.std.proofs.Common.{refl, sym, arith}
-use Rattle.shm_fault.specs.Segs.{SegRec}
-use Rattle.shm_fault.specs.Entries.{segs_view}
-use Rattle.indexmap.specs.IndexMap.{set_value_at}
+use Rattle.shm_fault.proofs.Names.{refl, sym, arith, SegRec, segs_view, set_value_at, common_steps, nat_tests}
 use Rattle.shm_fault.proofs.Entries.{edit-none, IsEdited, edited, value_there}
 use Rattle.shm_fault.proofs.page_tables.PageTables.set_locked.Goals as goal
 use Rattle.shm_fault.proofs.page_tables.PageTables.set_locked.Goals.{In-Some-get_index_mut}
-use Rattle.std.proofs.lemmas.Grind.{common_steps}
-use Rattle.std.proofs.lemmas.Bool.Decides.{nat_tests}
 
 pub returns-in_default : goal.returns-in_default
 returns-in_default c =

@@ -1,7 +1,4 @@
-use Rattle.std.proofs.Common.{List, set, refl, sym, ap}
-use Rattle.indexmap.specs.IndexMap.{set_value_at}
-use Rattle.shm_fault.specs.declared.page_tables.PageRec.{PageRec}
-use Rattle.shm_fault.specs.Segs.{SegRec}
+use Rattle.shm_fault.proofs.Names.{List, set, refl, sym, ap, set_value_at, PageRec, SegRec}
 use Rattle.shm_fault.proofs.Entries.{IsEdited, edited, entry-from, value_there, find-entry}
 use Rattle.shm_fault.proofs.page_tables.PageTables.set_page.Goals as goal
 use Rattle.shm_fault.proofs.page_tables.PageTables.set_page.Goals.{After-set_place}

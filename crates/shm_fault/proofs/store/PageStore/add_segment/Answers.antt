@@ -1,17 +1,11 @@
-use Rattle.std.proofs.Common.{◌≡◌, ◌≤◌, ◌+◌, None, sum_by, inl, inr, arith}
-use Rattle.shm_plain.specs.Held.{pages_held}
-use Rattle.shm_slots.specs.View.{slots}
-use Rattle.shm_fault.specs.Segs.{find_seg, pages_of}
-use Rattle.shm_fault.specs.Store.{held, frame_of}
-use Rattle.shm_fault.specs.Sound.{IsStoreSound}
+use Rattle.shm_fault.proofs.Names.{◌≡◌, ◌≤◌, ◌+◌, None, sum_by, inl, inr, arith, pages_held, slots, find_seg, pages_of, held, IsStoreSound, common_steps, nat_tests}
+use Rattle.shm_fault.specs.Store.{frame_of}
 use Rattle.shm_fault.proofs.Seen.{seen}
 use Rattle.shm_fault.proofs.Failures.{OnOk-map, either_way}
 use Rattle.shm_fault.proofs.Whole.{not-held, pages_held-is, sound-added, held-added, rec-added}
 use Rattle.shm_fault.proofs.store.PageStore.add_segment.Given as given
 use Rattle.shm_fault.proofs.store.PageStore.add_segment.Goals as goal
 use Rattle.shm_fault.proofs.store.PageStore.add_segment.Goals.{After-self, After-add}
-use Rattle.std.proofs.lemmas.Grind.{common_steps}
-use Rattle.std.proofs.lemmas.Bool.Decides.{nat_tests}
 
 new : (g : given.Over) (c : After-self g) → find_seg c.self.inside.segs c.args.seg ≡ None
 new g c = not-held (seen c.self.inside) c.self.invariant c.args.seg (rw (← c.self.view_is) at c.requires.new)

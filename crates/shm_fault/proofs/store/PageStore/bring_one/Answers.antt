@@ -1,7 +1,4 @@
-use Rattle.std.proofs.Common.{◌≡◌, None, true, false, is_ok, rules}
-use Rattle.shm_fault.specs.Store.{ref_of}
-use Rattle.shm_fault.specs.Goes.{frame_by}
-use Rattle.shm_fault.specs.Access.{Visited}
+use Rattle.shm_fault.proofs.Names.{◌≡◌, None, true, false, is_ok, rules, ref_of, frame_by, Visited}
 use Rattle.shm_fault.proofs.Bringing.{brings-one}
 use Rattle.shm_fault.proofs.store.PageStore.bring_one.Goals as goal
 

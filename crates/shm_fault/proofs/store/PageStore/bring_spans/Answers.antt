@@ -1,10 +1,8 @@
-use Rattle.std.proofs.Common.{◌≡◌, [], ◌∷◌, arith}
+use Rattle.shm_fault.proofs.Names.{◌≡◌, [], ◌∷◌, arith, common_steps, nat_tests}
 use Rattle.shm_fault.proofs.Bringing.{first_frame, second_frame, list-one, list-two}
 use Rattle.shm_fault.proofs.store.PageStore.bring_spans.Given as given
 use Rattle.shm_fault.proofs.store.PageStore.bring_spans.Goals as goal
 use Rattle.shm_fault.proofs.store.PageStore.bring_spans.Goals.{After-bring_one, After-bring_two}
-use Rattle.std.proofs.lemmas.Grind.{common_steps}
-use Rattle.std.proofs.lemmas.Bool.Decides.{nat_tests}
 
 one : (g : given.Over) (c : After-bring_one g) → c.args.spans.now ≡ c.in-Some.first.now ∷ []
 one g c = list-one c.args.spans.now c.in-Some.first.now c.in-Some.ensures.value c.in-None.ensures.lookup.0

@@ -1,7 +1,4 @@
-use Rattle.std.proofs.Common.{◌≡◌, Bool, [], ◌∷◌, None, Some, true, false, is_ok, rules}
-use Rattle.shm_fault.specs.Store.{ref_of}
-use Rattle.shm_fault.specs.Goes.{frame_by}
-use Rattle.shm_fault.specs.Access.{Visited, Brings}
+use Rattle.shm_fault.proofs.Names.{◌≡◌, Bool, [], ◌∷◌, None, Some, true, false, is_ok, rules, ref_of, frame_by, Visited, Brings}
 use Rattle.shm_fault.proofs.Bringing.{brings-two, brings-not, unmoved}
 use Rattle.shm_fault.proofs.store.PageStore.bring_two.Given as given
 use Rattle.shm_fault.proofs.store.PageStore.bring_two.Goals as goal

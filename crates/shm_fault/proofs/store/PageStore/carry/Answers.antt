@@ -1,6 +1,4 @@
-use Rattle.std.proofs.Common.{◌≡◌, None, Some, ap, arith}
-use Rattle.shm_fault.specs.declared.page_tables.PageRec.{PageRec}
-use Rattle.shm_fault.specs.Segs.{rec_by, HasPage}
+use Rattle.shm_fault.proofs.Names.{◌≡◌, None, Some, ap, arith, PageRec, rec_by, HasPage, common_steps, nat_tests}
 use Rattle.shm_fault.proofs.Seen.{seen}
 use Rattle.shm_fault.proofs.Sound.{slot-own}
 use Rattle.shm_fault.proofs.Pages.{has-slot, still-with}
@@ -9,8 +7,6 @@ use Rattle.shm_fault.proofs.Areas.{has-room, keeps-carried, keeps-owned, cleared
 use Rattle.shm_fault.proofs.store.PageStore.carry.Given as given
 use Rattle.shm_fault.proofs.store.PageStore.carry.Goals as goal
 use Rattle.shm_fault.proofs.store.PageStore.carry.Goals.{After-self, After-set_page}
-use Rattle.std.proofs.lemmas.Grind.{common_steps}
-use Rattle.std.proofs.lemmas.Bool.Decides.{nat_tests}
 
 place : (g : given.Over) (c : After-self g) → rec_by c.self.inside.segs c.args.page ≡ record { frame = None; slot = Some c.args.slot }
 place g c = rw (← c.self.view_is) at c.requires.place

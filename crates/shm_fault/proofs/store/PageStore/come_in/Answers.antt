@@ -1,15 +1,7 @@
-use Rattle.std.proofs.Common.{◌≡◌, ◌∙◌, ◌+◌, arith, is_some, [], ◌∷◌, ◌++◌, Option, Some, None, refl, ap}
-use Rattle.std.specs.Prelude.{MatchOption}
-use Rattle.shm_base.specs.declared.paging.PageRef.{PageRef}
-use Rattle.shm_base.specs.declared.paging.Slot.{Slot}
-use Rattle.shm_slots.specs.View.{HasSlot}
-use Rattle.shm_fault.specs.declared.touched.Move.TheVariants.{Came}
-use Rattle.shm_fault.specs.Segs.{rec_by}
-use Rattle.shm_fault.specs.Store.{StoreView}
+use Rattle.shm_fault.proofs.Names.{◌≡◌, ◌∙◌, ◌+◌, arith, is_some, [], ◌∷◌, ◌++◌, Option, Some, None, refl, ap, MatchOption, PageRef, Slot, HasSlot, Came, rec_by, StoreView, one_if}
 use Rattle.shm_fault.proofs.Seen.{seen}
 use Rattle.shm_fault.proofs.Sound.{slot-own}
 use Rattle.shm_fault.proofs.Visits.{Visits-trans, moves-more, moves-still, moves-trans}
-use Rattle.shm_fault.specs.Counting.{one_if}
 use Rattle.shm_fault.proofs.Counting.{byte-one, counts-more}
 use Rattle.shm_fault.proofs.store.PageStore.come_in.Goals as goal
 

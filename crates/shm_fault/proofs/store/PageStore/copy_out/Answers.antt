@@ -1,5 +1,4 @@
-use Rattle.std.proofs.Common.{◌≡◌, ◌+◌, ◌-◌, ◌%◌, length, refl, arith}
-use Rattle.shm_fault.specs.Store.{ref_of}
+use Rattle.shm_fault.proofs.Names.{◌≡◌, ◌+◌, ◌-◌, ◌%◌, length, refl, arith, ref_of}
 use Rattle.shm_fault.proofs.Seen.{seen}
 use Rattle.shm_fault.proofs.Sound.{frame-own}
 use Rattle.shm_fault.proofs.Spans.{span-read}

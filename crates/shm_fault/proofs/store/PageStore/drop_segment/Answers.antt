@@ -1,8 +1,5 @@
-use Rattle.std.proofs.Common.{◌≡◌, ap, arith}
-use Rattle.shm_fault.specs.declared.page_tables.PageRec.{PageRec}
-use Rattle.shm_fault.specs.Segs.{count_by_id, HasPage}
+use Rattle.shm_fault.proofs.Names.{◌≡◌, ap, arith, PageRec, count_by_id, HasPage, Dropped}
 use Rattle.shm_fault.specs.Store.{frame_of}
-use Rattle.shm_fault.specs.Dropping.{Dropped}
 use Rattle.shm_fault.proofs.Seen.{seen}
 use Rattle.shm_fault.proofs.Pages.{count-same}
 use Rattle.shm_fault.proofs.Spans.{few_pages}

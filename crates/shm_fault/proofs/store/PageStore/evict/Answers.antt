@@ -1,6 +1,4 @@
-use Rattle.std.proofs.Common.{◌≡◌, Some, false, List, ap, sym, ◌∙◌, get_or-set_same}
-use Rattle.shm_frames.specs.Frame.{Frame, no_frame, frame_at}
-use Rattle.shm_fault.specs.Store.{StoreView}
+use Rattle.shm_fault.proofs.Names.{◌≡◌, Some, false, List, ap, sym, ◌∙◌, get_or-set_same, Frame, no_frame, frame_at, StoreView}
 use Rattle.shm_fault.proofs.Visits.{evicted-gone, evicted-visits}
 use Rattle.shm_fault.proofs.store.PageStore.evict.Goals as goal
 

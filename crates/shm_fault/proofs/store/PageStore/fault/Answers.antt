@@ -1,7 +1,4 @@
-use Rattle.std.proofs.Common.{◌≡◌, ap, ◌∙◌}
-use Rattle.shm_fault.specs.declared.page_tables.PageRec.{PageRec}
-use Rattle.shm_fault.specs.Segs.{rec_by}
-use Rattle.shm_fault.specs.Goes.{Visits, MovesOn}
+use Rattle.shm_fault.proofs.Names.{◌≡◌, ap, ◌∙◌, PageRec, rec_by, Visits, MovesOn}
 use Rattle.shm_fault.proofs.Pages.{has-same}
 use Rattle.shm_fault.proofs.Sound.{cause-after}
 use Rattle.shm_fault.proofs.Visits.{Visits-trans, moves-trans, visits-away}

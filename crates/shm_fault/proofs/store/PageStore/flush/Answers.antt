@@ -1,12 +1,9 @@
-use Rattle.std.proofs.Common.{◌≡◌, ◌<◌, ◌+◌, true, length, sym, ◌∙◌, arith}
+use Rattle.shm_fault.proofs.Names.{◌≡◌, ◌<◌, ◌+◌, true, length, sym, ◌∙◌, arith, may_flush, common_steps, nat_tests}
 use Rattle.shm_fault.specs.Store.{frame_of}
-use Rattle.shm_fault.specs.Flushing.{may_flush}
 use Rattle.shm_fault.proofs.Bringing.{kept-locked}
 use Rattle.shm_fault.proofs.Flushes.{flushed-none, flushed-enough, flushed-not, flushed-more, flushed-all}
 use Rattle.shm_fault.proofs.store.PageStore.flush.Goals.{then-report-n+then-is_flushable, else-report-n, else-report-n-via-then-report-n+else-is_flushable, else-report-n-via-else-report-n}
 use Rattle.shm_fault.proofs.store.PageStore.flush.Goals as goal
-use Rattle.std.proofs.lemmas.Grind.{common_steps}
-use Rattle.std.proofs.lemmas.Bool.Decides.{nat_tests}
 
 pub loop-frame-init : goal.loop-frame-init
 loop-frame-init g c = grind (arith, nat_tests, common_steps, c.self.inside, c.args.self.now, c.self.view_is, c.self.invariant, flushed-none, c.args.n)

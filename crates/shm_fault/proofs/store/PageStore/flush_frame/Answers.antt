@@ -1,5 +1,4 @@
-use Rattle.std.proofs.Common.{ap, ◌∙◌}
-use Rattle.shm_fault.specs.Counting.{raised}
+use Rattle.shm_fault.proofs.Names.{ap, ◌∙◌, raised}
 use Rattle.shm_fault.proofs.Counting.{raised-trans}
 use Rattle.shm_fault.proofs.store.PageStore.flush_frame.Goals as goal
 

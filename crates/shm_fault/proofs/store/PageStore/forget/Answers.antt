@@ -1,6 +1,4 @@
-use Rattle.std.proofs.Common.{◌≡◌, sym, ap, ◌∙◌}
-use Rattle.shm_fault.specs.Segs.{rec_by, no_page, with_rec}
-use Rattle.shm_fault.specs.Dropping.{Given}
+use Rattle.shm_fault.proofs.Names.{◌≡◌, sym, ap, ◌∙◌, rec_by, no_page, with_rec, Given}
 use Rattle.shm_fault.proofs.Seen.{seen}
 use Rattle.shm_fault.proofs.Sound.{frame-own, slot-own}
 use Rattle.shm_fault.proofs.Drops.{with-same, Forgets, forgets}

@@ -1,12 +1,9 @@
-use Rattle.std.proofs.Common.{◌≡◌, Some, sym, ◌∙◌, arith}
-use Rattle.shm_frames.specs.Frame.{frame_at}
+use Rattle.shm_fault.proofs.Names.{◌≡◌, Some, sym, ◌∙◌, arith, frame_at, common_steps, nat_tests}
 use Rattle.shm_fault.proofs.Seen.{seen}
 use Rattle.shm_fault.proofs.Changes.{Keeps, keeps-leave}
 use Rattle.shm_fault.proofs.store.PageStore.leave.Given as given
 use Rattle.shm_fault.proofs.store.PageStore.leave.Goals as goal
 use Rattle.shm_fault.proofs.store.PageStore.leave.Goals.{After-set_page}
-use Rattle.std.proofs.lemmas.Grind.{common_steps}
-use Rattle.std.proofs.lemmas.Bool.Decides.{nat_tests}
 
 owned : (g : given.Over) (c : After-set_page g) → (frame_at c.self.inside.frames c.args.frame).owner ≡ Some c.in-Some.page
 owned g c = sym c.owner.ensures ∙ c.in-Some.is

@@ -1,5 +1,4 @@
-use Rattle.std.proofs.Common.{ℕ}
-use Rattle.shm_frames.specs.Frame.{frame_at}
+use Rattle.shm_fault.proofs.Names.{ℕ, frame_at}
 use Rattle.shm_fault.proofs.Seen.{seen}
 use Rattle.shm_fault.proofs.Visits.{IsStep, step-load}
 use Rattle.shm_fault.proofs.store.PageStore.load.Given as given

@@ -1,8 +1,5 @@
-use Rattle.std.proofs.Common.{◌≡◌, length, ◌∙◌, arith}
-use Rattle.shm_slots.specs.View.{area_at}
-use Rattle.shm_fault.specs.Store.{held, frame_of}
-use Rattle.shm_fault.specs.Sound.{IsStoreSound}
-use Rattle.shm_fault.specs.Goes.{Still}
+use Rattle.shm_fault.proofs.Names.{◌≡◌, length, ◌∙◌, arith, area_at, held, IsStoreSound, Still, common_steps, nat_tests}
+use Rattle.shm_fault.specs.Store.{frame_of}
 use Rattle.shm_fault.proofs.Seen.{seen}
 use Rattle.shm_fault.proofs.Sound.{cause-after}
 use Rattle.shm_fault.proofs.Bringing.{kept-locked}
@@ -10,8 +7,6 @@ use Rattle.shm_fault.proofs.Areas.{IsCleaned, cleaned-more, cleaned-there, clean
 use Rattle.shm_fault.proofs.store.PageStore.move_off.Given as given
 use Rattle.shm_fault.proofs.store.PageStore.move_off.Goals as goal
 use Rattle.shm_fault.proofs.store.PageStore.move_off.Goals.{After-unwrap_or-count, After-self-2, In-Err, After-turn_off}
-use Rattle.std.proofs.lemmas.Grind.{common_steps}
-use Rattle.std.proofs.lemmas.Bool.Decides.{nat_tests}
 
 -- the slots that are looked at are all that the area has
 count : (g : given.Over) (c : After-unwrap_or-count g) → c.unwrap_or-count.result ≡ length (area_at c.args.self.now.swap c.args.area).pages

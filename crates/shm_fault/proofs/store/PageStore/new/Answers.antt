@@ -1,5 +1,4 @@
-use Rattle.shm_fault.specs.Sound.{IsStoreSound}
-use Rattle.shm_fault.specs.Store.{fresh_store}
+use Rattle.shm_fault.proofs.Names.{IsStoreSound, fresh_store}
 use Rattle.shm_fault.proofs.Whole.{sound-fresh}
 use Rattle.shm_fault.proofs.store.PageStore.new.Given as given
 use Rattle.shm_fault.proofs.store.PageStore.new.Goals as goal

@@ -1,6 +1,4 @@
-use Rattle.std.proofs.Common.{arith}
-use Rattle.shm_fault.specs.Segs.{HasPage}
-use Rattle.shm_fault.specs.Store.{ref_of}
+use Rattle.shm_fault.proofs.Names.{arith, HasPage, ref_of}
 use Rattle.shm_fault.proofs.Seen.{seen}
 use Rattle.shm_fault.proofs.Spans.{fits-has, few_pages}
 use Rattle.shm_fault.proofs.store.PageStore.page_at.Given as given

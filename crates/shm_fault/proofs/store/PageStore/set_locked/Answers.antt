@@ -1,7 +1,5 @@
-use Rattle.std.proofs.Common.{ap}
-use Rattle.shm_fault.specs.declared.page_tables.PageRec.{PageRec}
+use Rattle.shm_fault.proofs.Names.{ap, PageRec, IsStoreSound}
 use Rattle.shm_fault.specs.Store.{frame_of}
-use Rattle.shm_fault.specs.Sound.{IsStoreSound}
 use Rattle.shm_fault.proofs.Seen.{seen}
 use Rattle.shm_fault.proofs.Whole.{few-locked, sound-locked, held-locked, rec-locked}
 use Rattle.shm_fault.proofs.store.PageStore.set_locked.Given as given

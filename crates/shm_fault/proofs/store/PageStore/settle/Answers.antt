@@ -1,5 +1,4 @@
-use Rattle.std.proofs.Common.{true, Some}
-use Rattle.shm_frames.specs.Frame.{Frame, frame_at}
+use Rattle.shm_fault.proofs.Names.{true, Some, Frame, frame_at}
 use Rattle.shm_fault.proofs.Seen.{seen}
 use Rattle.shm_fault.proofs.Changes.{set-twice}
 use Rattle.shm_fault.proofs.Visits.{Settles, settles}

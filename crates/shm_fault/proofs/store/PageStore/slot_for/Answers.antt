@@ -1,8 +1,4 @@
-use Rattle.std.proofs.Common.{◌≡◌, Some, None, sym, ap, ◌∙◌, arith}
-use Rattle.shm_slots.specs.View.{used_slots, slots, with_slot_owner}
-use Rattle.shm_frames.specs.Frame.{frame_at}
-use Rattle.shm_fault.specs.declared.page_tables.PageRec.{PageRec}
-use Rattle.shm_fault.specs.Segs.{rec_by}
+use Rattle.shm_fault.proofs.Names.{◌≡◌, Some, None, sym, ap, ◌∙◌, arith, used_slots, slots, with_slot_owner, frame_at, PageRec, rec_by}
 use Rattle.shm_fault.proofs.Seen.{seen}
 use Rattle.shm_fault.proofs.Tally.{used-slots, some_slotless}
 use Rattle.shm_fault.proofs.Changes.{Takes, takes}

@@ -1,7 +1,4 @@
-use Rattle.std.proofs.Common.{◌≡◌, ◌<◌, ◌%◌, length, Some, true, refl, length-set, get_or-set_same}
-use Rattle.shm_plain.specs.Held.{paste}
-use Rattle.shm_frames.specs.Frame.{Frame, no_frame, frame_at}
-use Rattle.shm_fault.specs.Store.{ref_of}
+use Rattle.shm_fault.proofs.Names.{◌≡◌, ◌<◌, ◌%◌, length, Some, true, refl, length-set, get_or-set_same, paste, Frame, no_frame, frame_at, ref_of}
 use Rattle.shm_fault.proofs.Seen.{seen}
 use Rattle.shm_fault.proofs.Sound.{frame-own}
 use Rattle.shm_fault.proofs.Changes.{set-twice}

@@ -1,8 +1,6 @@
-use Rattle.shm_fault.specs.declared.touched.Move.TheVariants.{Gone}
+use Rattle.shm_fault.proofs.Names.{Gone, ap, ◌+◌, ◌∙◌, arith, one_if}
 use Rattle.shm_fault.proofs.Seen.{seen}
 use Rattle.shm_fault.proofs.Visits.{moves-more, moves-still}
-use Rattle.std.proofs.Common.{ap, ◌+◌, ◌∙◌, arith}
-use Rattle.shm_fault.specs.Counting.{one_if}
 use Rattle.shm_fault.proofs.Counting.{byte-one, counts-more}
 use Rattle.shm_fault.proofs.store.PageStore.take_frame.Goals as goal
 

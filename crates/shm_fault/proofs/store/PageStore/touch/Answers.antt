@@ -1,13 +1,10 @@
-use Rattle.std.proofs.Common.{◌≡◌, ◌<◌, length, Some, get_or-set_same, arith}
-use Rattle.shm_frames.specs.Frame.{frame_at}
+use Rattle.shm_fault.proofs.Names.{◌≡◌, ◌<◌, length, Some, get_or-set_same, arith, frame_at, common_steps, nat_tests}
 use Rattle.shm_fault.proofs.Seen.{seen}
 use Rattle.shm_fault.proofs.Sound.{frame-own}
 use Rattle.shm_fault.proofs.Visits.{IsStep, step-touch}
 use Rattle.shm_fault.proofs.store.PageStore.touch.Given as given
 use Rattle.shm_fault.proofs.store.PageStore.touch.Goals as goal
 use Rattle.shm_fault.proofs.store.PageStore.touch.Goals.{After-self, After-set_referenced}
-use Rattle.std.proofs.lemmas.Grind.{common_steps}
-use Rattle.std.proofs.lemmas.Bool.Decides.{nat_tests}
 
 own : (g : given.Over) (c : After-self g) → (c.args.frame < length c.self.inside.frames) × ((frame_at c.self.inside.frames c.args.frame).owner ≡ Some c.args.page)
 own g c = frame-own (seen c.self.inside) c.self.invariant c.args.page c.args.frame (rw (← c.self.view_is) at c.requires.here)

@@ -1,8 +1,4 @@
-use Rattle.std.proofs.Common.{length}
-use Rattle.shm_clock.specs.Clock.{may_go}
-use Rattle.shm_clock.proofs.Eligible.{two_eligible}
-use Rattle.shm_frames.specs.Frame.{OwnedBelow}
-use Rattle.shm_fault.specs.Goes.{unlocked}
+use Rattle.shm_fault.proofs.Names.{length, may_go, two_eligible, OwnedBelow, unlocked}
 use Rattle.shm_fault.proofs.Seen.{seen}
 use Rattle.shm_fault.proofs.Clock.{clock-alike, next-lt, two_unlocked}
 use Rattle.shm_fault.proofs.Changes.{Keeps, keeps-alike}

@@ -1,14 +1,4 @@
-use Rattle.std.proofs.Common.{◌≡◌, ℕ, Some, true, false, set, refl, sym, arith}
-use Rattle.std.proofs.lemmas.List.{set-get_or}
-use Rattle.std.specs.Prelude.{IsSome}
-use Rattle.shm_base.specs.declared.paging.PageRef.{PageRef}
-use Rattle.shm_base.specs.declared.paging.Slot.{Slot}
-use Rattle.shm_slots.specs.View.{SwapView, IsSwap, HasSlot, sizes, area_at, with_slot_page, OneArea, WriteFault}
-use Rattle.shm_slots.specs.Cause.{GoesOn}
-use Rattle.shm_frames.specs.Frame.{no_frame, frame_at}
-use Rattle.shm_fault.specs.Segs.{rec_by}
-use Rattle.shm_fault.specs.Store.{StoreView}
-use Rattle.shm_fault.specs.Sound.{IsStoreSound}
+use Rattle.shm_fault.proofs.Names.{◌≡◌, ℕ, Some, true, false, set, refl, sym, arith, set-get_or, IsSome, PageRef, Slot, SwapView, IsSwap, HasSlot, sizes, area_at, with_slot_page, OneArea, WriteFault, GoesOn, no_frame, frame_at, rec_by, StoreView, IsStoreSound, common_steps, nat_tests}
 use Rattle.shm_fault.proofs.Seen.{seen}
 use Rattle.shm_fault.proofs.Slots.{OnlySlot-page, OnlySlot-fault, owner-written, owner-fault, page-written}
 use Rattle.shm_fault.proofs.Failures.{total-written, total-fault}
@@ -16,8 +6,6 @@ use Rattle.shm_fault.proofs.Changes.{Own, own, Keeps, keeps-write}
 use Rattle.shm_fault.proofs.store.PageStore.write_back.Given as given
 use Rattle.shm_fault.proofs.store.PageStore.write_back.Goals as goal
 use Rattle.shm_fault.proofs.store.PageStore.write_back.Goals.{After-self, After-saturating_add-self-inside, In-Err}
-use Rattle.std.proofs.lemmas.Grind.{common_steps}
-use Rattle.std.proofs.lemmas.Bool.Decides.{nat_tests}
 
 -- the swap with the frame's bytes in the slot
 abbrev written : StoreView → ℕ → Slot → SwapView

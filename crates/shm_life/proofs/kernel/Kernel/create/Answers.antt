@@ -1,9 +1,4 @@
-use Rattle.std.proofs.Common.{◌∙◌, ◌≡◌, ◌+◌, ◌≤◌, ℕ, Some, ap}
-use Rattle.shm_base.specs.State.{pages_of}
-use Rattle.shm_base.specs.Segments.{reserved}
-use Rattle.shm_fault.specs.Store.{frame_of}
-use Rattle.shm_segments.specs.Table.{made}
-use Rattle.shm_segments.specs.View.{Runs}
+use Rattle.shm_life.proofs.Names.{◌∙◌, ◌≡◌, ◌+◌, ◌≤◌, ℕ, Some, ap, pages_of, reserved, frame_of, made, Runs}
 use Rattle.shm_life.proofs.Created.{created-kept}
 use Rattle.shm_life.proofs.Running.{true_still}
 use Rattle.shm_life.proofs.kernel.Kernel.create.Goals as goal

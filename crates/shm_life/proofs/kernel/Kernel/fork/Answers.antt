@@ -1,6 +1,4 @@
-use Rattle.std.proofs.Common.{◌≡◌}
-use Rattle.shm_attach.specs.Spaces.{IsCaller, caller_seen}
-use Rattle.shm_attach.specs.Fork.{born_child}
+use Rattle.shm_life.proofs.Names.{◌≡◌, IsCaller, caller_seen, born_child}
 use Rattle.shm_life.proofs.Settled.{caller-fits}
 use Rattle.shm_life.proofs.Changed.{born-fits, forked-kept}
 use Rattle.shm_life.proofs.kernel.Kernel.fork.Goals as goal

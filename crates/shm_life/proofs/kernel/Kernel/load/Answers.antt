@@ -1,15 +1,4 @@
-use Rattle.std.proofs.Common.{◌≡◌, false, Some, sym, ap, ◌∙◌}
-use Rattle.shm_base.specs.Access.{loaded}
-use Rattle.shm_base.specs.Spans.{span_places}
-use Rattle.shm_base.specs.State.{Machine}
-use Rattle.shm_base.specs.Step.{gives}
-use Rattle.shm_base.specs.declared.call.Reply.TheVariants.{Bytes}
-use Rattle.shm_attach.specs.Spaces.{IsCaller, pieces_at}
-use Rattle.shm_attach.specs.Spans.{wanted}
-use Rattle.shm_attach.proofs.FlatSteps.{load-wanted}
-use Rattle.shm_slots.specs.View.{sizes}
-use Rattle.shm_segments.proofs.Same.{SameTable, same-refl}
-use Rattle.shm_life.specs.Kept.{IsWell}
+use Rattle.shm_life.proofs.Names.{◌≡◌, false, Some, sym, ap, ◌∙◌, loaded, span_places, Machine, gives, Bytes, IsCaller, pieces_at, wanted, load-wanted, sizes, SameTable, same-refl, IsWell}
 use Rattle.shm_life.proofs.Settled.{noted-well, moved-by}
 use Rattle.shm_life.proofs.Changed.{spans-there, asked}
 use Rattle.shm_life.proofs.Running.{ok_fact}

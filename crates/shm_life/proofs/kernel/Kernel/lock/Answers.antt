@@ -1,14 +1,6 @@
-use Rattle.std.proofs.Common.{arith, rules, ◌≡◌, ◌+◌, ◌%◌, ◌≤◌, length, true, false, not, ◌&&◌, nat_lt, List, [], refl, sym, ap, ◌∙◌, to_z, of_z, w32}
-use Rattle.shm_base.specs.State.{Entry, pages_of, pages_in}
-use Rattle.shm_base.specs.Segments.{change, locked}
-use Rattle.shm_base.specs.Step.{locks, gives}
-use Rattle.shm_base.specs.declared.call.Reply.TheVariants.{Done}
-use Rattle.shm_segments.specs.Table.{IsFound, relocked, segment_seen}
-use Rattle.shm_ids.proofs.Flat.{change-index}
-use Rattle.shm_segments.specs.declared.head.Head.{Head}
-use Rattle.shm_segments.specs.Joined.{whole}
+use Rattle.shm_life.proofs.Names.{arith, rules, ◌≡◌, ◌+◌, ◌%◌, ◌≤◌, length, true, false, not, ◌&&◌, nat_lt, List, [], refl, sym, ap, ◌∙◌, to_z, of_z, w32, Entry, pages_of, change, locked, locks, gives, Done, IsFound, relocked, segment_seen, change-index, Head, whole, StoreView}
+use Rattle.shm_base.specs.State.{pages_in}
 use Rattle.shm_life.proofs.Changed.{relocked-well, lock-few, pages-seen}
-use Rattle.shm_fault.specs.Store.{StoreView}
 use Rattle.shm_life.proofs.kernel.Kernel.lock.Given.{Over}
 use Rattle.shm_life.proofs.kernel.Kernel.lock.Goals as goal
 use Rattle.shm_life.proofs.kernel.Kernel.lock.Goals.{Else-exceeds_memlock}

@@ -1,14 +1,4 @@
-use Rattle.std.proofs.Common.{rules, ◌≡◌, ◌∙◌, true, false, sym, ap, to_z, of_z, w32, arith, List}
-use Rattle.shm_base.specs.State.{Machine, Piece, pages_of}
-use Rattle.shm_base.specs.Identifier.{look}
-use Rattle.shm_base.specs.Permission.{grants}
-use Rattle.shm_base.specs.Step.{at_wish}
-use Rattle.shm_slots.specs.View.{sizes}
-use Rattle.shm_areas.specs.Arranged.{bare_all}
-use Rattle.shm_attach.specs.Spaces.{caller_seen, pieces_at}
-use Rattle.shm_segments.specs.Table.{look_of}
-use Rattle.shm_life.specs.Address.{misplaced}
-use Rattle.shm_life.specs.Placing.{if_few, base_for, wished, placed_at, placed}
+use Rattle.shm_life.proofs.Names.{rules, ◌≡◌, ◌∙◌, true, false, sym, ap, to_z, of_z, w32, arith, List, Machine, Piece, pages_of, look, grants, at_wish, sizes, bare_all, caller_seen, pieces_at, look_of, misplaced, if_few, base_for, wished, placed_at, placed}
 use Rattle.shm_life.proofs.Shmat.{placed-found, if_few-under, if_few-over}
 use Rattle.shm_life.proofs.kernel.Kernel.place_for.Given.{Over}
 use Rattle.shm_life.proofs.kernel.Kernel.place_for.Goals as goal

@@ -1,6 +1,4 @@
-use Rattle.std.proofs.Common.{refl}
-use Rattle.shm_segments.specs.Table.{reowned}
-use Rattle.shm_segments.proofs.Same.{change-same}
+use Rattle.shm_life.proofs.Names.{refl, reowned, change-same}
 use Rattle.shm_life.proofs.Settled.{still-well}
 use Rattle.shm_life.proofs.kernel.Kernel.set.Goals as goal
 

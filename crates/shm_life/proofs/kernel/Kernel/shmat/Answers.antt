@@ -1,10 +1,4 @@
-use Rattle.std.proofs.Common.{◌≡◌, refl, ap, sym, ◌∙◌, rules, to_z, of_z, w32}
-use Rattle.shm_base.specs.Step.{Outcome, shmat}
-use Rattle.shm_base.specs.History.{is_refusal}
-use Rattle.shm_attach.specs.Spaces.{AreTrue, IsCaller, caller_seen}
-use Rattle.shm_segments.specs.View.{SegmentsView}
-use Rattle.shm_life.specs.Placing.{piece_for, placed_outcome}
-use Rattle.shm_life.specs.Tied.{PieceFits}
+use Rattle.shm_life.proofs.Names.{◌≡◌, refl, ap, sym, ◌∙◌, rules, to_z, of_z, w32, Outcome, shmat, is_refusal, AreTrue, IsCaller, caller_seen, SegmentsView, piece_for, placed_outcome, PieceFits}
 use Rattle.shm_life.proofs.Going.{Goes, attached-goes, attached-first, well-gone}
 use Rattle.shm_life.proofs.Shmat.{shmat-placed, on-err}
 use Rattle.shm_life.proofs.kernel.Kernel.shmat.Given.{Over}

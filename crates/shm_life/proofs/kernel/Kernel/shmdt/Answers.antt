@@ -1,9 +1,5 @@
-use Rattle.std.proofs.Common.{◌∙◌, ap, ◌≡◌, ◌∷◌, [], refl, sym, Some, option_map}
-use Rattle.shm_base.specs.State.{Piece, Machine}
-use Rattle.shm_base.specs.Space.{origin_of}
-use Rattle.shm_attach.specs.Spaces.{IsCaller, caller_seen, pieces_at}
-use Rattle.shm_slots.specs.View.{sizes}
-use Rattle.shm_attach.proofs.FlatSteps.{shmdt-named}
+use Rattle.shm_life.proofs.Names.{◌∙◌, ap, ◌≡◌, ◌∷◌, [], refl, sym, Some, Piece, Machine, origin_of, IsCaller, caller_seen, pieces_at, sizes, shmdt-named}
+use Rattle.std.proofs.Common.{option_map}
 use Rattle.shm_life.proofs.Going.{Goes, named-go, well-gone}
 use Rattle.shm_life.proofs.kernel.Kernel.shmdt.Given.{Over}
 use Rattle.shm_life.proofs.kernel.Kernel.shmdt.Goals as goal

@@ -1,11 +1,4 @@
-use Rattle.std.proofs.Common.{true, false, length, refl, sym, ◌∙◌}
-use Rattle.shm_base.specs.Spans.{span_places}
-use Rattle.shm_base.specs.State.{Machine}
-use Rattle.shm_attach.specs.Spaces.{IsCaller, pieces_at}
-use Rattle.shm_attach.proofs.FlatSteps.{store-wanted}
-use Rattle.shm_slots.specs.View.{sizes}
-use Rattle.shm_segments.proofs.Same.{SameTable, stored-same}
-use Rattle.shm_life.specs.Kept.{IsWell}
+use Rattle.shm_life.proofs.Names.{true, false, length, refl, sym, ◌∙◌, span_places, Machine, IsCaller, pieces_at, store-wanted, sizes, SameTable, stored-same, IsWell}
 use Rattle.shm_life.proofs.Settled.{noted-well, moved-by}
 use Rattle.shm_life.proofs.Changed.{spans-there, asked, either-same}
 use Rattle.shm_life.proofs.Running.{ok_fact}

@@ -1,11 +1,6 @@
-use Rattle.std.proofs.Common.{◌≡◌, None, slice_set, sym, ap, refl, ◌∙◌, arith}
-use Rattle.shm_base.specs.State.{Machine}
-use Rattle.shm_base.specs.Step.{Outcome, gives, swapoff}
-use Rattle.shm_base.specs.History.{is_refusal}
+use Rattle.shm_life.proofs.Names.{◌≡◌, None, sym, ap, refl, ◌∙◌, arith, Machine, Outcome, gives, swapoff, is_refusal, Done, caller_seen, sizes}
+use Rattle.std.proofs.Common.{slice_set}
 use Rattle.shm_base.specs.Segments.{slots}
-use Rattle.shm_base.specs.declared.call.Reply.TheVariants.{Done}
-use Rattle.shm_attach.specs.Spaces.{caller_seen}
-use Rattle.shm_slots.specs.View.{sizes}
 use Rattle.shm_life.proofs.Swapping.{IsThere, is_there, off-few, off-done}
 use Rattle.shm_life.proofs.Running.{ok_fact, err_fact}
 use Rattle.shm_life.proofs.kernel.Kernel.swapoff.Given.{Over}

@@ -1,6 +1,4 @@
-use Rattle.std.proofs.Common.{ap, false, length}
-use Rattle.shm_segments.specs.Table.{IsFound}
-use Rattle.shm_fault.specs.Store.{StoreView}
+use Rattle.shm_life.proofs.Names.{ap, false, length, IsFound, StoreView}
 use Rattle.shm_life.proofs.Changed.{relocked-well, unlock-few}
 use Rattle.shm_life.proofs.kernel.Kernel.unlock.Goals as goal
 

@@ -1,7 +1,4 @@
-use Rattle.std.proofs.Common.{false}
-use Rattle.shm_base.specs.Spans.{span_places}
-use Rattle.shm_segments.proofs.Same.{SameTable, stored-same}
-use Rattle.shm_life.specs.Kept.{IsWell}
+use Rattle.shm_life.proofs.Names.{false, span_places, SameTable, stored-same, IsWell}
 use Rattle.shm_life.proofs.Settled.{noted-well, moved-by}
 use Rattle.shm_life.proofs.Changed.{spans-there, either-same}
 use Rattle.shm_life.proofs.kernel.Kernel.xadd.Given.{Over}

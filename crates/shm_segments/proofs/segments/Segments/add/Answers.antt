@@ -1,10 +1,4 @@
-use Rattle.std.proofs.Common.{◌≡◌, ◌+◌, ◌%◌, ◌^◌, false}
-use Rattle.std.specs.Int.{w64, to_le_bytes}
-use Rattle.shm_base.specs.Spans.{span_places}
-use Rattle.shm_fault.specs.Store.{held}
-use Rattle.shm_fault.specs.Adding.{number_in}
-use Rattle.shm_segments.specs.Joined.{joined}
-use Rattle.shm_segments.specs.Table.{number_at}
+use Rattle.shm_segments.proofs.Names.{◌≡◌, ◌+◌, ◌%◌, ◌^◌, false, w64, to_le_bytes, span_places, held, number_in, joined, number_at}
 use Rattle.shm_segments.proofs.Shown.{number_shown}
 use Rattle.shm_segments.proofs.Spanning.{spans-fit}
 use Rattle.shm_segments.proofs.Remembered.{Wrote, wrote}

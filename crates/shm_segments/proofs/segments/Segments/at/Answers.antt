@@ -1,10 +1,6 @@
-use Rattle.std.proofs.Common.{rules, ◌≡◌, pos, Some, sym, ◌∙◌, to_z, of_z, w32, arith}
-use Rattle.shm_ids.specs.Table.{entry_at, identifier}
-use Rattle.shm_ids.specs.Rows.{row_listed}
+use Rattle.shm_segments.proofs.Names.{rules, ◌≡◌, pos, Some, sym, ◌∙◌, to_z, of_z, w32, arith, entry_at, identifier, row_listed, held, common_steps}
 use Rattle.shm_segments.proofs.Finding.{listed-row, unlisted-row, found_at, none-at}
-use Rattle.shm_fault.specs.Store.{held}
 use Rattle.shm_segments.proofs.segments.Segments.at.Goals as goal
-use Rattle.std.proofs.lemmas.Grind.{common_steps}
 
 pub returns-in-Some-clause-found : goal.returns-in-Some-clause-found
 returns-in-Some-clause-found g c =

@@ -1,11 +1,7 @@
-use Rattle.std.proofs.Common.{◌%◌, List, refl, ap}
+use Rattle.shm_segments.proofs.Names.{◌%◌, List, refl, ap, change, attached, with_value, joined, held}
 use Rattle.shm_base.specs.State.{Entry as FlatEntry}
-use Rattle.shm_base.specs.Segments.{change, attached}
 use Rattle.shm_segments.proofs.Finding.{is_live-row}
-use Rattle.shm_ids.specs.Table.{with_value}
-use Rattle.shm_segments.specs.Joined.{joined}
 use Rattle.shm_segments.proofs.Keeping.{KeptAs, kept-value}
-use Rattle.shm_fault.specs.Store.{held}
 use Rattle.shm_segments.proofs.Remembered.{view_of}
 use Rattle.shm_segments.proofs.segments.Segments.attached.Given.{Over}
 use Rattle.shm_segments.proofs.segments.Segments.attached.Goals as goal

@@ -1,8 +1,5 @@
-use Rattle.std.proofs.Common.{sym, ap, ◌∙◌}
-use Rattle.shm_base.specs.Segments.{segment_count}
+use Rattle.shm_segments.proofs.Names.{sym, ap, ◌∙◌, segment_count, held, SegmentsView}
 use Rattle.shm_segments.proofs.Sums.{segment_count-joined}
-use Rattle.shm_fault.specs.Store.{held}
-use Rattle.shm_segments.specs.View.{SegmentsView}
 use Rattle.shm_segments.proofs.segments.Segments.count.Goals as goal
 
 pub returns : goal.returns

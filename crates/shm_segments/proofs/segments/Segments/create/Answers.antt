@@ -1,21 +1,14 @@
-use Rattle.std.proofs.Common.{◌≡◌, ◌≤◌, pos, true, List, [], ◌∷◌, ◌++◌, ◌+◌, refl, Some, is_some, sym, ap, ◌∙◌, arith, to_z, of_z, w32}
-use Rattle.shm_base.specs.State.{Entry as FlatEntry, pages_of}
-use Rattle.shm_base.specs.Segments.{reserved}
-use Rattle.shm_ids.specs.Table.{with_row}
-use Rattle.shm_plain.specs.Held.{with_zeros}
+use Rattle.shm_segments.proofs.Names.{◌≡◌, ◌≤◌, pos, true, List, [], ◌∷◌, ◌++◌, ◌+◌, refl, Some, sym, ap, ◌∙◌, arith, to_z, of_z, w32, pages_of, reserved, with_row, with_zeros, new_seg, StoreView, held, SegmentsView, find-zeros_same, common_steps}
+use Rattle.std.proofs.Common.{is_some}
+use Rattle.shm_base.specs.State.{Entry as FlatEntry}
 use Rattle.shm_segments.proofs.Rows.{id_of}
 use Rattle.shm_segments.proofs.Looking.{none-mapped}
 use Rattle.shm_segments.proofs.Making.{kept-made, made-joined, free-some, IsNext, next-free, key-absent, few-pages}
 use Rattle.shm_segments.proofs.Sums.{reserved-joined}
-use Rattle.shm_fault.specs.Segs.{new_seg}
-use Rattle.shm_fault.specs.Store.{StoreView, held}
 use Rattle.shm_segments.proofs.Remembered.{undone, runs-zeros}
-use Rattle.shm_segments.specs.View.{SegmentsView}
 use Rattle.shm_segments.proofs.segments.Segments.create.Given.{Over}
 use Rattle.shm_segments.proofs.segments.Segments.create.Goals as goal
 use Rattle.shm_segments.proofs.segments.Segments.create.Goals.{In-Some, In_ok-add_segment, In-Ok, After-drop_segment}
-use Rattle.shm_plain.proofs.Found.{find-zeros_same}
-use Rattle.std.proofs.lemmas.Grind.{common_steps}
 
 pub unreachable-requires : goal.unreachable-requires
 unreachable-requires g c = grind (arith, common_steps, is_some, free-some, c.self.view_is, c.requires.free, none-mapped, c.in_default.is)

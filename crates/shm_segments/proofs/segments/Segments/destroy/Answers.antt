@@ -1,12 +1,8 @@
-use Rattle.std.proofs.Common.{ap, ◌∙◌, arith}
-use Rattle.shm_segments.specs.Table.{destroyed}
+use Rattle.shm_segments.proofs.Names.{ap, ◌∙◌, arith, destroyed, held, SegmentsView, common_steps}
 use Rattle.shm_segments.proofs.Finding.{is_live-row}
 use Rattle.shm_segments.proofs.Making.{kept-without}
 use Rattle.shm_segments.proofs.Remembered.{runs-without}
-use Rattle.shm_fault.specs.Store.{held}
-use Rattle.shm_segments.specs.View.{SegmentsView}
 use Rattle.shm_segments.proofs.segments.Segments.destroy.Goals as goal
-use Rattle.std.proofs.lemmas.Grind.{common_steps}
 
 pub take-head-requires : goal.take-head-requires
 take-head-requires g c = is_live-row (held c.self.inside.store) c.self.inside.table c.args.seg (rw (← c.self.view_is) at c.requires)

@@ -1,8 +1,6 @@
-use Rattle.std.proofs.Common.{rules, ◌≡◌, ◌∙◌, to_z, of_z, w32, arith}
+use Rattle.shm_segments.proofs.Names.{rules, ◌≡◌, ◌∙◌, to_z, of_z, w32, arith, held, common_steps}
 use Rattle.shm_segments.proofs.Looking.{found-under, key-some, key-none, none-mapped}
-use Rattle.shm_fault.specs.Store.{held}
 use Rattle.shm_segments.proofs.segments.Segments.find_key.Goals as goal
-use Rattle.std.proofs.lemmas.Grind.{common_steps}
 
 pub returns-in-Some-clause-found : goal.returns-in-Some-clause-found
 returns-in-Some-clause-found g c =

@@ -1,8 +1,6 @@
-use Rattle.std.proofs.Common.{ap, arith}
-use Rattle.shm_segments.specs.View.{SegmentsView}
+use Rattle.shm_segments.proofs.Names.{ap, arith, SegmentsView, common_steps}
 use Rattle.shm_segments.proofs.Remembered.{runs-same}
 use Rattle.shm_segments.proofs.segments.Segments.flush.Goals as goal
-use Rattle.std.proofs.lemmas.Grind.{common_steps}
 
 pub invariant_of-self : goal.invariant_of-self
 invariant_of-self g c = record { kept = rw c.flush.ensures.held c.self.invariant.kept; sound = c.flush.ensures.sound }

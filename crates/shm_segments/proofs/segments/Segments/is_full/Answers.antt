@@ -1,8 +1,6 @@
-use Rattle.std.proofs.Common.{ap, ◌∙◌, is_none}
+use Rattle.shm_segments.proofs.Names.{ap, ◌∙◌, is_none, held, SegmentsView}
 use Rattle.shm_base.specs.Identifier.{free_index}
 use Rattle.shm_segments.proofs.Looking.{full-joined, none-not_some}
-use Rattle.shm_fault.specs.Store.{held}
-use Rattle.shm_segments.specs.View.{SegmentsView}
 use Rattle.shm_segments.proofs.segments.Segments.is_full.Goals as goal
 
 pub returns-clause-value : goal.returns-clause-value

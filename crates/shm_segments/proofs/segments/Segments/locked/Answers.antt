@@ -1,8 +1,5 @@
-use Rattle.std.proofs.Common.{sym, ap, ◌∙◌}
-use Rattle.shm_base.specs.Segments.{locked}
+use Rattle.shm_segments.proofs.Names.{sym, ap, ◌∙◌, locked, held, SegmentsView}
 use Rattle.shm_segments.proofs.Sums.{locked-joined}
-use Rattle.shm_fault.specs.Store.{held}
-use Rattle.shm_segments.specs.View.{SegmentsView}
 use Rattle.shm_segments.proofs.segments.Segments.locked.Goals as goal
 
 pub returns : goal.returns

@@ -1,11 +1,7 @@
-use Rattle.std.proofs.Common.{rules, ◌≡◌, Err, to_z, of_z, w32}
-use Rattle.shm_ids.specs.declared.table.LookRefused.TheVariants.{Removed, Invalid}
-use Rattle.shm_ids.specs.Table.{look}
+use Rattle.shm_segments.proofs.Names.{rules, ◌≡◌, to_z, of_z, w32, Removed, Invalid, look, held, joined, IsFound, look_of}
+use Rattle.std.proofs.Common.{Err}
 use Rattle.shm_segments.proofs.Looking.{found-under, look-removed, look-invalid}
 use Rattle.shm_base.specs.Identifier as flat
-use Rattle.shm_fault.specs.Store.{held}
-use Rattle.shm_segments.specs.Joined.{joined}
-use Rattle.shm_segments.specs.Table.{IsFound, look_of}
 use Rattle.shm_segments.proofs.segments.Segments.look.Given.{Over}
 use Rattle.shm_segments.proofs.segments.Segments.look.Goals as goal
 use Rattle.shm_segments.proofs.segments.Segments.look.Goals.{After-found_under}

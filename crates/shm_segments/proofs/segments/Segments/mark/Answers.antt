@@ -1,10 +1,7 @@
-use Rattle.std.proofs.Common.{List, true, refl, ap}
+use Rattle.shm_segments.proofs.Names.{List, true, refl, ap, change, marked, joined, held}
 use Rattle.shm_base.specs.State.{Entry as FlatEntry}
-use Rattle.shm_base.specs.Segments.{change, marked}
 use Rattle.shm_segments.proofs.Finding.{is_live-row}
-use Rattle.shm_segments.specs.Joined.{joined}
 use Rattle.shm_segments.proofs.Keeping.{KeptAs, kept-both}
-use Rattle.shm_fault.specs.Store.{held}
 use Rattle.shm_segments.proofs.Remembered.{view_of}
 use Rattle.shm_segments.proofs.segments.Segments.mark.Given.{Over}
 use Rattle.shm_segments.proofs.segments.Segments.mark.Goals as goal

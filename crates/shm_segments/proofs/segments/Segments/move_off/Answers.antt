@@ -1,10 +1,7 @@
-use Rattle.std.proofs.Common.{ap, arith}
-use Rattle.shm_fault.specs.Store.{held}
+use Rattle.shm_segments.proofs.Names.{ap, arith, held, SegmentsView, common_steps}
 use Rattle.shm_segments.proofs.Sums.{reserved-joined}
-use Rattle.shm_segments.specs.View.{SegmentsView}
 use Rattle.shm_segments.proofs.Remembered.{runs-same}
 use Rattle.shm_segments.proofs.segments.Segments.move_off.Goals as goal
-use Rattle.std.proofs.lemmas.Grind.{common_steps}
 
 pub invariant_of-self : goal.invariant_of-self
 invariant_of-self g c = record { kept = rw c.move_off.ensures.held c.self.invariant.kept; sound = c.move_off.ensures.sound }

@@ -1,11 +1,8 @@
-use Rattle.std.proofs.Common.{false, ap, arith}
-use Rattle.shm_fault.specs.Store.{held}
-use Rattle.shm_segments.specs.View.{SegmentsView}
+use Rattle.shm_segments.proofs.Names.{false, ap, arith, held, SegmentsView, common_steps}
 use Rattle.shm_segments.proofs.Spanning.{spans-fit}
 use Rattle.shm_segments.proofs.Shown.{load_shown}
 use Rattle.shm_segments.proofs.Remembered.{runs-same}
 use Rattle.shm_segments.proofs.segments.Segments.read.Goals as goal
-use Rattle.std.proofs.lemmas.Grind.{common_steps}
 
 pub read_with-requires-clause-fit : goal.read_with-requires-clause-fit
 read_with-requires-clause-fit g c = spans-fit (held c.self.inside.store) c.self.inside.table c.args.spans.now c.self.invariant.kept.agree (rw (← c.self.view_is) at c.requires.fit)

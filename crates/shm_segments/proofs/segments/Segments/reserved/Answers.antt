@@ -1,8 +1,5 @@
-use Rattle.std.proofs.Common.{sym, ap, ◌∙◌}
-use Rattle.shm_base.specs.Segments.{reserved}
+use Rattle.shm_segments.proofs.Names.{sym, ap, ◌∙◌, reserved, held, SegmentsView}
 use Rattle.shm_segments.proofs.Sums.{reserved-joined}
-use Rattle.shm_fault.specs.Store.{held}
-use Rattle.shm_segments.specs.View.{SegmentsView}
 use Rattle.shm_segments.proofs.segments.Segments.reserved.Goals as goal
 
 pub returns : goal.returns

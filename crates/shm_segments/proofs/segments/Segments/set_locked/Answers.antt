@@ -1,15 +1,9 @@
-use Rattle.std.proofs.Common.{◌≡◌, ◌≤◌, ◌+◌, ◌%◌, length, true, sym, ap, ◌∙◌, arith}
-use Rattle.shm_ids.specs.Table.{with_value}
-use Rattle.shm_plain.specs.Held.{with_lock}
-use Rattle.shm_segments.specs.Joined.{joined, locked_of_rows}
-use Rattle.shm_base.specs.Segments.{change, locked}
+use Rattle.shm_segments.proofs.Names.{◌≡◌, ◌≤◌, ◌+◌, ◌%◌, length, true, sym, ap, ◌∙◌, arith, with_value, with_lock, joined, locked_of_rows, change, locked, held, SegmentsView}
 use Rattle.shm_segments.specs.Table.{relocked}
 use Rattle.shm_segments.proofs.Edits.{look-live}
 use Rattle.shm_segments.proofs.Finding.{is_live-row}
 use Rattle.shm_segments.proofs.Making.{kept-locked, few-pages}
 use Rattle.shm_segments.proofs.Sums.{locked-joined}
-use Rattle.shm_fault.specs.Store.{held}
-use Rattle.shm_segments.specs.View.{SegmentsView}
 use Rattle.shm_segments.proofs.segments.Segments.set_locked.Goals as goal
 
 pub head_mut-head-requires : goal.head_mut-head-requires

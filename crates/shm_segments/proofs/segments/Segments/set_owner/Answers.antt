@@ -1,13 +1,7 @@
-use Rattle.std.proofs.Common.{ℕ, ◌%◌, List, refl, ap}
+use Rattle.shm_segments.proofs.Names.{ℕ, ◌%◌, List, refl, ap, reowned, change, with_value, Head, joined, held}
 use Rattle.shm_base.specs.State.{Entry as FlatEntry}
-use Rattle.shm_segments.specs.Table.{reowned}
 use Rattle.shm_segments.proofs.Finding.{is_live-row}
-use Rattle.shm_base.specs.Segments.{change}
-use Rattle.shm_ids.specs.Table.{with_value}
-use Rattle.shm_segments.specs.declared.head.Head.{Head}
-use Rattle.shm_segments.specs.Joined.{joined}
 use Rattle.shm_segments.proofs.Keeping.{KeptAs, kept-value}
-use Rattle.shm_fault.specs.Store.{held}
 use Rattle.shm_segments.proofs.Remembered.{view_of}
 use Rattle.shm_segments.proofs.segments.Segments.set_owner.Given.{Over}
 use Rattle.shm_segments.proofs.segments.Segments.set_owner.Goals as goal

@@ -1,6 +1,4 @@
-use Rattle.std.proofs.Common.{arith, rules, ◌≤◌, length, take}
-use Rattle.std.proofs.lemmas.List.{length-map, length-take}
-use Rattle.shm_text.specs.Words.{texts}
+use Rattle.shm_text.proofs.Names.{arith, rules, ◌≤◌, length, take, length-map, length-take, texts}
 use Rattle.shm_text.proofs.Scanning.{kept_none}
 use Rattle.shm_text.proofs.words.Words.keep.Goals as goal
 

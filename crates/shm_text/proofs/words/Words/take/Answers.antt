@@ -1,8 +1,4 @@
-use Rattle.std.proofs.Common.{arith, ◌≡◌, ◌+◌, ◌-◌, ◌≤◌, ◌++◌, ◌∙◌, sym, ap, refl, false, true, length, take, drop, get_or}
-use Rattle.std.proofs.lemmas.Bool.Decides.{nat_tests}
-use Rattle.std.proofs.lemmas.List.{take_all}
-use Rattle.std.specs.List.{list_all}
-use Rattle.shm_text.specs.Words.{is_allowed, is_space, with_word, first_line, line_end}
+use Rattle.shm_text.proofs.Names.{arith, ◌≡◌, ◌+◌, ◌-◌, ◌≤◌, ◌++◌, ◌∙◌, sym, ap, refl, false, true, length, take, drop, get_or, nat_tests, take_all, list_all, is_allowed, is_space, with_word, first_line, line_end}
 use Rattle.shm_text.proofs.Scanning.{none_inside, of_word, of_space, of_neither, more_inside, more_allowed, not_allowed, scanned, scanned_all}
 use Rattle.shm_text.proofs.Ends.{ends_behind, ends_at, on_line, byte_of_line, length_line, no_lf, word_of_line, last_line}
 use Rattle.shm_text.proofs.words.Words.take.Goals as goal

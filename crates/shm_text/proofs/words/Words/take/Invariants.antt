@@ -1,7 +1,4 @@
-use Rattle.std.proofs.Common.{◌≡◌, ◌≤◌, ◌-◌, ◌++◌, take, drop, false}
-use Rattle.std.specs.Prelude.{All}
-use Rattle.std.specs.List.{list_all}
-use Rattle.shm_text.specs.Words.{is_allowed, is_space, words_of, line_end, first_line}
+use Rattle.shm_text.proofs.Names.{◌≡◌, ◌≤◌, ◌-◌, ◌++◌, take, drop, false, All, list_all, is_allowed, is_space, words_of, line_end, first_line}
 use Rattle.shm_text.proofs.words.Words.take.Given as goal
 
 -- the first words of the line are those that were kept, and then those from `start` on, where a word is open
