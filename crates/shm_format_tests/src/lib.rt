@@ -1,6 +1,9 @@
-//! Tests of the script that is read and of what is printed, through what their crates make public.
+//! Tests of the script that is read, of what is printed and of transcripts that are compared, through what their crates make
+//! public.
 #![tactic(auto)]
 
+#[cfg(test)]
+mod disagreements;
 #[cfg(test)]
 mod printing;
 #[cfg(test)]

@@ -2,8 +2,6 @@
 #![tactic(auto)]
 
 mod compare;
-#[cfg(test)]
-mod tests;
 mod transcript;
 
 pub use compare::{disagreement, least};

@@ -1,7 +1,9 @@
-//! Tests of the machine and of its history, through what their crates make public.
+//! Tests of the machine, with parameters and without, and of its history, through what their crates make public.
 #![tactic(auto)]
 
 #[cfg(test)]
 mod histories;
+#[cfg(test)]
+mod methods;
 #[cfg(test)]
 mod starts;

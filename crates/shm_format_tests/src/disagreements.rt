@@ -1,9 +1,8 @@
 //! Which pid the comparison names, of runs that are made up.
-use crate::compare::disagreement;
-use crate::transcript::{Answer, Entry, Transcript};
 use bitflags::Flags;
 use shm_base::{Call, Chunk, Errno, Event, GetFlags, Reply, ShmId};
 use shm_text::{Script, read_script};
+use shm_transcripts::{Answer, Entry, Transcript, disagreement};
 use std::alloc::Global;
 use std::test::Fail;
 
