@@ -45,27 +45,34 @@ impl Errno {
             Errno::Sigsegv => 1011,
         }
     }
+
+    // The error's name.
+    fn name(self) -> &'static str
+        ensures { result.now ≡ name_of self }
+    {
+        match self {
+            Errno::Eperm => "EPERM",
+            Errno::Enoent => "ENOENT",
+            Errno::Esrch => "ESRCH",
+            Errno::Eio => "EIO",
+            Errno::Eagain => "EAGAIN",
+            Errno::Enomem => "ENOMEM",
+            Errno::Eacces => "EACCES",
+            Errno::Eexist => "EEXIST",
+            Errno::Einval => "EINVAL",
+            Errno::Emfile => "EMFILE",
+            Errno::Enospc => "ENOSPC",
+            Errno::Eidrm => "EIDRM",
+            Errno::Sigbus => "SIGBUS",
+            Errno::Sigsegv => "SIGSEGV",
+        }
+    }
 }
 
 impl fmt::Display for Errno {
     ghost output = { λ e. Some (name_of e) };
 
     fn fmt<W: fmt::Write>(&self, f: &mut fmt::Formatter<W>) -> fmt::Result {
-        match self {
-            Errno::Eperm => write!(f, "EPERM"),
-            Errno::Enoent => write!(f, "ENOENT"),
-            Errno::Esrch => write!(f, "ESRCH"),
-            Errno::Eio => write!(f, "EIO"),
-            Errno::Eagain => write!(f, "EAGAIN"),
-            Errno::Enomem => write!(f, "ENOMEM"),
-            Errno::Eacces => write!(f, "EACCES"),
-            Errno::Eexist => write!(f, "EEXIST"),
-            Errno::Einval => write!(f, "EINVAL"),
-            Errno::Emfile => write!(f, "EMFILE"),
-            Errno::Enospc => write!(f, "ENOSPC"),
-            Errno::Eidrm => write!(f, "EIDRM"),
-            Errno::Sigbus => write!(f, "SIGBUS"),
-            Errno::Sigsegv => write!(f, "SIGSEGV"),
-        }
+        f.write_str(self.name())
     }
 }

@@ -77,9 +77,9 @@ impl fmt::Display for AtWord {
         } else if self.0.contains(AtFlags::REMAP) {
             write!(f, "remap{rdonly}")
         } else if self.0.contains(AtFlags::RDONLY) {
-            write!(f, "rdonly")
+            f.write_str("rdonly")
         } else {
-            write!(f, "-")
+            f.write_str("-")
         }
     }
 }
@@ -96,10 +96,10 @@ impl fmt::Display for StatusWord {
             self.0.contains(Status::DEST),
             self.0.contains(Status::LOCKED),
         ) {
-            (true, true) => write!(f, "dest,locked"),
-            (true, false) => write!(f, "dest"),
-            (false, true) => write!(f, "locked"),
-            (false, false) => write!(f, "-"),
+            (true, true) => f.write_str("dest,locked"),
+            (true, false) => f.write_str("dest"),
+            (false, true) => f.write_str("locked"),
+            (false, false) => f.write_str("-"),
         }
     }
 }

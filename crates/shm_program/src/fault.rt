@@ -57,12 +57,12 @@ impl fmt::Display for RunFault {
                 write!(f, "line {line}: {kind}")
             }
             RunFault::StartRefused(number) => write!(f, "start refused {number}"),
-            RunFault::ReadFailed => write!(f, "read failed"),
-            RunFault::WriteFailed => write!(f, "write failed"),
+            RunFault::ReadFailed => f.write_str("read failed"),
+            RunFault::WriteFailed => f.write_str("write failed"),
             RunFault::Gate { pid } => write!(f, "gate expired {pid}"),
             RunFault::Mismatch { pid } => write!(f, "history mismatch {pid}"),
-            RunFault::ThreadRefused => write!(f, "thread refused"),
-            RunFault::HostMemory => write!(f, "out of memory"),
+            RunFault::ThreadRefused => f.write_str("thread refused"),
+            RunFault::HostMemory => f.write_str("out of memory"),
         }
     }
 }

@@ -37,7 +37,7 @@ impl fmt::Display for Stop {
 
     fn fmt<W: fmt::Write>(&self, f: &mut fmt::Formatter<W>) -> fmt::Result {
         match self {
-            Stop::Usage => write!(f, "usage: shmsim serial|threads SWAP..."),
+            Stop::Usage => f.write_str("usage: shmsim serial|threads SWAP..."),
             Stop::Fault(fault) => write!(f, "{fault}"),
         }
     }

@@ -33,7 +33,7 @@ impl fmt::Display for Stop {
 
     fn fmt<W: fmt::Write>(&self, f: &mut fmt::Formatter<W>) -> fmt::Result {
         match self {
-            Stop::Usage => write!(f, "usage: shmview [--text] [--steps FROM-TO] SWAP..."),
+            Stop::Usage => f.write_str("usage: shmview [--text] [--steps FROM-TO] SWAP..."),
             Stop::TooLong(steps) => write!(
                 f,
                 "{steps} steps are more than 2000: choose some by --steps FROM-TO"
