@@ -257,6 +257,8 @@ impl<T> Row<T> {
 impl<T> Entry<T> {
     ghost use Rattle.shm_ids.specs.Table.{look_entry};
     ghost use Rattle.shm_ids.specs.Lends.{lends_entry};
+    ghost use Rattle.shm_ids.specs.Rows.{row_listed};
+    ghost use Rattle.shm_ids.specs.Sound.{holds};
 
     fn value_mut(&mut self) -> &mut T
         requires { IsSome self.old.row }
@@ -266,6 +268,18 @@ impl<T> Entry<T> {
         match &mut self.row {
             Some(row) => row.value_mut(),
             None => unreachable!(),
+        }
+    }
+
+    // The row as it is listed at an index: identifier, key and value.
+    fn listed(&self, index: usize) -> Option<(ShmId, u32, &T)>
+        requires index { index < 32768 }
+        requires wear { self.now.destroyed + holds self.now.row ≤ 65536 }
+        ensures { option_map (λ r. (r.0, (r.1, r.2.now))) result ≡ row_listed index self.now }
+    {
+        match &self.row {
+            Some(row) => Some((id_of(index, self.destroyed), row.key, &row.value)),
+            None => None,
         }
     }
 
@@ -383,9 +397,10 @@ impl<T: Drop> IdTable<T> {
     pub fn row_at(&self, index: usize) -> Option<(ShmId, u32, &T)>
         ensures { option_map (λ r. (r.0, (r.1, r.2.now))) result ≡ row_listed index (entry_at self.now index) }
     {
-        let entry = self.entries.get(index)?;
-        let row = entry.row.as_ref()?;
-        Some((id_of(index, entry.destroyed), row.key, &row.value))
+        match self.entries.get(index) {
+            Some(entry) => entry.listed(index),
+            None => None,
+        }
     }
 
     /// The value under an identifier: `Removed` where its row was destroyed, `Invalid` where the

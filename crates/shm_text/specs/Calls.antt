@@ -14,25 +14,40 @@ use Rattle.shm_text.specs.declared.script.LineCall.TheVariants.{Shmget, Shmat, S
 use Rattle.shm_text.specs.Operand.{◌>>=◌, wanted, ranged, any, key_word, id_word, ranged_id, addr_word, ranged_addr, mode_word, get_flags_word, at_flags_word, chunk_word}
 use Rattle.shm_text.specs.Words.{word_at}
 
+-- the words of calls that name no segment
+unfoldable pub process_verb_of : List ℕ → Option Verb
+process_verb_of w =
+    if bytes_eq w (codes "fork") then Some verbs.Fork else
+    if bytes_eq w (codes "exec") then Some verbs.Exec else
+    if bytes_eq w (codes "exit") then Some verbs.Exit else
+    if bytes_eq w (codes "swapoff") then Some verbs.Swapoff else
+    None
+
+-- the words of shmctl, and those
+unfoldable pub control_verb_of : List ℕ → Option Verb
+control_verb_of w =
+    if bytes_eq w (codes "stat") then Some verbs.Stat else
+    if bytes_eq w (codes "set") then Some verbs.Set else
+    if bytes_eq w (codes "rmid") then Some verbs.Rmid else
+    if bytes_eq w (codes "lock") then Some verbs.Lock else
+    if bytes_eq w (codes "unlock") then Some verbs.Unlock else
+    process_verb_of w
+
+-- the words of calls at an address, and those
+unfoldable pub access_verb_of : List ℕ → Option Verb
+access_verb_of w =
+    if bytes_eq w (codes "shmdt") then Some verbs.Shmdt else
+    if bytes_eq w (codes "load") then Some verbs.Load else
+    if bytes_eq w (codes "store") then Some verbs.Store else
+    control_verb_of w
+
 -- the word of a call
 unfoldable pub verb_of : List ℕ → Option Verb
 verb_of w =
     if bytes_eq w (codes "shmget") then Some verbs.Shmget else
     if bytes_eq w (codes "shmat") then Some verbs.Shmat else
     if bytes_eq w (codes "xadd") then Some verbs.Xadd else
-    if bytes_eq w (codes "shmdt") then Some verbs.Shmdt else
-    if bytes_eq w (codes "load") then Some verbs.Load else
-    if bytes_eq w (codes "store") then Some verbs.Store else
-    if bytes_eq w (codes "stat") then Some verbs.Stat else
-    if bytes_eq w (codes "set") then Some verbs.Set else
-    if bytes_eq w (codes "rmid") then Some verbs.Rmid else
-    if bytes_eq w (codes "lock") then Some verbs.Lock else
-    if bytes_eq w (codes "unlock") then Some verbs.Unlock else
-    if bytes_eq w (codes "fork") then Some verbs.Fork else
-    if bytes_eq w (codes "exec") then Some verbs.Exec else
-    if bytes_eq w (codes "exit") then Some verbs.Exit else
-    if bytes_eq w (codes "swapoff") then Some verbs.Swapoff else
-    None
+    access_verb_of w
 
 -- how many operands stand behind it
 abbrev pub operands : Verb → ℕ

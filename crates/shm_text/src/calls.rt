@@ -1,12 +1,12 @@
 //! The calls of a line: a word, and behind it the operands.
 ghost use Rattle.std.specs.Prelude.{◌≡◌, ◌≤◌, ◌<◌, ◌+◌, length, take, drop, true, IfOk};
 ghost use Rattle.shm_text.specs.Form.{is_id, is_call, has_answer, is_answer_taken};
-ghost use Rattle.shm_text.specs.Calls.{verb_of, operands, may_be_taken, id_operand, addr_operand, shmget_call, shmat_call, xadd_call, load_call, store_call, set_call, fork_call, swapoff_call, call_by, place_of, call_words};
+ghost use Rattle.shm_text.specs.Calls.{verb_of, access_verb_of, control_verb_of, process_verb_of, operands, may_be_taken, id_operand, addr_operand, shmget_call, shmat_call, xadd_call, load_call, store_call, set_call, fork_call, swapoff_call, call_by, place_of, call_words};
 
 use crate::fault::FaultKind;
 use crate::operand::{
-    addr_word, any, at_flags_word, chunk_word, get_flags_word, id_word, key_word, mode_word,
-    ranged, ranged_addr, ranged_id, wanted,
+    addr_word, any, at_flags_word, chunk_word, get_flags_word, id_word, is_word, key_word,
+    mode_word, ranged, ranged_addr, ranged_id, wanted,
 };
 use crate::script::{LineAddr, LineCall, LineId};
 use crate::words::Words;
@@ -40,35 +40,65 @@ impl Verb {
     fn of(word: &[u8]) -> Option<Verb>
         ensures { result ≡ verb_of word.now }
     {
-        if word == b"shmget".as_slice() {
+        if is_word(word, b"shmget") {
             Some(Verb::Shmget)
-        } else if word == b"shmat".as_slice() {
+        } else if is_word(word, b"shmat") {
             Some(Verb::Shmat)
-        } else if word == b"xadd".as_slice() {
+        } else if is_word(word, b"xadd") {
             Some(Verb::Xadd)
-        } else if word == b"shmdt".as_slice() {
+        } else {
+            Verb::of_access(word)
+        }
+    }
+
+    // The words of calls at an address, and those behind them.
+    #[tactic(auto, unfolding(crate::specs::Calls::access_verb_of))]
+    fn of_access(word: &[u8]) -> Option<Verb>
+        ensures { result ≡ access_verb_of word.now }
+    {
+        if is_word(word, b"shmdt") {
             Some(Verb::Shmdt)
-        } else if word == b"load".as_slice() {
+        } else if is_word(word, b"load") {
             Some(Verb::Load)
-        } else if word == b"store".as_slice() {
+        } else if is_word(word, b"store") {
             Some(Verb::Store)
-        } else if word == b"stat".as_slice() {
+        } else {
+            Verb::of_control(word)
+        }
+    }
+
+    // The words of shmctl, and those behind them.
+    #[tactic(auto, unfolding(crate::specs::Calls::control_verb_of))]
+    fn of_control(word: &[u8]) -> Option<Verb>
+        ensures { result ≡ control_verb_of word.now }
+    {
+        if is_word(word, b"stat") {
             Some(Verb::Stat)
-        } else if word == b"set".as_slice() {
+        } else if is_word(word, b"set") {
             Some(Verb::Set)
-        } else if word == b"rmid".as_slice() {
+        } else if is_word(word, b"rmid") {
             Some(Verb::Rmid)
-        } else if word == b"lock".as_slice() {
+        } else if is_word(word, b"lock") {
             Some(Verb::Lock)
-        } else if word == b"unlock".as_slice() {
+        } else if is_word(word, b"unlock") {
             Some(Verb::Unlock)
-        } else if word == b"fork".as_slice() {
+        } else {
+            Verb::of_process(word)
+        }
+    }
+
+    // The words of calls that name no segment.
+    #[tactic(auto, unfolding(crate::specs::Calls::process_verb_of))]
+    fn of_process(word: &[u8]) -> Option<Verb>
+        ensures { result ≡ process_verb_of word.now }
+    {
+        if is_word(word, b"fork") {
             Some(Verb::Fork)
-        } else if word == b"exec".as_slice() {
+        } else if is_word(word, b"exec") {
             Some(Verb::Exec)
-        } else if word == b"exit".as_slice() {
+        } else if is_word(word, b"exit") {
             Some(Verb::Exit)
-        } else if word == b"swapoff".as_slice() {
+        } else if is_word(word, b"swapoff") {
             Some(Verb::Swapoff)
         } else {
             None

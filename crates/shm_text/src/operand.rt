@@ -1,6 +1,7 @@
 //! The operands of a line: a word each. What can't be read at all is a bad line; ranges are tested
 //! afterwards, so that a bad line comes before a bad number.
 ghost use Rattle.std.specs.Prelude.{◌≡◌, ◌≤◌, ◌<◌, ◌==◌, true, length, drop, Ok, IfOk, Some};
+ghost use Rattle.std.specs.Str.{bytes_eq};
 ghost use Rattle.shm_text.specs.Operand.{wanted, ranged, any, key_word, letter_of, addr_by, id_word, addr_word, ranged_id, ranged_addr, mode_word, get_flags_word, names_of, times, at_flags_word, chunk_word};
 ghost use Rattle.shm_text.specs.Form.{is_id, is_get_flags, is_at_flags};
 
@@ -23,6 +24,14 @@ pub(crate) enum AddrWord {
     Literal(Number),
     Letter(Variable),
     LetterPlus(Variable, Number),
+}
+
+/// Whether a word is a text.
+#[inline(always)]
+pub(crate) fn is_word(word: &[u8], text: &[u8]) -> bool
+    ensures { result ≡ bytes_eq word.now text.now }
+{
+    word == text
 }
 
 /// A word that has to be a number.
@@ -58,7 +67,7 @@ pub(crate) fn any(number: Number) -> Result<u64, FaultKind>
 pub(crate) fn key_word(word: &[u8]) -> Result<Number, FaultKind>
     ensures { result ≡ key_word word.now }
 {
-    if word == b"private".as_slice() {
+    if is_word(word, b"private") {
         return Ok(Number::Fits(0));
     }
     wanted(word)
@@ -126,7 +135,7 @@ fn letter_addr(var: Variable, word: &[u8]) -> Result<AddrWord, FaultKind>
 pub(crate) fn addr_word(word: &[u8]) -> Result<AddrWord, FaultKind>
     ensures { result ≡ addr_word word.now }
 {
-    if word == b"null".as_slice() {
+    if is_word(word, b"null") {
         return Ok(AddrWord::Literal(Number::Fits(0)));
     }
     match first_letter(word) {
@@ -176,11 +185,11 @@ pub(crate) fn get_flags_word(word: &[u8]) -> Result<GetFlags, FaultKind>
 {
     if word.is_empty() {
         Ok(GetFlags::empty())
-    } else if word == b",creat".as_slice() {
+    } else if is_word(word, b",creat") {
         Ok(GetFlags::CREAT)
-    } else if word == b",excl".as_slice() {
+    } else if is_word(word, b",excl") {
         Ok(GetFlags::EXCL)
-    } else if word == b",creat,excl".as_slice() || word == b",excl,creat".as_slice() {
+    } else if is_word(word, b",creat,excl") || is_word(word, b",excl,creat") {
         Ok(GetFlags::all())
     } else {
         Err(FaultKind::BadLine)
@@ -206,7 +215,7 @@ pub(crate) fn at_flags_word(word: &[u8]) -> Result<AtFlags, FaultKind>
     ensures value { result ≡ at_flags_word word.now }
     ensures form { IfOk result (λ flags. is_at_flags flags ≡ true) }
 {
-    if word == b"-".as_slice() {
+    if is_word(word, b"-") {
         return Ok(AtFlags::empty());
     }
     let rdonly = times(word, b"rdonly");

@@ -43,3 +43,6 @@ returns-clause-index g c =
 
 pub returns-clause-value : goal.returns-clause-value
 returns-clause-value g c = grind (arith, common_steps, named, get_or_read, find_key-get)
+
+pub id_of-requires-clause-index : goal.id_of-requires-clause-index
+id_of-requires-clause-index g c = (named _ _ c.args.key _ _ c.self.invariant.0 (sym c.in_ok-index.ensures.value)).small

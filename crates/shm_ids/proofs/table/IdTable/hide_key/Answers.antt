@@ -1,4 +1,5 @@
-use Rattle.std.proofs.Common.{◌≡◌, ◌∙◌, ap, sym, to_z, of_z, w32, rules}
+use Rattle.std.proofs.Common.{◌≡◌, ◌∙◌, ap, sym, to_z, of_z, w32, rules, arith}
+use Rattle.std.proofs.lemmas.Grind.{common_steps}
 use Rattle.shm_ids.specs.Table.{index_of}
 use Rattle.shm_ids.proofs.Look.{live_at}
 use Rattle.shm_ids.proofs.Steps.{Sound-hide}
@@ -14,3 +15,6 @@ invariant_of-self g c =
       Sound-hide _ _ _ l.row c.self.inside.keys _ c.self.invariant.0 l.within l.there (rw (c.clear_key-key.ensures.key, i) at c.drop_key.ensures),
       c.self.invariant.1 ∙ sym (row_count-with_key _ _ 0 l.within),
     )
+
+pub clear_key-key-requires : goal.clear_key-key-requires
+clear_key-key-requires g c = grind (arith, common_steps)

@@ -1,4 +1,4 @@
-use Rattle.std.proofs.Common.{refl, sym, ap, ◌∙◌, arith, is_some}
+use Rattle.std.proofs.Common.{refl, sym, ap, ◌∙◌, arith, is_some, rules}
 use Rattle.std.proofs.lemmas.Grind.{common_steps}
 use Rattle.shm_ids.proofs.Free.{used_within, skip}
 use Rattle.shm_ids.proofs.Entries.{with_row-few}
@@ -48,7 +48,9 @@ pub returns-clause-index : goal.returns-clause-index
 returns-clause-index g c = grind (arith, common_steps, skip, fresh, identifier-mod)
 
 pub returns-clause-few : goal.returns-clause-few
-returns-clause-few g c = grind (arith, common_steps, fresh, with_row-few)
+returns-clause-few g c =
+    let f = fresh _ _ c.in-Some.index _ c.self.invariant.0 (sym c.free_from.ensures ∙ c.in-Some.is) in
+    rw (c.put_row-id.ensures.items, c.room_at.ensures.items) (with_row-few _ _ c.args.key c.args.value f.within f.small c.self.invariant.0.fits.indexes)
 
 pub returns-clause-fresh : goal.returns-clause-fresh
 returns-clause-fresh g c = grind (arith, common_steps, fresh, look-id_at)
@@ -57,7 +59,19 @@ pub returns-clause-ok : goal.returns-clause-ok
 returns-clause-ok g c = grind (arith, common_steps, skip)
 
 pub returns-in_default-clause-no_memory : goal.returns-in_default-clause-no_memory
-returns-in_default-clause-no_memory g c = grind (arith, common_steps, skip)
+returns-in_default-clause-no_memory g c = λ _. rw (← c.self.view_is, skip _ _ c.self.invariant.0.used ∙ sym c.free_from.ensures ∙ c.in_default.is) tt
 
 pub returns-then-is_err-clause-no_memory : goal.returns-then-is_err-clause-no_memory
 returns-then-is_err-clause-no_memory g c = grind (arith, common_steps, skip)
+
+pub returns-in_default-clause-kept : goal.returns-in_default-clause-kept
+returns-in_default-clause-kept g c = (refl, refl)
+
+pub put_key-requires-clause-room : goal.put_key-requires-clause-room
+put_key-requires-clause-room g c = search rules
+
+pub put_row-id-requires-clause-room : goal.put_row-id-requires-clause-room
+put_row-id-requires-clause-room g c = search rules
+
+pub returns-then-is_err-clause-kept : goal.returns-then-is_err-clause-kept
+returns-then-is_err-clause-kept g c = search rules
