@@ -11,21 +11,3 @@ returns-then-left-clause-page g c = grind (arith, common_steps, length-merged, m
 
 pub returns-clause-others : goal.returns-clause-others
 returns-clause-others g c = grind (arith, common_steps, length-merged, unknown-merged)
-
-pub invariant_of-self : goal.invariant_of-self
-invariant_of-self g c = grind (arith, common_steps)
-
-pub invariant_of-self-2 : goal.invariant_of-self-2
-invariant_of-self-2 g c = grind (arith, common_steps)
-
-pub returns-then-left-clause-cause : goal.returns-then-left-clause-cause
-returns-then-left-clause-cause g c = grind (arith, common_steps)
-
-pub returns-clause-cause : goal.returns-clause-cause
-returns-clause-cause g c = grind (arith, common_steps)
-
-pub returns-then-left-clause-good : goal.returns-then-left-clause-good
-returns-then-left-clause-good g c = grind (arith, common_steps)
-
-pub returns-clause-good : goal.returns-clause-good
-returns-clause-good g c = grind (arith, common_steps)
