@@ -1,5 +1,5 @@
 -- The table of each piece: what a change of the pieces and of the tables leaves.
-use Rattle.shm_attach.proofs.Names.{◌≡◌, ◌≢◌, inl, inr, ℕ, zero, suc, ◌+◌, ◌<◌, ◌≤◌, ◌==◌, ◌&&◌, Bool, true, false, nat_lt, List, [], ◌∷◌, length, filter, get_or, slice_get, Option, Some, None, refl, ap, sym, subst, ◌∙◌, arith, common_steps, All, cases_Bool, none-some, slice_get_cases, All-append, All-cons, All-head, All-tail, All-filter, length-map, set_value_at, Slab, get, pieces_of, bare, bare_all, kept_inserted, kept_parts, kept_cut, Tables, runner_view, runners_view, pieces_at, seg_in, size_in, frame_in, TrueSlot, counted, stored_in, stored_at, IsHeld, AllHeld, AreCountsExact}
+use Rattle.shm_attach.proofs.Names.{◌≡◌, ◌≢◌, inl, inr, ℕ, zero, suc, ◌+◌, ◌<◌, ◌≤◌, ◌==◌, ◌&&◌, Bool, true, false, nat_lt, List, [], ◌∷◌, length, filter, get_or, slice_get, Option, Some, None, refl, ap, sym, subst, ◌∙◌, arith, common_steps, All, cases_Bool, none-some, cases_eq, slice_get_cases, All-append, All-cons, All-head, All-tail, All-filter, length-map, set_value_at, Slab, get, pieces_of, bare, bare_all, kept_inserted, kept_parts, kept_cut, Tables, runner_view, runners_view, pieces_at, seg_in, size_in, frame_in, TrueSlot, counted, stored_in, stored_at, IsHeld, AllHeld, AreCountsExact}
 use Rattle.shm_base.specs.State as flat
 use Rattle.shm_areas.specs.declared.piece.Piece.{Piece}
 use Rattle.shm_attach.specs.declared.process.Runner.{Runner}
@@ -109,4 +109,4 @@ held-all extra es t u exact all step i k d lt = step (get_or (stored_at es i) k 
 -- one process has other pieces
 pub held-changed : (es fs : List (ℕ × Runner)) (t : Slab Entry) (i : ℕ) → AllHeld es t → All (IsHeld t) (stored_at fs i)
     → ((j : ℕ) → j ≢ i → stored_at fs j ≡ stored_at es j) → AllHeld fs t
-held-changed es fs t i all own others j = grind (arith, all, own, others)
+held-changed es fs t i all own others j = elim (cases_eq j i) [ inl same ↦ rw same own | inr other ↦ rw (others j other) (all j) ]

@@ -1,5 +1,5 @@
 -- The counts stay exact, and no process gets too many pieces.
-use Rattle.shm_attach.proofs.Names.{◌≡◌, ◌≢◌, ◌⊎◌, inl, inr, ℕ, zero, suc, ◌+◌, ◌*◌, ◌<◌, ◌≤◌, false, ◌==◌, List, [], ◌∷◌, ◌++◌, length, get_or, set, take, refl, ap, sym, ◌∙◌, arith, length-set, length-take, common_steps, cases_eq, slice_get-get_or, gets, set-set, get_or-map, set-get_or, sum_by-cons, sum_by-set, count_by-le-length, end_of, lowest_address, last_address, without_named, inserted, occupied, cut, parts, part_below, part_above, pieces_of, attach_count, bare, bare_all, IsFit, Arranged, lower, Tables, counted, with_own, with_pieces_at, with_other_life, with_life_at, pieces_at, life_at, AreCountsExact, IsPlaceFor}
+use Rattle.shm_attach.proofs.Names.{◌≡◌, ◌≢◌, ◌⊎◌, inl, inr, ℕ, zero, suc, ◌+◌, ◌*◌, ◌<◌, ◌≤◌, false, ◌==◌, List, [], ◌∷◌, ◌++◌, length, get_or, set, take, refl, ap, sym, ◌∙◌, arith, length-set, length-take, common_steps, cases_eq, slice_get-get_or, gets, set-set, get_or-map, get_or-set_same, get_or-set_other, set-get_or, sum_by-cons, sum_by-set, count_by-le-length, end_of, lowest_address, last_address, without_named, inserted, occupied, cut, parts, part_below, part_above, pieces_of, attach_count, bare, bare_all, IsFit, Arranged, lower, Tables, counted, with_own, with_pieces_at, with_other_life, with_life_at, pieces_at, life_at, AreCountsExact, IsPlaceFor}
 use Rattle.shm_base.specs.State.{Piece, Life, Unborn, Runner}
 use Rattle.shm_areas.specs.declared.piece.Piece.{Piece as Stored}
 use Rattle.shm_attach.proofs.Processes.{nobody, attach_count-changed, one_more}
@@ -24,22 +24,22 @@ life_at-get_or (r ∷ rs) zero = refl
 life_at-get_or (r ∷ rs) (suc i) = life_at-get_or rs i
 
 pub pieces_at-set : (rs : List Runner) (i : ℕ) (r : Runner) → i < length rs → pieces_at (set rs i r) i ≡ r.pieces
-pieces_at-set rs i r lt = grind (arith, common_steps, gets)
+pieces_at-set rs i r lt = pieces_at-get_or (set rs i r) i ∙ ap (λ (x : Runner). x.pieces) (get_or-set_same rs i r nobody lt)
 
 pub pieces_at-set_other : (rs : List Runner) (i j : ℕ) (r : Runner) → j ≢ i → pieces_at (set rs i r) j ≡ pieces_at rs j
-pieces_at-set_other rs i j r other = grind (arith, common_steps, pieces_at-get_or)
+pieces_at-set_other rs i j r other = pieces_at-get_or (set rs i r) j ∙ ap (λ (x : Runner). x.pieces) (get_or-set_other rs i j r nobody other) ∙ sym (pieces_at-get_or rs j)
 
 pub life_at-set : (rs : List Runner) (i : ℕ) (r : Runner) → i < length rs → life_at (set rs i r) i ≡ r.life
-life_at-set rs i r lt = grind (arith, common_steps, gets)
+life_at-set rs i r lt = life_at-get_or (set rs i r) i ∙ ap (λ (x : Runner). x.life) (get_or-set_same rs i r nobody lt)
 
 pub life_at-set_other : (rs : List Runner) (i j : ℕ) (r : Runner) → j ≢ i → life_at (set rs i r) j ≡ life_at rs j
-life_at-set_other rs i j r other = grind (arith, common_steps, life_at-get_or)
+life_at-set_other rs i j r other = life_at-get_or (set rs i r) j ∙ ap (λ (x : Runner). x.life) (get_or-set_other rs i j r nobody other) ∙ sym (life_at-get_or rs j)
 
 pub pieces_at-changed : (rs : List Runner) (i : ℕ) (f : List Piece → List Piece) → i < length rs → pieces_at (with_pieces_at rs i f) i ≡ f (pieces_at rs i)
-pieces_at-changed rs i f lt = let there = slice_get-get_or rs i nobody lt in grind (arith, common_steps, gets)
+pieces_at-changed rs i f lt = ap (λ xs. pieces_at xs i) (with_pieces_at-within rs i f lt) ∙ pieces_at-set rs i _ lt ∙ ap f (sym (pieces_at-get_or rs i))
 
 pub life_at-changed : (rs : List Runner) (i : ℕ) (f : List Piece → List Piece) → i < length rs → life_at (with_pieces_at rs i f) i ≡ life_at rs i
-life_at-changed rs i f lt = let there = slice_get-get_or rs i nobody lt in grind (arith, common_steps, gets)
+life_at-changed rs i f lt = ap (λ xs. life_at xs i) (with_pieces_at-within rs i f lt) ∙ life_at-set rs i _ lt ∙ sym (life_at-get_or rs i)
 
 -- two changes are one
 pub with_pieces_at-twice : (rs : List Runner) (i : ℕ) (f g : List Piece → List Piece) → i < length rs
@@ -49,10 +49,10 @@ with_pieces_at-twice rs i f g lt = let there = slice_get-get_or rs i nobody lt i
 -- a child is born with the pieces of another process
 module _ (rs : List Runner) (i j : ℕ) (l : Life) (lt : j < length rs) where
   pub life_at-born : life_at (with_life_at rs j l) j ≡ l
-  life_at-born = let there = slice_get-get_or rs j nobody lt in grind (arith, common_steps, gets)
+  life_at-born = ap (λ xs. life_at xs j) (with_life_at-within rs j l lt) ∙ life_at-set rs j _ lt
 
   pub pieces_at-born : pieces_at (with_life_at rs j l) j ≡ pieces_at rs j
-  pieces_at-born = let there = slice_get-get_or rs j nobody lt in grind (arith, common_steps, gets)
+  pieces_at-born = ap (λ xs. pieces_at xs j) (with_life_at-within rs j l lt) ∙ pieces_at-set rs j _ lt ∙ sym (pieces_at-get_or rs j)
 
   pub runners-born : i ≢ j
       → with_pieces_at (with_life_at rs j l) j (λ (_ : List Piece). pieces_at (with_life_at rs j l) i) ≡ set rs j (record { pid = (get_or rs j nobody).pid; life = l; pieces = pieces_at rs i })

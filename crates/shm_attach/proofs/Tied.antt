@@ -1,6 +1,13 @@
 -- One table for each segment with pieces: what a change of the map and of the slab leaves.
-use Rattle.shm_attach.proofs.Names.{◌≡◌, ◌≢◌, ℕ, ◌<◌, List, length, get_or, Option, Some, None, refl, arith, common_steps, Slab, get, with_value, Updates, PageRef, Tables, seg_in, count_in, TrueEntry, TrueSlot, AllTrue, with_frame, counted_under, key_of, IsTied}
+use Rattle.shm_attach.proofs.Names.{◌≡◌, ◌≢◌, ◌∙◌, inl, inr, ℕ, ◌<◌, List, length, get_or, Option, Some, None, refl, sym, arith, common_steps, cases_eq, none-some, Slab, get, with_value, Updates, PageRef, Tables, seg_in, count_in, TrueEntry, TrueSlot, AllTrue, with_frame, counted, counted_under, key_of, IsHeld, IsTied}
+use Rattle.shm_areas.specs.declared.piece.Piece.{Piece}
 use Rattle.shm_attach.specs.Entries.{Entry}
+
+-- a piece that has its table is counted
+pub held-counted : (t : Tables) (p : Piece) → IsTied t → IsHeld t.slab p → 0 < counted t p.seg
+held-counted t p tied own =
+    let key : key_of t p.seg ≡ Some p.key = tied.named p.seg p.key own.seg in
+    elim (cases_eq (counted t p.seg) 0) [ inl none ↦ absurd (none-some p.key (sym (tied.some p.seg none) ∙ key)) | inr some ↦ omega (arith, some) ]
 
 -- A TABLE WITH OTHER FRAMES
 

@@ -162,15 +162,15 @@ impl<P: Pager> World<P> {
         make_room(&mut self.history)?;
         // The memory that the system lends is exact, before the call too.
         let _ = self.system.store();
-        let answer = self.system.call(pid, call);
-        if let Ok(reply) = &answer {
-            self.history.push_reserved(Event {
-                pid,
-                call: *call,
-                reply: *reply,
-            });
-        }
-        answer
+        let mut reply = Reply::Done;
+        self.system.call_into(pid, call, &mut reply)?;
+        let kept = &reply;
+        self.history.push_reserved(Event {
+            pid,
+            call: *call,
+            reply: *kept,
+        });
+        Ok(reply)
     }
 
     /// A flush round: the first `pages` dirty frames of segments that are not locked are written out to

@@ -17,14 +17,15 @@ use shm_pager::Pager;
 impl<P: Pager> Kernel<P> {
     #[tactic(auto, using(crate::proofs::Running::keeps_refl))]
     /// Reads bytes; Sigsegv where an address has no piece, Sigbus where a pager failed.
-    pub(crate) fn load(&mut self, caller: &Caller, addr: u64, len: AccessLen) -> Reply
+    pub(crate) fn load(&mut self, caller: &Caller, addr: u64, len: AccessLen, reply: &mut Reply)
         requires { IsCallerOf self.old.flat caller.now }
-        ensures step { is_failure (call.Load addr len) result ≡ false → flat.load self.old.flat (places (caller_seen caller.now self.old.flat.runners).pieces addr len) ≡ record { reply = result; state = self.new.flat } }
-        ensures failed { is_failure (call.Load addr len) result ≡ true → IsFailed (flat.load self.old.flat (places (caller_seen caller.now self.old.flat.runners).pieces addr len)) self.old self.new }
+        ensures step { is_failure (call.Load addr len) reply.new ≡ false → flat.load self.old.flat (places (caller_seen caller.now self.old.flat.runners).pieces addr len) ≡ record { reply = reply.new; state = self.new.flat } }
+        ensures failed { is_failure (call.Load addr len) reply.new ≡ true → IsFailed (flat.load self.old.flat (places (caller_seen caller.now self.old.flat.runners).pieces addr len)) self.old self.new }
         ensures keeps { KeepsOn self.old.memory self.new.memory }
     {
         let Ok(spans) = self.spaces.spans_of(caller, addr, len.get() as u64, false) else {
-            return Reply::Refused(Errno::Sigsegv);
+            *reply = Reply::Refused(Errno::Sigsegv);
+            return;
         };
         let mut bytes = [0; 64];
         let out = &mut bytes[..len.get()];
@@ -33,10 +34,11 @@ impl<P: Pager> Kernel<P> {
         // Where a pager failed pages may have moved before.
         self.spaces.note(touched.moved.as_slice());
         if read.is_err() {
-            return Reply::Refused(Errno::Sigbus);
+            *reply = Reply::Refused(Errno::Sigbus);
+            return;
         }
         match Chunk::new(out) {
-            Some(chunk) => Reply::Bytes(chunk),
+            Some(chunk) => *reply = Reply::Bytes(chunk),
             None => unreachable!(),
         }
     }
@@ -44,37 +46,40 @@ impl<P: Pager> Kernel<P> {
     #[tactic(auto, using(crate::proofs::Running::keeps_refl))]
     /// Replaces bytes; Sigsegv where an address has no piece, or one that is read-only, Sigbus where a pager
     /// failed, and then no byte has changed.
-    pub(crate) fn store(&mut self, caller: &Caller, addr: u64, chunk: &Chunk) -> Reply
+    pub(crate) fn store(&mut self, caller: &Caller, addr: u64, chunk: &Chunk, reply: &mut Reply)
         requires { IsCallerOf self.old.flat caller.now }
-        ensures step { is_failure (call.Store addr chunk.now) result ≡ false → flat.store self.old.flat chunk.now (writable_places (caller_seen caller.now self.old.flat.runners).pieces addr (length chunk.now)) ≡ record { reply = result; state = self.new.flat } }
-        ensures failed { is_failure (call.Store addr chunk.now) result ≡ true → IsFailed (flat.store self.old.flat chunk.now (writable_places (caller_seen caller.now self.old.flat.runners).pieces addr (length chunk.now))) self.old self.new }
+        ensures step { is_failure (call.Store addr chunk.now) reply.new ≡ false → flat.store self.old.flat chunk.now (writable_places (caller_seen caller.now self.old.flat.runners).pieces addr (length chunk.now)) ≡ record { reply = reply.new; state = self.new.flat } }
+        ensures failed { is_failure (call.Store addr chunk.now) reply.new ≡ true → IsFailed (flat.store self.old.flat chunk.now (writable_places (caller_seen caller.now self.old.flat.runners).pieces addr (length chunk.now))) self.old self.new }
         ensures keeps { KeepsOn self.old.memory self.new.memory }
     {
         let bytes = chunk.as_slice();
         let Ok(spans) = self.spaces.spans_of(caller, addr, bytes.len() as u64, true) else {
-            return Reply::Refused(Errno::Sigsegv);
+            *reply = Reply::Refused(Errno::Sigsegv);
+            return;
         };
         let mut touched = Touched::none();
         let written = self.segments.write(spans.as_slice(), bytes, &mut touched);
         // Where a pager failed pages may have moved before.
         self.spaces.note(touched.moved.as_slice());
         if written.is_err() {
-            return Reply::Refused(Errno::Sigbus);
+            *reply = Reply::Refused(Errno::Sigbus);
+            return;
         }
-        Reply::Done
+        *reply = Reply::Done;
     }
 
     #[tactic(auto, using(crate::proofs::Running::keeps_refl))]
     /// Adds to eight little-endian bytes modulo 2^64, and answers the number that stood there. It is refused
     /// as a store is.
-    pub(crate) fn xadd(&mut self, caller: &Caller, addr: u64, add: u64) -> Reply
+    pub(crate) fn xadd(&mut self, caller: &Caller, addr: u64, add: u64, reply: &mut Reply)
         requires { IsCallerOf self.old.flat caller.now }
-        ensures step { is_failure (call.Xadd addr add) result ≡ false → flat.xadd self.old.flat add (writable_places (caller_seen caller.now self.old.flat.runners).pieces addr 8) ≡ record { reply = result; state = self.new.flat } }
-        ensures failed { is_failure (call.Xadd addr add) result ≡ true → IsFailed (flat.xadd self.old.flat add (writable_places (caller_seen caller.now self.old.flat.runners).pieces addr 8)) self.old self.new }
+        ensures step { is_failure (call.Xadd addr add) reply.new ≡ false → flat.xadd self.old.flat add (writable_places (caller_seen caller.now self.old.flat.runners).pieces addr 8) ≡ record { reply = reply.new; state = self.new.flat } }
+        ensures failed { is_failure (call.Xadd addr add) reply.new ≡ true → IsFailed (flat.xadd self.old.flat add (writable_places (caller_seen caller.now self.old.flat.runners).pieces addr 8)) self.old self.new }
         ensures keeps { KeepsOn self.old.memory self.new.memory }
     {
         let Ok(spans) = self.spaces.spans_of(caller, addr, 8, true) else {
-            return Reply::Refused(Errno::Sigsegv);
+            *reply = Reply::Refused(Errno::Sigsegv);
+            return;
         };
         let mut number = 0;
         let mut touched = Touched::none();
@@ -84,8 +89,9 @@ impl<P: Pager> Kernel<P> {
         // Where a pager failed pages may have moved before.
         self.spaces.note(touched.moved.as_slice());
         if added.is_err() {
-            return Reply::Refused(Errno::Sigbus);
+            *reply = Reply::Refused(Errno::Sigbus);
+            return;
         }
-        Reply::Number(number)
+        *reply = Reply::Number(number);
     }
 }

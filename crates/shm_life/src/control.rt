@@ -57,21 +57,25 @@ impl<P: Pager> Kernel<P> {
     }
 
     /// Shows a segment (IPC_STAT): Einval or Eidrm for the identifier, Eacces without read permission.
-    pub(crate) fn stat(&self, caller: &Caller, id: ShmId) -> Reply
-        ensures { flat.stat self.now.flat (caller_seen caller.now self.now.flat.runners) (flat_ids.look self.now.flat.table id) ≡ record { reply = result; state = self.now.flat } }
+    pub(crate) fn stat(&self, caller: &Caller, id: ShmId, reply: &mut Reply)
+        ensures { flat.stat self.now.flat (caller_seen caller.now self.now.flat.runners) (flat_ids.look self.now.flat.table id) ≡ record { reply = reply.new; state = self.now.flat } }
     {
         let found = match self.segments.look(id) {
             Ok(found) => found,
-            Err(errno) => return Reply::Refused(errno),
+            Err(errno) => {
+                *reply = Reply::Refused(errno);
+                return;
+            }
         };
         let want = Want {
             read: true,
             write: false,
         };
         if !grants(&caller.cred, &found.head.perm, want) {
-            return Reply::Refused(Errno::Eacces);
+            *reply = Reply::Refused(Errno::Eacces);
+            return;
         }
-        Reply::Stat(self.shown(&found))
+        *reply = Reply::Stat(self.shown(&found));
     }
 
     // The segment that a caller controls: Einval or Eidrm for the identifier, Eperm where it is another's.
@@ -97,31 +101,38 @@ impl<P: Pager> Kernel<P> {
         uid: u32,
         gid: u32,
         mode: u16,
-    ) -> Reply
-        ensures step { flat.controls self.old.flat (caller_seen caller.now self.old.flat.runners) (flat.sets self.old.flat time uid gid mode) (flat_ids.look self.old.flat.table id) ≡ record { reply = result; state = self.new.flat } }
+        reply: &mut Reply,
+    )
+        ensures step { flat.controls self.old.flat (caller_seen caller.now self.old.flat.runners) (flat.sets self.old.flat time uid gid mode) (flat_ids.look self.old.flat.table id) ≡ record { reply = reply.new; state = self.new.flat } }
         ensures keeps { KeepsOn self.old.memory self.new.memory }
     {
         let found = match self.controlled(caller, id) {
             Ok(found) => found,
-            Err(errno) => return Reply::Refused(errno),
+            Err(errno) => {
+                *reply = Reply::Refused(errno);
+                return;
+            }
         };
         self.segments.set_owner(found.seg, time, uid, gid, mode);
-        Reply::Done
+        *reply = Reply::Done;
     }
 
     #[tactic(auto, using(crate::proofs::Running::keeps_refl))]
     /// Destroys a segment without pieces, and marks one that has some (IPC_RMID).
-    pub(crate) fn rmid(&mut self, caller: &Caller, id: ShmId) -> Reply
-        ensures step { flat.controls self.old.flat (caller_seen caller.now self.old.flat.runners) (flat.removes self.old.flat) (flat_ids.look self.old.flat.table id) ≡ record { reply = result; state = self.new.flat } }
+    pub(crate) fn rmid(&mut self, caller: &Caller, id: ShmId, reply: &mut Reply)
+        ensures step { flat.controls self.old.flat (caller_seen caller.now self.old.flat.runners) (flat.removes self.old.flat) (flat_ids.look self.old.flat.table id) ≡ record { reply = reply.new; state = self.new.flat } }
         ensures keeps { KeepsOn self.old.memory self.new.memory }
     {
         let found = match self.controlled(caller, id) {
             Ok(found) => found,
-            Err(errno) => return Reply::Refused(errno),
+            Err(errno) => {
+                *reply = Reply::Refused(errno);
+                return;
+            }
         };
         self.segments.mark(found.seg);
         sweep(&mut self.segments, &self.spaces, &[found.seg]);
-        Reply::Done
+        *reply = Reply::Done;
     }
 
     // Whether a segment is not locked and its pages are too many beside those that are.
@@ -135,32 +146,39 @@ impl<P: Pager> Kernel<P> {
 
     #[tactic(auto, using(crate::proofs::Running::keeps_refl))]
     /// Locks a segment's pages (SHM_LOCK): Enomem where those of all locked segments would exceed MEMLOCK.
-    pub(crate) fn lock(&mut self, caller: &Caller, id: ShmId) -> Reply
-        ensures step { flat.controls self.old.flat (caller_seen caller.now self.old.flat.runners) (flat.locks self.old.flat) (flat_ids.look self.old.flat.table id) ≡ record { reply = result; state = self.new.flat } }
+    pub(crate) fn lock(&mut self, caller: &Caller, id: ShmId, reply: &mut Reply)
+        ensures step { flat.controls self.old.flat (caller_seen caller.now self.old.flat.runners) (flat.locks self.old.flat) (flat_ids.look self.old.flat.table id) ≡ record { reply = reply.new; state = self.new.flat } }
         ensures keeps { KeepsOn self.old.memory self.new.memory }
     {
         let found = match self.controlled(caller, id) {
             Ok(found) => found,
-            Err(errno) => return Reply::Refused(errno),
+            Err(errno) => {
+                *reply = Reply::Refused(errno);
+                return;
+            }
         };
         if self.exceeds_memlock(&found) {
-            return Reply::Refused(Errno::Enomem);
+            *reply = Reply::Refused(Errno::Enomem);
+            return;
         }
         self.segments.set_locked(found.seg, true);
-        Reply::Done
+        *reply = Reply::Done;
     }
 
     #[tactic(auto, using(crate::proofs::Running::keeps_refl))]
     /// Unlocks a segment's pages (SHM_UNLOCK).
-    pub(crate) fn unlock(&mut self, caller: &Caller, id: ShmId) -> Reply
-        ensures step { flat.controls self.old.flat (caller_seen caller.now self.old.flat.runners) (flat.unlocks self.old.flat) (flat_ids.look self.old.flat.table id) ≡ record { reply = result; state = self.new.flat } }
+    pub(crate) fn unlock(&mut self, caller: &Caller, id: ShmId, reply: &mut Reply)
+        ensures step { flat.controls self.old.flat (caller_seen caller.now self.old.flat.runners) (flat.unlocks self.old.flat) (flat_ids.look self.old.flat.table id) ≡ record { reply = reply.new; state = self.new.flat } }
         ensures keeps { KeepsOn self.old.memory self.new.memory }
     {
         let found = match self.controlled(caller, id) {
             Ok(found) => found,
-            Err(errno) => return Reply::Refused(errno),
+            Err(errno) => {
+                *reply = Reply::Refused(errno);
+                return;
+            }
         };
         self.segments.set_locked(found.seg, false);
-        Reply::Done
+        *reply = Reply::Done;
     }
 }

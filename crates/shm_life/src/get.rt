@@ -1,5 +1,5 @@
 //! shmget: an existing segment by its key, or a new one.
-ghost use Rattle.std.specs.Prelude.{◌≡◌, ◌≢◌, ℕ, false, IfOk, OnErr};
+ghost use Rattle.std.specs.Prelude.{◌≡◌, ◌≢◌, ℕ, false, OnOk, OnErr};
 ghost use Rattle.shm_base.specs.History.{is_refusal};
 ghost use Rattle.shm_base.specs.Identifier as flat_ids;
 ghost use Rattle.shm_base.specs.Permission as permission;
@@ -62,37 +62,52 @@ impl<P: Pager> Kernel<P> {
         size: u64,
         mode: u16,
         flags: GetFlags,
-    ) -> Result<Reply, HostMemory>
-        ensures step { IfOk result (λ r. flat.shmget self.old.flat time (caller_seen caller.now self.old.flat.runners) key size mode flags ≡ record { reply = r; state = self.new.flat }) }
+        reply: &mut Reply,
+    ) -> Result<(), HostMemory>
+        ensures step { OnOk result (flat.shmget self.old.flat time (caller_seen caller.now self.old.flat.runners) key size mode flags ≡ record { reply = reply.new; state = self.new.flat }) }
         ensures keeps { KeepsOn self.old.memory self.new.memory }
         ensures err { OnErr result (self.new ≡ self.old) }
         ensures memory { OnErr result (is_refusal (flat.shmget self.old.flat time (caller_seen caller.now self.old.flat.runners) key size mode flags).reply ≡ false) }
     {
         if key == 0 {
-            return self.create(time, caller, 0, size, mode);
+            return self.create(time, caller, 0, size, mode, reply);
         }
         match self.segments.find_key(key) {
-            Some(found) => Ok(self.get(caller, &found, size, mode, flags)),
-            None if flags.contains(GetFlags::CREAT) => self.create(time, caller, key, size, mode),
-            None => Ok(Reply::Refused(Errno::Enoent)),
+            Some(found) => self.get(caller, &found, size, mode, flags, reply),
+            None if flags.contains(GetFlags::CREAT) => {
+                return self.create(time, caller, key, size, mode, reply);
+            }
+            None => *reply = Reply::Refused(Errno::Enoent),
         }
+        Ok(())
     }
 
     // An existing segment. Eexist where it was to be new, Einval where it is too small, Eacces.
-    fn get(&self, caller: &Caller, found: &Found, size: u64, mode: u16, flags: GetFlags) -> Reply
+    fn get(
+        &self,
+        caller: &Caller,
+        found: &Found,
+        size: u64,
+        mode: u16,
+        flags: GetFlags,
+        reply: &mut Reply,
+    )
         requires { IsFound self.now.flat.table found.now }
-        ensures { (n key : ℕ) → flat.gets self.now.flat n (caller_seen caller.now self.now.flat.runners) key size mode flags (look_of self.now.flat.table found.now) ≡ record { reply = result; state = self.now.flat } }
+        ensures { (n key : ℕ) → flat.gets self.now.flat n (caller_seen caller.now self.now.flat.runners) key size mode flags (look_of self.now.flat.table found.now) ≡ record { reply = reply.new; state = self.now.flat } }
     {
         if flags.contains(GetFlags::CREAT) && flags.contains(GetFlags::EXCL) {
-            return Reply::Refused(Errno::Eexist);
+            *reply = Reply::Refused(Errno::Eexist);
+            return;
         }
         if size > found.head.size {
-            return Reply::Refused(Errno::Einval);
+            *reply = Reply::Refused(Errno::Einval);
+            return;
         }
         if !grants(&caller.cred, &found.head.perm, wish_of(mode)) {
-            return Reply::Refused(Errno::Eacces);
+            *reply = Reply::Refused(Errno::Eacces);
+            return;
         }
-        Reply::Id(found.id)
+        *reply = Reply::Id(found.id);
     }
 
     #[tactic(auto, using(crate::proofs::Running::keeps_refl))]
@@ -105,28 +120,33 @@ impl<P: Pager> Kernel<P> {
         key: u32,
         size: u64,
         mode: u16,
-    ) -> Result<Reply, HostMemory>
+        reply: &mut Reply,
+    ) -> Result<(), HostMemory>
         requires absent { key ≢ 0 → flat_ids.find_key self.old.flat.table key ≡ flat_ids.Invalid }
-        ensures step { IfOk result (λ r. flat.creates self.old.flat time (caller_seen caller.now self.old.flat.runners) key size mode ≡ record { reply = r; state = self.new.flat }) }
+        ensures step { OnOk result (flat.creates self.old.flat time (caller_seen caller.now self.old.flat.runners) key size mode ≡ record { reply = reply.new; state = self.new.flat }) }
         ensures keeps { KeepsOn self.old.memory self.new.memory }
         ensures err { OnErr result (self.new ≡ self.old) }
         ensures memory { OnErr result (is_refusal (flat.creates self.old.flat time (caller_seen caller.now self.old.flat.runners) key size mode).reply ≡ false) }
     {
         if size < 1 || size > self.limits.shmmax() {
-            return Ok(Reply::Refused(Errno::Einval));
+            *reply = Reply::Refused(Errno::Einval);
+            return Ok(());
         }
         let reserved = self.segments.reserved() + pages_of(size);
         if reserved > self.limits.shmall()
             || self.segments.count() >= self.limits.shmmni()
             || self.segments.is_full()
         {
-            return Ok(Reply::Refused(Errno::Enospc));
+            *reply = Reply::Refused(Errno::Enospc);
+            return Ok(());
         }
         if reserved > self.segments.store().capacity() {
-            return Ok(Reply::Refused(Errno::Enomem));
+            *reply = Reply::Refused(Errno::Enomem);
+            return Ok(());
         }
         let head = new_head(time, caller, size, mode);
         let id = self.segments.create(key, head)?;
-        Ok(Reply::Id(id))
+        *reply = Reply::Id(id);
+        Ok(())
     }
 }

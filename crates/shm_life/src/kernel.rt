@@ -1,5 +1,5 @@
 //! The machine: one call of a process is one step of the flat machine.
-ghost use Rattle.std.specs.Prelude.{◌≡◌, true, false, IfOk, OnErr, IsOk};
+ghost use Rattle.std.specs.Prelude.{◌≡◌, true, false, OnOk, OnErr, IsOk};
 ghost use Rattle.shm_base.specs.Step.{step};
 ghost use Rattle.shm_base.specs.History.{is_failure, is_refusal};
 ghost use Rattle.shm_life.specs.MachineView.{IsFailed, KeepsOn};
@@ -43,41 +43,50 @@ impl<P: Pager> Model for Kernel<P> {
 impl<P: Pager> Kernel<P> {
     #[tactic(auto, using(crate::proofs::Running::keeps_refl))]
     /// One step of the flat machine. A process that is not live is refused before anything else.
-    pub(crate) fn call(&mut self, time: u64, pid: u32, call: &Call) -> Result<Reply, HostMemory>
-        ensures step { IfOk result (λ r. is_failure call.now r ≡ false → step self.old.flat time pid call.now ≡ record { reply = r; state = self.new.flat }) }
-        ensures failed { IfOk result (λ r. is_failure call.now r ≡ true → IsFailed (step self.old.flat time pid call.now) self.old self.new) }
+    pub(crate) fn call(
+        &mut self,
+        time: u64,
+        pid: u32,
+        call: &Call,
+        reply: &mut Reply,
+    ) -> Result<(), HostMemory>
+        ensures step { OnOk result (is_failure call.now reply.new ≡ false → step self.old.flat time pid call.now ≡ record { reply = reply.new; state = self.new.flat }) }
+        ensures failed { OnOk result (is_failure call.now reply.new ≡ true → IsFailed (step self.old.flat time pid call.now) self.old self.new) }
         ensures keeps { KeepsOn self.old.memory self.new.memory }
         ensures err { OnErr result (self.new ≡ self.old) }
         ensures memory { OnErr result (is_refusal (step self.old.flat time pid call.now).reply ≡ false) }
         ensures no_memory { TakesNoMemory call.now → IsOk result }
     {
         let Some(caller) = self.spaces.caller(pid) else {
-            return Ok(Reply::Refused(Errno::Esrch));
+            *reply = Reply::Refused(Errno::Esrch);
+            return Ok(());
         };
-        let reply = match call {
+        match call {
             Call::Shmget {
                 key,
                 size,
                 mode,
                 flags,
-            } => return self.shmget(time, &caller, *key, *size, *mode, *flags),
+            } => return self.shmget(time, &caller, *key, *size, *mode, *flags, reply),
             Call::Shmat { id, addr, flags } => {
-                return self.shmat(time, &caller, *id, *addr, *flags);
+                return self.shmat(time, &caller, *id, *addr, *flags, reply);
             }
-            Call::Shmdt { addr } => self.shmdt(time, &caller, *addr),
-            Call::Stat { id } => self.stat(&caller, *id),
-            Call::Set { id, uid, gid, mode } => self.set(time, &caller, *id, *uid, *gid, *mode),
-            Call::Rmid { id } => self.rmid(&caller, *id),
-            Call::Lock { id } => self.lock(&caller, *id),
-            Call::Unlock { id } => self.unlock(&caller, *id),
-            Call::Load { addr, len } => self.load(&caller, *addr, *len),
-            Call::Store { addr, chunk } => self.store(&caller, *addr, chunk),
-            Call::Xadd { addr, add } => self.xadd(&caller, *addr, *add),
-            Call::Fork { child } => self.fork(&caller, *child),
-            Call::Exec => self.exec(time, &caller),
-            Call::Exit => self.exit(time, &caller),
-            Call::Swapoff { area } => self.swapoff(&caller, *area),
-        };
-        Ok(reply)
+            Call::Shmdt { addr } => self.shmdt(time, &caller, *addr, reply),
+            Call::Stat { id } => self.stat(&caller, *id, reply),
+            Call::Set { id, uid, gid, mode } => self.set(
+                time, &caller, *id, *uid, *gid, *mode, reply,
+            ),
+            Call::Rmid { id } => self.rmid(&caller, *id, reply),
+            Call::Lock { id } => self.lock(&caller, *id, reply),
+            Call::Unlock { id } => self.unlock(&caller, *id, reply),
+            Call::Load { addr, len } => self.load(&caller, *addr, *len, reply),
+            Call::Store { addr, chunk } => self.store(&caller, *addr, chunk, reply),
+            Call::Xadd { addr, add } => self.xadd(&caller, *addr, *add, reply),
+            Call::Fork { child } => self.fork(&caller, *child, reply),
+            Call::Exec => self.exec(time, &caller, reply),
+            Call::Exit => self.exit(time, &caller, reply),
+            Call::Swapoff { area } => self.swapoff(&caller, *area, reply),
+        }
+        Ok(())
     }
 }

@@ -16,24 +16,28 @@ impl<P: Pager> Kernel<P> {
     /// Takes a swap area away (swapoff(2)). Eperm for every user but 0; Einval where there is no such area,
     /// or no more; Enomem where the others have fewer slots than all segments have pages; Eio where a pager
     /// failed, and then the area stays.
-    pub(crate) fn swapoff(&mut self, caller: &Caller, area: u32) -> Reply
-        ensures step { is_failure (call.Swapoff area) result ≡ false → flat.swapoff self.old.flat (caller_seen caller.now self.old.flat.runners) area ≡ record { reply = result; state = self.new.flat } }
-        ensures failed { is_failure (call.Swapoff area) result ≡ true → IsFailed (flat.swapoff self.old.flat (caller_seen caller.now self.old.flat.runners) area) self.old self.new }
+    pub(crate) fn swapoff(&mut self, caller: &Caller, area: u32, reply: &mut Reply)
+        ensures step { is_failure (call.Swapoff area) reply.new ≡ false → flat.swapoff self.old.flat (caller_seen caller.now self.old.flat.runners) area ≡ record { reply = reply.new; state = self.new.flat } }
+        ensures failed { is_failure (call.Swapoff area) reply.new ≡ true → IsFailed (flat.swapoff self.old.flat (caller_seen caller.now self.old.flat.runners) area) self.old self.new }
         ensures keeps { KeepsOn self.old.memory self.new.memory }
     {
         if caller.cred.uid != 0 {
-            return Reply::Refused(Errno::Eperm);
+            *reply = Reply::Refused(Errno::Eperm);
+            return;
         }
         let store = self.segments.store();
         let Some(size) = store.area_size(area) else {
-            return Reply::Refused(Errno::Einval);
+            *reply = Reply::Refused(Errno::Einval);
+            return;
         };
         if store.capacity() < self.segments.reserved() + u64::from(size) {
-            return Reply::Refused(Errno::Enomem);
+            *reply = Reply::Refused(Errno::Enomem);
+            return;
         }
         if self.segments.move_off(area).is_err() {
-            return Reply::Refused(Errno::Eio);
+            *reply = Reply::Refused(Errno::Eio);
+            return;
         }
-        Reply::Done
+        *reply = Reply::Done;
     }
 }

@@ -162,11 +162,9 @@ impl<P: Pager> System<P> {
         &self.opening
     }
 
-    #[tactic(auto, using(crate::proofs::Running::keeps_refl))]
     /// One call of a process, at the time that is its place among the calls. Where memory is out, nothing
     /// changes and the call is not counted; that comes only where the flat machine refuses nothing. Where a pager fails the reply says so in place of the flat machine's,
     /// and nothing else changes.
-    #[inline(always)]
     pub fn call(&mut self, pid: u32, call: &Call) -> Result<Reply, HostMemory>
         requires room { self.old.calls < 2 ^ 64 - 1 }
         ensures move_of { IfOk result (λ r. IsMove self.old.machine (self.old.calls + 1) (record { pid = pid; call = call.now; reply = r }) self.new.machine) }
@@ -178,12 +176,30 @@ impl<P: Pager> System<P> {
         ensures memory { OnErr result (is_refusal (step self.old.machine (self.old.calls + 1) pid call.now).reply ≡ false) }
         ensures no_memory { TakesNoMemory call.now → IsOk result }
     {
+        let mut reply = Reply::Done;
+        self.call_into(pid, call, &mut reply)?;
+        Ok(reply)
+    }
+
+    #[tactic(auto, using(crate::proofs::Running::keeps_refl))]
+    /// As [`System::call`], with the reply put where the caller wants it, which is unknown where memory is out.
+    /// A reply has 88 bytes, and each hand that takes it would clear and copy them.
+    #[inline(always)]
+    pub fn call_into(&mut self, pid: u32, call: &Call, reply: &mut Reply) -> Result<(), HostMemory>
+        requires room { self.old.calls < 2 ^ 64 - 1 }
+        ensures move_of { OnOk result (IsMove self.old.machine (self.old.calls + 1) (record { pid = pid; call = call.now; reply = reply.new }) self.new.machine) }
+        ensures cause { OnOk result (is_failure call.now reply.new ≡ true → had_cause self.old.memory.swap self.new.memory.swap ≡ true) }
+        ensures counted { OnOk result (self.new.calls ≡ self.old.calls + 1) }
+        ensures opening { self.new.opening ≡ self.old.opening }
+        ensures keeps { KeepsOn self.old.memory self.new.memory }
+        ensures err { OnErr result (self.new ≡ self.old) }
+        ensures memory { OnErr result (is_refusal (step self.old.machine (self.old.calls + 1) pid call.now).reply ≡ false) }
+        ensures no_memory { TakesNoMemory call.now → IsOk result }
+    {
         let time = self.calls + 1;
-        let answer = self.kernel.call(time, pid, call);
-        if answer.is_ok() {
-            self.calls = time;
-        }
-        answer
+        self.kernel.call(time, pid, call, reply)?;
+        self.calls = time;
+        Ok(())
     }
 
     /// Writes the first `n` dirty frames of segments that are not locked out to their slots. The flat

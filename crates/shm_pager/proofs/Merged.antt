@@ -1,8 +1,9 @@
 -- The pages that a mirror shows, slot by slot.
 use Rattle.std.proofs.Common.{◌≡◌, ℕ, zero, suc, ◌<◌, ◌⊎◌, true, false, if◌then◌else◌, List, [], ◌∷◌, length, get_or, set, drop, replicate, refl, ap, ◌∙◌, inl, inr, arith, get_or-set_same}
 use Rattle.std.proofs.lemmas.Grind.{common_steps}
+use Rattle.std.proofs.lemmas.List.{get_or_read}
 use Rattle.shm_pager.specs.Pages.{SlotUnknown}
-use Rattle.shm_pager.specs.Mirror.{merged, no_side}
+use Rattle.shm_pager.specs.Mirror.{MirrorView, merged, pages_shown, good_at, no_side}
 use Rattle.shm_pager.specs.declared.mirror.Good.{Good}
 
 -- the page of one slot
@@ -12,6 +13,10 @@ shown g l r = if g.left then l else r
 pub length-merged : (gs : List Good) (ls rs : List (List ℕ)) → length (merged gs ls rs) ≡ length gs
 length-merged [] ls rs = refl
 length-merged (g ∷ gs) ls rs = ap suc (length-merged gs (drop 1 ls) (drop 1 rs))
+
+-- the marks of the slot that a call found
+pub good-found : (v m : MirrorView) (slot : ℕ) (g : Good) → v ≡ m → g ≡ get_or v.good slot g → slot < length (pages_shown m) → g ≡ good_at m slot
+good-found v m slot g same found within = get_or_read m.good slot g (omega (arith, within, length-merged m.good m.left.pages m.right.pages)) (rw (← same) found) no_side
 
 pub get_or-merged : (gs : List Good) (ls rs : List (List ℕ)) (i : ℕ) → i < length gs
     → get_or (merged gs ls rs) i [] ≡ shown (get_or gs i no_side) (get_or ls i []) (get_or rs i [])

@@ -30,6 +30,11 @@ pub pages-replicate : (n : ℕ) → map page_behind (replicate n None) ≡ repli
 pages-replicate zero = refl
 pages-replicate (suc n) = ap (λ xs. zero_page ∷ xs) (pages-replicate n)
 
+pub NoZeros-replicate : (n : ℕ) → NoZeros (replicate n None)
+NoZeros-replicate zero slot room found zeros = (cc)
+NoZeros-replicate (suc n) zero room found zeros = (cc)
+NoZeros-replicate (suc n) (suc slot) room found zeros = NoZeros-replicate n slot room found zeros
+
 -- all rooms given back
 pub pages-wiped : (before after : List (Option Room)) (n : ℕ) → length after ≡ length before → n ≡ length before → take n after ≡ replicate n None
     → map page_behind after ≡ replicate (length (map page_behind before)) zero_page

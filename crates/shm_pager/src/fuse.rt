@@ -3,7 +3,7 @@ ghost use Rattle.std.specs.Prelude.{◌≡◌, ◌<◌, [], length, set, get_or,
 ghost use Rattle.shm_pager.specs.Pages.{zero_page, last_count, pager_seen, served, SlotUnknown, CountsErr, TriesWrite, TriesRead};
 ghost use Rattle.shm_pager.specs.Fuse.{new_fuse, next_count, is_listed, read_is_bad, write_is_bad, scorched_page};
 
-use crate::pager::{Pager, PagerFault, try_read, try_write};
+use crate::pager::{Pager, PagerFault, read_if, try_write};
 use std::marker::Model;
 
 // What a failing write leaves in the slot.
@@ -136,7 +136,7 @@ impl<P: Pager> Pager for FusePager<P> {
         } }
     {
         let bad = take_place(&self.bad_reads, &mut self.reads);
-        if !bad && try_read(&mut self.inner, slot, page).is_ok() {
+        if read_if(!bad, &mut self.inner, slot, page) {
             return Ok(());
         }
         self.failed += 1;

@@ -3,7 +3,7 @@ ghost use Rattle.std.specs.Prelude.{◌≡◌, ◌≢◌, ◌<◌, ◌==◌, [],
 ghost use Rattle.shm_pager.specs.Pages.{zero_page, last_count, pager_seen, served, SlotUnknown, CountsErr, TriesWrite, TriesRead};
 ghost use Rattle.shm_pager.specs.Mirror.{MirrorView, mirror_of, left_alone, both_sides, no_side, pages_shown, left_asked, left_serves, right_asked, right_serves};
 
-use crate::pager::{Pager, PagerFault, try_read, try_write};
+use crate::pager::{Pager, PagerFault, read_if, try_write};
 use std::alloc::{AllocError, Global};
 use std::marker::Model;
 use thiserror::Error;
@@ -177,10 +177,10 @@ impl<L: Pager, R: Pager> Pager for MirrorPager<L, R> {
         ensures good { self.new.good ≡ self.old.good }
     {
         let good = self.good[slot as usize];
-        if good.left && try_read(&mut self.left, slot, page).is_ok() {
+        if read_if(good.left, &mut self.left, slot, page) {
             return Ok(());
         }
-        if good.right && try_read(&mut self.right, slot, page).is_ok() {
+        if read_if(good.right, &mut self.right, slot, page) {
             return Ok(());
         }
         self.failed += 1;

@@ -1,6 +1,6 @@
 //! What each pager promises. A pager that broke it could change bytes of segments; whatever fails in
 //! the ways named here cannot.
-ghost use Rattle.std.specs.Prelude.{◌≡◌, ℕ, ◌<◌, List, [], length, set, get_or, replicate, is_ok, IfOk};
+ghost use Rattle.std.specs.Prelude.{◌≡◌, ℕ, ◌<◌, ◌&&◌, true, false, List, [], length, set, get_or, replicate, is_ok, IfOk};
 ghost use Rattle.shm_pager.specs.Pages.{zero_page, last_count, pager_seen, served, SlotUnknown, CountsErr, TriesWrite, TriesRead};
 
 use thiserror::Error;
@@ -92,6 +92,20 @@ pub fn try_read<P: Pager>(pager: &mut P, slot: u32, page: &mut [u8; 4096]) -> Re
         return Err(PagerFault);
     }
     pager.read(slot, page)
+}
+
+/// As [`try_read`], but where the pager is not to be asked, the read fails and the pager stays.
+pub fn read_if<P: Pager>(asked: bool, pager: &mut P, slot: u32, page: &mut [u8; 4096]) -> bool
+    requires { slot < length (P.content pager.old) }
+    ensures asked { let view = pager_seen P.content P.failed in
+        asked ≡ true → TriesRead (view pager.old) (view pager.new) }
+    ensures unasked { asked ≡ false → pager.new ≡ pager.old }
+    ensures content { P.content pager.new ≡ P.content pager.old }
+    ensures served { let view = pager_seen P.content P.failed in
+        result ≡ (asked && served (view pager.old) (view pager.new)) }
+    ensures page { result ≡ true → get_or (P.content pager.old) slot [] ≡ page.new }
+{
+    asked && try_read(pager, slot, page).is_ok()
 }
 
 /// A pager of a kind that is not known. Code over pagers is generic and takes this as one of its types;

@@ -1,12 +1,13 @@
 //! The printed text of events and replies.
 ghost use Rattle.std.specs.Prelude.{◌≡◌, ◌≤◌, ◌++◌, length, IfOk, OnOk, string_bytes, decimal, codes};
+ghost use Rattle.std.specs.Fmt.{signed_decimal};
 ghost use Rattle.hex.specs.Hex.{encode_lower};
 ghost use Rattle.shm_print.specs.Text as printed;
 
 use crate::digits::push_digits;
 use crate::words::{AtWord, GetWord, Key, Mode, StatusWord};
 use itoa::Buffer;
-use shm_base::{Call, Event, Perm, Reply, ShmidDs};
+use shm_base::{Call, Event, Perm, Reply, ShmId, ShmidDs};
 use std::alloc::{AllocError, Global};
 
 // Puts a number in decimal behind a text.
@@ -38,6 +39,29 @@ fn push_bytes(text: &mut String, bytes: &[u8]) -> Result<(), AllocError>
     text.push_str(str::from_utf8(digits).unwrap())
 }
 
+// Puts a word and an identifier behind a text.
+fn push_id(text: &mut String, word: &str, id: ShmId) -> Result<(), AllocError>
+    ensures { OnOk result (string_bytes text.new ≡ string_bytes text.old ++ (word.now ++ signed_decimal id)) }
+{
+    write!(text, "{word}{id}")
+}
+
+// Puts a word and an address behind a text.
+fn push_at(text: &mut String, word: &str, addr: u64) -> Result<(), AllocError>
+    ensures { OnOk result (string_bytes text.new ≡ string_bytes text.old ++ (word.now ++ printed.address_text addr)) }
+{
+    text.push_str(word)?;
+    push_address(text, addr)
+}
+
+// Puts a word and a number behind a text.
+fn push_counted(text: &mut String, word: &str, number: u64) -> Result<(), AllocError>
+    ensures { OnOk result (string_bytes text.new ≡ string_bytes text.old ++ (word.now ++ decimal number)) }
+{
+    text.push_str(word)?;
+    push_number(text, number)
+}
+
 // Puts the word of a call and its arguments behind a text.
 fn push_call(text: &mut String, call: &Call) -> Result<(), AllocError>
     ensures { OnOk result (string_bytes text.new ≡ string_bytes text.old ++ printed.call_text call.now) }
@@ -54,44 +78,36 @@ fn push_call(text: &mut String, call: &Call) -> Result<(), AllocError>
         }
         Call::Shmat { id, addr, flags } => {
             let flags = AtWord(*flags);
-            write!(text, "shmat {id} ")?;
-            push_address(text, *addr)?;
+            push_id(text, "shmat ", *id)?;
+            push_at(text, " ", *addr)?;
             write!(text, " {flags}")
         }
-        Call::Shmdt { addr } => {
-            text.push_str("shmdt ")?;
-            push_address(text, *addr)
-        }
-        Call::Stat { id } => write!(text, "stat {id}"),
+        Call::Shmdt { addr } => push_at(text, "shmdt ", *addr),
+        Call::Stat { id } => push_id(text, "stat ", *id),
         Call::Set { id, uid, gid, mode } => {
             let mode = Mode(*mode);
             write!(text, "set {id} {uid} {gid} {mode}")
         }
-        Call::Rmid { id } => write!(text, "rmid {id}"),
-        Call::Lock { id } => write!(text, "lock {id}"),
-        Call::Unlock { id } => write!(text, "unlock {id}"),
+        Call::Rmid { id } => push_id(text, "rmid ", *id),
+        Call::Lock { id } => push_id(text, "lock ", *id),
+        Call::Unlock { id } => push_id(text, "unlock ", *id),
         Call::Load { addr, len } => {
-            text.push_str("load ")?;
-            push_address(text, *addr)?;
-            text.push_str(" ")?;
-            push_number(text, len.get() as u64)
+            push_at(text, "load ", *addr)?;
+            push_counted(text, " ", len.get() as u64)
         }
         Call::Store { addr, chunk } => {
-            text.push_str("store ")?;
-            push_address(text, *addr)?;
+            push_at(text, "store ", *addr)?;
             text.push_str(" ")?;
             push_bytes(text, chunk.as_slice())
         }
         Call::Xadd { addr, add } => {
-            text.push_str("xadd ")?;
-            push_address(text, *addr)?;
-            text.push_str(" ")?;
-            push_number(text, *add)
+            push_at(text, "xadd ", *addr)?;
+            push_counted(text, " ", *add)
         }
-        Call::Fork { child } => write!(text, "fork {child}"),
+        Call::Fork { child } => push_counted(text, "fork ", u64::from(*child)),
         Call::Exec => text.push_str("exec"),
         Call::Exit => text.push_str("exit"),
-        Call::Swapoff { area } => write!(text, "swapoff {area}"),
+        Call::Swapoff { area } => push_counted(text, "swapoff ", u64::from(*area)),
     }
 }
 
@@ -147,8 +163,7 @@ fn push_place(text: &mut String, place: u64, pid: u32) -> Result<(), AllocError>
     ensures { OnOk result (string_bytes text.new ≡ string_bytes text.old ++ (decimal place ++ (codes " " ++ (decimal pid ++ codes " ")))) }
 {
     push_number(text, place)?;
-    text.push_str(" ")?;
-    push_number(text, u64::from(pid))?;
+    push_counted(text, " ", u64::from(pid))?;
     text.push_str(" ")
 }
 

@@ -1,5 +1,6 @@
 //! When a gate is asked and told, and how a run ends that a gate ends.
 use crate::behind::{Rule, Ruled, fault_by, run_behind, seen_by};
+use crate::runs::{FAMILY, TWO};
 use shm_base::Reply;
 use shm_threads::RunError;
 use std::test::Fail;
@@ -28,35 +29,45 @@ fn a_gate_is_told_behind_the_answer(rt: HostRuntime) -> Result<(), Fail> {
     Ok(())
 }
 
-/// A parent and its child, which is declared first.
-const FAMILY: &[u8] =
-    b"limits 65536 16 64 4 1\nchild 2\nprocess 1 100 100\n1 fork 2\n2 exec\n1 exit\n";
+/// How runs end that a gate ends: all of the workers are ended, those of the processes, one, or none.
+const ENDED: &[(&str, &[u8], Rule, Option<RunError>)] = &[
+    (
+        "the flusher before a process",
+        ROUNDS,
+        Rule::Below(0),
+        Some(RunError::GateExpired { pid: 0 }),
+    ),
+    (
+        "the processes",
+        ROUNDS,
+        Rule::Below(1),
+        Some(RunError::GateExpired { pid: 1 }),
+    ),
+    ("none", ROUNDS, Rule::Open, None),
+    (
+        "both of two",
+        TWO,
+        Rule::Below(1),
+        Some(RunError::GateExpired { pid: 1 }),
+    ),
+    (
+        "the second of two",
+        TWO,
+        Rule::Below(2),
+        Some(RunError::GateExpired { pid: 2 }),
+    ),
+    (
+        "a parent, whose run ends",
+        FAMILY,
+        Rule::Without(1),
+        Some(RunError::GateExpired { pid: 1 }),
+    ),
+];
 
 #[test]
-fn a_child_runs_before_its_parent_ends(rt: HostRuntime) -> Result<(), Fail> {
-    let seen = seen_by(&rt, rt.alloc(), FAMILY, Rule::ChildFirst)?;
-    assert_eq!(rt; seen.events, 3);
-    assert!(rt; seen.has_calls(&[1, 2]));
-    Ok(())
-}
-
-#[test]
-fn a_run_ends_whose_parent_is_ended(rt: HostRuntime) -> Result<(), Fail> {
-    let ended = fault_by(&rt, rt.alloc(), FAMILY, Rule::Without(1))?;
-    assert!(rt; ended == Some(RunError::GateExpired { pid: 1 }));
-    Ok(())
-}
-
-#[test]
-fn the_flusher_is_named_before_a_process(rt: HostRuntime) -> Result<(), Fail> {
-    // all are ended, the processes are, and none is
-    for (rule, ended) in [
-        (Rule::Below(0), Some(0)),
-        (Rule::Below(1), Some(1)),
-        (Rule::Open, None),
-    ] {
-        let wanted = ended.map(|pid| RunError::GateExpired { pid });
-        assert!(rt; fault_by(&rt, rt.alloc(), ROUNDS, rule)? == wanted);
+fn a_gate_ends_workers(rt: HostRuntime) -> Result<(), Fail> {
+    for &(name, text, rule, ended) in ENDED {
+        assert!(rt; fault_by(&rt, rt.alloc(), text, rule)? == ended, "{name}");
     }
     Ok(())
 }

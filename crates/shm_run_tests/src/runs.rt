@@ -1,39 +1,101 @@
 //! Whole runs: whatever the schedule, they end as stated.
-use crate::behind::{Rule, Ruled, fault_behind, fault_by, script, seen_by};
+use crate::behind::{Rule, Ruled, fault_behind, script, seen_by};
 use shm_base::{Chunk, Reply, Tally};
 use shm_text::{FlushLine, Line, Script};
 use shm_threads::RunError;
 use std::alloc::Global;
+use std::sync::Wait;
 use std::test::Fail;
+use std::thread::Threads;
 
-const TWO: &[u8] =
+pub(crate) const TWO: &[u8] =
     b"limits 65536 16 64 4 1\nprocess 1 100 100\nprocess 2 100 100\n1 shmget private 1 600\n1 shmget private 1 600\n2 shmget private 1 600\n2 shmget private 1 600\n";
 
 const CHILD: &[u8] =
     b"limits 65536 16 64 4 1\nprocess 1 100 100\nchild 2\n1 exit\n2 exit\n1 exit\n";
 
-#[test]
-fn two_run_at_once(rt: HostRuntime) -> Result<(), Fail> {
-    let seen = seen_by(&rt, rt.alloc(), TWO, Rule::Meet)?;
-    assert_eq!(rt; seen.events, 4);
-    assert!(rt; seen.has_calls(&[2, 2]));
-    Ok(())
+/// A parent and its child, which is declared first.
+pub(crate) const FAMILY: &[u8] =
+    b"limits 65536 16 64 4 1\nchild 2\nprocess 1 100 100\n1 fork 2\n2 exec\n1 exit\n";
+
+/// A child forks another, and one is never born.
+const TREE: &[u8] =
+    b"limits 65536 16 64 4 1\nprocess 1 100 100\nchild 2\nchild 3\nchild 4\nchild 5\n5 exit\n2 fork 4\n1 fork 2\n1 fork 3\n";
+
+const PAIR: &[u8] = b"limits 65536 16 64 4 1\nprocess 1 100 100\nprocess 2 100 100\n";
+
+/// A head with lines that come so often behind it, the rule of the run, and what is seen behind it: so many events, and
+/// so many calls of each process.
+struct Whole {
+    name: &'static str,
+    head: &'static [u8],
+    lines: &'static [u8],
+    times: u32,
+    rule: Rule,
+    events: usize,
+    calls: &'static [usize],
+}
+
+const RUNS: &[Whole] = &[
+    Whole {
+        name: "two run at once",
+        head: TWO,
+        lines: &[],
+        times: 0,
+        rule: Rule::Meet,
+        events: 4,
+        calls: &[2, 2],
+    },
+    Whole {
+        name: "a child is never born",
+        head: CHILD,
+        lines: &[],
+        times: 0,
+        rule: Rule::Open,
+        events: 1,
+        calls: &[1, 0],
+    },
+    Whole {
+        name: "a child runs before its parent ends",
+        head: FAMILY,
+        lines: &[],
+        times: 0,
+        rule: Rule::ChildFirst,
+        events: 3,
+        calls: &[1, 2],
+    },
+    Whole {
+        name: "children of children",
+        head: TREE,
+        lines: b"4 exec\n3 exec\n2 exec\n1 exec\n",
+        times: 10,
+        rule: Rule::Open,
+        events: 43,
+        calls: &[12, 11, 10, 10, 0],
+    },
+    Whole {
+        name: "as many lines as there may be",
+        head: PAIR,
+        lines: b"1 exec\n2 exec\n",
+        times: 50_000,
+        rule: Rule::Open,
+        events: 100_000,
+        calls: &[50_000, 50_000],
+    },
+];
+
+// Whether a run ends as said.
+fn ends_so<R: Threads + Wait + Sync>(rt: &R, alloc: Global, run: &Whole) -> Result<bool, Fail> {
+    let text = repeated(alloc, run.head, run.lines, run.times)?;
+    let seen = seen_by(rt, alloc, &text, run.rule)?;
+    Ok(seen.events == run.events && seen.has_calls(run.calls))
 }
 
 #[test]
-fn a_gate_ends_workers(rt: HostRuntime) -> Result<(), Fail> {
-    for pid in 1..3 {
-        let ended = fault_by(&rt, rt.alloc(), TWO, Rule::Below(pid))?;
-        assert!(rt; ended == Some(RunError::GateExpired { pid }));
+fn runs_end_as_stated(rt: HostRuntime) -> Result<(), Fail> {
+    for run in RUNS {
+        assert!(rt; ends_so(&rt, rt.alloc(), run)?, "{}", run.name);
     }
-    Ok(())
-}
-
-#[test]
-fn a_child_is_never_born(rt: HostRuntime) -> Result<(), Fail> {
-    let seen = seen_by(&rt, rt.alloc(), CHILD, Rule::Open)?;
-    assert_eq!(rt; seen.events, 1);
-    assert!(rt; seen.has_calls(&[1, 0]));
     Ok(())
 }
 
@@ -71,20 +133,6 @@ fn four_count_together(rt: HostRuntime) -> Result<(), Fail> {
     Ok(())
 }
 
-/// A child forks another, and one is never born.
-const TREE: &[u8] =
-    b"limits 65536 16 64 4 1\nprocess 1 100 100\nchild 2\nchild 3\nchild 4\nchild 5\n5 exit\n2 fork 4\n1 fork 2\n1 fork 3\n";
-
-#[test]
-fn children_of_children(rt: HostRuntime) -> Result<(), Fail> {
-    let alloc = rt.alloc();
-    let text = repeated(alloc, TREE, b"4 exec\n3 exec\n2 exec\n1 exec\n", 10)?;
-    let seen = seen_by(&rt, alloc, &text, Rule::Open)?;
-    assert_eq!(rt; seen.events, 43);
-    assert!(rt; seen.has_calls(&[12, 11, 10, 10, 0]));
-    Ok(())
-}
-
 // Adds a line for each of 64 processes, which begins and ends so.
 fn push_lines(alloc: Global, text: &mut Vec<u8>, head: &str, tail: &str) -> Result<(), Fail> {
     for pid in 1..65 {
@@ -94,26 +142,19 @@ fn push_lines(alloc: Global, text: &mut Vec<u8>, head: &str, tail: &str) -> Resu
     Ok(())
 }
 
-#[test]
-fn as_many_processes_as_there_may_be(rt: HostRuntime) -> Result<(), Fail> {
-    let alloc = rt.alloc();
+fn many_processes(alloc: Global) -> Result<Vec<u8>, Fail> {
     let mut text = Vec::from_slice(alloc, b"limits 65536 16 64 4 1\n".as_slice())?;
     push_lines(alloc, &mut text, "process ", " 100 100")?;
     push_lines(alloc, &mut text, "", " shmget 5 4096 600,creat")?;
-    let seen = seen_by(&rt, alloc, &text, Rule::Open)?;
-    assert_eq!(rt; seen.events, 64);
-    assert_eq!(rt; seen.indexes, 1);
-    Ok(())
+    Ok(text)
 }
 
 #[test]
-fn as_many_lines_as_there_may_be(rt: HostRuntime) -> Result<(), Fail> {
-    let alloc = rt.alloc();
-    let head = b"limits 65536 16 64 4 1\nprocess 1 100 100\nprocess 2 100 100\n";
-    let text = repeated(alloc, head, b"1 exec\n2 exec\n", 50_000)?;
-    let seen = seen_by(&rt, alloc, &text, Rule::Open)?;
-    assert_eq!(rt; seen.events, 100_000);
-    assert!(rt; seen.has_calls(&[50_000, 50_000]));
+fn as_many_processes_as_there_may_be(rt: HostRuntime) -> Result<(), Fail> {
+    let text = many_processes(rt.alloc())?;
+    let seen = seen_by(&rt, rt.alloc(), &text, Rule::Open)?;
+    assert_eq!(rt; seen.events, 64);
+    assert_eq!(rt; seen.indexes, 1);
     Ok(())
 }
 
@@ -129,15 +170,33 @@ fn push_rounds(script: &mut Script) -> Result<(), Fail> {
     Ok(())
 }
 
+// Whether the flusher makes so many rounds, and the run ends so.
+fn makes_rounds<R: Threads + Wait + Sync>(
+    rt: &R,
+    alloc: Global,
+    script: &Script,
+    (most, fault): (u64, Option<RunError>),
+) -> Result<bool, Fail> {
+    let gate = Ruled::by(Rule::Rounds(most));
+    let ended = fault_behind(rt, alloc, script, &gate)?;
+    Ok(ended == fault && gate.rounds() == most)
+}
+
+const MOST_ROUNDS: &[(u64, Option<RunError>)] = &[
+    (3, None),
+    (1, Some(RunError::GateExpired { pid: 0 })),
+];
+
 #[test]
 fn the_flusher_makes_its_rounds(rt: HostRuntime) -> Result<(), Fail> {
-    let alloc = rt.alloc();
-    let mut script = script(alloc, THREE_CALLS)?;
+    let mut script = script(rt.alloc(), THREE_CALLS)?;
     push_rounds(&mut script)?;
-    for (most, fault) in [(3, None), (1, Some(RunError::GateExpired { pid: 0 }))] {
-        let gate = Ruled::by(Rule::Rounds(most));
-        assert!(rt; fault_behind(&rt, alloc, &script, &gate)? == fault);
-        assert_eq!(rt; gate.rounds(), most);
+    for &rounds in MOST_ROUNDS {
+        assert!(rt;
+            makes_rounds(&rt, rt.alloc(), &script, rounds)?,
+            "at most {}",
+            rounds.0
+        );
     }
     Ok(())
 }
@@ -151,26 +210,52 @@ pub(crate) fn late(alloc: Global, pages: u64) -> Result<Vec<u8>, Fail> {
     repeated(alloc, FOUR_CALLS, round.as_bytes(), 1)
 }
 
+/// Behind four calls and a round of one page.
+const ONE_WRITTEN: Tally = Tally {
+    events: 4,
+    segments: 1,
+    reserved: 2,
+    locked: 0,
+    frames: 4,
+    resident: 2,
+    dirty: 1,
+    slots: 64,
+    used: 1,
+    ins: 0,
+    outs: 1,
+    failures: 0,
+};
+
+const ROUNDS: &[(u64, Tally)] = &[
+    (1, ONE_WRITTEN),
+    (
+        2,
+        Tally {
+            dirty: 0,
+            used: 2,
+            outs: 2,
+            ..ONE_WRITTEN
+        },
+    ),
+];
+
+// What is counted behind the calls and a round of so many pages.
+fn counted_late<R: Threads + Wait + Sync>(
+    rt: &R,
+    alloc: Global,
+    pages: u64,
+) -> Result<Tally, Fail> {
+    let text = late(alloc, pages)?;
+    Ok(seen_by(rt, alloc, &text, Rule::BehindFour)?.tally)
+}
+
 #[test]
 fn a_round_behind_the_last_call(rt: HostRuntime) -> Result<(), Fail> {
-    for pages in 1..3 {
-        let wanted = Tally {
-            events: 4,
-            segments: 1,
-            reserved: 2,
-            locked: 0,
-            frames: 4,
-            resident: 2,
-            dirty: 2 - pages,
-            slots: 64,
-            used: pages,
-            ins: 0,
-            outs: pages,
-            failures: 0,
-        };
-        let text = late(rt.alloc(), pages)?;
-        let seen = seen_by(&rt, rt.alloc(), &text, Rule::BehindFour)?;
-        assert!(rt; seen.tally == wanted);
+    for (pages, tally) in ROUNDS {
+        assert!(rt;
+            counted_late(&rt, rt.alloc(), *pages)? == *tally,
+            "of {pages}"
+        );
     }
     Ok(())
 }

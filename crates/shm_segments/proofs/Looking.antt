@@ -1,8 +1,9 @@
 -- What is found under an identifier, and what the flat machine says of it.
-use Rattle.shm_segments.proofs.Names.{◌≡◌, ◌≢◌, ℕ, pos, ℤ, ◌%◌, List, Option, Some, None, IsOk, is_none, Bool, not, refl, sym, ap, ◌∙◌, arith, Eidrm, Einval, bytes_at, Removed, Invalid, entry_at, key_at, find_key, index_of, look, flat_answer, flat_found, number_of, look-flat, find_key-flat, find_key-look, free_index-flat, Held, bytes_of, Head, Found, segment_of, whole, joined, Agree, SizesFit, IsFound, look_of, refused_look, nat_tests, common_steps}
+use Rattle.shm_segments.proofs.Names.{◌≡◌, ◌≢◌, ℕ, pos, ℤ, ◌%◌, List, Option, Some, None, IsOk, is_none, Bool, not, refl, sym, ap, ◌∙◌, arith, Eidrm, Einval, bytes_at, Removed, Invalid, entry_at, key_at, find_key, index_of, look, flat_answer, flat_found, number_of, look-flat, find_key-flat, find_key-look, free_index-flat, Held, bytes_of, Head, Found, segment_of, whole, joined, Agree, SizesFit, IsFound, look_of, refused_look, nat_tests}
 use Rattle.std.proofs.Common.{Ok, Err, is_some, option_map}
 use Rattle.shm_base.specs.Identifier as flat
 use Rattle.shm_ids.specs.declared.table.Entry.{Entry}
+use Rattle.shm_ids.specs.declared.table.Row.{Row}
 use Rattle.shm_ids.specs.Table.{free_index, id_at}
 use Rattle.shm_segments.specs.Joined.{live}
 use Rattle.shm_segments.proofs.Joins.{live-at}
@@ -15,7 +16,10 @@ abbrev pub found_under : List (Entry Head) → ℕ → Head → Found
 found_under rows seg v = record { seg = seg; id = pos seg; key = key_at rows (seg % 32768); head = v }
 
 pub found-looked : (hs : List Held) (rows : List (Entry Head)) (seg : ℕ) (v : Head) → Agree hs rows → SizesFit rows → look rows (pos seg) ≡ Ok v → IsFound (joined hs rows) (found_under rows seg v)
-found-looked hs rows seg v agree sizes looked = grind (arith, common_steps, live-at, look-live, pos, found_at)
+found-looked hs rows seg v agree sizes looked =
+    let row : Row Head = record { key = key_at rows (seg % 32768); value = v } in
+    let here = live-at rows seg row (look-live rows seg v looked) in
+    rw here.own at (found_at hs rows (seg % 32768) row agree sizes here.there)
 
 -- the flat machine finds it
 pub look-found : (hs : List Held) (rows : List (Entry Head)) (seg : ℕ) (v : Head) → look rows (pos seg) ≡ Ok v → flat.look (joined hs rows) (pos seg) ≡ look_of (joined hs rows) (found_under rows seg v)
@@ -62,4 +66,7 @@ same-found rows f id key = rw (sym id, sym key) refl
 
 pub found-under : (hs : List Held) (rows : List (Entry Head)) (f : Found) (id : ℤ) → Agree hs rows → SizesFit rows → f.id ≡ id → pos f.seg ≡ id → f.key ≡ key_at rows (index_of id) → look rows id ≡ Ok f.head
     → IsFound (joined hs rows) f × (flat.look (joined hs rows) id ≡ look_of (joined hs rows) f)
-found-under hs rows f id agree sizes is own key looked = grind (arith, common_steps, pos, f.head, found_under, same-found, found-looked, flat.look, look-found)
+found-under hs rows f id agree sizes is own key looked =
+    let same = same-found rows f (is ∙ sym own) (rw (← own) at key) in
+    let found : look rows (pos f.seg) ≡ Ok f.head = rw (← own) at looked in
+    (rw same at (found-looked hs rows f.seg f.head agree sizes found), rw (← own) (look-found hs rows f.seg f.head found ∙ ap (look_of (joined hs rows)) same))

@@ -56,6 +56,17 @@ kept-without hs rows pages locks seg v k looked =
     sizes : LiveAt rows seg (record { key = key_at rows (seg % 32768); value = v }) → SizesFit (without_row rows (seg % 32768))
     sizes at = grind (arith, common_steps, live-without_here, at.within, k.sizes, live-without, at.own)
 
+-- its pages are among those that are counted
+pub pages-within : (hs : List Held) (rows : List (Entry Head)) (pages locks seg : ℕ) (v : Head) → AreSegmentsKept hs rows pages locks → look rows (pos seg) ≡ Ok v
+    → (pages_of v.size ≤ pages) × ((if v.locked then pages_of v.size else 0) ≤ locks)
+pages-within hs rows pages locks seg v k looked =
+    let r : Row Head = record { key = key_at rows (seg % 32768); value = v } in
+    let lives : live rows seg ≡ Some r = look-live rows seg v looked in
+    let at = live-at rows seg r lives in
+    let fewer = pages-without_row rows (seg % 32768) r at.within at.there in
+    let looser = locked-without_row rows (seg % 32768) r at.within at.there in
+    (omega (arith, fewer, k.reserved), omega (arith, looser, k.locked))
+
 -- LOCKED OR UNLOCKED
 
 pub kept-locked : (hs : List Held) (rows : List (Entry Head)) (pages locks seg : ℕ) (v : Head) (b : Bool) → AreSegmentsKept hs rows pages locks → look rows (pos seg) ≡ Ok v

@@ -43,7 +43,7 @@ live-without_other rows i at other = live-entry rows (without_row rows i) at (at
 
 -- what was not destroyed is live as before
 pub live-without : (rows : List (Entry Head)) (i at : ℕ) → i < length rows → at ≢ id_of rows i → live (without_row rows i) at ≡ live rows at
-live-without rows i at within apart = grind (arith, nat_tests, cases_eq (at % 32768) i, live-without_here rows i at within, live-stale rows i at, live-without_other rows i at, apart)
+live-without rows i at within apart = elim (cases_eq (at % 32768) i) [ inl here ↦ live-without_here rows i at within here ∙ sym (live-stale rows i at here apart) | inr other ↦ live-without_other rows i at other ]
 
 pub agree-without : (hs : List Held) (rows : List (Entry Head)) (i : ℕ) → Agree hs rows → i < length rows → Agree (without hs (id_of rows i)) (without_row rows i)
 agree-without hs rows i agree within =

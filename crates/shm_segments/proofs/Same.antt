@@ -1,5 +1,5 @@
 -- Changes of a table that leave alone how many pages each segment has, which are locked, and which are marked.
-use Rattle.shm_segments.proofs.Names.{◌≡◌, ℕ, ◌%◌, List, [], ◌∷◌, length, slice_get, Option, Some, None, refl, arith, cases_eq, Segment, Runner, Place, set_in, with_byte, entry_byte_set, stored, change, with_entry, reserved, locked, detached, detach_all, live_in, pages_at, is_left, orphan_in, orphan, id_in, nat_tests, common_steps}
+use Rattle.shm_segments.proofs.Names.{◌≡◌, ℕ, ◌%◌, List, [], ◌∷◌, ◌∙◌, length, slice_get, Option, Some, None, refl, arith, cases_eq, Segment, Runner, Place, set_in, with_byte, entry_byte_set, stored, change, with_entry, reserved, locked, detached, detach_all, live_in, pages_at, is_left, orphan_in, orphan, id_in, nat_tests, common_steps}
 use Rattle.std.proofs.Common.{slice_set}
 use Rattle.std.specs.Prelude.{is_some, option_map}
 use Rattle.shm_base.specs.State.{Entry}
@@ -34,10 +34,10 @@ pub same-refl : (t : List Entry) → SameTable t t
 same-refl t = record { same = pages-refl t; locked = refl; left = λ rs i. refl }
 
 pub pages-trans : (t u v : List Entry) → SamePages t u → SamePages u v → SamePages t v
-pages-trans t u v a b = grind (arith, common_steps, b.reserved, a.reserved, b.there, a.there, b.ids, a.ids)
+pages-trans t u v a b = record { size = b.size ∙ a.size; reserved = b.reserved ∙ a.reserved; pages = λ id. b.pages id ∙ a.pages id; there = λ id. b.there id ∙ a.there id; ids = λ i. b.ids i ∙ a.ids i }
 
 pub same-trans : (t u v : List Entry) → SameTable t u → SameTable u v → SameTable t v
-same-trans t u v a b = grind (arith, common_steps, pages-trans, a.same, b.same, b.locked, a.locked, b.left, a.left)
+same-trans t u v a b = record { same = pages-trans t u v a.same b.same; locked = b.locked ∙ a.locked; left = λ rs i. b.left rs i ∙ a.left rs i }
 
 -- a word on what stands at an index is the same where it is so for the entry that was set
 at-set : {Y : Type 0} (w : Option Entry → Y) (t : List Entry) (i j : ℕ) (e x : Entry) → slice_get t i ≡ Some x → w (Some e) ≡ w (Some x) → w (slice_get (slice_set t i e) j) ≡ w (slice_get t j)
@@ -105,7 +105,7 @@ module _ (f : Segment → Segment) where
 -- the time and the pid of a detach
 pub detach_all-same : (n pid : ℕ) (ids : List ℕ) (t : List Entry) → SameTable t (detach_all n pid t ids)
 detach_all-same n pid [] t = same-refl t
-detach_all-same n pid (id ∷ ids) t = grind (arith, common_steps, same-trans, change-same, detach_all-same n pid ids (change t id (detached n pid)))
+detach_all-same n pid (id ∷ ids) t = same-trans t _ _ (change-same (detached n pid) (λ s. refl) (λ s. refl) (λ s. refl) t id) (detach_all-same n pid ids (change t id (detached n pid)))
 
 byte-same : (t : List Entry) (i at b : ℕ) (o : Option Entry) → slice_get t i ≡ o → SameTable t (set_in t i (entry_byte_set at b) o)
 byte-same t i at b None is = same-refl t
@@ -115,4 +115,4 @@ byte-same t i at b (Some x) is = grind (arith, common_steps, length-slice_set, s
 pub stored-same : (ps : List Place) (bs : List ℕ) (t : List Entry) → SameTable t (stored t ps bs)
 stored-same [] bs t = same-refl t
 stored-same (p ∷ ps) [] t = same-refl t
-stored-same (p ∷ ps) (b ∷ bs) t = grind (arith, common_steps, same-trans, byte-same, p.at, slice_get, stored-same ps bs (with_byte t p b))
+stored-same (p ∷ ps) (b ∷ bs) t = same-trans t _ _ (byte-same t (p.seg % 32768) p.at b (slice_get t (p.seg % 32768)) refl) (stored-same ps bs (with_byte t p b))

@@ -1,7 +1,7 @@
 -- Loads and stores over stretches, as the flat machine's table shows them.
 use Rattle.shm_segments.proofs.Names.{◌≡◌, ℕ, zero, suc, ◌+◌, ◌%◌, ◌≤◌, Bool, true, false, List, [], ◌∷◌, ◌++◌, length, set, take, drop, map, Option, Some, None, refl, sym, ap, ◌∙◌, arith, nat_tests, common_steps, set-get_or, w64, from_le_bytes, sum_by, All, Place, set_in, with_byte, entry_byte_set, stored, loaded, bytes_at, Span, identifier, unused, entry_at, flat_entry, at-table, run, span_places, Held, find_held, bytes_of, pasted, written, FitsPage, read_from, find_held-id, find-map, length-paste, pasted-keeps, Head, segment_of, whole, joined, shape_held, Agree}
 use Rattle.std.proofs.Common.{is_some, option_map}
-use Rattle.std.specs.Prelude.{slice_set}
+use Rattle.std.specs.Prelude.{slice_index, slice_set}
 use Rattle.shm_ids.specs.declared.table.Entry.{Entry}
 use Rattle.shm_fault.specs.Adding as store
 use Rattle.shm_segments.specs.Table as table
@@ -44,11 +44,11 @@ AreLive rows ps = Each (λ (p : Place). is_some (live rows p.seg) ≡ true) ps
 stored-joined : (ps : List Place) (bs : List ℕ) (hs : List Held) (rows : List (Entry Head)) → length rows ≤ 32768 → AreLive rows ps → stored (joined hs rows) ps bs ≡ joined (puts hs ps bs) rows
 stored-joined [] bs hs rows few h = refl
 stored-joined (p ∷ ps) [] hs rows few h = refl
-stored-joined (p ∷ ps) (b ∷ bs) hs rows few h = grind (arith, common_steps, with_byte-joined, h.0, put, h.1, stored-joined ps bs (put hs p b) rows few h.1)
+stored-joined (p ∷ ps) (b ∷ bs) hs rows few h = ap (λ t. stored t ps bs) (with_byte-joined hs rows p b few h.0) ∙ stored-joined ps bs (put hs p b) rows few h.1
 
 loaded-joined : (ps : List Place) (hs : List Held) (rows : List (Entry Head)) → AreLive rows ps → loaded (joined hs rows) ps ≡ map (get hs) ps
 loaded-joined [] hs rows h = refl
-loaded-joined (p ∷ ps) hs rows h = grind (arith, common_steps, get, p.at, bytes_at-joined, h.0, h.1, loaded-joined ps hs rows h.1)
+loaded-joined (p ∷ ps) hs rows h = ap (λ xs. slice_index xs p.at ∷ loaded (joined hs rows) ps) (bytes_at-joined hs rows p.seg h.0) ∙ ap (λ xs. get hs p ∷ xs) (loaded-joined ps hs rows h.1)
 
 live-run : (n seg at : ℕ) (w : Bool) (rows : List (Entry Head)) → is_some (live rows seg) ≡ true → AreLive rows (run seg at n w)
 live-run zero seg at w rows h = tt
@@ -79,7 +79,7 @@ store_shown hs rows w ps new agree fit size =
 -- a load gives the bytes at the places of the table
 pub load_shown : (hs : List Held) (rows : List (Entry Head)) (w : Bool) (ps : List Span) → Agree hs rows → All (FitsPage hs) ps
     → loaded (joined hs rows) (span_places w ps) ≡ read_from hs ps
-load_shown hs rows w ps agree fit = grind (arith, common_steps, each, loaded-joined, live-spans, get-spans)
+load_shown hs rows w ps agree fit = let fits = each (FitsPage hs) ps fit in loaded-joined (span_places w ps) hs rows (live-spans ps w hs rows agree fits) ∙ get-spans ps w hs fits
 
 -- the number that stands there
 pub number_shown : (hs : List Held) (rows : List (Entry Head)) (ps : List Span) → Agree hs rows → All (FitsPage hs) ps → table.number_at (joined hs rows) (span_places false ps) ≡ store.number_in hs ps

@@ -1,14 +1,14 @@
 -- One area of a swap changed.
-use Rattle.std.proofs.Common.{◌≡◌, ℕ, zero, suc, ◌<◌, ◌≤◌, Bool, true, not, ◌&&◌, List, [], ◌∷◌, ◌++◌, Option, None, length, get_or, set, map, sum, sum_by, refl, sym, ap, ◌∙◌, inl, inr, arith, length-set}
+use Rattle.std.proofs.Common.{◌≡◌, ℕ, zero, suc, ◌<◌, ◌≤◌, Bool, true, not, ◌&&◌, List, [], ◌∷◌, ◌++◌, Option, None, length, get_or, set, map, sum, sum_by, refl, sym, ap, ◌∙◌, inl, inr, arith, length-set, get_or-set_same}
 use Rattle.std.specs.Prelude.{Result, IfErr, OnErr}
 use Rattle.std.specs.List.{list_any}
 use Rattle.std.proofs.lemmas.Result.{IfErr-weaker}
-use Rattle.std.proofs.lemmas.List.{set_past, get_or_default, map-set}
+use Rattle.std.proofs.lemmas.List.{set_past, get_or_default, get_or_read, map-set, set-get_or}
 use Rattle.std.proofs.lemmas.List.Folds.{list_any_at}
 use Rattle.std.proofs.lemmas.List.Sums.{sum_by-set, sum-map}
 use Rattle.std.proofs.lemmas.Grind.{common_steps}
 use Rattle.shm_base.specs.declared.paging.PageRef.{PageRef}
-use Rattle.shm_slots.specs.View.{AreaView, SwapView, area_at, no_area, rise, is_spent, is_spent_here, size_of, sizes, with_owner, off, HasSlot, CountedFault, IsArea, IsSwap, SameSlots}
+use Rattle.shm_slots.specs.View.{AreaView, SwapView, area_at, no_area, rise, is_spent, is_spent_here, size_of, sizes, with_area, with_page, with_owner, off, HasSlot, CountedFault, IsArea, IsSwap, SameSlots}
 use Rattle.shm_slots.specs.Cause.{some_spent, total, had_cause, GoesOn, IsSteady}
 
 -- the areas with one of them changed
@@ -22,6 +22,22 @@ asked_of s i a = changed s i a (s.never_spent && not (is_spent a))
 -- an area that has a slot is there
 pub slot-here : (a : AreaView) → IsArea a → (slot : ℕ) → slot < length a.pages → a.here ≡ true
 slot-here a area slot lt = grind (arith, common_steps)
+
+-- the area is there
+pub area-within : (s t : SwapView) (i : ℕ) → s ≡ t → i < length t.areas → i < length s.areas
+area-within s t i same within = rw same within
+
+-- the area that a call found
+pub area-found : (s t : SwapView) (i : ℕ) (was : AreaView) → s ≡ t → was ≡ get_or s.areas i was → i < length t.areas → was ≡ area_at t i
+area-found s t i was same found within = get_or_read t.areas i was within (rw (← same) found) no_area
+
+-- the area set to what a function makes of it
+pub area-set : (f : AreaView → AreaView) (s t : SwapView) (i : ℕ) (was a : AreaView) → s ≡ t → was ≡ get_or s.areas i was → i < length t.areas → a ≡ f was → changed s i a s.never_spent ≡ with_area t i (f (area_at t i))
+area-set f s t i was a same found within is = rw (is, area-found s t i was same found within, same) refl
+
+-- the area that was found has the slot
+pub slot-within : (s t : SwapView) (i : ℕ) (was : AreaView) (slot : ℕ) → s ≡ t → was ≡ get_or s.areas i was → HasSlot t i slot → slot < length was.pages
+slot-within s t i was slot same found there = rw (area-found s t i was same found there.0) there.1
 
 -- one more area
 pub areas-push : (xs : List AreaView) (a : AreaView) → ((k : ℕ) → IsArea (get_or xs k no_area)) → IsArea a → (k : ℕ) → IsArea (get_or (xs ++ a ∷ []) k no_area)
@@ -48,11 +64,25 @@ size_of-kept : (was a : AreaView) → IsArea was → IsArea a → a.here ≡ was
 size_of-kept was a old new here owners = grind (arith, common_steps)
 
 -- what asking the pager of the area at i leaves of a swap
-pub record Asked {A E : Type 0} (r : Result A E) (s : SwapView) (i : ℕ) (a : AreaView) : Type 0 where
+pub record Asked {A E : Type 0} (r : Result A E) (s : SwapView) (i : ℕ) (was a : AreaView) : Type 0 where
+  pub before : area_at s i ≡ was
+  pub after : area_at (asked_of s i a) i ≡ a
+  pub flag : a.failed ≡ was.failed → (s.never_spent && not (is_spent a)) ≡ s.never_spent
   pub sound : IsSwap (asked_of s i a)
   pub goes_on : GoesOn s (asked_of s i a)
   pub same_sizes : sizes (asked_of s i a) ≡ sizes s
   pub cause : OnErr r (had_cause s (asked_of s i a) ≡ true)
+
+-- what success leaves: the swap as it was, or with a page written
+pub asked-same : {A E : Type 0} {r : Result A E} {s : SwapView} {i : ℕ} {was a : AreaView} → Asked r s i was a → a ≡ was → asked_of s i a ≡ s
+asked-same {s = s} {i = i} {was = was} {a = a} d e =
+    let same : a.failed ≡ was.failed = ap (λ (b : AreaView). b.failed) e in
+    rw (d.flag same, e, ← d.before, set-get_or) refl
+
+pub asked-page : {A E : Type 0} {r : Result A E} {s : SwapView} {i : ℕ} {was a : AreaView} (slot : ℕ) (page : List ℕ) → Asked r s i was a → a ≡ with_page was slot page → asked_of s i a ≡ with_area s i (with_page (area_at s i) slot page)
+asked-page {s = s} {i = i} {was = was} {a = a} slot page d e =
+    let same : a.failed ≡ was.failed = ap (λ (b : AreaView). b.failed) e in
+    rw (d.flag same, d.before, e) refl
 
 -- what a call on the area at i leaves of a swap, where it found the area `was` and left it as `a`
 module _ (s : SwapView) (i : ℕ) (was a : AreaView) (found : was ≡ get_or s.areas i was) where
@@ -100,6 +130,9 @@ module _ (s : SwapView) (i : ℕ) (was a : AreaView) (found : was ≡ get_or s.a
         }
 
   -- the pager was asked
+  flag-kept : i < length s.areas → IsSwap s → a.failed ≡ was.failed → (s.never_spent && not (is_spent a)) ≡ s.never_spent
+  flag-kept within swap same = grind (arith, common_steps, at_i within, swap.unspent)
+
   IsSwap-asked : IsSwap s → IsArea a → IsSwap (asked_of s i a)
   IsSwap-asked swap area = grind (arith, common_steps)
 
@@ -121,9 +154,12 @@ module _ (s : SwapView) (i : ℕ) (was a : AreaView) (found : was ≡ get_or s.a
         let spent_here : is_spent_here (area_at s i) ≡ true = grind (arith, common_steps, at_i there.0, spent, slot-here (area_at s i) (swap.each i) slot there.1) in
         grind (arith, common_steps, list_any_at is_spent_here s.areas i no_area there.0 spent_here)
 
-    pub asked : {A E : Type 0} (r : Result A E) (slot : ℕ) → HasSlot s i slot → IsSwap s → was.failed ≤ a.failed → IsArea a → IfErr r (λ _. CountedFault was a) → Asked r s i a
+    pub asked : {A E : Type 0} (r : Result A E) (slot : ℕ) → HasSlot s i slot → IsSwap s → was.failed ≤ a.failed → IsArea a → IfErr r (λ _. CountedFault was a) → Asked r s i was a
     asked r slot there swap counts area fault =
         record {
+          before = sym (at_i there.0);
+          after = get_or-set_same s.areas i a no_area there.0;
+          flag = flag-kept there.0 swap;
           sound = IsSwap-asked swap area;
           goes_on = GoesOn-asked counts;
           same_sizes = sizes-asked swap area;

@@ -1,10 +1,13 @@
 -- Slots counted: where all are owned, as many are used as there are.
-use Rattle.std.proofs.Common.{◌≡◌, ◌≢◌, ℕ, zero, suc, ◌+◌, ◌<◌, List, [], ◌∷◌, length, get_or, map, Option, Some, None, refl, sym, ◌∙◌, arith, sum_by}
+use Rattle.std.proofs.Common.{rules, ◌≡◌, ◌≢◌, ℕ, zero, suc, ◌+◌, ◌<◌, List, [], ◌∷◌, length, get_or, map, Option, Some, None, refl, sym, ◌∙◌, arith, sum_by}
+use Rattle.std.specs.Prelude.{IfNone}
 use Rattle.std.proofs.lemmas.Grind.{common_steps}
 use Rattle.std.proofs.lemmas.List.Sums.{sum_by-cons}
+use Rattle.shm_base.specs.declared.paging.PageRef.{PageRef}
 use Rattle.shm_base.specs.declared.paging.Slot.{Slot}
 use Rattle.shm_slots.specs.Owners.{UsedBelow, IsLeastFree}
-use Rattle.shm_slots.specs.View.{AreaView, SwapView, area_at, no_area, size_of, slots_in, slots, used_in, used_slots, AllOwned, IsFirstFree, IsArea, IsSwap}
+use Rattle.shm_slots.specs.View.{AreaView, SwapView, area_at, no_area, size_of, slots_in, slots, used_in, used_slots, FoundFree, Takes, IsFirstFree, IsArea, IsSwap}
+use Rattle.shm_slots.proofs.Changes.{area-found}
 use Rattle.shm_slots.proofs.Least.{count-full}
 
 slots_in-size_of : (a : AreaView) → IsArea a → slots_in (size_of a) ≡ length a.pages
@@ -37,16 +40,21 @@ used-full_but (x ∷ xs) (suc out) each used =
     let rest = used-full_but xs out (λ k. each (suc k)) (λ k l n. used (suc k) (omega arith) (omega arith)) in
     omega (arith, first, rest, sum_by-cons used_in x xs, sum_by-cons slots_in (size_of x) (map size_of xs))
 
--- where all slots are owned, as many are used as there are
-pub used_slots-full : (s : SwapView) → IsSwap s → AllOwned s None (length s.areas) → used_slots s ≡ slots s
-used_slots-full s swap all = used-full s.areas swap.each (λ k l. all k l (λ e. cc))
+-- where no slot was found, as many are used as there are
+pub used_slots-full : (found : Option Slot) (owner : PageRef) (s t : SwapView) → FoundFree s None found → Takes owner s found t → IsSwap t → IfNone found (used_slots s ≡ slots s)
+used_slots-full None owner s t all same swap = used-full s.areas (rw same at swap).each (λ k l. all k l (λ e. cc))
+used_slots-full (Some k) owner s t found taken swap = search rules
 
--- where all slots are owned but those of one area, as many are used outside it as there are
-pub used_slots-full_but : (s : SwapView) (out : ℕ) → IsSwap s → AllOwned s (Some out) (length s.areas) → used_slots s + length (area_at s out).pages ≡ slots s + used_in (area_at s out)
-used_slots-full_but s out swap all = used-full_but s.areas out swap.each (λ k l n. all k l (λ e. n (cc)))
+-- where no slot was found outside an area, as many are used outside it as there are
+pub used_slots-full_but : (found : Option Slot) (owner : PageRef) (s t : SwapView) (out : ℕ) → FoundFree s (Some out) found → Takes owner s found t → IsSwap t
+    → IfNone found (used_slots s + length (area_at s out).pages ≡ slots s + used_in (area_at s out))
+used_slots-full_but None owner s t out all same swap = used-full_but s.areas out (rw same at swap).each (λ k l n. all k l (λ e. n (cc)))
+used_slots-full_but (Some k) owner s t out found taken swap = search rules
 
 -- the first free slot is the least free one of its area
-pub IsLeastFree-first : (s : SwapView) (out : Option ℕ) (k : Slot) → IsSwap s → IsFirstFree s out k → IsLeastFree (area_at s k.area).owners k.slot
-IsLeastFree-first s out k swap first = grind (arith, common_steps)
-
-pub ruleset counting_slots = (used_slots-full, used_slots-full_but, IsLeastFree-first)
+pub IsLeastFree-first : (s t : SwapView) (out : Option ℕ) (k : Slot) (was : AreaView) → s ≡ t → was ≡ get_or s.areas k.area was → IsSwap s → IsFirstFree t out k → IsLeastFree was.owners k.slot
+IsLeastFree-first s t out k was same found swap first = rw (area-found s t k.area was same found first.there.0) (record {
+  within = omega (arith, first.there.1, (rw same at swap.each k.area).owned);
+  free = first.free;
+  least = first.least;
+})

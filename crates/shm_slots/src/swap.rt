@@ -34,7 +34,6 @@ fn stays_unspent<P: Pager>(never_spent: bool, area: &Area<P>) -> bool
     never_spent && !area.is_spent()
 }
 
-#[tactic(auto, using(crate::proofs::Counts::counting_slots))]
 impl<P: Pager> Swap<P> {
     ghost use Rattle.shm_slots.specs.View.{SwapView, new_swap, fresh, area_at, with_area, off, HasSlot, owner_of, page_in, with_slot_page, without_slot, FoundFree, Takes, OneArea, SameSlots, ReadFault, WriteFault, size_of, sizes, slots, used_in, used_slots, IsAreaSize, IsSwap};
     ghost use Rattle.shm_slots.specs.Cause.{total, had_cause, GoesOn, IsSteady};

@@ -6,6 +6,7 @@ use shm_base::{FrameNo, HostMemory, PageRef};
 use shm_clock::victim;
 use shm_frames::{Frames, Looks};
 use std::alloc::Global;
+use std::process::Abort;
 use std::test::Fail;
 
 fn may_go(frames: &Frames, frame: FrameNo, locked: u32, pinned: Option<FrameNo>) -> bool
@@ -71,91 +72,117 @@ fn frames_with(alloc: Global, pages: &[(u32, bool)]) -> Result<Frames, HostMemor
 
 // Frames by their segments and bits, a hand and a pinned frame; segment 9 is locked. Then who goes, the
 // bits and the hand afterwards, and the looks.
-#[derive(Drop)]
-struct Turn<'a> {
-    pages: &'a [(u32, bool)],
+#[derive(Clone, Copy)]
+struct Turn {
+    pages: &'static [(u32, bool)],
     hand: FrameNo,
     pinned: Option<FrameNo>,
     victim: Option<FrameNo>,
-    bits: &'a [bool],
+    bits: &'static [bool],
     stands: FrameNo,
     looks: u64,
 }
 
+const TURNS: &[Turn] = &[
+    Turn {
+        pages: &[(1, false), (2, false)],
+        hand: 0,
+        pinned: None,
+        victim: Some(0),
+        bits: &[false, false],
+        stands: 1,
+        looks: 1,
+    },
+    Turn {
+        pages: &[(1, true), (2, false), (3, true)],
+        hand: 0,
+        pinned: None,
+        victim: Some(1),
+        bits: &[false, false, true],
+        stands: 2,
+        looks: 2,
+    },
+    Turn {
+        pages: &[(1, true), (2, true), (3, false), (4, true)],
+        hand: 3,
+        pinned: None,
+        victim: Some(2),
+        bits: &[false, false, false, false],
+        stands: 3,
+        looks: 4,
+    },
+    Turn {
+        pages: &[(1, true), (2, true), (3, true)],
+        hand: 2,
+        pinned: None,
+        victim: Some(2),
+        bits: &[false, false, false],
+        stands: 0,
+        looks: 3,
+    },
+    Turn {
+        pages: &[(9, true), (1, true), (2, true), (3, true)],
+        hand: 3,
+        pinned: Some(3),
+        victim: Some(1),
+        bits: &[true, false, false, true],
+        stands: 2,
+        looks: 2,
+    },
+    Turn {
+        pages: &[(9, false), (1, false)],
+        hand: 0,
+        pinned: Some(1),
+        victim: None,
+        bits: &[false, false],
+        stands: 0,
+        looks: 0,
+    },
+];
+
+// Whether the frames have these bits, and there are no others.
+fn has_bits(frames: &Frames, bits: &[bool]) -> bool {
+    for (frame, &bit) in bits.iter().enumerate() {
+        if frame >= frames.count() as usize {
+            return false;
+        }
+        if frames.referenced(frame as u32, &mut Looks::new()) != bit {
+            return false;
+        }
+    }
+    frames.count() as usize == bits.len()
+}
+
+// Whether a turn over these frames, which are as it begins, ends as it says.
+fn ends_so(frames: &mut Frames, turn: &Turn) -> bool {
+    let mut hand = turn.hand;
+    if hand >= frames.count() || frames.count() > 8 {
+        return false;
+    }
+    let mut looks = Looks::new();
+    let victim = unlocked_victim(frames, &mut hand, 9, turn.pinned, &mut looks);
+    victim == turn.victim
+        && hand == turn.stands
+        && looks.count() == turn.looks
+        && has_bits(frames, turn.bits)
+}
+
+fn makes_turn(
+    rt: &impl Abort,
+    alloc: Global,
+    number: usize,
+    turn: &Turn,
+) -> Result<(), HostMemory> {
+    assert!(rt; turn.pages.len() <= 8);
+    let mut frames = frames_with(alloc, turn.pages)?;
+    assert!(rt; ends_so(&mut frames, turn), "turn {number}");
+    Ok(())
+}
+
 #[test]
 fn turns_of_the_hand(rt: HostRuntime) -> Result<(), Fail> {
-    let turns = [
-        Turn {
-            pages: &[(1, false), (2, false)],
-            hand: 0,
-            pinned: None,
-            victim: Some(0),
-            bits: &[false, false],
-            stands: 1,
-            looks: 1,
-        },
-        Turn {
-            pages: &[(1, true), (2, false), (3, true)],
-            hand: 0,
-            pinned: None,
-            victim: Some(1),
-            bits: &[false, false, true],
-            stands: 2,
-            looks: 2,
-        },
-        Turn {
-            pages: &[(1, true), (2, true), (3, false), (4, true)],
-            hand: 3,
-            pinned: None,
-            victim: Some(2),
-            bits: &[false, false, false, false],
-            stands: 3,
-            looks: 4,
-        },
-        Turn {
-            pages: &[(1, true), (2, true), (3, true)],
-            hand: 2,
-            pinned: None,
-            victim: Some(2),
-            bits: &[false, false, false],
-            stands: 0,
-            looks: 3,
-        },
-        Turn {
-            pages: &[(9, true), (1, true), (2, true), (3, true)],
-            hand: 3,
-            pinned: Some(3),
-            victim: Some(1),
-            bits: &[true, false, false, true],
-            stands: 2,
-            looks: 2,
-        },
-        Turn {
-            pages: &[(9, false), (1, false)],
-            hand: 0,
-            pinned: Some(1),
-            victim: None,
-            bits: &[false, false],
-            stands: 0,
-            looks: 0,
-        },
-    ];
-    for turn in &turns {
-        assert!(rt; turn.pages.len() <= 8);
-        let mut frames = frames_with(rt.alloc(), turn.pages)?;
-        let mut hand = turn.hand;
-        assert!(rt; hand < frames.count());
-        let mut looks = Looks::new();
-        let victim = unlocked_victim(&mut frames, &mut hand, 9, turn.pinned, &mut looks);
-        assert!(rt; victim == turn.victim);
-        assert_eq!(rt; hand, turn.stands);
-        assert_eq!(rt; looks.count(), turn.looks);
-        assert_eq!(rt; frames.count() as usize, turn.bits.len());
-        for (frame, bit) in turn.bits.iter().enumerate() {
-            assert!(rt; frame < 8);
-            assert!(rt; (frame as u32) < frames.count());
-            assert_eq!(rt; frames.referenced(frame as u32, &mut Looks::new()), *bit);
-        }
+    for (number, turn) in TURNS.iter().enumerate() {
+        makes_turn(&rt, rt.alloc(), number, turn)?;
     }
     Ok(())
 }

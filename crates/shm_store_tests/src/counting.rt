@@ -63,13 +63,24 @@ impl Drop for CountingPager {
 }
 
 /// Makes such pagers, and has their counts.
-#[derive(Drop)]
 pub(crate) struct Counter {
     alloc: Global,
     discards: Arc<AtomicU64>,
     discarded: Arc<AtomicU64>,
     wipes: Arc<AtomicU64>,
     drops: Arc<AtomicU64>,
+}
+
+impl Drop for Counter {
+    fn drop(self) {
+        let Counter {
+            alloc: _,
+            discards: _,
+            discarded: _,
+            wipes: _,
+            drops: _,
+        } = self;
+    }
 }
 
 impl Counter {

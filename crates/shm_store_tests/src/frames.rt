@@ -3,73 +3,103 @@ use shm_frames::{Frames, Looks};
 use std::process::Abort;
 use std::test::Fail;
 
-// A page comes into the free frame of least number, and its bytes were there before it.
-fn comes(rt: &impl Abort, frames: &mut Frames, seg: u32, resident: u64) {
+// A page comes into the free frame of least number, and its bytes were there before it; whether it did, and so many
+// are resident.
+fn comes(frames: &mut Frames, seg: u32, resident: u64) -> bool {
     let Some(frame) = frames.free_frame() else {
-        panic!(rt; "no frame is free");
+        return false;
     };
-    assert_eq!(rt; u64::from(frame) + 1, resident);
     frames.bytes_mut(frame)[4095] = 9;
     let page = PageRef { seg, page: 2 };
     frames.fill(frame, page);
-    assert_eq!(rt; frames.owner(frame), Some(page));
-    assert_eq!(rt; frames.bytes(frame)[4095], 9);
-    assert_eq!(rt; frames.resident(), resident);
+    u64::from(frame) + 1 == resident
+        && frames.owner(frame) == Some(page)
+        && frames.bytes(frame)[4095] == 9
+        && frames.resident() == resident
 }
 
-// A frame's bits are as said. One look more.
-fn has_bits(
-    rt: &impl Abort,
-    frames: &Frames,
-    frame: u32,
-    looks: &mut Looks,
-    referenced: bool,
-    dirty: bool,
-) {
-    assert!(rt; frame < frames.count() && looks.count() < 4);
-    assert_eq!(rt; frames.is_dirty(frame), dirty);
-    assert_eq!(rt; frames.referenced(frame, looks), referenced);
+// Whether a frame's bits are as said. One look more.
+fn has_bits(frames: &Frames, frame: u32, looks: &mut Looks, referenced: bool, dirty: bool) -> bool {
+    frame < frames.count()
+        && looks.count() < 4
+        && frames.is_dirty(frame) == dirty
+        && frames.referenced(frame, looks) == referenced
 }
 
-// Sets both bits of a frame, the second one twice.
-fn set_bits(rt: &impl Abort, frames: &mut Frames, frame: u32) {
-    assert!(rt; frame < frames.count());
-    assert!(rt; frames.owner(frame).is_some());
+// Sets both bits of a frame, the second one twice, if it is taken; whether it is.
+fn set_bits(frames: &mut Frames, frame: u32) -> bool {
+    if frame >= frames.count() || frames.owner(frame).is_none() {
+        return false;
+    }
     frames.set_referenced(frame, true);
     frames.set_dirty(frame, true);
     frames.set_dirty(frame, true);
+    true
 }
 
-// A frame is emptied: it is the free frame of least number again, with its bytes.
-fn leaves(rt: &impl Abort, frames: &mut Frames, frame: u32) {
-    assert!(rt; frame < frames.count());
-    assert!(rt; frames.owner(frame).is_some());
+// A frame is emptied, if it is taken; whether it is, and is the free frame of least number again, with its bytes.
+fn leaves(frames: &mut Frames, frame: u32) -> bool {
+    if frame >= frames.count() || frames.owner(frame).is_none() {
+        return false;
+    }
     frames.empty(frame);
-    assert!(rt; frames.owner(frame).is_none());
-    assert_eq!(rt; frames.free_frame(), Some(frame));
-    assert_eq!(rt; frames.bytes(frame)[4095], 9);
+    frames.owner(frame).is_none()
+        && frames.free_frame() == Some(frame)
+        && frames.bytes(frame)[4095] == 9
 }
 
-fn come_and_go(rt: &impl Abort, frames: &mut Frames, looks: &mut Looks) {
-    comes(rt, frames, 5, 1);
-    has_bits(rt, frames, 0, looks, false, false);
-    comes(rt, frames, 6, 2);
-    has_bits(rt, frames, 1, looks, false, false);
-    assert_eq!(rt; frames.dirty(), 0);
-    set_bits(rt, frames, 1);
-    has_bits(rt, frames, 1, looks, true, true);
-    assert_eq!(rt; frames.dirty(), 1);
-    leaves(rt, frames, 1);
-    has_bits(rt, frames, 1, looks, false, false);
-    assert_eq!(rt; (frames.resident(), frames.dirty()), (1, 0));
+/// What comes to pass in frames, or is asked of them.
+#[derive(Clone, Copy)]
+enum Act {
+    /// A page of a segment comes, and so many are resident.
+    Come(u32, u64),
+    /// Both bits of a frame are set.
+    Set(u32),
+    /// A frame is emptied.
+    Leave(u32),
+    /// A frame's bits, whether it is referenced and whether it is dirty.
+    Bits(u32, bool, bool),
+    /// How many frames are resident and how many are dirty.
+    Counts(u64, u64),
+}
+
+// Does an act; whether all is as said.
+fn answers(frames: &mut Frames, looks: &mut Looks, act: Act) -> bool {
+    match act {
+        Act::Come(seg, resident) => comes(frames, seg, resident),
+        Act::Set(frame) => set_bits(frames, frame),
+        Act::Leave(frame) => leaves(frames, frame),
+        Act::Bits(frame, referenced, dirty) => has_bits(frames, frame, looks, referenced, dirty),
+        Act::Counts(resident, dirty) => frames.resident() == resident && frames.dirty() == dirty,
+    }
+}
+
+const ACTS: &[Act] = &[
+    Act::Come(5, 1),
+    Act::Bits(0, false, false),
+    Act::Come(6, 2),
+    Act::Bits(1, false, false),
+    Act::Counts(2, 0),
+    Act::Set(1),
+    Act::Bits(1, true, true),
+    Act::Counts(2, 1),
+    Act::Leave(1),
+    Act::Bits(1, false, false),
+    Act::Counts(1, 0),
+];
+
+fn come_and_go(rt: &impl Abort, frames: &mut Frames) {
+    let mut looks = Looks::new();
+    for (row, &act) in ACTS.iter().enumerate() {
+        assert!(rt; answers(frames, &mut looks, act), "at row {row}");
+    }
+    assert_eq!(rt; looks.count(), 4);
 }
 
 #[test]
 fn frames_come_and_go(rt: HostRuntime) -> Result<(), Fail> {
     let mut frames = Frames::new(rt.alloc(), 3)?;
     assert_eq!(rt; frames.count(), 3);
-    let mut looks = Looks::new();
-    come_and_go(&rt, &mut frames, &mut looks);
-    assert_eq!(rt; looks.count(), 4);
+    come_and_go(&rt, &mut frames);
     Ok(())
 }

@@ -1,29 +1,29 @@
 //! Worked rows on the kinds of pagers, with their expected outcomes; and that each drop runs once, and
 //! wipes.
-use crate::counting::Counter;
+use crate::counting::{Counter, CountingPager};
 use shm_pager::{
-    AnyPager, FusePager, MirrorCause, MirrorPager, Pager, PagerFault, RamPager, SparsePager,
-    try_read, try_write, zeros,
+    AnyPager, FusePager, MirrorCause, MirrorPager, Pager, RamPager, SparsePager, try_read,
+    try_write, zeros,
 };
 use std::alloc::{AllocError, Global};
 use std::process::Abort;
 use std::test::Fail;
 
-fn write<X: Pager>(
-    rt: &impl Abort,
-    pager: &mut X,
-    slot: u32,
-    page: [u8; 4096],
-) -> Result<(), PagerFault> {
+// Whether the pager takes a page of this byte.
+fn write<X: Pager>(rt: &impl Abort, pager: &mut X, slot: u32, byte: u8) -> bool {
     assert!(rt; slot < pager.slots());
-    try_write(pager, slot, &page)
+    try_write(pager, slot, &[byte; 4096]).is_ok()
 }
 
-fn read<X: Pager>(rt: &impl Abort, pager: &mut X, slot: u32) -> Result<[u8; 4096], PagerFault> {
+// Whether a page of this byte is read; that the read fails, where there is none.
+fn reads<X: Pager>(rt: &impl Abort, pager: &mut X, slot: u32, byte: Option<u8>) -> bool {
     assert!(rt; slot < pager.slots());
     let mut page = zeros();
-    try_read(pager, slot, &mut page)?;
-    Ok(page)
+    let read = try_read(pager, slot, &mut page);
+    match byte {
+        Some(byte) => read.is_ok() && page == [byte; 4096],
+        None => read.is_err(),
+    }
 }
 
 fn discard<X: Pager>(rt: &impl Abort, pager: &mut X, slot: u32) {
@@ -47,32 +47,37 @@ enum Access {
 
 use Access::{Discard, Read, Wipe, Write};
 
-// Makes an access, and sees what comes of it.
-fn make_access<X: Pager>(rt: &impl Abort, pager: &mut X, number: usize, access: Access) {
+// Makes an access; whether what comes of it is as said.
+fn answers<X: Pager>(rt: &impl Abort, pager: &mut X, access: Access) -> bool {
     match access {
-        Write(slot, byte, is_taken) => {
-            let written = write(rt, pager, slot, [byte; 4096]);
-            assert_eq!(rt; written.is_ok(), is_taken, "access {number}");
+        Write(slot, byte, is_taken) => write(rt, pager, slot, byte) == is_taken,
+        Read(slot, byte) => reads(rt, pager, slot, byte),
+        Discard(slot) => {
+            discard(rt, pager, slot);
+            true
         }
-        Read(slot, byte) => {
-            let page = read(rt, pager, slot).ok();
-            assert_eq!(rt; page, byte.map(|byte| [byte; 4096]), "access {number}");
+        Wipe => {
+            pager.wipe();
+            true
         }
-        Discard(slot) => discard(rt, pager, slot),
-        Wipe => pager.wipe(),
     }
 }
 
 // Makes these accesses in order. The pager has counted so many failures then.
 fn accessed<X: Pager>(rt: &impl Abort, pager: &mut X, accesses: &[Access], failures: u64) {
-    for (number, &one) in accesses.iter().enumerate() {
-        make_access(rt, pager, number, one);
+    for (number, &access) in accesses.iter().enumerate() {
+        assert!(rt; answers(rt, pager, access), "access {number}");
     }
     assert_eq!(rt; pager.failures(), failures);
 }
 
+// The same on a pager that is dropped behind.
+fn accessed_once<X: Pager>(rt: &impl Abort, mut pager: X, accesses: &[Access], failures: u64) {
+    accessed(rt, &mut pager, accesses, failures);
+}
+
 // A pager in memory behind a fuse that fails these reads and writes.
-fn fuse(
+pub(crate) fn fuse(
     alloc: Global,
     slots: u32,
     reads: &[u64],
@@ -84,107 +89,150 @@ fn fuse(
     Ok(FusePager::new(ram, reads, writes))
 }
 
-#[test]
-fn a_fuse_scorches_the_slot(rt: HostRuntime) -> Result<(), Fail> {
-    let mut fuse = fuse(rt.alloc(), 2, &[], &[1])?;
-    let accesses = [
-        Write(0, 0x50, false),
-        Read(0, Some(0xa5)),
-        Write(0, 0x50, true),
-        Read(0, Some(0x50)),
-    ];
-    accessed(&rt, &mut fuse, &accesses, 1);
+pub(crate) fn mirror<X: Pager, Y: Pager>(
+    alloc: Global,
+    left: X,
+    right: Y,
+) -> Result<MirrorPager<X, Y>, Fail> {
+    Ok(MirrorPager::new(alloc, left, right).map_err(|e| e.cause)?)
+}
+
+// The same as `accessed_once` on the mirror of these sides.
+fn mirrored<X: Pager, Y: Pager>(
+    rt: &impl Abort,
+    alloc: Global,
+    (left, right): (X, Y),
+    accesses: &[Access],
+    failures: u64,
+) -> Result<(), Fail> {
+    accessed_once(rt, mirror(alloc, left, right)?, accesses, failures);
     Ok(())
 }
+
+const SCORCHED: &[Access] = &[
+    Write(0, 0x50, false),
+    Read(0, Some(0xa5)),
+    Write(0, 0x50, true),
+    Read(0, Some(0x50)),
+];
+
+#[test]
+fn a_fuse_scorches_the_slot(rt: HostRuntime) -> Result<(), Fail> {
+    accessed_once(&rt, fuse(rt.alloc(), 2, &[], &[1])?, SCORCHED, 1);
+    Ok(())
+}
+
+const TAKEN_ON_ONE_SIDE: &[Access] = &[
+    Write(0, 0x50, true),
+    Write(0, 0x51, true),
+    Read(0, Some(0x51)),
+];
 
 #[test]
 fn a_mirror_reads_the_side_that_took_the_page(rt: HostRuntime) -> Result<(), Fail> {
     let alloc = rt.alloc();
-    let left = fuse(alloc, 1, &[], &[2])?;
     let right = RamPager::new(alloc, 1)?;
-    let mut mirror = MirrorPager::new(alloc, left, right).map_err(|e| e.cause)?;
-    let accesses = [
-        Write(0, 0x50, true),
-        Write(0, 0x51, true),
-        Read(0, Some(0x51)),
-    ];
-    accessed(&rt, &mut mirror, &accesses, 0);
-    Ok(())
+    let left = fuse(alloc, 1, &[], &[2])?;
+    mirrored(&rt, alloc, (left, right), TAKEN_ON_ONE_SIDE, 0)
 }
+
+const FAILED_ON_BOTH_SIDES: &[Access] = &[Write(0, 0x50, true), Read(0, None), Read(0, Some(0x50))];
 
 #[test]
 fn a_mirror_fails_where_its_one_good_side_does(rt: HostRuntime) -> Result<(), Fail> {
     let alloc = rt.alloc();
     let left = fuse(alloc, 1, &[], &[1])?;
     let right = fuse(alloc, 1, &[1], &[])?;
-    let mut mirror = MirrorPager::new(alloc, left, right).map_err(|e| e.cause)?;
-    let accesses = [Write(0, 0x50, true), Read(0, None), Read(0, Some(0x50))];
-    accessed(&rt, &mut mirror, &accesses, 1);
-    Ok(())
+    mirrored(&rt, alloc, (left, right), FAILED_ON_BOTH_SIDES, 1)
 }
+
+const READ_BACK: &[Access] = &[Read(0, Some(0)), Write(0, 0x50, true), Read(0, Some(0x50))];
 
 #[test]
 fn a_sparse_pager_reads_back(rt: HostRuntime) -> Result<(), Fail> {
-    let mut sparse = SparsePager::new(rt.alloc(), 1)?;
-    let accesses = [Read(0, Some(0)), Write(0, 0x50, true), Read(0, Some(0x50))];
-    accessed(&rt, &mut sparse, &accesses, 0);
+    accessed_once(&rt, SparsePager::new(rt.alloc(), 1)?, READ_BACK, 0);
     Ok(())
+}
+
+// Why there is no mirror of these sides, and the slots of those that come back.
+fn refused<X: Pager, Y: Pager>(
+    alloc: Global,
+    left: X,
+    right: Y,
+) -> Option<(MirrorCause, u32, u32)> {
+    match MirrorPager::new(alloc, left, right) {
+        Ok(_) => None,
+        Err(refused) => {
+            let (left, right) = (refused.left.slots(), refused.right.slots());
+            Some((refused.cause, left, right))
+        }
+    }
 }
 
 #[test]
 fn a_mirror_of_unequal_sides_is_refused(rt: HostRuntime) -> Result<(), Fail> {
     let alloc = rt.alloc();
-    let refused = MirrorPager::new(alloc, RamPager::new(alloc, 1)?, RamPager::new(alloc, 2)?)
-        .map(|_| ())
-        .expect_err(&rt, "the sizes differ");
-    assert_eq!(rt; refused.cause, MirrorCause::Unequal);
-    assert_eq!(rt; (refused.left.slots(), refused.right.slots()), (1, 2));
+    let refused = refused(alloc, RamPager::new(alloc, 1)?, RamPager::new(alloc, 2)?);
+    assert!(rt; refused == Some((MirrorCause::Unequal, 1, 2)));
     Ok(())
 }
 
 // A fuse whose first write fails, over a pager that can count no failure more.
 fn over_a_spent_pager(alloc: Global) -> Result<FusePager<FusePager<RamPager>>, AllocError> {
     let ram = RamPager::new(alloc, 1)?;
+    let writes = places(alloc, &[1])?;
     let spent = FusePager::new_at(ram, Vec::new(alloc), Vec::new(alloc), u64::MAX);
-    Ok(FusePager::new(spent, Vec::new(alloc), places(alloc, &[1])?))
+    Ok(FusePager::new(spent, Vec::new(alloc), writes))
+}
+
+const NOT_ASKED: &[Access] = &[Write(0, 0x50, false), Read(0, None)];
+
+const TOLD: &[Access] = &[
+    Write(0, 0x50, true),
+    Read(0, Some(0x50)),
+    Discard(0),
+    Read(0, None),
+    Wipe,
+    Read(0, Some(0)),
+];
+
+// The pager alone, and then as the left side of a mirror.
+fn alone_and_mirrored<X: Pager>(rt: &impl Abort, alloc: Global, mut pager: X) -> Result<(), Fail> {
+    accessed(rt, &mut pager, NOT_ASKED, 2);
+    let right = RamPager::new(alloc, 1)?;
+    mirrored(rt, alloc, (pager, right), TOLD, 1)
 }
 
 // A spent pager is not asked, by a fuse or by a mirror, but it is discarded and wiped.
 #[test]
 fn a_spent_pager_is_not_asked(rt: HostRuntime) -> Result<(), Fail> {
     let alloc = rt.alloc();
-    let mut fuse = over_a_spent_pager(alloc)?;
-    accessed(&rt, &mut fuse, &[Write(0, 0x50, false), Read(0, None)], 2);
-    let right = RamPager::new(alloc, 1)?;
-    let mut mirror = MirrorPager::new(alloc, fuse, right).map_err(|e| e.cause)?;
-    let accesses = [
-        Write(0, 0x50, true),
-        Read(0, Some(0x50)),
-        Discard(0),
-        Read(0, None),
-        Wipe,
-        Read(0, Some(0)),
-    ];
-    accessed(&rt, &mut mirror, &accesses, 1);
-    Ok(())
+    alone_and_mirrored(&rt, alloc, over_a_spent_pager(alloc)?)
 }
 
+const RUN: &[Access] = &[
+    Write(0, 0x50, true),
+    Write(1, 0x51, true),
+    Discard(0),
+    Read(1, Some(0x51)),
+    Write(1, 0, true),
+    Read(1, Some(0)),
+    Write(1, 0x50, true),
+    Wipe,
+    Read(0, Some(0)),
+    Read(1, Some(0)),
+];
+
 // What every kind does, through its trait alone: it takes pages, gives them back and is wiped.
-fn runs<X: Pager>(rt: &impl Abort, mut pager: X) {
+fn runs<X: Pager>(rt: &impl Abort, pager: X) {
     assert_eq!(rt; pager.slots(), 2);
-    let accesses = [
-        Write(0, 0x50, true),
-        Write(1, 0x51, true),
-        Discard(0),
-        Read(1, Some(0x51)),
-        Write(1, 0, true),
-        Read(1, Some(0)),
-        Write(1, 0x50, true),
-        Wipe,
-        Read(0, Some(0)),
-        Read(1, Some(0)),
-    ];
-    accessed(rt, &mut pager, &accesses, 0);
+    accessed_once(rt, pager, RUN, 0);
+}
+
+fn runs_in_a_fuse<X: Pager>(rt: &impl Abort, alloc: Global, inner: X) -> Result<(), AllocError> {
+    let (reads, writes) = (places(alloc, &[])?, places(alloc, &[])?);
+    runs(rt, FusePager::new(inner, reads, writes));
+    Ok(())
 }
 
 #[test]
@@ -192,103 +240,133 @@ fn each_kind_runs(rt: HostRuntime) -> Result<(), Fail> {
     let alloc = rt.alloc();
     runs(&rt, RamPager::new(alloc, 2)?);
     runs(&rt, SparsePager::new(alloc, 2)?);
-    runs(
-        &rt,
-        FusePager::new(
-            SparsePager::new(alloc, 2)?,
-            places(alloc, &[])?,
-            places(alloc, &[])?,
-        ),
-    );
-    let mirror = MirrorPager::new(alloc, RamPager::new(alloc, 2)?, SparsePager::new(alloc, 2)?);
-    runs(&rt, mirror.map_err(|e| e.cause)?);
+    runs_in_a_fuse(&rt, alloc, SparsePager::new(alloc, 2)?)?;
+    let (left, right) = (RamPager::new(alloc, 2)?, SparsePager::new(alloc, 2)?);
+    runs(&rt, mirror(alloc, left, right)?);
     let boxed: AnyPager = Box::new(alloc, RamPager::new(alloc, 2)?)?;
     runs(&rt, boxed);
     Ok(())
 }
 
+/// What pagers that count lie behind: a fuse, a box, or a mirror whose right side has so many slots and has counted so
+/// many failures.
+#[derive(Clone, Copy)]
+enum Behind {
+    Fuse,
+    Boxed,
+    Mirror(u32, u64),
+}
+
 fn drop_in_a_fuse<X: Pager>(alloc: Global, inner: X) -> Result<(), AllocError> {
-    drop(FusePager::new(inner, places(alloc, &[])?, places(alloc, &[])?));
+    let (reads, writes) = (places(alloc, &[])?, places(alloc, &[])?);
+    drop(FusePager::new(inner, reads, writes));
     Ok(())
 }
 
-// Wipes and drops of what a fuse had.
-fn dropped_in_a_fuse(alloc: Global) -> Result<(u64, u64), AllocError> {
-    let counter = Counter::new(alloc)?;
-    drop_in_a_fuse(alloc, counter.pager(1, 0)?)?;
-    Ok(counter.counts())
+// A box, and that in a fuse.
+fn drop_in_a_box(alloc: Global, inner: CountingPager) -> Result<(), AllocError> {
+    let boxed: AnyPager = Box::new(alloc, inner)?;
+    drop_in_a_fuse(alloc, boxed)
 }
 
-fn dropped_in_a_box(alloc: Global) -> Result<(u64, u64), Fail> {
-    let counter = Counter::new(alloc)?;
-    let boxed: AnyPager = Box::new(alloc, counter.pager(1, 0)?)?;
-    drop_in_a_fuse(alloc, boxed)?;
-    Ok(counter.counts())
+// Whether there was one.
+fn drop_in_a_mirror<X: Pager>(alloc: Global, left: X, right: X) -> bool {
+    let mirror = MirrorPager::new(alloc, left, right);
+    mirror.is_ok()
 }
 
-// Wipes and drops of a mirror's sides, of which the right one has so many slots, and whether there was one.
-fn dropped_in_a_mirror(alloc: Global, slots: u32) -> Result<(u64, u64, bool), AllocError> {
-    let counter = Counter::new(alloc)?;
-    let mirror = MirrorPager::new(alloc, counter.pager(1, 0)?, counter.pager(slots, 0)?);
-    let was_made = mirror.is_ok();
-    drop(mirror);
-    let (wipes, drops) = counter.counts();
-    Ok((wipes, drops, was_made))
+// Drops pagers of one slot behind this; whether it was made.
+fn is_made(alloc: Global, counter: &Counter, behind: Behind) -> Result<bool, AllocError> {
+    let inner = counter.pager(1, 0)?;
+    match behind {
+        Behind::Fuse => drop_in_a_fuse(alloc, inner)?,
+        Behind::Boxed => drop_in_a_box(alloc, inner)?,
+        Behind::Mirror(slots, failures) => {
+            return Ok(drop_in_a_mirror(alloc, inner, counter.pager(slots, failures)?));
+        }
+    }
+    Ok(true)
 }
+
+// A mirror that finds no memory hands both sides back, so that each is dropped once all the same.
+const DROPS: &[(&str, Behind, u64, u64)] = &[
+    ("a fuse", Behind::Fuse, 1, 1),
+    ("a box in a fuse", Behind::Boxed, 1, 1),
+    ("a mirror", Behind::Mirror(1, 0), 2, 2),
+    ("the sides of a refused mirror", Behind::Mirror(2, 0), 0, 2),
+];
 
 #[test]
 fn each_drop_runs_once_and_wipes(rt: HostRuntime) -> Result<(), Fail> {
-    let alloc = rt.alloc();
-    assert_eq!(rt; dropped_in_a_fuse(alloc)?, (1, 1), "a fuse");
-    assert_eq!(rt; dropped_in_a_box(alloc)?, (1, 1), "a box in a fuse");
-
-    // A mirror that finds no memory hands both sides back, so that each is dropped once all the same.
-    let (wipes, drops, was_made) = dropped_in_a_mirror(alloc, 1)?;
-    assert_eq!(rt;
-        (wipes, drops),
-        (if was_made { 2 } else { 0 }, 2),
-        "a mirror"
-    );
-    let (wipes, drops, _) = dropped_in_a_mirror(alloc, 2)?;
-    assert_eq!(rt; (wipes, drops), (0, 2), "the sides of a refused mirror");
+    for &(name, behind, wipes, drops) in DROPS {
+        let counter = Counter::new(rt.alloc())?;
+        let wipes = if is_made(rt.alloc(), &counter, behind)? {
+            wipes
+        } else {
+            0
+        };
+        assert!(rt; counter.counts() == (wipes, drops), "{name}");
+    }
     Ok(())
 }
 
-// Discards of what a fuse, a box and a mirror have, and the last slot.
-fn discarded_in_a_fuse(rt: &impl Abort, alloc: Global) -> Result<(u64, u64), AllocError> {
-    let counter = Counter::new(alloc)?;
-    let inner = counter.pager(2, 0)?;
-    let mut fuse = FusePager::new(inner, Vec::new(alloc), Vec::new(alloc));
-    discard(rt, &mut fuse, 1);
-    Ok(counter.discards())
+fn discard_once<X: Pager>(rt: &impl Abort, mut pager: X, slot: u32) {
+    discard(rt, &mut pager, slot);
 }
 
-fn discarded_in_a_box(rt: &impl Abort, alloc: Global) -> Result<(u64, u64), Fail> {
-    let counter = Counter::new(alloc)?;
-    let mut boxed: AnyPager = Box::new(alloc, counter.pager(3, 0)?)?;
-    discard(rt, &mut boxed, 2);
-    Ok(counter.discards())
+fn discard_in_a_box(
+    rt: &impl Abort,
+    alloc: Global,
+    inner: CountingPager,
+    slot: u32,
+) -> Result<(), AllocError> {
+    let boxed: AnyPager = Box::new(alloc, inner)?;
+    discard_once(rt, boxed, slot);
+    Ok(())
 }
 
-// One of the sides is spent.
-fn discarded_in_a_mirror(rt: &impl Abort, alloc: Global) -> Result<(u64, u64), Fail> {
-    let counter = Counter::new(alloc)?;
-    let (left, right) = (counter.pager(2, 0)?, counter.pager(2, u64::MAX)?);
-    let mut mirror = MirrorPager::new(alloc, left, right).map_err(|e| e.cause)?;
-    discard(rt, &mut mirror, 1);
-    Ok(counter.discards())
+// Discards the last slot of this, which has as many as a pager behind it.
+fn discard_behind(
+    rt: &impl Abort,
+    alloc: Global,
+    counter: &Counter,
+    behind: Behind,
+    slot: u32,
+) -> Result<(), Fail> {
+    let inner = counter.pager(slot.wrapping_add(1), 0)?;
+    match behind {
+        Behind::Fuse => {
+            let fuse = FusePager::new(inner, Vec::new(alloc), Vec::new(alloc));
+            discard_once(rt, fuse, slot);
+        }
+        Behind::Boxed => discard_in_a_box(rt, alloc, inner, slot)?,
+        Behind::Mirror(slots, failures) => {
+            let right = counter.pager(slots, failures)?;
+            discard_once(rt, mirror(alloc, inner, right)?, slot);
+        }
+    }
+    Ok(())
 }
+
+// How often a slot is discarded then, and which was the last. One of the mirror's sides is spent.
+const DISCARDS: &[(&str, Behind, u32, (u64, u64))] = &[
+    ("a fuse", Behind::Fuse, 1, (1, 1)),
+    ("a box", Behind::Boxed, 2, (1, 2)),
+    (
+        "both sides of a mirror",
+        Behind::Mirror(2, u64::MAX),
+        1,
+        (2, 1),
+    ),
+];
 
 // No clause can say it, since nobody knows what a discarded slot holds.
 #[test]
 fn a_discard_reaches_the_pagers_behind(rt: HostRuntime) -> Result<(), Fail> {
-    let alloc = rt.alloc();
-    assert_eq!(rt; discarded_in_a_fuse(&rt, alloc)?, (1, 1), "a fuse");
-    assert_eq!(rt; discarded_in_a_box(&rt, alloc)?, (1, 2), "a box");
-    assert_eq!(rt;
-        discarded_in_a_mirror(&rt, alloc)?,
-        (2, 1),
-        "both sides of a mirror"
-    );
+    for &(name, behind, slot, discards) in DISCARDS {
+        let counter = Counter::new(rt.alloc())?;
+        discard_behind(&rt, rt.alloc(), &counter, behind, slot)?;
+        assert!(rt; counter.discards() == discards, "{name}");
+    }
     Ok(())
 }

@@ -5,6 +5,7 @@ ghost use Rattle.shm_slots.specs.View.{IsAreaSize, slots};
 ghost use Rattle.shm_fault.specs.Store.{held, frame_of, page_of};
 ghost use Rattle.shm_store_tests.specs.Trial.{HasThree};
 
+use crate::pagers::fuse;
 use shm_base::{FlushReport, HostMemory, Span};
 use shm_fault::{PageStore, PageTally};
 use shm_pager::{FusePager, Pager, RamPager};
@@ -19,6 +20,10 @@ pub(crate) fn is_area<P: Pager>(pager: &P) -> bool
     1 <= pager.slots() && pager.slots() <= 65536
 }
 
+fn tally_of<P: Pager>(store: &PageStore<P>) -> PageTally {
+    store.tally()
+}
+
 // A segment more. Where memory was wanting all is as before, and it is added once more.
 pub(crate) fn add_segment<P: Pager>(
     rt: &impl Abort,
@@ -31,12 +36,12 @@ pub(crate) fn add_segment<P: Pager>(
     ensures held { OnOk result (held store.new ≡ with_zeros (held store.old) seg pages) }
     ensures frames { OnOk result (length store.new.frames ≡ length store.old.frames) }
 {
-    let before = store.tally();
+    let before = tally_of(store);
     match store.add_segment(seg, pages) {
         Ok(()) => return Ok(()),
         Err(_) => {}
     }
-    assert_eq!(rt; store.tally(), before);
+    assert!(rt; tally_of(store) == before);
     store.add_segment(seg, pages)
 }
 
@@ -134,59 +139,59 @@ enum Ask {
 
 use Ask::{Flush, Load, MoveOff, Save};
 
-fn ask_one<P: Pager>(rt: &impl Abort, store: &mut PageStore<P>, number: usize, ask: Ask)
+// Whether a flush writes so many and leaves so many dirty.
+fn flushes<P: Pager>(store: &mut PageStore<P>, pages: u64, report: FlushReport, dirty: u64) -> bool
+    requires { HasThree store.old }
+    ensures { HasThree store.new }
+{
+    store.flush(pages) == report && tally_of(store).dirty == dirty
+}
+
+fn answers<P: Pager>(rt: &impl Abort, store: &mut PageStore<P>, ask: Ask) -> bool
     requires { HasThree store.old }
     ensures { HasThree store.new }
 {
     match ask {
-        Save(at, byte, is_done) => {
-            assert_eq!(rt; save(rt, store, at, byte), is_done, "ask {number}");
-        }
-        Load(at, byte) => assert_eq!(rt; load(rt, store, at), byte, "ask {number}"),
+        Save(at, byte, is_done) => save(rt, store, at, byte) == is_done,
+        Load(at, byte) => load(rt, store, at) == byte,
         Flush(pages, written, failed, dirty) => {
-            let report = store.flush(pages);
-            assert_eq!(rt; report, FlushReport { written, failed }, "ask {number}");
-            assert_eq!(rt; store.tally().dirty, dirty, "ask {number}");
+            flushes(store, pages, FlushReport { written, failed }, dirty)
         }
-        MoveOff(area, goes) => assert_eq!(rt; move_off(rt, store, area), goes, "ask {number}"),
+        MoveOff(area, goes) => move_off(rt, store, area) == goes,
     }
 }
 
-fn ask_all<P: Pager>(rt: &impl Abort, store: &mut PageStore<P>, asks: &[Ask])
+fn ask_all<P: Pager>(rt: &impl Abort, store: &mut PageStore<P>, name: &str, asks: &[Ask])
     requires { HasThree store.old }
 {
     for (number, &one) in asks.iter().enumerate() {
-        ask_one(rt, store, number, one);
+        assert!(rt; answers(rt, store, one), "{name}, ask {number}");
     }
 }
 
-// Asks a store over these areas in turn, and looks what it counts then.
-fn asked<P: Pager>(
+/// What a store is asked in turn, and what it counts then.
+#[derive(Clone, Copy)]
+struct Trial {
+    name: &'static str,
+    asks: &'static [Ask],
+    tally: PageTally,
+}
+
+// Asks a store over these areas.
+fn tried<P: Pager>(
     rt: &impl Abort,
     alloc: Global,
     pagers: Vec<P>,
-    asks: &[Ask],
-) -> Result<PageTally, HostMemory> {
+    trial: &Trial,
+) -> Result<(), HostMemory> {
     match store_over(rt, alloc, pagers) {
         Ok(mut store) => {
-            ask_all(rt, &mut store, asks);
-            Ok(store.tally())
+            ask_all(rt, &mut store, trial.name, trial.asks);
+            assert!(rt; tally_of(&store) == trial.tally, "{}", trial.name);
+            Ok(())
         }
         Err(error) => Err(error),
     }
-}
-
-// An area whose reads and writes of these numbers fail.
-pub(crate) fn fuse(
-    alloc: Global,
-    slots: u32,
-    reads: &[u64],
-    writes: &[u64],
-) -> Result<FusePager<RamPager>, AllocError> {
-    let ram = RamPager::new(alloc, slots)?;
-    let reads = Vec::from_slice(alloc, reads)?;
-    let writes = Vec::from_slice(alloc, writes)?;
-    Ok(FusePager::new(ram, reads, writes))
 }
 
 fn one_area(
@@ -210,104 +215,120 @@ const FULL: PageTally = PageTally {
     failures: 0,
 };
 
+/// Reads and writes of one area that fail, and what it is tried by.
+type OneArea = (&'static [u64], &'static [u64], Trial);
+
+const IN_AND_OUT: &[OneArea] = &[
+    (
+        &[],
+        &[],
+        Trial {
+            name: "pages go out and come in",
+            asks: &[
+                Save(0, 0x2a, true),
+                Load(4096, Some(0)),
+                Load(8192, Some(0)),
+                Load(0, Some(0x2a)),
+            ],
+            tally: FULL,
+        },
+    ),
+    (
+        &[1],
+        &[],
+        Trial {
+            name: "a read that fails loses nothing",
+            asks: &[
+                Save(0, 0x2a, true),
+                Load(4096, Some(0)),
+                Load(8192, Some(0)),
+                Load(0, None),
+                Load(0, Some(0x2a)),
+            ],
+            tally: PageTally {
+                failures: 1,
+                ..FULL
+            },
+        },
+    ),
+    (
+        &[],
+        &[1],
+        Trial {
+            name: "a write that fails keeps the page",
+            asks: &[
+                Save(0, 0x2a, true),
+                Load(4096, Some(0)),
+                Load(8192, None),
+                Load(0, Some(0x2a)),
+                Load(8192, Some(0)),
+            ],
+            tally: PageTally {
+                dirty: 1,
+                ins: 0,
+                outs: 0,
+                failures: 1,
+                ..FULL
+            },
+        },
+    ),
+    (
+        &[],
+        &[2],
+        Trial {
+            name: "a flush writes the first dirty frames",
+            asks: &[
+                Save(0, 0x2a, true),
+                Save(4096, 0x2b, true),
+                Flush(1, 1, 0, 1),
+                Flush(2, 0, 1, 1),
+                Flush(2, 1, 0, 0),
+                Flush(2, 0, 0, 0),
+            ],
+            tally: PageTally {
+                used: 2,
+                ins: 0,
+                outs: 2,
+                failures: 1,
+                ..FULL
+            },
+        },
+    ),
+];
+
 #[test]
 fn pages_go_out_and_come_in(rt: HostRuntime) -> Result<(), Fail> {
-    let alloc = rt.alloc();
-    let asks = [
-        Save(0, 0x2a, true),
-        Load(4096, Some(0)),
-        Load(8192, Some(0)),
-        Load(0, Some(0x2a)),
-    ];
-    let tally = asked(&rt, alloc, one_area(alloc, &[], &[])?, &asks)?;
-    assert_eq!(rt; tally, FULL);
+    for (reads, writes, trial) in IN_AND_OUT {
+        let areas = one_area(rt.alloc(), reads, writes)?;
+        tried(&rt, rt.alloc(), areas, trial)?;
+    }
     Ok(())
 }
 
-#[test]
-fn a_read_that_fails_loses_nothing(rt: HostRuntime) -> Result<(), Fail> {
-    let alloc = rt.alloc();
-    let asks = [
-        Save(0, 0x2a, true),
-        Load(4096, Some(0)),
-        Load(8192, Some(0)),
-        Load(0, None),
-        Load(0, Some(0x2a)),
-    ];
-    let tally = asked(&rt, alloc, one_area(alloc, &[1], &[])?, &asks)?;
-    let failures = 1;
-    assert_eq!(rt; tally, PageTally { failures, ..FULL });
-    Ok(())
-}
-
-#[test]
-fn a_write_that_fails_keeps_the_page(rt: HostRuntime) -> Result<(), Fail> {
-    let alloc = rt.alloc();
-    let asks = [
-        Save(0, 0x2a, true),
-        Load(4096, Some(0)),
-        Load(8192, None),
-        Load(0, Some(0x2a)),
-        Load(8192, Some(0)),
-    ];
-    let tally = asked(&rt, alloc, one_area(alloc, &[], &[1])?, &asks)?;
-    let (dirty, ins, outs, failures) = (1, 0, 0, 1);
-    assert_eq!(rt;
-        tally,
-        PageTally {
-            dirty,
-            ins,
-            outs,
-            failures,
-            ..FULL
-        }
-    );
-    Ok(())
-}
-
-#[test]
-fn a_flush_writes_the_first_dirty_frames(rt: HostRuntime) -> Result<(), Fail> {
-    let alloc = rt.alloc();
-    let asks = [
-        Save(0, 0x2a, true),
-        Save(4096, 0x2b, true),
-        Flush(1, 1, 0, 1),
-        Flush(2, 0, 1, 1),
-        Flush(2, 1, 0, 0),
-        Flush(2, 0, 0, 0),
-    ];
-    let tally = asked(&rt, alloc, one_area(alloc, &[], &[2])?, &asks)?;
-    let (used, ins, outs, failures) = (2, 0, 2, 1);
-    assert_eq!(rt;
-        tally,
-        PageTally {
-            used,
-            ins,
-            outs,
-            failures,
-            ..FULL
-        }
-    );
-    Ok(())
-}
-
-#[test]
-fn pages_move_where_their_area_goes(rt: HostRuntime) -> Result<(), Fail> {
-    let alloc = rt.alloc();
+fn two_rams(alloc: Global) -> Result<Vec<RamPager>, AllocError> {
     let mut pagers = Vec::with_capacity(alloc, 2)?;
     pagers.push(RamPager::new(alloc, 3)?)?;
     pagers.push(RamPager::new(alloc, 3)?)?;
-    let asks = [
+    Ok(pagers)
+}
+
+const MOVED: Trial = Trial {
+    name: "pages move where their area goes",
+    asks: &[
         Save(0, 0x2a, true),
         Load(4096, Some(0)),
         Load(8192, Some(0)),
         MoveOff(0, true),
         Load(0, Some(0x2a)),
         MoveOff(0, false),
-    ];
-    let tally = asked(&rt, alloc, pagers, &asks)?;
-    let slots = 3;
-    assert_eq!(rt; tally, PageTally { slots, ..FULL });
+    ],
+    tally: PageTally { slots: 3, ..FULL },
+};
+
+#[test]
+fn pages_move_where_their_area_goes(rt: HostRuntime) -> Result<(), Fail> {
+    let alloc = rt.alloc();
+    tried(&rt, alloc, two_rams(alloc)?, &MOVED)?;
     Ok(())
 }
 
@@ -323,31 +344,32 @@ fn two_areas(
     Ok(pagers)
 }
 
-#[test]
-fn an_area_stays_where_a_pager_fails(rt: HostRuntime) -> Result<(), Fail> {
-    let alloc = rt.alloc();
-    let asks = [
+const STAYED: Trial = Trial {
+    name: "an area stays where a pager fails",
+    asks: &[
         Save(0, 0x2a, true),
         Load(4096, Some(0)),
         Load(8192, Some(0)),
         MoveOff(0, false),
         Load(0, Some(0x2a)),
         MoveOff(0, true),
-    ];
-    // The first write to the other area fails, and then the first read of the area that goes.
-    let rounds: [(&[u64], &[u64]); 2] = [(&[], &[1]), (&[1], &[])];
-    for (reads, writes) in rounds {
-        let tally = asked(&rt, alloc, two_areas(alloc, reads, writes)?, &asks)?;
-        let (dirty, used, failures) = (1, 0, 1);
-        assert_eq!(rt;
-            tally,
-            PageTally {
-                dirty,
-                used,
-                failures,
-                ..FULL
-            }
-        );
+    ],
+    tally: PageTally {
+        dirty: 1,
+        used: 0,
+        failures: 1,
+        ..FULL
+    },
+};
+
+// The first write to the other area fails, and then the first read of the area that goes.
+const ROUNDS: &[(&[u64], &[u64])] = &[(&[], &[1]), (&[1], &[])];
+
+#[test]
+fn an_area_stays_where_a_pager_fails(rt: HostRuntime) -> Result<(), Fail> {
+    for (reads, writes) in ROUNDS {
+        let areas = two_areas(rt.alloc(), reads, writes)?;
+        tried(&rt, rt.alloc(), areas, &STAYED)?;
     }
     Ok(())
 }

@@ -5,9 +5,10 @@ ghost use Rattle.shm_plain.specs.Held.{FitsPage, is_held};
 ghost use Rattle.shm_fault.specs.Store.{held};
 ghost use Rattle.shm_store_tests.specs.Trial.{Row as Told, known, row_with_lock, pages_all, pages_pinned, with_frame, AreAlike, IsAccess};
 
-use crate::paging::{add_segment, fuse, is_area};
+use crate::pagers::{fuse, mirror};
+use crate::paging::{add_segment, is_area};
 use shm_base::{HostMemory, Span};
-use shm_fault::{PageStore, PageTally, Touched};
+use shm_fault::{PageStore, Touched};
 use shm_pager::{FusePager, MirrorPager, Pager, RamPager};
 use shm_slots::Swap;
 use shm_twin::PlainStore;
@@ -163,6 +164,12 @@ fn add<P: Pager>(
     }
 }
 
+// How many pages came in so far, and how many went out.
+fn moves<P: Pager>(store: &PageStore<P>) -> (u64, u64) {
+    let tally = store.tally();
+    (tally.ins, tally.outs)
+}
+
 // Neither a segment that goes nor an area counts as a page that came in or went out.
 fn remove<P: Pager>(rt: &impl Abort, pair: &mut Pair<P>, seg: u32)
     requires { AreAlike pair.old.paged pair.old.plain pair.old.rows.items }
@@ -171,10 +178,9 @@ fn remove<P: Pager>(rt: &impl Abort, pair: &mut Pair<P>, seg: u32)
     if !has(pair, seg) {
         return;
     }
-    let before = pair.paged.tally();
+    let before = moves(&pair.paged);
     pair.paged.drop_segment(seg);
-    let after = pair.paged.tally();
-    assert!(rt; (after.ins, after.outs) == (before.ins, before.outs));
+    assert!(rt; moves(&pair.paged) == before);
     pair.plain.drop_segment(seg);
     forget(&mut pair.rows, seg);
 }
@@ -207,10 +213,9 @@ fn move_off<P: Pager>(rt: &impl Abort, pair: &mut Pair<P>, area: u32)
     if all_pages(rt, &pair.rows) + u64::from(size) > pair.paged.capacity() {
         return;
     }
-    let before = pair.paged.tally();
+    let before = moves(&pair.paged);
     let _ = pair.paged.move_off(area);
-    let after = pair.paged.tally();
-    assert!(rt; (after.ins, after.outs) == (before.ins, before.outs));
+    assert!(rt; moves(&pair.paged) == before);
 }
 
 // A stretch of a page, where the segment has that page.
@@ -241,10 +246,11 @@ fn name_frames<P: Pager>(rt: &impl Abort, store: &PageStore<P>, spans: &mut [Spa
     }
 }
 
-// Whether a tally rose by what an access told.
-fn rose_by(before: &PageTally, after: &PageTally, touched: &Touched) -> bool {
-    after.ins == before.ins.saturating_add(touched.ins)
-        && after.outs == before.outs.saturating_add(touched.outs)
+// Whether the moves rose from these by what an access told.
+fn rose_by<P: Pager>(before: (u64, u64), store: &PageStore<P>, touched: &Touched) -> bool {
+    let ins = before.0.saturating_add(touched.ins);
+    let outs = before.1.saturating_add(touched.outs);
+    moves(store) == (ins, outs)
 }
 
 // Reads stretches of the paged store. A pager may fail.
@@ -256,10 +262,10 @@ fn read<P: Pager>(rt: &impl Abort, pair: &mut Pair<P>, spans: &mut [Span], out: 
     ensures size { length out.new ≡ length out.old }
 {
     name_frames(rt, &pair.paged, spans);
-    let before = pair.paged.tally();
+    let before = moves(&pair.paged);
     match pair.paged.read(spans, out) {
         Ok(touched) => {
-            assert!(rt; rose_by(&before, &pair.paged.tally(), &touched));
+            assert!(rt; rose_by(before, &pair.paged, &touched));
             true
         }
         Err(_) => false,
@@ -292,10 +298,10 @@ fn write<P: Pager>(rt: &impl Abort, pair: &mut Pair<P>, spans: &mut [Span], byte
     ensures alike { AreAlike pair.new.paged pair.new.plain pair.new.rows.items }
 {
     name_frames(rt, &pair.paged, spans);
-    let before = pair.paged.tally();
+    let before = moves(&pair.paged);
     match pair.paged.write(spans, bytes) {
         Ok(touched) => {
-            assert!(rt; rose_by(&before, &pair.paged.tally(), &touched));
+            assert!(rt; rose_by(before, &pair.paged, &touched));
             pair.plain.write(spans, bytes);
         }
         Err(_) => {}
@@ -384,9 +390,9 @@ fn step<P: Pager>(rt: &impl Abort, pair: &mut Pair<P>, dice: &mut Dice) -> Resul
         },
         17..=21 => lock(rt, pair, seg, below(dice, 2) == 0),
         22..=25 => {
-            let outs = pair.paged.tally().outs;
+            let outs = moves(&pair.paged).1;
             let report = pair.paged.flush(u64::from(below(dice, 4)));
-            assert!(rt; pair.paged.tally().outs == outs.saturating_add(report.written));
+            assert!(rt; moves(&pair.paged).1 == outs.saturating_add(report.written));
         }
         _ => touch(rt, pair, dice),
     }
@@ -458,19 +464,19 @@ fn fuses(alloc: Global, reads: &[u64], writes: &[u64]) -> Result<Vec<FusePager<R
     Ok(areas)
 }
 
+type Mirror = MirrorPager<FusePager<RamPager>, FusePager<RamPager>>;
+
+fn side_by_side(alloc: Global, slots: u32, reads: &[u64], writes: &[u64]) -> Result<Mirror, Fail> {
+    let left = fuse(alloc, slots, &[], writes)?;
+    let right = fuse(alloc, slots, reads, &[])?;
+    mirror(alloc, left, right)
+}
+
 // Two areas of two sides each, where writes of the left ones fail and reads of the right ones.
-fn mirrors(
-    alloc: Global,
-    reads: &[u64],
-    writes: &[u64],
-) -> Result<Vec<MirrorPager<FusePager<RamPager>, FusePager<RamPager>>>, Fail> {
+fn mirrors(alloc: Global, reads: &[u64], writes: &[u64]) -> Result<Vec<Mirror>, Fail> {
     let mut areas = Vec::with_capacity(alloc, 2)?;
-    for slots in [9, 8] {
-        let left = fuse(alloc, slots, &[], writes)?;
-        let right = fuse(alloc, slots, reads, &[])?;
-        let mirror = MirrorPager::new(alloc, left, right).ok();
-        areas.push(mirror.ok_or("sides of one size")?)?;
-    }
+    areas.push(side_by_side(alloc, 9, reads, writes)?)?;
+    areas.push(side_by_side(alloc, 8, reads, writes)?)?;
     Ok(areas)
 }
 
@@ -479,32 +485,48 @@ const BAD_READS: &[u64] = &[1, 4, 5, 40, 200, 201, 202, 700, 1500];
 
 const BAD_WRITES: &[u64] = &[2, 3, 7, 12, 20, 21, 33, 50];
 
+// How many failures a run over fuses counts.
+fn run_over_fuses(
+    rt: &impl Abort,
+    alloc: Global,
+    (reads, writes): (&[u64], &[u64]),
+    seed: u64,
+    each: bool,
+) -> Result<u64, Fail> {
+    let areas = fuses(alloc, reads, writes)?;
+    Ok(run(rt, alloc, areas, seed, each)?)
+}
+
+fn run_over_mirrors(
+    rt: &impl Abort,
+    alloc: Global,
+    (reads, writes): (&[u64], &[u64]),
+    seed: u64,
+    each: bool,
+) -> Result<u64, Fail> {
+    let areas = mirrors(alloc, reads, writes)?;
+    Ok(run(rt, alloc, areas, seed, each)?)
+}
+
 #[test]
 fn every_call_keeps_every_byte(rt: HostRuntime) -> Result<(), Fail> {
-    let alloc = rt.alloc();
+    let bad = (BAD_READS, BAD_WRITES);
     for seed in 1..=4 {
-        let areas = fuses(alloc, BAD_READS, BAD_WRITES)?;
-        assert!(rt; run(&rt, alloc, areas, seed, true)? > 0);
-        let areas = mirrors(alloc, BAD_READS, BAD_WRITES)?;
-        assert!(rt; run(&rt, alloc, areas, seed, true)? > 0);
+        assert!(rt; run_over_fuses(&rt, rt.alloc(), bad, seed, true)? > 0);
+        assert!(rt; run_over_mirrors(&rt, rt.alloc(), bad, seed, true)? > 0);
     }
     Ok(())
 }
 
 #[test]
 fn one_access_fails_at_each_place(rt: HostRuntime) -> Result<(), Fail> {
-    let alloc = rt.alloc();
     for writes in [false, true] {
         let mut failed = true;
         for place in 1..1000 {
             if failed {
-                let bad: &[u64] = &[place];
-                let areas = if writes {
-                    fuses(alloc, &[], bad)?
-                } else {
-                    fuses(alloc, bad, &[])?
-                };
-                failed = run(&rt, alloc, areas, 4, false)? > 0;
+                let one: &[u64] = &[place];
+                let bad: (&[u64], &[u64]) = if writes { (&[], one) } else { (one, &[]) };
+                failed = run_over_fuses(&rt, rt.alloc(), bad, 4, false)? > 0;
             }
         }
         assert!(rt; !failed);
@@ -514,11 +536,9 @@ fn one_access_fails_at_each_place(rt: HostRuntime) -> Result<(), Fail> {
 
 #[test]
 fn a_write_of_one_side_fails_and_a_read_of_the_other(rt: HostRuntime) -> Result<(), Fail> {
-    let alloc = rt.alloc();
     for write in 1..=20 {
         for read in 1..=20 {
-            let areas = mirrors(alloc, &[read], &[write])?;
-            let _ = run(&rt, alloc, areas, 4, false)?;
+            let _ = run_over_mirrors(&rt, rt.alloc(), (&[read], &[write]), 4, false)?;
         }
     }
     Ok(())

@@ -1,10 +1,11 @@
 //! Slots taken, given back and turned off; failures counted; pagers told and dropped.
-ghost use Rattle.std.specs.Prelude.{◌≡◌, length, IsTrue};
-ghost use Rattle.shm_slots.specs.View.{HasSlot, IsAreaSize};
+ghost use Rattle.std.specs.Prelude.{◌≡◌};
+ghost use Rattle.shm_slots.specs.View.{HasSlot};
 
 use crate::counting::{Counter, CountingPager};
+use crate::paging::is_area;
 use shm_base::{HostMemory, PageRef, Slot};
-use shm_pager::{AnyPager, FusePager, Pager, PagerFault, RamPager};
+use shm_pager::{AnyPager, FusePager, Pager, RamPager};
 use shm_slots::Swap;
 use std::alloc::{AllocError, Global};
 use std::process::Abort;
@@ -15,12 +16,6 @@ const P: [u8; 4096] = [0x50; 4096];
 // Some page's name.
 fn page(page: u32) -> PageRef {
     PageRef { seg: 9, page }
-}
-
-fn is_area<X: Pager>(pager: &X) -> bool
-    ensures { IsTrue result → IsAreaSize (length (X.content pager.now)) }
-{
-    1 <= pager.slots() && pager.slots() <= 65536
 }
 
 fn swap_of<X: Pager>(
@@ -43,34 +38,30 @@ fn slot_in<X: Pager>(rt: &impl Abort, swap: &Swap<X>, area: u32, slot: u32) -> S
     Slot { area, slot }
 }
 
-fn owner<X: Pager>(rt: &impl Abort, swap: &Swap<X>, area: u32, slot: u32) -> Option<PageRef> {
-    swap.owner(slot_in(rt, swap, area, slot))
+fn owner<X: Pager>(rt: &impl Abort, swap: &Swap<X>, slot: Slot) -> Option<PageRef> {
+    swap.owner(slot_in(rt, swap, slot.area, slot.slot))
 }
 
-fn write<X: Pager>(
-    rt: &impl Abort,
-    swap: &mut Swap<X>,
-    area: u32,
-    slot: u32,
-) -> Result<(), PagerFault> {
-    let slot = slot_in(rt, swap, area, slot);
-    swap.write_slot(slot, &P)
+// Whether the first slot of an area takes the page.
+fn writes<X: Pager>(rt: &impl Abort, swap: &mut Swap<X>, area: u32) -> bool {
+    let slot = slot_in(rt, swap, area, 0);
+    swap.write_slot(slot, &P).is_ok()
 }
 
-fn read<X: Pager>(
-    rt: &impl Abort,
-    swap: &mut Swap<X>,
-    area: u32,
-    slot: u32,
-) -> Result<[u8; 4096], PagerFault> {
-    let slot = slot_in(rt, swap, area, slot);
+// Whether the first slot of an area has the page, where it can be read; and where not, that it can't.
+fn reads<X: Pager>(rt: &impl Abort, swap: &mut Swap<X>, area: u32, is_done: bool) -> bool {
+    let slot = slot_in(rt, swap, area, 0);
     let mut page = [0; 4096];
-    swap.read_slot(slot, &mut page)?;
-    Ok(page)
+    let read = swap.read_slot(slot, &mut page);
+    if is_done {
+        read.is_ok() && page == P
+    } else {
+        read.is_err()
+    }
 }
 
-fn give<X: Pager>(rt: &impl Abort, swap: &mut Swap<X>, area: u32, slot: u32) {
-    let slot = slot_in(rt, swap, area, slot);
+fn give<X: Pager>(rt: &impl Abort, swap: &mut Swap<X>, slot: Slot) {
+    let slot = slot_in(rt, swap, slot.area, slot.slot);
     swap.give_slot(slot);
 }
 
@@ -86,20 +77,21 @@ fn turn_off<X: Pager>(rt: &impl Abort, swap: &mut Swap<X>, area: u32) {
     swap.turn_off(area);
 }
 
-fn rams(alloc: Global, sizes: &[u32]) -> Result<Vec<RamPager>, AllocError> {
-    let mut pagers = Vec::with_capacity(alloc, sizes.len())?;
-    for &slots in sizes {
-        pagers.push(RamPager::new(alloc, slots)?)?;
-    }
-    Ok(pagers)
-}
-
 // What a swap is asked, and what it must answer.
 #[derive(Clone, Copy)]
 enum Wish {
     Take(Option<Slot>),
     TakeOutside(u32, Option<Slot>),
     Give(Slot),
+    TurnOff(u32),
+    /// How many slots an area has, or all.
+    Size(u32, Option<u32>),
+    Capacity(u64),
+    /// The page goes to the first slot of an area, or is read there. A pager may fail.
+    Write(u32, bool),
+    Read(u32, bool),
+    /// How many failures are counted, and whether maybe none was the last.
+    Failures(u64, bool),
 }
 
 const FIRST: Slot = Slot { area: 0, slot: 0 };
@@ -108,69 +100,117 @@ const SECOND: Slot = Slot { area: 0, slot: 1 };
 
 const OTHER: Slot = Slot { area: 1, slot: 0 };
 
-// Asks for the page of this number. A slot that is given has this owner then, one that is given back none.
-fn ask(rt: &impl Abort, swap: &mut Swap<RamPager>, number: u32, wish: Wish) {
-    let (taken, want) = match wish {
-        Wish::Take(want) => (swap.take_slot(page(number)), want),
-        Wish::TakeOutside(area, want) => (swap.take_outside(page(number), area), want),
-        Wish::Give(slot) => {
-            give(rt, swap, slot.area, slot.slot);
-            assert_eq!(rt; owner(rt, swap, slot.area, slot.slot), None, "ask {number}");
-            return;
+const LAST: Slot = Slot { area: 1, slot: 1 };
+
+// Whether the slot that was taken for the page of this number is the wanted one, and has that owner.
+fn is_taken<X: Pager>(
+    rt: &impl Abort,
+    swap: &Swap<X>,
+    number: u32,
+    taken: Option<Slot>,
+    want: Option<Slot>,
+) -> bool {
+    match taken {
+        Some(slot) => want == taken && owner(rt, swap, slot) == Some(page(number)),
+        None => want.is_none(),
+    }
+}
+
+// Asks for the page of this number; whether the answer is the wanted one. A slot that is given back has no owner.
+fn answers<X: Pager>(rt: &impl Abort, swap: &mut Swap<X>, number: u32, wish: Wish) -> bool {
+    match wish {
+        Wish::Take(want) => {
+            let taken = swap.take_slot(page(number));
+            is_taken(rt, swap, number, taken, want)
         }
-    };
-    assert_eq!(rt; taken, want, "ask {number}");
-    if let Some(slot) = taken {
-        let owner = owner(rt, swap, slot.area, slot.slot);
-        assert_eq!(rt; owner, Some(page(number)), "ask {number}");
+        Wish::TakeOutside(area, want) => {
+            let taken = swap.take_outside(page(number), area);
+            is_taken(rt, swap, number, taken, want)
+        }
+        Wish::Give(slot) => {
+            give(rt, swap, slot);
+            owner(rt, swap, slot).is_none()
+        }
+        Wish::TurnOff(area) => {
+            turn_off(rt, swap, area);
+            true
+        }
+        Wish::Size(area, size) => swap.size(area) == size,
+        Wish::Capacity(slots) => swap.capacity() == slots,
+        Wish::Write(area, is_done) => writes(rt, swap, area) == is_done,
+        Wish::Read(area, is_done) => reads(rt, swap, area, is_done),
+        Wish::Failures(failures, never_spent) => {
+            swap.failures() == failures && swap.never_spent() == never_spent
+        }
     }
 }
 
 // Asks in turn, and looks how many slots are used then.
-fn ask_all(rt: &impl Abort, swap: &mut Swap<RamPager>, wishes: &[(Wish, u64)]) {
+fn ask_all<X: Pager>(rt: &impl Abort, swap: &mut Swap<X>, wishes: &[(Wish, u64)]) {
     let mut number = 0u32;
     for &(wish, used) in wishes {
-        ask(rt, swap, number, wish);
-        assert_eq!(rt; swap.used(), used, "ask {number}");
+        assert!(rt; answers(rt, swap, number, wish), "ask {number}");
+        assert!(rt; swap.used() == used, "ask {number}");
         number = number.wrapping_add(1);
     }
 }
 
+// The same of a swap over these pagers.
+fn asked<X: Pager>(
+    rt: &impl Abort,
+    alloc: Global,
+    pagers: Vec<X>,
+    wishes: &[(Wish, u64)],
+) -> Result<(), HostMemory> {
+    let mut swap = swap_of(rt, alloc, pagers)?;
+    ask_all(rt, &mut swap, wishes);
+    Ok(())
+}
+
+fn two_rams(alloc: Global, first: u32, other: u32) -> Result<Vec<RamPager>, AllocError> {
+    let mut pagers = Vec::with_capacity(alloc, 2)?;
+    pagers.push(RamPager::new(alloc, first)?)?;
+    pagers.push(RamPager::new(alloc, other)?)?;
+    Ok(pagers)
+}
+
+const LEAST_FIRST: &[(Wish, u64)] = &[
+    (Wish::Capacity(3), 0),
+    (Wish::Take(Some(FIRST)), 1),
+    (Wish::Take(Some(SECOND)), 2),
+    (Wish::Take(Some(OTHER)), 3),
+    (Wish::Take(None), 3),
+    (Wish::Give(SECOND), 2),
+    (Wish::TakeOutside(0, None), 2),
+    (Wish::TakeOutside(1, Some(SECOND)), 3),
+    (Wish::Give(OTHER), 2),
+    (Wish::Give(FIRST), 1),
+    (Wish::TakeOutside(0, Some(OTHER)), 2),
+    (Wish::Take(Some(FIRST)), 3),
+    (Wish::Capacity(3), 3),
+];
+
 #[test]
 fn the_least_free_slot_is_taken(rt: HostRuntime) -> Result<(), Fail> {
     let alloc = rt.alloc();
-    let mut swap = swap_of(&rt, alloc, rams(alloc, &[2, 1])?)?;
-    assert_eq!(rt; (swap.capacity(), swap.used()), (3, 0));
-    let wishes = [
-        (Wish::Take(Some(FIRST)), 1),
-        (Wish::Take(Some(SECOND)), 2),
-        (Wish::Take(Some(OTHER)), 3),
-        (Wish::Take(None), 3),
-        (Wish::Give(SECOND), 2),
-        (Wish::TakeOutside(0, None), 2),
-        (Wish::TakeOutside(1, Some(SECOND)), 3),
-        (Wish::Give(OTHER), 2),
-        (Wish::Give(FIRST), 1),
-        (Wish::TakeOutside(0, Some(OTHER)), 2),
-        (Wish::Take(Some(FIRST)), 3),
-    ];
-    ask_all(&rt, &mut swap, wishes.as_slice());
-    assert_eq!(rt; swap.capacity(), 3);
+    asked(&rt, alloc, two_rams(alloc, 2, 1)?, LEAST_FIRST)?;
     Ok(())
 }
+
+const AREA_GONE: &[(Wish, u64)] = &[
+    (Wish::TurnOff(0), 0),
+    (Wish::Size(0, None), 0),
+    (Wish::Size(1, Some(3)), 0),
+    (Wish::Size(7, None), 0),
+    (Wish::Capacity(3), 0),
+    (Wish::TakeOutside(1, None), 0),
+    (Wish::Take(Some(OTHER)), 1),
+];
 
 #[test]
 fn numbers_stay_where_an_area_goes(rt: HostRuntime) -> Result<(), Fail> {
     let alloc = rt.alloc();
-    let mut swap = swap_of(&rt, alloc, rams(alloc, &[2, 3])?)?;
-    turn_off(&rt, &mut swap, 0);
-    assert_eq!(rt;
-        (swap.size(0), swap.size(1), swap.size(7)),
-        (None, Some(3), None)
-    );
-    assert_eq!(rt; swap.capacity(), 3);
-    assert_eq!(rt; swap.take_outside(page(0), 1), None);
-    assert_eq!(rt; swap.take_slot(page(0)), Some(Slot { area: 1, slot: 0 }));
+    asked(&rt, alloc, two_rams(alloc, 2, 3)?, AREA_GONE)?;
     Ok(())
 }
 
@@ -179,75 +219,80 @@ fn fuse(
     bad_writes: &[u64],
     failures: u64,
 ) -> Result<FusePager<RamPager>, AllocError> {
-    Ok(FusePager::new_at(
-        RamPager::new(alloc, 1)?,
-        Vec::new(alloc),
-        bad_writes.to_vec(alloc)?,
-        failures,
-    ))
+    let ram = RamPager::new(alloc, 1)?;
+    let bad_writes = bad_writes.to_vec(alloc)?;
+    Ok(FusePager::new_at(ram, Vec::new(alloc), bad_writes, failures))
 }
 
-// Writes the page to the slot of an area, or reads it there. A pager may fail. So many failures are counted then, and
-// maybe none that is the last.
-fn try_slot<X: Pager>(
-    rt: &impl Abort,
-    swap: &mut Swap<X>,
-    (area, writes, is_done, failures, never_spent): (u32, bool, bool, u64, bool),
-) {
-    if writes {
-        assert_eq!(rt; write(rt, swap, area, 0).is_ok(), is_done);
-    } else {
-        let page = if is_done { Some(P) } else { None };
-        assert_eq!(rt; read(rt, swap, area, 0).ok(), page);
-    }
-    assert_eq!(rt;
-        (swap.failures(), swap.never_spent()),
-        (failures, never_spent)
-    );
+// Two areas of a slot, whose writes of these numbers fail, and that have counted so many failures.
+fn two_fuses(
+    alloc: Global,
+    first: (&[u64], u64),
+    other: (&[u64], u64),
+) -> Result<Vec<FusePager<RamPager>>, AllocError> {
+    let mut pagers = Vec::with_capacity(alloc, 2)?;
+    pagers.push(fuse(alloc, first.0, first.1)?)?;
+    pagers.push(fuse(alloc, other.0, other.1)?)?;
+    Ok(pagers)
 }
+
+const SPENT_ON_THE_WAY: &[(Wish, u64)] = &[
+    (Wish::Failures(0, true), 0),
+    (Wish::Write(0, false), 0),
+    (Wish::Failures(1, false), 0),
+    (Wish::Write(0, false), 0),
+    (Wish::Failures(1, false), 0),
+    (Wish::Read(0, false), 0),
+    (Wish::Failures(1, false), 0),
+    (Wish::Write(1, true), 0),
+    (Wish::Failures(1, false), 0),
+    (Wish::Read(1, true), 0),
+    (Wish::Failures(1, false), 0),
+    (Wish::Write(1, false), 0),
+    (Wish::Failures(2, false), 0),
+];
 
 #[test]
 fn a_spent_area_is_not_asked(rt: HostRuntime) -> Result<(), Fail> {
     let alloc = rt.alloc();
-    let mut pagers = Vec::with_capacity(alloc, 2)?;
-    pagers.push(fuse(alloc, &[1], u64::MAX - 1)?)?;
-    pagers.push(fuse(alloc, &[2], 5)?)?;
-    let mut swap = swap_of(&rt, alloc, pagers)?;
-    assert_eq!(rt; (swap.failures(), swap.never_spent()), (0, true));
-    for tried in [
-        (0, true, false, 1, false),
-        (0, true, false, 1, false),
-        (0, false, false, 1, false),
-        (1, true, true, 1, false),
-        (1, false, true, 1, false),
-        (1, true, false, 2, false),
-    ] {
-        try_slot(&rt, &mut swap, tried);
-    }
+    let pagers = two_fuses(alloc, (&[1], u64::MAX - 1), (&[2], 5))?;
+    asked(&rt, alloc, pagers, SPENT_ON_THE_WAY)?;
     Ok(())
 }
+
+const SPENT_BEFORE: &[(Wish, u64)] = &[(Wish::Failures(0, false), 0)];
 
 #[test]
 fn a_pager_may_be_handed_in_spent(rt: HostRuntime) -> Result<(), Fail> {
     let alloc = rt.alloc();
-    let mut pagers = Vec::new(alloc);
-    pagers.push(fuse(alloc, &[], 0)?)?;
-    pagers.push(fuse(alloc, &[], u64::MAX)?)?;
-    let swap = swap_of(&rt, alloc, pagers)?;
-    assert_eq!(rt; (swap.failures(), swap.never_spent()), (0, false));
+    let pagers = two_fuses(alloc, (&[], 0), (&[], u64::MAX))?;
+    asked(&rt, alloc, pagers, SPENT_BEFORE)?;
     Ok(())
 }
 
-// A page goes to a slot and comes back, whatever the pagers are.
-fn keeps_a_page<X: Pager>(
+// Two pagers that tell these counters. The first has counted so many failures.
+fn two_counted(
+    alloc: Global,
+    (first, other): (&Counter, &Counter),
+    slots: u32,
+    failures: u64,
+) -> Result<Vec<CountingPager>, AllocError> {
+    let mut pagers = Vec::with_capacity(alloc, 2)?;
+    pagers.push(first.pager(slots, failures)?)?;
+    pagers.push(other.pager(slots, 0)?)?;
+    Ok(pagers)
+}
+
+// Turns the first area off, and drops the swap.
+fn turned_off<X: Pager>(
     rt: &impl Abort,
     alloc: Global,
     pagers: Vec<X>,
+    counter: &Counter,
 ) -> Result<(), HostMemory> {
     let mut swap = swap_of(rt, alloc, pagers)?;
-    assert_eq!(rt; swap.take_slot(page(0)), Some(Slot { area: 0, slot: 0 }));
-    assert_eq!(rt; write(rt, &mut swap, 0, 0), Ok(()));
-    assert_eq!(rt; read(rt, &mut swap, 0, 0), Ok(P));
+    turn_off(rt, &mut swap, 0);
+    assert!(rt; counter.counts() == (0, 1));
     Ok(())
 }
 
@@ -255,32 +300,29 @@ fn keeps_a_page<X: Pager>(
 fn pagers_are_told_and_dropped_once(rt: HostRuntime) -> Result<(), Fail> {
     let alloc = rt.alloc();
     let counter = Counter::new(alloc)?;
-    let mut pagers = Vec::with_capacity(alloc, 2)?;
-    for _i in 0..2 {
-        pagers.push(counter.pager(1, 0)?)?;
-    }
-    let mut swap = swap_of(&rt, alloc, pagers)?;
-    turn_off(&rt, &mut swap, 0);
-    assert_eq!(rt; counter.counts(), (0, 1));
-    drop(swap);
-    assert_eq!(rt; counter.counts(), (0, 2));
+    let pagers = two_counted(alloc, (&counter, &counter), 1, 0)?;
+    turned_off(&rt, alloc, pagers, &counter)?;
+    assert!(rt; counter.counts() == (0, 2));
     Ok(())
 }
 
 // Takes the four slots of two areas, and gives back the second of each.
-fn give_second_slots(
+fn give_second_slots<X: Pager>(
     rt: &impl Abort,
-    swap: &mut Swap<CountingPager>,
+    alloc: Global,
+    pagers: Vec<X>,
     first: &Counter,
     other: &Counter,
-) {
+) -> Result<(), HostMemory> {
+    let mut swap = swap_of(rt, alloc, pagers)?;
     for number in 0..4 {
         assert!(rt; swap.take_slot(page(number)).is_some());
     }
-    give(rt, swap, 1, 1);
-    assert_eq!(rt; (first.discards(), other.discards()), ((0, 0), (1, 1)));
-    give(rt, swap, 0, 1);
-    assert_eq!(rt; (first.discards(), other.discards()), ((1, 1), (1, 1)));
+    give(rt, &mut swap, LAST);
+    assert!(rt; first.discards() == (0, 0) && other.discards() == (1, 1));
+    give(rt, &mut swap, SECOND);
+    assert!(rt; first.discards() == (1, 1) && other.discards() == (1, 1));
+    Ok(())
 }
 
 // Also where the area's pager is spent: it is asked no more, but told.
@@ -289,20 +331,28 @@ fn a_slot_given_back_is_discarded(rt: HostRuntime) -> Result<(), Fail> {
     let alloc = rt.alloc();
     let first = Counter::new(alloc)?;
     let other = Counter::new(alloc)?;
-    let mut pagers = Vec::with_capacity(alloc, 2)?;
-    pagers.push(first.pager(2, u64::MAX)?)?;
-    pagers.push(other.pager(2, 0)?)?;
-    let mut swap = swap_of(&rt, alloc, pagers)?;
-    give_second_slots(&rt, &mut swap, &first, &other);
+    let pagers = two_counted(alloc, (&first, &other), 2, u64::MAX)?;
+    give_second_slots(&rt, alloc, pagers, &first, &other)?;
     Ok(())
 }
+
+fn two_boxes(alloc: Global) -> Result<Vec<AnyPager>, AllocError> {
+    let mut pagers: Vec<AnyPager> = Vec::with_capacity(alloc, 2)?;
+    pagers.push(Box::new(alloc, fuse(alloc, &[], 0)?)?)?;
+    pagers.push(Box::new(alloc, RamPager::new(alloc, 1)?)?)?;
+    Ok(pagers)
+}
+
+// A page goes to a slot and comes back.
+const KEPT: &[(Wish, u64)] = &[
+    (Wish::Take(Some(FIRST)), 1),
+    (Wish::Write(0, true), 1),
+    (Wish::Read(0, true), 1),
+];
 
 #[test]
 fn boxed_pagers_keep_a_page(rt: HostRuntime) -> Result<(), Fail> {
     let alloc = rt.alloc();
-    let mut pagers: Vec<AnyPager> = Vec::with_capacity(alloc, 2)?;
-    pagers.push(Box::new(alloc, fuse(alloc, &[], 0)?)?)?;
-    pagers.push(Box::new(alloc, RamPager::new(alloc, 1)?)?)?;
-    keeps_a_page(&rt, alloc, pagers)?;
+    asked(&rt, alloc, two_boxes(alloc)?, KEPT)?;
     Ok(())
 }

@@ -29,15 +29,15 @@ impl fmt::Display for FaultKind {
 
     fn fmt<W: fmt::Write>(&self, f: &mut fmt::Formatter<W>) -> fmt::Result {
         match self {
-            FaultKind::TooLong => write!(f, "script too long"),
-            FaultKind::BadByte => write!(f, "bad byte"),
-            FaultKind::NoLimits => write!(f, "no limits line"),
-            FaultKind::BadLine => write!(f, "bad line"),
-            FaultKind::BadNumber => write!(f, "bad number"),
+            FaultKind::TooLong => f.write_str("script too long"),
+            FaultKind::BadByte => f.write_str("bad byte"),
+            FaultKind::NoLimits => f.write_str("no limits line"),
+            FaultKind::BadLine => f.write_str("bad line"),
+            FaultKind::BadNumber => f.write_str("bad number"),
             FaultKind::BadLimits(number) => write!(f, "bad limits {number}"),
-            FaultKind::UnknownProcess => write!(f, "unknown process"),
-            FaultKind::Twice => write!(f, "process declared twice"),
-            FaultKind::TooMany => write!(f, "too many lines"),
+            FaultKind::UnknownProcess => f.write_str("unknown process"),
+            FaultKind::Twice => f.write_str("process declared twice"),
+            FaultKind::TooMany => f.write_str("too many lines"),
         }
     }
 }

@@ -1,4 +1,5 @@
-use Rattle.shm_fault.proofs.Names.{Some, IsSwap, with_slot_owner, with_slot_page}
+use Rattle.shm_fault.proofs.Names.{◌∙◌, Some, IsSwap, with_slot_owner, with_slot_page}
+use Rattle.shm_fault.proofs.Sound.{GoesOn-trans}
 use Rattle.shm_fault.proofs.Areas.{relocated, relocated-not, cause-within}
 use Rattle.shm_fault.proofs.moving.write_outside.Goals as goal
 
@@ -18,3 +19,15 @@ returns-in-Err-clause-err g c =
 pub returns-in-Err-clause-cause : goal.returns-in-Err-clause-cause
 returns-in-Err-clause-cause g c =
     cause-within c.args.swap.now c.take_outside.new.self c.write_slot.new.self c.give_slot-in-Err.new.self c.requires.sound c.take_outside.ensures.steady c.write_slot.ensures.goes_on c.give_slot-in-Err.ensures.steady c.in-Err.ensures.cause
+
+pub returns-in-Ok-clause-goes_on : goal.returns-in-Ok-clause-goes_on
+returns-in-Ok-clause-goes_on g c = GoesOn-trans _ _ _ (GoesOn-trans _ _ _ c.take_outside.ensures.steady.goes_on c.write_slot.ensures.goes_on) c.give_slot.ensures.steady.goes_on
+
+pub returns-in-Err-clause-goes_on : goal.returns-in-Err-clause-goes_on
+returns-in-Err-clause-goes_on g c = GoesOn-trans _ _ _ (GoesOn-trans _ _ _ c.take_outside.ensures.steady.goes_on c.write_slot.ensures.goes_on) c.give_slot-in-Err.ensures.steady.goes_on
+
+pub returns-in-Ok-clause-sizes : goal.returns-in-Ok-clause-sizes
+returns-in-Ok-clause-sizes g c = c.give_slot.ensures.steady.same_sizes ∙ c.write_slot.ensures.sizes ∙ c.take_outside.ensures.steady.same_sizes
+
+pub returns-in-Err-clause-sizes : goal.returns-in-Err-clause-sizes
+returns-in-Err-clause-sizes g c = c.give_slot-in-Err.ensures.steady.same_sizes ∙ c.write_slot.ensures.sizes ∙ c.take_outside.ensures.steady.same_sizes

@@ -1,5 +1,7 @@
 use Rattle.shm_attach.proofs.Names.{◌≡◌, ◌∙◌, sym, refl, arith, eq-eqb, false, Some, get, frame_of, seg_in, IsHeld}
 use Rattle.shm_areas.specs.declared.piece.Piece.{Piece}
+use Rattle.shm_attach.proofs.Processes.{some_if-le}
+use Rattle.shm_attach.proofs.Tied.{held-counted}
 use Rattle.shm_attach.proofs.tables.Tables.hold.Given.{Over}
 use Rattle.shm_attach.proofs.tables.Tables.hold.Goals.{After-replace}
 use Rattle.shm_attach.proofs.tables.Tables.hold.Goals as goal
@@ -17,6 +19,11 @@ held g c =
     record { seg = c.in_ok-extend.ensures.seg c.in-Some.key ∙ own; pages = omega (arith, c.in_ok-extend.ensures.pages seg own) } in
     let counts = rw (eq-eqb seg seg refl) at (c.replace.ensures.counts seg) in
     c.replace.ensures.held (whole g c) before (omega (arith, counts))
+
+pub returns-in-Some-clause-held : goal.returns-in-Some-clause-held
+returns-in-Some-clause-held g c = λ p own.
+    let some = held-counted c.args.self.now p c.requires.tied own in
+    c.replace.ensures.held p (c.in_ok-extend.ensures.held p own) (omega (arith, some, c.in_ok-extend.ensures.counts p.seg, c.replace.ensures.counts p.seg, some_if-le p.seg c.args.seg 0))
 
 pub returns-in-Some-clause-seg : goal.returns-in-Some-clause-seg
 returns-in-Some-clause-seg g c = (held g c).seg

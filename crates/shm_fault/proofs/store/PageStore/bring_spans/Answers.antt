@@ -18,3 +18,15 @@ bring_two-requires-clause-frames g c = (
 
 pub bring_one-requires-clause-frame : goal.bring_one-requires-clause-frame
 bring_one-requires-clause-frame g c = first_frame c.args.self.now c.args.spans.now c.in-Some.first.now c.in-Some.ensures.value c.requires.frames
+
+pub returns-in-Some-get-clause-here : goal.returns-in-Some-get-clause-here
+returns-in-Some-get-clause-here g c = rw (two g (goal.at.returns-in-Some-get-clause-here g c).After-bring_two) c.bring_two.ensures.here
+
+pub returns-in-Some-get-clause-brings : goal.returns-in-Some-get-clause-brings
+returns-in-Some-get-clause-brings g c = rw (two g (goal.at.returns-in-Some-get-clause-brings g c).After-bring_two) c.bring_two.ensures.brings
+
+pub returns-in-None-clause-here : goal.returns-in-None-clause-here
+returns-in-None-clause-here g c = rw (one g (goal.at.returns-in-None-clause-here g c).After-bring_one) c.bring_one.ensures.here
+
+pub returns-in-None-clause-brings : goal.returns-in-None-clause-brings
+returns-in-None-clause-brings g c = rw (one g (goal.at.returns-in-None-clause-brings g c).After-bring_one) c.bring_one.ensures.brings

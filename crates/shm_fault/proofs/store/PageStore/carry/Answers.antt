@@ -1,4 +1,4 @@
-use Rattle.shm_fault.proofs.Names.{◌≡◌, None, Some, ap, arith, PageRec, rec_by, HasPage, common_steps, nat_tests}
+use Rattle.shm_fault.proofs.Names.{◌≡◌, None, Some, refl, ap, arith, HasSlot, owner_of, PageRec, rec_by, HasPage, SameOwned, common_steps, nat_tests}
 use Rattle.shm_fault.proofs.Seen.{seen}
 use Rattle.shm_fault.proofs.Sound.{slot-own}
 use Rattle.shm_fault.proofs.Pages.{has-slot, still-with}
@@ -6,7 +6,7 @@ use Rattle.shm_fault.proofs.Changes.{Keeps}
 use Rattle.shm_fault.proofs.Areas.{has-room, keeps-carried, keeps-owned, cleared-relocated}
 use Rattle.shm_fault.proofs.store.PageStore.carry.Given as given
 use Rattle.shm_fault.proofs.store.PageStore.carry.Goals as goal
-use Rattle.shm_fault.proofs.store.PageStore.carry.Goals.{After-self, After-set_page}
+use Rattle.shm_fault.proofs.store.PageStore.carry.Goals.{After-self, After-relocate, After-set_page}
 
 place : (g : given.Over) (c : After-self g) → rec_by c.self.inside.segs c.args.page ≡ record { frame = None; slot = Some c.args.slot }
 place g c = rw (← c.self.view_is) at c.requires.place
@@ -20,11 +20,24 @@ kept g c =
     rw c.set_page.ensures
     (keeps-carried (seen c.self.inside) c.self.invariant c.args.page c.args.slot c.in-Ok.to c.relocate.new.swap (rw (← c.self.view_is) at c.requires.place) c.in-Ok.ensures.ok e.sound e.sizes e.goes_on)
 
+own : (g : given.Over) (c : After-self g) → HasSlot c.self.inside.swap c.args.slot.area c.args.slot.slot × (owner_of c.self.inside.swap c.args.slot.area c.args.slot.slot ≡ Some c.args.page)
+own g c = slot-own (seen c.self.inside) c.self.invariant c.args.page c.args.slot (ap (λ (p : PageRec). p.slot) (place g c))
+
+-- the slots are owned as they were
+failed : (g : given.Over) (c : After-relocate g) → SameOwned c.self.inside.swap c.relocate.new.swap → Keeps (seen c.self.inside) (record (seen c.self.inside) { swap = c.relocate.new.swap })
+failed g c same =
+    let e = c.relocate.ensures in
+    keeps-owned (seen c.self.inside) c.self.invariant c.relocate.new.swap same e.sound e.sizes e.goes_on
+
+pub relocate-requires-clause-there : goal.relocate-requires-clause-there
+relocate-requires-clause-there g c = (own g (goal.at.relocate-requires-clause-there g c).After-self).0
+
 pub relocate-requires-clause-room : goal.relocate-requires-clause-room
 relocate-requires-clause-room g c =
-    let o = (goal.at.relocate-requires-clause-room g c).After-self in
-    let own = (slot-own (seen c.self.inside) c.self.invariant c.args.page c.args.slot (ap (λ (p : PageRec). p.slot) (place g o))).1 in
-    has-room (seen c.self.inside) c.self.invariant c.args.slot c.args.page own (rw (← c.self.view_is) at c.requires.room)
+    has-room (seen c.self.inside) c.self.invariant c.args.slot c.args.page (own g (goal.at.relocate-requires-clause-room g c).After-self).1 (rw (← c.self.view_is) at c.requires.room)
+
+pub set_page-requires : goal.set_page-requires
+set_page-requires g c = has g (goal.at.set_page-requires g c).After-self
 
 pub invariant_of-self : goal.invariant_of-self
 invariant_of-self g c = (kept g c).sound
@@ -41,7 +54,14 @@ returns-in-Ok-clause-cleared g c = rw (← c.self.view_is) (cleared-relocated c.
 pub returns-in-Ok-clause-sound : goal.returns-in-Ok-clause-sound
 returns-in-Ok-clause-sound g c = (kept g c).sound
 
+pub invariant_of-self-in-Err : goal.invariant_of-self-in-Err
+invariant_of-self-in-Err g c = (failed g (goal.at.invariant_of-self-in-Err g c).After-relocate c.in-Err.ensures.err).sound
+
 pub returns-in-Err-clause-goes : goal.returns-in-Err-clause-goes
-returns-in-Err-clause-goes g c =
-    let e = c.relocate.ensures in
-    rw (← c.self.view_is) (keeps-owned (seen c.self.inside) c.self.invariant c.relocate.new.swap c.in-Err.ensures.err e.sound e.sizes e.goes_on).goes
+returns-in-Err-clause-goes g c = rw (← c.self.view_is) (failed g (goal.at.returns-in-Err-clause-goes g c).After-relocate c.in-Err.ensures.err).goes
+
+pub returns-in-Err-clause-sound : goal.returns-in-Err-clause-sound
+returns-in-Err-clause-sound g c = (failed g (goal.at.returns-in-Err-clause-sound g c).After-relocate c.in-Err.ensures.err).sound
+
+pub returns-in-Err-clause-still : goal.returns-in-Err-clause-still
+returns-in-Err-clause-still g c = rw (← c.self.view_is) (λ r. refl)

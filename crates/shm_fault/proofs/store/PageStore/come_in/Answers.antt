@@ -39,3 +39,18 @@ returns-in-Ok-clause-counts g c =
     counts-more c.args.touched.now _ c.args.self.now c.settle.new.self (one_if (is_some c.page-place.result.slot)) 0
     (ap (λ n. c.args.touched.now.ins + n) (c.from.ensures ∙ byte-one _ ∙ ap one_if c.is_some.ensures)) (ap (λ (v : StoreView). v.ins) c.settle.ensures.rest ∙ c.in-Ok.ensures.ins)
     (omega arith) (ap (λ (v : StoreView). v.outs) c.settle.ensures.rest ∙ ap (λ (v : StoreView). v.outs) c.load.ensures.rest)
+
+pub settle-requires-clause-there : goal.settle-requires-clause-there
+settle-requires-clause-there g c = rw (c.load.ensures.visits c.args.page None).goes.size c.requires.there
+
+pub settle-requires-clause-has : goal.settle-requires-clause-has
+settle-requires-clause-has g c = rw c.load.ensures.rest c.requires.has
+
+pub settle-requires-clause-away : goal.settle-requires-clause-away
+settle-requires-clause-away g c = rw c.load.ensures.rest c.requires.away
+
+pub settle-requires-clause-bytes : goal.settle-requires-clause-bytes
+settle-requires-clause-bytes g c = rw (c.in-Ok.ensures.bytes, c.in-Ok.ensures.swap, ap (λ (v : StoreView). v.segs) c.load.ensures.rest, c.page-place.ensures, ← c.self.view_is) refl
+
+pub returns-in-Ok-clause-hand : goal.returns-in-Ok-clause-hand
+returns-in-Ok-clause-hand g c = ap (λ (v : StoreView). v.hand) c.settle.ensures.rest ∙ ap (λ (v : StoreView). v.hand) c.load.ensures.rest

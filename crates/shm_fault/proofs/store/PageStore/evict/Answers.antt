@@ -1,4 +1,4 @@
-use Rattle.shm_fault.proofs.Names.{◌≡◌, Some, false, List, ap, sym, ◌∙◌, get_or-set_same, Frame, no_frame, frame_at, StoreView}
+use Rattle.shm_fault.proofs.Names.{◌≡◌, Some, false, refl, length-set, rec_by, List, ap, sym, ◌∙◌, get_or-set_same, Frame, no_frame, frame_at, StoreView}
 use Rattle.shm_fault.proofs.Visits.{evicted-gone, evicted-visits}
 use Rattle.shm_fault.proofs.store.PageStore.evict.Goals as goal
 
@@ -20,3 +20,21 @@ returns-in-Ok-clause-visits g c =
     evicted-visits s t₁ c.clean.new.self c.leave-page.new.self f c.leave-page.result c.args.pinned (record (frame_at t₁.frames f) { dirty = false }) (record no_frame { bytes = (frame_at c.clean.new.self.frames f).bytes })
     segs c.clean.ensures.still c.clean.ensures.away c.leave-page.ensures.was c.leave-page.ensures.segs
     c.turn-frame.ensures.goes c.clean.ensures.goes c.leave-page.ensures.goes c.turn-frame.ensures.pin c.in-Ok.ensures.ok c.leave-page.ensures.frames c.turn-frame.ensures.may owner
+
+pub leave-page-requires-clause-there : goal.leave-page-requires-clause-there
+leave-page-requires-clause-there g c = rw (c.in-Ok.ensures.ok, length-set, c.turn-frame.ensures.goes.size) c.turn-frame.ensures.there
+
+pub leave-page-requires-clause-clean : goal.leave-page-requires-clause-clean
+leave-page-requires-clause-clean g c =
+    let t = c.turn-frame.new.self.frames in
+    let f = c.turn-frame.result in
+    rw (c.in-Ok.ensures.ok, get_or-set_same t f (record (frame_at t f) { dirty = false }) no_frame (rw c.turn-frame.ensures.goes.size c.turn-frame.ensures.there)) refl
+
+pub returns-in-Ok-clause-hand : goal.returns-in-Ok-clause-hand
+returns-in-Ok-clause-hand g c = ap (λ (v : StoreView). v.hand) c.leave-page.ensures.rest ∙ ap (λ (v : StoreView). v.hand) c.clean.ensures.rest ∙ c.turn-frame.ensures.hand
+
+pub returns-in-Err-clause-hand : goal.returns-in-Err-clause-hand
+returns-in-Err-clause-hand g c = ap (λ (v : StoreView). v.hand) c.clean.ensures.rest ∙ c.turn-frame.ensures.hand
+
+pub returns-in-Err-clause-err : goal.returns-in-Err-clause-err
+returns-in-Err-clause-err g c = λ r. c.clean.ensures.still r ∙ ap (λ (v : StoreView). (rec_by v.segs r).frame) c.turn-frame.ensures.rest

@@ -1,6 +1,6 @@
 use Rattle.shm_fault.proofs.Names.{◌≡◌, Some, ap, arith, PageRec, rec_by, HasPage, common_steps, nat_tests}
 use Rattle.shm_fault.proofs.Seen.{seen}
-use Rattle.shm_fault.proofs.Sound.{frame-own}
+use Rattle.shm_fault.proofs.Sound.{frame-own, slot-own}
 use Rattle.shm_fault.proofs.Pages.{has-slot, still-with}
 use Rattle.shm_fault.proofs.Changes.{Keeps}
 use Rattle.shm_fault.proofs.Areas.{keeps-back}
@@ -41,3 +41,6 @@ returns-clause-still g c = grind (arith, nat_tests, common_steps, c.set_page.ens
 
 pub returns-clause-sound : goal.returns-clause-sound
 returns-clause-sound g c = (kept g c).sound
+
+pub give_slot-requires : goal.give_slot-requires
+give_slot-requires g c = (slot-own (seen c.self.inside) c.self.invariant c.args.page c.args.slot (ap (λ (p : PageRec). p.slot) (place g (goal.at.give_slot-requires g c).After-self))).0

@@ -1,7 +1,7 @@
-use Rattle.shm_fault.proofs.Names.{◌≡◌, length, ◌∙◌, arith, area_at, held, IsStoreSound, Still, common_steps, nat_tests}
+use Rattle.shm_fault.proofs.Names.{◌≡◌, List, Option, None, ℕ, set, ap, length, ◌∙◌, arith, area_at, held, IsStoreSound, Still, common_steps, nat_tests}
 use Rattle.shm_fault.specs.Store.{frame_of}
 use Rattle.shm_fault.proofs.Seen.{seen}
-use Rattle.shm_fault.proofs.Sound.{cause-after}
+use Rattle.shm_fault.proofs.Sound.{GoesOn-trans, cause-after}
 use Rattle.shm_fault.proofs.Bringing.{kept-locked}
 use Rattle.shm_fault.proofs.Areas.{IsCleaned, cleaned-more, cleaned-there, cleaned-room, cleaned-free, cleaned-off}
 use Rattle.shm_fault.proofs.store.PageStore.move_off.Given as given
@@ -75,3 +75,23 @@ returns-clause-still g c = λ seg page. (cleaned g (goal.at.returns-clause-still
 
 pub returns-clause-kept : goal.returns-clause-kept
 returns-clause-kept g c = grind (arith, nat_tests, common_steps, seen, c.self-2.inside, c.turn_off.new.self, kept-locked, c.args.self.now, cleaned)
+
+pub returns-in-Err-clause-held : goal.returns-in-Err-clause-held
+returns-in-Err-clause-held g c = c.clear_slot.ensures.goes.bytes ∙ c.loop-slot.invariant.goes.bytes
+
+pub returns-in-Err-clause-sizes : goal.returns-in-Err-clause-sizes
+returns-in-Err-clause-sizes g c = c.clear_slot.ensures.goes.same_sizes ∙ c.loop-slot.invariant.goes.same_sizes
+
+pub returns-in-Err-clause-counts : goal.returns-in-Err-clause-counts
+returns-in-Err-clause-counts g c = GoesOn-trans _ _ _ c.loop-slot.invariant.goes.goes_on c.clear_slot.ensures.goes.goes_on
+
+pub returns-clause-gone : goal.returns-clause-gone
+returns-clause-gone g c = c.turn_off.ensures.sizes ∙ ap (λ (xs : List (Option ℕ)). set xs c.args.area None) (cleaned g (goal.at.returns-clause-gone g c).After-self-2).goes.same_sizes
+
+pub returns-clause-counts : goal.returns-clause-counts
+returns-clause-counts g c = GoesOn-trans _ _ _ (cleaned g (goal.at.returns-clause-counts g c).After-self-2).goes.goes_on c.turn_off.ensures.goes_on
+
+pub returns-clause-rest : goal.returns-clause-rest
+returns-clause-rest g c =
+    let rest = (cleaned g (goal.at.returns-clause-rest g c).After-self-2).rest in
+    record { hand = rest.hand; ins = rest.ins; outs = rest.outs }

@@ -1,7 +1,7 @@
-use Rattle.shm_fault.proofs.Names.{Gone, ap, ◌+◌, ◌∙◌, arith, one_if}
+use Rattle.shm_fault.proofs.Names.{Gone, refl, ap, ◌+◌, ◌∙◌, arith, one_if}
 use Rattle.shm_fault.proofs.Seen.{seen}
 use Rattle.shm_fault.proofs.Visits.{moves-more, moves-still}
-use Rattle.shm_fault.proofs.Counting.{byte-one, counts-more}
+use Rattle.shm_fault.proofs.Counting.{byte-one, counts-still, counts-more}
 use Rattle.shm_fault.proofs.store.PageStore.take_frame.Goals as goal
 
 pub returns-in-Ok-clause-visits : goal.returns-in-Ok-clause-visits
@@ -22,3 +22,24 @@ pub returns-in-Ok-clause-counts : goal.returns-in-Ok-clause-counts
 returns-in-Ok-clause-counts g c =
     rw (← c.self.view_is)
     (counts-more c.args.touched.now _ (seen c.self.inside) c.evict.new.self 0 (one_if c.in-Ok.evicted.written) (omega arith) c.evict.ensures.ins (ap (λ n. c.args.touched.now.outs + n) (c.from.ensures ∙ byte-one _)) c.in-Ok.ensures.outs)
+
+pub evict-requires : goal.evict-requires
+evict-requires g c = record { full = rw c.free_frame.ensures.same c.in-None.ensures.least }
+
+pub returns-in-Some-clause-moves : goal.returns-in-Some-clause-moves
+returns-in-Some-clause-moves g c = λ b m. rw (c.free_frame.ensures.same, c.self.view_is) m
+
+pub returns-in-Some-clause-counts : goal.returns-in-Some-clause-counts
+returns-in-Some-clause-counts g c = rw (c.free_frame.ensures.same, c.self.view_is) (counts-still c.args.touched.now _ _ refl refl)
+
+pub returns-in-Some-clause-hand : goal.returns-in-Some-clause-hand
+returns-in-Some-clause-hand g c = rw (← c.self.view_is, ← c.in-Some.ensures.value) refl
+
+pub returns-in-Ok-clause-hand : goal.returns-in-Ok-clause-hand
+returns-in-Ok-clause-hand g c = rw (← c.self.view_is, ← c.in-None.ensures.value) (rw c.free_frame.ensures.same at c.evict.ensures.hand)
+
+pub returns-in-Err-clause-hand : goal.returns-in-Err-clause-hand
+returns-in-Err-clause-hand g c = rw (← c.self.view_is, ← c.in-None.ensures.value) (rw c.free_frame.ensures.same at c.evict.ensures.hand)
+
+pub returns-in-Err-clause-counts : goal.returns-in-Err-clause-counts
+returns-in-Err-clause-counts g c = rw (← c.self.view_is) (counts-still c.args.touched.now _ _ c.evict.ensures.ins c.in-Err.ensures.outs)

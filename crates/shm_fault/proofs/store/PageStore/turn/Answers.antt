@@ -14,6 +14,17 @@ kept g c =
     let hand = next-lt i.frames c.choose.new.frames c.choose.result clock.size clock.there c.choose.ensures.hand in
     keeps-alike (seen i) c.self.invariant c.choose.new.frames c.choose.new.hand clock.size alike hand
 
+pub returns-clause-there : goal.returns-clause-there
+returns-clause-there g c = rw (← c.self.view_is) c.choose.ensures.clock.there
+
+pub returns-clause-alike : goal.returns-clause-alike
+returns-clause-alike g c =
+    let i = c.self.inside in
+    rw (← c.self.view_is) (clock-alike (may_go (unlocked i.segs) c.args.pinned i.frames) i.hand i.frames c.choose.result c.choose.new.frames c.choose.ensures.clock)
+
+pub returns-clause-victim : goal.returns-clause-victim
+returns-clause-victim g c = rw (← c.self.view_is) c.choose.ensures.victim
+
 pub choose-requires-clause-one : goal.choose-requires-clause-one
 choose-requires-clause-one g c =
     let i = c.self.inside in

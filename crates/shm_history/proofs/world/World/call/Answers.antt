@@ -7,13 +7,13 @@ use Rattle.shm_history.proofs.Counted.{counted_more}
 use Rattle.shm_history.proofs.world.World.call.Goals as goal
 
 -- the reply is recorded behind a history that led to the machine
-pub invariant_of-self-in-Ok : goal.invariant_of-self-in-Ok
-invariant_of-self-in-Ok g c =
+pub invariant_of-self-2 : goal.invariant_of-self-2
+invariant_of-self-2 g c =
     let old : List Event = c.self.inside.history.items in
-    let e : Event = event c.args.pid c.args.call.now c.in-Ok.reply in
-    let called = c.call-answer.ensures in
+    let e : Event = event c.args.pid c.args.call.now c.call_into.new.reply in
+    let called = c.in_ok-call_into.ensures in
     let items : c.push_reserved.new.self.items ≡ old ++ e ∷ [] = rw (c.push_reserved.ensures.items, c.make_room.ensures.items) refl in
-    let counted : c.call-answer.new.self.calls ≡ length old + 1 = rw c.in-Ok.is at called.counted ∙ ap (λ (n : ℕ). n + 1) c.self.invariant.0 in
-    let moved : IsMove c.self.inside.system.machine (length old + 1) e c.call-answer.new.self.machine = rw (c.in-Ok.is, c.self.invariant.0) at called.move_of in
+    let counted : c.call_into.new.self.calls ≡ length old + 1 = called.counted ∙ ap (λ (n : ℕ). n + 1) c.self.invariant.0 in
+    let moved : IsMove c.self.inside.system.machine (length old + 1) e c.call_into.new.self.machine = rw c.self.invariant.0 at called.move_of in
     rw (items, called.opening)
-    (counted ∙ sym (length-append old (e ∷ [])), history_more c.self.inside.system.opening old e _ _ c.self.invariant.1 moved, counted_more old e c.self.inside.system.memory.swap c.call-answer.new.self.memory.swap called.keeps.goes_on c.store.ensures.exact.sound.swap.unspent (rw c.in-Ok.is at called.cause) c.self.invariant.2)
+    (counted ∙ sym (length-append old (e ∷ [])), history_more c.self.inside.system.opening old e _ _ c.self.invariant.1 moved, counted_more old e c.self.inside.system.memory.swap c.call_into.new.self.memory.swap called.keeps.goes_on c.store.ensures.exact.sound.swap.unspent called.cause c.self.invariant.2)

@@ -1,11 +1,27 @@
 use Rattle.shm_segments.proofs.Names.{ap, ◌∙◌, arith, destroyed, held, SegmentsView, common_steps}
 use Rattle.shm_segments.proofs.Finding.{is_live-row}
-use Rattle.shm_segments.proofs.Making.{kept-without}
+use Rattle.shm_segments.proofs.Joins.{same-held}
+use Rattle.shm_segments.proofs.Making.{kept-without, pages-within}
 use Rattle.shm_segments.proofs.Remembered.{runs-without}
 use Rattle.shm_segments.proofs.segments.Segments.destroy.Goals as goal
 
 pub take-head-requires : goal.take-head-requires
 take-head-requires g c = is_live-row (held c.self.inside.store) c.self.inside.table c.args.seg (rw (← c.self.view_is) at c.requires)
+
+pub drop_segment-requires : goal.drop_segment-requires
+drop_segment-requires g c =
+    let there = is_live-row (held c.self.inside.store) c.self.inside.table c.args.seg (rw (← c.self.view_is) at c.requires) in
+    record { there = same-held (held c.self.inside.store) c.self.inside.table c.args.seg c.self.invariant.kept.agree ∙ there }
+
+pub overflow_sub-self : goal.overflow_sub-self
+overflow_sub-self g c =
+    let within = pages-within (held c.self.inside.store) c.self.inside.table c.self.inside.reserved c.self.inside.locked c.args.seg c.take-head.result c.self.invariant.kept c.take-head.ensures.value in
+    rw c.pages_of.ensures.value within.0
+
+pub overflow_sub-self-2 : goal.overflow_sub-self-2
+overflow_sub-self-2 g c =
+    let within = pages-within (held c.self.inside.store) c.self.inside.table c.self.inside.reserved c.self.inside.locked c.args.seg c.take-head.result c.self.invariant.kept c.take-head.ensures.value in
+    rw c.pages_locked.ensures within.1
 
 pub invariant_of-self : goal.invariant_of-self
 invariant_of-self g c =
@@ -19,3 +35,9 @@ returns-clause-table g c =
 
 pub returns-clause-runs : goal.returns-clause-runs
 returns-clause-runs g c = grind (arith, common_steps, c.drop_segment.ensures, c.self.view_is, runs-without)
+
+pub returns-clause-sizes : goal.returns-clause-sizes
+returns-clause-sizes g c = rw (← c.self.view_is) c.drop_segment.ensures.sizes
+
+pub returns-clause-still : goal.returns-clause-still
+returns-clause-still g c = rw (← c.self.view_is) c.drop_segment.ensures.still

@@ -1,4 +1,4 @@
-use Rattle.shm_segments.proofs.Names.{ap, arith, held, SegmentsView, common_steps}
+use Rattle.shm_segments.proofs.Names.{ap, arith, SegmentsView, common_steps}
 use Rattle.shm_segments.proofs.Sums.{reserved-joined}
 use Rattle.shm_segments.proofs.Remembered.{runs-same}
 use Rattle.shm_segments.proofs.segments.Segments.move_off.Goals as goal

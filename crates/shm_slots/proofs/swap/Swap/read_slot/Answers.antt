@@ -1,12 +1,13 @@
-use Rattle.std.proofs.lemmas.Result.{IfErr-weaker}
+use Rattle.std.proofs.Common.{refl, arith}
+use Rattle.std.proofs.lemmas.Result.{IfErr-weaker, IfOk-weaker}
 use Rattle.shm_slots.specs.View.{HasSlot}
-use Rattle.shm_slots.proofs.Changes.{Asked, asked, SameSlots-asked}
+use Rattle.shm_slots.proofs.Changes.{area-within, Asked, asked, asked-same, slot-within, SameSlots-asked}
 use Rattle.shm_slots.proofs.swap.Swap.read_slot.Given.{Over}
 use Rattle.shm_slots.proofs.swap.Swap.read_slot.Goals as goal
 use Rattle.shm_slots.proofs.swap.Swap.read_slot.Goals.{After-stays_unspent-self-inside}
 
 done : (g : Over) (c : After-stays_unspent-self-inside g)
-    → Asked c.read-result.result (record { areas = c.self.inside.areas.items; never_spent = c.self.inside.never_spent }) c.args.slot.area c.read-result.new.self
+    → Asked c.read-result.result (record { areas = c.self.inside.areas.items; never_spent = c.self.inside.never_spent }) c.args.slot.area c.index_mut-area.result.now c.read-result.new.self
 done g c =
     let there : HasSlot (record { areas = c.self.inside.areas.items; never_spent = c.self.inside.never_spent }) c.args.slot.area c.args.slot.slot = rw (← c.self.view_is) at c.requires in
     let e = c.read-result.ensures in
@@ -30,3 +31,25 @@ returns-clause-sizes g c = rw (← c.self.view_is) (done g (goal.at.returns-clau
 
 pub returns-clause-sound : goal.returns-clause-sound
 returns-clause-sound g c = invariant_of-self g c
+
+pub returns-clause-ok : goal.returns-clause-ok
+returns-clause-ok g c =
+    let d = done g (goal.at.returns-clause-ok g c).After-stays_unspent-self-inside in
+    rw (← c.self.view_is, c.stays_unspent-self-inside.ensures) (IfOk-weaker c.read-result.result _ _ (λ _ e. asked-same d e) c.read-result.ensures.ok)
+
+pub returns-clause-page : goal.returns-clause-page
+returns-clause-page g c = rw (← c.self.view_is, (done g (goal.at.returns-clause-page g c).After-stays_unspent-self-inside).before) c.read-result.ensures.page
+
+pub returns-clause-err : goal.returns-clause-err
+returns-clause-err g c =
+    let d = done g (goal.at.returns-clause-err g c).After-stays_unspent-self-inside in
+    rw (← c.self.view_is, d.before, d.after) c.read-result.ensures.err
+
+pub returns-clause-others : goal.returns-clause-others
+returns-clause-others g c = rw (← c.self.view_is, c.stays_unspent-self-inside.ensures, (done g (goal.at.returns-clause-others g c).After-stays_unspent-self-inside).after) refl
+
+pub read-result-requires : goal.read-result-requires
+read-result-requires g c = slot-within _ _ _ _ _ c.self.view_is c.index_mut-area.ensures.value c.requires
+
+pub index_mut-area-requires : goal.index_mut-area-requires
+index_mut-area-requires g c = omega (arith, area-within _ _ _ c.self.view_is c.requires.0)

@@ -1,0 +1,18 @@
+use Rattle.shm_attach.proofs.Names.{◌≡◌, ◌++◌, ◌∷◌, [], ℕ, List, Option, length, arith, common_steps, frame_of, TrueEntry}
+use Rattle.shm_attach.proofs.table.Table.extend.Goals as goal
+
+-- one more frame that is that of its page
+true-push : (at : ℕ → ℕ → Option ℕ) (seg count : ℕ) (fs : List (Option ℕ)) (f : Option ℕ) → TrueEntry at (record { seg = seg; count = count; frames = fs }) → f ≡ at seg (length fs) → TrueEntry at (record { seg = seg; count = count; frames = fs ++ f ∷ [] })
+true-push at seg count fs f true here = λ j lt. grind (arith, common_steps, true j)
+
+pub loop-page-preserved : goal.loop-page-preserved
+loop-page-preserved g c =
+    let i = c.loop-page.invariant in
+    let e = c.push_reserved.ensures in
+    record {
+      seg = i.seg;
+      count = i.count;
+      pages = omega (arith, e.len, i.pages);
+      room = omega (arith, e.capacity, i.room);
+      translated = λ was. rw e.items (true-push (frame_of c.args.store.now) c.loop-page.self-inside.seg c.loop-page.self-inside.count c.loop-page.self-inside.frames.items c.frame.result (i.translated was) (rw i.pages c.frame.ensures));
+    }

@@ -1,0 +1,18 @@
+use Rattle.std.proofs.Common.{arith, refl}
+use Rattle.std.proofs.lemmas.List.{length-replicate}
+use Rattle.shm_slots.proofs.area.Area.new.Goals as goal
+
+pub invariant_of-result : goal.invariant_of-result
+invariant_of-result g c = record {
+  small = c.requires;
+  owned = rw (c.in_ok-owners.ensures, length-replicate) c.slots.ensures;
+  gone = λ e. (cc);
+  begun = omega arith;
+  countable = omega arith;
+}
+
+pub returns-clause-made : goal.returns-clause-made
+returns-clause-made g c = rw (c.in_ok-owners.ensures, c.slots.ensures, c.failures-start.ensures) refl
+
+pub returns-clause-sound : goal.returns-clause-sound
+returns-clause-sound g c = invariant_of-result g c

@@ -1,0 +1,5 @@
+use Rattle.shm_slots.proofs.Counts.{used_slots-full}
+use Rattle.shm_slots.proofs.swap.Swap.take_slot.Goals as goal
+
+pub returns-clause-full : goal.returns-clause-full
+returns-clause-full g c = used_slots-full c.take_free.result _ _ _ c.take_free.ensures.found c.take_free.ensures.taken c.take_free.ensures.sound
