@@ -1,4 +1,4 @@
-ghost use Rattle.std.specs.Prelude.{◌≡◌, ℕ, List, ◌+◌, ◌≤◌, ◌<◌, length, IsSome, IfSome, ◌↔◌};
+ghost use Rattle.std.specs.Prelude.{◌≡◌, ℕ, List, ◌+◌, ◌-◌, ◌++◌, ◌≤◌, ◌<◌, length, take, replicate, IsSome, IfSome, ◌↔◌};
 
 use std::marker::Model;
 
@@ -76,6 +76,17 @@ impl Chunk {
         let mut all = [0; 64];
         all[..bytes.len()].copy_from_slice(bytes);
         Some(Chunk { bytes: all, len })
+    }
+
+    /// The first bytes of an array that has zeros behind them. It takes no memory.
+    #[inline(always)]
+    pub fn from_array(bytes: [u8; 64], len: AccessLen) -> Chunk
+        requires zeros { bytes ≡ take len bytes ++ replicate (64 - len) 0 }
+        ensures { result ≡ take len bytes }
+    {
+        // What is read has a proof know its range.
+        let _ = len.get();
+        Chunk { bytes, len }
     }
 
     /// The bytes.

@@ -52,7 +52,8 @@ fn write_outside<P: Pager>(
     }
 }
 
-// Moves the page in a slot to another area.
+// Moves the page in a slot to another area. The page that it holds is on no other call's stack.
+#[inline(never)]
 fn relocate<P: Pager>(swap: &mut Swap<P>, page: PageRef, from: Slot) -> Result<Slot, PagerFault>
     requires there { HasSlot swap.old from.area from.slot }
     requires room { used_slots swap.old + length (area_at swap.old from.area).pages < slots swap.old + used_in (area_at swap.old from.area) }

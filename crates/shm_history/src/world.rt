@@ -162,15 +162,19 @@ impl<P: Pager> World<P> {
         make_room(&mut self.history)?;
         // The memory that the system lends is exact, before the call too.
         let _ = self.system.store();
-        let mut reply = Reply::Done;
-        self.system.call_into(pid, call, &mut reply)?;
-        let kept = &reply;
+        // The reply is put where the event keeps it.
+        let place = self.history.len();
         self.history.push_reserved(Event {
             pid,
             call: *call,
-            reply: *kept,
+            reply: Reply::Done,
         });
-        Ok(reply)
+        let event = &mut self.history[place];
+        if let Err(refused) = self.system.call_into(pid, call, &mut event.reply) {
+            self.history.truncate(place);
+            return Err(refused);
+        }
+        Ok(self.history[place].reply)
     }
 
     /// A flush round: the first `pages` dirty frames of segments that are not locked are written out to

@@ -28,19 +28,17 @@ impl<P: Pager> Kernel<P> {
             return;
         };
         let mut bytes = [0; 64];
-        let out = &mut bytes[..len.get()];
         let mut touched = Touched::none();
-        let read = self.segments.read(spans.as_slice(), out, &mut touched);
+        let read = self
+            .segments
+            .read(spans.as_slice(), &mut bytes[..len.get()], &mut touched);
         // Where a pager failed pages may have moved before.
         self.spaces.note(touched.moved.as_slice());
         if read.is_err() {
             *reply = Reply::Refused(Errno::Sigbus);
             return;
         }
-        match Chunk::new(out) {
-            Some(chunk) => *reply = Reply::Bytes(chunk),
-            None => unreachable!(),
-        }
+        *reply = Reply::Bytes(Chunk::from_array(bytes, len));
     }
 
     #[tactic(auto, using(crate::proofs::Running::keeps_refl))]

@@ -1,4 +1,6 @@
-use Rattle.shm_life.proofs.Names.{◌≡◌, false, Some, sym, ap, ◌∙◌, loaded, span_places, Machine, gives, Bytes, IsCaller, pieces_at, wanted, load-wanted, sizes, SameTable, same-refl, IsWell}
+use Rattle.shm_life.proofs.Names.{◌≡◌, length, refl, arith, common_steps, false, Some, sym, ap, ◌∙◌, loaded, span_places, Machine, gives, Bytes, IsCaller, pieces_at, wanted, load-wanted, sizes, SameTable, same-refl, IsWell}
+use Rattle.std.proofs.Math.Seq.{take-append_seam}
+use Rattle.shm_base.proofs.Padded.{padded}
 use Rattle.shm_life.proofs.Settled.{noted-well, moved-by}
 use Rattle.shm_life.proofs.Changed.{spans-there, asked}
 use Rattle.shm_life.proofs.Running.{ok_fact}
@@ -10,6 +12,16 @@ pub read-read-requires-clause-fit : goal.read-read-requires-clause-fit
 read-read-requires-clause-fit g c =
     rw c.as_slice.ensures.value (spans-there _ _ c.args.caller.now c.in-Ok.spans (rw (← c.self.view_is) at c.requires) c.self.invariant.kept.pieces c.in-Ok.ensures.within c.in-Ok.ensures.pages)
 
+-- as many bytes were read as were asked for
+size : (g : Over) (c : After-note g) → c.args.len ≡ length c.read-read.new.out
+size g c = let kept = c.read-read.auto.out in grind (arith, common_steps)
+
+pub from_array-requires : goal.from_array-requires
+from_array-requires g c =
+    let read = size g (goal.at.from_array-requires g c).After-note in
+    let at : c.get-2.result ≡ length c.read-read.new.out = c.get-2.ensures.value ∙ read in
+    record { zeros = rw at (padded c.read-read.new.out c.read-read.new.out c.args.len read (rw c.get-2.ensures.value at c.get-2.ensures.range.1) refl).1 }
+
 pub returns-clause-step : goal.returns-clause-step
 returns-clause-step g c = λ _.
     let rs = c.self.inside.spaces.runners in
@@ -20,7 +32,8 @@ returns-clause-step g c = λ _.
     let places : wanted false caller.pid c.args.addr c.args.len rs ≡ Some spans = rw c.get.ensures.value at c.in-Ok.ensures.places in
     let step = load-wanted m (pieces_at rs caller.index) c.args.addr c.args.len spans (asked false rs caller c.args.addr c.args.len _ is places) in
     let out = ok_fact c.read-read.result _ (sym c.is_err.ensures.value ∙ c.if-is_err.false) c.read-read.ensures.bytes in
-    let bytes : c.in-Some.chunk ≡ loaded m.table spans = c.in-Some.ensures.value ∙ rw c.as_slice.ensures.value at out in
+    let read = size g (goal.at.returns-clause-step g c).After-note in
+    let bytes : c.from_array.result ≡ loaded m.table spans = c.from_array.ensures ∙ rw read (take-append_seam c.read-read.new.out _) ∙ rw c.as_slice.ensures.value at out in
     rw (← c.self.view_is, c.note.ensures.runners, c.read-read.ensures.table, c.read-read.ensures.access.same_sizes) (step ∙ ap (λ bs. gives m (Bytes bs)) (sym bytes))
 
 -- done or not
