@@ -23,7 +23,7 @@ pub extern "C" fn nog_flush(
     let Some(mut machine) = handle.take(alloc) else {
         return CLOSED;
     };
-    *flushed = NogFlushed::of(&machine.flush(pages));
+    *flushed = NogFlushed::of(&machine.system.flush(pages));
     handle.put(machine);
     DONE
 }
@@ -37,7 +37,7 @@ pub extern "C" fn nog_tally_of(alloc: Global, handle: &mut Handle, tally: &mut N
     let Some(machine) = handle.take(alloc) else {
         return CLOSED;
     };
-    *tally = NogTally::of(&machine.tally());
+    *tally = NogTally::of(&machine.system.tally());
     handle.put(machine);
     DONE
 }
@@ -51,7 +51,7 @@ pub extern "C" fn nog_indexes(alloc: Global, handle: &mut Handle, indexes: &mut 
     let Some(machine) = handle.take(alloc) else {
         return CLOSED;
     };
-    *indexes = machine.indexes();
+    *indexes = machine.system.indexes();
     handle.put(machine);
     DONE
 }
@@ -65,7 +65,7 @@ pub extern "C" fn nog_calls(alloc: Global, handle: &mut Handle, calls: &mut u64)
     let Some(machine) = handle.take(alloc) else {
         return CLOSED;
     };
-    *calls = machine.calls();
+    *calls = machine.system.calls();
     handle.put(machine);
     DONE
 }
@@ -85,7 +85,7 @@ pub extern "C" fn nog_segment_at(
     let Some(machine) = handle.take(alloc) else {
         return CLOSED;
     };
-    let found = machine.segment(index);
+    let found = machine.system.segment(index);
     handle.put(machine);
     match found {
         Some((id, shown)) => {

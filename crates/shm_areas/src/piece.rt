@@ -55,7 +55,7 @@ impl Piece {
     }
 
     /// Whether the piece's segment would begin at the address.
-    pub fn has_origin(&self, addr: u64) -> bool
+    pub(crate) fn has_origin(&self, addr: u64) -> bool
         ensures { result ≡ has_origin addr (bare self.now) }
     {
         self.base as u128 == addr as u128 + PAGE_SIZE as u128 * self.first_page as u128

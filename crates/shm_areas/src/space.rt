@@ -13,7 +13,7 @@ use crate::cut::{count_left, cut_of, replace};
 use crate::piece::{Piece, Place};
 use crate::search::{count_below, count_to, least_gap, piece_in, run_in};
 use bitflags::Flags;
-use shm_base::{AtFlags, END_ADDRESS, Errno, HostMemory, LOWEST_ADDRESS, PAGE_SIZE};
+use shm_base::{AtFlags, END_ADDRESS, Errno, HostMemory, LOWEST_ADDRESS, MOST_PIECES, PAGE_SIZE};
 use std::alloc::Global;
 use std::marker::Model;
 
@@ -49,7 +49,7 @@ impl Space {
     pub fn new(alloc: Global) -> Result<Space, HostMemory>
         ensures { IfOk result (λ s. s ≡ []) }
     {
-        let pieces = Vec::with_capacity(alloc, 256)?;
+        let pieces = Vec::with_capacity(alloc, MOST_PIECES)?;
         Ok(Space { pieces })
     }
 

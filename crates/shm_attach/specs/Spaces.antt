@@ -5,7 +5,7 @@ use Rattle.shm_base.specs.Step.{Caller as FlatCaller, caller_from}
 use Rattle.shm_fault.specs.Store.{StoreView, frame_of}
 use Rattle.shm_attach.specs.declared.process.Caller.{Caller}
 
--- one page of one piece, and the frame that the piece keeps for it
+-- one page of a segment, and the frame that the table of its pieces keeps for it
 pub record Translation : Type 0 where
   pub seg : ℕ
   pub page : ℕ

@@ -4,13 +4,14 @@ ghost use Rattle.shm_areas.specs.declared.piece.Piece.{Piece as Stored};
 
 use arrayvec::ArrayVec;
 use shm_areas::Piece;
+use shm_base::MOST_PIECES;
 use std::marker::Model;
 
 /// The segments that lost pieces in one call, by rising base: a segment stands here once for each piece
 /// that went or was cut. There are at most 256.
 #[derive(Debug)]
 pub struct Lost {
-    segments: ArrayVec<u32, 256>,
+    segments: ArrayVec<u32, MOST_PIECES>,
 }
 
 impl Drop for Lost {

@@ -1,5 +1,6 @@
 ghost use Rattle.std.specs.Prelude.{◌≡◌, ℕ, List, ◌+◌, ◌-◌, ◌++◌, ◌≤◌, ◌<◌, length, take, replicate, IsSome, IfSome, ◌↔◌};
 
+use crate::bounds::LONGEST_ACCESS;
 use std::marker::Model;
 
 /// How many bytes an access takes: 1 to 64.
@@ -24,7 +25,7 @@ impl AccessLen {
         ensures which { IsSome result ↔ (1 ≤ len) × (len ≤ 64) }
         ensures value { IfSome result (λ a. a ≡ len) }
     {
-        if len < 1 || len > 64 {
+        if len < 1 || len > LONGEST_ACCESS as u64 {
             return None;
         }
         Some(AccessLen { len: len as u8 })
@@ -43,7 +44,7 @@ impl AccessLen {
 #[derive(Clone, Copy, Debug)]
 pub struct Chunk {
     // Those behind the length are zeros, so that its bytes tell a chunk's fields.
-    bytes: [u8; 64],
+    bytes: [u8; LONGEST_ACCESS],
     len: AccessLen,
 }
 
@@ -73,14 +74,14 @@ impl Chunk {
         ensures value { IfSome result (λ c. c ≡ bytes.now) }
     {
         let len = AccessLen::new(bytes.len() as u64)?;
-        let mut all = [0; 64];
+        let mut all = [0; LONGEST_ACCESS];
         all[..bytes.len()].copy_from_slice(bytes);
         Some(Chunk { bytes: all, len })
     }
 
     /// The first bytes of an array that has zeros behind them. It takes no memory.
     #[inline(always)]
-    pub fn from_array(bytes: [u8; 64], len: AccessLen) -> Chunk
+    pub fn from_array(bytes: [u8; LONGEST_ACCESS], len: AccessLen) -> Chunk
         requires zeros { bytes ≡ take len bytes ++ replicate (64 - len) 0 }
         ensures { result ≡ take len bytes }
     {

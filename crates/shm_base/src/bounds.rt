@@ -12,6 +12,9 @@ pub const END_ADDRESS: u64 = 0x7fff_ffff_f000;
 /// How many indexes a table of segments may have. An identifier is its index and so often a sequence number.
 pub const INDEXES: u32 = 32768;
 
+/// How many segments may be destroyed at an index: one for each sequence number of its identifiers.
+pub const SEQUENCES: u32 = 65536;
+
 /// The largest identifier.
 pub const LAST_ID: u32 = 2_147_483_647;
 
@@ -29,6 +32,18 @@ pub const MOST_AREAS: usize = 8;
 
 /// The most slots of a swap area.
 pub const MOST_SLOTS: u32 = 65536;
+
+/// The most bytes of a load or a store.
+pub const LONGEST_ACCESS: usize = 64;
+
+/// The largest limits: the most bytes of a segment, the most segments, the most pages of all segments, the most frames.
+pub const MOST_SHMMAX: u64 = 16_777_216;
+
+pub const MOST_SHMMNI: u64 = 4096;
+
+pub const MOST_SHMALL: u64 = 65536;
+
+pub const MOST_FRAMES: u64 = 4096;
 
 /// The most pages that a flush line of a script asks for.
 pub const MOST_FLUSHED: u32 = 4096;

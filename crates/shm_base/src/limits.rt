@@ -1,5 +1,6 @@
 ghost use Rattle.std.specs.Prelude.{◌≡◌, ◌+◌, ◌≤◌, ◌<◌};
 
+use crate::bounds::{MOST_FRAMES, MOST_SHMALL, MOST_SHMMAX, MOST_SHMMNI};
 use std::marker::Model;
 use thiserror::Error;
 
@@ -47,16 +48,16 @@ impl Limits {
     ) -> Result<Limits, BadLimits>
         ensures { result ≡ limits_of shmmax shmmni shmall frames memlock }
     {
-        if shmmax < 1 || shmmax > 16777216 {
+        if shmmax < 1 || shmmax > MOST_SHMMAX {
             return Err(BadLimits(1));
         }
-        if shmmni < 1 || shmmni > 4096 {
+        if shmmni < 1 || shmmni > MOST_SHMMNI {
             return Err(BadLimits(2));
         }
-        if shmall < 1 || shmall > 65536 {
+        if shmall < 1 || shmall > MOST_SHMALL {
             return Err(BadLimits(3));
         }
-        if frames < 2 || frames > 4096 {
+        if frames < 2 || frames > MOST_FRAMES {
             return Err(BadLimits(4));
         }
         if memlock > frames - 2 {

@@ -4,6 +4,7 @@ use Rattle.std.specs.List.{flat_map, list_any}
 use Rattle.shm_base.specs.declared.paging.PageRef.{PageRef}
 use Rattle.shm_base.specs.declared.paging.Slot.{Slot}
 use Rattle.shm_base.specs.declared.paging.Span.{Span}
+pub use Rattle.shm_base.specs.Spans.{page_of}
 use Rattle.shm_plain.specs.Held.{Held}
 use Rattle.shm_pager.specs.Pages.{zero_page}
 use Rattle.shm_slots.specs.View.{SwapView, page_in}
@@ -46,10 +47,6 @@ rec_of s seg page = rec_by s.segs (record { seg = seg; page = page })
 -- the residency: the frame of a page that is resident
 unfoldable pub frame_of : StoreView → ℕ → ℕ → Option ℕ
 frame_of s seg page = (rec_of s seg page).frame
-
--- the page of a stretch
-abbrev pub page_of : Span → ℕ
-page_of p = p.at / 4096
 
 abbrev pub ref_of : Span → PageRef
 ref_of p = record { seg = p.seg; page = page_of p }

@@ -3,7 +3,7 @@ use bitflags::Flags;
 use shm_base::{
     AccessLen, AtFlags, Call, Chunk, Errno, Event, GetFlags, Perm, Reply, ShmidDs, Status, Tally,
 };
-use shm_print::{call_text, event_text, reply_text, segment_line, usage_text};
+use shm_print::{event_text, reply_text, segment_line, usage_text};
 use std::test::Fail;
 
 #[test]
@@ -69,7 +69,13 @@ fn printed_calls(rt: HostRuntime) -> Result<(), Fail> {
         (Call::Exit, "exit"),
     ];
     for (call, text) in &printed {
-        assert!(rt; call_text(alloc, call)?.as_str() == *text, "{text}");
+        let event = Event {
+            pid: 7,
+            call: *call,
+            reply: Reply::Done,
+        };
+        let line = format!(in alloc; "3 7 {text} = ok\n")?;
+        assert!(rt; event_text(alloc, 3, &event)?.as_str() == line.as_str(), "{text}");
     }
     Ok(())
 }

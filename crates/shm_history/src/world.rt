@@ -112,13 +112,6 @@ impl<P: Pager> World<P> {
         self.history.as_slice()
     }
 
-    /// How many indexes of the table were ever used: none of a segment is as large.
-    pub fn indexes(&self) -> u32
-        ensures { result ≡ length self.now.machine.table }
-    {
-        self.system.indexes()
-    }
-
     /// The segment at an index of the table as stat shows it, with no permission test. None only where no
     /// segment holds the index.
     pub fn segment(&self, index: u32) -> Option<(ShmId, ShmidDs)>

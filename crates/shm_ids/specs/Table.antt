@@ -1,12 +1,10 @@
 -- A table of identifiers: what stands at each index, from 0 on.
 use Rattle.std.specs.Prelude.{ℕ, ◌+◌, ◌*◌, ◌/◌, ◌%◌, ℤ, pos, negsuc, Bool, ◌&&◌, ◌==◌, nat_lt, is_none, is_some, count_by, if◌then◌else◌, List, [], ◌∷◌, ◌++◌, length, Option, Some, None, get_or, set, option_map, Result, Ok, Err}
+pub use Rattle.shm_base.specs.Identifier.{identifier}
 use Rattle.shm_ids.specs.declared.table.Entry.{Entry}
 use Rattle.shm_ids.specs.declared.table.Row.{Row}
 use Rattle.shm_ids.specs.declared.table.LookRefused.{LookRefused}
 use Rattle.shm_ids.specs.declared.table.LookRefused.TheVariants.{Removed, Invalid}
-
-abbrev pub identifier : ℕ → ℕ → ℕ
-identifier index sequence = index + 32768 * sequence
 
 module _ {T : Type 0} where
   -- an index that was never used

@@ -14,7 +14,7 @@ ghost use Rattle.std.specs.Borrow.{sem};
 
 use crate::rows::Rows;
 use indexmap::IndexMap;
-use shm_base::{INDEXES, ShmId};
+use shm_base::{INDEXES, SEQUENCES, ShmId};
 use std::alloc::{AllocError, Global};
 use std::marker::Model;
 use thiserror::Error;
@@ -108,7 +108,7 @@ fn free_from<T>(entries: &Vec<Entry<T>>, first: usize) -> Option<usize>
 {
     for i in first..entries.len() {
         let entry = &entries[i];
-        if entry.row.is_none() && entry.destroyed < 65536 {
+        if entry.row.is_none() && entry.destroyed < SEQUENCES {
             return Some(i);
         }
     }

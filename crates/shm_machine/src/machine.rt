@@ -1,24 +1,20 @@
 //! The machine.
-ghost use Rattle.std.specs.Prelude.{◌≡◌, ◌⊎◌, true, length, IfOk, OnOk, IfErr, None, Some, false, MatchOption};
+ghost use Rattle.std.specs.Prelude.{◌≡◌, ◌⊎◌, true, IfOk, OnOk, IfErr, None, Some, false, MatchOption};
 ghost use Rattle.shm_life.specs.Start.{start_error};
-ghost use Rattle.shm_life.specs.Counts.{Counts};
-ghost use Rattle.shm_life.specs.Listed.{segment_at};
 ghost use Rattle.shm_life.specs.declared.start.StartError.TheVariants as start;
 ghost use Rattle.shm_machine.specs.Opened.{IsOpened, sizes_of};
 ghost use Rattle.shm_base.specs.declared.call.Reply.TheVariants as replies;
 ghost use Rattle.shm_base.specs.History.{is_refusal};
-ghost use Rattle.shm_machine.specs.Answered.{Answered, Flushed, told, done, fits};
+ghost use Rattle.shm_machine.specs.Answered.{Answered, told, done, fits};
 
 use crate::area::AreaPager;
 use crate::opening::{Area, Failure, are_sizes_sound, pagers_for};
 use crate::refusal::Refusal;
-use shm_base::{
-    Call, Errno, FlushReport, HostMemory, Limits, Process, Reply, ShmId, ShmidDs, Tally,
-};
+use shm_base::{Call, Errno, HostMemory, Limits, MOST_AREAS, Process, Reply};
 use shm_life::{StartError, System};
 use std::alloc::Global;
 
-/// A machine over swap areas of the kinds that there are.
+/// A machine over swap areas of the kinds that there are. What is counted and listed of it, and flushing, are its system's.
 pub struct Machine {
     pub system: System<AreaPager>,
 }
@@ -54,7 +50,7 @@ impl Machine {
         ensures ok { OnOk result (start_error (sizes_of areas.now) processes.now ≡ None) }
         ensures err { IfErr result (λ e. (e ≡ start.HostMemory) ⊎ (start_error (sizes_of areas.now) processes.now ≡ Some e)) }
     {
-        if areas.is_empty() || areas.len() > 8 {
+        if areas.is_empty() || areas.len() > MOST_AREAS {
             return Err(StartError::Areas);
         }
         if !are_sizes_sound(areas) {
@@ -97,42 +93,5 @@ impl Machine {
             Ok(_) => unreachable!(),
             Err(refusal) => Err(refusal),
         }
-    }
-
-    /// Writes the first `pages` dirty frames of segments that are not locked out to their slots. It is no call,
-    /// and the flat machine knows nothing of it.
-    pub fn flush(&mut self, pages: u64) -> FlushReport
-        ensures { Flushed self.old.system pages result self.new.system }
-    {
-        self.system.flush(pages)
-    }
-
-    /// The counts of the machine as they are, and of what its areas did.
-    pub fn tally(&self) -> Tally
-        ensures { Counts self.now.system.calls self.now.system.machine self.now.system.memory result }
-    {
-        self.system.tally()
-    }
-
-    /// How many calls were answered.
-    pub fn calls(&self) -> u64
-        ensures { result ≡ self.now.system.calls }
-    {
-        self.system.calls()
-    }
-
-    /// How many indexes of the table of segments were ever used.
-    pub fn indexes(&self) -> u32
-        ensures { result ≡ length self.now.system.machine.table }
-    {
-        self.system.indexes()
-    }
-
-    /// The segment at an index of the table as stat shows it, with no permission test; none where no segment
-    /// holds the index.
-    pub fn segment(&self, index: u32) -> Option<(ShmId, ShmidDs)>
-        ensures { result ≡ segment_at self.now.system.machine index }
-    {
-        self.system.segment(index)
     }
 }

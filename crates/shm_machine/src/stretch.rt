@@ -7,7 +7,7 @@ ghost use Rattle.shm_machine.specs.Stretched.{StoppedAt, ReadTo, WrittenTo};
 
 use crate::machine::Machine;
 use crate::refusal::Refusal;
-use shm_base::{AccessLen, Call, Chunk, Errno};
+use shm_base::{AccessLen, Call, Chunk, Errno, LONGEST_ACCESS};
 
 /// How far an access came: how many bytes were done, and by what it was stopped where that is not all.
 #[derive(Clone, Copy, Debug, PartialEq, Eq)]
@@ -52,7 +52,7 @@ impl Machine {
     {
         let mut done = 0;
         while done < bytes.len() {
-            let len = (bytes.len() - done).min(64);
+            let len = (bytes.len() - done).min(LONGEST_ACCESS);
             match self.read_on(pid, addr, done, len) {
                 Ok(chunk) => bytes[done..done + len].copy_from_slice(chunk.as_slice()),
                 Err(refusal) => {
@@ -77,7 +77,7 @@ impl Machine {
     {
         let mut done = 0;
         while done < bytes.len() {
-            let len = (bytes.len() - done).min(64);
+            let len = (bytes.len() - done).min(LONGEST_ACCESS);
             match self.write_on(pid, addr, done, &bytes[done..done + len]) {
                 Ok(()) => done += len,
                 Err(refusal) => {

@@ -14,7 +14,7 @@ pub record PagerView : Type 0 where
   pub pages : List (List ℕ)
   pub failed : ℕ
 
--- a pager, pager_seen by the two members of its trait
+-- a pager, seen by the two members of its trait
 abbrev pub pager_seen : {P : Type 0} → (P → List (List ℕ)) → (P → ℕ) → P → PagerView
 pager_seen content failed p = record { pages = content p; failed = failed p }
 

@@ -179,15 +179,6 @@ pub fn push_event(text: &mut String, place: u64, event: &Event) -> Result<(), Al
     text.push_str("\n")
 }
 
-/// The word of a call and its arguments, as they were when the call was made.
-pub fn call_text(alloc: Global, call: &Call) -> Result<String, AllocError>
-    ensures { IfOk result (λ s. string_bytes s ≡ printed.call_text call.now) }
-{
-    let mut text = String::new(alloc);
-    push_call(&mut text, call)?;
-    Ok(text)
-}
-
 /// A reply: an identifier or a number in decimal, an address, bytes as digits, what stat shows, `ok`, or the
 /// name of a refusal.
 pub fn reply_text(alloc: Global, reply: &Reply) -> Result<String, AllocError>

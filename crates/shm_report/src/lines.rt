@@ -28,7 +28,7 @@ pub fn listing<P: Pager>(alloc: Global, world: &World<P>) -> Result<String, Allo
     ensures { IfOk result (λ s. string_bytes s ≡ listing_of world.now.machine) }
 {
     let mut text = header_line(alloc)?;
-    for index in 0..world.indexes() {
+    for index in 0..world.system().indexes() {
         push_line(alloc, &mut text, world.segment(index))?;
     }
     Ok(text)

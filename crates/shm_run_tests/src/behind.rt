@@ -229,7 +229,7 @@ fn look(world: &mut World<RamPager>, transcripts: &[Transcript]) -> Seen {
         events: world.history().len(),
         transcripts: transcripts.len(),
         calls: calls_of(transcripts),
-        indexes: world.indexes(),
+        indexes: world.system().indexes(),
         tally: world.tally(),
         last: last_of(world),
         loaded: loaded(world),

@@ -232,7 +232,7 @@ fn same_segments<P: Pager>(
     world: &mut World<P>,
     plain: &mut World<RamPager>,
 ) -> Result<bool, Fail> {
-    for index in 0..world.indexes() {
+    for index in 0..world.system().indexes() {
         let found = world.segment(index);
         if found != plain.segment(index) {
             return Ok(false);

@@ -3,6 +3,8 @@ use Rattle.std.specs.Prelude.{ℕ, ◌≡◌, ◌≢◌, ◌<◌, ◌≤◌, ◌
 use Rattle.std.specs.List.{list_any}
 use Rattle.shm_base.specs.declared.paging.PageRef.{PageRef}
 use Rattle.shm_base.specs.declared.paging.Slot.{Slot}
+pub use Rattle.shm_base.specs.Segments.{slots_in}
+use Rattle.shm_base.specs.Segments.{slots as slots_of}
 use Rattle.shm_pager.specs.Pages.{PagerView, SlotUnknown, last_count}
 use Rattle.shm_slots.specs.Owners.{used_count}
 
@@ -153,13 +155,9 @@ size_of a = if a.here then Some (length a.pages) else None
 abbrev pub sizes : SwapView → List (Option ℕ)
 sizes s = map size_of s.areas
 
-abbrev pub slots_in : Option ℕ → ℕ
-slots_in None = 0
-slots_in (Some n) = n
-
 -- the slots of the areas that are there
 abbrev pub slots : SwapView → ℕ
-slots s = sum_by slots_in (sizes s)
+slots s = slots_of (sizes s)
 
 -- how many slots of an area are owned
 abbrev pub used_in : AreaView → ℕ

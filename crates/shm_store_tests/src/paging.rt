@@ -24,7 +24,7 @@ fn tally_of<P: Pager>(store: &PageStore<P>) -> PageTally {
     store.tally()
 }
 
-// A segment more. Where memory was wanting all is as before, and it is added once more.
+// A segment more. Where memory was out all is as before, and it is added once more.
 pub(crate) fn add_segment<P: Pager>(
     rt: &impl Abort,
     store: &mut PageStore<P>,

@@ -10,10 +10,10 @@ use crate::operand::{
 };
 use crate::script::{LineAddr, LineCall, LineId};
 use crate::words::Words;
-use shm_base::{AccessLen, LAST_PID};
+use shm_base::{AccessLen, LAST_PID, LONGEST_ACCESS, MOST_AREAS};
 
 /// The largest number of a swap area.
-const LAST_AREA: u32 = 7;
+const LAST_AREA: u32 = MOST_AREAS as u32 - 1;
 
 /// The word of a call.
 #[derive(Clone, Copy)]
@@ -234,7 +234,7 @@ fn load_call(words: &Words<'_>, index: usize) -> Result<LineCall, FaultKind>
     let addr = addr_word(words.at(index))?;
     let len = wanted(words.at(index + 1))?;
     let addr = ranged_addr(addr)?;
-    let len = ranged(len, 1, 64)?;
+    let len = ranged(len, 1, LONGEST_ACCESS as u32)?;
     Ok(LineCall::Load {
         addr,
         len: access_len(len),

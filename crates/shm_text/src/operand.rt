@@ -9,7 +9,7 @@ use crate::fault::FaultKind;
 use crate::number::{Number, read_number};
 use crate::script::{LineAddr, LineId, Variable};
 use bitflags::Flags;
-use shm_base::{AtFlags, Chunk, GetFlags, LAST_ID};
+use shm_base::{AtFlags, Chunk, GetFlags, LAST_ID, LONGEST_ACCESS};
 
 /// An identifier before its range is tested.
 #[derive(Clone, Copy)]
@@ -241,10 +241,10 @@ pub(crate) fn at_flags_word(word: &[u8]) -> Result<AtFlags, FaultKind>
 pub(crate) fn chunk_word(word: &[u8]) -> Result<Chunk, FaultKind>
     ensures { result ≡ chunk_word word.now }
 {
-    if word.len() < 2 || word.len() > 128 {
+    if word.len() < 2 || word.len() > 2 * LONGEST_ACCESS {
         return Err(FaultKind::BadLine);
     }
-    let mut room = [0u8; 64];
+    let mut room = [0u8; LONGEST_ACCESS];
     let bytes = &mut room[..word.len() / 2];
     if hex::decode_to_slice(word, bytes).is_err() {
         return Err(FaultKind::BadLine);

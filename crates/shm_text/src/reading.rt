@@ -9,7 +9,7 @@ use crate::forms::{is_skipped, line_item};
 use crate::lines::Lines;
 use crate::script::{Item, Line, Script};
 use arrayvec::ArrayVec;
-use shm_base::{LONGEST_SCRIPT, Limits, MOST_COMMANDS, Process};
+use shm_base::{LONGEST_SCRIPT, Limits, MOST_COMMANDS, MOST_PROCESSES, Process};
 use std::alloc::{AllocError, Global};
 use std::marker::Model;
 
@@ -18,7 +18,7 @@ use std::marker::Model;
 #[derive(Drop)]
 pub(crate) struct Seen {
     limits: Option<Limits>,
-    pids: ArrayVec<u32, 64>,
+    pids: ArrayVec<u32, MOST_PROCESSES>,
     commands: u32,
 }
 
@@ -63,7 +63,7 @@ impl Seen {
     pub(crate) fn is_full(&self) -> bool
         ensures { result ≡ nat_le 64 (length self.now.pids) }
     {
-        self.pids.len() >= 64
+        self.pids.len() >= MOST_PROCESSES
     }
 
     /// Takes what a line said.
@@ -197,7 +197,7 @@ fn keep(
     Ok(())
 }
 
-/// What the lines of a text say, or the first fault. Where memory is wanting, nothing is known of the lines.
+/// What the lines of a text say, or the first fault. Where memory is out, nothing is known of the lines.
 fn read_lines(alloc: Global, bytes: &[u8]) -> Result<Script, ReadRefused>
     requires { length bytes.now ≤ LONGEST_SCRIPT }
     ensures read { IfOk result (λ script. told (lines_of bytes.now) ≡ Ok script) }

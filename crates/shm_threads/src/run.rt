@@ -33,7 +33,7 @@ use std::thread::{Builder, JoinHandle, Promise, Threads};
 /// The clause says of an outcome: its world has the opening that was handed in; its history is legal; it has a
 /// transcript for each process, in the script's order, which follows the process's lines, or is empty and that
 /// of a child never born; without its marked calls a transcript is the process's own part of the history; only
-/// shmget, shmat and fork are marked; the history has no other pids, and no call of one that was not live.
+/// shmget and shmat are marked; the history has no other pids, and no call of one that was not live.
 pub fn run_threads<R: Threads + Wait + Sync, G: Gate, P: Pager + Send>(
     rt: &R,
     alloc: Global,

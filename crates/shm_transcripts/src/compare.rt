@@ -1,6 +1,6 @@
 //! The comparison of transcripts with a history. What a run with threads promises is what this finds: its workers
 //! themselves promise nothing.
-ghost use Rattle.std.specs.Prelude.{◌≡◌, ◌↔◌, ◌<◌, ◌≤◌, IsNone, IsTrue, All, map, length, drop, true, slice_get};
+ghost use Rattle.std.specs.Prelude.{◌≡◌, ℕ, ◌↔◌, ◌<◌, ◌≤◌, IsNone, IsTrue, All, map, length, drop, true, slice_get};
 ghost use Rattle.shm_base.specs.History.{own_part};
 ghost use Rattle.shm_text.specs.Variables.{no_values};
 ghost use Rattle.shm_transcripts.specs.Transcripts.{commands_of, Follows, told, is_fork_of, is_forked, is_declared, is_child, pid_in, pid_of, HasLines, FitsMark, IsTranscript, IsAdmitted, is_answered, least_of};
@@ -193,13 +193,13 @@ fn is_own(history: &[Event], pid: u32, entries: &[Entry]) -> bool
         if event.pid != pid {
             continue;
         }
-        next = next_answered(entries, next, pid);
+        next = next_answered(entries, next);
         if next >= entries.len() || !is_event(&entries[next], event) {
             return false;
         }
         next += 1;
     }
-    next_answered(entries, next, pid) >= entries.len()
+    next_answered(entries, next) >= entries.len()
 }
 
 // Whether the entry is the event's call with its reply.
@@ -212,17 +212,16 @@ fn is_event(entry: &Entry, event: &Event) -> bool
     }
 }
 
-// The first entry from a place on that is not marked. The pid is read by the contract alone.
-fn next_answered(entries: &[Entry], from: usize, pid: u32) -> usize
+// The first entry from a place on that is not marked.
+fn next_answered(entries: &[Entry], from: usize) -> usize
     requires { from ≤ length entries.now }
     ensures bound { result ≤ length entries.now }
-    ensures same { told pid (drop from entries.now) ≡ told pid (drop result entries.now) }
+    ensures same { (pid : ℕ) → told pid (drop from entries.now) ≡ told pid (drop result entries.now) }
     ensures answered { result < length entries.now → is_answered (slice_get entries.now result) ≡ true }
 {
     let mut next = from;
     while next < entries.len() && entries[next].answer == Answer::HostMemory {
         next += 1;
     }
-    let _ = pid;
     next
 }

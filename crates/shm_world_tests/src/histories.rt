@@ -97,7 +97,7 @@ fn called<P: Pager>(world: &mut World<P>, call: &Call) -> Option<Reply> {
     world.call(1, call).ok()
 }
 
-// The reply to a call. Where memory was wanting the history stays, and the call is made once more.
+// The reply to a call. Where memory was out the history stays, and the call is made once more.
 fn reply<P: Pager>(rt: &impl Abort, world: &mut World<P>, call: &Call) -> Option<Reply> {
     let before = world.history().len();
     if let Some(reply) = called(world, call) {

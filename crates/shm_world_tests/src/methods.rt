@@ -116,9 +116,9 @@ fn each_method(machine: &mut Machine) -> Result<bool, Refusal> {
     let sum = machine.load(1, at, two)?;
     let shown = machine.stat(1, 0)?;
     machine.perform(1, &Call::Fork { child: 2 })?;
-    let report = machine.flush(9);
-    let tally = machine.tally();
-    let listed = machine.segment(0).is_some() && machine.segment(1).is_none();
+    let report = machine.system.flush(9);
+    let tally = machine.system.tally();
+    let listed = machine.system.segment(0).is_some() && machine.system.segment(1).is_none();
     Ok(
         at == 0x40000000
             && before == 0
@@ -127,8 +127,8 @@ fn each_method(machine: &mut Machine) -> Result<bool, Refusal> {
             && report.written == 1
             && tally.events == 6
             && tally.segments == 1
-            && machine.calls() == 6
-            && machine.indexes() == 1
+            && machine.system.calls() == 6
+            && machine.system.indexes() == 1
             && listed,
     )
 }
@@ -168,7 +168,7 @@ fn each_way(machine: &mut Machine) -> Result<bool, Refusal> {
             && past[64] == 9
             && none.done == 0
             && none.stopped.is_none()
-            && machine.calls() == 10,
+            && machine.system.calls() == 10,
     )
 }
 

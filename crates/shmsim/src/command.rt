@@ -7,6 +7,7 @@ ghost use Rattle.shmsim.specs.declared.command.Stop.TheVariants.{Fault};
 
 use clap::error::ErrorKind;
 use clap::{Arg, ArgAction, ArgMatches, Command, Error};
+use shm_base::MOST_AREAS;
 use shm_pager::{MirrorRefused, Pager};
 use shm_program::{RunFault, SwapWord, read_swap};
 use std::alloc::{AllocError, AllocFailed, Global};
@@ -59,7 +60,7 @@ impl<T: Drop> From<AllocFailed<T>> for Stop {
     }
 }
 
-// The two sides have one size, so memory was wanting.
+// The two sides have one size, so memory is out.
 impl<L: Pager, R: Pager> From<MirrorRefused<L, R>> for Stop {
     ghost from_gives = { λ _ r. r ≡ Fault HostMemory };
 
@@ -123,7 +124,7 @@ fn command_line<'a>(alloc: Global) -> Result<Command<'a>, Stop> {
     let command = Command::new(alloc, "shmsim").arg(mode)?;
     let swap = Arg::new(alloc, "swap")
         .required(true)
-        .num_args(1..=8)
+        .num_args(1..=MOST_AREAS)
         .action(ArgAction::Append);
     Ok(command.arg(swap)?)
 }

@@ -1,6 +1,7 @@
 //! The command line.
 use crate::steps::{Steps, read_steps};
 use crate::stop::Stop;
+use shm_base::MOST_AREAS;
 use shm_program::{SwapWord, read_swap};
 use std::alloc::Global;
 use std::env;
@@ -29,7 +30,7 @@ fn read_words(alloc: Global, words: &[String]) -> Result<(Option<Steps>, Vec<Swa
 
 // One to eight swap areas.
 fn read_swaps(alloc: Global, words: &[String]) -> Result<Vec<SwapWord>, Stop> {
-    if words.is_empty() || words.len() > 8 {
+    if words.is_empty() || words.len() > MOST_AREAS {
         return Err(Stop::Usage);
     }
     let mut swaps = Vec::new(alloc);

@@ -17,7 +17,7 @@ returns-then-next-entries c =
     let next = own-next pid i c.args.history.now v c.loop-event-test.true c.event-item.is c.if-event-pid.false in (
       λ f. absurd (let k : false ≡ true = f in cc),
       λ whole. absurd (
-          let here : told pid (drop r es) ≡ v ∷ rest = sym c.next_answered-next.ensures.same ∙ c.loop-event.invariant.1.1 whole ∙ next in
+          let here : told pid (drop r es) ≡ v ∷ rest = sym (c.next_answered-next.ensures.same pid) ∙ c.loop-event.invariant.1.1 whole ∙ next in
           elim c.then-next-entries.branch [
             | then-next-entries-via-then-next-entries w ↦
                 (let none : told pid (drop r es) ≡ [] = ap (told pid) (drop_all r es w.if-next-entries.true) in
@@ -36,4 +36,4 @@ pub returns : goal.returns
 returns c =
     let r = c.next_answered.result in
     let end = no-more-events c.args.pid r c.loop-event.event-index c.args.entries.now c.args.history.now c.loop-event-test.false c.next_answered.ensures.answered in
-    (λ t. c.loop-event.invariant.1.0 (c.next_answered.ensures.same ∙ end.1 t), λ whole. end.0 (sym c.next_answered.ensures.same ∙ c.loop-event.invariant.1.1 whole))
+    (λ t. c.loop-event.invariant.1.0 (c.next_answered.ensures.same c.args.pid ∙ end.1 t), λ whole. end.0 (sym (c.next_answered.ensures.same c.args.pid) ∙ c.loop-event.invariant.1.1 whole))
