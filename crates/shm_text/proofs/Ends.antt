@@ -1,5 +1,5 @@
 -- Where the first line of a text ends.
-use Rattle.shm_text.proofs.Names.{arith, inl, inr, ◌≡◌, ◌<◌, ◌≤◌, ◌+◌, ◌-◌, ◌∙◌, ap, sym, refl, ℕ, zero, suc, List, [], ◌∷◌, length, get_or, take, drop, true, false, eqb, ltb, min, cases_Bool, drop-length, ltb-true, ltb-false, nat_tests, length-take-le, get_or-take, take_all, take-take, drop-take, is_allowed, lines_of, line_end, first_line}
+use Rattle.shm_text.proofs.Names.{common_steps, arith, inl, inr, ◌≡◌, ◌<◌, ◌≤◌, ◌+◌, ◌-◌, ◌∙◌, ap, sym, refl, ℕ, zero, suc, List, [], ◌∷◌, length, get_or, take, drop, true, false, eqb, min, cases_Bool, drop-length, nat_tests, length-take-le, get_or-take, take_all, take-take, drop-take, is_allowed, lines_of, line_end, first_line}
 use Rattle.shm_text.proofs.Cut.{lines_of-cut, lines_of-last}
 
 -- it ends behind a byte of it that is no LF
@@ -24,11 +24,7 @@ ends_at (b ∷ text) (suc at) low within here =
 
 pub ends_within : (text : List ℕ) → line_end text ≤ length text
 ends_within [] = omega arith
-ends_within (b ∷ text) =
-    elim (cases_Bool (eqb b 10)) [
-      | inl here ↦ rw here (omega arith)
-      | inr later ↦ rw later (let rest = ends_within text in omega (arith, rest))
-    ]
+ends_within (b ∷ text) = grind (arith, common_steps, ends_within text)
 
 pub length_line : (text : List ℕ) → length (first_line text) ≡ line_end text
 length_line text = length-take-le (line_end text) text (ends_within text)
@@ -55,13 +51,4 @@ last_line text at on done = take_all (line_end text) text (omega (arith, on, don
 
 -- the lines of a text are its first line and those behind it
 pub first_and_rest : (text : List ℕ) → 0 < length text → lines_of text ≡ first_line text ∷ lines_of (drop (min (line_end text + 1) (length text)) text)
-first_and_rest text some =
-    elim (cases_Bool (ltb (line_end text) (length text))) [
-      | inl within ↦
-          let behind : min (line_end text + 1) (length text) ≡ line_end text + 1 = omega (arith, ltb-true _ _ within) in
-          rw behind (lines_of-cut text (line_end text) (rw within refl))
-      | inr last ↦
-          let behind : min (line_end text + 1) (length text) ≡ length text = omega (arith, ltb-false _ _ last) in
-          let whole : first_line text ≡ text = take_all (line_end text) text (ltb-false _ _ last) in
-          rw (behind, drop-length, whole) (lines_of-last text some (rw last refl))
-    ]
+first_and_rest text some = grind (arith, common_steps, lines_of-cut, take_all, drop-length, lines_of-last)

@@ -1,5 +1,5 @@
 -- The first words of a line decide what it says.
-use Rattle.shm_text.proofs.Names.{arith, ◌≡◌, ◌≤◌, ◌<◌, ◌+◌, ◌∙◌, refl, ℕ, List, take, length, eqb, Bool, true, false, is_some, codes, nat_lt, not, ◌&&◌, ◌||◌, if◌then◌else◌, ok_or, nat_tests, length-take, common_steps, word_at, FaultKind, BadLine, NoLimits, TooMany, Number, LineCall, Verb, ◌>>=◌, wanted, verb_of, operands, call_by, call_with, SeenView, taker, is_skipped, is_command, counted, command, has, declared_pid, command_of}
+use Rattle.shm_text.proofs.Names.{arith, ◌≡◌, ◌≤◌, ◌<◌, ◌+◌, refl, ℕ, List, take, length, eqb, Bool, true, false, is_some, codes, nat_lt, not, ◌&&◌, ◌||◌, if◌then◌else◌, nat_tests, length-take, common_steps, word_at, FaultKind, NoLimits, TooMany, Number, LineCall, Verb, ◌>>=◌, wanted, operands, call_by, call_with, SeenView, taker, is_skipped, is_command, counted, command, has, declared_pid, command_of}
 use Rattle.std.specs.Prelude.{Result, Ok, Err}
 use Rattle.shm_text.specs.declared.calls.Verb.TheVariants as verbs
 use Rattle.shm_text.specs.Calls.{shmget_call, shmat_call, xadd_call, load_call, store_call, set_call, fork_call, swapoff_call, call_words}
@@ -55,49 +55,18 @@ call_by-take verbs.Exit ws i h = refl
 call_by-take verbs.Swapoff ws i h = rw (early ws i (omega arith)) refl
 
 few_operands : (verb : Verb) → operands verb ≤ 4
-few_operands verbs.Shmget = omega arith
-few_operands verbs.Shmat = omega arith
-few_operands verbs.Xadd = omega arith
-few_operands verbs.Shmdt = omega arith
-few_operands verbs.Load = omega arith
-few_operands verbs.Store = omega arith
-few_operands verbs.Stat = omega arith
-few_operands verbs.Set = omega arith
-few_operands verbs.Rmid = omega arith
-few_operands verbs.Lock = omega arith
-few_operands verbs.Unlock = omega arith
-few_operands verbs.Fork = omega arith
-few_operands verbs.Exec = omega arith
-few_operands verbs.Exit = omega arith
-few_operands verbs.Swapoff = omega arith
+few_operands verb = grind (arith, common_steps)
 
 call_plain-take : (ws : List (List ℕ)) (found : Result Verb FaultKind) → (found >>= call_with (take 8 ws) false) ≡ (found >>= call_with ws false)
-call_plain-take ws (Err kind) = refl
-call_plain-take ws (Ok verb) = rw (short ws (1 + 1 + operands verb) (omega (arith, few_operands verb)), call_by-take verb ws 2 (omega arith)) refl
+call_plain-take ws found = grind (arith, common_steps, short, few_operands, call_by-take)
 
 -- a call that a variable takes has fewer operands
 call_taken-take : (ws : List (List ℕ)) (found : Result Verb FaultKind) → (found >>= call_with (take 8 ws) true) ≡ (found >>= call_with ws true)
-call_taken-take ws (Err kind) = refl
-call_taken-take ws (Ok verbs.Shmget) = rw (short ws 7 (omega arith), call_by-take verbs.Shmget ws 4 (omega arith)) refl
-call_taken-take ws (Ok verbs.Shmat) = rw (short ws 7 (omega arith), call_by-take verbs.Shmat ws 4 (omega arith)) refl
-call_taken-take ws (Ok verbs.Xadd) = rw (short ws 6 (omega arith), call_by-take verbs.Xadd ws 4 (omega arith)) refl
-call_taken-take ws (Ok verbs.Shmdt) = refl
-call_taken-take ws (Ok verbs.Load) = refl
-call_taken-take ws (Ok verbs.Store) = refl
-call_taken-take ws (Ok verbs.Stat) = refl
-call_taken-take ws (Ok verbs.Set) = refl
-call_taken-take ws (Ok verbs.Rmid) = refl
-call_taken-take ws (Ok verbs.Lock) = refl
-call_taken-take ws (Ok verbs.Unlock) = refl
-call_taken-take ws (Ok verbs.Fork) = refl
-call_taken-take ws (Ok verbs.Exec) = refl
-call_taken-take ws (Ok verbs.Exit) = refl
-call_taken-take ws (Ok verbs.Swapoff) = refl
+call_taken-take ws found = grind (arith, common_steps, short, call_by-take)
 
 call_words-take : (ws : List (List ℕ)) (taken : Bool) → call_words (take 8 ws) taken ≡ call_words ws taken
 unfolding call_words
-call_words-take ws false = rw (early ws 1 (omega arith)) (call_plain-take ws (ok_or (verb_of (word_at ws 1)) BadLine))
-call_words-take ws true = rw (early ws 3 (omega arith)) (call_taken-take ws (ok_or (verb_of (word_at ws 3)) BadLine))
+call_words-take ws taken = grind (arith, common_steps, early, call_plain-take, call_taken-take)
 
 taker-take : (ws : List (List ℕ)) → taker (take 8 ws) ≡ taker ws
 taker-take ws = rw (early ws 1 (omega arith), early ws 2 (omega arith)) refl
@@ -118,13 +87,7 @@ command_item-take seen ws =
 
 pub words_item-take : (seen : SeenView) (ws : List (List ℕ)) → words_item seen (take 8 ws) ≡ words_item seen ws
 unfolding words_item body_item
-words_item-take seen ws =
-    rw (
-      limits_item-take ws,
-      declaration-take seen ws,
-      command_item-take seen ws,
-      early ws 0 (omega arith),
-    ) refl
+words_item-take seen ws = grind (arith, common_steps, limits_item-take, declaration-take, command_item-take, early)
 
 pub is_skipped-take : (ws : List (List ℕ)) → is_skipped (take 8 ws) ≡ is_skipped ws
 is_skipped-take ws = rw (short ws 0 (omega arith), early ws 0 (omega arith)) refl
@@ -132,11 +95,7 @@ is_skipped-take ws = rw (short ws 0 (omega arith), early ws 0 (omega arith)) ref
 -- of the lines behind the limits, one that begins with no other word is a command
 chosen : {A : Type 0} → (F : A → A) (limits zero process child : Bool) (declared flushed command first : A) → (limits && (not zero && (not process && not child))) ≡ true
     → (if limits then (if process || child then declared else F (if zero then flushed else command)) else first) ≡ F command
-chosen F true false false false declared flushed command first is = refl
-chosen F true false false true declared flushed command first is = cc
-chosen F true false true child declared flushed command first is = cc
-chosen F true true process child declared flushed command first is = cc
-chosen F false zero process child declared flushed command first is = cc
+chosen F limits zero process child declared flushed command first is = grind (arith, common_steps)
 
 pub command_words : (seen : SeenView) (ws : List (List ℕ)) → is_command seen ws ≡ true
     → words_item seen ws ≡ counted seen (wanted (word_at ws 0) >>= λ pid. command seen pid (taker ws) ws)
@@ -151,7 +110,6 @@ command_words seen ws is =
 pub command_said : (seen : SeenView) (ws : List (List ℕ)) (number : Number) (call : LineCall) (pid : ℕ) → is_command seen ws ≡ true
     → wanted (word_at ws 0) ≡ Ok number → call_words ws (is_some (taker ws)) ≡ Ok call → declared_pid seen number call ≡ Ok pid
     → words_item seen ws ≡ (if nat_lt seen.commands 100000 then Ok (command_of pid (taker ws) call) else Err TooMany)
-command_said seen ws number call pid is first said declared =
-    command_words seen ws is ∙ rw (first, said, declared) refl
+command_said seen ws number call pid is first said declared = grind (arith, common_steps, command_words)
 
 pub ruleset same_words = (words_item-take, is_skipped-take)

@@ -1,12 +1,10 @@
 -- How far a number grows by a digit, and a word that is digits to its end.
-use Rattle.shm_text.proofs.Names.{arith, ◌≡◌, ◌≤◌, ◌<◌, ◌+◌, ◌*◌, ◌^◌, ◌∙◌, ap, refl, subst, ℕ, List, true, take, length, pow-add, All, list_all, is_digit, take_all, list_all-from_AllPass, pow_mono, mul-le-mul, number_from, Fits}
+use Rattle.shm_text.proofs.Names.{common_steps, arith, ◌≡◌, ◌≤◌, ◌<◌, ◌+◌, ◌*◌, ◌^◌, ◌∙◌, ap, refl, subst, ℕ, List, true, take, length, pow-add, All, list_all, is_digit, take_all, list_all-from_AllPass, pow_mono, mul-le-mul, number_from, Fits}
 use Rattle.std.proofs.lemmas.Bool.{lt-ltb}
 
 -- a digit more, of a base of 16 at most
 grown_by : (v r d p : ℕ) → v < p → r ≤ 16 → d < r → v * r + d < p * 16
-grown_by v r d p small low digit =
-    let product : (v + 1) * r ≤ p * 16 = mul-le-mul (omega arith) low in
-    omega (arith, product)
+grown_by v r d p small low digit = grind (arith, common_steps, mul-le-mul)
 
 pub grown : (v r d i : ℕ) → v < 2 ^ (4 * i) → r ≤ 16 → d < r → v * r + d < 2 ^ (4 * (i + 1))
 grown v r d i small low digit =
@@ -15,9 +13,7 @@ grown v r d i small low digit =
 
 -- a number of 15 digits at most fits 64 bits
 pub fits : (v i : ℕ) → v < 2 ^ (4 * i) → i ≤ 15 → v < 2 ^ 64
-fits v i small few =
-    let most : 2 ^ (4 * i) ≤ 2 ^ 60 = pow_mono {i = 4 * i} {j = 60} (omega arith) in
-    omega (arith, most, small)
+fits v i small few = grind (arith, common_steps, pow_mono)
 
 -- such a number is kept as it is
 pub kept : (n v : ℕ) → v ≡ n → v < 2 ^ 64 → number_from n ≡ Fits v

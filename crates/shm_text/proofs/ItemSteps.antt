@@ -1,7 +1,6 @@
 -- Reading line by line, from left to right.
-use Rattle.shm_text.proofs.Names.{arith, rules, ◌≡◌, ◌≤◌, ◌+◌, ◌++◌, ◌∙◌, ap, sym, refl, ℕ, List, [], ◌∷◌, true, false, Option, Some, None, Bool, cond, length, append_assoc, append-nil, length-append, nat_lt, is_some, IsOk, ltb-true, ltb-false, FaultKind, NoLimits, ScriptFault, Item, Bounds, ScriptView, SeenView, ◌>>=◌, line_item, at_line, with_item, seen_with, seen_next, limits_after, processes_in, lines_in, script_by, script_from}
+use Rattle.shm_text.proofs.Names.{common_steps, arith, ◌≡◌, ◌≤◌, ◌+◌, ◌++◌, ◌∙◌, ap, sym, refl, ℕ, List, [], ◌∷◌, true, false, Option, Some, None, Bool, cond, length, append_assoc, append-nil, length-append, nat_lt, is_some, IsOk, FaultKind, NoLimits, ScriptFault, Item, Bounds, ScriptView, SeenView, ◌>>=◌, line_item, with_item, seen_with, seen_next, limits_after, processes_in, lines_in, script_by, script_from}
 use Rattle.std.proofs.Common.{Result, Ok, Err}
-use borrow.Author.Tests.{lt-ltb}
 use Rattle.shm_text.specs.declared.script.Item.TheVariants as items
 use Rattle.shm_text.specs.Reading.{script_of, items_of}
 
@@ -10,19 +9,16 @@ pub record Goes (all : Result (List Item) ScriptFault) (n : ℕ) (seen : SeenVie
   pub is : all ≡ (items_of n seen lines >>= λ more. Ok (front ++ more))
 
 ok_again : (r : Result (List Item) ScriptFault) → r ≡ (r >>= λ more. Ok ([] ++ more))
-ok_again (Ok items) = refl
-ok_again (Err fault) = refl
+ok_again r = grind (arith, common_steps)
 
 pub starts : {n : ℕ} {seen : SeenView} (text_lines lines : List (List ℕ)) → lines ≡ text_lines → Goes (items_of n seen text_lines) n seen lines []
 starts {n} {seen} text_lines lines e = record { is = ok_again (items_of n seen text_lines) ∙ ap (λ l. items_of n seen l >>= λ more. Ok ([] ++ more)) (sym e) }
 
 front_more : (front : List Item) (item : Option Item) (items : List Item) → front ++ with_item item items ≡ (front ++ with_item item []) ++ items
-front_more front None items = ap (λ l. l ++ items) (sym (append-nil front))
-front_more front (Some item) items = sym (append_assoc front (item ∷ []) items)
+front_more front item items = grind (arith, common_steps, append-nil, append_assoc)
 
 regroup : (front : List Item) (item : Option Item) (r : Result (List Item) ScriptFault) → ((r >>= λ items. Ok (with_item item items)) >>= λ more. Ok (front ++ more)) ≡ (r >>= λ more. Ok ((front ++ with_item item []) ++ more))
-regroup front item (Ok items) = ap Ok (front_more front item items)
-regroup front item (Err fault) = refl
+regroup front item r = grind (arith, common_steps, front_more)
 
 at_first : {all : Result (List Item) ScriptFault} {n : ℕ} {seen : SeenView} {left : List (List ℕ)} {front : List Item} (lines : List (List ℕ)) → Goes all n seen left front → left ≡ lines → all ≡ (items_of n seen lines >>= λ more. Ok (front ++ more))
 at_first {n = n} {seen = seen} {front = front} lines goes e = goes.is ∙ ap (λ l. items_of n seen l >>= λ more. Ok (front ++ more)) e
@@ -30,30 +26,19 @@ at_first {n = n} {seen = seen} {front = front} lines goes e = goes.is ∙ ap (λ
 pub goes_on : {all : Result (List Item) ScriptFault} {n : ℕ} {seen : SeenView} {left : List (List ℕ)} {front : List Item} (line : List ℕ) (lines : List (List ℕ)) (item : Option Item) (next : SeenView)
     → Goes all n seen left front → left ≡ line ∷ lines → line_item seen line ≡ Ok item → next ≡ seen_next seen item → Goes all (n + 1) next lines (front ++ with_item item [])
 unfolding items_of
-goes_on {n = n} {seen = seen} {front = front} line lines item next goes e is counts = record {
-  is =
-      at_first (line ∷ lines) goes e
-      ∙ ap (λ r. (at_line n r >>= λ i. items_of (n + 1) (seen_next seen i) lines >>= λ items. Ok (with_item i items)) >>= λ more. Ok (front ++ more)) is
-      ∙ regroup front item (items_of (n + 1) (seen_next seen item) lines)
-      ∙ ap (λ s. items_of (n + 1) s lines >>= λ more. Ok ((front ++ with_item item []) ++ more)) (sym counts);
-}
+goes_on line lines item next goes e is counts = grind (arith, common_steps, at_first, regroup)
 
 pub goes_wrong : {all : Result (List Item) ScriptFault} {n : ℕ} {seen : SeenView} {left : List (List ℕ)} {front : List Item} (line : List ℕ) (lines : List (List ℕ)) (kind : FaultKind)
     → Goes all n seen left front → left ≡ line ∷ lines → line_item seen line ≡ Err kind → all ≡ Err (record { line = n; kind = kind })
 unfolding items_of
-goes_wrong {n = n} {seen = seen} {front = front} line lines kind goes e is =
-    at_first (line ∷ lines) goes e
-    ∙ ap (λ r. (at_line n r >>= λ i. items_of (n + 1) (seen_next seen i) lines >>= λ items. Ok (with_item i items)) >>= λ more. Ok (front ++ more)) is
+goes_wrong line lines kind goes e is = grind (arith, common_steps, at_first)
 
 pub goes_to_end : {all : Result (List Item) ScriptFault} {n : ℕ} {seen : SeenView} {left : List (List ℕ)} {front : List Item} → Goes all n seen left front → left ≡ [] → all ≡ Ok front
 unfolding items_of
 goes_to_end {front = front} goes e = at_first [] goes e ∙ ap Ok (append-nil front)
 
 pub counts_on : (seen : SeenView) (item : Option Item) → (seen_next seen item).commands ≤ seen.commands + 1
-counts_on seen None = omega arith
-counts_on seen (Some (items.Limits b)) = omega arith
-counts_on seen (Some (items.Process p)) = omega arith
-counts_on seen (Some (items.Line l)) = omega arith
+counts_on seen item = grind (arith, common_steps)
 
 -- the limits that were seen are those of the items
 limits_step : (b : Option Bounds) (front : List Item) (item : Item) → limits_after b (front ++ item ∷ []) ≡ limits_after (limits_after b front) (item ∷ [])
@@ -63,14 +48,10 @@ limits_step b (items.Process p ∷ front) item = limits_step b front item
 limits_step b (items.Line l ∷ front) item = limits_step b front item
 
 limits_with : (seen : SeenView) (item : Item) → limits_after seen.limits (item ∷ []) ≡ (seen_with seen item).limits
-limits_with seen (items.Limits b) = refl
-limits_with seen (items.Process p) = refl
-limits_with seen (items.Line l) = refl
+limits_with seen item = grind (arith, common_steps)
 
 pub limits_go_on : (front : List Item) (seen next : SeenView) (item : Option Item) → limits_after None front ≡ seen.limits → next ≡ seen_next seen item → limits_after None (front ++ with_item item []) ≡ next.limits
-limits_go_on front seen next None e is = ap (limits_after None) (append-nil front) ∙ e ∙ ap (λ (s : SeenView). s.limits) (sym is)
-limits_go_on front seen next (Some item) e is =
-    limits_step None front item ∙ ap (λ b. limits_after b (item ∷ [])) e ∙ limits_with seen item ∙ ap (λ (s : SeenView). s.limits) (sym is)
+limits_go_on front seen next item e is = grind (arith, common_steps, append-nil, limits_step, limits_with)
 
 pub processes_in-append : (xs ys : List Item) → processes_in (xs ++ ys) ≡ processes_in xs ++ processes_in ys
 processes_in-append [] ys = refl
@@ -86,8 +67,7 @@ lines_in-append (items.Line l ∷ xs) ys = ap (λ k. l ∷ k) (lines_in-append x
 
 -- a script is not too long
 short_by : (long : Bool) (n : ℕ) (r : Result ScriptView ScriptFault) (fault : ScriptFault) (script : ScriptView) → nat_lt 1048576 n ≡ long → cond long (Err fault) r ≡ Ok script → n ≤ 1048576
-short_by true n r fault script long e = cc
-short_by false n r fault script long e = ltb-false _ _ long
+short_by long n r fault script h1 e = grind (arith, common_steps)
 
 pub short_script : (bytes : List ℕ) (script : ScriptView) → script_of bytes ≡ Ok script → length bytes ≤ 1048576
 unfolding script_of
@@ -96,12 +76,7 @@ short_script bytes script e = short_by _ (length bytes) _ _ script refl e
 -- the fault of a text that was cut behind the longest script is the fault of the whole text
 same_by : (long : Bool) (input front rest : List ℕ) (fault : ScriptFault) → nat_lt 1048576 (length front) ≡ long → input ≡ front ++ rest → (length front ≤ 1048576 → rest ≡ []) → script_of front ≡ Err fault → script_of input ≡ Err fault
 unfolding script_of
-same_by false input front rest fault long split whole e =
-    let all : input ≡ front = split ∙ ap (λ l. front ++ l) (whole (ltb-false _ _ long)) ∙ append-nil front in
-    rw all e
-same_by true input front rest fault long split whole e =
-    let more : nat_lt 1048576 (length input) ≡ true = lt-ltb _ _ (omega (arith, ltb-true _ _ long, ap length split, length-append front rest)) in
-    rw more (rw long at e)
+same_by long input front rest fault h1 split whole e = grind (arith, common_steps, append-nil, length-append)
 
 pub same_fault : (input front rest : List ℕ) (fault : ScriptFault) → input ≡ front ++ rest → (length front ≤ 1048576 → rest ≡ []) → script_of front ≡ Err fault → script_of input ≡ Err fault
 same_fault input front rest fault split whole e = same_by _ input front rest fault refl split whole e
@@ -114,9 +89,7 @@ pub said_by : (all : Result (List Item) ScriptFault) (front : List Item) (b : Op
 said_by all front b e h = ap (λ r. r >>= script_from) e ∙ ap (λ l. script_by l front) h
 
 pub ok_with : (b : Option Bounds) (front : List Item) → is_some b ≡ true → IsOk (script_by b front)
-ok_with None front e = absurd (cc)
-ok_with (Some b) front e = search rules
+ok_with b front e = grind (arith, common_steps)
 
 pub none_with : (b : Option Bounds) (front : List Item) → is_some b ≡ false → script_by b front ≡ Err (record { line = 1; kind = NoLimits })
-none_with None front e = refl
-none_with (Some b) front e = absurd (cc)
+none_with b front e = grind (arith, common_steps)

@@ -1,5 +1,5 @@
 -- The words of a line, cut off from left to right.
-use Rattle.shm_text.proofs.Names.{arith, ◌≡◌, ◌≤◌, ◌<◌, ◌+◌, ◌-◌, ◌++◌, ◌∙◌, ap, sym, refl, ℕ, List, [], ◌∷◌, zero, suc, true, false, Bool, cond, length, take, drop, append_assoc, append-nil, length-drop, get_or, eqb, All, filter, not, ◌&&◌, list_all, slice_split_at, slice_split_none, take_all, take-append-drop, drop-drop, get_or-drop, drop-cons, add-one, All-more, list_all_more, nat_tests, is_allowed, is_space, words_of, with_word}
+use Rattle.shm_text.proofs.Names.{common_steps, arith, ◌≡◌, ◌≤◌, ◌<◌, ◌+◌, ◌-◌, ◌++◌, ◌∙◌, ap, sym, refl, ℕ, List, [], ◌∷◌, zero, suc, true, false, Bool, cond, length, take, drop, append_assoc, append-nil, length-drop, get_or, eqb, All, filter, not, ◌&&◌, list_all, slice_split_at, slice_split_none, take_all, take-append-drop, drop-drop, get_or-drop, drop-cons, add-one, All-more, list_all_more, nat_tests, is_allowed, is_space, words_of, with_word}
 
 -- what is taken of a list may be taken of its front before
 pub take-take_append : {A : Type 0} → (n : ℕ) (xs ys : List A) → take n (take n xs ++ ys) ≡ take n (xs ++ ys)
@@ -8,14 +8,11 @@ take-take_append (suc n) [] ys = refl
 take-take_append (suc n) (x ∷ xs) ys = ap (λ l. x ∷ l) (take-take_append n xs ys)
 
 one_by : (has : Bool) (w : List ℕ) (rest : List (List ℕ)) → cond has (w ∷ rest) rest ≡ cond has (w ∷ []) [] ++ rest
-one_by true w rest = refl
-one_by false w rest = refl
+one_by has w rest = grind (arith, common_steps)
 
 -- a word ends at a space
 pub words_of-cut : (w : List ℕ) (s : ℕ) (rest : List ℕ) → All (λ b. is_space b ≡ false) w → is_space s ≡ true → words_of (w ++ s ∷ rest) ≡ with_word w ++ words_of rest
-words_of-cut w s rest inside space =
-    ap (filter (λ w. not (eqb (length w) 0))) (slice_split_at is_space w s rest inside space)
-    ∙ one_by (not (eqb (length w) 0)) w (words_of rest)
+words_of-cut w s rest inside space = grind (arith, common_steps, slice_split_at, one_by)
 
 -- the last word ends at the line's end
 pub words_of-last : (w : List ℕ) → All (λ b. is_space b ≡ false) w → words_of w ≡ with_word w
@@ -65,12 +62,10 @@ scanned_all line start at found next begun done inside words kept =
     kept ∙ ap (λ l. take 8 (found ++ l)) (ap with_word rest ∙ sym (words_of-last (drop start line) (rw whole at inside))) ∙ sym words
 
 and_true : (a b : Bool) → b ≡ true → a ≡ (a && b)
-and_true true b e = sym e
-and_true false b e = refl
+and_true a b e = grind (arith, common_steps)
 
 and_false : (a b : Bool) → b ≡ false → false ≡ (a && b)
-and_false true b e = sym e
-and_false false b e = refl
+and_false a b e = grind (arith, common_steps)
 
 -- what the tests of a byte say
 pub of_word : (b : ℕ) → (is_allowed b && not (is_space b)) ≡ true → (is_allowed b ≡ true) × (is_space b ≡ false)
@@ -100,6 +95,4 @@ not_allowed line at within here = and_false (list_all is_allowed (take at line))
 
 -- no byte stands between a place and itself
 pub none_inside : (line : List ℕ) (at : ℕ) → All (λ b. is_space b ≡ false) (take (at - at) (drop at line))
-none_inside line at =
-    let none : at - at ≡ 0 = omega arith in
-    rw none (λ k d within. absurd (omega arith))
+none_inside line at = grind (arith, common_steps)
