@@ -1,5 +1,5 @@
 -- A history is legal where each reply is the step's, or a pager's failure in its place.
-use Rattle.shm_laws.proofs.Names.{◌≡◌, ℕ, ◌+◌, Bool, true, false, if◌then◌else◌, List, [], ◌∷◌, refl, inr, arith, common_steps, Event, Machine, Opening, start_of, Outcome, step, is_refusal, is_failure, LeadsFrom, IsLegal}
+use Rattle.shm_laws.proofs.Names.{◌≡◌, ℕ, ◌+◌, Bool, true, false, if◌then◌else◌, List, [], ◌∷◌, refl, arith, common_steps, Event, Machine, Opening, start_of, Outcome, step, is_refusal, is_failure, LeadsFrom, IsLegal}
 
 -- a failure stands in place of a reply that refuses nothing, and another reply is the step's
 abbrev fits : Bool → Outcome → Event → Type 0
@@ -18,9 +18,7 @@ Leads n s es = (end : Machine) × LeadsFrom n s es end
 
 leads_one : (n : ℕ) (s : Machine) (e : Event) (es : List Event) (b : Bool) → is_failure e.call e.reply ≡ b → fits b (step s n e.pid e.call) e
     → Leads (n + 1) (if b then s else (step s n e.pid e.call).state) es → Leads n s (e ∷ es)
-leads_one n s e es true failure fit more =
-    (more.0, (s, inr (record { failure = failure; instead = fit; unchanged = refl }), more.1))
-leads_one n s e es false failure fit more = grind (arith, common_steps)
+leads_one n s e es b failure fit more = grind (arith, common_steps)
 
 leads-fit : (n : ℕ) (s : Machine) (es : List Event) → FitsFrom n s es → Leads n s es
 leads-fit n s [] h = (s, refl)

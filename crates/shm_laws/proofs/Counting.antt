@@ -1,5 +1,5 @@
 -- By how much each move changes how many pieces there are.
-use Rattle.shm_laws.proofs.Names.{◌≡◌, ◌≢◌, ◌⊎◌, ℕ, ◌+◌, ◌*◌, ◌<◌, ◌==◌, ℤ, pos, negsuc, Bool, true, false, not, if◌then◌else◌, List, [], ◌∷◌, Option, Some, None, slice_set, refl, sym, ap, subst, ◌∙◌, inl, inr, arith, common_steps, filter, flat_map-cons, none-some, ShmidDs, Call, Shmat, Shmdt, Fork, Exec, Exit, Addr, Done, Event, AtFlags, Piece, Live, Runner, Machine, pages_in, Look, look, occupied, cut, origin_of, is_named, without_named, pieces_of, attach_count, Caller, Outcome, caller_of, acts, step_by, is_remap, is_rdonly, pieces_with, stat, gives, is_refusal, IsMove, one_if, one_more, pieces_of-inserted, pieces_of-filter, sum-set, held, hands_pieces, CountsPieces, held_by}
+use Rattle.shm_laws.proofs.Names.{◌≡◌, ◌≢◌, ◌⊎◌, ℕ, ◌+◌, ◌*◌, ◌<◌, ◌==◌, ℤ, pos, Bool, true, false, not, if◌then◌else◌, List, [], ◌∷◌, Option, Some, None, slice_set, refl, sym, ap, subst, ◌∙◌, inl, inr, arith, common_steps, filter, flat_map-cons, none-some, ShmidDs, Call, Shmat, Shmdt, Fork, Exec, Exit, Addr, Done, Event, AtFlags, Piece, Live, Runner, Machine, pages_in, Look, look, occupied, cut, origin_of, is_named, without_named, pieces_of, attach_count, Caller, Outcome, caller_of, acts, step_by, is_remap, is_rdonly, pieces_with, stat, gives, is_refusal, IsMove, one_if, one_more, pieces_of-inserted, pieces_of-filter, sum-set, held, hands_pieces, CountsPieces, held_by}
 use Rattle.shm_base.specs.declared.call.Call.TheVariants as calls
 use Rattle.shm_base.specs.declared.call.Reply.TheVariants as replies
 use Rattle.shm_laws.proofs.Handing.{Takes, caller-at, Rests, Attaches, Leaves, Forks, Hands, none-stay, hands-acts}
@@ -72,25 +72,10 @@ module _ (s : Machine) (pid : ℕ) (c : Caller) (live : caller_of s pid ≡ Some
   attach-counts (inr (inr (inr k))) id addr base flags asked answer plain j = cc
 
   fork-counts : Hands s c call o → (child : ℕ) → call ≡ Fork child → o.reply ≡ Done → (j : ℕ) → attach_count o.state.runners j ≡ attach_count s.runners j + held s pid j
-  fork-counts (inr (inr (inr k))) child asked answer j = grind (arith, common_steps, unborn-bare, sum-set, mine)
-  fork-counts (inl k) child asked answer j = absurd (no-rest s call o k (ap hands_pieces asked) (ap is_refusal answer))
-  fork-counts (inr (inl k)) child asked answer j = cc
-  fork-counts (inr (inr (inl k))) child asked answer j = absurd (no-fork c call k.stays child k.taken asked)
+  fork-counts h1 child asked answer j = grind (arith, common_steps, unborn-bare, sum-set, mine, no-rest, no-fork)
 
   left-counts : Hands s c call o → (call ≡ Exec) ⊎ (call ≡ Exit) → o.reply ≡ Done → (j : ℕ) → attach_count o.state.runners j + held s pid j ≡ attach_count s.runners j
-  left-counts (inr (inr (inl k))) which answer j = by k.taken
-    where
-      by : Takes c call k.stays → attach_count o.state.runners j + held s pid j ≡ attach_count s.runners j
-      by (inl t) = absurd (grind arith)
-      by (inr t) =
-          let none : pieces_of j (filter k.stays c.pieces) ≡ 0 = ap (λ f. pieces_of j (filter f c.pieces)) t.1 ∙ ap (pieces_of j) (sym (none-stay c.pieces)) in
-          let all = swap (record { pid = c.pid; life = k.life; pieces = filter k.stays c.pieces }) j in
-          let own = mine j in
-          rw k.runners (omega (arith, all, none, own))
-  left-counts (inl k) which answer j = absurd (no-rest s call o k (all-hands call which) (ap is_refusal answer))
-  left-counts (inr (inl k)) which answer j = cc
-  left-counts (inr (inr (inr k))) (inl e) answer j = cc
-  left-counts (inr (inr (inr k))) (inr e) answer j = cc
+  left-counts h1 which answer j = grind (arith, common_steps, none-stay, swap, mine, no-rest, all-hands)
 
   abbrev Loses : Type 0
   Loses = (id : ℕ) × (attach_count o.state.runners id < attach_count s.runners id) × ((j : ℕ) → j ≢ id → attach_count o.state.runners j ≡ attach_count s.runners j)
@@ -125,9 +110,7 @@ stat-shows : (s : Machine) (c : Caller) (m : ℕ) (d : ShmidDs) (l : Look) → l
 stat-shows s c m d l is told = (m, refl, grind (arith, found-own s.table m))
 
 stat-by : (s : Machine) (n : ℕ) (id : ℤ) (d : ShmidDs) (o : Option Caller) → (step_by s n (calls.Stat id) o).reply ≡ replies.Stat d → Shows s id d
-stat-by s n id d None told = absurd (cc told)
-stat-by s n (pos m) d (Some c) told = stat-shows s c m d (look s.table (pos m)) refl told
-stat-by s n (negsuc m) d (Some c) told = absurd (cc told)
+stat-by s n id d o told = grind (arith, common_steps, stat-shows)
 
 -- EACH MOVE
 

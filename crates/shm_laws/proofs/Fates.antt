@@ -185,10 +185,7 @@ module _ (over : ℕ → List ℕ → List ℕ) (like : Segment → Type 0) (r :
       by (inr f) = ap (orphan_in i t.runners) f.new.at ∙ rw f.new.dest refl
 
 bare-after : (s : Machine) (e : Event) (t : Machine) → Moved s e t → Bare s.runners → Bare t.runners
-bare-after s e t (inl (none, inl k)) bare = k.bare bare
-bare-after s e t (inl (none, inr (no_byte, inl k))) bare = k.bare bare
-bare-after s e t (inl (none, inr (no_byte, inr k))) bare = rw k.runners bare
-bare-after s e t (inr (no_byte, k)) bare = rw k.removes.runners bare
+bare-after s e t h1 bare = grind (arith, common_steps)
 
 pub sound-after : (s : Machine) (e : Event) (t : Machine) → Moved s e t → IsMachineSound s → IsMachineSound t
 sound-after s e t k sound =

@@ -1,5 +1,5 @@
 -- Each piece goes back to a shmat that was granted, and each move keeps out who has no leave.
-use Rattle.shm_laws.proofs.Names.{◌≡◌, ◌⊎◌, ℕ, ◌+◌, ◌*◌, ◌%◌, ◌<◌, ℤ, pos, negsuc, Bool, true, false, not, List, [], ◌∷◌, ◌++◌, length, get_or, Option, Some, None, slice_get, slice_set, refl, sym, ap, subst, ◌∙◌, inl, inr, arith, true≢false, All, Contains, cases_Bool, none-some, slice_get_within, get_or_from_slice_get, All-nil, All-append, All-filter, All-map, All-weaker, All-contains, Contains-get_or, flat_map-cons, common_steps, Cred, Perm, Call, Set, Rmid, Lock, Unlock, Load, Store, Xadd, Done, Event, Place, covers, places, writable_places, owns, Segment, Piece, Live, Runner, Machine, Opening, start_of, runner_at_start, pages_in, Look, Found, Removed, Invalid, look, meets, part_below, part_above, parts, cut, inserted, Caller, Outcome, caller_of, acts, step_by, pieces_with, is_rdonly, controls, sets, removes, locks, unlocks, load, store, xadd, is_refusal, IsMove, IsHistory, all-cons, all-head, all-tail, all-slice_set, Has, EachPiece, IsPart, IsGranted, IsInherited, GoesBack, Granted, Kept, Inherited, Reach, StaysInside, controlled, IsOwner, OwnerAsks, KeepsOut, NoWayIn}
+use Rattle.shm_laws.proofs.Names.{◌≡◌, ◌⊎◌, ℕ, ◌+◌, ◌*◌, ◌%◌, ◌<◌, ℤ, pos, negsuc, Bool, true, false, not, List, [], ◌∷◌, ◌++◌, length, get_or, Option, Some, None, slice_get, slice_set, refl, sym, ap, subst, ◌∙◌, inl, inr, arith, true≢false, All, Contains, cases_Bool, none-some, slice_get_within, get_or_from_slice_get, All-nil, All-append, All-filter, All-map, All-weaker, All-contains, Contains-get_or, flat_map-cons, common_steps, Cred, Perm, Call, Load, Store, Xadd, Done, Event, Place, covers, places, writable_places, owns, Segment, Piece, Live, Runner, Machine, Opening, start_of, runner_at_start, pages_in, Look, look, meets, part_below, part_above, parts, cut, inserted, Caller, Outcome, caller_of, acts, step_by, pieces_with, is_rdonly, controls, load, store, xadd, is_refusal, IsMove, IsHistory, all-cons, all-head, all-tail, all-slice_set, Has, EachPiece, IsPart, IsGranted, IsInherited, GoesBack, Granted, Kept, Inherited, Reach, StaysInside, controlled, IsOwner, OwnerAsks, KeepsOut, NoWayIn}
 use Rattle.shm_laws.proofs.Accessing.{lies-in, place-of, writable-at, writable-parts}
 use Rattle.shm_laws.proofs.Handing.{CallerAt, caller-at, IsAligned, Attaches, Leaves, Forks, Hands, hands-acts}
 use Rattle.shm_laws.proofs.Inducting.{each_move, at_all_times}
@@ -232,9 +232,7 @@ module _ (s : Machine) (n pid : ℕ) (c : Caller) (live : caller_of s pid ≡ So
   owner-of cred perm own = grind (arith, common_steps)
 
   asks-found : (m : ℕ) (act : ℕ → Segment → Outcome) (l : Look) → look s.table (pos m) ≡ l → (controls s c act l).reply ≡ Done → OwnerAsks s pid (pos m)
-  asks-found m act Invalid is done = absurd (cc done)
-  asks-found m act Removed is done = absurd (cc done)
-  asks-found m act (Found i x) is done = grind (arith, common_steps, found-own, owner-of)
+  asks-found m act l is done = grind (arith, common_steps, found-own, owner-of)
 
   asks : (id : ℤ) (act : ℕ → Segment → Outcome) → (controls s c act (look s.table id)).reply ≡ Done → OwnerAsks s pid id
   asks (pos m) act done = asks-found m act (look s.table (pos m)) refl done
@@ -247,11 +245,7 @@ module _ (s : Machine) (n pid : ℕ) (c : Caller) (live : caller_of s pid ≡ So
   asked own act id is done = let same : own ≡ id = cc is in subst (OwnerAsks s pid) same (asks own act done)
 
   asks-acts : (call : Call) → Asks call (acts s n c call)
-  asks-acts (Set own uid gid mode) id is done = asked own (sets s n uid gid mode) id is done
-  asks-acts (Rmid own) id is done = asked own (removes s) id is done
-  asks-acts (Lock own) id is done = asked own (locks s) id is done
-  asks-acts (Unlock own) id is done = asked own (unlocks s) id is done
-  asks-acts call id is done = absurd (none-some id is)
+  asks-acts call id is done = grind (arith, common_steps, asked, none-some)
 
 abbrev Out : Machine → ℕ → Call → Outcome → Type 0
 Out s pid call o = StaysInside s (record { pid = pid; call = call; reply = o.reply }) × ((id : ℤ) → controlled call ≡ Some id → o.reply ≡ Done → OwnerAsks s pid id)

@@ -1,5 +1,5 @@
 -- A call sees no byte that is hidden from its process.
-use Rattle.shm_laws.proofs.Names.{◌≡◌, ◌⊎◌, ℕ, ◌+◌, ◌*◌, ◌/◌, ◌%◌, ◌^◌, ◌==◌, ℤ, Bool, true, false, not, nat_lt, if◌then◌else◌, List, [], ◌∷◌, length, Option, Some, None, slice_get, refl, sym, ap, subst, ◌∙◌, inl, inr, arith, common_steps, w64, to_le_bytes, from_le_bytes, length-replicate, none-some, slice_get_within, Errno, Eperm, Emfile, GetFlags, AtFlags, Call, Shmget, Shmat, Shmdt, Stat, Set, Rmid, Lock, Unlock, Load, Store, Xadd, Fork, Exec, Exit, Swapoff, Addr, Bytes, Number, Done, Event, Place, place, places, writable_places, stored, Segment, Entry, Piece, Runner, Machine, Opening, pages_in, Look, Found, Removed, Invalid, identifier, destroyed_in, destroyed_at, find_key, look, cut_segments, origin_of, change, attached, detach_all, swept, after_detach, Outcome, gives, refuses, Caller, caller_of, with_pieces, with_end, segments_of, new_segment, creates_at, creates, shmget, pieces_with, attaches, attaches_chosen, attaches_fixed, attaches_found, shmat, detaches, forks, unborn_from, stat, controls, sets, removes, locks, unlocks, load, store, xadd, number_at, takes_away, acts, step_by, step, is_failure, IsMove, IsHistory, Has, Reach, reach, veiled, veiled_from, veil, DifferIn, HasNone, IsPrivate, IsAsked, IsBlindOn, IsIsolated, held_by, clear_step, first_clear, rest_clear}
+use Rattle.shm_laws.proofs.Names.{◌≡◌, ◌⊎◌, ℕ, ◌+◌, ◌*◌, ◌/◌, ◌%◌, ◌^◌, ◌==◌, ℤ, Bool, true, false, not, nat_lt, if◌then◌else◌, List, [], ◌∷◌, length, Option, Some, None, slice_get, refl, sym, ap, subst, ◌∙◌, inl, inr, arith, common_steps, w64, to_le_bytes, from_le_bytes, length-replicate, none-some, slice_get_within, Errno, Eperm, Emfile, GetFlags, AtFlags, Call, Shmget, Shmat, Shmdt, Stat, Set, Rmid, Lock, Unlock, Load, Store, Xadd, Fork, Exec, Exit, Swapoff, Addr, Bytes, Number, Done, Event, Place, place, places, writable_places, stored, Segment, Entry, Piece, Runner, Machine, Opening, pages_in, Look, identifier, destroyed_in, destroyed_at, find_key, look, cut_segments, origin_of, change, attached, detach_all, swept, after_detach, Outcome, gives, refuses, Caller, caller_of, with_pieces, with_end, segments_of, new_segment, creates_at, creates, shmget, pieces_with, attaches, attaches_chosen, attaches_fixed, attaches_found, shmat, detaches, forks, unborn_from, stat, controls, sets, removes, locks, unlocks, load, store, xadd, number_at, takes_away, acts, step_by, step, is_failure, IsMove, IsHistory, Has, Reach, reach, veiled, veiled_from, veil, DifferIn, HasNone, IsPrivate, IsAsked, IsBlindOn, IsIsolated, held_by, clear_step, first_clear, rest_clear}
 use Rattle.shm_base.specs.Step.{gets}
 use Rattle.shm_laws.proofs.Accessing.{place-of, places-length, writable-parts}
 use Rattle.shm_laws.proofs.Fitting.{IsFit, fit-start, fit-move, spot-fits}
@@ -86,9 +86,7 @@ module _ (hidden : ℕ → Bool) (s : Machine) (n : ℕ) (c : Caller) where
   out-fixed b id x flags base = let pages = veiled-pages b x in let all = out-attaches b id x flags base in grind arith
 
   out-found : (flags : AtFlags) (addr : ℕ) (b : Bool) (l : Look) → attaches_found B n c flags addr (veiled_look b l) ≡ out hidden (attaches_found s n c flags addr l)
-  out-found flags addr b Invalid = refl
-  out-found flags addr b Removed = refl
-  out-found flags addr b (Found i x) = grind (arith, common_steps, veiled-destroyed, tests, both, veiled-pages, out-chosen, out-fixed)
+  out-found flags addr b l = grind (arith, common_steps, veiled-destroyed, both, veiled-pages, out-chosen, out-fixed)
 
   out-shmat : (id : ℤ) (addr : ℕ) (flags : AtFlags) → shmat B n c id addr flags ≡ out hidden (shmat s n c id addr flags)
   out-shmat id addr flags = let l = look-veiled hidden T id in let found = out-found flags addr l.0 (look T id) in grind arith
@@ -135,10 +133,7 @@ module _ (hidden : ℕ → Bool) (s : Machine) (n : ℕ) (c : Caller) where
     out-load a len (Some qs) is = λ j. record { reply = Bytes (loaded-veiled hidden T qs (seen-places a len qs is) j); state = B }
 
     out-store : (a : ℕ) (bytes : List ℕ) (o : Option (List Place)) → writable_places c.pieces a (length bytes) ≡ o → store B bytes o ≡ out hidden (store s bytes o)
-    out-store a bytes None is = refl
-    out-store a bytes (Some qs) is =
-        let found = (writable-parts (places c.pieces a (length bytes)) qs is).0 in
-        λ j. record { reply = Done; state = record s { table = stored-veiled hidden T qs bytes (seen-places a (length bytes) qs found) j } }
+    out-store a bytes o is = grind (arith, common_steps, writable-parts, stored-veiled, seen-places)
 
     out-xadd : (a add : ℕ) (o : Option (List Place)) → writable_places c.pieces a 8 ≡ o → xadd B add o ≡ out hidden (xadd s add o)
     out-xadd a add None is = refl

@@ -1,5 +1,5 @@
 -- Of legal histories without failures there is one for each opening and calls.
-use Rattle.shm_laws.proofs.Names.{◌≡◌, ℕ, ◌+◌, true, false, List, [], ◌∷◌, Option, Some, None, refl, sym, ap, ◌∙◌, arith, inl, inr, true≢false, common_steps, Call, Load, Bytes, Event, Machine, Opening, Caller, Outcome, acts, step_by, step, caller_of, is_refusal, is_failure, IsExcused, IsMove, LeadsFrom, IsHistory, calls_of, failures_in, clear_step, failures-cons, first_clear, rest_clear, undone, without_failures, IsReplayed}
+use Rattle.shm_laws.proofs.Names.{◌≡◌, ℕ, ◌+◌, true, false, List, [], ◌∷◌, Option, Some, None, refl, sym, ap, ◌∙◌, arith, true≢false, common_steps, Call, Load, Bytes, Event, Machine, Opening, Caller, acts, step_by, step, caller_of, is_refusal, is_failure, IsExcused, IsMove, LeadsFrom, IsHistory, calls_of, failures_in, clear_step, failures-cons, first_clear, rest_clear, undone, without_failures, IsReplayed}
 
 -- THE STEP NAMES NO FAILURE
 
@@ -17,9 +17,7 @@ step-clear s n pid call = by-clear s n call (caller_of s pid)
 
 -- and a failure is excused
 is-excused : (s : Machine) (n : ℕ) (e : Event) (t : Machine) → is_failure e.call e.reply ≡ true → IsMove s n e t → IsExcused s n e t
-is-excused s n e t failed (inr x) = x
-is-excused s n e t failed (inl m) =
-    absurd (true≢false (sym failed ∙ sym (ap (λ (o : Outcome). is_failure e.call o.reply) m) ∙ step-clear s n e.pid e.call))
+is-excused s n e t failed h2 = grind (arith, common_steps, step-clear)
 
 -- a process that is not refused is live, and may ask for no byte
 idle-by : (s : Machine) (n : ℕ) (call : Call) (o : Option Caller) → is_refusal (step_by s n call o).reply ≡ false → step_by s n (Load 0 0) o ≡ record { reply = Bytes []; state = s }

@@ -1,5 +1,5 @@
 -- The four kinds of step on the segments: still, a sweep after a detach, a creation, a removal.
-use Rattle.shm_laws.proofs.Names.{◌≡◌, ◌⊎◌, ℕ, ◌+◌, ◌*◌, ◌%◌, ◌^◌, ◌≤◌, ◌==◌, ◌&&◌, ℤ, pos, negsuc, Bool, true, false, not, nat_le, nat_lt, if◌then◌else◌, List, [], ◌∷◌, length, replicate, get_or, Option, Some, None, slice_get, slice_set, refl, sym, ap, subst, ◌∙◌, inl, inr, arith, common_steps, get-set_other, w64, to_le_bytes, slice_get-get_or, Emfile, GetFlags, AtFlags, Call, Shmget, Shmat, Shmdt, Stat, Set, Rmid, Lock, Unlock, Load, Store, Xadd, Fork, Exec, Exit, Swapoff, Reply, Id, Done, Addr, Event, within, grants, owns, wish_of, Place, places, writable_places, stored, Segment, Entry, Piece, Unborn, Live, Ended, Runner, Machine, pages_of, pages_in, Look, Found, Removed, Invalid, identifier, destroyed_at, free_index, with_segment, look, find_key, inside, occupied, cut_segments, origin_of, attach_count, segment_count, reserved, locked, slots, change, attached, marked, detach_all, swept, Outcome, gives, refuses, segments_of, Caller, caller_of, acts, new_segment, creates_at, creates, shmget, wants_creation, wants_no_other, is_rnd, is_remap, at_wish, attaches, attaches_chosen, attaches_fixed, attaches_found, shmat, pieces_with, with_pieces, detaches, forks, unborn_from, stat, controls, sets, removes, locks, unlocks, load, store, xadd, number_at, takes_away, swapoff, first_runner, child_at, life_in, keeps-set, IsSame, Put, put, held_by}
+use Rattle.shm_laws.proofs.Names.{◌≡◌, ◌⊎◌, ℕ, ◌+◌, ◌*◌, ◌%◌, ◌^◌, ◌≤◌, ◌==◌, ◌&&◌, ℤ, pos, negsuc, Bool, true, false, not, nat_le, nat_lt, if◌then◌else◌, List, [], ◌∷◌, length, replicate, get_or, Option, Some, None, slice_get, slice_set, refl, sym, ap, subst, ◌∙◌, inl, inr, arith, common_steps, get-set_other, w64, to_le_bytes, slice_get-get_or, Emfile, GetFlags, AtFlags, Call, Shmget, Shmat, Shmdt, Stat, Set, Rmid, Lock, Unlock, Load, Store, Xadd, Fork, Exec, Exit, Swapoff, Reply, Id, Done, Addr, Event, within, grants, owns, wish_of, Place, places, writable_places, stored, Segment, Entry, Piece, Unborn, Live, Ended, Runner, Machine, pages_of, pages_in, Look, Found, Removed, Invalid, identifier, destroyed_at, free_index, with_segment, look, find_key, inside, occupied, cut_segments, origin_of, attach_count, segment_count, reserved, locked, change, attached, marked, detach_all, swept, Outcome, gives, refuses, segments_of, Caller, caller_of, acts, new_segment, creates_at, creates, shmget, wants_creation, wants_no_other, is_rnd, is_remap, at_wish, attaches, attaches_chosen, attaches_fixed, attaches_found, shmat, pieces_with, with_pieces, detaches, forks, unborn_from, stat, controls, sets, removes, locks, unlocks, load, store, xadd, number_at, takes_away, swapoff, first_runner, child_at, life_in, keeps-set, IsSame, Put, put, held_by}
 use Rattle.shm_base.specs.Step.{gets}
 use Rattle.shm_laws.proofs.Accessing.{writable-parts}
 use Rattle.shm_laws.proofs.Turning.{Turned, unchanged, puts_in, turned-refl, turned-trans, turned-change, turned-detach, turned-stored, set-got}
@@ -138,26 +138,7 @@ module _ (like : Segment → Type 0) (s : Machine) (n : ℕ) (c : Caller) where
   Plain u o = Kind idle like u None o.reply o.state
 
   kind-creates_at : (key size mode : ℕ) (o : Option ℕ) → like (new_segment n c key size mode) → free_index s.table ≡ o → Plain s (creates_at s n c key size mode o)
-  kind-creates_at key size mode None made is = still like s _
-  kind-creates_at key size mode (Some i) made is =
-      pick (Plain s) (nat_lt (slots s.areas) (reserved s.table + pages_of size)) _ _ (still like s _)
-      (inl (
-        refl,
-        inr (
-          λ j bytes. refl,
-          inr (record {
-            index = i;
-            segment = new_segment n c key size mode;
-            free = is;
-            answer = refl;
-            fresh = refl;
-            zeros = (4096 * pages_of size, refl);
-            made = made;
-            table = refl;
-            runners = refl;
-          }),
-        ),
-      ))
+  kind-creates_at key size mode o made is = grind (arith, common_steps, still, pick)
 
   kind-creates : (key size mode : ℕ) → like (new_segment n c key size mode) → Plain s (creates s n c key size mode)
   kind-creates key size mode made =
@@ -217,9 +198,7 @@ module _ (like : Segment → Type 0) (s : Machine) (n : ℕ) (c : Caller) where
       )
 
   kind-stat : (l : Look) → Plain s (stat s c l)
-  kind-stat Invalid = still like s _
-  kind-stat Removed = still like s _
-  kind-stat (Found i x) = pick (Plain s) (not (grants c.cred x.perm (record { read = true; write = false }))) _ _ (still like s _) (still like s _)
+  kind-stat l = grind (arith, common_steps, still, pick)
 
   kind-controls : (act : ℕ → Segment → Outcome) → ((i : ℕ) (x : Segment) → Plain s (act i x)) → (l : Look) → Plain s (controls s c act l)
   kind-controls act acts Invalid = still like s _
@@ -257,28 +236,14 @@ module _ (like : Segment → Type 0) (s : Machine) (n : ℕ) (c : Caller) where
       quiet _ like s _ _ (turned-put a (to_le_bytes w64 ((number_at s qs + add) % 2 ^ 64)) qs (writable-parts (places c.pieces a 8) qs is).0) refl
 
   kind-takes : (area : ℕ) (o : Option (Option ℕ)) → Plain s (takes_away s area o)
-  kind-takes area None = still like s _
-  kind-takes area (Some None) = still like s _
-  kind-takes area (Some (Some k)) = pick (Plain s) (nat_lt (slots (slice_set s.areas area None)) (reserved s.table)) _ _ (still like s _) (quiet idle like s _ _ (turned-refl s.table) refl)
+  kind-takes area o = grind (arith, common_steps, still, pick, quiet, turned-refl)
 
   kind-swapoff : (area : ℕ) → Plain s (swapoff s c area)
   kind-swapoff area = pick (Plain s) (not (c.cred.uid == 0)) _ _ (still like s _) (kind-takes area (slice_get s.areas area))
 
   -- a removal
   kind-rmid : (id : ℕ) (l : Look) → look s.table (pos id) ≡ l → let o = controls s c (removes s) l in Kind idle like s (removed_by o.reply (pos id)) o.reply o.state
-  kind-rmid id Invalid is = still like s _
-  kind-rmid id Removed is = still like s _
-  kind-rmid id (Found i x) is =
-      let at : i ≡ id % 32768 = (entry-found _ _ i x (slice_get s.table (id % 32768)) is).0 in
-      pick (λ o. Kind idle like s (removed_by o.reply (pos id)) o.reply o.state) (not (owns c.cred x.perm)) _ _ (still like s _)
-      (inr (
-        λ j bytes. refl,
-        record {
-          id = id;
-          named = refl;
-          removes = record { segment = x; found = is ∙ ap (λ k. Found k x) at; table = ap (λ k. swept s.runners (change s.table k marked)) at; runners = refl };
-        },
-      ))
+  kind-rmid id l is = grind (arith, common_steps, still, entry-found, pick)
 
   -- each call
   pub kind-acts : (call : Call) → Bare s.runners → ((key size mode : ℕ) (flags : GetFlags) → call ≡ Shmget key size mode flags → (k : ℕ) → like (new_segment n c k size mode))

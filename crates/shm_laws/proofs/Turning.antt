@@ -1,5 +1,5 @@
 -- Changes of a table that keep what a segment was made as, and its mark; and what becomes of its bytes.
-use Rattle.shm_laws.proofs.Names.{◌≡◌, ◌≢◌, ◌⊎◌, ℕ, suc, zero, ◌+◌, ◌%◌, ◌==◌, if◌then◌else◌, List, [], ◌∷◌, Option, Some, slice_get, slice_set, refl, sym, ap, subst, ◌∙◌, inl, inr, arith, eq-eqb, ne_eqb, common_steps, none-some, option_map, cases_eq, Segment, Entry, Runner, Place, set_in, with_byte, byte_set, stored, change, with_entry, detached, detach_all, swept_at, swept_from, swept, IsSame, get-set_same, get-set_other}
+use Rattle.shm_laws.proofs.Names.{◌≡◌, ◌≢◌, ◌⊎◌, ℕ, suc, zero, ◌+◌, ◌%◌, ◌==◌, if◌then◌else◌, List, [], ◌∷◌, Option, Some, slice_get, slice_set, refl, sym, subst, ◌∙◌, inl, inr, arith, eq-eqb, ne_eqb, common_steps, none-some, option_map, cases_eq, Segment, Entry, Runner, Place, set_in, with_byte, byte_set, stored, change, with_entry, detached, detach_all, swept_at, swept_from, swept, IsSame, get-set_same, get-set_other}
 
 pub same_refl : (x : Segment) → IsSame x x
 same_refl x = record { size = refl; cpid = refl; cuid = refl; cgid = refl }
@@ -35,14 +35,7 @@ pub turned-refl : (t : List Entry) (i : ℕ) → Turned unchanged t t i
 turned-refl t i = turned-as t t i refl
 
 pub turned-trans : (f g : List ℕ → List ℕ) (t u v : List Entry) (i : ℕ) → Turned f t u i → Turned g u v i → Turned (λ bytes. g (f bytes)) t v i
-turned-trans f g t u v i a b =
-    record {
-      turn = λ x. b.turn (a.turn x);
-      same = λ x. same_trans x (a.turn x) (b.turn (a.turn x)) (a.same x) (b.same (a.turn x));
-      dest = λ x. b.dest (a.turn x) ∙ a.dest x;
-      bytes = λ x. b.bytes (a.turn x) ∙ ap g (a.bytes x);
-      at = b.at ∙ ap (option_map (with_entry b.turn)) a.at ∙ entry-twice a.turn b.turn (slice_get t i);
-    }
+turned-trans f g t u v i a b = grind (arith, common_steps, same_trans, entry-twice)
 
 -- ONE ENTRY
 

@@ -138,8 +138,7 @@ module _ (hidden : ℕ → Bool) where
 
   pub detach-veiled : (n pid : ℕ) (ids : List ℕ) (t : List Entry) → detach_all n pid (V 0 t) ids ≡ V 0 (detach_all n pid t ids)
   detach-veiled n pid [] t = refl
-  detach-veiled n pid (id ∷ ids) t =
-      ap (λ u. detach_all n pid u ids) (change-veiled (detached n pid) (λ b x. refl) t id) ∙ detach-veiled n pid ids (change t id (detached n pid))
+  detach-veiled n pid (id ∷ ids) t = grind (arith, common_steps, change-veiled, detach-veiled n pid ids (change t id (detached n pid)))
 
   swept-entry : (k : ℕ) (rs : List Runner) (d : ℕ) (o : Option Segment)
       → swept_at k rs d (option_map (veiled (hidden (identifier k d))) o) ≡ veiled_entry hidden k (swept_at k rs d o)
