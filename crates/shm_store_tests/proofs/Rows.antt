@@ -1,5 +1,5 @@
 -- What the rows of a run tell of the segments that are held.
-use Rattle.std.proofs.Common.{◌≡◌, ℕ, ◌+◌, ◌*◌, ◌/◌, ◌≤◌, ◌==◌, Bool, true, false, not, List, [], ◌∷◌, ◌++◌, length, map, filter, take, drop, replicate, get_or, Option, Some, None, is_some, option_map, refl, sym, ap, ◌∙◌, inl, inr, arith}
+use Rattle.std.proofs.Common.{◌≡◌, ℕ, ◌+◌, ◌/◌, ◌≤◌, ◌==◌, Bool, true, false, not, List, [], ◌∷◌, ◌++◌, length, map, filter, take, drop, get_or, Option, Some, is_some, option_map, refl, sym, ap, ◌∙◌, inl, inr, arith}
 use Rattle.std.specs.Prelude.{All, sum_by}
 use Rattle.std.proofs.lemmas.Bool.Decides.{eqb_tells}
 use Rattle.std.proofs.lemmas.Grind.{common_steps}
@@ -7,12 +7,12 @@ use Rattle.std.proofs.lemmas.List.{length-replicate, length-map}
 use Rattle.std.proofs.lemmas.List.Sums.{sum_by-cons}
 use Rattle.std.proofs.lemmas.List.Elements.{All-head, All-tail, All-get_or, All-map}
 use Rattle.shm_base.specs.declared.paging.Span.{Span}
-use Rattle.shm_plain.specs.Held.{Held, find_held, bytes_in, bytes_of, is_held, pages_in, pages_held, pages_if_locked, pages_locked, with_zeros, without, relocked, with_lock, FitsPage, pasted, written}
+use Rattle.shm_plain.specs.Held.{Held, find_held, bytes_in, bytes_of, is_held, pages_in, pages_held, with_zeros, without, with_lock, FitsPage, pasted, written}
 use Rattle.shm_plain.specs.Apart.{AreHeldApart}
 use Rattle.shm_plain.proofs.Kept.{apart-push, apart-without, apart-lock}
 use Rattle.shm_plain.proofs.Pasted.{apart-pasted, fits-pasted, length-paste}
 use Rattle.shm_fault.specs.Store.{StoreView, held, frame_of, page_of}
-use Rattle.shm_store_tests.specs.Trial.{Row, row_of, known, row_with_lock, pages_all, pinned_in, pages_pinned, with_frame, AreAlike, IsAccess}
+use Rattle.shm_store_tests.specs.Trial.{Row, row_of, known, row_with_lock, pages_all, with_frame, AreAlike, IsAccess}
 
 pub known-is : (hs : List Held) (id : ℕ) → known (map row_of hs) id ≡ option_map pages_in (find_held hs id)
 known-is [] id = refl
@@ -20,41 +20,19 @@ known-is (g ∷ gs) id = elim (eqb_tells g.id id) [ inl w ↦ rw w.0 refl | inr 
 
 pub all-is : (hs : List Held) → pages_all (map row_of hs) ≡ pages_held hs
 all-is [] = refl
-all-is (g ∷ gs) =
-    let more = sum_by-cons (λ (r : Row). r.pages) (row_of g) (map row_of gs) in
-    omega (arith, more, all-is gs, sum_by-cons pages_in g gs)
-
-pinned-one : (id : ℕ) (g : Held) → pinned_in id (row_of g) ≡ pages_if_locked (relocked id true g)
-pinned-one id g = elim (eqb_tells g.id id) [
-  | inl w ↦ rw w.0 refl
-  | inr w ↦ rw w.0 refl
-]
-
-pub pinned-is : (hs : List Held) (id : ℕ) → pages_pinned (map row_of hs) id ≡ pages_locked (with_lock hs id true)
-pinned-is [] id = refl
-pinned-is (g ∷ gs) id =
-    let more = sum_by-cons (pinned_in id) (row_of g) (map row_of gs) in
-    omega (arith, more, pinned-is gs id, pinned-one id g, sum_by-cons pages_if_locked (relocked id true g) (with_lock gs id true))
+all-is (g ∷ gs) = grind (arith, common_steps, sum_by-cons, all-is gs)
 
 pub rows-zeros : (hs : List Held) (id pages : ℕ) → map row_of (with_zeros hs id pages) ≡ map row_of hs ++ record { seg = id; locked = false; pages = pages } ∷ []
-rows-zeros [] id pages =
-    let n : length (replicate {A = ℕ} (4096 * pages) 0) / 4096 ≡ pages = omega (arith, length-replicate {A = ℕ} (4096 * pages) 0) in
-    ap (λ k. record { seg = id; locked = false; pages = k } ∷ []) n
+rows-zeros [] id pages = grind (arith, common_steps, length-replicate)
 rows-zeros (g ∷ gs) id pages = ap (λ (l : List Row). row_of g ∷ l) (rows-zeros gs id pages)
 
 pub rows-without : (hs : List Held) (id : ℕ) → map row_of (without hs id) ≡ filter (λ (r : Row). not (r.seg == id)) (map row_of hs)
 rows-without [] id = refl
-rows-without (g ∷ gs) id = elim (eqb_tells g.id id) [
-  | inl w ↦ rw w.0 (rows-without gs id)
-  | inr w ↦ rw w.0 (ap (λ (l : List Row). row_of g ∷ l) (rows-without gs id))
-]
+rows-without (g ∷ gs) id = grind (arith, common_steps, eqb_tells, rows-without gs id)
 
 pub rows-lock : (hs : List Held) (id : ℕ) (b : Bool) → map row_of (with_lock hs id b) ≡ map (row_with_lock id b) (map row_of hs)
 rows-lock [] id b = refl
-rows-lock (g ∷ gs) id b = elim (eqb_tells g.id id) [
-  | inl w ↦ rw w.0 (ap (λ (l : List Row). record { seg = g.id; locked = b; pages = pages_in g } ∷ l) (rows-lock gs id b))
-  | inr w ↦ rw w.0 (ap (λ (l : List Row). row_of g ∷ l) (rows-lock gs id b))
-]
+rows-lock (g ∷ gs) id b = grind (arith, common_steps, eqb_tells, rows-lock gs id b)
 
 rows-none : (hs : List Held) (id at : ℕ) (new : List ℕ) → is_held hs id ≡ false → map row_of (map (pasted id at new) hs) ≡ map row_of hs
 rows-none [] id at new none = refl
@@ -87,12 +65,10 @@ rows-written (p ∷ ps) hs new apart fit =
 -- WHAT THE ROWS TELL
 
 pub told-some : (o : Option Held) (n : ℕ) → option_map pages_in o ≡ Some n → (is_some o ≡ true) × (length (bytes_in o) / 4096 ≡ n)
-told-some None n e = cc
-told-some (Some g) n e = (refl, cc)
+told-some o n e = grind (arith, common_steps)
 
 some-told : (o : Option Held) → is_some (option_map pages_in o) ≡ is_some o
-some-told None = refl
-some-told (Some g) = refl
+some-told o = grind (arith, common_steps)
 
 module _ (s : StoreView) (hs : List Held) (rows : List Row) (a : AreAlike s hs rows) where
   pub pages-told : (id n : ℕ) → known rows id ≡ Some n → (is_held (held s) id ≡ true) × (length (bytes_of (held s) id) / 4096 ≡ n)
@@ -101,48 +77,19 @@ module _ (s : StoreView) (hs : List Held) (rows : List Row) (a : AreAlike s hs r
   pub has-told : (id : ℕ) → is_some (known rows id) ≡ is_held (held s) id
   has-told id = ap (λ r. is_some (known r id)) a.told ∙ ap is_some (known-is (held s) id) ∙ some-told (find_held (held s) id)
 
-  pub all-told : pages_held (held s) ≡ pages_all rows
-  all-told = sym (ap pages_all a.told ∙ all-is (held s))
-
-  pub pinned-told : (id : ℕ) → pages_locked (with_lock (held s) id true) ≡ pages_pinned rows id
-  pinned-told id = sym (ap (λ r. pages_pinned r id) a.told ∙ pinned-is (held s) id)
-
   -- WHAT A CALL LEAVES
-
-  pub alike-same : (t : StoreView) → held t ≡ held s → length t.frames ≡ length s.frames → AreAlike t hs rows
-  alike-same t same size = record {
-    frames = size ∙ a.frames;
-    same = a.same ∙ sym same;
-    told = a.told ∙ ap (map row_of) (sym same);
-    apart = rw same a.apart;
-  }
 
   pub alike-added : (t : StoreView) (ks : List Held) (qs : List Row) (id n : ℕ) → is_held (held s) id ≡ false → held t ≡ with_zeros (held s) id n → ks ≡ with_zeros hs id n
       → qs ≡ rows ++ record { seg = id; locked = false; pages = n } ∷ [] → length t.frames ≡ length s.frames → AreAlike t ks qs
-  alike-added t ks qs id n none is plain more size = record {
-    frames = size ∙ a.frames;
-    same = plain ∙ ap (λ l. with_zeros l id n) a.same ∙ sym is;
-    told = more ∙ ap (λ l. l ++ record { seg = id; locked = false; pages = n } ∷ []) a.told ∙ sym (rows-zeros (held s) id n) ∙ ap (map row_of) (sym is);
-    apart = rw is (apart-push (held s) (record { id = id; locked = false; bytes = replicate (4096 * n) 0 }) none a.apart);
-  }
+  alike-added t ks qs id n none is plain more size = grind (arith, common_steps, rows-zeros, apart-push)
 
   pub alike-dropped : (t : StoreView) (ks : List Held) (qs : List Row) (id : ℕ) → held t ≡ without (held s) id → ks ≡ without hs id
       → qs ≡ filter (λ (r : Row). not (r.seg == id)) rows → length t.frames ≡ length s.frames → AreAlike t ks qs
-  alike-dropped t ks qs id is plain fewer size = record {
-    frames = size ∙ a.frames;
-    same = plain ∙ ap (λ l. without l id) a.same ∙ sym is;
-    told = fewer ∙ ap (filter (λ (r : Row). not (r.seg == id))) a.told ∙ sym (rows-without (held s) id) ∙ ap (map row_of) (sym is);
-    apart = rw is (apart-without (held s) id a.apart);
-  }
+  alike-dropped t ks qs id is plain fewer size = grind (arith, common_steps, rows-without, apart-without)
 
   pub alike-locked : (t : StoreView) (ks : List Held) (qs : List Row) (id : ℕ) (b : Bool) → held t ≡ with_lock (held s) id b → ks ≡ with_lock hs id b
       → qs ≡ map (row_with_lock id b) rows → length t.frames ≡ length s.frames → AreAlike t ks qs
-  alike-locked t ks qs id b is plain set size = record {
-    frames = size ∙ a.frames;
-    same = plain ∙ ap (λ l. with_lock l id b) a.same ∙ sym is;
-    told = set ∙ ap (map (row_with_lock id b)) a.told ∙ sym (rows-lock (held s) id b) ∙ ap (map row_of) (sym is);
-    apart = rw is (apart-lock (held s) id b a.apart);
-  }
+  alike-locked t ks qs id b is plain set size = grind (arith, common_steps, rows-lock, apart-lock)
 
   pub alike-written : (t : StoreView) (ks : List Held) (ps : List Span) (new : List ℕ) → All (FitsPage (held s)) ps → held t ≡ written (held s) ps new → ks ≡ written hs ps new → length t.frames ≡ length s.frames → AreAlike t ks rows
   alike-written t ks ps new fit is plain size =
@@ -158,9 +105,7 @@ module _ (s : StoreView) (hs : List Held) (rows : List Row) (a : AreAlike s hs r
 
 sum-named : (s : StoreView) (ps : List Span) → sum_by (λ (p : Span). p.len) (map (with_frame s) ps) ≡ sum_by (λ (p : Span). p.len) ps
 sum-named s [] = refl
-sum-named s (p ∷ ps) =
-    let more = sum_by-cons (λ (q : Span). q.len) (with_frame s p) (map (with_frame s) ps) in
-    omega (arith, more, sum-named s ps, sum_by-cons (λ (q : Span). q.len) p ps)
+sum-named s (p ∷ ps) = grind (arith, common_steps, sum_by-cons, sum-named s ps)
 
 pub access-named : (s t : StoreView) (ps : List Span) (n : ℕ) → IsAccess s ps n → held t ≡ held s → IsAccess t (map (with_frame s) ps) n
 access-named s t ps n a same = record {

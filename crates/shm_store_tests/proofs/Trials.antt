@@ -1,7 +1,7 @@
 -- What the tests know of the stores that they make.
-use Rattle.std.proofs.Common.{◌≡◌, ℕ, zero, suc, ◌<◌, true, List, [], ◌∷◌, length, get_or, map, replicate, Option, Some, None, refl, sym, ap, ◌∙◌, inl, inr, arith}
+use Rattle.std.proofs.Common.{◌≡◌, ℕ, zero, suc, ◌<◌, true, List, [], ◌∷◌, length, get_or, map, replicate, Option, Some, None, refl, sym, ap, ◌∙◌, arith}
 use Rattle.std.specs.Prelude.{All}
-use Rattle.std.proofs.lemmas.Bool.{cases_Bool}
+use Rattle.std.proofs.lemmas.Grind.{common_steps}
 use Rattle.shm_base.specs.declared.paging.PageRef.{PageRef}
 use Rattle.shm_base.specs.declared.paging.Span.{Span}
 use Rattle.shm_pager.specs.Pages.{PagerView}
@@ -55,7 +55,4 @@ three-fit hs p e seg at len =
 
 -- an area that has a size is there
 pub sized : (a : AreaView) (n : ℕ) → size_of a ≡ Some n → (a.here ≡ true) × (length a.pages ≡ n)
-sized a n e = elim (cases_Bool a.here) [
-  | inl is ↦ let k : Some (length a.pages) ≡ Some n = rw is at e in (is, cc)
-  | inr not ↦ absurd (let k : None ≡ Some n = rw not at e in cc)
-]
+sized a n e = grind (arith, common_steps)
