@@ -1,18 +1,5 @@
 -- What the rows of a run tell of the segments that are held.
-use Rattle.std.proofs.Common.{◌≡◌, ℕ, ◌+◌, ◌/◌, ◌≤◌, ◌==◌, Bool, true, false, not, List, [], ◌∷◌, ◌++◌, length, map, filter, take, drop, get_or, Option, Some, is_some, option_map, refl, sym, ap, ◌∙◌, inl, inr, arith}
-use Rattle.std.specs.Prelude.{All, sum_by}
-use Rattle.std.proofs.lemmas.Bool.Decides.{eqb_tells}
-use Rattle.std.proofs.lemmas.Grind.{common_steps}
-use Rattle.std.proofs.lemmas.List.{length-replicate, length-map}
-use Rattle.std.proofs.lemmas.List.Sums.{sum_by-cons}
-use Rattle.std.proofs.lemmas.List.Elements.{All-head, All-tail, All-get_or, All-map}
-use Rattle.shm_base.specs.declared.paging.Span.{Span}
-use Rattle.shm_plain.specs.Held.{Held, find_held, bytes_in, bytes_of, is_held, pages_in, pages_held, with_zeros, without, with_lock, FitsPage, pasted, written}
-use Rattle.shm_plain.specs.Apart.{AreHeldApart}
-use Rattle.shm_plain.proofs.Kept.{apart-push, apart-without, apart-lock}
-use Rattle.shm_plain.proofs.Pasted.{apart-pasted, fits-pasted, length-paste}
-use Rattle.shm_fault.specs.Store.{StoreView, held, frame_of, page_of}
-use Rattle.shm_store_tests.specs.Trial.{Row, row_of, known, row_with_lock, pages_all, with_frame, AreAlike, IsAccess}
+use Rattle.shm_store_tests.proofs.Names.{◌≡◌, ℕ, ◌+◌, ◌/◌, ◌≤◌, ◌==◌, Bool, true, false, not, List, [], ◌∷◌, ◌++◌, length, map, filter, take, drop, get_or, Option, Some, is_some, option_map, refl, sym, ap, ◌∙◌, inl, inr, arith, All, sum_by, eqb_tells, common_steps, length-replicate, length-map, sum_by-cons, All-head, All-tail, All-get_or, All-map, Span, Held, find_held, bytes_in, bytes_of, is_held, pages_in, pages_held, with_zeros, without, with_lock, FitsPage, pasted, written, AreHeldApart, apart-push, apart-without, apart-lock, apart-pasted, fits-pasted, length-paste, StoreView, held, frame_of, page_of, Row, row_of, known, row_with_lock, pages_all, with_frame, AreAlike, IsAccess}
 
 pub known-is : (hs : List Held) (id : ℕ) → known (map row_of hs) id ≡ option_map pages_in (find_held hs id)
 known-is [] id = refl

@@ -1,16 +1,6 @@
 -- What the tests know of the stores that they make.
-use Rattle.std.proofs.Common.{◌≡◌, ℕ, zero, suc, ◌<◌, true, List, [], ◌∷◌, length, get_or, map, replicate, Option, Some, None, refl, sym, ap, ◌∙◌, arith}
-use Rattle.std.specs.Prelude.{All}
-use Rattle.std.proofs.lemmas.Grind.{common_steps}
-use Rattle.shm_base.specs.declared.paging.PageRef.{PageRef}
-use Rattle.shm_base.specs.declared.paging.Span.{Span}
-use Rattle.shm_pager.specs.Pages.{PagerView}
-use Rattle.shm_plain.specs.Held.{Held, FitsPage, find_held, pages_held, written, with_zeros}
-use Rattle.shm_plain.specs.Apart.{AreHeldApart}
-use Rattle.shm_slots.specs.View.{AreaView, SwapView, fresh, new_swap, owner_of, size_of}
-use Rattle.shm_frames.specs.Frame.{Frame}
-use Rattle.shm_fault.specs.Store.{held, fresh_store}
-use Rattle.shm_store_tests.specs.Trial.{row_of, known, pages_all, three}
+use Rattle.shm_store_tests.proofs.Names.{◌≡◌, ℕ, zero, suc, ◌<◌, true, List, [], ◌∷◌, length, get_or, map, replicate, Option, Some, None, refl, sym, ap, ◌∙◌, arith, All, common_steps, PageRef, Span, PagerView, Held, FitsPage, find_held, pages_held, written, with_zeros, AreHeldApart, AreaView, SwapView, fresh, new_swap, owner_of, size_of, Frame, fresh_store, row_of, known, pages_all, three}
+use Rattle.shm_fault.specs.Store.{held}
 use Rattle.shm_store_tests.proofs.Rows.{known-is, told-some, all-is, rows-zeros, rows-written}
 
 -- no slot of areas that were just handed in is owned

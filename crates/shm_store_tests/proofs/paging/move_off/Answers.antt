@@ -1,6 +1,4 @@
-use Rattle.std.proofs.Common.{sym, ◌∙◌, arith}
-use Rattle.shm_slots.specs.View.{area_at}
-use Rattle.shm_fault.specs.Store.{held}
+use Rattle.shm_store_tests.proofs.Names.{sym, ◌∙◌, arith, area_at, held}
 use Rattle.shm_store_tests.proofs.Trials.{three-pages, sized}
 use Rattle.shm_store_tests.proofs.paging.move_off.Goals as goal
 

@@ -1,6 +1,4 @@
-use Rattle.std.proofs.Common.{◌≡◌, [], ◌∷◌}
-use Rattle.shm_plain.specs.Held.{written}
-use Rattle.shm_fault.specs.Store.{held}
+use Rattle.shm_store_tests.proofs.Names.{◌≡◌, [], ◌∷◌, written, held}
 use Rattle.shm_store_tests.proofs.Trials.{three-written}
 use Rattle.shm_store_tests.proofs.paging.save.Goals as goal
 

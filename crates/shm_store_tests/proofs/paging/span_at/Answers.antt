@@ -1,6 +1,4 @@
-use Rattle.std.proofs.Common.{refl, arith}
-use Rattle.shm_base.specs.declared.paging.Span.{Span}
-use Rattle.shm_fault.specs.Store.{held}
+use Rattle.shm_store_tests.proofs.Names.{refl, arith, Span, held}
 use Rattle.shm_store_tests.proofs.Trials.{three-fit}
 use Rattle.shm_store_tests.proofs.paging.span_at.Goals as goal
 

@@ -1,8 +1,4 @@
-use Rattle.std.proofs.Common.{◌≡◌, ◌≤◌, [], refl, ap, ◌∙◌, arith}
-use Rattle.shm_pager.specs.Pages.{pager_seen}
-use Rattle.shm_plain.specs.Held.{with_zeros}
-use Rattle.shm_slots.specs.View.{slots}
-use Rattle.shm_fault.specs.Store.{held, fresh_store}
+use Rattle.shm_store_tests.proofs.Names.{◌≡◌, ◌≤◌, [], refl, ap, ◌∙◌, arith, pager_seen, with_zeros, slots, held, fresh_store}
 use Rattle.shm_store_tests.proofs.Trials.{fresh-free, fresh-held, three-added}
 use Rattle.shm_store_tests.proofs.paging.store_over.Goals as goal
 

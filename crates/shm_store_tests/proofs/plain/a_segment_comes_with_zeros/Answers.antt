@@ -1,9 +1,4 @@
-use Rattle.std.proofs.Common.{rules, ◌≡◌, false, [], ◌∷◌, None, arith}
-use Rattle.std.proofs.lemmas.List.Elements.{All-cons, All-nil}
-use Rattle.std.specs.Prelude.{All}
-use Rattle.shm_base.specs.declared.paging.Span.{Span}
-use Rattle.shm_plain.specs.Held.{FitsPage, is_held, with_zeros}
-use Rattle.shm_plain.proofs.Found.{fits-zeros}
+use Rattle.shm_store_tests.proofs.Names.{rules, ◌≡◌, false, [], ◌∷◌, None, arith, All-cons, All-nil, All, Span, FitsPage, is_held, with_zeros, fits-zeros}
 use Rattle.shm_store_tests.proofs.plain.a_segment_comes_with_zeros.Goals as goal
 
 pub read-requires-clause-fit : goal.read-requires-clause-fit

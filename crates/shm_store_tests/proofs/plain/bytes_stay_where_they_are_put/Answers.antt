@@ -1,8 +1,4 @@
-use Rattle.std.proofs.Common.{rules, List, [], ◌∷◌, get_or}
-use Rattle.std.specs.Prelude.{All}
-use Rattle.shm_base.specs.declared.paging.Span.{Span}
-use Rattle.shm_plain.specs.Held.{FitsPage}
-use Rattle.shm_plain.proofs.Pasted.{fits-written}
+use Rattle.shm_store_tests.proofs.Names.{rules, List, [], ◌∷◌, get_or, All, Span, FitsPage, fits-written}
 use Rattle.shm_store_tests.proofs.plain.bytes_stay_where_they_are_put.Goals as goal
 
 pub read-requires-2-clause-fit : goal.read-requires-2-clause-fit

@@ -1,4 +1,4 @@
-use Rattle.std.proofs.Common.{sym, ◌∙◌}
+use Rattle.shm_store_tests.proofs.Names.{sym, ◌∙◌}
 use Rattle.shm_store_tests.proofs.Rows.{alike-added}
 use Rattle.shm_store_tests.proofs.runs.add.Goals as goal
 

@@ -1,5 +1,4 @@
-use Rattle.std.proofs.Common.{◌≡◌, ◌<◌, take}
-use Rattle.shm_store_tests.specs.Trial.{pages_all}
+use Rattle.shm_store_tests.proofs.Names.{◌≡◌, ◌<◌, take, pages_all}
 use Rattle.shm_store_tests.proofs.runs.all_pages.Given as goal
 
 abbrev pub invariant-loop-row : goal.invariant-loop-row

@@ -1,4 +1,4 @@
-use Rattle.shm_store_tests.specs.Trial.{AreAlike, IsAccess}
+use Rattle.shm_store_tests.proofs.Names.{AreAlike, IsAccess}
 use Rattle.shm_store_tests.proofs.runs.compare.Given as goal
 
 abbrev pub invariant-loop-attempt : goal.invariant-loop-attempt

@@ -1,5 +1,4 @@
-use Rattle.std.proofs.Common.{◌≡◌, drop}
-use Rattle.shm_store_tests.specs.Trial.{known}
+use Rattle.shm_store_tests.proofs.Names.{◌≡◌, drop, known}
 use Rattle.shm_store_tests.proofs.runs.find.Given as goal
 
 -- the segment is not among the rows that were seen

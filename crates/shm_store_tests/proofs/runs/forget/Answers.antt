@@ -1,6 +1,4 @@
-use Rattle.std.proofs.Common.{◌==◌, not, rules}
-use Rattle.std.proofs.lemmas.Fn.{filter_same}
-use Rattle.shm_store_tests.specs.Trial.{Row}
+use Rattle.shm_store_tests.proofs.Names.{◌==◌, not, rules, filter_same, Row}
 use Rattle.shm_store_tests.proofs.runs.forget.Goals as goal
 
 pub returns : goal.returns

@@ -1,6 +1,4 @@
-use Rattle.std.proofs.Common.{◌≡◌, [], sym, ap, ◌∙◌}
-use Rattle.shm_pager.specs.Pages.{pager_seen}
-use Rattle.shm_fault.specs.Store.{held}
+use Rattle.shm_store_tests.proofs.Names.{◌≡◌, [], sym, ap, ◌∙◌, pager_seen, held}
 use Rattle.shm_store_tests.proofs.Trials.{fresh-free, fresh-held}
 use Rattle.shm_store_tests.proofs.runs.fresh.Goals as goal
 

@@ -1,5 +1,4 @@
-use Rattle.std.proofs.Common.{is_some, ap, ◌∙◌, sym}
-use Rattle.shm_plain.specs.Held.{is_held}
+use Rattle.shm_store_tests.proofs.Names.{is_some, ap, ◌∙◌, sym, is_held}
 use Rattle.shm_store_tests.proofs.Rows.{has-told}
 use Rattle.shm_store_tests.proofs.runs.has.Goals as goal
 

@@ -1,5 +1,4 @@
-use Rattle.std.proofs.Common.{ap, length}
-use Rattle.shm_fault.specs.Store.{StoreView}
+use Rattle.shm_store_tests.proofs.Names.{ap, length, StoreView}
 use Rattle.shm_store_tests.proofs.Rows.{alike-locked}
 use Rattle.shm_store_tests.proofs.runs.lock.Goals as goal
 

@@ -1,8 +1,4 @@
-use Rattle.std.proofs.Common.{◌≡◌, ◌<◌, length, get_or, set, Option, None, ap, ◌∙◌, ℕ}
-use Rattle.std.proofs.lemmas.List.{get_or_default}
-use Rattle.std.proofs.lemmas.List.Edits.{map_over_more}
-use Rattle.shm_base.specs.declared.paging.Span.{Span}
-use Rattle.shm_store_tests.specs.Trial.{with_frame}
+use Rattle.shm_store_tests.proofs.Names.{◌≡◌, ◌<◌, length, get_or, set, Option, None, ap, ◌∙◌, ℕ, get_or_default, map_over_more, Span, with_frame}
 use Rattle.shm_store_tests.proofs.runs.name_frames.Goals as goal
 
 pub loop-span-preserved : goal.loop-span-preserved

@@ -1,5 +1,4 @@
-use Rattle.std.proofs.Common.{◌≡◌, ◌++◌, map, take, drop}
-use Rattle.shm_store_tests.specs.Trial.{with_frame}
+use Rattle.shm_store_tests.proofs.Names.{◌≡◌, ◌++◌, map, take, drop, with_frame}
 use Rattle.shm_store_tests.proofs.runs.name_frames.Given as goal
 
 abbrev pub invariant-loop-span : goal.invariant-loop-span

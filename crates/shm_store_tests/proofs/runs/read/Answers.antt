@@ -1,4 +1,4 @@
-use Rattle.std.proofs.Common.{refl}
+use Rattle.shm_store_tests.proofs.Names.{refl}
 use Rattle.shm_store_tests.proofs.Rows.{access-named, frames-named}
 use Rattle.shm_store_tests.proofs.runs.read.Goals as goal
 

@@ -1,6 +1,4 @@
-use Rattle.std.proofs.Common.{◌≡◌, ◌<◌, length, set, refl, sym, ap, ◌∙◌, eq-eqb, ne_eqb}
-use Rattle.std.proofs.lemmas.List.Edits.{map_over_more}
-use Rattle.shm_store_tests.specs.Trial.{Row, row_with_lock}
+use Rattle.shm_store_tests.proofs.Names.{◌≡◌, ◌<◌, length, set, refl, sym, ap, ◌∙◌, eq-eqb, ne_eqb, map_over_more, Row, row_with_lock}
 use Rattle.shm_store_tests.proofs.runs.relock.Goals.{then-row-seg, else-row-seg}
 use Rattle.shm_store_tests.proofs.runs.relock.Goals as goal
 

@@ -1,5 +1,4 @@
-use Rattle.std.proofs.Common.{◌≡◌, ◌++◌, map, take, drop}
-use Rattle.shm_store_tests.specs.Trial.{row_with_lock}
+use Rattle.shm_store_tests.proofs.Names.{◌≡◌, ◌++◌, map, take, drop, row_with_lock}
 use Rattle.shm_store_tests.proofs.runs.relock.Given as goal
 
 abbrev pub invariant-loop-row : goal.invariant-loop-row

@@ -1,4 +1,4 @@
-use Rattle.shm_store_tests.specs.Trial.{AreAlike}
+use Rattle.shm_store_tests.proofs.Names.{AreAlike}
 use Rattle.shm_store_tests.proofs.runs.steps.Given as goal
 
 abbrev pub invariant-loop-call : goal.invariant-loop-call

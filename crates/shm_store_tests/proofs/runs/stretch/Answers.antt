@@ -1,4 +1,4 @@
-use Rattle.std.proofs.Common.{sym, ◌∙◌, arith}
+use Rattle.shm_store_tests.proofs.Names.{sym, ◌∙◌, arith}
 use Rattle.shm_store_tests.proofs.Rows.{pages-told}
 use Rattle.shm_store_tests.proofs.runs.stretch.Goals as goal
 

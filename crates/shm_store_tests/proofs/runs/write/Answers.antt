@@ -1,7 +1,4 @@
-use Rattle.std.proofs.Common.{refl}
-use Rattle.std.specs.Prelude.{All}
-use Rattle.shm_plain.specs.Held.{FitsPage}
-use Rattle.shm_fault.specs.Store.{held}
+use Rattle.shm_store_tests.proofs.Names.{refl, All, FitsPage, held}
 use Rattle.shm_store_tests.proofs.Rows.{access-named, frames-named, alike-written}
 use Rattle.shm_store_tests.proofs.runs.write.Goals as goal
 
