@@ -57,19 +57,7 @@ module _ (s : Machine) (pid : ℕ) (c : Caller) (live : caller_of s pid ≡ Some
 
   attach-counts : Hands s c call o → (id addr base : ℕ) (flags : AtFlags) → call ≡ Shmat (pos id) addr flags → o.reply ≡ Addr base → is_remap flags ≡ false
       → (j : ℕ) → attach_count o.state.runners j ≡ attach_count s.runners j + (if id == j then 1 else 0)
-  attach-counts (inr (inl k)) id addr base flags asked answer plain j =
-      let seg : k.seg ≡ id = cc in
-      let flag : k.flags ≡ flags = cc in
-      let free = cut-free k.base (k.base + 4096 * pages_in k.segment) c.pieces (k.free (ap is_remap flag ∙ plain)) in
-      let piece : Piece = record { base = k.base; seg = k.seg; first_page = 0; pages = pages_in k.segment; writable = not (is_rdonly k.flags) } in
-      let more = pieces_of-inserted j piece (cut k.base (k.base + 4096 * pages_in k.segment) c.pieces) in
-      let left = ap (pieces_of j) free in
-      let all = swap (record { pid = c.pid; life = Live c.cred; pieces = pieces_with c k.seg k.segment k.flags k.base }) j in
-      let one : one_if j k.seg ≡ (if id == j then 1 else 0) = ap (one_if j) seg in
-      rw k.runners (omega (arith, all, more, left, one))
-  attach-counts (inl k) id addr base flags asked answer plain j = absurd (no-rest s call o k (ap hands_pieces asked) (ap is_refusal answer))
-  attach-counts (inr (inr (inl k))) id addr base flags asked answer plain j = cc
-  attach-counts (inr (inr (inr k))) id addr base flags asked answer plain j = cc
+  attach-counts h1 id addr base flags asked answer plain j = grind (arith, cut-free, pieces_of-inserted, swap, no-rest)
 
   fork-counts : Hands s c call o → (child : ℕ) → call ≡ Fork child → o.reply ≡ Done → (j : ℕ) → attach_count o.state.runners j ≡ attach_count s.runners j + held s pid j
   fork-counts h1 child asked answer j = grind (arith, common_steps, unborn-bare, sum-set, mine, no-rest, no-fork)

@@ -151,10 +151,7 @@ module _ (over : ℕ → List ℕ → List ℕ) (like : Segment → Type 0) (r :
           rw k.runners (ap (λ (es : List Entry). slice_get es i) k.table ∙ swept-get s.runners (change s.table (id % 32768) marked) i ∙ ap (option_map (swept_entry i s.runners)) changed)
 
   fate : (d : ℕ) → destroyed_at s.table i ≡ d → Kind over like s r reply t → Fate (names r (identifier i d))
-  fate d count (inl (none, inl k)) = rw none (fate-still (k.turned i) k.grows)
-  fate d count (inl (none, inr (no_byte, inl k))) = rw none (fate-swept no_byte k)
-  fate d count (inl (none, inr (no_byte, inr k))) = rw none (fate-made no_byte k)
-  fate d count (inr (no_byte, k)) = rw k.named (fate-removed d k.id count no_byte k.removes)
+  fate d count h2 = grind (arith, fate-still, fate-swept, fate-made, fate-removed)
 
   -- a segment that stood
   pub stays : (d : ℕ) (x : Segment) → Kind over like s r reply t → slice_get s.table i ≡ holds d x → Stays (over i) i t.runners (names r (identifier i d)) d x (slice_get t.table i)

@@ -38,9 +38,7 @@ abbrev pub AllFit : Machine → Type 0
 AllFit s = EachPiece (λ pid p. Fits s p) s
 
 fits-given : (s : Machine) (e : Event) (pid : ℕ) (p : Piece) → AllFit s → IsPieceGiven s e pid p → Fits s p
-fits-given s e pid p all (inl h) = grind (arith, common_steps, each-has)
-fits-given s e pid p all (inr (inl h)) = each-has (λ n q. Fits s q) s e.pid p all h.parent
-fits-given s e pid p all (inr (inr h)) = grind (arith, common_steps)
+fits-given s e pid p all h2 = grind (arith, each-has)
 
 -- what fitted, and stands on, fits
 fits-on : (s : Machine) (e : Event) (t : Machine) (p : Piece) (y : Segment) → Fits s p → Stands t p.seg y → Before s e p.seg y → Fits t p

@@ -19,11 +19,7 @@ module _ (from to : ℕ) (page_from : from % 4096 ≡ 0) (page_to : to % 4096 �
   above-parts p page m = grind (arith, common_steps)
 
   all-parts : (p : Piece) → IsAligned p → All (λ q. IsPart q p) (parts from to p)
-  all-parts p page =
-      elim (cases_Bool (meets from to p)) [
-        | inl m ↦ rw m (All-append (λ q. IsPart q p) (part_below from p) (part_above to p) (below-parts p page m) (above-parts p page m))
-        | inr m ↦ rw m (all-cons (λ q. IsPart q p) p [] (part_refl p) (All-nil (λ q. IsPart q p)))
-      ]
+  all-parts p page = grind (arith, below-parts, above-parts, all-cons, part_refl)
 
 all-cut : (P Q : Piece → Type 0) (from to : ℕ) → ((p : Piece) → P p → All Q (parts from to p)) → (ps : List Piece) → All P ps → All Q (cut from to ps)
 all-cut P Q from to each [] h = All-nil Q

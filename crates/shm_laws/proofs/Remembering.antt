@@ -25,9 +25,7 @@ module _ (s : Machine) (n : ℕ) (c : Caller) where
   placed-xadd a add (Some qs) is p puts = (qs, grind arith)
 
   placed-acts : (call : Call) → Placed call (acts s n c call)
-  placed-acts (Store a bytes) p puts = placed-store a bytes (writable_places c.pieces a (length bytes)) refl p puts
-  placed-acts (Xadd a add) p puts = placed-xadd a add (writable_places c.pieces a 8) refl p puts
-  placed-acts call p puts = absurd (none-some p puts)
+  placed-acts call p puts = grind (arith, placed-store, placed-xadd, none-some)
 
 abbrev PlacedBy : Option Caller → Call → Reply → Type 0
 PlacedBy o call reply = (p : Put) → put call reply ≡ Some p → (qs : List Place) × (places (held_by o) p.from (length p.bytes) ≡ Some qs)
