@@ -86,8 +86,7 @@ module _ (s : Machine) (pid : ℕ) (c : Caller) (live : caller_of s pid ≡ Some
   detach-counts (inr (inr (inr k))) addr asked answer = absurd (cc)
 
   quiet-counts : Hands s c call o → (hands_pieces call ≡ false) ⊎ (is_refusal o.reply ≡ true) → (j : ℕ) → attach_count o.state.runners j ≡ attach_count s.runners j
-  quiet-counts (inl k) why j = ap (λ rs. attach_count rs j) k.runners
-  quiet-counts (inr k) why j = absurd (no-quiet s c call o k why)
+  quiet-counts h1 why j = grind (arith, common_steps, no-quiet)
 
 -- WHAT STAT SHOWS
 

@@ -42,8 +42,7 @@ fits-given s e pid p all h2 = grind (arith, each-has)
 
 -- what fitted, and stands on, fits
 fits-on : (s : Machine) (e : Event) (t : Machine) (p : Piece) (y : Segment) → Fits s p → Stands t p.seg y → Before s e p.seg y → Fits t p
-fits-on s e t p y old stands (inr new) = let no : Invalid ≡ Found (p.seg % 32768) old.segment = sym new.makes.0 ∙ old.stands in absurd (cc no)
-fits-on s e t p y old stands (inl h) = grind (arith, common_steps, one-segment, over-length)
+fits-on s e t p y old stands h3 = grind (arith, common_steps, one-segment, over-length)
 
 -- WHAT HOLDS OF A MACHINE AT ALL TIMES
 

@@ -231,8 +231,7 @@ module _ (s : Machine) (n pid : ℕ) (c : Caller) (live : caller_of s pid ≡ So
   asks-found m act l is done = grind (arith, common_steps, found-own, owner-of)
 
   asks : (id : ℤ) (act : ℕ → Segment → Outcome) → (controls s c act (look s.table id)).reply ≡ Done → OwnerAsks s pid id
-  asks (pos m) act done = asks-found m act (look s.table (pos m)) refl done
-  asks (negsuc m) act done = absurd (cc done)
+  asks id act done = grind (arith, common_steps, asks-found)
 
   abbrev Asks : Call → Outcome → Type 0
   Asks call o = (id : ℤ) → controlled call ≡ Some id → o.reply ≡ Done → OwnerAsks s pid id

@@ -73,8 +73,7 @@ Hands s c call o = Rests s call o ⊎ (Attaches s c call o ⊎ (Leaves s c call 
 -- EACH CALL
 
 pub pick_by : (P : Outcome → Type 0) (b : Bool) (o p : Outcome) → (b ≡ true → P o) → (b ≡ false → P p) → P (if b then o else p)
-pick_by P true o p h k = h refl
-pick_by P false o p h k = k refl
+pick_by P b o p h k = grind (arith, common_steps)
 
 find-all : {X : Type 0} (P : X → Type 0) (test : X → Bool) (xs : List X) (x : X) → find test xs ≡ Some x → All P xs → P x
 find-all P test [] x found all = absurd (none-some x found)
@@ -186,8 +185,7 @@ module _ (s : Machine) (n : ℕ) (c : Caller) where
       })))
 
   hands-forks : (child : ℕ) (o : Option ℕ) → unborn_from 0 child s.runners ≡ o → Hands s c (Fork child) (forks s c child o)
-  hands-forks child None is = refused _ _
-  hands-forks child (Some i) is = inr (inr (inr (record { child = child; index = i; asked = refl; answer = refl; unborn = is; runners = refl })))
+  hands-forks child o is = grind (arith, common_steps, refused)
 
   -- the other calls leave the pieces of all processes
 

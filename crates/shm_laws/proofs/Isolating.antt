@@ -31,8 +31,7 @@ module _ (hidden : ℕ → Bool) (s : Machine) (n : ℕ) (c : Caller) where
 
   -- both refuse, or both go on
   both : (b d : Bool) (o p x y : Outcome) → b ≡ d → o ≡ out hidden x → p ≡ out hidden y → (if b then o else p) ≡ out hidden (if d then x else y)
-  both b true o p x y same h k = rw same h
-  both b false o p x y same h k = rw same k
+  both b d o p x y same h k = grind (arith, common_steps)
 
   -- a test that refuses, or goes on
   tests : (e : Errno) (b d : Bool) (p y : Outcome) → b ≡ d → p ≡ out hidden y → (if b then refuses B e else p) ≡ out hidden (if d then refuses s e else y)
@@ -79,8 +78,7 @@ module _ (hidden : ℕ → Bool) (s : Machine) (n : ℕ) (c : Caller) where
           ∙ swept-veiled hidden 0 rs (change (detach_all n c.pid T lost) id (attached n c.pid))
 
   out-chosen : (b : Bool) (id : ℕ) (x : Segment) (flags : AtFlags) (o : Option ℕ) → attaches_chosen B n c id (veiled b x) flags o ≡ out hidden (attaches_chosen s n c id x flags o)
-  out-chosen b id x flags None = refl
-  out-chosen b id x flags (Some base) = out-attaches b id x flags base
+  out-chosen b id x flags o = grind (arith, common_steps, out-attaches)
 
   out-fixed : (b : Bool) (id : ℕ) (x : Segment) (flags : AtFlags) (base : ℕ) → attaches_fixed B n c id (veiled b x) flags base ≡ out hidden (attaches_fixed s n c id x flags base)
   out-fixed b id x flags base = let pages = veiled-pages b x in let all = out-attaches b id x flags base in grind arith
@@ -129,8 +127,7 @@ module _ (hidden : ℕ → Bool) (s : Machine) (n : ℕ) (c : Caller) where
     seen-places a len qs found k q is = clear (a + k) q (spot-at c.pieces a len qs found k q is)
 
     out-load : (a len : ℕ) (o : Option (List Place)) → places c.pieces a len ≡ o → load B o ≡ out hidden (load s o)
-    out-load a len None is = refl
-    out-load a len (Some qs) is = λ j. record { reply = Bytes (loaded-veiled hidden T qs (seen-places a len qs is) j); state = B }
+    out-load a len o is = grind (arith, common_steps, loaded-veiled, seen-places)
 
     out-store : (a : ℕ) (bytes : List ℕ) (o : Option (List Place)) → writable_places c.pieces a (length bytes) ≡ o → store B bytes o ≡ out hidden (store s bytes o)
     out-store a bytes o is = grind (arith, common_steps, writable-parts, stored-veiled, seen-places)

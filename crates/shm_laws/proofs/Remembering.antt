@@ -31,8 +31,7 @@ abbrev PlacedBy : Option Caller → Call → Reply → Type 0
 PlacedBy o call reply = (p : Put) → put call reply ≡ Some p → (qs : List Place) × (places (held_by o) p.from (length p.bytes) ≡ Some qs)
 
 placed-by : (s : Machine) (n : ℕ) (call : Call) (o : Option Caller) → PlacedBy o call (step_by s n call o).reply
-placed-by s n call None p puts = absurd (none-some p (sym (refused-put call Esrch) ∙ puts))
-placed-by s n call (Some c) p puts = placed-acts s n c call p puts
+placed-by s n call o p puts = grind (arith, common_steps, none-some, refused-put, placed-acts)
 
 placed-move : (s : Machine) (n : ℕ) (e : Event) (t : Machine) → IsMove s n e t → PlacedBy (caller_of s e.pid) e.call e.reply
 placed-move s n e t (inl m) p puts = subst (λ (o : Outcome). PlacedBy (caller_of s e.pid) e.call o.reply) m (placed-by s n e.call (caller_of s e.pid)) p puts
@@ -188,8 +187,7 @@ module _ (o : Opening) (before : List Event) (s : Machine) (n pid : ℕ) (now : 
 
 -- the reply of a move that is no failure
 reply-of : (s : Machine) (n : ℕ) (e : Event) (t : Machine) → is_refusal e.reply ≡ false → IsMove s n e t → (step s n e.pid e.call).reply ≡ e.reply
-reply-of s n e t clear (inl m) = ap (λ (o : Outcome). o.reply) m
-reply-of s n e t clear (inr x) = absurd (true≢false (sym (failure-refusal e.call e.reply x.failure) ∙ clear))
+reply-of s n e t clear h2 = grind (arith, common_steps, failure-refusal)
 
 recalls : (o : Opening) (before : List Event) (s : Machine) (n : ℕ) (e : Event) (t : Machine) → Recollects o before s → IsMove s n e t → Recalls o before s e t
 recalls o before s n e t now m =

@@ -55,8 +55,7 @@ module _ (s t : Machine) (e : Event) (sound : IsMachineSound s) (k : Moved s e t
   goes-by dest none = rw (dest, own) (eq-eqb _ 0 none)
 
   pub must : IsDue s e t id x → IsGone t id
-  must (inl d) = grind (arith, common_steps, own, goes-now, goes-by, same-runners)
-  must (inr d) = goes-now (goes-by (after.dest ∙ or_right (names (removed e.call e.reply) (identifier (id % 32768) (id / 32768))) x.dest d.marked) d.after)
+  must h1 = grind (arith, common_steps, own, goes-now, goes-by, same-runners, or_right)
 
   -- what stood stands on as the same segment, or is gone
   pub stands-or-gone : ((y : Segment) × Stands t id y × IsSame x y) ⊎ IsGone t id

@@ -7,8 +7,7 @@ acts-clear : (s : Machine) (n : ℕ) (c : Caller) (call : Call) → is_failure c
 acts-clear s n c call = grind arith
 
 by-clear : (s : Machine) (n : ℕ) (call : Call) (o : Option Caller) → is_failure call (step_by s n call o).reply ≡ false
-by-clear s n call (Some c) = acts-clear s n c call
-by-clear s n call None = grind arith
+by-clear s n call o = grind (arith, common_steps, acts-clear)
 
 step-clear : (s : Machine) (n pid : ℕ) (call : Call) → is_failure call (step s n pid call).reply ≡ false
 step-clear s n pid call = by-clear s n call (caller_of s pid)
@@ -21,8 +20,7 @@ is-excused s n e t failed h2 = grind (arith, common_steps, step-clear)
 
 -- a process that is not refused is live, and may ask for no byte
 idle-by : (s : Machine) (n : ℕ) (call : Call) (o : Option Caller) → is_refusal (step_by s n call o).reply ≡ false → step_by s n (Load 0 0) o ≡ record { reply = Bytes []; state = s }
-idle-by s n call None live = absurd (true≢false live)
-idle-by s n call (Some c) live = refl
+idle-by s n call o live = grind (arith, common_steps)
 
 undone-move : (s : Machine) (n : ℕ) (e : Event) (t : Machine) → IsMove s n e t → IsMove s n (undone e) t
 undone-move s n e t m = let idle = idle-by s n e.call (caller_of s e.pid) in let excused = is-excused s n e t in grind (arith, m)

@@ -124,8 +124,7 @@ sweeps : (like : Segment → Type 0) (s : Machine) (reply : Reply) (t : Machine)
 sweeps like s reply t middle turned table bare = inl (refl, inr (λ i bytes. refl, inl (record { middle = middle; turned = turned; table = table; bare = bare })))
 
 pub pick : (P : Outcome → Type 0) (b : Bool) (o p : Outcome) → P o → P p → P (if b then o else p)
-pick P true o p h k = h
-pick P false o p h k = k
+pick P b o p h k = grind (arith, common_steps)
 
 same_head : (x y : Segment) → y.size ≡ x.size → y.cpid ≡ x.cpid → y.perm.cuid ≡ x.perm.cuid → y.perm.cgid ≡ x.perm.cgid → IsSame x y
 same_head x y a b c d = record { size = a; cpid = b; cuid = c; cgid = d }
@@ -141,8 +140,7 @@ module _ (like : Segment → Type 0) (s : Machine) (n : ℕ) (c : Caller) where
   kind-creates_at key size mode o made is = grind (arith, common_steps, still, pick)
 
   kind-creates : (key size mode : ℕ) → like (new_segment n c key size mode) → Plain s (creates s n c key size mode)
-  kind-creates key size mode made =
-      pick (Plain s) (not (within 1 s.limits.shmmax size)) _ _ (still like s _) (pick (Plain s) (nat_lt s.limits.shmall (reserved s.table + pages_of size)) _ _ (still like s _) (pick (Plain s) (nat_le s.limits.shmmni (segment_count s.table)) _ _ (still like s _) (kind-creates_at key size mode (free_index s.table) made refl)))
+  kind-creates key size mode made = grind (arith, common_steps, pick, still, kind-creates_at)
 
   kind-gets : (key size mode : ℕ) (flags : GetFlags) (l : Look) → like (new_segment n c key size mode) → Plain s (gets s n c key size mode flags l)
   kind-gets key size mode flags (Found i x) made = pick (Plain s) (wants_no_other flags) _ _ (still like s _) (pick (Plain s) (nat_lt x.size size) _ _ (still like s _) (pick (Plain s) (not (grants c.cred x.perm (wish_of mode))) _ _ (still like s _) (still like s _)))
@@ -206,8 +204,7 @@ module _ (like : Segment → Type 0) (s : Machine) (n : ℕ) (c : Caller) where
   kind-controls act acts (Found i x) = pick (Plain s) (not (owns c.cred x.perm)) _ _ (still like s _) (acts i x)
 
   kind-sets : (uid gid mode i : ℕ) (x : Segment) → Plain s (sets s n uid gid mode i x)
-  kind-sets uid gid mode i x =
-      quiet idle like s _ _ (turned-change (λ (y : Segment). record y { perm = record y.perm { uid = uid; gid = gid; mode = mode % 512 }; ctime = n }) (λ y. same_head y _ refl refl refl refl) (λ y. refl) (λ y. refl) s.table i) refl
+  kind-sets uid gid mode i x = grind (arith, common_steps, quiet, turned-change, same_head)
 
   kind-locks : (i : ℕ) (x : Segment) → Plain s (locks s i x)
   kind-locks i x = pick (Plain s) (not x.locked && nat_lt s.limits.memlock (locked s.table + pages_in x)) _ _ (still like s _) (quiet idle like s _ _ (turned-change (λ (y : Segment). record y { locked = true }) (λ y. same_head y _ refl refl refl refl) (λ y. refl) (λ y. refl) s.table i) refl)
@@ -216,8 +213,7 @@ module _ (like : Segment → Type 0) (s : Machine) (n : ℕ) (c : Caller) where
   kind-unlocks i x = quiet idle like s _ _ (turned-change (λ (y : Segment). record y { locked = false }) (λ y. same_head y _ refl refl refl refl) (λ y. refl) (λ y. refl) s.table i) refl
 
   kind-load : (o : Option (List Place)) → Plain s (load s o)
-  kind-load None = still like s _
-  kind-load (Some ps) = still like s _
+  kind-load o = grind (arith, common_steps, still)
 
   abbrev Puts : Call → Outcome → Type 0
   Puts call o = Kind (over_put c.pieces (put call o.reply)) like s None o.reply o.state

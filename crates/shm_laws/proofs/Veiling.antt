@@ -5,8 +5,7 @@ use Rattle.shm_laws.proofs.Turning.{turned-byte}
 -- A SEGMENT
 
 pub veiled-length : (b : Bool) (x : Segment) → length (veiled b x).bytes ≡ length x.bytes
-veiled-length true x = length-replicate (length x.bytes) 0
-veiled-length false x = refl
+veiled-length b x = grind (arith, common_steps, length-replicate)
 
 pub veiled-pages : (b : Bool) (x : Segment) → pages_in (veiled b x) ≡ pages_in x
 veiled-pages b x = ap (λ n. n / 4096) (veiled-length b x)
