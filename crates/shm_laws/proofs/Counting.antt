@@ -1,10 +1,10 @@
 -- By how much each move changes how many pieces there are.
-use Rattle.shm_laws.proofs.Names.{◌≡◌, ◌≢◌, ◌⊎◌, ℕ, ◌+◌, ◌*◌, ◌<◌, ◌==◌, ℤ, pos, Bool, true, false, not, if◌then◌else◌, List, [], ◌∷◌, Option, Some, None, slice_set, refl, sym, ap, subst, ◌∙◌, inl, inr, arith, common_steps, filter, flat_map-cons, none-some, ShmidDs, Call, Shmat, Shmdt, Fork, Exec, Exit, Addr, Done, Event, AtFlags, Piece, Live, Runner, Machine, pages_in, Look, look, occupied, cut, origin_of, is_named, without_named, pieces_of, attach_count, Caller, Outcome, caller_of, acts, step_by, is_remap, is_rdonly, pieces_with, stat, gives, is_refusal, IsMove, one_if, one_more, pieces_of-inserted, pieces_of-filter, sum-set, held, hands_pieces, CountsPieces, held_by}
+use Rattle.shm_laws.proofs.Names.{◌≡◌, ◌≢◌, ◌⊎◌, ℕ, ◌+◌, ◌<◌, ◌==◌, ℤ, pos, Bool, true, false, not, if◌then◌else◌, List, [], ◌∷◌, Option, Some, slice_set, refl, sym, ap, ◌∙◌, inl, inr, arith, common_steps, filter, flat_map-cons, none-some, ShmidDs, Call, Shmat, Shmdt, Fork, Exec, Exit, Addr, Done, Event, AtFlags, Piece, Live, Runner, Machine, Look, look, occupied, cut, origin_of, is_named, without_named, pieces_of, attach_count, Caller, Outcome, caller_of, acts, step_by, is_remap, stat, gives, is_refusal, IsMove, one_more, pieces_of-inserted, pieces_of-filter, sum-set, held, hands_pieces, CountsPieces, held_by}
 use Rattle.shm_base.specs.declared.call.Call.TheVariants as calls
 use Rattle.shm_base.specs.declared.call.Reply.TheVariants as replies
 use Rattle.shm_laws.proofs.Handing.{Takes, caller-at, Rests, Attaches, Leaves, Forks, Hands, none-stay, hands-acts}
 use Rattle.shm_laws.proofs.Looks.{found-own}
-use Rattle.shm_laws.proofs.Refusing.{failure-refusal}
+use Rattle.shm_laws.proofs.Refusing.{by-move}
 use Rattle.shm_laws.proofs.Stepping.{Bare, unborn-bare}
 
 -- PIECES THAT ARE CUT OR NAMED
@@ -105,22 +105,18 @@ stat-by s n id d o told = grind (arith, common_steps, stat-shows)
 counts-refused : (s : Machine) (e : Event) (t : Machine) → is_refusal e.reply ≡ true → t.runners ≡ s.runners → CountsPieces s e t
 counts-refused s e t refused same = grind (arith, common_steps)
 
-counts-by : (s : Machine) (n pid : ℕ) (call : Call) (o : Option Caller) → caller_of s pid ≡ o → Bare s.runners
-    → let r = step_by s n call o in CountsPieces s (record { pid = pid; call = call; reply = r.reply }) r.state
-counts-by s n pid call None is bare = counts-refused s _ s refl refl
-counts-by s n pid call (Some c) is bare =
-    let o = acts s n c call in
-    let k = hands-acts s n c call in
+pub counts-move : (s : Machine) (n : ℕ) (e : Event) (t : Machine) → Bare s.runners → IsMove s n e t → CountsPieces s e t
+counts-move s n e t bare =
+    by-move s n e t (λ r u. CountsPieces s (record { pid = e.pid; call = e.call; reply = r }) u)
+    (λ c is.
+    let o = acts s n c e.call in
+    let k = hands-acts s n c e.call in
     record {
       shown = λ id d asked told. stat-by s n id d (Some c) (ap (λ (a : Call). (acts s n c a).reply) (sym asked) ∙ told);
-      attached = attach-counts s pid c is bare call o k;
-      forked = fork-counts s pid c is bare call o k;
-      left = left-counts s pid c is bare call o k;
-      detached = detach-counts s pid c is bare call o k;
-      quiet = quiet-counts s pid c is bare call o k;
-    }
-
-pub counts-move : (s : Machine) (n : ℕ) (e : Event) (t : Machine) → Bare s.runners → IsMove s n e t → CountsPieces s e t
-counts-move s n e t bare (inl m) =
-    subst (λ (o : Outcome). CountsPieces s (record { pid = e.pid; call = e.call; reply = o.reply }) o.state) m (counts-by s n e.pid e.call (caller_of s e.pid) refl bare)
-counts-move s n e t bare (inr x) = counts-refused s e t (failure-refusal e.call e.reply x.failure) (ap (λ (u : Machine). u.runners) x.unchanged)
+      attached = attach-counts s e.pid c is bare e.call o k;
+      forked = fork-counts s e.pid c is bare e.call o k;
+      left = left-counts s e.pid c is bare e.call o k;
+      detached = detach-counts s e.pid c is bare e.call o k;
+      quiet = quiet-counts s e.pid c is bare e.call o k;
+    })
+    (λ r no. counts-refused s _ s no refl)

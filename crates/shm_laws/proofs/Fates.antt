@@ -1,29 +1,19 @@
 -- What becomes of each index of the table in a step, and of what is kept.
-use Rattle.shm_laws.proofs.Names.{◌≡◌, ◌≢◌, ◌⊎◌, ℕ, ◌/◌, ◌%◌, ◌<◌, ◌≤◌, ◌==◌, ◌||◌, pos, Bool, false, List, replicate, Option, Some, None, slice_get, refl, sym, ap, subst, ◌∙◌, inl, inr, arith, eq-eqb, ne_eqb, common_steps, option_map, cases_eq, Call, Rmid, Reply, Id, Event, Segment, Entry, Runner, Machine, identifier, destroyed_in, with_segment, destroyed_at, attach_count, with_entry, marked, change, swept_at, Outcome, Caller, step_by, caller_of, IsMove, orphan_in, orphan, IsSame, put, held_by}
+use Rattle.shm_laws.proofs.Names.{◌≡◌, ◌≢◌, ◌⊎◌, ℕ, ◌/◌, ◌%◌, ◌<◌, ◌≤◌, ◌==◌, ◌||◌, pos, Bool, false, List, replicate, Option, Some, None, slice_get, refl, sym, ap, subst, ◌∙◌, inl, inr, arith, eq-eqb, ne_eqb, common_steps, option_map, cases_eq, Reply, Id, Event, Segment, Entry, Runner, Machine, identifier, destroyed_in, with_segment, destroyed_at, attach_count, with_entry, marked, change, swept_at, caller_of, IsMove, orphan_in, orphan, IsSame, put, held_by, swept, true}
 use Rattle.shm_laws.proofs.Turning.{same_refl, set_in-here, set_in-there, swept_entry, swept-get, Turned, unchanged, turned-over, turned-as, entry-none}
 use Rattle.shm_laws.proofs.Fresh.{IsEmpty, made-at}
 use Rattle.shm_laws.proofs.Looks.{holds, stands-at}
-use Rattle.shm_laws.proofs.Refusing.{failure-removed, failure-put}
+use Rattle.shm_laws.proofs.Refusing.{by-move, refused-removed, refused-put}
 use Rattle.shm_laws.proofs.Stepping.{Bare, SweepTo, MakeTo, RemoveTo, IsIdle, Kind, over_put, overlay, MadeBy, made_by, Moved, removed, kind-acts, still}
 
 -- WHAT EACH MOVE IS
 
-kind-by : (s : Machine) (n : ℕ) (call : Call) (o : Option Caller) → Bare s.runners
-    → let r = step_by s n call o in Kind (over_put (held_by o) (put call r.reply)) (made_by o call) s (removed call r.reply) r.reply r.state
-kind-by s n (Rmid (pos id)) None bare = still _ s _
-kind-by s n call None bare = still _ s _
-kind-by s n call (Some c) bare =
-    kind-acts (MadeBy c call) s n c call bare
-    (λ key size mode flags asked k. record { key = key; mode = mode; flags = flags; asked = asked; process = refl; user = refl; group = refl })
-
 pub kind-move : (s : Machine) (n : ℕ) (e : Event) (t : Machine) → Bare s.runners → IsMove s n e t → Moved s e t
-kind-move s n e t bare (inl m) =
-    subst (λ (o : Outcome). Kind (over_put (held_by (caller_of s e.pid)) (put e.call o.reply)) (made_by (caller_of s e.pid) e.call) s (removed e.call o.reply) o.reply o.state) m
-    (kind-by s n e.call (caller_of s e.pid) bare)
-kind-move s n e t bare (inr x) =
-    rw (failure-removed e.call e.reply x.failure, failure-put e.call e.reply x.failure, x.unchanged) (still (made_by (caller_of s e.pid) e.call) s e.reply)
-
--- WHICH CALL REMOVED
+kind-move s n e t bare =
+    by-move s n e t (λ r u. Kind (over_put (held_by (caller_of s e.pid)) (put e.call r)) (made_by (caller_of s e.pid) e.call) s (removed e.call r) r u)
+    (λ c is. rw is (kind-acts (MadeBy c e.call) s n c e.call bare
+    (λ key size mode flags asked k. record { key = key; mode = mode; flags = flags; asked = asked; process = refl; user = refl; group = refl })))
+    (λ r no. rw (refused-removed e.call r no, refused-put e.call r no) (still (made_by (caller_of s e.pid) e.call) s r))
 
 -- WHAT IS KEPT
 
@@ -87,11 +77,15 @@ module _ (over : ℕ → List ℕ → List ℕ) (like : Segment → Type 0) (r :
   fate-still : Turned (over i) s.table t.table i → ((id : ℕ) → attach_count s.runners id ≤ attach_count t.runners id) → Fate false
   fate-still u grows = grind (arith, common_steps)
 
+  -- it is swept, as it is after a change of what stands there
+  fate-turned : (b : Bool) (f : Segment → Segment) (middle : List Entry) → IsIdle over → ((x : Segment) → IsSame x (f x)) → ((x : Segment) → (f x).dest ≡ (b || x.dest))
+      → ((x : Segment) → (f x).bytes ≡ x.bytes) → slice_get middle i ≡ option_map (with_entry f) (slice_get s.table i) → t.table ≡ swept t.runners middle → Fate b
+  fate-turned b f middle none same dest bytes changed table =
+      let at = ap (λ (es : List Entry). slice_get es i) table ∙ swept-get t.runners middle i ∙ ap (option_map (swept_entry i t.runners)) changed in
+      inl (record { turn = f; same = same; dest = dest; bytes = λ x. bytes x ∙ sym (none i x.bytes); at = at })
+
   fate-swept : IsIdle over → SweepTo s t → Fate false
-  fate-swept none k =
-      let u = k.turned i in
-      let at = ap (λ (es : List Entry). slice_get es i) k.table ∙ swept-get t.runners k.middle i ∙ ap (option_map (swept_entry i t.runners)) u.at in
-      inl (record { turn = u.turn; same = u.same; dest = u.dest; bytes = λ x. u.bytes x ∙ sym (none i x.bytes); at = at })
+  fate-swept none k = let u = k.turned i in fate-turned false u.turn k.middle none u.same u.dest u.bytes u.at k.table
 
   fate-made : IsIdle over → MakeTo like s reply t → Fate false
   fate-made none k =
@@ -125,30 +119,21 @@ module _ (over : ℕ → List ℕ → List ℕ) (like : Segment → Type 0) (r :
             let held : id / 32768 ≡ d = sym (ap destroyed_in there) ∙ count in
             let twice : (id % 32768) % 32768 ≡ i = omega (arith, here) in
             rw (eq-eqb id (identifier i d) (omega (arith, here, held)))
-            (inl (record {
-              turn = marked;
-              same = λ x. record { size = refl; cpid = refl; cuid = refl; cgid = refl };
-              dest = λ x. refl;
-              bytes = λ x. sym (none i x.bytes);
-              at = after (with_entry marked) (rw twice (set_in-here s.table i (with_entry marked) (slice_get s.table i) refl));
-            }))
+            (fate-turned true marked middle none (λ x. record { size = refl; cpid = refl; cuid = refl; cgid = refl }) (λ x. refl) (λ x. refl)
+            (rw twice (set_in-here s.table i (with_entry marked) (slice_get s.table i) refl)) swept_to)
         | inr apart ↦
             let other : id ≢ identifier i d = λ same. apart (omega (arith, same, small)) in
             let twice : (id % 32768) % 32768 ≢ i = λ same. apart (omega (arith, same)) in
             rw (ne_eqb id (identifier i d) other)
-            (inl (record {
-              turn = λ x. x;
-              same = same_refl;
-              dest = λ x. refl;
-              bytes = λ x. sym (none i x.bytes);
-              at = after (with_entry (λ x. x)) (set_in-there s.table _ i (with_entry marked) _ twice ∙ sym (entry-none (slice_get s.table i)));
-            }))
+            (fate-turned false (λ x. x) middle none same_refl (λ x. refl) (λ x. refl)
+            (set_in-there s.table _ i (with_entry marked) _ twice ∙ sym (entry-none (slice_get s.table i))) swept_to)
       ]
     where
-      after : (g : Entry → Entry) → slice_get (change s.table (id % 32768) marked) i ≡ option_map g (slice_get s.table i)
-          → slice_get t.table i ≡ option_map (swept_entry i t.runners) (option_map g (slice_get s.table i))
-      after g changed =
-          rw k.runners (ap (λ (es : List Entry). slice_get es i) k.table ∙ swept-get s.runners (change s.table (id % 32768) marked) i ∙ ap (option_map (swept_entry i s.runners)) changed)
+      middle : List Entry
+      middle = change s.table (id % 32768) marked
+
+      swept_to : t.table ≡ swept t.runners middle
+      swept_to = rw k.runners k.table
 
   fate : (d : ℕ) → destroyed_at s.table i ≡ d → Kind over like s r reply t → Fate (names r (identifier i d))
   fate d count h2 = grind (arith, fate-still, fate-swept, fate-made, fate-removed)

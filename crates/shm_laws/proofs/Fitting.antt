@@ -1,5 +1,5 @@
 -- Each piece lies within a segment that stands.
-use Rattle.shm_laws.proofs.Names.{◌≡◌, ℕ, suc, zero, ◌+◌, ◌*◌, ◌%◌, ◌≤◌, true, List, [], ◌∷◌, length, get_or, Option, Some, None, slice_get, refl, sym, ◌∙◌, inl, inr, arith, common_steps, none-some, All-contains, Contains-get_or, Event, Segment, Piece, Runner, Machine, Opening, start_of, Invalid, Found, Place, covers, place_by, place, pieces_of, attach_count, Caller, caller_of, IsMove, one_more, Stands, Has, EachPiece, held_by}
+use Rattle.shm_laws.proofs.Names.{◌≡◌, ℕ, ◌+◌, ◌*◌, ◌%◌, ◌≤◌, true, length, get_or, Option, Some, None, refl, arith, common_steps, none-some, All-contains, Contains-get_or, Event, Segment, Piece, Runner, Machine, Opening, start_of, Place, covers, place_by, place, attach_count, Caller, caller_of, IsMove, Stands, Has, EachPiece, held_by}
 use Rattle.shm_laws.proofs.Fates.{kind-move}
 use Rattle.shm_laws.proofs.Accessing.{lies-in}
 use Rattle.shm_laws.proofs.Granting.{IsPieceGiven, Aligned, each-has, has-own, mine, each-start, given-move, aligned-move}
@@ -18,11 +18,6 @@ pub one-index : (s : Machine) (a b : ℕ) (x y : Segment) → Stands s a x → S
 one-index s a b x y h k same = grind (arith, common_steps)
 
 -- WHO HAS A PIECE IS COUNTED
-
-piece-count : (ps : List Piece) (k : ℕ) (p : Piece) → slice_get ps k ≡ Some p → 1 ≤ pieces_of p.seg ps
-piece-count [] k p is = absurd (cc is)
-piece-count (q ∷ qs) zero p is = let more = one_more p.seg q qs in grind (arith, common_steps)
-piece-count (q ∷ qs) (suc k) p is = grind (arith, common_steps, one_more, piece-count qs k p is)
 
 pub has-count : (s : Machine) (pid : ℕ) (p : Piece) → Has s pid p → 1 ≤ attach_count s.runners p.seg
 has-count s pid p h = grind (arith, common_steps)

@@ -1,10 +1,10 @@
 -- Each piece goes back to a shmat that was granted, and each move keeps out who has no leave.
-use Rattle.shm_laws.proofs.Names.{◌≡◌, ◌⊎◌, ℕ, ◌+◌, ◌*◌, ◌%◌, ◌<◌, ℤ, pos, negsuc, Bool, true, false, not, List, [], ◌∷◌, ◌++◌, length, get_or, Option, Some, None, slice_get, slice_set, refl, sym, ap, subst, ◌∙◌, inl, inr, arith, true≢false, All, Contains, cases_Bool, none-some, slice_get_within, get_or_from_slice_get, All-nil, All-append, All-filter, All-map, All-weaker, All-contains, Contains-get_or, flat_map-cons, common_steps, Cred, Perm, Call, Load, Store, Xadd, Done, Event, Place, covers, places, writable_places, owns, Segment, Piece, Live, Runner, Machine, Opening, start_of, runner_at_start, pages_in, Look, look, meets, part_below, part_above, parts, cut, inserted, Caller, Outcome, caller_of, acts, step_by, pieces_with, is_rdonly, controls, load, store, xadd, is_refusal, IsMove, IsHistory, all-cons, all-head, all-tail, all-slice_set, Has, EachPiece, IsPart, IsGranted, IsInherited, GoesBack, Granted, Kept, Inherited, Reach, StaysInside, controlled, IsOwner, OwnerAsks, KeepsOut, NoWayIn}
+use Rattle.shm_laws.proofs.Names.{◌≡◌, ◌⊎◌, ℕ, ◌+◌, ◌*◌, ◌%◌, ◌<◌, ℤ, pos, Bool, true, false, not, List, [], ◌∷◌, ◌++◌, length, get_or, Option, Some, None, slice_get, slice_set, refl, sym, ap, subst, ◌∙◌, inl, inr, arith, true≢false, All, Contains, none-some, slice_get_within, get_or_from_slice_get, All-nil, All-append, All-filter, All-map, All-weaker, All-contains, Contains-get_or, flat_map-cons, common_steps, Cred, Perm, Call, Load, Store, Xadd, Done, Event, Place, covers, places, writable_places, owns, Segment, Piece, Live, Runner, Machine, Opening, start_of, runner_at_start, pages_in, Look, look, meets, part_below, part_above, parts, cut, inserted, Caller, Outcome, caller_of, acts, pieces_with, is_rdonly, controls, load, store, xadd, is_refusal, IsMove, IsHistory, all-cons, all-head, all-tail, all-slice_set, Has, EachPiece, IsPart, IsGranted, IsInherited, GoesBack, Granted, Kept, Inherited, Reach, StaysInside, controlled, IsOwner, OwnerAsks, KeepsOut, NoWayIn}
 use Rattle.shm_laws.proofs.Accessing.{lies-in, place-of, writable-at, writable-parts}
 use Rattle.shm_laws.proofs.Handing.{CallerAt, caller-at, IsAligned, Attaches, Leaves, Forks, Hands, hands-acts}
 use Rattle.shm_laws.proofs.Inducting.{each_move, at_all_times}
 use Rattle.shm_laws.proofs.Looks.{found-own}
-use Rattle.shm_laws.proofs.Refusing.{failure-refusal}
+use Rattle.shm_laws.proofs.Refusing.{by-move}
 
 -- PARTS
 
@@ -131,15 +131,10 @@ module _ (s : Machine) (pid : ℕ) (c : Caller) (is : caller_of s pid ≡ Some c
     given-hands (inr (inr (inl k))) = given-leaves k
     given-hands (inr (inr (inr k))) = given-forks k
 
-given-by : (s : Machine) (n pid : ℕ) (call : Call) (o : Option Caller) → caller_of s pid ≡ o → Aligned s
-    → let r = step_by s n call o in AllGiven s (record { pid = pid; call = call; reply = r.reply }) r.state.runners
-given-by s n pid call None is aligned = kept-all s _
-given-by s n pid call (Some c) is aligned = given-hands s pid c is call (acts s n c call) aligned (hands-acts s n c call)
-
 pub given-move : (s : Machine) (n : ℕ) (e : Event) (t : Machine) → Aligned s → IsMove s n e t → EachPiece (IsPieceGiven s e) t
-given-move s n e t aligned (inl m) =
-    subst (λ (o : Outcome). AllGiven s (record { pid = e.pid; call = e.call; reply = o.reply }) o.state.runners) m (given-by s n e.pid e.call (caller_of s e.pid) refl aligned)
-given-move s n e t aligned (inr x) = rw x.unchanged (kept-all s e)
+given-move s n e t aligned =
+    by-move s n e t (λ r u. AllGiven s (record { pid = e.pid; call = e.call; reply = r }) u.runners)
+    (λ c is. given-hands s e.pid c is e.call (acts s n c e.call) aligned (hands-acts s n c e.call)) (λ r no. kept-all s _)
 
 -- what is given holds where it held of what it is given from
 each-given : (law next : ℕ → Piece → Type 0) (s : Machine) (e : Event) (t : Machine)
@@ -185,11 +180,10 @@ module _ (s : Machine) (n pid : ℕ) (c : Caller) (live : caller_of s pid ≡ So
   abbrev At : Reach → Type 0
   At r = (k : ℕ) → k < r.len → (p : Piece) × Has s pid p × (covers p (r.from + k) ≡ true) × (r.writes ≡ true → p.writable ≡ true)
 
-  -- one address of an access
+  -- the addresses of an access
   lies : (a len : ℕ) (w : Bool) (qs : List Place) → places c.pieces a len ≡ Some qs → ((k : ℕ) (q : Place) → slice_get qs k ≡ Some q → w ≡ true → q.writable ≡ true)
-      → (r : Reach) → Some (record { from = a; len = len; writes = w }) ≡ Some r → (k : ℕ) → k < r.len
-      → (p : Piece) × Has s pid p × (covers p (r.from + k) ≡ true) × (r.writes ≡ true → p.writable ≡ true)
-  lies a len w qs found may r is k lt = subst At (cc is) at k lt
+      → (r : Reach) → Some (record { from = a; len = len; writes = w }) ≡ Some r → At r
+  lies a len w qs found may r is = subst At (cc is) at
     where
       at : At (record { from = a; len = len; writes = w })
       at k lt =
@@ -198,30 +192,31 @@ module _ (s : Machine) (n pid : ℕ) (c : Caller) (live : caller_of s pid ≡ So
           let has : Has s pid l.piece = All-contains (Has s pid) c.pieces l.piece (mine s pid c live) l.is in
           (l.piece, has, l.covered, λ h. ap (λ (q : Place). q.writable) (sym l.spot) ∙ may k spot.spot spot.at h)
 
+  -- of one that writes
+  lies-written : (a len : ℕ) (qs : List Place) → writable_places c.pieces a len ≡ Some qs → (r : Reach) → Some (record { from = a; len = len; writes = true }) ≡ Some r → At r
+  lies-written a len qs is =
+      let both = writable-parts (places c.pieces a len) qs is in lies a len true qs both.0 (λ j q at w. writable-at qs j q both.1 at)
+
   abbrev Inside : Call → Outcome → Type 0
   Inside call o = StaysInside s (record { pid = pid; call = call; reply = o.reply })
 
   inside-load : (a len : ℕ) (o : Option (List Place)) → places c.pieces a len ≡ o → Inside (Load a len) (load s o)
-  inside-load a len None is clear r reached k lt = absurd (true≢false clear)
-  inside-load a len (Some qs) is clear r reached k lt = lies a len false qs is (λ k q at w. absurd (true≢false (sym w))) r reached k lt
+  inside-load a len None is clear = absurd (true≢false clear)
+  inside-load a len (Some qs) is clear = lies a len false qs is (λ k q at w. absurd (true≢false (sym w)))
 
   inside-store : (a : ℕ) (bytes : List ℕ) (o : Option (List Place)) → writable_places c.pieces a (length bytes) ≡ o → Inside (Store a bytes) (store s bytes o)
-  inside-store a bytes None is clear r reached k lt = absurd (true≢false clear)
-  inside-store a bytes (Some qs) is clear r reached k lt =
-      let both = writable-parts (places c.pieces a (length bytes)) qs is in
-      lies a (length bytes) true qs both.0 (λ j q at w. writable-at qs j q both.1 at) r reached k lt
+  inside-store a bytes None is clear = absurd (true≢false clear)
+  inside-store a bytes (Some qs) is clear = lies-written a (length bytes) qs is
 
   inside-xadd : (a add : ℕ) (o : Option (List Place)) → writable_places c.pieces a 8 ≡ o → Inside (Xadd a add) (xadd s add o)
-  inside-xadd a add None is clear r reached k lt = absurd (true≢false clear)
-  inside-xadd a add (Some qs) is clear r reached k lt =
-      let both = writable-parts (places c.pieces a 8) qs is in
-      lies a 8 true qs both.0 (λ j q at w. writable-at qs j q both.1 at) r reached k lt
+  inside-xadd a add None is clear = absurd (true≢false clear)
+  inside-xadd a add (Some qs) is clear = lies-written a 8 qs is
 
   inside-acts : (call : Call) → Inside call (acts s n c call)
-  inside-acts (Load a len) clear r reached k lt = inside-load a len (places c.pieces a len) refl clear r reached k lt
-  inside-acts (Store a bytes) clear r reached k lt = inside-store a bytes (writable_places c.pieces a (length bytes)) refl clear r reached k lt
-  inside-acts (Xadd a add) clear r reached k lt = inside-xadd a add (writable_places c.pieces a 8) refl clear r reached k lt
-  inside-acts call clear r reached k lt = absurd (none-some r reached)
+  inside-acts (Load a len) clear r reached = inside-load a len (places c.pieces a len) refl clear r reached
+  inside-acts (Store a bytes) clear r reached = inside-store a bytes (writable_places c.pieces a (length bytes)) refl clear r reached
+  inside-acts (Xadd a add) clear r reached = inside-xadd a add (writable_places c.pieces a 8) refl clear r reached
+  inside-acts call clear r reached = absurd (none-some r reached)
 
   -- who owns it
   owner-of : (cred : Cred) (perm : Perm) → owns cred perm ≡ true → IsOwner cred perm
@@ -242,23 +237,14 @@ module _ (s : Machine) (n pid : ℕ) (c : Caller) (live : caller_of s pid ≡ So
   asks-acts : (call : Call) → Asks call (acts s n c call)
   asks-acts call id is done = grind (arith, common_steps, asked, none-some)
 
-abbrev Out : Machine → ℕ → Call → Outcome → Type 0
-Out s pid call o = StaysInside s (record { pid = pid; call = call; reply = o.reply }) × ((id : ℤ) → controlled call ≡ Some id → o.reply ≡ Done → OwnerAsks s pid id)
-
-out-by : (s : Machine) (n pid : ℕ) (call : Call) (o : Option Caller) → caller_of s pid ≡ o → Out s pid call (step_by s n call o)
-out-by s n pid call None is = (λ clear r reached k lt. absurd (true≢false clear), λ id is done. absurd (cc done))
-out-by s n pid call (Some c) is = (inside-acts s n pid c is call, asks-acts s n pid c is call)
-
 keeps-out : (s : Machine) (n : ℕ) (e : Event) (t : Machine) → IsMove s n e t → KeepsOut s e t
-keeps-out s n e t (inl m) =
-    let both = subst (λ (o : Outcome). Out s e.pid e.call o) m (out-by s n e.pid e.call (caller_of s e.pid) refl) in
-    record { inside = both.0; owner = both.1 }
-keeps-out s n e t (inr x) =
-    let refused = failure-refusal e.call e.reply x.failure in
-    record {
-      inside = λ clear r reached k lt. absurd (true≢false (sym refused ∙ clear));
-      owner = λ id is done. absurd (true≢false (sym refused ∙ ap is_refusal done));
-    }
+keeps-out s n e t =
+    by-move s n e t (λ r u. KeepsOut s (record { pid = e.pid; call = e.call; reply = r }) u)
+    (λ c is. record { inside = inside-acts s n e.pid c is e.call; owner = asks-acts s n e.pid c is e.call })
+    (λ r no. record {
+      inside = λ clear x reached k lt. absurd (true≢false (sym no ∙ clear));
+      owner = λ id is done. absurd (true≢false (sym no ∙ ap is_refusal done));
+    })
 
 -- of every legal history
 pub no_way_in : (o : Opening) (events : List Event) (end : Machine) → IsHistory o events end → NoWayIn o events end

@@ -111,39 +111,36 @@ module _ (s : Machine) (n : ℕ) (c : Caller) where
   rests : (call : Call) (o : Outcome) → hands_pieces call ≡ false → o.state.runners ≡ s.runners → Hands s c call o
   rests call o why same = inl (record { why = inl why; runners = same })
 
-  hands-attaches : (call : Call) (seg addr : ℕ) (flags : AtFlags) (x : Segment) (base : ℕ) → call ≡ Shmat (pos seg) addr flags → Stands s seg x
-      → grants c.cred x.perm (at_wish flags) ≡ true → (All IsAligned c.pieces → base % 4096 ≡ 0)
-      → (is_remap flags ≡ false → occupied c.pieces base (base + 4096 * pages_in x) ≡ false) → Hands s c call (attaches s n c seg x flags base)
-  hands-attaches call seg addr flags x base asked there leave page free =
-      pick (Hands s c call) (nat_lt 256 (length (pieces_with c seg x flags base))) _ _ (refused _ _)
-      (inr (inl (record {
-        seg = seg;
-        addr = addr;
-        flags = flags;
-        base = base;
-        segment = x;
-        asked = asked;
-        stands = there;
-        leave = leave;
-        page = page;
-        free = free;
-        answer = refl;
-        runners = refl;
-      })))
+  -- of a call that asks for a segment that stands, and has leave
+  module _ (call : Call) (seg at : ℕ) (flags : AtFlags) (x : Segment) (asked : call ≡ Shmat (pos seg) at flags) (there : Stands s seg x) (leave : grants c.cred x.perm (at_wish flags) ≡ true) where
+    hands-attaches : (base : ℕ) → (All IsAligned c.pieces → base % 4096 ≡ 0) → (is_remap flags ≡ false → occupied c.pieces base (base + 4096 * pages_in x) ≡ false)
+        → Hands s c call (attaches s n c seg x flags base)
+    hands-attaches base page free =
+        pick (Hands s c call) (nat_lt 256 (length (pieces_with c seg x flags base))) _ _ (refused _ _)
+        (inr (inl (record {
+          seg = seg;
+          addr = at;
+          flags = flags;
+          base = base;
+          segment = x;
+          asked = asked;
+          stands = there;
+          leave = leave;
+          page = page;
+          free = free;
+          answer = refl;
+          runners = refl;
+        })))
 
-  hands-chosen : (call : Call) (seg addr : ℕ) (flags : AtFlags) (x : Segment) (o : Option ℕ) → choose c.pieces (pages_in x) ≡ o → call ≡ Shmat (pos seg) addr flags
-      → Stands s seg x → grants c.cred x.perm (at_wish flags) ≡ true → Hands s c call (attaches_chosen s n c seg x flags o)
-  hands-chosen call seg addr flags x None is asked there leave = refused _ _
-  hands-chosen call seg addr flags x (Some base) is asked there leave =
-      hands-attaches call seg addr flags x base asked there leave (chosen-page c.pieces (pages_in x) base is) (λ plain. chosen-free c.pieces (pages_in x) base is)
+    hands-chosen : (o : Option ℕ) → choose c.pieces (pages_in x) ≡ o → Hands s c call (attaches_chosen s n c seg x flags o)
+    hands-chosen None is = refused _ _
+    hands-chosen (Some base) is = hands-attaches base (chosen-page c.pieces (pages_in x) base is) (λ plain. chosen-free c.pieces (pages_in x) base is)
 
-  hands-fixed : (call : Call) (seg addr at : ℕ) (flags : AtFlags) (x : Segment) → call ≡ Shmat (pos seg) at flags → Stands s seg x → grants c.cred x.perm (at_wish flags) ≡ true
-      → Hands s c call (attaches_fixed s n c seg x flags (addr - addr % 4096))
-  hands-fixed call seg addr at flags x asked there leave =
-      let base = addr - addr % 4096 in
-      pick (Hands s c call) (not (inside base (pages_in x))) _ _ (refused _ _)
-      (pick_by (Hands s c call) (not (is_remap flags) && occupied c.pieces base (base + 4096 * pages_in x)) _ _ (λ h. refused call _)
-      (λ h. hands-attaches call seg at flags x base asked there leave (λ all. omega arith) (λ plain. rw plain at h)))
+    hands-fixed : (base : ℕ) → base % 4096 ≡ 0 → Hands s c call (attaches_fixed s n c seg x flags base)
+    hands-fixed base page =
+        pick (Hands s c call) (not (inside base (pages_in x))) _ _ (refused _ _)
+        (pick_by (Hands s c call) (not (is_remap flags) && occupied c.pieces base (base + 4096 * pages_in x)) _ _ (λ h. refused call _)
+        (λ h. hands-attaches base (λ all. page) (λ plain. rw plain at h)))
 
   hands-found : (m : ℕ) (flags : AtFlags) (addr at : ℕ) (l : Look) → look s.table (pos m) ≡ l → Hands s c (Shmat (pos m) at flags) (attaches_found s n c flags addr l)
   hands-found m flags addr at Invalid is = refused _ _
@@ -157,8 +154,8 @@ module _ (s : Machine) (n : ℕ) (c : Caller) where
       (λ h.
       let leave = not-false (grants c.cred x.perm (at_wish flags)) h in
       pick (Hands s c (Shmat (pos m) at flags)) (addr == 0) _ _
-      (hands-chosen _ _ at flags x (choose c.pieces (pages_in x)) refl asked there leave)
-      (hands-fixed _ _ addr at flags x asked there leave))
+      (hands-chosen _ _ at flags x asked there leave (choose c.pieces (pages_in x)) refl)
+      (hands-fixed _ _ at flags x asked there leave (addr - addr % 4096) (omega arith)))
 
   hands-look : (id : ℤ) (flags : AtFlags) (addr : ℕ) → Hands s c (Shmat id addr flags) (attaches_found s n c flags addr (look s.table id))
   hands-look (pos m) flags addr = hands-found m flags addr addr (look s.table (pos m)) refl

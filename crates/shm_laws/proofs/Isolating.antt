@@ -1,5 +1,6 @@
 -- A call sees no byte that is hidden from its process.
-use Rattle.shm_laws.proofs.Names.{◌≡◌, ◌⊎◌, ℕ, ◌+◌, ◌*◌, ◌/◌, ◌%◌, ◌^◌, ◌==◌, ℤ, Bool, true, false, not, nat_lt, if◌then◌else◌, List, [], ◌∷◌, length, Option, Some, None, slice_get, refl, sym, ap, subst, ◌∙◌, inl, inr, arith, common_steps, w64, to_le_bytes, from_le_bytes, length-replicate, none-some, slice_get_within, Errno, Eperm, Emfile, GetFlags, AtFlags, Call, Shmget, Shmat, Shmdt, Stat, Set, Rmid, Lock, Unlock, Load, Store, Xadd, Fork, Exec, Exit, Swapoff, Addr, Bytes, Number, Done, Event, Place, place, places, writable_places, stored, Segment, Entry, Piece, Runner, Machine, Opening, pages_in, Look, identifier, destroyed_in, destroyed_at, find_key, look, cut_segments, origin_of, change, attached, detach_all, swept, after_detach, Outcome, gives, refuses, Caller, caller_of, with_pieces, with_end, segments_of, new_segment, creates_at, creates, shmget, pieces_with, attaches, attaches_chosen, attaches_fixed, attaches_found, shmat, detaches, forks, unborn_from, stat, controls, sets, removes, locks, unlocks, load, store, xadd, number_at, takes_away, acts, step_by, step, is_failure, IsMove, IsHistory, Has, Reach, reach, veiled, veiled_from, veil, DifferIn, HasNone, IsPrivate, IsAsked, IsBlindOn, IsIsolated, held_by, clear_step, first_clear, rest_clear}
+use Rattle.shm_laws.proofs.Names.{◌≡◌, ◌⊎◌, ℕ, ◌+◌, ◌*◌, ◌/◌, ◌%◌, ◌^◌, ◌==◌, ℤ, Bool, true, false, not, nat_lt, if◌then◌else◌, List, [], ◌∷◌, length, Option, Some, None, slice_get, refl, sym, ap, subst, ◌∙◌, inl, inr, arith, common_steps, w64, to_le_bytes, from_le_bytes, length-replicate, none-some, slice_get_within, Errno, Eperm, Emfile, GetFlags, AtFlags, Call, Shmget, Shmat, Shmdt, Stat, Set, Rmid, Lock, Unlock, Load, Store, Xadd, Fork, Exec, Exit, Swapoff, Addr, Number, Done, Event, Place, place, places, writable_places, stored, Segment, Entry, Piece, Runner, Machine, Opening, pages_in, Look, identifier, destroyed_in, destroyed_at, find_key, look, cut_segments, origin_of, change, attached, detach_all, swept, after_detach, Outcome, gives, refuses, Caller, caller_of, with_pieces, with_end, segments_of, new_segment, creates_at, creates, shmget, pieces_with, attaches, attaches_chosen, attaches_fixed, attaches_found, shmat, detaches, forks, unborn_from, stat, controls, sets, removes, locks, unlocks, load, store, xadd, number_at, takes_away, acts, step_by, step, is_failure, IsMove, IsHistory, Has, Reach, reach, veiled, veiled_from, veil, DifferIn, HasNone, IsPrivate, IsAsked, IsBlindOn, IsIsolated, held_by, clear_step, first_clear, rest_clear}
+use Rattle.shm_laws.proofs.Refusing.{by-move}
 use Rattle.shm_base.specs.Step.{gets}
 use Rattle.shm_laws.proofs.Accessing.{place-of, places-length, writable-parts}
 use Rattle.shm_laws.proofs.Fitting.{IsFit, fit-start, fit-move, spot-fits}
@@ -238,16 +239,10 @@ module _ (hidden : ℕ → Bool) (s : Machine) (n : ℕ) (c : Caller) (hid : (a 
       by (Some qs) found = private-store a 8 (to_le_bytes w64 ((number_at s qs + add) % 2 ^ 64)) qs found
   private-acts call r is = absurd (none-some r is)
 
-private-by : (hidden : ℕ → Bool) (s : Machine) (n : ℕ) (call : Call) (r : Reach) (o : Option Caller) → reach call ≡ Some r
-    → ((a : ℕ) (q : Place) → place (held_by o) a ≡ Some q → Hid hidden s.table q) → veil hidden (step_by s n call o).state ≡ veil hidden s
-private-by hidden s n call r None is hid = refl
-private-by hidden s n call r (Some c) is hid = private-acts hidden s n c hid call r is
-
 -- an access to what is hidden leaves the rest
 private-move : (hidden : ℕ → Bool) (s : Machine) (n : ℕ) (e : Event) (t : Machine) (r : Reach) → reach e.call ≡ Some r → Hides hidden s e.pid → IsMove s n e t → DifferIn hidden t s
-private-move hidden s n e t r is hid (inl m) =
-    ap (λ (o : Outcome). veil hidden o.state) (sym m) ∙ private-by hidden s n e.call r (caller_of s e.pid) is hid
-private-move hidden s n e t r is hid (inr x) = ap (veil hidden) x.unchanged
+private-move hidden s n e t r is hid =
+    by-move s n e t (λ x u. DifferIn hidden u s) (λ c live. private-acts hidden s n c (λ a q at. hid a q (rw live at)) e.call r is) (λ x no. refl)
 
 -- FROM A MOMENT ON
 

@@ -1,5 +1,5 @@
 -- Every legal history keeps all laws.
-use Rattle.shm_laws.proofs.Names.{arith, common_steps, List, Event, Machine, Opening, IsHistory, IsLawful}
+use Rattle.shm_laws.proofs.Names.{arith, List, Event, Machine, Opening, IsHistory, IsLawful}
 use Rattle.shm_laws.proofs.Remembering.{has_last_writers}
 use Rattle.shm_laws.proofs.Naming.{names_one_segment}
 use Rattle.shm_laws.proofs.Removing.{goes_when_it_must}

@@ -1,22 +1,11 @@
 -- What a look finds, and what stands at the index.
-use Rattle.shm_laws.proofs.Names.{◌≡◌, ℕ, ◌/◌, ◌%◌, ◌<◌, pos, List, Option, Some, None, slice_get, refl, arith, common_steps, Segment, Entry, Look, Found, Removed, Invalid, look_entry, look, identifier, destroyed_at}
+use Rattle.shm_laws.proofs.Names.{◌≡◌, ℕ, ◌/◌, ◌%◌, ◌<◌, pos, List, Option, Some, None, slice_get, refl, arith, common_steps, Segment, Entry, Look, Found, Removed, look_entry, look, identifier, destroyed_at}
 
 abbrev pub holds : ℕ → Segment → Option Entry
 holds d x = Some (record { destroyed = d; segment = Some x })
 
 abbrev pub bare_entry : ℕ → Option Entry
 bare_entry d = Some (record { destroyed = d; segment = None })
-
--- which segment a look found
-abbrev index_in : Look → ℕ
-index_in (Found i x) = i
-index_in Removed = 0
-index_in Invalid = 0
-
-abbrev segment_of : Look → Option Segment
-segment_of (Found i x) = Some x
-segment_of Removed = None
-segment_of Invalid = None
 
 pub entry-found : (k q i : ℕ) (x : Segment) (o : Option Entry) → look_entry k q o ≡ Found i x → (i ≡ k) × (o ≡ holds q x)
 entry-found k q i x o h = grind (arith, common_steps)

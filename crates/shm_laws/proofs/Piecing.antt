@@ -1,5 +1,6 @@
 -- What a piece names stands.
-use Rattle.shm_laws.proofs.Names.{◌≡◌, ◌⊎◌, ℕ, suc, zero, ◌+◌, ◌*◌, ◌≤◌, not, List, [], ◌∷◌, map, Option, Some, None, slice_get, slice_set, refl, ap, subst, inl, inr, arith, common_steps, cases_eq, filter, sum_by-cons, Call, Event, Process, Segment, Piece, Live, Runner, Machine, Opening, start_of, runner_at_start, pages_in, cut, pieces_of, attach_count, Caller, Outcome, caller_of, acts, step_by, is_rdonly, pieces_with, IsMove, IsHistory, one_more, pieces_of-inserted, pieces_of-cut_cons, pieces_of-filter, sum-set, Stands, IsDue, PiecesNameWhatStands, GivesPieces, CountsPieces, PiecesAreOfSegments}
+use Rattle.shm_laws.proofs.Names.{◌≡◌, ◌⊎◌, ℕ, suc, zero, ◌+◌, ◌*◌, ◌≤◌, not, List, [], ◌∷◌, map, Some, slice_get, slice_set, refl, ap, subst, inl, inr, arith, common_steps, cases_eq, filter, sum_by-cons, Call, Event, Process, Segment, Piece, Live, Runner, Machine, Opening, start_of, runner_at_start, pages_in, cut, pieces_of, attach_count, Caller, Outcome, caller_of, acts, is_rdonly, pieces_with, IsMove, IsHistory, one_more, pieces_of-inserted, pieces_of-cut_cons, pieces_of-filter, sum-set, Stands, IsDue, PiecesNameWhatStands, GivesPieces, CountsPieces, PiecesAreOfSegments}
+use Rattle.shm_laws.proofs.Refusing.{by-move}
 use Rattle.shm_laws.proofs.Counting.{counts-move}
 use Rattle.shm_laws.proofs.Handing.{Attaches, Hands, caller-at, hands-acts}
 use Rattle.shm_laws.proofs.Inducting.{Keeps, each_move}
@@ -69,14 +70,11 @@ module _ (s : Machine) (c : Caller) (mine : (id : ℕ) → attach_count s.runner
       (λ id none. inl (let le = pieces_of-filter id k.stays c.pieces in let z = mine id none in omega (arith, le, z))))
   first-hands call o (inr (inr (inr k))) = rw k.runners (set-first k.index (record { pid = k.child; life = Live c.cred; pieces = c.pieces }) (λ id none. inl (mine id none)))
 
-first-by : (s : Machine) (n : ℕ) (call : Call) (pid : ℕ) (o : Option Caller) → caller_of s pid ≡ o → First s (step_by s n call o).state.runners
-first-by s n call pid None is = λ id none. inl none
-first-by s n call pid (Some c) is =
-    first-hands s c (λ id none. let le = caller-count s pid c id is in omega (arith, le, none)) call (acts s n c call) (hands-acts s n c call)
-
 first-move : (s : Machine) (n : ℕ) (e : Event) (t : Machine) → IsMove s n e t → First s t.runners
-first-move s n e t (inl m) = subst (λ (o : Outcome). First s o.state.runners) m (first-by s n e.call e.pid (caller_of s e.pid) refl)
-first-move s n e t (inr x) = rw x.unchanged (λ id none. inl none)
+first-move s n e t =
+    by-move s n e t (λ r u. First s u.runners)
+    (λ c is. first-hands s c (λ id none. let le = caller-count s e.pid c id is in omega (arith, le, none)) e.call (acts s n c e.call) (hands-acts s n c e.call))
+    (λ r no id none. inl none)
 
 -- WHOLE HISTORIES
 

@@ -1,5 +1,5 @@
 -- Each byte is that of its last writer, and so is each byte that an event answers.
-use Rattle.shm_laws.proofs.Names.{◌≡◌, ◌⊎◌, ℕ, ◌+◌, ◌-◌, ◌*◌, ◌%◌, ◌<◌, true, false, List, [], ◌∷◌, ◌++◌, length, Option, Some, None, slice_get, refl, sym, ap, subst, ◌∙◌, inl, inr, arith, true≢false, w64, from_le_bytes, option_map, length-map, common_steps, none-some, slice_get-map, slice_get-get_or, slice_get_within, Esrch, Call, Load, Store, Xadd, Reply, Bytes, Number, Event, Segment, Piece, Machine, Opening, start_of, Place, covers, place_by, place, places, writable_places, byte_at, loaded, Caller, Outcome, caller_of, acts, step_by, step, load, store, xadd, number_at, is_refusal, IsMove, IsHistory, Stands, Began, Lasted, Put, put, held_by, IsByte, Writes, Spares, IsLast, Remembers, AreLast, Recalls, HasLastWriters}
+use Rattle.shm_laws.proofs.Names.{◌≡◌, ◌⊎◌, ℕ, ◌+◌, ◌-◌, ◌*◌, ◌%◌, ◌<◌, true, false, List, [], ◌∷◌, ◌++◌, length, Option, Some, None, slice_get, refl, sym, ap, subst, ◌∙◌, inl, inr, arith, w64, from_le_bytes, option_map, length-map, common_steps, none-some, slice_get-map, slice_get-get_or, slice_get_within, Call, Load, Store, Xadd, Reply, Bytes, Number, Event, Segment, Piece, Machine, Opening, start_of, Place, covers, place_by, place, places, writable_places, byte_at, loaded, Caller, Outcome, caller_of, acts, step_by, step, load, store, xadd, number_at, is_refusal, IsMove, IsHistory, Stands, Began, Lasted, Put, put, held_by, IsByte, Writes, Spares, IsLast, Remembers, AreLast, Recalls, HasLastWriters}
 use Rattle.shm_laws.proofs.Accessing.{place-of, places-length, writable-parts}
 use Rattle.shm_laws.proofs.Fates.{kind-move}
 use Rattle.shm_laws.proofs.Fitting.{one-index, Fits, AllFit, IsFit, fit-start, fit-move, spot-fits}
@@ -7,7 +7,7 @@ use Rattle.shm_laws.proofs.Inducting.{always}
 use Rattle.shm_laws.proofs.Looks.{stands-at}
 use Rattle.shm_laws.proofs.Naming.{Before, came-from}
 use Rattle.shm_laws.proofs.Putting.{IsSpot, Hit, Miss, byte-after, zero-byte}
-use Rattle.shm_laws.proofs.Refusing.{failure-refusal, failure-put, refused-put}
+use Rattle.shm_laws.proofs.Refusing.{failure-refusal, by-move, refused-put}
 use Rattle.shm_laws.proofs.Stepping.{over_put, overlay}
 
 -- WHAT PUTS HAS PLACES
@@ -30,12 +30,10 @@ module _ (s : Machine) (n : ℕ) (c : Caller) where
 abbrev PlacedBy : Option Caller → Call → Reply → Type 0
 PlacedBy o call reply = (p : Put) → put call reply ≡ Some p → (qs : List Place) × (places (held_by o) p.from (length p.bytes) ≡ Some qs)
 
-placed-by : (s : Machine) (n : ℕ) (call : Call) (o : Option Caller) → PlacedBy o call (step_by s n call o).reply
-placed-by s n call o p puts = grind (arith, common_steps, none-some, refused-put, placed-acts)
-
 placed-move : (s : Machine) (n : ℕ) (e : Event) (t : Machine) → IsMove s n e t → PlacedBy (caller_of s e.pid) e.call e.reply
-placed-move s n e t (inl m) p puts = subst (λ (o : Outcome). PlacedBy (caller_of s e.pid) e.call o.reply) m (placed-by s n e.call (caller_of s e.pid)) p puts
-placed-move s n e t (inr x) p puts = absurd (none-some p (sym (failure-put e.call e.reply x.failure) ∙ puts))
+placed-move s n e t =
+    by-move s n e t (λ r u. PlacedBy (caller_of s e.pid) e.call r) (λ c is. rw is (placed-acts s n c e.call))
+    (λ r no p puts. absurd (none-some p (sym (refused-put e.call r no) ∙ puts)))
 
 -- at the index of a segment it is that segment's
 spot-names : (s : Machine) (pid a id : ℕ) (q : Place) (x : Segment) → AllFit s → place (held_by (caller_of s pid)) a ≡ Some q → Stands s id x → q.seg % 32768 ≡ id % 32768 → q.seg ≡ id

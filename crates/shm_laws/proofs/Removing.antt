@@ -29,9 +29,6 @@ module _ (s t : Machine) (e : Event) (sound : IsMachineSound s) (k : Moved s e t
   after : Stays (overlay s e (id % 32768)) (id % 32768) t.runners (names (removed e.call e.reply) (identifier (id % 32768) (id / 32768))) (id / 32768) x (slice_get t.table (id % 32768))
   after = stays (overlay s e) (made_by (caller_of s e.pid) e.call) (removed e.call e.reply) e.reply s t sound (id % 32768) (omega arith) (id / 32768) x k (stands-at s.table id x stood)
 
-  by_name : names (removed e.call e.reply) id ≡ true → removed e.call e.reply ≡ Some id
-  by_name h = grind (arith, common_steps)
-
   pub same-runners : removed e.call e.reply ≡ Some id → t.runners ≡ s.runners
   same-runners h = grind arith
 
