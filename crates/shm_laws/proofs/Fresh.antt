@@ -27,12 +27,6 @@ free_found n j (e ∷ es) h =
           record { place = suc f.place; at = omega (arith, f.at); end = grind (arith, f.end) }
     ]
 
-snoc-last : (t : List Entry) (e : Entry) → slice_get (t ++ e ∷ []) (length t) ≡ Some e
-snoc-last t e = grind (arith, common_steps, gets)
-
-snoc-other : (t : List Entry) (e : Entry) (j : ℕ) → j ≢ length t → slice_get (t ++ e ∷ []) j ≡ slice_get t j
-snoc-other t e j apart = grind (arith, common_steps, gets, length-append)
-
 behind : (t : List Entry) → slice_get t (length t) ≡ None
 behind t = slice_get_past t (length t) (omega arith)
 
@@ -45,7 +39,7 @@ pub record MadeAt (t : List Entry) (i : ℕ) (x : Segment) : Type 0 where
   pub there : (j : ℕ) → i ≢ j → slice_get (with_segment t i x) j ≡ slice_get t j
 
 made-end : (t : List Entry) (i : ℕ) (x : Segment) → i ≡ length t → MadeAt t i x
-made-end t i x is = grind (arith, common_steps, behind, snoc-last, snoc-other)
+made-end t i x is = grind (arith, common_steps, behind, gets, length-append)
 
 made-within : (t : List Entry) (i d : ℕ) (x : Segment) → i ≢ length t → slice_get t i ≡ Some (record { destroyed = d; segment = None }) → MadeAt t i x
 made-within t i d x apart is = grind (arith, common_steps, get-set_same, get-set_other)

@@ -218,15 +218,8 @@ module _ (s : Machine) (n pid : ℕ) (c : Caller) (live : caller_of s pid ≡ So
   inside-acts (Xadd a add) clear r reached = inside-xadd a add (writable_places c.pieces a 8) refl clear r reached
   inside-acts call clear r reached = absurd (none-some r reached)
 
-  -- who owns it
-  owner-of : (cred : Cred) (perm : Perm) → owns cred perm ≡ true → IsOwner cred perm
-  owner-of cred perm own = grind (arith, common_steps)
-
-  asks-found : (m : ℕ) (act : ℕ → Segment → Outcome) (l : Look) → look s.table (pos m) ≡ l → (controls s c act l).reply ≡ Done → OwnerAsks s pid (pos m)
-  asks-found m act l is done = grind (arith, common_steps, found-own, owner-of)
-
   asks : (id : ℤ) (act : ℕ → Segment → Outcome) → (controls s c act (look s.table id)).reply ≡ Done → OwnerAsks s pid id
-  asks id act done = grind (arith, common_steps, asks-found)
+  asks id act done = grind (arith, common_steps, found-own)
 
   abbrev Asks : Call → Outcome → Type 0
   Asks call o = (id : ℤ) → controlled call ≡ Some id → o.reply ≡ Done → OwnerAsks s pid id

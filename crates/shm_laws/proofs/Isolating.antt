@@ -43,11 +43,8 @@ module _ (hidden : ℕ → Bool) (s : Machine) (n : ℕ) (c : Caller) where
   new-zeros : (key size mode : ℕ) (b : Bool) → veiled b (new_segment n c key size mode) ≡ new_segment n c key size mode
   new-zeros key size mode b = grind (arith, length-replicate {A = ℕ})
 
-  out-creates_at : (key size mode : ℕ) (o : Option ℕ) → creates_at B n c key size mode o ≡ out hidden (creates_at s n c key size mode o)
-  out-creates_at key size mode o = grind (arith, common_steps, reserved-veiled, new-zeros, arith, veiled-destroyed, made-veiled)
-
   out-creates : (key size mode : ℕ) → creates B n c key size mode ≡ out hidden (creates s n c key size mode)
-  out-creates key size mode = grind (arith, common_steps, reserved-veiled, count-veiled, free-veiled, out-creates_at, arith)
+  out-creates key size mode = grind (arith, common_steps, reserved-veiled, count-veiled, free-veiled, arith, new-zeros, veiled-destroyed, made-veiled)
 
   out-gets : (key size mode : ℕ) (flags : GetFlags) (b : Bool) (l : Look) → gets B n c key size mode flags (veiled_look b l) ≡ out hidden (gets s n c key size mode flags l)
   out-gets key size mode flags b l = let made = out-creates key size mode in grind (arith, veiled-destroyed hidden T)

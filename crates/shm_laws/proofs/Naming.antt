@@ -154,12 +154,8 @@ made-now s e id y m = by (caller_of s e.pid) refl m.made
           group = made.group;
         }
 
--- who made a segment made the same one
-made-same : (s : Machine) (e : Event) (id : ℕ) (x y : Segment) → IsSame x y → IsMadeBy s e id x → IsMadeBy s e id y
-made-same s e id x y same m = grind (arith, common_steps)
-
 since-same : (o : Opening) (before : List Event) (id : ℕ) (x y : Segment) → IsSame x y → Since o (λ u e. IsMadeBy u e id x) (λ u e. StandsAs u id x) before → Since o (λ u e. IsMadeBy u e id y) (λ u e. StandsAs u id y) before
-since-same o before id x y same since = grind (arith, common_steps, since-map, made-same, same_trans)
+since-same o before id x y same since = grind (arith, common_steps, since-map, same_trans)
 
 record Known (o : Opening) (before : List Event) (s : Machine) : Type 0 where
   sound : IsMachineSound s

@@ -3,11 +3,8 @@ use Rattle.shm_laws.proofs.Names.{◌≡◌, ℕ, ◌+◌, true, false, List, []
 
 -- THE STEP NAMES NO FAILURE
 
-acts-clear : (s : Machine) (n : ℕ) (c : Caller) (call : Call) → is_failure call (acts s n c call).reply ≡ false
-acts-clear s n c call = grind arith
-
 by-clear : (s : Machine) (n : ℕ) (call : Call) (o : Option Caller) → is_failure call (step_by s n call o).reply ≡ false
-by-clear s n call o = grind (arith, common_steps, acts-clear)
+by-clear s n call o = grind (arith, common_steps)
 
 step-clear : (s : Machine) (n pid : ℕ) (call : Call) → is_failure call (step s n pid call).reply ≡ false
 step-clear s n pid call = by-clear s n call (caller_of s pid)

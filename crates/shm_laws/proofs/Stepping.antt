@@ -136,11 +136,8 @@ module _ (like : Segment → Type 0) (s : Machine) (n : ℕ) (c : Caller) where
   abbrev Plain : Machine → Outcome → Type 0
   Plain u o = Kind idle like u None o.reply o.state
 
-  kind-creates_at : (key size mode : ℕ) (o : Option ℕ) → like (new_segment n c key size mode) → free_index s.table ≡ o → Plain s (creates_at s n c key size mode o)
-  kind-creates_at key size mode o made is = grind (arith, common_steps, still, pick)
-
   kind-creates : (key size mode : ℕ) → like (new_segment n c key size mode) → Plain s (creates s n c key size mode)
-  kind-creates key size mode made = grind (arith, common_steps, pick, still, kind-creates_at)
+  kind-creates key size mode made = grind (arith, common_steps, pick, still)
 
   kind-gets : (key size mode : ℕ) (flags : GetFlags) (l : Look) → like (new_segment n c key size mode) → Plain s (gets s n c key size mode flags l)
   kind-gets key size mode flags (Found i x) made = pick (Plain s) (wants_no_other flags) _ _ (still like s _) (pick (Plain s) (nat_lt x.size size) _ _ (still like s _) (pick (Plain s) (not (grants c.cred x.perm (wish_of mode))) _ _ (still like s _) (still like s _)))

@@ -156,11 +156,8 @@ module _ (hidden : ℕ → Bool) where
   abbrev pub Seen : List Entry → Place → Type 0
   Seen t q = hidden (identifier (q.seg % 32768) (destroyed_at t (q.seg % 32768))) ≡ false
 
-  seen-bytes : (i : ℕ) (o : Option Entry) → hidden (identifier i (destroyed_in o)) ≡ false → bytes_at_entry (option_map (veiled_entry hidden i) o) ≡ bytes_at_entry o
-  seen-bytes i o clear = grind arith
-
   pub byte-veiled : (t : List Entry) (q : Place) → Seen t q → byte_at (V 0 t) q ≡ byte_at t q
-  byte-veiled t q clear = grind (arith, common_steps, ap, veiled-get, seen-bytes, slice_get)
+  byte-veiled t q clear = grind (arith, common_steps, ap, veiled-get, slice_get)
 
   pub loaded-veiled : (t : List Entry) (qs : List Place) → ((k : ℕ) (q : Place) → slice_get qs k ≡ Some q → Seen t q) → loaded (V 0 t) qs ≡ loaded t qs
   loaded-veiled t [] clear = refl

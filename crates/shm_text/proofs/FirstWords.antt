@@ -54,19 +54,12 @@ call_by-take verbs.Exec ws i h = refl
 call_by-take verbs.Exit ws i h = refl
 call_by-take verbs.Swapoff ws i h = rw (early ws i (omega arith)) refl
 
-few_operands : (verb : Verb) → operands verb ≤ 4
-few_operands verb = grind (arith, common_steps)
-
 call_plain-take : (ws : List (List ℕ)) (found : Result Verb FaultKind) → (found >>= call_with (take 8 ws) false) ≡ (found >>= call_with ws false)
-call_plain-take ws found = grind (arith, common_steps, short, few_operands, call_by-take)
-
--- a call that a variable takes has fewer operands
-call_taken-take : (ws : List (List ℕ)) (found : Result Verb FaultKind) → (found >>= call_with (take 8 ws) true) ≡ (found >>= call_with ws true)
-call_taken-take ws found = grind (arith, common_steps, short, call_by-take)
+call_plain-take ws found = grind (arith, common_steps, short, call_by-take)
 
 call_words-take : (ws : List (List ℕ)) (taken : Bool) → call_words (take 8 ws) taken ≡ call_words ws taken
 unfolding call_words
-call_words-take ws taken = grind (arith, common_steps, early, call_plain-take, call_taken-take)
+call_words-take ws taken = grind (arith, common_steps, early, call_plain-take, short, call_by-take)
 
 taker-take : (ws : List (List ℕ)) → taker (take 8 ws) ≡ taker ws
 taker-take ws = rw (early ws 1 (omega arith), early ws 2 (omega arith)) refl

@@ -14,19 +14,13 @@ ok_again r = grind (arith, common_steps)
 pub starts : {n : ℕ} {seen : SeenView} (text_lines lines : List (List ℕ)) → lines ≡ text_lines → Goes (items_of n seen text_lines) n seen lines []
 starts {n} {seen} text_lines lines e = record { is = ok_again (items_of n seen text_lines) ∙ ap (λ l. items_of n seen l >>= λ more. Ok ([] ++ more)) (sym e) }
 
-front_more : (front : List Item) (item : Option Item) (items : List Item) → front ++ with_item item items ≡ (front ++ with_item item []) ++ items
-front_more front item items = grind (arith, common_steps, append-nil, append_assoc)
-
-regroup : (front : List Item) (item : Option Item) (r : Result (List Item) ScriptFault) → ((r >>= λ items. Ok (with_item item items)) >>= λ more. Ok (front ++ more)) ≡ (r >>= λ more. Ok ((front ++ with_item item []) ++ more))
-regroup front item r = grind (arith, common_steps, front_more)
-
 at_first : {all : Result (List Item) ScriptFault} {n : ℕ} {seen : SeenView} {left : List (List ℕ)} {front : List Item} (lines : List (List ℕ)) → Goes all n seen left front → left ≡ lines → all ≡ (items_of n seen lines >>= λ more. Ok (front ++ more))
 at_first {n = n} {seen = seen} {front = front} lines goes e = goes.is ∙ ap (λ l. items_of n seen l >>= λ more. Ok (front ++ more)) e
 
 pub goes_on : {all : Result (List Item) ScriptFault} {n : ℕ} {seen : SeenView} {left : List (List ℕ)} {front : List Item} (line : List ℕ) (lines : List (List ℕ)) (item : Option Item) (next : SeenView)
     → Goes all n seen left front → left ≡ line ∷ lines → line_item seen line ≡ Ok item → next ≡ seen_next seen item → Goes all (n + 1) next lines (front ++ with_item item [])
 unfolding items_of
-goes_on line lines item next goes e is counts = grind (arith, common_steps, at_first, regroup)
+goes_on line lines item next goes e is counts = grind (arith, common_steps, at_first, append-nil, append_assoc)
 
 pub goes_wrong : {all : Result (List Item) ScriptFault} {n : ℕ} {seen : SeenView} {left : List (List ℕ)} {front : List Item} (line : List ℕ) (lines : List (List ℕ)) (kind : FaultKind)
     → Goes all n seen left front → left ≡ line ∷ lines → line_item seen line ≡ Err kind → all ≡ Err (record { line = n; kind = kind })
@@ -47,11 +41,8 @@ limits_step b (items.Limits c ∷ front) item = limits_step (Some c) front item
 limits_step b (items.Process p ∷ front) item = limits_step b front item
 limits_step b (items.Line l ∷ front) item = limits_step b front item
 
-limits_with : (seen : SeenView) (item : Item) → limits_after seen.limits (item ∷ []) ≡ (seen_with seen item).limits
-limits_with seen item = grind (arith, common_steps)
-
 pub limits_go_on : (front : List Item) (seen next : SeenView) (item : Option Item) → limits_after None front ≡ seen.limits → next ≡ seen_next seen item → limits_after None (front ++ with_item item []) ≡ next.limits
-limits_go_on front seen next item e is = grind (arith, common_steps, append-nil, limits_step, limits_with)
+limits_go_on front seen next item e is = grind (arith, common_steps, append-nil, limits_step)
 
 pub processes_in-append : (xs ys : List Item) → processes_in (xs ++ ys) ≡ processes_in xs ++ processes_in ys
 processes_in-append [] ys = refl

@@ -7,12 +7,9 @@ take-take_append zero xs ys = refl
 take-take_append (suc n) [] ys = refl
 take-take_append (suc n) (x ∷ xs) ys = ap (λ l. x ∷ l) (take-take_append n xs ys)
 
-one_by : (has : Bool) (w : List ℕ) (rest : List (List ℕ)) → cond has (w ∷ rest) rest ≡ cond has (w ∷ []) [] ++ rest
-one_by has w rest = grind (arith, common_steps)
-
 -- a word ends at a space
 pub words_of-cut : (w : List ℕ) (s : ℕ) (rest : List ℕ) → All (λ b. is_space b ≡ false) w → is_space s ≡ true → words_of (w ++ s ∷ rest) ≡ with_word w ++ words_of rest
-words_of-cut w s rest inside space = grind (arith, common_steps, slice_split_at, one_by)
+words_of-cut w s rest inside space = grind (arith, common_steps, slice_split_at)
 
 -- the last word ends at the line's end
 pub words_of-last : (w : List ℕ) → All (λ b. is_space b ≡ false) w → words_of w ≡ with_word w
