@@ -1,4 +1,4 @@
-use Rattle.shm_text.proofs.Names.{rules, arith, ◌≡◌, ◌<◌, ◌+◌, ◌*◌, ◌^◌, ap, sym, length, take, get_or, true, Some, not, ◌==◌, is_digit, digit_value, digits_value, digits_value_more, take_all, All-more}
+use Rattle.shm_text.proofs.Names.{common_steps, rules, arith, ◌≡◌, ◌<◌, ◌+◌, ◌*◌, ◌^◌, ap, sym, length, take, get_or, true, Some, not, ◌==◌, is_digit, digit_value, digits_value, digits_value_more, take_all, All-more}
 use Rattle.std.proofs.lemmas.Bool.{lt-ltb}
 use Rattle.shm_text.proofs.Growing.{grown, fits, kept, all_digits}
 use Rattle.shm_text.proofs.number.few_digits.Goals as goal
@@ -9,9 +9,7 @@ small_digit : (c : In_ok-digit) → digit_value (get_or c.args.word.now c.loop-b
 small_digit c = search rules
 
 next_small : (c : In_ok-digit) → c.loop-byte.value * c.args.radix + c.in_ok-digit.digit < 2 ^ (4 * (c.loop-byte.byte-index + 1))
-next_small c =
-    let is : c.in_ok-digit.digit ≡ digit_value (get_or c.args.word.now c.loop-byte.byte-index 0) = search rules in
-    grown c.loop-byte.value c.args.radix c.in_ok-digit.digit c.loop-byte.byte-index c.loop-byte.invariant.small c.requires.high (rw is (small_digit c))
+next_small c = grind (arith, common_steps, grown, small_digit)
 
 next_fits : (c : In_ok-digit) → c.loop-byte.value * c.args.radix + c.in_ok-digit.digit < 2 ^ 64
 next_fits c = fits _ (c.loop-byte.byte-index + 1) (next_small c) (omega (arith, c.requires.few))
@@ -37,11 +35,4 @@ loop-byte-preserved c =
 
 -- all bytes are digits
 pub returns : goal.returns
-returns c =
-    let word = c.args.word.now in
-    let radix = c.args.radix in
-    let whole : take c.loop-byte.byte-index word ≡ word = take_all c.loop-byte.byte-index word (omega (arith, c.loop-byte-test.false)) in
-    let digits = all_digits radix c.loop-byte.byte-index word (omega (arith, c.loop-byte-test.false)) c.loop-byte.invariant.digits in
-    let some : (not (length word == 0)) ≡ true = search rules in
-    let value : c.loop-byte.value ≡ digits_value radix word = rw whole at c.loop-byte.invariant.value in
-    rw (some, digits) (ap Some (kept (digits_value radix word) c.loop-byte.value value (omega arith)))
+returns c = grind (arith, common_steps, take_all, all_digits, kept)

@@ -1,20 +1,10 @@
-use Rattle.shm_text.proofs.Names.{rules, arith, ◌≡◌, ◌∙◌, ap, sym, subst, [], ◌∷◌, ◌++◌, length, SeenView, with_item, items_of, nothing, lines_of}
+use Rattle.shm_text.proofs.Names.{common_steps, rules, arith, ◌≡◌, ◌∙◌, ap, sym, subst, [], ◌∷◌, ◌++◌, length, SeenView, with_item, items_of, nothing, lines_of}
 use Rattle.shm_text.proofs.Cut.{length-lines_of-le}
 use Rattle.shm_text.proofs.ItemSteps.{Goes, goes_on, goes_wrong, goes_to_end, starts, counts_on, limits_go_on, said_wrong, said_by, ok_with, none_with}
 use Rattle.shm_text.proofs.reading.first_fault.Goals as goal
 
 pub loop-lines-init : goal.loop-lines-init
-loop-lines-init c = record {
-  so_far = (
-    [],
-    (
-      subst (λ (s : SeenView). Goes (items_of 1 nothing (lines_of c.args.bytes.now)) 1 s c.of-lines.result.left []) (sym c.new-seen.ensures) (starts {n = 1} {seen = nothing} (lines_of c.args.bytes.now) c.of-lines.result.left c.of-lines.ensures),
-      sym (ap (λ (s : SeenView). s.limits) c.new-seen.ensures),
-    ),
-  );
-  count = omega (arith, length-lines_of-le c.args.bytes.now, ap length c.of-lines.ensures);
-  commands = omega (arith, ap (λ (s : SeenView). s.commands) c.new-seen.ensures);
-}
+loop-lines-init c = grind (arith, common_steps, starts, length-lines_of-le)
 
 pub returns-in-Err : goal.returns-in-Err
 returns-in-Err c =
@@ -38,13 +28,7 @@ loop-lines-preserved c =
     }
 
 pub returns-then-has_limits : goal.returns-then-has_limits
-returns-then-has_limits c =
-    let (front, known) = c.loop-lines.invariant.so_far in
-    rw (said_by _ front c.loop-lines.seen.limits (goes_to_end known.0 (search rules)) known.1)
-    (ok_with c.loop-lines.seen.limits front (search rules))
+returns-then-has_limits c = grind (arith, common_steps, said_by, goes_to_end, ok_with)
 
 pub returns-else-has_limits : goal.returns-else-has_limits
-returns-else-has_limits c =
-    let (front, known) = c.loop-lines.invariant.so_far in
-    said_by _ front c.loop-lines.seen.limits (goes_to_end known.0 (search rules)) known.1
-    ∙ none_with c.loop-lines.seen.limits front (search rules)
+returns-else-has_limits c = grind (arith, common_steps, said_by, goes_to_end, none_with)

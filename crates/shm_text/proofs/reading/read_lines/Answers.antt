@@ -1,22 +1,10 @@
-use Rattle.shm_text.proofs.Names.{rules, arith, ◌≡◌, ◌∙◌, ap, sym, subst, [], ◌∷◌, ◌++◌, length, Some, None, refl, SeenView, with_item, items_of, nothing, processes_in, lines_in, lines_of}
+use Rattle.shm_text.proofs.Names.{common_steps, rules, arith, ◌≡◌, ◌∙◌, ap, sym, subst, [], ◌∷◌, ◌++◌, length, Some, None, refl, SeenView, with_item, items_of, nothing, processes_in, lines_in, lines_of}
 use Rattle.shm_text.proofs.Cut.{length-lines_of-le}
 use Rattle.shm_text.proofs.ItemSteps.{Goes, goes_on, goes_wrong, goes_to_end, starts, counts_on, limits_go_on, processes_in-append, lines_in-append, said_wrong, said_by}
 use Rattle.shm_text.proofs.reading.read_lines.Goals as goal
 
 pub loop-lines-init : goal.loop-lines-init
-loop-lines-init c = record {
-  so_far = (
-    [],
-    (
-      subst (λ (s : SeenView). Goes (items_of 1 nothing (lines_of c.args.bytes.now)) 1 s c.of-lines.result.left []) (sym c.new-seen.ensures) (starts {n = 1} {seen = nothing} (lines_of c.args.bytes.now) c.of-lines.result.left c.of-lines.ensures),
-      sym (ap (λ (s : SeenView). s.limits) c.new-seen.ensures),
-      c.new-processes.ensures.items,
-      c.reserve.ensures.items ∙ c.new-kept.ensures.items,
-    ),
-  );
-  count = omega (arith, length-lines_of-le c.args.bytes.now, ap length c.of-lines.ensures);
-  commands = omega (arith, ap (λ (s : SeenView). s.commands) c.new-seen.ensures);
-}
+loop-lines-init c = grind (arith, common_steps, starts, length-lines_of-le)
 
 pub returns-in-Err-clause-fault : goal.returns-in-Err-clause-fault
 returns-in-Err-clause-fault c =
@@ -45,14 +33,7 @@ loop-lines-preserved c =
     }
 
 pub returns-in-Some-clause-read : goal.returns-in-Some-clause-read
-returns-in-Some-clause-read c =
-    let (front, known) = c.loop-lines.invariant.so_far in
-    let there : c.loop-lines.seen.limits ≡ Some c.in-Some.limits = search rules in
-    said_by _ front (Some c.in-Some.limits) (goes_to_end known.0 (search rules)) (known.1 ∙ there)
-    ∙ rw (known.2, known.3) refl
+returns-in-Some-clause-read c = grind (arith, common_steps, said_by, goes_to_end)
 
 pub returns-in-None-clause-fault : goal.returns-in-None-clause-fault
-returns-in-None-clause-fault c =
-    let (front, known) = c.loop-lines.invariant.so_far in
-    let none : c.loop-lines.seen.limits ≡ None = search rules in
-    said_by _ front None (goes_to_end known.0 (search rules)) (known.1 ∙ none)
+returns-in-None-clause-fault c = grind (arith, common_steps, said_by, goes_to_end)

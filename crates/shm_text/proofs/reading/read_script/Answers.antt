@@ -1,4 +1,4 @@
-use Rattle.shm_text.proofs.Names.{◌≡◌, ◌≤◌, ℕ, List, Bool, true, false, length, list_all, not, if◌then◌else◌, refl, le-ltb, lines_of, is_wordless}
+use Rattle.shm_text.proofs.Names.{arith, common_steps, ◌≡◌, ◌≤◌, ℕ, List, Bool, true, false, length, list_all, not, if◌then◌else◌, refl, le-ltb, lines_of, is_wordless}
 use Rattle.std.specs.Prelude.{Err}
 use Rattle.shm_text.specs.Reading.{script_of, told, without_words}
 use Rattle.shm_text.proofs.reading.read_script.Goals as goal
@@ -7,11 +7,7 @@ use Rattle.shm_text.proofs.reading.read_script.Goals as goal
 script_of-short : (bytes : List ℕ) (found : Bool) → length bytes ≤ 1048576 → found ≡ not (list_all is_wordless (lines_of bytes))
     → script_of bytes ≡ (if found then told (lines_of bytes) else Err (without_words (lines_of bytes)))
 unfolding script_of
-script_of-short bytes found short is = rw (le-ltb 1048576 (length bytes) short, is) (by (list_all is_wordless (lines_of bytes)) (told (lines_of bytes)) (Err (without_words (lines_of bytes))))
-  where
-    by : {A : Type 0} (wordless : Bool) (x y : A) → (if wordless then y else x) ≡ (if not wordless then x else y)
-    by true x y = refl
-    by false x y = refl
+script_of-short bytes found short is = grind (arith, common_steps, le-ltb)
 
 pub returns-in-Err-HostMemory-clause-fault : goal.returns-in-Err-HostMemory-clause-fault
 returns-in-Err-HostMemory-clause-fault c =

@@ -4,6 +4,4 @@ use Rattle.shm_text.specs.Variables.{answer_in}
 use Rattle.shm_text.proofs.variables.Vars.took.Goals as goal
 
 pub returns-in-Some : goal.returns-in-Some
-returns-in-Some c =
-    let answer : c.and_then.result ≡ answer_in (option_copied c.args.reply) = grind (arith, common_steps) in
-    rw (← c.var.ensures, c.in-Some.is, ← c.self.view_is, ← c.letter.ensures.value, ← answer) refl
+returns-in-Some c = grind (arith, common_steps)

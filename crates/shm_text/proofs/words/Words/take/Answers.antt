@@ -1,4 +1,4 @@
-use Rattle.shm_text.proofs.Names.{arith, ◌≡◌, ◌+◌, ◌-◌, ◌≤◌, ◌++◌, ◌∙◌, sym, ap, refl, false, true, length, take, drop, get_or, nat_tests, take_all, list_all, is_allowed, is_space, with_word, first_line, line_end}
+use Rattle.shm_text.proofs.Names.{common_steps, arith, ◌≡◌, ◌+◌, ◌-◌, ◌≤◌, ◌++◌, ◌∙◌, sym, ap, refl, false, true, length, take, drop, get_or, nat_tests, take_all, list_all, is_allowed, is_space, with_word, first_line, line_end}
 use Rattle.shm_text.proofs.Scanning.{none_inside, of_word, of_space, of_neither, more_inside, more_allowed, not_allowed, scanned, scanned_all}
 use Rattle.shm_text.proofs.Ends.{ends_behind, ends_at, on_line, byte_of_line, length_line, no_lf, word_of_line, last_line}
 use Rattle.shm_text.proofs.words.Words.take.Goals as goal
@@ -38,19 +38,7 @@ loop-at-preserved-then-is_space c =
     }
 
 pub loop-at-preserved : goal.loop-at-preserved
-loop-at-preserved c =
-    let l = c.loop-at in
-    let text = c.args.text.now in
-    let space : is_space (get_or text l.at 0) ≡ false = sym (c.if-is_space.ensures) in
-    let on : l.at + 1 ≤ line_end text = ends_behind text l.at l.invariant.on c.loop-at-test.true (grind (arith, nat_tests, c.if-text-at-eq10.false)) in
-    let byte = byte_of_line text l.at on in
-    record {
-      begun = omega arith;
-      on = on;
-      words = l.invariant.words;
-      inside = more_inside (first_line text) l.start l.at l.invariant.begun (on_line text l.at on) (rw byte space) l.invariant.inside;
-      allowed = not_allowed (first_line text) l.at (on_line text l.at on) (rw byte (of_neither (get_or text l.at 0) (sym (c.if-is_of_word.ensures)) space));
-    }
+loop-at-preserved c = grind (arith, common_steps, ends_behind, byte_of_line, more_inside, on_line, not_allowed, of_neither)
 
 ended : (c : Then-text-at-eq10) → c.loop-at.at ≡ line_end c.args.text.now
 ended c = ends_at c.args.text.now c.loop-at.at c.loop-at.invariant.on c.loop-at-test.true (rw c.if-text-at-eq10.true refl)
