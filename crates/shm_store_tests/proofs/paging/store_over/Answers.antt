@@ -1,4 +1,4 @@
-use Rattle.shm_store_tests.proofs.Names.{◌≡◌, ◌≤◌, [], refl, ap, ◌∙◌, arith, pager_seen, with_zeros, slots, held, fresh_store}
+use Rattle.shm_store_tests.proofs.Names.{common_steps, ◌≡◌, ◌≤◌, [], refl, ap, ◌∙◌, arith, pager_seen, with_zeros, slots, held, fresh_store}
 use Rattle.shm_store_tests.proofs.Trials.{fresh-free, fresh-held, three-added}
 use Rattle.shm_store_tests.proofs.paging.store_over.Goals as goal
 
@@ -6,17 +6,10 @@ pub new-requires-2-clause-free : goal.new-requires-2-clause-free
 new-requires-2-clause-free g c = λ area slot. rw c.in-Ok.ensures (fresh-free (λ p. pager_seen g.P.Pager.content g.P.Pager.failed p) c.args.pagers.items area slot)
 
 pub add_segment-requires-clause-new : goal.add_segment-requires-clause-new
-add_segment-requires-clause-new g c =
-    let s = c.in-Ok-new.store in
-    let none : held s ≡ [] = ap held c.in-Ok-new.ensures.fresh ∙ fresh-held s.frames c.in-Ok.swap in
-    rw none refl
+add_segment-requires-clause-new g c = grind (arith, common_steps, fresh-held)
 
 pub add_segment-requires-clause-room : goal.add_segment-requires-clause-room
-add_segment-requires-clause-room g c =
-    let s = c.in-Ok-new.store in
-    let none : held s ≡ [] = ap held c.in-Ok-new.ensures.fresh ∙ fresh-held s.frames c.in-Ok.swap in
-    let room : 3 ≤ slots s.swap = omega (arith, c.capacity.ensures) in
-    rw none room
+add_segment-requires-clause-room g c = grind (arith, common_steps, fresh-held)
 
 pub returns-in-Ok-add_segment : goal.returns-in-Ok-add_segment
 returns-in-Ok-add_segment g c =
