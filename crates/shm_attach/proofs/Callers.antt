@@ -1,11 +1,8 @@
 -- Which process a pid names, and what changes of its pieces are for the flat machine.
-use Rattle.shm_attach.proofs.Names.{◌≡◌, ◌≢◌, ◌⊎◌, inl, inr, ℕ, zero, suc, ◌+◌, ◌<◌, ◌≤◌, false, nat_eq, ◌==◌, if◌then◌else◌, List, [], ◌∷◌, length, map, get_or, Option, Some, None, slice_get, refl, ap, sym, ◌∙◌, arith, eq-eqb, ne_eqb, length-set, common_steps, position, position_or_len, cases_eq, cases_lt, lt-ltb, eqb-true, eqb-false, length-map, set-set, get_or-map, position-Some, fails_before_first, none-some, slice_get-get_or, slice_get_within, get_or_from_slice_get, gets, Cred, caller_by, caller_from, is_unborn, unborn_from, with_pieces, with_end, bare_all, Ended, life_view, runner_view, runners_view, with_own, with_pieces_at, with_life_at, pieces_at, life_at, caller_seen, IsCaller}
+use Rattle.shm_attach.proofs.Names.{◌≡◌, ◌≢◌, ◌⊎◌, inl, inr, ℕ, zero, suc, ◌+◌, ◌<◌, ◌≤◌, false, nat_eq, ◌==◌, if◌then◌else◌, List, [], ◌∷◌, length, map, get_or, Option, Some, None, slice_get, refl, ap, sym, ◌∙◌, arith, eq-eqb, ne_eqb, length-set, common_steps, position, position_or_len, cases_eq, cases_lt, lt-ltb, eqb-true, eqb-false, length-map, set-set, get_or-map, position-Some, fails_before_first, none-some, slice_get-get_or, slice_get_within, get_or_from_slice_get, gets, Cred, caller_by, caller_from, is_unborn, unborn_from, with_pieces, with_end, bare_all, Ended, life_view, runner_view, runners_view, with_own, with_pieces_at, with_life_at, pieces_at, life_at, caller_seen, IsCaller, FlatCaller, Life, Live, Runner}
 use Rattle.shm_base.specs.State as flat
-use Rattle.shm_base.specs.Step.{Caller as FlatCaller}
 use Rattle.shm_attach.specs.declared.process.Caller.{Caller}
-use Rattle.shm_attach.specs.declared.process.Life.{Life}
-use Rattle.shm_attach.specs.declared.process.Life.TheVariants.{Unborn, Live}
-use Rattle.shm_attach.specs.declared.process.Runner.{Runner}
+use Rattle.shm_attach.specs.declared.process.Life.TheVariants.{Unborn}
 use Rattle.shm_attach.proofs.Keeping.{life_at-get_or}
 
 -- what a list answers past its end

@@ -21,8 +21,8 @@ pub use Rattle.shm_base.specs.Access.{Place, all_writable, byte_at, covers, end_
 pub use Rattle.shm_base.specs.Segments.{after_detach, attach_count}
 pub use Rattle.shm_base.specs.Space.{cut, cut_segments, inserted, last_address, lowest_address, meets, occupied, origin_of, part_above, part_below, parts, pieces_of, without_named}
 pub use Rattle.shm_base.specs.Spans.{page_of, run}
-pub use Rattle.shm_base.specs.State.{Machine, runner_at_start}
-pub use Rattle.shm_base.specs.Step.{caller_by, caller_from, gives, is_unborn, load, shmdt, store, unborn_from, with_end, with_pieces}
+pub use Rattle.shm_base.specs.State.{Machine, runner_at_start, Unborn}
+pub use Rattle.shm_base.specs.Step.{caller_by, caller_from, gives, is_unborn, load, shmdt, store, unborn_from, with_end, with_pieces, Caller as FlatCaller}
 pub use Rattle.shm_base.specs.declared.call.Process.{Process}
 pub use Rattle.shm_base.specs.declared.call.Reply.TheVariants.{Bytes, Done}
 pub use Rattle.shm_base.specs.declared.owner.Cred.{Cred}
@@ -33,7 +33,7 @@ pub use Rattle.shm_fault.specs.Store.{StoreView, frame_of}
 pub use Rattle.shm_fault.specs.declared.touched.Move.{Move}
 pub use Rattle.shm_fault.specs.declared.touched.Move.TheVariants.{Gone}
 pub use Rattle.slab.specs.Slab.{Slab, Updates, get, with_value}
-pub use Rattle.shm_attach.specs.Entries.{AllTrue, TrueEntry, TrueSlot, count_in, frame_in, seg_in, size_in, translations_from, translations_in, translations_of, with_frame}
+pub use Rattle.shm_attach.specs.Entries.{AllTrue, TrueEntry, TrueSlot, count_in, frame_in, seg_in, size_in, translations_from, translations_in, translations_of, with_frame, Entry}
 pub use Rattle.shm_attach.specs.Exact.{AreCountsExact, AreTablesSound, HasHolds, no_holds}
 pub use Rattle.shm_attach.specs.Part.{IsCuttable}
 pub use Rattle.shm_attach.specs.Place.{IsPlaceFor, IsRange}
@@ -41,5 +41,8 @@ pub use Rattle.shm_attach.specs.Spaces.{AreTrue, IsCaller, SpacesView, Translati
 pub use Rattle.shm_attach.specs.Spans.{pieces_by, pieces_of_caller, unmarked, wanted_in}
 pub use Rattle.shm_attach.specs.Tables.{AllHeld, IsHeld, IsTied, counted, counted_under, key_of, stored_at, stored_in}
 pub use Rattle.shm_attach.specs.Views.{life_view, one_if, runner_view, runners_view, some_if, with_life_at, with_other_life, with_own, with_pieces_at}
-pub use Rattle.shm_attach.specs.declared.process.Life.TheVariants.{Ended}
+pub use Rattle.shm_attach.specs.declared.process.Life.TheVariants.{Ended, Live}
 pub use Rattle.shm_attach.specs.declared.tables.Tables.{Tables}
+pub use Rattle.shm_attach.specs.declared.process.Life.{Life}
+pub use Rattle.shm_attach.specs.declared.process.Runner.{Runner}
+pub use Rattle.shm_areas.specs.declared.piece.Piece.{Piece, Piece as Stored}

@@ -1,9 +1,6 @@
 -- One process's pieces change, and the counts with them.
-use Rattle.shm_attach.proofs.Names.{◌≡◌, ℕ, zero, suc, ◌+◌, ◌-◌, ◌<◌, ◌≤◌, Bool, true, ◌==◌, List, [], ◌∷◌, length, map, get_or, Option, Some, None, slice_get, filter, refl, ap, sym, arith, ◌++◌, cond, drop, drop-cons, add-one, common_steps, filter_passes, sum_by-cons, sum_by-set, sum_by-append, length-filter, count_by-le-length, none-some, slice_get-get_or, set_value_at, pieces_of, meets, parts, cut, cut_segments, inserted, without_named, attach_count, bare, bare_all, met, one_if, with_own, with_pieces_at, with_life_at, some_if, life_view, runners_view, pieces_at}
+use Rattle.shm_attach.proofs.Names.{◌≡◌, ℕ, zero, suc, ◌+◌, ◌-◌, ◌<◌, ◌≤◌, Bool, true, ◌==◌, List, [], ◌∷◌, length, map, get_or, Option, Some, None, slice_get, filter, refl, ap, sym, arith, ◌++◌, cond, drop, drop-cons, add-one, common_steps, filter_passes, sum_by-cons, sum_by-set, sum_by-append, length-filter, count_by-le-length, none-some, slice_get-get_or, set_value_at, pieces_of, meets, parts, cut, cut_segments, inserted, without_named, attach_count, bare, bare_all, met, one_if, with_own, with_pieces_at, with_life_at, some_if, life_view, runners_view, pieces_at, Stored, Runner, Life}
 use Rattle.shm_base.specs.State as flat
-use Rattle.shm_areas.specs.declared.piece.Piece.{Piece as Stored}
-use Rattle.shm_attach.specs.declared.process.Runner.{Runner}
-use Rattle.shm_attach.specs.declared.process.Life.{Life}
 
 abbrev pub held : Runner → Option Runner → Runner
 held d None = d

@@ -1,6 +1,5 @@
 -- Entries that are true of one residency, and of another.
-use Rattle.shm_attach.proofs.Names.{◌≡◌, ℕ, zero, suc, ◌+◌, ◌<◌, List, [], ◌∷◌, length, get_or, take, Option, arith, Slab, Move, moved, AllTrue}
-use Rattle.shm_attach.specs.Entries.{Entry}
+use Rattle.shm_attach.proofs.Names.{◌≡◌, ℕ, zero, suc, ◌+◌, ◌<◌, List, [], ◌∷◌, length, get_or, take, Option, arith, Slab, Move, moved, AllTrue, Entry}
 
 -- THE MOVES, ONE AFTER ANOTHER
 

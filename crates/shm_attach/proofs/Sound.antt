@@ -1,9 +1,6 @@
 -- The counts stay exact, and each piece has its segment's table, where one process changes.
-use Rattle.shm_attach.proofs.Names.{◌≡◌, ◌≢◌, ℕ, ◌+◌, ◌<◌, ◌≤◌, List, [], length, Some, slice_get, sym, subst, arith, common_steps, All, length-map, set_value_at, lowest_address, inserted, cut, without_named, pieces_of, bare_all, Arranged, arranged_cut, arranged_inserted, Tables, runner_view, runners_view, with_pieces_at, with_life_at, pieces_at, life_at, counted, stored_at, IsHeld, IsTied, AllHeld, IsPlaceFor, IsCuttable, AreCountsExact, AreTablesSound, HasHolds, no_holds}
+use Rattle.shm_attach.proofs.Names.{◌≡◌, ◌≢◌, ℕ, ◌+◌, ◌<◌, ◌≤◌, List, [], length, Some, slice_get, sym, subst, arith, common_steps, All, length-map, set_value_at, lowest_address, inserted, cut, without_named, pieces_of, bare_all, Arranged, arranged_cut, arranged_inserted, Tables, runner_view, runners_view, with_pieces_at, with_life_at, pieces_at, life_at, counted, stored_at, IsHeld, IsTied, AllHeld, IsPlaceFor, IsCuttable, AreCountsExact, AreTablesSound, HasHolds, no_holds, Unborn, Piece, Runner}
 use Rattle.shm_base.specs.State as flat
-use Rattle.shm_base.specs.State.{Unborn}
-use Rattle.shm_areas.specs.declared.piece.Piece.{Piece}
-use Rattle.shm_attach.specs.declared.process.Runner.{Runner}
 use Rattle.shm_attach.proofs.Processes.{values_of, runners_set, length_set, length-inserted, shorter_filter}
 use Rattle.shm_attach.proofs.Keeping.{IsExact-changed, IsExact-life, arranged-without, small_counts, own_counted}
 use Rattle.shm_attach.proofs.Held.{stored_at-set, stored_at-other, held-changed, held-all}

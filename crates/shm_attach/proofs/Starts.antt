@@ -1,8 +1,6 @@
 -- The processes as they are declared.
-use Rattle.shm_attach.proofs.Names.{◌≡◌, ◌≢◌, ℕ, zero, suc, ◌+◌, ◌<◌, ◌≤◌, nat_eq, List, [], ◌∷◌, ◌++◌, length, map, get_or, take, refl, ap, sym, ◌∙◌, arith, ne_eqb, length-take, common_steps, length-map, get_or-take, take_more, map-append, sum_by-cons, insert_entry, runner_at_start, pieces_of, attach_count, Process, Tables, runner_view, runners_view, pieces_at, AreCountsExact, no_holds, Slab, bare, bare_all, counted, stored_at, AllHeld}
+use Rattle.shm_attach.proofs.Names.{◌≡◌, ◌≢◌, ℕ, zero, suc, ◌+◌, ◌<◌, ◌≤◌, nat_eq, List, [], ◌∷◌, ◌++◌, length, map, get_or, take, refl, ap, sym, ◌∙◌, arith, ne_eqb, length-take, common_steps, length-map, get_or-take, take_more, map-append, sum_by-cons, insert_entry, runner_at_start, pieces_of, attach_count, Process, Tables, runner_view, runners_view, pieces_at, AreCountsExact, no_holds, Slab, bare, bare_all, counted, stored_at, AllHeld, Runner, Entry}
 use Rattle.shm_base.specs.State as flat
-use Rattle.shm_attach.specs.declared.process.Runner.{Runner}
-use Rattle.shm_attach.specs.Entries.{Entry}
 use Rattle.shm_attach.proofs.Held.{pieces_at-bare}
 use Rattle.shm_attach.proofs.Callers.{nobody}
 

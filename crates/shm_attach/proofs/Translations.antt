@@ -1,6 +1,5 @@
 -- The translations of all pieces are true where each entry is.
-use Rattle.shm_attach.proofs.Names.{◌≡◌, ◌≢◌, ℕ, zero, suc, ◌+◌, ◌<◌, List, [], ◌∷◌, ◌++◌, length, get_or, Option, Some, None, refl, ap, sym, subst, ◌∙◌, arith, common_steps, All, ⊤, flat_map, All-append, All-nil, All-cons, All-head, All-tail, Slab, get, StoreView, frame_of, Tables, Translation, AreTrue, translations_from, translations_in, translations_of, seg_in, TrueSlot, AllTrue, counted, IsTied}
-use Rattle.shm_attach.specs.Entries.{Entry}
+use Rattle.shm_attach.proofs.Names.{◌≡◌, ◌≢◌, ℕ, zero, suc, ◌+◌, ◌<◌, List, [], ◌∷◌, ◌++◌, length, get_or, Option, Some, None, refl, ap, sym, subst, ◌∙◌, arith, common_steps, All, ⊤, flat_map, All-append, All-nil, All-cons, All-head, All-tail, Slab, get, StoreView, frame_of, Tables, Translation, AreTrue, translations_from, translations_in, translations_of, seg_in, TrueSlot, AllTrue, counted, IsTied, Entry}
 
 abbrev Holds : (ℕ → ℕ → Option ℕ) → Translation → Type 0
 Holds at t = t.frame ≡ at t.seg t.page

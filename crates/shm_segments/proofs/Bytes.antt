@@ -1,6 +1,5 @@
 -- Bytes by place and bytes by stretch.
-use Rattle.shm_segments.proofs.Names.{◌≡◌, ◌≢◌, ℕ, zero, suc, ◌+◌, ◌<◌, ◌≤◌, ◌==◌, if◌then◌else◌, Bool, true, List, [], ◌∷◌, ◌++◌, length, set, take, drop, map, refl, sym, ap, ◌∙◌, arith, length-set, append_assoc, append-nil, take-append-drop, drop_more, map-append, drop-set-lt, sum_by-cons, common_steps, take-set_at, eqb_tells, nat_tests, slice_index, sum_by, All, Place, Span, run, span_places, Held, bytes_of, is_held, paste, pasted, written, FitsPage, read_from, bytes_of-pasted_same, bytes_of-pasted_other, fits-pasted, cases_eq}
-use Rattle.std.specs.Prelude.{slice_set}
+use Rattle.shm_segments.proofs.Names.{◌≡◌, ◌≢◌, ℕ, zero, suc, ◌+◌, ◌<◌, ◌≤◌, ◌==◌, if◌then◌else◌, Bool, true, List, [], ◌∷◌, ◌++◌, length, set, take, drop, map, refl, sym, ap, ◌∙◌, arith, length-set, append_assoc, append-nil, take-append-drop, drop_more, map-append, drop-set-lt, sum_by-cons, common_steps, take-set_at, eqb_tells, nat_tests, slice_index, sum_by, All, Place, Span, run, span_places, Held, bytes_of, is_held, paste, pasted, written, FitsPage, read_from, bytes_of-pasted_same, bytes_of-pasted_other, fits-pasted, cases_eq, slice_set}
 
 -- BYTES BY PLACE
 

@@ -1,8 +1,5 @@
 -- Rows that change, as the flat machine's table shows them.
-use Rattle.shm_segments.proofs.Names.{◌≡◌, ◌≢◌, ℕ, ◌*◌, ◌%◌, Bool, pos, List, [], ◌∷◌, set, Some, refl, sym, ap, ◌∙◌, arith, length-set, nat_tests, Segment, pages_of, change, Row, entry_at, key_at, look, with_value, with_key, at_set, at_set_other, with_key-with_value, live_row, change-flat, Held, find_held, with_lock, bytes_of-lock, Head, whole, joined, Shape, shape_held, shape_row, Agree, common_steps}
-use Rattle.std.proofs.Common.{option_map, Ok}
-use Rattle.shm_ids.specs.declared.table.Entry.{Entry}
-use Rattle.shm_segments.specs.Joined.{live}
+use Rattle.shm_segments.proofs.Names.{◌≡◌, ◌≢◌, ℕ, ◌*◌, ◌%◌, Bool, pos, List, [], ◌∷◌, set, Some, refl, sym, ap, ◌∙◌, arith, length-set, nat_tests, Segment, pages_of, change, Row, entry_at, key_at, look, with_value, with_key, at_set, at_set_other, with_key-with_value, live_row, change-flat, Held, find_held, with_lock, bytes_of-lock, Head, whole, joined, Shape, shape_held, shape_row, Agree, common_steps, option_map, Ok, Entry, live}
 use Rattle.shm_segments.proofs.Joins.{live-at, joined-same}
 
 -- LOOKED UP

@@ -1,6 +1,5 @@
 -- One entry of a table set: what stands there, and sums over the entries.
-use Rattle.shm_segments.proofs.Names.{◌≡◌, ◌≢◌, ℕ, zero, suc, ◌+◌, List, [], ◌∷◌, length, slice_get, Some, refl, ap, ◌∙◌, arith, get_or, length-set, get_or-set_same, sum_by, sum_by-set, slice_get_within, slice_get-get_or, get_or_from_slice_get}
-use Rattle.std.proofs.Common.{slice_set}
+use Rattle.shm_segments.proofs.Names.{◌≡◌, ◌≢◌, ℕ, zero, suc, ◌+◌, List, [], ◌∷◌, length, slice_get, Some, refl, ap, ◌∙◌, arith, get_or, length-set, get_or-set_same, sum_by, sum_by-set, slice_get_within, slice_get-get_or, get_or_from_slice_get, slice_set}
 
 module _ {X : Type 0} where
   pub get-set_same : (t : List X) (i : ℕ) (e x : X) → slice_get t i ≡ Some x → slice_get (slice_set t i e) i ≡ Some e

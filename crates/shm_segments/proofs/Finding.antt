@@ -1,9 +1,5 @@
 -- A row that the table has is a segment that was found.
-use Rattle.shm_segments.proofs.Names.{◌≡◌, ℕ, pos, ◌/◌, ◌%◌, ◌<◌, List, length, slice_get, Option, Some, None, ℤ, ◌==◌, true, if◌then◌else◌, refl, ap, ◌∙◌, arith, cases_lt, none-some, bytes_at, bytes_at_entry, Row, entry_at, identifier, flat_entry, flat_row, row_shown, row_listed, at_past, at-table, past-flat, Held, bytes_of, Head, Found, segment_of, whole, joined, Agree, SizesFit, IsFound, segment_seen, nat_tests, common_steps}
-use Rattle.std.proofs.Common.{is_some, option_map}
-use Rattle.shm_base.specs.State.{Entry as FlatEntry}
-use Rattle.shm_ids.specs.declared.table.Entry.{Entry}
-use Rattle.shm_segments.specs.Joined.{live}
+use Rattle.shm_segments.proofs.Names.{◌≡◌, ℕ, pos, ◌/◌, ◌%◌, ◌<◌, List, length, slice_get, Option, Some, None, ℤ, ◌==◌, true, if◌then◌else◌, refl, ap, ◌∙◌, arith, cases_lt, none-some, bytes_at, bytes_at_entry, Row, entry_at, identifier, flat_entry, flat_row, row_shown, row_listed, at_past, at-table, past-flat, Held, bytes_of, Head, Found, segment_of, whole, joined, Agree, SizesFit, IsFound, segment_seen, nat_tests, common_steps, is_some, option_map, FlatEntry, Entry, live}
 use Rattle.shm_segments.proofs.Joins.{at-live, held-as}
 use Rattle.shm_segments.specs.Table as table
 

@@ -1,6 +1,5 @@
 -- The pages of the segments that are held.
-use Rattle.shm_segments.proofs.Names.{◌≡◌, ◌≢◌, ℕ, ◌+◌, ◌*◌, ◌/◌, ◌≤◌, Bool, true, false, if◌then◌else◌, List, [], ◌∷◌, length, take, drop, map, Option, Some, None, refl, sym, ◌∙◌, arith, ne_eqb, true≢false, not, ◌==◌, none-some, common_steps, length-replicate, sum_by-cons, sum_by-append, sum_by, All, Span, AreHeldApart, Held, find_held, is_held, pages_in, pages_if_locked, with_zeros, without, with_lock, pasted, written, FitsPage, find_held-id, length-paste, apart-pasted, sum_by-filter_both, nat_tests}
-use Rattle.std.specs.Prelude.{replicate}
+use Rattle.shm_segments.proofs.Names.{◌≡◌, ◌≢◌, ℕ, ◌+◌, ◌*◌, ◌/◌, ◌≤◌, Bool, true, false, if◌then◌else◌, List, [], ◌∷◌, length, take, drop, map, Option, Some, None, refl, sym, ◌∙◌, arith, ne_eqb, true≢false, not, ◌==◌, none-some, common_steps, length-replicate, sum_by-cons, sum_by-append, sum_by, All, Span, AreHeldApart, Held, find_held, is_held, pages_in, pages_if_locked, with_zeros, without, with_lock, pasted, written, FitsPage, find_held-id, length-paste, apart-pasted, sum_by-filter_both, nat_tests, replicate}
 use Rattle.shm_plain.specs.Held.{pages_held, pages_locked, relocked}
 use Rattle.shm_segments.proofs.Bytes.{Each, each, each-pasted}
 

@@ -1,9 +1,5 @@
 -- The rows and the flat machine's table: what is live, what agrees, and what an edit shows.
-use Rattle.shm_segments.proofs.Names.{◌≡◌, ◌≢◌, ℕ, zero, suc, ◌+◌, ◌*◌, ◌%◌, ◌<◌, ◌≤◌, true, List, [], ◌∷◌, length, set, Option, Some, refl, sym, ap, ◌∙◌, arith, nat_tests, Segment, pages_of, Row, identifier, entry_at, flat_row, flat_entry, flat_from, at_past, identifier-mod, flat_from-make, flat_table-make, Held, find_held, bytes_of, is_held, Head, segment_of, whole, joined, Agree, common_steps}
-use Rattle.std.proofs.Common.{is_some, option_map}
-use Rattle.std.specs.Prelude.{slice_set}
-use Rattle.shm_ids.specs.declared.table.Entry.{Entry}
-use Rattle.shm_segments.specs.Joined.{live}
+use Rattle.shm_segments.proofs.Names.{◌≡◌, ◌≢◌, ℕ, zero, suc, ◌+◌, ◌*◌, ◌%◌, ◌<◌, ◌≤◌, true, List, [], ◌∷◌, length, set, Option, Some, refl, sym, ap, ◌∙◌, arith, nat_tests, Segment, pages_of, Row, identifier, entry_at, flat_row, flat_entry, flat_from, at_past, identifier-mod, flat_from-make, flat_table-make, Held, find_held, bytes_of, is_held, Head, segment_of, whole, joined, Agree, common_steps, is_some, option_map, slice_set, Entry, live}
 use Rattle.shm_segments.proofs.Bytes.{SameBytes}
 
 -- WHAT IS LIVE

@@ -1,9 +1,5 @@
 -- What is kept where a head changes.
-use Rattle.shm_segments.proofs.Names.{◌≡◌, ℕ, pos, ◌%◌, ◌≤◌, List, Some, sym, ◌∙◌, arith, Segment, change, Row, key_at, look, with_value, with_key, Held, bytes_of, Head, segment_of, whole, joined, SizesFit, AreSegmentsKept, common_steps}
-use Rattle.std.proofs.Common.{Ok}
-use Rattle.shm_base.specs.State.{Entry as FlatEntry}
-use Rattle.shm_ids.specs.declared.table.Entry.{Entry}
-use Rattle.shm_segments.specs.Joined.{live}
+use Rattle.shm_segments.proofs.Names.{◌≡◌, ℕ, pos, ◌%◌, ◌≤◌, List, Some, sym, ◌∙◌, arith, Segment, change, Row, key_at, look, with_value, with_key, Held, bytes_of, Head, segment_of, whole, joined, SizesFit, AreSegmentsKept, common_steps, Ok, FlatEntry, Entry, live}
 use Rattle.shm_segments.proofs.Sums.{pages-with_other, locked-other_same}
 use Rattle.shm_segments.proofs.Edits.{look-live, with_other, other-value, other-both, live-other_same, live-other, joined-other, agree-other}
 

@@ -1,11 +1,6 @@
 -- What is found under an identifier, and what the flat machine says of it.
-use Rattle.shm_segments.proofs.Names.{◌≡◌, ◌≢◌, ℕ, pos, ℤ, ◌%◌, List, Option, Some, None, IsOk, is_none, Bool, not, refl, sym, ap, ◌∙◌, arith, Eidrm, Einval, bytes_at, Removed, Invalid, entry_at, key_at, find_key, index_of, look, flat_answer, flat_found, number_of, look-flat, find_key-flat, find_key-look, free_index-flat, Held, bytes_of, Head, Found, segment_of, whole, joined, Agree, SizesFit, IsFound, look_of, refused_look, nat_tests}
-use Rattle.std.proofs.Common.{Ok, Err, is_some, option_map}
+use Rattle.shm_segments.proofs.Names.{◌≡◌, ◌≢◌, ℕ, pos, ℤ, ◌%◌, List, Option, Some, None, IsOk, is_none, Bool, not, refl, sym, ap, ◌∙◌, arith, Eidrm, Einval, bytes_at, Removed, Invalid, entry_at, key_at, find_key, index_of, look, flat_answer, flat_found, number_of, look-flat, find_key-flat, find_key-look, free_index-flat, Held, bytes_of, Head, Found, segment_of, whole, joined, Agree, SizesFit, IsFound, look_of, refused_look, nat_tests, Ok, Err, is_some, option_map, Entry, Row, free_index, id_at, live}
 use Rattle.shm_base.specs.Identifier as flat
-use Rattle.shm_ids.specs.declared.table.Entry.{Entry}
-use Rattle.shm_ids.specs.declared.table.Row.{Row}
-use Rattle.shm_ids.specs.Table.{free_index, id_at}
-use Rattle.shm_segments.specs.Joined.{live}
 use Rattle.shm_segments.proofs.Joins.{live-at}
 use Rattle.shm_segments.proofs.Edits.{look-live}
 use Rattle.shm_segments.proofs.Shown.{bytes_at-joined}

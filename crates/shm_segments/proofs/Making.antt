@@ -1,11 +1,6 @@
 -- What is kept where a segment is made, destroyed, locked or written.
-use Rattle.shm_segments.proofs.Names.{◌≡◌, ◌≢◌, ◌⊎◌, ℕ, suc, pos, ℤ, ◌+◌, ◌-◌, ◌*◌, ◌/◌, ◌%◌, ◌<◌, ◌≤◌, ◌==◌, Bool, true, false, if◌then◌else◌, List, [], ◌∷◌, Option, Some, None, is_none, refl, sym, ap, ◌∙◌, inl, inr, arith, eq-eqb, ne_eqb, eqb-true, cases_eq, cases_Bool, none-some, pages_of, change, Row, entry_at, identifier, key_at, row_key, key_from, look, find_key, with_value, with_row, without_row, flat_row, flat_found, find_key-flat, free_index-flat, destroyed_at-flat, Held, find_held, is_held, pages_in, pages_if_locked, with_zeros, without, with_lock, apart-push, apart-without, apart-lock, Head, whole, joined, Agree, SizesFit, AreSegmentsKept, made, created, destroyed, nat_tests, common_steps}
-use Rattle.std.proofs.Common.{replicate, slice_set, Ok, is_some, option_map}
+use Rattle.shm_segments.proofs.Names.{◌≡◌, ◌≢◌, ◌⊎◌, ℕ, suc, pos, ℤ, ◌+◌, ◌-◌, ◌*◌, ◌/◌, ◌%◌, ◌<◌, ◌≤◌, ◌==◌, Bool, true, false, if◌then◌else◌, List, [], ◌∷◌, Option, Some, None, is_none, refl, sym, ap, ◌∙◌, inl, inr, arith, eq-eqb, ne_eqb, eqb-true, cases_eq, cases_Bool, none-some, pages_of, change, Row, entry_at, identifier, key_at, row_key, key_from, look, find_key, with_value, with_row, without_row, flat_row, flat_found, find_key-flat, free_index-flat, destroyed_at-flat, Held, find_held, is_held, pages_in, pages_if_locked, with_zeros, without, with_lock, apart-push, apart-without, apart-lock, Head, whole, joined, Agree, SizesFit, AreSegmentsKept, made, created, destroyed, nat_tests, common_steps, replicate, slice_set, Ok, is_some, option_map, Entry, free_index, id_at, live, relocked}
 use Rattle.shm_base.specs.Identifier as flat
-use Rattle.shm_ids.specs.declared.table.Entry.{Entry}
-use Rattle.shm_ids.specs.Table.{free_index, id_at}
-use Rattle.shm_segments.specs.Joined.{live}
-use Rattle.shm_segments.specs.Table.{relocked}
 use Rattle.shm_segments.proofs.Joins.{LiveAt, live-at, held-as}
 use Rattle.shm_segments.proofs.Edits.{look-live, other-value, agree-lock, joined-locked}
 use Rattle.shm_segments.proofs.Rows.{id_of, IsFree, index-free, free-new, joined-with_row, live-with_row_same, live-with_row_other, agree-with_row, joined-without, live-without, live-without_here, agree-without}

@@ -1,5 +1,5 @@
 -- The names that the proofs cite, from below and from the words of this crate.
-pub use Rattle.std.proofs.Common.{Bool, IsOk, List, None, Option, Some, [], ap, append-nil, append_assoc, arith, drop, eq-eqb, eqb-true, false, get_or, get_or-set_same, if◌then◌else◌, inl, inr, is_none, length, length-set, map, nat_lt, ne_eqb, not, of_z, pos, refl, rules, set, slice_get, suc, sym, take, to_z, true, true≢false, w32, zero, ℕ, ℤ, ◌%◌, ◌&&◌, ◌*◌, ◌++◌, ◌+◌, ◌-◌, ◌/◌, ◌<◌, ◌==◌, ◌^◌, ◌∙◌, ◌∷◌, ◌≡◌, ◌≢◌, ◌≤◌, ◌⊎◌}
+pub use Rattle.std.proofs.Common.{Bool, IsOk, List, None, Option, Some, [], ap, append-nil, append_assoc, arith, drop, eq-eqb, eqb-true, false, get_or, get_or-set_same, if◌then◌else◌, inl, inr, is_none, length, length-set, map, nat_lt, ne_eqb, not, of_z, pos, refl, rules, set, slice_get, suc, sym, take, to_z, true, true≢false, w32, zero, ℕ, ℤ, ◌%◌, ◌&&◌, ◌*◌, ◌++◌, ◌+◌, ◌-◌, ◌/◌, ◌<◌, ◌==◌, ◌^◌, ◌∙◌, ◌∷◌, ◌≡◌, ◌≢◌, ◌≤◌, ◌⊎◌, option_map, Ok, is_some, replicate, Err}
 pub use Rattle.std.proofs.lemmas.Bool.{cases_Bool, cases_eq, cases_lt, ltb-true}
 pub use Rattle.std.proofs.lemmas.Bool.Decides.{eqb_tells, nat_tests}
 pub use Rattle.std.proofs.lemmas.Grind.{common_steps, take-set_at}
@@ -9,12 +9,12 @@ pub use Rattle.std.proofs.lemmas.List.Filters.{sum_by-filter_both}
 pub use Rattle.std.proofs.lemmas.List.Sums.{get_or-le-sum_by, sum_by-append, sum_by-cons, sum_by-set, sum_by_push}
 pub use Rattle.std.proofs.lemmas.Option.{get_or_from_slice_get, none-some, slice_get-get_or, slice_get_within}
 pub use Rattle.std.specs.Int.{from_le_bytes, to_le_bytes, w64}
-pub use Rattle.std.specs.Prelude.{All, OnErr, OnOk, Result, slice_index, sum_by}
+pub use Rattle.std.specs.Prelude.{All, OnErr, OnOk, Result, slice_index, sum_by, slice_set}
 pub use Rattle.shm_base.specs.Access.{Place, bytes_at, bytes_at_entry, entry_byte_set, loaded, set_in, stored, with_byte}
 pub use Rattle.shm_base.specs.Identifier.{with_segment}
-pub use Rattle.shm_base.specs.Segments.{attached, change, detach_all, detached, locked, marked, reserved, segment_count, with_entry}
+pub use Rattle.shm_base.specs.Segments.{attached, change, detach_all, detached, locked, marked, reserved, segment_count, with_entry, pages_held, pages_locked}
 pub use Rattle.shm_base.specs.Spans.{run, span_places}
-pub use Rattle.shm_base.specs.State.{Runner, Segment, pages_of}
+pub use Rattle.shm_base.specs.State.{Runner, Segment, pages_of, Entry as FlatEntry}
 pub use Rattle.shm_base.specs.declared.errno.Errno.TheVariants.{Eidrm, Einval}
 pub use Rattle.shm_base.specs.declared.paging.Span.{Span}
 pub use Rattle.shm_fault.proofs.Entries.{filter-none}
@@ -33,7 +33,7 @@ pub use Rattle.shm_ids.proofs.Free.{free_found}
 pub use Rattle.shm_ids.proofs.Look.{identifier-mod, live_row}
 pub use Rattle.shm_ids.specs.Flat.{flat_answer, flat_entry, flat_found, flat_from, flat_row, number_of}
 pub use Rattle.shm_ids.specs.Rows.{row_listed, row_shown}
-pub use Rattle.shm_ids.specs.Table.{entry_at, find_key, identifier, index_of, key_at, key_from, look, row_count, row_key, unused, with_key, with_row, with_value, without_row}
+pub use Rattle.shm_ids.specs.Table.{entry_at, find_key, identifier, index_of, key_at, key_from, look, row_count, row_key, unused, with_key, with_row, with_value, without_row, free_index, id_at}
 pub use Rattle.shm_ids.specs.declared.table.LookRefused.TheVariants.{Invalid, Removed}
 pub use Rattle.shm_ids.specs.declared.table.Row.{Row}
 pub use Rattle.shm_plain.proofs.Found.{bytes_of-lock, find-without_other, find-without_same, find-zeros_other, find-zeros_same}
@@ -43,10 +43,11 @@ pub use Rattle.shm_plain.specs.Apart.{AreHeldApart}
 pub use Rattle.shm_plain.specs.Held.{FitsPage, Held, bytes_in, bytes_of, find_held, is_held, is_locked, pages_if_locked, pages_in, paste, pasted, read_from, with_lock, with_zeros, without, written}
 pub use Rattle.shm_slots.specs.Cause.{GoesOn}
 pub use Rattle.shm_slots.specs.View.{SwapView}
-pub use Rattle.shm_segments.specs.Joined.{Agree, Shape, joined, locked_in_row, locked_of_rows, pages_in_row, pages_of_rows, segment_of, shape_held, shape_row, whole}
+pub use Rattle.shm_segments.specs.Joined.{Agree, Shape, joined, locked_in_row, locked_of_rows, pages_in_row, pages_of_rows, segment_of, shape_held, shape_row, whole, live}
 pub use Rattle.shm_segments.specs.Kept.{AreSegmentsKept, IsWhole, SizesFit}
 pub use Rattle.shm_segments.specs.Left.{id_in, is_left, orphan, orphan_in}
-pub use Rattle.shm_segments.specs.Table.{IsFound, SpanFits, created, destroyed, live_in, look_of, made, number_at, pages_at, refused_look, reowned, segment_seen}
+pub use Rattle.shm_segments.specs.Table.{IsFound, SpanFits, created, destroyed, live_in, look_of, made, number_at, pages_at, refused_look, reowned, segment_seen, relocked}
 pub use Rattle.shm_segments.specs.View.{Runs, SegmentsView, ShowsTable, as_held}
 pub use Rattle.shm_segments.specs.declared.head.Found.{Found}
 pub use Rattle.shm_segments.specs.declared.head.Head.{Head}
+pub use Rattle.shm_ids.specs.declared.table.Entry.{Entry}

@@ -1,9 +1,6 @@
 -- Changes of a table that leave alone how many pages each segment has, which are locked, and which are marked.
-use Rattle.shm_segments.proofs.Names.{◌≡◌, ℕ, ◌%◌, List, [], ◌∷◌, ◌∙◌, length, slice_get, Option, Some, None, refl, arith, cases_eq, Segment, Runner, Place, set_in, with_byte, entry_byte_set, stored, change, with_entry, reserved, locked, detached, detach_all, live_in, pages_at, is_left, orphan_in, orphan, id_in, nat_tests, common_steps}
-use Rattle.std.proofs.Common.{slice_set}
-use Rattle.std.specs.Prelude.{is_some, option_map}
+use Rattle.shm_segments.proofs.Names.{◌≡◌, ℕ, ◌%◌, List, [], ◌∷◌, ◌∙◌, length, slice_get, Option, Some, None, refl, arith, cases_eq, Segment, Runner, Place, set_in, with_byte, entry_byte_set, stored, change, with_entry, reserved, locked, detached, detach_all, live_in, pages_at, is_left, orphan_in, orphan, id_in, nat_tests, common_steps, slice_set, is_some, option_map, pages_held, pages_locked}
 use Rattle.shm_base.specs.State.{Entry}
-use Rattle.shm_base.specs.Segments.{pages_held, pages_locked}
 use Rattle.shm_segments.specs.Table.{live}
 use Rattle.shm_segments.specs.Left.{id_at}
 use Rattle.shm_segments.proofs.Entries.{get-set_same, get-set_other, length-slice_set, sum-set_same}

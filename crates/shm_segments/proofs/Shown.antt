@@ -1,11 +1,7 @@
 -- Loads and stores over stretches, as the flat machine's table shows them.
-use Rattle.shm_segments.proofs.Names.{◌≡◌, ℕ, zero, suc, ◌+◌, ◌%◌, ◌≤◌, Bool, true, false, List, [], ◌∷◌, ◌++◌, length, set, take, drop, map, Option, Some, None, refl, sym, ap, ◌∙◌, arith, nat_tests, common_steps, set-get_or, w64, from_le_bytes, sum_by, All, Place, set_in, with_byte, entry_byte_set, stored, loaded, bytes_at, Span, identifier, unused, entry_at, flat_entry, at-table, run, span_places, Held, find_held, bytes_of, pasted, written, FitsPage, read_from, find_held-id, find-map, length-paste, pasted-keeps, Head, segment_of, whole, joined, shape_held, Agree}
-use Rattle.std.proofs.Common.{is_some, option_map}
-use Rattle.std.specs.Prelude.{slice_index, slice_set}
-use Rattle.shm_ids.specs.declared.table.Entry.{Entry}
+use Rattle.shm_segments.proofs.Names.{◌≡◌, ℕ, zero, suc, ◌+◌, ◌%◌, ◌≤◌, Bool, true, false, List, [], ◌∷◌, ◌++◌, length, set, take, drop, map, Option, Some, None, refl, sym, ap, ◌∙◌, arith, nat_tests, common_steps, set-get_or, w64, from_le_bytes, sum_by, All, Place, set_in, with_byte, entry_byte_set, stored, loaded, bytes_at, Span, identifier, unused, entry_at, flat_entry, at-table, run, span_places, Held, find_held, bytes_of, pasted, written, FitsPage, read_from, find_held-id, find-map, length-paste, pasted-keeps, Head, segment_of, whole, joined, shape_held, Agree, is_some, option_map, slice_index, slice_set, Entry, live}
 use Rattle.shm_fault.specs.Adding as store
 use Rattle.shm_segments.specs.Table as table
-use Rattle.shm_segments.specs.Joined.{live}
 use Rattle.shm_segments.proofs.Bytes.{put, puts, get, bytes_of-put_same, bytes_of-put_other, Each, each, each-pasted, len_of, written-same, get-spans}
 use Rattle.shm_segments.proofs.Joins.{live-at, joined-same, set-joined, same-held}
 

@@ -1,9 +1,5 @@
 -- Spans that lie in pages of live segments.
-use Rattle.shm_segments.proofs.Names.{◌≡◌, ℕ, List, get_or, ap, arith, ltb-true, All, Span, Held, FitsPage, Head, whole, joined, Agree, pages_at, SpanFits, common_steps}
-use Rattle.std.proofs.Common.{option_map}
-use Rattle.shm_base.specs.Segments.{pages_held}
-use Rattle.shm_ids.specs.declared.table.Entry.{Entry}
-use Rattle.shm_segments.specs.Joined.{live}
+use Rattle.shm_segments.proofs.Names.{◌≡◌, ℕ, List, get_or, ap, arith, ltb-true, All, Span, Held, FitsPage, Head, whole, joined, Agree, pages_at, SpanFits, common_steps, option_map, pages_held, Entry, live}
 use Rattle.shm_segments.proofs.Joins.{held-as}
 use Rattle.shm_segments.proofs.Finding.{live-joined}
 

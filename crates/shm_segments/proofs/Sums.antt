@@ -1,9 +1,5 @@
 -- Segments and pages counted over the rows.
-use Rattle.shm_segments.proofs.Names.{◌≡◌, ℕ, suc, ◌+◌, ◌*◌, ◌<◌, ◌≤◌, false, List, [], ◌∷◌, length, Option, Some, None, refl, arith, sum_by-cons, sum_by-set, sum_by_push, get_or-le-sum_by, sum_by, Segment, pages_of, reserved, locked, segment_count, Row, identifier, entry_at, with_row, without_row, row_count, flat_row, flat_entry, flat_from, with_row-within, with_row-end, segment_count-flat, Held, bytes_of, Head, whole, joined, pages_in_row, locked_in_row, pages_of_rows, locked_of_rows, Agree, nat_tests, common_steps}
-use Rattle.shm_base.specs.State.{Entry as FlatEntry}
-use Rattle.shm_base.specs.Segments.{pages_held, pages_locked}
-use Rattle.shm_ids.specs.declared.table.Entry.{Entry}
-use Rattle.shm_segments.specs.Joined.{live}
+use Rattle.shm_segments.proofs.Names.{◌≡◌, ℕ, suc, ◌+◌, ◌*◌, ◌<◌, ◌≤◌, false, List, [], ◌∷◌, length, Option, Some, None, refl, arith, sum_by-cons, sum_by-set, sum_by_push, get_or-le-sum_by, sum_by, Segment, pages_of, reserved, locked, segment_count, Row, identifier, entry_at, with_row, without_row, row_count, flat_row, flat_entry, flat_from, with_row-within, with_row-end, segment_count-flat, Held, bytes_of, Head, whole, joined, pages_in_row, locked_in_row, pages_of_rows, locked_of_rows, Agree, nat_tests, common_steps, FlatEntry, pages_held, pages_locked, Entry, live}
 use Rattle.shm_segments.proofs.Joins.{at-live, held-as, live-at}
 use Rattle.shm_segments.proofs.Edits.{with_other}
 use Rattle.shm_segments.proofs.Rows.{IsFree}

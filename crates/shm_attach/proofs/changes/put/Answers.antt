@@ -1,5 +1,4 @@
-use Rattle.shm_attach.proofs.Names.{◌≡◌, refl, arith, Some, slice_get, All, length-map, inserted, bare, bare_all, set_value_at, IsPlaceFor, runners_view, pieces_at, IsHeld}
-use Rattle.shm_attach.specs.declared.process.Runner.{Runner}
+use Rattle.shm_attach.proofs.Names.{◌≡◌, refl, arith, Some, slice_get, All, length-map, inserted, bare, bare_all, set_value_at, IsPlaceFor, runners_view, pieces_at, IsHeld, Runner}
 use Rattle.shm_attach.proofs.Processes.{values_of, pieces_of-inserted, some_if-le}
 use Rattle.shm_attach.proofs.Held.{pieces_at-stored, stored_at-value, held-inserted}
 use Rattle.shm_attach.proofs.Sound.{IsChanged, changed, fit-inserted, sound-changed, counts-small}

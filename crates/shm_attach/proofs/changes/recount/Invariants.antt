@@ -1,5 +1,4 @@
-use Rattle.shm_attach.proofs.Names.{◌≡◌, ℕ, ◌+◌, ◌*◌, ◌<◌, ◌≤◌, Option, drop, pieces_of, cut, bare_all, AllTrue, counted, IsHeld, IsTied}
-use Rattle.shm_areas.specs.declared.piece.Piece.{Piece}
+use Rattle.shm_attach.proofs.Names.{◌≡◌, ℕ, ◌+◌, ◌*◌, ◌<◌, ◌≤◌, Option, drop, pieces_of, cut, bare_all, AllTrue, counted, IsHeld, IsTied, Piece}
 use Rattle.shm_attach.proofs.changes.recount.Given as goal
 
 -- what is left to count, and that there is room for it

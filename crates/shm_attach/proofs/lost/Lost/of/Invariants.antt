@@ -1,5 +1,4 @@
-use Rattle.shm_attach.proofs.Names.{◌≡◌, map, take}
-use Rattle.shm_areas.specs.declared.piece.Piece.{Piece}
+use Rattle.shm_attach.proofs.Names.{◌≡◌, map, take, Piece}
 use Rattle.shm_attach.proofs.lost.Lost.of.Given as goal
 
 abbrev pub invariant-loop-piece : goal.invariant-loop-piece

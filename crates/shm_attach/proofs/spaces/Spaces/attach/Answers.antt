@@ -1,6 +1,4 @@
-use Rattle.shm_attach.proofs.Names.{◌≡◌, ℕ, ◌+◌, ◌*◌, ◌<◌, ◌≤◌, ◌∙◌, ap, sym, subst, arith, List, length, common_steps, cut, bare, frame_of, Tables, one_if, runner_view, runners_view, SpacesView, Translation, AreTrue, IsCaller, pieces_at, life_at, AreTablesSound, no_holds, AllTrue, translations_of, counted, IsHeld, length-map}
-use Rattle.shm_areas.specs.declared.piece.Piece.{Piece}
-use Rattle.shm_attach.specs.declared.process.Runner.{Runner}
+use Rattle.shm_attach.proofs.Names.{◌≡◌, ℕ, ◌+◌, ◌*◌, ◌<◌, ◌≤◌, ◌∙◌, ap, sym, subst, arith, List, length, common_steps, cut, bare, frame_of, Tables, one_if, runner_view, runners_view, SpacesView, Translation, AreTrue, IsCaller, pieces_at, life_at, AreTablesSound, no_holds, AllTrue, translations_of, counted, IsHeld, length-map, Piece, Runner}
 use Rattle.shm_attach.proofs.Processes.{one_if-le, some_if-le, seg-met}
 use Rattle.shm_attach.proofs.Callers.{caller_within, caller_born, with_pieces-of}
 use Rattle.shm_attach.proofs.Keeping.{pieces_at-changed, life_at-changed, with_pieces_at-twice}

@@ -1,4 +1,4 @@
-use Rattle.std.proofs.Common.{◌∙◌, sym}
+use Rattle.shm_attach.proofs.Names.{◌∙◌, sym}
 use Rattle.shm_attach.proofs.Translations.{unnamed}
 use Rattle.shm_attach.proofs.spaces.Spaces.count.Goals as goal
 

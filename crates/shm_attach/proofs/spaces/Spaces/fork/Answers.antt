@@ -1,5 +1,5 @@
-use Rattle.shm_attach.proofs.Names.{◌≡◌, ◌≢◌, ◌<◌, ◌∙◌, ap, sym, arith, List, length, get_or, set, common_steps, length-map, runner_view, runners_view, with_pieces_at, SpacesView, pieces_at, life_at}
-use Rattle.shm_base.specs.State.{Piece, Runner, Unborn, Live}
+use Rattle.shm_attach.proofs.Names.{◌≡◌, ◌≢◌, ◌<◌, ◌∙◌, ap, sym, arith, List, length, get_or, set, common_steps, length-map, runner_view, runners_view, with_pieces_at, SpacesView, pieces_at, life_at, Unborn}
+use Rattle.shm_base.specs.State.{Piece, Runner, Live}
 use Rattle.shm_attach.proofs.Processes.{nobody}
 use Rattle.shm_attach.proofs.Callers.{caller_within, caller_born, ChildAt, child_at}
 use Rattle.shm_attach.proofs.Keeping.{life_at-born, pieces_at-born, runners-born, attach_count-more}

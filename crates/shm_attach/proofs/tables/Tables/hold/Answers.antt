@@ -1,5 +1,4 @@
-use Rattle.shm_attach.proofs.Names.{◌≡◌, ◌∙◌, sym, refl, arith, eq-eqb, false, Some, get, frame_of, seg_in, IsHeld}
-use Rattle.shm_areas.specs.declared.piece.Piece.{Piece}
+use Rattle.shm_attach.proofs.Names.{◌≡◌, ◌∙◌, sym, refl, arith, eq-eqb, false, Some, get, frame_of, seg_in, IsHeld, Piece}
 use Rattle.shm_attach.proofs.Processes.{some_if-le}
 use Rattle.shm_attach.proofs.Tied.{held-counted}
 use Rattle.shm_attach.proofs.tables.Tables.hold.Given.{Over}

@@ -1,5 +1,4 @@
-use Rattle.shm_attach.proofs.Names.{◌≡◌, ℕ, Option, take, moved, AllTrue, counted, IsHeld, IsTied}
-use Rattle.shm_areas.specs.declared.piece.Piece.{Piece}
+use Rattle.shm_attach.proofs.Names.{◌≡◌, ℕ, Option, take, moved, AllTrue, counted, IsHeld, IsTied, Piece}
 use Rattle.shm_attach.proofs.tables.Tables.note.Given as goal
 
 -- the moves so far are noted

@@ -1,6 +1,4 @@
-use Rattle.shm_segments.proofs.Names.{◌≡◌, ◌≤◌, pos, true, List, [], ◌∷◌, ◌++◌, refl, Some, sym, ap, ◌∙◌, arith, to_z, of_z, w32, pages_of, reserved, with_row, with_zeros, new_seg, StoreView, held, SegmentsView, find-zeros_same, common_steps}
-use Rattle.std.proofs.Common.{is_some}
-use Rattle.shm_base.specs.State.{Entry as FlatEntry}
+use Rattle.shm_segments.proofs.Names.{◌≡◌, ◌≤◌, pos, true, List, [], ◌∷◌, ◌++◌, refl, Some, sym, ap, ◌∙◌, arith, to_z, of_z, w32, pages_of, reserved, with_row, with_zeros, new_seg, StoreView, held, SegmentsView, find-zeros_same, common_steps, is_some, FlatEntry}
 use Rattle.shm_segments.proofs.Rows.{id_of}
 use Rattle.shm_segments.proofs.Looking.{none-mapped}
 use Rattle.shm_segments.proofs.Making.{kept-made, made-joined, free-some, IsNext, next-free, key-absent, few-pages}

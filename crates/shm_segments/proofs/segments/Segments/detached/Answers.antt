@@ -1,5 +1,4 @@
-use Rattle.shm_segments.proofs.Names.{◌%◌, List, refl, ap, change, detached, with_value, joined, held}
-use Rattle.shm_base.specs.State.{Entry as FlatEntry}
+use Rattle.shm_segments.proofs.Names.{◌%◌, List, refl, ap, change, detached, with_value, joined, held, FlatEntry}
 use Rattle.shm_segments.proofs.Finding.{is_live-row}
 use Rattle.shm_segments.proofs.Keeping.{KeptAs, kept-value}
 use Rattle.shm_segments.proofs.Remembered.{view_of}

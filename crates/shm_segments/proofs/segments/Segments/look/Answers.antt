@@ -1,5 +1,4 @@
-use Rattle.shm_segments.proofs.Names.{rules, ◌≡◌, to_z, of_z, w32, Removed, Invalid, look, held, joined, IsFound, look_of}
-use Rattle.std.proofs.Common.{Err}
+use Rattle.shm_segments.proofs.Names.{rules, ◌≡◌, to_z, of_z, w32, Removed, Invalid, look, held, joined, IsFound, look_of, Err}
 use Rattle.shm_segments.proofs.Looking.{found-under, look-removed, look-invalid}
 use Rattle.shm_base.specs.Identifier as flat
 use Rattle.shm_segments.proofs.segments.Segments.look.Given.{Over}

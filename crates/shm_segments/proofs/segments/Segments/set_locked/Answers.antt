@@ -1,5 +1,4 @@
-use Rattle.shm_segments.proofs.Names.{◌≡◌, ◌≤◌, ◌+◌, ◌%◌, length, true, sym, ap, ◌∙◌, arith, with_value, with_lock, joined, locked_of_rows, change, locked, held, SegmentsView}
-use Rattle.shm_segments.specs.Table.{relocked}
+use Rattle.shm_segments.proofs.Names.{◌≡◌, ◌≤◌, ◌+◌, ◌%◌, length, true, sym, ap, ◌∙◌, arith, with_value, with_lock, joined, locked_of_rows, change, locked, held, SegmentsView, relocked}
 use Rattle.shm_segments.proofs.Edits.{look-live}
 use Rattle.shm_segments.proofs.Finding.{is_live-row}
 use Rattle.shm_segments.proofs.Making.{kept-locked, few-pages}
