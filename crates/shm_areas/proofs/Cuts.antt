@@ -1,16 +1,6 @@
 -- The pieces that a range meets stand side by side. Taking it out leaves a part of the first of them below, and one of the last above.
-use Rattle.std.proofs.Common.{◌≡◌, ◌⊎◌, inl, inr, ℕ, zero, suc, ◌+◌, ◌-◌, ◌<◌, ◌≤◌, true, false, nat_lt, List, [], ◌∷◌, ◌++◌, length, get_or, take, drop, refl, ap, ◌∙◌, arith, ◌≢◌, append_assoc, append-nil, length-append, length-take, length-drop}
-use Rattle.std.proofs.lemmas.Grind.{common_steps}
+use Rattle.shm_areas.proofs.Names.{◌≡◌, ◌⊎◌, inl, inr, ℕ, zero, suc, ◌+◌, ◌-◌, ◌<◌, ◌≤◌, true, false, nat_lt, List, [], ◌∷◌, ◌++◌, length, get_or, take, drop, refl, ap, ◌∙◌, arith, ◌≢◌, append_assoc, append-nil, length-append, length-take, length-drop, common_steps, splice, lt-ltb, le-ltb, cases_lt, cases_eq, and_right, get_or_default, end_of, meets, occupied, Piece, bare, bare_all, Arranged, kept_below, kept_above, kept_cut, met, IsRun}
 use Rattle.std.specs.Prelude.{slice_range}
-use Rattle.std.specs.List.{splice}
-use Rattle.std.proofs.lemmas.Bool.{lt-ltb, le-ltb, cases_lt, cases_eq, and_right}
-use Rattle.std.proofs.lemmas.List.{get_or_default}
-use Rattle.shm_base.specs.Access.{end_of}
-use Rattle.shm_base.specs.Space.{meets, occupied}
-use Rattle.shm_areas.specs.declared.piece.Piece.{Piece}
-use Rattle.shm_areas.specs.Arranged.{bare, bare_all, Arranged}
-use Rattle.shm_areas.specs.Edit.{kept_below, kept_above, kept_cut}
-use Rattle.shm_areas.specs.Met.{met, IsRun}
 use Rattle.shm_areas.proofs.Placing.{low_bound}
 
 -- one piece

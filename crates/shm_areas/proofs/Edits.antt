@@ -1,13 +1,6 @@
 -- Pieces stay in order through an insertion, a cut and a detach.
-use Rattle.std.proofs.Common.{◌≡◌, ℕ, zero, suc, ◌+◌, ◌-◌, ◌*◌, ◌/◌, ◌%◌, ◌<◌, ◌≤◌, ◌⊎◌, inl, inr, Bool, false, nat_lt, List, [], ◌∷◌, ◌++◌, length, get_or, filter, insert, refl, ap, arith}
-use Rattle.std.proofs.lemmas.Grind.{common_steps}
-use Rattle.std.proofs.lemmas.Bool.{lt-ltb, le-ltb, cases_Bool, or_parts, both_ways}
+use Rattle.shm_areas.proofs.Names.{◌≡◌, ℕ, zero, suc, ◌+◌, ◌-◌, ◌*◌, ◌/◌, ◌%◌, ◌<◌, ◌≤◌, ◌⊎◌, inl, inr, Bool, false, nat_lt, List, [], ◌∷◌, ◌++◌, length, get_or, filter, insert, refl, ap, arith, common_steps, lt-ltb, le-ltb, cases_Bool, or_parts, both_ways, end_of, meets, occupied, inserted, cut, parts, part_below, part_above, without_named, Piece, bare, bare_all, IsFit, Arranged, kept_inserted, kept_below, kept_above, kept_parts, kept_cut, kept_without}
 use Rattle.shm_base.specs.State as flat
-use Rattle.shm_base.specs.Access.{end_of}
-use Rattle.shm_base.specs.Space.{meets, occupied, inserted, cut, parts, part_below, part_above, without_named}
-use Rattle.shm_areas.specs.declared.piece.Piece.{Piece}
-use Rattle.shm_areas.specs.Arranged.{bare, bare_all, IsFit, Arranged}
-use Rattle.shm_areas.specs.Edit.{kept_inserted, kept_below, kept_above, kept_parts, kept_cut, kept_without}
 
 pub lower : (low low' : ℕ) (ps : List flat.Piece) → low ≤ low' → Arranged low' ps → Arranged low ps
 lower low low' [] le ar = ar

@@ -1,13 +1,6 @@
 -- Walking up the pieces finds the least gap, which is the definition's.
-use Rattle.std.proofs.Common.{◌≡◌, ℕ, ◌+◌, ◌*◌, ◌%◌, ◌<◌, ◌≤◌, ◌⊎◌, inl, inr, Bool, true, false, List, [], ◌∷◌, length, get_or, map, find, max, MatchOption, refl, ◌∙◌, arith, drop, drop-cons, add-one}
-use Rattle.std.proofs.lemmas.Grind.{common_steps}
-use Rattle.std.proofs.lemmas.Bool.{le-leb, lt-leb, cases_lt, false_from_ne_true, and_right, both_ways}
+use Rattle.shm_areas.proofs.Names.{◌≡◌, ℕ, ◌+◌, ◌*◌, ◌%◌, ◌<◌, ◌≤◌, ◌⊎◌, inl, inr, Bool, true, false, List, [], ◌∷◌, length, get_or, map, find, max, MatchOption, refl, ◌∙◌, arith, drop, drop-cons, add-one, common_steps, le-leb, lt-leb, cases_lt, false_from_ne_true, and_right, both_ways, end_of, lowest_address, first_chosen, last_address, occupied, is_gap, choose, Stored, bare, bare_all, Arranged, gap_from, IsLeastGap, HasNoGap}
 use Rattle.shm_base.specs.State.{Piece}
-use Rattle.shm_base.specs.Access.{end_of}
-use Rattle.shm_base.specs.Space.{lowest_address, first_chosen, last_address, occupied, is_gap, choose}
-use Rattle.shm_areas.specs.declared.piece.Piece.{Piece as Stored}
-use Rattle.shm_areas.specs.Arranged.{bare, bare_all, Arranged}
-use Rattle.shm_areas.specs.Gap.{gap_from, IsLeastGap, HasNoGap}
 
 pub free_below : (low from to : ℕ) (ps : List Piece) → Arranged low ps → to ≤ low → occupied ps from to ≡ false
 free_below low from to [] ar le = refl

@@ -1,3 +1,4 @@
+pub mod Names
 pub mod Placing
 pub mod Gaps
 pub mod Edits

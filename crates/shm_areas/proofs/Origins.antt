@@ -1,8 +1,5 @@
 -- The piece with an origin, among the stored pieces and among what they show.
-use Rattle.std.proofs.Common.{◌≡◌, ◌∙◌, sym, ap, ℕ, zero, suc, ◌+◌, ◌*◌, ◌<◌, ◌≤◌, Bool, true, false, cond, Some, find, option_map, List, [], ◌∷◌, length, get_or, drop, refl, arith, ne_eqb}
-use Rattle.shm_base.specs.Space.{has_origin, origin_of}
-use Rattle.shm_areas.specs.declared.piece.Piece.{Piece}
-use Rattle.shm_areas.specs.Arranged.{bare, bare_all}
+use Rattle.shm_areas.proofs.Names.{◌≡◌, ◌∙◌, sym, ap, ℕ, zero, suc, ◌+◌, ◌*◌, ◌<◌, ◌≤◌, Bool, true, false, cond, Some, find, option_map, List, [], ◌∷◌, length, get_or, drop, refl, arith, ne_eqb, has_origin, origin_of, Piece, bare, bare_all}
 
 -- the stored piece shows what is found among what all of them show
 pub stored_origin : (addr : ℕ) (ps : List Piece) → option_map bare (find (λ (p : Piece). has_origin addr (bare p)) ps) ≡ origin_of addr (bare_all ps)

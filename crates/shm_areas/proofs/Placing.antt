@@ -1,13 +1,7 @@
 -- Pieces in order: which one an address lies in.
-use Rattle.std.proofs.Common.{◌≡◌, ℕ, zero, suc, ◌+◌, ◌<◌, ◌≤◌, true, false, nat_le, nat_lt, if◌then◌else◌, List, [], ◌∷◌, length, get_or, Option, Some, None, option_map, IfSome, refl, sym, arith}
-use Rattle.std.proofs.lemmas.Grind.{common_steps}
+use Rattle.shm_areas.proofs.Names.{◌≡◌, ℕ, zero, suc, ◌+◌, ◌<◌, ◌≤◌, true, false, nat_le, nat_lt, if◌then◌else◌, List, [], ◌∷◌, length, get_or, Option, Some, None, option_map, IfSome, refl, sym, arith, common_steps, le-leb, and_right, none-some, place, place_by, end_of, Piece, bare, bare_all, IsFit, Arranged, covering}
 use Rattle.std.specs.List.Sorted.{IsNonDecreasingBy}
-use Rattle.std.proofs.lemmas.Bool.{le-leb, and_right}
-use Rattle.std.proofs.lemmas.Option.{none-some}
 use Rattle.shm_base.specs.State as flat
-use Rattle.shm_base.specs.Access.{place, place_by, end_of}
-use Rattle.shm_areas.specs.declared.piece.Piece.{Piece}
-use Rattle.shm_areas.specs.Arranged.{bare, bare_all, IsFit, Arranged, covering}
 
 -- what a list answers past its end
 abbrev pub nothing : Piece

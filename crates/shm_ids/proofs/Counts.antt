@@ -1,10 +1,5 @@
 -- How many rows are live after each change of a table.
-use Rattle.std.proofs.Common.{◌≡◌, ℕ, ◌+◌, ◌<◌, ◌≤◌, List, length, Some, None, is_some, arith}
-use Rattle.std.proofs.lemmas.Grind.{common_steps}
-use Rattle.std.proofs.lemmas.List.Sums.{count_by-le-length}
-use Rattle.shm_ids.specs.declared.table.Entry.{Entry}
-use Rattle.shm_ids.specs.declared.table.Row.{Row}
-use Rattle.shm_ids.specs.Table.{entry_at, with_row, with_key, with_value, without_row, row_count}
+use Rattle.shm_ids.proofs.Names.{◌≡◌, ℕ, ◌+◌, ◌<◌, ◌≤◌, List, length, Some, None, is_some, arith, common_steps, count_by-le-length, Entry, Row, entry_at, with_row, with_key, with_value, without_row, row_count}
 
 module _ {T : Type 0} where
   pub row_count-with_row : (t : List (Entry T)) (i key : ℕ) (v : T) → i ≤ length t → (entry_at t i).row ≡ None → row_count (with_row t i key v) ≡ row_count t + 1

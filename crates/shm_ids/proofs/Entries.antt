@@ -1,10 +1,5 @@
 -- What stands at each index after a change.
-use Rattle.std.proofs.Common.{◌≡◌, ◌≢◌, ℕ, ◌<◌, ◌≤◌, List, [], ◌∷◌, ◌++◌, length, set, Some, arith}
-use Rattle.std.proofs.lemmas.List.{get_or-set_same, get_or-set_other, get_or_past, set-set}
-use Rattle.std.proofs.lemmas.Grind.{common_steps}
-use Rattle.shm_ids.specs.declared.table.Entry.{Entry}
-use Rattle.shm_ids.specs.declared.table.Row.{Row}
-use Rattle.shm_ids.specs.Table.{unused, entry_at, held, with_row, with_key, with_value}
+use Rattle.shm_ids.proofs.Names.{◌≡◌, ◌≢◌, ℕ, ◌<◌, ◌≤◌, List, [], ◌∷◌, ◌++◌, length, set, Some, arith, get_or-set_same, get_or-set_other, get_or_past, set-set, common_steps, Entry, Row, unused, entry_at, held, with_row, with_key, with_value}
 
 module _ {T : Type 0} where
   pub at_past : (t : List (Entry T)) (i : ℕ) → length t ≤ i → entry_at t i ≡ unused

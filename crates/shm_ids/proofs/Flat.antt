@@ -1,15 +1,8 @@
 -- The table's words agree with the flat machine's.
-use Rattle.std.proofs.Common.{◌≡◌, ◌≢◌, ℕ, zero, suc, ◌+◌, ◌%◌, ◌<◌, ◌≤◌, ◌==◌, ℤ, pos, negsuc, is_none, is_some, List, [], ◌∷◌, ◌++◌, length, set, slice_get, slice_set, Option, Some, None, IsOk, refl, sym, ap, ◌∙◌, inl, inr, arith, eq-eqb, ne_eqb}
-use Rattle.std.proofs.lemmas.Grind.{common_steps}
-use Rattle.std.proofs.lemmas.Bool.{cases_eq}
-use Rattle.std.proofs.lemmas.List.Sums.{sum_by-cons}
+use Rattle.shm_ids.proofs.Names.{◌≡◌, ◌≢◌, ℕ, zero, suc, ◌+◌, ◌%◌, ◌<◌, ◌≤◌, ◌==◌, ℤ, pos, negsuc, is_none, is_some, List, [], ◌∷◌, ◌++◌, length, set, slice_get, slice_set, Option, Some, None, IsOk, refl, sym, ap, ◌∙◌, inl, inr, arith, eq-eqb, ne_eqb, common_steps, cases_eq, sum_by-cons, Entry, Row, unused, entry_at, free_from, free_index, identifier, index_of, row_key, key_from, find_key, look, look_entry, held, with_row, row_count, flat_row, flat_entry, flat_from, flat_table, flat_answer, flat_look, flat_found, ShowsKeys}
 use Rattle.shm_base.specs.State.{Segment, Entry as FlatEntry}
 use Rattle.shm_base.specs.Identifier as flat
 use Rattle.shm_base.specs.Segments as flat_segments
-use Rattle.shm_ids.specs.declared.table.Entry.{Entry}
-use Rattle.shm_ids.specs.declared.table.Row.{Row}
-use Rattle.shm_ids.specs.Table.{unused, entry_at, free_from, free_index, identifier, index_of, row_key, key_from, find_key, look, look_entry, held, with_row, row_count}
-use Rattle.shm_ids.specs.Flat.{flat_row, flat_entry, flat_from, flat_table, flat_answer, flat_look, flat_found, ShowsKeys}
 use Rattle.shm_ids.proofs.Entries.{at_past}
 use Rattle.shm_ids.proofs.Look.{live_at, live_number}
 

@@ -1,11 +1,5 @@
 -- The least free index.
-use Rattle.std.proofs.Common.{◌≡◌, ◌⊎◌, ℕ, zero, suc, ◌+◌, ◌<◌, ◌≤◌, true, false, List, [], ◌∷◌, length, drop, Some, if◌then◌else◌, refl, ap, ◌∙◌, inl, inr, arith}
-use Rattle.std.proofs.lemmas.Grind.{common_steps}
-use Rattle.std.proofs.lemmas.List.{drop_more}
-use Rattle.std.proofs.lemmas.Bool.{cases_Bool}
-use Rattle.shm_ids.specs.declared.table.Entry.{Entry}
-use Rattle.shm_ids.specs.Table.{unused, entry_at, is_free, free_from, free_index}
-use Rattle.shm_ids.specs.Sound.{UsedBelow}
+use Rattle.shm_ids.proofs.Names.{◌≡◌, ◌⊎◌, ℕ, zero, suc, ◌+◌, ◌<◌, ◌≤◌, true, false, List, [], ◌∷◌, length, drop, Some, if◌then◌else◌, refl, ap, ◌∙◌, inl, inr, arith, common_steps, drop_more, cases_Bool, Entry, unused, entry_at, is_free, free_from, free_index, UsedBelow}
 use Rattle.shm_ids.proofs.Entries.{at_past}
 
 module _ {T : Type 0} where

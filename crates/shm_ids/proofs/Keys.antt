@@ -1,11 +1,5 @@
 -- The map of the live keys, and the search for a key through the table.
-use Rattle.std.proofs.Common.{rules, ◌≡◌, ◌≢◌, ◌⊎◌, ℕ, zero, suc, ◌+◌, nat_eq, not, ◌&&◌, List, [], ◌∷◌, Option, Some, None, if◌then◌else◌, refl, sym, ap, ◌∙◌, inl, inr, arith}
-use Rattle.std.proofs.lemmas.Bool.{cases_eq}
-use Rattle.std.proofs.lemmas.Grind.{common_steps}
-use Rattle.indexmap.specs.IndexMap.{IndexMap, get}
-use Rattle.shm_ids.specs.declared.table.Entry.{Entry}
-use Rattle.shm_ids.specs.Table.{key_at, row_key, key_from, find_key}
-use Rattle.shm_ids.specs.Sound.{Keyed}
+use Rattle.shm_ids.proofs.Names.{rules, ◌≡◌, ◌≢◌, ◌⊎◌, ℕ, zero, suc, ◌+◌, nat_eq, not, ◌&&◌, List, [], ◌∷◌, Option, Some, None, if◌then◌else◌, refl, sym, ap, ◌∙◌, inl, inr, arith, cases_eq, common_steps, IndexMap, get, Entry, key_at, row_key, key_from, find_key, Keyed}
 
 -- what a key put into the map, or taken out of it, leaves
 put-answer : (key q i j : ℕ) (before after : Option ℕ) → after ≡ (if not (nat_eq key 0) && nat_eq key q then Some i else before) → after ≡ Some j

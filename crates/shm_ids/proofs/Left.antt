@@ -1,8 +1,5 @@
 -- What is left of the entries after the first.
-use Rattle.std.proofs.Common.{◌≡◌, ℕ, suc, ◌+◌, ◌≤◌, List, ◌∷◌, None, sym, ap, subst, ◌∙◌, arith}
-use Rattle.shm_ids.specs.declared.table.Entry.{Entry}
-use Rattle.shm_ids.specs.Sound.{holds}
-use Rattle.shm_ids.specs.Rows.{rows_from, rows_row, Left}
+use Rattle.shm_ids.proofs.Names.{◌≡◌, ℕ, suc, ◌+◌, ◌≤◌, List, ◌∷◌, None, sym, ap, subst, ◌∙◌, arith, Entry, holds, rows_from, rows_row, Left}
 
 module _ {T : Type 0} where
   pub left_rest : (i : ℕ) (xs : List (Entry T)) (e : Entry T) (rest : List (Entry T)) → xs ≡ e ∷ rest → Left i xs → Left (i + 1) rest

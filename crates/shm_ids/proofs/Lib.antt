@@ -1,3 +1,4 @@
+pub mod Names
 pub mod Entries
 pub mod Free
 pub mod Keys

@@ -1,12 +1,5 @@
 -- What a live identifier has.
-use Rattle.std.proofs.Common.{◌≡◌, ℕ, ◌/◌, ◌%◌, ◌<◌, ℤ, pos, negsuc, nat_eq, List, length, Option, Some, None, Ok, IsOk, refl, sym, arith, true≢false}
-use Rattle.std.proofs.lemmas.Grind.{common_steps}
-use Rattle.shm_ids.specs.declared.table.Entry.{Entry}
-use Rattle.shm_ids.specs.declared.table.Row.{Row}
-use Rattle.indexmap.specs.IndexMap.{IndexMap, get}
-use Rattle.shm_ids.specs.Table.{entry_at, key_at, look, look_entry, look_row, index_of, identifier, id_at}
-use Rattle.shm_ids.specs.Flat.{number_of}
-use Rattle.shm_ids.specs.Sound.{Sound}
+use Rattle.shm_ids.proofs.Names.{◌≡◌, ℕ, ◌/◌, ◌%◌, ◌<◌, ℤ, pos, negsuc, nat_eq, List, length, Option, Some, None, Ok, IsOk, refl, sym, arith, true≢false, common_steps, Entry, Row, IndexMap, get, entry_at, key_at, look, look_entry, look_row, index_of, identifier, id_at, number_of, Sound}
 use Rattle.shm_ids.proofs.Entries.{at_past}
 
 -- the parts of an identifier

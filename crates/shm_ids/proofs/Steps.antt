@@ -1,11 +1,5 @@
 -- What each change of a table keeps.
-use Rattle.std.proofs.Common.{◌≡◌, ◌≢◌, ◌⊎◌, ℕ, ◌+◌, ◌<◌, ◌≤◌, true, false, nat_eq, not, ◌&&◌, List, length, drop, set, Some, None, if◌then◌else◌, refl, sym, ap, subst, ◌∙◌, inl, inr, arith, length-set}
-use Rattle.std.proofs.lemmas.Grind.{common_steps}
-use Rattle.indexmap.specs.IndexMap.{IndexMap, get}
-use Rattle.shm_ids.specs.declared.table.Entry.{Entry}
-use Rattle.shm_ids.specs.declared.table.Row.{Row}
-use Rattle.shm_ids.specs.Table.{entry_at, key_at, row_key, find_key, is_free, free_from, held, with_row, with_key, without_row, with_value}
-use Rattle.shm_ids.specs.Sound.{holds, UsedBelow, Keyed, Sound}
+use Rattle.shm_ids.proofs.Names.{◌≡◌, ◌≢◌, ◌⊎◌, ℕ, ◌+◌, ◌<◌, ◌≤◌, true, false, nat_eq, not, ◌&&◌, List, length, drop, set, Some, None, if◌then◌else◌, refl, sym, ap, subst, ◌∙◌, inl, inr, arith, length-set, common_steps, IndexMap, get, Entry, Row, entry_at, key_at, row_key, find_key, is_free, free_from, held, with_row, with_key, without_row, with_value, holds, UsedBelow, Keyed, Sound}
 use Rattle.shm_ids.proofs.Entries.{at_past, at_row, at_row_other, at_set, at_set_other, with_row-few}
 use Rattle.shm_ids.proofs.Free.{skip, free_found}
 use Rattle.shm_ids.proofs.Keys.{Keyed-put, Keyed-drop}

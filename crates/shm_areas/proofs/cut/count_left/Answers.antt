@@ -1,5 +1,4 @@
-use Rattle.std.proofs.Common.{arith, length-append}
-use Rattle.std.proofs.lemmas.Grind.{common_steps}
+use Rattle.shm_areas.proofs.Names.{arith, length-append, common_steps}
 use Rattle.shm_areas.proofs.Cuts.{length-splice}
 use Rattle.shm_areas.proofs.cut.count_left.Goals as goal
 

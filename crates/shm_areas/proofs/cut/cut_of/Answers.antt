@@ -1,9 +1,4 @@
-use Rattle.std.proofs.Common.{◌≡◌, ◌-◌, ◌++◌, suc, sym, arith, get_or}
-use Rattle.std.proofs.lemmas.List.{take-append-drop}
-use Rattle.std.specs.List.{splice}
-use Rattle.shm_base.specs.Space.{lowest_address}
-use Rattle.shm_areas.specs.Edit.{kept_below, kept_above, kept_cut}
-use Rattle.shm_areas.specs.Met.{IsRun}
+use Rattle.shm_areas.proofs.Names.{◌≡◌, ◌-◌, ◌++◌, suc, sym, arith, get_or, take-append-drop, splice, lowest_address, kept_below, kept_above, kept_cut, IsRun}
 use Rattle.shm_areas.proofs.Placing.{nothing, fit_at}
 use Rattle.shm_areas.proofs.Cuts.{cut-none, cut-run}
 use Rattle.shm_areas.proofs.cut.cut_of.Goals as goal

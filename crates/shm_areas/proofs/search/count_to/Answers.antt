@@ -1,9 +1,5 @@
-use Rattle.std.proofs.Common.{◌≡◌, ◌-◌, leb, leb-true, length, get_or, sym, ap, arith, rules}
-use Rattle.std.proofs.lemmas.Bool.{leb-false}
-use Rattle.std.proofs.lemmas.Option.{get_or_from_slice_get}
+use Rattle.shm_areas.proofs.Names.{◌≡◌, ◌-◌, leb, leb-true, length, get_or, sym, ap, arith, rules, leb-false, get_or_from_slice_get, lowest_address, Piece}
 use Rattle.std.proofs.lemmas.List.Sorted.{IsPartitionPoint-from_clause, IsPartitionedBy-leb}
-use Rattle.shm_base.specs.Space.{lowest_address}
-use Rattle.shm_areas.specs.declared.piece.Piece.{Piece}
 use Rattle.shm_areas.proofs.Placing.{rising}
 use Rattle.shm_areas.proofs.search.count_to.Goals as goal
 

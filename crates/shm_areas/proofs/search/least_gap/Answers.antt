@@ -1,7 +1,4 @@
-use Rattle.std.proofs.Common.{◌∙◌, ◌≤◌, arith, get_or}
-use Rattle.shm_base.specs.Space.{lowest_address, last_address}
-use Rattle.shm_base.specs.Access.{end_of}
-use Rattle.shm_areas.specs.Arranged.{bare, IsFit}
+use Rattle.shm_areas.proofs.Names.{◌∙◌, ◌≤◌, arith, get_or, lowest_address, last_address, end_of, bare, IsFit}
 use Rattle.shm_areas.proofs.Placing.{nothing, fit_at}
 use Rattle.shm_areas.proofs.Gaps.{gap_step}
 use Rattle.shm_areas.proofs.search.least_gap.Goals as goal

@@ -1,7 +1,4 @@
-use Rattle.std.proofs.Common.{◌≡◌, ◌≤◌, drop}
-use Rattle.shm_base.specs.Space.{first_chosen, last_address}
-use Rattle.shm_areas.specs.Arranged.{bare_all}
-use Rattle.shm_areas.specs.Gap.{gap_from}
+use Rattle.shm_areas.proofs.Names.{◌≡◌, ◌≤◌, drop, first_chosen, last_address, bare_all, gap_from}
 use Rattle.shm_areas.proofs.search.least_gap.Given as goal
 
 abbrev pub invariant-loop-piece : goal.invariant-loop-piece

@@ -1,6 +1,4 @@
-use Rattle.std.proofs.Common.{◌-◌, arith}
-use Rattle.std.proofs.lemmas.Grind.{common_steps}
-use Rattle.shm_base.specs.Space.{lowest_address}
+use Rattle.shm_areas.proofs.Names.{◌-◌, arith, common_steps, lowest_address}
 use Rattle.shm_areas.proofs.Placing.{nothing, none_at, covering_last, fit_at}
 use Rattle.shm_areas.proofs.search.piece_in.Goals as goal
 

@@ -1,7 +1,4 @@
-use Rattle.std.proofs.Common.{◌≡◌, ◌-◌, ◌<◌, ◌≤◌, ◌⊎◌, inl, inr, arith, get_or}
-use Rattle.shm_base.specs.Space.{lowest_address}
-use Rattle.shm_base.specs.Access.{end_of}
-use Rattle.shm_areas.specs.Arranged.{bare}
+use Rattle.shm_areas.proofs.Names.{◌≡◌, ◌-◌, ◌<◌, ◌≤◌, ◌⊎◌, inl, inr, arith, get_or, lowest_address, end_of, bare}
 use Rattle.shm_areas.proofs.Placing.{nothing, fit_at}
 use Rattle.shm_areas.proofs.Cuts.{run_from, run_behind}
 use Rattle.shm_areas.proofs.search.run_in.Goals as goal

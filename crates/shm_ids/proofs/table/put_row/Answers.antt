@@ -1,5 +1,4 @@
-use Rattle.std.proofs.Common.{arith}
-use Rattle.std.proofs.lemmas.Grind.{common_steps}
+use Rattle.shm_ids.proofs.Names.{arith, common_steps}
 use Rattle.shm_ids.proofs.table.put_row.Goals as goal
 
 pub returns-then-index-len-clause-id : goal.returns-then-index-len-clause-id

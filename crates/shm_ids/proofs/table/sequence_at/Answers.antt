@@ -1,5 +1,4 @@
-use Rattle.std.proofs.Common.{arith}
-use Rattle.std.proofs.lemmas.Grind.{common_steps}
+use Rattle.shm_ids.proofs.Names.{arith, common_steps}
 use Rattle.shm_ids.proofs.table.sequence_at.Goals as goal
 
 pub returns-in-Some : goal.returns-in-Some

@@ -1,5 +1,4 @@
-use Rattle.std.proofs.Common.{arith}
-use Rattle.std.proofs.lemmas.Grind.{common_steps}
+use Rattle.shm_areas.proofs.Names.{arith, common_steps}
 use Rattle.shm_areas.proofs.Gaps.{choose_is, gap_is_least}
 use Rattle.shm_areas.proofs.space.Space.choose.Goals as goal
 

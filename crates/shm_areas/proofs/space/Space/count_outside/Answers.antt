@@ -1,6 +1,4 @@
-use Rattle.std.proofs.Common.{arith}
-use Rattle.std.proofs.lemmas.Grind.{common_steps}
-use Rattle.std.proofs.lemmas.List.{length-map}
+use Rattle.shm_areas.proofs.Names.{arith, common_steps, length-map}
 use Rattle.shm_areas.proofs.Edits.{bare_cut}
 use Rattle.shm_areas.proofs.space.Space.count_outside.Goals as goal
 

@@ -1,10 +1,4 @@
-use Rattle.std.proofs.Common.{◌≡◌, ◌≤◌, ◌∙◌, length, List, arith}
-use Rattle.std.proofs.lemmas.Grind.{common_steps}
-use Rattle.std.proofs.lemmas.List.{length-map}
-use Rattle.shm_base.specs.Space.{cut}
-use Rattle.shm_areas.specs.declared.piece.Piece.{Piece}
-use Rattle.shm_areas.specs.Arranged.{bare, bare_all}
-use Rattle.shm_areas.specs.Edit.{kept_cut, left_by}
+use Rattle.shm_areas.proofs.Names.{◌≡◌, ◌≤◌, ◌∙◌, length, List, arith, common_steps, length-map, cut, Piece, bare, bare_all, kept_cut, left_by}
 use Rattle.shm_areas.proofs.Edits.{bare_cut, arranged_cut}
 use Rattle.shm_areas.proofs.space.Space.cut.Goals.{After-cut_of-cut}
 use Rattle.shm_areas.proofs.space.Space.cut.Goals as goal

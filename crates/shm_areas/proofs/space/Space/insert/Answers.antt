@@ -1,5 +1,4 @@
-use Rattle.std.proofs.Common.{arith}
-use Rattle.std.proofs.lemmas.Grind.{common_steps}
+use Rattle.shm_areas.proofs.Names.{arith, common_steps}
 use Rattle.shm_areas.proofs.Edits.{bare_inserted, inserted_at, arranged_inserted, length_inserted}
 use Rattle.shm_areas.proofs.space.Space.insert.Goals as goal
 

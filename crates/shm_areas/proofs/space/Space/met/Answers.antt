@@ -1,5 +1,4 @@
-use Rattle.std.proofs.Common.{arith}
-use Rattle.std.proofs.lemmas.Grind.{common_steps}
+use Rattle.shm_areas.proofs.Names.{arith, common_steps}
 use Rattle.std.proofs.lemmas.List.Sums.{length-filter, count_by-le-length}
 use Rattle.shm_areas.proofs.Cuts.{slice-met}
 use Rattle.shm_areas.proofs.space.Space.met.Goals as goal

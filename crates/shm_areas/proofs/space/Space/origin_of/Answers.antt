@@ -1,5 +1,4 @@
-use Rattle.std.proofs.Common.{◌≡◌, ◌-◌, length, take, drop, arith, length-drop}
-use Rattle.std.proofs.lemmas.List.{take_all}
+use Rattle.shm_areas.proofs.Names.{◌≡◌, ◌-◌, length, take, drop, arith, length-drop, take_all}
 use Rattle.shm_areas.proofs.Origins.{origin_of-drop}
 use Rattle.shm_areas.proofs.space.Space.origin_of.Goals as goal
 

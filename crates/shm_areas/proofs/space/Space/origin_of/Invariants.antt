@@ -1,7 +1,4 @@
-use Rattle.std.proofs.Common.{◌≡◌, drop, find}
-use Rattle.shm_base.specs.Space.{has_origin, origin_of}
-use Rattle.shm_areas.specs.declared.piece.Piece.{Piece}
-use Rattle.shm_areas.specs.Arranged.{bare, bare_all}
+use Rattle.shm_areas.proofs.Names.{◌≡◌, drop, find, has_origin, origin_of, Piece, bare, bare_all}
 use Rattle.shm_areas.proofs.space.Space.origin_of.Given as goal
 
 -- the pieces that were passed have another origin, as they are stored and as they are shown

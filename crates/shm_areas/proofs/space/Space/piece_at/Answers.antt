@@ -1,6 +1,4 @@
-use Rattle.std.proofs.Common.{◌≡◌, option_map}
-use Rattle.shm_base.specs.Space.{lowest_address}
-use Rattle.shm_areas.specs.Arranged.{bare, bare_all, Arranged, covering}
+use Rattle.shm_areas.proofs.Names.{◌≡◌, option_map, lowest_address, bare, bare_all, Arranged, covering}
 use Rattle.shm_areas.proofs.Placing.{whole_of}
 use Rattle.shm_areas.proofs.space.Space.piece_at.Goals as goal
 

@@ -1,8 +1,4 @@
-use Rattle.std.proofs.Common.{arith, rules, tests, not}
-use Rattle.shm_base.specs.Space.{lowest_address}
-use Rattle.shm_areas.specs.declared.piece.Piece.{Piece}
-use Rattle.shm_areas.specs.Arranged.{bare_all, Arranged}
-use Rattle.shm_areas.specs.Edit.{kept_named}
+use Rattle.shm_areas.proofs.Names.{arith, rules, tests, not, lowest_address, Piece, bare_all, Arranged, kept_named}
 use Rattle.shm_areas.proofs.Edits.{arranged_filter, bare_filter}
 use Rattle.std.proofs.lemmas.Fn.{filter_same}
 use Rattle.shm_areas.proofs.space.Space.take_at.Goals as goal

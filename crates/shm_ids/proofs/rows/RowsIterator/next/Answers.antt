@@ -1,5 +1,4 @@
-use Rattle.std.proofs.Common.{◌∙◌, arith}
-use Rattle.std.proofs.lemmas.Grind.{common_steps}
+use Rattle.shm_ids.proofs.Names.{◌∙◌, arith, common_steps}
 use Rattle.shm_ids.proofs.Left.{left_rest, left_wear, passed}
 use Rattle.shm_ids.proofs.rows.RowsIterator.next.Goals as goal
 

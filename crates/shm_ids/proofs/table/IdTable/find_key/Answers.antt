@@ -1,7 +1,4 @@
-use Rattle.std.proofs.Common.{rules, pos, ◌≡◌, ◌%◌, sym, ap, ◌∙◌, arith}
-use Rattle.std.proofs.lemmas.Grind.{common_steps}
-use Rattle.std.proofs.lemmas.List.{get_or_read}
-use Rattle.shm_ids.specs.Table.{id_at, entry_at, unused, identifier}
+use Rattle.shm_ids.proofs.Names.{rules, pos, ◌≡◌, ◌%◌, sym, ap, ◌∙◌, arith, common_steps, get_or_read, id_at, entry_at, unused, identifier}
 use Rattle.shm_ids.proofs.Keys.{find_key-get}
 use Rattle.shm_ids.proofs.Steps.{named}
 use Rattle.shm_ids.proofs.Look.{look-found, identifier-mod}

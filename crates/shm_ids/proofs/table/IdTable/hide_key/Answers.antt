@@ -1,6 +1,4 @@
-use Rattle.std.proofs.Common.{◌≡◌, ◌∙◌, ap, sym, to_z, of_z, w32, rules, arith}
-use Rattle.std.proofs.lemmas.Grind.{common_steps}
-use Rattle.shm_ids.specs.Table.{index_of}
+use Rattle.shm_ids.proofs.Names.{◌≡◌, ◌∙◌, ap, sym, to_z, of_z, w32, rules, arith, common_steps, index_of}
 use Rattle.shm_ids.proofs.Look.{live_at}
 use Rattle.shm_ids.proofs.Steps.{Sound-hide}
 use Rattle.shm_ids.proofs.Counts.{row_count-with_key}

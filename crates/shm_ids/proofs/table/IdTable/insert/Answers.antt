@@ -1,5 +1,4 @@
-use Rattle.std.proofs.Common.{refl, sym, ap, ◌∙◌, arith, is_some, rules}
-use Rattle.std.proofs.lemmas.Grind.{common_steps}
+use Rattle.shm_ids.proofs.Names.{refl, sym, ap, ◌∙◌, arith, is_some, rules, common_steps}
 use Rattle.shm_ids.proofs.Free.{used_within, skip}
 use Rattle.shm_ids.proofs.Entries.{with_row-few}
 use Rattle.shm_ids.proofs.Steps.{Sound-same, fresh, Sound-put}

@@ -1,5 +1,4 @@
-use Rattle.std.proofs.Common.{sym, ◌∙◌, arith}
-use Rattle.std.proofs.lemmas.Grind.{common_steps}
+use Rattle.shm_ids.proofs.Names.{sym, ◌∙◌, arith, common_steps}
 use Rattle.shm_ids.proofs.Free.{skip}
 use Rattle.shm_ids.proofs.Steps.{fresh}
 use Rattle.shm_ids.proofs.Free.{used_within}

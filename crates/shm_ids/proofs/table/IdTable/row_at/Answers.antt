@@ -1,6 +1,4 @@
-use Rattle.std.proofs.Common.{◌≡◌, arith}
-use Rattle.std.proofs.lemmas.Grind.{common_steps}
-use Rattle.shm_ids.specs.Table.{entry_at}
+use Rattle.shm_ids.proofs.Names.{◌≡◌, arith, common_steps, entry_at}
 use Rattle.shm_ids.proofs.table.IdTable.row_at.Goals as goal
 
 pub returns-in-Some : goal.returns-in-Some

@@ -1,6 +1,4 @@
-use Rattle.std.proofs.Common.{◌∙◌, sym}
-use Rattle.std.proofs.lemmas.List.{get_or_read}
-use Rattle.shm_ids.specs.Table.{unused}
+use Rattle.shm_ids.proofs.Names.{◌∙◌, sym, get_or_read, unused}
 use Rattle.shm_ids.proofs.Steps.{Sound-value}
 use Rattle.shm_ids.proofs.Counts.{row_count-with_value}
 use Rattle.shm_ids.proofs.table.IdTable.value_mut.Goals as goal
