@@ -16,8 +16,8 @@ is_below from to p le = and_right (nat_lt p.base to) (nat_lt from (end_of (bare 
 
 -- the run without its first piece
 
-next_run : (from to : ℕ) (p : Piece) (ps : List Piece) (first last : ℕ) → IsRun from to (p ∷ ps) (suc first) (suc last) → IsRun from to ps first last
-next_run from to p ps first last r =
+rest_run : {from to first last f l : ℕ} {p : Piece} {ps : List Piece} → IsRun from to (p ∷ ps) first last → f ≡ first - 1 → l ≡ last - 1 → IsRun from to ps f l
+rest_run r fewer shorter =
     let order = r.order in
     let bound = r.bound in
     record {
@@ -29,39 +29,16 @@ next_run from to p ps first last r =
       above = λ k d g l. r.above (suc k) d (omega arith) (omega arith);
     }
 
-inner_run : (from to : ℕ) (p : Piece) (ps : List Piece) (last : ℕ) → IsRun from to (p ∷ ps) 0 (suc last) → IsRun from to ps 0 last
-inner_run from to p ps last r =
-    let bound = r.bound in
-    record {
-      order = omega arith;
-      bound = omega arith;
-      before = λ k d l. absurd (omega arith);
-      after = λ k d g l. r.after (suc k) d (omega arith) (omega arith);
-      below = λ k d l. r.below (suc k) d (omega arith);
-      above = λ k d g l. r.above (suc k) d (omega arith) (omega arith);
-    }
-
-past_run : (from to : ℕ) (p : Piece) (ps : List Piece) → IsRun from to (p ∷ ps) 0 0 → IsRun from to ps 0 0
-past_run from to p ps r =
-    record {
-      order = omega arith;
-      bound = omega arith;
-      before = λ k d l. absurd (omega arith);
-      after = λ k d g l. r.after (suc k) d (omega arith) (omega arith);
-      below = λ k d l. absurd (omega arith);
-      above = λ k d g l. r.above (suc k) d (omega arith) (omega arith);
-    }
-
 -- THE PIECES THAT ARE MET
 
 take_met : (from to : ℕ) (ps : List Piece) (last : ℕ) → IsRun from to ps 0 last → take last ps ≡ met from to ps
 take_met from to [] zero r = refl
 take_met from to [] (suc last) r = absurd (omega (arith, r.bound))
 take_met from to (p ∷ ps) zero r =
-    rw (is_above from to p (r.above 0 p (omega arith) (omega arith))) (take_met from to ps zero (past_run from to p ps r))
+    rw (is_above from to p (r.above 0 p (omega arith) (omega arith))) (take_met from to ps zero (rest_run r (omega arith) (omega arith)))
 take_met from to (p ∷ ps) (suc last) r =
     rw (meets_it from to p (r.below 0 p (omega arith)) (r.after 0 p (omega arith) (omega arith)))
-    (ap (λ (xs : List Piece). p ∷ xs) (take_met from to ps last (inner_run from to p ps last r)))
+    (ap (λ (xs : List Piece). p ∷ xs) (take_met from to ps last (rest_run r (omega arith) (omega arith))))
 
 pub slice-met : (from to : ℕ) (ps : List Piece) (first last : ℕ) → IsRun from to ps first last → slice_range ps first last ≡ met from to ps
 slice-met from to ps zero last r = let whole : last - 0 ≡ last = omega arith in rw whole (take_met from to ps last r)
@@ -69,18 +46,18 @@ slice-met from to ps (suc first) zero r = absurd (omega (arith, r.order))
 slice-met from to [] (suc first) (suc last) r = absurd (omega (arith, r.bound))
 slice-met from to (p ∷ ps) (suc first) (suc last) r =
     let shifted : suc last - suc first ≡ last - first = omega arith in
-    rw (shifted, is_below from to p (r.before 0 p (omega arith))) (slice-met from to ps first last (next_run from to p ps first last r))
+    rw (shifted, is_below from to p (r.before 0 p (omega arith))) (slice-met from to ps first last (rest_run r (omega arith) (omega arith)))
 
 pub occupied-run : (from to : ℕ) (ps : List Piece) (first last : ℕ) → IsRun from to ps first last → nat_lt first last ≡ occupied (bare_all ps) from to
 occupied-run from to [] zero zero r = refl
 occupied-run from to [] first (suc last) r = absurd (omega (arith, r.bound))
 occupied-run from to ps (suc first) zero r = absurd (omega (arith, r.order))
 occupied-run from to (p ∷ ps) zero zero r =
-    rw (is_above from to p (r.above 0 p (omega arith) (omega arith))) (occupied-run from to ps zero zero (past_run from to p ps r))
+    rw (is_above from to p (r.above 0 p (omega arith) (omega arith))) (occupied-run from to ps zero zero (rest_run r (omega arith) (omega arith)))
 occupied-run from to (p ∷ ps) zero (suc last) r =
     rw (meets_it from to p (r.below 0 p (omega arith)) (r.after 0 p (omega arith) (omega arith))) (lt-ltb 0 (suc last) (omega arith))
 occupied-run from to (p ∷ ps) (suc first) (suc last) r =
-    rw (is_below from to p (r.before 0 p (omega arith))) (shift (cases_lt first last) ∙ occupied-run from to ps first last (next_run from to p ps first last r))
+    rw (is_below from to p (r.before 0 p (omega arith))) (shift (cases_lt first last) ∙ occupied-run from to ps first last (rest_run r (omega arith) (omega arith)))
   where
     shift : (first < last) ⊎ (last ≤ first) → nat_lt (suc first) (suc last) ≡ nat_lt first last
     shift (inl l) = rw (lt-ltb first last l) (lt-ltb (suc first) (suc last) (omega arith))
@@ -92,9 +69,9 @@ occupied-run from to (p ∷ ps) (suc first) (suc last) r =
 pub cut-none : (from to : ℕ) (ps : List Piece) (first : ℕ) → IsRun from to ps first first → kept_cut from to ps ≡ ps
 cut-none from to [] first r = refl
 cut-none from to (p ∷ ps) zero r =
-    rw (is_above from to p (r.above 0 p (omega arith) (omega arith))) (ap (λ (xs : List Piece). p ∷ xs) (cut-none from to ps zero (past_run from to p ps r)))
+    rw (is_above from to p (r.above 0 p (omega arith) (omega arith))) (ap (λ (xs : List Piece). p ∷ xs) (cut-none from to ps zero (rest_run r (omega arith) (omega arith))))
 cut-none from to (p ∷ ps) (suc first) r =
-    rw (is_below from to p (r.before 0 p (omega arith))) (ap (λ (xs : List Piece). p ∷ xs) (cut-none from to ps first (next_run from to p ps first first r)))
+    rw (is_below from to p (r.before 0 p (omega arith))) (ap (λ (xs : List Piece). p ∷ xs) (cut-none from to ps first (rest_run r (omega arith) (omega arith))))
 
 -- nothing stays below of a piece that begins in the range, and nothing above of one that ends in it
 below-none : (from : ℕ) (p : Piece) → from ≤ p.base → kept_below from p ≡ []
@@ -114,7 +91,7 @@ cut-begun from to last low [] d ar le r = absurd (omega (arith, r.bound))
 cut-begun from to zero low (p ∷ ps) d ar le r =
     let first : low ≤ p.base = ar.0 in
     rw (meets_it from to p (r.below 0 p (omega arith)) (r.after 0 p (omega arith) (omega arith)), below-none from p (omega (arith, le, first)))
-    (ap (λ (xs : List Piece). kept_above to p ++ xs) (cut-none from to ps zero (inner_run from to p ps zero r)))
+    (ap (λ (xs : List Piece). kept_above to p ++ xs) (cut-none from to ps zero (rest_run r (omega arith) (omega arith))))
 cut-begun from to (suc last) low (p ∷ ps) d ar le r =
     let first : low ≤ p.base = ar.0 in
     let after : from < end_of (bare p) = r.after 0 p (omega arith) (omega arith) in
@@ -123,17 +100,17 @@ cut-begun from to (suc last) low (p ∷ ps) d ar le r =
       below-none from p (omega (arith, le, first)),
       above-none to p (ends_in from to last low p ps ar r),
     )
-    (cut-begun from to last (end_of (bare p)) ps d ar.1.1 (omega (arith, after)) (inner_run from to p ps (suc last) r))
+    (cut-begun from to last (end_of (bare p)) ps d ar.1.1 (omega (arith, after)) (rest_run r (omega arith) (omega arith)))
 
 pub cut-run : (from to first last low : ℕ) (ps : List Piece) (d : Piece) → Arranged low (bare_all ps) → IsRun from to ps first (suc last) → first < suc last
     → splice ps first (suc last) (kept_below from (get_or ps first d) ++ kept_above to (get_or ps last d)) ≡ kept_cut from to ps
 cut-run from to first last low [] d ar r lt = absurd (omega (arith, r.bound))
 cut-run from to zero zero low (p ∷ ps) d ar r lt =
-    let none = cut-none from to ps zero (inner_run from to p ps zero r) in
+    let none = cut-none from to ps zero (rest_run r (omega arith) (omega arith)) in
     rw (meets_it from to p (r.below 0 p (omega arith)) (r.after 0 p (omega arith) (omega arith)), none) refl
 cut-run from to zero (suc last) low (p ∷ ps) d ar r lt =
     let after : from < end_of (bare p) = r.after 0 p (omega arith) (omega arith) in
-    let rest = cut-begun from to last (end_of (bare p)) ps d ar.1.1 (omega (arith, after)) (inner_run from to p ps (suc last) r) in
+    let rest = cut-begun from to last (end_of (bare p)) ps d ar.1.1 (omega (arith, after)) (rest_run r (omega arith) (omega arith)) in
     rw (
       meets_it from to p (r.below 0 p (omega arith)) after,
       above-none to p (ends_in from to last low p ps ar r),
@@ -145,7 +122,7 @@ cut-run from to zero (suc last) low (p ∷ ps) d ar r lt =
 cut-run from to (suc first) zero low (p ∷ ps) d ar r lt = absurd (omega (arith, lt))
 cut-run from to (suc first) (suc last) low (p ∷ ps) d ar r lt =
     rw (is_below from to p (r.before 0 p (omega arith)))
-    (ap (λ (xs : List Piece). p ∷ xs) (cut-run from to first last (end_of (bare p)) ps d ar.1.1 (next_run from to p ps first (suc last) r) (omega (arith, lt))))
+    (ap (λ (xs : List Piece). p ∷ xs) (cut-run from to first last (end_of (bare p)) ps d ar.1.1 (rest_run r (omega arith) (omega arith)) (omega (arith, lt))))
 
 -- THE SEARCH FOR THE RUN
 
