@@ -143,52 +143,12 @@ pub record IsCount (addr : ℕ) (ps : List Piece) (count : ℕ) : Type 0 where
 -- the last piece that begins at or below the range reaches into it
 pub run_from : (low from to count last : ℕ) (ps : List Piece) (e : Piece) → Arranged low (bare_all ps) → from < to → IsCount from ps count → IsCount (to - 1) ps last
     → 0 < count → from < end_of (bare (get_or ps (count - 1) e)) → IsRun from to ps (count - 1) last
-run_from low from to count last ps e ar lt c l some reaches =
-    let bound = c.bound in
-    record {
-      order = order (cases_lt last (count - 1));
-      bound = l.bound;
-      before = λ k d h.
-          let next : end_of (bare (get_or ps k d)) ≤ (get_or ps (count - 1) e).base = ends_before low ps k (count - 1) d e ar h (omega arith) in
-          let begins : (get_or ps (count - 1) e).base ≤ from = c.below (count - 1) e (omega arith) in
-          omega (arith, next, begins);
-      after = λ k d g h. after k d g h (cases_lt k count);
-      below = λ k d h. let begins : (get_or ps k d).base ≤ to - 1 = l.below k d h in omega (arith, begins, lt);
-      above = λ k d g h. let begins : to - 1 < (get_or ps k d).base = l.above k d g h in omega (arith, begins);
-    }
-  where
-    order : (last < count - 1) ⊎ (count - 1 ≤ last) → count - 1 ≤ last
-    order (inr g) = g
-    order (inl h) = grind (arith, common_steps)
-
-    after : (k : ℕ) (d : Piece) → count - 1 ≤ k → k < length ps → (k < count) ⊎ (count ≤ k) → from < end_of (bare (get_or ps k d))
-    after k d g h (inl below) = grind (arith, common_steps, get_or_default)
-    after k d g h (inr past) = let begins : from < (get_or ps k d).base = c.above k d past h in omega (arith, begins)
+run_from low from to count last ps e ar lt c l some reaches = grind (arith, common_steps, cases_lt, end_of, bare, ends_before, get_or_default)
 
 -- or it does not, or there is none
 pub run_behind : (low from to count last : ℕ) (ps : List Piece) (e : Piece) → Arranged low (bare_all ps) → from < to → IsCount from ps count → IsCount (to - 1) ps last
     → (count ≡ 0) ⊎ (end_of (bare (get_or ps (count - 1) e)) ≤ from) → IsRun from to ps count last
-run_behind low from to count last ps e ar lt c l over =
-    record {
-      order = order (cases_lt last count);
-      bound = l.bound;
-      before = λ k d h. before k d h over (cases_eq k (count - 1));
-      after = λ k d g h. let begins : from < (get_or ps k d).base = c.above k d g h in omega (arith, begins);
-      below = λ k d h. let begins : (get_or ps k d).base ≤ to - 1 = l.below k d h in omega (arith, begins, lt);
-      above = λ k d g h. let begins : to - 1 < (get_or ps k d).base = l.above k d g h in omega (arith, begins);
-    }
-  where
-    order : (last < count) ⊎ (count ≤ last) → count ≤ last
-    order (inr g) = g
-    order (inl h) =
-        let high : to - 1 < (get_or ps last e).base = l.above last e (omega arith) (omega (arith, c.bound)) in
-        let begins : (get_or ps last e).base ≤ from = c.below last e h in
-        absurd (omega (arith, high, begins, lt))
-
-    before : (k : ℕ) (d : Piece) → k < count → (count ≡ 0) ⊎ (end_of (bare (get_or ps (count - 1) e)) ≤ from) → (k ≡ count - 1) ⊎ (k ≢ count - 1) → end_of (bare (get_or ps k d)) ≤ from
-    before k d h (inl none) which = absurd (omega arith)
-    before k d h (inr ended) (inl same) = grind (arith, common_steps, get_or_default)
-    before k d h (inr ended) (inr other) = grind (arith, common_steps, ends_before)
+run_behind low from to count last ps e ar lt c l over = grind (arith, common_steps, cases_lt, cases_eq, end_of, bare, get_or_default, ends_before)
 
 -- HOW MANY ARE LEFT
 
