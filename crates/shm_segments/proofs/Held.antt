@@ -58,11 +58,7 @@ locks-lock hs id b g apart is = grind (arith, common_steps, sum-changed, only-lo
 
 pasted-sums : (hs : List Held) (p : Span) (new : List ℕ) → AreHeldApart hs → FitsPage hs p → length new ≤ p.len
     → (pages_held (map (pasted p.seg p.at new) hs) ≡ pages_held hs) × (pages_locked (map (pasted p.seg p.at new) hs) ≡ pages_locked hs)
-pasted-sums hs p new apart fit few = by (find_held hs p.seg) refl
-  where
-    by : (o : Option Held) → find_held hs p.seg ≡ o → (pages_held (map (pasted p.seg p.at new) hs) ≡ pages_held hs) × (pages_locked (map (pasted p.seg p.at new) hs) ≡ pages_locked hs)
-    by None is = let z : false ≡ true = rw is at fit.0 in absurd (true≢false (sym z))
-    by (Some g) is = grind (arith, common_steps, find_held-id, p.at, fit.1, length-paste, g.locked, sum-changed, only-pasted)
+pasted-sums hs p new apart fit few = grind (arith, common_steps, find_held, pages_held, map, pasted, pages_locked, true≢false, find_held-id, length-paste, sum-changed, only-pasted)
 
 -- what a store over stretches leaves
 pub record SameSums (hs gs : List Held) : Type 0 where

@@ -54,13 +54,7 @@ kept-without hs rows pages locks seg v k looked =
 -- its pages are among those that are counted
 pub pages-within : (hs : List Held) (rows : List (Entry Head)) (pages locks seg : ℕ) (v : Head) → AreSegmentsKept hs rows pages locks → look rows (pos seg) ≡ Ok v
     → (pages_of v.size ≤ pages) × ((if v.locked then pages_of v.size else 0) ≤ locks)
-pages-within hs rows pages locks seg v k looked =
-    let r : Row Head = record { key = key_at rows (seg % 32768); value = v } in
-    let lives : live rows seg ≡ Some r = look-live rows seg v looked in
-    let at = live-at rows seg r lives in
-    let fewer = pages-without_row rows (seg % 32768) r at.within at.there in
-    let looser = locked-without_row rows (seg % 32768) r at.within at.there in
-    (omega (arith, fewer, k.reserved), omega (arith, looser, k.locked))
+pages-within hs rows pages locks seg v k looked = grind (arith, common_steps, key_at, live, look-live, live-at, pages-without_row, locked-without_row)
 
 -- LOCKED OR UNLOCKED
 

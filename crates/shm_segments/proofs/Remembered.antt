@@ -15,22 +15,7 @@ view_of t m = record { table = t; memory = m }
 -- SHOWN
 
 pub shows-joined : (m : StoreView) (rows : List (Entry Head)) → Agree (held m) rows → ShowsTable (joined (held m) rows) m
-shows-joined m rows agree id = by (live rows id) (find_held (held m) id) refl refl (agree.same id)
-  where
-    by : (r : Option (Row Head)) (o : Option Held) → live rows id ≡ r → find_held (held m) id ≡ o → option_map shape_held (find_held (held m) id) ≡ option_map shape_row (live rows id)
-        → find_held (held m) id ≡ option_map (as_held id) (table.live (joined (held m) rows) id)
-    by None None there is same = rw (is, live-joined (held m) rows id, there) refl
-    by None (Some g) there is same = cc (rw (is, there) at same)
-    by (Some r) None there is same = cc (rw (is, there) at same)
-    by (Some r) (Some g) there is same =
-        let both : Some (shape_held g) ≡ Some (shape_row r) = rw (is, there) at same in
-        let shape : shape_held g ≡ shape_row r = cc both in
-        let lock : g.locked ≡ r.value.locked = ap (λ (s : Shape). s.locked) shape in
-        let own : g.id ≡ id = find_held-id (held m) id g is in
-        let bytes : bytes_of (held m) id ≡ g.bytes = ap bytes_in is in
-        let h : Held = record { id = g.id; locked = g.locked; bytes = g.bytes } in
-        let shown : Some h ≡ Some (as_held id (whole (held m) id r)) = rw (own, lock, bytes) refl in
-        rw (is, live-joined (held m) rows id, there) shown
+shows-joined m rows agree id = grind (arith, common_steps, live, find_held, held, option_map, shape_held, shape_row, as_held, joined, live-joined, find_held-id, bytes_of, bytes_in, whole)
 
 -- KEPT
 

@@ -87,17 +87,7 @@ paste-shape : (p : Span) (new : List ℕ) (g : Held) → (g.id ≡ p.seg → p.a
 paste-shape p new g fits = grind (arith, nat_tests, length-paste g.bytes p.at new, fits)
 
 pub agree-pasted : (hs : List Held) (rows : List (Entry Head)) (p : Span) (new : List ℕ) → Agree hs rows → FitsPage hs p → length new ≤ p.len → Agree (map (pasted p.seg p.at new) hs) rows
-agree-pasted hs rows p new agree fit few =
-    record {
-      few = agree.few;
-      same = λ at. ap (option_map shape_held) (find-map (pasted p.seg p.at new) (pasted-keeps p.seg p.at new) hs at) ∙ by at (find_held hs at) refl ∙ agree.same at;
-    }
-  where
-    by : (at : ℕ) (o : Option Held) → find_held hs at ≡ o → option_map shape_held (option_map (pasted p.seg p.at new) (find_held hs at)) ≡ option_map shape_held (find_held hs at)
-    by at None is = rw is refl
-    by at (Some g) is =
-        let fits : g.id ≡ p.seg → p.at + length new ≤ length g.bytes = grind (arith, common_steps, find_held-id, fit.1) in
-        rw is (ap Some (paste-shape p new g fits))
+agree-pasted hs rows p new agree fit few = grind (arith, common_steps, option_map, shape_held, find-map, pasted, pasted-keeps, find_held, find_held-id, paste-shape)
 
 each-agree : (ps : List Span) (hs : List Held) (rows : List (Entry Head)) (new : List ℕ) → Agree hs rows → Each (FitsPage hs) ps → Agree (written hs ps new) rows
 each-agree [] hs rows new agree fits = agree
