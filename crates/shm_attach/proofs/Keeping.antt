@@ -68,23 +68,7 @@ pub IsExact-set : (extra : ℕ → ℕ) (rs : List Runner) (i : ℕ) (r : Runner
     → Arranged lowest_address r.pieces → (r.life ≡ Unborn → r.pieces ≡ [])
     → ((id : ℕ) → counted d id + pieces_of id (pieces_at rs i) ≡ counted c id + pieces_of id r.pieces)
     → AreCountsExact extra (set rs i r) d
-IsExact-set extra rs i r c d exact lt few order asleep counts =
-    record {
-      counts = λ id.
-          let moved = sum_by-set (λ (x : Runner). pieces_of id x.pieces) rs i r nobody lt in
-          omega (arith, counts id, exact.counts id, moved, ap (pieces_of id) (pieces_at-get_or rs i));
-      processes = rw (length-set rs i r) exact.processes;
-      pieces = each (λ ps. length ps ≤ 256) few exact.pieces;
-      unborn = λ j none. empty j none (cases_eq j i);
-      arranged = each (Arranged lowest_address) order exact.arranged;
-    }
-  where
-    each : (P : List Piece → Type 0) → P r.pieces → ((j : ℕ) → P (pieces_at rs j)) → (j : ℕ) → P (pieces_at (set rs i r) j)
-    each P own old j = grind (arith, common_steps, pieces_at-set, pieces_at-set_other)
-
-    empty : (j : ℕ) → life_at (set rs i r) j ≡ Unborn → (j ≡ i) ⊎ (j ≢ i) → pieces_at (set rs i r) j ≡ []
-    empty j none (inl same) = grind (arith, common_steps, pieces_at-set, life_at-set)
-    empty j none (inr other) = rw (pieces_at-set_other rs i j r other) (exact.unborn j (sym (life_at-set_other rs i j r other) ∙ none))
+IsExact-set extra rs i r c d exact lt few order asleep counts = grind (arith, common_steps, sum_by-set, pieces_of, nobody, pieces_at-get_or, length-set, cases_eq, lowest_address, pieces_at, set, pieces_at-set, pieces_at-set_other, life_at, life_at-set, life_at-set_other)
 
 pub IsExact-changed : (extra : ℕ → ℕ) (rs : List Runner) (i : ℕ) (f : List Piece → List Piece) (c d : Tables) → AreCountsExact extra rs c → i < length rs → length (f (pieces_at rs i)) ≤ 256
     → Arranged lowest_address (f (pieces_at rs i)) → (life_at rs i ≡ Unborn → f (pieces_at rs i) ≡ [])

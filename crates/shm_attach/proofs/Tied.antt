@@ -3,9 +3,7 @@ use Rattle.shm_attach.proofs.Names.{◌≡◌, ◌≢◌, ◌∙◌, inl, inr, �
 
 -- a piece that has its table is counted
 pub held-counted : (t : Tables) (p : Piece) → IsTied t → IsHeld t.slab p → 0 < counted t p.seg
-held-counted t p tied own =
-    let key : key_of t p.seg ≡ Some p.key = tied.named p.seg p.key own.seg in
-    elim (cases_eq (counted t p.seg) 0) [ inl none ↦ absurd (none-some p.key (sym (tied.some p.seg none) ∙ key)) | inr some ↦ omega (arith, some) ]
+held-counted t p tied own = grind (arith, common_steps, key_of, cases_eq, counted, none-some)
 
 -- A TABLE WITH OTHER FRAMES
 

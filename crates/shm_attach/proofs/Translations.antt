@@ -17,9 +17,7 @@ All-right P (x ∷ xs) ys all = All-right P xs ys (All-tail P x (xs ++ ys) all)
 frames-of : (at : ℕ → ℕ → Option ℕ) (seg first : ℕ) (fs : List (Option ℕ)) → All (Holds at) (translations_from seg first fs)
     → (j : ℕ) → j < length fs → get_or fs j None ≡ at seg (first + j)
 frames-of at seg first [] all j lt = absurd (omega arith)
-frames-of at seg first (f ∷ fs) all zero lt =
-    let here : first + 0 ≡ first = omega arith in
-    rw here (All-head (Holds at) (record { seg = seg; page = first; frame = f }) (translations_from seg (first + 1) fs) all)
+frames-of at seg first (f ∷ fs) all zero lt = grind (arith, common_steps, All-head, translations_from)
 frames-of at seg first (f ∷ fs) all (suc j) lt =
     grind (arith, common_steps, frames-of at seg (first + 1) fs (All-tail (Holds at) (record { seg = seg; page = first; frame = f }) (translations_from seg (first + 1) fs) all) j)
 
