@@ -10,8 +10,7 @@ module _ {T : Type 0} where
   Keyed-same t keys after k same = record { found = λ key i h. k.found key i (sym (same key) ∙ h); live = λ i n. same (key_at t i) ∙ k.live i n }
 
   pub Sound-same : {S : Type 0} (t u : List (Entry T)) (first : ℕ) (keys after : IndexMap ℕ ℕ S) → Sound t first keys → u ≡ t → ((q : ℕ) → get nat_eq after q ≡ get nat_eq keys q) → Sound u first after
-  Sound-same t u first keys after s e same =
-      subst (λ x. Sound x first after) (sym e) (record { fits = s.fits; used = s.used; keyed = Keyed-same t keys after s.keyed same })
+  Sound-same t u first keys after s e same = grind (arith, common_steps, Keyed-same)
 
   pub free_row : (e : Entry T) → is_free e ≡ true → e.row ≡ None
   free_row e h = grind arith
