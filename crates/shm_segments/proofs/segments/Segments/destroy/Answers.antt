@@ -9,19 +9,13 @@ pub take-head-requires : goal.take-head-requires
 take-head-requires g c = is_live-row (held c.self.inside.store) c.self.inside.table c.args.seg (rw (← c.self.view_is) at c.requires)
 
 pub drop_segment-requires : goal.drop_segment-requires
-drop_segment-requires g c =
-    let there = is_live-row (held c.self.inside.store) c.self.inside.table c.args.seg (rw (← c.self.view_is) at c.requires) in
-    record { there = same-held (held c.self.inside.store) c.self.inside.table c.args.seg c.self.invariant.kept.agree ∙ there }
+drop_segment-requires g c = grind (arith, common_steps, is_live-row, held, same-held, c.self.inside.store, c.self.inside.table, c.args.seg, c.self.view_is, c.requires, c.self.invariant.kept.agree)
 
 pub overflow_sub-self : goal.overflow_sub-self
-overflow_sub-self g c =
-    let within = pages-within (held c.self.inside.store) c.self.inside.table c.self.inside.reserved c.self.inside.locked c.args.seg c.take-head.result c.self.invariant.kept c.take-head.ensures.value in
-    rw c.pages_of.ensures.value within.0
+overflow_sub-self g c = grind (arith, common_steps, pages-within, held, c.self.inside.store, c.self.inside.table, c.self.inside.reserved, c.self.inside.locked, c.args.seg, c.take-head.result, c.self.invariant.kept, c.take-head.ensures.value, c.pages_of.ensures.value)
 
 pub overflow_sub-self-2 : goal.overflow_sub-self-2
-overflow_sub-self-2 g c =
-    let within = pages-within (held c.self.inside.store) c.self.inside.table c.self.inside.reserved c.self.inside.locked c.args.seg c.take-head.result c.self.invariant.kept c.take-head.ensures.value in
-    rw c.pages_locked.ensures within.1
+overflow_sub-self-2 g c = grind (arith, common_steps, pages-within, held, c.self.inside.store, c.self.inside.table, c.self.inside.reserved, c.self.inside.locked, c.args.seg, c.take-head.result, c.self.invariant.kept, c.take-head.ensures.value, c.pages_locked.ensures)
 
 pub invariant_of-self : goal.invariant_of-self
 invariant_of-self g c =
