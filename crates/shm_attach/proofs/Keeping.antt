@@ -13,32 +13,16 @@ pub with_life_at-within : (rs : List Runner) (i : ℕ) (l : Life) → i < length
 with_life_at-within rs i l lt = ap (with_other_life rs i l) (slice_get-get_or rs i nobody lt)
 
 pub pieces_at-get_or : (rs : List Runner) (i : ℕ) → pieces_at rs i ≡ (get_or rs i nobody).pieces
-pieces_at-get_or [] i = refl
-pieces_at-get_or (r ∷ rs) zero = refl
-pieces_at-get_or (r ∷ rs) (suc i) = pieces_at-get_or rs i
+pieces_at-get_or rs i = grind (arith, common_steps, gets)
 
 pub life_at-get_or : (rs : List Runner) (i : ℕ) → life_at rs i ≡ (get_or rs i nobody).life
-life_at-get_or [] i = refl
-life_at-get_or (r ∷ rs) zero = refl
-life_at-get_or (r ∷ rs) (suc i) = life_at-get_or rs i
-
-pub pieces_at-set : (rs : List Runner) (i : ℕ) (r : Runner) → i < length rs → pieces_at (set rs i r) i ≡ r.pieces
-pieces_at-set rs i r lt = pieces_at-get_or (set rs i r) i ∙ ap (λ (x : Runner). x.pieces) (get_or-set_same rs i r nobody lt)
-
-pub pieces_at-set_other : (rs : List Runner) (i j : ℕ) (r : Runner) → j ≢ i → pieces_at (set rs i r) j ≡ pieces_at rs j
-pieces_at-set_other rs i j r other = pieces_at-get_or (set rs i r) j ∙ ap (λ (x : Runner). x.pieces) (get_or-set_other rs i j r nobody other) ∙ sym (pieces_at-get_or rs j)
-
-pub life_at-set : (rs : List Runner) (i : ℕ) (r : Runner) → i < length rs → life_at (set rs i r) i ≡ r.life
-life_at-set rs i r lt = life_at-get_or (set rs i r) i ∙ ap (λ (x : Runner). x.life) (get_or-set_same rs i r nobody lt)
-
-pub life_at-set_other : (rs : List Runner) (i j : ℕ) (r : Runner) → j ≢ i → life_at (set rs i r) j ≡ life_at rs j
-life_at-set_other rs i j r other = life_at-get_or (set rs i r) j ∙ ap (λ (x : Runner). x.life) (get_or-set_other rs i j r nobody other) ∙ sym (life_at-get_or rs j)
+life_at-get_or rs i = grind (arith, common_steps, gets)
 
 pub pieces_at-changed : (rs : List Runner) (i : ℕ) (f : List Piece → List Piece) → i < length rs → pieces_at (with_pieces_at rs i f) i ≡ f (pieces_at rs i)
-pieces_at-changed rs i f lt = ap (λ xs. pieces_at xs i) (with_pieces_at-within rs i f lt) ∙ pieces_at-set rs i _ lt ∙ ap f (sym (pieces_at-get_or rs i))
+pieces_at-changed rs i f lt = grind (arith, common_steps, gets)
 
 pub life_at-changed : (rs : List Runner) (i : ℕ) (f : List Piece → List Piece) → i < length rs → life_at (with_pieces_at rs i f) i ≡ life_at rs i
-life_at-changed rs i f lt = ap (λ xs. life_at xs i) (with_pieces_at-within rs i f lt) ∙ life_at-set rs i _ lt ∙ sym (life_at-get_or rs i)
+life_at-changed rs i f lt = grind (arith, common_steps, gets)
 
 -- two changes are one
 pub with_pieces_at-twice : (rs : List Runner) (i : ℕ) (f g : List Piece → List Piece) → i < length rs
@@ -48,10 +32,10 @@ with_pieces_at-twice rs i f g lt = let there = slice_get-get_or rs i nobody lt i
 -- a child is born with the pieces of another process
 module _ (rs : List Runner) (i j : ℕ) (l : Life) (lt : j < length rs) where
   pub life_at-born : life_at (with_life_at rs j l) j ≡ l
-  life_at-born = ap (λ xs. life_at xs j) (with_life_at-within rs j l lt) ∙ life_at-set rs j _ lt
+  life_at-born = grind (arith, common_steps, gets)
 
   pub pieces_at-born : pieces_at (with_life_at rs j l) j ≡ pieces_at rs j
-  pieces_at-born = ap (λ xs. pieces_at xs j) (with_life_at-within rs j l lt) ∙ pieces_at-set rs j _ lt ∙ sym (pieces_at-get_or rs j)
+  pieces_at-born = grind (arith, common_steps, gets)
 
   pub runners-born : i ≢ j
       → with_pieces_at (with_life_at rs j l) j (λ (_ : List Piece). pieces_at (with_life_at rs j l) i) ≡ set rs j (record { pid = (get_or rs j nobody).pid; life = l; pieces = pieces_at rs i })
@@ -68,26 +52,17 @@ pub IsExact-set : (extra : ℕ → ℕ) (rs : List Runner) (i : ℕ) (r : Runner
     → Arranged lowest_address r.pieces → (r.life ≡ Unborn → r.pieces ≡ [])
     → ((id : ℕ) → counted d id + pieces_of id (pieces_at rs i) ≡ counted c id + pieces_of id r.pieces)
     → AreCountsExact extra (set rs i r) d
-IsExact-set extra rs i r c d exact lt few order asleep counts = grind (arith, common_steps, sum_by-set, pieces_of, nobody, pieces_at-get_or, length-set, cases_eq, lowest_address, pieces_at, set, pieces_at-set, pieces_at-set_other, life_at, life_at-set, life_at-set_other)
+IsExact-set extra rs i r c d exact lt few order asleep counts = grind (arith, common_steps, gets, sum_by-set, pieces_at-get_or, life_at-get_or, cases_eq)
 
 pub IsExact-changed : (extra : ℕ → ℕ) (rs : List Runner) (i : ℕ) (f : List Piece → List Piece) (c d : Tables) → AreCountsExact extra rs c → i < length rs → length (f (pieces_at rs i)) ≤ 256
     → Arranged lowest_address (f (pieces_at rs i)) → (life_at rs i ≡ Unborn → f (pieces_at rs i) ≡ [])
     → ((id : ℕ) → counted d id + pieces_of id (pieces_at rs i) ≡ counted c id + pieces_of id (f (pieces_at rs i)))
     → AreCountsExact extra (with_pieces_at rs i f) d
 IsExact-changed extra rs i f c d exact lt few order asleep counts =
-    let r = get_or rs i nobody in
-    let same : f (pieces_at rs i) ≡ f r.pieces = ap f (pieces_at-get_or rs i) in
-    rw (with_pieces_at-within rs i f lt)
-    (IsExact-set extra rs i (record r { pieces = f r.pieces }) c d exact lt (rw same at few) (rw same at order)
-    (λ none. sym same ∙ asleep (life_at-get_or rs i ∙ none)) (λ id. rw same at (counts id)))
+    grind (arith, common_steps, with_pieces_at-within, pieces_at-get_or, life_at-get_or, IsExact-set)
 
 pub IsExact-life : (extra : ℕ → ℕ) (rs : List Runner) (i : ℕ) (l : Life) (c : Tables) → AreCountsExact extra rs c → i < length rs → l ≢ Unborn → AreCountsExact extra (with_life_at rs i l) c
-IsExact-life extra rs i l c exact lt awake =
-    let r = get_or rs i nobody in
-    let same : pieces_at rs i ≡ r.pieces = pieces_at-get_or rs i in
-    rw (with_life_at-within rs i l lt)
-    (IsExact-set extra rs i (record r { life = l }) c c exact lt (rw same at (exact.pieces i)) (rw same at (exact.arranged i)) (λ none. absurd (awake none))
-    (λ id. ap (λ ps. counted c id + pieces_of id ps) same))
+IsExact-life extra rs i l c exact lt awake = grind (arith, common_steps, with_life_at-within, pieces_at-get_or, life_at-get_or, IsExact-set)
 
 -- a segment has at most 256 pieces for each process
 pub attach_count-few : (id : ℕ) (rs : List Runner) → ((i : ℕ) → length (pieces_at rs i) ≤ 256) → attach_count rs id ≤ 256 * length rs
