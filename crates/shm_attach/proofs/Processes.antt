@@ -1,10 +1,9 @@
 -- One process's pieces change, and the counts with them.
-use Rattle.shm_attach.proofs.Names.{◌≡◌, ℕ, zero, suc, ◌+◌, ◌-◌, ◌<◌, ◌≤◌, Bool, true, ◌==◌, List, [], ◌∷◌, length, map, get_or, Option, Some, None, slice_get, filter, refl, ap, sym, arith, ◌++◌, cond, drop, drop-cons, add-one, common_steps, filter_passes, sum_by-cons, sum_by-set, sum_by-append, length-filter, count_by-le-length, none-some, slice_get-get_or, set_value_at, pieces_of, meets, parts, cut, cut_segments, inserted, without_named, attach_count, bare, bare_all, met, one_if, with_own, with_pieces_at, with_life_at, some_if, life_view, runners_view, pieces_at, Stored, Runner, Life}
+use Rattle.std_collections.proofs.Entries.{length-set_value_at}
+use Rattle.std.proofs.lemmas.List.{map-set}
+use Rattle.std.proofs.lemmas.Option.{slice_get-map}
+use Rattle.shm_attach.proofs.Names.{set, slice_get_cases, ◌≡◌, ℕ, zero, suc, ◌+◌, ◌-◌, ◌<◌, ◌≤◌, Bool, true, ◌==◌, List, [], ◌∷◌, length, map, get_or, Option, Some, None, slice_get, filter, refl, ap, sym, arith, ◌++◌, cond, drop, drop-cons, add-one, common_steps, filter_passes, sum_by-cons, sum_by-set, sum_by-append, length-filter, count_by-le-length, none-some, slice_get-get_or, set_value_at, pieces_of, meets, parts, cut, cut_segments, inserted, without_named, attach_count, bare, bare_all, met, one_if, with_own, with_pieces_at, with_life_at, some_if, life_view, runners_view, pieces_at, Stored, Runner, Life}
 use Rattle.shm_base.specs.State as flat
-
-abbrev pub held : Runner → Option Runner → Runner
-held d None = d
-held d (Some x) = x
 
 abbrev pub nobody : flat.Runner
 nobody = record { pid = 0; life = flat.Unborn; pieces = [] }
@@ -35,20 +34,21 @@ attach_count-changed id i f rs lt =
     let after = sum_by-set (λ (x : flat.Runner). pieces_of id x.pieces) rs i (record r { pieces = f r.pieces }) nobody lt in
     rw at after
 
-pub with_own-cons : (r : flat.Runner) (rs : List flat.Runner) (i : ℕ) (f : List flat.Piece → List flat.Piece) (o : Option flat.Runner)
-    → with_own (r ∷ rs) (suc i) f o ≡ r ∷ with_own rs i f o
-with_own-cons r rs i f o = grind arith
+-- a value set at a place is an entry set there
+pub entries_set : (es : List (ℕ × Runner)) (i : ℕ) (e : ℕ × Runner) (v : Runner) → slice_get es i ≡ Some e → set_value_at es i v ≡ set es i (e.0, v)
+entries_set [] i e v at = refl
+entries_set (x ∷ es) zero e v at = grind arith
+entries_set (x ∷ es) (suc i) e v at = ap (λ (xs : List (ℕ × Runner)). x ∷ xs) (entries_set es i e v at)
+
+entry_there : (es : List (ℕ × Runner)) (i : ℕ) (w : Runner) → Some w ≡ slice_get (values_of es) i → (k : ℕ) × (slice_get es i ≡ Some (k, w))
+entry_there es i w at = grind (arith, common_steps, slice_get-map, slice_get_cases)
 
 pub runners_set : (f : List flat.Piece → List flat.Piece) (es : List (ℕ × Runner)) (i : ℕ) (w v : Runner) → Some w ≡ slice_get (values_of es) i
     → v.life ≡ w.life → bare_all v.space ≡ f (bare_all w.space) → runners_view (set_value_at es i v) ≡ with_pieces_at (runners_view es) i f
-runners_set f [] i w v at life space = absurd (none-some w (sym at))
-runners_set f (e ∷ es) zero w v at life space = grind (arith, life, space)
-runners_set f (e ∷ es) (suc i) w v at life space = grind (arith, common_steps, with_own-cons, runners_set f es i w v at life space)
+runners_set f es i w v at life space = grind (arith, common_steps, entry_there, entries_set, map-set, slice_get-map, life, space)
 
 pub length_set : (es : List (ℕ × Runner)) (i : ℕ) (v : Runner) → length (set_value_at es i v) ≡ length es
-length_set [] i v = refl
-length_set (e ∷ es) zero v = refl
-length_set (e ∷ es) (suc i) v = ap suc (length_set es i v)
+length_set es i v = length-set_value_at es i v
 
 pub shorter_filter : {X : Type 0} (p : X → Bool) (xs : List X) → length (filter p xs) ≤ length xs
 shorter_filter p xs = rw (length-filter p xs) (count_by-le-length p xs)
@@ -117,6 +117,4 @@ drop-bare ps i d lt = rw (add-one, drop-cons ps i d lt) refl
 -- another state of one process
 pub runners_live : (l : Life) (es : List (ℕ × Runner)) (i : ℕ) (w v : Runner) → Some w ≡ slice_get (values_of es) i → v.life ≡ l → v.space ≡ w.space
     → runners_view (set_value_at es i v) ≡ with_life_at (runners_view es) i (life_view l)
-runners_live l [] i w v at life space = absurd (none-some w (sym at))
-runners_live l (e ∷ es) zero w v at life space = grind (arith, life, space)
-runners_live l (e ∷ es) (suc i) w v at life space = grind (arith, common_steps, runners_live l es i w v at life space)
+runners_live l es i w v at life space = grind (arith, common_steps, entry_there, entries_set, map-set, slice_get-map, life, space)

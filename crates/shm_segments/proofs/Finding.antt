@@ -41,8 +41,7 @@ found_at hs rows i r agree sizes is =
     shown e f = rw (e, f) refl
 
 listed : (i d : ℕ) (o : Option (Row Head)) (x : ℤ × (ℕ × Head)) → row_shown i d o ≡ Some x → (o ≡ Some (record { key = x.1.0; value = x.1.1 })) × (x.0 ≡ pos (identifier i d))
-listed i d None x is = absurd (none-some x is)
-listed i d (Some r) x is = let same : (pos (identifier i d), (r.key, r.value)) ≡ x = cc is in rw (← same) (refl, refl)
+listed i d o x is = grind (arith, common_steps, nat_tests, none-some, pos, identifier)
 
 -- a row that is listed stands at its index
 pub listed-row : (i : ℕ) (e : Entry Head) (x : ℤ × (ℕ × Head)) → row_listed i e ≡ Some x
@@ -56,8 +55,7 @@ pub unlisted-row : (i : ℕ) (e : Entry Head) → row_listed i e ≡ None → e.
 unlisted-row i e is = unlisted i e.destroyed e.row is
 
 flat-option : (hs : List Held) (id : ℕ) (o : Option (Row Head)) → flat_row (whole hs) id o ≡ option_map (whole hs id) o
-flat-option hs id None = refl
-flat-option hs id (Some r) = refl
+flat-option hs id o = grind (arith, common_steps, nat_tests)
 
 in-flat : (hs : List Held) (i id : ℕ) (e : Entry Head) → i ≡ id % 32768
     → table.live_in id (Some (flat_entry (whole hs) i e)) ≡ option_map (whole hs id) (if identifier i e.destroyed == id then e.row else None)

@@ -165,8 +165,7 @@ key-hit n key (e ∷ es) i some found =
     has (Some r) h = refl
 
 not_invalid : (hs : List Held) (i id : ℕ) (o : Option (Row Head)) → is_some o ≡ true → flat.look_segment i (flat_row (whole hs) id o) ≡ flat.Invalid → ⊥
-not_invalid hs i id None some is = cc
-not_invalid hs i id (Some r) some is = cc
+not_invalid hs i id o some is = grind (arith, common_steps, nat_tests)
 
 pub key-absent : (hs : List Held) (rows : List (Entry Head)) (key : ℕ) → (key ≢ 0 → flat.find_key (joined hs rows) key ≡ flat.Invalid) → find_key rows key ≡ None
 key-absent hs rows key absent = by (cases_eq key 0)

@@ -64,8 +64,7 @@ set-left t i x p there a rs j = at-set (orphan_in j rs) t i j (record { destroye
 
 module _ (f : Segment → Segment) where
   mapped-pages : ((s : Segment) → length (f s).bytes ≡ length s.bytes) → (o : Option Segment) → AlikePages o (option_map f o)
-  mapped-pages k None = record { pages = refl; some = refl }
-  mapped-pages k (Some s) = record { pages = rw (k s) refl; some = refl }
+  mapped-pages k o = grind (arith, common_steps, nat_tests)
 
   mapped-locked : ((s : Segment) → length (f s).bytes ≡ length s.bytes) → ((s : Segment) → (f s).locked ≡ s.locked) → (o : Option Segment) → pages_locked (option_map f o) ≡ pages_locked o
   mapped-locked k l o = grind (arith, nat_tests, k, l)
@@ -74,16 +73,13 @@ module _ (f : Segment → Segment) where
   mapped-left k o rs id = grind (arith, k)
 
   in-pages : ((s : Segment) → length (f s).bytes ≡ length s.bytes) → (t : List Entry) (i : ℕ) (o : Option Entry) → slice_get t i ≡ o → SamePages t (set_in t i (with_entry f) o)
-  in-pages k t i None is = pages-refl t
-  in-pages k t i (Some x) is = set-pages t i x (option_map f x.segment) is (mapped-pages k x.segment)
+  in-pages k t i o is = grind (arith, common_steps, nat_tests, pages-refl, set-pages, option_map, mapped-pages)
 
   in-locked : ((s : Segment) → length (f s).bytes ≡ length s.bytes) → ((s : Segment) → (f s).locked ≡ s.locked) → (t : List Entry) (i : ℕ) (o : Option Entry) → slice_get t i ≡ o → locked (set_in t i (with_entry f) o) ≡ locked t
-  in-locked k l t i None is = refl
-  in-locked k l t i (Some x) is = sum-set_same (λ (y : Entry). pages_locked y.segment) t i (with_entry f x) x is (mapped-locked k l x.segment)
+  in-locked k l t i o is = grind (arith, common_steps, nat_tests, sum-set_same, pages_locked, with_entry, mapped-locked)
 
   in-left : ((s : Segment) → (f s).dest ≡ s.dest) → (t : List Entry) (i : ℕ) (o : Option Entry) → slice_get t i ≡ o → (rs : List Runner) (j : ℕ) → orphan rs (set_in t i (with_entry f) o) j ≡ orphan rs t j
-  in-left k t i None is rs j = refl
-  in-left k t i (Some x) is rs j = set-left t i x (option_map f x.segment) is (mapped-left k x.segment) rs j
+  in-left k t i o is rs j = grind (arith, common_steps, nat_tests, set-left, option_map, mapped-left)
 
   pub change-pages : ((s : Segment) → length (f s).bytes ≡ length s.bytes) → (t : List Entry) (id : ℕ) → SamePages t (change t id f)
   change-pages k t id = in-pages k t (id % 32768) (slice_get t (id % 32768)) refl

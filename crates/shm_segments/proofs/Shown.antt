@@ -8,8 +8,7 @@ use Rattle.shm_segments.proofs.Joins.{live-at, joined-same, set-joined, same-hel
 -- A LIVE SEGMENT'S BYTES
 
 some-is : {X : Type 0} (o : Option X) → is_some o ≡ true → (x : X) × (o ≡ Some x)
-some-is None e = cc
-some-is (Some x) e = (x, refl)
+some-is o e = grind (arith, common_steps, nat_tests)
 
 -- a byte set
 pub with_byte-joined : (hs : List Held) (rows : List (Entry Head)) (p : Place) (b : ℕ) → length rows ≤ 32768 → is_some (live rows p.seg) ≡ true → with_byte (joined hs rows) p b ≡ joined (put hs p b) rows

@@ -20,12 +20,10 @@ first-whole : (n : ℕ) (hs : List Held) (e : Entry Head) (es : List (Entry Head
 first-whole n hs e es all r is = let here : n + 0 ≡ n = omega arith in rw here at (all 0 r (omega arith) is)
 
 row-pages : (hs : List Held) (id : ℕ) (o : Option (Row Head)) → ((r : Row Head) → o ≡ Some r → length (bytes_of hs id) ≡ 4096 * pages_of r.value.size) → pages_held (flat_row (whole hs) id o) ≡ pages_in_row o
-row-pages hs id None whole = refl
-row-pages hs id (Some r) whole = let size = whole r refl in omega (arith, size)
+row-pages hs id o whole = grind (arith, common_steps, nat_tests, whole)
 
 row-locked : (hs : List Held) (id : ℕ) (o : Option (Row Head)) → ((r : Row Head) → o ≡ Some r → length (bytes_of hs id) ≡ 4096 * pages_of r.value.size) → pages_locked (flat_row (whole hs) id o) ≡ locked_in_row o
-row-locked hs id None whole = refl
-row-locked hs id (Some r) whole = grind (arith, nat_tests, whole r refl)
+row-locked hs id o whole = grind (arith, common_steps, nat_tests, whole)
 
 -- a sum over the segments is one over the rows
 sum-from : (weigh : Option Segment → ℕ) (f : Option (Row Head) → ℕ) (hs : List Held) → ((id : ℕ) (o : Option (Row Head)) → ((r : Row Head) → o ≡ Some r → length (bytes_of hs id) ≡ 4096 * pages_of r.value.size) → weigh (flat_row (whole hs) id o) ≡ f o)
