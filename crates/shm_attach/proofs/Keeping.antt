@@ -59,10 +59,19 @@ pub IsExact-changed : (extra : ℕ → ℕ) (rs : List Runner) (i : ℕ) (f : Li
     → ((id : ℕ) → counted d id + pieces_of id (pieces_at rs i) ≡ counted c id + pieces_of id (f (pieces_at rs i)))
     → AreCountsExact extra (with_pieces_at rs i f) d
 IsExact-changed extra rs i f c d exact lt few order asleep counts =
-    grind (arith, common_steps, with_pieces_at-within, pieces_at-get_or, life_at-get_or, IsExact-set)
+    let r = get_or rs i nobody in
+    let same : f (pieces_at rs i) ≡ f r.pieces = ap f (pieces_at-get_or rs i) in
+    rw (with_pieces_at-within rs i f lt)
+    (IsExact-set extra rs i (record r { pieces = f r.pieces }) c d exact lt (rw same at few) (rw same at order)
+    (λ none. sym same ∙ asleep (life_at-get_or rs i ∙ none)) (λ id. rw same at (counts id)))
 
 pub IsExact-life : (extra : ℕ → ℕ) (rs : List Runner) (i : ℕ) (l : Life) (c : Tables) → AreCountsExact extra rs c → i < length rs → l ≢ Unborn → AreCountsExact extra (with_life_at rs i l) c
-IsExact-life extra rs i l c exact lt awake = grind (arith, common_steps, with_life_at-within, pieces_at-get_or, life_at-get_or, IsExact-set)
+IsExact-life extra rs i l c exact lt awake =
+    let r = get_or rs i nobody in
+    let same : pieces_at rs i ≡ r.pieces = pieces_at-get_or rs i in
+    rw (with_life_at-within rs i l lt)
+    (IsExact-set extra rs i (record r { life = l }) c c exact lt (rw same at (exact.pieces i)) (rw same at (exact.arranged i)) (λ none. absurd (awake none))
+    (λ id. ap (λ ps. counted c id + pieces_of id ps) same))
 
 -- a segment has at most 256 pieces for each process
 pub attach_count-few : (id : ℕ) (rs : List Runner) → ((i : ℕ) → length (pieces_at rs i) ≤ 256) → attach_count rs id ≤ 256 * length rs

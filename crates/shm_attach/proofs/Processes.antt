@@ -1,5 +1,5 @@
 -- One process's pieces change, and the counts with them.
-use Rattle.std_collections.proofs.Entries.{length-set_value_at}
+use Rattle.indexmap.specs.Layout.{length-set_value_at}
 use Rattle.std.proofs.lemmas.List.{map-set}
 use Rattle.std.proofs.lemmas.Option.{slice_get-map}
 use Rattle.shm_attach.proofs.Names.{set, slice_get_cases, ◌≡◌, ℕ, zero, suc, ◌+◌, ◌-◌, ◌<◌, ◌≤◌, Bool, true, ◌==◌, List, [], ◌∷◌, length, map, get_or, Option, Some, None, slice_get, filter, refl, ap, sym, arith, ◌++◌, cond, drop, drop-cons, add-one, common_steps, filter_passes, sum_by-cons, sum_by-set, sum_by-append, length-filter, count_by-le-length, none-some, slice_get-get_or, set_value_at, pieces_of, meets, parts, cut, cut_segments, inserted, without_named, attach_count, bare, bare_all, met, one_if, with_own, with_pieces_at, with_life_at, some_if, life_view, runners_view, pieces_at, Stored, Runner, Life}
@@ -45,7 +45,9 @@ entry_there es i w at = grind (arith, common_steps, slice_get-map, slice_get_cas
 
 pub runners_set : (f : List flat.Piece → List flat.Piece) (es : List (ℕ × Runner)) (i : ℕ) (w v : Runner) → Some w ≡ slice_get (values_of es) i
     → v.life ≡ w.life → bare_all v.space ≡ f (bare_all w.space) → runners_view (set_value_at es i v) ≡ with_pieces_at (runners_view es) i f
-runners_set f es i w v at life space = grind (arith, common_steps, entry_there, entries_set, map-set, slice_get-map, life, space)
+runners_set f es i w v at life space =
+    let t = entry_there es i w at in
+    rw (entries_set es i (t.0, w) v t.1) (grind (arith, common_steps, map-set, slice_get-map, t.1, life, space))
 
 pub length_set : (es : List (ℕ × Runner)) (i : ℕ) (v : Runner) → length (set_value_at es i v) ≡ length es
 length_set es i v = length-set_value_at es i v
@@ -117,4 +119,6 @@ drop-bare ps i d lt = rw (add-one, drop-cons ps i d lt) refl
 -- another state of one process
 pub runners_live : (l : Life) (es : List (ℕ × Runner)) (i : ℕ) (w v : Runner) → Some w ≡ slice_get (values_of es) i → v.life ≡ l → v.space ≡ w.space
     → runners_view (set_value_at es i v) ≡ with_life_at (runners_view es) i (life_view l)
-runners_live l es i w v at life space = grind (arith, common_steps, entry_there, entries_set, map-set, slice_get-map, life, space)
+runners_live l es i w v at life space =
+    let t = entry_there es i w at in
+    rw (entries_set es i (t.0, w) v t.1) (grind (arith, common_steps, map-set, slice_get-map, t.1, life, space))
