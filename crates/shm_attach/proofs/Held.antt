@@ -1,20 +1,18 @@
 -- The table of each piece: what a change of the pieces and of the tables leaves.
-use Rattle.shm_attach.proofs.Names.{◌≡◌, ◌≢◌, inl, inr, ℕ, zero, suc, ◌+◌, ◌<◌, ◌≤◌, ◌==◌, ◌&&◌, Bool, true, false, nat_lt, List, [], ◌∷◌, length, filter, get_or, slice_get, Option, Some, None, refl, ap, sym, subst, ◌∙◌, arith, common_steps, All, cases_Bool, none-some, cases_eq, slice_get_cases, All-append, All-cons, All-head, All-tail, All-filter, length-map, set_value_at, Slab, get, pieces_of, bare, bare_all, kept_inserted, kept_parts, kept_cut, Tables, runner_view, runners_view, pieces_at, seg_in, size_in, frame_in, TrueSlot, counted, stored_in, stored_at, IsHeld, AllHeld, AreCountsExact, Piece, Runner, Entry}
+use Rattle.shm_attach.proofs.Names.{gets, slice_get-map, ◌≡◌, ◌≢◌, inl, inr, ℕ, zero, suc, ◌+◌, ◌<◌, ◌≤◌, ◌==◌, ◌&&◌, Bool, true, false, nat_lt, List, [], ◌∷◌, length, filter, get_or, slice_get, Option, Some, None, refl, ap, sym, subst, ◌∙◌, arith, common_steps, All, cases_Bool, none-some, cases_eq, slice_get_cases, All-append, All-cons, All-head, All-tail, All-filter, length-map, set_value_at, Slab, get, pieces_of, bare, bare_all, kept_inserted, kept_parts, kept_cut, Tables, runner_view, runners_view, pieces_at, seg_in, size_in, frame_in, TrueSlot, counted, stored_in, stored_at, IsHeld, AllHeld, AreCountsExact, Piece, Runner, Entry}
 use Rattle.shm_base.specs.State as flat
-use Rattle.shm_attach.proofs.Processes.{values_of}
+use Rattle.shm_attach.proofs.Processes.{entry_there, entries_set, values_of}
 use Rattle.shm_attach.proofs.Keeping.{own_counted, pieces_of-there, bare-get_or}
 
 -- WHERE THE PIECES STAND
 
 pub stored_at-value : (es : List (ℕ × Runner)) (i : ℕ) (w : Runner) → Some w ≡ slice_get (values_of es) i → stored_at es i ≡ w.space
-stored_at-value [] i w at = absurd (none-some w (sym at))
-stored_at-value (e ∷ es) zero w at = grind arith
-stored_at-value (e ∷ es) (suc i) w at = stored_at-value es i w at
+stored_at-value es i w at = grind (arith, common_steps, entry_there es i w at)
 
 pub stored_at-set : (es : List (ℕ × Runner)) (i : ℕ) (w v : Runner) → Some w ≡ slice_get (values_of es) i → stored_at (set_value_at es i v) i ≡ v.space
-stored_at-set [] i w v at = absurd (none-some w (sym at))
-stored_at-set (e ∷ es) zero w v at = refl
-stored_at-set (e ∷ es) (suc i) w v at = stored_at-set es i w v at
+stored_at-set es i w v at =
+    let t = entry_there es i w at in
+    rw (entries_set es i (t.0, w) v t.1) (grind (arith, common_steps, gets, t.1))
 
 pub stored_at-other : (es : List (ℕ × Runner)) (i j : ℕ) (v : Runner) → j ≢ i → stored_at (set_value_at es i v) j ≡ stored_at es j
 stored_at-other [] i j v other = refl
@@ -24,9 +22,7 @@ stored_at-other (e ∷ es) (suc i) zero v other = refl
 stored_at-other (e ∷ es) (suc i) (suc j) v other = stored_at-other es i j v (λ same. other (ap suc same))
 
 pub pieces_at-bare : (es : List (ℕ × Runner)) (i : ℕ) → pieces_at (runners_view es) i ≡ bare_all (stored_at es i)
-pieces_at-bare [] i = refl
-pieces_at-bare (e ∷ es) zero = refl
-pieces_at-bare (e ∷ es) (suc i) = pieces_at-bare es i
+pieces_at-bare es i = grind (arith, common_steps, slice_get-map)
 
 -- the pieces of a process are shown as they are stored
 pub pieces_at-stored : (es : List (ℕ × Runner)) (i : ℕ) (w : Runner) → Some w ≡ slice_get (values_of es) i → pieces_at (runners_view es) i ≡ bare_all w.space

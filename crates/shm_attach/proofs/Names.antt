@@ -2,11 +2,11 @@
 pub use Rattle.std.proofs.Common.{Bool, List, None, Option, Some, [], add-one, ap, append-nil, arith, cond, drop, drop-cons, eq-eqb, false, filter, get_or, if◌then◌else◌, inl, inr, length, length-set, length-take, map, nat_eq, nat_lt, ne_eqb, not, option_map, refl, set, slice_get, subst, suc, sym, take, true, zero, ℕ, ◌%◌, ◌&&◌, ◌*◌, ◌++◌, ◌+◌, ◌-◌, ◌/◌, ◌<◌, ◌==◌, ◌∙◌, ◌∷◌, ◌≡◌, ◌≢◌, ◌≤◌, ◌⊎◌}
 pub use Rattle.std.proofs.lemmas.Bool.{cases_Bool, cases_eq, cases_lt, eqb-false, eqb-true, lt-ltb, true≢false}
 pub use Rattle.std.proofs.lemmas.Grind.{common_steps}
-pub use Rattle.std.proofs.lemmas.List.{get_or-map, get_or-set_other, get_or-set_same, get_or-take, length-map, map-append, set-get_or, set-set, take_all, take_more}
+pub use Rattle.std.proofs.lemmas.List.{map-set, get_or-map, get_or-set_other, get_or-set_same, get_or-take, length-map, map-append, set-get_or, set-set, take_all, take_more}
 pub use Rattle.std.proofs.lemmas.List.Elements.{All-append, All-cons, All-filter, All-head, All-nil, All-tail, filter_passes}
 pub use Rattle.std.proofs.lemmas.List.Quantifiers.{position-Some}
 pub use Rattle.std.proofs.lemmas.List.Sums.{count_by-le-length, fails_before_first, length-filter, sum_by-append, sum_by-cons, sum_by-set}
-pub use Rattle.std.proofs.lemmas.Option.{get_or_from_slice_get, gets, none-some, slice_get-get_or, slice_get_cases, slice_get_within}
+pub use Rattle.std.proofs.lemmas.Option.{slice_get-map, get_or_from_slice_get, gets, none-some, slice_get-get_or, slice_get_cases, slice_get_within}
 pub use Rattle.std.proofs.lemmas.Result.{IfOk-weaker}
 pub use Rattle.std.proofs.lemmas.Simd.{map-map}
 pub use Rattle.std.specs.List.{flat_map, position_or_len}

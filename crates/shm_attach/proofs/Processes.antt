@@ -1,8 +1,6 @@
 -- One process's pieces change, and the counts with them.
 use Rattle.indexmap.specs.Layout.{length-set_value_at}
-use Rattle.std.proofs.lemmas.List.{map-set}
-use Rattle.std.proofs.lemmas.Option.{slice_get-map}
-use Rattle.shm_attach.proofs.Names.{set, slice_get_cases, ◌≡◌, ℕ, zero, suc, ◌+◌, ◌-◌, ◌<◌, ◌≤◌, Bool, true, ◌==◌, List, [], ◌∷◌, length, map, get_or, Option, Some, None, slice_get, filter, refl, ap, sym, arith, ◌++◌, cond, drop, drop-cons, add-one, common_steps, filter_passes, sum_by-cons, sum_by-set, sum_by-append, length-filter, count_by-le-length, none-some, slice_get-get_or, set_value_at, pieces_of, meets, parts, cut, cut_segments, inserted, without_named, attach_count, bare, bare_all, met, one_if, with_own, with_pieces_at, with_life_at, some_if, life_view, runners_view, pieces_at, Stored, Runner, Life}
+use Rattle.shm_attach.proofs.Names.{map-set, slice_get-map, set, slice_get_cases, ◌≡◌, ℕ, zero, suc, ◌+◌, ◌-◌, ◌<◌, ◌≤◌, Bool, true, ◌==◌, List, [], ◌∷◌, length, map, get_or, Option, Some, None, slice_get, filter, refl, ap, sym, arith, ◌++◌, cond, drop, drop-cons, add-one, common_steps, filter_passes, sum_by-cons, sum_by-set, sum_by-append, length-filter, count_by-le-length, none-some, slice_get-get_or, set_value_at, pieces_of, meets, parts, cut, cut_segments, inserted, without_named, attach_count, bare, bare_all, met, one_if, with_own, with_pieces_at, with_life_at, some_if, life_view, runners_view, pieces_at, Stored, Runner, Life}
 use Rattle.shm_base.specs.State as flat
 
 abbrev pub nobody : flat.Runner
@@ -40,7 +38,7 @@ entries_set [] i e v at = refl
 entries_set (x ∷ es) zero e v at = grind arith
 entries_set (x ∷ es) (suc i) e v at = ap (λ (xs : List (ℕ × Runner)). x ∷ xs) (entries_set es i e v at)
 
-entry_there : (es : List (ℕ × Runner)) (i : ℕ) (w : Runner) → Some w ≡ slice_get (values_of es) i → (k : ℕ) × (slice_get es i ≡ Some (k, w))
+pub entry_there : (es : List (ℕ × Runner)) (i : ℕ) (w : Runner) → Some w ≡ slice_get (values_of es) i → (k : ℕ) × (slice_get es i ≡ Some (k, w))
 entry_there es i w at = grind (arith, common_steps, slice_get-map, slice_get_cases)
 
 pub runners_set : (f : List flat.Piece → List flat.Piece) (es : List (ℕ × Runner)) (i : ℕ) (w v : Runner) → Some w ≡ slice_get (values_of es) i

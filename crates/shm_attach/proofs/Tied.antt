@@ -7,9 +7,6 @@ held-counted t p tied own = grind (arith, common_steps, key_of, cases_eq, counte
 
 -- A TABLE WITH OTHER FRAMES
 
-within : {X : Type 0} (xs : List (Option X)) (k : ℕ) (x : X) → get_or xs k None ≡ Some x → k < length xs
-within xs k x at = grind (arith, common_steps)
-
 pub update-value : (s : Slab Entry) (key : ℕ) (e v : Entry) → get s key ≡ Some e → Updates s (with_value s key v) key (Some v)
 update-value s key e v at = grind (arith, common_steps)
 

@@ -39,19 +39,21 @@ slots-of at (Some e ∷ os) all zero =
     λ j lt. let here : 0 + j ≡ j = omega arith in rw here at (frames-of at e.seg 0 e.frames (All-left (Holds at) (translations_from e.seg 0 e.frames) (flat_map translations_in os) all) j lt)
 slots-of at (o ∷ os) all (suc k) = slots-of at os (All-right (Holds at) (translations_in o) (flat_map translations_in os) all) k
 
-of-slots : (at : ℕ → ℕ → Option ℕ) (os : List (Option Entry)) → ((k : ℕ) → TrueSlot at (get_or os k None)) → All (Holds at) (flat_map translations_in os)
-of-slots at [] each = All-nil (Holds at)
-of-slots at (o ∷ os) each = All-append (Holds at) (translations_in o) (flat_map translations_in os) (first o (each 0)) (of-slots at os (λ k. each (suc k)))
-  where
-    first : (o : Option Entry) → TrueSlot at o → All (Holds at) (translations_in o)
-    first None tr = All-nil (Holds at)
-    first (Some e) tr = of-frames at e.seg 0 e.frames (λ j lt. let here : 0 + j ≡ j = omega arith in rw here (tr j lt))
+-- a fact of each entry's translations is one of all
+slots-all : (P : Translation → Type 0) (S : Option Entry → Type 0) → ((o : Option Entry) → S o → All P (translations_in o)) → (os : List (Option Entry))
+    → ((k : ℕ) → S (get_or os k None)) → All P (flat_map translations_in os)
+slots-all P S one [] each = All-nil P
+slots-all P S one (o ∷ os) each = All-append P (translations_in o) (flat_map translations_in os) (one o (each 0)) (slots-all P S one os (λ k. each (suc k)))
+
+of-slot : (at : ℕ → ℕ → Option ℕ) (o : Option Entry) → TrueSlot at o → All (Holds at) (translations_in o)
+of-slot at None tr = All-nil (Holds at)
+of-slot at (Some e) tr = of-frames at e.seg 0 e.frames (λ j lt. let here : 0 + j ≡ j = omega arith in rw here (tr j lt))
 
 pub all-true : (at : ℕ → ℕ → Option ℕ) (t : Slab Entry) → All (λ (x : Translation). x.frame ≡ at x.seg x.page) (translations_of t) → AllTrue at t
 all-true at t all = slots-of at t.slots all
 
 pub true-all : (at : ℕ → ℕ → Option ℕ) (t : Slab Entry) → AllTrue at t → All (λ (x : Translation). x.frame ≡ at x.seg x.page) (translations_of t)
-true-all at t all = of-slots at t.slots all
+true-all at t all = slots-all (Holds at) (TrueSlot at) (of-slot at) t.slots all
 
 -- translations stay true where each entry does
 pub keeps : (ts : List Translation) (t u : Slab Entry) → translations_of t ≡ ts → ((at : ℕ → ℕ → Option ℕ) → AllTrue at t → AllTrue at u)
@@ -71,16 +73,12 @@ abbrev pub SlotApart : ℕ → Option Entry → Type 0
 SlotApart seg None = ⊤
 SlotApart seg (Some e) = e.seg ≢ seg
 
-slots-apart : (seg : ℕ) (os : List (Option Entry)) → ((k : ℕ) → SlotApart seg (get_or os k None)) → All (Apart seg) (flat_map translations_in os)
-slots-apart seg [] each = All-nil (Apart seg)
-slots-apart seg (o ∷ os) each = All-append (Apart seg) (translations_in o) (flat_map translations_in os) (first o (each 0)) (slots-apart seg os (λ k. each (suc k)))
-  where
-    first : (o : Option Entry) → SlotApart seg o → All (Apart seg) (translations_in o)
-    first None tr = All-nil (Apart seg)
-    first (Some e) tr = frames-apart seg e.seg 0 e.frames tr
+slot-apart : (seg : ℕ) (o : Option Entry) → SlotApart seg o → All (Apart seg) (translations_in o)
+slot-apart seg None tr = All-nil (Apart seg)
+slot-apart seg (Some e) tr = frames-apart seg e.seg 0 e.frames tr
 
 pub apart-all : (seg : ℕ) (t : Slab Entry) → ((k : ℕ) → SlotApart seg (get t k)) → All (λ (x : Translation). x.seg ≢ seg) (translations_of t)
-apart-all seg t each = slots-apart seg t.slots each
+apart-all seg t each = slots-all (Apart seg) (SlotApart seg) (slot-apart seg) t.slots each
 
 pub unnamed : (seg : ℕ) (t : Tables) → IsTied t → counted t seg ≡ 0 → All (λ (x : Translation). x.seg ≢ seg) (translations_of t.slab)
 unnamed seg t tied none = apart-all seg t.slab (λ k. by k (get t.slab k) refl)
