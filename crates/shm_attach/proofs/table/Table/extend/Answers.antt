@@ -6,13 +6,4 @@ true-push : (at : ℕ → ℕ → Option ℕ) (seg count : ℕ) (fs : List (Opti
 true-push at seg count fs f true here = λ j lt. grind (arith, common_steps, true j)
 
 pub loop-page-preserved : goal.loop-page-preserved
-loop-page-preserved g c =
-    let i = c.loop-page.invariant in
-    let e = c.push_reserved.ensures in
-    record {
-      seg = i.seg;
-      count = i.count;
-      pages = omega (arith, e.len, i.pages);
-      room = omega (arith, e.capacity, i.room);
-      translated = λ was. rw e.items (true-push (frame_of c.args.store.now) c.loop-page.self-inside.seg c.loop-page.self-inside.count c.loop-page.self-inside.frames.items c.frame.result (i.translated was) (rw i.pages c.frame.ensures));
-    }
+loop-page-preserved g c = grind (arith, common_steps, true-push, frame_of, c.loop-page.invariant, c.push_reserved.ensures, c.args.store.now, c.loop-page.self-inside.seg, c.loop-page.self-inside.count, c.loop-page.self-inside.frames.items, c.frame.result, c.frame.ensures)
