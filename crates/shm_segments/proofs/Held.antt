@@ -1,7 +1,7 @@
 -- The pages of the segments that are held.
 use Rattle.shm_segments.proofs.Names.{◌≡◌, ◌≢◌, ℕ, ◌+◌, ◌*◌, ◌/◌, ◌≤◌, Bool, true, false, if◌then◌else◌, List, [], ◌∷◌, length, take, drop, map, Option, Some, None, refl, sym, ◌∙◌, arith, ne_eqb, true≢false, not, ◌==◌, none-some, common_steps, length-replicate, sum_by-cons, sum_by-append, sum_by, All, Span, AreHeldApart, Held, find_held, is_held, pages_in, pages_if_locked, with_zeros, without, with_lock, pasted, written, FitsPage, find_held-id, length-paste, apart-pasted, sum_by-filter_both, nat_tests, replicate}
 use Rattle.shm_plain.specs.Held.{pages_held, pages_locked, relocked}
-use Rattle.shm_segments.proofs.Bytes.{Each, each, each-pasted}
+use Rattle.shm_segments.proofs.Bytes.{each, written-keeps}
 
 -- ZEROS
 
@@ -66,13 +66,10 @@ pub record SameSums (hs gs : List Held) : Type 0 where
   pub pages : pages_held gs ≡ pages_held hs
   pub locks : pages_locked gs ≡ pages_locked hs
 
-each-sums : (ps : List Span) (hs : List Held) (new : List ℕ) → AreHeldApart hs → Each (FitsPage hs) ps → SameSums hs (written hs ps new)
-each-sums [] hs new apart fits = record { apart = apart; pages = refl; locks = refl }
-each-sums (p ∷ ps) hs new apart fits =
-    let few : length (take p.len new) ≤ p.len = grind (arith, common_steps) in
-    let one = pasted-sums hs p (take p.len new) apart fits.0 few in
-    let rest = each-sums ps (map (pasted p.seg p.at (take p.len new)) hs) (drop p.len new) (apart-pasted hs p.seg p.at (take p.len new) apart) (each-pasted ps hs p (take p.len new) few fits.0 fits.1) in
-    record { apart = rest.apart; pages = rest.pages ∙ one.0; locks = rest.locks ∙ one.1 }
-
 pub sums-written : (hs : List Held) (ps : List Span) (new : List ℕ) → AreHeldApart hs → All (FitsPage hs) ps → SameSums hs (written hs ps new)
-sums-written hs ps new apart fit = each-sums ps hs new apart (each (FitsPage hs) ps fit)
+sums-written hs ps new apart fit = written-keeps (SameSums hs) one ps hs new (record { apart = apart; pages = refl; locks = refl }) (each (FitsPage hs) ps fit)
+  where
+    one : (gs : List Held) (p : Span) (bs : List ℕ) → SameSums hs gs → FitsPage gs p → length bs ≤ p.len → SameSums hs (map (pasted p.seg p.at bs) gs)
+    one gs p bs same fits few =
+        let sums = pasted-sums gs p bs same.apart fits few in
+        record { apart = apart-pasted gs p.seg p.at bs same.apart; pages = sums.0 ∙ same.pages; locks = sums.1 ∙ same.locks }

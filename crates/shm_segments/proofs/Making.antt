@@ -1,10 +1,10 @@
 -- What is kept where a segment is made, destroyed, locked or written.
-use Rattle.shm_segments.proofs.Names.{◌≡◌, ◌≢◌, ◌⊎◌, ℕ, suc, pos, ℤ, ◌+◌, ◌-◌, ◌*◌, ◌/◌, ◌%◌, ◌<◌, ◌≤◌, ◌==◌, Bool, true, false, if◌then◌else◌, List, [], ◌∷◌, Option, Some, None, is_none, refl, sym, ap, ◌∙◌, inl, inr, arith, eq-eqb, ne_eqb, eqb-true, cases_eq, cases_Bool, none-some, pages_of, change, Row, entry_at, identifier, key_at, row_key, key_from, look, find_key, with_value, with_row, without_row, flat_row, flat_found, find_key-flat, free_index-flat, destroyed_at-flat, Held, find_held, is_held, pages_in, pages_if_locked, with_zeros, without, with_lock, apart-push, apart-without, apart-lock, Head, whole, joined, Agree, SizesFit, AreSegmentsKept, made, created, destroyed, nat_tests, common_steps, replicate, slice_set, Ok, is_some, option_map, Entry, free_index, id_at, live, relocked}
+use Rattle.shm_segments.proofs.Names.{locked_in_row, pages_in_row, ◌≡◌, ◌≢◌, ◌⊎◌, ℕ, suc, pos, ℤ, ◌+◌, ◌-◌, ◌*◌, ◌/◌, ◌%◌, ◌<◌, ◌≤◌, ◌==◌, Bool, true, false, if◌then◌else◌, List, [], ◌∷◌, Option, Some, None, is_none, refl, sym, ap, ◌∙◌, inl, inr, arith, eq-eqb, ne_eqb, eqb-true, cases_eq, cases_Bool, none-some, pages_of, change, Row, entry_at, identifier, key_at, row_key, key_from, look, find_key, with_value, with_row, without_row, flat_row, flat_found, find_key-flat, free_index-flat, destroyed_at-flat, Held, find_held, is_held, pages_in, pages_if_locked, with_zeros, without, with_lock, apart-push, apart-without, apart-lock, Head, whole, joined, Agree, SizesFit, AreSegmentsKept, made, created, destroyed, nat_tests, common_steps, replicate, slice_set, Ok, is_some, option_map, Entry, free_index, id_at, live, relocked}
 use Rattle.shm_base.specs.Identifier as flat
 use Rattle.shm_segments.proofs.Joins.{LiveAt, live-at, held-as}
 use Rattle.shm_segments.proofs.Edits.{look-live, other-value, agree-lock, joined-locked}
 use Rattle.shm_segments.proofs.Rows.{id_of, IsFree, index-free, free-new, joined-with_row, live-with_row_same, live-with_row_other, agree-with_row, joined-without, live-without, live-without_here, agree-without}
-use Rattle.shm_segments.proofs.Sums.{pages-with_row, pages-without_row, pages-with_other, locked-with_row, locked-without_row, locked-with_other, locked-within}
+use Rattle.shm_segments.proofs.Sums.{sum-with_row, sum-without_row, sum-other, pages-with_other, locked-with_row, locked-within}
 use Rattle.shm_segments.proofs.Keeping.{KeptAs, sizes-other}
 use Rattle.shm_segments.proofs.Held.{pages-zeros, locks-zeros, sum-without, pages-lock, locks-lock}
 
@@ -31,8 +31,8 @@ kept-without hs rows pages locks seg v k looked =
     let own : id_of rows i ≡ seg = at.own in
     let small : i < 32768 = omega arith in
     let sequence : (entry_at rows i).destroyed ≡ seg / 32768 = omega (arith, own) in
-    let fewer = pages-without_row rows i r at.within at.there in
-    let looser = locked-without_row rows i r at.within at.there in
+    let fewer = sum-without_row pages_in_row refl rows i r at.within at.there in
+    let looser = sum-without_row locked_in_row refl rows i r at.within at.there in
     let here = held-here hs rows seg r k.agree lives in
     record {
       kept =
@@ -54,7 +54,8 @@ kept-without hs rows pages locks seg v k looked =
 -- its pages are among those that are counted
 pub pages-within : (hs : List Held) (rows : List (Entry Head)) (pages locks seg : ℕ) (v : Head) → AreSegmentsKept hs rows pages locks → look rows (pos seg) ≡ Ok v
     → (pages_of v.size ≤ pages) × ((if v.locked then pages_of v.size else 0) ≤ locks)
-pages-within hs rows pages locks seg v k looked = grind (arith, common_steps, key_at, live, look-live, live-at, pages-without_row, locked-without_row)
+pages-within hs rows pages locks seg v k looked =
+    grind (arith, common_steps, look-live, live-at, sum-without_row pages_in_row refl, sum-without_row locked_in_row refl)
 
 -- LOCKED OR UNLOCKED
 
@@ -66,7 +67,7 @@ kept-locked hs rows pages locks seg v b k looked =
     let w : Head = record v { locked = b } in
     let lives : live rows seg ≡ Some r = look-live rows seg v looked in
     let range = k.sizes seg r lives in
-    let loose = locked-with_other rows seg r (record r { value = w }) lives in
+    let loose = sum-other locked_in_row refl rows seg r (record r { value = w }) lives in
     let within = locked-within rows seg r lives in
     let here = held-here hs rows seg r k.agree lives in
     let more : (b : Bool) → (if b then pages_in here.g else 0) ≡ (if b then pages_of v.size else 0) = λ b. ap (λ n. if b then n else 0) here.pages in
@@ -91,7 +92,7 @@ pub kept-made : (hs : List Held) (rows : List (Entry Head)) (pages locks i key :
     → KeptAs (with_zeros hs (id_of rows i) (pages_of v.size)) (with_row rows i key v) (pages + pages_of v.size) locks (created (joined hs rows) i key v)
 kept-made hs rows pages locks i key v k found loose range =
     let free = index-free rows i k.agree.few found in
-    let more = pages-with_row rows i key v free in
+    let more = sum-with_row pages_in_row refl rows i key v free in
     record {
       kept =
           record {

@@ -2,7 +2,7 @@
 use Rattle.shm_segments.proofs.Names.{◌≡◌, ℕ, zero, suc, ◌+◌, ◌%◌, ◌≤◌, Bool, true, false, List, [], ◌∷◌, ◌++◌, length, set, take, drop, map, Option, Some, None, refl, sym, ap, ◌∙◌, arith, nat_tests, common_steps, set-get_or, w64, from_le_bytes, sum_by, All, Place, set_in, with_byte, entry_byte_set, stored, loaded, bytes_at, Span, identifier, unused, entry_at, flat_entry, at-table, run, span_places, Held, find_held, bytes_of, pasted, written, FitsPage, read_from, find_held-id, find-map, length-paste, pasted-keeps, Head, segment_of, whole, joined, shape_held, Agree, is_some, option_map, slice_index, slice_set, Entry, live}
 use Rattle.shm_fault.specs.Adding as store
 use Rattle.shm_segments.specs.Table as table
-use Rattle.shm_segments.proofs.Bytes.{put, puts, get, bytes_of-put_same, bytes_of-put_other, Each, each, each-pasted, len_of, written-same, get-spans}
+use Rattle.shm_segments.proofs.Bytes.{put, puts, get, bytes_of-put_same, bytes_of-put_other, Each, each, written-keeps, len_of, written-same, get-spans}
 use Rattle.shm_segments.proofs.Joins.{live-at, joined-same, set-joined, same-held}
 
 -- A LIVE SEGMENT'S BYTES
@@ -88,14 +88,7 @@ paste-shape p new g fits = grind (arith, nat_tests, length-paste g.bytes p.at ne
 pub agree-pasted : (hs : List Held) (rows : List (Entry Head)) (p : Span) (new : List ℕ) → Agree hs rows → FitsPage hs p → length new ≤ p.len → Agree (map (pasted p.seg p.at new) hs) rows
 agree-pasted hs rows p new agree fit few = grind (arith, common_steps, option_map, shape_held, find-map, pasted, pasted-keeps, find_held, find_held-id, paste-shape)
 
-each-agree : (ps : List Span) (hs : List Held) (rows : List (Entry Head)) (new : List ℕ) → Agree hs rows → Each (FitsPage hs) ps → Agree (written hs ps new) rows
-each-agree [] hs rows new agree fits = agree
-each-agree (p ∷ ps) hs rows new agree fits =
-    let few : length (take p.len new) ≤ p.len = grind (arith, common_steps) in
-    each-agree ps (map (pasted p.seg p.at (take p.len new)) hs) rows (drop p.len new)
-    (agree-pasted hs rows p (take p.len new) agree fits.0 few)
-    (each-pasted ps hs p (take p.len new) few fits.0 fits.1)
-
 -- rows and what is held still agree
 pub agree-written : (hs : List Held) (rows : List (Entry Head)) (ps : List Span) (new : List ℕ) → Agree hs rows → All (FitsPage hs) ps → Agree (written hs ps new) rows
-agree-written hs rows ps new agree fit = each-agree ps hs rows new agree (each (FitsPage hs) ps fit)
+agree-written hs rows ps new agree fit =
+    written-keeps (λ gs. Agree gs rows) (λ gs p bs here fits few. agree-pasted gs rows p bs here fits few) ps hs new agree (each (FitsPage hs) ps fit)

@@ -48,25 +48,19 @@ segment_count-joined hs rows = segment_count-flat (whole hs) 0 rows
 
 -- any sum over rows
 module _ (f : Option (Row Head) → ℕ) (nothing : f None ≡ 0) where
-  abbrev sum_of : List (Entry Head) → ℕ
+  abbrev pub sum_of : List (Entry Head) → ℕ
   sum_of rows = sum_by (λ (e : Entry Head). f e.row) rows
 
-  sum-with_row : (rows : List (Entry Head)) (i key : ℕ) (v : Head) → IsFree rows i → sum_of (with_row rows i key v) ≡ sum_of rows + f (Some (record { key = key; value = v }))
+  pub sum-with_row : (rows : List (Entry Head)) (i key : ℕ) (v : Head) → IsFree rows i → sum_of (with_row rows i key v) ≡ sum_of rows + f (Some (record { key = key; value = v }))
   sum-with_row rows i key v free = grind (arith, common_steps, sum_of, with_row-end, sum_by_push, free.within, sum_by-set, free.none, with_row-within)
 
-  sum-without_row : (rows : List (Entry Head)) (i : ℕ) (r : Row Head) → i < length rows → (entry_at rows i).row ≡ Some r → sum_of (without_row rows i) + f (Some r) ≡ sum_of rows
+  pub sum-without_row : (rows : List (Entry Head)) (i : ℕ) (r : Row Head) → i < length rows → (entry_at rows i).row ≡ Some r → sum_of (without_row rows i) + f (Some r) ≡ sum_of rows
   sum-without_row rows i r within there = grind (arith, common_steps, sum_by-set)
 
-  sum-other : (rows : List (Entry Head)) (id : ℕ) (r s : Row Head) → live rows id ≡ Some r → sum_of (with_other rows id s) + f (Some r) ≡ sum_of rows + f (Some s)
+  pub sum-other : (rows : List (Entry Head)) (id : ℕ) (r s : Row Head) → live rows id ≡ Some r → sum_of (with_other rows id s) + f (Some r) ≡ sum_of rows + f (Some s)
   sum-other rows id r s there = grind (arith, common_steps, live-at, sum_by-set)
 
 -- PAGES
-
-pub pages-with_row : (rows : List (Entry Head)) (i key : ℕ) (v : Head) → IsFree rows i → pages_of_rows (with_row rows i key v) ≡ pages_of_rows rows + pages_of v.size
-pages-with_row rows i key v free = sum-with_row pages_in_row refl rows i key v free
-
-pub pages-without_row : (rows : List (Entry Head)) (i : ℕ) (r : Row Head) → i < length rows → (entry_at rows i).row ≡ Some r → pages_of_rows (without_row rows i) + pages_of r.value.size ≡ pages_of_rows rows
-pages-without_row rows i r within there = sum-without_row pages_in_row refl rows i r within there
 
 pub pages-with_other : (rows : List (Entry Head)) (id : ℕ) (r s : Row Head) → live rows id ≡ Some r → s.value.size ≡ r.value.size → pages_of_rows (with_other rows id s) ≡ pages_of_rows rows
 pages-with_other rows id r s there size = grind (arith, common_steps, sum-other)
@@ -76,15 +70,9 @@ pages-with_other rows id r s there size = grind (arith, common_steps, sum-other)
 pub locked-with_row : (rows : List (Entry Head)) (i key : ℕ) (v : Head) → IsFree rows i → v.locked ≡ false → locked_of_rows (with_row rows i key v) ≡ locked_of_rows rows
 locked-with_row rows i key v free lock = grind (arith, common_steps, sum-with_row)
 
-pub locked-without_row : (rows : List (Entry Head)) (i : ℕ) (r : Row Head) → i < length rows → (entry_at rows i).row ≡ Some r → locked_of_rows (without_row rows i) + locked_in_row (Some r) ≡ locked_of_rows rows
-locked-without_row rows i r within there = sum-without_row locked_in_row refl rows i r within there
-
-pub locked-with_other : (rows : List (Entry Head)) (id : ℕ) (r s : Row Head) → live rows id ≡ Some r → locked_of_rows (with_other rows id s) + locked_in_row (Some r) ≡ locked_of_rows rows + locked_in_row (Some s)
-locked-with_other rows id r s there = sum-other locked_in_row refl rows id r s there
-
 -- the same where size and lock stay
 pub locked-other_same : (rows : List (Entry Head)) (id : ℕ) (r s : Row Head) → live rows id ≡ Some r → s.value.size ≡ r.value.size → s.value.locked ≡ r.value.locked → locked_of_rows (with_other rows id s) ≡ locked_of_rows rows
-locked-other_same rows id r s there size lock = grind (arith, common_steps, locked-with_other)
+locked-other_same rows id r s there size lock = grind (arith, common_steps, sum-other locked_in_row refl)
 
 -- a locked segment's pages are among those of all locked ones, and these among all
 pub locked-within : (rows : List (Entry Head)) (id : ℕ) (r : Row Head) → live rows id ≡ Some r → locked_in_row (Some r) ≤ locked_of_rows rows
