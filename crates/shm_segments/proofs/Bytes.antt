@@ -109,10 +109,7 @@ each-pasted (q ∷ qs) hs p new le fit h = (fits-pasted hs p q new le fit h.0, e
 pub written-keeps : (P : List Held → Type 0) → ((hs : List Held) (p : Span) (new : List ℕ) → P hs → FitsPage hs p → length new ≤ p.len → P (map (pasted p.seg p.at new) hs))
     → (ps : List Span) (hs : List Held) (new : List ℕ) → P hs → Each (FitsPage hs) ps → P (written hs ps new)
 written-keeps P step [] hs new here fits = here
-written-keeps P step (p ∷ ps) hs new here fits =
-    let few : length (take p.len new) ≤ p.len = grind (arith, common_steps) in
-    written-keeps P step ps (map (pasted p.seg p.at (take p.len new)) hs) (drop p.len new) (step hs p (take p.len new) here fits.0 few)
-    (each-pasted ps hs p (take p.len new) few fits.0 fits.1)
+written-keeps P step (p ∷ ps) hs new here fits = grind (arith, common_steps, nat_tests, take, map, pasted, drop, each-pasted, written-keeps P step ps)
 
 -- the bytes replaced place by place are those replaced stretch by stretch
 pub written-same : (ps : List Span) (w : Bool) (hs : List Held) (new : List ℕ) → Each (FitsPage hs) ps → sum_by len_of ps ≡ length new → SameBytes (puts hs (span_places w ps) new) (written hs ps new)
