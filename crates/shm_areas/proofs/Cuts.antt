@@ -1,5 +1,5 @@
 -- The pieces that a range meets stand side by side. Taking it out leaves a part of the first of them below, and one of the last above.
-use Rattle.shm_areas.proofs.Names.{◌≡◌, ◌⊎◌, inl, inr, ℕ, zero, suc, ◌+◌, ◌-◌, ◌<◌, ◌≤◌, true, false, nat_lt, List, [], ◌∷◌, ◌++◌, length, get_or, take, drop, refl, ap, ◌∙◌, arith, ◌≢◌, append_assoc, append-nil, length-append, length-take, length-drop, common_steps, splice, lt-ltb, le-ltb, cases_lt, cases_eq, and_right, get_or_default, end_of, meets, occupied, Piece, bare, bare_all, Arranged, kept_below, kept_above, kept_cut, met, IsRun}
+use Rattle.shm_areas.proofs.Names.{nat_tests, sym, ◌≡◌, ◌⊎◌, inl, inr, ℕ, zero, suc, ◌+◌, ◌-◌, ◌<◌, ◌≤◌, true, false, nat_lt, List, [], ◌∷◌, ◌++◌, length, get_or, take, drop, refl, ap, ◌∙◌, arith, ◌≢◌, append_assoc, append-nil, length-append, length-take, length-drop, common_steps, splice, lt-ltb, le-ltb, cases_lt, cases_eq, and_right, get_or_default, end_of, meets, occupied, Piece, bare, bare_all, Arranged, kept_below, kept_above, kept_cut, met, IsRun}
 use Rattle.std.specs.Prelude.{slice_range}
 use Rattle.shm_areas.proofs.Placing.{low_bound}
 
@@ -48,20 +48,14 @@ slice-met from to (p ∷ ps) (suc first) (suc last) r =
     let shifted : suc last - suc first ≡ last - first = omega arith in
     rw (shifted, is_below from to p (r.before 0 p (omega arith))) (slice-met from to ps first last (rest_run r (omega arith) (omega arith)))
 
+occupied-met : (from to : ℕ) (ps : List Piece) → occupied (bare_all ps) from to ≡ nat_lt 0 (length (met from to ps))
+occupied-met from to [] = refl
+occupied-met from to (p ∷ ps) = grind (arith, common_steps, occupied-met from to ps)
+
 pub occupied-run : (from to : ℕ) (ps : List Piece) (first last : ℕ) → IsRun from to ps first last → nat_lt first last ≡ occupied (bare_all ps) from to
-occupied-run from to [] zero zero r = refl
-occupied-run from to [] first (suc last) r = absurd (omega (arith, r.bound))
-occupied-run from to ps (suc first) zero r = absurd (omega (arith, r.order))
-occupied-run from to (p ∷ ps) zero zero r =
-    rw (is_above from to p (r.above 0 p (omega arith) (omega arith))) (occupied-run from to ps zero zero (rest_run r (omega arith) (omega arith)))
-occupied-run from to (p ∷ ps) zero (suc last) r =
-    rw (meets_it from to p (r.below 0 p (omega arith)) (r.after 0 p (omega arith) (omega arith))) (lt-ltb 0 (suc last) (omega arith))
-occupied-run from to (p ∷ ps) (suc first) (suc last) r =
-    rw (is_below from to p (r.before 0 p (omega arith))) (shift (cases_lt first last) ∙ occupied-run from to ps first last (rest_run r (omega arith) (omega arith)))
-  where
-    shift : (first < last) ⊎ (last ≤ first) → nat_lt (suc first) (suc last) ≡ nat_lt first last
-    shift (inl l) = rw (lt-ltb first last l) (lt-ltb (suc first) (suc last) (omega arith))
-    shift (inr g) = rw (le-ltb first last g) (le-ltb (suc first) (suc last) (omega arith))
+occupied-run from to ps first last r =
+    let long : length (met from to ps) ≡ last - first = ap length (sym (slice-met from to ps first last r)) ∙ simp (length-take, length-drop) (omega (arith, r.bound)) in
+    rw (occupied-met from to ps, long) (grind (arith, nat_tests))
 
 -- WHAT IS LEFT
 

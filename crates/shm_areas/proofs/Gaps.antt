@@ -1,5 +1,5 @@
 -- Walking up the pieces finds the least gap, which is the definition's.
-use Rattle.shm_areas.proofs.Names.{◌≡◌, ℕ, ◌+◌, ◌*◌, ◌%◌, ◌<◌, ◌≤◌, ◌⊎◌, inl, inr, Bool, true, false, List, [], ◌∷◌, length, get_or, map, find, max, MatchOption, refl, ◌∙◌, arith, drop, drop-cons, add-one, common_steps, le-leb, lt-leb, cases_lt, false_from_ne_true, and_right, both_ways, end_of, lowest_address, first_chosen, last_address, occupied, is_gap, choose, Stored, bare, bare_all, Arranged, gap_from, IsLeastGap, HasNoGap}
+use Rattle.shm_areas.proofs.Names.{Option, ◌≡◌, ℕ, ◌+◌, ◌*◌, ◌%◌, ◌<◌, ◌≤◌, ◌⊎◌, inl, inr, Bool, true, false, List, [], ◌∷◌, length, get_or, map, find, max, MatchOption, refl, ◌∙◌, arith, drop, drop-cons, add-one, common_steps, le-leb, lt-leb, cases_lt, false_from_ne_true, and_right, both_ways, end_of, lowest_address, first_chosen, last_address, occupied, is_gap, choose, Stored, bare, bare_all, Arranged, gap_from, IsLeastGap, HasNoGap}
 use Rattle.shm_base.specs.State.{Piece}
 
 pub free_below : (low from to : ℕ) (ps : List Piece) → Arranged low ps → to ≤ low → occupied ps from to ≡ false
@@ -64,46 +64,40 @@ past_or_low all pages c e h le (inr ge) = inl (omega (arith, le, ge))
 pub fits_here : (all ps : List Piece) (p : Piece) (pages c low : ℕ) → Walk all pages c low (p ∷ ps) → c + 4096 * pages ≤ p.base → is_gap all pages c ≡ true
 fits_here all ps p pages c low w fits = grind (arith, common_steps, gap_here, free_below)
 
-pub find_walk : (all ps : List Piece) (pages c low : ℕ) → Walk all pages c low ps → gap_from pages c ps ≡ find (is_gap all pages) (c ∷ map end_of ps)
-find_walk all [] pages c low w = grind (arith, common_steps, too_high, lt-leb, gap_here, le-leb)
-find_walk all (p ∷ ps) pages c low w =
-    elim (cases_lt p.base (c + 4096 * pages)) [
-      | inl below ↦ elim (cases_lt c (end_of p)) [
-        | inl over ↦
-            let more : max c (end_of p) ≡ end_of p = omega (arith, over) in
-            rw (lt-leb (c + 4096 * pages) p.base below, more, met all ps p pages c (w.left c (c + 4096 * pages) (omega arith)) below over)
-            (find_walk all ps pages (end_of p) (end_of p) (walk_over all ps p pages c low w below over))
-        | inr past ↦
-            let same : max c (end_of p) ≡ c = omega (arith, past) in
-            let on = walk_past all ps p pages c low w past in
-            let base : low ≤ p.base = w.arranged.0 in
-            let some : 1 ≤ p.pages = w.arranged.1.0.some in
-            let start : c ≡ first_chosen = still_first c low (end_of p) w.order (omega (arith, base, some)) past in
-            rw (lt-leb (c + 4096 * pages) p.base below, same)
-            (find_walk all ps pages c (end_of p) on
-            ∙ find_past (is_gap all pages) c (end_of p) (map end_of ps) (past_or_low all pages c (end_of p) start past (cases_lt (end_of p) c)))
-      ]
-      | inr fits ↦ rw (le-leb (c + 4096 * pages) p.base fits, fits_here all ps p pages c low w fits) refl
-    ]
-
 pub none_left : (all : List Piece) (pages c : ℕ) → ((b : ℕ) → is_gap all pages b ≡ true → c ≤ b) → last_address < c + 4096 * pages → HasNoGap all pages
 none_left all pages c least high b = grind (arith, common_steps, false_from_ne_true, too_high)
 
-pub law_walk : (all ps : List Piece) (pages c low : ℕ) → Walk all pages c low ps → MatchOption (gap_from pages c ps) (HasNoGap all pages) (λ base. IsLeastGap all pages base)
-law_walk all [] pages c low w = grind (arith, common_steps, lt-leb, none_left, le-leb, gap_here)
-law_walk all (p ∷ ps) pages c low w =
+-- the walk finds what the definition does, and that is the least gap
+pub record IsWalked (all ps : List Piece) (pages c : ℕ) (found : Option ℕ) : Type 0 where
+  pub same : found ≡ find (is_gap all pages) (c ∷ map end_of ps)
+  pub law : MatchOption found (HasNoGap all pages) (λ base. IsLeastGap all pages base)
+
+pub walked : (all ps : List Piece) (pages c low : ℕ) → Walk all pages c low ps → IsWalked all ps pages c (gap_from pages c ps)
+walked all [] pages c low w = record {
+  same = grind (arith, common_steps, too_high, lt-leb, gap_here, le-leb);
+  law = grind (arith, common_steps, lt-leb, none_left, le-leb, gap_here);
+}
+walked all (p ∷ ps) pages c low w =
     elim (cases_lt p.base (c + 4096 * pages)) [
       | inl below ↦ elim (cases_lt c (end_of p)) [
         | inl over ↦
             let more : max c (end_of p) ≡ end_of p = omega (arith, over) in
-            rw (lt-leb (c + 4096 * pages) p.base below, more) (law_walk all ps pages (end_of p) (end_of p) (walk_over all ps p pages c low w below over))
+            let none = met all ps p pages c (w.left c (c + 4096 * pages) (omega arith)) below over in
+            let rest = walked all ps pages (end_of p) (end_of p) (walk_over all ps p pages c low w below over) in
+            rw (lt-leb (c + 4096 * pages) p.base below, more) (record { same = rw none rest.same; law = rest.law })
         | inr past ↦
             let same : max c (end_of p) ≡ c = omega (arith, past) in
-            rw (lt-leb (c + 4096 * pages) p.base below, same) (law_walk all ps pages c (end_of p) (walk_past all ps p pages c low w past))
+            let rest = walked all ps pages c (end_of p) (walk_past all ps p pages c low w past) in
+            let base : low ≤ p.base = w.arranged.0 in
+            let some : 1 ≤ p.pages = w.arranged.1.0.some in
+            let start : c ≡ first_chosen = still_first c low (end_of p) w.order (omega (arith, base, some)) past in
+            let next = past_or_low all pages c (end_of p) start past (cases_lt (end_of p) c) in
+            rw (lt-leb (c + 4096 * pages) p.base below, same)
+            (record { same = rest.same ∙ find_past (is_gap all pages) c (end_of p) (map end_of ps) next; law = rest.law })
       ]
       | inr fits ↦
-          rw (le-leb (c + 4096 * pages) p.base fits)
-          (record { gap = fits_here all ps p pages c low w fits; aligned = w.aligned; least = w.least })
+          let here = fits_here all ps p pages c low w fits in
+          rw (le-leb (c + 4096 * pages) p.base fits) (record { same = rw here refl; law = record { gap = here; aligned = w.aligned; least = w.least } })
     ]
 
 pub low_gap : (all : List Piece) (pages b : ℕ) → is_gap all pages b ≡ true → (b < first_chosen) ⊎ (first_chosen ≤ b) → first_chosen ≤ b
@@ -114,10 +108,10 @@ pub start : (ps : List Piece) (pages : ℕ) → Arranged lowest_address ps → W
 start ps pages ar = grind (arith, common_steps, low_gap)
 
 pub choose_is : (ps : List Piece) (pages : ℕ) → Arranged lowest_address ps → gap_from pages first_chosen ps ≡ choose ps pages
-choose_is ps pages ar = find_walk ps ps pages first_chosen lowest_address (start ps pages ar)
+choose_is ps pages ar = (walked ps ps pages first_chosen lowest_address (start ps pages ar)).same
 
 pub gap_is_least : (ps : List Piece) (pages : ℕ) → Arranged lowest_address ps → MatchOption (gap_from pages first_chosen ps) (HasNoGap ps pages) (λ base. IsLeastGap ps pages base)
-gap_is_least ps pages ar = law_walk ps ps pages first_chosen lowest_address (start ps pages ar)
+gap_is_least ps pages ar = (walked ps ps pages first_chosen lowest_address (start ps pages ar)).law
 
 pub gap_step : (ps : List Stored) (i pages base : ℕ) (d : Stored) → i < length ps → (get_or ps i d).base < base + 4096 * pages
     → gap_from pages base (bare_all (drop i ps)) ≡ gap_from pages (max base (end_of (bare (get_or ps i d)))) (bare_all (drop (i + 1) ps))

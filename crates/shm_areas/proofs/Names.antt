@@ -1,6 +1,7 @@
 -- The names that the proofs cite, from below and from the words of this crate.
 pub use Rattle.std.proofs.Common.{◌≡◌, ◌⊎◌, inl, inr, ℕ, zero, suc, ◌+◌, ◌-◌, ◌<◌, ◌≤◌, true, false, nat_lt, List, [], ◌∷◌, ◌++◌, length, get_or, take, drop, refl, ap, ◌∙◌, arith, ◌≢◌, append_assoc, append-nil, length-append, length-take, length-drop, ◌*◌, ◌/◌, ◌%◌, Bool, filter, insert, map, find, max, MatchOption, drop-cons, add-one, sym, cond, Some, option_map, ne_eqb, nat_le, if◌then◌else◌, Option, None, IfSome, leb, leb-true, rules, tests, not}
 pub use Rattle.std.proofs.lemmas.Grind.{common_steps}
+pub use Rattle.std.proofs.lemmas.Bool.Decides.{nat_tests}
 pub use Rattle.std.specs.List.{splice}
 pub use Rattle.std.proofs.lemmas.Bool.{lt-ltb, le-ltb, cases_lt, cases_eq, and_right, cases_Bool, or_parts, both_ways, le-leb, lt-leb, false_from_ne_true, leb-false}
 pub use Rattle.std.proofs.lemmas.List.{get_or_default, take-append-drop, length-map, take_all}
