@@ -33,8 +33,7 @@ module _ {T : Type 0} where
   free_found n j (e ∷ es) h = by (cases_Bool (is_free e)) (free_found (n + 1) j es)
     where
       by : (is_free e ≡ true) ⊎ (is_free e ≡ false) → (free_from (n + 1) es ≡ Some j → FreeAt (n + 1) j es) → FreeAt n j (e ∷ es)
-      by (inl y) more =
-          record { place = 0; at = grind arith; within = omega arith; free = y; small = λ (z : 0 ≡ suc (length es)). absurd (omega arith); used = λ i l. absurd (omega arith) }
+      by (inl y) more = grind (arith, common_steps)
       by (inr busy) more =
           let rest = more (rw busy at h) in
           record {

@@ -33,9 +33,7 @@ module _ {T : Type 0} where
       by : (key ≡ 0) ⊎ (key ≢ 0) → (r : Option ℕ) → get nat_eq keys key ≡ r → find_key t key ≡ get nat_eq keys key
       by (inl z) None e = grind (arith, common_steps)
       by (inl z) (Some i) e = absurd ((keyed.found key i e).1 z)
-      by (inr n) None e =
-          let none = key_from-none 0 key t n (λ j same. let live = keyed.live j (λ z. n (sym same ∙ z)) in absurd (search (rules, live, same, e))) in
-          grind (arith, common_steps)
+      by (inr n) None e = grind (arith, common_steps, key_from-none)
       by (inr n) (Some i) e =
           let there = keyed.found key i e in
           let alone : (j : ℕ) → key_at t j ≡ key → j ≡ i = λ j same. let live = keyed.live j (λ z. n (sym same ∙ z)) in search (rules, live, same, e) in
