@@ -15,9 +15,7 @@ module _ {T : Type 0} where
       let step : drop n t ≡ entry_at t n ∷ drop (n + 1) t = drop_more t n unused (omega arith) in
       let busy = used n (omega arith) in
       let one : n + 1 ≡ suc n = omega arith in
-      skip t n (λ i l. used i (omega arith)) ∙ ap (free_from n) step
-      ∙ ap (λ b. if b then Some n else free_from (n + 1) (drop (n + 1) t)) busy
-      ∙ ap (λ m. free_from m (drop m t)) one
+      grind (arith, common_steps, free_from, drop, skip t n)
 
   -- what a search from n on finds in a list
   pub record FreeAt (n j : ℕ) (t : List (Entry T)) : Type 0 where

@@ -31,13 +31,7 @@ module _ {T : Type 0} where
       let f = free_found 0 i t (skip t first s.used ∙ h) in
       let at : f.place ≡ i = omega (arith, f.at) in
       let free : is_free (entry_at t i) ≡ true = subst (λ p. is_free (entry_at t p) ≡ true) at f.free in
-      record {
-        within = omega (arith, f.within, at);
-        small = grind (arith, f.small, f.within, at, s.fits.indexes);
-        row = free_row _ free;
-        wear = free_wear _ free;
-        used = subst (λ p. UsedBelow p t) at f.used;
-      }
+      grind (arith, common_steps, free_row, free_wear)
 
   pub Sound-put : {S : Type 0} (t : List (Entry T)) (first i key : ℕ) (v : T) (keys after : IndexMap ℕ ℕ S)
       → Sound t first keys → Fresh t i → find_key t key ≡ None
