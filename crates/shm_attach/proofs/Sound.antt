@@ -3,7 +3,7 @@ use Rattle.shm_attach.proofs.Names.{◌≡◌, ◌≢◌, ℕ, ◌+◌, ◌<◌,
 use Rattle.shm_base.specs.State as flat
 use Rattle.shm_attach.proofs.Processes.{values_of, runners_set, length_set, length-inserted, shorter_filter}
 use Rattle.shm_attach.proofs.Keeping.{IsExact-changed, IsExact-life, arranged-without, small_counts, own_counted}
-use Rattle.shm_attach.proofs.Held.{stored_at-set, stored_at-other, held-changed, held-all}
+use Rattle.shm_attach.proofs.Held.{stored_at-value, pieces_at-stored, stored_at-set, stored_at-other, held-changed, held-all}
 
 -- ONE PROCESS
 
@@ -45,15 +45,18 @@ pub fit-without : (extra : ℕ → ℕ) (es : List (ℕ × Runner)) (t : Tables)
     → AreFit (runners_view es) i (without_named addr seg (pieces_at (runners_view es) i))
 fit-without extra es t i addr seg sound = grind (arith, common_steps, shorter_filter, arranged-without)
 
-pub sound-changed : (extra : ℕ → ℕ) (es fs : List (ℕ × Runner)) (t u : Tables) (i : ℕ) (f : List flat.Piece → List flat.Piece) (own : List Piece) → i < length es
-    → AreTablesSound extra es t → IsChanged es fs i f own → AreFit (runners_view es) i (f (pieces_at (runners_view es) i)) → All (IsHeld t.slab) own
-    → IsRecounted t u (pieces_at (runners_view es) i) (f (pieces_at (runners_view es) i)) → AreTablesSound extra fs u
-sound-changed extra es fs t u i f own lt sound ch fit table re =
+pub sound-changed : (extra : ℕ → ℕ) (es : List (ℕ × Runner)) (t u : Tables) (i : ℕ) (w v : Runner) (f : List flat.Piece → List flat.Piece) → i < length es
+    → Some w ≡ slice_get (values_of es) i → v.life ≡ w.life → bare_all v.space ≡ f (bare_all w.space) → AreTablesSound extra es t
+    → AreFit (runners_view es) i (f (pieces_at (runners_view es) i)) → (All (IsHeld t.slab) w.space → All (IsHeld t.slab) v.space)
+    → IsRecounted t u (bare_all w.space) (f (bare_all w.space)) → AreTablesSound extra (set_value_at es i v) u
+sound-changed extra es t u i w v f lt at life space sound fit table re =
     let rs = runners_view es in
+    let fs = set_value_at es i v in
+    let ch = changed es i w v f at life space in
     let within : i < length rs = omega (arith, lt, length-map es runner_view) in
     let exact : AreCountsExact extra (runners_view fs) u =
-    rw ch.runners (IsExact-changed extra rs i f t u sound.exact within fit.few fit.order fit.unborn re.counts) in
-    let here : All (IsHeld t.slab) (stored_at fs i) = rw ch.own table in
+    rw ch.runners (IsExact-changed extra rs i f t u sound.exact within fit.few fit.order fit.unborn (rw (pieces_at-stored es i w at) re.counts)) in
+    let here : All (IsHeld t.slab) (stored_at fs i) = rw ch.own (table (rw (stored_at-value es i w at) at (sound.held i))) in
     let left : AllHeld fs t.slab = held-changed es fs t.slab i sound.held here ch.others in
     record { exact = exact; tied = re.tied; held = held-all extra fs t.slab u exact left re.held }
 

@@ -71,12 +71,10 @@ returns-in-Range c =
       runners = rw c.in-Range.is ch.runners;
       count = ch.count;
       sound = λ extra s.
-          let before : All (IsHeld t.slab) w.space = rw (own b.In-Some) at (s.held i) in
-          let held : All (IsHeld t.slab) c.cut.new.self = rw c.cut.ensures.kept (held-cut t.slab from to w.space before) in
           let counts = λ (id : ℕ). cut_counts from to (counted t id) (counted c.recount.new.tables id) id c.met.result.now w.space same (c.recount.ensures.counts id) in
-          sound-changed extra es (set_value_at es i v) t c.recount.new.tables i (cut from to) c.cut.new.self c.requires.there s ch
-          (fit-cut extra es t i from to s (can b.In-Range)) held
-          (rw (shown b.In-Some) (record { counts = counts; held = c.recount.ensures.held; tied = c.recount.ensures.tied }));
+          sound-changed extra es t c.recount.new.tables i w v (cut from to) c.requires.there (stands b.In-Some) refl c.cut.ensures.flat s
+          (fit-cut extra es t i from to s (can b.In-Range)) (λ all. rw c.cut.ensures.kept (held-cut t.slab from to w.space all))
+          (record { counts = counts; held = c.recount.ensures.held; tied = c.recount.ensures.tied });
       held = c.recount.ensures.held;
       translated = c.recount.ensures.translated;
     }
@@ -121,21 +119,18 @@ returns-in-Attach c =
     let v : Runner = record { life = w.life; space = c.take_at.new.self } in
     let b = goal.at.returns-in-Attach c in
     let ch = changed es i w v f (stands b.In-Some) refl c.take_at.ensures.flat in
-    let test = λ (p : Piece). not (kept_named c.in-Attach.addr c.in-Attach.seg p) in
     record {
       runners = rw c.in-Attach.is ch.runners;
       count = ch.count;
       sound = λ extra s.
-          let before : All (IsHeld t.slab) w.space = rw (own b.In-Some) at (s.held i) in
-          let held : All (IsHeld t.slab) c.take_at.new.self = rw c.take_at.ensures.kept (held-filter t.slab test w.space before) in
-          sound-changed extra es (set_value_at es i v) t c.leave.new.self i f c.take_at.new.self c.requires.there s ch
-          (fit-without extra es t i c.in-Attach.addr c.in-Attach.seg s) held
-          (rw (shown b.In-Some)
+          sound-changed extra es t c.leave.new.self i w v f c.requires.there (stands b.In-Some) refl c.take_at.ensures.flat s
+          (fit-without extra es t i c.in-Attach.addr c.in-Attach.seg s)
+          (λ all. rw c.take_at.ensures.kept (held-filter t.slab (λ (p : Piece). not (kept_named c.in-Attach.addr c.in-Attach.seg p)) w.space all))
           (record {
             counts = λ id. omega (arith, named b.After-pieces id, c.leave.ensures.counts id);
             held = c.leave.ensures.held;
             tied = c.leave.ensures.tied;
-          }));
+          });
       held = c.leave.ensures.held;
       translated = c.leave.ensures.translated;
     }
