@@ -109,7 +109,7 @@ each-pasted (q ∷ qs) hs p new le fit h = (fits-pasted hs p q new le fit h.0, e
 pub written-keeps : (P : List Held → Type 0) → ((hs : List Held) (p : Span) (new : List ℕ) → P hs → FitsPage hs p → length new ≤ p.len → P (map (pasted p.seg p.at new) hs))
     → (ps : List Span) (hs : List Held) (new : List ℕ) → P hs → Each (FitsPage hs) ps → P (written hs ps new)
 written-keeps P step [] hs new here fits = here
-written-keeps P step (p ∷ ps) hs new here fits = grind (arith, common_steps, nat_tests, take, map, pasted, drop, each-pasted, written-keeps P step ps)
+written-keeps P step (p ∷ ps) hs new here fits = grind (arith, common_steps, nat_tests, each-pasted, written-keeps P step ps)
 
 -- the bytes replaced place by place are those replaced stretch by stretch
 pub written-same : (ps : List Span) (w : Bool) (hs : List Held) (new : List ℕ) → Each (FitsPage hs) ps → sum_by len_of ps ≡ length new → SameBytes (puts hs (span_places w ps) new) (written hs ps new)

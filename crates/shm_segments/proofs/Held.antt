@@ -58,7 +58,7 @@ locks-lock hs id b g apart is = grind (arith, common_steps, sum-changed, only-lo
 
 pasted-sums : (hs : List Held) (p : Span) (new : List ℕ) → AreHeldApart hs → FitsPage hs p → length new ≤ p.len
     → (pages_held (map (pasted p.seg p.at new) hs) ≡ pages_held hs) × (pages_locked (map (pasted p.seg p.at new) hs) ≡ pages_locked hs)
-pasted-sums hs p new apart fit few = grind (arith, common_steps, find_held, pages_held, map, pasted, pages_locked, true≢false, find_held-id, length-paste, sum-changed, only-pasted)
+pasted-sums hs p new apart fit few = grind (arith, common_steps, find_held, pages_held, sum-changed)
 
 -- what a store over stretches leaves
 pub record SameSums (hs gs : List Held) : Type 0 where

@@ -54,7 +54,7 @@ kept-without hs rows pages locks seg v k looked =
 -- its pages are among those that are counted
 pub pages-within : (hs : List Held) (rows : List (Entry Head)) (pages locks seg : ℕ) (v : Head) → AreSegmentsKept hs rows pages locks → look rows (pos seg) ≡ Ok v
     → (pages_of v.size ≤ pages) × ((if v.locked then pages_of v.size else 0) ≤ locks)
-pages-within hs rows pages locks seg v k looked = grind (arith, common_steps, nat_tests, look-live, live-at, sum-without_row, pages_in_row, locked_in_row)
+pages-within hs rows pages locks seg v k looked = grind (arith, common_steps, nat_tests)
 
 -- LOCKED OR UNLOCKED
 

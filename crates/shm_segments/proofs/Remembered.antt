@@ -15,7 +15,7 @@ view_of t m = record { table = t; memory = m }
 -- SHOWN
 
 pub shows-joined : (m : StoreView) (rows : List (Entry Head)) → Agree (held m) rows → ShowsTable (joined (held m) rows) m
-shows-joined m rows agree id = grind (arith, common_steps, live, find_held, held, option_map, shape_held, shape_row, as_held, joined, live-joined, find_held-id, bytes_of, bytes_in, whole)
+shows-joined m rows agree id = grind (arith, common_steps, live, find_held, held, option_map, live-joined, find_held-id)
 
 -- KEPT
 

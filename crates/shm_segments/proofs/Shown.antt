@@ -86,7 +86,7 @@ paste-shape : (p : Span) (new : List ℕ) (g : Held) → (g.id ≡ p.seg → p.a
 paste-shape p new g fits = grind (arith, nat_tests, length-paste g.bytes p.at new, fits)
 
 pub agree-pasted : (hs : List Held) (rows : List (Entry Head)) (p : Span) (new : List ℕ) → Agree hs rows → FitsPage hs p → length new ≤ p.len → Agree (map (pasted p.seg p.at new) hs) rows
-agree-pasted hs rows p new agree fit few = grind (arith, common_steps, option_map, shape_held, find-map, pasted, pasted-keeps, find_held, find_held-id, paste-shape)
+agree-pasted hs rows p new agree fit few = grind (arith, common_steps, find-map, find_held-id)
 
 -- rows and what is held still agree
 pub agree-written : (hs : List Held) (rows : List (Entry Head)) (ps : List Span) (new : List ℕ) → Agree hs rows → All (FitsPage hs) ps → Agree (written hs ps new) rows

@@ -65,7 +65,7 @@ returns-in-Err-clause-still g c =
     rw (dropped g at.After-drop_segment (next g at.In-Some), ← c.self.view_is) (λ s page. refl)
 
 pub overflow_add-self : goal.overflow_add-self
-overflow_add-self g c = grind (arith, common_steps, reserved, reserved-joined, held, few-pages, c.args.self.now.table, c.requires.few, c.self.inside.reserved, c.self.invariant.kept.reserved, c.self.inside.store, c.self.inside.table, c.self.invariant.kept.agree, c.self.view_is, c.pages_of-pages.result, c.pages_of-pages.ensures.value, c.args.head.size, c.requires.size.1)
+overflow_add-self g c = grind (arith, common_steps, reserved, reserved-joined)
 
 -- the row is there
 row : (g : Over) (c : In-Ok g) (n : IsNext (held c.self.inside.store) c.self.inside.table (to_z w32 (of_z w32 c.in-Some.id))) → c.put.new.table ≡ with_row c.self.inside.table n.i c.args.key c.args.head

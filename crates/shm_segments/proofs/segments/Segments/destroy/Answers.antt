@@ -9,13 +9,13 @@ pub take-head-requires : goal.take-head-requires
 take-head-requires g c = is_live-row (held c.self.inside.store) c.self.inside.table c.args.seg (rw (← c.self.view_is) at c.requires)
 
 pub drop_segment-requires : goal.drop_segment-requires
-drop_segment-requires g c = grind (arith, common_steps, is_live-row, held, same-held, c.self.inside.store, c.self.inside.table, c.args.seg, c.self.view_is, c.requires, c.self.invariant.kept.agree)
+drop_segment-requires g c = grind (arith, common_steps)
 
 pub overflow_sub-self : goal.overflow_sub-self
-overflow_sub-self g c = grind (arith, common_steps, pages-within, held, c.self.inside.store, c.self.inside.table, c.self.inside.reserved, c.self.inside.locked, c.args.seg, c.take-head.result, c.self.invariant.kept, c.take-head.ensures.value, c.pages_of.ensures.value)
+overflow_sub-self g c = grind (arith, common_steps)
 
 pub overflow_sub-self-2 : goal.overflow_sub-self-2
-overflow_sub-self-2 g c = grind (arith, common_steps, pages-within, held, c.self.inside.store, c.self.inside.table, c.self.inside.reserved, c.self.inside.locked, c.args.seg, c.take-head.result, c.self.invariant.kept, c.take-head.ensures.value, c.pages_locked.ensures)
+overflow_sub-self-2 g c = grind (arith, common_steps)
 
 pub invariant_of-self : goal.invariant_of-self
 invariant_of-self g c =
