@@ -1,5 +1,5 @@
 -- The least free index.
-use Rattle.shm_ids.proofs.Names.{◌≡◌, ◌⊎◌, ℕ, zero, suc, ◌+◌, ◌<◌, ◌≤◌, true, false, List, [], ◌∷◌, length, drop, Some, if◌then◌else◌, refl, ap, ◌∙◌, inl, inr, arith, common_steps, drop_more, cases_Bool, Entry, unused, entry_at, is_free, free_from, free_index, UsedBelow}
+use Rattle.shm_ids.proofs.Names.{◌≡◌, ◌⊎◌, ℕ, zero, suc, ◌+◌, ◌<◌, ◌≤◌, true, false, List, [], ◌∷◌, length, drop, Some, refl, inl, inr, arith, common_steps, drop_more, cases_Bool, Entry, unused, entry_at, is_free, free_from, free_index, UsedBelow}
 use Rattle.shm_ids.proofs.Entries.{at_past}
 
 module _ {T : Type 0} where

@@ -1,4 +1,4 @@
-use Rattle.shm_ids.proofs.Names.{◌∙◌, arith, common_steps}
+use Rattle.shm_ids.proofs.Names.{◌∙◌, arith}
 use Rattle.shm_ids.proofs.Left.{left_rest, left_wear, passed}
 use Rattle.shm_ids.proofs.rows.RowsIterator.next.Goals as goal
 
@@ -15,6 +15,3 @@ loop-entry-preserved g c = (
   left_rest _ _ c.in-Some.entry.now c.in-Some.rest.now c.in-Some.ensures.cases.0 c.loop-entry.invariant.0,
   passed _ _ c.in-Some.entry.now c.in-Some.rest.now c.in-Some.ensures.cases.0 c.in_default-row.is ∙ c.loop-entry.invariant.1,
 )
-
-pub returns-clause-steps : goal.returns-clause-steps
-returns-clause-steps g c = grind (arith, common_steps)

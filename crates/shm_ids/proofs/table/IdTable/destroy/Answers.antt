@@ -17,6 +17,3 @@ invariant_of-self g c =
 
 pub overflow_sub-self : goal.overflow_sub-self
 overflow_sub-self g c = grind (arith, common_steps, live_at, row_count-without_row)
-
-pub take_row-row-requires-clause-within : goal.take_row-row-requires-clause-within
-take_row-row-requires-clause-within g c = grind (arith, common_steps)

@@ -1,4 +1,4 @@
-use Rattle.shm_ids.proofs.Names.{◌≡◌, ◌∙◌, ap, sym, to_z, of_z, w32, rules, arith, common_steps, index_of}
+use Rattle.shm_ids.proofs.Names.{◌≡◌, ◌∙◌, ap, sym, to_z, of_z, w32, rules, index_of}
 use Rattle.shm_ids.proofs.Look.{live_at}
 use Rattle.shm_ids.proofs.Steps.{Sound-hide}
 use Rattle.shm_ids.proofs.Counts.{row_count-with_key}
@@ -13,6 +13,3 @@ invariant_of-self g c =
       Sound-hide _ _ _ l.row c.self.inside.keys _ c.self.invariant.0 l.within l.there (rw (c.clear_key-key.ensures.key, i) at c.drop_key.ensures),
       c.self.invariant.1 ∙ sym (row_count-with_key _ _ 0 l.within),
     )
-
-pub clear_key-key-requires : goal.clear_key-key-requires
-clear_key-key-requires g c = grind (arith, common_steps)

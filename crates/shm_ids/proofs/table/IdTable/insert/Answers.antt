@@ -1,4 +1,4 @@
-use Rattle.shm_ids.proofs.Names.{refl, sym, ap, ◌∙◌, arith, is_some, rules, common_steps}
+use Rattle.shm_ids.proofs.Names.{refl, sym, ap, ◌∙◌, arith, is_some, common_steps}
 use Rattle.shm_ids.proofs.Free.{used_within, skip}
 use Rattle.shm_ids.proofs.Entries.{with_row-few}
 use Rattle.shm_ids.proofs.Steps.{Sound-same, fresh, Sound-put}
@@ -63,12 +63,3 @@ returns-then-is_err-clause-no_memory g c = grind (arith, common_steps, skip)
 
 pub returns-in_default-clause-kept : goal.returns-in_default-clause-kept
 returns-in_default-clause-kept g c = (refl, refl)
-
-pub put_key-requires-clause-room : goal.put_key-requires-clause-room
-put_key-requires-clause-room g c = search rules
-
-pub put_row-id-requires-clause-room : goal.put_row-id-requires-clause-room
-put_row-id-requires-clause-room g c = search rules
-
-pub returns-then-is_err-clause-kept : goal.returns-then-is_err-clause-kept
-returns-then-is_err-clause-kept g c = search rules

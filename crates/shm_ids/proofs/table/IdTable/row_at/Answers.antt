@@ -1,16 +1,7 @@
 use Rattle.shm_ids.proofs.Names.{◌≡◌, arith, common_steps, entry_at}
 use Rattle.shm_ids.proofs.table.IdTable.row_at.Goals as goal
 
-pub returns-in-Some : goal.returns-in-Some
-returns-in-Some g c = grind (arith, common_steps)
-
-pub returns-in-None : goal.returns-in-None
-returns-in-None g c = grind (arith, common_steps)
-
 pub listed-requires-clause-wear : goal.listed-requires-clause-wear
 listed-requires-clause-wear g c =
     let read : c.in-Some.entry.now ≡ entry_at c.self.inside.entries.items c.args.index = grind (arith, common_steps) in
     rw read (c.self.invariant.0.fits.sequences c.args.index)
-
-pub listed-requires-clause-index : goal.listed-requires-clause-index
-listed-requires-clause-index g c = grind (arith, common_steps)
