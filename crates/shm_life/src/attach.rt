@@ -1,4 +1,4 @@
-//! Attaching, detaching, and what becomes of pieces at fork, exec and exit.
+//! shmat: a segment is attached.
 ghost use Rattle.std.specs.Prelude.{◌≡◌, ◌+◌, ◌*◌, ◌≤◌, false, length, IfOk, OnOk, OnErr};
 ghost use Rattle.shm_base.specs.History.{is_refusal};
 ghost use Rattle.shm_base.specs.Space.{cut};
@@ -135,76 +135,5 @@ impl<P: Pager> Kernel<P> {
         );
         *reply = Reply::Addr(base);
         Ok(())
-    }
-
-    #[tactic(auto, using(crate::proofs::Running::keeps_refl))]
-    /// Detaches the pieces that are left of an attach (shmop(2)): among the pieces whose segment would begin at
-    /// the address the lowest names the segment, and all pieces of that segment with this origin go (the origin
-    /// is this profile's). Einval where there is none.
-    pub(crate) fn shmdt(&mut self, time: u64, caller: &Caller, addr: u64, reply: &mut Reply)
-        requires { IsCallerOf self.old.flat caller.now }
-        ensures step { flat.shmdt self.old.flat time (caller_seen caller.now self.old.flat.runners) addr ≡ record { reply = reply.new; state = self.new.flat } }
-        ensures keeps { KeepsOn self.old.memory self.new.memory }
-    {
-        let Some(origin) = self.spaces.space(caller).origin_of(addr) else {
-            *reply = Reply::Refused(Errno::Einval);
-            return;
-        };
-        self.spaces.detach(caller, addr, origin.seg);
-        let lost = [origin.seg];
-        after_detach(&mut self.segments, &self.spaces, &lost, time, caller.pid);
-        *reply = Reply::Done;
-    }
-
-    #[tactic(auto, using(crate::proofs::Running::keeps_refl))]
-    /// A child that was declared is born, with the caller's credentials and pieces (fork(2)). Eagain where the
-    /// process is no such child.
-    pub(crate) fn fork(&mut self, caller: &Caller, child: u32, reply: &mut Reply)
-        requires { IsCallerOf self.old.flat caller.now }
-        ensures step { flat.fork self.old.flat (caller_seen caller.now self.old.flat.runners) child ≡ record { reply = reply.new; state = self.new.flat } }
-        ensures keeps { KeepsOn self.old.memory self.new.memory }
-    {
-        let Some(child) = self.spaces.child(child) else {
-            *reply = Reply::Refused(Errno::Eagain);
-            return;
-        };
-        self.spaces.fork(caller, &child);
-        *reply = Reply::Done;
-    }
-
-    #[tactic(auto, using(crate::proofs::Running::keeps_refl))]
-    /// Detaches every piece (shmop(2)).
-    pub(crate) fn exec(&mut self, time: u64, caller: &Caller, reply: &mut Reply)
-        requires { IsCallerOf self.old.flat caller.now }
-        ensures step { flat.exec self.old.flat time (caller_seen caller.now self.old.flat.runners) ≡ record { reply = reply.new; state = self.new.flat } }
-        ensures keeps { KeepsOn self.old.memory self.new.memory }
-    {
-        let lost = self.spaces.exec(caller);
-        after_detach(
-            &mut self.segments,
-            &self.spaces,
-            lost.as_slice(),
-            time,
-            caller.pid,
-        );
-        *reply = Reply::Done;
-    }
-
-    #[tactic(auto, using(crate::proofs::Running::keeps_refl))]
-    /// Detaches every piece, and ends the process.
-    pub(crate) fn exit(&mut self, time: u64, caller: &Caller, reply: &mut Reply)
-        requires { IsCallerOf self.old.flat caller.now }
-        ensures step { flat.exit self.old.flat time (caller_seen caller.now self.old.flat.runners) ≡ record { reply = reply.new; state = self.new.flat } }
-        ensures keeps { KeepsOn self.old.memory self.new.memory }
-    {
-        let lost = self.spaces.exit(caller);
-        after_detach(
-            &mut self.segments,
-            &self.spaces,
-            lost.as_slice(),
-            time,
-            caller.pid,
-        );
-        *reply = Reply::Done;
     }
 }
