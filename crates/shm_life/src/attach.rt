@@ -8,13 +8,12 @@ ghost use Rattle.shm_attach.specs.Place.{IsRange};
 ghost use Rattle.shm_attach.specs.Spaces.{pieces_at, caller_seen};
 ghost use Rattle.shm_life.specs.Address.{misplaced};
 ghost use Rattle.shm_life.specs.MachineView.{KeepsOn};
-ghost use Rattle.shm_life.specs.Placing.{wished, placed, piece_for};
+ghost use Rattle.shm_life.specs.Placing.{placed, piece_for};
 ghost use Rattle.shm_life.specs.Tied.{IsCallerOf, PieceFits};
 
 use crate::detach::after_detach;
 use crate::kernel::Kernel;
 use bitflags::Flags;
-use shm_areas::Space;
 use shm_attach::Caller;
 use shm_base::{AtFlags, Errno, HostMemory, MOST_PIECES, PAGE_SIZE, Reply, ShmId, Want, grants};
 use shm_pager::Pager;
@@ -27,20 +26,6 @@ fn is_misplaced(addr: u64, flags: AtFlags) -> bool
         flags.contains(AtFlags::REMAP)
     } else {
         addr % PAGE_SIZE != 0 && !flags.contains(AtFlags::RND)
-    }
-}
-
-/// Where so many pages would go: where the system chooses, or at the address, rounded down. Enomem where no gap
-/// is left; Einval where the range leaves the addresses, or is occupied without SHM_REMAP.
-fn wanted_base(space: &Space, addr: u64, pages: u32, flags: AtFlags) -> Result<u64, Errno>
-    requires { (1 ≤ pages) × (pages ≤ 4096) }
-    ensures value { result ≡ wished (bare_all space.now) pages flags addr }
-    ensures range { IfOk result (IsRange pages) }
-{
-    if addr == 0 {
-        space.choose(pages).ok_or(Errno::Enomem)
-    } else {
-        space.check_fixed(addr, pages, flags)
     }
 }
 
@@ -84,10 +69,12 @@ impl<P: Pager> Kernel<P> {
         }
         let space = self.spaces.space(caller);
         let (seg, pages) = (found.seg, found.pages());
-        let base = match wanted_base(space, addr, pages, flags) {
-            Ok(base) => base,
-            Err(errno) => return Err(errno),
+        let wish = if addr == 0 {
+            space.choose(pages).ok_or(Errno::Enomem)
+        } else {
+            space.check_fixed(addr, pages, flags)
         };
+        let base = wish?;
         if space.count_outside(base, base + PAGE_SIZE * pages as u64) >= MOST_PIECES {
             return Err(Errno::Emfile);
         }

@@ -1,13 +1,21 @@
 use Rattle.shm_life.proofs.Names.{rules, ◌≡◌, ◌∙◌, true, false, sym, ap, to_z, of_z, w32, arith, List, Machine, Piece, pages_of, look, grants, at_wish, sizes, bare_all, caller_seen, pieces_at, look_of, misplaced, if_few, base_for, wished, placed_at, placed}
 use Rattle.shm_life.proofs.Shmat.{placed-found, if_few-under, if_few-over}
+use Rattle.std.specs.Prelude.{IfOk}
+use Rattle.shm_attach.specs.Place.{IsRange}
 use Rattle.shm_life.proofs.kernel.Kernel.place_for.Given.{Over}
 use Rattle.shm_life.proofs.kernel.Kernel.place_for.Goals as goal
-use Rattle.shm_life.proofs.kernel.Kernel.place_for.Goals.{After-wanted_base}
+use Rattle.shm_life.proofs.kernel.Kernel.place_for.Goals.{After-branch-base, then-addr-eq0, else-addr-eq0}
+
+wish : (g : Over) (c : After-branch-base g) → c.if-addr-eq0.wish ≡ wished (bare_all c.space-space.result.now) c.pages-pages.result c.args.flags c.args.addr
+wish g c = elim c.if-addr-eq0.branch [ then-addr-eq0 w ↦ search rules | else-addr-eq0 w ↦ search rules ]
+
+ranged : (g : Over) (c : After-branch-base g) → IfOk c.if-addr-eq0.wish (IsRange c.pages-pages.result)
+ranged g c = elim c.if-addr-eq0.branch [ then-addr-eq0 w ↦ search rules | else-addr-eq0 w ↦ search rules ]
 
 -- behind the first tests it is as the wish for a base comes out
-asked : (g : Over) (c : After-wanted_base g)
+asked : (g : Over) (c : After-branch-base g)
     → placed c.args.self.now.flat (caller_seen c.args.caller.now c.args.self.now.flat.runners) c.args.id c.args.addr c.args.flags
-    ≡ placed_at c.in_ok-found.found.seg c.pages-pages.result (if_few (bare_all c.space-space.result.now) c.pages-pages.result c.wanted_base.result)
+    ≡ placed_at c.in_ok-found.found.seg c.pages-pages.result (if_few (bare_all c.space-space.result.now) c.pages-pages.result c.if-addr-eq0.wish)
 asked g c =
     let t = c.self.inside.segments.table in
     let rs = c.self.inside.spaces.runners in
@@ -20,7 +28,7 @@ asked g c =
     let at = placed-found m (caller_seen c.args.caller.now rs) c.args.id c.args.addr c.args.flags f c.in_ok-found.ensures.found well looked granted in
     let own : bare_all c.space-space.result.now ≡ pieces_at rs c.args.caller.now.index = c.space-space.ensures in
     let pages : c.pages-pages.result ≡ pages_of f.head.size = c.pages-pages.ensures.value in
-    let wish : c.wanted_base.result ≡ wished (bare_all c.space-space.result.now) c.pages-pages.result c.args.flags c.args.addr = c.wanted_base.ensures.value in
+    let wish = wish g c in
     rw (← c.self.view_is)
     (at ∙ ap (λ k. placed_at f.seg k (base_for (pieces_at rs c.args.caller.now.index) k c.args.flags c.args.addr)) (sym pages)
     ∙ ap (λ (ps : List Piece). placed_at f.seg c.pages-pages.result (base_for ps c.pages-pages.result c.args.flags c.args.addr)) (sym own)
@@ -28,13 +36,18 @@ asked g c =
 
 pub returns-clause-value : goal.returns-clause-value
 returns-clause-value g c =
-    let few = if_few-under (bare_all c.space-space.result.now) c.pages-pages.result c.in-Ok.base (omega (arith, c.count_outside.ensures, c.if-count_outside-ge-MOST_PIECES.false)) in
-    sym (rw (c.in-Ok.is, few) at (asked g (goal.at.returns-clause-value g c).After-wanted_base))
+    let few = if_few-under (bare_all c.space-space.result.now) c.pages-pages.result c.in_ok-base.base (omega (arith, c.count_outside.ensures, c.if-count_outside-ge-MOST_PIECES.false)) in
+    sym (rw (c.in_ok-base.was, few) at (asked g (goal.at.returns-clause-value g c).After-branch-base))
 
 pub returns-then-count_outside-ge-MOST_PIECES-clause-value : goal.returns-then-count_outside-ge-MOST_PIECES-clause-value
 returns-then-count_outside-ge-MOST_PIECES-clause-value g c =
-    let many = if_few-over (bare_all c.space-space.result.now) c.pages-pages.result c.in-Ok.base (omega (arith, c.count_outside.ensures, c.if-count_outside-ge-MOST_PIECES.true)) in
-    sym (rw (c.in-Ok.is, many) at (asked g (goal.at.returns-then-count_outside-ge-MOST_PIECES-clause-value g c).After-wanted_base))
+    let many = if_few-over (bare_all c.space-space.result.now) c.pages-pages.result c.in_ok-base.base (omega (arith, c.count_outside.ensures, c.if-count_outside-ge-MOST_PIECES.true)) in
+    sym (rw (c.in_ok-base.was, many) at (asked g (goal.at.returns-then-count_outside-ge-MOST_PIECES-clause-value g c).After-branch-base))
 
-pub returns-in-Err-clause-value : goal.returns-in-Err-clause-value
-returns-in-Err-clause-value g c = sym (rw c.in-Err.is at (asked g (goal.at.returns-in-Err-clause-value g c).After-wanted_base))
+pub returns-in_err-base-clause-value : goal.returns-in_err-base-clause-value
+returns-in_err-base-clause-value g c =
+    let step = rw c.in_err-base.was at (asked g (goal.at.returns-in_err-base-clause-value g c).After-branch-base) in
+    search (rules, step)
+
+pub returns-clause-range : goal.returns-clause-range
+returns-clause-range g c = rw c.in_ok-base.was at (ranged g (goal.at.returns-clause-range g c).After-branch-base)
