@@ -1,6 +1,6 @@
 -- A process whose pieces go, or come: what the calls on segments need, and what is kept but for segments that
 -- lost their last piece.
-use Rattle.shm_life.proofs.Names.{◌≡◌, ◌≤◌, ℕ, ◌+◌, ◌*◌, ◌%◌, false, List, [], ◌∷◌, zero, suc, Some, None, refl, sym, ap, ◌∙◌, arith, All-nil, All, set_in, Bounds, Piece, Life, Live, Entry, Runner, cut, pieces_of, origin_of, without_named, change, with_entry, attached, detached, detach_all, segments_of, AtFlags, StoreView, Translation, AreTrue, IsCaller, caller_seen, pieces_at, IsLive, SameTable, change-same, Placed, piece_for, pieces_after, lost_to, PieceFits, is_among, IsMachineKept, IsKeptBut, IsWell, IsWellBut}
+use Rattle.shm_life.proofs.Names.{common_steps, ◌≡◌, ◌≤◌, ℕ, ◌+◌, ◌*◌, ◌%◌, false, List, [], ◌∷◌, zero, suc, Some, None, refl, sym, ap, ◌∙◌, arith, All-nil, All, set_in, Bounds, Piece, Life, Live, Entry, Runner, cut, pieces_of, origin_of, without_named, change, with_entry, attached, detached, detach_all, segments_of, AtFlags, StoreView, Translation, AreTrue, IsCaller, caller_seen, pieces_at, IsLive, SameTable, change-same, Placed, piece_for, pieces_after, lost_to, PieceFits, is_among, IsMachineKept, IsKeptBut, IsWell, IsWellBut}
 use Rattle.std.proofs.Common.{slice_get, slice_set, Option, option_map}
 use Rattle.shm_attach.specs.declared.process.Caller.{Caller}
 use Rattle.shm_life.proofs.Leaving.{keeps-set, keeps-all, keeps-without, keeps-cut, orphans-among}
@@ -28,18 +28,7 @@ module _ (limits : Bounds) (t : List Entry) (rs : List Runner) (c : Caller) (k :
 
   going : (life : Life) (ps : List Piece) (lost : List ℕ) → All (PieceFits t) ps → ((id : ℕ) → is_among lost id ≡ false → pieces_of id (pieces_at rs c.index) ≤ pieces_of id ps)
       → IsKeptBut lost limits t (replaced rs c life ps)
-  going life ps lost fits le =
-      let r : Runner = record { pid = c.pid; life = life; pieces = ps } in
-      kept-by limits t t rs (replaced rs c life ps) k (omega arith) (omega arith) k.locked (fit-set t rs c.index r k.pieces fits)
-      (orphans-among lost rs (replaced rs c life ps) t k.orphans (keeps-set lost rs c.index r (record { pid = c.pid; life = Live c.cred; pieces = pieces_at rs c.index }) (caller-runner c rs is) le))
-
-  -- exec and exit
-  pub all-go : (life : Life) → Goes limits t (replaced rs c life []) (segments_of (caller_seen c rs))
-  all-go life =
-      record {
-        live = lives-map t (pieces_at rs c.index) own;
-        kept = going life [] (segments_of (caller_seen c rs)) (All-nil (PieceFits t)) (keeps-all (pieces_at rs c.index));
-      }
+  going life ps lost fits le = grind (arith, common_steps, keeps-set, caller-runner)
 
   -- shmdt
   pub named-go : (addr seg : ℕ) → option_map (λ (p : Piece). p.seg) (origin_of addr (pieces_at rs c.index)) ≡ Some seg
@@ -62,6 +51,14 @@ module _ (limits : Bounds) (t : List Entry) (rs : List Runner) (c : Caller) (k :
         live = lives-cut t from to ps own;
         kept = going (Live c.cred) (pieces_after ps flags p) (lost_to ps p) (pass-inserted t (piece_for flags p) (cut from to ps) fits (pass-cut t from to ps own)) (keeps-cut from to (piece_for flags p) ps);
       }
+
+-- exec and exit, with the pages where they were
+pub all-gone : (limits : Bounds) (t : List Entry) (rs : List Runner) (c : Caller) (ts : List Translation) (m : StoreView) → IsWell limits t rs ts m → IsCaller c rs → (life : Life) (us : List Translation) → AreTrue us m
+    → All (IsLive t) (segments_of (caller_seen c rs)) × IsWellBut (segments_of (caller_seen c rs)) limits t (replaced rs c life []) us m
+all-gone limits t rs c ts m w is life us all =
+    let ps = pieces_at rs c.index in
+    let kept = going limits t rs c w.kept is life [] (segments_of (caller_seen c rs)) (All-nil (PieceFits t)) (keeps-all ps) in
+    (lives-map t ps (own limits t rs c w.kept is), record { kept = kept; frames = w.frames; room = w.room; translated = all })
 
 -- ATTACHING
 

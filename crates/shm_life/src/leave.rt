@@ -1,5 +1,5 @@
 //! exec and exit: all pieces of a process go.
-ghost use Rattle.std.specs.Prelude.{◌≡◌};
+ghost use Rattle.std.specs.Prelude.{◌≡◌, true, false};
 ghost use Rattle.shm_base.specs.Step as flat;
 ghost use Rattle.shm_attach.specs.Spaces.{caller_seen};
 ghost use Rattle.shm_life.specs.MachineView.{KeepsOn};
@@ -13,13 +13,18 @@ use shm_pager::Pager;
 
 impl<P: Pager> Kernel<P> {
     #[tactic(auto, using(crate::proofs::Running::keeps_refl))]
-    /// Detaches every piece (shmop(2)).
-    pub(crate) fn exec(&mut self, time: u64, caller: &Caller, reply: &mut Reply)
+    // Detaches every piece of a process, which ends or goes on.
+    fn leave(&mut self, time: u64, caller: &Caller, ends: bool, reply: &mut Reply)
         requires { IsCallerOf self.old.flat caller.now }
-        ensures step { flat.exec self.old.flat time (caller_seen caller.now self.old.flat.runners) ≡ record { reply = reply.new; state = self.new.flat } }
+        ensures exec { ends ≡ false → flat.exec self.old.flat time (caller_seen caller.now self.old.flat.runners) ≡ record { reply = reply.new; state = self.new.flat } }
+        ensures exit { ends ≡ true → flat.exit self.old.flat time (caller_seen caller.now self.old.flat.runners) ≡ record { reply = reply.new; state = self.new.flat } }
         ensures keeps { KeepsOn self.old.memory self.new.memory }
     {
-        let lost = self.spaces.exec(caller);
+        let lost = if ends {
+            self.spaces.exit(caller)
+        } else {
+            self.spaces.exec(caller)
+        };
         after_detach(
             &mut self.segments,
             &self.spaces,
@@ -30,21 +35,21 @@ impl<P: Pager> Kernel<P> {
         *reply = Reply::Done;
     }
 
-    #[tactic(auto, using(crate::proofs::Running::keeps_refl))]
+    /// Detaches every piece (shmop(2)).
+    pub(crate) fn exec(&mut self, time: u64, caller: &Caller, reply: &mut Reply)
+        requires { IsCallerOf self.old.flat caller.now }
+        ensures step { flat.exec self.old.flat time (caller_seen caller.now self.old.flat.runners) ≡ record { reply = reply.new; state = self.new.flat } }
+        ensures keeps { KeepsOn self.old.memory self.new.memory }
+    {
+        self.leave(time, caller, false, reply);
+    }
+
     /// Detaches every piece, and ends the process.
     pub(crate) fn exit(&mut self, time: u64, caller: &Caller, reply: &mut Reply)
         requires { IsCallerOf self.old.flat caller.now }
         ensures step { flat.exit self.old.flat time (caller_seen caller.now self.old.flat.runners) ≡ record { reply = reply.new; state = self.new.flat } }
         ensures keeps { KeepsOn self.old.memory self.new.memory }
     {
-        let lost = self.spaces.exit(caller);
-        after_detach(
-            &mut self.segments,
-            &self.spaces,
-            lost.as_slice(),
-            time,
-            caller.pid,
-        );
-        *reply = Reply::Done;
+        self.leave(time, caller, true, reply);
     }
 }
