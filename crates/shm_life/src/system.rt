@@ -49,7 +49,7 @@ impl Model for Opening {
     ghost view = { λ o. record { limits = o.limits; areas = o.areas.items; processes = o.processes.items } };
 }
 
-/// A machine over swap areas. It is pager_seen as how it opened, how many calls it answered, and the flat
+/// A machine over swap areas. It is seen as how it opened, how many calls it answered, and the flat
 /// machine; before the first call that is as the opening says.
 pub struct System<P: Pager> {
     opening: Opening,
