@@ -1,6 +1,6 @@
 -- What is kept where a segment is locked, marked or written, and where a process forks.
-use Rattle.shm_life.proofs.Names.{◌≡◌, ℕ, ◌+◌, ◌/◌, ◌%◌, ◌≤◌, ◌&&◌, nat_lt, not, Bool, true, false, if◌then◌else◌, List, [], ◌∷◌, length, ◌≢◌, ◌⊎◌, inl, inr, Some, ap, refl, sym, ◌∙◌, arith, eq-eqb, All, OnOk, OnErr, Place, Bounds, Live, Entry, Runner, pages_of, identifier, attach_count, change, marked, pages_locked, locked, Span, Translation, IsCaller, caller_seen, pieces_at, InPage, page_of, PassPages, pieces_by, wanted, wanted_in, Child, born_child, pieces_by-caller, IsFound, SpanFits, page_there, relocked, get-set_same, get-set_other, sum-set, SamePages, SameTable, same-refl, change-pages, change-locked, change-left, PieceFits, PiecesFit, IsMachineKept, IsWell, IsWellBut, is_among, orphan_in, orphan, id_at, StoreView, frame_of, cases_eq, nat_tests}
-use Rattle.std.proofs.Common.{slice_get, slice_set, true≢false}
+use Rattle.shm_life.proofs.Names.{OrphansAmong, ◌≡◌, ℕ, ◌+◌, ◌/◌, ◌%◌, ◌≤◌, ◌&&◌, nat_lt, not, Bool, true, false, if◌then◌else◌, List, [], ◌∷◌, length, Some, refl, sym, ◌∙◌, arith, All, OnOk, OnErr, Place, Bounds, Live, Entry, Runner, pages_of, attach_count, change, marked, locked, Span, Translation, IsCaller, caller_seen, pieces_at, InPage, page_of, PassPages, pieces_by, wanted, wanted_in, Child, born_child, pieces_by-caller, IsFound, SpanFits, page_there, relocked, get-set_same, get-set_other, sum-set, SamePages, SameTable, same-refl, change-pages, change-locked, change-left, PieceFits, PiecesFit, IsMachineKept, IsWell, IsWellBut, StoreView, frame_of, cases_eq, nat_tests}
+use Rattle.std.proofs.Common.{slice_set, true≢false}
 use Rattle.std.specs.Prelude.{Option, Result, Ok, Err}
 use Rattle.shm_base.specs.State.{pages_in}
 use Rattle.shm_base.specs.Step.{Caller as FlatCaller}
@@ -29,10 +29,7 @@ module _ (t : List Entry) (f : Found) (found : IsFound t f) (b : Bool) where
 
   -- the sum loses what the segment had in it, and gains what it has
   pub relocked-sum : locked (change t f.seg (relocked b)) + (if f.head.locked then pages_of f.head.size else 0) ≡ locked t + (if b then pages_of f.head.size else 0)
-  relocked-sum =
-      let sum = sum-set (λ (e : Entry). pages_locked e.segment) t (f.seg % 32768) y x found.entry in
-      let pages = pages-seen t f found in
-      rw (is-set, ← pages) sum
+  relocked-sum = grind (arith, sum-set)
 
 kept-relocked : (limits : Bounds) (t : List Entry) (rs : List Runner) (seg : ℕ) (b : Bool) → IsMachineKept limits t rs → locked (change t seg (relocked b)) ≤ limits.memlock → IsMachineKept limits (change t seg (relocked b)) rs
 kept-relocked limits t rs seg b k few =
@@ -58,28 +55,14 @@ unlock-few t f memlock found few = let sum = relocked-sum t f found false in ome
 -- what is marked may be without pieces
 pub marked-well : (limits : Bounds) (t : List Entry) (rs : List Runner) (ts : List Translation) (m : StoreView) (f : Found) → IsFound t f → IsWell limits t rs ts m → IsWellBut (f.seg ∷ []) limits (change t f.seg marked) rs ts m
 marked-well limits t rs ts m f found w =
-    let same : SamePages t (change t f.seg marked) = change-pages marked (λ s. refl) t f.seg in
-    record {
-      kept = kept-by limits t (change t f.seg marked) rs rs w.kept (omega (arith, same.size)) (omega (arith, same.reserved)) (omega (arith, w.kept.locked, change-locked marked (λ s. refl) (λ s. refl) t f.seg))
-          (fit-same t (change t f.seg marked) rs same w.kept.pieces) (λ i left. by i left (cases_eq (f.seg % 32768) i));
-      frames = w.frames;
-      room = w.room;
-      translated = w.translated;
-    }
-  where
-    y : Entry
-    y = record { destroyed = f.seg / 32768; segment = Some (marked (table.segment_seen t f)) }
-
-    is-set : change t f.seg marked ≡ slice_set t (f.seg % 32768) y
-    is-set = rw found.entry refl
-
-    by : (i : ℕ) → orphan rs (change t f.seg marked) i ≡ true → (f.seg % 32768 ≡ i) ⊎ (f.seg % 32768 ≢ i) → is_among (f.seg ∷ []) (id_at (change t f.seg marked) i) ≡ true
-    by i left (inl e) =
-        let here : slice_get (change t f.seg marked) i ≡ Some y = rw (is-set, ← e) (get-set_same t (f.seg % 32768) y _ found.entry) in
-        rw (here, eq-eqb f.seg (identifier i (f.seg / 32768)) (omega (arith, e))) refl
-    by i left (inr n) =
-        let same : slice_get (change t f.seg marked) i ≡ slice_get t i = rw is-set (get-set_other t (f.seg % 32768) i y n) in
-        absurd (true≢false (sym (w.kept.orphans i (sym (ap (orphan_in i rs) same) ∙ left))))
+    let same = change-pages marked (λ s. refl) t f.seg in
+    let locks = change-locked marked (λ s. refl) (λ s. refl) t f.seg in
+    let y : Entry = record { destroyed = f.seg / 32768; segment = Some (marked (table.segment_seen t f)) } in
+    let here = get-set_same t (f.seg % 32768) y _ found.entry in
+    let fit = fit-same t (change t f.seg marked) rs same w.kept.pieces in
+    let left : OrphansAmong (f.seg ∷ []) rs (change t f.seg marked) = λ i h.
+    grind (arith, nat_tests, found.entry, cases_eq (f.seg % 32768) i, here, get-set_other t (f.seg % 32768) i y, w.kept.orphans i, h) in
+    grind (arith, same.size, same.reserved, locks, w.kept.locked, fit, left)
 
 -- SPANS
 

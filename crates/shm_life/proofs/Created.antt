@@ -46,10 +46,7 @@ record IsFree (t : List Entry) (i : ℕ) : Type 0 where
   none : (e : Entry) → slice_get t i ≡ Some e → e.segment ≡ None
 
 is-free : (t : List Entry) (i : ℕ) → free_index t ≡ Some i → IsFree t i
-is-free t i found =
-    let r = free-at 0 t i found in
-    let same : r.k ≡ i = omega (arith, r.at) in
-    record { within = omega (arith, r.within, same); small = λ le. r.small (omega (arith, le)); none = λ e z. r.none e (rw same z) }
+is-free t i found = grind (arith, free-at 0 t i found)
 
 -- THE TABLE WITH A SEGMENT MORE
 

@@ -35,10 +35,7 @@ keeps-all ps id other = let z = not_among-map id ps other in omega (arith, z)
 -- a range is cut, and a piece comes
 pub keeps-cut : (from to : ℕ) (p : Piece) (ps : List Piece) (id : ℕ) → is_among (cut_segments from to ps) id ≡ false → pieces_of id ps ≤ pieces_of id (inserted p (cut from to ps))
 keeps-cut from to p ps id other =
-    let z : pieces_of id (filter (meets from to) ps) ≡ 0 = not_among-map id (filter (meets from to) ps) other in
-    let m = pieces_of-cut_met id from to ps in
-    let more = pieces_of-inserted id p (cut from to ps) in
-    omega (arith, z, m, more)
+    grind (arith, not_among-map id (filter (meets from to) ps) other, pieces_of-cut_met id from to ps, pieces_of-inserted id p (cut from to ps))
 
 -- the pieces of one segment with one origin go
 pub keeps-without : (addr seg : ℕ) (ps : List Piece) (id : ℕ) → is_among (seg ∷ []) id ≡ false → pieces_of id ps ≤ pieces_of id (without_named addr seg ps)

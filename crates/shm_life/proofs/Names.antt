@@ -1,10 +1,10 @@
 -- The names that the proofs cite, from below and from the words of this crate.
-pub use Rattle.std.proofs.Common.{Bool, List, None, Some, [], ap, arith, drop, eq-eqb, false, filter, get_or, if◌then◌else◌, inl, inr, is_none, length, nat_le, nat_lt, ne_eqb, not, of_z, pos, refl, replicate, rules, subst, suc, sym, take, to_z, true, w32, zero, ℕ, ℤ, ◌%◌, ◌&&◌, ◌*◌, ◌++◌, ◌+◌, ◌-◌, ◌/◌, ◌<◌, ◌==◌, ◌||◌, ◌∙◌, ◌∷◌, ◌≡◌, ◌≢◌, ◌≤◌, ◌⊎◌}
+pub use Rattle.std.proofs.Common.{Bool, List, None, Some, [], ap, arith, drop, eq-eqb, false, filter, get_or, if◌then◌else◌, inl, inr, is_none, length, nat_lt, ne_eqb, not, of_z, pos, refl, replicate, rules, subst, suc, sym, take, to_z, true, w32, zero, ℕ, ℤ, ◌%◌, ◌&&◌, ◌*◌, ◌++◌, ◌+◌, ◌-◌, ◌/◌, ◌<◌, ◌==◌, ◌∙◌, ◌∷◌, ◌≡◌, ◌≢◌, ◌≤◌, ◌⊎◌}
 pub use Rattle.std.proofs.Math.Seq.{drop-cons}
 pub use Rattle.std.proofs.lemmas.Bool.{cases_Bool, cases_eq, cases_lt, le-ltb, lt-ltb}
 pub use Rattle.std.proofs.lemmas.Bool.Decides.{nat_tests}
 pub use Rattle.std.proofs.lemmas.Grind.{common_steps}
-pub use Rattle.std.proofs.lemmas.List.{drop_all, get_or-replicate, get_or_past, length-append, length-map, length-replicate}
+pub use Rattle.std.proofs.lemmas.List.{drop_all, get_or-replicate, get_or_past, length-append, length-replicate}
 pub use Rattle.std.proofs.lemmas.List.Concat.{flat_map-cons}
 pub use Rattle.std.proofs.lemmas.List.Elements.{All-append, All-filter, All-map, All-nil}
 pub use Rattle.std.proofs.lemmas.List.Kept.{AllPairs-cons}
@@ -27,10 +27,10 @@ pub use Rattle.shm_base.specs.History.{is_refusal}
 pub use Rattle.shm_base.specs.Identifier.{Invalid, Look, Removed, destroyed_at, destroyed_in, free_from, free_index, identifier, look, with_segment}
 pub use Rattle.shm_base.specs.Permission.{grants}
 pub use Rattle.shm_base.specs.Segments.{attach_count, attached, change, detach_all, detached, locked, marked, pages_held, pages_locked, reserved, swept, swept_at, swept_from, with_entry}
-pub use Rattle.shm_base.specs.Space.{choose, cut, cut_segments, has_origin, inserted, inside, is_named, meets, occupied, origin_of, part_above, part_below, parts, pieces_of, without_named}
+pub use Rattle.shm_base.specs.Space.{choose, cut, cut_segments, has_origin, inserted, is_named, meets, origin_of, part_above, part_below, parts, pieces_of, without_named}
 pub use Rattle.shm_base.specs.Spans.{InPage, page_of, span_places}
 pub use Rattle.shm_base.specs.State.{Entry, Life, Live, Machine, Piece, Runner, Segment, pages_of, runner_at_start}
-pub use Rattle.shm_base.specs.Step.{Outcome, at_wish, attaches, attaches_chosen, attaches_fixed, attaches_found, gives, is_remap, is_rnd, locks, pieces_with, refuses, segments_of, shmat, swapoff}
+pub use Rattle.shm_base.specs.Step.{Outcome, at_wish, attaches, attaches_chosen, attaches_fixed, attaches_found, gives, locks, refuses, segments_of, shmat, swapoff}
 pub use Rattle.shm_base.specs.declared.call.Process.{Process}
 pub use Rattle.shm_base.specs.declared.call.Reply.TheVariants.{Bytes, Done}
 pub use Rattle.shm_base.specs.declared.errno.Errno.TheVariants.{Emfile, Enomem}
@@ -58,8 +58,8 @@ pub use Rattle.shm_segments.proofs.Remembered.{runs-refl, runs-trans, view_of}
 pub use Rattle.shm_segments.proofs.Same.{SamePages, SameTable, change-left, change-locked, change-pages, change-same, detach_all-same, same-refl, stored-same}
 pub use Rattle.shm_segments.specs.Joined.{segment_of, whole}
 pub use Rattle.shm_segments.specs.Left.{id_at, id_in, is_left, orphan, orphan_in}
-pub use Rattle.shm_segments.specs.Table.{IsFound, IsLive, SpanFits, created, destroyed, live, live_in, look_of, made, page_there, pages_at, relocked, reowned, segment_seen}
-pub use Rattle.shm_segments.specs.View.{Runs, SegmentsView, ShowsTable, as_held}
+pub use Rattle.shm_segments.specs.Table.{IsFound, IsLive, SpanFits, created, destroyed, live, look_of, made, page_there, pages_at, relocked, reowned, segment_seen}
+pub use Rattle.shm_segments.specs.View.{Runs, SegmentsView, ShowsTable}
 pub use Rattle.shm_segments.specs.declared.head.Head.{Head}
 pub use Rattle.shm_slots.specs.View.{AreaView, IsAreaSize, SwapView, area_at, fresh, new_swap, no_area, owner_of, size_of, sizes}
 pub use Rattle.shm_life.specs.Address.{misplaced}

@@ -1,7 +1,7 @@
 -- The pages of the table's segments are those of the segments that the memory holds.
-use Rattle.shm_life.proofs.Names.{◌≡◌, ◌≢◌, ◌⊎◌, ℕ, zero, suc, ◌+◌, ◌/◌, ◌%◌, ◌<◌, ◌≤◌, true, List, [], ◌∷◌, length, Some, None, refl, sym, ap, ◌∙◌, inl, inr, arith, eq-eqb, ne_eqb, cases_eq, none-some, slice_get_within, sum_by-cons, Segment, Entry, identifier, reserved, pages_held, AreHeldApart, Held, find_held, is_held, without, SegRec, find_seg, StoreView, held_by, used, IsStoreSound, pages_held-is, live, live_in, pages_at, ShowsTable, as_held, get-set_other, sum-set, sum-without, find-without_other, nat_tests}
+use Rattle.shm_life.proofs.Names.{◌≡◌, ◌≢◌, ℕ, zero, suc, ◌+◌, ◌/◌, ◌%◌, ◌<◌, ◌≤◌, true, List, [], ◌∷◌, length, Some, None, refl, sym, ap, ◌∙◌, arith, eq-eqb, ne_eqb, slice_get_within, sum_by-cons, Entry, identifier, reserved, pages_held, AreHeldApart, Held, find_held, is_held, without, SegRec, find_seg, StoreView, held_by, used, IsStoreSound, pages_held-is, pages_at, ShowsTable, get-set_other, sum-set, sum-without, find-without_other, nat_tests}
 use Rattle.std.proofs.Common.{map, slice_get, slice_set, Option}
-use Rattle.std.specs.Prelude.{is_some, option_map}
+use Rattle.std.specs.Prelude.{is_some}
 use Rattle.shm_slots.specs.View.{slots}
 use Rattle.shm_plain.specs.Held.{pages_in, pages_held as held_pages}
 use Rattle.shm_fault.specs.Segs as segs
@@ -37,26 +37,7 @@ pub record Emptied (t u : List Entry) (id n : ℕ) : Type 0 where
   pub others : (other : ℕ) → other ≢ id → pages_at t other ≤ pages_at u other
 
 empty-at : (t : List Entry) (id n : ℕ) → 0 < n → n ≤ pages_at t id → Emptied t (emptied t id) id n
-empty-at t id n some most = by (slice_get t (id % 32768)) refl most
-  where
-    by : (o : Option Entry) → slice_get t (id % 32768) ≡ o → n ≤ pages_held (live_in id o) → Emptied t (emptied t id) id n
-    by None is most = absurd (omega (arith, most, some))
-    by (Some e) is most = elim (cases_eq e.destroyed (id / 32768)) [
-      | inl own ↦
-          (let here : n ≤ pages_held e.segment = rw (eq-eqb e.destroyed (id / 32768) own) at most in
-          let sum = sum-set (λ (x : Entry). pages_held x.segment) t (id % 32768) (record { destroyed = id / 32768; segment = None }) e is in
-          record { fewer = omega (arith, sum, here); others = λ other apart. stays e is own other apart (cases_eq (other % 32768) (id % 32768)) })
-      | inr other ↦ absurd (let none : n ≤ 0 = rw (ne_eqb e.destroyed (id / 32768) other) at most in omega (arith, none, some))
-    ]
-      where
-        stays : (e : Entry) → slice_get t (id % 32768) ≡ Some e → e.destroyed ≡ id / 32768 → (other : ℕ) → other ≢ id → (other % 32768 ≡ id % 32768) ⊎ (other % 32768 ≢ id % 32768) → pages_at t other ≤ pages_at (emptied t id) other
-        stays e is own other apart (inl same) =
-            let sequence : e.destroyed ≢ other / 32768 = λ k. apart (omega (arith, k, own, same)) in
-            let none : pages_at t other ≡ 0 = rw (same, is, ne_eqb e.destroyed (other / 32768) sequence) refl in
-            omega (arith, none)
-        stays e is own other apart (inr index) =
-            let kept : pages_at (emptied t id) other ≡ pages_at t other = ap (λ o. pages_held (live_in other o)) (get-set_other t (id % 32768) (other % 32768) (record { destroyed = id / 32768; segment = None }) (λ k. index (sym k))) in
-            omega (arith, kept)
+empty-at t id n some most = grind (arith, sum-set, get-set_other)
 
 -- a table without the pages of one segment
 fewer : (t : List Entry) (id n : ℕ) → n ≤ pages_at t id → (u : List Entry) × Emptied t u id n
@@ -111,42 +92,16 @@ no-less n (e ∷ t) hs few each =
 
 module _ (t : List Entry) (m : StoreView) (sound : IsStoreSound m) (shows : ShowsTable t m) where
   more : NoMore (held m) t
-  more id g is = by (live t id) (sym is ∙ shows id)
-    where
-      by : (o : Option Segment) → Some g ≡ option_map (as_held id) o → pages_in g ≤ pages_held o
-      by None e = absurd (none-some g (sym e))
-      by (Some x) e = let own : g ≡ as_held id x = cc in rw own (omega arith)
+  more id g is = grind arith
 
   -- the slots that are used are no more than the pages of all segments
   pub few-used : used m ≤ reserved t
-  few-used =
-      let all = pages_held-is m sound in
-      let most = no-more (held m) t (apart-held m sound.apart) more in
-      omega (arith, all, most, sound.few_used)
+  few-used = grind (arith, pages_held-is, no-more, apart-held)
 
   module _ (few : length t ≤ 32768) where
     less : NoLess 0 (held m) t
-    less k e is = by e.segment there
-      where
-        index : identifier (0 + k) e.destroyed % 32768 ≡ k
-        index = let within = slice_get_within t k e is in omega (arith, within, few)
-
-        sequence : e.destroyed ≡ identifier (0 + k) e.destroyed / 32768
-        sequence = let within = slice_get_within t k e is in omega (arith, within, few)
-
-        there : find_held (held m) (identifier (0 + k) e.destroyed) ≡ option_map (as_held (identifier (0 + k) e.destroyed)) e.segment
-        there =
-            let id = identifier (0 + k) e.destroyed in
-            let at : live t id ≡ e.segment = ap (λ j. live_in id (slice_get t j)) index ∙ ap (live_in id) is ∙ rw (eq-eqb e.destroyed (id / 32768) sequence) refl in
-            shows id ∙ ap (option_map (as_held id)) at
-
-        by : (o : Option Segment) → find_held (held m) (identifier (0 + k) e.destroyed) ≡ option_map (as_held (identifier (0 + k) e.destroyed)) o → pages_held o ≤ pages_found (find_held (held m) (identifier (0 + k) e.destroyed))
-        by None h = omega arith
-        by (Some x) h = rw h (omega arith)
+    less k e is = grind (arith, slice_get_within)
 
     -- the pages of all segments are no more than the slots
     pub few-reserved : reserved t ≤ slots m.swap
-    few-reserved =
-        let all = pages_held-is m sound in
-        let most = no-less 0 t (held m) (omega (arith, few)) less in
-        omega (arith, all, most, sound.capacity)
+    few-reserved = grind (arith, pages_held-is m sound, no-less 0 t (held m) (omega (arith, few)) less)

@@ -1,5 +1,5 @@
 -- What calls keep of the memory.
-use Rattle.shm_life.proofs.Names.{◌≡◌, ◌<◌, ◌+◌, ℕ, suc, true, false, List, [], ◌∷◌, length, drop, get_or, refl, sym, subst, ◌∙◌, arith, ◌≤◌, drop-cons, is_err, OnOk, OnErr, Bounds, Entry, Runner, sizes, StoreView, frame_of, GoesOn-refl, Translation, AreTrue, Runs, IsWell, IsWellBut, IsKeptBut, KeepsOn, OrphansAmong, Sweeps, PiecesFit, reserved, locked}
+use Rattle.shm_life.proofs.Names.{◌≡◌, ◌<◌, ◌+◌, ℕ, true, false, List, [], ◌∷◌, length, drop, get_or, refl, sym, ◌∙◌, arith, ◌≤◌, drop-cons, is_err, OnOk, OnErr, Bounds, Entry, Runner, sizes, StoreView, frame_of, GoesOn-refl, Translation, AreTrue, Runs, IsWell, IsWellBut, IsKeptBut, KeepsOn, OrphansAmong, Sweeps, PiecesFit, reserved, locked}
 use Rattle.std.proofs.Common.{true≢false}
 use Rattle.std.specs.Prelude.{Result, Ok, Err}
 
@@ -21,13 +21,7 @@ pub record SweptTo (rs : List Runner) (ts : List Translation) (table₀ table : 
   pub same_sizes : sizes m.swap ≡ sizes m₀.swap
 
 pub sweeps-trans : (rs : List Runner) (a b c : List Entry) → Sweeps rs a b → Sweeps rs b c → Sweeps rs a c
-sweeps-trans rs a b c p q = record {
-  swept = q.swept ∙ p.swept;
-  size = q.size ∙ p.size;
-  reserved = omega (arith, p.reserved, q.reserved);
-  locked = omega (arith, p.locked, q.locked);
-  pieces = λ fit. q.pieces (p.pieces fit);
-}
+sweeps-trans rs a b c p q = grind (arith, p.swept, q.swept, p.pieces, q.pieces)
 
 pub sweeps-none : (rs : List Runner) (a : List Entry) → Sweeps rs a a
 sweeps-none rs a = record { swept = refl; size = refl; reserved = omega arith; locked = omega arith; pieces = λ fit. fit }
@@ -35,33 +29,17 @@ sweeps-none rs a = record { swept = refl; size = refl; reserved = omega arith; l
 -- another table and other processes, where nothing grows past its bound
 pub kept-by : {lost more : List ℕ} (limits : Bounds) (t u : List Entry) (rs after : List Runner) → IsKeptBut lost limits t rs → length u ≤ length t → reserved u ≤ reserved t → locked u ≤ limits.memlock → PiecesFit u after → OrphansAmong more after u
     → IsKeptBut more limits u after
-kept-by limits t u rs after k few_entries few_pages few_locked pieces orphans = record {
-  few = omega (arith, k.few, few_entries);
-  reserved = omega (arith, k.reserved, few_pages);
-  shmall = k.shmall;
-  locked = few_locked;
-  memlock = k.memlock;
-  pieces = pieces;
-  orphans = orphans;
-}
+kept-by limits t u rs after k few_entries few_pages few_locked pieces orphans = grind arith
 
 -- once no orphan is left, all is as it was
 pub swept-well : {lost : List ℕ} (limits : Bounds) (rs : List Runner) (ts : List Translation) (t u : List Entry) (m n : StoreView) → SweptTo rs ts t u m n → OrphansAmong [] rs u
     → IsWellBut lost limits t rs ts m → IsWell limits u rs ts n
-swept-well limits rs ts t u m n d none w = record {
-  kept = kept-by limits t u rs rs w.kept (omega (arith, d.sweeps.size)) (omega (arith, d.sweeps.reserved)) (omega (arith, w.kept.locked, d.sweeps.locked)) (d.sweeps.pieces w.kept.pieces) none;
-  frames = d.runs.frames ∙ w.frames;
-  room = w.room;
-  translated = d.translated w.translated;
-}
+swept-well limits rs ts t u m n d none w = grind arith
 
 -- the next of a list
 pub among-next : (rs : List Runner) (t u : List Entry) (lost : List ℕ) (i d : ℕ) → i < length lost → OrphansAmong (drop i lost) rs t
     → ((rest : List ℕ) → OrphansAmong (get_or lost i d ∷ rest) rs t → OrphansAmong rest rs u) → OrphansAmong (drop (i + 1) lost) rs u
-among-next rs t u lost i d lt among fewer =
-    let next : suc i ≡ i + 1 = omega arith in
-    let all : OrphansAmong (get_or lost i d ∷ drop (suc i) lost) rs t = subst (λ ids. OrphansAmong ids rs t) (drop-cons lost i d lt) among in
-    fewer (drop (i + 1) lost) (subst (λ k. OrphansAmong (get_or lost i d ∷ drop k lost) rs t) next all)
+among-next rs t u lost i d lt among fewer = grind (arith, drop-cons)
 
 -- WHAT IS KNOWN OF A RESULT THAT WAS ASKED WHETHER IT IS AN ERROR
 

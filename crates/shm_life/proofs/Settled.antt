@@ -1,5 +1,5 @@
 -- What is kept through calls that take pieces out, and through those that put pieces in.
-use Rattle.shm_life.proofs.Names.{◌≡◌, ℕ, zero, suc, ◌+◌, ◌<◌, take, Bool, List, [], ◌∷◌, length, get_or, filter, Some, None, refl, sym, ap, ◌∙◌, inl, inr, arith, All-nil, All-map, All-filter, cases_Bool, none-some, All, find, Bounds, Piece, Live, Entry, Runner, Span, meets, cut_segments, has_origin, origin_of, StoreView, Move, Touched, Moves, Accessed, answer_of, Translation, AreTrue, IsCaller, pieces_at, caller_there, IsLive, orphan, id_at, change, detached, detach_all, SameTable, detach_all-same, PieceFits, PiecesFit, is_among, OrphansAmong, IsKeptBut, IsWellBut, IsWell}
+use Rattle.shm_life.proofs.Names.{nat_tests, ◌≡◌, ℕ, zero, suc, ◌+◌, ◌<◌, take, Bool, List, [], ◌∷◌, length, get_or, filter, Some, None, refl, sym, ap, ◌∙◌, arith, All-nil, All-map, All-filter, none-some, All, find, Bounds, Piece, Live, Entry, Runner, Span, meets, cut_segments, has_origin, origin_of, StoreView, Move, Touched, Moves, Accessed, answer_of, Translation, AreTrue, IsCaller, pieces_at, caller_there, IsLive, orphan, id_at, change, detached, detach_all, SameTable, detach_all-same, PieceFits, PiecesFit, is_among, OrphansAmong, IsKeptBut, IsWellBut, IsWell}
 use Rattle.std.proofs.Common.{map, slice_get, Option, option_map}
 use Rattle.std.specs.Prelude.{Result, Ok, Err}
 use Rattle.shm_attach.specs.declared.process.Caller.{Caller}
@@ -39,11 +39,7 @@ lives-cut table from to ps fit = lives-map table (filter (meets from to) ps) (Al
 
 found-all : (P : Piece → Type 0) (test : Piece → Bool) (ps : List Piece) (p : Piece) → All P ps → find test ps ≡ Some p → P p
 found-all P test [] p all is = absurd (none-some p is)
-found-all P test (q ∷ qs) p all is =
-    elim (cases_Bool (test q)) [
-      | inl h ↦ let same : q ≡ p = cc (rw h at is) in rw (← same) (all-head P q qs all)
-      | inr h ↦ found-all P test qs p (all-tail P q qs all) (rw h at is)
-    ]
+found-all P test (q ∷ qs) p all is = grind (arith, nat_tests, all-head P q qs all, found-all P test qs p (all-tail P q qs all))
 
 pub lives-origin : (table : List Entry) (addr seg : ℕ) (ps : List Piece) → All (PieceFits table) ps → option_map (λ (p : Piece). p.seg) (origin_of addr ps) ≡ Some seg → All (IsLive table) (seg ∷ [])
 lives-origin table addr seg ps fit is = by (origin_of addr ps) refl is

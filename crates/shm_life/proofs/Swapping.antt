@@ -1,5 +1,5 @@
 -- A swap area that is taken away, as the flat machine has it.
-use Rattle.shm_life.proofs.Names.{◌≡◌, ℕ, zero, suc, ◌+◌, ◌<◌, ◌≤◌, List, [], ◌∷◌, get_or, Some, None, refl, ap, arith, eq-eqb, lt-ltb, le-ltb, none-some, sum_by-cons, Machine, swapoff, refuses, gives, reserved, Done, Enomem, SwapView, AreaView, no_area, area_at, size_of, sizes}
+use Rattle.shm_life.proofs.Names.{◌≡◌, ℕ, zero, suc, ◌+◌, ◌<◌, ◌≤◌, List, [], ◌∷◌, get_or, Some, None, ap, arith, none-some, sum_by-cons, Machine, swapoff, refuses, gives, reserved, Done, Enomem, SwapView, AreaView, no_area, area_at, size_of, sizes}
 use Rattle.std.proofs.Common.{Option}
 use Rattle.std.specs.Prelude.{slice_get, slice_set, map}
 use Rattle.shm_base.specs.Step.{Caller}
@@ -29,11 +29,7 @@ pub is_there : (s : SwapView) (a n : ℕ) → size_of (area_at s a) ≡ Some n �
 is_there s a n is = there-at s.areas a n is
 
 pub off-few : (m : Machine) (c : Caller) (a n : ℕ) → c.cred.uid ≡ 0 → IsThere m.areas a n → flat.slots m.areas < reserved m.table + n → swapoff m c a ≡ refuses m Enomem
-off-few m c a n uid there few =
-    let less : flat.slots (slice_set m.areas a None) < reserved m.table = omega (arith, there.less, few) in
-    rw (eq-eqb c.cred.uid 0 uid, there.listed, lt-ltb (flat.slots (slice_set m.areas a None)) (reserved m.table) less) refl
+off-few m c a n uid there few = grind arith
 
 pub off-done : (m : Machine) (c : Caller) (a n : ℕ) → c.cred.uid ≡ 0 → IsThere m.areas a n → reserved m.table + n ≤ flat.slots m.areas → swapoff m c a ≡ gives (record m { areas = slice_set m.areas a None }) Done
-off-done m c a n uid there room =
-    let enough : reserved m.table ≤ flat.slots (slice_set m.areas a None) = omega (arith, there.less, room) in
-    rw (eq-eqb c.cred.uid 0 uid, there.listed, le-ltb (flat.slots (slice_set m.areas a None)) (reserved m.table) enough) refl
+off-done m c a n uid there room = grind arith
