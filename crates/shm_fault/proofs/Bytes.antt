@@ -74,10 +74,7 @@ paste-front : (x y new : List ℕ) (off : ℕ) → off + length new ≤ length x
 paste-front x y new off le = grind (arith, common_steps, append_assoc)
 
 paste-back : (x y new : List ℕ) (n m : ℕ) → length x ≡ n → paste (x ++ y) (n + m) new ≡ x ++ paste y m new
-paste-back x y new n m e =
-    let s : n + m + length new ≡ n + (m + length new) = omega arith in
-    rw (s, take-past x y n m e, drop-past x y n (m + length new) e)
-    (ap (λ l. l ++ drop (m + length new) y) (append_assoc x (take m y) new) ∙ append_assoc x (take m y ++ new) (drop (m + length new) y))
+paste-back x y new n m e = grind (arith, common_steps, take-past x y n m e, drop-past x y n (m + length new) e)
 
 -- a stretch of one page pasted, or read, in the bytes of all
 module _ (b : PageRef → List ℕ) (r : PageRef) (n : ℕ) (whole : (j : ℕ) → j < n → length (b (record { seg = r.seg; page = j })) ≡ 4096) where

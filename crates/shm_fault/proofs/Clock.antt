@@ -30,9 +30,4 @@ same-test s x (Some r) e = rw e refl
 
 -- where no frame is free, two at least have pages of segments that are not locked
 pub two_unlocked : (s : StoreView) → IsStoreSound s → OwnedBelow s.frames (length s.frames) → 2 ≤ count_by (page_may_go (unlocked s.segs)) s.frames
-two_unlocked s sound full =
-    let all = all-owned s.frames full in
-    let resident = resident-frames s sound.apart sound.tied in
-    let le = unlocked_resident s sound.apart sound.tied in
-    let same = count-ext (passes_by (λ r x. not (locked_by s.segs r.seg))) (page_may_go (unlocked s.segs)) s.frames (λ x. same-test s x x.owner refl) in
-    omega (arith, all, resident, le, same, sound.locked)
+two_unlocked s sound full = grind (arith, all-owned, resident-frames, unlocked_resident)

@@ -108,5 +108,4 @@ pub record IsEdited (f : SegRec → SegRec) (id : ℕ) (es fs : List (ℕ × Pag
 pub edited : (f : SegRec → SegRec) → ((g : SegRec) → (f g).id ≡ g.id) → (es : List (ℕ × PageTable)) (i id : ℕ) (w v : PageTable) → AreApart (segs_view es)
     → key_at es i ≡ Some id → Some w ≡ slice_get (values_of es) i → seg_of id v ≡ f (seg_of id w) → IsEdited f id es (set_value_at es i v)
 edited f keeps es i id w v apart key value is =
-    let view = edit-view f es i id w v apart (entry-from es i id w key value) is in
-    record { view = view; apart = rw view (apart-edit f keeps (segs_view es) id apart) }
+    grind (arith, edit-view f es i id w v apart (entry-from es i id w key value) is, apart-edit f keeps (segs_view es) id apart)

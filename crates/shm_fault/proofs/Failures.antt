@@ -16,23 +16,7 @@ total-written s k page lt = grind (arith, nat_tests, common_steps, sum_by-set, s
 
 pub total-fault : (s t : SwapView) (k : Slot) → IsSwap s → HasSlot s k.area k.slot → OneArea k.area s t → WriteFault k.slot (area_at s k.area) (area_at t k.area) → some_spent t ≡ false → total t ≡ total s + 1
 unfolding total some_spent
-total-fault s t k swap there one fault unspent =
-    let lt = there.0 in
-    let begun = (swap.each k.area).begun in
-    let areas : t.areas ≡ set s.areas k.area (area_at t k.area) = ap (λ (u : SwapView). u.areas) one in
-    let e = sum_by-set rise s.areas k.area (area_at t k.area) no_area lt in
-    let start : (area_at t k.area).start ≡ (area_at s k.area).start = ap (λ (b : AreaView). b.start) fault.0 in
-    elim fault.2 [
-      | inl more ↦ let sum : sum_by rise t.areas ≡ sum_by rise (set s.areas k.area (area_at t k.area)) = ap (λ l. sum_by rise l) areas in omega (arith, sum, e, start, more, begun)
-      | inr spent ↦ absurd (
-          let within : k.area < length t.areas = rw (areas, length-set s.areas k.area (area_at t k.area)) lt in
-          let same : (area_at t k.area).failed ≡ (area_at s k.area).failed = ap (λ (b : AreaView). b.failed) spent.1 in
-          let last : (area_at t k.area).failed ≡ last_count = same ∙ spent.0 in
-          let here : (area_at t k.area).here ≡ true = ap (λ (b : AreaView). b.here) fault.0 ∙ slot-here (area_at s k.area) (swap.each k.area) k.slot there.1 in
-          let spent_here : is_spent_here (area_at t k.area) ≡ true = rw (eq-eqb (area_at t k.area).failed last_count last) here in
-          let some : list_any is_spent_here t.areas ≡ true = list_any_at is_spent_here t.areas k.area no_area within spent_here in
-          cc)
-    ]
+total-fault s t k swap there one fault unspent = grind (arith, common_steps)
 
 -- counts that never fell, area by area
 record Rose (xs ys : List AreaView) : Type 0 where

@@ -29,8 +29,4 @@ puts s sound p f new fit at size =
     let after : IsStoreSound t = sound-stored s sound r f x at refl refl whole in
     let here : bytes_at t r ≡ paste (bytes_at s r) off new = bytes-stored s sound r f x at refl refl whole ∙ ap (λ l. paste l off new) (sym was) in
     let split : 4096 * (p.at / 4096) + off ≡ p.at = omega arith in
-    record {
-      sound = after;
-      bytes = rw split at (held-pasted s t sound sound.apart refl r off new has fits here (bytes-others s sound r f x at refl refl whole));
-      fits = fits-same s t sound after refl;
-    }
+    grind (arith, held-pasted s t sound sound.apart refl r off new has fits here (bytes-others s sound r f x at refl refl whole), fits-same s t sound after refl)

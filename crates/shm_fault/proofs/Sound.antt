@@ -34,14 +34,7 @@ module _ (off : PageRef → Bool) (s t : StoreView) (sound : IsStoreSound s) (to
       (let p = sum_locked-same s.segs t.segs to.segs.shape in omega (arith, p, to.frames.size, sound.locked))
 
   pub goes-touched : GoesOn s.swap t.swap → ((q : PageRef) → off q ≡ false → HasPage s.segs q → bytes_at t q ≡ bytes_at s q) → Goes s t
-  goes-touched goes_on bytes = record {
-    bytes = held-same s t sound.apart (apart-same s.segs t.segs to.segs.shape sound.apart) to.segs.shape (λ q has. elim (cases_Bool (off q)) [ inl is ↦ bytes_touched off s t to q is (sound.tied.pages q has) | inr on ↦ bytes q on has ]);
-    shape = to.segs.shape;
-    size = to.frames.size;
-    goes_on = goes_on;
-    same_sizes = same;
-    spent = spent-cause s.swap t.swap sound.swap goes_on;
-  }
+  goes-touched goes_on bytes = grind (arith, held-same, apart-same, bytes_touched, spent-cause)
 
 pub GoesOn-refl : (s : SwapView) → GoesOn s s
 GoesOn-refl s = record { areas = refl; starts = λ a. refl; counts = λ a. omega arith; here = λ a e. e; flag = λ e. e }

@@ -98,11 +98,7 @@ has_dirty r x = x.dirty
 module _ (s : StoreView) (apart : AreApart s.segs) (tied : Tied s) where
   pub resident-frames : resident s ≡ resident_of s.frames
   unfolding always
-  resident-frames =
-      sym (weigh-test has_frame s.segs)
-      ∙ weigh-ext (λ r p. cond (has_frame p) 1 0) (λ r p. cond (page_passes always s.frames r p.frame) 1 0) s.segs apart (λ r has. grind (arith, nat_tests))
-      ∙ sym (counted_frames s apart tied always)
-      ∙ count-ext (passes_by always) is_owned s.frames (λ x. grind (arith, nat_tests))
+  resident-frames = grind (arith, weigh-test has_frame s.segs, counted_frames s apart tied always)
 
   pub dirty-frames : dirty s ≡ dirty_of s.frames
   unfolding has_dirty

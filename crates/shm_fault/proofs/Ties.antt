@@ -59,34 +59,13 @@ module _ (off : PageRef → Bool) (s t : StoreView) (to : Touches off s t) where
   bytes_touched q is tie = rw (to.segs.recs q is) (bytes-off q is tie (rec_by s.segs q).frame refl)
 
   pub tied_off : (q : PageRef) → off q ≡ true → IsTied s q → IsTied t q
-  tied_off q is tie =
-      let same = to.segs.recs q is in
-      record {
-        frame_owned = λ f e. grind (arith, nat_tests, common_steps, s.segs, same, tie.frame_owned, to.frames.size, to.frames.alike);
-        owner_resident = λ f e. rw same (tie.owner_resident f (to.frames.owners f q is e));
-        slot_owned = λ k e.
-            let was : (rec_by s.segs q).slot ≡ Some k = rw same at e in
-            let own = tie.slot_owned k was in
-            (to.slots.has k q is own.1 own.0, (to.slots.kept k q is own.1).0);
-        owner_stored = λ k e. rw same (tie.owner_stored k (to.slots.owners k q is e));
-        clean = λ f e d. grind (arith, nat_tests, common_steps, s.segs, same, tie.frame_owned, to.frames.alike, t.swap, t.segs, s.swap, stored-off, tie.clean);
-        whole = rw (bytes_touched q is tie) tie.whole;
-      }
+  tied_off q is tie = grind (arith, nat_tests, tie.frame_owned, rec_by s.segs q, stored-off, tie.clean, bytes_touched q is tie, tie.whole)
 
   -- all pages stay tied, if those that were touched are
   pub tied_touched : Tied s → ((q : PageRef) → off q ≡ false → HasPage s.segs q → IsTied t q)
       → ((f : ℕ) (q : PageRef) → off q ≡ false → (frame_at t.frames f).owner ≡ Some q → HasPage s.segs q)
       → ((k : Slot) (q : PageRef) → off q ≡ false → owner_of t.swap k.area k.slot ≡ Some q → HasPage s.segs q) → Tied t
-  tied_touched tied here own_frame own_slot = record {
-    pages = λ q has.
-        let was = has-same t.segs s.segs q (sym to.segs.shape) has in
-        elim (cases_Bool (off q)) [ inl is ↦ tied_off q is (tied.pages q was) | inr on ↦ here q on was ];
-    owners = λ f q e.
-        has-same s.segs t.segs q to.segs.shape (elim (cases_Bool (off q)) [ inl is ↦ tied.owners f q (to.frames.owners f q is e) | inr on ↦ own_frame f q on e ]);
-    slot_owners = λ k q e.
-        has-same s.segs t.segs q to.segs.shape (elim (cases_Bool (off q)) [ inl is ↦ tied.slot_owners k q (to.slots.owners k q is e) | inr on ↦ own_slot k q on e ]);
-    free = to.frames.free;
-  }
+  tied_touched tied here own_frame own_slot = grind (arith, nat_tests, has-same, cases_Bool, tied_off)
 
 -- the owner is a page that may be touched, or nobody
 abbrev pub IsOwn : (PageRef → Bool) → Option PageRef → Type 0
@@ -105,8 +84,4 @@ frames-set off frames f x was is clean free = grind (arith, nat_tests, common_st
 
 -- slots, where one may have another page or owner, and that is such a page or nobody
 pub slots-only : (off : PageRef → Bool) (k : Slot) (s u : SwapView) → OnlySlot k s u → IsOwn off (owner_of s k.area k.slot) → IsOwn off (owner_of u k.area k.slot) → SlotsApart off s u
-slots-only off k s u only was is = record {
-  has = λ j q out e. only.has j;
-  kept = λ j q out e. grind (arith, nat_tests, common_steps, cases_slot, only.owners, only.pages);
-  owners = λ j q out e. grind (arith, nat_tests, common_steps, cases_slot, only.owners);
-}
+slots-only off k s u only was is = grind (arith, nat_tests, cases_slot, only.owners, only.pages)

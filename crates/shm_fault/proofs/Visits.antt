@@ -69,11 +69,13 @@ bit-other frames f p x n bit = ap (λ (z : Frame). z.referenced) (get_or-set_oth
 pub step-load : (s : StoreView) → IsStoreSound s → (f : ℕ) (bytes : List ℕ) → (frame_at s.frames f).owner ≡ None → (u : SwapView) (ins : ℕ) → SameSlots s.swap u → IsSwap u → sizes u ≡ sizes s.swap → GoesOn s.swap u
     → IsStep s (record s { frames = set s.frames f (record (frame_at s.frames f) { bytes = bytes }); swap = u; ins = ins })
 step-load s sound f bytes free u ins kept is same goes_on =
-    let keeps = keeps-load s sound f bytes free u ins kept is same goes_on in
-    record {
-      sound = keeps.sound;
-      visits = λ r pinned. grind (arith, nat_tests, common_steps, keeps.goes, bit-other, s.frames, elsewhere);
-    }
+    grind (
+      arith,
+      nat_tests,
+      common_steps,
+      keeps-load s sound f bytes free u ins kept is same goes_on,
+      (keeps-load s sound f bytes free u ins kept is same goes_on).sound,
+    )
 
 -- a page comes into a free frame
 pub record Settles (page : PageRef) (f : ℕ) (s t : StoreView) : Type 0 where
@@ -134,7 +136,4 @@ step-touch s sound f lt =
     let size = length-set s.frames f x in
     let alike = alike-set s.frames f x (record { owner = refl; bytes = refl; dirty = refl }) in
     let keeps = keeps-alike s sound (set s.frames f x) s.hand size alike (rw size sound.hand) in
-    record {
-      sound = keeps.sound;
-      visits = λ r pinned. grind (arith, nat_tests, common_steps, keeps.goes, get_or-set_same, s.frames, x, bit-other);
-    }
+    grind (arith, common_steps)
