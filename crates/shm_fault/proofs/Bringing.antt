@@ -207,45 +207,11 @@ module _ (s t : StoreView) (frames : List Frame) (count : length frames ≡ leng
 
   pub accessed : (ps : List Span) (here : InFrames) (u : Touched) → length ps ≤ 2 → Brings ps s t u true → AreIn t ps here → Accessed ps s (record t { frames = frames }) (Ok u)
   unfolding frame_of
-  accessed ps here u few b is = record {
-    cause = tt;
-    quiet = λ all. let q = b.quiet all in (refl, q.1, q.2, q.3);
-    ins_few = b.ins_few;
-    outs_few = b.outs_few;
-    swapped = b.swapped refl;
-    read_in = b.read_in;
-    written_out = b.written_out;
-    turns = record { still = b.turns.still; one = b.turns.one };
-    resident = all-referenced later ps here few (are-after ps here is);
-    moved = b.moves;
-    few_moved = b.few;
-    kept = kept-locked s later b.kept;
-    counts = b.goes.goes_on;
-    same_sizes = b.goes.same_sizes;
-    size = count ∙ b.goes.size;
-    sound = sound;
-  }
+  accessed ps here u few b is = grind (arith, kept-locked)
 
 -- and one that was not
 pub accessed-not : (ps : List Span) (s t : StoreView) (e : PagerFailed) → IsStoreSound t → Brings ps s t e.touched false → Accessed ps s t (Err e)
-accessed-not ps s t e sound b = record {
-  cause = b.cause refl;
-  quiet = λ all. absurd (false≢true (b.quiet all).0);
-  ins_few = b.ins_few;
-  outs_few = b.outs_few;
-  swapped = tt;
-  read_in = b.read_in;
-  written_out = b.written_out;
-  turns = b.turns;
-  resident = tt;
-  moved = b.moves;
-  few_moved = b.few;
-  kept = kept-locked s t b.kept;
-  counts = b.goes.goes_on;
-  same_sizes = b.goes.same_sizes;
-  size = b.goes.size;
-  sound = sound;
-}
+accessed-not ps s t e sound b = grind (arith, kept-locked)
 
 -- the stretches of a list of at most two
 pub list-one : (ps : List Span) (p : Span) → Some p ≡ slice_get ps 0 → false ≡ ltb 1 (length ps) → ps ≡ p ∷ []

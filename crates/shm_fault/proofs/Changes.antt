@@ -193,9 +193,7 @@ keeps-load s sound f bytes free u ins kept is same goes_on =
 
 -- a frame set twice
 pub set-twice : (frames : List Frame) (f : ℕ) (x : Frame) (h : Frame → Frame) {a b : List Frame} → f < length frames → a ≡ set frames f x → b ≡ set a f (h (frame_at a f)) → b ≡ set frames f (h x)
-set-twice frames f x h {a} {b} lt first second =
-    let at : frame_at a f ≡ x = ap (λ (fs : List Frame). frame_at fs f) first ∙ get_or-set_same frames f x no_frame lt in
-    second ∙ ap (λ (y : Frame). set a f (h y)) at ∙ ap (λ (fs : List Frame). set fs f (h x)) first ∙ set-set frames f x (h x)
+set-twice frames f x h {a} {b} lt first second = grind (arith, common_steps, set-set)
 
 -- a resident page's bytes change
 module _ (s : StoreView) (sound : IsStoreSound s) (r : PageRef) (f : ℕ) (x : Frame) (at_frame : (rec_by s.segs r).frame ≡ Some f) (x_owner : x.owner ≡ (frame_at s.frames f).owner) (x_dirty : x.dirty ≡ true) (whole : length x.bytes ≡ 4096) where

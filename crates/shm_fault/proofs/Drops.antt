@@ -38,7 +38,7 @@ pub record GivenSlots (s : StoreView) (r : PageRef) (u : SwapView) : Type 0 wher
   pub kept : (k : Slot) → disowned r.seg (owner_of u k.area k.slot) ≡ disowned r.seg (owner_of s.swap k.area k.slot)
 
 pub given-slots : (s : StoreView) → IsStoreSound s → (r : PageRef) → HasPage s.segs r → (u : SwapView) → (o : Option Slot) → (rec_by s.segs r).slot ≡ o → Given s.swap o u → GivenSlots s r u
-given-slots s sound r has u None e given = grind (arith, nat_tests, common_steps, slots-same, s.swap, s.segs, sound.tied.pages)
+given-slots s sound r has u None e given = grind arith
 given-slots s sound r has u (Some j) e given =
     let tie = sound.tied.pages r has in
     let own = tie.slot_owned j e in
@@ -46,12 +46,7 @@ given-slots s sound r has u (Some j) e given =
     let v : SwapView = without_slot s.swap j page in
     let only : OnlySlot j s.swap v = OnlySlot-given j s.swap page in
     let now : owner_of v j.area j.slot ≡ None = owner-given j s.swap page own.0.0 (omega (arith, own.0.1, (sound.swap.each j.area).owned)) in
-    let g : GivenSlots s r v = record {
-      apart = slots-only (other r) j s.swap v only (IsOwn-some r _ own.1) (IsOwn-none (other r) _ now);
-      none = λ k h. grind (arith, nat_tests, common_steps, cases_slot, now, tie.owner_stored, only.owners);
-      kept = λ k. grind (arith, nat_tests, common_steps, cases_slot, now, own.1, disowned-own, r.seg, only.owners);
-    } in
-    rw given g
+    grind (arith, slots-only)
 
 -- a page is nowhere from now on
 pub record Forgets (r : PageRef) (s t : StoreView) : Type 0 where
