@@ -1,5 +1,5 @@
 -- Where a new segment goes: to an index that holds none.
-use Rattle.shm_laws.proofs.Names.{◌≡◌, ◌≢◌, ◌⊎◌, ℕ, suc, ◌+◌, ◌&&◌, true, nat_lt, is_none, List, [], ◌∷◌, ◌++◌, length, Option, Some, None, slice_get, refl, sym, ap, ◌∙◌, inl, inr, arith, length-append, common_steps, cases_Bool, cases_eq, slice_get_past, Segment, Entry, free_from, free_index, destroyed_at, with_segment, get-set_same, get-set_other}
+use Rattle.shm_laws.proofs.Names.{◌≡◌, ◌≢◌, ◌⊎◌, ℕ, suc, ◌+◌, ◌&&◌, true, nat_lt, is_none, List, [], ◌∷◌, length, Option, Some, None, slice_get, refl, sym, ap, ◌∙◌, inl, inr, arith, length-append, common_steps, cases_Bool, cases_eq, slice_get_past, Segment, Entry, free_from, free_index, destroyed_at, with_segment, get-set_same, get-set_other}
 use Rattle.std.proofs.lemmas.Option.{gets}
 
 -- an entry with no segment, or the place behind the last

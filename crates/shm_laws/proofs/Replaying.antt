@@ -1,5 +1,5 @@
 -- Of legal histories without failures there is one for each opening and calls.
-use Rattle.shm_laws.proofs.Names.{◌≡◌, ℕ, ◌+◌, true, false, List, [], ◌∷◌, Option, refl, sym, ap, ◌∙◌, arith, common_steps, Call, Load, Bytes, Event, Machine, Opening, Caller, acts, step_by, step, caller_of, is_refusal, is_failure, IsExcused, IsMove, LeadsFrom, IsHistory, calls_of, failures_in, clear_step, failures-cons, first_clear, rest_clear, undone, without_failures, IsReplayed}
+use Rattle.shm_laws.proofs.Names.{◌≡◌, ℕ, ◌+◌, true, false, List, [], ◌∷◌, Option, refl, sym, ap, ◌∙◌, arith, common_steps, Call, Load, Bytes, Event, Machine, Opening, Caller, step_by, step, caller_of, is_refusal, is_failure, IsExcused, IsMove, LeadsFrom, IsHistory, calls_of, failures_in, clear_step, failures-cons, first_clear, rest_clear, undone, without_failures, IsReplayed}
 
 -- THE STEP NAMES NO FAILURE
 

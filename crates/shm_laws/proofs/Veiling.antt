@@ -1,5 +1,5 @@
 -- A table with the bytes of some segments hidden: what it counts and finds, and what becomes of it.
-use Rattle.shm_laws.proofs.Names.{◌≡◌, ℕ, suc, zero, ◌+◌, ◌/◌, ◌%◌, ℤ, pos, negsuc, Bool, true, false, is_none, cond, List, [], ◌∷◌, ◌++◌, length, Option, Some, None, slice_get, slice_set, refl, ap, ◌∙◌, inl, inr, arith, common_steps, option_map, sum_by, is_some, cases_Bool, length-replicate, sum_by-cons, Segment, Entry, Runner, pages_in, Place, set_in, entry_byte_set, with_byte, stored, bytes_at_entry, byte_at, loaded, Look, Found, Removed, Invalid, identifier, free_from, destroyed_in, destroyed_at, with_segment, look_segment, look_entry, look, has_key, key_from, find_key, pages_held, pages_locked, reserved, locked, segment_count, with_entry, change, detached, detach_all, swept_at, swept_from, length-slice_set, veiled, veiled_entry, veiled_from}
+use Rattle.shm_laws.proofs.Names.{◌≡◌, ℕ, suc, zero, ◌+◌, ◌/◌, ◌%◌, ℤ, pos, negsuc, Bool, true, false, is_none, cond, List, [], ◌∷◌, ◌++◌, length, Option, Some, None, slice_get, slice_set, refl, ap, ◌∙◌, inl, inr, arith, common_steps, option_map, sum_by, is_some, cases_Bool, length-replicate, sum_by-cons, Segment, Entry, Runner, pages_in, Place, set_in, entry_byte_set, with_byte, stored, byte_at, loaded, Look, Found, Removed, Invalid, identifier, free_from, destroyed_in, destroyed_at, with_segment, look_segment, look_entry, look, has_key, key_from, find_key, pages_held, pages_locked, reserved, locked, segment_count, with_entry, change, detached, detach_all, swept_at, swept_from, length-slice_set, veiled, veiled_entry, veiled_from}
 use Rattle.shm_laws.proofs.Turning.{turned-byte}
 
 -- A SEGMENT

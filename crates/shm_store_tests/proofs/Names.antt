@@ -5,7 +5,7 @@ pub use Rattle.std.proofs.lemmas.Fn.{filter_same}
 pub use Rattle.std.proofs.lemmas.Grind.{common_steps}
 pub use Rattle.std.proofs.lemmas.List.{get_or_default, length-map, length-replicate}
 pub use Rattle.std.proofs.lemmas.List.Edits.{map_over_more}
-pub use Rattle.std.proofs.lemmas.List.Elements.{All-cons, All-get_or, All-head, All-map, All-nil, All-tail}
+pub use Rattle.std.proofs.lemmas.List.Elements.{All-get_or, All-head, All-map, All-tail}
 pub use Rattle.std.proofs.lemmas.List.Sums.{sum_by-cons}
 pub use Rattle.std.specs.Prelude.{All, sum_by}
 pub use Rattle.shm_base.specs.declared.paging.PageRef.{PageRef}
@@ -19,6 +19,6 @@ pub use Rattle.shm_plain.proofs.Kept.{apart-lock, apart-push, apart-without}
 pub use Rattle.shm_plain.proofs.Pasted.{apart-pasted, fits-pasted, fits-written, length-paste}
 pub use Rattle.shm_plain.specs.Apart.{AreHeldApart}
 pub use Rattle.shm_plain.specs.Held.{FitsPage, Held, bytes_in, bytes_of, find_held, is_held, pages_held, pages_in, pasted, with_lock, with_zeros, without, written}
-pub use Rattle.shm_slots.specs.View.{AreaView, SwapView, area_at, fresh, new_swap, owner_of, size_of, slots}
+pub use Rattle.shm_slots.specs.View.{AreaView, SwapView, fresh, new_swap, owner_of, size_of}
 pub use Rattle.shm_store_tests.specs.Trial.{AreAlike, HasThree, IsAccess, Row, known, pages_all, pages_pinned, row_of, row_with_lock, three, with_frame}
 pub use Rattle.shm_store_tests.specs.Unlocked.{is_unlocked}

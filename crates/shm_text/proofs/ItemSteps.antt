@@ -1,5 +1,5 @@
 -- Reading line by line, from left to right.
-use Rattle.shm_text.proofs.Names.{common_steps, arith, ◌≡◌, ◌≤◌, ◌+◌, ◌++◌, ◌∙◌, ap, sym, refl, ℕ, List, [], ◌∷◌, true, false, Option, Some, None, Bool, cond, length, append_assoc, append-nil, length-append, nat_lt, is_some, IsOk, FaultKind, NoLimits, ScriptFault, Item, Bounds, ScriptView, SeenView, ◌>>=◌, line_item, with_item, seen_with, seen_next, limits_after, processes_in, lines_in, script_by, script_from}
+use Rattle.shm_text.proofs.Names.{common_steps, arith, ◌≡◌, ◌≤◌, ◌+◌, ◌++◌, ◌∙◌, ap, sym, refl, ℕ, List, [], ◌∷◌, true, false, Option, Some, None, Bool, cond, length, append_assoc, append-nil, length-append, nat_lt, is_some, IsOk, FaultKind, NoLimits, ScriptFault, Item, Bounds, ScriptView, SeenView, ◌>>=◌, line_item, with_item, seen_next, limits_after, processes_in, lines_in, script_by, script_from}
 use Rattle.std.proofs.Common.{Result, Ok, Err}
 use Rattle.shm_text.specs.declared.script.Item.TheVariants as items
 use Rattle.shm_text.specs.Reading.{script_of, items_of}

@@ -17,22 +17,21 @@ pub use Rattle.std.proofs.lemmas.List.Splits.{length-slice_split, slice_split_at
 pub use Rattle.std.proofs.lemmas.List.Sums.{count_by-le-length, length-filter, list_all-from_AllPass}
 pub use Rattle.std.proofs.lemmas.Option.{cond_some}
 pub use Rattle.std.specs.Char.{digit_value, is_digit}
-pub use Rattle.std.specs.List.{after_first, list_all, onto_first, position_or_len, slice_split}
-pub use Rattle.std.specs.Option.{ok_or}
+pub use Rattle.std.specs.List.{list_all, onto_first, position_or_len, slice_split}
 pub use Rattle.std.specs.Prelude.{All, IsOk, codes, filter, if◌then◌else◌, is_some, nat_lt, not, position, ◌&&◌, ◌==◌, ◌||◌}
 pub use Rattle.std.specs.Str.{bytes_eq}
 pub use Rattle.std.specs.Str.Parse.{digits_value}
 pub use Rattle.shm_base.specs.Bounds.{Bounds}
 pub use borrow.Author.Tests.{ltb-false, ltb-true}
-pub use Rattle.shm_text.specs.Calls.{call_by, call_with, operands, verb_of}
+pub use Rattle.shm_text.specs.Calls.{call_by, call_with, operands}
 pub use Rattle.shm_text.specs.Number.{number_from}
 pub use Rattle.shm_text.specs.Operand.{names_of, wanted, ◌>>=◌}
-pub use Rattle.shm_text.specs.Reading.{SeenView, at_line, command, command_of, counted, declared_pid, has, is_command, is_skipped, is_wordless, items_of, limits_after, line_item, lines_in, nothing, processes_in, script_by, script_from, seen_next, seen_with, taker, with_item}
+pub use Rattle.shm_text.specs.Reading.{SeenView, command, command_of, counted, declared_pid, has, is_command, is_skipped, is_wordless, items_of, limits_after, line_item, lines_in, nothing, processes_in, script_by, script_from, seen_next, taker, with_item}
 pub use Rattle.shm_text.specs.Script.{ScriptView}
-pub use Rattle.shm_text.specs.Words.{LinesView, first_line, is_allowed, is_space, line_end, lines_of, texts, with_word, without_rest, word_at, words_of}
+pub use Rattle.shm_text.specs.Words.{first_line, is_allowed, is_space, line_end, lines_of, with_word, without_rest, word_at, words_of}
 pub use Rattle.shm_text.specs.declared.calls.Verb.{Verb}
 pub use Rattle.shm_text.specs.declared.fault.FaultKind.{FaultKind}
-pub use Rattle.shm_text.specs.declared.fault.FaultKind.TheVariants.{BadLine, NoLimits, TooMany}
+pub use Rattle.shm_text.specs.declared.fault.FaultKind.TheVariants.{NoLimits, TooMany}
 pub use Rattle.shm_text.specs.declared.fault.ScriptFault.{ScriptFault}
 pub use Rattle.shm_text.specs.declared.number.Number.{Number}
 pub use Rattle.shm_text.specs.declared.number.Number.TheVariants.{Fits}

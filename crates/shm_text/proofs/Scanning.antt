@@ -1,5 +1,5 @@
 -- The words of a line, cut off from left to right.
-use Rattle.shm_text.proofs.Names.{common_steps, arith, ◌≡◌, ◌≤◌, ◌<◌, ◌+◌, ◌-◌, ◌++◌, ◌∙◌, ap, sym, refl, ℕ, List, [], ◌∷◌, zero, suc, true, false, Bool, cond, length, take, drop, append_assoc, append-nil, length-drop, get_or, eqb, All, filter, not, ◌&&◌, list_all, slice_split_at, slice_split_none, take_all, take-append-drop, drop-drop, get_or-drop, drop-cons, add-one, All-more, list_all_more, nat_tests, is_allowed, is_space, words_of, with_word}
+use Rattle.shm_text.proofs.Names.{common_steps, arith, ◌≡◌, ◌≤◌, ◌<◌, ◌+◌, ◌-◌, ◌++◌, ◌∙◌, ap, sym, refl, ℕ, List, [], ◌∷◌, zero, suc, true, false, Bool, length, take, drop, append_assoc, append-nil, length-drop, get_or, eqb, All, filter, not, ◌&&◌, list_all, slice_split_at, slice_split_none, take_all, take-append-drop, drop-drop, get_or-drop, drop-cons, add-one, All-more, list_all_more, nat_tests, is_allowed, is_space, words_of, with_word}
 
 -- what is taken of a list may be taken of its front before
 pub take-take_append : {A : Type 0} → (n : ℕ) (xs ys : List A) → take n (take n xs ++ ys) ≡ take n (xs ++ ys)

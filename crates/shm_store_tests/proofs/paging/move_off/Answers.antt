@@ -1,4 +1,4 @@
-use Rattle.shm_store_tests.proofs.Names.{common_steps, sym, ◌∙◌, arith, area_at, held}
+use Rattle.shm_store_tests.proofs.Names.{common_steps, arith}
 use Rattle.shm_store_tests.proofs.Trials.{three-pages, sized}
 use Rattle.shm_store_tests.proofs.paging.move_off.Goals as goal
 

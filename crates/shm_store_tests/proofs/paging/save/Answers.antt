@@ -1,4 +1,4 @@
-use Rattle.shm_store_tests.proofs.Names.{arith, common_steps, ◌≡◌, [], ◌∷◌, written, held}
+use Rattle.shm_store_tests.proofs.Names.{arith, common_steps}
 use Rattle.shm_store_tests.proofs.Trials.{three-written}
 use Rattle.shm_store_tests.proofs.paging.save.Goals as goal
 

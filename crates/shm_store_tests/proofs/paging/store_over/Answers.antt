@@ -1,4 +1,4 @@
-use Rattle.shm_store_tests.proofs.Names.{common_steps, ◌≡◌, ◌≤◌, [], refl, ap, ◌∙◌, arith, pager_seen, with_zeros, slots, held, fresh_store}
+use Rattle.shm_store_tests.proofs.Names.{common_steps, ◌≡◌, ap, arith, pager_seen, with_zeros, held, fresh_store}
 use Rattle.shm_store_tests.proofs.Trials.{fresh-free, fresh-held, three-added}
 use Rattle.shm_store_tests.proofs.paging.store_over.Goals as goal
 

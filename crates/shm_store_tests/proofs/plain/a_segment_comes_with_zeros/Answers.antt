@@ -1,4 +1,4 @@
-use Rattle.shm_store_tests.proofs.Names.{common_steps, rules, ◌≡◌, false, [], ◌∷◌, None, arith, All-cons, All-nil, All, Span, FitsPage, is_held, with_zeros, fits-zeros}
+use Rattle.shm_store_tests.proofs.Names.{common_steps, arith, fits-zeros}
 use Rattle.shm_store_tests.proofs.plain.a_segment_comes_with_zeros.Goals as goal
 
 pub read-requires-clause-fit : goal.read-requires-clause-fit

@@ -1,4 +1,4 @@
-use Rattle.shm_store_tests.proofs.Names.{arith, common_steps, rules, List, [], ◌∷◌, get_or, All, Span, FitsPage, fits-written}
+use Rattle.shm_store_tests.proofs.Names.{arith, common_steps, fits-written}
 use Rattle.shm_store_tests.proofs.plain.bytes_stay_where_they_are_put.Goals as goal
 
 pub read-requires-2-clause-fit : goal.read-requires-2-clause-fit

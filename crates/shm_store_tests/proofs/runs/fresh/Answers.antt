@@ -1,4 +1,4 @@
-use Rattle.shm_store_tests.proofs.Names.{arith, common_steps, ◌≡◌, [], sym, ap, ◌∙◌, pager_seen, held}
+use Rattle.shm_store_tests.proofs.Names.{arith, common_steps, pager_seen}
 use Rattle.shm_store_tests.proofs.Trials.{fresh-free, fresh-held}
 use Rattle.shm_store_tests.proofs.runs.fresh.Goals as goal
 

@@ -1,4 +1,4 @@
-use Rattle.shm_store_tests.proofs.Names.{arith, common_steps, is_some, ap, ◌∙◌, sym, is_held}
+use Rattle.shm_store_tests.proofs.Names.{arith, common_steps}
 use Rattle.shm_store_tests.proofs.Rows.{has-told}
 use Rattle.shm_store_tests.proofs.runs.has.Goals as goal
 

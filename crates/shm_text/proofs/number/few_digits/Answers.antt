@@ -1,4 +1,4 @@
-use Rattle.shm_text.proofs.Names.{common_steps, rules, arith, ◌≡◌, ◌<◌, ◌+◌, ◌*◌, ◌^◌, ap, sym, length, take, get_or, true, Some, not, ◌==◌, is_digit, digit_value, digits_value, digits_value_more, take_all, All-more}
+use Rattle.shm_text.proofs.Names.{common_steps, rules, arith, ◌≡◌, ◌<◌, ◌+◌, ◌*◌, ◌^◌, sym, length, get_or, true, is_digit, digit_value, digits_value_more, take_all, All-more}
 use Rattle.std.proofs.lemmas.Bool.{lt-ltb}
 use Rattle.shm_text.proofs.Growing.{grown, fits, kept, all_digits}
 use Rattle.shm_text.proofs.number.few_digits.Goals as goal

@@ -1,6 +1,6 @@
-use Rattle.shm_text.proofs.Names.{common_steps, rules, arith, ◌≡◌, ◌∙◌, ap, sym, subst, [], ◌∷◌, ◌++◌, length, SeenView, with_item, items_of, nothing, lines_of}
+use Rattle.shm_text.proofs.Names.{common_steps, rules, arith, ◌≡◌, ap, [], ◌∷◌, ◌++◌, length, SeenView, with_item}
 use Rattle.shm_text.proofs.Cut.{length-lines_of-le}
-use Rattle.shm_text.proofs.ItemSteps.{Goes, goes_on, goes_wrong, goes_to_end, starts, counts_on, limits_go_on, said_wrong, said_by, ok_with, none_with}
+use Rattle.shm_text.proofs.ItemSteps.{goes_on, goes_wrong, goes_to_end, starts, counts_on, limits_go_on, said_wrong, said_by, ok_with, none_with}
 use Rattle.shm_text.proofs.reading.first_fault.Goals as goal
 
 pub loop-lines-init : goal.loop-lines-init

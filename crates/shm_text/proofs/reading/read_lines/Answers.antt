@@ -1,6 +1,6 @@
-use Rattle.shm_text.proofs.Names.{common_steps, rules, arith, ◌≡◌, ◌∙◌, ap, sym, subst, [], ◌∷◌, ◌++◌, length, Some, None, refl, SeenView, with_item, items_of, nothing, processes_in, lines_in, lines_of}
+use Rattle.shm_text.proofs.Names.{common_steps, rules, arith, ◌≡◌, ◌∙◌, ap, sym, [], ◌∷◌, ◌++◌, length, SeenView, with_item, processes_in, lines_in}
 use Rattle.shm_text.proofs.Cut.{length-lines_of-le}
-use Rattle.shm_text.proofs.ItemSteps.{Goes, goes_on, goes_wrong, goes_to_end, starts, counts_on, limits_go_on, processes_in-append, lines_in-append, said_wrong, said_by}
+use Rattle.shm_text.proofs.ItemSteps.{goes_on, goes_wrong, goes_to_end, starts, counts_on, limits_go_on, processes_in-append, lines_in-append, said_wrong, said_by}
 use Rattle.shm_text.proofs.reading.read_lines.Goals as goal
 
 pub loop-lines-init : goal.loop-lines-init

@@ -1,4 +1,4 @@
-use Rattle.shm_text.proofs.Names.{common_steps, arith, rules, ◌≤◌, length, take, length-map, length-take, texts}
+use Rattle.shm_text.proofs.Names.{common_steps, arith, length-map, length-take}
 use Rattle.shm_text.proofs.Scanning.{kept_none}
 use Rattle.shm_text.proofs.words.Words.keep.Goals as goal
 
