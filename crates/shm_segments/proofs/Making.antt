@@ -51,11 +51,6 @@ kept-without hs rows pages locks seg v k looked =
     sizes : LiveAt rows seg (record { key = key_at rows (seg % 32768); value = v }) → SizesFit (without_row rows (seg % 32768))
     sizes at = grind (arith, common_steps, live-without_here, at.within, k.sizes, live-without, at.own)
 
--- its pages are among those that are counted
-pub pages-within : (hs : List Held) (rows : List (Entry Head)) (pages locks seg : ℕ) (v : Head) → AreSegmentsKept hs rows pages locks → look rows (pos seg) ≡ Ok v
-    → (pages_of v.size ≤ pages) × ((if v.locked then pages_of v.size else 0) ≤ locks)
-pages-within hs rows pages locks seg v k looked = grind (arith, common_steps, nat_tests)
-
 -- LOCKED OR UNLOCKED
 
 pub kept-locked : (hs : List Held) (rows : List (Entry Head)) (pages locks seg : ℕ) (v : Head) (b : Bool) → AreSegmentsKept hs rows pages locks → look rows (pos seg) ≡ Ok v

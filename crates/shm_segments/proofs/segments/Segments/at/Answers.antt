@@ -14,6 +14,3 @@ returns-in-Some-clause-found g c =
 
 pub returns-in-None-clause-none : goal.returns-in-None-clause-none
 returns-in-None-clause-none g c = grind (arith, common_steps, c.args.index, c.in-None.is, c.row_at.ensures, c.self.view_is, none-at, unlisted-row)
-
-pub returns-in-Some-clause-index : goal.returns-in-Some-clause-index
-returns-in-Some-clause-index g c = grind (arith, common_steps)

@@ -1,21 +1,12 @@
 use Rattle.shm_segments.proofs.Names.{ap, ◌∙◌, arith, destroyed, held, SegmentsView, common_steps}
 use Rattle.shm_segments.proofs.Finding.{is_live-row}
 use Rattle.shm_segments.proofs.Joins.{same-held}
-use Rattle.shm_segments.proofs.Making.{kept-without, pages-within}
+use Rattle.shm_segments.proofs.Making.{kept-without}
 use Rattle.shm_segments.proofs.Remembered.{runs-without}
 use Rattle.shm_segments.proofs.segments.Segments.destroy.Goals as goal
 
 pub take-head-requires : goal.take-head-requires
 take-head-requires g c = is_live-row (held c.self.inside.store) c.self.inside.table c.args.seg (rw (← c.self.view_is) at c.requires)
-
-pub drop_segment-requires : goal.drop_segment-requires
-drop_segment-requires g c = grind (arith, common_steps)
-
-pub overflow_sub-self : goal.overflow_sub-self
-overflow_sub-self g c = grind (arith, common_steps)
-
-pub overflow_sub-self-2 : goal.overflow_sub-self-2
-overflow_sub-self-2 g c = grind (arith, common_steps)
 
 pub invariant_of-self : goal.invariant_of-self
 invariant_of-self g c =
