@@ -4,15 +4,3 @@ use Rattle.shm_attach.proofs.tables.Tables.extend.Goals as goal
 
 pub returns-in-Some-clause-tied : goal.returns-in-Some-clause-tied
 returns-in-Some-clause-tied g c = tied-table c.args.self.now c.args.key c.in-Some.table.now c.extend.new.self c.requires.tied (sym c.in-Some.ensures.value) c.extend.ensures.rest
-
-pub returns-in-Some-clause-counts : goal.returns-in-Some-clause-counts
-returns-in-Some-clause-counts g c = grind (arith, common_steps)
-
-pub returns-in-Some-clause-seg : goal.returns-in-Some-clause-seg
-returns-in-Some-clause-seg g c = grind (arith, common_steps)
-
-pub returns-in-Some-clause-held : goal.returns-in-Some-clause-held
-returns-in-Some-clause-held g c = grind (arith, common_steps)
-
-pub returns-in-Some-clause-translated : goal.returns-in-Some-clause-translated
-returns-in-Some-clause-translated g c = grind (arith, common_steps)
