@@ -47,7 +47,7 @@ pub returns-clause-index : goal.returns-clause-index
 returns-clause-index g c = grind (arith, common_steps, skip, fresh, identifier-mod)
 
 pub returns-clause-few : goal.returns-clause-few
-returns-clause-few g c = grind (arith, common_steps, fresh, with_row-few, c.in-Some.index, c.self.invariant.0, c.free_from.ensures, c.in-Some.is, c.put_row-id.ensures.items, c.room_at.ensures.items, c.args.key, c.args.value, c.self.invariant.0.fits.indexes)
+returns-clause-few g c = grind (arith, common_steps, fresh, with_row-few, c.in-Some.index)
 
 pub returns-clause-fresh : goal.returns-clause-fresh
 returns-clause-fresh g c = grind (arith, common_steps, fresh, look-id_at)
