@@ -56,7 +56,8 @@ shorter_filter p xs = rw (length-filter p xs) (count_by-le-length p xs)
 pub pieces_of-without : (id addr seg : ℕ) (ps : List flat.Piece) (n : ℕ) → length (without_named addr seg ps) + n ≡ length ps
     → pieces_of id (without_named addr seg ps) + some_if id seg n ≡ pieces_of id ps
 pieces_of-without id addr seg [] n gone = grind (arith, common_steps)
-pieces_of-without id addr seg (p ∷ ps) n gone = grind (arith, common_steps, shorter_filter, one_more, pieces_of-without id addr seg ps n, pieces_of-without id addr seg ps (n - 1))
+pieces_of-without id addr seg (p ∷ ps) n gone =
+    grind (arith, common_steps, shorter_filter, one_more, pieces_of-without id addr seg ps n, pieces_of-without id addr seg ps (n - 1))
 
 -- WHAT A CUT LEAVES OF A COUNT
 

@@ -41,7 +41,8 @@ pub live-without : (rows : List (Entry Head)) (i at : ℕ) → i < length rows �
 live-without rows i at within apart = elim (cases_eq (at % 32768) i) [ inl here ↦ live-without_here rows i at within here ∙ sym (live-stale rows i at here apart) | inr other ↦ live-without_other rows i at other ]
 
 pub agree-without : (hs : List Held) (rows : List (Entry Head)) (i : ℕ) → Agree hs rows → i < length rows → Agree (without hs (id_of rows i)) (without_row rows i)
-agree-without hs rows i agree within = grind (arith, common_steps, length-set, identifier-mod, entry_at, option_map, shape_held, find_held, find-without_same, find-without_other)
+agree-without hs rows i agree within =
+    grind (arith, common_steps, length-set, identifier-mod, option_map, find-without_same, find-without_other)
 
 -- CREATED
 
@@ -100,4 +101,5 @@ live-with_row_other rows i at key v free apart = grind (arith, common_steps, at_
 
 pub agree-with_row : (hs : List Held) (rows : List (Entry Head)) (i key pages : ℕ) (v : Head) → Agree hs rows → IsFree rows i → v.locked ≡ false → pages ≡ pages_of v.size
     → Agree (with_zeros hs (id_of rows i) pages) (with_row rows i key v)
-agree-with_row hs rows i key pages v agree free lock size = grind (arith, common_steps, with_row-few, replicate, length-replicate, option_map, shape_held, find_held, with_zeros, find-zeros_same, find-zeros_other, live-with_row_other)
+agree-with_row hs rows i key pages v agree free lock size =
+    grind (arith, common_steps, with_row-few, length-replicate, option_map, find-zeros_same, find-zeros_other, live-with_row_other)
