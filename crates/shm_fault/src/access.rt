@@ -113,7 +113,8 @@ impl<P: Pager> PageStore<P> {
         })
     }
 
-    // Brings in the pages of at most two stretches.
+    // Brings in the pages of at most two stretches, the first page first, and answers their frames. The store is sound
+    // then.
     #[inline(always)]
     fn bring_spans(&mut self, spans: &[Span], touched: &mut Touched) -> Result<InFrames, PagerFault>
         requires few { length spans.now ≤ 2 }
@@ -122,30 +123,17 @@ impl<P: Pager> PageStore<P> {
         requires none { (touched.old.moved.items ≡ []) × (touched.old.ins ≡ 0) × (touched.old.outs ≡ 0) }
         ensures here { IfOk result (AreIn self.new spans.now) }
         ensures brings { Brings spans.now self.old self.new touched.new (is_ok result) }
+        ensures sound { IsStoreSound self.new }
     {
+        // What is read of the store has a proof know what is true of it.
+        let _ = &self.segs;
         let Some(first) = spans.first() else {
             return Ok(InFrames::ANY);
         };
-        match spans.get(1) {
+        let brought = match spans.get(1) {
             Some(second) => self.bring_two(first, second, touched),
             None => self.bring_one(first, touched),
-        }
-    }
-
-    // Brings in the pages of at most two stretches, the first page first, and answers their frames. The store is sound
-    // then.
-    #[inline(always)]
-    fn bring(&mut self, spans: &[Span], touched: &mut Touched) -> Result<InFrames, PagerFault>
-        requires few { length spans.now ≤ 2 }
-        requires fit { All (FitsPage (held self.old)) spans.now }
-        requires frames { All (λ (p : Stretch). p.frame ≡ frame_of self.old p.seg (page_of p)) spans.now }
-        requires none { (touched.old.moved.items ≡ []) × (touched.old.ins ≡ 0) × (touched.old.outs ≡ 0) }
-        ensures here { IfOk result (AreIn self.new spans.now) }
-        ensures brings { Brings spans.now self.old self.new touched.new (is_ok result) }
-        ensures sound { IsStoreSound self.new }
-    {
-        let brought = self.bring_spans(spans, touched);
-        // What is read of the store has a proof know what is true of it.
+        };
         let _ = &self.segs;
         brought
     }
@@ -255,7 +243,7 @@ impl<P: Pager> PageStore<P> {
         ensures held { held self.new ≡ held self.old }
         ensures access { Accessed spans.now self.old self.new (answer_of touched.new result) }
     {
-        let here = match self.bring(spans, touched) {
+        let here = match self.bring_spans(spans, touched) {
             Ok(here) => here,
             Err(fault) => return Err(fault),
         };
@@ -299,7 +287,7 @@ impl<P: Pager> PageStore<P> {
         ensures same { OnErr result (held self.new ≡ held self.old) }
         ensures access { Accessed spans.now self.old self.new (answer_of touched.new result) }
     {
-        let here = match self.bring(spans, touched) {
+        let here = match self.bring_spans(spans, touched) {
             Ok(here) => here,
             Err(fault) => return Err(fault),
         };
@@ -345,7 +333,7 @@ impl<P: Pager> PageStore<P> {
         ensures same { OnErr result (held self.new ≡ held self.old) }
         ensures access { Accessed spans.now self.old self.new (answer_of touched.new result) }
     {
-        let here = match self.bring(spans, touched) {
+        let here = match self.bring_spans(spans, touched) {
             Ok(here) => here,
             Err(fault) => return Err(fault),
         };

@@ -2,9 +2,9 @@ use Rattle.shm_fault.proofs.Bringing.{accessed, accessed-not}
 use Rattle.shm_fault.proofs.store.PageStore.write_with.Goals as goal
 
 pub returns-in-Err-clause-access : goal.returns-in-Err-clause-access
-returns-in-Err-clause-access g c = accessed-not c.args.spans.now c.args.self.now c.bring.new.self _ c.bring.ensures.sound c.in-Err.ensures.brings
+returns-in-Err-clause-access g c = accessed-not c.args.spans.now c.args.self.now c.bring_spans.new.self _ c.bring_spans.ensures.sound c.in-Err.ensures.brings
 
 pub returns-clause-access : goal.returns-clause-access
 returns-clause-access g c =
     let e = c.store_spans.ensures in
-    rw e.rest (accessed c.args.self.now c.bring.new.self c.store_spans.new.self.frames e.count e.bits (rw e.rest at e.sound) c.args.spans.now c.in-Ok.here c.bring.new.touched c.requires.few c.in-Ok.ensures.brings c.in-Ok.ensures.here)
+    rw e.rest (accessed c.args.self.now c.bring_spans.new.self c.store_spans.new.self.frames e.count e.bits (rw e.rest at e.sound) c.args.spans.now c.in-Ok.here c.bring_spans.new.touched c.requires.few c.in-Ok.ensures.brings c.in-Ok.ensures.here)
