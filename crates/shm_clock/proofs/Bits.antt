@@ -4,10 +4,9 @@ use Rattle.std.proofs.lemmas.Grind.{common_steps}
 use Rattle.std.specs.Prelude.{nat_eq, nat_lt}
 use Rattle.std.specs.List.{list_any}
 use Rattle.std.proofs.lemmas.Bool.{cases_lt, cases_eq, cases_Bool, eq-eqb, ne_eqb, lt-ltb, le-ltb}
-use Rattle.std.proofs.lemmas.List.{get_or-set_same, get_or-set_other, get_or_past}
 use Rattle.std.proofs.lemmas.List.Folds.{list_any-append}
 use Rattle.shm_base.specs.declared.paging.PageRef.{PageRef}
-use Rattle.shm_frames.specs.Frame.{Frame, no_frame, frame_at}
+use Rattle.shm_frames.specs.Frame.{Frame, frame_at}
 use Rattle.shm_clock.specs.Clock.{ring, ring_at, distance, may_go, owner_passes, is_pinned, unset, unset_all}
 use Rattle.shm_clock.proofs.Ring.{length-ring, distance-ring_at, ring_at-distance}
 use Rattle.shm_clock.proofs.Firsts.{filter_more-true, filter_more-false}
@@ -25,12 +24,7 @@ and-false true = refl
 and-false false = refl
 
 unset-at : (frames : List Frame) (k i : ℕ) → frame_at (unset frames k) i ≡ with_bit (frame_at frames i) (not (nat_eq k i))
-unset-at frames k i = by (cases_eq i k) (cases_lt i (length frames))
-  where
-    by : (i ≡ k) ⊎ (i ≢ k) → (i < length frames) ⊎ (length frames ≤ i) → frame_at (unset frames k) i ≡ with_bit (frame_at frames i) (not (nat_eq k i))
-    by (inr n) c = rw (get_or-set_other frames k i (record (frame_at frames k) { referenced = false }) no_frame n, ne_eqb k i (λ e. n (sym e)), and-true (frame_at frames i).referenced) refl
-    by (inl e) (inl l) = rw (← e, get_or-set_same frames i (record (frame_at frames i) { referenced = false }) no_frame l, eq-eqb i i refl, and-false (frame_at frames i).referenced) refl
-    by (inl e) (inr g) = let past : length (unset frames k) ≤ i = omega (arith, length-set frames k (record (frame_at frames k) { referenced = false })) in rw (get_or_past (unset frames k) i no_frame past, get_or_past frames i no_frame g) refl
+unset-at frames k i = grind (arith, common_steps)
 
 either : (b c d : Bool) → ((b && not c) && not d) ≡ (b && not (c || d))
 either true true d = refl

@@ -77,11 +77,12 @@ module _ (p r : ℕ → Bool) (xs : List ℕ) (j : ℕ) where
   -- the scan stops at place j
   pub stops : j < length xs → p (get_or xs j 0) ≡ true → EachPasses r (filter p (take j xs)) → r (get_or xs j 0) ≡ false → Stops r (filter p xs) (get_or xs j 0) (filter p (take j xs))
   stops lt hit each fails =
-      rw (filter-split p xs j lt hit)
-      (record {
-        victim_is = rw (find-stop r (filter p (take j xs)) (filter p (drop (j + 1) xs)) (get_or xs j 0) each fails) refl;
-        before_is = take_while-stop r (filter p (take j xs)) (filter p (drop (j + 1) xs)) (get_or xs j 0) each fails;
-      })
+      grind (
+        arith,
+        filter-split p xs j lt hit,
+        find-stop r (filter p (take j xs)) (filter p (drop (j + 1) xs)) (get_or xs j 0) each fails,
+        take_while-stop r (filter p (take j xs)) (filter p (drop (j + 1) xs)) (get_or xs j 0) each fails,
+      )
 
   -- the scan comes to the end
   pub ends : (v : ℕ) → length xs ≤ j → EachPasses r (filter p (take j xs)) → first_of (filter p (take j xs)) ≡ Some v → Stops r (filter p xs) v (filter p (take j xs))

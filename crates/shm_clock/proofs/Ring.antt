@@ -1,7 +1,7 @@
 -- Where a frame stands on the ring, and how far on from the hand.
-use Rattle.std.proofs.Common.{◌≡◌, ◌⊎◌, ℕ, ◌+◌, ◌-◌, ◌<◌, ◌≤◌, length, refl, ◌∙◌, inl, inr, arith, zero-add, length-append}
+use Rattle.std.proofs.Common.{◌≡◌, ℕ, ◌+◌, ◌-◌, ◌<◌, ◌≤◌, length, refl, arith, zero-add, length-append}
 use Rattle.std.proofs.lemmas.Grind.{common_steps}
-use Rattle.std.proofs.lemmas.Bool.{cases_lt, lt-ltb, le-ltb}
+use Rattle.std.proofs.lemmas.Bool.{lt-ltb, le-ltb}
 use Rattle.std.proofs.lemmas.List.{get_or_append_left, get_or-append_right}
 use Rattle.std.proofs.lemmas.List.FromFn.{length-range_with_len, get_or-range_with_len}
 use Rattle.shm_clock.specs.Clock.{ring, ring_at, distance}
@@ -22,31 +22,15 @@ distance-after : (hand n i : ℕ) → hand ≤ i → distance hand n i ≡ i - h
 distance-after hand n i le = rw (le-ltb i hand le) refl
 
 pub distance-lt : (hand n i : ℕ) → hand < n → i < n → distance hand n i < n
-distance-lt hand n i on lt = by (cases_lt i hand)
-  where
-    by : (i < hand) ⊎ (hand ≤ i) → distance hand n i < n
-    by (inl l) = omega (arith, distance-before hand n i l)
-    by (inr g) = omega (arith, distance-after hand n i g)
+distance-lt hand n i on lt = grind arith
 
 -- the frame so many steps on is that far away
 pub distance-ring_at : (hand n j : ℕ) → hand < n → j < n → distance hand n (ring_at hand n j) ≡ j
-distance-ring_at hand n j on lt = by (cases_lt j (n - hand))
-  where
-    by : (j < n - hand) ⊎ (n - hand ≤ j) → distance hand n (ring_at hand n j) ≡ j
-    by (inl l) = rw (ring_at-low hand n j on l) (distance-after hand n (hand + j) (omega arith) ∙ omega arith)
-    by (inr g) = rw (ring_at-high hand n j on g lt) (distance-before hand n (j - (n - hand)) (omega arith) ∙ omega arith)
+distance-ring_at hand n j on lt = grind (arith, ring_at-low, ring_at-high)
 
 -- each frame is as many steps on as it is far away
 pub ring_at-distance : (hand n i : ℕ) → hand < n → i < n → ring_at hand n (distance hand n i) ≡ i
-ring_at-distance hand n i on lt = by (cases_lt i hand)
-  where
-    by : (i < hand) ⊎ (hand ≤ i) → ring_at hand n (distance hand n i) ≡ i
-    by (inl l) = rw (distance-before hand n i l) (ring_at-high hand n (n - hand + i) on (omega arith) (omega arith) ∙ omega arith)
-    by (inr g) = rw (distance-after hand n i g) (ring_at-low hand n (i - hand) on (omega arith) ∙ omega arith)
+ring_at-distance hand n i on lt = grind (arith, ring_at-high, ring_at-low)
 
 pub ring_at-lt : (hand n j : ℕ) → hand < n → j < n → ring_at hand n j < n
-ring_at-lt hand n j on lt = by (cases_lt j (n - hand))
-  where
-    by : (j < n - hand) ⊎ (n - hand ≤ j) → ring_at hand n j < n
-    by (inl l) = omega (arith, ring_at-low hand n j on l)
-    by (inr g) = omega (arith, ring_at-high hand n j on g lt)
+ring_at-lt hand n j on lt = grind (arith, ring_at-low, ring_at-high)

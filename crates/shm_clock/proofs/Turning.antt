@@ -7,7 +7,7 @@ use Rattle.shm_base.specs.declared.paging.PageRef.{PageRef}
 use Rattle.shm_frames.specs.Frame.{Frame, frame_at}
 use Rattle.shm_clock.specs.Clock.{ring, ring_at, may_go, is_referenced, unset, unset_all, listed, looked_at}
 use Rattle.shm_clock.proofs.Ring.{length-ring, distance-ring_at, ring_at-lt}
-use Rattle.shm_clock.proofs.Firsts.{EachPasses, EachPasses-push, first_of, first_of-push, first_of-none, first_of-passes, filter_more-true, filter_more-false, stops, ends}
+use Rattle.shm_clock.proofs.Firsts.{EachPasses, EachPasses-push, first_of, first_of-push, first_of-none, filter_more-true, filter_more-false, stops, ends}
 use Rattle.shm_clock.proofs.Bits.{unset_all-at, unset_all-push, may_go-unset_all, among_is}
 use Rattle.shm_clock.proofs.Rule.{IsRule}
 
@@ -90,15 +90,10 @@ module _ (passes : PageRef → Bool) (pinned : Option ℕ) (hand : ℕ) (before 
     past = rw (length-ring hand (length before) on) round
 
     pub comes_round : (v : ℕ) → first ≡ Some v → IsRule p hand before on v now
-    comes_round v some =
-        let s = ends p (is_referenced before) xs step v past way.set (sym way.first_is ∙ some) in
-        record { victim_is = sym s.victim_is; after_is = way.bits ∙ ap (unset_all before) (sym s.before_is) }
+    comes_round v some = grind (arith, ends p (is_referenced before) xs step v past way.set (sym way.first_is ∙ some))
 
     pub round_counted : (v : ℕ) → first ≡ Some v → looks ≡ looked + looked_at before (filter p xs) v
-    round_counted v some =
-        let s = ends p (is_referenced before) xs step v past way.set (sym way.first_is ∙ some) in
-        let was : is_referenced before v ≡ true = first_of-passes (is_referenced before) (filter p (take step xs)) v way.set (sym way.first_is ∙ some) in
-        rw (s.before_is, was) (omega (arith, way.looks_are))
+    round_counted v some = grind (arith, ends p (is_referenced before) xs step v past way.set (sym way.first_is ∙ some))
 
     pub none_met : first ≡ None → listed passes pinned before hand ≡ []
     none_met none = ap (filter p) (sym (take_all step xs past)) ∙ first_of-none (filter p (take step xs)) (sym way.first_is ∙ none)
