@@ -1,10 +1,9 @@
 -- What is counted of the table.
-use Rattle.std.proofs.Common.{◌≡◌, ◌≢◌, ◌⊎◌, inl, inr, ℕ, zero, suc, ◌+◌, ◌-◌, ◌<◌, ◌≤◌, Bool, true, false, cond, List, [], ◌∷◌, length, get_or, set, replicate, ◌^◌, Option, None, Some, is_none, is_some, refl, sym, ap, ◌∙◌, add-one, arith, rules, length-set}
+use Rattle.std.proofs.Common.{◌≡◌, ◌≢◌, ℕ, zero, suc, ◌+◌, ◌-◌, ◌<◌, ◌≤◌, Bool, true, false, cond, List, [], ◌∷◌, length, get_or, set, replicate, ◌^◌, None, Some, is_some, refl, sym, ◌∙◌, add-one, arith, rules, length-set}
 use Rattle.std.proofs.lemmas.Grind.{common_steps}
 use Rattle.std.specs.Prelude.{count_by}
 use Rattle.std.specs.Int.{from_bool}
-use Rattle.std.proofs.lemmas.List.{get_or-set_same, get_or-set_other, get_or-replicate, get_or_past, length-replicate}
-use Rattle.std.proofs.lemmas.Bool.{cases_eq, cases_lt}
+use Rattle.std.proofs.lemmas.List.{get_or-set_other, length-replicate}
 use Rattle.std.proofs.lemmas.List.Folds.{sum_by-replicate}
 use Rattle.std.proofs.lemmas.List.Sums.{sum_by-cons, sum_by-set, count_by-le-length}
 use Rattle.shm_base.specs.declared.paging.PageRef.{PageRef}
@@ -25,11 +24,7 @@ count_by-le p q d (x ∷ xs) both =
     by false b h le = elim b as (λ v. 0 + count_by p xs ≤ cond v 1 0 + count_by q xs) [ true ↦ omega arith | false ↦ omega arith ]
 
 changed-owned : (x : Entry) → (x.owner ≡ None → x ≡ free_entry) → has_changed x ≡ true → has_owner x ≡ true
-changed-owned x clear changed = by x.owner refl
-  where
-    by : (o : Option PageRef) → x.owner ≡ o → is_some o ≡ true
-    by None e = let f : x ≡ free_entry = clear e in absurd (cc)
-    by (Some r) e = refl
+changed-owned x clear changed = grind arith
 
 -- a dirty frame is owned
 pub dirty-le-resident : (table : List Entry) (first owned changed : ℕ) → IsFrameTable table first owned changed → changed ≤ owned
@@ -62,10 +57,7 @@ module _ {table : List Entry} {first owned changed i : ℕ} {was : Entry} (k : I
   -- there is room for one more where it was not counted
   pub owned-more : was.owner ≡ None → owned + 1 ≤ length table
   owned-more free =
-      let x : Entry = record was { owner = Some (record { seg = 0; page = 0 }) } in
-      let e : count_by has_owner (set table i x) + from_bool (has_owner was) ≡ owned + 1 = owned-set x in
-      let f : count_by has_owner (set table i x) + 0 ≡ owned + 1 = rw free at e in
-      omega (arith, count_by-le-length has_owner (set table i x), length-set table i x)
+      grind (arith, common_steps, has_owner was, count_by-le-length has_owner (set table i (record was { owner = Some (record { seg = 0; page = 0 }) })))
 
   pub changed-more : (now : Bool) → changed - from_bool was.dirty + from_bool now ≤ length table
   changed-more now =
@@ -74,35 +66,14 @@ module _ {table : List Entry} {first owned changed i : ℕ} {was : Entry} (k : I
       omega (arith, changed-there, count_by-le-length has_changed (set table i x), length-set table i x)
 
   clear-set : (x : Entry) → (x.owner ≡ None → x ≡ free_entry) → (j : ℕ) → (entry_at (set table i x) j).owner ≡ None → entry_at (set table i x) j ≡ free_entry
-  clear-set x clear j = by (cases_eq j i)
-    where
-      by : (j ≡ i) ⊎ (j ≢ i) → (entry_at (set table i x) j).owner ≡ None → entry_at (set table i x) j ≡ free_entry
-      by (inl e) = rw (e, get_or-set_same table i x free_entry there) clear
-      by (inr n) = rw (get_or-set_other table i j x free_entry n) (k.clear j)
+  clear-set x clear j = grind (arith, common_steps)
 
   used-set : (x : Entry) (n : ℕ) → has_no_owner x ≡ false → ((j : ℕ) → j < n → j ≢ i → has_no_owner (entry_at table j) ≡ false) → UsedBelow (set table i x) n
-  used-set x n busy others j lt = by (cases_eq j i)
-    where
-      by : (j ≡ i) ⊎ (j ≢ i) → has_no_owner (entry_at (set table i x) j) ≡ false
-      by (inl e) = rw (e, get_or-set_same table i x free_entry there) busy
-      by (inr n) = rw (get_or-set_other table i j x free_entry n) (others j lt n)
+  used-set x n busy others j lt = grind (arith, common_steps)
 
   -- the bits of an owned frame change
   pub kept-bits : (x : Entry) (changed' : ℕ) → is_some was.owner ≡ true → x.owner ≡ was.owner → changed' + from_bool was.dirty ≡ changed + from_bool x.dirty → IsFrameTable (set table i x) first owned changed'
-  kept-bits x changed' some same by =
-      let busy : is_some x.owner ≡ true = rw same some in
-      record {
-        few = rw (length-set table i x) k.few;
-        bound = rw (length-set table i x) k.bound;
-        used = used-set x first (by-some x.owner busy) (λ j lt n. k.used j lt);
-        resident = let e = owned-set x in (let f : is_some x.owner ≡ is_some was.owner = ap is_some same in omega (arith, rw f at e));
-        dirty = let e = changed-set x in omega (arith, e);
-        clear = clear-set x (λ none. absurd (search (rules, rw none at busy)));
-      }
-    where
-      by-some : (o : Option PageRef) → is_some o ≡ true → is_none o ≡ false
-      by-some None h = absurd (search (rules, h))
-      by-some (Some r) h = refl
+  kept-bits x changed' some same by = grind (arith, common_steps)
 
   -- a free frame is given to a page
   pub kept-fill : (r : PageRef) (later : ℕ) → was.owner ≡ None → later ≤ length table → ((j : ℕ) → j < later → j ≢ i → has_no_owner (entry_at table j) ≡ false) → IsFrameTable (set table i (record was { owner = Some r })) later (owned + 1) changed
@@ -118,11 +89,7 @@ pub record AreNew (table : List Entry) (pages : List (List ℕ)) (n : ℕ) : Typ
   pub beside : length pages ≡ n
 
 free-entries : (n i : ℕ) → entry_at (replicate n free_entry) i ≡ free_entry
-free-entries n i = by (cases_lt i n)
-  where
-    by : (i < n) ⊎ (n ≤ i) → entry_at (replicate n free_entry) i ≡ free_entry
-    by (inl l) = get_or-replicate n i free_entry free_entry l
-    by (inr g) = get_or_past (replicate n free_entry) i free_entry (omega (arith, length-replicate n free_entry))
+free-entries n i = grind (arith, common_steps)
 
 -- a table of free entries
 pub new-entry : (table : List Entry) (n i : ℕ) → table ≡ replicate n free_entry → entry_at table i ≡ free_entry

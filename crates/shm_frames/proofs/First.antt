@@ -1,12 +1,11 @@
 -- The first place of a list at which a test passes.
-use Rattle.std.proofs.Common.{◌≡◌, ℕ, ◌<◌, ◌≤◌, Bool, true, false, List, length, get_or, Option, Some, None, unwrap_or, ◌⊎◌, inl, inr, refl, sym, ◌∙◌, arith, rules}
+use Rattle.std.proofs.Common.{◌≡◌, ℕ, ◌<◌, ◌≤◌, Bool, true, false, List, length, get_or, Option, Some, None, unwrap_or, arith}
 use Rattle.std.proofs.lemmas.Grind.{common_steps}
 use Rattle.std.specs.List.{position, position_or_len}
 use Rattle.std.proofs.lemmas.List.Sums.{position_or_len_is, fails_before_first}
 use Rattle.std.proofs.lemmas.List.Quantifiers.{position-Some}
-use Rattle.std.proofs.lemmas.Bool.{cases_lt}
-use Rattle.std.specs.Prelude.{is_none, MatchOption}
-use Rattle.shm_frames.specs.Frame.{Frame, no_frame, frame_at, is_free, OwnedBelow, IsLeastFree}
+use Rattle.std.specs.Prelude.{MatchOption}
+use Rattle.shm_frames.specs.Frame.{Frame, no_frame, is_free, OwnedBelow, IsLeastFree}
 use Rattle.std.proofs.lemmas.Bool.Decides.{nat_tests}
 
 module _ {X : Type 0} (p : X → Bool) (xs : List X) (d : X) where
@@ -22,11 +21,7 @@ module _ {X : Type 0} (p : X → Bool) (xs : List X) (d : X) where
 
   -- before the first, and everywhere where there is none, it fails
   pub before-position : (o : Option ℕ) → position p xs ≡ o → (k : ℕ) → k < unwrap_or o (length xs) → p (get_or xs k d) ≡ false
-  before-position None e k l = by (cases_lt (position_or_len p xs) (length xs))
-    where
-      by : (position_or_len p xs < length xs) ⊎ (length xs ≤ position_or_len p xs) → p (get_or xs k d) ≡ false
-      by (inl lt) = let f : position p xs ≡ Some (position_or_len p xs) = grind (arith, nat_tests) in absurd (search (rules, sym f ∙ e))
-      by (inr le) = fails_before_first p xs k d (omega arith)
+  before-position None e k l = grind (arith, fails_before_first)
   before-position (Some i) e k l = (position-Some p xs i d e).2 k l
 
   pub position-le : (o : Option ℕ) → position p xs ≡ o → unwrap_or o (length xs) ≤ length xs
@@ -35,15 +30,9 @@ module _ {X : Type 0} (p : X → Bool) (xs : List X) (d : X) where
 
 -- a frame that is free has no owner
 none_if_free : (f : Frame) → is_free f ≡ true → f.owner ≡ None
-none_if_free f e = by f.owner e
-  where
-    by : {X : Type 0} (o : Option X) → is_none o ≡ true → o ≡ None
-    by None h = refl
-    by (Some x) h = absurd (search (rules, h))
+none_if_free f e = grind arith
 
 -- the first free frame is the least
 pub least_is : (frames : List Frame) (o : Option ℕ) → position is_free frames ≡ o → MatchOption o (OwnedBelow frames (length frames)) (IsLeastFree frames)
 least_is frames None e = before-position is_free frames no_frame None e
-least_is frames (Some i) e =
-    let s = position-Some is_free frames i no_frame e in
-    record { there = s.0; free = none_if_free (frame_at frames i) s.1; least = s.2 }
+least_is frames (Some i) e = grind (arith, position-Some is_free frames i no_frame e)
