@@ -1,14 +1,12 @@
 -- One area of a swap changed.
-use Rattle.std.proofs.Common.{◌≡◌, ℕ, zero, suc, ◌<◌, ◌≤◌, Bool, true, not, ◌&&◌, List, [], ◌∷◌, ◌++◌, Option, None, length, get_or, set, map, sum, sum_by, refl, sym, ap, ◌∙◌, inl, inr, arith, length-set, get_or-set_same}
+use Rattle.std.proofs.Common.{◌≡◌, ℕ, zero, suc, ◌<◌, ◌≤◌, Bool, true, not, ◌&&◌, List, [], ◌∷◌, ◌++◌, Option, None, length, get_or, set, map, sum_by, refl, sym, ap, ◌∙◌, inl, inr, arith, get_or-set_same}
 use Rattle.std.specs.Prelude.{Result, IfErr, OnErr}
 use Rattle.std.specs.List.{list_any}
 use Rattle.std.proofs.lemmas.Result.{IfErr-weaker}
 use Rattle.std.proofs.lemmas.List.{set_past, get_or_default, get_or_read, map-set, set-get_or}
-use Rattle.std.proofs.lemmas.List.Folds.{list_any_at}
-use Rattle.std.proofs.lemmas.List.Sums.{sum_by-set, sum-map}
 use Rattle.std.proofs.lemmas.Grind.{common_steps}
 use Rattle.shm_base.specs.declared.paging.PageRef.{PageRef}
-use Rattle.shm_slots.specs.View.{AreaView, SwapView, area_at, no_area, rise, is_spent, is_spent_here, size_of, sizes, with_area, with_page, with_owner, off, HasSlot, CountedFault, IsArea, IsSwap, SameSlots}
+use Rattle.shm_slots.specs.View.{AreaView, SwapView, area_at, no_area, is_spent, size_of, sizes, with_area, with_page, with_owner, off, HasSlot, CountedFault, IsArea, IsSwap, SameSlots}
 use Rattle.shm_slots.specs.Cause.{some_spent, total, had_cause, GoesOn, IsSteady}
 
 -- the areas with one of them changed
@@ -112,9 +110,7 @@ module _ (s : SwapView) (i : ℕ) (was a : AreaView) (found : was ≡ get_or s.a
 
   total-kept : a.start ≡ was.start → a.failed ≡ was.failed → (flag : Bool) → total (changed s i a flag) ≡ total s
   unfolding total
-  total-kept start failed flag =
-      let same : rise a ≡ rise was = omega (arith, start, failed) in
-      sym (sum-map rise (set s.areas i a)) ∙ ap sum (map-changed rise s.areas i was a found same) ∙ sum-map rise s.areas
+  total-kept start failed flag = grind (arith, common_steps)
 
   -- a slot's owner was set, and its page perhaps changed
   module _ (slot : ℕ) (owner : Option PageRef) (pages : List (List ℕ)) (is : a ≡ record (with_owner was slot owner) { pages = pages }) where
@@ -122,12 +118,7 @@ module _ (s : SwapView) (i : ℕ) (was a : AreaView) (found : was ≡ get_or s.a
     IsSwap-owner swap area = IsSwap-kept swap area (ap (λ (b : AreaView). b.failed) is)
 
     pub IsSteady-owner : IsSwap s → IsArea a → IsSteady s (changed s i a s.never_spent)
-    IsSteady-owner swap area =
-        record {
-          goes_on = grind (arith, common_steps, GoesOn-kept);
-          failures = grind (arith, common_steps, total-kept);
-          same_sizes = sizes-changed swap area (ap (λ (b : AreaView). b.here) is) (ap (λ (b : AreaView). length b.owners) is ∙ length-set was.owners slot owner);
-        }
+    IsSteady-owner swap area = grind (arith, common_steps, total-kept, sizes-changed)
 
   -- the pager was asked
   flag-kept : i < length s.areas → IsSwap s → a.failed ≡ was.failed → (s.never_spent && not (is_spent a)) ≡ s.never_spent
@@ -146,13 +137,8 @@ module _ (s : SwapView) (i : ℕ) (was a : AreaView) (found : was ≡ get_or s.a
     -- a fault of the area is a cause
     had_cause-asked : (flag : Bool) (slot : ℕ) → HasSlot s i slot → IsSwap s → CountedFault was a → had_cause s (changed s i a flag) ≡ true
     unfolding total some_spent
-    had_cause-asked flag slot there swap (inl counted) =
-        let same = at_i there.0 in
-        let more : sum_by rise s.areas < sum_by rise (set s.areas i a) = grind (arith, sum_by-set rise s.areas i a no_area there.0, swap.each i, same, is, counted) in
-        grind (arith, common_steps, more)
-    had_cause-asked flag slot there swap (inr spent) =
-        let spent_here : is_spent_here (area_at s i) ≡ true = grind (arith, common_steps, at_i there.0, spent, slot-here (area_at s i) (swap.each i) slot there.1) in
-        grind (arith, common_steps, list_any_at is_spent_here s.areas i no_area there.0 spent_here)
+    had_cause-asked flag slot there swap (inl counted) = grind (arith, common_steps, sum_by, swap.each)
+    had_cause-asked flag slot there swap (inr spent) = grind (arith, common_steps, at_i, swap.each)
 
     pub asked : {A E : Type 0} (r : Result A E) (slot : ℕ) → HasSlot s i slot → IsSwap s → was.failed ≤ a.failed → IsArea a → IfErr r (λ _. CountedFault was a) → Asked r s i was a
     asked r slot there swap counts area fault =

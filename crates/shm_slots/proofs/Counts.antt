@@ -7,7 +7,6 @@ use Rattle.shm_base.specs.declared.paging.PageRef.{PageRef}
 use Rattle.shm_base.specs.declared.paging.Slot.{Slot}
 use Rattle.shm_slots.specs.Owners.{UsedBelow, IsLeastFree}
 use Rattle.shm_slots.specs.View.{AreaView, SwapView, area_at, no_area, size_of, slots_in, slots, used_in, used_slots, FoundFree, Takes, IsFirstFree, IsArea, IsSwap}
-use Rattle.shm_slots.proofs.Changes.{area-found}
 use Rattle.shm_slots.proofs.Least.{count-full}
 
 slots_in-size_of : (a : AreaView) → IsArea a → slots_in (size_of a) ≡ length a.pages
@@ -53,8 +52,4 @@ used_slots-full_but (Some k) owner s t out found taken swap = search rules
 
 -- the first free slot is the least free one of its area
 pub IsLeastFree-first : (s t : SwapView) (out : Option ℕ) (k : Slot) (was : AreaView) → s ≡ t → was ≡ get_or s.areas k.area was → IsSwap s → IsFirstFree t out k → IsLeastFree was.owners k.slot
-IsLeastFree-first s t out k was same found swap first = rw (area-found s t k.area was same found first.there.0) (record {
-  within = omega (arith, first.there.1, (rw same at swap.each k.area).owned);
-  free = first.free;
-  least = first.least;
-})
+IsLeastFree-first s t out k was same found swap first = grind (arith, common_steps)
