@@ -1,4 +1,4 @@
-use Rattle.shm_fault.proofs.Names.{List, set, refl, sym, ap, set_value_at, PageRec, SegRec}
+use Rattle.shm_fault.proofs.Names.{arith, List, set, refl, sym, ap, set_value_at, PageRec, SegRec}
 use Rattle.shm_fault.proofs.Entries.{IsEdited, edited, entry-from, value_there, find-entry}
 use Rattle.shm_fault.proofs.page_tables.PageTables.set_page.Goals as goal
 use Rattle.shm_fault.proofs.page_tables.PageTables.set_page.Goals.{After-set_place}
@@ -8,11 +8,7 @@ unreachable-requires c =
     value_there c.self.inside.by_id.entries c.in-Some.index c.args.page.seg c.in-Some.ensures.some (sym c.in_default-get_index_mut.ensures.value)
 
 pub set_place-requires : goal.set_place-requires
-set_place-requires c =
-    let es = c.self.inside.by_id.entries in
-    let w = c.in-Some-get_index_mut.table.now in
-    let at = entry-from es c.in-Some.index c.args.page.seg w c.in-Some.ensures.some c.in-Some-get_index_mut.ensures.value in
-    rw (find-entry es c.in-Some.index c.args.page.seg w c.self.invariant at) at (rw (← c.self.view_is) at c.requires)
+set_place-requires c = grind (arith, entry-from, find-entry)
 
 done : (c : After-set_place) → IsEdited (λ (g : SegRec). record g { pages = set g.pages c.args.page.page c.args.place }) c.args.page.seg c.self.inside.by_id.entries
     (set_value_at c.self.inside.by_id.entries c.in-Some.index (record { locked = c.in-Some-get_index_mut.table.now.locked; pages = c.set_place.new.pages }))

@@ -15,10 +15,7 @@ sound g c none =
     let s = seen c.self.inside in
     let room₀ : pages_held (held s) + c.args.pages ≤ slots s.swap = rw (← c.self.view_is) at c.requires.room in
     let room : sum_by pages_of s.segs + c.args.pages ≤ slots s.swap = rw (pages_held-is s c.self.invariant) at room₀ in
-    elim (either_way c.add.result _ _ c.add.ensures.ok c.add.ensures.err) [
-      | inl ok ↦ rw ok (sound-added s c.self.invariant c.args.seg c.args.pages none room)
-      | inr err ↦ rw err c.self.invariant
-    ]
+    grind (arith, sound-added s c.self.invariant c.args.seg c.args.pages none room)
 
 pub add-requires : goal.add-requires
 add-requires g c = record { new = new g (goal.at.add-requires g c).After-self }

@@ -9,10 +9,7 @@ use Rattle.shm_fault.proofs.store.PageStore.drop_segment.Goals as goal
 use Rattle.shm_fault.proofs.store.PageStore.drop_segment.Goals.{In-loop-page, After-remove}
 
 has : (g : given.Over) (c : In-loop-page g) → HasPage c.loop-page.self.segs (record { seg = c.args.seg; page = c.loop-page.page })
-has g c =
-    let count : c.count-count.result ≡ count_by_id c.args.self.now.segs c.args.seg = rw (← c.self.view_is) c.count-count.ensures in
-    let same = count-same c.args.self.now.segs c.loop-page.self.segs c.args.seg c.loop-page.invariant.shape in
-    omega (arith, same, count, c.loop-page-test.true)
+has g c = grind (arith, count-same)
 
 done : (g : given.Over) (c : After-remove g) → IsDropped c.args.seg c.args.self.now (record (seen c.self-2.inside) { segs = c.remove.new.self })
 done g c =

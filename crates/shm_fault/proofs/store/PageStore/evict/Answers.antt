@@ -1,4 +1,4 @@
-use Rattle.shm_fault.proofs.Names.{◌≡◌, Some, false, refl, length-set, rec_by, List, ap, sym, ◌∙◌, get_or-set_same, Frame, no_frame, frame_at, StoreView}
+use Rattle.shm_fault.proofs.Names.{arith, common_steps, ◌≡◌, Some, false, refl, length-set, rec_by, List, ap, sym, ◌∙◌, get_or-set_same, Frame, no_frame, frame_at, StoreView}
 use Rattle.shm_fault.proofs.Visits.{evicted-gone, evicted-visits}
 use Rattle.shm_fault.proofs.store.PageStore.evict.Goals as goal
 
@@ -25,10 +25,7 @@ pub leave-page-requires-clause-there : goal.leave-page-requires-clause-there
 leave-page-requires-clause-there g c = rw (c.in-Ok.ensures.ok, length-set, c.turn-frame.ensures.goes.size) c.turn-frame.ensures.there
 
 pub leave-page-requires-clause-clean : goal.leave-page-requires-clause-clean
-leave-page-requires-clause-clean g c =
-    let t = c.turn-frame.new.self.frames in
-    let f = c.turn-frame.result in
-    rw (c.in-Ok.ensures.ok, get_or-set_same t f (record (frame_at t f) { dirty = false }) no_frame (rw c.turn-frame.ensures.goes.size c.turn-frame.ensures.there)) refl
+leave-page-requires-clause-clean g c = grind (arith, common_steps)
 
 pub returns-in-Ok-clause-hand : goal.returns-in-Ok-clause-hand
 returns-in-Ok-clause-hand g c = ap (λ (v : StoreView). v.hand) c.leave-page.ensures.rest ∙ ap (λ (v : StoreView). v.hand) c.clean.ensures.rest ∙ c.turn-frame.ensures.hand

@@ -1,4 +1,4 @@
-use Rattle.shm_fault.proofs.Names.{◌≡◌, sym, ap, ◌∙◌, rec_by, no_page, with_rec, Given}
+use Rattle.shm_fault.proofs.Names.{arith, ◌≡◌, sym, ap, ◌∙◌, rec_by, no_page, with_rec, Given}
 use Rattle.shm_fault.proofs.Seen.{seen}
 use Rattle.shm_fault.proofs.Sound.{frame-own, slot-own}
 use Rattle.shm_fault.proofs.Drops.{with-same, Forgets, forgets}
@@ -28,11 +28,4 @@ pub returns-clause-held : goal.returns-clause-held
 returns-clause-held g c = rw (← c.self.view_is) (done g c).bytes
 
 pub returns-clause-nowhere : goal.returns-clause-nowhere
-returns-clause-nowhere g c = λ none.
-    let i = c.self.inside in
-    let r = c.args.page in
-    let own : rec_by i.segs r ≡ no_page = rw (← c.self.view_is) at none in
-    let place : c.page-place.result ≡ no_page = c.page-place.ensures ∙ own in
-    let swap : c.free_slot.new.swap ≡ i.swap = rw place at c.free_slot.ensures.given in
-    let segs : with_rec i.segs r no_page ≡ i.segs = ap (with_rec i.segs r) (sym own) ∙ with-same i.segs r c.self.invariant.apart in
-    rw (c.set_page.ensures, c.empty_frame.ensures, place, swap, segs) c.self.view_is
+returns-clause-nowhere g c = grind (arith, with-same)

@@ -1,4 +1,4 @@
-use Rattle.shm_fault.proofs.Names.{◌≡◌, ◌∙◌, [], ◌∷◌, refl, arith, take_all}
+use Rattle.shm_fault.proofs.Names.{common_steps, ◌≡◌, ◌∙◌, [], ◌∷◌, refl, arith, take_all}
 use Rattle.shm_fault.proofs.Bringing.{list-one, list-two}
 use Rattle.shm_fault.proofs.store.PageStore.store_spans.Given as given
 use Rattle.shm_fault.proofs.store.PageStore.store_spans.Goals as goal
@@ -28,10 +28,7 @@ pub store-requires-in-Some-get-clause-size : goal.store-requires-in-Some-get-cla
 store-requires-in-Some-get-clause-size g c = omega (arith, c.split_at.ensures.back_len, rw (two g (goal.at.store-requires-in-Some-get-clause-size g c).In-Some-get) at c.requires.size)
 
 pub returns-in-Some-get-clause-written : goal.returns-in-Some-get-clause-written
-returns-in-Some-get-clause-written g c =
-    let o = (goal.at.returns-in-Some-get-clause-written g c).In-Some-get in
-    let rest = take_all c.in-Some-get.second.now.len c.split_at.result.1.now (omega (arith, c.split_at.ensures.back_len, rw (two g o) at c.requires.size)) in
-    rw (two g o, c.store-in-Some-get.ensures.written, c.store.ensures.written, c.split_at.ensures.front, ← c.split_at.ensures.back, rest) refl
+returns-in-Some-get-clause-written g c = grind (arith, common_steps)
 
 pub returns-in-Some-get-clause-bits : goal.returns-in-Some-get-clause-bits
 returns-in-Some-get-clause-bits g c = λ f. c.store-in-Some-get.ensures.bits f ∙ c.store.ensures.bits f
