@@ -62,9 +62,6 @@ module _ {table : List Entry} {pages : List (List ℕ)} {frames : List Frame} (s
   pub frame-shown : (i : ℕ) → frame_at frames i ≡ frame_of (entry_at table i) (get_or pages i [])
   frame-shown i = ap (λ fs. frame_at fs i) (sym s.is) ∙ get-frames_of table pages i s.beside
 
-  pub set-shown : (i : ℕ) (x : Entry) → frames_of (set table i x) pages ≡ set frames i (frame_of x (frame_at frames i).bytes)
-  set-shown i x = rw (frame-shown i, ← s.is) (set-frames_of table pages i x)
-
   pub paste-shown : (i : ℕ) (w : List ℕ) → frames_of table (set pages i w) ≡ set frames i (record (frame_at frames i) { bytes = w })
   paste-shown i w = rw (frame-shown i, ← s.is) (paste-frames_of table pages i w)
 

@@ -88,13 +88,6 @@ module _ (s : SwapView) (i : ℕ) (was a : AreaView) (found : was ≡ get_or s.a
   at_i : i < length s.areas → was ≡ area_at s i
   at_i within = found ∙ get_or_default s.areas i was no_area within
 
-  -- a fact of the old and the new areas, in order of their numbers
-  each_changed : (R : AreaView → AreaView → Type 0) (flag : Bool) (k : ℕ) → ((b : AreaView) → R b b) → R was a → R (area_at s k) (area_at (changed s i a flag) k)
-  each_changed R flag k same here = grind (arith, common_steps)
-
-  areas_changed : IsSwap s → IsArea a → (flag : Bool) (k : ℕ) → IsArea (area_at (changed s i a flag) k)
-  areas_changed swap area flag k = each_changed (λ b c. IsArea b → IsArea c) flag k (λ b h. h) (λ _. area) (swap.each k)
-
   GoesOn-changed : (flag : Bool) → a.start ≡ was.start → was.failed ≤ a.failed → (a.here ≡ true → was.here ≡ true) → (flag ≡ true → s.never_spent ≡ true) → GoesOn s (changed s i a flag)
   GoesOn-changed flag start counts here falls = grind (arith, common_steps)
 

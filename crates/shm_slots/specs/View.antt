@@ -31,10 +31,6 @@ count_of failed last (Some p) = failed p
 abbrev pub no_area : AreaView
 no_area = record { here = false; pages = []; owners = []; start = 0; failed = 0 }
 
--- an area's pager
-abbrev pub pager_of : AreaView → PagerView
-pager_of a = record { pages = a.pages; failed = a.failed }
-
 -- what the area's count has risen by
 abbrev pub rise : AreaView → ℕ
 rise a = a.failed - a.start
