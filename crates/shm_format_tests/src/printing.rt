@@ -75,7 +75,10 @@ fn printed_calls(rt: HostRuntime) -> Result<(), Fail> {
             reply: Reply::Done,
         };
         let line = format!(in alloc; "3 7 {text} = ok\n")?;
-        assert!(rt; event_text(alloc, 3, &event)?.as_str() == line.as_str(), "{text}");
+        assert!(rt;
+            event_text(alloc, 3, &event)?.as_str() == line.as_str(),
+            "{text}"
+        );
     }
     Ok(())
 }
