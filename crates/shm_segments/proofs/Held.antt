@@ -43,9 +43,6 @@ sum-changed f c (h ∷ hs) id g only apart is = grind (arith, common_steps, apar
 only-lock : (id : ℕ) (b : Bool) → Only id (relocked id b)
 only-lock id b h n = rw (ne_eqb h.id id n) refl
 
-only-pasted : (seg at : ℕ) (new : List ℕ) → Only seg (pasted seg at new)
-only-pasted seg at new h n = rw (ne_eqb h.id seg n) refl
-
 -- a lock
 pub pages-lock : (hs : List Held) (id : ℕ) (b : Bool) → pages_held (with_lock hs id b) ≡ pages_held hs
 pages-lock [] id b = refl

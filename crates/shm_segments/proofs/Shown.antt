@@ -82,9 +82,6 @@ number_shown hs rows ps agree fit = ap (from_le_bytes w64) (load_shown hs rows f
 
 -- WHAT A STORE LEAVES
 
-paste-shape : (p : Span) (new : List ℕ) (g : Held) → (g.id ≡ p.seg → p.at + length new ≤ length g.bytes) → shape_held (pasted p.seg p.at new g) ≡ shape_held g
-paste-shape p new g fits = grind (arith, nat_tests, length-paste g.bytes p.at new, fits)
-
 pub agree-pasted : (hs : List Held) (rows : List (Entry Head)) (p : Span) (new : List ℕ) → Agree hs rows → FitsPage hs p → length new ≤ p.len → Agree (map (pasted p.seg p.at new) hs) rows
 agree-pasted hs rows p new agree fit few = grind (arith, common_steps, find-map, find_held-id)
 
