@@ -18,6 +18,14 @@ use thiserror::Error;
 #[error("address not mapped, or not writable")]
 pub struct Segv;
 
+// What stands behind a single span.
+const NO_SPAN: Span = Span {
+    seg: 0,
+    at: 0,
+    len: 0,
+    frame: None,
+};
+
 /// The spans of an access, one or two, in address order. Each lies within one page of its segment.
 #[derive(Debug, Drop)]
 pub struct Spans {
@@ -42,7 +50,7 @@ impl Spans {
         ensures { result ≡ first ∷ [] }
     {
         Spans {
-            spans: [first, first],
+            spans: [first, NO_SPAN],
             count: 1,
         }
     }

@@ -13,7 +13,8 @@ use shm_pager::Pager;
 
 impl<P: Pager> Kernel<P> {
     #[tactic(auto, using(crate::proofs::Running::keeps_refl))]
-    // Detaches every piece of a process, which ends or goes on.
+    // Detaches every piece of a process, which ends or goes on. What it takes of the stack no other call has.
+    #[inline(never)]
     fn leave(&mut self, time: u64, caller: &Caller, ends: bool, reply: &mut Reply)
         requires { IsCallerOf self.old.flat caller.now }
         ensures exec { ends ≡ false → flat.exec self.old.flat time (caller_seen caller.now self.old.flat.runners) ≡ record { reply = reply.new; state = self.new.flat } }
