@@ -36,13 +36,16 @@ pub const MOST_SLOTS: u32 = 65536;
 /// The most bytes of a load or a store.
 pub const LONGEST_ACCESS: usize = 64;
 
-/// The largest limits: the most bytes of a segment, the most segments, the most pages of all segments, the most frames.
+/// The largest SHMMAX: the most bytes of a segment.
 pub const MOST_SHMMAX: u64 = 16_777_216;
 
+/// The largest SHMMNI: the most segments of a machine.
 pub const MOST_SHMMNI: u64 = 4096;
 
+/// The largest SHMALL: the most pages of all segments.
 pub const MOST_SHMALL: u64 = 65536;
 
+/// The most frames of a machine.
 pub const MOST_FRAMES: u64 = 4096;
 
 /// The most pages that a flush line of a script asks for.
