@@ -20,7 +20,7 @@ pub use Rattle.shm_machine.specs.Answered.{Answered}
 pub use Rattle.shm_machine.specs.Opened.{IsOpened, sizes_of}
 pub use Rattle.shm_machine.specs.Stretched.{ReadTo, WrittenTo}
 pub use Rattle.shm_machine.specs.declared.machine.Machine.{Machine}
-pub use Rattle.shm_machine.specs.declared.opening.Area.{Area}
+pub use Rattle.shm_machine.specs.declared.opening.AreaConfig.{AreaConfig}
 pub use Rattle.shm_machine.specs.declared.refusal.Refusal.{Refusal}
 pub use Rattle.shm_machine.specs.declared.stretch.Progress.{Progress}
 pub use base.Fml.{Fml, Lft, Share, flft, fsep, ftrue}

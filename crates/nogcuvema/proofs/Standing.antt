@@ -1,5 +1,5 @@
 -- A machine that stands was refused nothing.
-use Rattle.nogcuvema.proofs.Names.{ℕ, ◌+◌, Bool, false, not, nat_lt, if◌then◌else◌, List, map, Result, Ok, refl, sym, Bounds, bad, limits_of, BadLimits, Process, start_error, Machine, Area, IsOpened, sizes_of, NogLimits, NogArea, NogFailure, NogProcess, area_of, process_of, are_kinds, are_there, bounds_of, Opens}
+use Rattle.nogcuvema.proofs.Names.{ℕ, ◌+◌, Bool, false, not, nat_lt, if◌then◌else◌, List, map, Result, Ok, refl, sym, Bounds, bad, limits_of, BadLimits, Process, start_error, Machine, AreaConfig, IsOpened, sizes_of, NogLimits, NogArea, NogFailure, NogProcess, area_of, process_of, are_kinds, are_there, bounds_of, Opens}
 use Rattle.std.proofs.Common.{◌≡◌, true, None}
 use Rattle.shm_base.specs.Bounds.{within}
 
@@ -13,7 +13,7 @@ bounds-are l x h =
     let same : bounds_of l ≡ x = cc ok in
     sym same
 
-pub opens : (l : NogLimits) (areas : List NogArea) (failures : List NogFailure) (processes : List NogProcess) (x : Bounds) (given : List Area) (ps : List Process) (m : Machine)
+pub opens : (l : NogLimits) (areas : List NogArea) (failures : List NogFailure) (processes : List NogProcess) (x : Bounds) (given : List AreaConfig) (ps : List Process) (m : Machine)
     → limits_of l.shmmax l.shmmni l.shmall l.frames l.memlock ≡ Ok x → are_kinds areas ≡ true → are_there areas failures ≡ true
     → given ≡ map area_of areas → ps ≡ map process_of processes → start_error (sizes_of given) ps ≡ None → IsOpened x given ps m.system → Opens l areas failures processes m
 opens l areas failures processes x given ps m limits kinds there same-areas same-processes start opened =

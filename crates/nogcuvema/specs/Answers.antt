@@ -37,12 +37,12 @@ AnswersFor before pid call reply code after =
     ⊎ ((refusal : Refusal) × (code ≡ refusal_code refusal) × Answered before.system pid call (Err refusal) after.system)
 
 -- a call of a process through a handle; the reply is what the outputs show where the code is 0
-abbrev pub Answers : Option Machine → ℕ → Call → Reply → ℕ → Option Machine → Type 0
-Answers None pid call reply code after = Unchanged closed None code after
-Answers (Some before) pid call reply code None = ⊥
-Answers (Some before) pid call reply code (Some after) = AnswersFor before pid call reply code after
+abbrev pub AnswersThrough : Option Machine → ℕ → Call → Reply → ℕ → Option Machine → Type 0
+AnswersThrough None pid call reply code after = Unchanged closed None code after
+AnswersThrough (Some before) pid call reply code None = ⊥
+AnswersThrough (Some before) pid call reply code (Some after) = AnswersFor before pid call reply code after
 
 -- the same, where a call can carry the numbers; where it can't, the code says so and nothing changed
 abbrev pub AnswersWhere : Bool → Option Machine → ℕ → Call → Reply → ℕ → Option Machine → Type 0
-AnswersWhere true before pid call reply code after = Answers before pid call reply code after
+AnswersWhere true before pid call reply code after = AnswersThrough before pid call reply code after
 AnswersWhere false before pid call reply code after = Unchanged out_of_range before code after

@@ -9,7 +9,7 @@ use Rattle.shm_life.specs.declared.start.StartError.{StartError}
 use Rattle.shm_machine.specs.declared.area.AreaKind.{AreaKind}
 use Rattle.shm_machine.specs.declared.area.AreaKind.TheVariants.{Ram, Sparse, Mirror}
 use Rattle.shm_machine.specs.declared.machine.Machine.{Machine}
-use Rattle.shm_machine.specs.declared.opening.Area.{Area}
+use Rattle.shm_machine.specs.declared.opening.AreaConfig.{AreaConfig}
 use Rattle.shm_machine.specs.declared.opening.Failure.{Failure}
 use Rattle.shm_machine.specs.declared.opening.Side.TheVariants.{Left, Right}
 use Rattle.shm_machine.specs.Opened.{IsOpened, sizes_of}
@@ -22,7 +22,7 @@ use Rattle.nogcuvema.specs.Answers.{no_memory, out_of_range}
 abbrev pub kind_of : ℕ → AreaKind
 kind_of kind = if kind == 1 then Ram else if kind == 2 then Sparse else Mirror
 
-abbrev pub area_of : NogArea → Area
+abbrev pub area_of : NogArea → AreaConfig
 area_of a = record { kind = kind_of a.kind; slots = a.slots }
 
 abbrev pub failure_of : NogFailure → Failure

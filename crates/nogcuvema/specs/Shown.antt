@@ -1,5 +1,4 @@
 -- What the structs that C reads say.
-use Rattle.std.specs.Prelude.{ℕ, ℤ, pos, negsuc, ◌%◌}
 use Rattle.shm_base.specs.declared.call.ShmidDs.{ShmidDs}
 use Rattle.shm_base.specs.declared.paging.Tally.{Tally}
 use Rattle.shm_base.specs.declared.paging.FlushReport.{FlushReport}
@@ -21,11 +20,6 @@ shown_by s =
       dtime = s.dtime;
       ctime = s.ctime;
     }
-
--- the place in the table of an identifier
-abbrev pub index_of : ℤ → ℕ
-index_of (pos n) = n % 32768
-index_of (negsuc n) = 0
 
 abbrev pub tally_by : NogTally → Tally
 tally_by t =

@@ -3,7 +3,7 @@ ghost use Rattle.std.specs.Prelude.{◌≡◌, ◌≢◌, length};
 ghost use Rattle.shm_base.specs.Bounds.{within};
 ghost use Rattle.shm_base.specs.declared.call.Call.TheVariants as call;
 ghost use Rattle.shm_base.specs.declared.call.Reply.TheVariants as reply;
-ghost use Rattle.nogcuvema.specs.Answers.{Answers, AnswersFor, AnswersWhere};
+ghost use Rattle.nogcuvema.specs.Answers.{AnswersThrough, AnswersFor, AnswersWhere};
 
 use crate::code::{CLOSED, DONE, OUT_OF_RANGE, refusal_code};
 use crate::handle::Handle;
@@ -73,7 +73,7 @@ pub extern "C" fn nog_add(
     add: u64,
     before: &mut u64,
 ) -> u32
-    ensures answers { Answers handle.old.kept.value pid (call.Xadd addr add) (reply.Number before.new) result handle.new.kept.value }
+    ensures answers { AnswersThrough handle.old.kept.value pid (call.Xadd addr add) (reply.Number before.new) result handle.new.kept.value }
     ensures before { result ≢ 0 → before.new ≡ before.old }
 {
     let Some(mut machine) = handle.take(alloc) else {

@@ -8,7 +8,7 @@ use crate::handle::Handle;
 use crate::structs::{NogArea, NogFailure, NogLimits, NogProcess};
 use shm_base::{Cred, Limits, Process};
 use shm_life::StartError;
-use shm_machine::{Area, AreaKind, Failure, Machine, Side};
+use shm_machine::{AreaConfig, AreaKind, Failure, Machine, Side};
 use std::alloc::{AllocError, Global};
 
 const BAD_LIMITS: u32 = 2010;
@@ -27,12 +27,12 @@ fn kind_of(kind: u32) -> AreaKind
     }
 }
 
-fn areas_of(alloc: Global, areas: &[NogArea]) -> Result<Vec<Area>, AllocError>
+fn areas_of(alloc: Global, areas: &[NogArea]) -> Result<Vec<AreaConfig>, AllocError>
     ensures { IfOk result (λ v. v.items ≡ map area_of areas.now) }
 {
     let mut all = Vec::new(alloc);
     for area in areas {
-        all.push(Area {
+        all.push(AreaConfig {
             kind: kind_of(area.kind),
             slots: area.slots,
         })?;

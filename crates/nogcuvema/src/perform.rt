@@ -4,7 +4,7 @@ ghost use Rattle.shm_base.specs.Bounds.{within};
 ghost use Rattle.shm_base.specs.declared.call.Call.TheVariants as call;
 ghost use Rattle.shm_base.specs.declared.call.Reply.TheVariants as reply;
 ghost use Rattle.shm_machine.specs.Answered.{fits};
-ghost use Rattle.nogcuvema.specs.Answers.{Answers, AnswersFor, AnswersWhere};
+ghost use Rattle.nogcuvema.specs.Answers.{AnswersThrough, AnswersFor, AnswersWhere};
 
 use crate::code::{CLOSED, DONE, OUT_OF_RANGE, refusal_code};
 use crate::handle::Handle;
@@ -25,7 +25,7 @@ fn performed(machine: &mut Machine, pid: u32, call: &Call) -> u32
 
 fn perform(alloc: Global, handle: &mut Handle, pid: u32, call: &Call) -> u32
     requires { fits call.now reply.Done ≡ true }
-    ensures { Answers handle.old.kept.value pid call.now reply.Done result handle.new.kept.value }
+    ensures { AnswersThrough handle.old.kept.value pid call.now reply.Done result handle.new.kept.value }
 {
     let Some(mut machine) = handle.take(alloc) else {
         return CLOSED;
@@ -38,7 +38,7 @@ fn perform(alloc: Global, handle: &mut Handle, pid: u32, call: &Call) -> u32
 /// shmdt(2): takes out the pieces of one attach.
 #[unsafe(no_mangle)]
 pub extern "C" fn nog_detach(alloc: Global, handle: &mut Handle, pid: u32, addr: u64) -> u32
-    ensures { Answers handle.old.kept.value pid (call.Shmdt addr) reply.Done result handle.new.kept.value }
+    ensures { AnswersThrough handle.old.kept.value pid (call.Shmdt addr) reply.Done result handle.new.kept.value }
 {
     perform(alloc, handle, pid, &Call::Shmdt { addr })
 }
@@ -56,7 +56,7 @@ pub extern "C" fn nog_set(
 ) -> u32
     ensures { AnswersWhere (nat_lt mode 65536) handle.old.kept.value pid (call.Set id uid gid mode) reply.Done result handle.new.kept.value }
 {
-    if mode > 65535 {
+    if mode > u32::from(u16::MAX) {
         return OUT_OF_RANGE;
     }
     let mode = mode as u16;
@@ -66,7 +66,7 @@ pub extern "C" fn nog_set(
 /// shmctl(2), IPC_RMID: marks a segment, which goes with its last piece.
 #[unsafe(no_mangle)]
 pub extern "C" fn nog_remove(alloc: Global, handle: &mut Handle, pid: u32, id: i32) -> u32
-    ensures { Answers handle.old.kept.value pid (call.Rmid id) reply.Done result handle.new.kept.value }
+    ensures { AnswersThrough handle.old.kept.value pid (call.Rmid id) reply.Done result handle.new.kept.value }
 {
     perform(alloc, handle, pid, &Call::Rmid { id })
 }
@@ -74,7 +74,7 @@ pub extern "C" fn nog_remove(alloc: Global, handle: &mut Handle, pid: u32, id: i
 /// shmctl(2), SHM_LOCK: the pages of a segment stay resident.
 #[unsafe(no_mangle)]
 pub extern "C" fn nog_lock(alloc: Global, handle: &mut Handle, pid: u32, id: i32) -> u32
-    ensures { Answers handle.old.kept.value pid (call.Lock id) reply.Done result handle.new.kept.value }
+    ensures { AnswersThrough handle.old.kept.value pid (call.Lock id) reply.Done result handle.new.kept.value }
 {
     perform(alloc, handle, pid, &Call::Lock { id })
 }
@@ -82,7 +82,7 @@ pub extern "C" fn nog_lock(alloc: Global, handle: &mut Handle, pid: u32, id: i32
 /// shmctl(2), SHM_UNLOCK.
 #[unsafe(no_mangle)]
 pub extern "C" fn nog_unlock(alloc: Global, handle: &mut Handle, pid: u32, id: i32) -> u32
-    ensures { Answers handle.old.kept.value pid (call.Unlock id) reply.Done result handle.new.kept.value }
+    ensures { AnswersThrough handle.old.kept.value pid (call.Unlock id) reply.Done result handle.new.kept.value }
 {
     perform(alloc, handle, pid, &Call::Unlock { id })
 }
@@ -107,7 +107,7 @@ pub extern "C" fn nog_store(
 /// fork(2): a declared child begins, with the pieces and the ids of the process.
 #[unsafe(no_mangle)]
 pub extern "C" fn nog_fork(alloc: Global, handle: &mut Handle, pid: u32, child: u32) -> u32
-    ensures { Answers handle.old.kept.value pid (call.Fork child) reply.Done result handle.new.kept.value }
+    ensures { AnswersThrough handle.old.kept.value pid (call.Fork child) reply.Done result handle.new.kept.value }
 {
     perform(alloc, handle, pid, &Call::Fork { child })
 }
@@ -115,7 +115,7 @@ pub extern "C" fn nog_fork(alloc: Global, handle: &mut Handle, pid: u32, child: 
 /// execve(2): the process loses its pieces.
 #[unsafe(no_mangle)]
 pub extern "C" fn nog_exec(alloc: Global, handle: &mut Handle, pid: u32) -> u32
-    ensures { Answers handle.old.kept.value pid call.Exec reply.Done result handle.new.kept.value }
+    ensures { AnswersThrough handle.old.kept.value pid call.Exec reply.Done result handle.new.kept.value }
 {
     perform(alloc, handle, pid, &Call::Exec)
 }
@@ -123,7 +123,7 @@ pub extern "C" fn nog_exec(alloc: Global, handle: &mut Handle, pid: u32) -> u32
 /// _exit(2): the process ends, and loses its pieces.
 #[unsafe(no_mangle)]
 pub extern "C" fn nog_exit(alloc: Global, handle: &mut Handle, pid: u32) -> u32
-    ensures { Answers handle.old.kept.value pid call.Exit reply.Done result handle.new.kept.value }
+    ensures { AnswersThrough handle.old.kept.value pid call.Exit reply.Done result handle.new.kept.value }
 {
     perform(alloc, handle, pid, &Call::Exit)
 }
@@ -131,7 +131,7 @@ pub extern "C" fn nog_exit(alloc: Global, handle: &mut Handle, pid: u32) -> u32
 /// swapoff(2): takes a swap area away.
 #[unsafe(no_mangle)]
 pub extern "C" fn nog_swapoff(alloc: Global, handle: &mut Handle, pid: u32, area: u32) -> u32
-    ensures { Answers handle.old.kept.value pid (call.Swapoff area) reply.Done result handle.new.kept.value }
+    ensures { AnswersThrough handle.old.kept.value pid (call.Swapoff area) reply.Done result handle.new.kept.value }
 {
     perform(alloc, handle, pid, &Call::Swapoff { area })
 }

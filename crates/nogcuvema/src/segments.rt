@@ -2,14 +2,15 @@
 ghost use Rattle.std.specs.Prelude.{◌≡◌, ◌≢◌, ◌&&◌, nat_lt};
 ghost use Rattle.shm_base.specs.declared.call.Call.TheVariants as call;
 ghost use Rattle.shm_base.specs.declared.call.Reply.TheVariants as reply;
-ghost use Rattle.nogcuvema.specs.Answers.{Answers, AnswersFor, AnswersWhere};
-ghost use Rattle.nogcuvema.specs.Shown.{shown_by, index_of};
+ghost use Rattle.nogcuvema.specs.Answers.{AnswersThrough, AnswersFor, AnswersWhere};
+ghost use Rattle.shm_base.specs.Index.{index_of};
+ghost use Rattle.nogcuvema.specs.Shown.{shown_by};
 
 use crate::code::{CLOSED, DONE, OUT_OF_RANGE, refusal_code};
 use crate::handle::Handle;
-use crate::structs::{NogSegment, index_of};
+use crate::structs::NogSegment;
 use bitflags::Flags;
-use shm_base::{AtFlags, GetFlags};
+use shm_base::{AtFlags, GetFlags, index_of};
 use shm_machine::Machine;
 use std::alloc::Global;
 
@@ -49,7 +50,7 @@ pub extern "C" fn nog_get(
     ensures answers { AnswersWhere (nat_lt mode 65536 && nat_lt flags 65536) handle.old.kept.value pid (call.Shmget key size mode (record { 0 = flags })) (reply.Id id.new) result handle.new.kept.value }
     ensures id { result ≢ 0 → id.new ≡ id.old }
 {
-    if mode > 65535 || flags > 65535 {
+    if mode > u32::from(u16::MAX) || flags > u32::from(u16::MAX) {
         return OUT_OF_RANGE;
     }
     let Some(mut machine) = handle.take(alloc) else {
@@ -88,7 +89,7 @@ pub extern "C" fn nog_attach(
     ensures answers { AnswersWhere (nat_lt flags 65536) handle.old.kept.value pid (call.Shmat id addr (record { 0 = flags })) (reply.Addr at.new) result handle.new.kept.value }
     ensures at { result ≢ 0 → at.new ≡ at.old }
 {
-    if flags > 65535 {
+    if flags > u32::from(u16::MAX) {
         return OUT_OF_RANGE;
     }
     let Some(mut machine) = handle.take(alloc) else {
@@ -123,7 +124,7 @@ pub extern "C" fn nog_stat(
     id: i32,
     segment: &mut NogSegment,
 ) -> u32
-    ensures answers { Answers handle.old.kept.value pid (call.Stat id) (reply.Stat (shown_by segment.new)) result handle.new.kept.value }
+    ensures answers { AnswersThrough handle.old.kept.value pid (call.Stat id) (reply.Stat (shown_by segment.new)) result handle.new.kept.value }
     ensures place { result ≡ 0 → (segment.new.id ≡ id) × (segment.new.index ≡ index_of id) }
     ensures segment { result ≢ 0 → segment.new ≡ segment.old }
 {

@@ -1,9 +1,9 @@
 //! What C and the library hand each other.
 ghost use Rattle.std.specs.Prelude.{◌≡◌};
-ghost use Rattle.nogcuvema.specs.Shown.{shown_by, index_of, tally_by, report_by};
+ghost use Rattle.nogcuvema.specs.Shown.{shown_by, tally_by, report_by};
 
 use bitflags::Flags;
-use shm_base::{FlushReport, INDEXES, ShmidDs, Tally};
+use shm_base::{FlushReport, ShmidDs, Tally};
 
 /// The limits of a machine.
 #[repr(C)]
@@ -68,16 +68,6 @@ pub struct NogSegment {
     pub lpid: u32,
     pub nattch: u32,
     pub index: u32,
-}
-
-/// The index of an identifier in the table; of a negative one, which no segment has, 0.
-pub(crate) fn index_of(id: i32) -> u32
-    ensures { result ≡ index_of id }
-{
-    match u32::try_from(id) {
-        Ok(id) => id % INDEXES,
-        Err(_) => 0,
-    }
 }
 
 impl NogSegment {

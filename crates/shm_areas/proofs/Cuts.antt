@@ -1,5 +1,5 @@
 -- The pieces that a range meets stand side by side. Taking it out leaves a part of the first of them below, and one of the last above.
-use Rattle.shm_areas.proofs.Names.{nat_tests, sym, ◌≡◌, ◌⊎◌, inl, inr, ℕ, zero, suc, ◌+◌, ◌-◌, ◌<◌, ◌≤◌, true, false, nat_lt, List, [], ◌∷◌, ◌++◌, length, get_or, take, drop, refl, ap, ◌∙◌, arith, ◌≢◌, append_assoc, append-nil, length-append, length-take, length-drop, common_steps, splice, lt-ltb, le-ltb, cases_lt, cases_eq, and_right, get_or_default, end_of, meets, occupied, Piece, bare, bare_all, Arranged, kept_below, kept_above, kept_cut, met, IsRun}
+use Rattle.shm_areas.proofs.Names.{nat_tests, sym, ◌≡◌, ◌⊎◌, inl, inr, ℕ, zero, suc, ◌+◌, ◌-◌, ◌<◌, ◌≤◌, true, false, nat_lt, List, [], ◌∷◌, ◌++◌, length, get_or, take, drop, refl, ap, ◌∙◌, arith, ◌≢◌, append_assoc, append-nil, length-append, length-take, length-drop, common_steps, splice, lt-ltb, le-ltb, cases_lt, cases_eq, and_right, get_or_default, end_of, meets, occupied, Piece, bare, bare_all, Arranged, kept_below, kept_above, kept_cut, met, IsPieceRange}
 use Rattle.std.specs.Prelude.{slice_range}
 use Rattle.shm_areas.proofs.Placing.{low_bound}
 
@@ -16,7 +16,7 @@ is_below from to p le = and_right (nat_lt p.base to) (nat_lt from (end_of (bare 
 
 -- the run without its first piece
 
-rest_run : {from to first last f l : ℕ} {p : Piece} {ps : List Piece} → IsRun from to (p ∷ ps) first last → f ≡ first - 1 → l ≡ last - 1 → IsRun from to ps f l
+rest_run : {from to first last f l : ℕ} {p : Piece} {ps : List Piece} → IsPieceRange from to (p ∷ ps) first last → f ≡ first - 1 → l ≡ last - 1 → IsPieceRange from to ps f l
 rest_run r fewer shorter =
     let order = r.order in
     let bound = r.bound in
@@ -31,7 +31,7 @@ rest_run r fewer shorter =
 
 -- THE PIECES THAT ARE MET
 
-take_met : (from to : ℕ) (ps : List Piece) (last : ℕ) → IsRun from to ps 0 last → take last ps ≡ met from to ps
+take_met : (from to : ℕ) (ps : List Piece) (last : ℕ) → IsPieceRange from to ps 0 last → take last ps ≡ met from to ps
 take_met from to [] zero r = refl
 take_met from to [] (suc last) r = absurd (omega (arith, r.bound))
 take_met from to (p ∷ ps) zero r =
@@ -40,7 +40,7 @@ take_met from to (p ∷ ps) (suc last) r =
     rw (meets_it from to p (r.below 0 p (omega arith)) (r.after 0 p (omega arith) (omega arith)))
     (ap (λ (xs : List Piece). p ∷ xs) (take_met from to ps last (rest_run r (omega arith) (omega arith))))
 
-pub slice-met : (from to : ℕ) (ps : List Piece) (first last : ℕ) → IsRun from to ps first last → slice_range ps first last ≡ met from to ps
+pub slice-met : (from to : ℕ) (ps : List Piece) (first last : ℕ) → IsPieceRange from to ps first last → slice_range ps first last ≡ met from to ps
 slice-met from to ps zero last r = let whole : last - 0 ≡ last = omega arith in rw whole (take_met from to ps last r)
 slice-met from to ps (suc first) zero r = absurd (omega (arith, r.order))
 slice-met from to [] (suc first) (suc last) r = absurd (omega (arith, r.bound))
@@ -52,7 +52,7 @@ occupied-met : (from to : ℕ) (ps : List Piece) → occupied (bare_all ps) from
 occupied-met from to [] = refl
 occupied-met from to (p ∷ ps) = grind (arith, common_steps, occupied-met from to ps)
 
-pub occupied-run : (from to : ℕ) (ps : List Piece) (first last : ℕ) → IsRun from to ps first last → nat_lt first last ≡ occupied (bare_all ps) from to
+pub occupied-run : (from to : ℕ) (ps : List Piece) (first last : ℕ) → IsPieceRange from to ps first last → nat_lt first last ≡ occupied (bare_all ps) from to
 occupied-run from to ps first last r =
     let long : length (met from to ps) ≡ last - first = ap length (sym (slice-met from to ps first last r)) ∙ simp (length-take, length-drop) (omega (arith, r.bound)) in
     rw (occupied-met from to ps, long) (grind (arith, nat_tests))
@@ -60,7 +60,7 @@ occupied-run from to ps first last r =
 -- WHAT IS LEFT
 
 -- nothing is met, nothing is cut
-pub cut-none : (from to : ℕ) (ps : List Piece) (first : ℕ) → IsRun from to ps first first → kept_cut from to ps ≡ ps
+pub cut-none : (from to : ℕ) (ps : List Piece) (first : ℕ) → IsPieceRange from to ps first first → kept_cut from to ps ≡ ps
 cut-none from to [] first r = refl
 cut-none from to (p ∷ ps) zero r =
     rw (is_above from to p (r.above 0 p (omega arith) (omega arith))) (ap (λ (xs : List Piece). p ∷ xs) (cut-none from to ps zero (rest_run r (omega arith) (omega arith))))
@@ -75,11 +75,11 @@ above-none : (to : ℕ) (p : Piece) → end_of (bare p) ≤ to → kept_above to
 above-none to p le = rw (le-ltb to (end_of (bare p)) le) refl
 
 -- a piece with another of the run behind it ends in the range
-ends_in : (from to last low : ℕ) (p : Piece) (ps : List Piece) → Arranged low (bare_all (p ∷ ps)) → IsRun from to (p ∷ ps) 0 (suc (suc last)) → end_of (bare p) ≤ to
+ends_in : (from to last low : ℕ) (p : Piece) (ps : List Piece) → Arranged low (bare_all (p ∷ ps)) → IsPieceRange from to (p ∷ ps) 0 (suc (suc last)) → end_of (bare p) ≤ to
 ends_in from to last low p ps ar r = grind (arith, common_steps, low_bound)
 
 -- all pieces of the run begin in the range
-cut-begun : (from to last low : ℕ) (ps : List Piece) (d : Piece) → Arranged low (bare_all ps) → from ≤ low → IsRun from to ps 0 (suc last)
+cut-begun : (from to last low : ℕ) (ps : List Piece) (d : Piece) → Arranged low (bare_all ps) → from ≤ low → IsPieceRange from to ps 0 (suc last)
     → kept_cut from to ps ≡ kept_above to (get_or ps last d) ++ drop (suc last) ps
 cut-begun from to last low [] d ar le r = absurd (omega (arith, r.bound))
 cut-begun from to zero low (p ∷ ps) d ar le r =
@@ -96,7 +96,7 @@ cut-begun from to (suc last) low (p ∷ ps) d ar le r =
     )
     (cut-begun from to last (end_of (bare p)) ps d ar.1.1 (omega (arith, after)) (rest_run r (omega arith) (omega arith)))
 
-pub cut-run : (from to first last low : ℕ) (ps : List Piece) (d : Piece) → Arranged low (bare_all ps) → IsRun from to ps first (suc last) → first < suc last
+pub cut-run : (from to first last low : ℕ) (ps : List Piece) (d : Piece) → Arranged low (bare_all ps) → IsPieceRange from to ps first (suc last) → first < suc last
     → splice ps first (suc last) (kept_below from (get_or ps first d) ++ kept_above to (get_or ps last d)) ≡ kept_cut from to ps
 cut-run from to first last low [] d ar r lt = absurd (omega (arith, r.bound))
 cut-run from to zero zero low (p ∷ ps) d ar r lt =
@@ -136,12 +136,12 @@ pub record IsCount (addr : ℕ) (ps : List Piece) (count : ℕ) : Type 0 where
 
 -- the last piece that begins at or below the range reaches into it
 pub run_from : (low from to count last : ℕ) (ps : List Piece) (e : Piece) → Arranged low (bare_all ps) → from < to → IsCount from ps count → IsCount (to - 1) ps last
-    → 0 < count → from < end_of (bare (get_or ps (count - 1) e)) → IsRun from to ps (count - 1) last
+    → 0 < count → from < end_of (bare (get_or ps (count - 1) e)) → IsPieceRange from to ps (count - 1) last
 run_from low from to count last ps e ar lt c l some reaches = grind (arith, common_steps, cases_lt, end_of, bare, ends_before, get_or_default)
 
 -- or it does not, or there is none
 pub run_behind : (low from to count last : ℕ) (ps : List Piece) (e : Piece) → Arranged low (bare_all ps) → from < to → IsCount from ps count → IsCount (to - 1) ps last
-    → (count ≡ 0) ⊎ (end_of (bare (get_or ps (count - 1) e)) ≤ from) → IsRun from to ps count last
+    → (count ≡ 0) ⊎ (end_of (bare (get_or ps (count - 1) e)) ≤ from) → IsPieceRange from to ps count last
 run_behind low from to count last ps e ar lt c l over = grind (arith, common_steps, cases_lt, cases_eq, end_of, bare, get_or_default, ends_before)
 
 -- HOW MANY ARE LEFT

@@ -10,7 +10,7 @@ abbrev pub met : ℕ → ℕ → List Piece → List Piece
 met from to ps = filter (λ (p : Piece). meets from to (bare p)) ps
 
 -- they are those from one place up to another
-pub record IsRun (from to : ℕ) (ps : List Piece) (first last : ℕ) : Type 0 where
+pub record IsPieceRange (from to : ℕ) (ps : List Piece) (first last : ℕ) : Type 0 where
   pub order : first ≤ last
   pub bound : last ≤ length ps
   pub before : (k : ℕ) (d : Piece) → k < first → end_of (bare (get_or ps k d)) ≤ from

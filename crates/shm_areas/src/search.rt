@@ -3,7 +3,7 @@ ghost use Rattle.std.specs.Prelude.{◌≡◌, ◌+◌, ◌*◌, ◌<◌, ◌≤
 ghost use Rattle.shm_base.specs.Space as flat;
 ghost use Rattle.shm_areas.specs.Arranged.{bare, bare_all, Arranged, IsCovering, covering};
 ghost use Rattle.shm_areas.specs.Gap.{gap_from};
-ghost use Rattle.shm_areas.specs.Met.{IsRun};
+ghost use Rattle.shm_areas.specs.Met.{IsPieceRange};
 ghost use Rattle.shm_areas.specs.declared.piece.Piece.{Piece as Stored};
 
 use crate::piece::Piece;
@@ -11,7 +11,7 @@ use shm_base::{END_ADDRESS, FIRST_GAP, PAGE_SIZE};
 
 /// Pieces side by side: the place of the first, and the place behind the last.
 #[derive(Clone, Copy)]
-pub(crate) struct Run {
+pub(crate) struct PieceRange {
     pub(crate) first: usize,
     pub(crate) last: usize,
 }
@@ -65,20 +65,20 @@ pub(crate) fn piece_in(pieces: &[Piece], addr: u64) -> Option<Piece>
 }
 
 /// The pieces with a page in a range.
-pub(crate) fn run_in(pieces: &[Piece], from: u64, to: u64) -> Run
+pub(crate) fn run_in(pieces: &[Piece], from: u64, to: u64) -> PieceRange
     requires arranged { Arranged flat.lowest_address (bare_all pieces.now) }
     requires order { from < to }
-    ensures { IsRun from to pieces.now result.first result.last }
+    ensures { IsPieceRange from to pieces.now result.first result.last }
 {
     let count = count_to(pieces, from);
     let last = count_to(pieces, to - 1);
     if count > 0 && from < pieces[count - 1].end() {
-        return Run {
+        return PieceRange {
             first: count - 1,
             last,
         };
     }
-    Run { first: count, last }
+    PieceRange { first: count, last }
 }
 
 /// The least gap for so many pages at or above 0x40000000, walking up the pieces.

@@ -1,5 +1,5 @@
 -- The table of each piece: what a change of the pieces and of the tables leaves.
-use Rattle.shm_attach.proofs.Names.{gets, slice_get-map, ◌≡◌, ◌≢◌, inl, inr, ℕ, zero, suc, ◌+◌, ◌<◌, ◌≤◌, ◌==◌, ◌&&◌, Bool, true, false, nat_lt, List, [], ◌∷◌, length, filter, get_or, slice_get, Option, Some, None, refl, ap, sym, subst, ◌∙◌, arith, common_steps, All, cases_Bool, none-some, cases_eq, slice_get_cases, All-append, All-cons, All-head, All-tail, All-filter, length-map, set_value_at, Slab, get, pieces_of, bare, bare_all, kept_inserted, kept_parts, kept_cut, Tables, runner_view, runners_view, pieces_at, seg_in, size_in, frame_in, TrueSlot, counted, stored_in, stored_at, IsHeld, AllHeld, AreCountsExact, Piece, Runner, Entry}
+use Rattle.shm_attach.proofs.Names.{gets, slice_get-map, ◌≡◌, ◌≢◌, inl, inr, ℕ, zero, suc, ◌+◌, ◌<◌, ◌≤◌, ◌==◌, ◌&&◌, Bool, true, false, nat_lt, List, [], ◌∷◌, length, filter, get_or, slice_get, Option, Some, None, refl, ap, sym, subst, ◌∙◌, arith, common_steps, All, cases_Bool, none-some, cases_eq, slice_get_cases, All-append, All-cons, All-head, All-tail, All-filter, length-map, set_value_at, Slab, get, pieces_of, bare, bare_all, kept_inserted, kept_parts, kept_cut, Tables, runner_view, runners_view, pieces_at, seg_in, size_in, frame_in, TrueSlot, counted, stored_in, stored_at, IsHeld, AllHeld, AreCountsExact, Piece, Runner, TableView}
 use Rattle.shm_base.specs.State as flat
 use Rattle.shm_attach.proofs.Processes.{entry_there, entries_set, values_of}
 use Rattle.shm_attach.proofs.Keeping.{own_counted, pieces_of-there, bare-get_or}
@@ -41,22 +41,22 @@ seg_is None seg = false
 seg_is (Some own) seg = own == seg
 
 -- whether a piece has its table
-abbrev pub is_held : Slab Entry → Piece → Bool
+abbrev pub is_held : Slab TableView → Piece → Bool
 is_held t p = seg_is (seg_in (get t p.key)) p.seg && nat_lt (p.first_page + p.pages) (size_in (get t p.key) + 1)
 
-pub held-passes : (t : Slab Entry) (p : Piece) → IsHeld t p → is_held t p ≡ true
+pub held-passes : (t : Slab TableView) (p : Piece) → IsHeld t p → is_held t p ≡ true
 held-passes t p own = grind (arith, common_steps)
 
-pub held-passed : (t : Slab Entry) (p : Piece) → is_held t p ≡ true → IsHeld t p
+pub held-passed : (t : Slab TableView) (p : Piece) → is_held t p ≡ true → IsHeld t p
 held-passed t p passes = grind (arith, common_steps)
 
 -- what is read under a key is true
-pub frame-true : (at : ℕ → ℕ → Option ℕ) (o : Option Entry) (seg page : ℕ) → seg_in o ≡ Some seg → TrueSlot at o → page < size_in o → frame_in o page ≡ at seg page
+pub frame-true : (at : ℕ → ℕ → Option ℕ) (o : Option TableView) (seg page : ℕ) → seg_in o ≡ Some seg → TrueSlot at o → page < size_in o → frame_in o page ≡ at seg page
 frame-true at o seg page own tr lt = grind arith
 
 -- ALL PIECES OF ONE PROCESS
 
-module _ (t : Slab Entry) where
+module _ (t : Slab TableView) where
   pub held-inserted : (p : Piece) (ps : List Piece) → IsHeld t p → All (IsHeld t) ps → All (IsHeld t) (kept_inserted p ps)
   held-inserted p [] own all = All-cons (IsHeld t) p [] own all
   held-inserted p (q ∷ qs) own all =
@@ -95,11 +95,11 @@ counts-piece extra es u exact i k d lt =
     omega (arith, here, all)
 
 -- the tables that are left are those of the pieces that are there
-pub held-all : (extra : ℕ → ℕ) (es : List (ℕ × Runner)) (t : Slab Entry) (u : Tables) → AreCountsExact extra (runners_view es) u → AllHeld es t
+pub held-all : (extra : ℕ → ℕ) (es : List (ℕ × Runner)) (t : Slab TableView) (u : Tables) → AreCountsExact extra (runners_view es) u → AllHeld es t
     → ((p : Piece) → IsHeld t p → 0 < counted u p.seg → IsHeld u.slab p) → AllHeld es u.slab
 held-all extra es t u exact all step i k d lt = step (get_or (stored_at es i) k d) (all i k d lt) (counts-piece extra es u exact i k d lt)
 
 -- one process has other pieces
-pub held-changed : (es fs : List (ℕ × Runner)) (t : Slab Entry) (i : ℕ) → AllHeld es t → All (IsHeld t) (stored_at fs i)
+pub held-changed : (es fs : List (ℕ × Runner)) (t : Slab TableView) (i : ℕ) → AllHeld es t → All (IsHeld t) (stored_at fs i)
     → ((j : ℕ) → j ≢ i → stored_at fs j ≡ stored_at es j) → AllHeld fs t
 held-changed es fs t i all own others j = elim (cases_eq j i) [ inl same ↦ rw same own | inr other ↦ rw (others j other) (all j) ]

@@ -1,5 +1,5 @@
 -- Entries that are true of one residency, and of another.
-use Rattle.shm_attach.proofs.Names.{◌≡◌, ℕ, zero, suc, ◌+◌, ◌<◌, List, [], ◌∷◌, length, get_or, take, Option, arith, Slab, Move, moved, AllTrue, Entry}
+use Rattle.shm_attach.proofs.Names.{◌≡◌, ℕ, zero, suc, ◌+◌, ◌<◌, List, [], ◌∷◌, length, get_or, take, Option, arith, Slab, Move, moved, AllTrue, TableView}
 
 -- THE MOVES, ONE AFTER ANOTHER
 
@@ -14,5 +14,5 @@ pub moved-more : (ms : List Move) (i : ℕ) (d : Move) (seg page : ℕ) (f : Opt
 moved-more ms i d seg page f lt = let next : i + 1 ≡ suc i = omega arith in rw next (moved-step ms i d seg page f lt)
 
 -- what holds of one residency holds of another that is the same
-pub true-same : (at by : ℕ → ℕ → Option ℕ) (t : Slab Entry) → ((seg page : ℕ) → at seg page ≡ by seg page) → AllTrue at t → AllTrue by t
+pub true-same : (at by : ℕ → ℕ → Option ℕ) (t : Slab TableView) → ((seg page : ℕ) → at seg page ≡ by seg page) → AllTrue at t → AllTrue by t
 true-same at by t same all k = grind arith

@@ -1,5 +1,5 @@
 -- The counts stay exact, and each piece has its segment's table, where one process changes.
-use Rattle.shm_attach.proofs.Names.{◌≡◌, ◌≢◌, ℕ, ◌+◌, ◌<◌, ◌≤◌, List, [], length, Some, slice_get, sym, subst, arith, common_steps, All, length-map, set_value_at, lowest_address, inserted, cut, without_named, pieces_of, bare_all, Arranged, arranged_cut, arranged_inserted, Tables, runner_view, runners_view, with_pieces_at, with_life_at, pieces_at, life_at, counted, stored_at, IsHeld, IsTied, AllHeld, IsPlaceFor, IsCuttable, AreCountsExact, AreTablesSound, HasHolds, no_holds, Unborn, Piece, Runner}
+use Rattle.shm_attach.proofs.Names.{◌≡◌, ◌≢◌, ℕ, ◌+◌, ◌<◌, ◌≤◌, List, [], length, Some, slice_get, sym, subst, arith, common_steps, All, length-map, set_value_at, lowest_address, inserted, cut, without_named, pieces_of, bare_all, Arranged, arranged_cut, arranged_inserted, Tables, runner_view, runners_view, with_pieces_at, with_life_at, pieces_at, life_at, counted, stored_at, IsHeld, OneTableEach, AllHeld, IsPlaceFor, IsCuttable, AreCountsExact, AreTablesSound, HasHolds, no_holds, Unborn, Piece, Runner}
 use Rattle.shm_base.specs.State as flat
 use Rattle.shm_attach.proofs.Processes.{values_of, runners_set, length_set, length-inserted, shorter_filter}
 use Rattle.shm_attach.proofs.Keeping.{IsExact-changed, IsExact-life, arranged-without, small_counts, own_counted}
@@ -22,7 +22,7 @@ changed es i w v f at life space = grind (arith, common_steps, runners_set, leng
 pub record IsRecounted (t u : Tables) (before after : List flat.Piece) : Type 0 where
   pub counts : (id : ℕ) → counted u id + pieces_of id before ≡ counted t id + pieces_of id after
   pub held : (p : Piece) → IsHeld t.slab p → 0 < counted u p.seg → IsHeld u.slab p
-  pub tied : IsTied u
+  pub tied : OneTableEach u
 
 -- other pieces that are few and in order
 pub record AreFit (rs : List flat.Runner) (i : ℕ) (ps : List flat.Piece) : Type 0 where
@@ -73,7 +73,7 @@ sound-life es fs t i l lt awake sound life same =
 -- WHAT HOLDS A SEGMENT
 
 -- other segments are held beside the pieces
-pub sound-holds : (e f : ℕ → ℕ) (es : List (ℕ × Runner)) (t u : Tables) → AreTablesSound e es t → ((id : ℕ) → counted u id + e id ≡ counted t id + f id) → IsTied u
+pub sound-holds : (e f : ℕ → ℕ) (es : List (ℕ × Runner)) (t u : Tables) → AreTablesSound e es t → ((id : ℕ) → counted u id + e id ≡ counted t id + f id) → OneTableEach u
     → ((p : Piece) → IsHeld t.slab p → 0 < counted u p.seg → IsHeld u.slab p) → AreTablesSound f es u
 sound-holds e f es t u sound counts tied step =
     let exact : AreCountsExact f (runners_view es) u =

@@ -1,5 +1,5 @@
 -- The processes as they are declared.
-use Rattle.shm_attach.proofs.Names.{◌≡◌, ◌≢◌, ℕ, zero, suc, ◌+◌, ◌<◌, ◌≤◌, nat_eq, List, [], ◌∷◌, ◌++◌, length, map, get_or, take, refl, ap, sym, ◌∙◌, arith, ne_eqb, length-take, common_steps, length-map, get_or-take, take_more, map-append, sum_by-cons, insert_entry, runner_at_start, pieces_of, attach_count, Process, Tables, runner_view, runners_view, pieces_at, AreCountsExact, no_holds, Slab, bare, bare_all, counted, stored_at, AllHeld, Runner, Entry}
+use Rattle.shm_attach.proofs.Names.{◌≡◌, ◌≢◌, ℕ, zero, suc, ◌+◌, ◌<◌, ◌≤◌, nat_eq, List, [], ◌∷◌, ◌++◌, length, map, get_or, take, refl, ap, sym, ◌∙◌, arith, ne_eqb, length-take, common_steps, length-map, get_or-take, take_more, map-append, sum_by-cons, insert_entry, runner_at_start, pieces_of, attach_count, Process, Tables, runner_view, runners_view, pieces_at, AreCountsExact, no_holds, Slab, bare, bare_all, counted, stored_at, AllHeld, Runner, TableView}
 use Rattle.shm_base.specs.State as flat
 use Rattle.shm_attach.proofs.Held.{pieces_at-bare}
 use Rattle.shm_attach.proofs.Callers.{nobody}
@@ -46,7 +46,7 @@ pub IsExact-start : (ps : List Process) (c : Tables) → length ps ≤ 64 → ((
 IsExact-start ps c few none = grind (arith, common_steps, attach_count-start, length-map, pieces_at-start)
 
 -- no piece has a table yet
-pub AllHeld-start : (es : List (ℕ × Runner)) (ps : List Process) (t : Slab Entry) → runners_view es ≡ map runner_at_start ps → AllHeld es t
+pub AllHeld-start : (es : List (ℕ × Runner)) (ps : List Process) (t : Slab TableView) → runners_view es ≡ map runner_at_start ps → AllHeld es t
 AllHeld-start es ps t same i k d lt =
     let none : bare_all (stored_at es i) ≡ [] = sym (pieces_at-bare es i) ∙ ap (λ (rs : List flat.Runner). pieces_at rs i) same ∙ pieces_at-start ps i in
     absurd (omega (arith, lt, length-map (stored_at es i) bare, ap length none))

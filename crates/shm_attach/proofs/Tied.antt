@@ -1,16 +1,16 @@
 -- One table for each segment with pieces: what a change of the map and of the slab leaves.
-use Rattle.shm_attach.proofs.Names.{◌≡◌, ◌≢◌, ◌∙◌, inl, inr, ℕ, ◌<◌, List, length, get_or, Option, Some, None, refl, sym, arith, common_steps, cases_eq, none-some, Slab, get, with_value, Updates, PageRef, Tables, seg_in, count_in, TrueEntry, TrueSlot, AllTrue, with_frame, counted, counted_under, key_of, IsHeld, IsTied, Piece, Entry}
+use Rattle.shm_attach.proofs.Names.{◌≡◌, ◌≢◌, ◌∙◌, inl, inr, ℕ, ◌<◌, List, length, get_or, Option, Some, None, refl, sym, arith, common_steps, cases_eq, none-some, Slab, get, with_value, Updates, PageRef, Tables, seg_in, count_in, TrueTable, TrueSlot, AllTrue, with_frame, counted, counted_under, key_of, IsHeld, OneTableEach, Piece, TableView}
 
 -- a piece that has its table is counted
-pub held-counted : (t : Tables) (p : Piece) → IsTied t → IsHeld t.slab p → 0 < counted t p.seg
+pub held-counted : (t : Tables) (p : Piece) → OneTableEach t → IsHeld t.slab p → 0 < counted t p.seg
 held-counted t p tied own = grind (arith, common_steps, key_of, cases_eq, counted, none-some)
 
 -- A TABLE WITH OTHER FRAMES
 
-pub update-value : (s : Slab Entry) (key : ℕ) (e v : Entry) → get s key ≡ Some e → Updates s (with_value s key v) key (Some v)
+pub update-value : (s : Slab TableView) (key : ℕ) (e v : TableView) → get s key ≡ Some e → Updates s (with_value s key v) key (Some v)
 update-value s key e v at = grind (arith, common_steps)
 
-module _ (t : Tables) (key : ℕ) (e v : Entry) (tied : IsTied t) (at : get t.slab key ≡ Some e) (rest : v ≡ record e { frames = v.frames }) where
+module _ (t : Tables) (key : ℕ) (e v : TableView) (tied : OneTableEach t) (at : get t.slab key ≡ Some e) (rest : v ≡ record e { frames = v.frames }) where
   same : (k : ℕ) → (seg_in (get (with_value t.slab key v) k) ≡ seg_in (get t.slab k)) × (count_in (get (with_value t.slab key v) k) ≡ count_in (get t.slab k))
   same k = grind (arith, common_steps)
 
@@ -18,20 +18,20 @@ module _ (t : Tables) (key : ℕ) (e v : Entry) (tied : IsTied t) (at : get t.sl
   counted-same None = refl
   counted-same (Some k) = (same k).1
 
-  pub tied-table : IsTied (record t { slab = with_value t.slab key v })
+  pub tied-table : OneTableEach (record t { slab = with_value t.slab key v })
   tied-table = grind (arith, common_steps, same, counted-same)
 
 -- A MOVE
 
 -- the tables of other segments are true still
-true-apart : (at : ℕ → ℕ → Option ℕ) (r : PageRef) (f : Option ℕ) (o : Option Entry) → seg_in o ≢ Some r.seg → TrueSlot at o → TrueSlot (with_frame r f at) o
+true-apart : (at : ℕ → ℕ → Option ℕ) (r : PageRef) (f : Option ℕ) (o : Option TableView) → seg_in o ≢ Some r.seg → TrueSlot at o → TrueSlot (with_frame r f at) o
 true-apart at r f o other now = grind (arith, common_steps)
 
-pub true-unknown : (at : ℕ → ℕ → Option ℕ) (r : PageRef) (f : Option ℕ) (t : Tables) → IsTied t → key_of t r.seg ≡ None → AllTrue at t.slab → AllTrue (with_frame r f at) t.slab
+pub true-unknown : (at : ℕ → ℕ → Option ℕ) (r : PageRef) (f : Option ℕ) (t : Tables) → OneTableEach t → key_of t r.seg ≡ None → AllTrue at t.slab → AllTrue (with_frame r f at) t.slab
 true-unknown at r f t tied none all k = grind (arith, common_steps, true-apart)
 
-pub true-set : (at : ℕ → ℕ → Option ℕ) (r : PageRef) (f : Option ℕ) (t : Tables) (s : Slab Entry) (key : ℕ) (v : Entry) → IsTied t → key_of t r.seg ≡ Some key
-    → Updates t.slab s key (Some v) → TrueEntry (with_frame r f at) v → AllTrue at t.slab → AllTrue (with_frame r f at) s
+pub true-set : (at : ℕ → ℕ → Option ℕ) (r : PageRef) (f : Option ℕ) (t : Tables) (s : Slab TableView) (key : ℕ) (v : TableView) → OneTableEach t → key_of t r.seg ≡ Some key
+    → Updates t.slab s key (Some v) → TrueTable (with_frame r f at) v → AllTrue at t.slab → AllTrue (with_frame r f at) s
 true-set at r f t s key v tied own up new all k =
     let apart = true-apart at r f (get t.slab k) in
     let others = up.others k in

@@ -7,7 +7,7 @@ use Rattle.shm_areas.specs.Arranged.{Arranged}
 use Rattle.shm_attach.specs.declared.process.Runner.{Runner}
 use Rattle.shm_attach.specs.declared.tables.Tables.{Tables}
 use Rattle.shm_attach.specs.Views.{runners_view}
-use Rattle.shm_attach.specs.Tables.{counted, IsTied, AllHeld}
+use Rattle.shm_attach.specs.Tables.{counted, OneTableEach, AllHeld}
 use Rattle.shm_attach.specs.Spaces.{pieces_at, life_at}
 
 -- each count is that of the pieces and of what holds a segment beside them; the pieces are few and in order in each
@@ -22,7 +22,7 @@ pub record AreCountsExact (extra : ℕ → ℕ) (rs : List flat.Runner) (t : Tab
 -- the counts are exact, and each piece has its segment's table
 pub record AreTablesSound (extra : ℕ → ℕ) (es : List (ℕ × Runner)) (t : Tables) : Type 0 where
   pub exact : AreCountsExact extra (runners_view es) t
-  pub tied : IsTied t
+  pub tied : OneTableEach t
   pub held : AllHeld es t.slab
 
 abbrev pub no_holds : ℕ → ℕ

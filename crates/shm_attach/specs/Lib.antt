@@ -1,6 +1,6 @@
 pub mod Views
 pub mod Spaces
-pub mod Entries
+pub mod Table
 pub mod Tables
 pub mod Exact
 pub mod Part

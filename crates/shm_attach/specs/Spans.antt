@@ -1,4 +1,4 @@
--- Stretches of bytes of segments, as the places that an access asks for.
+-- Spans of bytes of segments, as the places that an access asks for.
 use Rattle.std.specs.Prelude.{ℕ, ◌≡◌, ◌+◌, ◌<◌, Bool, true, false, List, [], Option, Some, None, option_map, map, All}
 use Rattle.shm_base.specs.State.{Piece, Runner}
 use Rattle.shm_base.specs.Access.{Place, places, writable_places}

@@ -5,9 +5,9 @@ use Rattle.slab.specs.Slab.{Slab, get}
 use Rattle.shm_areas.specs.declared.piece.Piece.{Piece}
 use Rattle.shm_attach.specs.declared.process.Runner.{Runner}
 use Rattle.shm_attach.specs.declared.tables.Tables.{Tables}
-use Rattle.shm_attach.specs.Entries.{Entry, seg_in, count_in, size_in}
+use Rattle.shm_attach.specs.Table.{TableView, seg_in, count_in, size_in}
 
-abbrev pub counted_under : Slab Entry → Option ℕ → ℕ
+abbrev pub counted_under : Slab TableView → Option ℕ → ℕ
 counted_under s None = 0
 counted_under s (Some key) = count_in (get s key)
 
@@ -20,13 +20,13 @@ abbrev pub counted : Tables → ℕ → ℕ
 counted t id = counted_under t.slab (key_of t id)
 
 -- a segment has a table just where it has pieces, and just one
-pub record IsTied (t : Tables) : Type 0 where
+pub record OneTableEach (t : Tables) : Type 0 where
   pub keyed : (id key : ℕ) → key_of t id ≡ Some key → seg_in (get t.slab key) ≡ Some id
   pub named : (id key : ℕ) → seg_in (get t.slab key) ≡ Some id → key_of t id ≡ Some key
   pub some : (id : ℕ) → counted t id ≡ 0 → key_of t id ≡ None
 
 -- a piece's key is that of a table of its segment, which has its pages
-pub record IsHeld (t : Slab Entry) (p : Piece) : Type 0 where
+pub record IsHeld (t : Slab TableView) (p : Piece) : Type 0 where
   pub seg : seg_in (get t p.key) ≡ Some p.seg
   pub pages : p.first_page + p.pages ≤ size_in (get t p.key)
 
@@ -39,5 +39,5 @@ abbrev pub stored_at : List (ℕ × Runner) → ℕ → List Piece
 stored_at es i = stored_in (slice_get es i)
 
 -- so it is with every piece
-abbrev pub AllHeld : List (ℕ × Runner) → Slab Entry → Type 0
+abbrev pub AllHeld : List (ℕ × Runner) → Slab TableView → Type 0
 AllHeld es t = (i : ℕ) → All (IsHeld t) (stored_at es i)

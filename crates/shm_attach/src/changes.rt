@@ -1,6 +1,7 @@
 //! Changes of the pieces of one process. Every piece that comes goes through `put` and every one that goes through
 //! `take`, whatever the cause: shmat, a remap, shmdt, fork, exec and exit. The pieces, the counts and the
-//! translations change together, so that the counts stay exact and each piece has its segment's table.
+//! translations change together, so that the counts stay exact and each piece has its segment's table. A shmat holds
+//! that table by one count more until its piece stands.
 ghost use Rattle.std.specs.Prelude.{◌≡◌, ◌≢◌, ℕ, Option, ◌<◌, ◌≤◌, ◌+◌, length, true, All};
 ghost use Rattle.shm_base.specs.State.{Unborn};
 ghost use Rattle.shm_base.specs.Space.{lowest_address, inserted, cut, meets, pieces_of};
@@ -8,8 +9,8 @@ ghost use Rattle.shm_areas.specs.declared.piece.Piece.{Piece as Stored};
 ghost use Rattle.shm_areas.specs.Arranged.{bare, bare_all, Arranged};
 ghost use Rattle.shm_attach.specs.Views.{life_view, with_pieces_at, with_life_at, runners_view};
 ghost use Rattle.shm_attach.specs.Spaces.{pieces_at, life_at};
-ghost use Rattle.shm_attach.specs.Entries.{AllTrue};
-ghost use Rattle.shm_attach.specs.Tables.{counted, stored_at, IsHeld, IsTied};
+ghost use Rattle.shm_attach.specs.Table.{AllTrue};
+ghost use Rattle.shm_attach.specs.Tables.{counted, stored_at, IsHeld, OneTableEach};
 ghost use Rattle.shm_attach.specs.Place.{IsPlaceFor};
 ghost use Rattle.shm_attach.specs.Part.{left, CanGo};
 ghost use Rattle.shm_attach.specs.Exact.{AreTablesSound, HasHolds};
@@ -75,11 +76,11 @@ fn recount(tables: &mut Tables, met: &[Piece], from: u64, to: u64)
     requires counted { (id : ℕ) → pieces_of id (bare_all met.now) ≤ counted tables.old id }
     requires small { (id : ℕ) → counted tables.old id ≤ 65536 }
     requires few { length met.now ≤ 256 }
-    requires tied { IsTied tables.old }
+    requires tied { OneTableEach tables.old }
     ensures counts { (id : ℕ) → counted tables.new id + pieces_of id (bare_all met.now) ≡ counted tables.old id + pieces_of id (cut from to (bare_all met.now)) }
     ensures held { (p : Stored) → IsHeld tables.old.slab p → 0 < counted tables.new p.seg → IsHeld tables.new.slab p }
     ensures translated { (at : ℕ → ℕ → Option ℕ) → AllTrue at tables.old.slab → AllTrue at tables.new.slab }
-    ensures tied { IsTied tables.new }
+    ensures tied { OneTableEach tables.new }
 {
     for piece in met {
         let parts = piece.parts_outside(from, to);

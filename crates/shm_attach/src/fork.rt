@@ -5,7 +5,7 @@ ghost use Rattle.shm_base.specs.Segments.{attach_count};
 ghost use Rattle.shm_base.specs.Step.{unborn_from};
 ghost use Rattle.shm_attach.specs.Views.{with_pieces_at, runners_view};
 ghost use Rattle.shm_fault.specs.Store.{StoreView};
-ghost use Rattle.shm_attach.specs.Entries.{AllTrue};
+ghost use Rattle.shm_attach.specs.Table.{AllTrue};
 ghost use Rattle.shm_attach.specs.Spaces.{pieces_at, life_at, caller_seen, IsCaller, AreTrue};
 ghost use Rattle.shm_attach.specs.Exact.{AreTablesSound, no_holds};
 ghost use Rattle.shm_attach.specs.Fork.{born_child};

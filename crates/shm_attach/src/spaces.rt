@@ -4,10 +4,11 @@ ghost use Rattle.shm_base.specs.State.{life_at_start, runner_at_start};
 ghost use Rattle.shm_base.specs.Segments.{attach_count};
 ghost use Rattle.shm_base.specs.Step.{caller_from, unborn_from};
 ghost use Rattle.shm_base.specs.declared.call.Process.{Process as Declared};
-ghost use Rattle.shm_base.specs.declared.paging.Span.{Span as Stretch};
+ghost use Rattle.shm_base.specs.declared.paging.Span.{Span as SpanValue};
 ghost use Rattle.shm_attach.specs.Views.{life_view};
-ghost use Rattle.shm_fault.specs.Store.{StoreView, frame_of};
-ghost use Rattle.shm_fault.specs.Steps.{Moves};
+ghost use Rattle.shm_fault.specs.Store.{StoreView};
+ghost use Rattle.shm_fault.specs.Access.{NameFrames};
+ghost use Rattle.shm_fault.specs.Steps.{MovesLead};
 ghost use Rattle.shm_areas.specs.Arranged.{bare_all};
 ghost use Rattle.shm_attach.specs.Spaces.{IsCaller, Translation, AreTrue, pieces_at};
 ghost use Rattle.shm_base.specs.Spans.{span_places, InPage, page_of};
@@ -45,7 +46,7 @@ impl Model for Spaces {
     ghost use Rattle.shm_attach.specs.Views.{runners_view};
     ghost use Rattle.shm_attach.specs.Spaces.{SpacesView};
     ghost use Rattle.shm_attach.specs.Exact.{AreTablesSound, no_holds};
-    ghost use Rattle.shm_attach.specs.Entries.{translations_of};
+    ghost use Rattle.shm_attach.specs.Table.{translations_of};
 
     ghost Value = { SpacesView };
 
@@ -131,9 +132,9 @@ impl Spaces {
         ensures places { IfOk result (λ s. wanted write pid addr len self.now.runners ≡ Some (span_places false s)) }
         ensures none { OnErr result (wanted write pid addr len self.now.runners ≡ None) }
         ensures within { IfOk result (λ s. All InPage s) }
-        ensures sum { IfOk result (λ s. sum_by (λ (p : Stretch). p.len) s ≡ len) }
-        ensures pages { IfOk result (λ s. (test : ℕ → ℕ → Bool) → PassPages test (pieces_by pid self.now.runners) → All (λ (p : Stretch). test p.seg (page_of p) ≡ true) s) }
-        ensures frames { IfOk result (λ s. (m : StoreView) → AreTrue self.now.translations m → All (λ (p : Stretch). p.frame ≡ frame_of m p.seg (page_of p)) s) }
+        ensures sum { IfOk result (λ s. sum_by (λ (p : SpanValue). p.len) s ≡ len) }
+        ensures pages { IfOk result (λ s. (test : ℕ → ℕ → Bool) → PassPages test (pieces_by pid self.now.runners) → All (λ (p : SpanValue). test p.seg (page_of p) ≡ true) s) }
+        ensures frames { IfOk result (λ s. (m : StoreView) → AreTrue self.now.translations m → NameFrames m s) }
     {
         match self.caller(pid) {
             Some(caller) => self.spans_of(&caller, addr, len, write),
@@ -149,9 +150,9 @@ impl Spaces {
         ensures places { IfOk result (λ s. wanted write caller.now.pid addr len self.now.runners ≡ Some (span_places false s)) }
         ensures none { OnErr result (wanted write caller.now.pid addr len self.now.runners ≡ None) }
         ensures within { IfOk result (λ s. All InPage s) }
-        ensures sum { IfOk result (λ s. sum_by (λ (p : Stretch). p.len) s ≡ len) }
-        ensures pages { IfOk result (λ s. (test : ℕ → ℕ → Bool) → PassPages test (pieces_by caller.now.pid self.now.runners) → All (λ (p : Stretch). test p.seg (page_of p) ≡ true) s) }
-        ensures frames { IfOk result (λ s. (m : StoreView) → AreTrue self.now.translations m → All (λ (p : Stretch). p.frame ≡ frame_of m p.seg (page_of p)) s) }
+        ensures sum { IfOk result (λ s. sum_by (λ (p : SpanValue). p.len) s ≡ len) }
+        ensures pages { IfOk result (λ s. (test : ℕ → ℕ → Bool) → PassPages test (pieces_by caller.now.pid self.now.runners) → All (λ (p : SpanValue). test p.seg (page_of p) ≡ true) s) }
+        ensures frames { IfOk result (λ s. (m : StoreView) → AreTrue self.now.translations m → NameFrames m s) }
     {
         let space = space_at(&self.processes, caller.index);
         spans_in(space, &self.tables, addr, len, write)
@@ -161,7 +162,7 @@ impl Spaces {
     #[inline(always)]
     pub fn note(&mut self, moved: &[Move])
         ensures runners { self.new.runners ≡ self.old.runners }
-        ensures translated { (m n : StoreView) → AreTrue self.old.translations m → Moves moved.now m n → AreTrue self.new.translations n }
+        ensures translated { (m n : StoreView) → AreTrue self.old.translations m → MovesLead moved.now m n → AreTrue self.new.translations n }
     {
         self.tables.note(moved);
     }

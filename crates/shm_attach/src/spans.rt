@@ -1,8 +1,8 @@
 //! The spans of an access.
 ghost use Rattle.std.specs.Prelude.{◌≡◌, ◌+◌, ◌-◌, ◌*◌, ◌/◌, ◌%◌, ◌<◌, ◌≤◌, ◌^◌, ℕ, Bool, Option, true, false, length, [], ◌∷◌, None, Some, IfSome, IfNone, IfOk, OnErr, All, sum_by};
-ghost use Rattle.shm_base.specs.declared.paging.Span.{Span as Stretch};
+ghost use Rattle.shm_base.specs.declared.paging.Span.{Span as SpanValue};
 ghost use Rattle.shm_areas.specs.Arranged.{bare_all};
-ghost use Rattle.shm_attach.specs.Entries.{AllTrue};
+ghost use Rattle.shm_attach.specs.Table.{AllTrue};
 ghost use Rattle.shm_attach.specs.Tables.{IsHeld};
 ghost use Rattle.shm_base.specs.Spans.{run, span_places, InPage, page_of};
 ghost use Rattle.shm_attach.specs.Spans.{wanted_in, PassPages};
@@ -115,9 +115,9 @@ pub(crate) fn spans_in(
     ensures places { IfOk result (λ s. wanted_in write (bare_all space.now) addr len ≡ Some (span_places false s)) }
     ensures none { OnErr result (wanted_in write (bare_all space.now) addr len ≡ None) }
     ensures within { IfOk result (λ s. All InPage s) }
-    ensures sum { IfOk result (λ s. sum_by (λ (p : Stretch). p.len) s ≡ len) }
-    ensures pages { IfOk result (λ s. (test : ℕ → ℕ → Bool) → PassPages test (bare_all space.now) → All (λ (p : Stretch). test p.seg (page_of p) ≡ true) s) }
-    ensures frames { IfOk result (λ s. (at : ℕ → ℕ → Option ℕ) → AllTrue at tables.now.slab → All (λ (p : Stretch). p.frame ≡ at p.seg (page_of p)) s) }
+    ensures sum { IfOk result (λ s. sum_by (λ (p : SpanValue). p.len) s ≡ len) }
+    ensures pages { IfOk result (λ s. (test : ℕ → ℕ → Bool) → PassPages test (bare_all space.now) → All (λ (p : SpanValue). test p.seg (page_of p) ≡ true) s) }
+    ensures frames { IfOk result (λ s. (at : ℕ → ℕ → Option ℕ) → AllTrue at tables.now.slab → All (λ (p : SpanValue). p.frame ≡ at p.seg (page_of p)) s) }
 {
     let room = PAGE_SIZE - addr % PAGE_SIZE;
     let Some(first) = span_in(space, tables, addr, len.min(room), write) else {

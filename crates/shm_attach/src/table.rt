@@ -1,7 +1,7 @@
 //! The frames of the pages of a segment: its translations.
 ghost use Rattle.std.specs.Prelude.{◌≡◌, ℕ, ◌+◌, ◌-◌, ◌^◌, ◌<◌, ◌≤◌, Option, Some, length, [], OnOk, OnErr};
 ghost use Rattle.shm_fault.specs.Store.{frame_of};
-ghost use Rattle.shm_attach.specs.Entries.{frame_in, TrueEntry, with_frame};
+ghost use Rattle.shm_attach.specs.Table.{frame_in, TrueTable, with_frame};
 
 use shm_base::{FrameNo, HostMemory, PageRef};
 use shm_fault::PageStore;
@@ -28,9 +28,9 @@ impl Drop for Table {
 }
 
 impl Model for Table {
-    ghost use Rattle.shm_attach.specs.Entries.{Entry};
+    ghost use Rattle.shm_attach.specs.Table.{TableView};
 
-    ghost Value = { Entry };
+    ghost Value = { TableView };
 
     ghost view = { λ t. record { seg = t.seg; count = t.count; frames = t.frames.items } };
 }
@@ -75,7 +75,7 @@ impl Table {
         ensures more { length self.old.frames ≤ length self.new.frames }
         ensures pages { OnOk result (pages ≤ length self.new.frames) }
         ensures err { OnErr result (self.new ≡ self.old) }
-        ensures translated { TrueEntry (frame_of store.now) self.old → TrueEntry (frame_of store.now) self.new }
+        ensures translated { TrueTable (frame_of store.now) self.old → TrueTable (frame_of store.now) self.new }
     {
         let known = self.frames.len();
         let pages = pages as usize;
@@ -99,7 +99,7 @@ impl Table {
         requires { page.seg ≡ self.old.seg }
         ensures rest { self.new ≡ record self.old { frames = self.new.frames } }
         ensures pages { length self.new.frames ≡ length self.old.frames }
-        ensures translated { (at : ℕ → ℕ → Option ℕ) → TrueEntry at self.old → TrueEntry (with_frame page frame at) self.new }
+        ensures translated { (at : ℕ → ℕ → Option ℕ) → TrueTable at self.old → TrueTable (with_frame page frame at) self.new }
     {
         let k = page.page as usize;
         if k < self.frames.len() {

@@ -6,8 +6,8 @@ ghost use Rattle.shm_areas.specs.declared.piece.Piece.{Piece as Stored};
 ghost use Rattle.shm_fault.specs.Steps.{moved};
 ghost use Rattle.shm_fault.specs.Store.{frame_of};
 ghost use Rattle.shm_attach.specs.Views.{one_if, some_if};
-ghost use Rattle.shm_attach.specs.Entries.{frame_in, seg_in, size_in, AllTrue, with_frame};
-ghost use Rattle.shm_attach.specs.Tables.{counted, key_of, IsHeld, IsTied};
+ghost use Rattle.shm_attach.specs.Table.{frame_in, seg_in, size_in, AllTrue, with_frame};
+ghost use Rattle.shm_attach.specs.Tables.{counted, key_of, IsHeld, OneTableEach};
 
 use crate::table::Table;
 use shm_base::{FrameNo, HostMemory, PageRef};
@@ -39,7 +39,7 @@ impl Tables {
     pub(crate) fn new(alloc: Global) -> Tables
         ensures none { (id : ℕ) → counted result id ≡ 0 }
         ensures slots { result.slab.slots ≡ [] }
-        ensures tied { IsTied result }
+        ensures tied { OneTableEach result }
     {
         Tables {
             alloc,
@@ -86,13 +86,13 @@ impl Tables {
         key: usize,
         pages: u32,
     ) -> Result<(), HostMemory>
-        requires tied { IsTied self.old }
+        requires tied { OneTableEach self.old }
         ensures counts { (id : ℕ) → counted self.new id ≡ counted self.old id }
         ensures seg { (k : ℕ) → seg_in (get self.new.slab k) ≡ seg_in (get self.old.slab k) }
         ensures pages { (id : ℕ) → seg_in (get self.old.slab key) ≡ Some id → OnOk result (pages ≤ size_in (get self.new.slab key)) }
         ensures held { (p : Stored) → IsHeld self.old.slab p → IsHeld self.new.slab p }
         ensures translated { AllTrue (frame_of store.now) self.old.slab → AllTrue (frame_of store.now) self.new.slab }
-        ensures tied { IsTied self.new }
+        ensures tied { OneTableEach self.new }
         ensures err { OnErr result (self.new.slab.slots ≡ self.old.slab.slots) }
     {
         match self.slab.get_mut(key) {
@@ -110,13 +110,13 @@ impl Tables {
         pages: u32,
     ) -> Result<usize, HostMemory>
         requires fits { counted self.old seg + 1 < 2 ^ 32 }
-        requires tied { IsTied self.old }
+        requires tied { OneTableEach self.old }
         ensures counts { OnOk result ((id : ℕ) → counted self.new id ≡ counted self.old id + one_if id seg) }
         ensures seg { IfOk result (λ key. seg_in (get self.new.slab key) ≡ Some seg) }
         ensures pages { IfOk result (λ key. pages ≤ size_in (get self.new.slab key)) }
         ensures held { (p : Stored) → IsHeld self.old.slab p → IsHeld self.new.slab p }
         ensures translated { AllTrue (frame_of store.now) self.old.slab → AllTrue (frame_of store.now) self.new.slab }
-        ensures tied { IsTied self.new }
+        ensures tied { OneTableEach self.new }
         ensures slots { OnErr result (self.new.slab.slots ≡ self.old.slab.slots) }
         ensures err { OnErr result ((id : ℕ) → counted self.new id ≡ counted self.old id) }
     {
@@ -140,11 +140,11 @@ impl Tables {
         requires own { seg_in (get self.old.slab key) ≡ Some seg }
         requires gone { gone ≤ counted self.old seg }
         requires fits { counted self.old seg + parts < 2 ^ 32 }
-        requires tied { IsTied self.old }
+        requires tied { OneTableEach self.old }
         ensures counts { (id : ℕ) → counted self.new id + some_if id seg gone ≡ counted self.old id + some_if id seg parts }
         ensures held { (p : Stored) → IsHeld self.old.slab p → 0 < counted self.new p.seg → IsHeld self.new.slab p }
         ensures translated { (at : ℕ → ℕ → Option ℕ) → AllTrue at self.old.slab → AllTrue at self.new.slab }
-        ensures tied { IsTied self.new }
+        ensures tied { OneTableEach self.new }
     {
         let Some(table) = self.slab.get_mut(key) else {
             return;
@@ -159,11 +159,11 @@ impl Tables {
     pub(crate) fn leave(&mut self, seg: u32, gone: u32)
         requires gone { gone ≤ counted self.old seg }
         requires fits { counted self.old seg < 2 ^ 32 }
-        requires tied { IsTied self.old }
+        requires tied { OneTableEach self.old }
         ensures counts { (id : ℕ) → counted self.new id + some_if id seg gone ≡ counted self.old id }
         ensures held { (p : Stored) → IsHeld self.old.slab p → 0 < counted self.new p.seg → IsHeld self.new.slab p }
         ensures translated { (at : ℕ → ℕ → Option ℕ) → AllTrue at self.old.slab → AllTrue at self.new.slab }
-        ensures tied { IsTied self.new }
+        ensures tied { OneTableEach self.new }
     {
         if let Some(key) = self.key(seg) {
             self.replace(seg, key, gone, 0);
@@ -172,11 +172,11 @@ impl Tables {
 
     // Notes where a page is now.
     fn set(&mut self, page: PageRef, frame: Option<FrameNo>)
-        requires { IsTied self.old }
+        requires { OneTableEach self.old }
         ensures counts { (id : ℕ) → counted self.new id ≡ counted self.old id }
         ensures held { (p : Stored) → IsHeld self.old.slab p → IsHeld self.new.slab p }
         ensures translated { (at : ℕ → ℕ → Option ℕ) → AllTrue at self.old.slab → AllTrue (with_frame page frame at) self.new.slab }
-        ensures tied { IsTied self.new }
+        ensures tied { OneTableEach self.new }
     {
         let Some(key) = self.keys.get(&page.seg) else {
             return;
@@ -188,11 +188,11 @@ impl Tables {
 
     // Notes one move.
     fn note_one(&mut self, entry: Move)
-        requires { IsTied self.old }
+        requires { OneTableEach self.old }
         ensures counts { (id : ℕ) → counted self.new id ≡ counted self.old id }
         ensures held { (p : Stored) → IsHeld self.old.slab p → IsHeld self.new.slab p }
         ensures translated { (at : ℕ → ℕ → Option ℕ) → AllTrue at self.old.slab → AllTrue (λ seg page. moved (entry ∷ []) seg page (at seg page)) self.new.slab }
-        ensures tied { IsTied self.new }
+        ensures tied { OneTableEach self.new }
     {
         match entry {
             Move::Gone(page) => self.set(page, None),
@@ -202,11 +202,11 @@ impl Tables {
 
     /// Notes which pages moved, one after another, each in the table of its segment. It takes no memory.
     pub(crate) fn note(&mut self, moves: &[Move])
-        requires { IsTied self.old }
+        requires { OneTableEach self.old }
         ensures counts { (id : ℕ) → counted self.new id ≡ counted self.old id }
         ensures held { (p : Stored) → IsHeld self.old.slab p → IsHeld self.new.slab p }
         ensures translated { (at : ℕ → ℕ → Option ℕ) → AllTrue at self.old.slab → AllTrue (λ seg page. moved moves.now seg page (at seg page)) self.new.slab }
-        ensures tied { IsTied self.new }
+        ensures tied { OneTableEach self.new }
     {
         for entry in moves {
             self.note_one(*entry);

@@ -33,6 +33,9 @@ pub const MOST_AREAS: usize = 8;
 /// The most slots of a swap area.
 pub const MOST_SLOTS: u32 = 65536;
 
+/// How many modes there are: of a mode the low nine bits count.
+pub const MODES: u16 = 512;
+
 /// The most bytes of a load or a store.
 pub const LONGEST_ACCESS: usize = 64;
 

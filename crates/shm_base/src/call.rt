@@ -1,4 +1,9 @@
+ghost use Rattle.std.specs.Prelude.{◌≡◌};
+ghost use Rattle.shm_base.specs.Index.{index_of};
+ghost use Rattle.shm_base.specs.Processes.{has_pid};
+
 use crate::access::{AccessLen, Chunk};
+use crate::bounds::INDEXES;
 use crate::errno::Errno;
 use crate::flags::{AtFlags, GetFlags, Status};
 use crate::owner::{Cred, Perm};
@@ -6,11 +11,28 @@ use crate::owner::{Cred, Perm};
 /// An identifier of a segment, as shmget(2) answers it. No segment has a negative one.
 pub type ShmId = i32;
 
+/// The index in an identifier; in a negative one, which no segment has, 0.
+pub fn index_of(id: ShmId) -> u32
+    ensures { result ≡ index_of id }
+{
+    match u32::try_from(id) {
+        Ok(id) => id % INDEXES,
+        Err(_) => 0,
+    }
+}
+
 /// A process as it was declared: born with its ids, or a child that is not born yet.
 #[derive(Clone, Copy, Debug, PartialEq, Eq)]
 pub struct Process {
     pub pid: u32,
     pub born: Option<Cred>,
+}
+
+/// Whether a pid is that of one of the processes.
+pub fn has_pid(processes: &[Process], pid: u32) -> bool
+    ensures { result ≡ has_pid pid processes.now }
+{
+    processes.iter().any(|process| process.pid == pid)
 }
 
 /// A call of a process: the shared memory calls (shmget(2), shmop(2), shmctl(2)), accesses to attached

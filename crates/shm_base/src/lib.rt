@@ -17,13 +17,16 @@ mod rows;
 pub use access::{AccessLen, Chunk};
 pub use bounds::{
     END_ADDRESS, FIRST_GAP, INDEXES, LAST_ID, LAST_PID, LONGEST_ACCESS, LONGEST_SCRIPT,
-    LOWEST_ADDRESS, MOST_AREAS, MOST_COMMANDS, MOST_FLUSHED, MOST_FRAMES, MOST_PIECES,
+    LOWEST_ADDRESS, MODES, MOST_AREAS, MOST_COMMANDS, MOST_FLUSHED, MOST_FRAMES, MOST_PIECES,
     MOST_PROCESSES, MOST_SHMALL, MOST_SHMMAX, MOST_SHMMNI, MOST_SLOTS, SEQUENCES,
 };
-pub use call::{Call, Event, Process, Reply, ShmId, ShmidDs, Step};
+pub use call::{Call, Event, Process, Reply, ShmId, ShmidDs, Step, has_pid, index_of};
 pub use errno::Errno;
 pub use flags::{AtFlags, GetFlags, Status};
 pub use limits::{BadLimits, Limits};
 pub use memory::HostMemory;
 pub use owner::{Cred, Perm, Want, grants};
-pub use paging::{FlushReport, FrameNo, PAGE_SIZE, PageRef, Slot, Span, Tally, pages_of};
+pub use paging::{
+    FlushReport, FrameNo, PAGE_BYTES, PAGE_SIZE, PageRef, Slot, Span, Tally, is_slot_count,
+    pages_of,
+};

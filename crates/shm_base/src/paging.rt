@@ -1,9 +1,15 @@
 //! Pages, frames and slots, and what is counted of them.
 ghost use Rattle.std.specs.Prelude.{◌≡◌, ◌≤◌, ◌^◌, ◌<◌};
 ghost use Rattle.shm_base.specs.State as flat;
+ghost use Rattle.shm_base.specs.Bounds.{within};
+
+use crate::bounds::MOST_SLOTS;
 
 /// The bytes of a page. SHMLBA, the unit of attach addresses, is the same.
 pub const PAGE_SIZE: u64 = 4096;
+
+/// The same, as the length of a page's bytes.
+pub const PAGE_BYTES: usize = PAGE_SIZE as usize;
 
 /// The number of a frame, from 0.
 pub type FrameNo = u32;
@@ -56,6 +62,13 @@ pub struct Tally {
     pub ins: u64,
     pub outs: u64,
     pub failures: u64,
+}
+
+/// Whether a swap area may have so many slots: 1 to 65536 (this project's profile).
+pub fn is_slot_count(slots: u64) -> bool
+    ensures { result ≡ within 1 65536 slots }
+{
+    1 <= slots && slots <= u64::from(MOST_SLOTS)
 }
 
 /// How many pages hold so many bytes.

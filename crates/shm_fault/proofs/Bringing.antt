@@ -1,6 +1,7 @@
 -- What an access leaves, put together from the visits to its pages.
-use Rattle.shm_fault.proofs.Names.{◌≡◌, ◌≢◌, ℕ, zero, suc, map, ◌<◌, ◌≤◌, ◌+◌, Bool, true, false, ◌&&◌, cond, ltb, List, [], ◌∷◌, length, get_or, subst, Option, Some, None, is_some, Result, Ok, Err, is_ok, OnErr, refl, sym, ap, ◌∙◌, arith, All, IsSome, false≢true, PageRef, Span, is_locked, SwapView, Frame, frame_at, PageRec, Touched, SegRec, rec_by, locked_by, StoreView, held_by, page_of, ref_of, is_swapped, IsResident, IsReferenced, pages_among, swapped_among, same_page, Kept, KeepsLocked, Visits, frame_by, referenced_at, InFrames, PagerFailed, IsStoreSound, raised, one_if, hand_after, Visited, IsIn, AreIn, Brings, Accessed, nat_tests, common_steps}
+use Rattle.shm_fault.proofs.Names.{◌≡◌, ◌≢◌, ℕ, zero, suc, map, ◌<◌, ◌≤◌, ◌+◌, Bool, true, false, ◌&&◌, cond, ltb, List, [], ◌∷◌, length, get_or, subst, Option, Some, None, is_some, Result, Ok, Err, is_ok, OnErr, refl, sym, ap, ◌∙◌, arith, All, IsSome, false≢true, PageRef, Span, is_locked, SwapView, Frame, frame_at, PageRec, Touched, SegRec, rec_by, locked_by, StoreView, held_by, page_of, ref_of, is_swapped, IsResident, IsReferenced, pages_among, swapped_among, same_page, Kept, KeepsLocked, Visits, frame_by, referenced_at, InFrames, PagerFailed, IsStoreSound, raised, one_if, hand_after, Visited, IsIn, AreIn, Brings, Accessed, IsUntouched, NameFrames, nat_tests, common_steps}
 use Rattle.std.specs.Prelude.{slice_get}
+use Rattle.shm_plain.proofs.Spans.{no_span}
 use Rattle.shm_fault.specs.Store.{held, frame_of}
 use Rattle.shm_fault.proofs.Sound.{Goes-trans, KeepsLocked-trans, cause-after}
 use Rattle.shm_fault.proofs.Visits.{moves-trans}
@@ -25,12 +26,8 @@ resident-at : (s : StoreView) (p : Span) → is_some (frame_of s p.seg (page_of 
 unfolding frame_of
 resident-at s p e = e
 
--- an access that counted nothing yet
-abbrev pub IsNone : Touched → Type 0
-IsNone u = (u.moved.items ≡ []) × (u.ins ≡ 0) × (u.outs ≡ 0)
-
 -- the first page was brought in, or was not
-module _ (p : Span) (s t : StoreView) (u v : Touched) (ok : Bool) (none : IsNone u) (w : Visited (ref_of p) None (frame_by s (ref_of p)) s t u v ok) where
+module _ (p : Span) (s t : StoreView) (u v : Touched) (ok : Bool) (none : IsUntouched u) (w : Visited (ref_of p) None (frame_by s (ref_of p)) s t u v ok) where
   read-in-one : t.ins ≡ raised s.ins v.ins
   read-in-one = w.counts.ins s.ins (rw none.1 refl)
 
@@ -85,7 +82,7 @@ still_swapped : (p q : Span) (s t : StoreView) (pinned : Option ℕ) → Visits 
 still_swapped p q s t pinned v apart e = grind (arith, nat_tests, v.away (ref_of q) (same_page-not p q apart), swapped-away (rec_by s.segs (ref_of q)) e)
 
 -- the second of two pages was brought in, or was not
-module _ (p q : Span) (s t z : StoreView) (f : ℕ) (u v w : Touched) (ok : Bool) (none : IsNone u)
+module _ (p q : Span) (s t z : StoreView) (f : ℕ) (u v w : Touched) (ok : Bool) (none : IsUntouched u)
     (one : Visited (ref_of p) None (frame_by s (ref_of p)) s t u v true) (at : frame_by t (ref_of p) ≡ Some f)
     (two : Visited (ref_of q) (Some f) (frame_by t (ref_of q)) t z v w ok) where
   abbrev swp : Bool
@@ -146,7 +143,7 @@ module _ (p q : Span) (s t z : StoreView) (f : ℕ) (u v w : Touched) (ok : Bool
   }
 
 -- the first of two pages was not brought in
-pub brings-not : (p q : Span) (s t : StoreView) (u v : Touched) → IsNone u → Visited (ref_of p) None (frame_by s (ref_of p)) s t u v false
+pub brings-not : (p q : Span) (s t : StoreView) (u v : Touched) → IsUntouched u → Visited (ref_of p) None (frame_by s (ref_of p)) s t u v false
     → Brings (p ∷ q ∷ []) s t v false
 brings-not p q s t u v none w =
     let one = brings-one p s t u v false none w in
@@ -213,29 +210,19 @@ module _ (s t : StoreView) (frames : List Frame) (count : length frames ≡ leng
 pub accessed-not : (ps : List Span) (s t : StoreView) (e : PagerFailed) → IsStoreSound t → Brings ps s t e.touched false → Accessed ps s t (Err e)
 accessed-not ps s t e sound b = grind (arith, kept-locked)
 
--- the stretches of a list of at most two
-pub list-one : (ps : List Span) (p : Span) → Some p ≡ slice_get ps 0 → false ≡ ltb 1 (length ps) → ps ≡ p ∷ []
-list-one [] p e one = cc
-list-one (x ∷ []) p e one = grind arith
-list-one (x ∷ y ∷ ps) p e one = grind (arith, nat_tests)
+-- the spans of a list of one, and of two
+pub one-of : (ps : List Span) → length ps ≡ 1 → get_or ps 0 no_span ∷ [] ≡ ps
+one-of [] e = absurd (omega (arith, e))
+one-of (p ∷ []) e = refl
+one-of (p ∷ q ∷ ps) e = absurd (omega (arith, e))
 
-pub list-two : (ps : List Span) (p q : Span) → length ps ≤ 2 → Some p ≡ slice_get ps 0 → 1 < length ps → q ≡ get_or ps 1 q → ps ≡ p ∷ q ∷ []
-list-two [] p q few e lt is = cc
-list-two (x ∷ []) p q few e lt is = absurd (omega arith)
-list-two (x ∷ y ∷ []) p q few e lt is = let h : p ≡ x = cc in let k : q ≡ y = is in rw (h, k) refl
-list-two (x ∷ y ∷ z ∷ ps) p q few e lt is = absurd (omega arith)
-
--- each stretch names its page's frame
-pub first_frame : (s : StoreView) (ps : List Span) (p : Span) → Some p ≡ slice_get ps 0 → All (λ (q : Span). q.frame ≡ frame_of s q.seg (page_of q)) ps → p.frame ≡ frame_by s (ref_of p)
-unfolding frame_of
-first_frame s [] p e all = cc
-first_frame s (q ∷ ps) p e all = let h : p ≡ q = cc in rw h (all 0 q (omega arith))
-
-pub second_frame : (s : StoreView) (ps : List Span) (p : Span) → 1 < length ps → p ≡ get_or ps 1 p → All (λ (q : Span). q.frame ≡ frame_of s q.seg (page_of q)) ps → p.frame ≡ frame_by s (ref_of p)
-unfolding frame_of
-second_frame s ps p lt e all = subst (λ (q : Span). q.frame ≡ frame_by s (ref_of q)) (sym e) (all 1 p lt)
+pub two-of : (ps : List Span) → length ps ≡ 2 → get_or ps 0 no_span ∷ get_or ps 1 no_span ∷ [] ≡ ps
+two-of [] e = absurd (omega (arith, e))
+two-of (p ∷ []) e = absurd (omega (arith, e))
+two-of (p ∷ q ∷ []) e = refl
+two-of (p ∷ q ∷ r ∷ ps) e = absurd (omega (arith, e))
 
 -- where nothing moved the second page is where it was
-pub unmoved : (p q : Span) (s t : StoreView) (u v : Touched) (ok : Bool) → IsNone u → Visited (ref_of p) None (frame_by s (ref_of p)) s t u v ok → v.moved.items ≡ [] → q.frame ≡ frame_by s (ref_of q) → q.frame ≡ frame_by t (ref_of q)
+pub unmoved : (p q : Span) (s t : StoreView) (u v : Touched) (ok : Bool) → IsUntouched u → Visited (ref_of p) None (frame_by s (ref_of p)) s t u v ok → v.moved.items ≡ [] → q.frame ≡ frame_by s (ref_of q) → q.frame ≡ frame_by t (ref_of q)
 unfolding frame_of
 unmoved p q s t u v ok none w still e = grind (arith, nat_tests, common_steps, v.moved.items, w.moves, none.0, q.seg)

@@ -76,7 +76,7 @@ paste-front x y new off le = grind (arith, common_steps, append_assoc)
 paste-back : (x y new : List ℕ) (n m : ℕ) → length x ≡ n → paste (x ++ y) (n + m) new ≡ x ++ paste y m new
 paste-back x y new n m e = grind (arith, common_steps, take-past x y n m e, drop-past x y n (m + length new) e)
 
--- a stretch of one page pasted, or read, in the bytes of all
+-- a span of one page pasted, or read, in the bytes of all
 module _ (b : PageRef → List ℕ) (r : PageRef) (n : ℕ) (whole : (j : ℕ) → j < n → length (b (record { seg = r.seg; page = j })) ≡ 4096) where
   pub joined-paste : (c : PageRef → List ℕ) (new : List ℕ) (off i k : ℕ) → i + k ≡ n → i ≤ r.page → r.page < n → off + length new ≤ 4096
       → c r ≡ paste (b r) off new → ((j : ℕ) → j ≢ r.page → c (record { seg = r.seg; page = j }) ≡ b (record { seg = r.seg; page = j }))

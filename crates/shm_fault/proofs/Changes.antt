@@ -1,5 +1,5 @@
 -- Each step of a page from one place to another, and what it keeps.
-use Rattle.shm_fault.proofs.Names.{◌≡◌, ◌≢◌, ℕ, ◌<◌, Bool, true, false, List, length, set, Option, Some, None, refl, sym, ap, ◌∙◌, inl, inr, arith, length-set, get_or-set_same, set-set, IsSome, PageRef, Slot, SwapView, IsSwap, sizes, owner_of, page_in, HasSlot, SameSlots, with_slot_owner, GoesOn, Frame, no_frame, frame_at, PageRec, rec_by, HasPage, with_rec, StoreView, stored, page_bytes, IsTied, IsStoreSound, Alike, Goes, Still, StaysAway, common_steps, nat_tests}
+use Rattle.shm_fault.proofs.Names.{◌≡◌, ◌≢◌, ℕ, ◌<◌, Bool, true, false, List, length, set, Option, Some, None, refl, sym, ap, ◌∙◌, inl, inr, arith, length-set, get_or-set_same, set-set, IsSome, PageRef, Slot, SwapView, IsSwap, sizes, owner_of, page_in, HasSlot, SameSlots, with_slot_owner, GoesOn, Frame, no_frame, frame_at, PageRec, rec_by, HasPage, with_rec, StoreView, slot_bytes, page_bytes, IsTied, IsStoreSound, Alike, Goes, Still, StaysAway, common_steps, nat_tests}
 use Rattle.shm_fault.proofs.Pages.{rec-with, rec-with_other, still-with, cases_ref, other, other-false, other-true, has-frame, rec-past}
 use Rattle.shm_fault.proofs.Slots.{OnlySlot, OnlySlot-owner, owner-set, cases_slot, set-cases}
 use Rattle.shm_fault.proofs.Ties.{FramesApart, SlotsApart, Touches, IsOwn-none, IsOwn-some, segs-same, segs-with, frames-same, frames-set, slots-same, slots-only, bytes_touched}
@@ -164,7 +164,7 @@ module _ (s : StoreView) (sound : IsStoreSound s) (r : PageRef) (f : ℕ) (bytes
 
 -- a page comes into a free frame that has its bytes
 module _ (s : StoreView) (sound : IsStoreSound s) (r : PageRef) (f : ℕ) (has : HasPage s.segs r) (lt : f < length s.frames) (free : (frame_at s.frames f).owner ≡ None) (away : (rec_by s.segs r).frame ≡ None)
-    (bytes : (frame_at s.frames f).bytes ≡ stored s.swap (rec_by s.segs r).slot) where
+    (bytes : (frame_at s.frames f).bytes ≡ slot_bytes s.swap (rec_by s.segs r).slot) where
   pub keeps-settle : Keeps s (record s { segs = with_rec s.segs r (record { frame = Some f; slot = (rec_by s.segs r).slot }); frames = set s.frames f (record (frame_at s.frames f) { owner = Some r; referenced = true }) })
   keeps-settle =
       let tie-s : IsTied s r = sound.tied.pages r has in

@@ -1,5 +1,5 @@
 -- Frames and slots that are owned, counted by the pages that own them.
-use Rattle.shm_fault.proofs.Names.{◌≡◌, ◌≢◌, ℕ, zero, suc, ◌<◌, ◌≤◌, ◌+◌, ◌-◌, ◌*◌, Bool, cond, eqb, leb, List, [], ◌∷◌, length, get_or, sum_by, Option, Some, None, is_some, refl, sym, ap, ◌∙◌, inl, inr, arith, count_by, cases_eq, cases_lt, eq-eqb, ne_eqb, lt-leb, sum_by-cons, PageRef, PageRec, SegRec, rec_at, AreApart, rec_by, HasPage, locked_by, pages_of, locked_pages, nat_tests, common_steps}
+use Rattle.shm_fault.proofs.Names.{◌≡◌, ◌≢◌, ℕ, zero, suc, ◌<◌, ◌≤◌, ◌+◌, ◌-◌, ◌*◌, Bool, cond, eqb, leb, List, [], ◌∷◌, length, get_or, sum_by, Option, Some, None, is_some, refl, sym, ap, ◌∙◌, inl, inr, arith, count_by, cases_eq, cases_lt, eq-eqb, ne_eqb, lt-leb, sum_by-cons, PageRef, PageRec, SegRec, rec_at, AreApart, rec_by, HasPage, locked_by, page_count, locked_pages, nat_tests, common_steps}
 use Rattle.shm_fault.proofs.Pages.{has-head, rec-head, not-head, has-tail, rec-tail, other, other-self, other-true}
 
 -- the sum over all pages of what each weighs, by its name and its place
@@ -54,10 +54,10 @@ unfolding weigh_from
 from-const n id i [] = omega arith
 from-const n id i (p ∷ ps) = let rest = from-const n id (suc i) ps in grind (arith, rest)
 
-pub weigh-all : (gs : List SegRec) → weigh (λ r p. 1) gs ≡ sum_by pages_of gs
+pub weigh-all : (gs : List SegRec) → weigh (λ r p. 1) gs ≡ sum_by page_count gs
 unfolding weigh
 weigh-all [] = refl
-weigh-all (g ∷ gs) = omega (arith, from-const 1 g.id 0 g.pages, weigh-all gs, sum_by-cons pages_of g gs)
+weigh-all (g ∷ gs) = omega (arith, from-const 1 g.id 0 g.pages, weigh-all gs, sum_by-cons page_count g gs)
 
 abbrev pub nothing : PageRef → PageRec → ℕ
 nothing r p = 0

@@ -1,5 +1,5 @@
 -- A page that leaves its frame and its slot for good.
-use Rattle.shm_fault.proofs.Names.{◌≡◌, ◌≢◌, ℕ, ◌<◌, ◌≤◌, ◌+◌, true, List, [], ◌∷◌, length, set, map, sum_by, Option, Some, None, refl, sym, ap, ◌∙◌, inl, inr, arith, get_or-set_same, not, eqb, cases_eq, cases_lt, eq-eqb, ne_eqb, length-replicate, set-get_or, PageRef, Slot, without, SwapView, owner_of, page_in, without_slot, IsSwap, IsSteady, Frame, frame_at, PageRec, SegRec, AreApart, but, no_page, find_seg, rec_by, count_by_id, HasPage, with_rec, pages_of, locked_pages, StoreView, held_by, disowned, IsTied, IsStoreSound, outline, outlines, emptied, Given, IsBlank, Dropped, AtRest, sum_by-filter_both, nat_tests, common_steps}
+use Rattle.shm_fault.proofs.Names.{◌≡◌, ◌≢◌, ℕ, ◌<◌, ◌≤◌, ◌+◌, true, List, [], ◌∷◌, length, set, map, sum_by, Option, Some, None, refl, sym, ap, ◌∙◌, inl, inr, arith, get_or-set_same, not, eqb, cases_eq, cases_lt, eq-eqb, ne_eqb, length-replicate, set-get_or, PageRef, Slot, without, SwapView, owner_of, page_in, without_slot, IsSwap, IsSteady, Frame, frame_at, PageRec, SegRec, AreApart, but, no_page, find_seg, rec_by, count_by_id, HasPage, with_rec, page_count, locked_pages, StoreView, held_by, disowned, IsTied, IsStoreSound, outline, outlines, emptied, Given, IsBlank, Dropped, AtRest, sum_by-filter_both, nat_tests, common_steps}
 use Rattle.shm_pager.specs.Pages.{zero_page}
 use Rattle.shm_fault.specs.Store.{held}
 use Rattle.shm_fault.proofs.Entries.{apart-filter, edit-none, find-but, find-out}
@@ -191,7 +191,7 @@ module _ (t : StoreView) (sound : IsStoreSound t) (id : ℕ) (gone : (page : ℕ
         free = sound.tied.free;
       })
       (apart-filter t.segs id sound.apart) sound.frames sound.swap sound.hand
-      (let sum = sum-but pages_of t.segs id in omega (arith, sum, sound.capacity))
+      (let sum = sum-but page_count t.segs id in omega (arith, sum, sound.capacity))
       (let sum = sum-but locked_pages t.segs id in omega (arith, sum, sound.locked))
 
 pub drops : (seg n : ℕ) (s t : StoreView) → IsStoreSound t → Dropped seg n s t → count_by_id s.segs seg ≤ n → IsDropped seg s (record t { segs = but seg t.segs })

@@ -1,5 +1,5 @@
 -- Where pages are, looked up and changed; what a list of segments keeps where its pages move.
-use Rattle.shm_fault.proofs.Names.{◌≡◌, ◌≢◌, ◌⊎◌, ℕ, ◌<◌, ◌≤◌, Bool, true, false, not, cond, eqb, List, [], ◌∷◌, length, sum_by, Some, None, refl, sym, ap, ◌∙◌, inl, inr, arith, length-set, get_or-set_same, get_or-set_other, map, option_map, cases_Bool, cases_lt, eq-eqb, ne_eqb, eqb-true, and_parts, false≢true, not-false, false_from_ne_true, get_or_past, sum_by-cons, Slot, PageRef, PageRec, Outline, outline, outlines, same_ref, SegRec, no_page, rec_at, find_seg, AreApart, rec_by, count_by_id, HasPage, locked_by, seg_with, with_rec, pages_of, locked_pages, nat_tests, common_steps}
+use Rattle.shm_fault.proofs.Names.{◌≡◌, ◌≢◌, ◌⊎◌, ℕ, ◌<◌, ◌≤◌, Bool, true, false, not, cond, eqb, List, [], ◌∷◌, length, sum_by, Some, None, refl, sym, ap, ◌∙◌, inl, inr, arith, length-set, get_or-set_same, get_or-set_other, map, option_map, cases_Bool, cases_lt, eq-eqb, ne_eqb, eqb-true, and_parts, false≢true, not-false, false_from_ne_true, get_or_past, sum_by-cons, Slot, PageRef, PageRec, Outline, outline, outlines, same_ref, SegRec, no_page, rec_at, find_seg, AreApart, rec_by, count_by_id, HasPage, locked_by, seg_with, with_rec, page_count, locked_pages, nat_tests, common_steps}
 
 -- the name of another page
 abbrev pub other : PageRef → PageRef → Bool
@@ -69,8 +69,8 @@ sum-same weigh h is (g ∷ gs) [] e = cc
 sum-same weigh h is [] (k ∷ ks) e = cc
 sum-same weigh h is (g ∷ gs) (k ∷ ks) e = grind (arith, e, is k, is g, sum-same weigh h is gs ks, sum_by-cons h k ks, sum_by-cons h g gs)
 
-pub sum_pages-same : (gs hs : List SegRec) → outlines hs ≡ outlines gs → sum_by pages_of hs ≡ sum_by pages_of gs
-sum_pages-same gs hs e = sum-same (λ o. o.count) pages_of (λ g. refl) gs hs e
+pub sum_pages-same : (gs hs : List SegRec) → outlines hs ≡ outlines gs → sum_by page_count hs ≡ sum_by page_count gs
+sum_pages-same gs hs e = sum-same (λ o. o.count) page_count (λ g. refl) gs hs e
 
 pub sum_locked-same : (gs hs : List SegRec) → outlines hs ≡ outlines gs → sum_by locked_pages hs ≡ sum_by locked_pages gs
 sum_locked-same gs hs e = sum-same (λ o. cond o.locked o.count 0) locked_pages (λ g. refl) gs hs e

@@ -1,5 +1,5 @@
--- Stretches of pages, in the bytes of segments and in frames.
-use Rattle.shm_fault.proofs.Names.{◌≡◌, ◌≢◌, ℕ, suc, ◌<◌, ◌≤◌, ◌+◌, ◌-◌, ◌*◌, ◌/◌, ◌%◌, List, [], ◌∷◌, map, length, get_or, take, drop, sum_by, Some, None, is_some, refl, sym, ap, ◌∙◌, inl, inr, arith, option_map, cases_eq, eq-eqb, ne_eqb, sum_by-cons, PageRef, Span, find_held, bytes_of, is_held, FitsPage, span_bytes, paste, pasted, AreaView, IsArea, slots_in, size_of, no_area, frame_at, SegRec, find_seg, AreApart, count_by_id, HasPage, pages_of, StoreView, held, ref_of, IsStoreSound, outline, outlines, frame_by, nat_tests, common_steps}
+-- Spans of pages, in the bytes of segments and in frames.
+use Rattle.shm_fault.proofs.Names.{◌≡◌, ◌≢◌, ℕ, suc, ◌<◌, ◌≤◌, ◌+◌, ◌-◌, ◌*◌, ◌/◌, ◌%◌, List, [], ◌∷◌, map, length, get_or, take, drop, sum_by, Some, None, is_some, refl, sym, ap, ◌∙◌, inl, inr, arith, option_map, cases_eq, eq-eqb, ne_eqb, sum_by-cons, PageRef, Span, find_held, bytes_of, is_held, FitsPage, span_bytes, paste, pasted, AreaView, IsArea, slots_in, size_of, no_area, frame_at, SegRec, find_seg, AreApart, count_by_id, HasPage, page_count, StoreView, held, ref_of, IsStoreSound, outline, outlines, frame_by, nat_tests, common_steps}
 use Rattle.shm_fault.proofs.Pages.{find-id, has-tail}
 use Rattle.shm_fault.proofs.Bytes.{joined, held_one, held_of, bytes_at, held-is, joined-read, joined-paste, joined-ext, length-joined}
 
@@ -24,7 +24,7 @@ module _ (s : StoreView) (sound : IsStoreSound s) where
   pub held-in : (id : ℕ) → is_held (held s) id ≡ is_some (find_seg s.segs id)
   held-in id = grind (arith, nat_tests, find-in id)
 
-  -- the page of a stretch is there
+  -- the page of a span is there
   pub fits-has : (p : Span) → FitsPage (held s) p → HasPage s.segs (ref_of p)
   fits-has p fit = grind (arith, nat_tests, common_steps, length-in, p.seg, fit.1, fit.2)
 
@@ -36,11 +36,11 @@ module _ (s : StoreView) (sound : IsStoreSound s) where
       let bytes : bytes_at s (ref_of p) ≡ (frame_at s.frames f).bytes = rw at refl in
       rw (bytes-in p.seg) (rw split at read ∙ ap (λ l. take p.len (drop (p.at % 4096) l)) bytes)
 
--- a stretch that fits a page still does where segments have the same pages
+-- a span that fits a page still does where segments have the same pages
 pub fits-same : (s t : StoreView) → IsStoreSound s → IsStoreSound t → t.segs ≡ s.segs → (p : Span) → FitsPage (held s) p → FitsPage (held t) p
 fits-same s t before after segs p fit = grind (arith, nat_tests, common_steps, p.seg, held-in, is_some, length-in, fit.0, fit.1, fit.2, fit.3)
 
--- one stretch written
+-- one span written
 pasted-list : (b c : PageRef → List ℕ) (gs : List SegRec) (r : PageRef) (off : ℕ) (new : List ℕ) → AreApart gs → ((q : PageRef) → HasPage gs q → length (b q) ≡ 4096) → HasPage gs r → off + length new ≤ 4096
     → c r ≡ paste (b r) off new → ((q : PageRef) → q ≢ r → c q ≡ b q) → held_of c (outlines gs) ≡ map (pasted r.seg (4096 * r.page + off) new) (held_of b (outlines gs))
 pasted-list b c [] r off new apart whole has fits here others = refl
@@ -69,7 +69,7 @@ pasted-list b c (g ∷ gs) r off new apart whole has fits here others = elim (ca
           rw (ne_eqb h.id id n) (let k : held_one c (outline h) ≡ held_one b (outline h) = ap (λ bs. record { id = h.id; locked = h.locked; bytes = bs }) head in cc)
     ]
 
--- one page got other bytes, those of a stretch
+-- one page got other bytes, those of a span
 pub held-pasted : (s t : StoreView) → IsStoreSound s → AreApart t.segs → outlines t.segs ≡ outlines s.segs → (r : PageRef) (off : ℕ) (new : List ℕ) → HasPage s.segs r → off + length new ≤ 4096
     → bytes_at t r ≡ paste (bytes_at s r) off new → ((q : PageRef) → q ≢ r → bytes_at t q ≡ bytes_at s q) → held t ≡ map (pasted r.seg (4096 * r.page + off) new) (held s)
 held-pasted s t sound apart shape r off new has fits here others =
@@ -82,9 +82,9 @@ sum-slots : (areas : List AreaView) → ((i : ℕ) → IsArea (get_or areas i no
 sum-slots [] each = omega arith
 sum-slots (a ∷ areas) each = grind (arith, nat_tests, sum-slots areas (λ i. each (suc i)), (each 0).small, sum_by-cons slots_in (size_of a) (map size_of areas))
 
-count-le-sum : (gs : List SegRec) (id : ℕ) → count_by_id gs id ≤ sum_by pages_of gs
+count-le-sum : (gs : List SegRec) (id : ℕ) → count_by_id gs id ≤ sum_by page_count gs
 count-le-sum [] id = omega arith
-count-le-sum (g ∷ gs) id = grind (arith, nat_tests, count-le-sum gs id, sum_by-cons pages_of g gs)
+count-le-sum (g ∷ gs) id = grind (arith, nat_tests, count-le-sum gs id, sum_by-cons page_count g gs)
 
 pub few_pages : (s : StoreView) → IsStoreSound s → (id : ℕ) → count_by_id s.segs id ≤ 524288
 few_pages s sound id = grind (arith, nat_tests, common_steps, count-le-sum, s.segs, sum-slots, s.swap.areas, sound.swap.each, sound.capacity, sound.swap.few)

@@ -1,5 +1,5 @@
 -- Resident, dirty and used pages, by frames and by slots.
-use Rattle.shm_fault.proofs.Names.{◌≡◌, ℕ, suc, ◌<◌, ◌≤◌, ◌+◌, ◌-◌, Bool, true, false, not, cond, eqb, leb, List, [], ◌∷◌, map, length, get_or, sum_by, Option, Some, None, is_some, refl, sym, ap, ◌∙◌, inl, inr, arith, count_by, cases_Bool, cases_lt, eq-eqb, le-leb, lt-leb, get_or_past, length-map, sum_by-cons, PageRef, Slot, AreaView, no_area, used_in, used_slots, Frame, frame_at, is_owned, is_dirty, resident_of, dirty_of, SegRec, rec_by, AreApart, HasPage, locked_by, pages_of, locked_pages, StoreView, has_frame, has_slot, is_dirty_page, dirty_in, resident, dirty, used, Tied, nat_tests, common_steps}
+use Rattle.shm_fault.proofs.Names.{◌≡◌, ℕ, suc, ◌<◌, ◌≤◌, ◌+◌, ◌-◌, Bool, true, false, not, cond, eqb, leb, List, [], ◌∷◌, map, length, get_or, sum_by, Option, Some, None, is_some, refl, sym, ap, ◌∙◌, inl, inr, arith, count_by, cases_Bool, cases_lt, eq-eqb, le-leb, lt-leb, get_or_past, length-map, sum_by-cons, PageRef, Slot, AreaView, no_area, used_in, used_slots, Frame, frame_at, is_owned, is_dirty, resident_of, dirty_of, SegRec, rec_by, AreApart, HasPage, locked_by, page_count, locked_pages, StoreView, has_frame, has_slot, is_dirty_page, dirty_in, resident, dirty, used, Tied, nat_tests, common_steps}
 use Rattle.std.proofs.lemmas.List.{get_or-map}
 use Rattle.shm_fault.proofs.Counts.{weigh, weigh-ext, weigh-sum, weigh-zero, weigh-le, weigh-ge, weigh-test, weigh-all, weigh-locked, at_least, counted_by_page}
 
@@ -184,7 +184,7 @@ used-slots s apart tied =
     by (Some j) = rw (le-leb 0 j.area (omega arith)) refl
 
 -- fewer pages have slots than there are, where one has none
-pub some_slotless : (s : StoreView) → AreApart s.segs → (r : PageRef) → HasPage s.segs r → (rec_by s.segs r).slot ≡ None → used s < sum_by pages_of s.segs
+pub some_slotless : (s : StoreView) → AreApart s.segs → (r : PageRef) → HasPage s.segs r → (rec_by s.segs r).slot ≡ None → used s < sum_by page_count s.segs
 some_slotless s apart r has none =
     let all : weigh (λ q p. 1) s.segs ≡ weigh (λ q p. cond (has_slot p) 1 0) s.segs + weigh (λ q p. cond (has_slot p) 0 1) s.segs =
     weigh-ext (λ q p. 1) (λ q p. cond (has_slot p) 1 0 + cond (has_slot p) 0 1) s.segs apart (λ q there. grind (arith, nat_tests))

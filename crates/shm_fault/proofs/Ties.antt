@@ -1,5 +1,5 @@
 -- A change that touches few pages keeps all others tied, and their bytes.
-use Rattle.shm_fault.proofs.Names.{◌≡◌, ℕ, Bool, true, false, List, length, set, Option, Some, None, refl, sym, inl, inr, arith, cases_Bool, PageRef, Slot, SwapView, HasSlot, owner_of, page_in, Frame, frame_at, PageRec, SegRec, rec_by, HasPage, with_rec, StoreView, stored, bytes_by, page_bytes, IsTied, Tied, outlines, Alike, common_steps, nat_tests}
+use Rattle.shm_fault.proofs.Names.{◌≡◌, ℕ, Bool, true, false, List, length, set, Option, Some, None, refl, sym, inl, inr, arith, cases_Bool, PageRef, Slot, SwapView, HasSlot, owner_of, page_in, Frame, frame_at, PageRec, SegRec, rec_by, HasPage, with_rec, StoreView, slot_bytes, bytes_by, page_bytes, IsTied, Tied, outlines, Alike, common_steps, nat_tests}
 use Rattle.shm_fault.proofs.Pages.{has-same, outlines-with, rec-with_other, other, other-self}
 use Rattle.shm_fault.proofs.Slots.{OnlySlot, cases_slot, set-cases}
 
@@ -46,7 +46,7 @@ pub tied-segs : (s : StoreView) (segs : List SegRec) (r : PageRef) → rec_by se
 tied-segs s segs r same tie = grind (arith, nat_tests, common_steps, tie.frame_owned, tie.owner_resident, tie.slot_owned, tie.owner_stored, tie.clean, tie.whole)
 
 module _ (off : PageRef → Bool) (s t : StoreView) (to : Touches off s t) where
-  stored-off : (q : PageRef) → off q ≡ true → IsTied s q → (o : Option Slot) → (rec_by s.segs q).slot ≡ o → stored t.swap o ≡ stored s.swap o
+  stored-off : (q : PageRef) → off q ≡ true → IsTied s q → (o : Option Slot) → (rec_by s.segs q).slot ≡ o → slot_bytes t.swap o ≡ slot_bytes s.swap o
   stored-off q is tie None e = refl
   stored-off q is tie (Some k) e = (to.slots.kept k q is (tie.slot_owned k e).1).1
 

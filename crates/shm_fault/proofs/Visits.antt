@@ -1,5 +1,5 @@
 -- Steps of a visit to a page, one after another.
-use Rattle.shm_fault.proofs.Names.{◌≡◌, ◌≢◌, ℕ, suc, ◌<◌, true, false, not, cond, List, [], ◌∷◌, ◌++◌, length, set, Option, Some, None, refl, sym, ap, ◌∙◌, arith, length-set, get_or-set_same, get_or-set_other, and_parts, not-true, PageRef, Frame, no_frame, frame_at, may_go, owner_passes, is_pinned, PageRec, SegRec, rec_by, HasPage, with_rec, locked_by, SwapView, IsSwap, SameSlots, sizes, GoesOn, StoreView, stored, IsStoreSound, Goes, Still, StaysAway, Alike, Visits, MovesOn, unlocked, frame_by, referenced_at, same_ref, Move, Gone, Came, moved, common_steps, nat_tests}
+use Rattle.shm_fault.proofs.Names.{◌≡◌, ◌≢◌, ℕ, suc, ◌<◌, true, false, not, cond, List, [], ◌∷◌, ◌++◌, length, set, Option, Some, None, refl, sym, ap, ◌∙◌, arith, length-set, get_or-set_same, get_or-set_other, and_parts, not-true, PageRef, Frame, no_frame, frame_at, may_go, owner_passes, is_pinned, PageRec, SegRec, rec_by, HasPage, with_rec, locked_by, SwapView, IsSwap, SameSlots, sizes, GoesOn, StoreView, slot_bytes, IsStoreSound, Goes, Still, StaysAway, Alike, Visits, MovesOn, unlocked, frame_by, referenced_at, same_ref, Move, Gone, Came, moved, common_steps, nat_tests}
 use Rattle.shm_fault.specs.Store.{frame_of}
 use Rattle.shm_fault.proofs.Pages.{rec-with, rec-with_other, cases_ref, other_ne, other-true, has-frame, same-self, same-other}
 use Rattle.shm_fault.proofs.Sound.{frame-own, Goes-trans, KeepsLocked-trans}
@@ -85,7 +85,7 @@ pub record Settles (page : PageRef) (f : ℕ) (s t : StoreView) : Type 0 where
   pub visits : (pinned : Option ℕ) → Visits page pinned s t
 
 pub settles : (s : StoreView) → IsStoreSound s → (page : PageRef) (f : ℕ) → HasPage s.segs page → f < length s.frames → (frame_at s.frames f).owner ≡ None → (rec_by s.segs page).frame ≡ None
-    → (frame_at s.frames f).bytes ≡ stored s.swap (rec_by s.segs page).slot
+    → (frame_at s.frames f).bytes ≡ slot_bytes s.swap (rec_by s.segs page).slot
     → Settles page f s (record s { segs = with_rec s.segs page (record { frame = Some f; slot = (rec_by s.segs page).slot }); frames = set s.frames f (record (frame_at s.frames f) { owner = Some page; referenced = true }) })
 settles s sound page f has lt free away bytes =
     let keeps = keeps-settle s sound page f has lt free away bytes in

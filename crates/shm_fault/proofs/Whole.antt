@@ -1,5 +1,5 @@
 -- Stores as they are made, and whole segments that are added, locked or unlocked.
-use Rattle.shm_fault.proofs.Names.{◌≡◌, ℕ, zero, suc, ◌≤◌, ◌+◌, ◌*◌, Bool, true, false, cond, eqb, List, [], ◌∷◌, ◌++◌, map, length, replicate, sum_by, Option, Some, None, is_some, refl, sym, ap, ◌∙◌, inl, inr, arith, flat_map, cases_Bool, cases_lt, length-replicate, map-append, get_or-replicate, get_or_past, replicate-append-replicate, sum_by-cons, sum_by-append, PageRef, Slot, is_held, pages_in, pages_held, pages_if_locked, pages_locked, with_zeros, with_lock, SwapView, IsSwap, slots, owner_of, Frame, IsFrameBlank, SegRec, no_page, rec_at, find_seg, AreApart, rec_by, count_by_id, HasPage, with_seg_lock, new_seg, pages_of, locked_pages, StoreView, page_bytes, held_by, fresh_store, IsStoreSound, outline, outlines, nat_tests, common_steps}
+use Rattle.shm_fault.proofs.Names.{◌≡◌, ℕ, zero, suc, ◌≤◌, ◌+◌, ◌*◌, Bool, true, false, cond, eqb, List, [], ◌∷◌, ◌++◌, map, length, replicate, sum_by, Option, Some, None, is_some, refl, sym, ap, ◌∙◌, inl, inr, arith, flat_map, cases_Bool, cases_lt, length-replicate, map-append, get_or-replicate, get_or_past, replicate-append-replicate, sum_by-cons, sum_by-append, PageRef, Slot, is_held, pages_in, pages_held, pages_if_locked, pages_locked, with_zeros, with_lock, SwapView, IsSwap, slots, owner_of, Frame, IsFrameBlank, SegRec, no_page, rec_at, find_seg, AreApart, rec_by, count_by_id, HasPage, with_seg_lock, new_seg, page_count, locked_pages, StoreView, page_bytes, held_by, fresh_store, IsStoreSound, outline, outlines, nat_tests, common_steps}
 use Rattle.shm_pager.specs.Pages.{zero_page}
 use Rattle.shm_fault.specs.Store.{held}
 use Rattle.shm_fault.proofs.Entries.{apart-append, apart-edit}
@@ -32,18 +32,18 @@ module _ (s : StoreView) (sound : IsStoreSound s) where
 
   -- the pages of the held segments
   pages-list : (b : PageRef → List ℕ) (gs : List SegRec) → AreApart gs → ((r : PageRef) → HasPage gs r → length (b r) ≡ 4096)
-      → (sum_by pages_in (held_of b (outlines gs)) ≡ sum_by pages_of gs) × (sum_by pages_if_locked (held_of b (outlines gs)) ≡ sum_by locked_pages gs)
+      → (sum_by pages_in (held_of b (outlines gs)) ≡ sum_by page_count gs) × (sum_by pages_if_locked (held_of b (outlines gs)) ≡ sum_by locked_pages gs)
   pages-list b [] apart whole = (refl, refl)
   pages-list b (g ∷ gs) apart whole =
       let rest = pages-list b gs apart.1 (λ r has. whole r (has-tail g gs apart r has)) in
       let size = length-joined b (record { seg = g.id; page = 0 }) (length g.pages) (λ j l. whole (record { seg = g.id; page = j }) (has-head g gs j l)) 0 (length g.pages) (omega arith) in
       let here : pages_in (held_one b (outline g)) ≡ length g.pages = omega (arith, size) in
       let lock : pages_if_locked (held_one b (outline g)) ≡ locked_pages g = grind (arith, nat_tests, here) in (
-        omega (arith, rest.0, here, sum_by-cons pages_in (held_one b (outline g)) (held_of b (outlines gs)), sum_by-cons pages_of g gs),
+        omega (arith, rest.0, here, sum_by-cons pages_in (held_one b (outline g)) (held_of b (outlines gs)), sum_by-cons page_count g gs),
         omega (arith, rest.1, lock, sum_by-cons pages_if_locked (held_one b (outline g)) (held_of b (outlines gs)), sum_by-cons locked_pages g gs),
       )
 
-  pub pages_held-is : pages_held (held s) ≡ sum_by pages_of s.segs
+  pub pages_held-is : pages_held (held s) ≡ sum_by page_count s.segs
   pages_held-is = ap (sum_by pages_in) (held-is s sound.apart) ∙ (pages-list (bytes_at s) s.segs sound.apart length-page).0
 
   -- a segment of zeros is added
@@ -68,7 +68,7 @@ module _ (s : StoreView) (sound : IsStoreSound s) where
     has-added : (r : PageRef) → HasPage s.segs r → HasPage added r
     has-added r has = grind (arith, nat_tests, find-added s.segs r.seg, has)
 
-    pub sound-added : sum_by pages_of s.segs + n ≤ slots s.swap → IsStoreSound (record s { segs = added })
+    pub sound-added : sum_by page_count s.segs + n ≤ slots s.swap → IsStoreSound (record s { segs = added })
     unfolding zero_page
     sound-added room =
         let t : StoreView = record s { segs = added } in
@@ -93,7 +93,7 @@ module _ (s : StoreView) (sound : IsStoreSound s) where
           free = sound.tied.free;
         })
         (apart-append s.segs (new_seg id n) sound.apart new) sound.frames sound.swap sound.hand
-        (let sum = sum_by-append pages_of s.segs (new_seg id n ∷ []) in let one = sum_by-cons pages_of (new_seg id n) [] in omega (arith, sum, one, room, length-replicate n no_page))
+        (let sum = sum_by-append page_count s.segs (new_seg id n ∷ []) in let one = sum_by-cons page_count (new_seg id n) [] in omega (arith, sum, one, room, length-replicate n no_page))
         (let sum = sum_by-append locked_pages s.segs (new_seg id n ∷ []) in let one = sum_by-cons locked_pages (new_seg id n) [] in omega (arith, sum, one, sound.locked))
 
     pub held-added : held (record s { segs = added }) ≡ with_zeros (held s) id n
@@ -126,7 +126,7 @@ module _ (s : StoreView) (sound : IsStoreSound s) where
           free = sound.tied.free;
         })
         (apart-edit (λ (g : SegRec). record g { locked = locked }) (λ g. refl) s.segs id sound.apart) sound.frames sound.swap sound.hand
-        (let sum = sum-map-le pages_of (with_seg_lock id locked) (λ g. rw (pages-locked g) (omega arith)) s.segs in omega (arith, sum, sound.capacity)) few
+        (let sum = sum-map-le page_count (with_seg_lock id locked) (λ g. rw (pages-locked g) (omega arith)) s.segs in omega (arith, sum, sound.capacity)) few
 
     held-list : (gs : List SegRec) → map (held_by s.frames s.swap) (map (with_seg_lock id locked) gs) ≡ with_lock (map (held_by s.frames s.swap) gs) id locked
     held-list [] = refl

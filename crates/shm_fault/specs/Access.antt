@@ -1,4 +1,4 @@
--- What an access leaves, beside the bytes that it reads or writes.
+-- What an access is asked for, and what it leaves beside the bytes that it reads or writes.
 use Rattle.std.specs.Prelude.{ℕ, ◌≡◌, ◌≤◌, ◌+◌, ◌&&◌, Bool, true, false, List, [], ◌∷◌, Option, Some, None, Result, Ok, Err, length, OnOk, OnErr, IsOk, IsSome, All, ⊤}
 use Rattle.shm_base.specs.declared.paging.PageRef.{PageRef}
 use Rattle.shm_base.specs.declared.paging.Span.{Span}
@@ -8,11 +8,19 @@ use Rattle.shm_fault.specs.declared.access.InFrames.{InFrames}
 use Rattle.shm_fault.specs.declared.touched.Touched.{Touched}
 use Rattle.shm_fault.specs.declared.touched.PagerFailed.{PagerFailed}
 use Rattle.shm_fault.specs.Segs.{rec_by}
-use Rattle.shm_fault.specs.Store.{StoreView, ref_of, is_swapped, IsResident, IsReferenced, pages_among, swapped_among}
-use Rattle.shm_fault.specs.Steps.{Moves, Kept}
+use Rattle.shm_fault.specs.Store.{StoreView, frame_of, page_of, ref_of, is_swapped, IsResident, IsReferenced, pages_among, swapped_among}
+use Rattle.shm_fault.specs.Steps.{MovesLead, Kept}
 use Rattle.shm_fault.specs.Goes.{Goes, KeepsLocked, Visits, MovesOn, frame_by, referenced_at}
 use Rattle.shm_fault.specs.Counting.{raised, one_if, CountsOn, hand_after}
 use Rattle.shm_fault.specs.Sound.{IsStoreSound}
+
+-- each span names the frame that its page is in
+abbrev pub NameFrames : StoreView → List Span → Type 0
+NameFrames s ps = All (λ (p : Span). p.frame ≡ frame_of s p.seg (page_of p)) ps
+
+-- nothing was counted or named yet
+abbrev pub IsUntouched : Touched → Type 0
+IsUntouched u = (u.moved.items ≡ []) × (u.ins ≡ 0) × (u.outs ≡ 0)
 
 -- what a visit to a page leaves, whose frame was known where it had one
 pub record Visited (r : PageRef) (pinned known : Option ℕ) (s t : StoreView) (u v : Touched) (ok : Bool) : Type 0 where
@@ -26,27 +34,27 @@ pub record Visited (r : PageRef) (pinned known : Option ℕ) (s t : StoreView) (
   pub quiet : IsSome known → (ok ≡ true) × (v ≡ u) × (t.segs ≡ s.segs) × (t.swap ≡ s.swap)
   pub cause : ok ≡ false → had_cause s.swap t.swap ≡ true
 
--- the page of a stretch is in the frame, whose referenced bit is set
+-- the page of a span is in the frame, whose referenced bit is set
 pub record IsIn (t : StoreView) (p : Span) (f : ℕ) : Type 0 where
   pub at : frame_by t (ref_of p) ≡ Some f
   pub bit : referenced_at t f ≡ true
 
--- the pages of one or two stretches are in these frames
+-- the pages of one or two spans are in these frames
 abbrev pub AreIn : StoreView → List Span → InFrames → Type 0
 AreIn t [] here = ⊤
 AreIn t (p ∷ []) here = IsIn t p here.first
 AreIn t (p ∷ q ∷ ps) here = IsIn t p here.first × IsIn t q here.second
 
--- where the pages of stretches were in frames the hand stays; for one stretch it is where the visit to its page leaves it
+-- where the pages of spans were in frames the hand stays; for one span it is where the visit to its page leaves it
 pub record Turns (ps : List Span) (s t : StoreView) : Type 0 where
   pub still : All (IsResident s) ps → t.hand ≡ s.hand
   pub one : (p : Span) → ps ≡ p ∷ [] → t.hand ≡ hand_after s (frame_by s (ref_of p)) None
 
--- the pages of stretches were brought in, or one of them was not
+-- the pages of spans were brought in, or one of them was not
 pub record Brings (ps : List Span) (s t : StoreView) (u : Touched) (ok : Bool) : Type 0 where
   pub goes : Goes s t
   pub kept : KeepsLocked s t
-  pub moves : Moves u.moved.items s t
+  pub moves : MovesLead u.moved.items s t
   pub few : length u.moved.items ≤ 4
   pub ins_few : u.ins ≤ pages_among ps
   pub outs_few : u.outs ≤ pages_among ps
@@ -79,7 +87,7 @@ pub record Accessed (ps : List Span) (s t : StoreView) (result : Result Touched 
   pub written_out : t.outs ≡ raised s.outs (touched_of result).outs
   pub turns : Turns ps s t
   pub resident : OnOk result (All (IsReferenced t) ps)
-  pub moved : Moves (touched_of result).moved.items s t
+  pub moved : MovesLead (touched_of result).moved.items s t
   pub few_moved : length (touched_of result).moved.items ≤ 4
   pub kept : Kept s t
   pub counts : GoesOn s.swap t.swap

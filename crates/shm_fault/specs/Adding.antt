@@ -1,10 +1,10 @@
--- The little-endian number that stands in stretches, and another that takes its place.
+-- The little-endian number that stands in spans, and another that takes its place.
 use Rattle.std.specs.Prelude.{ℕ, ◌+◌, ◌%◌, ◌^◌, List}
 use Rattle.std.specs.Int.{w64, from_le_bytes, to_le_bytes}
 use Rattle.shm_base.specs.declared.paging.Span.{Span}
 use Rattle.shm_plain.specs.Held.{Held, read_from, written}
 
--- the number in the bytes of the stretches
+-- the number in the bytes of the spans
 abbrev pub number_in : List Held → List Span → ℕ
 number_in hs ps = from_le_bytes w64 (read_from hs ps)
 

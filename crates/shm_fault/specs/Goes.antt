@@ -5,7 +5,7 @@ use Rattle.shm_slots.specs.View.{sizes}
 use Rattle.shm_slots.specs.Cause.{GoesOn, some_spent, had_cause}
 use Rattle.shm_frames.specs.Frame.{Frame, frame_at}
 use Rattle.shm_fault.specs.declared.touched.Move.{Move}
-use Rattle.shm_fault.specs.Steps.{Moves}
+use Rattle.shm_fault.specs.Steps.{MovesLead}
 use Rattle.shm_fault.specs.Segs.{SegRec, rec_by, locked_by}
 use Rattle.shm_fault.specs.Store.{StoreView, held}
 
@@ -75,7 +75,7 @@ pub record Visits (r : PageRef) (pinned : Option ℕ) (s t : StoreView) : Type 0
 
 -- moves that led to the one residency, with those that led on to the other
 abbrev pub MovesOn : List Move → List Move → StoreView → StoreView → Type 0
-MovesOn ms more s t = (b : StoreView) → Moves ms b s → Moves more b t
+MovesOn ms more s t = (b : StoreView) → MovesLead ms b s → MovesLead more b t
 
 abbrev pub frame_by : StoreView → PageRef → Option ℕ
 frame_by s r = (rec_by s.segs r).frame

@@ -33,13 +33,13 @@ rec_in (Some g) page = rec_at g.pages page
 abbrev pub rec_by : List SegRec → PageRef → PageRec
 rec_by gs r = rec_in (find_seg gs r.seg) r.page
 
-abbrev pub count_in : Option SegRec → ℕ
-count_in None = 0
-count_in (Some g) = length g.pages
+abbrev pub page_count_in : Option SegRec → ℕ
+page_count_in None = 0
+page_count_in (Some g) = length g.pages
 
 -- how many pages a segment has
 abbrev pub count_by_id : List SegRec → ℕ → ℕ
-count_by_id gs id = count_in (find_seg gs id)
+count_by_id gs id = page_count_in (find_seg gs id)
 
 -- the page is there
 abbrev pub HasPage : List SegRec → PageRef → Type 0
@@ -71,8 +71,8 @@ with_seg_lock id locked g = if g.id == id then record g { locked = locked } else
 abbrev pub new_seg : ℕ → ℕ → SegRec
 new_seg id pages = record { id = id; locked = false; pages = replicate pages no_page }
 
-abbrev pub pages_of : SegRec → ℕ
-pages_of g = length g.pages
+abbrev pub page_count : SegRec → ℕ
+page_count g = length g.pages
 
 abbrev pub locked_pages : SegRec → ℕ
 locked_pages g = if g.locked then length g.pages else 0

@@ -4,8 +4,8 @@ use Rattle.shm_base.specs.declared.paging.PageRef.{PageRef}
 use Rattle.shm_base.specs.declared.paging.Slot.{Slot}
 use Rattle.shm_slots.specs.View.{HasSlot, owner_of, slots, IsSwap}
 use Rattle.shm_frames.specs.Frame.{frame_at}
-use Rattle.shm_fault.specs.Segs.{rec_by, HasPage, AreApart, pages_of, locked_pages}
-use Rattle.shm_fault.specs.Store.{StoreView, stored, page_bytes, resident, dirty, used}
+use Rattle.shm_fault.specs.Segs.{rec_by, HasPage, AreApart, page_count, locked_pages}
+use Rattle.shm_fault.specs.Store.{StoreView, slot_bytes, page_bytes, resident, dirty, used}
 
 -- a page and its frame, and a page and its slot, name one another, and a clean page is what is stored of it
 pub record IsTied (s : StoreView) (r : PageRef) : Type 0 where
@@ -13,7 +13,7 @@ pub record IsTied (s : StoreView) (r : PageRef) : Type 0 where
   pub owner_resident : (f : ℕ) → (frame_at s.frames f).owner ≡ Some r → (rec_by s.segs r).frame ≡ Some f
   pub slot_owned : (k : Slot) → (rec_by s.segs r).slot ≡ Some k → HasSlot s.swap k.area k.slot × (owner_of s.swap k.area k.slot ≡ Some r)
   pub owner_stored : (k : Slot) → owner_of s.swap k.area k.slot ≡ Some r → (rec_by s.segs r).slot ≡ Some k
-  pub clean : (f : ℕ) → (rec_by s.segs r).frame ≡ Some f → (frame_at s.frames f).dirty ≡ false → (frame_at s.frames f).bytes ≡ stored s.swap (rec_by s.segs r).slot
+  pub clean : (f : ℕ) → (rec_by s.segs r).frame ≡ Some f → (frame_at s.frames f).dirty ≡ false → (frame_at s.frames f).bytes ≡ slot_bytes s.swap (rec_by s.segs r).slot
   pub whole : length (page_bytes s.frames s.swap (rec_by s.segs r)) ≡ 4096
 
 -- that is so of every page, and frames and slots have no other owners
@@ -29,8 +29,8 @@ pub record IsStoreSound (s : StoreView) : Type 0 where
   pub frames : (2 ≤ length s.frames) × (length s.frames ≤ 4096)
   pub swap : IsSwap s.swap
   pub hand : s.hand < length s.frames
-  pub capacity : sum_by pages_of s.segs ≤ slots s.swap
+  pub capacity : sum_by page_count s.segs ≤ slots s.swap
   pub locked : sum_by locked_pages s.segs + 2 ≤ length s.frames
   pub few_resident : resident s ≤ length s.frames
   pub few_dirty : dirty s ≤ resident s
-  pub few_used : used s ≤ sum_by pages_of s.segs
+  pub few_used : used s ≤ sum_by page_count s.segs

@@ -16,8 +16,8 @@ moved (Gone r ∷ ms) seg page f = moved ms seg page (if is_page r seg page then
 moved (Came r k ∷ ms) seg page f = moved ms seg page (if is_page r seg page then Some k else f)
 
 -- the moves lead from one residency to the other
-abbrev pub Moves : List Move → StoreView → StoreView → Type 0
-Moves ms before after = (seg page : ℕ) → frame_of after seg page ≡ moved ms seg page (frame_of before seg page)
+abbrev pub MovesLead : List Move → StoreView → StoreView → Type 0
+MovesLead ms before after = (seg page : ℕ) → frame_of after seg page ≡ moved ms seg page (frame_of before seg page)
 
 -- every page of a locked segment that is resident before is resident after
 abbrev pub Kept : StoreView → StoreView → Type 0

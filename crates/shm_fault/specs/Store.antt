@@ -21,13 +21,13 @@ pub record StoreView : Type 0 where
   pub outs : ℕ
 
 -- the bytes that a page has outside its frame: its slot's, zeros where it has none
-abbrev pub stored : SwapView → Option Slot → List ℕ
-stored swap None = zero_page
-stored swap (Some k) = page_in swap k.area k.slot
+abbrev pub slot_bytes : SwapView → Option Slot → List ℕ
+slot_bytes swap None = zero_page
+slot_bytes swap (Some k) = page_in swap k.area k.slot
 
 -- the bytes of a page: its frame's where it is resident
 abbrev pub bytes_by : List Frame → SwapView → Option ℕ → Option Slot → List ℕ
-bytes_by frames swap None slot = stored swap slot
+bytes_by frames swap None slot = slot_bytes swap slot
 bytes_by frames swap (Some f) slot = (frame_at frames f).bytes
 
 abbrev pub page_bytes : List Frame → SwapView → PageRec → List ℕ
@@ -58,7 +58,7 @@ abbrev pub bit_of : List Frame → Option ℕ → Bool
 bit_of frames None = false
 bit_of frames (Some f) = (frame_at frames f).referenced
 
--- the page of the stretch is resident with its referenced bit set
+-- the page of the span is resident with its referenced bit set
 abbrev pub IsReferenced : StoreView → Span → Type 0
 IsReferenced s p = bit_of s.frames (frame_of s p.seg (page_of p)) ≡ true
 
@@ -91,7 +91,7 @@ is_swapped p = not (is_some p.frame) && is_some p.slot
 abbrev pub same_page : Span → Span → Bool
 same_page p q = (p.seg == q.seg) && (page_of p == page_of q)
 
--- how many pages the stretches name; two may lie in one page
+-- how many pages the spans name; two may lie in one page
 abbrev pub pages_among : List Span → ℕ
 pages_among [] = 0
 pages_among (p ∷ ps) = (if list_any (same_page p) ps then 0 else 1) + pages_among ps

@@ -1,14 +1,15 @@
-//! Reads and writes of bytes. The pages of an access come in first, in the order of its stretches, and
+//! Reads and writes of bytes. The pages of an access come in first, in the order of its spans, and
 //! the first stays while the second comes in; only then are bytes read or changed.
-ghost use Rattle.std.specs.Prelude.{◌≡◌, ℕ, ◌+◌, ◌<◌, ◌≤◌, true, [], ◌∷◌, length, map, set, Some, is_ok, IfOk, OnOk, OnErr, All, sum_by};
-ghost use Rattle.shm_base.specs.declared.paging.Span.{Span as Stretch};
+ghost use Rattle.std.specs.Prelude.{◌≡◌, ℕ, ◌+◌, ◌<◌, ◌≤◌, true, [], ◌∷◌, length, map, set, Some, is_ok, IfOk, OnOk, OnErr, All};
+ghost use Rattle.shm_base.specs.declared.paging.Span.{Span as SpanValue};
 ghost use Rattle.shm_plain.specs.Held.{FitsPage, read_from, written, pasted, paste, span_bytes};
+ghost use Rattle.shm_plain.specs.Access.{IsAccess};
 ghost use Rattle.shm_frames.specs.Frame.{frame_at};
 ghost use Rattle.shm_fault.specs.Segs.{HasPage};
-ghost use Rattle.shm_fault.specs.Store.{held, frame_of, page_of, ref_of};
+ghost use Rattle.shm_fault.specs.Store.{held, ref_of};
 ghost use Rattle.shm_fault.specs.Sound.{IsStoreSound};
 ghost use Rattle.shm_fault.specs.Goes.{frame_by, referenced_at};
-ghost use Rattle.shm_fault.specs.Access.{AreIn, Brings, Accessed, answer_of};
+ghost use Rattle.shm_fault.specs.Access.{NameFrames, IsUntouched, AreIn, Brings, Accessed, answer_of};
 ghost use Rattle.shm_fault.specs.Adding.{number_in, added};
 
 use crate::store::PageStore;
@@ -17,7 +18,7 @@ use shm_base::{FrameNo, PAGE_SIZE, PageRef, Span};
 use shm_frames::Frames;
 use shm_pager::{Pager, PagerFault};
 
-/// The frames that the pages of one or two stretches are in; the same twice where there is one.
+/// The frames that the pages of one or two spans are in; the same twice where there is one.
 #[derive(Clone, Copy)]
 pub(crate) struct InFrames {
     pub(crate) first: FrameNo,
@@ -25,7 +26,7 @@ pub(crate) struct InFrames {
 }
 
 impl InFrames {
-    // For no stretch.
+    // For no span.
     const ANY: InFrames = InFrames {
         first: 0,
         second: 0,
@@ -44,7 +45,7 @@ fn paste_into(frames: &mut Frames, frame: FrameNo, from: usize, bytes: &[u8])
 }
 
 impl<P: Pager> PageStore<P> {
-    // The page of a stretch.
+    // The page of a span.
     fn page_at(&self, span: &Span) -> PageRef
         requires { FitsPage (held self.now) span.now }
         ensures page { result ≡ ref_of span.now }
@@ -59,7 +60,7 @@ impl<P: Pager> PageStore<P> {
         }
     }
 
-    // The frame that the page of a stretch is in: the one that the stretch names, as long as nothing moved.
+    // The frame that the page of a span is in: the one that the span names, as long as nothing moved.
     fn frame_now(&self, span: &Span, page: PageRef, touched: &Touched) -> Option<FrameNo>
         requires page { page ≡ ref_of span.now }
         requires still { touched.now.moved.items ≡ [] → span.now.frame ≡ frame_by self.now (ref_of span.now) }
@@ -71,12 +72,12 @@ impl<P: Pager> PageStore<P> {
         self.segs.page(page).frame
     }
 
-    // Brings in the page of a stretch.
+    // Brings in the page of a span.
     #[inline(always)]
     fn bring_one(&mut self, first: &Span, touched: &mut Touched) -> Result<InFrames, PagerFault>
         requires fit { FitsPage (held self.old) first.now }
         requires frame { first.now.frame ≡ frame_by self.old (ref_of first.now) }
-        requires none { (touched.old.moved.items ≡ []) × (touched.old.ins ≡ 0) × (touched.old.outs ≡ 0) }
+        requires none { IsUntouched touched.old }
         ensures here { IfOk result (AreIn self.new (first.now ∷ [])) }
         ensures brings { Brings (first.now ∷ []) self.old self.new touched.new (is_ok result) }
     {
@@ -88,7 +89,7 @@ impl<P: Pager> PageStore<P> {
         })
     }
 
-    // Brings in the pages of two stretches. Where that of the first fails the second is not tried.
+    // Brings in the pages of two spans. Where that of the first fails the second is not tried.
     #[inline(never)]
     fn bring_two(
         &mut self,
@@ -98,7 +99,7 @@ impl<P: Pager> PageStore<P> {
     ) -> Result<InFrames, PagerFault>
         requires fit { FitsPage (held self.old) first.now × FitsPage (held self.old) second.now }
         requires frames { (first.now.frame ≡ frame_by self.old (ref_of first.now)) × (second.now.frame ≡ frame_by self.old (ref_of second.now)) }
-        requires none { (touched.old.moved.items ≡ []) × (touched.old.ins ≡ 0) × (touched.old.outs ≡ 0) }
+        requires none { IsUntouched touched.old }
         ensures here { IfOk result (AreIn self.new (first.now ∷ second.now ∷ [])) }
         ensures brings { Brings (first.now ∷ second.now ∷ []) self.old self.new touched.new (is_ok result) }
     {
@@ -113,32 +114,29 @@ impl<P: Pager> PageStore<P> {
         })
     }
 
-    // Brings in the pages of at most two stretches, the first page first, and answers their frames. The store is sound
+    // Brings in the pages of at most two spans, the first page first, and answers their frames. The store is sound
     // then.
     #[inline(always)]
     fn bring_spans(&mut self, spans: &[Span], touched: &mut Touched) -> Result<InFrames, PagerFault>
         requires few { length spans.now ≤ 2 }
         requires fit { All (FitsPage (held self.old)) spans.now }
-        requires frames { All (λ (p : Stretch). p.frame ≡ frame_of self.old p.seg (page_of p)) spans.now }
-        requires none { (touched.old.moved.items ≡ []) × (touched.old.ins ≡ 0) × (touched.old.outs ≡ 0) }
+        requires frames { NameFrames self.old spans.now }
+        requires none { IsUntouched touched.old }
         ensures here { IfOk result (AreIn self.new spans.now) }
         ensures brings { Brings spans.now self.old self.new touched.new (is_ok result) }
         ensures sound { IsStoreSound self.new }
     {
+        let brought = match spans {
+            [] => Ok(InFrames::ANY),
+            [first] => self.bring_one(first, touched),
+            [first, second, ..] => self.bring_two(first, second, touched),
+        };
         // What is read of the store has a proof know what is true of it.
-        let _ = &self.segs;
-        let Some(first) = spans.first() else {
-            return Ok(InFrames::ANY);
-        };
-        let brought = match spans.get(1) {
-            Some(second) => self.bring_two(first, second, touched),
-            None => self.bring_one(first, touched),
-        };
         let _ = &self.segs;
         brought
     }
 
-    // Copies the bytes of a stretch out of the frame that its page is in.
+    // Copies the bytes of a span out of the frame that its page is in.
     #[inline(always)]
     fn copy_out(&self, span: &Span, frame: FrameNo, out: &mut [u8])
         requires fit { FitsPage (held self.now) span.now }
@@ -151,14 +149,14 @@ impl<P: Pager> PageStore<P> {
         out.copy_from_slice(&bytes[from..from + out.len()]);
     }
 
-    // Puts bytes into the frame that the page of a stretch is in.
+    // Puts bytes into the frame that the page of a span is in.
     #[inline(always)]
     fn store(&mut self, span: &Span, frame: FrameNo, bytes: &[u8])
         requires fit { FitsPage (held self.old) span.now }
         requires here { frame_by self.old (ref_of span.now) ≡ Some frame }
         requires size { span.now.len ≡ length bytes.now }
         ensures written { held self.new ≡ map (pasted span.now.seg span.now.at bytes.now) (held self.old) }
-        ensures fits { (p : Stretch) → FitsPage (held self.old) p → FitsPage (held self.new) p }
+        ensures fits { (p : SpanValue) → FitsPage (held self.old) p → FitsPage (held self.new) p }
         ensures bits { (f : ℕ) → referenced_at self.new f ≡ referenced_at self.old f }
         ensures rest { self.new ≡ record self.old { frames = self.new.frames } }
         ensures count { length self.new.frames ≡ length self.old.frames }
@@ -169,63 +167,54 @@ impl<P: Pager> PageStore<P> {
         self.frames.set_dirty(frame, true);
     }
 
-    // Copies the bytes of stretches out of the frames that their pages are in.
+    // Copies the bytes of spans out of the frames that their pages are in.
     #[inline(always)]
     fn copy_spans(&self, spans: &[Span], here: InFrames, out: &mut [u8])
-        requires few { length spans.now ≤ 2 }
-        requires fit { All (FitsPage (held self.now)) spans.now }
+        requires spans { IsAccess (FitsPage (held self.now)) spans.now (length out.old) }
         requires here { AreIn self.now spans.now here }
-        requires size { sum_by (λ (p : Stretch). p.len) spans.now ≡ length out.old }
         ensures { out.new ≡ read_from (held self.now) spans.now }
     {
-        let Some(first) = spans.first() else {
-            return;
-        };
-        match spans.get(1) {
-            Some(second) => {
+        match spans {
+            [] => {}
+            [first] => self.copy_out(first, here.first, out),
+            [first, second, ..] => {
                 let (front, back) = out.split_at_mut(first.len as usize);
                 self.copy_out(first, here.first, front);
                 self.copy_out(second, here.second, back);
             }
-            None => self.copy_out(first, here.first, out),
         }
     }
 
-    // Puts bytes into the frames that the pages of stretches are in.
+    // Puts bytes into the frames that the pages of spans are in.
     #[inline(always)]
     fn store_spans(&mut self, spans: &[Span], here: InFrames, bytes: &[u8])
-        requires few { length spans.now ≤ 2 }
-        requires fit { All (FitsPage (held self.old)) spans.now }
+        requires spans { IsAccess (FitsPage (held self.old)) spans.now (length bytes.now) }
         requires here { AreIn self.old spans.now here }
-        requires size { sum_by (λ (p : Stretch). p.len) spans.now ≡ length bytes.now }
+        requires sound { IsStoreSound self.old }
         ensures written { held self.new ≡ written (held self.old) spans.now bytes.now }
         ensures bits { (f : ℕ) → referenced_at self.new f ≡ referenced_at self.old f }
         ensures rest { self.new ≡ record self.old { frames = self.new.frames } }
         ensures count { length self.new.frames ≡ length self.old.frames }
         ensures sound { IsStoreSound self.new }
     {
-        // What is read of the store has a proof know what is true of it.
-        let _ = &self.segs;
-        let Some(first) = spans.first() else {
-            return;
-        };
-        match spans.get(1) {
-            Some(second) => {
+        match spans {
+            [] => {}
+            [first] => self.store(first, here.first, bytes),
+            [first, second, ..] => {
                 let (front, back) = bytes.split_at(first.len as usize);
                 self.store(first, here.first, front);
                 self.store(second, here.second, back);
             }
-            None => self.store(first, here.first, bytes),
         }
     }
 
-    /// Reads the bytes of at most two stretches, one after another. A page that is not resident comes in,
+    /// Reads the bytes of at most two spans, one after another. A page that is not resident comes in,
     /// for which another may have to leave its frame; the first page stays while the second comes in. Where
     /// the first fails the second is not tried. No pager is asked for more than that. What is counted, and
     /// which pages moved, goes into `touched`, which begins as [`Touched::none`]; `Accessed` says what.
     ///
     /// An error is a pager's, whose count then rose or stood at its last value before. What is in `out` is
-    /// unknown then. Each stretch lies in one page of a segment that is held and names the frame that the
+    /// unknown then. Each span lies in one page of a segment that is held and names the frame that the
     /// page is in, and their lengths sum up to that of `out`.
     #[inline(always)]
     pub fn read_with(
@@ -234,11 +223,9 @@ impl<P: Pager> PageStore<P> {
         out: &mut [u8],
         touched: &mut Touched,
     ) -> Result<(), PagerFault>
-        requires few { length spans.now ≤ 2 }
-        requires fit { All (FitsPage (held self.old)) spans.now }
-        requires frames { All (λ (p : Stretch). p.frame ≡ frame_of self.old p.seg (page_of p)) spans.now }
-        requires size { sum_by (λ (p : Stretch). p.len) spans.now ≡ length out.old }
-        requires none { (touched.old.moved.items ≡ []) × (touched.old.ins ≡ 0) × (touched.old.outs ≡ 0) }
+        requires spans { IsAccess (FitsPage (held self.old)) spans.now (length out.old) }
+        requires frames { NameFrames self.old spans.now }
+        requires none { IsUntouched touched.old }
         ensures bytes { OnOk result (out.new ≡ read_from (held self.old) spans.now) }
         ensures held { held self.new ≡ held self.old }
         ensures access { Accessed spans.now self.old self.new (answer_of touched.new result) }
@@ -253,10 +240,8 @@ impl<P: Pager> PageStore<P> {
 
     /// As [`PageStore::read_with`], with an answer that counts and names.
     pub fn read(&mut self, spans: &[Span], out: &mut [u8]) -> Result<Touched, PagerFailed>
-        requires few { length spans.now ≤ 2 }
-        requires fit { All (FitsPage (held self.old)) spans.now }
-        requires frames { All (λ (p : Stretch). p.frame ≡ frame_of self.old p.seg (page_of p)) spans.now }
-        requires size { sum_by (λ (p : Stretch). p.len) spans.now ≡ length out.old }
+        requires spans { IsAccess (FitsPage (held self.old)) spans.now (length out.old) }
+        requires frames { NameFrames self.old spans.now }
         ensures bytes { OnOk result (out.new ≡ read_from (held self.old) spans.now) }
         ensures held { held self.new ≡ held self.old }
         ensures access { Accessed spans.now self.old self.new result }
@@ -268,7 +253,7 @@ impl<P: Pager> PageStore<P> {
         }
     }
 
-    /// Replaces the bytes of at most two stretches, in their order, once all their pages are resident;
+    /// Replaces the bytes of at most two spans, in their order, once all their pages are resident;
     /// their frames are dirty then. Pages come in as for [`PageStore::read_with`], and on an error no byte of
     /// any segment has changed.
     #[inline(always)]
@@ -278,11 +263,9 @@ impl<P: Pager> PageStore<P> {
         bytes: &[u8],
         touched: &mut Touched,
     ) -> Result<(), PagerFault>
-        requires few { length spans.now ≤ 2 }
-        requires fit { All (FitsPage (held self.old)) spans.now }
-        requires frames { All (λ (p : Stretch). p.frame ≡ frame_of self.old p.seg (page_of p)) spans.now }
-        requires size { sum_by (λ (p : Stretch). p.len) spans.now ≡ length bytes.now }
-        requires none { (touched.old.moved.items ≡ []) × (touched.old.ins ≡ 0) × (touched.old.outs ≡ 0) }
+        requires spans { IsAccess (FitsPage (held self.old)) spans.now (length bytes.now) }
+        requires frames { NameFrames self.old spans.now }
+        requires none { IsUntouched touched.old }
         ensures written { OnOk result (held self.new ≡ written (held self.old) spans.now bytes.now) }
         ensures same { OnErr result (held self.new ≡ held self.old) }
         ensures access { Accessed spans.now self.old self.new (answer_of touched.new result) }
@@ -297,10 +280,8 @@ impl<P: Pager> PageStore<P> {
 
     /// As [`PageStore::write_with`], with an answer that counts and names.
     pub fn write(&mut self, spans: &[Span], bytes: &[u8]) -> Result<Touched, PagerFailed>
-        requires few { length spans.now ≤ 2 }
-        requires fit { All (FitsPage (held self.old)) spans.now }
-        requires frames { All (λ (p : Stretch). p.frame ≡ frame_of self.old p.seg (page_of p)) spans.now }
-        requires size { sum_by (λ (p : Stretch). p.len) spans.now ≡ length bytes.now }
+        requires spans { IsAccess (FitsPage (held self.old)) spans.now (length bytes.now) }
+        requires frames { NameFrames self.old spans.now }
         ensures written { OnOk result (held self.new ≡ written (held self.old) spans.now bytes.now) }
         ensures same { OnErr result (held self.new ≡ held self.old) }
         ensures access { Accessed spans.now self.old self.new result }
@@ -312,7 +293,7 @@ impl<P: Pager> PageStore<P> {
         }
     }
 
-    /// Adds to the eight little-endian bytes of at most two stretches, modulo 2^64, once all their pages are
+    /// Adds to the eight little-endian bytes of at most two spans, modulo 2^64, once all their pages are
     /// resident; `old` is then the number that stood there, and unknown after an error. Pages come in once, as
     /// for [`PageStore::read_with`], and on an error no byte of any segment has changed.
     #[inline(always)]
@@ -323,11 +304,9 @@ impl<P: Pager> PageStore<P> {
         old: &mut u64,
         touched: &mut Touched,
     ) -> Result<(), PagerFault>
-        requires few { length spans.now ≤ 2 }
-        requires fit { All (FitsPage (held self.old)) spans.now }
-        requires frames { All (λ (p : Stretch). p.frame ≡ frame_of self.old p.seg (page_of p)) spans.now }
-        requires size { sum_by (λ (p : Stretch). p.len) spans.now ≡ 8 }
-        requires none { (touched.old.moved.items ≡ []) × (touched.old.ins ≡ 0) × (touched.old.outs ≡ 0) }
+        requires spans { IsAccess (FitsPage (held self.old)) spans.now 8 }
+        requires frames { NameFrames self.old spans.now }
+        requires none { IsUntouched touched.old }
         ensures number { OnOk result (old.new ≡ number_in (held self.old) spans.now) }
         ensures written { OnOk result (held self.new ≡ added (held self.old) spans.now more) }
         ensures same { OnErr result (held self.new ≡ held self.old) }

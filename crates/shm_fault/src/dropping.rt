@@ -30,17 +30,14 @@ fn empty_frame(frames: &mut Frames, frame: Option<FrameNo>)
 
 // Gives a page's slot back, if it has one.
 fn free_slot<P: Pager>(swap: &mut Swap<P>, slot: Option<Slot>)
-    requires { SlotThere swap.old slot }
+    requires there { SlotThere swap.old slot }
+    requires sound { IsSwap swap.old }
     ensures given { Given swap.old slot swap.new }
     ensures steady { IsSteady swap.old swap.new }
     ensures sound { IsSwap swap.new }
 {
-    match slot {
-        Some(slot) => swap.give_slot(slot),
-        None => {
-            // The count is asked for what comes with it: that a swap is sound.
-            let _ = swap.never_spent();
-        }
+    if let Some(slot) = slot {
+        swap.give_slot(slot);
     }
 }
 

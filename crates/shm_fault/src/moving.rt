@@ -14,7 +14,7 @@ ghost use Rattle.shm_fault.specs.Moving.{SameOwned, IsRelocated, IsCleared};
 use crate::page_tables::PageRec;
 use crate::store::PageStore;
 use crate::touched::{PagerFailed, Touched};
-use shm_base::{FrameNo, PageRef, Slot};
+use shm_base::{FrameNo, PAGE_BYTES, PageRef, Slot};
 use shm_pager::{Pager, PagerFault, zeros};
 use shm_slots::Swap;
 
@@ -24,7 +24,7 @@ fn write_outside<P: Pager>(
     swap: &mut Swap<P>,
     page: PageRef,
     from: Slot,
-    bytes: &[u8; 4096],
+    bytes: &[u8; PAGE_BYTES],
 ) -> Result<Slot, PagerFault>
     requires there { HasSlot swap.old from.area from.slot }
     requires room { used_slots swap.old + length (area_at swap.old from.area).pages < slots swap.old + used_in (area_at swap.old from.area) }

@@ -6,7 +6,7 @@ ghost use Rattle.shm_slots.specs.Cause.{had_cause, total, some_spent, GoesOn};
 ghost use Rattle.shm_frames.specs.Frame.{frame_at, no_frame, OwnedBelow};
 ghost use Rattle.shm_clock.specs.Clock.{may_go, listed, victim_of, next, IsClockVictim};
 ghost use Rattle.shm_fault.specs.Segs.{rec_by, HasPage, with_rec};
-ghost use Rattle.shm_fault.specs.Store.{stored};
+ghost use Rattle.shm_fault.specs.Store.{slot_bytes};
 ghost use Rattle.shm_fault.specs.Sound.{IsStoreSound};
 ghost use Rattle.shm_fault.specs.Counting.{raised, one_if, CountsOn, victim_by, turned, hand_for_frame};
 ghost use Rattle.shm_fault.specs.Access.{Visited};
@@ -57,7 +57,7 @@ fn fill_from<P: Pager>(
     requires there { frame < length frames.old }
     requires slot { MatchOption slot (Unit {0}) (λ k. HasSlot swap.old k.area k.slot) }
     ensures frames { frames.new ≡ set frames.old frame (record (frame_at frames.old frame) { bytes = (frame_at frames.new frame).bytes }) }
-    ensures bytes { OnOk result ((frame_at frames.new frame).bytes ≡ stored swap.old slot) }
+    ensures bytes { OnOk result ((frame_at frames.new frame).bytes ≡ slot_bytes swap.old slot) }
     ensures swap { OnOk result (swap.new ≡ swap.old) }
     ensures kept { SameSlots swap.old swap.new }
     ensures cause { OnErr result (had_cause swap.old swap.new ≡ true) }
@@ -253,7 +253,7 @@ impl<P: Pager> PageStore<P> {
         requires there { frame < length self.old.frames }
         requires free { (frame_at self.old.frames frame).owner ≡ None }
         requires slot { MatchOption slot (Unit {0}) (λ k. HasSlot self.old.swap k.area k.slot) }
-        ensures bytes { OnOk result ((frame_at self.new.frames frame).bytes ≡ stored self.old.swap slot) }
+        ensures bytes { OnOk result ((frame_at self.new.frames frame).bytes ≡ slot_bytes self.old.swap slot) }
         ensures swap { OnOk result (self.new.swap ≡ self.old.swap) }
         ensures rest { self.new ≡ record self.old { frames = self.new.frames; swap = self.new.swap; ins = self.new.ins } }
         ensures ins { self.new.ins ≡ raised self.old.ins (one_if (is_ok result && is_some slot)) }
@@ -276,7 +276,7 @@ impl<P: Pager> PageStore<P> {
         requires free { (frame_at self.old.frames frame).owner ≡ None }
         requires has { HasPage self.old.segs page }
         requires away { frame_by self.old page ≡ None }
-        requires bytes { (frame_at self.old.frames frame).bytes ≡ stored self.old.swap (rec_by self.old.segs page).slot }
+        requires bytes { (frame_at self.old.frames frame).bytes ≡ slot_bytes self.old.swap (rec_by self.old.segs page).slot }
         ensures came { (s : Ref) → frame_by self.new s ≡ (if same_ref page s then Some frame else frame_by self.old s) }
         ensures bit { (frame_at self.new.frames frame).referenced ≡ true }
         ensures rest { self.new ≡ record self.old { segs = self.new.segs; frames = self.new.frames } }

@@ -1,5 +1,5 @@
 //! What an access counts and names.
-ghost use Rattle.std.specs.Prelude.{◌≡◌, []};
+ghost use Rattle.shm_fault.specs.Access.{IsUntouched};
 
 use arrayvec::ArrayVec;
 use shm_base::{FrameNo, PageRef};
@@ -65,9 +65,7 @@ impl Touched {
     /// Nothing yet: an access begins with it.
     #[inline(always)]
     pub fn none() -> Touched
-        ensures moved { result.moved.items ≡ [] }
-        ensures ins { result.ins ≡ 0 }
-        ensures outs { result.outs ≡ 0 }
+        ensures { IsUntouched result }
     {
         Touched {
             ins: 0,

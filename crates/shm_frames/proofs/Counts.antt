@@ -7,7 +7,7 @@ use Rattle.std.proofs.lemmas.List.{get_or-set_other, length-replicate}
 use Rattle.std.proofs.lemmas.List.Folds.{sum_by-replicate}
 use Rattle.std.proofs.lemmas.List.Sums.{sum_by-cons, sum_by-set, count_by-le-length}
 use Rattle.shm_base.specs.declared.paging.PageRef.{PageRef}
-use Rattle.shm_frames.specs.declared.frames.Entry.{Entry}
+use Rattle.shm_frames.specs.declared.frames.FrameState.{FrameState}
 use Rattle.shm_frames.specs.Table.{free_entry, entry_at, has_owner, has_no_owner, has_changed, UsedBelow, IsFrameTable}
 
 -- where one test passes only if the other does, it passes no more often
@@ -23,15 +23,15 @@ count_by-le p q d (x ∷ xs) both =
     by true false h le = absurd (search (rules, h refl))
     by false b h le = elim b as (λ v. 0 + count_by p xs ≤ cond v 1 0 + count_by q xs) [ true ↦ omega arith | false ↦ omega arith ]
 
-changed-owned : (x : Entry) → (x.owner ≡ None → x ≡ free_entry) → has_changed x ≡ true → has_owner x ≡ true
+changed-owned : (x : FrameState) → (x.owner ≡ None → x ≡ free_entry) → has_changed x ≡ true → has_owner x ≡ true
 changed-owned x clear changed = grind arith
 
 -- a dirty frame is owned
-pub dirty-le-resident : (table : List Entry) (first owned changed : ℕ) → IsFrameTable table first owned changed → changed ≤ owned
+pub dirty-le-resident : (table : List FrameState) (first owned changed : ℕ) → IsFrameTable table first owned changed → changed ≤ owned
 dirty-le-resident table first owned changed k =
     rw (k.resident, k.dirty) (count_by-le has_changed has_owner free_entry table (λ i l h. changed-owned (entry_at table i) (k.clear i) h))
 
-pub resident-le : (table : List Entry) (first owned changed : ℕ) → IsFrameTable table first owned changed → owned ≤ length table
+pub resident-le : (table : List FrameState) (first owned changed : ℕ) → IsFrameTable table first owned changed → owned ≤ length table
 resident-le table first owned changed k = rw k.resident (count_by-le-length has_owner table)
 
 worth : (b : Bool) → cond b 1 0 ≡ from_bool b
@@ -39,12 +39,11 @@ worth true = refl
 worth false = refl
 
 -- what is kept after an edit of one entry, of which `was` is what stood there
-module _ {table : List Entry} {first owned changed i : ℕ} {was : Entry} (k : IsFrameTable table first owned changed) (there : i < length table) (at : was ≡ entry_at table i) where
-  --X : List Entry) (first owned changed i : ℕ) (was : Entry) (k : IsFrameTable table first owned changed) (there : i < length table) (at : was ≡ entry_at table i) where
-  owned-set : (x : Entry) → count_by has_owner (set table i x) + from_bool (has_owner was) ≡ owned + from_bool (has_owner x)
+module _ {table : List FrameState} {first owned changed i : ℕ} {was : FrameState} (k : IsFrameTable table first owned changed) (there : i < length table) (at : was ≡ entry_at table i) where
+  owned-set : (x : FrameState) → count_by has_owner (set table i x) + from_bool (has_owner was) ≡ owned + from_bool (has_owner x)
   owned-set x = rw (← worth (has_owner was), ← worth (has_owner x), at, k.resident) (sum_by-set (λ y. cond (has_owner y) 1 0) table i x free_entry there)
 
-  changed-set : (x : Entry) → count_by has_changed (set table i x) + from_bool was.dirty ≡ changed + from_bool x.dirty
+  changed-set : (x : FrameState) → count_by has_changed (set table i x) + from_bool was.dirty ≡ changed + from_bool x.dirty
   changed-set x = rw (← worth was.dirty, ← worth x.dirty, at, k.dirty) (sum_by-set (λ y. cond (has_changed y) 1 0) table i x free_entry there)
 
   -- it was counted where it was owned, and where it was dirty
@@ -61,18 +60,18 @@ module _ {table : List Entry} {first owned changed i : ℕ} {was : Entry} (k : I
 
   pub changed-more : (now : Bool) → changed - from_bool was.dirty + from_bool now ≤ length table
   changed-more now =
-      let x : Entry = record was { dirty = now } in
+      let x : FrameState = record was { dirty = now } in
       let e : count_by has_changed (set table i x) + from_bool was.dirty ≡ changed + from_bool now = changed-set x in
       omega (arith, changed-there, count_by-le-length has_changed (set table i x), length-set table i x)
 
-  clear-set : (x : Entry) → (x.owner ≡ None → x ≡ free_entry) → (j : ℕ) → (entry_at (set table i x) j).owner ≡ None → entry_at (set table i x) j ≡ free_entry
+  clear-set : (x : FrameState) → (x.owner ≡ None → x ≡ free_entry) → (j : ℕ) → (entry_at (set table i x) j).owner ≡ None → entry_at (set table i x) j ≡ free_entry
   clear-set x clear j = grind (arith, common_steps)
 
-  used-set : (x : Entry) (n : ℕ) → has_no_owner x ≡ false → ((j : ℕ) → j < n → j ≢ i → has_no_owner (entry_at table j) ≡ false) → UsedBelow (set table i x) n
+  used-set : (x : FrameState) (n : ℕ) → has_no_owner x ≡ false → ((j : ℕ) → j < n → j ≢ i → has_no_owner (entry_at table j) ≡ false) → UsedBelow (set table i x) n
   used-set x n busy others j lt = grind (arith, common_steps)
 
   -- the bits of an owned frame change
-  pub kept-bits : (x : Entry) (changed' : ℕ) → is_some was.owner ≡ true → x.owner ≡ was.owner → changed' + from_bool was.dirty ≡ changed + from_bool x.dirty → IsFrameTable (set table i x) first owned changed'
+  pub kept-bits : (x : FrameState) (changed' : ℕ) → is_some was.owner ≡ true → x.owner ≡ was.owner → changed' + from_bool was.dirty ≡ changed + from_bool x.dirty → IsFrameTable (set table i x) first owned changed'
   kept-bits x changed' some same by = grind (arith, common_steps)
 
   -- a free frame is given to a page
@@ -84,7 +83,7 @@ module _ {table : List Entry} {first owned changed i : ℕ} {was : Entry} (k : I
   kept-empty later below past = grind (arith, common_steps, length-set, get_or-set_other, owned-set, changed-set, clear-set)
 
 -- so many entries that are free, and as many pages
-pub record AreNew (table : List Entry) (pages : List (List ℕ)) (n : ℕ) : Type 0 where
+pub record AreNew (table : List FrameState) (pages : List (List ℕ)) (n : ℕ) : Type 0 where
   pub entries : table ≡ replicate n free_entry
   pub beside : length pages ≡ n
 
@@ -92,10 +91,10 @@ free-entries : (n i : ℕ) → entry_at (replicate n free_entry) i ≡ free_entr
 free-entries n i = grind (arith, common_steps)
 
 -- a table of free entries
-pub new-entry : (table : List Entry) (n i : ℕ) → table ≡ replicate n free_entry → entry_at table i ≡ free_entry
+pub new-entry : (table : List FrameState) (n i : ℕ) → table ≡ replicate n free_entry → entry_at table i ≡ free_entry
 new-entry table n i e = rw e (free-entries n i)
 
-pub kept-new : (table : List Entry) (n : ℕ) → table ≡ replicate n free_entry → n < 2 ^ 32 → IsFrameTable table 0 0 0
+pub kept-new : (table : List FrameState) (n : ℕ) → table ≡ replicate n free_entry → n < 2 ^ 32 → IsFrameTable table 0 0 0
 kept-new table n e few = grind (arith, common_steps, length-replicate, sum_by-replicate, free-entries)
 
 all-counted : {X : Type 0} (p : X → Bool) (d : X) (xs : List X) → count_by p xs ≡ length xs → (i : ℕ) → i < length xs → p (get_or xs i d) ≡ true
@@ -111,9 +110,9 @@ all-counted p d (x ∷ xs) e i l =
     by j lt false h few sum rest = absurd (omega arith)
 
 -- where as many are owned as there are, none is free
-pub none-free : (table : List Entry) (first owned changed : ℕ) → IsFrameTable table first owned changed → owned ≡ length table → UsedBelow table (length table)
+pub none-free : (table : List FrameState) (first owned changed : ℕ) → IsFrameTable table first owned changed → owned ≡ length table → UsedBelow table (length table)
 none-free table first owned changed k e i l = rw (all-counted has_owner free_entry table (sym k.resident ∙ e) i l) refl
 
 -- where the next search begins
-pub kept-later : (table : List Entry) (first owned changed later : ℕ) → IsFrameTable table first owned changed → later ≤ length table → UsedBelow table later → IsFrameTable table later owned changed
+pub kept-later : (table : List FrameState) (first owned changed later : ℕ) → IsFrameTable table first owned changed → later ≤ length table → UsedBelow table later → IsFrameTable table later owned changed
 kept-later table first owned changed later k bound used = record { few = k.few; bound = bound; used = used; resident = k.resident; dirty = k.dirty; clear = k.clear }

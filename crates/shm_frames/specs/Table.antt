@@ -1,38 +1,38 @@
 -- The entries of the table and the bytes beside them, seen as frames, and what the table keeps of them.
 use Rattle.std.specs.Prelude.{◌≡◌, ℕ, ◌<◌, ◌≤◌, ◌^◌, Bool, false, None, is_none, is_some, List, [], ◌∷◌, length, get_or, count_by}
-use Rattle.shm_frames.specs.declared.frames.Entry.{Entry}
+use Rattle.shm_frames.specs.declared.frames.FrameState.{FrameState}
 use Rattle.shm_frames.specs.Frame.{Frame}
 
-abbrev pub frame_of : Entry → List ℕ → Frame
-frame_of e bytes = record { owner = e.owner; bytes = bytes; referenced = e.referenced; dirty = e.dirty }
+abbrev pub frame_shown : FrameState → List ℕ → Frame
+frame_shown e bytes = record { owner = e.owner; bytes = bytes; referenced = e.referenced; dirty = e.dirty }
 
 -- the frames of a table, each with the bytes that lie at its number
-abbrev pub frames_of : List Entry → List (List ℕ) → List Frame
+abbrev pub frames_of : List FrameState → List (List ℕ) → List Frame
 frames_of [] pages = []
 frames_of (e ∷ es) [] = []
-frames_of (e ∷ es) (bytes ∷ pages) = frame_of e bytes ∷ frames_of es pages
+frames_of (e ∷ es) (bytes ∷ pages) = frame_shown e bytes ∷ frames_of es pages
 
-abbrev pub free_entry : Entry
+abbrev pub free_entry : FrameState
 free_entry = record { owner = None; referenced = false; dirty = false }
 
-abbrev pub entry_at : List Entry → ℕ → Entry
+abbrev pub entry_at : List FrameState → ℕ → FrameState
 entry_at table i = get_or table i free_entry
 
-abbrev pub has_owner : Entry → Bool
+abbrev pub has_owner : FrameState → Bool
 has_owner e = is_some e.owner
 
-abbrev pub has_no_owner : Entry → Bool
+abbrev pub has_no_owner : FrameState → Bool
 has_no_owner e = is_none e.owner
 
-abbrev pub has_changed : Entry → Bool
+abbrev pub has_changed : FrameState → Bool
 has_changed e = e.dirty
 
 -- no entry below is free
-abbrev pub UsedBelow : List Entry → ℕ → Type 0
+abbrev pub UsedBelow : List FrameState → ℕ → Type 0
 UsedBelow table n = (i : ℕ) → i < n → has_no_owner (entry_at table i) ≡ false
 
 -- what is kept beside the table
-pub record IsFrameTable (table : List Entry) (first_free owned changed : ℕ) : Type 0 where
+pub record IsFrameTable (table : List FrameState) (first_free owned changed : ℕ) : Type 0 where
   pub few : length table < 2 ^ 32
   pub bound : first_free ≤ length table
   pub used : UsedBelow table first_free

@@ -8,13 +8,13 @@ ghost use Rattle.std.specs.Prelude.{◌≡◌, ℕ, ◌+◌, ◌-◌, ◌<◌, �
 ghost use Rattle.std.specs.Borrow.{sem};
 
 use crate::looks::Looks;
-use shm_base::{FrameNo, HostMemory, PageRef};
+use shm_base::{FrameNo, HostMemory, PAGE_BYTES, PageRef};
 use std::alloc::Global;
 use std::marker::Model;
 
 /// What the table has of a frame.
 #[derive(Clone, Copy)]
-struct Entry {
+struct FrameState {
     owner: Option<PageRef>,
     referenced: bool,
     dirty: bool,
@@ -22,8 +22,8 @@ struct Entry {
 
 /// The frames of a machine. They are seen as a list, each with its owner, its bytes and its two bits.
 pub struct Frames {
-    table: Vec<Entry>,
-    pages: Vec<[u8; 4096]>,
+    table: Vec<FrameState>,
+    pages: Vec<[u8; PAGE_BYTES]>,
     // No frame below this one is free.
     first_free: FrameNo,
     // How many frames are owned, and how many are dirty.
@@ -56,8 +56,8 @@ impl Model for Frames {
     ghost invariant = { λ a. (length a.pages.items ≡ length a.table.items) × IsFrameTable a.table.items a.first_free a.resident a.dirty };
 }
 
-impl Entry {
-    const FREE: Entry = Entry {
+impl FrameState {
+    const FREE: FrameState = FrameState {
         owner: None,
         referenced: false,
         dirty: false,
@@ -67,7 +67,7 @@ impl Entry {
 ghost use Rattle.shm_frames.specs.Table.{has_no_owner, UsedBelow};
 
 // The entry of least number, from `first` on, that nobody owns.
-fn free_from(table: &Vec<Entry>, first: FrameNo) -> Option<FrameNo>
+fn free_from(table: &Vec<FrameState>, first: FrameNo) -> Option<FrameNo>
     requires few { length table.now.items < 2 ^ 32 }
     requires used { UsedBelow table.now.items first }
     ensures { result ≡ position has_no_owner table.now.items }
@@ -92,8 +92,8 @@ impl Frames {
         let mut table = Vec::with_capacity(alloc, count as usize)?;
         let mut pages = Vec::with_capacity(alloc, count as usize)?;
         for _frame in 0..count {
-            table.push(Entry::FREE)?;
-            pages.push([0; 4096])?;
+            table.push(FrameState::FREE)?;
+            pages.push([0; PAGE_BYTES])?;
         }
         Ok(Frames {
             table,
@@ -173,14 +173,14 @@ impl Frames {
         ensures { self.new ≡ set self.old frame (record no_frame { bytes = (frame_at self.old frame).bytes }) }
     {
         let was = self.table[frame as usize];
-        self.table[frame as usize] = Entry::FREE;
+        self.table[frame as usize] = FrameState::FREE;
         self.resident -= u32::from(was.owner.is_some());
         self.dirty -= u32::from(was.dirty);
         self.first_free = self.first_free.min(frame);
     }
 
     /// The bytes of a frame.
-    pub fn bytes(&self, frame: FrameNo) -> &[u8; 4096]
+    pub fn bytes(&self, frame: FrameNo) -> &[u8; PAGE_BYTES]
         requires { frame < length self.now }
         ensures value { result.now ≡ (frame_at self.now frame).bytes }
         ensures whole { length result.now ≡ 4096 }
@@ -192,7 +192,7 @@ impl Frames {
     }
 
     /// The bytes of a frame, to be written. A page that comes in is read straight into a free frame.
-    pub fn bytes_mut(&mut self, frame: FrameNo) -> &mut [u8; 4096]
+    pub fn bytes_mut(&mut self, frame: FrameNo) -> &mut [u8; PAGE_BYTES]
         requires { frame < length self.old }
         ensures* writes_back { sem 𝓛 (lends_bytes self.entry frame result) }
         ensures value { result.now ≡ (frame_at self.old frame).bytes }

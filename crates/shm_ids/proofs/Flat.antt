@@ -1,10 +1,10 @@
 -- The table's words agree with the flat machine's.
-use Rattle.shm_ids.proofs.Names.{◌≡◌, ◌≢◌, ℕ, zero, suc, ◌+◌, ◌%◌, ◌<◌, ◌≤◌, ◌==◌, ℤ, pos, negsuc, is_none, is_some, List, [], ◌∷◌, ◌++◌, length, set, slice_get, slice_set, Option, Some, None, IsOk, refl, sym, ap, ◌∙◌, inl, inr, arith, eq-eqb, ne_eqb, common_steps, cases_eq, sum_by-cons, Entry, Row, unused, entry_at, free_from, free_index, identifier, index_of, row_key, key_from, find_key, look, look_entry, held, with_row, row_count, flat_row, flat_entry, flat_from, flat_table, flat_answer, flat_look, flat_found, ShowsKeys}
+use Rattle.shm_ids.proofs.Names.{◌≡◌, ◌≢◌, ℕ, zero, suc, ◌+◌, ◌%◌, ◌<◌, ◌≤◌, ℤ, pos, negsuc, List, [], ◌∷◌, ◌++◌, length, set, slice_get, slice_set, Option, Some, None, IsOk, refl, sym, ap, ◌∙◌, inl, inr, arith, eq-eqb, ne_eqb, common_steps, cases_eq, sum_by-cons, Entry, Row, unused, map, shown, blank_segment, option_map, entry_at, free_index, identifier, index_of, row_key, index_found, find_key, look, look_entry, held, with_row, row_count, flat_entry, flat_from, flat_table, flat_answer, flat_look, flat_found, ShowsKeys}
 use Rattle.shm_base.specs.State.{Segment, Entry as FlatEntry}
 use Rattle.shm_base.specs.Identifier as flat
 use Rattle.shm_base.specs.Segments as flat_segments
 use Rattle.shm_ids.proofs.Entries.{at_past}
-use Rattle.shm_ids.proofs.Look.{live_at, live_number}
+use Rattle.shm_ids.proofs.Look.{look-entry, live_at, live_number}
 
 module _ {T : Type 0} (make : ℕ → Row T → Segment) where
   -- THE ENTRIES
@@ -50,12 +50,9 @@ module _ {T : Type 0} (make : ℕ → Row T → Segment) where
 
   -- THE LEAST FREE INDEX
 
-  same_none : (id : ℕ) (r : Option (Row T)) → is_none (flat_row make id r) ≡ is_none r
-  same_none id r = grind arith
-
-  pub free_from-flat : (i j : ℕ) (t : List (Entry T)) → flat.free_from j (flat_from make i t) ≡ free_from j t
+  free_from-flat : (i j : ℕ) (t : List (Entry T)) → flat.free_from j (flat_from make i t) ≡ flat.free_from j (map shown t)
   free_from-flat i j [] = refl
-  free_from-flat i j (e ∷ es) = grind (arith, common_steps, same_none, free_from-flat (i + 1) (j + 1) es)
+  free_from-flat i j (e ∷ es) = grind (arith, common_steps, free_from-flat (i + 1) (j + 1) es)
 
   pub free_index-flat : (t : List (Entry T)) → flat.free_index (flat_table make t) ≡ free_index t
   free_index-flat t = free_from-flat 0 0 t
@@ -67,30 +64,42 @@ module _ {T : Type 0} (make : ℕ → Row T → Segment) where
 
   -- LOOKING UP
 
-  look_parts : (i q d id : ℕ) (r : Option (Row T)) → (q ≡ d → identifier i d ≡ id)
-      → flat.look_entry i q (Some (flat_entry make i (record { destroyed = d; row = r }))) ≡ flat_answer make i id (row_key r) (look_entry q (record { destroyed = d; row = r }))
-  look_parts i q d id r own = grind (arith, common_steps)
+  look_parts : (i q id : ℕ) (e : Entry T) → (q ≡ e.destroyed → identifier i e.destroyed ≡ id)
+      → flat.look_entry i q (Some (flat_entry make i e)) ≡ flat_answer make i id (row_key e.row) (look_entry q e)
+  look_parts i q id e own = grind (arith, common_steps)
 
   -- what is live, removed or never issued is so for both
   pub look-flat : (t : List (Entry T)) (id : ℤ) → flat.look (flat_table make t) id ≡ flat_look make t id (look t id)
   look-flat t (negsuc n) = refl
-  look-flat t (pos n) = grind (arith, common_steps, at-table, look_parts, past-flat, at_past)
+  look-flat t (pos n) = grind (arith, common_steps, look-entry, at-table, look_parts, past-flat, at_past)
 
-  same_key : ShowsKeys make → (id key : ℕ) (r : Option (Row T)) → key ≢ 0 → flat.has_key key (flat_row make id r) ≡ (row_key r == key)
-  same_key shows id key r live = grind (arith, common_steps)
+  same_key : ShowsKeys make → (id key : ℕ) (r : Option (Row T)) → flat.has_key key (option_map (make id) r) ≡ flat.has_key key (option_map blank_segment r)
+  same_key shows id key None = refl
+  same_key shows id key (Some r) = rw (shows id r) refl
 
-  found_from : ShowsKeys make → (n key : ℕ) (t : List (Entry T)) (at : ℕ → Entry T) → ((k : ℕ) → k < length t → entry_at t k ≡ at (n + k)) → key ≢ 0
-      → flat.key_from key n (flat_from make n t) ≡ flat_found make at (key_from key n t)
-  found_from shows n key [] at same live = refl
-  found_from shows n key (e ∷ es) at same live =
+  found_from : ShowsKeys make → (n key : ℕ) (t : List (Entry T)) (at : ℕ → Entry T) → ((k : ℕ) → k < length t → entry_at t k ≡ at (n + k))
+      → flat.key_from key n (flat_from make n t) ≡ flat_found make at (index_found (flat.key_from key n (map shown t)))
+  found_from shows n key [] at same = refl
+  found_from shows n key (e ∷ es) at same =
       let here : e ≡ at n = same 0 (omega arith) ∙ ap at (omega arith) in
-      let rest = found_from shows (n + 1) key es at (λ k l. same (suc k) (omega arith) ∙ ap at (omega arith)) live in
-      let own = same_key shows (identifier n e.destroyed) key e.row live in
+      let rest = found_from shows (n + 1) key es at (λ k l. same (suc k) (omega arith) ∙ ap at (omega arith)) in
+      let own = same_key shows (identifier n e.destroyed) key e.row in
       grind arith
 
   -- the row with a key
   pub find_key-flat : ShowsKeys make → (t : List (Entry T)) (key : ℕ) → key ≢ 0 → flat.find_key (flat_table make t) key ≡ flat_found make (entry_at t) (find_key t key)
-  find_key-flat shows t key live = rw (ne_eqb key 0 live) (found_from shows 0 key t (entry_at t) (λ k l. ap (entry_at t) (omega arith)) live)
+  find_key-flat shows t key live = rw (ne_eqb key 0 live) (found_from shows 0 key t (entry_at t) (λ k l. ap (entry_at t) (omega arith)))
+
+  index_from : ShowsKeys make → (n key : ℕ) (t : List (Entry T)) → index_found (flat.key_from key n (flat_from make n t)) ≡ index_found (flat.key_from key n (map shown t))
+  index_from shows n key [] = refl
+  index_from shows n key (e ∷ es) =
+      let own = same_key shows (identifier n e.destroyed) key e.row in
+      let rest = index_from shows (n + 1) key es in
+      grind (arith, common_steps)
+
+  -- a key that the flat machine does not find is found by neither
+  pub find_key-absent : ShowsKeys make → (t : List (Entry T)) (key : ℕ) → (key ≢ 0 → flat.find_key (flat_table make t) key ≡ flat.Invalid) → find_key t key ≡ None
+  find_key-absent shows t key none = grind (arith, common_steps, index_from shows 0 key t)
 
   -- a key that is found leads where its row's identifier does
   pub find_key-look : ShowsKeys make → (t : List (Entry T)) (key : ℕ) (id : ℤ) → key ≢ 0 → find_key t key ≡ Some (index_of id) → IsOk (look t id)
@@ -110,12 +119,9 @@ module _ {T : Type 0} (make : ℕ → Row T → Segment) where
         | inr n ↦ rw (long, ne_eqb i (length t) n, destroyed_at-flat t i) (set-table i t (held (entry_at t i) key v))
       ]
 
-  same_some : (id : ℕ) (r : Option (Row T)) → is_some (flat_row make id r) ≡ is_some r
-  same_some id r = grind arith
-
   pub segment_count-flat : (i : ℕ) (t : List (Entry T)) → flat_segments.segment_count (flat_from make i t) ≡ row_count t
   segment_count-flat i [] = refl
-  segment_count-flat i (e ∷ es) = grind (arith, common_steps, sum_by-cons, same_some, segment_count-flat (i + 1) es)
+  segment_count-flat i (e ∷ es) = grind (arith, common_steps, sum_by-cons, segment_count-flat (i + 1) es)
 
   -- one row is shown changed by f
   pub change-flat : (t : List (Entry T)) (id : ℕ) (f : Segment → Segment) (r s : Row T) → id % 32768 < length t → (entry_at t (id % 32768)).row ≡ Some r
@@ -133,7 +139,7 @@ module _ {T : Type 0} (make : ℕ → Row T → Segment) where
 
 -- two ways of showing rows that agree on those of a table
 module _ {T : Type 0} (make made : ℕ → Row T → Segment) where
-  same_row : (id : ℕ) (r : Option (Row T)) → ((x : Row T) → r ≡ Some x → make id x ≡ made id x) → flat_row make id r ≡ flat_row made id r
+  same_row : (id : ℕ) (r : Option (Row T)) → ((x : Row T) → r ≡ Some x → make id x ≡ made id x) → option_map (make id) r ≡ option_map (made id) r
   same_row id None same = refl
   same_row id (Some x) same = ap (λ (s : Segment). Some s) (same x refl)
 

@@ -1,5 +1,6 @@
 -- The map of the live keys, and the search for a key through the table.
-use Rattle.shm_ids.proofs.Names.{rules, ◌≡◌, ◌≢◌, ◌⊎◌, ℕ, zero, suc, ◌+◌, nat_eq, not, ◌&&◌, List, [], ◌∷◌, Option, Some, None, if◌then◌else◌, refl, sym, ap, ◌∙◌, inl, inr, arith, cases_eq, common_steps, IndexMap, get, Entry, key_at, row_key, key_from, find_key, Keyed}
+use Rattle.shm_ids.proofs.Names.{rules, ◌≡◌, ◌≢◌, ◌⊎◌, ℕ, zero, suc, ◌+◌, nat_eq, not, ◌&&◌, List, [], ◌∷◌, Option, Some, None, if◌then◌else◌, refl, sym, ap, ◌∙◌, inl, inr, arith, cases_eq, common_steps, IndexMap, get, Entry, key_at, row_key, map, shown, index_found, find_key, Keyed}
+use Rattle.shm_base.specs.Identifier as flat
 
 -- what a key put into the map, or taken out of it, leaves
 put-answer : (key q i j : ℕ) (before after : Option ℕ) → after ≡ (if not (nat_eq key 0) && nat_eq key q then Some i else before) → after ≡ Some j
@@ -11,15 +12,15 @@ drop-answer : (key q j : ℕ) (before after : Option ℕ) → after ≡ (if not 
 drop-answer key q j before after put got = grind (arith, common_steps)
 
 module _ {T : Type 0} where
-  pub key_from-at : (n i key : ℕ) (t : List (Entry T)) → key ≢ 0 → key_at t i ≡ key → ((j : ℕ) → key_at t j ≡ key → j ≡ i) → key_from key n t ≡ Some (n + i)
+  key_from-at : (n i key : ℕ) (t : List (Entry T)) → key ≢ 0 → key_at t i ≡ key → ((j : ℕ) → key_at t j ≡ key → j ≡ i) → index_found (flat.key_from key n (map shown t)) ≡ Some (n + i)
   key_from-at n i key [] live at alone = absurd (live (sym at))
-  key_from-at n zero key (e ∷ es) live at alone = search (rules, at)
+  key_from-at n zero key (e ∷ es) live at alone = grind (arith, common_steps)
   key_from-at n (suc i) key (e ∷ es) live at alone =
       let other : row_key e.row ≢ key = λ same. absurd (omega (arith, alone 0 same)) in
       let rest = key_from-at (n + 1) i key es live at (λ j same. omega (arith, alone (suc j) same)) in
       grind (arith, common_steps)
 
-  pub key_from-none : (n key : ℕ) (t : List (Entry T)) → key ≢ 0 → ((j : ℕ) → key_at t j ≡ key → ⊥) → key_from key n t ≡ None
+  key_from-none : (n key : ℕ) (t : List (Entry T)) → key ≢ 0 → ((j : ℕ) → key_at t j ≡ key → ⊥) → index_found (flat.key_from key n (map shown t)) ≡ None
   key_from-none n key [] live none = refl
   key_from-none n key (e ∷ es) live none =
       let other : row_key e.row ≢ key = none 0 in

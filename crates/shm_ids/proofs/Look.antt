@@ -1,5 +1,6 @@
 -- What a live identifier has.
-use Rattle.shm_ids.proofs.Names.{◌≡◌, ℕ, ◌/◌, ◌%◌, ◌<◌, ℤ, pos, negsuc, nat_eq, List, length, Option, Some, None, Ok, IsOk, refl, sym, arith, true≢false, common_steps, Entry, Row, IndexMap, get, entry_at, key_at, look, look_entry, look_row, index_of, identifier, id_at, number_of, Sound}
+use Rattle.shm_ids.proofs.Names.{◌≡◌, ℕ, ◌∙◌, ◌/◌, ◌%◌, ◌<◌, ℤ, pos, negsuc, nat_eq, List, length, Option, Some, None, Ok, IsOk, refl, sym, arith, true≢false, common_steps, slice_get-map, unwrap_or, unwrap_or-slice_get, slice_get, shown, option_map, unused, looked, Entry, Row, IndexMap, get, entry_at, key_at, look, look_entry, look_row, index_of, identifier, id_at, number_of, Sound}
+use Rattle.shm_base.specs.Identifier as flat
 use Rattle.shm_ids.proofs.Entries.{at_past}
 
 -- the parts of an identifier
@@ -20,24 +21,31 @@ module _ {T : Type 0} where
       by None p = absurd (grind (arith, common_steps))
       by (Some r) p = (r, p, grind (arith, common_steps))
 
+  looked-shown : (at : ℕ → Entry T) (i q : ℕ) (o : Option (Entry T)) → unwrap_or o unused ≡ at i → looked at (flat.look_entry i q (option_map shown o)) ≡ look_entry q (at i)
+  looked-shown at i q o here = grind (arith, common_steps)
+
+  -- a look at an identifier is one at what stands at its index
+  pub look-entry : (t : List (Entry T)) (n : ℕ) → look t (pos n) ≡ look_entry (n / 32768) (entry_at t (n % 32768))
+  look-entry t n = rw slice_get-map (looked-shown (entry_at t) (n % 32768) (n / 32768) (slice_get t (n % 32768)) (unwrap_or-slice_get t (n % 32768) unused))
+
   pub live_at : (t : List (Entry T)) (id : ℤ) → IsOk (look t id) → Live t id
   live_at t (negsuc n) ok = absurd (true≢false (sym ok))
   live_at t (pos n) ok =
-      let e = live_entry (n / 32768) (entry_at t (n % 32768)) ok in
-      record { within = grind (arith, common_steps, at_past); row = e.0; there = e.1; looked = e.2 }
+      let e = live_entry (n / 32768) (entry_at t (n % 32768)) (rw look-entry at ok) in
+      record { within = grind (arith, common_steps, at_past); row = e.0; there = e.1; looked = look-entry t n ∙ e.2 }
 
   -- what is found under the identifier that an index has now
   pub look-id_at : (t : List (Entry T)) (i : ℕ) → i < 32768 → look t (id_at t i) ≡ look_row (entry_at t i).row
-  look-id_at t i small = grind (arith, common_steps)
+  look-id_at t i small = grind (arith, common_steps, look-entry)
 
   -- a row that is found by its key is live
   pub look-found : {S : Type 0} (t : List (Entry T)) (first key i : ℕ) (keys : IndexMap ℕ ℕ S) → Sound t first keys → get nat_eq keys key ≡ Some i → IsOk (look t (id_at t i))
-  look-found t first key i keys s got = grind (arith, common_steps)
+  look-found t first key i keys s got = grind (arith, common_steps, look-id_at)
 
   -- a live identifier is that of its index
   pub live_number : (t : List (Entry T)) (id : ℤ) → IsOk (look t id) → identifier (index_of id) (entry_at t (index_of id)).destroyed ≡ number_of id
   live_number t (negsuc n) ok = absurd (true≢false (sym ok))
-  live_number t (pos n) ok = grind (arith, common_steps)
+  live_number t (pos n) ok = grind (arith, common_steps, look-entry)
 
   -- what stands at the index of a live identifier
   pub record LiveRow (t : List (Entry T)) (n : ℕ) (v : T) : Type 0 where
@@ -46,4 +54,4 @@ module _ {T : Type 0} where
     pub own : identifier (n % 32768) (entry_at t (n % 32768)).destroyed ≡ n
 
   pub live_row : (t : List (Entry T)) (n : ℕ) (v : T) → look t (pos n) ≡ Ok v → LiveRow t n v
-  live_row t n v looked = grind (arith, common_steps)
+  live_row t n v looked = grind (arith, common_steps, look-entry)

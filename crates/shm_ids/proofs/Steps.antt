@@ -1,5 +1,6 @@
 -- What each change of a table keeps.
-use Rattle.shm_ids.proofs.Names.{◌≡◌, ◌≢◌, ◌⊎◌, ℕ, ◌+◌, ◌<◌, ◌≤◌, true, false, nat_eq, not, ◌&&◌, List, length, drop, set, Some, None, if◌then◌else◌, refl, sym, ap, subst, ◌∙◌, inl, inr, arith, length-set, common_steps, IndexMap, get, Entry, Row, entry_at, key_at, row_key, find_key, is_free, free_from, held, with_row, with_key, without_row, with_value, holds, UsedBelow, Keyed, Sound}
+use Rattle.shm_ids.proofs.Names.{◌≡◌, ◌≢◌, ◌⊎◌, ℕ, ◌+◌, ◌<◌, ◌≤◌, nat_eq, not, ◌&&◌, List, length, drop, set, Some, None, if◌then◌else◌, refl, sym, ap, ◌∙◌, inl, inr, arith, length-set, common_steps, IndexMap, get, Entry, Row, entry_at, key_at, row_key, find_key, IsFree, map, shown, held, with_row, with_key, without_row, with_value, holds, UsedBelow, Keyed, Sound}
+use Rattle.shm_base.specs.Identifier as flat
 use Rattle.shm_ids.proofs.Entries.{at_past, at_row, at_row_other, at_set, at_set_other, with_row-few}
 use Rattle.shm_ids.proofs.Free.{skip, free_found}
 use Rattle.shm_ids.proofs.Keys.{Keyed-put, Keyed-drop}
@@ -12,12 +13,6 @@ module _ {T : Type 0} where
   pub Sound-same : {S : Type 0} (t u : List (Entry T)) (first : ℕ) (keys after : IndexMap ℕ ℕ S) → Sound t first keys → u ≡ t → ((q : ℕ) → get nat_eq after q ≡ get nat_eq keys q) → Sound u first after
   Sound-same t u first keys after s e same = grind (arith, common_steps, Keyed-same)
 
-  pub free_row : (e : Entry T) → is_free e ≡ true → e.row ≡ None
-  free_row e h = grind arith
-
-  pub free_wear : (e : Entry T) → is_free e ≡ true → e.destroyed < 65536
-  free_wear e h = grind (arith, common_steps)
-
   -- what an insert may use of the index that it finds
   pub record Fresh (t : List (Entry T)) (i : ℕ) : Type 0 where
     pub within : i ≤ length t
@@ -26,12 +21,11 @@ module _ {T : Type 0} where
     pub wear : (entry_at t i).destroyed < 65536
     pub used : UsedBelow i t
 
-  pub fresh : {S : Type 0} (t : List (Entry T)) (first i : ℕ) (keys : IndexMap ℕ ℕ S) → Sound t first keys → free_from first (drop first t) ≡ Some i → Fresh t i
+  pub fresh : {S : Type 0} (t : List (Entry T)) (first i : ℕ) (keys : IndexMap ℕ ℕ S) → Sound t first keys → flat.free_from first (map shown (drop first t)) ≡ Some i → Fresh t i
   fresh t first i keys s h =
       let f = free_found 0 i t (skip t first s.used ∙ h) in
       let at : f.place ≡ i = omega (arith, f.at) in
-      let free : is_free (entry_at t i) ≡ true = subst (λ p. is_free (entry_at t p) ≡ true) at f.free in
-      grind (arith, common_steps, free_row, free_wear)
+      grind (arith, common_steps)
 
   pub Sound-put : {S : Type 0} (t : List (Entry T)) (first i key : ℕ) (v : T) (keys after : IndexMap ℕ ℕ S)
       → Sound t first keys → Fresh t i → find_key t key ≡ None
@@ -54,12 +48,12 @@ module _ {T : Type 0} where
       sequences j = let before = s.fits.sequences j in let same = there j in grind (arith, here, f.wear)
 
       used : UsedBelow (i + 1) (with_row t i key v)
-      used j l = let before = f.used j in let same = there j in grind (arith, here)
+      used j l free = let before = f.used j in let same = there j in grind (arith, here)
 
   -- a change of an entry that leaves it as free as it was, and perhaps takes its key
   pub Sound-drop : {S : Type 0} (t : List (Entry T)) (first later i key : ℕ) (e : Entry T) (keys after : IndexMap ℕ ℕ S)
       → Sound t first keys → i < length t → key_at t i ≡ key → row_key e.row ≡ 0 → e.destroyed + holds e.row ≤ 65536
-      → later ≤ first → (is_free e ≡ false) ⊎ (later ≤ i)
+      → later ≤ first → (IsFree e → ⊥) ⊎ (later ≤ i)
       → ((q : ℕ) → get nat_eq after q ≡ (if not (nat_eq key 0) && nat_eq key q then None else get nat_eq keys q))
       → Sound (set t i e) later after
   Sound-drop t first later i key e keys after s within was now wear below still put =
@@ -79,14 +73,14 @@ module _ {T : Type 0} where
       sequences j = let before = s.fits.sequences j in let same = there j in grind (arith, here, wear)
 
       used : UsedBelow later (set t i e)
-      used j l = let before = s.used j in let same = there j in grind (arith, here, still, below)
+      used j l free = let before = s.used j in let same = there j in grind (arith, here, still, below)
 
   -- a change of a value
   pub Sound-value : {S : Type 0} (t : List (Entry T)) (first i : ℕ) (v : T) (keys : IndexMap ℕ ℕ S) → Sound t first keys → i < length t → Sound (with_value t i v) first keys
   Sound-value t first i v keys s within =
       record {
         fits = record { indexes = rw (length-set t i _) s.fits.indexes; sequences = λ j. rw (destroyed j, held_same j) (s.fits.sequences j) };
-        used = λ j l. rw (free_same j) (s.used j l);
+        used = λ j l free. s.used j l (free_same j free);
         keyed = record { found = λ key j h. rw (key_same j) (s.keyed.found key j h); live = λ j n. rw (key_same j) (s.keyed.live j (λ z. n (key_same j ∙ z))) };
       }
     where
@@ -96,8 +90,8 @@ module _ {T : Type 0} where
       held_same : (j : ℕ) → holds (entry_at (with_value t i v) j).row ≡ holds (entry_at t j).row
       held_same j = grind (arith, common_steps)
 
-      free_same : (j : ℕ) → is_free (entry_at (with_value t i v) j) ≡ is_free (entry_at t j)
-      free_same j = grind (arith, common_steps)
+      free_same : (j : ℕ) → IsFree (entry_at (with_value t i v) j) → IsFree (entry_at t j)
+      free_same j free = grind (arith, common_steps)
 
       key_same : (j : ℕ) → key_at (with_value t i v) j ≡ key_at t j
       key_same j = grind (arith, common_steps)
@@ -122,7 +116,7 @@ module _ {T : Type 0} where
   Sound-hide t first i r keys after s within there put =
       let sequence = s.fits.sequences i in
       Sound-drop t first first i (key_at t i) _ keys after s within refl
-      (rw there refl) (rw there (rw there at sequence)) (omega arith) (inl (rw there refl)) put
+      (rw there refl) (rw there (rw there at sequence)) (omega arith) (inl (grind arith)) put
 
   -- a row is destroyed
   pub Sound-destroy : {S : Type 0} (t : List (Entry T)) (first later i : ℕ) (r : Row T) (keys after : IndexMap ℕ ℕ S)

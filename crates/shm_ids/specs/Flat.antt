@@ -1,5 +1,5 @@
 -- A table of segments, as the flat machine shows it.
-use Rattle.std.specs.Prelude.{◌≡◌, ℕ, ◌+◌, ℤ, pos, negsuc, List, [], ◌∷◌, Option, Some, None, Result, Ok, Err}
+use Rattle.std.specs.Prelude.{◌≡◌, ℕ, ◌+◌, ℤ, pos, negsuc, List, [], ◌∷◌, Option, Some, None, option_map, Result, Ok, Err}
 use Rattle.shm_base.specs.State.{Segment, Entry as FlatEntry}
 use Rattle.shm_base.specs.Identifier as flat
 use Rattle.shm_ids.specs.declared.table.Entry.{Entry}
@@ -15,12 +15,8 @@ number_of (negsuc n) = 0
 
 -- `make` shows the segment of a row under an identifier
 module _ {T : Type 0} (make : ℕ → Row T → Segment) where
-  abbrev pub flat_row : ℕ → Option (Row T) → Option Segment
-  flat_row id None = None
-  flat_row id (Some r) = Some (make id r)
-
   abbrev pub flat_entry : ℕ → Entry T → FlatEntry
-  flat_entry i e = record { destroyed = e.destroyed; segment = flat_row (identifier i e.destroyed) e.row }
+  flat_entry i e = record { destroyed = e.destroyed; segment = option_map (make (identifier i e.destroyed)) e.row }
 
   abbrev pub flat_from : ℕ → List (Entry T) → List FlatEntry
   flat_from i [] = []
@@ -43,7 +39,7 @@ module _ {T : Type 0} (make : ℕ → Row T → Segment) where
   -- what it says of a key, by the index that the table answers and the entries that stand there
   abbrev pub flat_found : (ℕ → Entry T) → Option ℕ → flat.Look
   flat_found at None = flat.Invalid
-  flat_found at (Some i) = flat.look_segment i (flat_row (identifier i (at i).destroyed) (at i).row)
+  flat_found at (Some i) = flat.look_segment i (option_map (make (identifier i (at i).destroyed)) (at i).row)
 
   -- a row is shown with its own key
   abbrev pub ShowsKeys : Type 0

@@ -1,9 +1,9 @@
 -- What is kept between the parts of an identifier table.
-use Rattle.std.specs.Prelude.{◌≡◌, ◌≢◌, ℕ, ◌+◌, ◌<◌, ◌≤◌, false, List, length, Option, Some, None, nat_eq}
+use Rattle.std.specs.Prelude.{◌≡◌, ◌≢◌, ℕ, ◌+◌, ◌<◌, ◌≤◌, List, length, Option, Some, None, nat_eq}
 use Rattle.indexmap.specs.IndexMap.{IndexMap, get}
 use Rattle.shm_ids.specs.declared.table.Entry.{Entry}
 use Rattle.shm_ids.specs.declared.table.Row.{Row}
-use Rattle.shm_ids.specs.Table.{is_free, entry_at, key_at}
+use Rattle.shm_ids.specs.Table.{IsFree, entry_at, key_at}
 
 module _ {T : Type 0} where
   abbrev pub holds : Option (Row T) → ℕ
@@ -17,7 +17,7 @@ module _ {T : Type 0} where
 
   -- no index below is free
   abbrev pub UsedBelow : ℕ → List (Entry T) → Type 0
-  UsedBelow first table = (i : ℕ) → i < first → is_free (entry_at table i) ≡ false
+  UsedBelow first table = (i : ℕ) → i < first → IsFree (entry_at table i) → ⊥
 
   -- the map has the index of each live key, and nothing else
   pub record Keyed {S : Type 0} (table : List (Entry T)) (keys : IndexMap ℕ ℕ S) : Type 0 where

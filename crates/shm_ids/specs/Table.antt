@@ -1,27 +1,41 @@
--- A table of identifiers: what stands at each index, from 0 on.
-use Rattle.std.specs.Prelude.{ℕ, ◌+◌, ◌*◌, ◌/◌, ◌%◌, ℤ, pos, negsuc, Bool, ◌&&◌, ◌==◌, nat_lt, is_none, is_some, count_by, if◌then◌else◌, List, [], ◌∷◌, ◌++◌, length, Option, Some, None, get_or, set, option_map, Result, Ok, Err}
+-- A table of identifiers: what stands at each index, from 0 on. Which index is free, what stands under an identifier and
+-- where a key is found are the flat machine's words, said of the table as it has it.
+use Rattle.std.specs.Prelude.{◌≡◌, ℕ, ◌+◌, ℤ, pos, false, ◌==◌, is_some, count_by, if◌then◌else◌, List, [], ◌∷◌, ◌++◌, length, map, Option, Some, None, get_or, set, option_map, Result, Ok, Err}
+use Rattle.shm_base.specs.State.{Segment, Entry as FlatEntry}
+use Rattle.shm_base.specs.Identifier as flat
 pub use Rattle.shm_base.specs.Identifier.{identifier}
+pub use Rattle.shm_base.specs.Index.{index_of}
 use Rattle.shm_ids.specs.declared.table.Entry.{Entry}
 use Rattle.shm_ids.specs.declared.table.Row.{Row}
 use Rattle.shm_ids.specs.declared.table.LookRefused.{LookRefused}
 use Rattle.shm_ids.specs.declared.table.LookRefused.TheVariants.{Removed, Invalid}
+
+-- the index of what the flat machine found
+abbrev pub index_found : flat.Look → Option ℕ
+index_found (flat.Found i s) = Some i
+index_found flat.Removed = None
+index_found flat.Invalid = None
 
 module _ {T : Type 0} where
   -- an index that was never used
   abbrev pub unused : Entry T
   unused = record { destroyed = 0; row = None }
 
-  -- no row holds the entry, and fewer than 65536 were destroyed there
-  abbrev pub is_free : Entry T → Bool
-  is_free e = is_none e.row && nat_lt e.destroyed 65536
+  -- a row as the flat machine has it, of which nothing is told but the key
+  abbrev pub blank_segment : Row T → Segment
+  blank_segment r = record { key = r.key; perm = record { uid = 0; gid = 0; cuid = 0; cgid = 0; mode = 0 }; size = 0; cpid = 0; lpid = 0; dest = false; locked = false; atime = 0; dtime = 0; ctime = 0; bytes = [] }
 
-  abbrev pub free_from : ℕ → List (Entry T) → Option ℕ
-  free_from i [] = if nat_lt i 32768 then Some i else None
-  free_from i (e ∷ es) = if is_free e then Some i else free_from (i + 1) es
+  -- an entry with its row so
+  abbrev pub shown : Entry T → FlatEntry
+  shown e = record { destroyed = e.destroyed; segment = option_map blank_segment e.row }
 
   -- the least free index
   abbrev pub free_index : List (Entry T) → Option ℕ
-  free_index table = free_from 0 table
+  free_index table = flat.free_index (map shown table)
+
+  -- the index of an entry is free: it is in a table of that entry alone
+  abbrev pub IsFree : Entry T → Type 0
+  IsFree e = flat.free_index (shown e ∷ []) ≡ Some 0
 
   abbrev pub entry_at : List (Entry T) → ℕ → Entry T
   entry_at table i = get_or table i unused
@@ -44,16 +58,19 @@ module _ {T : Type 0} where
   look_row None = Err Invalid
   look_row (Some r) = Ok r.value
 
+  -- what is answered where the flat machine found this
+  abbrev pub looked : (ℕ → Entry T) → flat.Look → Result T LookRefused
+  looked at (flat.Found i s) = look_row (at i).row
+  looked at flat.Removed = Err Removed
+  looked at flat.Invalid = Err Invalid
+
+  -- the value at an entry, whatever its index is
   abbrev pub look_entry : ℕ → Entry T → Result T LookRefused
-  look_entry sequence e =
-      if nat_lt sequence e.destroyed then Err Removed else
-      if sequence == e.destroyed then look_row e.row else
-      Err Invalid
+  look_entry sequence e = looked (λ i. e) (flat.look_entry 0 sequence (Some (shown e)))
 
   -- the value under an identifier; one that was never issued is invalid
   abbrev pub look : List (Entry T) → ℤ → Result T LookRefused
-  look table (pos n) = look_entry (n / 32768) (entry_at table (n % 32768))
-  look table (negsuc n) = Err Invalid
+  look table id = looked (entry_at table) (flat.look (map shown table) id)
 
   -- the key of a row, 0 where there is none
   abbrev pub row_key : Option (Row T) → ℕ
@@ -63,13 +80,9 @@ module _ {T : Type 0} where
   abbrev pub key_at : List (Entry T) → ℕ → ℕ
   key_at table i = row_key (entry_at table i).row
 
-  abbrev pub key_from : ℕ → ℕ → List (Entry T) → Option ℕ
-  key_from key i [] = None
-  key_from key i (e ∷ es) = if row_key e.row == key then Some i else key_from key (i + 1) es
-
   -- the index of the row with a key. No row is found under 0
   abbrev pub find_key : List (Entry T) → ℕ → Option ℕ
-  find_key table key = if key == 0 then None else key_from key 0 table
+  find_key table key = if key == 0 then None else index_found (flat.find_key (map shown table) key)
 
   -- how many rows are live
   abbrev pub row_count : List (Entry T) → ℕ
@@ -98,8 +111,3 @@ module _ {T : Type 0} where
 -- what an insert answers, and the table that it leaves; nothing where no index is free
 abbrev pub inserted : {T : Type 0} → List (Entry T) → ℕ → T → Option (ℤ × List (Entry T))
 inserted table key value = option_map (λ i. (id_at table i, with_row table i key value)) (free_index table)
-
--- the index in an identifier
-abbrev pub index_of : ℤ → ℕ
-index_of (pos n) = n % 32768
-index_of (negsuc n) = 0

@@ -9,12 +9,12 @@
 //! there. The entries are the indexes that were ever used, and the table grows by one at its end.
 //! It keeps a bound below which no index is free, the number of its rows, and the index of each live
 //! key other than 0, in the order in which the keys came.
-ghost use Rattle.std.specs.Prelude.{◌≡◌, ℕ, ◌+◌, ◌*◌, ◌<◌, ◌≤◌, ◌==◌, pos, [], length, drop, Option, Some, None, option_map, IfOk, IfErr, OnOk, IsOk, Ok, Err, IfSome, IsSome};
+ghost use Rattle.std.specs.Prelude.{◌≡◌, ℕ, ◌+◌, ◌*◌, ◌<◌, ◌≤◌, ◌==◌, pos, [], length, map, drop, Option, Some, None, option_map, IfOk, IfErr, OnOk, IsOk, Ok, Err, IfSome, IsSome};
 ghost use Rattle.std.specs.Borrow.{sem};
 
 use crate::rows::Rows;
 use indexmap::IndexMap;
-use shm_base::{INDEXES, SEQUENCES, ShmId};
+use shm_base::{INDEXES, SEQUENCES, ShmId, index_of};
 use std::alloc::{AllocError, Global};
 use std::marker::Model;
 use thiserror::Error;
@@ -99,12 +99,13 @@ impl<T> Model for IdTable<T> {
 
 ghost use Rattle.std.specs.Prelude.{◌≢◌, vec_capacity, nat_eq, ◌&&◌, not, if◌then◌else◌};
 ghost use Rattle.indexmap.specs.IndexMap.{get, spare};
-ghost use Rattle.shm_ids.specs.Table.{free_index, free_from, find_key, look, id_at, identifier, index_of, inserted, with_row, with_key, without_row, entry_at, key_at, look_row};
+ghost use Rattle.shm_base.specs.Identifier as flat;
+ghost use Rattle.shm_ids.specs.Table.{free_index, shown, find_key, look, id_at, identifier, index_of, inserted, with_row, with_key, without_row, entry_at, key_at, look_row};
 
 // The least free index from `first` on.
 fn free_from<T>(entries: &Vec<Entry<T>>, first: usize) -> Option<usize>
     requires { first ≤ length entries.now.items }
-    ensures { result ≡ free_from first (drop first entries.now.items) }
+    ensures { result ≡ flat.free_from first (map shown (drop first entries.now.items)) }
 {
     for i in first..entries.len() {
         let entry = &entries[i];
@@ -202,15 +203,11 @@ fn sequence_at<T>(entries: &Vec<Entry<T>>, index: usize) -> u32
     }
 }
 
-// The index in an identifier.
+// The index in an identifier, as the place of an entry.
 fn index_in(id: ShmId) -> usize
     ensures { result ≡ index_of id }
 {
-    if id < 0 {
-        0
-    } else {
-        id as usize % INDEXES as usize
-    }
+    index_of(id) as usize
 }
 
 // Sets the key at an index to 0, and returns the one that was there.

@@ -1,6 +1,6 @@
 -- What is kept where a segment is locked, marked or written, and where a process forks.
-use Rattle.shm_life.proofs.Names.{OrphansAmong, ◌≡◌, ℕ, ◌+◌, ◌/◌, ◌%◌, ◌≤◌, ◌&&◌, nat_lt, not, Bool, true, false, if◌then◌else◌, List, [], ◌∷◌, length, Some, refl, sym, ◌∙◌, arith, All, OnOk, OnErr, Place, Bounds, Live, Entry, Runner, pages_of, attach_count, change, marked, locked, Span, Translation, IsCaller, caller_seen, pieces_at, InPage, page_of, PassPages, pieces_by, wanted, wanted_in, Child, born_child, pieces_by-caller, IsFound, SpanFits, page_there, relocked, get-set_same, get-set_other, sum-set, SamePages, SameTable, same-refl, change-pages, change-locked, change-left, PieceFits, PiecesFit, IsMachineKept, IsWell, IsWellBut, StoreView, frame_of, cases_eq, nat_tests}
-use Rattle.std.proofs.Common.{slice_set, true≢false}
+use Rattle.shm_life.proofs.Names.{OrphansAmong, ◌≡◌, ℕ, ◌+◌, ◌/◌, ◌%◌, ◌≤◌, ◌&&◌, nat_lt, not, Bool, true, false, if◌then◌else◌, List, [], ◌∷◌, length, Some, refl, sym, ◌∙◌, arith, All, IsAccess, OnOk, OnErr, Place, Bounds, Live, Entry, Runner, pages_of, attach_count, change, marked, locked, Span, Translation, IsCaller, caller_seen, pieces_at, InPage, page_of, PassPages, pieces_by, wanted, wanted_in, Child, born_child, pieces_by-caller, IsFound, SpanFits, page_there, relocked, get-set_same, get-set_other, sum-set, SamePages, SameTable, same-refl, change-pages, change-locked, change-left, PieceFits, PiecesFit, IsMachineKept, IsWell, IsWellBut, StoreView, frame_of, cases_eq, nat_tests}
+use Rattle.std.proofs.Common.{slice_set, sum_by, true≢false}
 use Rattle.std.specs.Prelude.{Option, Result, Ok, Err}
 use Rattle.shm_base.specs.State.{pages_in}
 use Rattle.shm_base.specs.Step.{Caller as FlatCaller}
@@ -66,13 +66,13 @@ marked-well limits t rs ts m f found w =
 
 -- SPANS
 
-pub spans-there : (t : List Entry) (rs : List Runner) (c : Caller) (ps : List Span) → IsCaller c rs → PiecesFit t rs → All InPage ps
-    → ((test : ℕ → ℕ → Bool) → PassPages test (pieces_by c.pid rs) → All (λ (p : Span). test p.seg (page_of p) ≡ true) ps) → All (SpanFits t) ps
-spans-there t rs c ps is fit within pages =
+pub spans-there : (t : List Entry) (rs : List Runner) (c : Caller) (ps : List Span) (n : ℕ) → IsCaller c rs → PiecesFit t rs → length ps ≤ 2 → All InPage ps → sum_by (λ (p : Span). p.len) ps ≡ n
+    → ((test : ℕ → ℕ → Bool) → PassPages test (pieces_by c.pid rs) → All (λ (p : Span). test p.seg (page_of p) ≡ true) ps) → IsAccess (SpanFits t) ps n
+spans-there t rs c ps n is fit few within sum pages =
     let own : pieces_by c.pid rs ≡ pieces_at rs c.index = pieces_by-caller c.pid rs (caller_seen c rs) is in
     let fits = caller-fits t c rs is fit in
     let pass : PassPages (page_there t) (pieces_by c.pid rs) = rw own (λ k d lt. (fits k d lt).1) in
-    λ k d lt. ((within k d lt).0, (within k d lt).1, pages (page_there t) pass k d lt)
+    record { few = few; fit = λ k d lt. ((within k d lt).0, (within k d lt).1, pages (page_there t) pass k d lt); sum = sum }
 
 -- the places that a process asks for are those that its own pieces give
 pub asked : (write : Bool) (rs : List Runner) (c : Caller) (addr len : ℕ) (r : Option (List Place)) → IsCaller c rs → wanted write c.pid addr len rs ≡ r → wanted_in write (pieces_at rs c.index) addr len ≡ r

@@ -1,5 +1,5 @@
 -- What is kept through calls that take pieces out, and through those that put pieces in.
-use Rattle.shm_life.proofs.Names.{nat_tests, ◌≡◌, ℕ, zero, suc, ◌+◌, ◌<◌, take, Bool, List, [], ◌∷◌, length, get_or, filter, Some, None, refl, sym, ap, ◌∙◌, arith, All-nil, All-map, All-filter, none-some, All, find, Bounds, Piece, Live, Entry, Runner, Span, meets, cut_segments, has_origin, origin_of, StoreView, Move, Touched, Moves, Accessed, answer_of, Translation, AreTrue, IsCaller, pieces_at, caller_there, IsLive, orphan, id_at, change, detached, detach_all, SameTable, detach_all-same, PieceFits, PiecesFit, is_among, OrphansAmong, IsKeptBut, IsWellBut, IsWell}
+use Rattle.shm_life.proofs.Names.{nat_tests, ◌≡◌, ℕ, zero, suc, ◌+◌, ◌<◌, take, Bool, List, [], ◌∷◌, length, get_or, filter, Some, None, refl, sym, ap, ◌∙◌, arith, All-nil, All-map, All-filter, none-some, All, find, Bounds, Piece, Live, Entry, Runner, Span, meets, cut_segments, has_origin, origin_of, StoreView, Move, Touched, MovesLead, Accessed, answer_of, Translation, AreTrue, IsCaller, pieces_at, caller_there, IsLive, orphan, id_at, change, detached, detach_all, SameTable, detach_all-same, PieceFits, PiecesFit, is_among, OrphansAmong, IsKeptBut, IsWellBut, IsWell}
 use Rattle.std.proofs.Common.{map, slice_get, Option, option_map}
 use Rattle.std.specs.Prelude.{Result, Ok, Err}
 use Rattle.shm_attach.specs.declared.process.Caller.{Caller}
@@ -21,11 +21,11 @@ still-well limits t u rs ts us m n w same frames all = record { kept = settled-t
 
 -- nor an access, whose moves were noted
 pub noted-well : (limits : Bounds) (t u : List Entry) (rs after : List Runner) (ts us : List Translation) (m n : StoreView) (ms : List Move) → IsWell limits t rs ts m → SameTable t u → length n.frames ≡ length m.frames
-    → after ≡ rs → ((a b : StoreView) → AreTrue ts a → Moves ms a b → AreTrue us b) → Moves ms m n → IsWell limits u after us n
+    → after ≡ rs → ((a b : StoreView) → AreTrue ts a → MovesLead ms a b → AreTrue us b) → MovesLead ms m n → IsWell limits u after us n
 noted-well limits t u rs after ts us m n ms w same frames runners noted moved = rw runners (still-well limits t u rs ts us m n w same frames (noted m n w.translated moved))
 
 -- what an access names has moved, whether it was done or not
-pub moved-by : {A E : Type 0} (ps : List Span) (m n : StoreView) (u : Touched) (r : Result A E) → Accessed ps m n (answer_of u r) → Moves u.moved.items m n
+pub moved-by : {A E : Type 0} (ps : List Span) (m n : StoreView) (u : Touched) (r : Result A E) → Accessed ps m n (answer_of u r) → MovesLead u.moved.items m n
 moved-by ps m n u (Ok a) accessed = accessed.moved
 moved-by ps m n u (Err e) accessed = accessed.moved
 

@@ -1,7 +1,8 @@
 -- When a system starts: the first error that holds of its areas and processes.
-use Rattle.std.specs.Prelude.{ℕ, ◌≡◌, Bool, true, not, ◌&&◌, ◌==◌, nat_lt, ◌⊎◌, if◌then◌else◌, List, [], ◌∷◌, length, Option, Some, None}
-use Rattle.std.specs.List.{list_all, list_any}
+use Rattle.std.specs.Prelude.{ℕ, ◌≡◌, Bool, true, not, ◌&&◌, nat_lt, ◌⊎◌, if◌then◌else◌, List, [], ◌∷◌, length, Option, Some, None}
+use Rattle.std.specs.List.{list_all}
 use Rattle.shm_base.specs.Bounds.{within}
+use Rattle.shm_base.specs.Processes.{has_pid}
 use Rattle.shm_base.specs.declared.call.Process.{Process}
 use Rattle.shm_life.specs.declared.start.StartError.{StartError}
 use Rattle.shm_life.specs.declared.start.StartError.TheVariants.{Areas, AreaSize, Processes, Pid, HostMemory}
@@ -9,9 +10,6 @@ use Rattle.shm_life.specs.declared.start.StartError.TheVariants.{Areas, AreaSize
 -- each area has 1 to 65536 slots
 abbrev pub are_sizes : List ℕ → Bool
 are_sizes areas = list_all (within 1 65536) areas
-
-abbrev pub has_pid : ℕ → List Process → Bool
-has_pid pid ps = list_any (λ (p : Process). p.pid == pid) ps
 
 -- each pid is in its range, and none stands twice
 abbrev pub are_pids : List Process → Bool

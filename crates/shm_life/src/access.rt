@@ -10,7 +10,7 @@ ghost use Rattle.shm_life.specs.Tied.{IsCallerOf};
 
 use crate::kernel::Kernel;
 use shm_attach::Caller;
-use shm_base::{AccessLen, Chunk, Errno, Reply};
+use shm_base::{AccessLen, Chunk, Errno, LONGEST_ACCESS, Reply};
 use shm_fault::Touched;
 use shm_pager::Pager;
 
@@ -27,7 +27,7 @@ impl<P: Pager> Kernel<P> {
             *reply = Reply::Refused(Errno::Sigsegv);
             return;
         };
-        let mut bytes = [0; 64];
+        let mut bytes = [0; LONGEST_ACCESS];
         let mut touched = Touched::none();
         let read = self
             .segments

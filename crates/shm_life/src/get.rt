@@ -12,7 +12,7 @@ ghost use Rattle.shm_life.specs.Made.{new_head};
 use crate::kernel::Kernel;
 use bitflags::Flags;
 use shm_attach::Caller;
-use shm_base::{Errno, GetFlags, HostMemory, Perm, Reply, Want, grants, pages_of};
+use shm_base::{Errno, GetFlags, HostMemory, MODES, Perm, Reply, Want, grants, pages_of};
 use shm_pager::Pager;
 use shm_segments::{Found, Head};
 
@@ -37,7 +37,7 @@ fn new_head(time: u64, caller: &Caller, size: u64, mode: u16) -> Head
             gid: caller.cred.gid,
             cuid: caller.cred.uid,
             cgid: caller.cred.gid,
-            mode: mode % 512,
+            mode: mode % MODES,
         },
         size,
         cpid: caller.pid,

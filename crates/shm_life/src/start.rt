@@ -1,8 +1,8 @@
 //! What a system starts from, and why a start is refused.
 ghost use Rattle.std.specs.Prelude.{◌≡◌, length, map};
-ghost use Rattle.shm_life.specs.Start.{start_error, are_sizes, has_pid, are_pids, number_of};
+ghost use Rattle.shm_life.specs.Start.{start_error, are_sizes, are_pids, number_of};
 
-use shm_base::{LAST_PID, MOST_AREAS, MOST_PROCESSES, MOST_SLOTS, Process};
+use shm_base::{LAST_PID, MOST_AREAS, MOST_PROCESSES, Process, has_pid, is_slot_count};
 use shm_pager::Pager;
 use thiserror::Error;
 
@@ -43,18 +43,11 @@ fn are_sizes_sound<P: Pager>(pagers: &[P]) -> bool
     ensures { result ≡ are_sizes (map (λ p. length (P.content p)) pagers.now) }
 {
     for pager in pagers {
-        let slots = pager.slots();
-        if slots < 1 || slots > MOST_SLOTS {
+        if !is_slot_count(u64::from(pager.slots())) {
             return false;
         }
     }
     true
-}
-
-fn has_pid(processes: &[Process], pid: u32) -> bool
-    ensures { result ≡ has_pid pid processes.now }
-{
-    processes.iter().any(|process| process.pid == pid)
 }
 
 fn are_pids_sound(processes: &[Process]) -> bool

@@ -8,29 +8,29 @@ use Rattle.shm_life.specs.Start.{IsFirstError, start_error}
 use Rattle.shm_life.specs.declared.start.StartError.{StartError}
 use Rattle.shm_life.specs.declared.start.StartError.TheVariants.{HostMemory}
 use Rattle.shm_machine.specs.declared.area.AreaPager.{AreaPager}
-use Rattle.shm_machine.specs.declared.opening.Area.{Area}
+use Rattle.shm_machine.specs.declared.opening.AreaConfig.{AreaConfig}
 use Rattle.shm_machine.specs.Areas.{blank, pages_in, failed_in}
 use Rattle.shm_machine.specs.Opened.{sizes_of}
 
-abbrev blanks : List Area → List PagerView
-blanks areas = map (λ (a : Area). blank a.slots) areas
+abbrev blanks : List AreaConfig → List PagerView
+blanks areas = map (λ (a : AreaConfig). blank a.slots) areas
 
 map-after : {X Y Z : Type 0} (f : Y → Z) (g : X → Y) (xs : List X) → map (λ x. f (g x)) xs ≡ map f (map g xs)
 map-after f g [] = refl
 map-after f g (x ∷ xs) = ap (λ ys. f (g x) ∷ ys) (map-after f g xs)
 
-blank-sizes : (areas : List Area) → map (λ (v : PagerView). length v.pages) (blanks areas) ≡ sizes_of areas
+blank-sizes : (areas : List AreaConfig) → map (λ (v : PagerView). length v.pages) (blanks areas) ≡ sizes_of areas
 blank-sizes [] = refl
 blank-sizes (a ∷ areas) = grind (arith, common_steps, (blank-sizes areas))
 
-pub pager-sizes : (ps : List AreaPager) (areas : List Area) → map (pager_seen pages_in failed_in) ps ≡ blanks areas → map (λ (p : AreaPager). length (pages_in p)) ps ≡ sizes_of areas
+pub pager-sizes : (ps : List AreaPager) (areas : List AreaConfig) → map (pager_seen pages_in failed_in) ps ≡ blanks areas → map (λ (p : AreaPager). length (pages_in p)) ps ≡ sizes_of areas
 pager-sizes ps areas is =
     map-after (λ (v : PagerView). length v.pages) (pager_seen pages_in failed_in) ps ∙ (ap (λ vs. map (λ (v : PagerView). length v.pages) vs) is ∙ blank-sizes areas)
 
-pub pager-areas : (ps : List AreaPager) (areas : List Area) → map (pager_seen pages_in failed_in) ps ≡ blanks areas
-    → map (λ (p : AreaPager). fresh (pager_seen pages_in failed_in p)) ps ≡ map (λ (a : Area). fresh (blank a.slots)) areas
+pub pager-areas : (ps : List AreaPager) (areas : List AreaConfig) → map (pager_seen pages_in failed_in) ps ≡ blanks areas
+    → map (λ (p : AreaPager). fresh (pager_seen pages_in failed_in p)) ps ≡ map (λ (a : AreaConfig). fresh (blank a.slots)) areas
 pager-areas ps areas is =
-    map-after fresh (pager_seen pages_in failed_in) ps ∙ (ap (λ vs. map fresh vs) is ∙ sym (map-after fresh (λ (a : Area). blank a.slots) areas))
+    map-after fresh (pager_seen pages_in failed_in) ps ∙ (ap (λ vs. map fresh vs) is ∙ sym (map-after fresh (λ (a : AreaConfig). blank a.slots) areas))
 
 pub first-error : (e : StartError) (sizes known : List ℕ) (processes : List Process) → sizes ≡ known → IsFirstError e (start_error sizes processes) → (e ≡ HostMemory) ⊎ (start_error known processes ≡ Some e)
 first-error e sizes known processes same (inl is) = inr (ap (λ ns. start_error ns processes) (sym same) ∙ is)

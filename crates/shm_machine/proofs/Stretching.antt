@@ -7,9 +7,9 @@ use Rattle.std.proofs.lemmas.List.{length-append, length-take-le, map-append, dr
 use Rattle.std.proofs.lemmas.Slice.{take-put_mid, drop-put_mid}
 use Rattle.shm_base.specs.declared.call.Call.{Call}
 use Rattle.shm_base.specs.declared.call.Reply.{Reply}
-use Rattle.shm_plain.proofs.Stretches.{length-put_mid}
+use Rattle.shm_plain.proofs.Spans.{length-put_mid}
 use Rattle.shm_life.specs.SystemState.{SystemState}
-use Rattle.shm_machine.specs.Answered.{Moves}
+use Rattle.shm_machine.specs.Answered.{Replied}
 use Rattle.shm_machine.specs.Stretched.{Reached}
 use Rattle.shm_base.specs.declared.call.Call.TheVariants.{Load, Store}
 use Rattle.shm_base.specs.declared.call.Reply.TheVariants.{Bytes, Done}
@@ -110,7 +110,7 @@ stores s t n pid a bs is = grind (arith, common_steps)
 
 -- ONE CALL MORE
 
-reached-next : (before now after : SystemState) (done len pid : ℕ) (call : Call) (reply : Reply) → Reached before done now → Moves now pid call reply after → done % 64 ≡ 0 → 0 < len → len ≤ 64 → Reached before (done + len) after
+reached-next : (before now after : SystemState) (done len pid : ℕ) (call : Call) (reply : Reply) → Reached before done now → Replied now pid call reply after → done % 64 ≡ 0 → 0 < len → len ≤ 64 → Reached before (done + len) after
 reached-next before now after done len pid call reply r moves full some few = grind (arith, common_steps)
 
 -- whole calls were done where there is more to do
@@ -129,7 +129,7 @@ pub record ReadSo (before : SystemState) (pid addr : ℕ) (old : List ℕ) (done
   pub machine : now.machine ≡ before.machine
 
 pub read_next : (before now after : SystemState) (pid addr : ℕ) (old new xs : List ℕ) (done len room : ℕ) → ReadSo before pid addr old done new now → done < length old → len ≡ min (length old - done) 64 → room ≡ len
-    → Moves now pid (Load (addr + done) len) (Bytes xs) after → length xs ≡ len → ReadSo before pid addr old (done + len) (put_mid done room new xs) after
+    → Replied now pid (Load (addr + done) len) (Bytes xs) after → length xs ≡ len → ReadSo before pid addr old (done + len) (put_mid done room new xs) after
 read_next before now after pid addr old new xs done len room so lt len-is room-is moves size =
     let l = loads now.machine after.machine (now.calls + 1) pid (addr + done) len xs moves.move in
     let within : done ≤ length new = omega (arith, so.size, lt) in
@@ -161,7 +161,7 @@ pub record WrittenSo (before : SystemState) (pid addr : ℕ) (bytes : List ℕ) 
   pub reached : Reached before done now
 
 pub write_next : (before now after : SystemState) (pid addr : ℕ) (bytes xs : List ℕ) (done len : ℕ) → WrittenSo before pid addr bytes done now → done < length bytes → len ≡ min (length bytes - done) 64
-    → xs ≡ take len (drop done bytes) → Moves now pid (Store (addr + done) xs) Done after → WrittenSo before pid addr bytes (done + len) after
+    → xs ≡ take len (drop done bytes) → Replied now pid (Store (addr + done) xs) Done after → WrittenSo before pid addr bytes (done + len) after
 write_next before now after pid addr bytes xs done len so lt len-is is moves =
     let some : 0 < len = omega (arith, lt, len-is) in
     record {

@@ -21,7 +21,7 @@ abbrev pub most_calls : ℕ
 most_calls = 2 ^ 64 - 1
 
 -- a call of a process got this reply: the flat machine moved so, or a pager's failure that was counted stands in the reply's place
-pub record Moves (before : SystemState) (pid : ℕ) (call : Call) (reply : Reply) (after : SystemState) : Type 0 where
+pub record Replied (before : SystemState) (pid : ℕ) (call : Call) (reply : Reply) (after : SystemState) : Type 0 where
   pub room : before.calls < most_calls
   pub move : IsMove before.machine (before.calls + 1) (record { pid = pid; call = call; reply = reply }) after.machine
   pub cause : is_failure call reply ≡ true → had_cause before.memory.swap after.memory.swap ≡ true
@@ -31,8 +31,8 @@ pub record Moves (before : SystemState) (pid : ℕ) (call : Call) (reply : Reply
 
 -- what a call answers, and what it leaves of a machine; memory is wanted only where the flat machine refuses nothing
 abbrev pub Answered : SystemState → ℕ → Call → Result Reply Refusal → SystemState → Type 0
-Answered before pid call (Ok reply) after = Moves before pid call reply after
-Answered before pid call (Err (Refused errno)) after = Moves before pid call (replies.Refused errno) after
+Answered before pid call (Ok reply) after = Replied before pid call reply after
+Answered before pid call (Err (Refused errno)) after = Replied before pid call (replies.Refused errno) after
 Answered before pid call (Err HostMemory) after =
     (before.calls < most_calls) × (TakesNoMemory call → ⊥) × (is_refusal (step before.machine (before.calls + 1) pid call).reply ≡ false) × (after ≡ before)
 Answered before pid call (Err Spent) after = (before.calls ≡ most_calls) × (after ≡ before)

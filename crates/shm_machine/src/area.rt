@@ -3,7 +3,7 @@ ghost use Rattle.std.specs.Prelude.{◌≡◌, IfOk, replicate};
 ghost use Rattle.shm_pager.specs.Pages.{zero_page};
 ghost use Rattle.shm_machine.specs.Areas.{pages_in, failed_in, FailsWhere, IsOfKind};
 
-use shm_base::HostMemory;
+use shm_base::{HostMemory, PAGE_BYTES};
 use shm_pager::{FusePager, MirrorPager, Pager, PagerFault, RamPager, SparsePager};
 use std::alloc::Global;
 
@@ -101,7 +101,7 @@ impl Pager for AreaPager {
         }
     }
 
-    fn write(&mut self, slot: u32, page: &[u8; 4096]) -> Result<(), PagerFault> {
+    fn write(&mut self, slot: u32, page: &[u8; PAGE_BYTES]) -> Result<(), PagerFault> {
         match self {
             AreaPager::Ram(pager) => pager.write(slot, page),
             AreaPager::Sparse(pager) => pager.write(slot, page),
@@ -109,7 +109,7 @@ impl Pager for AreaPager {
         }
     }
 
-    fn read(&mut self, slot: u32, page: &mut [u8; 4096]) -> Result<(), PagerFault> {
+    fn read(&mut self, slot: u32, page: &mut [u8; PAGE_BYTES]) -> Result<(), PagerFault> {
         match self {
             AreaPager::Ram(pager) => pager.read(slot, page),
             AreaPager::Sparse(pager) => pager.read(slot, page),

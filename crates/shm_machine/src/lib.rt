@@ -11,6 +11,6 @@ mod stretch;
 
 pub use area::{AreaKind, AreaPager, Failing};
 pub use machine::Machine;
-pub use opening::{Area, Failure, Side};
+pub use opening::{AreaConfig, Failure, Side};
 pub use refusal::Refusal;
 pub use stretch::Progress;

@@ -8,7 +8,7 @@ ghost use Rattle.shm_base.specs.History.{is_refusal};
 ghost use Rattle.shm_machine.specs.Answered.{Answered, told, done, fits};
 
 use crate::area::AreaPager;
-use crate::opening::{Area, Failure, are_sizes_sound, pagers_for};
+use crate::opening::{AreaConfig, Failure, are_sizes_sound, pagers_for};
 use crate::refusal::Refusal;
 use shm_base::{Call, Errno, HostMemory, Limits, MOST_AREAS, Process, Reply};
 use shm_life::{StartError, System};
@@ -42,7 +42,7 @@ impl Machine {
     pub fn open(
         alloc: Global,
         limits: Limits,
-        areas: &[Area],
+        areas: &[AreaConfig],
         failures: &[Failure],
         processes: &[Process],
     ) -> Result<Machine, StartError>

@@ -6,12 +6,12 @@ ghost use Rattle.shm_machine.specs.Areas.{blank, pages_in, failed_in, IsOfKind};
 ghost use Rattle.shm_machine.specs.Opened.{is_at, calls_at, sizes_of};
 
 use crate::area::{AreaKind, AreaPager, Failing};
-use shm_base::{HostMemory, MOST_SLOTS};
+use shm_base::{HostMemory, is_slot_count};
 use std::alloc::Global;
 
 /// A swap area: its kind, and how many slots it has. Each side of a mirror has as many.
 #[derive(Clone, Copy, Debug, PartialEq, Eq)]
-pub struct Area {
+pub struct AreaConfig {
     pub kind: AreaKind,
     pub slots: u32,
 }
@@ -80,7 +80,7 @@ fn failing(
 fn pager_for(
     alloc: Global,
     index: u32,
-    area: &Area,
+    area: &AreaConfig,
     failures: &[Failure],
 ) -> Result<AreaPager, HostMemory>
     ensures blank { IfOk result (λ p. pager_seen pages_in failed_in p ≡ blank area.now.slots) }
@@ -94,7 +94,7 @@ fn pager_for(
 /// The areas, in their order.
 pub(crate) fn pagers_for(
     alloc: Global,
-    areas: &[Area],
+    areas: &[AreaConfig],
     failures: &[Failure],
 ) -> Result<Vec<AreaPager>, HostMemory>
     requires { length areas.now ≤ 8 }
@@ -108,11 +108,11 @@ pub(crate) fn pagers_for(
 }
 
 /// Whether each area has 1 to 65536 slots. It is asked before memory is taken for any of them.
-pub(crate) fn are_sizes_sound(areas: &[Area]) -> bool
+pub(crate) fn are_sizes_sound(areas: &[AreaConfig]) -> bool
     ensures { result ≡ are_sizes (sizes_of areas.now) }
 {
     for area in areas {
-        if area.slots < 1 || area.slots > MOST_SLOTS {
+        if !is_slot_count(u64::from(area.slots)) {
             return false;
         }
     }

@@ -2,7 +2,7 @@
 ghost use Rattle.std.specs.Prelude.{◌≡◌, ◌+◌, ◌≤◌, length, Ok, Err, MatchResult};
 ghost use Rattle.shm_base.specs.declared.call.Call.TheVariants as call;
 ghost use Rattle.shm_base.specs.declared.call.Reply.TheVariants as reply;
-ghost use Rattle.shm_machine.specs.Answered.{Moves};
+ghost use Rattle.shm_machine.specs.Answered.{Replied};
 ghost use Rattle.shm_machine.specs.Stretched.{StoppedAt, ReadTo, WrittenTo};
 
 use crate::machine::Machine;
@@ -20,7 +20,7 @@ impl Machine {
     // One call of a read: so many bytes, behind those that were done.
     fn read_on(&mut self, pid: u32, addr: u64, done: usize, len: usize) -> Result<Chunk, Refusal>
         requires { (1 ≤ len) × (len ≤ 64) }
-        ensures { MatchResult result (λ b. Moves self.old.system pid (call.Load (addr + done) len) (reply.Bytes b) self.new.system × (length b ≡ len)) (λ e. StoppedAt self.old.system pid (addr + done) (call.Load (addr + done) len) e self.new.system) }
+        ensures { MatchResult result (λ b. Replied self.old.system pid (call.Load (addr + done) len) (reply.Bytes b) self.new.system × (length b ≡ len)) (λ e. StoppedAt self.old.system pid (addr + done) (call.Load (addr + done) len) e self.new.system) }
     {
         let Some(at) = addr.checked_add(done as u64) else {
             return Err(Refusal::Refused(Errno::Sigsegv));
@@ -34,7 +34,7 @@ impl Machine {
     // One call of a write: these bytes, behind those that were done.
     fn write_on(&mut self, pid: u32, addr: u64, done: usize, bytes: &[u8]) -> Result<(), Refusal>
         requires { (1 ≤ length bytes.now) × (length bytes.now ≤ 64) }
-        ensures { MatchResult result (λ _. Moves self.old.system pid (call.Store (addr + done) bytes.now) reply.Done self.new.system) (λ e. StoppedAt self.old.system pid (addr + done) (call.Store (addr + done) bytes.now) e self.new.system) }
+        ensures { MatchResult result (λ _. Replied self.old.system pid (call.Store (addr + done) bytes.now) reply.Done self.new.system) (λ e. StoppedAt self.old.system pid (addr + done) (call.Store (addr + done) bytes.now) e self.new.system) }
     {
         let Some(addr) = addr.checked_add(done as u64) else {
             return Err(Refusal::Refused(Errno::Sigsegv));

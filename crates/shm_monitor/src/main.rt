@@ -7,30 +7,30 @@
 
 mod monitor;
 
-use monitor::{Mode, Stop, Watched, run};
+use monitor::{Company, NoRun, Watched, run};
 use std::io::Read;
 use std::process::ExitCode;
 use std::{env, io};
 
 // How the word on the command line has it.
-fn mode(word: Option<&String>) -> Option<Mode> {
+fn beside(word: Option<&String>) -> Option<Company> {
     match word {
-        None => Some(Mode::Watched),
-        Some(word) if word.as_str() == "gauged" => Some(Mode::Gauged),
-        Some(word) if word.as_str() == "plain" => Some(Mode::Plain),
+        None => Some(Company::Watched),
+        Some(word) if word.as_str() == "gauged" => Some(Company::Gauged),
+        Some(word) if word.as_str() == "plain" => Some(Company::Plain),
         Some(_) => None,
     }
 }
 
 fn main(rt: HostRuntime) -> io::Result<ExitCode> {
     let words: Vec<String> = env::args(&rt)?.collect(rt.alloc())?;
-    let Some(mode) = mode(words.get(1)) else {
+    let Some(company) = beside(words.get(1)) else {
         eprintln!(rt; "shm_monitor: usage: shm_monitor [gauged|plain]")?;
         return Ok(ExitCode::from(2));
     };
     let mut script = Vec::new(rt.alloc());
     rt.reader().read_to_end(&mut script)?;
-    match run(&rt, rt.alloc(), &script, mode) {
+    match run(&rt, rt.alloc(), &script, company) {
         Ok(
             Watched {
                 events,

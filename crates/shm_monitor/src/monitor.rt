@@ -5,7 +5,7 @@ use shm_base::{HostMemory, MOST_SLOTS};
 use shm_history::{Gauge, Keeper, ReaderSeat, System, World, gauge};
 use shm_pager::SparsePager;
 use shm_text::{Script, read_script};
-use shm_threads::{Gate, RunError, run_threads, run_threads_gauged};
+use shm_threads::{OpenGate, RunError, run_threads, run_threads_gauged};
 use std::alloc::{AllocError, AllocFailed, Global};
 use std::sync::Wait;
 use std::sync::atomic::{AtomicBool, Ordering};
@@ -14,7 +14,7 @@ use thiserror::Error;
 
 /// What runs beside the script's workers and its flusher: a keeper that publishes, and a monitor that reads.
 #[derive(Clone, Copy, Debug, PartialEq, Eq)]
-pub(crate) enum Mode {
+pub(crate) enum Company {
     Plain,
     Gauged,
     Watched,
@@ -31,7 +31,7 @@ pub(crate) struct Watched {
 
 /// Why there is no run.
 #[derive(Clone, Copy, Debug, PartialEq, Eq, Error)]
-pub(crate) enum Stop {
+pub(crate) enum NoRun {
     #[error("no script")]
     Script,
     #[error("start refused")]
@@ -42,47 +42,36 @@ pub(crate) enum Stop {
     Run(RunError),
 }
 
-impl From<HostMemory> for Stop {
-    fn from(_refused: HostMemory) -> Stop {
-        Stop::HostMemory
+impl From<HostMemory> for NoRun {
+    fn from(_refused: HostMemory) -> NoRun {
+        NoRun::HostMemory
     }
 }
 
-impl From<AllocError> for Stop {
-    fn from(_refused: AllocError) -> Stop {
-        Stop::HostMemory
+impl From<AllocError> for NoRun {
+    fn from(_refused: AllocError) -> NoRun {
+        NoRun::HostMemory
     }
 }
 
-impl<T: Drop> From<AllocFailed<T>> for Stop {
-    fn from(_refused: AllocFailed<T>) -> Stop {
-        Stop::HostMemory
+impl<T: Drop> From<AllocFailed<T>> for NoRun {
+    fn from(_refused: AllocFailed<T>) -> NoRun {
+        NoRun::HostMemory
     }
 }
 
-impl From<RunError> for Stop {
-    fn from(error: RunError) -> Stop {
-        Stop::Run(error)
+impl From<RunError> for NoRun {
+    fn from(error: RunError) -> NoRun {
+        NoRun::Run(error)
     }
 }
 
-// Lets every call pass.
-struct Open;
-
-impl Gate for Open {
-    fn before(&self, _pid: u32, _n: u64) -> bool {
-        true
-    }
-
-    fn after(&self, _pid: u32, _n: u64) {}
-}
-
-fn start(alloc: Global, script: &Script) -> Result<World<SparsePager>, Stop> {
+fn start(alloc: Global, script: &Script) -> Result<World<SparsePager>, NoRun> {
     let mut pagers = Vec::new(alloc);
     pagers.push(SparsePager::new(alloc, MOST_SLOTS)?)?;
     match System::start(alloc, script.limits, pagers, &script.processes) {
         Ok(system) => Ok(World::new(alloc, system)),
-        Err(_) => Err(Stop::Start),
+        Err(_) => Err(NoRun::Start),
     }
 }
 
@@ -118,7 +107,7 @@ fn run_gauged<R: Threads + Wait + Sync>(
     keeper: Keeper,
     script: &Script,
 ) -> Result<u64, RunError> {
-    let (outcome, _) = run_threads_gauged(rt, alloc, world, keeper, script, &Open)?;
+    let (outcome, _) = run_threads_gauged(rt, alloc, world, keeper, script, &OpenGate)?;
     Ok(outcome.world.history().len() as u64)
 }
 
@@ -128,7 +117,7 @@ fn run_plain<R: Threads + Wait + Sync>(
     world: World<SparsePager>,
     script: &Script,
 ) -> Result<u64, RunError> {
-    let outcome = run_threads(rt, alloc, world, script, &Open)?;
+    let outcome = run_threads(rt, alloc, world, script, &OpenGate)?;
     Ok(outcome.world.history().len() as u64)
 }
 
@@ -146,7 +135,7 @@ fn run_watched<R: Threads + Wait + Sync>(
     alloc: Global,
     world: World<SparsePager>,
     script: &Script,
-) -> Result<Watched, Stop> {
+) -> Result<Watched, NoRun> {
     let (gauge, keeper, seat) = gauge(rt, alloc, &world)?;
     let is_done = AtomicBool::new(false);
     let (watched, run) = join(
@@ -167,18 +156,18 @@ pub(crate) fn run<R: Threads + Wait + Sync>(
     rt: &R,
     alloc: Global,
     bytes: &[u8],
-    mode: Mode,
-) -> Result<Watched, Stop> {
+    company: Company,
+) -> Result<Watched, NoRun> {
     let Ok(script) = read_script(alloc, bytes) else {
-        return Err(Stop::Script);
+        return Err(NoRun::Script);
     };
     let world = start(alloc, &script)?;
-    match mode {
-        Mode::Plain => Ok(unwatched(run_plain(rt, alloc, world, &script)?)),
-        Mode::Gauged => {
+    match company {
+        Company::Plain => Ok(unwatched(run_plain(rt, alloc, world, &script)?)),
+        Company::Gauged => {
             let (_, keeper, _) = gauge(rt, alloc, &world)?;
             Ok(unwatched(run_gauged(rt, alloc, world, keeper, &script)?))
         }
-        Mode::Watched => run_watched(rt, alloc, world, &script),
+        Company::Watched => run_watched(rt, alloc, world, &script),
     }
 }

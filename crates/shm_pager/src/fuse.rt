@@ -4,6 +4,7 @@ ghost use Rattle.shm_pager.specs.Pages.{zero_page, last_count, pager_seen, serve
 ghost use Rattle.shm_pager.specs.Fuse.{new_fuse, next_count, is_listed, read_is_bad, write_is_bad, scorched_page};
 
 use crate::pager::{Pager, PagerFault, read_if, try_write};
+use shm_base::PAGE_BYTES;
 use std::marker::Model;
 
 // What a failing write leaves in the slot.
@@ -91,7 +92,7 @@ impl<P: Pager> Pager for FusePager<P> {
     }
 
     /// A listed write first puts a page of the byte 0xa5 into the slot.
-    fn write(&mut self, slot: u32, page: &[u8; 4096]) -> Result<(), PagerFault>
+    fn write(&mut self, slot: u32, page: &[u8; PAGE_BYTES]) -> Result<(), PagerFault>
         requires there { slot < length self.old.inner.pages }
         requires countable { self.old.failed < last_count }
         ensures others { SlotUnknown slot self.old.inner.pages self.new.inner.pages }
@@ -109,7 +110,7 @@ impl<P: Pager> Pager for FusePager<P> {
         } }
     {
         let bad = take_place(&self.bad_writes, &mut self.writes);
-        let page = if bad { &[SCORCH; 4096] } else { page };
+        let page = if bad { &[SCORCH; PAGE_BYTES] } else { page };
         let written = try_write(&mut self.inner, slot, page).is_ok();
         if written && !bad {
             return Ok(());
@@ -119,7 +120,7 @@ impl<P: Pager> Pager for FusePager<P> {
     }
 
     /// A listed read does not ask the inner pager.
-    fn read(&mut self, slot: u32, page: &mut [u8; 4096]) -> Result<(), PagerFault>
+    fn read(&mut self, slot: u32, page: &mut [u8; PAGE_BYTES]) -> Result<(), PagerFault>
         requires there { slot < length self.old.inner.pages }
         requires countable { self.old.failed < last_count }
         ensures content { self.new.inner.pages ≡ self.old.inner.pages }

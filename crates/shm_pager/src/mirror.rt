@@ -4,6 +4,7 @@ ghost use Rattle.shm_pager.specs.Pages.{zero_page, last_count, pager_seen, serve
 ghost use Rattle.shm_pager.specs.Mirror.{MirrorView, mirror_of, left_alone, both_sides, no_side, pages_shown, left_asked, left_serves, right_asked, right_serves};
 
 use crate::pager::{Pager, PagerFault, read_if, try_write};
+use shm_base::PAGE_BYTES;
 use std::alloc::{AllocError, Global};
 use std::marker::Model;
 use thiserror::Error;
@@ -134,7 +135,7 @@ impl<L: Pager, R: Pager> Pager for MirrorPager<L, R> {
         self.failed
     }
 
-    fn write(&mut self, slot: u32, page: &[u8; 4096]) -> Result<(), PagerFault>
+    fn write(&mut self, slot: u32, page: &[u8; PAGE_BYTES]) -> Result<(), PagerFault>
         requires there { slot < length (pages_shown self.old) }
         requires countable { self.old.failed < last_count }
         ensures others { SlotUnknown slot (pages_shown self.old) (pages_shown self.new) }
@@ -160,7 +161,7 @@ impl<L: Pager, R: Pager> Pager for MirrorPager<L, R> {
     }
 
     /// A side that is not good for the slot is not asked, nor is the right side where the left serves.
-    fn read(&mut self, slot: u32, page: &mut [u8; 4096]) -> Result<(), PagerFault>
+    fn read(&mut self, slot: u32, page: &mut [u8; PAGE_BYTES]) -> Result<(), PagerFault>
         requires there { slot < length (pages_shown self.old) }
         requires countable { self.old.failed < last_count }
         ensures content { pages_shown self.new ≡ pages_shown self.old }

@@ -3,6 +3,7 @@
 ghost use Rattle.std.specs.Prelude.{◌≡◌, ℕ, ◌<◌, ◌&&◌, true, false, List, [], length, set, get_or, replicate, is_ok, IfOk};
 ghost use Rattle.shm_pager.specs.Pages.{zero_page, last_count, pager_seen, served, SlotUnknown, CountsErr, TriesWrite, TriesRead};
 
+use shm_base::PAGE_BYTES;
 use thiserror::Error;
 
 /// A read or a write was not done.
@@ -28,7 +29,7 @@ pub trait Pager: Drop {
         ensures { result ≡ failed self.now };
 
     /// Puts a page into a slot. After an error nobody knows what the slot holds; the other slots stay.
-    fn write(&mut self, slot: u32, page: &[u8; 4096]) -> Result<(), PagerFault>
+    fn write(&mut self, slot: u32, page: &[u8; PAGE_BYTES]) -> Result<(), PagerFault>
         requires there { slot < length (content self.old) }
         requires countable { failed self.old < last_count }
         ensures others { SlotUnknown slot (content self.old) (content self.new) }
@@ -36,7 +37,7 @@ pub trait Pager: Drop {
         ensures failed { CountsErr result (failed self.old) (failed self.new) };
 
     /// Reads the page in a slot. After an error nobody knows what the buffer holds.
-    fn read(&mut self, slot: u32, page: &mut [u8; 4096]) -> Result<(), PagerFault>
+    fn read(&mut self, slot: u32, page: &mut [u8; PAGE_BYTES]) -> Result<(), PagerFault>
         requires there { slot < length (content self.old) }
         requires countable { failed self.old < last_count }
         ensures content { content self.new ≡ content self.old }
@@ -57,15 +58,19 @@ pub trait Pager: Drop {
 
 /// A page of zeros.
 #[tactic(auto, unfolding(crate::specs::Pages::zero_page))]
-pub fn zeros() -> [u8; 4096]
+pub fn zeros() -> [u8; PAGE_BYTES]
     ensures { result ≡ zero_page }
 {
-    [0; 4096]
+    [0; PAGE_BYTES]
 }
 
 /// Writes to a pager that may have counted its last failure. Such a pager is not asked, and the write
 /// fails.
-pub fn try_write<P: Pager>(pager: &mut P, slot: u32, page: &[u8; 4096]) -> Result<(), PagerFault>
+pub fn try_write<P: Pager>(
+    pager: &mut P,
+    slot: u32,
+    page: &[u8; PAGE_BYTES],
+) -> Result<(), PagerFault>
     requires { slot < length (P.content pager.old) }
     ensures pager { let view = pager_seen P.content P.failed in
         TriesWrite slot page.now (view pager.old) (view pager.new) }
@@ -80,7 +85,11 @@ pub fn try_write<P: Pager>(pager: &mut P, slot: u32, page: &[u8; 4096]) -> Resul
 
 /// Reads from a pager that may have counted its last failure. Such a pager is not asked, and the read
 /// fails.
-pub fn try_read<P: Pager>(pager: &mut P, slot: u32, page: &mut [u8; 4096]) -> Result<(), PagerFault>
+pub fn try_read<P: Pager>(
+    pager: &mut P,
+    slot: u32,
+    page: &mut [u8; PAGE_BYTES],
+) -> Result<(), PagerFault>
     requires { slot < length (P.content pager.old) }
     ensures pager { let view = pager_seen P.content P.failed in
         TriesRead (view pager.old) (view pager.new) }
@@ -95,7 +104,7 @@ pub fn try_read<P: Pager>(pager: &mut P, slot: u32, page: &mut [u8; 4096]) -> Re
 }
 
 /// As [`try_read`], but where the pager is not to be asked, the read fails and the pager stays.
-pub fn read_if<P: Pager>(asked: bool, pager: &mut P, slot: u32, page: &mut [u8; 4096]) -> bool
+pub fn read_if<P: Pager>(asked: bool, pager: &mut P, slot: u32, page: &mut [u8; PAGE_BYTES]) -> bool
     requires { slot < length (P.content pager.old) }
     ensures asked { let view = pager_seen P.content P.failed in
         asked ≡ true → TriesRead (view pager.old) (view pager.new) }
@@ -125,11 +134,11 @@ impl Pager for AnyPager {
         (**self).failures()
     }
 
-    fn write(&mut self, slot: u32, page: &[u8; 4096]) -> Result<(), PagerFault> {
+    fn write(&mut self, slot: u32, page: &[u8; PAGE_BYTES]) -> Result<(), PagerFault> {
         (**self).write(slot, page)
     }
 
-    fn read(&mut self, slot: u32, page: &mut [u8; 4096]) -> Result<(), PagerFault> {
+    fn read(&mut self, slot: u32, page: &mut [u8; PAGE_BYTES]) -> Result<(), PagerFault> {
         (**self).read(slot, page)
     }
 

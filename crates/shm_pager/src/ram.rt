@@ -3,12 +3,13 @@ ghost use Rattle.std.specs.Prelude.{◌≡◌, ◌<◌, [], length, set, get_or,
 ghost use Rattle.shm_pager.specs.Pages.{zero_page};
 
 use crate::pager::{Pager, PagerFault, zeros};
+use shm_base::PAGE_BYTES;
 use std::alloc::{AllocError, Global};
 use std::marker::Model;
 
 /// Pages in one allocation, made with the pager. None of its calls fails.
 pub struct RamPager {
-    pages: Vec<[u8; 4096]>,
+    pages: Vec<[u8; PAGE_BYTES]>,
 }
 
 impl Model for RamPager {
@@ -54,7 +55,7 @@ impl Pager for RamPager {
         0
     }
 
-    fn write(&mut self, slot: u32, page: &[u8; 4096]) -> Result<(), PagerFault>
+    fn write(&mut self, slot: u32, page: &[u8; PAGE_BYTES]) -> Result<(), PagerFault>
         requires { slot < length self.old }
         ensures taken { IsOk result }
         ensures content { self.new ≡ set self.old slot page.now }
@@ -63,7 +64,7 @@ impl Pager for RamPager {
         Ok(())
     }
 
-    fn read(&mut self, slot: u32, page: &mut [u8; 4096]) -> Result<(), PagerFault>
+    fn read(&mut self, slot: u32, page: &mut [u8; PAGE_BYTES]) -> Result<(), PagerFault>
         requires { slot < length self.old }
         ensures served { IsOk result }
         ensures content { self.new ≡ self.old }

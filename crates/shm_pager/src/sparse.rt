@@ -3,6 +3,7 @@ ghost use Rattle.std.specs.Prelude.{◌≡◌, ◌≢◌, ◌+◌, ◌<◌, ◌�
 ghost use Rattle.shm_pager.specs.Pages.{zero_page, last_count};
 
 use crate::pager::{Pager, PagerFault, zeros};
+use shm_base::PAGE_BYTES;
 use std::alloc::{AllocError, Global};
 use std::marker::Model;
 
@@ -10,7 +11,7 @@ use std::marker::Model;
 /// only where it needs room and the allocator has none. A page of zeros written gives its room back.
 pub struct SparsePager {
     alloc: Global,
-    pages: Vec<Option<Box<[u8; 4096]>>>,
+    pages: Vec<Option<Box<[u8; PAGE_BYTES]>>>,
     failed: u64,
 }
 
@@ -26,7 +27,7 @@ impl Model for SparsePager {
     ghost invariant = { λ s. (length s.pages.items < 2 ^ 32) × NoZeros s.pages.items };
 }
 
-fn is_zero(page: &[u8; 4096]) -> bool
+fn is_zero(page: &[u8; PAGE_BYTES]) -> bool
     ensures { IsTrue result ↔ (page.now ≡ zero_page) }
 {
     page.iter().all(|&byte| byte == 0)
@@ -77,7 +78,7 @@ impl Pager for SparsePager {
 
     /// Fails only where a page that is not zeros is to replace zeros, and finds no room. The slot keeps
     /// its zeros then.
-    fn write(&mut self, slot: u32, page: &[u8; 4096]) -> Result<(), PagerFault>
+    fn write(&mut self, slot: u32, page: &[u8; PAGE_BYTES]) -> Result<(), PagerFault>
         requires there { slot < length self.old.pages }
         requires countable { self.old.failed < last_count }
         ensures ok { IfOk result (λ _.
@@ -107,7 +108,7 @@ impl Pager for SparsePager {
         }
     }
 
-    fn read(&mut self, slot: u32, page: &mut [u8; 4096]) -> Result<(), PagerFault>
+    fn read(&mut self, slot: u32, page: &mut [u8; PAGE_BYTES]) -> Result<(), PagerFault>
         requires { slot < length self.old.pages }
         ensures served { IsOk result }
         ensures content { self.new ≡ self.old }

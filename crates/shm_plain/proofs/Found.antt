@@ -25,7 +25,7 @@ pub find-zeros_other : (hs : List Held) (id pages at : ℕ) → at ≢ id → fi
 find-zeros_other [] id pages at apart = rw (ne_eqb id at (λ is. apart (sym is))) refl
 find-zeros_other (g ∷ gs) id pages at apart = grind (arith, common_steps, (find-zeros_other gs id pages at apart))
 
--- stretches of a new segment
+-- spans of a new segment
 pub fits-zeros : (hs : List Held) (p : Span) (pages : ℕ) → is_held hs p.seg ≡ false → p.at + p.len ≤ 4096 * pages → 0 < p.len → p.at + p.len ≤ 4096 * (p.at / 4096) + 4096
     → FitsPage (with_zeros hs p.seg pages) p
 fits-zeros hs p pages new whole some page = grind (arith, common_steps, find-zeros_same, length-replicate)

@@ -1,4 +1,4 @@
 pub mod Kept
 pub mod Found
 pub mod Pasted
-pub mod Stretches
+pub mod Spans

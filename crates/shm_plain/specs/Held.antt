@@ -1,4 +1,4 @@
--- Segments as lists of bytes, and what loads and stores over stretches of pages do to them.
+-- Segments as lists of bytes, and what loads and stores over spans of pages do to them.
 use Rattle.std.specs.Prelude.{ℕ, ◌≡◌, ◌<◌, ◌≤◌, ◌+◌, ◌*◌, ◌/◌, Bool, true, false, ◌==◌, not, if◌then◌else◌, List, [], ◌∷◌, ◌++◌, Option, Some, None, length, map, filter, take, drop, replicate, is_some, sum_by}
 use Rattle.std.specs.List.{flat_map}
 use Rattle.shm_base.specs.declared.paging.Span.{Span}
@@ -61,7 +61,7 @@ relocked id locked g = if g.id == id then record g { locked = locked } else g
 abbrev pub with_lock : List Held → ℕ → Bool → List Held
 with_lock hs id locked = map (relocked id locked) hs
 
--- a stretch lies in one page of a segment that is held
+-- a span lies in one page of a segment that is held
 abbrev pub FitsPage : List Held → Span → Type 0
 FitsPage hs p =
     (is_held hs p.seg ≡ true)
@@ -72,7 +72,7 @@ FitsPage hs p =
 abbrev pub span_bytes : List Held → Span → List ℕ
 span_bytes hs p = take p.len (drop p.at (bytes_of hs p.seg))
 
--- the bytes of the stretches, joined
+-- the bytes of the spans, joined
 abbrev pub read_from : List Held → List Span → List ℕ
 read_from hs ps = flat_map (span_bytes hs) ps
 
@@ -83,7 +83,7 @@ paste bytes at new = take at bytes ++ new ++ drop (at + length new) bytes
 abbrev pub pasted : ℕ → ℕ → List ℕ → Held → Held
 pasted id at new g = if g.id == id then record g { bytes = paste g.bytes at new } else g
 
--- the segments with the bytes of the stretches replaced, in order
+-- the segments with the bytes of the spans replaced, in order
 abbrev pub written : List Held → List Span → List ℕ → List Held
 written hs [] new = hs
 written hs (p ∷ ps) new = written (map (pasted p.seg p.at (take p.len new)) hs) ps (drop p.len new)

@@ -5,7 +5,7 @@ ghost use Rattle.hex.specs.Hex.{encode_lower};
 ghost use Rattle.shm_print.specs.Text as printed;
 
 use crate::digits::push_digits;
-use crate::words::{AtWord, GetWord, Key, Mode, StatusWord};
+use crate::words::{AtWord, GetWord, Key, Octal, StatusWord};
 use itoa::Buffer;
 use shm_base::{Call, Event, Perm, Reply, ShmId, ShmidDs};
 use std::alloc::{AllocError, Global};
@@ -73,7 +73,7 @@ fn push_call(text: &mut String, call: &Call) -> Result<(), AllocError>
             mode,
             flags,
         } => {
-            let (key, mode, flags) = (Key(*key), Mode(*mode), GetWord(*flags));
+            let (key, mode, flags) = (Key(*key), Octal(*mode), GetWord(*flags));
             write!(text, "shmget {key} {size} {mode}{flags}")
         }
         Call::Shmat { id, addr, flags } => {
@@ -85,7 +85,7 @@ fn push_call(text: &mut String, call: &Call) -> Result<(), AllocError>
         Call::Shmdt { addr } => push_at(text, "shmdt ", *addr),
         Call::Stat { id } => push_id(text, "stat ", *id),
         Call::Set { id, uid, gid, mode } => {
-            let mode = Mode(*mode);
+            let mode = Octal(*mode);
             write!(text, "set {id} {uid} {gid} {mode}")
         }
         Call::Rmid { id } => push_id(text, "rmid ", *id),
@@ -115,7 +115,7 @@ fn push_perm(text: &mut String, perm: &Perm) -> Result<(), AllocError>
     ensures { OnOk result (string_bytes text.new ≡ string_bytes text.old ++ printed.perm_text perm.now) }
 {
     let (uid, gid, cuid, cgid) = (perm.uid, perm.gid, perm.cuid, perm.cgid);
-    let mode = Mode(perm.mode);
+    let mode = Octal(perm.mode);
     write!(
         text,
         "uid={uid} gid={gid} cuid={cuid} cgid={cgid} mode={mode}"

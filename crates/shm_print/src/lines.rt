@@ -2,7 +2,7 @@
 ghost use Rattle.std.specs.Prelude.{◌≡◌, IfOk, string_bytes};
 ghost use Rattle.shm_print.specs.Listing as listing;
 
-use crate::words::{Key, Mode, StatusWord};
+use crate::words::{Key, Octal, StatusWord};
 use shm_base::{ShmId, ShmidDs};
 use std::alloc::{AllocError, Global};
 
@@ -18,7 +18,7 @@ pub fn header_line(alloc: Global) -> Result<String, AllocError>
 pub fn segment_line(alloc: Global, id: ShmId, shown: &ShmidDs) -> Result<String, AllocError>
     ensures { IfOk result (λ s. string_bytes s ≡ listing.segment_line id shown.now) }
 {
-    let (key, uid, mode) = (Key(shown.key), shown.perm.uid, Mode(shown.perm.mode));
+    let (key, uid, mode) = (Key(shown.key), shown.perm.uid, Octal(shown.perm.mode));
     let (size, nattch, status) = (shown.size, shown.nattch, StatusWord(shown.status));
     let head = format!(in alloc; "{key} {id:<10} {uid:<10} {mode}        ")?;
     format!(in alloc; "{head}{size:<10} {nattch:<10} {status}\n")

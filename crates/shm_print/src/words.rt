@@ -21,9 +21,9 @@ impl fmt::Display for Key {
 
 /// Three octal digits.
 #[derive(Clone, Copy)]
-pub(crate) struct Mode(pub(crate) u16);
+pub(crate) struct Octal(pub(crate) u16);
 
-impl fmt::Display for Mode {
+impl fmt::Display for Octal {
     ghost output = { λ m. Some (text.mode_text m.0) };
 
     fn fmt<W: fmt::Write>(&self, f: &mut fmt::Formatter<W>) -> fmt::Result {

@@ -3,13 +3,13 @@ use Rattle.std.proofs.Common.{◌≡◌, ℕ, List, Option, Some, None, Ok}
 use Rattle.std.specs.Prelude.{IfSome, OnOk, Result, Err}
 use Rattle.shm_text.specs.Script.{ScriptView}
 use Rattle.shm_text.specs.Reading.{script_of}
-use Rattle.shm_program.specs.Runs.{Writes, Prints}
+use Rattle.shm_program.specs.Runs.{IsWritten, Prints}
 
 -- of the input that was read as a script
-pub shown : (IsText : ScriptView → List ℕ → List ℕ → Type 0) (input old new : Option (List ℕ)) (areas : List ℕ) (script : ScriptView) → IfSome input (λ bytes. script_of bytes ≡ Ok script) → Writes (IsText script areas) old new → IfSome input (λ bytes. Prints IsText old new areas bytes)
+pub shown : (IsText : ScriptView → List ℕ → List ℕ → Type 0) (input old new : Option (List ℕ)) (areas : List ℕ) (script : ScriptView) → IfSome input (λ bytes. script_of bytes ≡ Ok script) → IsWritten (IsText script areas) old new → IfSome input (λ bytes. Prints IsText old new areas bytes)
 shown IsText None old new areas script read written = tt
 shown IsText (Some bytes) old new areas script read written = (script, read, written)
 
-pub shows : {E : Type 0} → (IsText : ScriptView → List ℕ → List ℕ → Type 0) (result : Result (Unit {0}) E) (input old new : Option (List ℕ)) (areas : List ℕ) (script : ScriptView) → IfSome input (λ bytes. script_of bytes ≡ Ok script) → OnOk result (Writes (IsText script areas) old new) → OnOk result (IfSome input (λ bytes. Prints IsText old new areas bytes))
+pub shows : {E : Type 0} → (IsText : ScriptView → List ℕ → List ℕ → Type 0) (result : Result (Unit {0}) E) (input old new : Option (List ℕ)) (areas : List ℕ) (script : ScriptView) → IfSome input (λ bytes. script_of bytes ≡ Ok script) → OnOk result (IsWritten (IsText script areas) old new) → OnOk result (IfSome input (λ bytes. Prints IsText old new areas bytes))
 shows IsText (Ok done) input old new areas script read written = shown IsText input old new areas script read written
 shows IsText (Err fault) input old new areas script read written = tt

@@ -20,15 +20,15 @@ fault_text ThreadRefused = codes "thread refused"
 fault_text HostMemory = codes "out of memory"
 
 -- 1 is a script fault, 3 a fault of the run, 4 out of memory
-abbrev pub status_of : RunFault → ℕ
-status_of (Script f) = 1
-status_of (StartRefused n) = 3
-status_of ReadFailed = 3
-status_of WriteFailed = 3
-status_of (Gate pid) = 3
-status_of (Mismatch pid) = 3
-status_of ThreadRefused = 3
-status_of HostMemory = 4
+abbrev pub exit_status : RunFault → ℕ
+exit_status (Script f) = 1
+exit_status (StartRefused n) = 3
+exit_status ReadFailed = 3
+exit_status WriteFailed = 3
+exit_status (Gate pid) = 3
+exit_status (Mismatch pid) = 3
+exit_status ThreadRefused = 3
+exit_status HostMemory = 4
 
 -- a refusal of the reader's, as a fault of the run
 abbrev pub refused_as : ReadRefused → RunFault

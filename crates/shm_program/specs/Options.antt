@@ -1,6 +1,7 @@
 -- The words of the command line.
-use Rattle.std.specs.Prelude.{ℕ, ◌+◌, ◌&&◌, ◌==◌, position, take, if◌then◌else◌, List, drop, Option, Some, None, slice_index, codes, nat_le}
+use Rattle.std.specs.Prelude.{ℕ, ◌+◌, ◌&&◌, ◌==◌, position, take, if◌then◌else◌, List, [], ◌∷◌, length, drop, Option, Some, None, slice_index, codes, nat_le}
 use Rattle.std.specs.Str.{bytes_eq}
+use Rattle.shm_base.specs.Bounds.{within}
 use Rattle.shm_text.specs.Number.{decimal_of}
 use Rattle.shm_program.specs.declared.options.SwapWord.{SwapWord}
 use Rattle.shm_program.specs.declared.options.SwapWord.TheVariants.{Ram, Sparse, Mirror, FuseRead, FuseWrite}
@@ -49,3 +50,17 @@ swap_by w (Some i) = rest_by (take i w) (drop (i + 1) w) (colon (drop (i + 1) w)
 -- `ram:N`, `sparse:N`, `mirror:N`, `fuse:N:rK` or `fuse:N:wK`
 abbrev pub swap_of : List ℕ → Option SwapWord
 swap_of w = swap_by w (colon w)
+
+abbrev pub swap_before : Option SwapWord → Option (List SwapWord) → Option (List SwapWord)
+swap_before (Some s) (Some ss) = Some (s ∷ ss)
+swap_before (Some s) None = None
+swap_before None rest = None
+
+-- what each word names, if all name something
+abbrev pub each_swap : List (List ℕ) → Option (List SwapWord)
+each_swap [] = Some []
+each_swap (w ∷ ws) = swap_before (swap_of w) (each_swap ws)
+
+-- one to eight areas
+abbrev pub swaps_of : List (List ℕ) → Option (List SwapWord)
+swaps_of ws = if within 1 8 (length ws) then each_swap ws else None

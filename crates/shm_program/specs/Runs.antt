@@ -36,13 +36,13 @@ pub record IsWorldOf (script : ScriptView) (areas : List ℕ) (w : WorldState) :
   pub sound : IsWorldSound w
 
 -- such a text was written, and nothing else
-abbrev pub Writes : (List ℕ → Type 0) → Option (List ℕ) → Option (List ℕ) → Type 0
-Writes IsText old new = (text : List ℕ) × IsText text × Appends old new text
+abbrev pub IsWritten : (List ℕ → Type 0) → Option (List ℕ) → Option (List ℕ) → Type 0
+IsWritten IsText old new = (text : List ℕ) × IsText text × Appends old new text
 
 -- the input is a script, and what its run prints was written, and nothing else
 abbrev pub Prints : (ScriptView → List ℕ → List ℕ → Type 0) → Option (List ℕ) → Option (List ℕ) → List ℕ → List ℕ → Type 0
 Prints IsText old new areas input =
-    (script : ScriptView) × (script_of input ≡ Ok script) × Writes (IsText script areas) old new
+    (script : ScriptView) × (script_of input ≡ Ok script) × IsWritten (IsText script areas) old new
 
 -- a script fault is the input's, and a refused start is by the first start error
 abbrev pub IsCause : RunFault → List ℕ → List ℕ → Type 0

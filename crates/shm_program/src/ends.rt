@@ -13,6 +13,9 @@ use std::io::{ErrorKind, Read, Write};
 /// How often a reader is asked at most, interruptions included.
 const ASKS: u32 = 2_097_152;
 
+// How many bytes are asked for at once.
+const BUFFER: usize = 4096;
+
 /// Why the input was not read: the host refused memory, or the reader failed or was asked too often.
 #[derive(Clone, Copy, Debug, PartialEq, Eq)]
 enum ReadFault {
@@ -27,9 +30,9 @@ fn read_input<R: Read>(alloc: Global, reader: &mut R) -> Result<Vec<u8>, ReadFau
     ensures bound { IfOk result (λ v. length v.items ≤ LONGEST_SCRIPT + 1) }
 {
     let mut input = Vec::new(alloc);
-    let mut buffer = [0u8; 4096];
+    let mut buffer = [0u8; BUFFER];
     for _ in 0..ASKS {
-        let room = (LONGEST_SCRIPT + 1 - input.len()).min(4096);
+        let room = (LONGEST_SCRIPT + 1 - input.len()).min(BUFFER);
         match reader.read(&mut buffer[..room]) {
             Ok(0) => return Ok(input),
             Ok(count) => {

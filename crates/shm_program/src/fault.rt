@@ -25,11 +25,11 @@ pub enum RunFault {
 }
 
 impl RunFault {
-    ghost use Rattle.shm_program.specs.Faults.{status_of};
+    ghost use Rattle.shm_program.specs.Faults.{exit_status};
 
     /// The exit status of the program: 1 for a script fault, 3 for a fault of the run, 4 out of memory.
     pub fn status(self) -> u8
-        ensures { result ≡ status_of self }
+        ensures { result ≡ exit_status self }
     {
         match self {
             RunFault::Script(_) => 1,

@@ -11,5 +11,5 @@ mod values;
 pub use ends::{WriteFault, whole_script, write_output};
 pub use fault::RunFault;
 pub use opening::open_world;
-pub use options::{SwapWord, read_swap};
+pub use options::{SwapWord, read_swaps};
 pub use values::Values;

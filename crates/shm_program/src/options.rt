@@ -1,10 +1,12 @@
 //! The words of the command line.
-ghost use Rattle.std.specs.Prelude.{◌≡◌, ◌≤◌, ◌<◌, ◌+◌, length, take, drop, IfSome};
-ghost use Rattle.shm_program.specs.Options.{slots_of, placed, area_by, fuse_by, colon, swap_of};
+ghost use Rattle.std.specs.Prelude.{◌≡◌, ◌≤◌, ◌<◌, ◌+◌, length, take, drop, map, option_map, IfOk, IfSome};
+ghost use Rattle.shm_program.specs.Options.{slots_of, placed, area_by, fuse_by, colon, swap_of, swaps_of};
 ghost use Rattle.shm_text.specs.Number.{decimal_of};
 
-use shm_base::MOST_SLOTS;
+use shm_base::{MOST_AREAS, is_slot_count};
 use shm_text::read_decimal;
+use std::alloc::{AllocError, Global};
+use std::convert::AsStr;
 
 /// A swap area: its kind, its slots (1 to 65536), and of a fuse the place, from 1, of the read or the write
 /// that fails.
@@ -21,7 +23,7 @@ fn slots_of(word: &[u8]) -> Option<u32>
     ensures { result ≡ slots_of word.now }
 {
     let slots = read_decimal(word)?;
-    if slots < 1 || slots > MOST_SLOTS as u64 {
+    if !is_slot_count(slots) {
         return None;
     }
     Some(slots as u32)
@@ -86,8 +88,8 @@ fn behind(word: &[u8], end: usize) -> &[u8]
     &word[end + 1..]
 }
 
-/// A word for a swap area: `ram:N`, `sparse:N`, `mirror:N`, `fuse:N:rK` or `fuse:N:wK`.
-pub fn read_swap(word: &[u8]) -> Option<SwapWord>
+// A word for a swap area: `ram:N`, `sparse:N`, `mirror:N`, `fuse:N:rK` or `fuse:N:wK`.
+fn read_swap(word: &[u8]) -> Option<SwapWord>
     ensures { result ≡ swap_of word.now }
 {
     let end = colon(word)?;
@@ -101,4 +103,22 @@ pub fn read_swap(word: &[u8]) -> Option<SwapWord>
             fuse_of(before(rest, end), behind(rest, end))
         }
     }
+}
+
+/// The swap areas that words name, in their order: `ram:N`, `sparse:N`, `mirror:N`, `fuse:N:rK` or `fuse:N:wK` each.
+/// None where there are not one to eight words, or where one of them names no area.
+pub fn read_swaps<W: AsStr>(alloc: Global, words: &[W]) -> Result<Option<Vec<SwapWord>>, AllocError>
+    ensures { IfOk result (λ found. option_map (λ v. v.items) found ≡ swaps_of (map W.text words.now)) }
+{
+    if words.is_empty() || words.len() > MOST_AREAS {
+        return Ok(None);
+    }
+    let mut swaps = Vec::new(alloc);
+    for word in words {
+        match read_swap(word.as_str().as_bytes()) {
+            Some(swap) => swaps.push(swap)?,
+            None => return Ok(None),
+        }
+    }
+    Ok(Some(swaps))
 }

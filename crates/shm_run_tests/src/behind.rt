@@ -185,7 +185,7 @@ pub(crate) fn world_over<P: Pager>(
 
 /// What a test looks at behind a run.
 #[derive(Clone, Copy)]
-pub(crate) struct Seen {
+pub(crate) struct Noted {
     pub(crate) events: usize,
     pub(crate) transcripts: usize,
     /// How many calls each of the first five transcripts has; 0 where there is none.
@@ -198,7 +198,7 @@ pub(crate) struct Seen {
     pub(crate) loaded: Option<Reply>,
 }
 
-impl Seen {
+impl Noted {
     /// Whether there are so many transcripts, with so many calls each.
     pub(crate) fn has_calls(&self, calls: &[usize]) -> bool {
         self.transcripts == calls.len() && self.calls.starts_with(calls)
@@ -224,8 +224,8 @@ fn loaded(world: &mut World<RamPager>) -> Option<Reply> {
     world.call(1, &Call::Load { addr, len }).ok()
 }
 
-fn look(world: &mut World<RamPager>, transcripts: &[Transcript]) -> Seen {
-    Seen {
+fn look(world: &mut World<RamPager>, transcripts: &[Transcript]) -> Noted {
+    Noted {
         events: world.history().len(),
         transcripts: transcripts.len(),
         calls: calls_of(transcripts),
@@ -236,7 +236,7 @@ fn look(world: &mut World<RamPager>, transcripts: &[Transcript]) -> Seen {
     }
 }
 
-fn ended(run: Result<Outcome<RamPager>, RunError>) -> Result<Seen, RunError> {
+fn ended(run: Result<Outcome<RamPager>, RunError>) -> Result<Noted, RunError> {
     let Outcome {
         mut world,
         transcripts,
@@ -250,7 +250,7 @@ pub(crate) fn run_script<R: Threads + Wait + Sync, G: Gate>(
     alloc: Global,
     script: &Script,
     gate: &G,
-) -> Result<Result<Seen, RunError>, Fail> {
+) -> Result<Result<Noted, RunError>, Fail> {
     let world = world_over(alloc, script, RamPager::new(alloc, 64)?)?;
     Ok(ended(run_threads(rt, alloc, world, script, gate)))
 }
@@ -271,7 +271,7 @@ pub(crate) fn run_behind<R: Threads + Wait + Sync, G: Gate>(
     alloc: Global,
     text: &[u8],
     gate: &G,
-) -> Result<Result<Seen, RunError>, Fail> {
+) -> Result<Result<Noted, RunError>, Fail> {
     let script = script(alloc, text)?;
     run_script(rt, alloc, &script, gate)
 }
@@ -282,7 +282,7 @@ pub(crate) fn seen_by<R: Threads + Wait + Sync>(
     alloc: Global,
     text: &[u8],
     rule: Rule,
-) -> Result<Seen, Fail> {
+) -> Result<Noted, Fail> {
     Ok(run_behind(rt, alloc, text, &Ruled::by(rule))??)
 }
 

@@ -2,7 +2,7 @@
 //! answered go to a writer.
 ghost use Rattle.std.specs.Prelude.{◌≡◌, ◌⊎◌, [], length, true, map, OnOk, IfErr, IfSome};
 ghost use Rattle.std.specs.Io.KnownBytes.{IsAtEnd};
-ghost use Rattle.shm_program.specs.Runs.{Prints, Writes, IsCause, IsCauseIn, is_serial, IsSilent, IsOpening};
+ghost use Rattle.shm_program.specs.Runs.{Prints, IsWritten, IsCause, IsCauseIn, is_serial, IsSilent, IsOpening};
 ghost use Rattle.shm_runner.specs.Output.{IsOutput, RunsInOrder};
 ghost use Rattle.shm_program.specs.Values.{fresh_holder};
 
@@ -44,7 +44,7 @@ fn run_script<W: Write, P: Pager>(
     script: Script,
     pagers: Vec<P>,
 ) -> Result<(), RunFault>
-    ensures ok { OnOk result (Writes (IsOutput script (map (λ p. length (P.content p)) pagers.items)) (W.contents writer.old) (W.contents writer.new)) }
+    ensures ok { OnOk result (IsWritten (IsOutput script (map (λ p. length (P.content p)) pagers.items)) (W.contents writer.old) (W.contents writer.new)) }
     ensures cause { IfErr result (λ f. IsCauseIn f (map (λ p. length (P.content p)) pagers.items) script) }
     ensures serial { IfErr result (λ f. is_serial f ≡ true) }
     ensures silent { IfErr result (λ f. IsSilent f (W.contents writer.old) (W.contents writer.new)) }
@@ -64,7 +64,7 @@ fn run_in<W: Write, P: Pager>(
 ) -> Result<(), RunFault>
     requires events { world.old.events ≡ [] }
     requires opened { IsOpening script world.old.opening }
-    ensures ok { OnOk result (Writes (IsOutput script world.old.opening.areas) (W.contents writer.old) (W.contents writer.new)) }
+    ensures ok { OnOk result (IsWritten (IsOutput script world.old.opening.areas) (W.contents writer.old) (W.contents writer.new)) }
     ensures fault { IfErr result (λ f. (f ≡ RunFault.HostMemory) ⊎ (f ≡ RunFault.WriteFailed)) }
     ensures silent { IfErr result (λ f. IsSilent f (W.contents writer.old) (W.contents writer.new)) }
 {

@@ -2,7 +2,7 @@
 //! the texts of the history that they made go to a writer.
 ghost use Rattle.std.specs.Prelude.{◌≡◌, ◌⊎◌, true, false, length, map, OnOk, IfErr};
 ghost use Rattle.std.specs.Io.KnownBytes.{Appends};
-ghost use Rattle.shm_program.specs.Runs.{IsCauseIn, IsOpening, IsWorldSound, Writes};
+ghost use Rattle.shm_program.specs.Runs.{IsCauseIn, IsOpening, IsWorldSound, IsWritten};
 ghost use Rattle.shm_runner.specs.Output.{world_text};
 ghost use Rattle.shm_runner.specs.Threaded.{is_marked, has_mark, have_mark, IsThreadedOutput, IsThreadedRun, IsAllOrNothing};
 
@@ -12,23 +12,11 @@ use shm_history::World;
 use shm_pager::Pager;
 use shm_program::{RunFault, open_world, whole_script};
 use shm_text::Script;
-use shm_threads::{Answer, Entry, Gate, Outcome, Transcript, run_threads};
+use shm_threads::{Answer, Entry, OpenGate, Outcome, Transcript, run_threads};
 use std::alloc::Global;
 use std::io::{Read, Write};
 use std::sync::Wait;
 use std::thread::Threads;
-
-/// Lets every worker pass.
-#[derive(Drop)]
-struct Open;
-
-impl Gate for Open {
-    fn before(&self, _pid: u32, _n: u64) -> bool {
-        true
-    }
-
-    fn after(&self, _pid: u32, _n: u64) {}
-}
 
 /// Runs the script that the reader gives over swap areas behind these pagers, each process in a thread of
 /// its own, and writes an event line for each call in the order of the history, the listing of the segments,
@@ -60,9 +48,9 @@ fn run_script<T: Threads + Wait + Sync, W: Write, P: Pager + Send>(
     script: &Script,
     pagers: Vec<P>,
 ) -> Result<(), RunFault>
-    ensures ok { OnOk result (Writes (IsThreadedOutput false script.now (map (λ p. length (P.content p)) pagers.items)) (W.contents writer.old) (W.contents writer.new)) }
+    ensures ok { OnOk result (IsWritten (IsThreadedOutput false script.now (map (λ p. length (P.content p)) pagers.items)) (W.contents writer.old) (W.contents writer.new)) }
     ensures cause { IfErr result (λ f. IsCauseIn f (map (λ p. length (P.content p)) pagers.items) script.now) }
-    ensures written { IfErr result (λ f. IsAllOrNothing f (W.contents writer.old) (W.contents writer.new) (Writes (IsThreadedOutput true script.now (map (λ p. length (P.content p)) pagers.items)) (W.contents writer.old) (W.contents writer.new))) }
+    ensures written { IfErr result (λ f. IsAllOrNothing f (W.contents writer.old) (W.contents writer.new) (IsWritten (IsThreadedOutput true script.now (map (λ p. length (P.content p)) pagers.items)) (W.contents writer.old) (W.contents writer.new))) }
 {
     match open_world(alloc, script, pagers) {
         Ok(world) => run_in(rt, alloc, writer, world, script),
@@ -79,11 +67,11 @@ fn run_in<T: Threads + Wait + Sync, W: Write, P: Pager + Send>(
     script: &Script,
 ) -> Result<(), RunFault>
     requires { IsOpening script.now world.opening }
-    ensures ok { OnOk result (Writes (IsThreadedOutput false script.now world.opening.areas) (W.contents writer.old) (W.contents writer.new)) }
+    ensures ok { OnOk result (IsWritten (IsThreadedOutput false script.now world.opening.areas) (W.contents writer.old) (W.contents writer.new)) }
     ensures cause { IfErr result (λ f. IsCauseIn f world.opening.areas script.now) }
-    ensures written { IfErr result (λ f. IsAllOrNothing f (W.contents writer.old) (W.contents writer.new) (Writes (IsThreadedOutput true script.now world.opening.areas) (W.contents writer.old) (W.contents writer.new))) }
+    ensures written { IfErr result (λ f. IsAllOrNothing f (W.contents writer.old) (W.contents writer.new) (IsWritten (IsThreadedOutput true script.now world.opening.areas) (W.contents writer.old) (W.contents writer.new))) }
 {
-    match run_threads(rt, alloc, world, script, &Open) {
+    match run_threads(rt, alloc, world, script, &OpenGate) {
         Ok(outcome) => write_outcome(alloc, writer, &outcome),
         Err(error) => Err(ended(error)),
     }

@@ -6,7 +6,7 @@ use shm_history::World;
 use shm_pager::{FusePager, MirrorPager, Pager, RamPager};
 use shm_program::{Values, open_world};
 use shm_text::{Line, Script, read_script};
-use shm_threads::{Gate, run_threads};
+use shm_threads::{OpenGate, run_threads};
 use std::alloc::Global;
 use std::sync::Wait;
 use std::test::Fail;
@@ -51,25 +51,13 @@ fn fuse(alloc: Global, read: u64, write: u64) -> Result<FusePager<RamPager>, Fai
     Ok(FusePager::new(ram, at(alloc, read)?, at(alloc, write)?))
 }
 
-/// Lets every worker pass.
-#[derive(Drop)]
-pub(crate) struct Open;
-
-impl Gate for Open {
-    fn before(&self, _pid: u32, _n: u64) -> bool {
-        true
-    }
-
-    fn after(&self, _pid: u32, _n: u64) {}
-}
-
 fn behind_threads<R: Threads + Wait + Sync, P: Pager + Send>(
     rt: &R,
     alloc: Global,
     script: &Script,
     world: World<P>,
 ) -> Result<World<P>, Fail> {
-    let run = run_threads(rt, alloc, world, script, &Open);
+    let run = run_threads(rt, alloc, world, script, &OpenGate);
     Ok(run.ok().ok_or("a run")?.world)
 }
 

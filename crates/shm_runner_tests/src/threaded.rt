@@ -1,13 +1,12 @@
 //! A run with threads writes its whole output, or nothing.
 use crate::ends::{OUTPUT, SCRIPT, Sink, reader, writer};
-use crate::sweeps::Open;
 use shm_base::{Call, Reply};
 use shm_history::World;
 use shm_pager::RamPager;
 use shm_program::{RunFault, open_world};
 use shm_runner::{run_threaded, write_outcome};
 use shm_text::{Script, read_script};
-use shm_threads::{Answer, Entry, Outcome, Transcript, run_threads};
+use shm_threads::{Answer, Entry, OpenGate, Outcome, Transcript, run_threads};
 use std::alloc::Global;
 use std::io::ErrorKind;
 use std::sync::Wait;
@@ -70,7 +69,7 @@ fn opened(alloc: Global, script: &Script) -> Result<World<RamPager>, Fail> {
 fn ran<T: Threads + Wait + Sync>(rt: &T, alloc: Global) -> Result<World<RamPager>, Fail> {
     let script = script(alloc)?;
     let world = opened(alloc, &script)?;
-    let run = run_threads(rt, alloc, world, &script, &Open);
+    let run = run_threads(rt, alloc, world, &script, &OpenGate);
     Ok(run.ok().ok_or("a run")?.world)
 }
 

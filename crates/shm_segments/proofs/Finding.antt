@@ -1,5 +1,5 @@
 -- A row that the table has is a segment that was found.
-use Rattle.shm_segments.proofs.Names.{◌≡◌, ℕ, pos, ◌/◌, ◌%◌, ◌<◌, List, length, slice_get, Option, Some, None, ℤ, ◌==◌, true, if◌then◌else◌, refl, ap, ◌∙◌, arith, cases_lt, none-some, bytes_at, bytes_at_entry, Row, entry_at, identifier, flat_entry, flat_row, row_shown, row_listed, at_past, at-table, past-flat, Held, bytes_of, Head, Found, segment_of, whole, joined, Agree, SizesFit, IsFound, segment_seen, nat_tests, common_steps, is_some, option_map, FlatEntry, Entry, live}
+use Rattle.shm_segments.proofs.Names.{◌≡◌, ℕ, pos, ◌/◌, ◌%◌, ◌<◌, List, length, slice_get, Option, Some, None, ℤ, ◌==◌, true, if◌then◌else◌, refl, ap, ◌∙◌, arith, cases_lt, none-some, bytes_at, bytes_at_entry, Row, entry_at, identifier, flat_entry, row_shown, row_listed, at_past, at-table, past-flat, Held, bytes_of, Head, Found, segment_of, whole, joined, Agree, SizesFit, IsFound, segment_seen, nat_tests, common_steps, is_some, option_map, FlatEntry, Entry, live}
 use Rattle.shm_segments.proofs.Joins.{at-live, held-as}
 use Rattle.shm_segments.specs.Table as table
 
@@ -54,12 +54,9 @@ unlisted i d o is = grind arith
 pub unlisted-row : (i : ℕ) (e : Entry Head) → row_listed i e ≡ None → e.row ≡ None
 unlisted-row i e is = unlisted i e.destroyed e.row is
 
-flat-option : (hs : List Held) (id : ℕ) (o : Option (Row Head)) → flat_row (whole hs) id o ≡ option_map (whole hs id) o
-flat-option hs id o = grind (arith, common_steps, nat_tests)
-
 in-flat : (hs : List Held) (i id : ℕ) (e : Entry Head) → i ≡ id % 32768
     → table.live_in id (Some (flat_entry (whole hs) i e)) ≡ option_map (whole hs id) (if identifier i e.destroyed == id then e.row else None)
-in-flat hs i id e own = grind (arith, nat_tests, own, flat-option hs id e.row)
+in-flat hs i id e own = grind (arith, nat_tests, own)
 
 -- what is live in the flat table
 pub live-joined : (hs : List Held) (rows : List (Entry Head)) (id : ℕ) → table.live (joined hs rows) id ≡ option_map (whole hs id) (live rows id)

@@ -1,5 +1,5 @@
 -- The pages of the segments that are held.
-use Rattle.shm_segments.proofs.Names.{◌≡◌, ◌≢◌, ℕ, ◌+◌, ◌*◌, ◌/◌, ◌≤◌, Bool, true, false, if◌then◌else◌, List, [], ◌∷◌, length, take, drop, map, Option, Some, None, refl, sym, ◌∙◌, arith, ne_eqb, true≢false, not, ◌==◌, none-some, common_steps, length-replicate, sum_by-cons, sum_by-append, sum_by, All, Span, AreHeldApart, Held, find_held, is_held, pages_in, pages_if_locked, with_zeros, without, with_lock, pasted, written, FitsPage, find_held-id, length-paste, apart-pasted, sum_by-filter_both, nat_tests, replicate}
+use Rattle.shm_segments.proofs.Names.{◌≡◌, ◌≢◌, ℕ, ◌+◌, ◌*◌, ◌/◌, ◌≤◌, Bool, false, if◌then◌else◌, List, [], ◌∷◌, length, map, Some, refl, ◌∙◌, arith, ne_eqb, not, ◌==◌, none-some, common_steps, length-replicate, sum_by-cons, sum_by-append, sum_by, All, Span, AreHeldApart, Held, find_held, is_held, pages_in, pages_if_locked, with_zeros, without, with_lock, pasted, written, FitsPage, find_held-id, apart-pasted, sum_by-filter_both, nat_tests, replicate}
 use Rattle.shm_plain.specs.Held.{pages_held, pages_locked, relocked}
 use Rattle.shm_segments.proofs.Bytes.{each, written-keeps}
 
@@ -57,7 +57,7 @@ pasted-sums : (hs : List Held) (p : Span) (new : List ℕ) → AreHeldApart hs �
     → (pages_held (map (pasted p.seg p.at new) hs) ≡ pages_held hs) × (pages_locked (map (pasted p.seg p.at new) hs) ≡ pages_locked hs)
 pasted-sums hs p new apart fit few = grind (arith, common_steps, find_held, pages_held, sum-changed)
 
--- what a store over stretches leaves
+-- what a store over spans leaves
 pub record SameSums (hs gs : List Held) : Type 0 where
   pub apart : AreHeldApart gs
   pub pages : pages_held gs ≡ pages_held hs

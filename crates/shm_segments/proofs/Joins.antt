@@ -1,5 +1,5 @@
 -- The rows and the flat machine's table: what is live, what agrees, and what an edit shows.
-use Rattle.shm_segments.proofs.Names.{◌≡◌, ◌≢◌, ℕ, zero, suc, ◌+◌, ◌*◌, ◌%◌, ◌<◌, ◌≤◌, true, List, [], ◌∷◌, length, set, Option, Some, refl, sym, ap, ◌∙◌, arith, nat_tests, Segment, pages_of, Row, identifier, entry_at, flat_row, flat_entry, flat_from, at_past, identifier-mod, flat_from-make, flat_table-make, Held, find_held, bytes_of, is_held, Head, segment_of, whole, joined, Agree, common_steps, is_some, option_map, slice_set, Entry, live}
+use Rattle.shm_segments.proofs.Names.{◌≡◌, ◌≢◌, ℕ, zero, suc, ◌+◌, ◌*◌, ◌%◌, ◌<◌, ◌≤◌, true, List, [], ◌∷◌, length, set, Option, Some, refl, sym, ap, ◌∙◌, arith, nat_tests, Segment, pages_of, Row, identifier, entry_at, flat_entry, flat_from, at_past, identifier-mod, flat_from-make, flat_table-make, Held, find_held, bytes_of, is_held, Head, segment_of, whole, joined, Agree, common_steps, is_some, option_map, slice_set, Entry, live}
 use Rattle.shm_segments.proofs.Bytes.{SameBytes}
 
 -- WHAT IS LIVE
@@ -22,7 +22,7 @@ at-live rows i small = grind (arith, common_steps, identifier-mod)
 whole-same : (hs gs : List Held) (id : ℕ) (r : Row Head) → bytes_of gs id ≡ bytes_of hs id → whole gs id r ≡ whole hs id r
 whole-same hs gs id r e = ap (segment_of r) e
 
-row-same : (hs gs : List Held) (id : ℕ) (o : Option (Row Head)) → bytes_of gs id ≡ bytes_of hs id → flat_row (whole gs) id o ≡ flat_row (whole hs) id o
+row-same : (hs gs : List Held) (id : ℕ) (o : Option (Row Head)) → bytes_of gs id ≡ bytes_of hs id → option_map (whole gs id) o ≡ option_map (whole hs id) o
 row-same hs gs id o e = grind (arith, e)
 
 entry-same : (hs gs : List Held) (i : ℕ) (e : Entry Head) → bytes_of gs (identifier i e.destroyed) ≡ bytes_of hs (identifier i e.destroyed) → flat_entry (whole gs) i e ≡ flat_entry (whole hs) i e

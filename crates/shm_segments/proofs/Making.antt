@@ -1,5 +1,5 @@
 -- What is kept where a segment is made, destroyed, locked or written.
-use Rattle.shm_segments.proofs.Names.{locked_in_row, pages_in_row, ◌≡◌, ◌≢◌, ◌⊎◌, ℕ, suc, pos, ℤ, ◌+◌, ◌-◌, ◌*◌, ◌/◌, ◌%◌, ◌<◌, ◌≤◌, ◌==◌, Bool, true, false, if◌then◌else◌, List, [], ◌∷◌, Option, Some, None, is_none, refl, sym, ap, ◌∙◌, inl, inr, arith, eq-eqb, ne_eqb, eqb-true, cases_eq, cases_Bool, none-some, pages_of, change, Row, entry_at, identifier, key_at, row_key, key_from, look, find_key, with_value, with_row, without_row, flat_row, flat_found, find_key-flat, free_index-flat, destroyed_at-flat, Held, find_held, is_held, pages_in, pages_if_locked, with_zeros, without, with_lock, apart-push, apart-without, apart-lock, Head, whole, joined, Agree, SizesFit, AreSegmentsKept, made, created, destroyed, nat_tests, common_steps, replicate, slice_set, Ok, is_some, option_map, Entry, free_index, id_at, live, relocked}
+use Rattle.shm_segments.proofs.Names.{locked_in_row, pages_in_row, ◌≡◌, ◌≢◌, ◌⊎◌, ℕ, pos, ℤ, ◌+◌, ◌-◌, ◌*◌, ◌/◌, ◌%◌, ◌<◌, ◌≤◌, Bool, true, false, if◌then◌else◌, List, Option, Some, None, is_none, refl, sym, ap, ◌∙◌, inl, inr, arith, cases_eq, none-some, pages_of, change, Row, entry_at, identifier, key_at, look, with_value, with_row, without_row, free_index-flat, destroyed_at-flat, Held, find_held, is_held, pages_in, pages_if_locked, with_zeros, without, with_lock, apart-push, apart-without, apart-lock, Head, whole, joined, Agree, SizesFit, AreSegmentsKept, made, created, destroyed, nat_tests, common_steps, replicate, slice_set, Ok, is_some, option_map, Entry, free_index, id_at, live, relocked}
 use Rattle.shm_base.specs.Identifier as flat
 use Rattle.shm_segments.proofs.Joins.{LiveAt, live-at, held-as}
 use Rattle.shm_segments.proofs.Edits.{look-live, other-value, agree-lock, joined-locked}
@@ -137,43 +137,3 @@ next-free hs rows id agree is = by (free_index rows) refl is
 -- a segment's pages are few
 pub few-pages : (b : Bool) (size : ℕ) → size ≤ 16777216 → (if b then pages_of size else 0) ≤ 4096
 few-pages b size range = grind (arith, nat_tests)
-
--- a key that the flat table does not find
-record Hit (n : ℕ) (es : List (Entry Head)) (i : ℕ) : Type 0 where
-  k : ℕ
-  at : n + k ≡ i
-  there : is_some (entry_at es k).row ≡ true
-
-key-hit : (n key : ℕ) (es : List (Entry Head)) (i : ℕ) → key ≢ 0 → key_from key n es ≡ Some i → Hit n es i
-key-hit n key [] i some found = absurd (none-some i found)
-key-hit n key (e ∷ es) i some found =
-    elim (cases_Bool (row_key e.row == key)) [
-      | inl h ↦ record { k = 0; at = here h; there = has e.row h }
-      | inr h ↦ let r = key-hit (n + 1) key es i some (rw h at found) in record { k = suc r.k; at = omega (arith, r.at); there = r.there }
-    ]
-  where
-    here : (row_key e.row == key) ≡ true → n + 0 ≡ i
-    here h = let is : n ≡ i = cc (rw h at found) in omega (arith, is)
-
-    has : (o : Option (Row Head)) → (row_key o == key) ≡ true → is_some o ≡ true
-    has None h = absurd (some (sym (eqb-true 0 key h)))
-    has (Some r) h = refl
-
-not_invalid : (hs : List Held) (i id : ℕ) (o : Option (Row Head)) → is_some o ≡ true → flat.look_segment i (flat_row (whole hs) id o) ≡ flat.Invalid → ⊥
-not_invalid hs i id o some is = grind (arith, common_steps, nat_tests)
-
-pub key-absent : (hs : List Held) (rows : List (Entry Head)) (key : ℕ) → (key ≢ 0 → flat.find_key (joined hs rows) key ≡ flat.Invalid) → find_key rows key ≡ None
-key-absent hs rows key absent = by (cases_eq key 0)
-  where
-    none : key ≢ 0 → (o : Option ℕ) → key_from key 0 rows ≡ o → o ≡ None
-    none some None found = refl
-    none some (Some i) found =
-        let hit = key-hit 0 key rows i some found in
-        let index : hit.k ≡ i = omega (arith, hit.at) in
-        let at : is_some (entry_at rows i).row ≡ true = rw index at hit.there in
-        let own : find_key rows key ≡ Some i = rw (ne_eqb key 0 some) found in
-        absurd (not_invalid hs i (identifier i (entry_at rows i).destroyed) (entry_at rows i).row at (sym (find_key-flat (whole hs) (λ id r. refl) rows key some ∙ ap (flat_found (whole hs) (entry_at rows)) own) ∙ absent some))
-
-    by : (key ≡ 0) ⊎ (key ≢ 0) → find_key rows key ≡ None
-    by (inl z) = rw (eq-eqb key 0 z) refl
-    by (inr some) = rw (ne_eqb key 0 some) (none some (key_from key 0 rows) refl)

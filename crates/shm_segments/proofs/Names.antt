@@ -1,6 +1,6 @@
 -- The names that the proofs cite, from below and from the words of this crate.
-pub use Rattle.std.proofs.Common.{Bool, IsOk, List, None, Option, Some, [], ap, append-nil, append_assoc, arith, drop, eq-eqb, eqb-true, false, get_or, get_or-set_same, if◌then◌else◌, inl, inr, is_none, length, length-set, map, nat_lt, ne_eqb, not, of_z, pos, refl, rules, set, slice_get, suc, sym, take, to_z, true, true≢false, w32, zero, ℕ, ℤ, ◌%◌, ◌&&◌, ◌*◌, ◌++◌, ◌+◌, ◌-◌, ◌/◌, ◌<◌, ◌==◌, ◌^◌, ◌∙◌, ◌∷◌, ◌≡◌, ◌≢◌, ◌≤◌, ◌⊎◌, option_map, Ok, is_some, replicate, Err}
-pub use Rattle.std.proofs.lemmas.Bool.{cases_Bool, cases_eq, cases_lt, ltb-true}
+pub use Rattle.std.proofs.Common.{Bool, IsOk, List, None, Option, Some, [], ap, append-nil, append_assoc, arith, drop, eq-eqb, false, get_or, get_or-set_same, if◌then◌else◌, inl, inr, is_none, length, length-set, map, ne_eqb, not, of_z, pos, refl, rules, set, slice_get, suc, sym, take, to_z, true, true≢false, w32, zero, ℕ, ℤ, ◌%◌, ◌*◌, ◌++◌, ◌+◌, ◌-◌, ◌/◌, ◌<◌, ◌==◌, ◌^◌, ◌∙◌, ◌∷◌, ◌≡◌, ◌≢◌, ◌≤◌, ◌⊎◌, option_map, Ok, is_some, replicate, Err}
+pub use Rattle.std.proofs.lemmas.Bool.{cases_eq, cases_lt, ltb-true}
 pub use Rattle.std.proofs.lemmas.Bool.Decides.{eqb_tells, nat_tests}
 pub use Rattle.std.proofs.lemmas.Grind.{common_steps, take-set_at}
 pub use Rattle.std.proofs.lemmas.List.{drop-set-lt, drop_more, length-replicate, map-append, set-get_or, take-append-drop}
@@ -28,12 +28,12 @@ pub use Rattle.shm_fault.specs.Steps.{Kept}
 pub use Rattle.shm_fault.specs.Store.{StoreView, frame_of, fresh_store, held}
 pub use Rattle.shm_frames.specs.Frame.{Frame}
 pub use Rattle.shm_ids.proofs.Entries.{at_past, at_row, at_row_other, at_set, at_set_other, with_key-with_value, with_row-end, with_row-few, with_row-within}
-pub use Rattle.shm_ids.proofs.Flat.{at-table, change-flat, destroyed_at-flat, find_key-flat, find_key-look, flat_from-make, flat_table-make, free_index-flat, length-flat, look-flat, past-flat, segment_count-flat, with_segment-flat}
+pub use Rattle.shm_ids.proofs.Flat.{at-table, change-flat, destroyed_at-flat, find_key-absent, find_key-flat, find_key-look, flat_from-make, flat_table-make, free_index-flat, length-flat, look-flat, past-flat, segment_count-flat, with_segment-flat}
 pub use Rattle.shm_ids.proofs.Free.{free_found}
-pub use Rattle.shm_ids.proofs.Look.{identifier-mod, live_row}
-pub use Rattle.shm_ids.specs.Flat.{flat_answer, flat_entry, flat_found, flat_from, flat_row, number_of}
+pub use Rattle.shm_ids.proofs.Look.{identifier-mod, live_row, look-entry}
+pub use Rattle.shm_ids.specs.Flat.{flat_answer, flat_entry, flat_found, flat_from, number_of}
 pub use Rattle.shm_ids.specs.Rows.{row_listed, row_shown}
-pub use Rattle.shm_ids.specs.Table.{entry_at, find_key, identifier, index_of, key_at, key_from, look, row_count, row_key, unused, with_key, with_row, with_value, without_row, free_index, id_at}
+pub use Rattle.shm_ids.specs.Table.{entry_at, find_key, identifier, index_of, key_at, look, row_count, unused, with_key, with_row, with_value, without_row, free_index, id_at}
 pub use Rattle.shm_ids.specs.declared.table.LookRefused.TheVariants.{Invalid, Removed}
 pub use Rattle.shm_ids.specs.declared.table.Row.{Row}
 pub use Rattle.shm_plain.proofs.Found.{bytes_of-lock, find-without_other, find-without_same, find-zeros_other, find-zeros_same}

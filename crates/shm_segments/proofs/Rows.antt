@@ -1,5 +1,5 @@
 -- Segments that come and go, as the flat machine's table shows them.
-use Rattle.shm_segments.proofs.Names.{◌≡◌, ◌≢◌, ℕ, ◌+◌, ◌*◌, ◌%◌, ◌<◌, ◌≤◌, ◌==◌, ◌&&◌, if◌then◌else◌, nat_lt, Bool, true, false, List, length, Option, Some, None, is_none, sym, ap, ◌∙◌, arith, inl, inr, length-set, cases_lt, cases_eq, length-replicate, pages_of, with_segment, Row, identifier, entry_at, with_row, without_row, at_set, at_set_other, at_row, at_row_other, with_row-few, free_found, identifier-mod, with_segment-flat, flat_table-make, Held, find_held, bytes_of, bytes_in, is_held, with_zeros, without, find-without_same, find-without_other, find-zeros_same, find-zeros_other, Head, segment_of, whole, joined, shape_held, shape_row, Agree, nat_tests, common_steps, replicate, is_some, option_map, slice_set, Entry, free_index, live}
+use Rattle.shm_segments.proofs.Names.{◌≡◌, ◌≢◌, ℕ, ◌+◌, ◌*◌, ◌%◌, ◌<◌, ◌≤◌, ◌==◌, if◌then◌else◌, false, List, length, Some, None, sym, ap, ◌∙◌, arith, inl, inr, length-set, cases_lt, cases_eq, length-replicate, pages_of, with_segment, Row, identifier, entry_at, with_row, without_row, at_set, at_set_other, at_row, at_row_other, with_row-few, free_found, identifier-mod, with_segment-flat, flat_table-make, Held, bytes_of, bytes_in, is_held, with_zeros, without, find-without_same, find-without_other, find-zeros_same, find-zeros_other, Head, segment_of, whole, joined, Agree, nat_tests, common_steps, replicate, is_some, option_map, slice_set, Entry, free_index, live}
 use Rattle.shm_segments.proofs.Joins.{at-live, set-joined, same-held}
 
 -- the identifier that an index has
@@ -52,18 +52,14 @@ pub record IsFree (rows : List (Entry Head)) (i : ℕ) : Type 0 where
   pub small : i < 32768
   pub none : (entry_at rows i).row ≡ None
 
-none-free : (r : Option (Row Head)) (b : Bool) → (is_none r && b) ≡ true → r ≡ None
-none-free r b free = grind (arith, nat_tests)
-
 pub index-free : (rows : List (Entry Head)) (i : ℕ) → length rows ≤ 32768 → free_index rows ≡ Some i → IsFree rows i
 index-free rows i few is =
     let f = free_found 0 i rows is in
     let same : f.place ≡ i = omega (arith, f.at) in
-    let e : Entry Head = entry_at rows f.place in
     record {
       within = omega (arith, f.within, same);
       small = elim (cases_lt f.place (length rows)) [ inl lt ↦ omega (arith, lt, few, same) | inr past ↦ f.small (omega (arith, f.within, past)) ];
-      none = rw (← same) (none-free e.row (nat_lt e.destroyed 65536) f.free);
+      none = rw same at f.row;
     }
 
 -- nothing is held under its identifier

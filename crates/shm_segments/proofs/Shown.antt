@@ -1,5 +1,5 @@
--- Loads and stores over stretches, as the flat machine's table shows them.
-use Rattle.shm_segments.proofs.Names.{◌≡◌, ℕ, zero, suc, ◌+◌, ◌%◌, ◌≤◌, Bool, true, false, List, [], ◌∷◌, ◌++◌, length, set, take, drop, map, Option, Some, None, refl, sym, ap, ◌∙◌, arith, nat_tests, common_steps, set-get_or, w64, from_le_bytes, sum_by, All, Place, set_in, with_byte, entry_byte_set, stored, loaded, bytes_at, Span, identifier, unused, entry_at, flat_entry, at-table, run, span_places, Held, find_held, bytes_of, pasted, written, FitsPage, read_from, find_held-id, find-map, length-paste, pasted-keeps, Head, segment_of, whole, joined, shape_held, Agree, is_some, option_map, slice_index, slice_set, Entry, live}
+-- Loads and stores over spans, as the flat machine's table shows them.
+use Rattle.shm_segments.proofs.Names.{◌≡◌, ℕ, zero, suc, ◌+◌, ◌%◌, ◌≤◌, Bool, true, false, List, [], ◌∷◌, ◌++◌, length, set, map, Option, Some, refl, sym, ap, ◌∙◌, arith, nat_tests, common_steps, set-get_or, w64, from_le_bytes, sum_by, All, Place, set_in, with_byte, entry_byte_set, stored, loaded, bytes_at, Span, identifier, unused, entry_at, flat_entry, at-table, run, span_places, Held, bytes_of, pasted, written, FitsPage, read_from, find_held-id, find-map, Head, segment_of, whole, joined, Agree, is_some, slice_index, slice_set, Entry, live}
 use Rattle.shm_fault.specs.Adding as store
 use Rattle.shm_segments.specs.Table as table
 use Rattle.shm_segments.proofs.Bytes.{put, puts, get, bytes_of-put_same, bytes_of-put_other, Each, each, written-keeps, len_of, written-same, get-spans}
@@ -53,7 +53,7 @@ live-append : (ps qs : List Place) (rows : List (Entry Head)) → AreLive rows p
 live-append [] qs rows a b = b
 live-append (p ∷ ps) qs rows a b = (a.0, live-append ps qs rows a.1 b)
 
--- STRETCH BY STRETCH
+-- SPAN BY SPAN
 
 -- what fits is live
 live-spans : (ps : List Span) (w : Bool) (hs : List Held) (rows : List (Entry Head)) → Agree hs rows → Each (FitsPage hs) ps → AreLive rows (span_places w ps)

@@ -1,5 +1,5 @@
 -- Segments and pages counted over the rows.
-use Rattle.shm_segments.proofs.Names.{◌≡◌, ℕ, suc, ◌+◌, ◌*◌, ◌<◌, ◌≤◌, false, List, [], ◌∷◌, length, Option, Some, None, refl, arith, sum_by-cons, sum_by-set, sum_by_push, get_or-le-sum_by, sum_by, Segment, pages_of, reserved, locked, segment_count, Row, identifier, entry_at, with_row, without_row, row_count, flat_row, flat_entry, flat_from, with_row-within, with_row-end, segment_count-flat, Held, bytes_of, Head, whole, joined, pages_in_row, locked_in_row, pages_of_rows, locked_of_rows, Agree, nat_tests, common_steps, FlatEntry, pages_held, pages_locked, Entry, live}
+use Rattle.shm_segments.proofs.Names.{◌≡◌, ℕ, suc, ◌+◌, ◌*◌, ◌<◌, ◌≤◌, false, List, [], ◌∷◌, length, Option, Some, None, refl, arith, sum_by-cons, sum_by-set, sum_by_push, get_or-le-sum_by, sum_by, Segment, pages_of, reserved, locked, segment_count, Row, identifier, entry_at, with_row, without_row, row_count, option_map, flat_entry, flat_from, with_row-within, with_row-end, segment_count-flat, Held, bytes_of, Head, whole, joined, pages_in_row, locked_in_row, pages_of_rows, locked_of_rows, Agree, nat_tests, common_steps, FlatEntry, pages_held, pages_locked, Entry, live}
 use Rattle.shm_segments.proofs.Joins.{at-live, held-as, live-at}
 use Rattle.shm_segments.proofs.Edits.{with_other}
 use Rattle.shm_segments.proofs.Rows.{IsFree}
@@ -19,14 +19,14 @@ rest-whole n hs e es all k r lt is = let next : n + suc k ≡ (n + 1) + k = omeg
 first-whole : (n : ℕ) (hs : List Held) (e : Entry Head) (es : List (Entry Head)) → AreWhole n hs (e ∷ es) → (r : Row Head) → e.row ≡ Some r → length (bytes_of hs (identifier n e.destroyed)) ≡ 4096 * pages_of r.value.size
 first-whole n hs e es all r is = let here : n + 0 ≡ n = omega arith in rw here at (all 0 r (omega arith) is)
 
-row-pages : (hs : List Held) (id : ℕ) (o : Option (Row Head)) → ((r : Row Head) → o ≡ Some r → length (bytes_of hs id) ≡ 4096 * pages_of r.value.size) → pages_held (flat_row (whole hs) id o) ≡ pages_in_row o
+row-pages : (hs : List Held) (id : ℕ) (o : Option (Row Head)) → ((r : Row Head) → o ≡ Some r → length (bytes_of hs id) ≡ 4096 * pages_of r.value.size) → pages_held (option_map (whole hs id) o) ≡ pages_in_row o
 row-pages hs id o whole = grind (arith, common_steps, nat_tests, whole)
 
-row-locked : (hs : List Held) (id : ℕ) (o : Option (Row Head)) → ((r : Row Head) → o ≡ Some r → length (bytes_of hs id) ≡ 4096 * pages_of r.value.size) → pages_locked (flat_row (whole hs) id o) ≡ locked_in_row o
+row-locked : (hs : List Held) (id : ℕ) (o : Option (Row Head)) → ((r : Row Head) → o ≡ Some r → length (bytes_of hs id) ≡ 4096 * pages_of r.value.size) → pages_locked (option_map (whole hs id) o) ≡ locked_in_row o
 row-locked hs id o whole = grind (arith, common_steps, nat_tests, whole)
 
 -- a sum over the segments is one over the rows
-sum-from : (weigh : Option Segment → ℕ) (f : Option (Row Head) → ℕ) (hs : List Held) → ((id : ℕ) (o : Option (Row Head)) → ((r : Row Head) → o ≡ Some r → length (bytes_of hs id) ≡ 4096 * pages_of r.value.size) → weigh (flat_row (whole hs) id o) ≡ f o)
+sum-from : (weigh : Option Segment → ℕ) (f : Option (Row Head) → ℕ) (hs : List Held) → ((id : ℕ) (o : Option (Row Head)) → ((r : Row Head) → o ≡ Some r → length (bytes_of hs id) ≡ 4096 * pages_of r.value.size) → weigh (option_map (whole hs id) o) ≡ f o)
     → (n : ℕ) (rows : List (Entry Head)) → AreWhole n hs rows → sum_by (λ (x : FlatEntry). weigh x.segment) (flat_from (whole hs) n rows) ≡ sum_by (λ (e : Entry Head). f e.row) rows
 sum-from weigh f hs one n [] all = refl
 sum-from weigh f hs one n (e ∷ es) all =

@@ -1,13 +1,13 @@
 //! The bytes of the segments, and the pages that they lie in.
-ghost use Rattle.std.specs.Prelude.{◌≡◌, ◌≤◌, ◌+◌, ℕ, [], OnOk, OnErr, All, sum_by, length, set, None, true, false};
-ghost use Rattle.shm_base.specs.declared.paging.Span.{Span as Stretch};
+ghost use Rattle.std.specs.Prelude.{◌≡◌, ◌≤◌, ◌+◌, ℕ, OnOk, OnErr, length, set, None, true, false};
 ghost use Rattle.shm_base.specs.Access.{loaded, stored};
 ghost use Rattle.shm_base.specs.Segments.{reserved};
-ghost use Rattle.shm_base.specs.Spans.{span_places, page_of};
+ghost use Rattle.shm_base.specs.Spans.{span_places};
+ghost use Rattle.shm_plain.specs.Access.{IsAccess};
 ghost use Rattle.shm_slots.specs.View.{slots, sizes, area_at};
 ghost use Rattle.shm_slots.specs.Cause.{had_cause};
 ghost use Rattle.shm_fault.specs.Store.{frame_of};
-ghost use Rattle.shm_fault.specs.Access.{Accessed, answer_of};
+ghost use Rattle.shm_fault.specs.Access.{Accessed, NameFrames, IsUntouched, answer_of};
 ghost use Rattle.shm_fault.specs.Flushing.{IsFlushed};
 ghost use Rattle.shm_segments.specs.Table.{SpanFits, number_at, added};
 ghost use Rattle.shm_segments.specs.View.{IsTableExact, Runs};
@@ -36,11 +36,9 @@ impl<P: Pager> Segments<P> {
         out: &mut [u8],
         touched: &mut Touched,
     ) -> Result<(), PagerFault>
-        requires few { length spans.now ≤ 2 }
-        requires fit { All (SpanFits self.old.table) spans.now }
-        requires frames { All (λ (p : Stretch). p.frame ≡ frame_of self.old.memory p.seg (page_of p)) spans.now }
-        requires size { sum_by (λ (p : Stretch). p.len) spans.now ≡ length out.old }
-        requires none { (touched.old.moved.items ≡ []) × (touched.old.ins ≡ 0) × (touched.old.outs ≡ 0) }
+        requires spans { IsAccess (SpanFits self.old.table) spans.now (length out.old) }
+        requires frames { NameFrames self.old.memory spans.now }
+        requires none { IsUntouched touched.old }
         ensures bytes { OnOk result (out.new ≡ loaded self.old.table (span_places false spans.now)) }
         ensures table { self.new.table ≡ self.old.table }
         ensures access { Accessed spans.now self.old.memory self.new.memory (answer_of touched.new result) }
@@ -57,11 +55,9 @@ impl<P: Pager> Segments<P> {
         bytes: &[u8],
         touched: &mut Touched,
     ) -> Result<(), PagerFault>
-        requires few { length spans.now ≤ 2 }
-        requires fit { All (SpanFits self.old.table) spans.now }
-        requires frames { All (λ (p : Stretch). p.frame ≡ frame_of self.old.memory p.seg (page_of p)) spans.now }
-        requires size { sum_by (λ (p : Stretch). p.len) spans.now ≡ length bytes.now }
-        requires none { (touched.old.moved.items ≡ []) × (touched.old.ins ≡ 0) × (touched.old.outs ≡ 0) }
+        requires spans { IsAccess (SpanFits self.old.table) spans.now (length bytes.now) }
+        requires frames { NameFrames self.old.memory spans.now }
+        requires none { IsUntouched touched.old }
         ensures written { OnOk result (self.new.table ≡ stored self.old.table (span_places false spans.now) bytes.now) }
         ensures same { OnErr result (self.new.table ≡ self.old.table) }
         ensures access { Accessed spans.now self.old.memory self.new.memory (answer_of touched.new result) }
@@ -80,11 +76,9 @@ impl<P: Pager> Segments<P> {
         old: &mut u64,
         touched: &mut Touched,
     ) -> Result<(), PagerFault>
-        requires few { length spans.now ≤ 2 }
-        requires fit { All (SpanFits self.old.table) spans.now }
-        requires frames { All (λ (p : Stretch). p.frame ≡ frame_of self.old.memory p.seg (page_of p)) spans.now }
-        requires size { sum_by (λ (p : Stretch). p.len) spans.now ≡ 8 }
-        requires none { (touched.old.moved.items ≡ []) × (touched.old.ins ≡ 0) × (touched.old.outs ≡ 0) }
+        requires spans { IsAccess (SpanFits self.old.table) spans.now 8 }
+        requires frames { NameFrames self.old.memory spans.now }
+        requires none { IsUntouched touched.old }
         ensures number { OnOk result (old.new ≡ number_at self.old.table (span_places false spans.now)) }
         ensures written { OnOk result (self.new.table ≡ added self.old.table (span_places false spans.now) more) }
         ensures same { OnErr result (self.new.table ≡ self.old.table) }

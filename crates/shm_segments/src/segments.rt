@@ -13,7 +13,7 @@ ghost use Rattle.std.specs.Borrow.{sem};
 ghost use Rattle.shm_segments.specs.Table.{IsFound, IsLive, look_of, refused_look, live, segment_in, made, destroyed, reowned, relocked};
 
 use crate::head::{Found, Head};
-use shm_base::{Errno, HostMemory, INDEXES, ShmId, pages_of};
+use shm_base::{Errno, HostMemory, INDEXES, MODES, ShmId, pages_of};
 use shm_fault::PageStore;
 use shm_ids::{IdTable, LookRefused};
 use shm_pager::Pager;
@@ -76,23 +76,21 @@ fn pages_locked(head: &Head) -> u64
     if head.locked { pages_of(head.size) } else { 0 }
 }
 
-// What is found under an identifier that is live.
-fn found_under(table: &IdTable<Head>, id: ShmId) -> Found
-    requires { IsOk (look table.now id) }
-    ensures id { result.id ≡ id }
-    ensures seg { pos result.seg ≡ id }
-    ensures key { result.key ≡ key_at table.now (index_of id) }
-    ensures head { look table.now id ≡ Ok result.head }
+// What is found under an identifier, where it is live.
+fn found_under(table: &IdTable<Head>, id: ShmId) -> Result<Found, LookRefused>
+    ensures id { IfOk result (λ f. f.id ≡ id) }
+    ensures seg { IfOk result (λ f. pos f.seg ≡ id) }
+    ensures key { IfOk result (λ f. f.key ≡ key_at table.now (index_of id)) }
+    ensures head { IfOk result (λ f. look table.now id ≡ Ok f.head) }
+    ensures err { IfErr result (λ e. look table.now id ≡ Err e) }
 {
-    match table.look(id) {
-        Ok(head) => Found {
-            seg: id as u32,
-            id,
-            key: table.key_of(id),
-            head: *head,
-        },
-        Err(_) => unreachable!(),
-    }
+    let head = *table.look(id)?;
+    Ok(Found {
+        seg: id as u32,
+        id,
+        key: table.key_of(id),
+        head,
+    })
 }
 
 // The head of a live segment, to be changed.
@@ -220,8 +218,8 @@ impl<P: Pager> Segments<P> {
         ensures ok { IfOk result (λ f. flat_ids.look self.now.table id ≡ look_of self.now.table f) }
         ensures err { IfErr result (λ e. refused_look (flat_ids.look self.now.table id) ≡ Some e) }
     {
-        match self.table.look(id) {
-            Ok(_) => Ok(found_under(&self.table, id)),
+        match found_under(&self.table, id) {
+            Ok(found) => Ok(found),
             Err(LookRefused::Removed) => Err(Errno::Eidrm),
             Err(LookRefused::Invalid) => Err(Errno::Einval),
         }
@@ -234,10 +232,8 @@ impl<P: Pager> Segments<P> {
         ensures some { IfSome result (λ f. flat_ids.find_key self.now.table key ≡ look_of self.now.table f) }
         ensures none { IfNone result (flat_ids.find_key self.now.table key ≡ flat_ids.Invalid) }
     {
-        match self.table.find_key(key) {
-            Some(id) => Some(found_under(&self.table, id)),
-            None => None,
-        }
+        let id = self.table.find_key(key)?;
+        found_under(&self.table, id).ok()
     }
 
     /// Whether no index is free for another segment: each is held or worn out. Where one is free the table
@@ -323,7 +319,7 @@ impl<P: Pager> Segments<P> {
         let head = head_mut(&mut self.table, seg);
         head.perm.uid = uid;
         head.perm.gid = gid;
-        head.perm.mode = mode % 512;
+        head.perm.mode = mode % MODES;
         head.ctime = time;
     }
 

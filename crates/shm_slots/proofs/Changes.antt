@@ -22,8 +22,8 @@ pub slot-here : (a : AreaView) → IsArea a → (slot : ℕ) → slot < length a
 slot-here a area slot lt = grind (arith, common_steps)
 
 -- the area is there
-pub area-within : (s t : SwapView) (i : ℕ) → s ≡ t → i < length t.areas → i < length s.areas
-area-within s t i same within = rw same within
+pub area_within : (s t : SwapView) (i : ℕ) → s ≡ t → i < length t.areas → i < length s.areas
+area_within s t i same within = rw same within
 
 -- the area that a call found
 pub area-found : (s t : SwapView) (i : ℕ) (was : AreaView) → s ≡ t → was ≡ get_or s.areas i was → i < length t.areas → was ≡ area_at t i
@@ -34,8 +34,8 @@ pub area-set : (f : AreaView → AreaView) (s t : SwapView) (i : ℕ) (was a : A
 area-set f s t i was a same found within is = rw (is, area-found s t i was same found within, same) refl
 
 -- the area that was found has the slot
-pub slot-within : (s t : SwapView) (i : ℕ) (was : AreaView) (slot : ℕ) → s ≡ t → was ≡ get_or s.areas i was → HasSlot t i slot → slot < length was.pages
-slot-within s t i was slot same found there = rw (area-found s t i was same found there.0) there.1
+pub slot_within : (s t : SwapView) (i : ℕ) (was : AreaView) (slot : ℕ) → s ≡ t → was ≡ get_or s.areas i was → HasSlot t i slot → slot < length was.pages
+slot_within s t i was slot same found there = rw (area-found s t i was same found there.0) there.1
 
 -- one more area
 pub areas-push : (xs : List AreaView) (a : AreaView) → ((k : ℕ) → IsArea (get_or xs k no_area)) → IsArea a → (k : ℕ) → IsArea (get_or (xs ++ a ∷ []) k no_area)

@@ -18,9 +18,9 @@ pub record AreaView : Type 0 where
   pub failed : ℕ
 
 -- the pages behind a pager, none where it is gone
-abbrev pub pages_of : {P : Type 0} → (P → List (List ℕ)) → Option P → List (List ℕ)
-pages_of content None = []
-pages_of content (Some p) = content p
+abbrev pub content_of : {P : Type 0} → (P → List (List ℕ)) → Option P → List (List ℕ)
+content_of content None = []
+content_of content (Some p) = content p
 
 -- the pager's count, and the last one where it is gone
 abbrev pub count_of : {P : Type 0} → (P → ℕ) → ℕ → Option P → ℕ

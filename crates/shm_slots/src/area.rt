@@ -4,7 +4,7 @@ ghost use Rattle.shm_pager.specs.Pages.{pager_seen, SlotUnknown};
 ghost use Rattle.shm_slots.specs.Owners.{IsLeastFree, FoundLeast};
 
 use crate::owners::Owners;
-use shm_base::PageRef;
+use shm_base::{PAGE_BYTES, PageRef};
 use shm_pager::{Pager, PagerFault, try_read, try_write};
 use std::alloc::{AllocError, Global};
 use std::marker::Model;
@@ -31,13 +31,13 @@ impl<P: Pager> Drop for Area<P> {
 
 impl<P: Pager> Model for Area<P> {
     ghost use Rattle.std.specs.Prelude.{is_some};
-    ghost use Rattle.shm_slots.specs.View.{AreaView, pages_of, count_of, IsArea};
+    ghost use Rattle.shm_slots.specs.View.{AreaView, content_of, count_of, IsArea};
 
     ghost Value = { AreaView };
 
     ghost view = { λ a. record {
       here = is_some a.pager;
-      pages = pages_of P.content a.pager;
+      pages = content_of P.content a.pager;
       owners = a.owners;
       start = a.start;
       failed = count_of P.failed a.last a.pager;
@@ -45,7 +45,7 @@ impl<P: Pager> Model for Area<P> {
 
     ghost invariant = { λ a. IsArea (record {
       here = is_some a.pager;
-      pages = pages_of P.content a.pager;
+      pages = content_of P.content a.pager;
       owners = a.owners;
       start = a.start;
       failed = count_of P.failed a.last a.pager;
@@ -154,7 +154,7 @@ impl<P: Pager> Area<P> {
     }
 
     /// Puts a page into a slot.
-    pub fn write(&mut self, slot: u32, page: &[u8; 4096]) -> Result<(), PagerFault>
+    pub fn write(&mut self, slot: u32, page: &[u8; PAGE_BYTES]) -> Result<(), PagerFault>
         requires { slot < length self.old.pages }
         ensures ok { IfOk result (λ _. self.new ≡ with_page self.old slot page.now) }
         ensures err { IfErr result (λ _. WriteFault slot self.old self.new) }
@@ -169,7 +169,7 @@ impl<P: Pager> Area<P> {
     }
 
     /// Reads the page in a slot.
-    pub fn read(&mut self, slot: u32, page: &mut [u8; 4096]) -> Result<(), PagerFault>
+    pub fn read(&mut self, slot: u32, page: &mut [u8; PAGE_BYTES]) -> Result<(), PagerFault>
         requires { slot < length self.old.pages }
         ensures ok { IfOk result (λ _. self.new ≡ self.old) }
         ensures page { IfOk result (λ _. get_or self.old.pages slot [] ≡ page.new) }

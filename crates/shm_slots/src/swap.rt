@@ -5,7 +5,7 @@ ghost use Rattle.shm_pager.specs.Pages.{pager_seen, last_count};
 ghost use Rattle.shm_slots.specs.View.{is_spent};
 
 use crate::area::Area;
-use shm_base::{HostMemory, PageRef, Slot};
+use shm_base::{HostMemory, PAGE_BYTES, PageRef, Slot};
 use shm_pager::{Pager, PagerFault};
 use std::alloc::Global;
 use std::marker::Model;
@@ -185,7 +185,8 @@ impl<P: Pager> Swap<P> {
     }
 
     /// Puts a page into a slot. After an error nobody knows what the slot holds.
-    pub fn write_slot(&mut self, slot: Slot, page: &[u8; 4096]) -> Result<(), PagerFault>
+    #[tactic(auto, using(crate::proofs::Changes::area_within, crate::proofs::Changes::slot_within))]
+    pub fn write_slot(&mut self, slot: Slot, page: &[u8; PAGE_BYTES]) -> Result<(), PagerFault>
         requires { HasSlot self.old slot.area slot.slot }
         ensures ok { IfOk result (λ _. self.new ≡ with_slot_page self.old slot page.now) }
         ensures err { IfErr result (λ _.
@@ -203,7 +204,8 @@ impl<P: Pager> Swap<P> {
     }
 
     /// Reads the page in a slot. After an error nobody knows what the buffer holds.
-    pub fn read_slot(&mut self, slot: Slot, page: &mut [u8; 4096]) -> Result<(), PagerFault>
+    #[tactic(auto, using(crate::proofs::Changes::area_within, crate::proofs::Changes::slot_within))]
+    pub fn read_slot(&mut self, slot: Slot, page: &mut [u8; PAGE_BYTES]) -> Result<(), PagerFault>
         requires { HasSlot self.old slot.area slot.slot }
         ensures ok { IfOk result (λ _. self.new ≡ self.old) }
         ensures page { IfOk result (λ _. page_in self.old slot.area slot.slot ≡ page.new) }

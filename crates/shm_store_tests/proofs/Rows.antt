@@ -1,5 +1,5 @@
 -- What the rows of a run tell of the segments that are held.
-use Rattle.shm_store_tests.proofs.Names.{◌≡◌, ℕ, ◌+◌, ◌/◌, ◌≤◌, ◌==◌, Bool, true, false, not, List, [], ◌∷◌, ◌++◌, length, map, filter, take, drop, get_or, Option, Some, is_some, option_map, refl, sym, ap, ◌∙◌, inl, inr, arith, All, sum_by, eqb_tells, common_steps, length-replicate, length-map, sum_by-cons, All-head, All-tail, All-get_or, All-map, Span, Held, find_held, bytes_in, bytes_of, is_held, pages_in, pages_held, with_zeros, without, with_lock, FitsPage, pasted, written, AreHeldApart, apart-push, apart-without, apart-lock, apart-pasted, fits-pasted, length-paste, StoreView, held, frame_of, page_of, Row, row_of, known, row_with_lock, pages_all, with_frame, AreAlike, IsAccess}
+use Rattle.shm_store_tests.proofs.Names.{◌≡◌, ℕ, ◌+◌, ◌/◌, ◌≤◌, ◌==◌, Bool, true, false, not, List, [], ◌∷◌, ◌++◌, length, map, filter, take, drop, get_or, Option, Some, is_some, option_map, refl, sym, ap, ◌∙◌, inl, inr, arith, All, sum_by, eqb_tells, common_steps, length-replicate, length-map, sum_by-cons, All-head, All-tail, All-get_or, All-map, Span, Held, find_held, bytes_in, bytes_of, is_held, pages_in, pages_held, with_zeros, without, with_lock, FitsPage, pasted, written, AreHeldApart, apart-push, apart-without, apart-lock, apart-pasted, fits-pasted, length-paste, StoreView, held, frame_of, page_of, Row, row_of, known, row_with_lock, pages_all, with_frame, AreAlike, IsAccess, NameFrames}
 
 pub known-is : (hs : List Held) (id : ℕ) → known (map row_of hs) id ≡ option_map pages_in (find_held hs id)
 known-is [] id = refl
@@ -94,12 +94,12 @@ sum-named : (s : StoreView) (ps : List Span) → sum_by (λ (p : Span). p.len) (
 sum-named s [] = refl
 sum-named s (p ∷ ps) = grind (arith, common_steps, sum_by-cons, sum-named s ps)
 
-pub access-named : (s t : StoreView) (ps : List Span) (n : ℕ) → IsAccess s ps n → held t ≡ held s → IsAccess t (map (with_frame s) ps) n
+pub access-named : (s t : StoreView) (ps : List Span) (n : ℕ) → IsAccess (FitsPage (held s)) ps n → held t ≡ held s → IsAccess (FitsPage (held t)) (map (with_frame s) ps) n
 access-named s t ps n a same = record {
   few = rw (length-map ps (with_frame s)) a.few;
   fit = rw same (All-map (FitsPage (held s)) (with_frame s) ps a.fit);
   sum = sum-named s ps ∙ a.sum;
 }
 
-pub frames-named : (s : StoreView) (ps : List Span) → All (λ (p : Span). p.frame ≡ frame_of s p.seg (page_of p)) (map (with_frame s) ps)
+pub frames-named : (s : StoreView) (ps : List Span) → NameFrames s (map (with_frame s) ps)
 frames-named s ps = All-map (λ (p : Span). p.frame ≡ frame_of s p.seg (page_of p)) (with_frame s) ps (λ k d lt. refl)

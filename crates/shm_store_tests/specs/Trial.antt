@@ -1,7 +1,7 @@
 -- What the tests keep true of the stores that they make.
-use Rattle.std.specs.Prelude.{ℕ, ◌≡◌, ◌==◌, ◌||◌, ◌≤◌, Bool, false, if◌then◌else◌, List, [], ◌∷◌, Option, Some, None, map, length, sum_by, All}
+use Rattle.std.specs.Prelude.{ℕ, ◌≡◌, ◌==◌, ◌||◌, Bool, false, if◌then◌else◌, List, [], ◌∷◌, Option, Some, None, map, length, sum_by}
 use Rattle.shm_base.specs.declared.paging.Span.{Span}
-use Rattle.shm_plain.specs.Held.{Held, FitsPage, pages_in}
+use Rattle.shm_plain.specs.Held.{Held, pages_in}
 use Rattle.shm_plain.specs.Apart.{AreHeldApart}
 use Rattle.shm_fault.specs.Store.{StoreView, held, frame_of, page_of}
 
@@ -47,12 +47,6 @@ pub record AreAlike (s : StoreView) (plain : List Held) (rows : List Row) : Type
   pub frames : length s.frames ≡ 4
   pub apart : AreHeldApart (held s)
 
--- the stretch with the frame that its page is in
+-- the span with the frame that its page is in
 abbrev pub with_frame : StoreView → Span → Span
 with_frame s p = record p { frame = frame_of s p.seg (page_of p) }
-
--- stretches that a read or write may be asked for, of so many bytes
-pub record IsAccess (s : StoreView) (ps : List Span) (size : ℕ) : Type 0 where
-  pub few : length ps ≤ 2
-  pub fit : All (FitsPage (held s)) ps
-  pub sum : sum_by (λ (p : Span). p.len) ps ≡ size

@@ -2,8 +2,9 @@
 //! every byte of every segment is the same in both, whichever pagers failed.
 ghost use Rattle.std.specs.Prelude.{◌≡◌, ◌+◌, ◌<◌, ◌==◌, ◌||◌, length, map, filter, not, IfOk, IfSome, OnOk};
 ghost use Rattle.shm_plain.specs.Held.{FitsPage, is_held};
+ghost use Rattle.shm_plain.specs.Access.{IsAccess};
 ghost use Rattle.shm_fault.specs.Store.{held};
-ghost use Rattle.shm_store_tests.specs.Trial.{Row as Told, known, row_with_lock, pages_all, pages_pinned, with_frame, AreAlike, IsAccess};
+ghost use Rattle.shm_store_tests.specs.Trial.{Row as Told, known, row_with_lock, pages_all, pages_pinned, with_frame, AreAlike};
 
 use crate::pagers::{fuse, mirror};
 use crate::paging::{add_segment, is_area};
@@ -256,9 +257,9 @@ fn rose_by<P: Pager>(before: (u64, u64), store: &PageStore<P>, touched: &Touched
 // Reads stretches of the paged store. A pager may fail.
 fn read<P: Pager>(rt: &impl Abort, pair: &mut Pair<P>, spans: &mut [Span], out: &mut [u8]) -> bool
     requires alike { AreAlike pair.old.paged pair.old.plain pair.old.rows.items }
-    requires spans { IsAccess pair.old.paged spans.old (length out.old) }
+    requires spans { IsAccess (FitsPage (held pair.old.paged)) spans.old (length out.old) }
     ensures alike { AreAlike pair.new.paged pair.new.plain pair.new.rows.items }
-    ensures spans { IsAccess pair.new.paged spans.new (length out.new) }
+    ensures spans { IsAccess (FitsPage (held pair.new.paged)) spans.new (length out.new) }
     ensures size { length out.new ≡ length out.old }
 {
     name_frames(rt, &pair.paged, spans);
@@ -275,7 +276,7 @@ fn read<P: Pager>(rt: &impl Abort, pair: &mut Pair<P>, spans: &mut [Span], out: 
 // Sees that both stores have the same bytes. Where pagers fail the paged store is asked again.
 fn compare<P: Pager>(rt: &impl Abort, pair: &mut Pair<P>, spans: &mut [Span], size: usize)
     requires alike { AreAlike pair.old.paged pair.old.plain pair.old.rows.items }
-    requires spans { IsAccess pair.old.paged spans.old size }
+    requires spans { IsAccess (FitsPage (held pair.old.paged)) spans.old size }
     ensures alike { AreAlike pair.new.paged pair.new.plain pair.new.rows.items }
 {
     assert!(rt; size <= 8192);
@@ -294,7 +295,7 @@ fn compare<P: Pager>(rt: &impl Abort, pair: &mut Pair<P>, spans: &mut [Span], si
 // Writes to both stores. Where a pager fails no byte changes.
 fn write<P: Pager>(rt: &impl Abort, pair: &mut Pair<P>, spans: &mut [Span], bytes: &[u8])
     requires alike { AreAlike pair.old.paged pair.old.plain pair.old.rows.items }
-    requires spans { IsAccess pair.old.paged spans.old (length bytes.now) }
+    requires spans { IsAccess (FitsPage (held pair.old.paged)) spans.old (length bytes.now) }
     ensures alike { AreAlike pair.new.paged pair.new.plain pair.new.rows.items }
 {
     name_frames(rt, &pair.paged, spans);
@@ -317,7 +318,7 @@ fn access<P: Pager>(
     size: usize,
 )
     requires alike { AreAlike pair.old.paged pair.old.plain pair.old.rows.items }
-    requires spans { IsAccess pair.old.paged spans.old size }
+    requires spans { IsAccess (FitsPage (held pair.old.paged)) spans.old size }
     ensures alike { AreAlike pair.new.paged pair.new.plain pair.new.rows.items }
 {
     if below(dice, 3) == 0 {

@@ -251,9 +251,9 @@ unfoldable pub script_of : List ℕ → Result ScriptView ScriptFault
 script_of bytes = if nat_lt 1048576 (length bytes) then Err (record { line = 0; kind = TooLong }) else said (lines_of bytes)
 
 -- a fault that was found is that of what was read
-abbrev pub IsFound : ReadRefused → Result ScriptView ScriptFault → Type 0
-IsFound refused.HostMemory read = Unit {0}
-IsFound (refused.Fault fault) read = read ≡ Err fault
+abbrev pub FaultStands : ReadRefused → Result ScriptView ScriptFault → Type 0
+FaultStands refused.HostMemory read = Unit {0}
+FaultStands (refused.Fault fault) read = read ≡ Err fault
 
 -- a refusal is the script's fault, or out of memory where it has none
 abbrev pub IsFaultOf : ReadRefused → Result ScriptView ScriptFault → Type 0

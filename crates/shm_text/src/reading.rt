@@ -1,7 +1,7 @@
 //! Reads a script, line by line from the top.
 ghost use Rattle.std.specs.Prelude.{◌≡◌, ◌<◌, ◌≤◌, ◌++◌, ◌/◌, [], IfOk, OnOk, IsOk, IfErr, Ok, Err, length, not, MatchOption, nat_le, is_some, min};
 ghost use Rattle.std.specs.List.{list_all};
-ghost use Rattle.shm_text.specs.Reading.{told, script_of, without_words, is_wordless, nothing, seen_next, with_item, processes_in, lines_in, is_declared, IsFaultOf, IsFound, HasPlaceFor};
+ghost use Rattle.shm_text.specs.Reading.{told, script_of, without_words, is_wordless, nothing, seen_next, with_item, processes_in, lines_in, is_declared, IsFaultOf, FaultStands, HasPlaceFor};
 ghost use Rattle.shm_text.specs.Words.{lines_of};
 
 use crate::fault::{FaultKind, ReadRefused, ScriptFault};
@@ -201,7 +201,7 @@ fn keep(
 fn read_lines(alloc: Global, bytes: &[u8]) -> Result<Script, ReadRefused>
     requires { length bytes.now ≤ LONGEST_SCRIPT }
     ensures read { IfOk result (λ script. told (lines_of bytes.now) ≡ Ok script) }
-    ensures fault { IfErr result (λ e. IsFound e (told (lines_of bytes.now))) }
+    ensures fault { IfErr result (λ e. FaultStands e (told (lines_of bytes.now))) }
 {
     let mut seen = Seen::new();
     let mut processes = Vec::new(alloc);

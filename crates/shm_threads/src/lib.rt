@@ -8,7 +8,7 @@ mod run;
 mod shared;
 mod worker;
 
-pub use gate::Gate;
+pub use gate::{Gate, OpenGate};
 pub use outcome::{Outcome, RunError};
 pub use run::{run_threads, run_threads_gauged};
 pub use shm_transcripts::{Answer, Entry, Transcript};

@@ -172,7 +172,7 @@ fn planned(alloc: Global, script: &Script) -> Result<Plan, HostMemory>
 // What the joins gave: beside the transcripts and the keeper, the least pid of a worker that the gate ended, and
 // whether a thread was refused.
 #[derive(Drop)]
-struct Run {
+struct Joined {
     transcripts: Vec<Transcript>,
     keeper: Option<Keeper>,
     expired: Option<u32>,
@@ -184,7 +184,7 @@ fn fault<P: Pager>(
     opening: &Opening,
     world: &World<P>,
     script: &Script,
-    run: &Run,
+    run: &Joined,
 ) -> Option<RunError>
     ensures outcome { IfNone result (IsOutcome script.now opening.now world.now run.now.transcripts.items) }
     ensures started { IfNone result (run.now.is_refused ≡ false) }
@@ -202,12 +202,12 @@ fn fault<P: Pager>(
     }
 }
 
-fn ended<P: Pager>(world: World<P>, run: Run) -> (Outcome<P>, Option<Keeper>)
+fn ended<P: Pager>(world: World<P>, run: Joined) -> (Outcome<P>, Option<Keeper>)
     ensures world { result.0.world ≡ world }
     ensures transcripts { result.0.transcripts ≡ run.transcripts }
     ensures keeper { result.1 ≡ run.keeper }
 {
-    let Run {
+    let Joined {
         transcripts,
         keeper,
         expired: _,
@@ -236,7 +236,7 @@ fn run_all<R: Threads + Wait + Sync, G: Gate, P: Pager + Send>(
     script: &Script,
     gate: &G,
     plan: Plan,
-) -> Run
+) -> Joined
     requires { IsPlan script.now.lines plan.jobs plan.handles plan.transcripts }
     ensures { result.is_refused ≡ false → cell_of result.keeper ≡ cell_of keeper }
 {
@@ -248,7 +248,7 @@ fn run_all<R: Threads + Wait + Sync, G: Gate, P: Pager + Send>(
     thread::scope(
         thread::scope_env(),
         rt,
-        move |scope| -> Run
+        move |scope| -> Joined
             requires { IsPlan script.now.lines jobs handles transcripts }
             ensures { result.is_refused ≡ false → cell_of result.keeper ≡ cell_of keeper }
         {
@@ -287,7 +287,7 @@ fn run_all<R: Threads + Wait + Sync, G: Gate, P: Pager + Send>(
             if is_expired {
                 expired = Some(0);
             }
-            Run {
+            Joined {
                 transcripts,
                 keeper,
                 expired,
@@ -298,10 +298,10 @@ fn run_all<R: Threads + Wait + Sync, G: Gate, P: Pager + Send>(
 }
 
 // Where the flusher is refused its thread, no worker is started.
-fn refused(transcripts: Vec<Transcript>) -> Run
+fn refused(transcripts: Vec<Transcript>) -> Joined
     ensures { result.is_refused ≡ true }
 {
-    Run {
+    Joined {
         transcripts,
         keeper: None,
         expired: None,

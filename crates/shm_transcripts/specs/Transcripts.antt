@@ -10,6 +10,7 @@ use Rattle.shm_base.specs.declared.call.Event.{Event}
 use Rattle.shm_base.specs.declared.call.Process.{Process}
 use Rattle.shm_base.specs.declared.errno.Errno.TheVariants.{Esrch}
 use Rattle.shm_base.specs.Memory.{takes_memory}
+use Rattle.shm_base.specs.Processes.{has_pid}
 use Rattle.shm_text.specs.Form.{CommandView}
 use Rattle.shm_text.specs.Script.{ScriptView}
 use Rattle.shm_text.specs.Variables.{no_values, call_of, values_after}
@@ -69,10 +70,7 @@ is_fork_of child _ _ = false
 abbrev pub is_forked : ℕ → List Event → Bool
 is_forked child history = list_any (λ (e : Event). is_fork_of child e.call e.reply) history
 
--- whether a pid is declared, and whether as a child
-abbrev pub is_declared : ℕ → List Process → Bool
-is_declared pid processes = list_any (λ (p : Process). p.pid == pid) processes
-
+-- whether a pid is declared as that of a child
 abbrev pub is_child : ℕ → List Process → Bool
 is_child pid processes = list_any (λ (p : Process). p.pid == pid && not (is_some p.born)) processes
 
@@ -105,5 +103,5 @@ least_of (Some other) pid = min other pid
 
 -- The event is of a declared process, which was live
 pub record IsAdmitted (processes : List Process) (e : Event) : Type 0 where
-  pub declared : is_declared e.pid processes ≡ true
+  pub declared : has_pid e.pid processes ≡ true
   pub live : e.reply ≢ Refused Esrch

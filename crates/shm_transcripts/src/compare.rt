@@ -3,10 +3,10 @@
 ghost use Rattle.std.specs.Prelude.{◌≡◌, ℕ, ◌↔◌, ◌<◌, ◌≤◌, IsNone, IsTrue, All, map, length, drop, true, slice_get};
 ghost use Rattle.shm_base.specs.History.{own_part};
 ghost use Rattle.shm_text.specs.Variables.{no_values};
-ghost use Rattle.shm_transcripts.specs.Transcripts.{commands_of, Follows, told, is_fork_of, is_forked, is_declared, is_child, pid_in, pid_of, HasLines, FitsMark, IsTranscript, IsAdmitted, is_answered, least_of};
+ghost use Rattle.shm_transcripts.specs.Transcripts.{commands_of, Follows, told, is_fork_of, is_forked, is_child, pid_in, pid_of, HasLines, FitsMark, IsTranscript, IsAdmitted, is_answered, least_of};
 
 use crate::transcript::{Answer, Entry, Transcript};
-use shm_base::{Call, Errno, Event, Process, Reply};
+use shm_base::{Call, Errno, Event, Process, Reply, has_pid};
 use shm_text::{Line, Script, Vars};
 
 /// The least pid whose part of the history and whose transcript disagree, or 0 where there is not one transcript for
@@ -60,13 +60,7 @@ fn first_stranger(processes: &[Process], history: &[Event]) -> Option<u32>
 fn is_admitted(processes: &[Process], event: &Event) -> bool
     ensures { IsTrue result ↔ IsAdmitted processes.now event.now }
 {
-    is_declared(processes, event.pid) && event.reply != Reply::Refused(Errno::Esrch)
-}
-
-fn is_declared(processes: &[Process], pid: u32) -> bool
-    ensures { result ≡ is_declared pid processes.now }
-{
-    processes.iter().any(|process| process.pid == pid)
+    has_pid(processes, event.pid) && event.reply != Reply::Refused(Errno::Esrch)
 }
 
 /// The lesser of the least pid so far and another.

@@ -1,4 +1,4 @@
-//! A segment's bytes, and stretches of them read and written.
+//! A segment's bytes, and spans of them read and written.
 ghost use Rattle.std.specs.Prelude.{◌≡◌, ◌+◌, ◌*◌, ◌<◌, ◌≤◌, false, length, replicate, take, drop, IfOk};
 ghost use Rattle.shm_plain.specs.Held.{Held, paste};
 

@@ -1,8 +1,8 @@
 //! The store: its segments, in the order in which they were added.
-ghost use Rattle.std.specs.Prelude.{◌≡◌, ◌+◌, ◌<◌, ◌≤◌, [], length, All, sum_by, map, slice_get, false, true, OnOk, OnErr};
-ghost use Rattle.shm_base.specs.declared.paging.Span.{Span};
+ghost use Rattle.std.specs.Prelude.{◌≡◌, ◌+◌, ◌<◌, ◌≤◌, [], length, map, slice_get, false, true, OnOk, OnErr};
 ghost use Rattle.shm_plain.specs.Apart.{AreHeldApart};
 ghost use Rattle.shm_plain.specs.Held.{find_held, is_held, pasted, with_zeros, without, with_lock, FitsPage, span_bytes, read_from, written};
+ghost use Rattle.shm_plain.specs.Access.{IsAccess};
 
 use crate::segment::Segment;
 use shm_base::{HostMemory, Span};
@@ -112,9 +112,7 @@ impl PlainStore {
     /// Reads the bytes of the spans, one after another, into `out`, which is as long as they are together.
     /// The spans' frames are not looked at.
     pub fn read(&self, spans: &[Span], out: &mut [u8])
-        requires few { length spans.now ≤ 2 }
-        requires fit { All (FitsPage self.now) spans.now }
-        requires size { sum_by (λ (p : Span). p.len) spans.now ≡ length out.old }
+        requires { IsAccess (FitsPage self.now) spans.now (length out.old) }
         ensures { out.new ≡ read_from self.now spans.now }
     {
         let mut done = 0;
@@ -128,9 +126,7 @@ impl PlainStore {
     /// Replaces the bytes of the spans, one span after another, by those of `bytes`, which is as long as
     /// they are together. Where spans share a byte the later one's stays. The spans' frames are not looked at.
     pub fn write(&mut self, spans: &[Span], bytes: &[u8])
-        requires few { length spans.now ≤ 2 }
-        requires fit { All (FitsPage self.old) spans.now }
-        requires size { sum_by (λ (p : Span). p.len) spans.now ≡ length bytes.now }
+        requires { IsAccess (FitsPage self.old) spans.now (length bytes.now) }
         ensures { self.new ≡ written self.old spans.now bytes.now }
     {
         let mut done = 0;

@@ -1,7 +1,7 @@
 //! Each method on its happy path, and failures at the places and of the sides that are listed.
 use bitflags::Flags;
 use shm_base::{AccessLen, AtFlags, Call, Chunk, Cred, Errno, GetFlags, Limits, Process};
-use shm_machine::{Area, AreaKind, Failure, Machine, Refusal, Side};
+use shm_machine::{AreaConfig, AreaKind, Failure, Machine, Refusal, Side};
 use std::alloc::{AllocError, Global};
 use std::test::Fail;
 
@@ -20,7 +20,7 @@ fn machine_over(alloc: Global, kind: AreaKind, failures: &[Failure]) -> Result<M
     match Machine::open(
         alloc,
         limits,
-        &[Area { kind, slots: 8 }],
+        &[AreaConfig { kind, slots: 8 }],
         failures,
         &processes,
     ) {

@@ -2,7 +2,7 @@
 use Rattle.std.specs.Prelude.{ℕ, List, codes}
 use Rattle.std.specs.declared.io.ErrorKind.{ErrorKind}
 use Rattle.std.specs.declared.io.ErrorKind.TheVariants.{OutOfMemory}
-use Rattle.shm_program.specs.Faults.{fault_text, status_of}
+use Rattle.shm_program.specs.Faults.{fault_text, exit_status}
 use Rattle.shm_program.specs.declared.fault.RunFault.TheVariants.{HostMemory}
 use Rattle.shmsim.specs.declared.command.Stop.{Stop}
 use Rattle.shmsim.specs.declared.command.Stop.TheVariants.{Usage, Fault}
@@ -13,7 +13,7 @@ stop_text (Fault fault) = fault_text fault
 
 abbrev pub stop_status : Stop → ℕ
 stop_status Usage = 2
-stop_status (Fault fault) = status_of fault
+stop_status (Fault fault) = exit_status fault
 
 -- words that were not read: the host refused memory, or a word is no text
 abbrev pub io_stop : ErrorKind → Stop

@@ -9,7 +9,7 @@ use clap::error::ErrorKind;
 use clap::{Arg, ArgAction, ArgMatches, Command, Error};
 use shm_base::MOST_AREAS;
 use shm_pager::{MirrorRefused, Pager};
-use shm_program::{RunFault, SwapWord, read_swap};
+use shm_program::{RunFault, SwapWord, read_swaps};
 use std::alloc::{AllocError, AllocFailed, Global};
 use std::rt::Env;
 use std::{env, fmt, io};
@@ -135,17 +135,9 @@ fn read_matches(alloc: Global, matches: &ArgMatches<'_>) -> Result<(Mode, Vec<Sw
         Some("threads") => Mode::Threads,
         _ => return Err(Stop::Usage),
     };
-    let swaps = read_swaps(alloc, matches.get_strs("swap").unwrap_or(&[]))?;
-    Ok((mode, swaps))
-}
-
-fn read_swaps(alloc: Global, words: &[&str]) -> Result<Vec<SwapWord>, Stop> {
-    let mut swaps = Vec::new(alloc);
-    for word in words {
-        match read_swap(word.as_bytes()) {
-            Some(swap) => swaps.push(swap)?,
-            None => return Err(Stop::Usage),
-        }
+    let words = matches.get_strs("swap").unwrap_or(&[]);
+    match read_swaps(alloc, words)? {
+        Some(swaps) => Ok((mode, swaps)),
+        None => Err(Stop::Usage),
     }
-    Ok(swaps)
 }

@@ -3,7 +3,7 @@ use Rattle.std.specs.Prelude.{ℕ, ◌≡◌, ◌<◌, true, List, ◌++◌, cod
 use Rattle.std.specs.Fmt.{decimal}
 use Rattle.shm_text.specs.Script.{ScriptView}
 use Rattle.shm_text.specs.Reading.{script_of}
-use Rattle.shm_program.specs.Faults.{fault_text, status_of}
+use Rattle.shm_program.specs.Faults.{fault_text, exit_status}
 use Rattle.shm_program.specs.Runs.{IsCause, IsSilent, is_serial}
 use Rattle.std.specs.Io.KnownBytes.{Keeps}
 use Rattle.shmview.specs.declared.steps.Steps.{Steps}
@@ -18,7 +18,7 @@ stop_text (Fault fault) = fault_text fault
 abbrev pub stop_status : Stop → ℕ
 stop_status Usage = 2
 stop_status (TooLong steps) = 2
-stop_status (Fault fault) = status_of fault
+stop_status (Fault fault) = exit_status fault
 
 -- the script has so many lines, more than 2,000, and no steps were asked for
 pub record IsTooLong (asked : Option Steps) (script : ScriptView) (n : ℕ) : Type 0 where

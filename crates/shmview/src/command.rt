@@ -1,8 +1,7 @@
 //! The command line.
 use crate::steps::{Steps, read_steps};
 use crate::stop::Stop;
-use shm_base::MOST_AREAS;
-use shm_program::{SwapWord, read_swap};
+use shm_program::{SwapWord, read_swaps};
 use std::alloc::Global;
 use std::env;
 use std::rt::Env;
@@ -20,25 +19,17 @@ pub(crate) fn read_command<R: Env + AllocGlobal>(
 // What the words say, the first of which is the program's name.
 fn read_words(alloc: Global, words: &[String]) -> Result<(Option<Steps>, Vec<SwapWord>), Stop> {
     if words.len() < 3 || words[1].as_str() != "--steps" {
-        return Ok((None, read_swaps(alloc, words.get(1..).unwrap_or(&[]))?));
+        return Ok((None, swaps_in(alloc, words.get(1..).unwrap_or(&[]))?));
     }
     let Some(steps) = read_steps(words[2].as_bytes()) else {
         return Err(Stop::Usage);
     };
-    Ok((Some(steps), read_swaps(alloc, &words[3..])?))
+    Ok((Some(steps), swaps_in(alloc, &words[3..])?))
 }
 
-// One to eight swap areas.
-fn read_swaps(alloc: Global, words: &[String]) -> Result<Vec<SwapWord>, Stop> {
-    if words.is_empty() || words.len() > MOST_AREAS {
-        return Err(Stop::Usage);
+fn swaps_in(alloc: Global, words: &[String]) -> Result<Vec<SwapWord>, Stop> {
+    match read_swaps(alloc, words)? {
+        Some(swaps) => Ok(swaps),
+        None => Err(Stop::Usage),
     }
-    let mut swaps = Vec::new(alloc);
-    for word in words {
-        match read_swap(word.as_bytes()) {
-            Some(swap) => swaps.push(swap)?,
-            None => return Err(Stop::Usage),
-        }
-    }
-    Ok(swaps)
 }

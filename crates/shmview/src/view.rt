@@ -2,7 +2,7 @@
 //! step goes to a writer.
 ghost use Rattle.std.specs.Prelude.{◌≡◌, ◌⊎◌, ◌≤◌, [], length, map, None, OnOk, IfErr, IfSome, MatchOption};
 ghost use Rattle.std.specs.Io.KnownBytes.{Appends, IsAtEnd};
-ghost use Rattle.shm_program.specs.Runs.{Prints, Writes, IsOpening};
+ghost use Rattle.shm_program.specs.Runs.{Prints, IsWritten, IsOpening};
 ghost use Rattle.shmview.specs.Record.{IsRecord};
 ghost use Rattle.shmview.specs.Stop.{IsStopIn, IsStopOf, IsTooLong, WritesNothing};
 
@@ -62,7 +62,7 @@ fn view_script<W: Write, P: Pager>(
     pagers: Vec<P>,
     asked: Option<Steps>,
 ) -> Result<(), Stop>
-    ensures ok { OnOk result (Writes (IsRecord asked script.now (map (λ p. length (P.content p)) pagers.items)) (W.contents writer.old) (W.contents writer.new)) }
+    ensures ok { OnOk result (IsWritten (IsRecord asked script.now (map (λ p. length (P.content p)) pagers.items)) (W.contents writer.old) (W.contents writer.new)) }
     ensures cause { IfErr result (λ s. IsStopIn s asked (map (λ p. length (P.content p)) pagers.items) script.now) }
     ensures silent { IfErr result (λ s. WritesNothing s (W.contents writer.old) (W.contents writer.new)) }
 {
@@ -87,7 +87,7 @@ fn view_in<W: Write, P: Pager>(
     requires events { world.old.events ≡ [] }
     requires opened { IsOpening script.now world.old.opening }
     requires few { asked ≡ None → length script.now.lines ≤ 2000 }
-    ensures ok { OnOk result (Writes (IsRecord asked script.now world.old.opening.areas) (W.contents writer.old) (W.contents writer.new)) }
+    ensures ok { OnOk result (IsWritten (IsRecord asked script.now world.old.opening.areas) (W.contents writer.old) (W.contents writer.new)) }
     ensures fault { IfErr result (λ s. (s ≡ Stop.Fault RunFault.HostMemory) ⊎ (s ≡ Stop.Fault RunFault.WriteFailed)) }
     ensures silent { IfErr result (λ s. WritesNothing s (W.contents writer.old) (W.contents writer.new)) }
 {

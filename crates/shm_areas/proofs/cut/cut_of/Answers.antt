@@ -1,4 +1,4 @@
-use Rattle.shm_areas.proofs.Names.{◌≡◌, ◌-◌, ◌++◌, suc, sym, arith, get_or, take-append-drop, splice, lowest_address, kept_below, kept_above, kept_cut, IsRun}
+use Rattle.shm_areas.proofs.Names.{◌≡◌, ◌-◌, ◌++◌, suc, sym, arith, get_or, take-append-drop, splice, lowest_address, kept_below, kept_above, kept_cut, IsPieceRange}
 use Rattle.shm_areas.proofs.Placing.{nothing, fit_at}
 use Rattle.shm_areas.proofs.Cuts.{cut-none, cut-run}
 use Rattle.shm_areas.proofs.cut.cut_of.Goals as goal
@@ -7,7 +7,7 @@ pub returns-then-run : goal.returns-then-run
 returns-then-run c =
     let r = c.run_in-run.ensures in
     let same : c.run_in-run.result.last ≡ c.run_in-run.result.first = sym c.if-run.true in
-    let ends : IsRun c.args.from c.args.to c.args.pieces.now c.run_in-run.result.first c.run_in-run.result.first = rw same at r in
+    let ends : IsPieceRange c.args.from c.args.to c.args.pieces.now c.run_in-run.result.first c.run_in-run.result.first = rw same at r in
     record {
       order = r.order;
       bound = r.bound;
@@ -35,7 +35,7 @@ returns c =
     let last = c.run_in-run.result.last in
     let order = r.order in
     let next : suc (last - 1) ≡ last = omega (arith, c.if-run.false) in
-    let run : IsRun c.args.from c.args.to ps first (suc (last - 1)) = rw next r in
+    let run : IsPieceRange c.args.from c.args.to ps first (suc (last - 1)) = rw next r in
     let left = cut-run c.args.from c.args.to first (last - 1) lowest_address ps nothing c.requires.arranged run (omega (arith, c.if-run.false)) in
     let whole : splice ps first last (kept_below c.args.from (get_or ps first nothing) ++ kept_above c.args.to (get_or ps (last - 1) nothing))
     ≡ kept_cut c.args.from c.args.to ps = rw next at left in

@@ -1,4 +1,4 @@
-use Rattle.shm_attach.proofs.Names.{◌≡◌, ℕ, ◌+◌, ◌*◌, ◌<◌, ◌≤◌, Option, drop, pieces_of, cut, bare_all, AllTrue, counted, IsHeld, IsTied, Piece}
+use Rattle.shm_attach.proofs.Names.{◌≡◌, ℕ, ◌+◌, ◌*◌, ◌<◌, ◌≤◌, Option, drop, pieces_of, cut, bare_all, AllTrue, counted, IsHeld, OneTableEach, Piece}
 use Rattle.shm_attach.proofs.changes.recount.Given as goal
 
 -- what is left to count, and that there is room for it
@@ -11,5 +11,5 @@ invariant-loop-piece l =
       small : (id : ℕ) → counted l.tables id ≤ 65536 + 2 * l.piece-index;
       held : (p : Piece) → IsHeld l.initial.tables.slab p → 0 < counted l.tables p.seg → IsHeld l.tables.slab p;
       translated : (at : ℕ → ℕ → Option ℕ) → AllTrue at l.initial.tables.slab → AllTrue at l.tables.slab;
-      tied : IsTied l.tables;
+      tied : OneTableEach l.tables;
     }

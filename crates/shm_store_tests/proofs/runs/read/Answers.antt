@@ -2,8 +2,8 @@ use Rattle.shm_store_tests.proofs.Names.{refl}
 use Rattle.shm_store_tests.proofs.Rows.{access-named, frames-named}
 use Rattle.shm_store_tests.proofs.runs.read.Goals as goal
 
-pub read-requires-clause-fit : goal.read-requires-clause-fit
-read-requires-clause-fit g c = rw c.name_frames.ensures (access-named c.args.pair.now.paged c.args.pair.now.paged c.args.spans.now _ c.requires.spans refl).fit
+pub read-requires-clause-spans : goal.read-requires-clause-spans
+read-requires-clause-spans g c = rw c.name_frames.ensures (access-named c.args.pair.now.paged c.args.pair.now.paged c.args.spans.now _ c.requires.spans refl)
 
 pub read-requires-clause-frames : goal.read-requires-clause-frames
 read-requires-clause-frames g c = rw c.name_frames.ensures (frames-named c.args.pair.now.paged c.args.spans.now)

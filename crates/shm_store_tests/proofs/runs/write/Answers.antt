@@ -1,18 +1,18 @@
-use Rattle.shm_store_tests.proofs.Names.{refl, All, FitsPage, held}
+use Rattle.shm_store_tests.proofs.Names.{refl, All, IsAccess, FitsPage, held}
 use Rattle.shm_store_tests.proofs.Rows.{access-named, frames-named, alike-written}
 use Rattle.shm_store_tests.proofs.runs.write.Goals as goal
 
-pub write-requires-clause-fit : goal.write-requires-clause-fit
-write-requires-clause-fit g c = rw c.name_frames.ensures (access-named c.args.pair.now.paged c.args.pair.now.paged c.args.spans.now _ c.requires.spans refl).fit
+pub write-requires-clause-spans : goal.write-requires-clause-spans
+write-requires-clause-spans g c = rw c.name_frames.ensures (access-named c.args.pair.now.paged c.args.pair.now.paged c.args.spans.now _ c.requires.spans refl)
 
 pub write-requires-clause-frames : goal.write-requires-clause-frames
 write-requires-clause-frames g c = rw c.name_frames.ensures (frames-named c.args.pair.now.paged c.args.spans.now)
 
-pub write-requires-in-Ok-clause-fit : goal.write-requires-in-Ok-clause-fit
-write-requires-in-Ok-clause-fit g c =
+pub write-requires-in-Ok : goal.write-requires-in-Ok
+write-requires-in-Ok g c =
     let s = c.args.pair.now.paged in
-    let fit : All (FitsPage (held s)) c.name_frames.new.spans = rw c.name_frames.ensures (access-named s s c.args.spans.now _ c.requires.spans refl).fit in
-    rw c.requires.alike.same fit
+    let named : IsAccess (FitsPage (held s)) c.name_frames.new.spans _ = rw c.name_frames.ensures (access-named s s c.args.spans.now _ c.requires.spans refl) in
+    rw c.requires.alike.same named
 
 pub returns-in-Ok : goal.returns-in-Ok
 returns-in-Ok g c =

@@ -1,4 +1,4 @@
-use Rattle.shm_fault.proofs.Names.{◌≡◌, ◌≤◌, ◌+◌, None, sum_by, inl, inr, arith, pages_held, slots, find_seg, pages_of, held, IsStoreSound, common_steps, nat_tests}
+use Rattle.shm_fault.proofs.Names.{◌≡◌, ◌≤◌, ◌+◌, None, sum_by, inl, inr, arith, pages_held, slots, find_seg, page_count, held, IsStoreSound, common_steps, nat_tests}
 use Rattle.shm_fault.specs.Store.{frame_of}
 use Rattle.shm_fault.proofs.Seen.{seen}
 use Rattle.shm_fault.proofs.Failures.{OnOk-map, either_way}
@@ -14,7 +14,7 @@ sound : (g : given.Over) (c : After-add g) → find_seg c.self.inside.segs c.arg
 sound g c none =
     let s = seen c.self.inside in
     let room₀ : pages_held (held s) + c.args.pages ≤ slots s.swap = rw (← c.self.view_is) at c.requires.room in
-    let room : sum_by pages_of s.segs + c.args.pages ≤ slots s.swap = rw (pages_held-is s c.self.invariant) at room₀ in
+    let room : sum_by page_count s.segs + c.args.pages ≤ slots s.swap = rw (pages_held-is s c.self.invariant) at room₀ in
     grind (arith, sound-added s c.self.invariant c.args.seg c.args.pages none room)
 
 pub add-requires : goal.add-requires

@@ -1,3 +1,4 @@
+use Rattle.std.proofs.Common.{refl}
 use Rattle.shm_fault.proofs.Bringing.{accessed, accessed-not}
 use Rattle.shm_fault.proofs.store.PageStore.add_with.Goals as goal
 
@@ -7,4 +8,8 @@ returns-in-Err-clause-access g c = accessed-not c.args.spans.now c.args.self.now
 pub returns-clause-access : goal.returns-clause-access
 returns-clause-access g c =
     let e = c.store_spans.ensures in
-    rw e.rest (accessed c.args.self.now c.bring_spans.new.self c.store_spans.new.self.frames e.count e.bits (rw e.rest at e.sound) c.args.spans.now c.in-Ok.here c.bring_spans.new.touched c.requires.few c.in-Ok.ensures.brings c.in-Ok.ensures.here)
+    rw e.rest (accessed c.args.self.now c.bring_spans.new.self c.store_spans.new.self.frames e.count e.bits (rw e.rest at e.sound) c.args.spans.now c.in-Ok.here c.bring_spans.new.touched c.requires.spans.few c.in-Ok.ensures.brings c.in-Ok.ensures.here)
+
+pub returns-clause-written : goal.returns-clause-written
+returns-clause-written g c =
+    rw (c.store_spans.ensures.written, c.to_le_bytes.ensures, c.from_le_bytes.ensures, c.copy_spans.ensures, c.in-Ok.ensures.brings.goes.bytes) refl

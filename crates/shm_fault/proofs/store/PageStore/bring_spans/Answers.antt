@@ -1,22 +1,21 @@
-use Rattle.shm_fault.proofs.Names.{common_steps, arith, is_ok, AreIn, Brings}
-use Rattle.std.specs.Prelude.{IfOk}
-use Rattle.shm_fault.proofs.Bringing.{first_frame, second_frame, list-one, list-two}
-use Rattle.shm_fault.proofs.store.PageStore.bring_spans.Given as given
+use Rattle.shm_fault.proofs.Names.{arith, common_steps}
+use Rattle.shm_fault.specs.Store.{frame_of}
+use Rattle.shm_fault.proofs.Bringing.{one-of, two-of}
 use Rattle.shm_fault.proofs.store.PageStore.bring_spans.Goals as goal
-use Rattle.shm_fault.proofs.store.PageStore.bring_spans.Goals.{After-self-2, in-Some-get, in-None}
+use Rattle.shm_fault.proofs.store.PageStore.bring_spans.Goals.{in-empty, in-len1, in-len2-up}
 
 pub bring_two-brought-requires-clause-frames : goal.bring_two-brought-requires-clause-frames
-bring_two-brought-requires-clause-frames g c = grind (arith, first_frame, second_frame)
+unfolding frame_of
+bring_two-brought-requires-clause-frames g c = (c.requires.frames 0 _ (omega arith), c.requires.frames 1 _ (omega arith))
 
 pub bring_one-brought-requires-clause-frame : goal.bring_one-brought-requires-clause-frame
-bring_one-brought-requires-clause-frame g c = first_frame c.args.self.now c.args.spans.now c.in-Some.first.now c.in-Some.ensures.value c.requires.frames
-
-brought : (g : given.Over) (c : After-self-2 g)
-    → IfOk c.match-get.brought (AreIn c.match-get.self c.args.spans.now) × Brings c.args.spans.now c.args.self.now c.match-get.self c.match-get.touched (is_ok c.match-get.brought)
-brought g c = grind (arith, common_steps)
-
-pub returns-clause-here : goal.returns-clause-here
-returns-clause-here g c = (brought g (goal.at.returns-clause-here g c).After-self-2).0
+unfolding frame_of
+bring_one-brought-requires-clause-frame g c = c.requires.frames 0 _ (omega arith)
 
 pub returns-clause-brings : goal.returns-clause-brings
-returns-clause-brings g c = (brought g (goal.at.returns-clause-brings g c).After-self-2).1
+returns-clause-brings g c =
+    elim c.if-spans-lt1.branch [
+      | in-empty w ↦ grind (arith, common_steps)
+      | in-len1 w ↦ rw (w.self-is, w.touched-is, w.brought-is) (rw (one-of c.args.spans.now (omega arith)) at w.bring_one-brought.ensures.brings)
+      | in-len2-up w ↦ rw (w.self-is, w.touched-is, w.brought-is) (rw (two-of c.args.spans.now (omega (arith, c.requires.few))) at w.bring_two-brought.ensures.brings)
+    ]

@@ -4,7 +4,7 @@ use Rattle.shm_fault.proofs.store.PageStore.bring_two.Given as given
 use Rattle.shm_fault.proofs.store.PageStore.bring_two.Goals as goal
 use Rattle.shm_fault.proofs.store.PageStore.bring_two.Goals.{After-visit, After-visit-2}
 
--- the visit to the first page, by the stretch that names it
+-- the visit to the first page, by the span that names it
 near : (g : given.Over) (c : After-visit g) (ok : Bool)
     → Visited c.page_at-page.result None c.args.first.now.frame c.args.self.now c.visit.new.self c.args.touched.now c.visit.new.touched ok
     → Visited (ref_of c.args.first.now) None (frame_by c.args.self.now (ref_of c.args.first.now)) c.args.self.now c.visit.new.self c.args.touched.now c.visit.new.touched ok

@@ -18,8 +18,8 @@ done g c =
 pub empty_frame-requires : goal.empty_frame-requires
 empty_frame-requires g c = λ f e. (frame-own (seen c.self.inside) c.self.invariant c.args.page f (rw c.page-place.ensures at e)).0
 
-pub free_slot-requires : goal.free_slot-requires
-free_slot-requires g c = λ k e. (slot-own (seen c.self.inside) c.self.invariant c.args.page k (rw c.page-place.ensures at e)).0
+pub free_slot-requires-clause-there : goal.free_slot-requires-clause-there
+free_slot-requires-clause-there g c = λ k e. (slot-own (seen c.self.inside) c.self.invariant c.args.page k (rw c.page-place.ensures at e)).0
 
 pub invariant_of-self : goal.invariant_of-self
 invariant_of-self g c = (done g c).sound

@@ -7,4 +7,4 @@ returns-in-Err-clause-access g c = accessed-not c.args.spans.now c.args.self.now
 pub returns-clause-access : goal.returns-clause-access
 returns-clause-access g c =
     let e = c.store_spans.ensures in
-    rw e.rest (accessed c.args.self.now c.bring_spans.new.self c.store_spans.new.self.frames e.count e.bits (rw e.rest at e.sound) c.args.spans.now c.in-Ok.here c.bring_spans.new.touched c.requires.few c.in-Ok.ensures.brings c.in-Ok.ensures.here)
+    rw e.rest (accessed c.args.self.now c.bring_spans.new.self c.store_spans.new.self.frames e.count e.bits (rw e.rest at e.sound) c.args.spans.now c.in-Ok.here c.bring_spans.new.touched c.requires.spans.few c.in-Ok.ensures.brings c.in-Ok.ensures.here)

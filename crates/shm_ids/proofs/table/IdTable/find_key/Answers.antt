@@ -1,4 +1,4 @@
-use Rattle.shm_ids.proofs.Names.{rules, pos, ◌≡◌, ◌%◌, sym, ap, ◌∙◌, arith, common_steps, get_or_read, id_at, entry_at, unused, identifier}
+use Rattle.shm_ids.proofs.Names.{rules, pos, ◌≡◌, ◌%◌, sym, ap, ◌∙◌, arith, common_steps, get_or_read, id_at, entry_at, unused, identifier, to_z, of_z, w32}
 use Rattle.shm_ids.proofs.Keys.{find_key-get}
 use Rattle.shm_ids.proofs.Steps.{named}
 use Rattle.shm_ids.proofs.Look.{look-found, identifier-mod}
@@ -25,7 +25,8 @@ returns-clause-live g c =
     let n = named _ _ c.args.key _ _ c.self.invariant.0 got in
     let read = get_or_read _ _ _ n.within c.index.ensures unused in
     let id : c.id_of.result ≡ id_at t c.in_ok-index.field-0.now = c.id_of.ensures ∙ ap (λ e. pos (identifier c.in_ok-index.field-0.now e.destroyed)) read in
-    grind (arith, common_steps, look-found)
+    let signed : to_z w32 (of_z w32 c.id_of.result) ≡ c.id_of.result = search rules in
+    rw (signed, ← c.self.view_is, id) (look-found t _ c.args.key c.in_ok-index.field-0.now _ c.self.invariant.0 got)
 
 pub returns-clause-index : goal.returns-clause-index
 returns-clause-index g c =

@@ -8,9 +8,9 @@ use Rattle.shm_life.proofs.kernel.Kernel.load.Given.{Over}
 use Rattle.shm_life.proofs.kernel.Kernel.load.Goals as goal
 use Rattle.shm_life.proofs.kernel.Kernel.load.Goals.{After-note}
 
-pub read-read-requires-clause-fit : goal.read-read-requires-clause-fit
-read-read-requires-clause-fit g c =
-    rw c.as_slice.ensures.value (spans-there _ _ c.args.caller.now c.in-Ok.spans (rw (← c.self.view_is) at c.requires) c.self.invariant.kept.pieces c.in-Ok.ensures.within c.in-Ok.ensures.pages)
+pub read-read-requires-clause-spans : goal.read-read-requires-clause-spans
+read-read-requires-clause-spans g c =
+    rw c.as_slice.ensures.value (spans-there _ _ c.args.caller.now c.in-Ok.spans _ (rw (← c.self.view_is) at c.requires) c.self.invariant.kept.pieces (rw c.as_slice.ensures.value at c.as_slice.ensures.few.1) c.in-Ok.ensures.within (grind (arith, common_steps)) c.in-Ok.ensures.pages)
 
 -- as many bytes were read as were asked for
 size : (g : Over) (c : After-note g) → c.args.len ≡ length c.read-read.new.out

@@ -1,4 +1,4 @@
-use Rattle.shm_life.proofs.Names.{true, false, length, refl, sym, ◌∙◌, span_places, Machine, IsCaller, pieces_at, store-wanted, sizes, SameTable, stored-same, IsWell}
+use Rattle.shm_life.proofs.Names.{arith, common_steps, true, false, length, refl, sym, ◌∙◌, span_places, Machine, IsCaller, pieces_at, store-wanted, sizes, SameTable, stored-same, IsWell}
 use Rattle.shm_life.proofs.Settled.{noted-well, moved-by}
 use Rattle.shm_life.proofs.Changed.{spans-there, asked, either-same}
 use Rattle.shm_life.proofs.Running.{ok_fact}
@@ -6,9 +6,9 @@ use Rattle.shm_life.proofs.kernel.Kernel.store.Given.{Over}
 use Rattle.shm_life.proofs.kernel.Kernel.store.Goals as goal
 use Rattle.shm_life.proofs.kernel.Kernel.store.Goals.{After-note}
 
-pub write-written-requires-clause-fit : goal.write-written-requires-clause-fit
-write-written-requires-clause-fit g c =
-    rw c.as_slice.ensures.value (spans-there _ _ c.args.caller.now c.in-Ok.spans (rw (← c.self.view_is) at c.requires) c.self.invariant.kept.pieces c.in-Ok.ensures.within c.in-Ok.ensures.pages)
+pub write-written-requires-clause-spans : goal.write-written-requires-clause-spans
+write-written-requires-clause-spans g c =
+    rw c.as_slice.ensures.value (spans-there _ _ c.args.caller.now c.in-Ok.spans _ (rw (← c.self.view_is) at c.requires) c.self.invariant.kept.pieces (rw c.as_slice.ensures.value at c.as_slice.ensures.few.1) c.in-Ok.ensures.within (grind (arith, common_steps)) c.in-Ok.ensures.pages)
 
 -- done or not
 well : (g : Over) (c : After-note g) → IsWell c.self.inside.limits c.write-written.new.self.table c.note.new.self.runners c.note.new.self.translations c.write-written.new.self.memory

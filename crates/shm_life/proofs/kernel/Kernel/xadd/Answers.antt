@@ -1,13 +1,13 @@
-use Rattle.shm_life.proofs.Names.{false, span_places, SameTable, stored-same, IsWell}
+use Rattle.shm_life.proofs.Names.{arith, common_steps, false, span_places, SameTable, stored-same, IsWell}
 use Rattle.shm_life.proofs.Settled.{noted-well, moved-by}
 use Rattle.shm_life.proofs.Changed.{spans-there, either-same}
 use Rattle.shm_life.proofs.kernel.Kernel.xadd.Given.{Over}
 use Rattle.shm_life.proofs.kernel.Kernel.xadd.Goals as goal
 use Rattle.shm_life.proofs.kernel.Kernel.xadd.Goals.{After-note}
 
-pub add-added-requires-clause-fit : goal.add-added-requires-clause-fit
-add-added-requires-clause-fit g c =
-    rw c.as_slice.ensures.value (spans-there _ _ c.args.caller.now c.in-Ok.spans (rw (← c.self.view_is) at c.requires) c.self.invariant.kept.pieces c.in-Ok.ensures.within c.in-Ok.ensures.pages)
+pub add-added-requires-clause-spans : goal.add-added-requires-clause-spans
+add-added-requires-clause-spans g c =
+    rw c.as_slice.ensures.value (spans-there _ _ c.args.caller.now c.in-Ok.spans _ (rw (← c.self.view_is) at c.requires) c.self.invariant.kept.pieces (rw c.as_slice.ensures.value at c.as_slice.ensures.few.1) c.in-Ok.ensures.within (grind (arith, common_steps)) c.in-Ok.ensures.pages)
 
 -- done or not
 well : (g : Over) (c : After-note g) → IsWell c.self.inside.limits c.add-added.new.self.table c.note.new.self.runners c.note.new.self.translations c.add-added.new.self.memory

@@ -6,13 +6,13 @@ use Rattle.shm_segments.proofs.segments.Segments.add.Given.{Over}
 use Rattle.shm_segments.proofs.segments.Segments.add.Goals as goal
 use Rattle.shm_segments.proofs.segments.Segments.add.Goals.{After-self, After-add_with}
 
-pub add_with-requires-clause-fit : goal.add_with-requires-clause-fit
-add_with-requires-clause-fit g c = spans-fit (held c.self.inside.store) c.self.inside.table c.args.spans.now c.self.invariant.kept.agree (rw (← c.self.view_is) at c.requires.fit)
+pub add_with-requires-clause-spans : goal.add_with-requires-clause-spans
+add_with-requires-clause-spans g c = let a = rw (← c.self.view_is) at c.requires.spans in record { few = a.few; fit = spans-fit _ _ c.args.spans.now c.self.invariant.kept.agree a.fit; sum = a.sum }
 
 number : (g : Over) (c : After-self g) → number_at (joined (held c.self.inside.store) c.self.inside.table) (span_places false c.args.spans.now) ≡ number_in (held c.self.inside.store) c.args.spans.now
 number g c =
     let agree = c.self.invariant.kept.agree in
-    number_shown (held c.self.inside.store) c.self.inside.table c.args.spans.now agree (spans-fit _ _ c.args.spans.now agree (rw (← c.self.view_is) at c.requires.fit))
+    number_shown (held c.self.inside.store) c.self.inside.table c.args.spans.now agree (spans-fit _ _ c.args.spans.now agree (rw (← c.self.view_is) at c.requires.spans.fit))
 
 pub returns-clause-number : goal.returns-clause-number
 returns-clause-number g c = rw (← c.self.view_is, number g (goal.at.returns-clause-number g c).After-self) c.add_with.ensures.number
@@ -21,7 +21,7 @@ done : (g : Over) (c : After-add_with g)
     → Wrote c.add_with.result c.self.inside.store c.add_with.new.self c.self.inside.table c.self.inside.reserved c.self.inside.locked c.args.spans.now (to_le_bytes w64 ((number_in (held c.self.inside.store) c.args.spans.now + c.args.more) % 2 ^ 64))
 done g c =
     let e = c.add_with.ensures in
-    wrote c.add_with.result _ _ _ _ _ _ _ c.self.invariant (rw (← c.self.view_is) at c.requires.fit) c.requires.size e.written e.same e.access.sound e.access.kept e.access.counts e.access.size
+    wrote c.add_with.result _ _ _ _ _ _ _ c.self.invariant (rw (← c.self.view_is) at c.requires.spans.fit) c.requires.spans.sum e.written e.same e.access.sound e.access.kept e.access.counts e.access.size
 
 pub invariant_of-self : goal.invariant_of-self
 invariant_of-self g c = (done g (goal.at.invariant_of-self g c).After-add_with).whole

@@ -1,7 +1,7 @@
-use Rattle.shm_segments.proofs.Names.{◌≡◌, ◌≤◌, pos, true, List, [], ◌∷◌, ◌++◌, refl, Some, sym, ap, ◌∙◌, arith, to_z, of_z, w32, pages_of, reserved, with_row, with_zeros, new_seg, StoreView, held, SegmentsView, find-zeros_same, common_steps, is_some, FlatEntry}
+use Rattle.shm_segments.proofs.Names.{◌≡◌, pos, List, [], ◌∷◌, ◌++◌, refl, Some, sym, ap, ◌∙◌, arith, to_z, of_z, w32, pages_of, reserved, with_row, with_zeros, new_seg, StoreView, held, find-zeros_same, find_key-absent, whole, common_steps, is_some, FlatEntry}
 use Rattle.shm_segments.proofs.Rows.{id_of}
 use Rattle.shm_segments.proofs.Looking.{none-mapped}
-use Rattle.shm_segments.proofs.Making.{kept-made, made-joined, free-some, IsNext, next-free, key-absent, few-pages}
+use Rattle.shm_segments.proofs.Making.{kept-made, made-joined, free-some, IsNext, next-free}
 use Rattle.shm_segments.proofs.Sums.{reserved-joined}
 use Rattle.shm_segments.proofs.Remembered.{undone, runs-zeros}
 use Rattle.shm_segments.proofs.segments.Segments.create.Given.{Over}
@@ -24,7 +24,7 @@ pub add_segment-requires-clause-room : goal.add_segment-requires-clause-room
 add_segment-requires-clause-room g c = grind (arith, common_steps, c.self.invariant.kept, c.self.view_is, c.requires.room, reserved-joined)
 
 pub put-requires-clause-absent : goal.put-requires-clause-absent
-put-requires-clause-absent g c = rw c.next_id.ensures.same (key-absent (held c.self.inside.store) c.self.inside.table c.args.key (rw (← c.self.view_is) at c.requires.absent))
+put-requires-clause-absent g c = rw c.next_id.ensures.same (find_key-absent (whole (held c.self.inside.store)) (λ id r. refl) c.self.inside.table c.args.key (rw (← c.self.view_is) at c.requires.absent))
 
 pub put-requires-clause-free : goal.put-requires-clause-free
 put-requires-clause-free g c = rw c.next_id.ensures.same (free-some (held c.self.inside.store) c.self.inside.table (rw (← c.self.view_is) at c.requires.free))

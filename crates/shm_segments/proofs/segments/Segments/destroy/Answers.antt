@@ -1,6 +1,5 @@
 use Rattle.shm_segments.proofs.Names.{ap, ◌∙◌, arith, destroyed, held, SegmentsView, common_steps}
 use Rattle.shm_segments.proofs.Finding.{is_live-row}
-use Rattle.shm_segments.proofs.Joins.{same-held}
 use Rattle.shm_segments.proofs.Making.{kept-without}
 use Rattle.shm_segments.proofs.Remembered.{runs-without}
 use Rattle.shm_segments.proofs.segments.Segments.destroy.Goals as goal

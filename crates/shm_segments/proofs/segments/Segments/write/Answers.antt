@@ -8,10 +8,10 @@ use Rattle.shm_segments.proofs.segments.Segments.write.Goals.{After-write_with}
 done : (g : Over) (c : After-write_with g) → Wrote c.write_with.result c.self.inside.store c.write_with.new.self c.self.inside.table c.self.inside.reserved c.self.inside.locked c.args.spans.now c.args.bytes.now
 done g c =
     let e = c.write_with.ensures in
-    wrote c.write_with.result _ _ _ _ _ _ _ c.self.invariant (rw (← c.self.view_is) at c.requires.fit) c.requires.size e.written e.same e.access.sound e.access.kept e.access.counts e.access.size
+    wrote c.write_with.result _ _ _ _ _ _ _ c.self.invariant (rw (← c.self.view_is) at c.requires.spans.fit) c.requires.spans.sum e.written e.same e.access.sound e.access.kept e.access.counts e.access.size
 
-pub write_with-requires-clause-fit : goal.write_with-requires-clause-fit
-write_with-requires-clause-fit g c = spans-fit (held c.self.inside.store) c.self.inside.table c.args.spans.now c.self.invariant.kept.agree (rw (← c.self.view_is) at c.requires.fit)
+pub write_with-requires-clause-spans : goal.write_with-requires-clause-spans
+write_with-requires-clause-spans g c = let a = rw (← c.self.view_is) at c.requires.spans in record { few = a.few; fit = spans-fit _ _ c.args.spans.now c.self.invariant.kept.agree a.fit; sum = a.sum }
 
 pub invariant_of-self : goal.invariant_of-self
 invariant_of-self g c = (done g (goal.at.invariant_of-self g c).After-write_with).whole

@@ -1,5 +1,5 @@
 use Rattle.std.proofs.Common.{arith}
-use Rattle.shm_slots.proofs.Changes.{area-within, slot-within, IsSwap-owner, IsSteady-owner}
+use Rattle.shm_slots.proofs.Changes.{area_within, slot_within, IsSwap-owner, IsSteady-owner}
 use Rattle.shm_slots.proofs.swap.Swap.give_slot.Goals as goal
 
 pub invariant_of-self : goal.invariant_of-self
@@ -14,7 +14,7 @@ pub returns-clause-sound : goal.returns-clause-sound
 returns-clause-sound g c = invariant_of-self g c
 
 pub give-requires : goal.give-requires
-give-requires g c = slot-within _ _ _ _ _ c.self.view_is c.index_mut.ensures.value c.requires
+give-requires g c = slot_within _ _ _ _ _ c.self.view_is c.index_mut.ensures.value c.requires
 
 pub index_mut-requires : goal.index_mut-requires
-index_mut-requires g c = omega (arith, area-within _ _ _ c.self.view_is c.requires.0)
+index_mut-requires g c = omega (arith, area_within _ _ _ c.self.view_is c.requires.0)

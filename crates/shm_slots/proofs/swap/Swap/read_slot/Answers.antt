@@ -1,7 +1,7 @@
-use Rattle.std.proofs.Common.{refl, arith}
+use Rattle.std.proofs.Common.{refl}
 use Rattle.std.proofs.lemmas.Result.{IfErr-weaker, IfOk-weaker}
 use Rattle.shm_slots.specs.View.{HasSlot}
-use Rattle.shm_slots.proofs.Changes.{area-within, Asked, asked, asked-same, slot-within, SameSlots-asked}
+use Rattle.shm_slots.proofs.Changes.{Asked, asked, asked-same, SameSlots-asked}
 use Rattle.shm_slots.proofs.swap.Swap.read_slot.Given.{Over}
 use Rattle.shm_slots.proofs.swap.Swap.read_slot.Goals as goal
 use Rattle.shm_slots.proofs.swap.Swap.read_slot.Goals.{After-stays_unspent-self-inside}
@@ -47,9 +47,3 @@ returns-clause-err g c =
 
 pub returns-clause-others : goal.returns-clause-others
 returns-clause-others g c = rw (← c.self.view_is, c.stays_unspent-self-inside.ensures, (done g (goal.at.returns-clause-others g c).After-stays_unspent-self-inside).after) refl
-
-pub read-result-requires : goal.read-result-requires
-read-result-requires g c = slot-within _ _ _ _ _ c.self.view_is c.index_mut-area.ensures.value c.requires
-
-pub index_mut-area-requires : goal.index_mut-area-requires
-index_mut-area-requires g c = omega (arith, area-within _ _ _ c.self.view_is c.requires.0)

@@ -1,7 +1,7 @@
 use Rattle.std.proofs.Common.{Some, arith}
 use Rattle.shm_slots.specs.View.{with_owner}
 use Rattle.shm_slots.proofs.Counts.{IsLeastFree-first}
-use Rattle.shm_slots.proofs.Changes.{area-within, area-set, IsSwap-owner, IsSteady-owner}
+use Rattle.shm_slots.proofs.Changes.{area_within, area-set, IsSwap-owner, IsSteady-owner}
 use Rattle.shm_slots.proofs.swap.Swap.take_free.Goals as goal
 
 pub returns-clause-steady : goal.returns-clause-steady
@@ -29,4 +29,4 @@ returns-clause-taken g c =
     area-set (λ b. with_owner b c.in_ok-slot.slot.slot (Some c.args.owner)) _ _ _ _ _ c.self.view_is c.index_mut.ensures.value c.in_ok-slot.ensures.there.0 c.take.ensures.taken
 
 pub index_mut-requires : goal.index_mut-requires
-index_mut-requires g c = omega (arith, area-within _ _ _ c.self.view_is c.in_ok-slot.ensures.there.0)
+index_mut-requires g c = omega (arith, area_within _ _ _ c.self.view_is c.in_ok-slot.ensures.there.0)

@@ -1,5 +1,5 @@
 use Rattle.std.proofs.Common.{arith}
-use Rattle.shm_slots.proofs.Changes.{area-within, area-set, IsSwap-off, GoesOn-off, total-off, sizes-off}
+use Rattle.shm_slots.proofs.Changes.{area_within, area-set, IsSwap-off, GoesOn-off, total-off, sizes-off}
 use Rattle.shm_slots.specs.View.{off}
 use Rattle.shm_slots.proofs.swap.Swap.turn_off.Goals as goal
 
@@ -23,4 +23,4 @@ pub returns-clause-gone : goal.returns-clause-gone
 returns-clause-gone g c = area-set off _ _ _ _ _ c.self.view_is c.index_mut.ensures.value c.requires.there c.turn_off.ensures.gone
 
 pub index_mut-requires : goal.index_mut-requires
-index_mut-requires g c = omega (arith, area-within _ _ _ c.self.view_is c.requires.there)
+index_mut-requires g c = omega (arith, area_within _ _ _ c.self.view_is c.requires.there)

@@ -2,7 +2,7 @@ use Rattle.std.proofs.Common.{◌≡◌, ◌+◌, ◌-◌, length, ap, ◌∙◌
 use Rattle.std.proofs.lemmas.List.Sums.{sum_by-drop_more}
 use Rattle.shm_base.specs.declared.paging.Span.{Span}
 use Rattle.shm_plain.specs.Held.{span_bytes}
-use Rattle.shm_plain.proofs.Stretches.{no_span, span_at, read_more, length-put_mid}
+use Rattle.shm_plain.proofs.Spans.{no_span, span_at, read_more, length-put_mid}
 use Rattle.shm_twin.proofs.store.PlainStore.read.Goals as goal
 
 pub loop-span-preserved : goal.loop-span-preserved

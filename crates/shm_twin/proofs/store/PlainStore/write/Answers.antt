@@ -3,7 +3,7 @@ use Rattle.std.proofs.lemmas.List.Sums.{sum_by-drop_more}
 use Rattle.std.proofs.lemmas.Grind.{common_steps}
 use Rattle.shm_base.specs.declared.paging.Span.{Span}
 use Rattle.shm_plain.specs.Held.{written}
-use Rattle.shm_plain.proofs.Stretches.{no_span, span_at, write_more, all_fit}
+use Rattle.shm_plain.proofs.Spans.{no_span, span_at, write_more, all_fit}
 use Rattle.shm_twin.proofs.store.PlainStore.write.Goals as goal
 
 pub loop-span-preserved : goal.loop-span-preserved

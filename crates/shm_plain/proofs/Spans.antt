@@ -1,4 +1,4 @@
--- Stretches read and written one after another.
+-- Spans read and written one after another.
 use Rattle.std.proofs.Common.{◌≡◌, ℕ, ◌+◌, ◌<◌, ◌≤◌, List, ◌++◌, length, get_or, take, drop, map, None, arith, append_assoc}
 use Rattle.std.proofs.lemmas.Grind.{common_steps}
 use Rattle.std.proofs.lemmas.List.{drop_more}
@@ -18,13 +18,13 @@ span_at ps k = get_or ps k no_span
 pub length-put_mid : (at room : ℕ) (out new : List ℕ) → at + room ≤ length out → length new ≡ room → length (put_mid at room out new) ≡ length out
 length-put_mid at room out new within size = grind (arith, common_steps)
 
--- one stretch more is read
+-- one span more is read
 pub read_more : (hs : List Held) (ps : List Span) (k : ℕ) (out new : List ℕ) (done room : ℕ)
     → k < length ps → done ≤ length out → new ≡ span_bytes hs (span_at ps k) → length new ≡ (span_at ps k).len
     → take (done + (span_at ps k).len) (put_mid done room out new) ++ read_from hs (drop (k + 1) ps) ≡ take done out ++ read_from hs (drop k ps)
 read_more hs ps k out new done room lt within bytes size = grind (arith, common_steps, take-put_mid, append_assoc, drop_more)
 
--- one stretch more is written
+-- one span more is written
 pub write_more : (hs : List Held) (ps : List Span) (k : ℕ) (bytes new : List ℕ) (done : ℕ)
     → k < length ps → new ≡ take (span_at ps k).len (drop done bytes)
     → written (map (pasted (span_at ps k).seg (span_at ps k).at new) hs) (drop (k + 1) ps) (drop (done + (span_at ps k).len) bytes) ≡ written hs (drop k ps) (drop done bytes)

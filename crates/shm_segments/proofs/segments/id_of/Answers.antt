@@ -1,0 +1,5 @@
+use Rattle.shm_segments.proofs.Names.{arith, common_steps, look-entry}
+use Rattle.shm_segments.proofs.segments.id_of.Goals as goal
+
+pub returns-clause-live : goal.returns-clause-live
+returns-clause-live c = grind (arith, common_steps, look-entry)
