@@ -1,19 +1,14 @@
 -- Which process a pid names, and what changes of its pieces are for the flat machine.
-use Rattle.shm_attach.proofs.Names.{◌≡◌, ◌≢◌, ◌⊎◌, inl, inr, ℕ, zero, suc, ◌+◌, ◌<◌, ◌≤◌, false, nat_eq, ◌==◌, if◌then◌else◌, List, [], ◌∷◌, length, map, get_or, Option, Some, None, slice_get, refl, ap, sym, ◌∙◌, arith, eq-eqb, ne_eqb, length-set, common_steps, position, position_or_len, cases_eq, cases_lt, lt-ltb, eqb-true, eqb-false, length-map, set-set, get_or-map, position-Some, fails_before_first, none-some, slice_get-get_or, slice_get_within, get_or_from_slice_get, gets, Cred, caller_by, caller_from, is_unborn, unborn_from, with_pieces, with_end, bare_all, Ended, life_view, runner_view, runners_view, with_own, with_pieces_at, with_life_at, pieces_at, life_at, caller_seen, IsCaller, FlatCaller, Life, Live, Runner}
+use Rattle.shm_attach.proofs.Names.{keys_of, ◌≡◌, ◌≢◌, ◌⊎◌, inl, inr, ℕ, zero, suc, ◌+◌, ◌<◌, ◌≤◌, false, nat_eq, ◌==◌, if◌then◌else◌, List, [], ◌∷◌, length, get_or, Option, Some, None, slice_get, refl, ap, sym, ◌∙◌, arith, eq-eqb, ne_eqb, length-set, common_steps, position, position_or_len, cases_eq, cases_lt, lt-ltb, eqb-true, eqb-false, length-map, set-set, get_or-map, position-Some, fails_before_first, none-some, slice_get-get_or, slice_get_within, get_or_from_slice_get, gets, Cred, caller_by, caller_from, is_unborn, unborn_from, with_pieces, with_end, bare_all, Ended, life_view, runner_view, runners_view, with_own, with_pieces_at, with_life_at, pieces_at, life_at, caller_seen, IsCaller, FlatCaller, Life, Live, Runner}
 use Rattle.shm_base.specs.State as flat
 use Rattle.shm_attach.specs.declared.process.Caller.{Caller}
 use Rattle.shm_attach.specs.declared.process.Life.TheVariants.{Unborn}
 use Rattle.shm_attach.proofs.Keeping.{life_at-get_or}
+pub use Rattle.shm_attach.proofs.Processes.{first_runner}
 
--- what a list answers past its end
+-- what a list of entries answers past its end
 abbrev pub nobody : ℕ × Runner
 nobody = (0, record { life = Ended; space = [] })
-
-abbrev pub first_runner : flat.Runner
-first_runner = record { pid = 0; life = flat.Unborn; pieces = [] }
-
-abbrev pub keys_in : List (ℕ × Runner) → List ℕ
-keys_in es = map (λ (e : ℕ × Runner). e.0) es
 
 -- WHAT IS SAID OF THE FIRST PROCESS WITH A PID
 
@@ -70,7 +65,7 @@ first-there f n pid (r ∷ rs) x found =
 
 -- THE PLACE THAT A LOOK-UP ANSWERS
 
-key-at : (es : List (ℕ × Runner)) (k : ℕ) → k < length es → get_or (keys_in es) k 0 ≡ (get_or es k nobody).0
+key-at : (es : List (ℕ × Runner)) (k : ℕ) → k < length es → get_or (keys_of es) k 0 ≡ (get_or es k nobody).0
 key-at es k l = grind (arith, common_steps, get_or-map)
 
 -- the place that a look-up by pid answers
@@ -79,9 +74,9 @@ record IsFirst (pid i : ℕ) (es : List (ℕ × Runner)) : Type 0 where
   own : (get_or es i nobody).0 ≡ pid
   others : (k : ℕ) → k < i → (get_or es k nobody).0 ≢ pid
 
-first_place : (pid i : ℕ) (es : List (ℕ × Runner)) (e : ℕ × Runner) → position (nat_eq pid) (keys_in es) ≡ Some i → slice_get es i ≡ Some e → IsFirst pid i es
+first_place : (pid i : ℕ) (es : List (ℕ × Runner)) (e : ℕ × Runner) → position (nat_eq pid) (keys_of es) ≡ Some i → slice_get es i ≡ Some e → IsFirst pid i es
 first_place pid i es e found at =
-    let p = position-Some (nat_eq pid) (keys_in es) i 0 found in
+    let p = position-Some (nat_eq pid) (keys_of es) i 0 found in
     let lt : i < length es = slice_get_within es i e at in
     record {
       within = lt;
@@ -89,36 +84,36 @@ first_place pid i es e found at =
       others = λ k l same. eqb-false pid (get_or es k nobody).0 (rw (← key-at es k (omega arith)) (p.2 k l)) (sym same);
     }
 
-no_place : (pid : ℕ) (es : List (ℕ × Runner)) → None ≡ position (nat_eq pid) (keys_in es) → (k : ℕ) → k < length es → (get_or es k nobody).0 ≢ pid
-no_place pid es none = by (cases_lt (position_or_len (nat_eq pid) (keys_in es)) (length (keys_in es)))
+no_place : (pid : ℕ) (es : List (ℕ × Runner)) → None ≡ position (nat_eq pid) (keys_of es) → (k : ℕ) → k < length es → (get_or es k nobody).0 ≢ pid
+no_place pid es none = by (cases_lt (position_or_len (nat_eq pid) (keys_of es)) (length (keys_of es)))
   where
-    by : (position_or_len (nat_eq pid) (keys_in es) < length (keys_in es)) ⊎ (length (keys_in es) ≤ position_or_len (nat_eq pid) (keys_in es))
+    by : (position_or_len (nat_eq pid) (keys_of es) < length (keys_of es)) ⊎ (length (keys_of es) ≤ position_or_len (nat_eq pid) (keys_of es))
         → (k : ℕ) → k < length es → (get_or es k nobody).0 ≢ pid
-    by (inl lt) = absurd (none-some (position_or_len (nat_eq pid) (keys_in es)) (rw (lt-ltb _ _ lt) at none))
+    by (inl lt) = absurd (none-some (position_or_len (nat_eq pid) (keys_of es)) (rw (lt-ltb _ _ lt) at none))
     by (inr le) = λ k l same.
         eqb-false pid (get_or es k nobody).0
-        (rw (← key-at es k l) (fails_before_first (nat_eq pid) (keys_in es) k 0 (omega (arith, le, length-map es (λ (e : ℕ × Runner). e.0)))))
+        (rw (← key-at es k l) (fails_before_first (nat_eq pid) (keys_of es) k 0 (omega (arith, le, length-map es (λ (e : ℕ × Runner). e.0)))))
         (sym same)
 
-first-position : {X : Type 0} (f : ℕ → flat.Runner → Option X) (pid i : ℕ) (es : List (ℕ × Runner)) (e : ℕ × Runner) → position (nat_eq pid) (keys_in es) ≡ Some i
+first-position : {X : Type 0} (f : ℕ → flat.Runner → Option X) (pid i : ℕ) (es : List (ℕ × Runner)) (e : ℕ × Runner) → position (nat_eq pid) (keys_of es) ≡ Some i
     → slice_get es i ≡ Some e → first f 0 pid (runners_view es) ≡ f i (runner_view e)
 first-position f pid i es e found at =
     let p = first_place pid i es e found at in
     let is : get_or es i nobody ≡ e = get_or_from_slice_get es i e nobody at in
     grind (arith, common_steps, first-found)
 
-pub caller_from-position : (pid i : ℕ) (es : List (ℕ × Runner)) (e : ℕ × Runner) → position (nat_eq pid) (keys_in es) ≡ Some i → slice_get es i ≡ Some e
+pub caller_from-position : (pid i : ℕ) (es : List (ℕ × Runner)) (e : ℕ × Runner) → position (nat_eq pid) (keys_of es) ≡ Some i → slice_get es i ≡ Some e
     → caller_from 0 pid (runners_view es) ≡ caller_by i pid (bare_all e.1.space) (life_view e.1.life)
 caller_from-position pid i es e found at = caller_from-first 0 pid (runners_view es) ∙ first-position (as_caller pid) pid i es e found at
 
-pub caller_from-absent : (pid : ℕ) (es : List (ℕ × Runner)) → None ≡ position (nat_eq pid) (keys_in es) → caller_from 0 pid (runners_view es) ≡ None
+pub caller_from-absent : (pid : ℕ) (es : List (ℕ × Runner)) → None ≡ position (nat_eq pid) (keys_of es) → caller_from 0 pid (runners_view es) ≡ None
 caller_from-absent pid es none = caller_from-first 0 pid (runners_view es) ∙ first-none (as_caller pid) 0 pid es (no_place pid es none)
 
-pub unborn_from-position : (pid i : ℕ) (es : List (ℕ × Runner)) (e : ℕ × Runner) → position (nat_eq pid) (keys_in es) ≡ Some i → slice_get es i ≡ Some e
+pub unborn_from-position : (pid i : ℕ) (es : List (ℕ × Runner)) (e : ℕ × Runner) → position (nat_eq pid) (keys_of es) ≡ Some i → slice_get es i ≡ Some e
     → unborn_from 0 pid (runners_view es) ≡ (if is_unborn (life_view e.1.life) then Some i else None)
 unborn_from-position pid i es e found at = unborn_from-first 0 pid (runners_view es) ∙ first-position as_child pid i es e found at
 
-pub unborn_from-absent : (pid : ℕ) (es : List (ℕ × Runner)) → None ≡ position (nat_eq pid) (keys_in es) → unborn_from 0 pid (runners_view es) ≡ None
+pub unborn_from-absent : (pid : ℕ) (es : List (ℕ × Runner)) → None ≡ position (nat_eq pid) (keys_of es) → unborn_from 0 pid (runners_view es) ≡ None
 unborn_from-absent pid es none = unborn_from-first 0 pid (runners_view es) ∙ first-none as_child 0 pid es (no_place pid es none)
 
 -- WHAT A CALLER IS

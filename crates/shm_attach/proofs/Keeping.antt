@@ -1,21 +1,21 @@
 -- The counts stay exact, and no process gets too many pieces.
-use Rattle.shm_attach.proofs.Names.{◌≡◌, ◌≢◌, ◌⊎◌, inl, inr, ℕ, zero, suc, ◌+◌, ◌*◌, ◌<◌, ◌≤◌, false, ◌==◌, List, [], ◌∷◌, ◌++◌, length, get_or, set, take, refl, ap, sym, ◌∙◌, arith, length-set, length-take, common_steps, cases_eq, slice_get-get_or, gets, set-set, get_or-map, get_or-set_same, get_or-set_other, set-get_or, sum_by-cons, sum_by-set, count_by-le-length, end_of, lowest_address, last_address, without_named, inserted, occupied, cut, parts, part_below, part_above, pieces_of, attach_count, bare, bare_all, IsFit, Arranged, lower, Tables, counted, with_own, with_pieces_at, with_other_life, with_life_at, pieces_at, life_at, AreCountsExact, IsPlaceFor, Unborn, Stored}
+use Rattle.shm_attach.proofs.Names.{◌≡◌, ◌≢◌, ℕ, zero, suc, ◌+◌, ◌*◌, ◌<◌, ◌≤◌, false, ◌==◌, List, [], ◌∷◌, ◌++◌, length, get_or, set, take, refl, ap, sym, ◌∙◌, arith, length-take, common_steps, cases_eq, slice_get-get_or, gets, set-set, get_or-map, set-get_or, sum_by-cons, sum_by-set, count_by-le-length, end_of, lowest_address, last_address, without_named, inserted, occupied, cut, parts, part_below, part_above, pieces_of, attach_count, bare, bare_all, IsFit, Arranged, lower, Tables, counted, with_own, with_pieces_at, with_other_life, with_life_at, pieces_at, life_at, AreCountsExact, IsPlaceFor, Unborn, Stored}
 use Rattle.shm_base.specs.State.{Piece, Life, Runner}
-use Rattle.shm_attach.proofs.Processes.{nobody, attach_count-changed, one_more}
+use Rattle.shm_attach.proofs.Processes.{first_runner, attach_count-changed, one_more}
 
 -- THE PROCESS THAT CHANGES
 
 pub with_pieces_at-within : (rs : List Runner) (i : ℕ) (f : List Piece → List Piece) → i < length rs
-    → with_pieces_at rs i f ≡ set rs i (record (get_or rs i nobody) { pieces = f (get_or rs i nobody).pieces })
-with_pieces_at-within rs i f lt = ap (with_own rs i f) (slice_get-get_or rs i nobody lt)
+    → with_pieces_at rs i f ≡ set rs i (record (get_or rs i first_runner) { pieces = f (get_or rs i first_runner).pieces })
+with_pieces_at-within rs i f lt = ap (with_own rs i f) (slice_get-get_or rs i first_runner lt)
 
-pub with_life_at-within : (rs : List Runner) (i : ℕ) (l : Life) → i < length rs → with_life_at rs i l ≡ set rs i (record (get_or rs i nobody) { life = l })
-with_life_at-within rs i l lt = ap (with_other_life rs i l) (slice_get-get_or rs i nobody lt)
+pub with_life_at-within : (rs : List Runner) (i : ℕ) (l : Life) → i < length rs → with_life_at rs i l ≡ set rs i (record (get_or rs i first_runner) { life = l })
+with_life_at-within rs i l lt = ap (with_other_life rs i l) (slice_get-get_or rs i first_runner lt)
 
-pub pieces_at-get_or : (rs : List Runner) (i : ℕ) → pieces_at rs i ≡ (get_or rs i nobody).pieces
+pub pieces_at-get_or : (rs : List Runner) (i : ℕ) → pieces_at rs i ≡ (get_or rs i first_runner).pieces
 pieces_at-get_or rs i = grind (arith, common_steps, gets)
 
-pub life_at-get_or : (rs : List Runner) (i : ℕ) → life_at rs i ≡ (get_or rs i nobody).life
+pub life_at-get_or : (rs : List Runner) (i : ℕ) → life_at rs i ≡ (get_or rs i first_runner).life
 life_at-get_or rs i = grind (arith, common_steps, gets)
 
 pub pieces_at-changed : (rs : List Runner) (i : ℕ) (f : List Piece → List Piece) → i < length rs → pieces_at (with_pieces_at rs i f) i ≡ f (pieces_at rs i)
@@ -27,7 +27,7 @@ life_at-changed rs i f lt = grind (arith, common_steps, gets)
 -- two changes are one
 pub with_pieces_at-twice : (rs : List Runner) (i : ℕ) (f g : List Piece → List Piece) → i < length rs
     → with_pieces_at (with_pieces_at rs i f) i g ≡ with_pieces_at rs i (λ ps. g (f ps))
-with_pieces_at-twice rs i f g lt = let there = slice_get-get_or rs i nobody lt in grind (arith, common_steps, gets, set-set)
+with_pieces_at-twice rs i f g lt = let there = slice_get-get_or rs i first_runner lt in grind (arith, common_steps, gets, set-set)
 
 -- a child is born with the pieces of another process
 module _ (rs : List Runner) (i j : ℕ) (l : Life) (lt : j < length rs) where
@@ -38,8 +38,8 @@ module _ (rs : List Runner) (i j : ℕ) (l : Life) (lt : j < length rs) where
   pieces_at-born = grind (arith, common_steps, gets)
 
   pub runners-born : i ≢ j
-      → with_pieces_at (with_life_at rs j l) j (λ (_ : List Piece). pieces_at (with_life_at rs j l) i) ≡ set rs j (record { pid = (get_or rs j nobody).pid; life = l; pieces = pieces_at rs i })
-  runners-born apart = let there = slice_get-get_or rs j nobody lt in grind (arith, common_steps, gets, set-set)
+      → with_pieces_at (with_life_at rs j l) j (λ (_ : List Piece). pieces_at (with_life_at rs j l) i) ≡ set rs j (record { pid = (get_or rs j first_runner).pid; life = l; pieces = pieces_at rs i })
+  runners-born apart = let there = slice_get-get_or rs j first_runner lt in grind (arith, common_steps, gets, set-set)
 
 -- THE COUNTS
 
@@ -59,7 +59,7 @@ pub IsExact-changed : (extra : ℕ → ℕ) (rs : List Runner) (i : ℕ) (f : Li
     → ((id : ℕ) → counted d id + pieces_of id (pieces_at rs i) ≡ counted c id + pieces_of id (f (pieces_at rs i)))
     → AreCountsExact extra (with_pieces_at rs i f) d
 IsExact-changed extra rs i f c d exact lt few order asleep counts =
-    let r = get_or rs i nobody in
+    let r = get_or rs i first_runner in
     let same : f (pieces_at rs i) ≡ f r.pieces = ap f (pieces_at-get_or rs i) in
     rw (with_pieces_at-within rs i f lt)
     (IsExact-set extra rs i (record r { pieces = f r.pieces }) c d exact lt (rw same at few) (rw same at order)
@@ -67,7 +67,7 @@ IsExact-changed extra rs i f c d exact lt few order asleep counts =
 
 pub IsExact-life : (extra : ℕ → ℕ) (rs : List Runner) (i : ℕ) (l : Life) (c : Tables) → AreCountsExact extra rs c → i < length rs → l ≢ Unborn → AreCountsExact extra (with_life_at rs i l) c
 IsExact-life extra rs i l c exact lt awake =
-    let r = get_or rs i nobody in
+    let r = get_or rs i first_runner in
     let same : pieces_at rs i ≡ r.pieces = pieces_at-get_or rs i in
     rw (with_life_at-within rs i l lt)
     (IsExact-set extra rs i (record r { life = l }) c c exact lt (rw same at (exact.pieces i)) (rw same at (exact.arranged i)) (λ none. absurd (awake none))
@@ -131,7 +131,7 @@ bare-get_or ps k d e l = grind (arith, common_steps, get_or-map)
 
 -- the same pieces in place of those that are there
 pub with_pieces_at-same : (rs : List Runner) (i : ℕ) (f : List Piece → List Piece) → i < length rs → f (pieces_at rs i) ≡ pieces_at rs i → rs ≡ with_pieces_at rs i f
-with_pieces_at-same rs i f lt same = let there = slice_get-get_or rs i nobody lt in grind (arith, common_steps, gets, set-get_or)
+with_pieces_at-same rs i f lt same = let there = slice_get-get_or rs i first_runner lt in grind (arith, common_steps, gets, set-get_or)
 
 -- the next piece of some that are in order lies behind those before it
 base_behind : (low k : ℕ) (ps : List Piece) (d : Piece) → Arranged low ps → k < length ps → low ≤ (get_or ps k d).base

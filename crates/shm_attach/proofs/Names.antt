@@ -2,7 +2,7 @@
 pub use Rattle.std.proofs.Common.{Bool, List, None, Option, Some, [], add-one, ap, append-nil, arith, cond, drop, drop-cons, eq-eqb, false, filter, get_or, if◌then◌else◌, inl, inr, length, length-set, length-take, map, nat_eq, nat_lt, ne_eqb, not, option_map, refl, set, slice_get, subst, suc, sym, take, true, zero, ℕ, ◌%◌, ◌&&◌, ◌*◌, ◌++◌, ◌+◌, ◌-◌, ◌/◌, ◌<◌, ◌==◌, ◌∙◌, ◌∷◌, ◌≡◌, ◌≢◌, ◌≤◌, ◌⊎◌}
 pub use Rattle.std.proofs.lemmas.Bool.{cases_Bool, cases_eq, cases_lt, eqb-false, eqb-true, lt-ltb, true≢false}
 pub use Rattle.std.proofs.lemmas.Grind.{common_steps}
-pub use Rattle.std.proofs.lemmas.List.{map-set, get_or-map, get_or-set_other, get_or-set_same, get_or-take, length-map, map-append, set-get_or, set-set, take_all, take_more}
+pub use Rattle.std.proofs.lemmas.List.{map-set, get_or-map, get_or-take, length-map, map-append, set-get_or, set-set, take_all, take_more}
 pub use Rattle.std.proofs.lemmas.List.Elements.{All-append, All-cons, All-filter, All-head, All-nil, All-tail, filter_passes}
 pub use Rattle.std.proofs.lemmas.List.Quantifiers.{position-Some}
 pub use Rattle.std.proofs.lemmas.List.Sums.{count_by-le-length, fails_before_first, length-filter, sum_by-append, sum_by-cons, sum_by-set}
@@ -10,13 +10,16 @@ pub use Rattle.std.proofs.lemmas.Option.{slice_get-map, get_or_from_slice_get, g
 pub use Rattle.std.proofs.lemmas.Result.{IfOk-weaker}
 pub use Rattle.std.proofs.lemmas.Simd.{map-map}
 pub use Rattle.std.specs.List.{flat_map, position_or_len}
+pub use Rattle.std.specs.Map.{keys_of, values_of}
 pub use Rattle.std.specs.Prelude.{All, position, vec_capacity, ⊤}
 pub use Rattle.indexmap.specs.IndexMap.{insert_entry, set_value_at}
+pub use Rattle.indexmap.specs.Layout.{length-set_value_at}
 pub use Rattle.shm_areas.proofs.Edits.{arranged_cut, arranged_filter, arranged_inserted, bare_filter, lower}
 pub use Rattle.shm_areas.proofs.Placing.{fit_at, nothing, place_covering}
 pub use Rattle.shm_areas.specs.Arranged.{Arranged, IsCovering, IsFit, bare, bare_all, covering}
 pub use Rattle.shm_areas.specs.Edit.{kept_cut, kept_inserted, kept_named, kept_parts, kept_without}
 pub use Rattle.shm_areas.specs.Met.{met}
+pub use Rattle.shm_base.specs.Processes.{pieces_of_caller}
 pub use Rattle.shm_base.specs.Access.{Place, all_writable, byte_at, covers, end_of, joined, loaded, only_writable, places, stored, with_byte, writable_places}
 pub use Rattle.shm_base.specs.Segments.{after_detach, attach_count}
 pub use Rattle.shm_base.specs.Space.{cut, cut_segments, inserted, last_address, lowest_address, meets, occupied, origin_of, part_above, part_below, parts, pieces_of, without_named}
@@ -38,9 +41,9 @@ pub use Rattle.shm_attach.specs.Exact.{AreCountsExact, AreTablesSound, HasHolds,
 pub use Rattle.shm_attach.specs.Part.{IsCuttable}
 pub use Rattle.shm_attach.specs.Place.{IsPlaceFor, IsRange}
 pub use Rattle.shm_attach.specs.Spaces.{AreTrue, IsCaller, SpacesView, Translation, caller_seen, life_at, pieces_at}
-pub use Rattle.shm_attach.specs.Spans.{pieces_by, pieces_of_caller, unmarked, wanted_in}
+pub use Rattle.shm_attach.specs.Spans.{pieces_by, unmarked, wanted_in}
 pub use Rattle.shm_attach.specs.Tables.{AllHeld, IsHeld, OneTableEach, counted, counted_under, key_of, stored_at, stored_in}
-pub use Rattle.shm_attach.specs.Views.{life_view, one_if, runner_view, runners_view, some_if, with_life_at, with_other_life, with_own, with_pieces_at}
+pub use Rattle.shm_attach.specs.Views.{life_view, runner_view, runners_view, some_if, with_life_at, with_other_life, with_own, with_pieces_at}
 pub use Rattle.shm_attach.specs.declared.process.Life.TheVariants.{Ended, Live}
 pub use Rattle.shm_attach.specs.declared.tables.Tables.{Tables}
 pub use Rattle.shm_attach.specs.declared.process.Life.{Life}

@@ -1,25 +1,19 @@
 -- One process's pieces change, and the counts with them.
-use Rattle.indexmap.specs.Layout.{length-set_value_at}
-use Rattle.shm_attach.proofs.Names.{map-set, slice_get-map, set, slice_get_cases, ◌≡◌, ℕ, zero, suc, ◌+◌, ◌-◌, ◌<◌, ◌≤◌, Bool, true, ◌==◌, List, [], ◌∷◌, length, map, get_or, Option, Some, None, slice_get, filter, refl, ap, sym, arith, ◌++◌, cond, drop, drop-cons, add-one, common_steps, filter_passes, sum_by-cons, sum_by-set, sum_by-append, length-filter, count_by-le-length, none-some, slice_get-get_or, set_value_at, pieces_of, meets, parts, cut, cut_segments, inserted, without_named, attach_count, bare, bare_all, met, one_if, with_own, with_pieces_at, with_life_at, some_if, life_view, runners_view, pieces_at, Stored, Runner, Life}
+use Rattle.shm_attach.proofs.Names.{map-set, slice_get-map, set, slice_get_cases, ◌≡◌, ℕ, zero, suc, ◌+◌, ◌-◌, ◌<◌, ◌≤◌, Bool, true, ◌==◌, List, [], ◌∷◌, length, map, get_or, Some, slice_get, filter, refl, ap, arith, ◌++◌, cond, drop, drop-cons, add-one, common_steps, filter_passes, sum_by-cons, sum_by-set, sum_by-append, length-filter, count_by-le-length, slice_get-get_or, set_value_at, values_of, pieces_of, meets, parts, cut, cut_segments, inserted, without_named, attach_count, bare, bare_all, met, with_pieces_at, with_life_at, some_if, life_view, runners_view, pieces_at, Stored, Runner, Life}
 use Rattle.shm_base.specs.State as flat
 
-abbrev pub nobody : flat.Runner
-nobody = record { pid = 0; life = flat.Unborn; pieces = [] }
-
-abbrev pub values_of : List (ℕ × Runner) → List Runner
-values_of es = map (λ (e : ℕ × Runner). e.1) es
-
-pub one_if-le : (id seg : ℕ) → one_if id seg ≤ 1
-one_if-le id seg = grind arith
+-- what a list of processes answers past its end
+abbrev pub first_runner : flat.Runner
+first_runner = record { pid = 0; life = flat.Unborn; pieces = [] }
 
 pub length-inserted : (p : flat.Piece) (ps : List flat.Piece) → length (inserted p ps) ≡ length ps + 1
 length-inserted p [] = refl
 length-inserted p (q ∷ qs) = let rest = length-inserted p qs in grind (arith, common_steps)
 
-pub one_more : (id : ℕ) (p : flat.Piece) (ps : List flat.Piece) → pieces_of id (p ∷ ps) ≡ pieces_of id ps + one_if id p.seg
+pub one_more : (id : ℕ) (p : flat.Piece) (ps : List flat.Piece) → pieces_of id (p ∷ ps) ≡ pieces_of id ps + some_if id p.seg 1
 one_more id p ps = let sum = sum_by-cons (λ (q : flat.Piece). cond (q.seg == id) 1 0) p ps in omega (arith, sum)
 
-pub pieces_of-inserted : (id : ℕ) (p : flat.Piece) (ps : List flat.Piece) → pieces_of id (inserted p ps) ≡ pieces_of id ps + one_if id p.seg
+pub pieces_of-inserted : (id : ℕ) (p : flat.Piece) (ps : List flat.Piece) → pieces_of id (inserted p ps) ≡ pieces_of id ps + some_if id p.seg 1
 pieces_of-inserted id p [] = one_more id p []
 pieces_of-inserted id p (q ∷ qs) = grind (arith, common_steps, one_more, pieces_of-inserted id p qs)
 
@@ -27,9 +21,9 @@ pieces_of-inserted id p (q ∷ qs) = grind (arith, common_steps, one_more, piece
 pub attach_count-changed : (id i : ℕ) (f : List flat.Piece → List flat.Piece) (rs : List flat.Runner) → i < length rs
     → attach_count (with_pieces_at rs i f) id + pieces_of id (pieces_at rs i) ≡ attach_count rs id + pieces_of id (f (pieces_at rs i))
 attach_count-changed id i f rs lt =
-    let r = get_or rs i nobody in
-    let at : slice_get rs i ≡ Some r = slice_get-get_or rs i nobody lt in
-    let after = sum_by-set (λ (x : flat.Runner). pieces_of id x.pieces) rs i (record r { pieces = f r.pieces }) nobody lt in
+    let r = get_or rs i first_runner in
+    let at : slice_get rs i ≡ Some r = slice_get-get_or rs i first_runner lt in
+    let after = sum_by-set (λ (x : flat.Runner). pieces_of id x.pieces) rs i (record r { pieces = f r.pieces }) first_runner lt in
     rw at after
 
 -- a value set at a place is an entry set there
@@ -39,16 +33,15 @@ entries_set (x ∷ es) zero e v at = grind arith
 entries_set (x ∷ es) (suc i) e v at = ap (λ (xs : List (ℕ × Runner)). x ∷ xs) (entries_set es i e v at)
 
 pub entry_there : (es : List (ℕ × Runner)) (i : ℕ) (w : Runner) → Some w ≡ slice_get (values_of es) i → (k : ℕ) × (slice_get es i ≡ Some (k, w))
-entry_there es i w at = grind (arith, common_steps, slice_get-map, slice_get_cases)
+entry_there es i w at =
+    let there : Some w ≡ slice_get (map (λ (e : ℕ × Runner). e.1) es) i = at in
+    grind (arith, common_steps, slice_get-map, slice_get_cases)
 
 pub runners_set : (f : List flat.Piece → List flat.Piece) (es : List (ℕ × Runner)) (i : ℕ) (w v : Runner) → Some w ≡ slice_get (values_of es) i
     → v.life ≡ w.life → bare_all v.space ≡ f (bare_all w.space) → runners_view (set_value_at es i v) ≡ with_pieces_at (runners_view es) i f
 runners_set f es i w v at life space =
     let t = entry_there es i w at in
     rw (entries_set es i (t.0, w) v t.1) (grind (arith, common_steps, map-set, slice_get-map, t.1, life, space))
-
-pub length_set : (es : List (ℕ × Runner)) (i : ℕ) (v : Runner) → length (set_value_at es i v) ≡ length es
-length_set es i v = length-set_value_at es i v
 
 pub shorter_filter : {X : Type 0} (p : X → Bool) (xs : List X) → length (filter p xs) ≤ length xs
 shorter_filter p xs = rw (length-filter p xs) (count_by-le-length p xs)

@@ -1,7 +1,7 @@
 -- The counts stay exact, and each piece has its segment's table, where one process changes.
-use Rattle.shm_attach.proofs.Names.{◌≡◌, ◌≢◌, ℕ, ◌+◌, ◌<◌, ◌≤◌, List, [], length, Some, slice_get, sym, subst, arith, common_steps, All, length-map, set_value_at, lowest_address, inserted, cut, without_named, pieces_of, bare_all, Arranged, arranged_cut, arranged_inserted, Tables, runner_view, runners_view, with_pieces_at, with_life_at, pieces_at, life_at, counted, stored_at, IsHeld, OneTableEach, AllHeld, IsPlaceFor, IsCuttable, AreCountsExact, AreTablesSound, HasHolds, no_holds, Unborn, Piece, Runner}
+use Rattle.shm_attach.proofs.Names.{length-set_value_at, values_of, ◌≡◌, ◌≢◌, ℕ, ◌+◌, ◌<◌, ◌≤◌, List, [], length, Some, slice_get, sym, subst, arith, common_steps, All, length-map, set_value_at, lowest_address, inserted, cut, without_named, pieces_of, bare_all, Arranged, arranged_cut, arranged_inserted, Tables, runner_view, runners_view, with_pieces_at, with_life_at, pieces_at, life_at, counted, stored_at, IsHeld, OneTableEach, AllHeld, IsPlaceFor, IsCuttable, AreCountsExact, AreTablesSound, HasHolds, no_holds, Unborn, Piece, Runner}
 use Rattle.shm_base.specs.State as flat
-use Rattle.shm_attach.proofs.Processes.{values_of, runners_set, length_set, length-inserted, shorter_filter}
+use Rattle.shm_attach.proofs.Processes.{runners_set, length-inserted, shorter_filter}
 use Rattle.shm_attach.proofs.Keeping.{IsExact-changed, IsExact-life, arranged-without, small_counts, own_counted}
 use Rattle.shm_attach.proofs.Held.{stored_at-value, pieces_at-stored, stored_at-set, stored_at-other, held-changed, held-all}
 
@@ -16,7 +16,7 @@ pub record IsChanged (es fs : List (ℕ × Runner)) (i : ℕ) (f : List flat.Pie
 
 pub changed : (es : List (ℕ × Runner)) (i : ℕ) (w v : Runner) (f : List flat.Piece → List flat.Piece) → Some w ≡ slice_get (values_of es) i → v.life ≡ w.life
     → bare_all v.space ≡ f (bare_all w.space) → IsChanged es (set_value_at es i v) i f v.space
-changed es i w v f at life space = grind (arith, common_steps, runners_set, length_set, stored_at-set, stored_at-other)
+changed es i w v f at life space = grind (arith, common_steps, runners_set, length-set_value_at, stored_at-set, stored_at-other)
 
 -- the tables follow pieces that give way to others
 pub record IsRecounted (t u : Tables) (before after : List flat.Piece) : Type 0 where

@@ -1,8 +1,9 @@
 -- Spans of bytes of segments, as the places that an access asks for.
-use Rattle.std.specs.Prelude.{ℕ, ◌≡◌, ◌+◌, ◌<◌, Bool, true, false, List, [], Option, Some, None, option_map, map, All}
+use Rattle.std.specs.Prelude.{ℕ, ◌≡◌, ◌+◌, ◌<◌, Bool, true, false, List, Option, option_map, map, All}
 use Rattle.shm_base.specs.State.{Piece, Runner}
 use Rattle.shm_base.specs.Access.{Place, places, writable_places}
-use Rattle.shm_base.specs.Step.{Caller, caller_from}
+use Rattle.shm_base.specs.Processes.{pieces_of_caller}
+use Rattle.shm_base.specs.Step.{caller_from}
 
 -- a place without its mark
 abbrev pub unmarked : Place → Place
@@ -16,10 +17,6 @@ asked false ps addr n = places ps addr n
 -- the same without their marks
 abbrev pub wanted_in : Bool → List Piece → ℕ → ℕ → Option (List Place)
 wanted_in write ps addr len = option_map (map unmarked) (asked write ps addr len)
-
-abbrev pub pieces_of_caller : Option Caller → List Piece
-pieces_of_caller None = []
-pieces_of_caller (Some c) = c.pieces
 
 -- the pieces of a live process, none of another
 abbrev pub pieces_by : ℕ → List Runner → List Piece

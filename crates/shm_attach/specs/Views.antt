@@ -17,10 +17,6 @@ runner_view e = record { pid = e.0; life = life_view e.1.life; pieces = bare_all
 abbrev pub runners_view : List (ℕ × Runner) → List flat.Runner
 runners_view es = map runner_view es
 
--- one more or one less for one segment
-abbrev pub one_if : ℕ → ℕ → ℕ
-one_if id seg = if seg == id then 1 else 0
-
 abbrev pub with_own : List flat.Runner → ℕ → (List flat.Piece → List flat.Piece) → Option flat.Runner → List flat.Runner
 with_own rs i f None = rs
 with_own rs i f (Some r) = slice_set rs i (record r { pieces = f r.pieces })
@@ -29,6 +25,7 @@ with_own rs i f (Some r) = slice_set rs i (record r { pieces = f r.pieces })
 abbrev pub with_pieces_at : List flat.Runner → ℕ → (List flat.Piece → List flat.Piece) → List flat.Runner
 with_pieces_at rs i f = with_own rs i f (slice_get rs i)
 
+-- so many for one segment, and none for another
 abbrev pub some_if : ℕ → ℕ → ℕ → ℕ
 some_if id seg n = if seg == id then n else 0
 

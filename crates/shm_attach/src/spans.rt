@@ -1,5 +1,5 @@
 //! The spans of an access.
-ghost use Rattle.std.specs.Prelude.{◌≡◌, ◌+◌, ◌-◌, ◌*◌, ◌/◌, ◌%◌, ◌<◌, ◌≤◌, ◌^◌, ℕ, Bool, Option, true, false, length, [], ◌∷◌, None, Some, IfSome, IfNone, IfOk, OnErr, All, sum_by};
+ghost use Rattle.std.specs.Prelude.{◌≡◌, ◌+◌, ◌%◌, ◌<◌, ◌≤◌, ◌^◌, ℕ, Bool, Option, true, false, length, [], ◌∷◌, None, Some, IfSome, IfNone, IfOk, OnErr, All, sum_by};
 ghost use Rattle.shm_base.specs.declared.paging.Span.{Span as SpanValue};
 ghost use Rattle.shm_areas.specs.Arranged.{bare_all};
 ghost use Rattle.shm_attach.specs.Table.{AllTrue};

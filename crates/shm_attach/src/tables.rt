@@ -5,7 +5,7 @@ ghost use Rattle.slab.specs.Slab.{get};
 ghost use Rattle.shm_areas.specs.declared.piece.Piece.{Piece as Stored};
 ghost use Rattle.shm_fault.specs.Steps.{moved};
 ghost use Rattle.shm_fault.specs.Store.{frame_of};
-ghost use Rattle.shm_attach.specs.Views.{one_if, some_if};
+ghost use Rattle.shm_attach.specs.Views.{some_if};
 ghost use Rattle.shm_attach.specs.Table.{frame_in, seg_in, size_in, AllTrue, with_frame};
 ghost use Rattle.shm_attach.specs.Tables.{counted, key_of, IsHeld, OneTableEach};
 
@@ -111,7 +111,7 @@ impl Tables {
     ) -> Result<usize, HostMemory>
         requires fits { counted self.old seg + 1 < 2 ^ 32 }
         requires tied { OneTableEach self.old }
-        ensures counts { OnOk result ((id : ℕ) → counted self.new id ≡ counted self.old id + one_if id seg) }
+        ensures counts { OnOk result ((id : ℕ) → counted self.new id ≡ counted self.old id + some_if id seg 1) }
         ensures seg { IfOk result (λ key. seg_in (get self.new.slab key) ≡ Some seg) }
         ensures pages { IfOk result (λ key. pages ≤ size_in (get self.new.slab key)) }
         ensures held { (p : Stored) → IsHeld self.old.slab p → IsHeld self.new.slab p }

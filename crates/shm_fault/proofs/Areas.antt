@@ -1,5 +1,5 @@
 -- Pages that leave a swap area, and the area that goes.
-use Rattle.shm_fault.proofs.Names.{◌≡◌, ◌≢◌, ℕ, zero, suc, ◌<◌, ◌≤◌, ◌+◌, Bool, true, cond, List, [], ◌∷◌, length, get_or, set, sum_by, Option, Some, None, is_some, refl, sym, ap, ◌∙◌, inl, inr, arith, length-set, get_or-set_same, get_or-set_other, cases_eq, get_or_past, length-map, sum_by-set, sum_by-cons, PageRef, Slot, pages_held, used_count, SwapView, no_area, area_at, with_area, off, HasSlot, IsSwap, IsFirstFree, OneArea, WriteFault, owner_of, page_in, size_of, sizes, slots, slots_in, used_in, used_slots, with_slot_owner, with_slot_page, without_slot, GoesOn, IsSteady, had_cause, Frame, no_frame, frame_at, PageRec, rec_by, HasPage, with_rec, StoreView, held, IsTied, Tied, IsStoreSound, Goes, Still, AtRest, SameOwned, IsRelocated, IsCleared, common_steps, nat_tests}
+use Rattle.shm_fault.proofs.Names.{◌≡◌, ◌≢◌, ℕ, zero, suc, ◌<◌, ◌≤◌, ◌+◌, true, cond, List, [], ◌∷◌, length, get_or, set, sum_by, Option, Some, None, is_some, refl, sym, ap, ◌∙◌, inl, inr, arith, length-set, get_or-set_same, get_or-set_other, cases_eq, get_or_past, length-map, sum_by-set, sum_by-cons, PageRef, Slot, pages_held, used_count, SwapView, no_area, area_at, with_area, off, HasSlot, IsSwap, IsFirstFree, OneArea, WriteFault, owner_of, page_in, size_of, sizes, slots, slots_in, used_in, used_slots, with_slot_owner, with_slot_page, without_slot, GoesOn, IsSteady, had_cause, Frame, no_frame, frame_at, PageRec, rec_by, HasPage, with_rec, StoreView, held, IsTied, Tied, IsStoreSound, Goes, Still, AtRest, SameOwned, IsRelocated, IsCleared, common_steps, nat_tests}
 use Rattle.shm_fault.proofs.Pages.{rec-with, other, other_ne, has-frame, has-slot}
 use Rattle.shm_fault.proofs.Slots.{OnlySlot, OnlySlot-trans, OnlySlot-owner, OnlySlot-page, OnlySlot-given, page-written, owner-written, owner-set, owner-given, cases_slot, set-cases}
 use Rattle.shm_fault.proofs.Ties.{SlotsApart, Touches, IsOwn-some, segs-same, segs-with, frames-same, frames-set, tied_touched, bytes_touched}
@@ -15,16 +15,12 @@ use Rattle.shm_fault.proofs.Drops.{GivenSlots, given-slots}
 pub here-lt : (s : SwapView) (area : ℕ) → (area_at s area).here ≡ true → area < length s.areas
 here-lt s area here = grind (arith, get_or_past s.areas area no_area, here)
 
--- a free slot is found where the other areas have one for each page
-one_if : Bool → ℕ
-one_if b = cond b 1 0
-
 count-one : (os : List (Option PageRef)) (i : ℕ) (r : PageRef) → get_or os i None ≡ Some r → 1 ≤ used_count os
-unfolding one_if
 count-one [] i r e = let h : None ≡ Some r = e in cc
 count-one (o ∷ os) zero r e = grind (arith, e, sum_by-cons (λ (p : Option PageRef). cond (is_some p) 1 0) o os)
 count-one (o ∷ os) (suc i) r e = grind (arith, count-one os i r e, sum_by-cons (λ (p : Option PageRef). cond (is_some p) 1 0) o os)
 
+-- a free slot is found where the other areas have one for each page
 pub has-room : (s : StoreView) → IsStoreSound s → (k : Slot) (r : PageRef) → owner_of s.swap k.area k.slot ≡ Some r → pages_held (held s) + length (area_at s.swap k.area).pages ≤ slots s.swap
     → used_slots s.swap + length (area_at s.swap k.area).pages < slots s.swap + used_in (area_at s.swap k.area)
 has-room s sound k r own room = grind (arith, nat_tests, common_steps, pages_held-is, sound.few_used, used-slots, sound.apart, sound.tied, count-one, s.swap, k.area, k.slot)

@@ -1,6 +1,5 @@
 -- What an access leaves, put together from the visits to its pages.
-use Rattle.shm_fault.proofs.Names.{◌≡◌, ◌≢◌, ℕ, zero, suc, map, ◌<◌, ◌≤◌, ◌+◌, Bool, true, false, ◌&&◌, cond, ltb, List, [], ◌∷◌, length, get_or, subst, Option, Some, None, is_some, Result, Ok, Err, is_ok, OnErr, refl, sym, ap, ◌∙◌, arith, All, IsSome, false≢true, PageRef, Span, is_locked, SwapView, Frame, frame_at, PageRec, Touched, SegRec, rec_by, locked_by, StoreView, held_by, page_of, ref_of, is_swapped, IsResident, IsReferenced, pages_among, swapped_among, same_page, Kept, KeepsLocked, Visits, frame_by, referenced_at, InFrames, PagerFailed, IsStoreSound, raised, one_if, hand_after, Visited, IsIn, AreIn, Brings, Accessed, IsUntouched, NameFrames, nat_tests, common_steps}
-use Rattle.std.specs.Prelude.{slice_get}
+use Rattle.shm_fault.proofs.Names.{◌≡◌, ◌≢◌, ℕ, map, ◌≤◌, ◌+◌, Bool, true, false, ◌&&◌, cond, List, [], ◌∷◌, length, get_or, Option, Some, None, is_some, Result, Ok, Err, is_ok, OnErr, refl, sym, ap, ◌∙◌, arith, All, IsSome, false≢true, PageRef, Span, is_locked, SwapView, Frame, frame_at, PageRec, Touched, SegRec, rec_by, locked_by, StoreView, held_by, page_of, ref_of, is_swapped, IsResident, pages_among, swapped_among, same_page, Kept, KeepsLocked, Visits, frame_by, referenced_at, InFrames, PagerFailed, IsStoreSound, raised, one_if, hand_after, Visited, AreIn, Brings, Accessed, IsUntouched, nat_tests, common_steps}
 use Rattle.shm_plain.proofs.Spans.{no_span}
 use Rattle.shm_fault.specs.Store.{held, frame_of}
 use Rattle.shm_fault.proofs.Sound.{Goes-trans, KeepsLocked-trans, cause-after}
@@ -176,32 +175,8 @@ pub kept-locked : (s t : StoreView) → KeepsLocked s t → Kept s t
 unfolding frame_of
 kept-locked s t keeps seg page locked after e = keeps (record { seg = seg; page = page }) (rw (is_locked-held s seg) at locked) e
 
-referenced : (t : StoreView) (p : Span) (f : ℕ) → IsIn t p f → IsReferenced t p
-unfolding frame_of
-referenced t p f is = rw is.at is.bit
-
-all-referenced : (z : StoreView) (ps : List Span) (here : InFrames) → length ps ≤ 2 → AreIn z ps here → All (IsReferenced z) ps
-all-referenced z [] here few is k d lt = absurd (omega arith)
-all-referenced z (p ∷ []) here few is zero d lt = referenced z p here.first is
-all-referenced z (p ∷ []) here few is (suc k) d lt = absurd (omega arith)
-all-referenced z (p ∷ q ∷ []) here few is zero d lt = referenced z p here.first is.0
-all-referenced z (p ∷ q ∷ []) here few is (suc zero) d lt = referenced z q here.second is.1
-all-referenced z (p ∷ q ∷ []) here few is (suc (suc k)) d lt = absurd (omega arith)
-all-referenced z (p ∷ q ∷ r ∷ ps) here few is k d lt = absurd (omega (arith, few))
-
 -- what an access that was done leaves, where frames may have changed since
 module _ (s t : StoreView) (frames : List Frame) (count : length frames ≡ length t.frames) (bits : (f : ℕ) → (frame_at frames f).referenced ≡ referenced_at t f) (sound : IsStoreSound (record t { frames = frames })) where
-  abbrev later : StoreView
-  later = record t { frames = frames }
-
-  in-after : (p : Span) (f : ℕ) → IsIn t p f → IsIn later p f
-  in-after p f is = record { at = is.at; bit = bits f ∙ is.bit }
-
-  are-after : (ps : List Span) (here : InFrames) → AreIn t ps here → AreIn later ps here
-  are-after [] here is = tt
-  are-after (p ∷ []) here is = in-after p here.first is
-  are-after (p ∷ q ∷ ps) here is = (in-after p here.first is.0, in-after q here.second is.1)
-
   pub accessed : (ps : List Span) (here : InFrames) (u : Touched) → length ps ≤ 2 → Brings ps s t u true → AreIn t ps here → Accessed ps s (record t { frames = frames }) (Ok u)
   unfolding frame_of
   accessed ps here u few b is = grind (arith, kept-locked)

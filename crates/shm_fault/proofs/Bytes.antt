@@ -1,5 +1,5 @@
 -- The bytes of segments, from those of their pages.
-use Rattle.shm_fault.proofs.Names.{◌≡◌, ◌≢◌, ℕ, zero, suc, ◌<◌, ◌≤◌, ◌+◌, ◌-◌, ◌*◌, List, [], ◌∷◌, ◌++◌, map, length, take, drop, refl, sym, ap, ◌∙◌, inl, inr, arith, append_assoc, length-drop, flat_map, cases_eq, take-append-le, drop-append-le, PageRef, Held, paste, SwapView, Frame, PageRec, SegRec, rec_at, AreApart, rec_by, HasPage, StoreView, page_bytes, held_by, Outline, outline, outlines, common_steps, nat_tests}
+use Rattle.shm_fault.proofs.Names.{◌≡◌, ◌≢◌, ℕ, zero, suc, ◌<◌, ◌≤◌, ◌+◌, ◌-◌, ◌*◌, List, [], ◌∷◌, ◌++◌, map, length, take, drop, refl, sym, ap, inl, inr, arith, append_assoc, length-drop, flat_map, cases_eq, take-append-le, drop-append-le, PageRef, Held, paste, SwapView, Frame, PageRec, SegRec, rec_at, AreApart, rec_by, HasPage, StoreView, page_bytes, held_by, Outline, outline, outlines, common_steps, nat_tests}
 use Rattle.shm_fault.specs.Store.{held}
 use Rattle.shm_fault.proofs.Pages.{has-head, rec-head, has-tail, rec-tail}
 

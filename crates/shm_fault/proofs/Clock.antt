@@ -1,6 +1,6 @@
 -- What the clock needs, and what it leaves of the frames.
-use Rattle.shm_fault.proofs.Names.{◌≡◌, ℕ, suc, ◌<◌, ◌≤◌, Bool, true, false, not, cond, List, [], ◌∷◌, length, Option, Some, None, is_none, is_some, refl, ap, arith, count_by, get_or_past, sum_by-cons, PageRef, Frame, frame_at, is_owned, OwnedBelow, IsClockVictim, next, page_may_go, locked_by, StoreView, IsStoreSound, unlocked, Alike, nat_tests, common_steps}
-use Rattle.shm_fault.proofs.Tally.{resident-frames, unlocked_resident, passes_by, count-ext}
+use Rattle.shm_fault.proofs.Names.{one_if, ◌≡◌, ℕ, suc, ◌<◌, ◌≤◌, Bool, true, false, cond, List, [], ◌∷◌, length, Option, Some, None, is_none, is_some, refl, ap, arith, count_by, get_or_past, sum_by-cons, PageRef, Frame, frame_at, is_owned, OwnedBelow, IsClockVictim, next, page_may_go, StoreView, IsStoreSound, unlocked, Alike, nat_tests, common_steps}
+use Rattle.shm_fault.proofs.Tally.{resident-frames, unlocked_resident}
 
 pub clock-alike : (may : ℕ → Bool) (hand : ℕ) (before : List Frame) (victim : ℕ) (after : List Frame) → IsClockVictim may hand before victim after → (f : ℕ) → Alike (frame_at before f) (frame_at after f)
 clock-alike may hand before victim after is f = grind (arith, nat_tests, common_steps, is.bits, get_or_past, is.size)
@@ -8,25 +8,18 @@ clock-alike may hand before victim after is f = grind (arith, nat_tests, common_
 pub next-lt : (before after : List Frame) (victim : ℕ) {hand : ℕ} → length after ≡ length before → victim < length before → hand ≡ next (length before) victim → hand < length after
 next-lt before after victim {hand} size there is = grind (arith, nat_tests)
 
-abbrev bit : Bool → ℕ
-bit b = cond b 1 0
-
 all-owned : (frames : List Frame) → OwnedBelow frames (length frames) → count_by is_owned frames ≡ length frames
 all-owned [] full = refl
 all-owned (x ∷ xs) full =
     let here : is_none x.owner ≡ false = full 0 (omega arith) in
     let some : is_some x.owner ≡ true = by x.owner here in
-    let one : bit (is_some x.owner) ≡ 1 = ap bit some in
+    let one : one_if (is_some x.owner) ≡ 1 = ap one_if some in
     let rest = all-owned xs (λ i l. full (suc i) (omega arith)) in
     omega (arith, one, rest, sum_by-cons (λ (y : Frame). cond (is_owned y) 1 0) x xs)
   where
     by : (o : Option PageRef) → is_none o ≡ false → is_some o ≡ true
     by None e = cc
     by (Some r) e = refl
-
-same-test : (s : StoreView) (x : Frame) (o : Option PageRef) → x.owner ≡ o → passes_by (λ r y. not (locked_by s.segs r.seg)) x ≡ page_may_go (unlocked s.segs) x
-same-test s x None e = rw e refl
-same-test s x (Some r) e = rw e refl
 
 -- where no frame is free, two at least have pages of segments that are not locked
 pub two_unlocked : (s : StoreView) → IsStoreSound s → OwnedBelow s.frames (length s.frames) → 2 ≤ count_by (page_may_go (unlocked s.segs)) s.frames

@@ -6,8 +6,8 @@ use Rattle.shm_fault.proofs.Entries.{apart-filter, edit-none, find-but, find-out
 use Rattle.shm_fault.proofs.Counting.{AtRest-trans}
 use Rattle.shm_fault.proofs.Sound.{IsSound-from, GoesOn-trans}
 use Rattle.shm_fault.proofs.Pages.{outlines-with, rec-with, rec-with_other, rec-past, count-same, apart-same, other, other-true, ref_parts}
-use Rattle.shm_fault.proofs.Slots.{OnlySlot, OnlySlot-given, owner-given, cases_slot, set-cases}
-use Rattle.shm_fault.proofs.Ties.{FramesApart, SlotsApart, Touches, IsOwn-none, IsOwn-some, segs-with, frames-set, frames-same, slots-only, slots-same, bytes_touched, tied-segs}
+use Rattle.shm_fault.proofs.Slots.{OnlySlot, OnlySlot-given, owner-given, set-cases}
+use Rattle.shm_fault.proofs.Ties.{FramesApart, SlotsApart, Touches, segs-with, frames-set, frames-same, slots-only, bytes_touched, tied-segs}
 use Rattle.shm_fault.proofs.Bytes.{joined, held_one, held_of, bytes_at, held-is, joined-ext}
 use Rattle.shm_fault.proofs.Changes.{sound-one}
 

@@ -83,7 +83,7 @@ pub none_found : (es : List (ℕ × PageTable)) (id : ℕ) → None ≡ lookup (
 none_found es id none = find-lookup es id ∙ ap (option_map (seg_of id)) (sym none)
 
 -- the entry with this key and this value
-pub entry-from : (es : List (ℕ × PageTable)) (i id : ℕ) (w : PageTable) → key_at es i ≡ Some id → Some w ≡ slice_get (values_of es) i → slice_get es i ≡ Some (id, w)
+pub entry-from : (es : List (ℕ × PageTable)) (i id : ℕ) (w : PageTable) → key_at es i ≡ Some id → slice_get (values_of es) i ≡ Some w → slice_get es i ≡ Some (id, w)
 entry-from [] i id w key value = cc
 entry-from (e ∷ es) zero id w key value = grind arith
 entry-from (e ∷ es) (suc i) id w key value = entry-from es i id w key value
@@ -94,18 +94,12 @@ find-entry [] i id w apart at = cc
 find-entry (e ∷ es) zero id w apart at = let q : e ≡ (id, w) = cc in rw (q, eq-eqb id id refl) refl
 find-entry (e ∷ es) (suc i) id w apart at = grind (arith, nat_tests, find-there es i id w at, apart.0, find-entry es i id w apart.1 at)
 
--- a place that has a key has a value
-pub value_there : (es : List (ℕ × PageTable)) (i id : ℕ) → key_at es i ≡ Some id → slice_get (values_of es) i ≢ None
-value_there [] i id key none = cc
-value_there (e ∷ es) zero id key none = cc
-value_there (e ∷ es) (suc i) id key none = value_there es i id key none
-
 -- the segment at a place was edited
 pub record IsEdited (f : SegRec → SegRec) (id : ℕ) (es fs : List (ℕ × PageTable)) : Type 0 where
   pub view : segs_view fs ≡ map (edit_at id f) (segs_view es)
   pub apart : AreApart (segs_view fs)
 
 pub edited : (f : SegRec → SegRec) → ((g : SegRec) → (f g).id ≡ g.id) → (es : List (ℕ × PageTable)) (i id : ℕ) (w v : PageTable) → AreApart (segs_view es)
-    → key_at es i ≡ Some id → Some w ≡ slice_get (values_of es) i → seg_of id v ≡ f (seg_of id w) → IsEdited f id es (set_value_at es i v)
+    → key_at es i ≡ Some id → slice_get (values_of es) i ≡ Some w → seg_of id v ≡ f (seg_of id w) → IsEdited f id es (set_value_at es i v)
 edited f keeps es i id w v apart key value is =
     grind (arith, edit-view f es i id w v apart (entry-from es i id w key value) is, apart-edit f keeps (segs_view es) id apart)

@@ -1,5 +1,5 @@
 -- Failures that are counted, and the areas that count them.
-use Rattle.shm_fault.proofs.Names.{◌≡◌, ◌⊎◌, ℕ, suc, [], ◌∷◌, None, Result, Ok, Err, OnOk, OnErr, ◌<◌, ◌≤◌, ◌+◌, true, false, List, length, get_or, set, sum_by, ap, ◌∙◌, inl, inr, arith, length-set, list_any, eq-eqb, false≢true, nat_tests, sum_by-set, sum_by-cons, list_any_at, Slot, last_count, AreaView, SwapView, no_area, area_at, rise, is_spent_here, size_of, sizes, with_slot_page, HasSlot, OneArea, WriteFault, IsSwap, had_cause, GoesOn, rises-le, total-le, slot-here, common_steps}
+use Rattle.shm_fault.proofs.Names.{◌≡◌, ◌⊎◌, ℕ, suc, [], ◌∷◌, None, Result, Ok, Err, OnOk, OnErr, ◌<◌, ◌≤◌, ◌+◌, true, false, List, length, get_or, sum_by, inl, inr, arith, list_any, false≢true, nat_tests, sum_by-set, sum_by-cons, Slot, last_count, AreaView, SwapView, no_area, area_at, rise, is_spent_here, size_of, sizes, with_slot_page, HasSlot, OneArea, WriteFault, IsSwap, had_cause, GoesOn, rises-le, total-le, common_steps}
 use Rattle.std.proofs.Math.ListN.{get_or-map}
 use Rattle.shm_slots.specs.Cause.{total, some_spent}
 

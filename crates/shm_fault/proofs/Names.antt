@@ -1,12 +1,11 @@
 -- The names that the proofs cite, from below and from the words of this crate.
-pub use Rattle.std.proofs.Common.{Bool, Err, List, None, Ok, OnErr, OnOk, Option, Result, Some, [], ap, append-nil, append_assoc, arith, cond, drop, eqb, false, filter, get_or, get_or-set_other, get_or-set_same, inl, inr, is_none, is_ok, is_some, leb, length, length-append, length-drop, length-set, ltb, map, not, refl, replicate, rules, set, set-set, subst, suc, sum_by, sym, take, true, zero, ℕ, ◌%◌, ◌&&◌, ◌*◌, ◌++◌, ◌+◌, ◌-◌, ◌/◌, ◌<◌, ◌∙◌, ◌∷◌, ◌≡◌, ◌≢◌, ◌≤◌, ◌⊎◌}
+pub use Rattle.std.proofs.Common.{Bool, Err, List, None, Ok, OnErr, OnOk, Option, Result, Some, [], ap, append-nil, append_assoc, arith, cond, drop, eqb, false, filter, get_or, get_or-set_other, get_or-set_same, inl, inr, is_none, is_ok, is_some, leb, length, length-append, length-drop, length-set, map, not, refl, replicate, rules, set, set-set, suc, sum_by, sym, take, true, zero, ℕ, ◌%◌, ◌&&◌, ◌*◌, ◌++◌, ◌+◌, ◌-◌, ◌/◌, ◌<◌, ◌∙◌, ◌∷◌, ◌≡◌, ◌≢◌, ◌≤◌, ◌⊎◌}
 pub use Rattle.std.proofs.lemmas.Bool.{and_parts, cases_Bool, cases_eq, cases_lt, eq-eqb, eqb-true, false_from_ne_true, false≢true, le-leb, lt-leb, ne_eqb, not-false, not-true}
 pub use Rattle.std.proofs.lemmas.Bool.Decides.{nat_tests}
 pub use Rattle.std.proofs.lemmas.Grind.{common_steps}
 pub use Rattle.std.proofs.lemmas.List.{drop-append-le, get_or-replicate, get_or_past, length-map, length-replicate, length-take, map-append, replicate-append-replicate, set-get_or, take-append-le, take_all}
 pub use Rattle.std.proofs.lemmas.List.Elements.{All-head, All-push, All-tail, All-weaker, Contains-append_left, Contains-push, filter-append}
 pub use Rattle.std.proofs.lemmas.List.Filters.{sum_by-filter_both}
-pub use Rattle.std.proofs.lemmas.List.Folds.{list_any_at}
 pub use Rattle.std.proofs.lemmas.List.Sums.{count_by-le-length, sum_by-append, sum_by-cons, sum_by-le-sum_by, sum_by-set, sum_by_push}
 pub use Rattle.std.specs.List.{flat_map, list_any, range_with_len}
 pub use Rattle.std.specs.Map.{lookup, lookup_key, remove_entry, values_of}
@@ -22,12 +21,11 @@ pub use Rattle.shm_pager.specs.Pages.{last_count}
 pub use Rattle.shm_plain.proofs.Pasted.{length-paste}
 pub use Rattle.shm_plain.specs.Held.{FitsPage, Held, bytes_of, find_held, is_held, is_locked, pages_held, pages_if_locked, pages_in, pages_locked, paste, pasted, span_bytes, with_lock, with_zeros, without}
 pub use Rattle.shm_slots.proofs.Causes.{rises-le, total-le}
-pub use Rattle.shm_slots.proofs.Changes.{slot-here}
 pub use Rattle.shm_slots.specs.Cause.{GoesOn, IsSteady, had_cause, some_spent, total}
 pub use Rattle.shm_slots.specs.Owners.{used_count}
 pub use Rattle.shm_slots.specs.View.{AreaView, HasSlot, IsArea, IsFirstFree, IsSwap, OneArea, SameSlots, SwapView, WriteFault, area_at, is_spent_here, no_area, off, owner_of, page_in, rise, size_of, sizes, slots, slots_in, used_in, used_slots, with_area, with_owner, with_page, with_slot_owner, with_slot_page, without_slot}
 pub use mir.Val.{bool_byte}
-pub use Rattle.shm_fault.specs.Access.{Accessed, AreIn, Brings, IsIn, IsUntouched, NameFrames, Visited}
+pub use Rattle.shm_fault.specs.Access.{Accessed, AreIn, Brings, IsUntouched, Visited}
 pub use Rattle.shm_fault.specs.Counting.{AtRest, CountsOn, hand_after, hand_for_frame, one_if, one_more, raised}
 pub use Rattle.shm_fault.specs.Dropping.{Dropped, Given, IsBlank, emptied}
 pub use Rattle.shm_fault.specs.Entries.{key_at, seg_view, segs_view}
@@ -37,7 +35,7 @@ pub use Rattle.shm_fault.specs.Moving.{IsCleared, IsRelocated, SameOwned}
 pub use Rattle.shm_fault.specs.Segs.{AreApart, HasPage, SegRec, but, count_by_id, find_seg, locked_by, locked_pages, new_seg, no_page, page_count, rec_at, rec_by, seg_with, with_rec, with_seg_lock}
 pub use Rattle.shm_fault.specs.Sound.{IsStoreSound, IsTied, Tied}
 pub use Rattle.shm_fault.specs.Steps.{Kept, moved}
-pub use Rattle.shm_fault.specs.Store.{IsReferenced, IsResident, StoreView, bytes_by, dirty, dirty_in, disowned, fresh_store, has_frame, has_slot, held, held_by, is_dirty_page, is_swapped, page_bytes, page_of, pages_among, ref_of, resident, same_page, slot_bytes, swapped_among, used}
+pub use Rattle.shm_fault.specs.Store.{IsResident, StoreView, bytes_by, dirty, dirty_in, disowned, fresh_store, has_frame, has_slot, held, held_by, is_dirty_page, is_swapped, page_bytes, page_of, pages_among, ref_of, resident, same_page, slot_bytes, swapped_among, used}
 pub use Rattle.shm_fault.specs.declared.access.InFrames.{InFrames}
 pub use Rattle.shm_fault.specs.declared.page_tables.PageRec.{PageRec}
 pub use Rattle.shm_fault.specs.declared.page_tables.PageTable.{PageTable}

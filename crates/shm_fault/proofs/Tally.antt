@@ -1,10 +1,7 @@
 -- Resident, dirty and used pages, by frames and by slots.
-use Rattle.shm_fault.proofs.Names.{◌≡◌, ℕ, suc, ◌<◌, ◌≤◌, ◌+◌, ◌-◌, Bool, true, false, not, cond, eqb, leb, List, [], ◌∷◌, map, length, get_or, sum_by, Option, Some, None, is_some, refl, sym, ap, ◌∙◌, inl, inr, arith, count_by, cases_Bool, cases_lt, eq-eqb, le-leb, lt-leb, get_or_past, length-map, sum_by-cons, PageRef, Slot, AreaView, no_area, used_in, used_slots, Frame, frame_at, is_owned, is_dirty, resident_of, dirty_of, SegRec, rec_by, AreApart, HasPage, locked_by, page_count, locked_pages, StoreView, has_frame, has_slot, is_dirty_page, dirty_in, resident, dirty, used, Tied, nat_tests, common_steps}
+use Rattle.shm_fault.proofs.Names.{◌≡◌, ℕ, suc, ◌<◌, ◌≤◌, ◌+◌, ◌-◌, Bool, true, false, not, cond, eqb, leb, List, [], ◌∷◌, map, length, get_or, sum_by, Option, Some, None, is_some, refl, sym, ap, ◌∙◌, inl, inr, arith, count_by, cases_Bool, cases_lt, eq-eqb, le-leb, lt-leb, get_or_past, length-map, sum_by-cons, PageRef, Slot, AreaView, no_area, used_in, used_slots, Frame, frame_at, is_dirty, resident_of, dirty_of, SegRec, rec_by, AreApart, HasPage, locked_by, page_count, locked_pages, StoreView, has_frame, has_slot, is_dirty_page, dirty_in, resident, dirty, used, Tied, one_if, nat_tests, common_steps}
 use Rattle.std.proofs.lemmas.List.{get_or-map}
 use Rattle.shm_fault.proofs.Counts.{weigh, weigh-ext, weigh-sum, weigh-zero, weigh-le, weigh-ge, weigh-test, weigh-all, weigh-locked, at_least, counted_by_page}
-
-abbrev one_if : Bool → ℕ
-one_if b = cond b 1 0
 
 abbrev none_if : Bool → ℕ
 none_if b = cond b 0 1

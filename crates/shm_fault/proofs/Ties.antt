@@ -1,5 +1,5 @@
 -- A change that touches few pages keeps all others tied, and their bytes.
-use Rattle.shm_fault.proofs.Names.{◌≡◌, ℕ, Bool, true, false, List, length, set, Option, Some, None, refl, sym, inl, inr, arith, cases_Bool, PageRef, Slot, SwapView, HasSlot, owner_of, page_in, Frame, frame_at, PageRec, SegRec, rec_by, HasPage, with_rec, StoreView, slot_bytes, bytes_by, page_bytes, IsTied, Tied, outlines, Alike, common_steps, nat_tests}
+use Rattle.shm_fault.proofs.Names.{◌≡◌, ℕ, Bool, true, false, List, length, set, Option, Some, None, refl, arith, cases_Bool, PageRef, Slot, SwapView, HasSlot, owner_of, page_in, Frame, frame_at, PageRec, SegRec, rec_by, HasPage, with_rec, StoreView, slot_bytes, bytes_by, page_bytes, IsTied, Tied, outlines, Alike, common_steps, nat_tests}
 use Rattle.shm_fault.proofs.Pages.{has-same, outlines-with, rec-with_other, other, other-self}
 use Rattle.shm_fault.proofs.Slots.{OnlySlot, cases_slot, set-cases}
 

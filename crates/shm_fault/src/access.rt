@@ -1,6 +1,6 @@
 //! Reads and writes of bytes. The pages of an access come in first, in the order of its spans, and
 //! the first stays while the second comes in; only then are bytes read or changed.
-ghost use Rattle.std.specs.Prelude.{◌≡◌, ℕ, ◌+◌, ◌<◌, ◌≤◌, true, [], ◌∷◌, length, map, set, Some, is_ok, IfOk, OnOk, OnErr, All};
+ghost use Rattle.std.specs.Prelude.{◌≡◌, ℕ, ◌+◌, ◌<◌, ◌≤◌, [], ◌∷◌, length, map, set, Some, is_ok, IfOk, OnOk, OnErr, All};
 ghost use Rattle.shm_base.specs.declared.paging.Span.{Span as SpanValue};
 ghost use Rattle.shm_plain.specs.Held.{FitsPage, read_from, written, pasted, paste, span_bytes};
 ghost use Rattle.shm_plain.specs.Access.{IsAccess};
@@ -52,7 +52,7 @@ impl<P: Pager> PageStore<P> {
         ensures has { HasPage self.now.segs result }
         ensures sound { IsStoreSound self.now }
     {
-        // What is read of the store has a proof know what is true of it.
+        // Read for the proof alone: the clauses and the cast rest on the store's invariant.
         let _ = &self.segs;
         PageRef {
             seg: span.seg,
@@ -131,7 +131,7 @@ impl<P: Pager> PageStore<P> {
             [first] => self.bring_one(first, touched),
             [first, second, ..] => self.bring_two(first, second, touched),
         };
-        // What is read of the store has a proof know what is true of it.
+        // Read for the proof alone: the clause `sound` is the store's invariant.
         let _ = &self.segs;
         brought
     }

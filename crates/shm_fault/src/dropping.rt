@@ -1,5 +1,5 @@
 //! Segments that go, with their frames and slots.
-ghost use Rattle.std.specs.Prelude.{◌≡◌, ◌≢◌, ℕ, ◌<◌, true, length, Some, None};
+ghost use Rattle.std.specs.Prelude.{◌≡◌, ◌≢◌, ℕ, true, length};
 ghost use Rattle.shm_base.specs.declared.paging.Slot.{Slot as Place};
 ghost use Rattle.shm_plain.specs.Held.{is_held, without};
 ghost use Rattle.shm_slots.specs.View.{owner_of, sizes, IsSwap};

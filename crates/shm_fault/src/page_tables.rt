@@ -171,25 +171,17 @@ impl PageTables {
         requires { HasPage self.old page }
         ensures { self.new ≡ with_rec self.old page place }
     {
-        let Some(index) = index_of(&self.by_id, page.seg) else {
-            return;
-        };
-        let Some(table) = self.by_id.get_index_mut(index) else {
-            unreachable!();
-        };
-        set_place(&mut table.pages, page.page, place);
+        if let Some(index) = index_of(&self.by_id, page.seg) {
+            set_place(&mut self.by_id[index].pages, page.page, place);
+        }
     }
 
     /// Locks or unlocks a segment.
     pub(crate) fn set_locked(&mut self, id: u32, locked: bool)
         ensures { self.new ≡ map (with_seg_lock id locked) self.old }
     {
-        let Some(index) = index_of(&self.by_id, id) else {
-            return;
-        };
-        let Some(table) = self.by_id.get_index_mut(index) else {
-            unreachable!();
-        };
-        table.locked = locked;
+        if let Some(index) = index_of(&self.by_id, id) {
+            self.by_id[index].locked = locked;
+        }
     }
 }

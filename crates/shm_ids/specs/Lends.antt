@@ -1,14 +1,9 @@
--- What a row and an entry end as, where a `&mut` to the value is returned.
+-- What an entry ends as, where a `&mut` to its value is returned.
 use Rattle.std.specs.Borrow.{Lends, Fml, RattleType, MutBor}
 use Rattle.shm_ids.specs.declared.table.Entry.{Entry}
-use Rattle.shm_ids.specs.declared.table.Row.{Row}
 use Rattle.shm_ids.specs.Table.{row_with_value}
 use Rattle.shm_ids.specs.contracts.table.Entry.{the_row}
-use Rattle.shm_ids.specs.contracts.table.Row.{the_row as row_row}
 
 module _ (T : RattleType) where
-  abbrev pub lends_row : MutBor (Row T.Denot) → MutBor T.Denot → Fml
-  lends_row s r = Lends (row_row T) T s r (λ w. record (s.now) { value = w })
-
   abbrev pub lends_entry : MutBor (Entry T.Denot) → MutBor T.Denot → Fml
   lends_entry s r = Lends (the_row T) T s r (λ w. record (s.now) { row = row_with_value w s.now.row })

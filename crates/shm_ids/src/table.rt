@@ -240,17 +240,6 @@ fn take_row<T>(entries: &mut Vec<Entry<T>>, index: usize) -> Row<T>
     entry.row.take().unwrap()
 }
 
-impl<T> Row<T> {
-    ghost use Rattle.shm_ids.specs.Lends.{lends_row};
-
-    fn value_mut(&mut self) -> &mut T
-        ensures* lends { sem 𝓛 (lends_row T.row self.entry result) }
-        ensures value { result.now ≡ self.old.value }
-    {
-        &mut self.value
-    }
-}
-
 impl<T> Entry<T> {
     ghost use Rattle.shm_ids.specs.Table.{look_entry};
     ghost use Rattle.shm_ids.specs.Lends.{lends_entry};
@@ -263,7 +252,7 @@ impl<T> Entry<T> {
         ensures value { look_row self.old.row ≡ Ok result.now }
     {
         match &mut self.row {
-            Some(row) => row.value_mut(),
+            Some(row) => &mut row.value,
             None => unreachable!(),
         }
     }

@@ -1,5 +1,5 @@
 -- What becomes of each index of the table in a step, and of what is kept.
-use Rattle.shm_laws.proofs.Names.{◌≡◌, ◌≢◌, ◌⊎◌, ℕ, ◌/◌, ◌%◌, ◌<◌, ◌≤◌, ◌==◌, ◌||◌, pos, Bool, false, List, replicate, Option, Some, None, slice_get, refl, sym, ap, subst, ◌∙◌, inl, inr, arith, eq-eqb, ne_eqb, common_steps, option_map, cases_eq, Reply, Id, Event, Segment, Entry, Runner, Machine, identifier, destroyed_in, with_segment, destroyed_at, attach_count, with_entry, marked, change, swept_at, caller_of, IsMove, orphan_in, orphan, IsSame, put, held_by, swept, true}
+use Rattle.shm_laws.proofs.Names.{◌≡◌, ◌≢◌, ◌⊎◌, ℕ, ◌/◌, ◌%◌, ◌<◌, ◌≤◌, ◌==◌, ◌||◌, pos, Bool, false, List, replicate, Option, Some, None, slice_get, refl, sym, ap, subst, ◌∙◌, inl, inr, arith, eq-eqb, ne_eqb, common_steps, option_map, cases_eq, Reply, Id, Event, Segment, Entry, Runner, Machine, identifier, destroyed_in, with_segment, destroyed_at, attach_count, with_entry, marked, change, swept_at, caller_of, IsMove, orphan_in, orphan, IsSame, put, pieces_of_caller, swept, true}
 use Rattle.shm_laws.proofs.Turning.{same_refl, set_in-here, set_in-there, swept_entry, swept-get, Turned, unchanged, turned-over, turned-as, entry-none}
 use Rattle.shm_laws.proofs.Fresh.{IsEmpty, made-at}
 use Rattle.shm_laws.proofs.Looks.{holds, stands-at}
@@ -10,7 +10,7 @@ use Rattle.shm_laws.proofs.Stepping.{Bare, SweepTo, MakeTo, RemoveTo, IsIdle, Ki
 
 pub kind-move : (s : Machine) (n : ℕ) (e : Event) (t : Machine) → Bare s.runners → IsMove s n e t → Moved s e t
 kind-move s n e t bare =
-    by-move s n e t (λ r u. Kind (over_put (held_by (caller_of s e.pid)) (put e.call r)) (made_by (caller_of s e.pid) e.call) s (removed e.call r) r u)
+    by-move s n e t (λ r u. Kind (over_put (pieces_of_caller (caller_of s e.pid)) (put e.call r)) (made_by (caller_of s e.pid) e.call) s (removed e.call r) r u)
     (λ c is. rw is (kind-acts (MadeBy c e.call) s n c e.call bare
     (λ key size mode flags asked k. record { key = key; mode = mode; flags = flags; asked = asked; process = refl; user = refl; group = refl })))
     (λ r no. rw (refused-removed e.call r no, refused-put e.call r no) (still (made_by (caller_of s e.pid) e.call) s r))

@@ -1,5 +1,5 @@
 -- Each piece lies within a segment that stands.
-use Rattle.shm_laws.proofs.Names.{◌≡◌, ℕ, ◌+◌, ◌*◌, ◌%◌, ◌≤◌, true, length, get_or, Option, Some, None, refl, arith, common_steps, none-some, All-contains, Contains-get_or, Event, Segment, Piece, Runner, Machine, Opening, start_of, Place, covers, place_by, place, attach_count, Caller, caller_of, IsMove, Stands, Has, EachPiece, held_by}
+use Rattle.shm_laws.proofs.Names.{◌≡◌, ℕ, ◌+◌, ◌*◌, ◌%◌, ◌≤◌, true, length, get_or, Option, Some, None, refl, arith, common_steps, none-some, All-contains, Contains-get_or, Event, Segment, Piece, Runner, Machine, Opening, start_of, Place, covers, place_by, place, attach_count, Caller, caller_of, IsMove, Stands, Has, EachPiece, pieces_of_caller}
 use Rattle.shm_laws.proofs.Fates.{kind-move}
 use Rattle.shm_laws.proofs.Accessing.{lies-in}
 use Rattle.shm_laws.proofs.Granting.{IsPieceGiven, Aligned, each-has, has-own, mine, each-start, given-move, aligned-move}
@@ -77,10 +77,10 @@ pub record SpotFits (s : Machine) (pid a : ℕ) (q : Place) : Type 0 where
   pub covered : covers piece a ≡ true
   pub spot : q ≡ place_by piece a
 
-pub spot-fits : (s : Machine) (pid a : ℕ) (q : Place) → AllFit s → place (held_by (caller_of s pid)) a ≡ Some q → SpotFits s pid a q
+pub spot-fits : (s : Machine) (pid a : ℕ) (q : Place) → AllFit s → place (pieces_of_caller (caller_of s pid)) a ≡ Some q → SpotFits s pid a q
 spot-fits s pid a q fits found = by (caller_of s pid) refl found
   where
-    by : (o : Option Caller) → caller_of s pid ≡ o → place (held_by o) a ≡ Some q → SpotFits s pid a q
+    by : (o : Option Caller) → caller_of s pid ≡ o → place (pieces_of_caller o) a ≡ Some q → SpotFits s pid a q
     by None is none = absurd (none-some q none)
     by (Some c) is there =
         let l = lies-in c.pieces a q there in

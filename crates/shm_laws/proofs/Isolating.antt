@@ -1,5 +1,5 @@
 -- A call sees no byte that is hidden from its process.
-use Rattle.shm_laws.proofs.Names.{◌≡◌, ◌⊎◌, ℕ, ◌+◌, ◌*◌, ◌/◌, ◌%◌, ◌^◌, ◌==◌, ℤ, Bool, true, false, not, nat_lt, if◌then◌else◌, List, [], ◌∷◌, length, Option, Some, None, slice_get, refl, sym, ap, subst, ◌∙◌, inl, inr, arith, common_steps, w64, to_le_bytes, from_le_bytes, length-replicate, none-some, slice_get_within, Errno, Eperm, Emfile, GetFlags, AtFlags, Call, Shmget, Shmat, Shmdt, Stat, Set, Rmid, Lock, Unlock, Load, Store, Xadd, Fork, Exec, Exit, Swapoff, Addr, Number, Done, Event, Place, place, places, writable_places, stored, Segment, Entry, Piece, Runner, Machine, Opening, pages_in, Look, identifier, destroyed_in, destroyed_at, find_key, look, cut_segments, origin_of, change, attached, detach_all, swept, after_detach, Outcome, gives, refuses, Caller, caller_of, with_pieces, with_end, segments_of, new_segment, creates, shmget, pieces_with, attaches, attaches_chosen, attaches_fixed, attaches_found, shmat, detaches, forks, unborn_from, stat, controls, sets, removes, locks, unlocks, load, store, xadd, number_at, takes_away, acts, step_by, step, is_failure, IsMove, IsHistory, Has, Reach, reach, veiled, veiled_from, veil, DifferIn, HasNone, IsPrivate, IsAsked, IsBlindOn, IsIsolated, held_by, clear_step, first_clear, rest_clear}
+use Rattle.shm_laws.proofs.Names.{◌≡◌, ◌⊎◌, ℕ, ◌+◌, ◌*◌, ◌/◌, ◌%◌, ◌^◌, ◌==◌, ℤ, Bool, true, false, not, nat_lt, if◌then◌else◌, List, [], ◌∷◌, length, Option, Some, None, slice_get, refl, sym, ap, subst, ◌∙◌, inl, inr, arith, common_steps, w64, to_le_bytes, from_le_bytes, length-replicate, none-some, slice_get_within, Errno, Eperm, Emfile, GetFlags, AtFlags, Call, Shmget, Shmat, Shmdt, Stat, Set, Rmid, Lock, Unlock, Load, Store, Xadd, Fork, Exec, Exit, Swapoff, Addr, Number, Done, Event, Place, place, places, writable_places, stored, Segment, Entry, Piece, Runner, Machine, Opening, pages_in, Look, identifier, destroyed_in, destroyed_at, find_key, look, cut_segments, origin_of, change, attached, detach_all, swept, after_detach, Outcome, gives, refuses, Caller, caller_of, with_pieces, with_end, segments_of, new_segment, creates, shmget, pieces_with, attaches, attaches_chosen, attaches_fixed, attaches_found, shmat, detaches, forks, unborn_from, stat, controls, sets, removes, locks, unlocks, load, store, xadd, number_at, takes_away, acts, step_by, step, is_failure, IsMove, IsHistory, Has, Reach, reach, veiled, veiled_from, veil, DifferIn, HasNone, IsPrivate, IsAsked, IsBlindOn, IsIsolated, pieces_of_caller, clear_step, first_clear, rest_clear}
 use Rattle.shm_laws.proofs.Refusing.{by-move}
 use Rattle.shm_base.specs.Step.{gets}
 use Rattle.shm_laws.proofs.Accessing.{place-of, places-length, writable-parts}
@@ -162,9 +162,9 @@ module _ (hidden : ℕ → Bool) (s : Machine) (n : ℕ) (c : Caller) where
 
 -- where a process sees no hidden byte
 abbrev Sees : (ℕ → Bool) → Machine → ℕ → Type 0
-Sees hidden s pid = (a : ℕ) (q : Place) → place (held_by (caller_of s pid)) a ≡ Some q → Seen hidden s.table q
+Sees hidden s pid = (a : ℕ) (q : Place) → place (pieces_of_caller (caller_of s pid)) a ≡ Some q → Seen hidden s.table q
 
-out-by : (hidden : ℕ → Bool) (s : Machine) (n : ℕ) (call : Call) (o : Option Caller) → ((a : ℕ) (q : Place) → place (held_by o) a ≡ Some q → Seen hidden s.table q)
+out-by : (hidden : ℕ → Bool) (s : Machine) (n : ℕ) (call : Call) (o : Option Caller) → ((a : ℕ) (q : Place) → place (pieces_of_caller o) a ≡ Some q → Seen hidden s.table q)
     → step_by (veil hidden s) n call o ≡ out hidden (step_by s n call o)
 out-by hidden s n call None sees = refl
 out-by hidden s n call (Some c) sees = out-acts hidden s n c sees call
@@ -174,7 +174,7 @@ out-step hidden s n pid call sees = out-by hidden s n call (caller_of s pid) see
 
 -- whether a place of the process is hidden is whether its piece's segment is
 spot-hidden : (hidden : ℕ → Bool) (s : Machine) (pid : ℕ) (b : Bool) → IsFit s → ((p : Piece) → Has s pid p → hidden p.seg ≡ b)
-    → (a : ℕ) (q : Place) → place (held_by (caller_of s pid)) a ≡ Some q → hidden (identifier (q.seg % 32768) (destroyed_at s.table (q.seg % 32768))) ≡ b
+    → (a : ℕ) (q : Place) → place (pieces_of_caller (caller_of s pid)) a ≡ Some q → hidden (identifier (q.seg % 32768) (destroyed_at s.table (q.seg % 32768))) ≡ b
 spot-hidden hidden s pid b fit each a q found =
     let f = spot-fits s pid a q fit.fits found in
     let seg : q.seg ≡ f.piece.seg = ap (λ (r : Place). r.seg) f.spot in
@@ -185,11 +185,11 @@ spot-hidden hidden s pid b fit each a q found =
 
 -- and so it is in a machine that differs in what is hidden
 other-hidden : (hidden : ℕ → Bool) (s other : Machine) (pid : ℕ) (b : Bool) → DifferIn hidden s other
-    → ((a : ℕ) (q : Place) → place (held_by (caller_of s pid)) a ≡ Some q → hidden (identifier (q.seg % 32768) (destroyed_at s.table (q.seg % 32768))) ≡ b)
-    → (a : ℕ) (q : Place) → place (held_by (caller_of other pid)) a ≡ Some q → hidden (identifier (q.seg % 32768) (destroyed_at other.table (q.seg % 32768))) ≡ b
+    → ((a : ℕ) (q : Place) → place (pieces_of_caller (caller_of s pid)) a ≡ Some q → hidden (identifier (q.seg % 32768) (destroyed_at s.table (q.seg % 32768))) ≡ b)
+    → (a : ℕ) (q : Place) → place (pieces_of_caller (caller_of other pid)) a ≡ Some q → hidden (identifier (q.seg % 32768) (destroyed_at other.table (q.seg % 32768))) ≡ b
 other-hidden hidden s other pid b differ sees a q found =
     let runners : other.runners ≡ s.runners = ap (λ (m : Machine). m.runners) (sym differ) in
-    let there : place (held_by (caller_of s pid)) a ≡ Some q = ap (λ rs. place (held_by (caller_of (record s { runners = rs }) pid)) a) (sym runners) ∙ found in
+    let there : place (pieces_of_caller (caller_of s pid)) a ≡ Some q = ap (λ rs. place (pieces_of_caller (caller_of (record s { runners = rs }) pid)) a) (sym runners) ∙ found in
     let i = q.seg % 32768 in
     let count : destroyed_at other.table i ≡ destroyed_at s.table i =
     sym (veiled-destroyed hidden other.table i) ∙ ap (λ (m : Machine). destroyed_at m.table i) (sym differ) ∙ veiled-destroyed hidden s.table i in
@@ -217,7 +217,7 @@ blind-move s n e t fit m hidden other none differ = by m
 -- WHAT IS PRIVATE
 
 abbrev Hides : (ℕ → Bool) → Machine → ℕ → Type 0
-Hides hidden s pid = (a : ℕ) (q : Place) → place (held_by (caller_of s pid)) a ≡ Some q → Hid hidden s.table q
+Hides hidden s pid = (a : ℕ) (q : Place) → place (pieces_of_caller (caller_of s pid)) a ≡ Some q → Hid hidden s.table q
 
 module _ (hidden : ℕ → Bool) (s : Machine) (n : ℕ) (c : Caller) (hid : (a : ℕ) (q : Place) → place c.pieces a ≡ Some q → Hid hidden s.table q) where
   hid-places : (a len : ℕ) (qs : List Place) → places c.pieces a len ≡ Some qs → (k : ℕ) (q : Place) → slice_get qs k ≡ Some q → Hid hidden s.table q

@@ -16,6 +16,7 @@ pub use Rattle.shm_base.specs.Access.{Place, all_writable, byte_at, byte_set, co
 pub use Rattle.shm_base.specs.History.{IsExcused, IsHistory, IsMove, LeadsFrom, is_failure, is_refusal}
 pub use Rattle.shm_base.specs.Identifier.{Found, Invalid, Look, Removed, destroyed_at, destroyed_in, find_key, free_from, free_index, has_key, identifier, key_from, look, look_entry, look_segment, with_segment}
 pub use Rattle.shm_base.specs.Permission.{grants, owns, wish_of}
+pub use Rattle.shm_base.specs.Processes.{pieces_of_caller}
 pub use Rattle.shm_base.specs.Segments.{after_detach, attach_count, attached, change, detach_all, detached, locked, marked, pages_held, pages_locked, reserved, segment_count, swept, swept_at, swept_from, with_entry}
 pub use Rattle.shm_base.specs.Space.{choose, cut, cut_segments, first_chosen, inserted, inside, is_gap, is_named, meets, occupied, origin_of, part_above, part_below, parts, pieces_of, without_named}
 pub use Rattle.shm_base.specs.State.{Ended, Entry, Life, Live, Machine, Opening, Piece, Runner, Segment, Unborn, pages_in, runner_at_start, start_of}
@@ -48,4 +49,4 @@ pub use Rattle.shm_laws.specs.Removal.{DestroysWhatIsDue, GoesWhenItMust, IsDue,
 pub use Rattle.shm_laws.specs.Replay.{IsReplayed, undone, without_failures}
 pub use Rattle.shm_laws.specs.Standing.{Always, Began, EachPiece, Has, IsGone, Lasted, MomentsBy, MovesBy, Since, Stands}
 pub use Rattle.shm_laws.specs.Worked.{IsLegal, a_store_fails, opening, others_read, stores_own, three, two_go, two_write}
-pub use Rattle.shm_laws.specs.Writing.{AreLast, HasLastWriters, IsByte, IsLast, Makes, Put, Recalls, Remembers, Spares, Writes, held_by, put}
+pub use Rattle.shm_laws.specs.Writing.{AreLast, HasLastWriters, IsByte, IsLast, Makes, Put, Recalls, Remembers, Spares, Writes, put}

@@ -1,5 +1,5 @@
 -- Each byte is that of its last writer, and so is each byte that an event answers.
-use Rattle.shm_laws.proofs.Names.{◌≡◌, ◌⊎◌, ℕ, ◌+◌, ◌-◌, ◌*◌, ◌%◌, ◌<◌, true, false, List, [], ◌∷◌, ◌++◌, length, Option, Some, None, slice_get, refl, sym, ap, subst, ◌∙◌, inl, inr, arith, w64, from_le_bytes, option_map, length-map, common_steps, none-some, slice_get-map, slice_get-get_or, slice_get_within, Call, Load, Store, Xadd, Reply, Bytes, Number, Event, Segment, Piece, Machine, Opening, start_of, Place, covers, place_by, place, places, writable_places, byte_at, loaded, Caller, Outcome, caller_of, acts, step_by, step, load, store, xadd, number_at, is_refusal, IsMove, IsHistory, Stands, Began, Lasted, Put, put, held_by, IsByte, Writes, Spares, IsLast, Remembers, AreLast, Recalls, HasLastWriters}
+use Rattle.shm_laws.proofs.Names.{◌≡◌, ◌⊎◌, ℕ, ◌+◌, ◌-◌, ◌*◌, ◌%◌, ◌<◌, true, false, List, [], ◌∷◌, ◌++◌, length, Option, Some, None, slice_get, refl, sym, ap, subst, ◌∙◌, inl, inr, arith, w64, from_le_bytes, option_map, length-map, common_steps, none-some, slice_get-map, slice_get-get_or, slice_get_within, Call, Load, Store, Xadd, Reply, Bytes, Number, Event, Segment, Piece, Machine, Opening, start_of, Place, covers, place_by, place, places, writable_places, byte_at, loaded, Caller, Outcome, caller_of, acts, step_by, step, load, store, xadd, number_at, is_refusal, IsMove, IsHistory, Stands, Began, Lasted, Put, put, pieces_of_caller, IsByte, Writes, Spares, IsLast, Remembers, AreLast, Recalls, HasLastWriters}
 use Rattle.shm_laws.proofs.Accessing.{place-of, places-length, writable-parts}
 use Rattle.shm_laws.proofs.Fates.{kind-move}
 use Rattle.shm_laws.proofs.Fitting.{one-index, Fits, AllFit, IsFit, fit-start, fit-move, spot-fits}
@@ -28,7 +28,7 @@ module _ (s : Machine) (n : ℕ) (c : Caller) where
   placed-acts call p puts = grind (arith, placed-store, placed-xadd, none-some)
 
 abbrev PlacedBy : Option Caller → Call → Reply → Type 0
-PlacedBy o call reply = (p : Put) → put call reply ≡ Some p → (qs : List Place) × (places (held_by o) p.from (length p.bytes) ≡ Some qs)
+PlacedBy o call reply = (p : Put) → put call reply ≡ Some p → (qs : List Place) × (places (pieces_of_caller o) p.from (length p.bytes) ≡ Some qs)
 
 placed-move : (s : Machine) (n : ℕ) (e : Event) (t : Machine) → IsMove s n e t → PlacedBy (caller_of s e.pid) e.call e.reply
 placed-move s n e t =
@@ -36,7 +36,7 @@ placed-move s n e t =
     (λ r no p puts. absurd (none-some p (sym (refused-put e.call r no) ∙ puts)))
 
 -- at the index of a segment it is that segment's
-spot-names : (s : Machine) (pid a id : ℕ) (q : Place) (x : Segment) → AllFit s → place (held_by (caller_of s pid)) a ≡ Some q → Stands s id x → q.seg % 32768 ≡ id % 32768 → q.seg ≡ id
+spot-names : (s : Machine) (pid a id : ℕ) (q : Place) (x : Segment) → AllFit s → place (pieces_of_caller (caller_of s pid)) a ≡ Some q → Stands s id x → q.seg % 32768 ≡ id % 32768 → q.seg ≡ id
 spot-names s pid a id q x fits found stands index =
     let f = spot-fits s pid a q fits found in
     let seg : q.seg ≡ f.piece.seg = ap (λ (r : Place). r.seg) f.spot in
@@ -48,11 +48,11 @@ module _ (s : Machine) (n : ℕ) (e : Event) (t : Machine) (fits : AllFit s) (m 
   abbrev Touched : Type 0
   Touched = Writes s e id at b ⊎ (Spares s e id at × (slice_get x.bytes at ≡ Some b))
 
-  module _ (p : Put) (puts : put e.call e.reply ≡ Some p) (qs : List Place) (found : places (held_by (caller_of s e.pid)) p.from (length p.bytes) ≡ Some qs) where
+  module _ (p : Put) (puts : put e.call e.reply ≡ Some p) (qs : List Place) (found : places (pieces_of_caller (caller_of s e.pid)) p.from (length p.bytes) ≡ Some qs) where
     -- an address that is the byte has a place that is
     spot-of : (k : ℕ) → k < length p.bytes → IsByte s e.pid (p.from + k) id at → (q : Place) × (slice_get qs k ≡ Some q) × IsSpot (id % 32768) at q
     spot-of k lt here =
-        let o = place-of (held_by (caller_of s e.pid)) p.from (length p.bytes) qs found k lt in
+        let o = place-of (pieces_of_caller (caller_of s e.pid)) p.from (length p.bytes) qs found k lt in
         let same : Some o.spot ≡ Some (record { seg = id; at = at; writable = here.0 }) = sym o.is ∙ here.1 in
         let is : o.spot ≡ record { seg = id; at = at; writable = here.0 } = cc same in
         (o.spot, o.at, record { index = ap (λ (q : Place). q.seg % 32768) is; here = ap (λ (q : Place). q.at) is })
@@ -60,9 +60,9 @@ module _ (s : Machine) (n : ℕ) (e : Event) (t : Machine) (fits : AllFit s) (m 
     -- and a place that is the byte has an address
     byte-of : (k : ℕ) (q : Place) → k < length p.bytes → slice_get qs k ≡ Some q → IsSpot (id % 32768) at q → IsByte s e.pid (p.from + k) id at
     byte-of k q lt is spot =
-        let o = place-of (held_by (caller_of s e.pid)) p.from (length p.bytes) qs found k lt in
+        let o = place-of (pieces_of_caller (caller_of s e.pid)) p.from (length p.bytes) qs found k lt in
         let own : Some o.spot ≡ Some q = sym o.at ∙ is in
-        let there : place (held_by (caller_of s e.pid)) (p.from + k) ≡ Some q = o.is ∙ own in
+        let there : place (pieces_of_caller (caller_of s e.pid)) (p.from + k) ≡ Some q = o.is ∙ own in
         let name : q.seg ≡ id = spot-names s e.pid (p.from + k) id q x fits there stands spot.index in
         (q.writable, there ∙ (λ j. Some (record { seg = name j; at = spot.here j; writable = q.writable })))
 
@@ -85,14 +85,14 @@ module _ (s : Machine) (n : ℕ) (e : Event) (t : Machine) (fits : AllFit s) (m 
         let s = spot-of k lt' here' in
         miss k s.0 lt' s.1 s.2
 
-  touched-by : (o : Option Put) → put e.call e.reply ≡ o → slice_get (over_put (held_by (caller_of s e.pid)) o (id % 32768) x.bytes) at ≡ Some b → Touched
+  touched-by : (o : Option Put) → put e.call e.reply ≡ o → slice_get (over_put (pieces_of_caller (caller_of s e.pid)) o (id % 32768) x.bytes) at ≡ Some b → Touched
   touched-by None is h = inr (λ other says k lt here. none-some other (sym is ∙ says), h)
   touched-by (Some p) is h =
       let l = placed-move s n e t m p is in
-      let now : slice_get (over_put (held_by (caller_of s e.pid)) (Some p) (id % 32768) x.bytes) at ≡ Some b = h in
+      let now : slice_get (over_put (pieces_of_caller (caller_of s e.pid)) (Some p) (id % 32768) x.bytes) at ≡ Some b = h in
       either l (byte-after (id % 32768) at b l.0 p.bytes x.bytes (rw l.1 at now))
     where
-      either : (l : (qs : List Place) × (places (held_by (caller_of s e.pid)) p.from (length p.bytes) ≡ Some qs))
+      either : (l : (qs : List Place) × (places (pieces_of_caller (caller_of s e.pid)) p.from (length p.bytes) ≡ Some qs))
           → Hit (id % 32768) at b l.0 p.bytes ⊎ (Miss (id % 32768) at l.0 p.bytes × (slice_get x.bytes at ≡ Some b)) → Touched
       either l (inl hit) = inl (hit-writes p is l.0 l.1 hit)
       either l (inr miss) = inr (miss-spares p is l.0 l.1 miss.0, miss.1)
@@ -141,16 +141,16 @@ byte-there : (s : Machine) (p : Piece) (a : ℕ) (f : Fits s p) → covers p a �
 byte-there s p a f covered = grind (arith, common_steps, stands-at, slice_get-get_or)
 
 recall-places : (o : Opening) (before : List Event) (s : Machine) (pid a len : ℕ) (qs : List Place) → Recollects o before s
-    → places (held_by (caller_of s pid)) a len ≡ Some qs → AreLast o before s pid a len (loaded s.table qs)
+    → places (pieces_of_caller (caller_of s pid)) a len ≡ Some qs → AreLast o before s pid a len (loaded s.table qs)
 recall-places o before s pid a len qs now found =
-    record { long = length-map qs (byte_at s.table) ∙ places-length (held_by (caller_of s pid)) a len qs found; each = each }
+    record { long = length-map qs (byte_at s.table) ∙ places-length (pieces_of_caller (caller_of s pid)) a len qs found; each = each }
   where
     each : (k b : ℕ) → slice_get (loaded s.table qs) k ≡ Some b → (id : ℕ) × (at : ℕ) × IsByte s pid (a + k) id at × IsLast o before id at b
     each k b is =
         let within = slice_get_within (loaded s.table qs) k b is in
         let long = length-map qs (byte_at s.table) in
-        let count = places-length (held_by (caller_of s pid)) a len qs found in
-        let spot = place-of (held_by (caller_of s pid)) a len qs found k (omega (arith, within, long, count)) in
+        let count = places-length (pieces_of_caller (caller_of s pid)) a len qs found in
+        let spot = place-of (pieces_of_caller (caller_of s pid)) a len qs found k (omega (arith, within, long, count)) in
         let f = spot-fits s pid (a + k) spot.spot now.fit.fits spot.is in
         let p = f.piece in
         let at = 4096 * p.first_page + ((a + k) - p.base) in
@@ -169,7 +169,7 @@ module _ (o : Opening) (before : List Event) (s : Machine) (n pid : ℕ) (now : 
       by None found refused = absurd (cc refused)
       by (Some qs) found told =
           let same : loaded s.table qs ≡ bytes = cc told in
-          subst (AreLast o before s pid a len) same (recall-places o before s pid a len qs now (ap (λ h. places (held_by h) a len) is ∙ found))
+          subst (AreLast o before s pid a len) same (recall-places o before s pid a len qs now (ap (λ h. places (pieces_of_caller h) a len) is ∙ found))
 
   xadd-recalls : (a add old : ℕ) (c : Option Caller) → caller_of s pid ≡ c → (step_by s n (Xadd a add) c).reply ≡ Number old
       → (bytes : List ℕ) × (old ≡ from_le_bytes w64 bytes) × AreLast o before s pid a 8 bytes
@@ -181,7 +181,7 @@ module _ (o : Opening) (before : List Event) (s : Machine) (n pid : ℕ) (now : 
       by (Some qs) found told =
           let same : number_at s qs ≡ old = cc told in
           let there = (writable-parts (places c.pieces a 8) qs found).0 in
-          (loaded s.table qs, sym same, recall-places o before s pid a 8 qs now (ap (λ h. places (held_by h) a 8) is ∙ there))
+          (loaded s.table qs, sym same, recall-places o before s pid a 8 qs now (ap (λ h. places (pieces_of_caller h) a 8) is ∙ there))
 
 -- the reply of a move that is no failure
 reply-of : (s : Machine) (n : ℕ) (e : Event) (t : Machine) → is_refusal e.reply ≡ false → IsMove s n e t → (step s n e.pid e.call).reply ≡ e.reply

@@ -1,5 +1,5 @@
 -- The four kinds of step on the segments: still, a sweep after a detach, a creation, a removal.
-use Rattle.shm_laws.proofs.Names.{◌≡◌, ◌⊎◌, ℕ, ◌+◌, ◌*◌, ◌%◌, ◌^◌, ◌≤◌, ◌==◌, ◌&&◌, ℤ, pos, negsuc, Bool, true, false, not, nat_lt, if◌then◌else◌, List, [], ◌∷◌, length, replicate, get_or, Option, Some, None, slice_get, slice_set, refl, sym, ap, subst, ◌∙◌, inl, inr, arith, common_steps, get-set_other, w64, to_le_bytes, slice_get-get_or, Emfile, GetFlags, AtFlags, Call, Shmget, Shmat, Shmdt, Stat, Set, Rmid, Lock, Unlock, Load, Store, Xadd, Fork, Exec, Exit, Swapoff, Reply, Id, Done, Addr, Event, grants, owns, wish_of, Place, places, writable_places, stored, Segment, Entry, Piece, Unborn, Live, Ended, Runner, Machine, pages_in, Look, Found, Removed, Invalid, identifier, destroyed_at, free_index, with_segment, look, find_key, inside, occupied, cut_segments, origin_of, attach_count, locked, change, attached, marked, detach_all, swept, Outcome, gives, refuses, segments_of, Caller, caller_of, acts, new_segment, creates, shmget, wants_creation, wants_no_other, is_rnd, is_remap, at_wish, attaches, attaches_chosen, attaches_fixed, attaches_found, shmat, pieces_with, with_pieces, detaches, forks, unborn_from, stat, controls, sets, removes, locks, unlocks, load, store, xadd, number_at, takes_away, swapoff, first_runner, child_at, life_in, keeps-set, IsSame, Put, put, held_by}
+use Rattle.shm_laws.proofs.Names.{◌≡◌, ◌⊎◌, ℕ, ◌+◌, ◌*◌, ◌%◌, ◌^◌, ◌≤◌, ◌==◌, ◌&&◌, ℤ, pos, negsuc, Bool, true, false, not, nat_lt, if◌then◌else◌, List, [], ◌∷◌, length, replicate, get_or, Option, Some, None, slice_get, slice_set, refl, sym, ap, subst, ◌∙◌, inl, inr, arith, common_steps, get-set_other, w64, to_le_bytes, slice_get-get_or, Emfile, GetFlags, AtFlags, Call, Shmget, Shmat, Shmdt, Stat, Set, Rmid, Lock, Unlock, Load, Store, Xadd, Fork, Exec, Exit, Swapoff, Reply, Id, Done, Addr, Event, grants, owns, wish_of, Place, places, writable_places, stored, Segment, Entry, Piece, Unborn, Live, Ended, Runner, Machine, pages_in, Look, Found, Removed, Invalid, identifier, destroyed_at, free_index, with_segment, look, find_key, inside, occupied, cut_segments, origin_of, attach_count, locked, change, attached, marked, detach_all, swept, Outcome, gives, refuses, segments_of, Caller, caller_of, acts, new_segment, creates, shmget, wants_creation, wants_no_other, is_rnd, is_remap, at_wish, attaches, attaches_chosen, attaches_fixed, attaches_found, shmat, pieces_with, with_pieces, detaches, forks, unborn_from, stat, controls, sets, removes, locks, unlocks, load, store, xadd, number_at, takes_away, swapoff, first_runner, child_at, life_in, keeps-set, IsSame, Put, put, pieces_of_caller}
 use Rattle.shm_base.specs.Step.{gets}
 use Rattle.shm_laws.proofs.Accessing.{writable-parts}
 use Rattle.shm_laws.proofs.Turning.{Turned, unchanged, puts_in, turned-refl, turned-trans, turned-change, turned-detach, turned-stored, set-got}
@@ -90,7 +90,7 @@ over_put ps None i bytes = bytes
 over_put ps (Some p) i bytes = over_places (places ps p.from (length p.bytes)) p.bytes i bytes
 
 abbrev pub overlay : Machine → Event → ℕ → List ℕ → List ℕ
-overlay s e = over_put (held_by (caller_of s e.pid)) (put e.call e.reply)
+overlay s e = over_put (pieces_of_caller (caller_of s e.pid)) (put e.call e.reply)
 
 -- what is made by a call, and by whom
 pub record MadeBy (c : Caller) (call : Call) (y : Segment) : Type 0 where

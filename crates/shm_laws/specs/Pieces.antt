@@ -11,10 +11,10 @@ use Rattle.shm_base.specs.declared.call.Event.{Event}
 use Rattle.shm_base.specs.State.{Segment, Machine, Opening}
 use Rattle.shm_base.specs.Space.{pieces_of}
 use Rattle.shm_base.specs.Segments.{attach_count}
+use Rattle.shm_base.specs.Processes.{pieces_of_caller}
 use Rattle.shm_base.specs.Step.{caller_of, is_remap}
 use Rattle.shm_base.specs.History.{is_refusal}
 use Rattle.shm_laws.specs.Standing.{Stands, EachMove}
-use Rattle.shm_laws.specs.Writing.{held_by}
 
 -- a segment that a process has a piece of stands
 abbrev pub PiecesNameWhatStands : Machine → Type 0
@@ -27,7 +27,7 @@ pub record GivesPieces (s : Machine) (e : Event) (t : Machine) : Type 0 where
 
 -- how many pieces of the segment the process has
 abbrev pub held : Machine → ℕ → ℕ → ℕ
-held s pid id = pieces_of id (held_by (caller_of s pid))
+held s pid id = pieces_of id (pieces_of_caller (caller_of s pid))
 
 -- whether the call may change who has which piece
 abbrev pub hands_pieces : Call → Bool

@@ -9,7 +9,8 @@ use Rattle.shm_base.specs.declared.call.Event.{Event}
 use Rattle.shm_base.specs.State.{Segment, Piece, Machine, Opening}
 use Rattle.shm_base.specs.Access.{place}
 use Rattle.shm_base.specs.Identifier.{Invalid, look}
-use Rattle.shm_base.specs.Step.{Caller, caller_of}
+use Rattle.shm_base.specs.Processes.{pieces_of_caller}
+use Rattle.shm_base.specs.Step.{caller_of}
 use Rattle.shm_laws.specs.Standing.{Stands, Since, Always, EachTurn}
 
 -- WHAT AN EVENT WRITES
@@ -25,14 +26,9 @@ put (Store addr bytes) Done = Some (record { from = addr; bytes = bytes })
 put (Xadd addr add) (Number old) = Some (record { from = addr; bytes = to_le_bytes w64 ((old + add) % 2 ^ 64) })
 put _ _ = None
 
--- the pieces of a caller, none where there is no such process
-abbrev pub held_by : Option Caller → List Piece
-held_by None = []
-held_by (Some c) = c.pieces
-
 -- the address is, for the process, byte `at` of the segment
 abbrev pub IsByte : Machine → ℕ → ℕ → ℕ → ℕ → Type 0
-IsByte s pid addr id at = (w : Bool) × (place (held_by (caller_of s pid)) addr ≡ Some (record { seg = id; at = at; writable = w }))
+IsByte s pid addr id at = (w : Bool) × (place (pieces_of_caller (caller_of s pid)) addr ≡ Some (record { seg = id; at = at; writable = w }))
 
 -- the event puts b there, and nothing there behind it
 pub record Writes (s : Machine) (e : Event) (id at b : ℕ) : Type 0 where

@@ -57,7 +57,9 @@ impl<P: Pager> FusePager<P> {
         FusePager::new_at(inner, bad_reads, bad_writes, 0)
     }
 
-    /// A pager whose listed calls fail, and which has counted so many failures already.
+    /// As [`FusePager::new`], for a pager that goes on counting where another stopped: it has counted so many failures
+    /// already. At `u64::MAX` it can count no more, and whoever reads and writes by [`try_read`](crate::try_read) and
+    /// [`try_write`](crate::try_write) asks it for nothing.
     pub fn new_at(
         inner: P,
         bad_reads: Vec<u64>,

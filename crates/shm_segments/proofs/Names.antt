@@ -1,5 +1,5 @@
 -- The names that the proofs cite, from below and from the words of this crate.
-pub use Rattle.std.proofs.Common.{Bool, IsOk, List, None, Option, Some, [], ap, append-nil, append_assoc, arith, drop, eq-eqb, false, get_or, get_or-set_same, if◌then◌else◌, inl, inr, is_none, length, length-set, map, ne_eqb, not, of_z, pos, refl, rules, set, slice_get, suc, sym, take, to_z, true, true≢false, w32, zero, ℕ, ℤ, ◌%◌, ◌*◌, ◌++◌, ◌+◌, ◌-◌, ◌/◌, ◌<◌, ◌==◌, ◌^◌, ◌∙◌, ◌∷◌, ◌≡◌, ◌≢◌, ◌≤◌, ◌⊎◌, option_map, Ok, is_some, replicate, Err}
+pub use Rattle.std.proofs.Common.{Bool, IsOk, List, None, Option, Some, [], ap, append-nil, append_assoc, arith, drop, eq-eqb, false, get_or, get_or-set_same, if◌then◌else◌, inl, inr, is_none, length, length-set, map, ne_eqb, not, of_z, pos, refl, rules, set, slice_get, suc, sym, take, to_z, true, w32, zero, ℕ, ℤ, ◌%◌, ◌*◌, ◌++◌, ◌+◌, ◌-◌, ◌/◌, ◌<◌, ◌==◌, ◌^◌, ◌∙◌, ◌∷◌, ◌≡◌, ◌≢◌, ◌≤◌, ◌⊎◌, option_map, Ok, is_some, replicate, Err}
 pub use Rattle.std.proofs.lemmas.Bool.{cases_eq, cases_lt, ltb-true}
 pub use Rattle.std.proofs.lemmas.Bool.Decides.{eqb_tells, nat_tests}
 pub use Rattle.std.proofs.lemmas.Grind.{common_steps, take-set_at}
@@ -38,7 +38,7 @@ pub use Rattle.shm_ids.specs.declared.table.LookRefused.TheVariants.{Invalid, Re
 pub use Rattle.shm_ids.specs.declared.table.Row.{Row}
 pub use Rattle.shm_plain.proofs.Found.{bytes_of-lock, find-without_other, find-without_same, find-zeros_other, find-zeros_same}
 pub use Rattle.shm_plain.proofs.Kept.{apart-lock, apart-push, apart-without, find-map, find_held-id}
-pub use Rattle.shm_plain.proofs.Pasted.{apart-pasted, bytes_of-pasted_other, bytes_of-pasted_same, fits-pasted, length-paste, pasted-keeps}
+pub use Rattle.shm_plain.proofs.Pasted.{apart-pasted, bytes_of-pasted_other, bytes_of-pasted_same, fits-pasted}
 pub use Rattle.shm_plain.specs.Apart.{AreHeldApart}
 pub use Rattle.shm_plain.specs.Held.{FitsPage, Held, bytes_in, bytes_of, find_held, is_held, is_locked, pages_if_locked, pages_in, paste, pasted, read_from, with_lock, with_zeros, without, written}
 pub use Rattle.shm_slots.specs.Cause.{GoesOn}
@@ -47,7 +47,7 @@ pub use Rattle.shm_segments.specs.Joined.{Agree, Shape, joined, locked_in_row, l
 pub use Rattle.shm_segments.specs.Kept.{AreSegmentsKept, IsWhole, SizesFit}
 pub use Rattle.shm_segments.specs.Left.{id_in, is_left, orphan, orphan_in}
 pub use Rattle.shm_segments.specs.Table.{IsFound, SpanFits, created, destroyed, live_in, look_of, made, number_at, pages_at, refused_look, reowned, segment_seen, relocked}
-pub use Rattle.shm_segments.specs.View.{Runs, SegmentsView, ShowsTable, as_held}
+pub use Rattle.shm_segments.specs.View.{Runs, SegmentsView, ShowsTable}
 pub use Rattle.shm_segments.specs.declared.head.Found.{Found}
 pub use Rattle.shm_segments.specs.declared.head.Head.{Head}
 pub use Rattle.shm_ids.specs.declared.table.Entry.{Entry}

@@ -72,17 +72,18 @@ made table key h = option_map (λ i. (pos (flat.identifier i (flat.destroyed_at 
 abbrev pub destroyed : List Entry → ℕ → List Entry
 destroyed table id = slice_set table (id % 32768) (record { destroyed = id / 32768 + 1; segment = None })
 
--- other owners, and another mode
+-- a segment with other owners, and another mode, as the step's `sets` makes it
 abbrev pub reowned : ℕ → ℕ → ℕ → ℕ → Segment → Segment
 reowned n uid gid mode y = record y { perm = record y.perm { uid = uid; gid = gid; mode = mode % 512 }; ctime = n }
 
+-- a segment that is locked or unlocked, as the step's `locks` and `unlocks` make it
 abbrev pub relocked : Bool → Segment → Segment
 relocked b y = record y { locked = b }
 
--- the little-endian number that stands at places
+-- the little-endian number that stands at places, as the step's `xadd` reads it
 abbrev pub number_at : List Entry → List Place → ℕ
 number_at table ps = from_le_bytes w64 (loaded table ps)
 
--- the table with so much added to it, modulo 2^64
+-- the table with so much added to it, modulo 2^64, as the step's `xadd` leaves it
 abbrev pub added : List Entry → List Place → ℕ → List Entry
 added table ps more = stored table ps (to_le_bytes w64 ((number_at table ps + more) % 2 ^ 64))

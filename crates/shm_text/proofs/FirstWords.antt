@@ -1,5 +1,5 @@
 -- The first words of a line decide what it says.
-use Rattle.shm_text.proofs.Names.{arith, ◌≡◌, ◌≤◌, ◌<◌, ◌+◌, refl, ℕ, List, take, length, eqb, Bool, true, false, is_some, codes, nat_lt, not, ◌&&◌, ◌||◌, if◌then◌else◌, nat_tests, length-take, common_steps, word_at, FaultKind, NoLimits, TooMany, Number, LineCall, Verb, ◌>>=◌, wanted, operands, call_by, call_with, SeenView, taker, is_skipped, is_command, counted, command, has, declared_pid, command_of}
+use Rattle.shm_text.proofs.Names.{arith, ◌≡◌, ◌≤◌, ◌<◌, ◌+◌, refl, ℕ, List, take, length, eqb, Bool, true, false, is_some, codes, nat_lt, not, ◌&&◌, ◌||◌, if◌then◌else◌, nat_tests, length-take, common_steps, word_at, FaultKind, NoLimits, TooMany, Number, LineCall, Verb, ◌>>=◌, wanted, call_by, call_with, SeenView, taker, is_skipped, is_command, counted, command, has, declared_pid, command_of}
 use Rattle.std.specs.Prelude.{Result, Ok, Err}
 use Rattle.shm_text.specs.declared.calls.Verb.TheVariants as verbs
 use Rattle.shm_text.specs.Calls.{shmget_call, shmat_call, xadd_call, load_call, store_call, set_call, fork_call, swapoff_call, call_words}
@@ -10,30 +10,6 @@ short ws k h = rw length-take (grind (arith, nat_tests))
 
 pub early : (ws : List (List ℕ)) (i : ℕ) → i < 8 → word_at (take 8 ws) i ≡ word_at ws i
 early ws i h = grind (arith, common_steps)
-
-limits_item-take : (ws : List (List ℕ)) → limits_item (take 8 ws) ≡ limits_item ws
-unfolding limits_item
-limits_item-take ws =
-    rw (
-      short ws 6 (omega arith),
-      early ws 1 (omega arith),
-      early ws 2 (omega arith),
-      early ws 3 (omega arith),
-      early ws 4 (omega arith),
-      early ws 5 (omega arith),
-    ) refl
-
-declaration-take : (seen : SeenView) (ws : List (List ℕ)) → declaration seen (take 8 ws) ≡ declaration seen ws
-unfolding declaration process_item child_item
-declaration-take seen ws =
-    rw (
-      short ws 4 (omega arith),
-      short ws 2 (omega arith),
-      early ws 0 (omega arith),
-      early ws 1 (omega arith),
-      early ws 2 (omega arith),
-      early ws 3 (omega arith),
-    ) refl
 
 -- the operands of a call stand among the first words
 call_by-take : (verb : Verb) (ws : List (List ℕ)) (i : ℕ) → i ≤ 4 → call_by verb (take 8 ws) i ≡ call_by verb ws i
@@ -79,8 +55,20 @@ command_item-take seen ws =
     ) refl
 
 pub words_item-take : (seen : SeenView) (ws : List (List ℕ)) → words_item seen (take 8 ws) ≡ words_item seen ws
-unfolding words_item body_item
-words_item-take seen ws = grind (arith, common_steps, limits_item-take, declaration-take, command_item-take, early)
+unfolding words_item body_item limits_item declaration process_item child_item
+words_item-take seen ws =
+    rw (
+      command_item-take seen ws,
+      short ws 6 (omega arith),
+      short ws 4 (omega arith),
+      short ws 2 (omega arith),
+      early ws 0 (omega arith),
+      early ws 1 (omega arith),
+      early ws 2 (omega arith),
+      early ws 3 (omega arith),
+      early ws 4 (omega arith),
+      early ws 5 (omega arith),
+    ) refl
 
 pub is_skipped-take : (ws : List (List ℕ)) → is_skipped (take 8 ws) ≡ is_skipped ws
 is_skipped-take ws = rw (short ws 0 (omega arith), early ws 0 (omega arith)) refl

@@ -22,8 +22,7 @@ pub use Rattle.std.specs.Prelude.{All, IsOk, codes, filter, if◌then◌else◌,
 pub use Rattle.std.specs.Str.{bytes_eq}
 pub use Rattle.std.specs.Str.Parse.{digits_value}
 pub use Rattle.shm_base.specs.Bounds.{Bounds}
-pub use borrow.Author.Tests.{ltb-false, ltb-true}
-pub use Rattle.shm_text.specs.Calls.{call_by, call_with, operands}
+pub use Rattle.shm_text.specs.Calls.{call_by, call_with}
 pub use Rattle.shm_text.specs.Number.{number_from}
 pub use Rattle.shm_text.specs.Operand.{names_of, wanted, ◌>>=◌}
 pub use Rattle.shm_text.specs.Reading.{SeenView, command, command_of, counted, declared_pid, has, is_command, is_skipped, is_wordless, items_of, limits_after, line_item, lines_in, nothing, processes_in, script_by, script_from, seen_next, taker, with_item}

@@ -1,5 +1,5 @@
 //! A run with threads: start, joins, comparison.
-ghost use Rattle.std.specs.Prelude.{◌≡◌, ◌+◌, ◌≤◌, true, false, IfOk, OnOk, IfNone, IfSome, length, vec_len, vec_capacity};
+ghost use Rattle.std.specs.Prelude.{◌≡◌, ◌+◌, ◌≤◌, true, false, All, IfOk, OnOk, IfNone, IfSome, length, vec_len, vec_capacity};
 ghost use Rattle.shm_threads.specs.Ends.{IsFirst};
 ghost use Rattle.shm_threads.specs.Keepers.{cell_of, IsCaughtUp};
 ghost use Rattle.shm_threads.specs.Outcomes.{IsOutcome};
@@ -13,13 +13,13 @@ use crate::worker::{Ended, Flushed, flush_all, jobs, work};
 use shm_base::HostMemory;
 use shm_history::{Keeper, Opening, World};
 use shm_pager::Pager;
-use shm_text::Script;
+use shm_text::{Line, Script};
 use shm_transcripts::{Transcript, least};
 use std::alloc::Global;
 use std::snapshot::Snapshot;
 use std::sync::Wait;
 use std::thread;
-use std::thread::{Builder, JoinHandle, Promise, Threads};
+use std::thread::{Builder, JoinHandle, Promise, Scope, Threads};
 
 /// Runs the lines of a script on a world, with a worker in a thread of its own for each process: its command
 /// lines in order, up to the last or to its exit. The world is opened with the script's processes and has no
@@ -252,7 +252,6 @@ fn run_all<R: Threads + Wait + Sync, G: Gate, P: Pager + Send>(
             requires { IsPlan script.now.lines jobs handles transcripts }
             ensures { result.is_refused ≡ false → cell_of result.keeper ≡ cell_of keeper }
         {
-            let mut handles = handles;
             let same = SameCell(Snapshot::of(&keeper));
             let Ok(flusher) = scope.spawn_with(
                 same,
@@ -260,28 +259,15 @@ fn run_all<R: Threads + Wait + Sync, G: Gate, P: Pager + Send>(
             ) else {
                 return refused(transcripts);
             };
-            let mut is_refused = false;
-            for job in jobs {
-                let pid = job.pid;
-                if is_refused {
-                    shared.end(rt, pid);
-                    continue;
-                }
-                let started = Builder::new().spawn_scoped(
-                    scope,
-                    move || -> Ended
-                        requires { HasRoom script.now.lines job }
-                    { work(rt, shared, &script.lines, gate, job) },
-                );
-                if let Ok(handle) = started {
-                    let Ok(()) = handles.push(handle) else {
-                        unreachable!()
-                    };
-                } else {
-                    is_refused = true;
-                    shared.end(rt, pid);
-                }
-            }
+            let (handles, is_refused) = start_all(
+                scope,
+                rt,
+                shared,
+                &script.lines,
+                gate,
+                jobs,
+                handles,
+            );
             let Flushed { keeper, is_expired } = flusher.join(rt);
             let (transcripts, mut expired) = join_all(rt, handles, transcripts);
             if is_expired {
@@ -295,6 +281,45 @@ fn run_all<R: Threads + Wait + Sync, G: Gate, P: Pager + Send>(
             }
         },
     )
+}
+
+// Starts a worker for each job, until a thread is refused: whether one was. The list has room for each.
+fn start_all<'s, E, R: Threads + Wait + Sync, G: Gate, P: Pager + Send>(
+    scope: &Scope<'s, E>,
+    rt: &'s R,
+    shared: &'s Shared<P>,
+    lines: &'s [Line],
+    gate: &'s G,
+    jobs: Vec<Transcript>,
+    mut handles: Vec<JoinHandle<Ended>>,
+) -> (Vec<JoinHandle<Ended>>, bool)
+    requires lines { All (HasRoom lines.now) jobs.items }
+    requires room { vec_len handles + vec_len jobs ≤ vec_capacity handles }
+    ensures { vec_len result.0 ≤ vec_len handles + vec_len jobs }
+{
+    let mut is_refused = false;
+    for job in jobs {
+        let pid = job.pid;
+        if is_refused {
+            shared.end(rt, pid);
+            continue;
+        }
+        let started = Builder::new().spawn_scoped(
+            scope,
+            move || -> Ended
+                requires { HasRoom lines.now job }
+            { work(rt, shared, lines, gate, job) },
+        );
+        if let Ok(handle) = started {
+            let Ok(()) = handles.push(handle) else {
+                unreachable!()
+            };
+        } else {
+            is_refused = true;
+            shared.end(rt, pid);
+        }
+    }
+    (handles, is_refused)
 }
 
 // Where the flusher is refused its thread, no worker is started.

@@ -1,5 +1,5 @@
-use Rattle.shm_attach.proofs.Names.{common_steps, ◌≡◌, refl, arith, Some, slice_get, All, length-map, inserted, bare, bare_all, set_value_at, IsPlaceFor, runners_view, pieces_at, IsHeld, Runner}
-use Rattle.shm_attach.proofs.Processes.{values_of, pieces_of-inserted, some_if-le}
+use Rattle.shm_attach.proofs.Names.{values_of, common_steps, ◌≡◌, refl, arith, Some, slice_get, length-map, inserted, bare, bare_all, IsPlaceFor, Runner}
+use Rattle.shm_attach.proofs.Processes.{pieces_of-inserted, some_if-le}
 use Rattle.shm_attach.proofs.Held.{pieces_at-stored, held-inserted}
 use Rattle.shm_attach.proofs.Sound.{changed, fit-inserted, sound-changed, counts-small}
 use Rattle.shm_attach.proofs.changes.put.Goals.{In-Some}

@@ -1,4 +1,4 @@
-use Rattle.shm_attach.proofs.Names.{◌≡◌, ℕ, ◌+◌, ◌<◌, ◌≤◌, ◌∷◌, ◌∙◌, ap, sym, subst, get_or, drop, arith, common_steps, lowest_address, pieces_of, cut, bare, bare_all, nothing, fit_at, one_if, some_if, counted}
+use Rattle.shm_attach.proofs.Names.{◌≡◌, ℕ, ◌+◌, ◌<◌, ◌≤◌, ◌∷◌, ◌∙◌, ap, sym, subst, get_or, drop, arith, common_steps, lowest_address, pieces_of, cut, bare, bare_all, nothing, fit_at, some_if, counted}
 use Rattle.shm_attach.proofs.Processes.{one_more, pieces_of-cut_cons, few_parts, drop-bare, some_if-le, was_counted}
 use Rattle.shm_attach.proofs.changes.recount.Goals.{After-parts_outside-parts}
 use Rattle.shm_attach.proofs.changes.recount.Goals as goal
@@ -20,7 +20,7 @@ loop-piece-preserved c =
     let rest = bare_all (drop (i + 1) met) in
     let next : bare_all (drop i met) ≡ p ∷ rest = drop-bare met i nothing c.loop-piece-test.true in
     let came : c.parts_outside-parts.result ≤ 2 = rw c.parts_outside-parts.ensures (few_parts from to p) in
-    let here : (id : ℕ) → pieces_of id (bare_all (drop i met)) ≡ pieces_of id rest + one_if id p.seg = λ id. ap (pieces_of id) next ∙ one_more id p rest in
+    let here : (id : ℕ) → pieces_of id (bare_all (drop i met)) ≡ pieces_of id rest + some_if id p.seg 1 = λ id. ap (pieces_of id) next ∙ one_more id p rest in
     let cuts : (id : ℕ) → pieces_of id (cut from to (bare_all (drop i met))) ≡ some_if id p.seg c.parts_outside-parts.result + pieces_of id (cut from to rest) =
     λ id. ap (λ ps. pieces_of id (cut from to ps)) next ∙ pieces_of-cut_cons id from to p rest ∙ ap (λ n. some_if id p.seg n + pieces_of id (cut from to rest)) (sym c.parts_outside-parts.ensures) in
     let kept = c.loop-piece.invariant in

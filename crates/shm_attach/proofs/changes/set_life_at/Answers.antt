@@ -1,5 +1,5 @@
-use Rattle.shm_attach.proofs.Names.{arith, common_steps}
-use Rattle.shm_attach.proofs.Processes.{runners_live, length_set}
+use Rattle.shm_attach.proofs.Names.{length-set_value_at, arith, common_steps}
+use Rattle.shm_attach.proofs.Processes.{runners_live}
 use Rattle.shm_attach.proofs.Held.{stored_at-set, stored_at-value, stored_at-other}
 use Rattle.shm_attach.proofs.changes.set_life_at.Goals as goal
 
@@ -7,7 +7,7 @@ pub returns-clause-runners : goal.returns-clause-runners
 returns-clause-runners c = grind (arith, common_steps, runners_live)
 
 pub returns-clause-count : goal.returns-clause-count
-returns-clause-count c = length_set c.args.processes.now.entries c.args.index (record { life = c.args.life; space = c.in-Some.runner.now.space })
+returns-clause-count c = length-set_value_at c.args.processes.now.entries c.args.index (record { life = c.args.life; space = c.in-Some.runner.now.space })
 
 pub returns-clause-stored : goal.returns-clause-stored
 returns-clause-stored c = grind (arith, common_steps, stored_at-set, stored_at-value, stored_at-other)

@@ -1,5 +1,5 @@
-use Rattle.shm_attach.proofs.Names.{◌≡◌, ℕ, ◌+◌, ◌-◌, ◌≤◌, ◌∙◌, not, ap, refl, arith, eq-eqb, List, Some, slice_get, length, filter, common_steps, All, length-map, set_value_at, meets, cut, without_named, pieces_of, bare, bare_all, kept_named, kept_without, arranged_filter, bare_filter, some_if, runners_view, pieces_at, IsCuttable, counted, stored_at, IsHeld, Piece, Runner}
-use Rattle.shm_attach.proofs.Processes.{values_of, bare-met, met-meets, pieces_of-filter, pieces_of-cut_met, pieces_of-without, shorter_filter}
+use Rattle.shm_attach.proofs.Names.{values_of, ◌≡◌, ℕ, ◌+◌, ◌-◌, ◌≤◌, ◌∙◌, not, ap, refl, arith, eq-eqb, List, Some, slice_get, length, filter, common_steps, All, length-map, meets, cut, without_named, pieces_of, bare, bare_all, kept_named, kept_without, arranged_filter, bare_filter, some_if, runners_view, pieces_at, IsCuttable, counted, stored_at, IsHeld, Piece, Runner}
+use Rattle.shm_attach.proofs.Processes.{bare-met, met-meets, pieces_of-filter, pieces_of-cut_met, pieces_of-without, shorter_filter}
 use Rattle.shm_attach.proofs.Held.{pieces_at-stored, stored_at-value, held-cut, held-filter}
 use Rattle.shm_attach.proofs.Sound.{changed, fit-cut, fit-without, sound-changed, counts-small, counts-own}
 use Rattle.shm_attach.proofs.changes.take.Goals.{In-Some, In-Range, After-pieces}

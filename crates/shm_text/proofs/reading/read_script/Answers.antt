@@ -1,4 +1,4 @@
-use Rattle.shm_text.proofs.Names.{arith, common_steps, ◌≡◌, ◌≤◌, ℕ, List, Bool, true, false, length, list_all, not, if◌then◌else◌, refl, le-ltb, lines_of, is_wordless}
+use Rattle.shm_text.proofs.Names.{arith, common_steps, ◌≡◌, ◌≤◌, ℕ, List, Bool, length, list_all, not, if◌then◌else◌, refl, le-ltb, lines_of, is_wordless}
 use Rattle.std.specs.Prelude.{Err}
 use Rattle.shm_text.specs.Reading.{script_of, told, without_words}
 use Rattle.shm_text.proofs.reading.read_script.Goals as goal

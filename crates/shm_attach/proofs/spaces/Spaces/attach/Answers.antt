@@ -1,5 +1,5 @@
-use Rattle.shm_attach.proofs.Names.{◌≡◌, ℕ, ◌+◌, ◌*◌, ◌<◌, ◌≤◌, ◌∙◌, ap, sym, subst, arith, List, length, common_steps, cut, bare, frame_of, Tables, one_if, runner_view, runners_view, SpacesView, Translation, AreTrue, IsCaller, pieces_at, life_at, AreTablesSound, no_holds, AllTrue, translations_of, counted, IsHeld, length-map, Piece, Runner}
-use Rattle.shm_attach.proofs.Processes.{one_if-le, some_if-le, seg-met}
+use Rattle.shm_attach.proofs.Names.{◌≡◌, ℕ, ◌+◌, ◌*◌, ◌<◌, ◌≤◌, ◌∙◌, ap, sym, subst, arith, List, length, common_steps, cut, bare, frame_of, Tables, some_if, runner_view, runners_view, SpacesView, Translation, AreTrue, IsCaller, pieces_at, life_at, AreTablesSound, no_holds, AllTrue, translations_of, counted, IsHeld, length-map, Piece, Runner}
+use Rattle.shm_attach.proofs.Processes.{some_if-le, seg-met}
 use Rattle.shm_attach.proofs.Callers.{caller_within, caller_born, with_pieces-of}
 use Rattle.shm_attach.proofs.Keeping.{pieces_at-changed, life_at-changed, with_pieces_at-twice}
 use Rattle.shm_attach.proofs.Bases.{place-range}
@@ -27,19 +27,19 @@ space_at-requires g c = stands g (goal.at.space_at-requires g c).After-self
 
 -- THE SEGMENT IS HELD
 
-held : (g : Over) (c : In_ok-key g) → AreTablesSound (λ id. one_if id c.args.seg) c.self.inside.processes.entries c.hold.new.self
+held : (g : Over) (c : In_ok-key g) → AreTablesSound (λ id. some_if id c.args.seg 1) c.self.inside.processes.entries c.hold.new.self
 held g c = grind (arith, common_steps, sound-holds)
 
 pub take-requires-clause-there : goal.take-requires-clause-there
 take-requires-clause-there g c = stands g (goal.at.take-requires-clause-there g c).After-self
 
 pub take-requires-clause-holds : goal.take-requires-clause-holds
-take-requires-clause-holds g c = record { extra = λ id. one_if id c.args.seg; few = λ id. one_if-le id c.args.seg; sound = held g (goal.at.take-requires-clause-holds g c).In_ok-key }
+take-requires-clause-holds g c = record { extra = λ id. some_if id c.args.seg 1; few = λ id. some_if-le id c.args.seg 1; sound = held g (goal.at.take-requires-clause-holds g c).In_ok-key }
 
 -- THE RANGE IS FREE
 
 -- a segment that is held is counted
-counts_hold : (seg : ℕ) (es : List (ℕ × Runner)) (t : Tables) → AreTablesSound (λ id. one_if id seg) es t → 1 ≤ counted t seg
+counts_hold : (seg : ℕ) (es : List (ℕ × Runner)) (t : Tables) → AreTablesSound (λ id. some_if id seg 1) es t → 1 ≤ counted t seg
 counts_hold seg es t sound = grind (arith, common_steps)
 
 abbrev new : (g : Over) (c : In_ok-key g) → Piece
@@ -58,7 +58,7 @@ put-requires g c =
     let b = goal.at.put-requires g c in
     let within = stands g b.After-self in
     let lt : i < length rs = omega (arith, within, length-map es runner_view) in
-    let sound = c.take.ensures.sound (λ id. one_if id seg) (held g b.In_ok-key) in
+    let sound = c.take.ensures.sound (λ id. some_if id seg 1) (held g b.In_ok-key) in
     let few : length (f (pieces_at rs i)) + 1 ≤ 256 = rw (← c.self.view_is) at c.requires.room in
     let place = place-range (bare (new g b.In_ok-key)) (pieces_at rs i) c.requires.pages.0 (omega (arith, c.requires.pages.1)) c.requires.range few in
     record {
@@ -67,14 +67,14 @@ put-requires g c =
           caller_born c.args.caller.now rs (live g b.After-self) (sym (life_at-changed rs i f lt) ∙ ap (λ xs. life_at xs i) (sym c.take.ensures.runners) ∙ none);
       place = rw (c.take.ensures.runners, pieces_at-changed rs i f lt) place;
       table = c.take.ensures.held (new g b.In_ok-key) (knows g b.In_ok-key) (counts_hold seg c.take.new.processes.entries c.take.new.tables sound);
-      holds = record { extra = λ id. one_if id seg; few = λ id. one_if-le id seg; sound = sound };
+      holds = record { extra = λ id. some_if id seg 1; few = λ id. some_if-le id seg 1; sound = sound };
     }
 
 -- THE PIECE IS THERE
 
-placed : (g : Over) (c : After-put g) → AreTablesSound (λ id. one_if id c.args.seg) c.self.inside.processes.entries c.hold.new.self
-    → AreTablesSound (λ id. one_if id c.args.seg) c.put.new.processes.entries c.put.new.tables
-placed g c sound = c.put.ensures.sound (λ id. one_if id c.args.seg) (c.take.ensures.sound (λ id. one_if id c.args.seg) sound)
+placed : (g : Over) (c : After-put g) → AreTablesSound (λ id. some_if id c.args.seg 1) c.self.inside.processes.entries c.hold.new.self
+    → AreTablesSound (λ id. some_if id c.args.seg 1) c.put.new.processes.entries c.put.new.tables
+placed g c sound = c.put.ensures.sound (λ id. some_if id c.args.seg 1) (c.take.ensures.sound (λ id. some_if id c.args.seg 1) sound)
 
 pub replace-requires : goal.replace-requires
 replace-requires g c =
@@ -82,10 +82,10 @@ replace-requires g c =
     let b = goal.at.replace-requires g c in
     let q = new g b.In_ok-key in
     let before = held g b.In_ok-key in
-    let cleared = c.take.ensures.sound (λ id. one_if id seg) before in
+    let cleared = c.take.ensures.sound (λ id. some_if id seg 1) before in
     let table = c.take.ensures.held q (knows g b.In_ok-key) (counts_hold seg c.take.new.processes.entries c.take.new.tables cleared) in
     let sound = placed g b.After-put before in
-    let small = counts-small c.put.new.processes.entries c.put.new.tables (record { extra = λ id. one_if id seg; few = λ id. one_if-le id seg; sound = sound }) seg in
+    let small = counts-small c.put.new.processes.entries c.put.new.tables (record { extra = λ id. some_if id seg 1; few = λ id. some_if-le id seg 1; sound = sound }) seg in
     record {
       own = (c.put.ensures.held q table).seg;
       gone = counts_hold seg c.put.new.processes.entries c.put.new.tables sound;
@@ -97,7 +97,7 @@ pub invariant_of-self-2 : goal.invariant_of-self-2
 invariant_of-self-2 g c =
     let seg = c.args.seg in
     let b = goal.at.invariant_of-self-2 g c in
-    sound-holds (λ id. one_if id seg) no_holds c.put.new.processes.entries c.put.new.tables c.replace.new.self (placed g b.After-put (held g b.In_ok-key))
+    sound-holds (λ id. some_if id seg 1) no_holds c.put.new.processes.entries c.put.new.tables c.replace.new.self (placed g b.After-put (held g b.In_ok-key))
     (λ id. omega (arith, c.replace.ensures.counts id, some_if-le id seg 0)) c.replace.ensures.tied c.replace.ensures.held
 
 -- WHAT IT ENSURES

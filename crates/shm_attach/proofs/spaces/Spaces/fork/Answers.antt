@@ -1,6 +1,6 @@
 use Rattle.shm_attach.proofs.Names.{◌≡◌, ◌≢◌, ◌<◌, ◌∙◌, ap, sym, arith, List, length, get_or, set, common_steps, length-map, runner_view, runners_view, with_pieces_at, SpacesView, pieces_at, life_at, Unborn}
 use Rattle.shm_base.specs.State.{Piece, Runner, Live}
-use Rattle.shm_attach.proofs.Processes.{nobody}
+use Rattle.shm_attach.proofs.Processes.{first_runner}
 use Rattle.shm_attach.proofs.Callers.{caller_within, caller_born, ChildAt, child_at}
 use Rattle.shm_attach.proofs.Keeping.{life_at-born, pieces_at-born, runners-born, attach_count-more}
 use Rattle.shm_attach.proofs.Sound.{sound-life}
@@ -45,7 +45,7 @@ after : (c : After-copy_pieces)
     → runners_view c.copy_pieces.new.processes.entries
     ≡ set (runners_view c.self.inside.processes.entries) c.args.child.now.index
     (record {
-      pid = (get_or (runners_view c.self.inside.processes.entries) c.args.child.now.index nobody).pid;
+      pid = (get_or (runners_view c.self.inside.processes.entries) c.args.child.now.index first_runner).pid;
       life = Live c.args.caller.now.cred;
       pieces = pieces_at (runners_view c.self.inside.processes.entries) c.args.caller.now.index;
     })

@@ -1,4 +1,4 @@
-use Rattle.shm_attach.proofs.Names.{◌≡◌, ◌++◌, ◌∷◌, [], ℕ, List, Option, length, arith, common_steps, frame_of, TrueTable}
+use Rattle.shm_attach.proofs.Names.{◌≡◌, ◌++◌, ◌∷◌, [], ℕ, List, Option, length, arith, common_steps, TrueTable}
 use Rattle.shm_attach.proofs.table.Table.extend.Goals as goal
 
 -- one more frame that is that of its page

@@ -1,4 +1,4 @@
-use Rattle.shm_attach.proofs.Names.{sym, arith, common_steps}
+use Rattle.shm_attach.proofs.Names.{sym}
 use Rattle.shm_attach.proofs.Tied.{tied-table}
 use Rattle.shm_attach.proofs.tables.Tables.extend.Goals as goal
 

@@ -1,4 +1,4 @@
-use Rattle.shm_fault.proofs.Names.{◌≡◌, length, refl, arith, count_by_id}
+use Rattle.shm_fault.proofs.Names.{refl, arith}
 use Rattle.shm_fault.proofs.Entries.{find-lookup}
 use Rattle.shm_fault.proofs.page_tables.PageTables.count.Goals as goal
 

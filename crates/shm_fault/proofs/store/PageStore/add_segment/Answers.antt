@@ -1,4 +1,4 @@
-use Rattle.shm_fault.proofs.Names.{◌≡◌, ◌≤◌, ◌+◌, None, sum_by, inl, inr, arith, pages_held, slots, find_seg, page_count, held, IsStoreSound, common_steps, nat_tests}
+use Rattle.shm_fault.proofs.Names.{◌≡◌, ◌≤◌, ◌+◌, None, sum_by, arith, pages_held, slots, find_seg, page_count, held, IsStoreSound, common_steps, nat_tests}
 use Rattle.shm_fault.specs.Store.{frame_of}
 use Rattle.shm_fault.proofs.Seen.{seen}
 use Rattle.shm_fault.proofs.Failures.{OnOk-map, either_way}

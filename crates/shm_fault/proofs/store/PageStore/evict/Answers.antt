@@ -1,4 +1,4 @@
-use Rattle.shm_fault.proofs.Names.{arith, common_steps, ◌≡◌, Some, false, refl, length-set, rec_by, List, ap, sym, ◌∙◌, get_or-set_same, Frame, no_frame, frame_at, StoreView}
+use Rattle.shm_fault.proofs.Names.{arith, common_steps, ◌≡◌, Some, false, length-set, rec_by, List, ap, sym, ◌∙◌, get_or-set_same, Frame, no_frame, frame_at, StoreView}
 use Rattle.shm_fault.proofs.Visits.{evicted-gone, evicted-visits}
 use Rattle.shm_fault.proofs.store.PageStore.evict.Goals as goal
 

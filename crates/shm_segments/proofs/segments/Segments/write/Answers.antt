@@ -1,4 +1,3 @@
-use Rattle.shm_segments.proofs.Names.{held}
 use Rattle.shm_segments.proofs.Spanning.{spans-fit}
 use Rattle.shm_segments.proofs.Remembered.{Wrote, wrote}
 use Rattle.shm_segments.proofs.segments.Segments.write.Given.{Over}

@@ -1,4 +1,4 @@
-use Rattle.shm_text.proofs.Names.{common_steps, arith, ◌≡◌, ◌+◌, ◌-◌, ◌++◌, ◌∙◌, sym, ap, refl, false, true, length, take, drop, get_or, take_all, list_all, is_allowed, is_space, with_word, first_line, line_end}
+use Rattle.shm_text.proofs.Names.{common_steps, arith, ◌≡◌, ◌+◌, ◌-◌, ◌++◌, ◌∙◌, sym, ap, refl, true, length, take, drop, get_or, take_all, list_all, is_allowed, is_space, with_word, first_line, line_end}
 use Rattle.shm_text.proofs.Scanning.{none_inside, of_word, of_space, of_neither, more_inside, more_allowed, not_allowed, scanned, scanned_all}
 use Rattle.shm_text.proofs.Ends.{ends_behind, ends_at, on_line, byte_of_line, length_line, no_lf, word_of_line, last_line}
 use Rattle.shm_text.proofs.words.Words.take.Goals as goal
