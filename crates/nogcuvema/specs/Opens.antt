@@ -4,7 +4,7 @@ use Rattle.std.specs.List.{list_all}
 use Rattle.shm_base.specs.Bounds.{Bounds, within, limits_of}
 use Rattle.shm_base.specs.declared.limits.BadLimits.{BadLimits}
 use Rattle.shm_base.specs.declared.call.Process.{Process}
-use Rattle.shm_life.specs.Start.{start_error, number_of}
+use Rattle.shm_life.specs.Start.{start_error, error_number}
 use Rattle.shm_life.specs.declared.start.StartError.{StartError}
 use Rattle.shm_machine.specs.declared.area.AreaKind.{AreaKind}
 use Rattle.shm_machine.specs.declared.area.AreaKind.TheVariants.{Ram, Sparse, Mirror}
@@ -48,7 +48,7 @@ are_there areas failures = list_all (is_there areas) failures
 
 abbrev pub start_code : Option StartError → ℕ
 start_code None = 0
-start_code (Some e) = 2020 + number_of e
+start_code (Some e) = 2020 + error_number e
 
 abbrev pub code_by : Result Bounds BadLimits → List NogArea → List NogFailure → List NogProcess → ℕ
 code_by (Err bad) areas failures processes = 2010 + bad.0

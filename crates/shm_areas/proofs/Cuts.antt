@@ -1,5 +1,5 @@
 -- The pieces that a range meets stand side by side. Taking it out leaves a part of the first of them below, and one of the last above.
-use Rattle.shm_areas.proofs.Names.{nat_tests, sym, ◌≡◌, ◌⊎◌, ℕ, zero, suc, ◌+◌, ◌-◌, ◌<◌, ◌≤◌, true, false, nat_lt, List, [], ◌∷◌, ◌++◌, length, get_or, take, drop, refl, ap, ◌∙◌, arith, append_assoc, append-nil, length-append, length-take, length-drop, common_steps, splice, lt-ltb, le-ltb, cases_lt, cases_eq, and_right, get_or_default, end_of, meets, occupied, Piece, bare, bare_all, Arranged, kept_below, kept_above, kept_cut, met, IsPieceRange}
+use Rattle.shm_areas.proofs.Names.{nat_tests, sym, ◌≡◌, ◌⊎◌, ℕ, zero, suc, ◌+◌, ◌-◌, ◌<◌, ◌≤◌, true, false, nat_lt, List, [], ◌∷◌, ◌++◌, length, get_or, take, drop, refl, ap, ◌∙◌, arith, append_assoc, append-nil, length-append, length-take, length-drop, common_steps, splice, lt-ltb, le-ltb, cases_lt, cases_eq, and_right, get_or_default, end_of, meets, occupied, Piece, bare, bare_all, Arranged, stored_below, stored_above, stored_cut, met, IsPieceRange}
 use Rattle.std.specs.Prelude.{slice_range}
 use Rattle.shm_areas.proofs.Placing.{low_bound}
 
@@ -48,7 +48,7 @@ slice-met from to (p ∷ ps) (suc first) (suc last) r =
     let shifted : suc last - suc first ≡ last - first = omega arith in
     rw (shifted, is_below from to p (r.before 0 p (omega arith))) (slice-met from to ps first last (rest_run r (omega arith) (omega arith)))
 
-occupied-met : (from to : ℕ) (ps : List Piece) → occupied (bare_all ps) from to ≡ nat_lt 0 (length (met from to ps))
+pub occupied-met : (from to : ℕ) (ps : List Piece) → occupied (bare_all ps) from to ≡ nat_lt 0 (length (met from to ps))
 occupied-met from to [] = refl
 occupied-met from to (p ∷ ps) = grind (arith, common_steps, occupied-met from to ps)
 
@@ -60,7 +60,7 @@ occupied-run from to ps first last r =
 -- WHAT IS LEFT
 
 -- nothing is met, nothing is cut
-pub cut-none : (from to : ℕ) (ps : List Piece) (first : ℕ) → IsPieceRange from to ps first first → kept_cut from to ps ≡ ps
+pub cut-none : (from to : ℕ) (ps : List Piece) (first : ℕ) → IsPieceRange from to ps first first → stored_cut from to ps ≡ ps
 cut-none from to [] first r = refl
 cut-none from to (p ∷ ps) zero r =
     rw (is_above from to p (r.above 0 p (omega arith) (omega arith))) (ap (λ (xs : List Piece). p ∷ xs) (cut-none from to ps zero (rest_run r (omega arith) (omega arith))))
@@ -68,10 +68,10 @@ cut-none from to (p ∷ ps) (suc first) r =
     rw (is_below from to p (r.before 0 p (omega arith))) (ap (λ (xs : List Piece). p ∷ xs) (cut-none from to ps first (rest_run r (omega arith) (omega arith))))
 
 -- nothing stays below of a piece that begins in the range, and nothing above of one that ends in it
-below-none : (from : ℕ) (p : Piece) → from ≤ p.base → kept_below from p ≡ []
+below-none : (from : ℕ) (p : Piece) → from ≤ p.base → stored_below from p ≡ []
 below-none from p le = rw (le-ltb p.base from le) refl
 
-above-none : (to : ℕ) (p : Piece) → end_of (bare p) ≤ to → kept_above to p ≡ []
+above-none : (to : ℕ) (p : Piece) → end_of (bare p) ≤ to → stored_above to p ≡ []
 above-none to p le = rw (le-ltb to (end_of (bare p)) le) refl
 
 -- a piece with another of the run behind it ends in the range
@@ -80,12 +80,12 @@ ends_in from to last low p ps ar r = grind (arith, common_steps, low_bound)
 
 -- all pieces of the run begin in the range
 cut-begun : (from to last low : ℕ) (ps : List Piece) (d : Piece) → Arranged low (bare_all ps) → from ≤ low → IsPieceRange from to ps 0 (suc last)
-    → kept_cut from to ps ≡ kept_above to (get_or ps last d) ++ drop (suc last) ps
+    → stored_cut from to ps ≡ stored_above to (get_or ps last d) ++ drop (suc last) ps
 cut-begun from to last low [] d ar le r = absurd (omega (arith, r.bound))
 cut-begun from to zero low (p ∷ ps) d ar le r =
     let first : low ≤ p.base = ar.0 in
     rw (meets_it from to p (r.below 0 p (omega arith)) (r.after 0 p (omega arith) (omega arith)), below-none from p (omega (arith, le, first)))
-    (ap (λ (xs : List Piece). kept_above to p ++ xs) (cut-none from to ps zero (rest_run r (omega arith) (omega arith))))
+    (ap (λ (xs : List Piece). stored_above to p ++ xs) (cut-none from to ps zero (rest_run r (omega arith) (omega arith))))
 cut-begun from to (suc last) low (p ∷ ps) d ar le r =
     let first : low ≤ p.base = ar.0 in
     let after : from < end_of (bare p) = r.after 0 p (omega arith) (omega arith) in
@@ -97,7 +97,7 @@ cut-begun from to (suc last) low (p ∷ ps) d ar le r =
     (cut-begun from to last (end_of (bare p)) ps d ar.1.1 (omega (arith, after)) (rest_run r (omega arith) (omega arith)))
 
 pub cut-run : (from to first last low : ℕ) (ps : List Piece) (d : Piece) → Arranged low (bare_all ps) → IsPieceRange from to ps first (suc last) → first < suc last
-    → splice ps first (suc last) (kept_below from (get_or ps first d) ++ kept_above to (get_or ps last d)) ≡ kept_cut from to ps
+    → splice ps first (suc last) (stored_below from (get_or ps first d) ++ stored_above to (get_or ps last d)) ≡ stored_cut from to ps
 cut-run from to first last low [] d ar r lt = absurd (omega (arith, r.bound))
 cut-run from to zero zero low (p ∷ ps) d ar r lt =
     let none = cut-none from to ps zero (rest_run r (omega arith) (omega arith)) in
@@ -109,8 +109,8 @@ cut-run from to zero (suc last) low (p ∷ ps) d ar r lt =
       meets_it from to p (r.below 0 p (omega arith)) after,
       above-none to p (ends_in from to last low p ps ar r),
       rest,
-      append-nil (kept_below from p),
-      append_assoc (kept_below from p) (kept_above to (get_or ps last d)) (drop (suc last) ps),
+      append-nil (stored_below from p),
+      append_assoc (stored_below from p) (stored_above to (get_or ps last d)) (drop (suc last) ps),
     )
     refl
 cut-run from to (suc first) zero low (p ∷ ps) d ar r lt = absurd (omega (arith, lt))

@@ -1,16 +1,16 @@
 -- Pieces stay in order through an insertion, a cut and a detach.
-use Rattle.shm_areas.proofs.Names.{◌≡◌, ℕ, zero, suc, ◌+◌, ◌-◌, ◌*◌, ◌/◌, ◌%◌, ◌<◌, ◌≤◌, ◌⊎◌, inl, inr, Bool, false, nat_lt, List, [], ◌∷◌, ◌++◌, length, get_or, filter, insert, refl, ap, arith, common_steps, lt-ltb, le-ltb, cases_Bool, or_parts, both_ways, end_of, meets, occupied, inserted, cut, parts, part_below, part_above, without_named, Piece, bare, bare_all, IsFit, Arranged, kept_inserted, kept_below, kept_above, kept_parts, kept_cut, kept_without}
+use Rattle.shm_areas.proofs.Names.{◌≡◌, ℕ, zero, suc, ◌+◌, ◌-◌, ◌*◌, ◌/◌, ◌%◌, ◌<◌, ◌≤◌, ◌⊎◌, inl, inr, Bool, false, nat_lt, List, [], ◌∷◌, ◌++◌, length, get_or, filter, insert, refl, ap, arith, common_steps, lt-ltb, le-ltb, cases_Bool, or_parts, both_ways, end_of, meets, occupied, inserted, cut, parts, part_below, part_above, without_named, Piece, bare, bare_all, IsFit, Arranged, stored_inserted, stored_below, stored_above, stored_parts, stored_cut, stored_without}
 use Rattle.shm_base.specs.State as flat
 
 pub lower : (low low' : ℕ) (ps : List flat.Piece) → low ≤ low' → Arranged low' ps → Arranged low ps
 lower low low' [] le ar = ar
 lower low low' (p ∷ ps) le ar = let first : low' ≤ p.base = ar.0 in (omega (arith, first, le), ar.1)
 
-pub bare_inserted : (p : Piece) (qs : List Piece) → bare_all (kept_inserted p qs) ≡ inserted (bare p) (bare_all qs)
+pub bare_inserted : (p : Piece) (qs : List Piece) → bare_all (stored_inserted p qs) ≡ inserted (bare p) (bare_all qs)
 bare_inserted p [] = refl
 bare_inserted p (q ∷ qs) = grind (arith, common_steps, bare_inserted p qs)
 
-pub length_inserted : (p : Piece) (qs : List Piece) → length (kept_inserted p qs) ≡ length qs + 1
+pub length_inserted : (p : Piece) (qs : List Piece) → length (stored_inserted p qs) ≡ length qs + 1
 length_inserted p [] = refl
 length_inserted p (q ∷ qs) = grind (arith, length_inserted p qs)
 
@@ -18,7 +18,7 @@ length_inserted p (q ∷ qs) = grind (arith, length_inserted p qs)
 pub inserted_at : (p : Piece) (qs : List Piece) (n : ℕ) → n ≤ length qs
     → ((k : ℕ) (d : Piece) → k < n → (get_or qs k d).base ≤ p.base)
     → ((k : ℕ) (d : Piece) → n ≤ k → k < length qs → p.base < (get_or qs k d).base)
-    → kept_inserted p qs ≡ insert qs n p
+    → stored_inserted p qs ≡ insert qs n p
 inserted_at p [] zero le below above = refl
 inserted_at p [] (suc n) le below above = absurd (omega arith)
 inserted_at p (q ∷ qs) zero le below above =
@@ -42,7 +42,7 @@ pub arranged_filter : (f : Piece → Bool) (low : ℕ) (ps : List Piece) → Arr
 arranged_filter f low [] ar = ar
 arranged_filter f low (p ∷ ps) ar = grind (arith, common_steps, lower, arranged_filter f (end_of (bare p)) ps ar.1.1)
 
-pub bare_filter : (addr seg : ℕ) (ps : List Piece) → bare_all (kept_without addr seg ps) ≡ without_named addr seg (bare_all ps)
+pub bare_filter : (addr seg : ℕ) (ps : List Piece) → bare_all (stored_without addr seg ps) ≡ without_named addr seg (bare_all ps)
 bare_filter addr seg [] = refl
 bare_filter addr seg (p ∷ ps) = grind (arith, common_steps, bare_filter addr seg ps)
 
@@ -50,16 +50,16 @@ pub bare_append : (xs ys : List Piece) → bare_all (xs ++ ys) ≡ bare_all xs +
 bare_append [] ys = refl
 bare_append (x ∷ xs) ys = ap (λ (zs : List flat.Piece). bare x ∷ zs) (bare_append xs ys)
 
-pub bare_below : (from : ℕ) (p : Piece) → bare_all (kept_below from p) ≡ part_below from (bare p)
+pub bare_below : (from : ℕ) (p : Piece) → bare_all (stored_below from p) ≡ part_below from (bare p)
 bare_below from p = elim (cases_Bool (nat_lt p.base from)) [ inl h ↦ rw h refl | inr h ↦ rw h refl ]
 
-pub bare_above : (to : ℕ) (p : Piece) → bare_all (kept_above to p) ≡ part_above to (bare p)
+pub bare_above : (to : ℕ) (p : Piece) → bare_all (stored_above to p) ≡ part_above to (bare p)
 bare_above to p = elim (cases_Bool (nat_lt to (end_of (bare p)))) [ inl h ↦ rw h refl | inr h ↦ rw h refl ]
 
-pub bare_parts : (from to : ℕ) (p : Piece) → bare_all (kept_parts from to p) ≡ parts from to (bare p)
+pub bare_parts : (from to : ℕ) (p : Piece) → bare_all (stored_parts from to p) ≡ parts from to (bare p)
 bare_parts from to p = grind (arith, common_steps, bare_append, bare_below, bare_above)
 
-pub bare_cut : (from to : ℕ) (ps : List Piece) → bare_all (kept_cut from to ps) ≡ cut from to (bare_all ps)
+pub bare_cut : (from to : ℕ) (ps : List Piece) → bare_all (stored_cut from to ps) ≡ cut from to (bare_all ps)
 bare_cut from to [] = refl
 bare_cut from to (p ∷ ps) = rw (bare_append, bare_parts, bare_cut from to ps) refl
 

@@ -9,7 +9,7 @@ pub use Rattle.shm_base.specs.Access.{end_of, place, place_by}
 pub use Rattle.shm_base.specs.Space.{meets, occupied, inserted, cut, parts, part_below, part_above, without_named, lowest_address, first_chosen, last_address, is_gap, choose, has_origin, origin_of}
 pub use Rattle.shm_areas.specs.declared.piece.Piece.{Piece, Piece as Stored}
 pub use Rattle.shm_areas.specs.Arranged.{bare, bare_all, Arranged, IsFit, covering}
-pub use Rattle.shm_areas.specs.Edit.{kept_below, kept_above, kept_cut, kept_inserted, kept_parts, kept_without, left_by, kept_named}
+pub use Rattle.shm_areas.specs.Edit.{stored_below, stored_above, stored_cut, stored_inserted, stored_parts, stored_without, left_by, stored_named}
 pub use Rattle.shm_areas.specs.Met.{met, IsPieceRange}
 pub use Rattle.shm_areas.specs.Gap.{gap_from, IsLeastGap, HasNoGap}
 pub use Rattle.std.proofs.lemmas.Option.{none-some, get_or_from_slice_get}

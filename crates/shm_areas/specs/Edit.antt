@@ -8,17 +8,17 @@ use Rattle.shm_areas.specs.declared.cut.Cut.{Cut}
 use Rattle.shm_areas.specs.Arranged.{bare}
 
 -- the pieces with one more, by rising base
-abbrev pub kept_inserted : Piece → List Piece → List Piece
-kept_inserted p [] = p ∷ []
-kept_inserted p (q ∷ qs) = if nat_lt p.base q.base then p ∷ q ∷ qs else q ∷ kept_inserted p qs
+abbrev pub stored_inserted : Piece → List Piece → List Piece
+stored_inserted p [] = p ∷ []
+stored_inserted p (q ∷ qs) = if nat_lt p.base q.base then p ∷ q ∷ qs else q ∷ stored_inserted p qs
 
 -- the part below an address keeps the key
-abbrev pub kept_below : ℕ → Piece → List Piece
-kept_below from p = if nat_lt p.base from then record p { pages = (from - p.base) / 4096 } ∷ [] else []
+abbrev pub stored_below : ℕ → Piece → List Piece
+stored_below from p = if nat_lt p.base from then record p { pages = (from - p.base) / 4096 } ∷ [] else []
 
 -- the part above an address keeps the key too
-abbrev pub kept_above : ℕ → Piece → List Piece
-kept_above to p =
+abbrev pub stored_above : ℕ → Piece → List Piece
+stored_above to p =
     if nat_lt to (end_of (bare p))
     then
     record {
@@ -31,18 +31,18 @@ kept_above to p =
     } ∷ []
     else []
 
-abbrev pub kept_parts : ℕ → ℕ → Piece → List Piece
-kept_parts from to p = if meets from to (bare p) then kept_below from p ++ kept_above to p else p ∷ []
+abbrev pub stored_parts : ℕ → ℕ → Piece → List Piece
+stored_parts from to p = if meets from to (bare p) then stored_below from p ++ stored_above to p else p ∷ []
 
 -- the pieces with the range taken out
-abbrev pub kept_cut : ℕ → ℕ → List Piece → List Piece
-kept_cut from to ps = flat_map (kept_parts from to) ps
+abbrev pub stored_cut : ℕ → ℕ → List Piece → List Piece
+stored_cut from to ps = flat_map (stored_parts from to) ps
 
-abbrev pub kept_named : ℕ → ℕ → Piece → Bool
-kept_named addr seg p = is_named addr seg (bare p)
+abbrev pub stored_named : ℕ → ℕ → Piece → Bool
+stored_named addr seg p = is_named addr seg (bare p)
 
-abbrev pub kept_without : ℕ → ℕ → List Piece → List Piece
-kept_without addr seg ps = filter (λ p. not (kept_named addr seg p)) ps
+abbrev pub stored_without : ℕ → ℕ → List Piece → List Piece
+stored_without addr seg ps = filter (λ p. not (stored_named addr seg p)) ps
 
 -- the pieces once those of a cut's run have given way to its parts
 abbrev pub left_by : List Piece → Cut → List Piece

@@ -4,7 +4,7 @@ ghost use Rattle.std.specs.List.{splice};
 ghost use Rattle.shm_base.specs.Access as access;
 ghost use Rattle.shm_base.specs.Space as flat;
 ghost use Rattle.shm_areas.specs.Arranged.{bare, bare_all, Arranged, IsFit};
-ghost use Rattle.shm_areas.specs.Edit.{kept_below, kept_above, kept_cut, IsCut, left_by};
+ghost use Rattle.shm_areas.specs.Edit.{stored_below, stored_above, stored_cut, IsCut, left_by};
 
 use crate::piece::Piece;
 use crate::search::run_in;
@@ -24,7 +24,7 @@ pub(crate) struct Cut {
 fn part_below(piece: &Piece, from: u64) -> Option<Piece>
     requires fit { IsFit (bare piece.now) }
     requires ends { from < access.end_of (bare piece.now) }
-    ensures { option_to_list result ≡ kept_below from piece.now }
+    ensures { option_to_list result ≡ stored_below from piece.now }
 {
     if piece.base >= from {
         return None;
@@ -39,7 +39,7 @@ fn part_below(piece: &Piece, from: u64) -> Option<Piece>
 fn part_above(piece: &Piece, to: u64) -> Option<Piece>
     requires fit { IsFit (bare piece.now) }
     requires begins { piece.now.base < to }
-    ensures { option_to_list result ≡ kept_above to piece.now }
+    ensures { option_to_list result ≡ stored_above to piece.now }
 {
     let end = piece.end();
     if end <= to {
@@ -57,7 +57,7 @@ fn part_above(piece: &Piece, to: u64) -> Option<Piece>
 pub(crate) fn cut_of(pieces: &[Piece], from: u64, to: u64) -> Cut
     requires arranged { Arranged flat.lowest_address (bare_all pieces.now) }
     requires order { from < to }
-    ensures { IsCut pieces.now result (kept_cut from to pieces.now) }
+    ensures { IsCut pieces.now result (stored_cut from to pieces.now) }
 {
     let run = run_in(pieces, from, to);
     if run.first == run.last {

@@ -1,9 +1,9 @@
 //! A sorted list of pieces that never overlap.
-ghost use Rattle.std.specs.Prelude.{◌≡◌, ℕ, ◌+◌, ◌*◌, ◌%◌, ◌<◌, ◌≤◌, Bool, true, false, All, IfOk, length, IfSome, Some, option_map, find};
+ghost use Rattle.std.specs.Prelude.{◌≡◌, ℕ, ◌+◌, ◌*◌, ◌%◌, ◌<◌, ◌≤◌, Bool, true, false, All, nat_lt, IfOk, length, IfSome, Some, option_map, find};
 ghost use Rattle.shm_base.specs.Access as access;
 ghost use Rattle.shm_base.specs.Space as flat;
 ghost use Rattle.shm_areas.specs.Arranged.{bare, bare_all, Arranged, IsFit, IsCovering, covering};
-ghost use Rattle.shm_areas.specs.Edit.{kept_inserted, kept_cut, kept_without};
+ghost use Rattle.shm_areas.specs.Edit.{stored_inserted, stored_cut, stored_without};
 ghost use Rattle.shm_areas.specs.Fixed.{fixed};
 ghost use Rattle.shm_areas.specs.Gap.{HasNoGap, IsLeastGap};
 ghost use Rattle.shm_areas.specs.Met.{met};
@@ -126,13 +126,14 @@ impl Space {
         ensures value { result.now ≡ met from to self.now }
         ensures arranged { Arranged flat.lowest_address (bare_all self.now) }
         ensures count { length result.now ≤ 256 }
+        ensures occupied { flat.occupied (bare_all self.now) from to ≡ nat_lt 0 (length result.now) }
     {
         let run = run_in(&self.pieces, from, to);
         &self.pieces[run.first..run.last]
     }
 
-    /// Whether a piece has a page in a range.
-    pub fn is_occupied(&self, from: u64, to: u64) -> bool
+    // Whether a piece has a page in a range.
+    fn is_occupied(&self, from: u64, to: u64) -> bool
         requires order { from < to }
         ensures { result ≡ flat.occupied (bare_all self.now) from to }
     {
@@ -154,13 +155,12 @@ impl Space {
         requires low { flat.lowest_address ≤ piece.base }
         requires fit { IsFit (bare piece) }
         requires free { flat.occupied (bare_all self.old) piece.base (access.end_of (bare piece)) ≡ false }
-        ensures kept { self.new ≡ kept_inserted piece self.old }
+        ensures kept { self.new ≡ stored_inserted piece self.old }
         ensures flat { bare_all self.new ≡ flat.inserted (bare piece) (bare_all self.old) }
     {
         let at = count_to(&self.pieces, piece.base);
-        if self.pieces.insert(at, piece).is_err() {
-            unreachable!();
-        }
+        let put = self.pieces.insert(at, piece);
+        prove!(put.is_ok());
     }
 
     /// Takes a range out: pieces in it go, and of pieces that reach beyond it the parts outside stay, each
@@ -170,7 +170,7 @@ impl Space {
         requires to { to % 4096 ≡ 0 }
         requires order { from < to }
         requires few { length (flat.cut from to (bare_all self.old)) ≤ 256 }
-        ensures kept { self.new ≡ kept_cut from to self.old }
+        ensures kept { self.new ≡ stored_cut from to self.old }
         ensures flat { bare_all self.new ≡ flat.cut from to (bare_all self.old) }
     {
         let cut = cut_of(&self.pieces, from, to);
@@ -193,7 +193,7 @@ impl Space {
 
     /// Takes out the pieces of a segment that would begin at the address.
     pub fn take_at(&mut self, addr: u64, seg: u32)
-        ensures kept { self.new ≡ kept_without addr seg self.old }
+        ensures kept { self.new ≡ stored_without addr seg self.old }
         ensures flat { bare_all self.new ≡ flat.without_named addr seg (bare_all self.old) }
     {
         self.pieces

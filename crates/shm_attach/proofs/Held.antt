@@ -1,5 +1,5 @@
 -- The table of each piece: what a change of the pieces and of the tables leaves.
-use Rattle.shm_attach.proofs.Names.{values_of, gets, slice_get-map, ◌≡◌, ◌≢◌, inl, inr, ℕ, zero, suc, ◌+◌, ◌<◌, ◌≤◌, ◌==◌, ◌&&◌, Bool, true, false, nat_lt, List, [], ◌∷◌, length, filter, get_or, slice_get, Option, Some, None, refl, ap, sym, subst, ◌∙◌, arith, common_steps, All, cases_Bool, cases_eq, slice_get_cases, All-append, All-cons, All-head, All-tail, All-filter, length-map, set_value_at, Slab, get, pieces_of, bare, bare_all, kept_inserted, kept_parts, kept_cut, Tables, runner_view, runners_view, pieces_at, seg_in, size_in, frame_in, TrueSlot, counted, stored_in, stored_at, IsHeld, AllHeld, AreCountsExact, Piece, Runner, TableView}
+use Rattle.shm_attach.proofs.Names.{values_of, gets, slice_get-map, ◌≡◌, ◌≢◌, inl, inr, ℕ, zero, suc, ◌+◌, ◌<◌, ◌≤◌, ◌==◌, ◌&&◌, Bool, true, false, nat_lt, List, [], ◌∷◌, length, filter, get_or, slice_get, Option, Some, None, refl, ap, sym, subst, ◌∙◌, arith, common_steps, All, cases_Bool, cases_eq, slice_get_cases, All-append, All-cons, All-head, All-tail, All-filter, length-map, set_value_at, Slab, get, pieces_of, bare, bare_all, stored_inserted, stored_parts, stored_cut, Tables, runner_view, runners_view, pieces_at, seg_in, size_in, frame_in, TrueSlot, counted, stored_in, stored_at, IsHeld, AllHeld, AreCountsExact, Piece, Runner, TableView}
 use Rattle.shm_base.specs.State as flat
 use Rattle.shm_attach.proofs.Processes.{entry_there, entries_set}
 use Rattle.shm_attach.proofs.Keeping.{own_counted, pieces_of-there, bare-get_or}
@@ -57,24 +57,24 @@ frame-true at o seg page own tr lt = grind arith
 -- ALL PIECES OF ONE PROCESS
 
 module _ (t : Slab TableView) where
-  pub held-inserted : (p : Piece) (ps : List Piece) → IsHeld t p → All (IsHeld t) ps → All (IsHeld t) (kept_inserted p ps)
+  pub held-inserted : (p : Piece) (ps : List Piece) → IsHeld t p → All (IsHeld t) ps → All (IsHeld t) (stored_inserted p ps)
   held-inserted p [] own all = All-cons (IsHeld t) p [] own all
   held-inserted p (q ∷ qs) own all =
       elim (cases_Bool (nat_lt p.base q.base)) [
         | inl h ↦ rw h (All-cons (IsHeld t) p (q ∷ qs) own all)
-        | inr h ↦ rw h (All-cons (IsHeld t) q (kept_inserted p qs) (All-head (IsHeld t) q qs all) (held-inserted p qs own (All-tail (IsHeld t) q qs all)))
+        | inr h ↦ rw h (All-cons (IsHeld t) q (stored_inserted p qs) (All-head (IsHeld t) q qs all) (held-inserted p qs own (All-tail (IsHeld t) q qs all)))
       ]
 
   pub held-filter : (f : Piece → Bool) (ps : List Piece) → All (IsHeld t) ps → All (IsHeld t) (filter f ps)
   held-filter f ps all = All-filter f (IsHeld t) ps all
 
-  held-parts : (from to : ℕ) (p : Piece) → IsHeld t p → All (IsHeld t) (kept_parts from to p)
+  held-parts : (from to : ℕ) (p : Piece) → IsHeld t p → All (IsHeld t) (stored_parts from to p)
   held-parts from to p own = grind (arith, common_steps)
 
-  pub held-cut : (from to : ℕ) (ps : List Piece) → All (IsHeld t) ps → All (IsHeld t) (kept_cut from to ps)
+  pub held-cut : (from to : ℕ) (ps : List Piece) → All (IsHeld t) ps → All (IsHeld t) (stored_cut from to ps)
   held-cut from to [] all = all
   held-cut from to (p ∷ ps) all =
-      All-append (IsHeld t) (kept_parts from to p) (kept_cut from to ps)
+      All-append (IsHeld t) (stored_parts from to p) (stored_cut from to ps)
       (held-parts from to p (All-head (IsHeld t) p ps all)) (held-cut from to ps (All-tail (IsHeld t) p ps all))
 
 -- ALL PIECES

@@ -17,7 +17,7 @@ pub use Rattle.indexmap.specs.Layout.{length-set_value_at}
 pub use Rattle.shm_areas.proofs.Edits.{arranged_cut, arranged_filter, arranged_inserted, bare_filter, lower}
 pub use Rattle.shm_areas.proofs.Placing.{fit_at, nothing, place_covering}
 pub use Rattle.shm_areas.specs.Arranged.{Arranged, IsCovering, IsFit, bare, bare_all, covering}
-pub use Rattle.shm_areas.specs.Edit.{kept_cut, kept_inserted, kept_named, kept_parts, kept_without}
+pub use Rattle.shm_areas.specs.Edit.{stored_cut, stored_inserted, stored_named, stored_parts, stored_without}
 pub use Rattle.shm_areas.specs.Met.{met}
 pub use Rattle.shm_base.specs.Processes.{pieces_of_caller}
 pub use Rattle.shm_base.specs.Access.{Place, all_writable, byte_at, covers, end_of, joined, loaded, only_writable, places, stored, with_byte, writable_places}
@@ -33,8 +33,8 @@ pub use Rattle.shm_base.specs.declared.paging.PageRef.{PageRef}
 pub use Rattle.shm_base.specs.declared.paging.Span.{Span}
 pub use Rattle.shm_fault.specs.Steps.{moved}
 pub use Rattle.shm_fault.specs.Store.{StoreView, frame_of}
-pub use Rattle.shm_fault.specs.declared.touched.Move.{Move}
-pub use Rattle.shm_fault.specs.declared.touched.Move.TheVariants.{Gone}
+pub use Rattle.shm_fault.specs.declared.touched.PageMove.{PageMove}
+pub use Rattle.shm_fault.specs.declared.touched.PageMove.TheVariants.{Gone}
 pub use Rattle.slab.specs.Slab.{Slab, Updates, get, with_value}
 pub use Rattle.shm_attach.specs.Table.{AllTrue, TrueTable, TrueSlot, count_in, frame_in, seg_in, size_in, translations_from, translations_in, translations_of, with_frame, TableView}
 pub use Rattle.shm_attach.specs.Exact.{AreCountsExact, AreTablesSound, HasHolds, no_holds}

@@ -36,10 +36,7 @@ pub(crate) fn space_at(processes: &IndexMap<u32, Runner>, index: usize) -> &Spac
     ensures flat { bare_all result.now ≡ pieces_at (runners_view processes.now.entries) index }
     ensures stored { result.now ≡ stored_at processes.now.entries index }
 {
-    let Some((_, runner)) = processes.get_index(index) else {
-        unreachable!();
-    };
-    &runner.space
+    &processes[index].space
 }
 
 /// Puts a piece in. Its segment's table is there.
@@ -61,11 +58,8 @@ pub(crate) fn put(
     ensures held { (p : Stored) → IsHeld tables.old.slab p → IsHeld tables.new.slab p }
     ensures translated { (at : ℕ → ℕ → Option ℕ) → AllTrue at tables.old.slab → AllTrue at tables.new.slab }
 {
-    let Some(runner) = processes.get_index_mut(index) else {
-        unreachable!();
-    };
     tables.replace(piece.seg, piece.key, 0, 1);
-    runner.space.insert(piece);
+    processes[index].space.insert(piece);
 }
 
 /// Counts what becomes of pieces that a range meets: each goes, and its parts outside come.
@@ -104,19 +98,17 @@ pub(crate) fn take(
     ensures held { (p : Stored) → IsHeld tables.old.slab p → 0 < counted tables.new p.seg → IsHeld tables.new.slab p }
     ensures translated { (at : ℕ → ℕ → Option ℕ) → AllTrue at tables.old.slab → AllTrue at tables.new.slab }
 {
-    let Some(runner) = processes.get_index_mut(index) else {
-        unreachable!();
-    };
+    let space = &mut processes[index].space;
     match part {
         Part::Range { from, to } => {
-            recount(tables, runner.space.met(from, to), from, to);
-            runner.space.cut(from, to);
+            recount(tables, space.met(from, to), from, to);
+            space.cut(from, to);
         }
         Part::Attach { addr, seg } => {
-            let before = runner.space.pieces().len();
-            runner.space.take_at(addr, seg);
-            let gone = before - runner.space.pieces().len();
-            tables.leave(seg, gone as u32);
+            let before = space.pieces().len();
+            space.take_at(addr, seg);
+            let gone = before - space.pieces().len();
+            tables.release(seg, gone as u32);
         }
     }
 }
@@ -128,8 +120,5 @@ pub(crate) fn set_life_at(processes: &mut IndexMap<u32, Runner>, index: usize, l
     ensures count { length processes.new.entries ≡ length processes.old.entries }
     ensures stored { (j : ℕ) → stored_at processes.new.entries j ≡ stored_at processes.old.entries j }
 {
-    let Some(runner) = processes.get_index_mut(index) else {
-        unreachable!();
-    };
-    runner.life = life;
+    processes[index].life = life;
 }

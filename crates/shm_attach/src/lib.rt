@@ -4,8 +4,8 @@
 
 mod attach;
 mod changes;
+mod detach;
 mod fork;
-mod leave;
 mod lost;
 mod process;
 mod spaces;

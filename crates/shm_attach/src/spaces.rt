@@ -22,7 +22,7 @@ use crate::tables::Tables;
 use indexmap::IndexMap;
 use shm_areas::Space;
 use shm_base::{HostMemory, Process};
-use shm_fault::Move;
+use shm_fault::PageMove;
 use std::alloc::Global;
 use std::marker::Model;
 
@@ -160,7 +160,7 @@ impl Spaces {
 
     /// Notes which pages moved, one after another, for all pieces at once. It takes no memory.
     #[inline(always)]
-    pub fn note(&mut self, moved: &[Move])
+    pub fn note(&mut self, moved: &[PageMove])
         ensures runners { self.new.runners ≡ self.old.runners }
         ensures translated { (m n : StoreView) → AreTrue self.old.translations m → MovesLead moved.now m n → AreTrue self.new.translations n }
     {

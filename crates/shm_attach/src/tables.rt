@@ -11,7 +11,7 @@ ghost use Rattle.shm_attach.specs.Tables.{counted, key_of, IsHeld, OneTableEach}
 
 use crate::table::Table;
 use shm_base::{FrameNo, HostMemory, PageRef};
-use shm_fault::{Move, PageStore};
+use shm_fault::{PageMove, PageStore};
 use shm_pager::Pager;
 use slab::Slab;
 use std::alloc::Global;
@@ -156,7 +156,7 @@ impl Tables {
     }
 
     /// Some pieces of a segment go. It takes no memory.
-    pub(crate) fn leave(&mut self, seg: u32, gone: u32)
+    pub(crate) fn release(&mut self, seg: u32, gone: u32)
         requires gone { gone ≤ counted self.old seg }
         requires fits { counted self.old seg < 2 ^ 32 }
         requires tied { OneTableEach self.old }
@@ -187,7 +187,7 @@ impl Tables {
     }
 
     // Notes one move.
-    fn note_one(&mut self, entry: Move)
+    fn note_one(&mut self, entry: PageMove)
         requires { OneTableEach self.old }
         ensures counts { (id : ℕ) → counted self.new id ≡ counted self.old id }
         ensures held { (p : Stored) → IsHeld self.old.slab p → IsHeld self.new.slab p }
@@ -195,13 +195,13 @@ impl Tables {
         ensures tied { OneTableEach self.new }
     {
         match entry {
-            Move::Gone(page) => self.set(page, None),
-            Move::Came(page, frame) => self.set(page, Some(frame)),
+            PageMove::Gone(page) => self.set(page, None),
+            PageMove::Came(page, frame) => self.set(page, Some(frame)),
         }
     }
 
     /// Notes which pages moved, one after another, each in the table of its segment. It takes no memory.
-    pub(crate) fn note(&mut self, moves: &[Move])
+    pub(crate) fn note(&mut self, moves: &[PageMove])
         requires { OneTableEach self.old }
         ensures counts { (id : ℕ) → counted self.new id ≡ counted self.old id }
         ensures held { (p : Stored) → IsHeld self.old.slab p → IsHeld self.new.slab p }

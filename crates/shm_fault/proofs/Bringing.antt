@@ -1,5 +1,5 @@
 -- What an access leaves, put together from the visits to its pages.
-use Rattle.shm_fault.proofs.Names.{◌≡◌, ◌≢◌, ℕ, map, ◌≤◌, ◌+◌, Bool, true, false, ◌&&◌, cond, List, [], ◌∷◌, length, get_or, Option, Some, None, is_some, Result, Ok, Err, is_ok, OnErr, refl, sym, ap, ◌∙◌, arith, All, IsSome, false≢true, PageRef, Span, is_locked, SwapView, Frame, frame_at, PageRec, Touched, SegRec, rec_by, locked_by, StoreView, held_by, page_of, ref_of, is_swapped, IsResident, pages_among, swapped_among, same_page, Kept, KeepsLocked, Visits, frame_by, referenced_at, InFrames, PagerFailed, IsStoreSound, raised, one_if, hand_after, Visited, AreIn, Brings, Accessed, IsUntouched, nat_tests, common_steps}
+use Rattle.shm_fault.proofs.Names.{◌≡◌, ◌≢◌, ℕ, map, ◌≤◌, ◌+◌, Bool, true, false, ◌&&◌, cond, List, [], ◌∷◌, length, get_or, Option, Some, None, is_some, Result, Ok, Err, is_ok, OnErr, refl, sym, ap, ◌∙◌, arith, All, IsSome, false≢true, PageRef, Span, is_locked, SwapView, Frame, frame_at, PageRec, Touched, SegRec, rec_by, locked_by, StoreView, held_by, page_of, ref_of, is_swapped, IsResident, pages_among, swapped_among, same_page, LockedPagesStay, KeepsLocked, Visits, frame_by, referenced_at, InFrames, PagerFailed, IsStoreSound, raised, one_if, hand_after, Visited, AreIn, Brings, Accessed, IsUntouched, nat_tests, common_steps}
 use Rattle.shm_plain.proofs.Spans.{no_span}
 use Rattle.shm_fault.specs.Store.{held, frame_of}
 use Rattle.shm_fault.proofs.Sound.{Goes-trans, KeepsLocked-trans, cause-after}
@@ -171,7 +171,7 @@ pub is_locked-held : (s : StoreView) (id : ℕ) → is_locked (held s) id ≡ lo
 unfolding held
 is_locked-held s id = lock-held s.frames s.swap s.segs id
 
-pub kept-locked : (s t : StoreView) → KeepsLocked s t → Kept s t
+pub kept-locked : (s t : StoreView) → KeepsLocked s t → LockedPagesStay s t
 unfolding frame_of
 kept-locked s t keeps seg page locked after e = keeps (record { seg = seg; page = page }) (rw (is_locked-held s seg) at locked) e
 

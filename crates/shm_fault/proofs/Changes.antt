@@ -136,8 +136,8 @@ module _ (s : StoreView) (sound : IsStoreSound s) (r : PageRef) (f : ℕ) (k : S
 
 -- a page in a clean frame leaves it
 module _ (s : StoreView) (sound : IsStoreSound s) (r : PageRef) (f : ℕ) (bytes : List ℕ) (owned : (frame_at s.frames f).owner ≡ Some r) (clean : (frame_at s.frames f).dirty ≡ false) where
-  pub keeps-leave : Keeps s (record s { segs = with_rec s.segs r (record { frame = None; slot = (rec_by s.segs r).slot }); frames = set s.frames f (record no_frame { bytes = bytes }) })
-  keeps-leave =
+  pub keeps-vacate : Keeps s (record s { segs = with_rec s.segs r (record { frame = None; slot = (rec_by s.segs r).slot }); frames = set s.frames f (record no_frame { bytes = bytes }) })
+  keeps-vacate =
       let has : HasPage s.segs r = sound.tied.owners f r owned in
       let tie-s : IsTied s r = sound.tied.pages r has in
       let p : PageRec = record { frame = None; slot = (rec_by s.segs r).slot } in

@@ -1,5 +1,5 @@
 -- Failures that are counted, and the areas that count them.
-use Rattle.shm_fault.proofs.Names.{◌≡◌, ◌⊎◌, ℕ, suc, [], ◌∷◌, None, Result, Ok, Err, OnOk, OnErr, ◌<◌, ◌≤◌, ◌+◌, true, false, List, length, get_or, sum_by, inl, inr, arith, list_any, false≢true, nat_tests, sum_by-set, sum_by-cons, Slot, last_count, AreaView, SwapView, no_area, area_at, rise, is_spent_here, size_of, sizes, with_slot_page, HasSlot, OneArea, WriteFault, IsSwap, had_cause, GoesOn, rises-le, total-le, common_steps}
+use Rattle.shm_fault.proofs.Names.{◌≡◌, ◌⊎◌, ℕ, suc, [], ◌∷◌, None, Result, Ok, Err, OnOk, OnErr, ◌<◌, ◌≤◌, ◌+◌, true, false, List, length, get_or, sum_by, inl, inr, arith, list_any, false≢true, nat_tests, sum_by-set, sum_by-cons, Slot, last_count, AreaView, SwapView, no_area, area_at, rise, is_spent_here, size_of, sizes, with_slot_page, HasSlot, OneArea, AfterWriteFault, IsSwap, had_cause, GoesOn, rises-le, total-le, common_steps}
 use Rattle.std.proofs.Math.ListN.{get_or-map}
 use Rattle.shm_slots.specs.Cause.{total, some_spent}
 
@@ -14,7 +14,7 @@ pub total-written : (s : SwapView) (k : Slot) (page : List ℕ) → k.area < len
 unfolding total
 total-written s k page lt = grind (arith, nat_tests, common_steps, sum_by-set, s.areas, k.area, k.slot)
 
-pub total-fault : (s t : SwapView) (k : Slot) → IsSwap s → HasSlot s k.area k.slot → OneArea k.area s t → WriteFault k.slot (area_at s k.area) (area_at t k.area) → some_spent t ≡ false → total t ≡ total s + 1
+pub total-fault : (s t : SwapView) (k : Slot) → IsSwap s → HasSlot s k.area k.slot → OneArea k.area s t → AfterWriteFault k.slot (area_at s k.area) (area_at t k.area) → some_spent t ≡ false → total t ≡ total s + 1
 unfolding total some_spent
 total-fault s t k swap there one fault unspent = grind (arith, common_steps)
 

@@ -1,5 +1,5 @@
 -- What calls of the swap leave of its slots.
-use Rattle.shm_fault.proofs.Names.{◌≡◌, ◌≢◌, ◌⊎◌, ℕ, ◌<◌, Bool, List, [], length, get_or, set, Option, None, refl, ap, ◌∙◌, inl, inr, length-set, get_or-set_same, get_or-set_other, zero, suc, ◌∷◌, arith, PageRef, Slot, AreaView, SwapView, area_at, with_page, with_owner, HasSlot, owner_of, page_in, with_slot_page, with_slot_owner, without_slot, OneArea, WriteFault, common_steps, nat_tests}
+use Rattle.shm_fault.proofs.Names.{◌≡◌, ◌≢◌, ◌⊎◌, ℕ, ◌<◌, Bool, List, [], length, get_or, set, Option, None, refl, ap, ◌∙◌, inl, inr, length-set, get_or-set_same, get_or-set_other, zero, suc, ◌∷◌, arith, PageRef, Slot, AreaView, SwapView, area_at, with_page, with_owner, HasSlot, owner_of, page_in, with_slot_page, with_slot_owner, without_slot, OneArea, AfterWriteFault, common_steps, nat_tests}
 
 -- an element of a list of which one was set: that one, or as it was
 pub set-cases : {A : Type 0} (xs : List A) (i : ℕ) (x d : A) (j : ℕ) → ((j ≡ i) × (get_or (set xs i x) j d ≡ x)) ⊎ (get_or (set xs i x) j d ≡ get_or xs j d)
@@ -42,7 +42,7 @@ pub OnlySlot-given : (k : Slot) (s : SwapView) (page : List ℕ) → OnlySlot k 
 OnlySlot-given k s page = area_only k s (with_page (with_owner (area_at s k.area) k.slot None) k.slot page) s.never_spent (length-set (area_at s k.area).pages k.slot page) (λ i n. get_or-set_other (area_at s k.area).pages k.slot i page [] n) (λ i n. get_or-set_other (area_at s k.area).owners k.slot i None None n)
 
 -- a write that failed
-pub OnlySlot-fault : (k : Slot) (s t : SwapView) → OneArea k.area s t → WriteFault k.slot (area_at s k.area) (area_at t k.area) → OnlySlot k s t
+pub OnlySlot-fault : (k : Slot) (s t : SwapView) → OneArea k.area s t → AfterWriteFault k.slot (area_at s k.area) (area_at t k.area) → OnlySlot k s t
 OnlySlot-fault k s t one fault = grind (arith, nat_tests, common_steps, k.area, k.slot, fault.1, fault.0, area_only, get_or-set_other)
 
 -- what the slot itself then is
@@ -52,7 +52,7 @@ page-written k s page h = grind (arith, nat_tests, common_steps, get_or-set_same
 pub owner-written : (k : Slot) (s : SwapView) (page : List ℕ) → HasSlot s k.area k.slot → owner_of (with_slot_page s k page) k.area k.slot ≡ owner_of s k.area k.slot
 owner-written k s page h = grind (arith, nat_tests, common_steps, get_or-set_same, s.areas, k.area, k.slot, h.0)
 
-pub owner-fault : (k : Slot) (s t : SwapView) → OneArea k.area s t → WriteFault k.slot (area_at s k.area) (area_at t k.area) → owner_of t k.area k.slot ≡ owner_of s k.area k.slot
+pub owner-fault : (k : Slot) (s t : SwapView) → OneArea k.area s t → AfterWriteFault k.slot (area_at s k.area) (area_at t k.area) → owner_of t k.area k.slot ≡ owner_of s k.area k.slot
 owner-fault k s t one fault = ap (λ (b : AreaView). get_or b.owners k.slot None) fault.0
 
 pub owner-set : (k : Slot) (s : SwapView) (owner : Option PageRef) → k.area < length s.areas → k.slot < length (area_at s k.area).owners → owner_of (with_slot_owner s k owner) k.area k.slot ≡ owner

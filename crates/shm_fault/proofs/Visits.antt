@@ -1,5 +1,5 @@
 -- Steps of a visit to a page, one after another.
-use Rattle.shm_fault.proofs.Names.{◌≡◌, ◌≢◌, ℕ, suc, ◌<◌, true, false, not, cond, List, [], ◌∷◌, ◌++◌, length, set, Option, Some, None, refl, sym, ap, ◌∙◌, arith, length-set, get_or-set_same, get_or-set_other, and_parts, not-true, PageRef, Frame, no_frame, frame_at, may_go, owner_passes, is_pinned, PageRec, SegRec, rec_by, HasPage, with_rec, locked_by, SwapView, IsSwap, SameSlots, sizes, GoesOn, StoreView, slot_bytes, IsStoreSound, Goes, Still, StaysAway, Alike, Visits, MovesOn, unlocked, frame_by, referenced_at, same_ref, Move, Gone, Came, moved, common_steps, nat_tests}
+use Rattle.shm_fault.proofs.Names.{◌≡◌, ◌≢◌, ℕ, suc, ◌<◌, true, false, not, cond, List, [], ◌∷◌, ◌++◌, length, set, Option, Some, None, refl, sym, ap, ◌∙◌, arith, length-set, get_or-set_same, get_or-set_other, and_parts, not-true, PageRef, Frame, no_frame, frame_at, may_go, owner_passes, is_pinned, PageRec, SegRec, rec_by, HasPage, with_rec, locked_by, SwapView, IsSwap, SameSlots, sizes, GoesOn, StoreView, slot_bytes, IsStoreSound, Goes, Still, StaysAway, Alike, Visits, MovesOn, unlocked, frame_by, referenced_at, same_ref, PageMove, Gone, Came, moved, common_steps, nat_tests}
 use Rattle.shm_fault.specs.Store.{frame_of}
 use Rattle.shm_fault.proofs.Pages.{rec-with, rec-with_other, cases_ref, other_ne, other-true, has-frame, same-self, same-other}
 use Rattle.shm_fault.proofs.Sound.{frame-own, Goes-trans, KeepsLocked-trans}
@@ -105,21 +105,21 @@ settles s sound page f has lt free away bytes =
     }
 
 -- moves, one after another
-moved-append : (ms : List Move) (m : Move) (seg page : ℕ) (f : Option ℕ) → moved (ms ++ m ∷ []) seg page f ≡ moved (m ∷ []) seg page (moved ms seg page f)
+moved-append : (ms : List PageMove) (m : PageMove) (seg page : ℕ) (f : Option ℕ) → moved (ms ++ m ∷ []) seg page f ≡ moved (m ∷ []) seg page (moved ms seg page f)
 moved-append [] m seg page f = refl
 moved-append (Gone r ∷ ms) m seg page f = moved-append ms m seg page _
 moved-append (Came r k ∷ ms) m seg page f = moved-append ms m seg page _
 
-pub moves-still : (ms : List Move) (s t : StoreView) → Still s t → MovesOn ms ms s t
+pub moves-still : (ms : List PageMove) (s t : StoreView) → Still s t → MovesOn ms ms s t
 unfolding frame_of
 moves-still ms s t still b led seg page = still (record { seg = seg; page = page }) ∙ led seg page
 
-pub moves-more : (ms : List Move) (m : Move) (s t : StoreView) → ((q : PageRef) → frame_by t q ≡ moved (m ∷ []) q.seg q.page (frame_by s q)) → MovesOn ms (ms ++ m ∷ []) s t
+pub moves-more : (ms : List PageMove) (m : PageMove) (s t : StoreView) → ((q : PageRef) → frame_by t q ≡ moved (m ∷ []) q.seg q.page (frame_by s q)) → MovesOn ms (ms ++ m ∷ []) s t
 unfolding frame_of
 moves-more ms m s t is b led seg page =
     is (record { seg = seg; page = page }) ∙ ap (moved (m ∷ []) seg page) (led seg page) ∙ sym (moved-append ms m seg page (frame_of b seg page))
 
-pub moves-trans : (ms ns os : List Move) (s t u : StoreView) → MovesOn ms ns s t → MovesOn ns os t u → MovesOn ms os s u
+pub moves-trans : (ms ns os : List PageMove) (s t u : StoreView) → MovesOn ms ns s t → MovesOn ns os t u → MovesOn ms os s u
 moves-trans ms ns os s t u a c b led = c b (a b led)
 
 -- a step that visits no page

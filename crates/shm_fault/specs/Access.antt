@@ -9,7 +9,7 @@ use Rattle.shm_fault.specs.declared.touched.Touched.{Touched}
 use Rattle.shm_fault.specs.declared.touched.PagerFailed.{PagerFailed}
 use Rattle.shm_fault.specs.Segs.{rec_by}
 use Rattle.shm_fault.specs.Store.{StoreView, frame_of, page_of, ref_of, is_swapped, IsResident, IsReferenced, pages_among, swapped_among}
-use Rattle.shm_fault.specs.Steps.{MovesLead, Kept}
+use Rattle.shm_fault.specs.Steps.{MovesLead, LockedPagesStay}
 use Rattle.shm_fault.specs.Goes.{Goes, KeepsLocked, Visits, MovesOn, frame_by, referenced_at}
 use Rattle.shm_fault.specs.Counting.{raised, one_if, CountsOn, hand_after}
 use Rattle.shm_fault.specs.Sound.{IsStoreSound}
@@ -89,7 +89,7 @@ pub record Accessed (ps : List Span) (s t : StoreView) (result : Result Touched 
   pub resident : OnOk result (All (IsReferenced t) ps)
   pub moved : MovesLead (touched_of result).moved.items s t
   pub few_moved : length (touched_of result).moved.items ≤ 4
-  pub kept : Kept s t
+  pub kept : LockedPagesStay s t
   pub counts : GoesOn s.swap t.swap
   pub same_sizes : sizes t.swap ≡ sizes s.swap
   pub size : length t.frames ≡ length s.frames

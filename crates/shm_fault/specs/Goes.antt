@@ -4,7 +4,7 @@ use Rattle.shm_base.specs.declared.paging.PageRef.{PageRef}
 use Rattle.shm_slots.specs.View.{sizes}
 use Rattle.shm_slots.specs.Cause.{GoesOn, some_spent, had_cause}
 use Rattle.shm_frames.specs.Frame.{Frame, frame_at}
-use Rattle.shm_fault.specs.declared.touched.Move.{Move}
+use Rattle.shm_fault.specs.declared.touched.PageMove.{PageMove}
 use Rattle.shm_fault.specs.Steps.{MovesLead}
 use Rattle.shm_fault.specs.Segs.{SegRec, rec_by, locked_by}
 use Rattle.shm_fault.specs.Store.{StoreView, held}
@@ -74,7 +74,7 @@ pub record Visits (r : PageRef) (pinned : Option ℕ) (s t : StoreView) : Type 0
   pub pin : KeepsPinned pinned s t
 
 -- moves that led to the one residency, with those that led on to the other
-abbrev pub MovesOn : List Move → List Move → StoreView → StoreView → Type 0
+abbrev pub MovesOn : List PageMove → List PageMove → StoreView → StoreView → Type 0
 MovesOn ms more s t = (b : StoreView) → MovesLead ms b s → MovesLead more b t
 
 abbrev pub frame_by : StoreView → PageRef → Option ℕ

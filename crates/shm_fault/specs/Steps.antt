@@ -2,25 +2,25 @@
 use Rattle.std.specs.Prelude.{ℕ, ◌≡◌, ◌==◌, ◌&&◌, Bool, true, if◌then◌else◌, List, [], ◌∷◌, Option, Some, None, is_some}
 use Rattle.shm_base.specs.declared.paging.PageRef.{PageRef}
 use Rattle.shm_plain.specs.Held.{is_locked}
-use Rattle.shm_fault.specs.declared.touched.Move.{Move}
-use Rattle.shm_fault.specs.declared.touched.Move.TheVariants.{Gone, Came}
+use Rattle.shm_fault.specs.declared.touched.PageMove.{PageMove}
+use Rattle.shm_fault.specs.declared.touched.PageMove.TheVariants.{Gone, Came}
 use Rattle.shm_fault.specs.Store.{StoreView, held, frame_of}
 
 abbrev pub is_page : PageRef → ℕ → ℕ → Bool
 is_page r seg page = (r.seg == seg) && (r.page == page)
 
 -- the frame of one page after the moves, from the frame before them
-abbrev pub moved : List Move → ℕ → ℕ → Option ℕ → Option ℕ
+abbrev pub moved : List PageMove → ℕ → ℕ → Option ℕ → Option ℕ
 moved [] seg page f = f
 moved (Gone r ∷ ms) seg page f = moved ms seg page (if is_page r seg page then None else f)
 moved (Came r k ∷ ms) seg page f = moved ms seg page (if is_page r seg page then Some k else f)
 
 -- the moves lead from one residency to the other
-abbrev pub MovesLead : List Move → StoreView → StoreView → Type 0
+abbrev pub MovesLead : List PageMove → StoreView → StoreView → Type 0
 MovesLead ms before after = (seg page : ℕ) → frame_of after seg page ≡ moved ms seg page (frame_of before seg page)
 
 -- every page of a locked segment that is resident before is resident after
-abbrev pub Kept : StoreView → StoreView → Type 0
-Kept before after =
+abbrev pub LockedPagesStay : StoreView → StoreView → Type 0
+LockedPagesStay before after =
     (seg page : ℕ) → is_locked (held before) seg ≡ true → is_locked (held after) seg ≡ true
     → is_some (frame_of before seg page) ≡ true → is_some (frame_of after seg page) ≡ true

@@ -5,7 +5,7 @@ ghost use Rattle.shm_slots.specs.Cause.{GoesOn, total, some_spent};
 ghost use Rattle.shm_frames.specs.Frame.{frame_at};
 ghost use Rattle.shm_fault.specs.Store.{held, frame_of};
 ghost use Rattle.shm_fault.specs.Sound.{IsStoreSound};
-ghost use Rattle.shm_fault.specs.Steps.{Kept};
+ghost use Rattle.shm_fault.specs.Steps.{LockedPagesStay};
 ghost use Rattle.shm_fault.specs.Goes.{Goes, Still};
 ghost use Rattle.shm_fault.specs.Counting.{raised};
 ghost use Rattle.shm_fault.specs.Flushing.{IsFlushed, may_flush, dirty_after};
@@ -55,7 +55,7 @@ impl<P: Pager> PageStore<P> {
         ensures flushed { IsFlushed self.old self.new n result }
         ensures held { held self.new ≡ held self.old }
         ensures still { (s page : ℕ) → frame_of self.new s page ≡ frame_of self.old s page }
-        ensures kept { Kept self.old self.new }
+        ensures kept { LockedPagesStay self.old self.new }
         ensures counts { GoesOn self.old.swap self.new.swap }
         ensures sizes { sizes self.new.swap ≡ sizes self.old.swap }
         ensures count { length self.new.frames ≡ length self.old.frames }

@@ -18,4 +18,4 @@ mod touched;
 
 pub use page_tables::PageRec;
 pub use store::PageStore;
-pub use touched::{Move, PageTally, PagerFailed, Touched};
+pub use touched::{PageMove, PageTally, PagerFailed, Touched};

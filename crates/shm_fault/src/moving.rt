@@ -6,7 +6,7 @@ ghost use Rattle.shm_slots.specs.Cause.{GoesOn, had_cause};
 ghost use Rattle.shm_fault.specs.Segs.{rec_by};
 ghost use Rattle.shm_fault.specs.Store.{held, frame_of};
 ghost use Rattle.shm_fault.specs.Sound.{IsStoreSound};
-ghost use Rattle.shm_fault.specs.Steps.{Kept};
+ghost use Rattle.shm_fault.specs.Steps.{LockedPagesStay};
 ghost use Rattle.shm_fault.specs.Goes.{Goes, Still};
 ghost use Rattle.shm_fault.specs.Counting.{AtRest};
 ghost use Rattle.shm_fault.specs.Moving.{SameOwned, IsRelocated, IsCleared};
@@ -158,7 +158,7 @@ impl<P: Pager> PageStore<P> {
         ensures moved { IfErr result (λ e. e.touched.moved.items ≡ []) }
         ensures rest { AtRest self.old self.new }
         ensures still { (s page : ℕ) → frame_of self.new s page ≡ frame_of self.old s page }
-        ensures kept { Kept self.old self.new }
+        ensures kept { LockedPagesStay self.old self.new }
         ensures counts { GoesOn self.old.swap self.new.swap }
         ensures sound { IsStoreSound self.new }
     {

@@ -14,7 +14,7 @@ ghost use Rattle.shm_fault.specs.Goes.{Goes, Still, StaysAway, Alike, Visits, Mo
 
 use crate::page_tables::{PageRec, PageTables};
 use crate::store::PageStore;
-use crate::touched::{Move, Touched};
+use crate::touched::{PageMove, Touched};
 use shm_base::{FrameNo, PageRef, Slot};
 use shm_clock::victim;
 use shm_frames::{Frames, Looks};
@@ -90,9 +90,7 @@ impl<P: Pager> PageStore<P> {
         ensures failures { total self.new.swap ≡ total self.old.swap }
         ensures sound { IsStoreSound self.new }
     {
-        let Some(page) = self.frames.owner(frame) else {
-            unreachable!();
-        };
+        let page = self.frames.resident_page(frame);
         let place = self.segs.page(page);
         if let Some(slot) = place.slot {
             return slot;
@@ -155,7 +153,7 @@ impl<P: Pager> PageStore<P> {
     }
 
     // The page in a clean frame leaves it.
-    fn leave(&mut self, frame: FrameNo) -> PageRef
+    fn vacate(&mut self, frame: FrameNo) -> PageRef
         requires there { frame < length self.old.frames }
         requires owned { IsSome (frame_at self.old.frames frame).owner }
         requires clean { (frame_at self.old.frames frame).dirty ≡ false }
@@ -167,9 +165,7 @@ impl<P: Pager> PageStore<P> {
         ensures goes { Goes self.old self.new }
         ensures sound { IsStoreSound self.new }
     {
-        let Some(page) = self.frames.owner(frame) else {
-            unreachable!();
-        };
+        let page = self.frames.resident_page(frame);
         let place = self.segs.page(page);
         self.frames.empty(frame);
         self.segs.set_page(
@@ -237,7 +233,7 @@ impl<P: Pager> PageStore<P> {
         let frame = self.turn(pinned);
         match self.clean(frame) {
             Ok(written) => {
-                let page = self.leave(frame);
+                let page = self.vacate(frame);
                 Ok(Evicted {
                     frame,
                     page,
@@ -323,7 +319,7 @@ impl<P: Pager> PageStore<P> {
             Ok(()) => {
                 self.settle(frame, page);
                 touched.ins += u64::from(place.slot.is_some());
-                touched.moved.push(Move::Came(page, frame));
+                touched.moved.push(PageMove::Came(page, frame));
                 Ok(())
             }
             Err(fault) => Err(fault),
@@ -353,7 +349,7 @@ impl<P: Pager> PageStore<P> {
             None => match self.evict(pinned) {
                 Ok(evicted) => {
                     touched.outs += u64::from(evicted.written);
-                    touched.moved.push(Move::Gone(evicted.page));
+                    touched.moved.push(PageMove::Gone(evicted.page));
                     Ok(evicted.frame)
                 }
                 Err(fault) => Err(fault),

@@ -6,14 +6,14 @@ use shm_base::{FrameNo, PageRef};
 
 /// A page left its frame, or came into one.
 #[derive(Clone, Copy, Debug, PartialEq, Eq)]
-pub enum Move {
+pub enum PageMove {
     Gone(PageRef),
     Came(PageRef, FrameNo),
 }
 
-impl Default for Move {
-    fn default() -> Move {
-        Move::Gone(PageRef { seg: 0, page: 0 })
+impl Default for PageMove {
+    fn default() -> PageMove {
+        PageMove::Gone(PageRef { seg: 0, page: 0 })
     }
 }
 
@@ -22,7 +22,7 @@ impl Default for Move {
 pub struct Touched {
     pub ins: u64,
     pub outs: u64,
-    pub moved: ArrayVec<Move, 4>,
+    pub moved: ArrayVec<PageMove, 4>,
 }
 
 impl Drop for Touched {

@@ -152,6 +152,15 @@ impl Frames {
         self.table[frame as usize].owner
     }
 
+    /// The page in an owned frame.
+    pub fn resident_page(&self, frame: FrameNo) -> PageRef
+        requires there { frame < length self.now }
+        requires owned { IsSome (frame_at self.now frame).owner }
+        ensures { (frame_at self.now frame).owner ≡ Some result }
+    {
+        self.owner(frame).unwrap()
+    }
+
     /// Gives a free frame to a page. Its bytes stay, which the caller may have put there before, and
     /// its bits are clear.
     pub fn fill(&mut self, frame: FrameNo, owner: PageRef)

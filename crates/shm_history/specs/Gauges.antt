@@ -23,8 +23,8 @@ zeros = record { events = 0; resident = 0; dirty = 0; used = 0 }
 abbrev pub reading_of : Tally → Reading
 reading_of t = record { events = t.events; resident = t.resident; dirty = t.dirty; used = t.used }
 
-abbrev pub words_of : Reading → List ℕ
-words_of r = r.events ∷ r.resident ∷ r.dirty ∷ r.used ∷ []
+abbrev pub cell_words : Reading → List ℕ
+cell_words r = r.events ∷ r.resident ∷ r.dirty ∷ r.used ∷ []
 
 abbrev pub numbers_of : List ℕ → Reading
 numbers_of ws = record { events = slice_index ws 0; resident = slice_index ws 1; dirty = slice_index ws 2; used = slice_index ws 3 }
@@ -45,7 +45,7 @@ having_seen r = record { is_keeper = false; seen = r }
 abbrev pub IsGaugeKept : List ℕ → List SeatView → Type 0
 IsGaugeKept words views =
     (seat : ℕ) × (now : Reading)
-    × (words ≡ words_of now) × IsReading now
+    × (words ≡ cell_words now) × IsReading now
     × (get_elem? views seat ≡ some (keeping now))
     × ((by : ℕ) (v : SeatView) → get_elem? views by ≡ some v → (v.is_keeper ≡ true → by ≡ seat) × (v.seen.events ≤ now.events))
 

@@ -4,7 +4,7 @@
 ghost use Rattle.std.specs.Prelude.{◌≡◌, ◌≤◌, IfOk};
 ghost use Rattle.std.specs.Arc.{arc_value};
 ghost use Rattle.crossbeam_utils.specs.Seq.{cell_view};
-ghost use Rattle.shm_history.specs.Gauges.{zeros, keeping, words_of, IsReading};
+ghost use Rattle.shm_history.specs.Gauges.{zeros, keeping, cell_words, IsReading};
 
 use crate::cell::{Cell, Loads, NewReader, Reading, SeatPass, Stores};
 use shm_base::HostMemory;
@@ -171,7 +171,7 @@ fn of(cell: Arc<Cell, Global>, pass: SeatPass) -> Keeper
 }
 
 fn words(numbers: &Reading) -> [u64; 4]
-    ensures { result ≡ words_of numbers.now }
+    ensures { result ≡ cell_words numbers.now }
 {
     [
         numbers.events,

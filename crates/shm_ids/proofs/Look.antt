@@ -1,5 +1,5 @@
 -- What a live identifier has.
-use Rattle.shm_ids.proofs.Names.{◌≡◌, ℕ, ◌∙◌, ◌/◌, ◌%◌, ◌<◌, ℤ, pos, negsuc, nat_eq, List, length, Option, Some, None, Ok, IsOk, refl, sym, arith, true≢false, common_steps, slice_get-map, unwrap_or, unwrap_or-slice_get, slice_get, shown, option_map, unused, looked, Entry, Row, IndexMap, get, entry_at, key_at, look, look_entry, look_row, index_of, identifier, id_at, number_of, Sound}
+use Rattle.shm_ids.proofs.Names.{◌≡◌, ℕ, ◌∙◌, ◌/◌, ◌%◌, ◌<◌, ℤ, pos, negsuc, nat_eq, List, length, Option, Some, None, Ok, IsOk, refl, sym, arith, true≢false, common_steps, slice_get-map, unwrap_or, unwrap_or-slice_get, slice_get, shown, option_map, unused, looked, Entry, Row, IndexMap, get, entry_at, key_at, look, look_entry, look_row, index_of, identifier, id_at, natural_of, Sound}
 use Rattle.shm_base.specs.Identifier as flat
 use Rattle.shm_ids.proofs.Entries.{at_past}
 
@@ -43,7 +43,7 @@ module _ {T : Type 0} where
   look-found t first key i keys s got = grind (arith, common_steps, look-id_at)
 
   -- a live identifier is that of its index
-  pub live_number : (t : List (Entry T)) (id : ℤ) → IsOk (look t id) → identifier (index_of id) (entry_at t (index_of id)).destroyed ≡ number_of id
+  pub live_number : (t : List (Entry T)) (id : ℤ) → IsOk (look t id) → identifier (index_of id) (entry_at t (index_of id)).destroyed ≡ natural_of id
   live_number t (negsuc n) ok = absurd (true≢false (sym ok))
   live_number t (pos n) ok = grind (arith, common_steps, look-entry)
 
@@ -53,5 +53,5 @@ module _ {T : Type 0} where
     pub there : (entry_at t (n % 32768)).row ≡ Some (record { key = key_at t (n % 32768); value = v })
     pub own : identifier (n % 32768) (entry_at t (n % 32768)).destroyed ≡ n
 
-  pub live_row : (t : List (Entry T)) (n : ℕ) (v : T) → look t (pos n) ≡ Ok v → LiveRow t n v
-  live_row t n v looked = grind (arith, common_steps, look-entry)
+  pub live_looked : (t : List (Entry T)) (n : ℕ) (v : T) → look t (pos n) ≡ Ok v → LiveRow t n v
+  live_looked t n v looked = grind (arith, common_steps, look-entry)

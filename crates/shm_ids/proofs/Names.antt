@@ -9,7 +9,7 @@ pub use Rattle.std.proofs.lemmas.List.{get_or-set_same, get_or-set_other, get_or
 pub use Rattle.std.specs.Option.{unwrap_or}
 pub use Rattle.std.proofs.lemmas.Option.{slice_get-map, unwrap_or-slice_get}
 pub use Rattle.std.proofs.lemmas.Bool.{cases_eq}
-pub use Rattle.shm_ids.specs.Flat.{flat_entry, flat_from, flat_table, flat_answer, flat_look, flat_found, ShowsKeys, number_of}
+pub use Rattle.shm_ids.specs.Flat.{flat_entry, flat_from, flat_table, flat_answer, flat_look, flat_found, ShowsKeys, natural_of}
 pub use Rattle.shm_ids.specs.Sound.{UsedBelow, Keyed, holds, Sound}
 pub use Rattle.indexmap.specs.IndexMap.{IndexMap, get}
 pub use Rattle.shm_ids.specs.Rows.{rows_from, rows_row, Left}

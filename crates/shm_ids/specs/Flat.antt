@@ -9,9 +9,9 @@ use Rattle.shm_ids.specs.declared.table.LookRefused.TheVariants.{Removed, Invali
 use Rattle.shm_ids.specs.Table.{identifier, key_at, index_of}
 
 -- the number that an identifier is
-abbrev pub number_of : ℤ → ℕ
-number_of (pos n) = n
-number_of (negsuc n) = 0
+abbrev pub natural_of : ℤ → ℕ
+natural_of (pos n) = n
+natural_of (negsuc n) = 0
 
 -- `make` shows the segment of a row under an identifier
 module _ {T : Type 0} (make : ℕ → Row T → Segment) where
@@ -34,7 +34,7 @@ module _ {T : Type 0} (make : ℕ → Row T → Segment) where
 
   -- what it says of an identifier
   abbrev pub flat_look : List (Entry T) → ℤ → Result T LookRefused → flat.Look
-  flat_look t id r = flat_answer (index_of id) (number_of id) (key_at t (index_of id)) r
+  flat_look t id r = flat_answer (index_of id) (natural_of id) (key_at t (index_of id)) r
 
   -- what it says of a key, by the index that the table answers and the entries that stand there
   abbrev pub flat_found : (ℕ → Entry T) → Option ℕ → flat.Look

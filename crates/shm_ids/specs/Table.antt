@@ -109,5 +109,5 @@ module _ {T : Type 0} where
   without_row table i = set table i (record { destroyed = (entry_at table i).destroyed + 1; row = None })
 
 -- what an insert answers, and the table that it leaves; nothing where no index is free
-abbrev pub inserted : {T : Type 0} → List (Entry T) → ℕ → T → Option (ℤ × List (Entry T))
-inserted table key value = option_map (λ i. (id_at table i, with_row table i key value)) (free_index table)
+abbrev pub row_inserted : {T : Type 0} → List (Entry T) → ℕ → T → Option (ℤ × List (Entry T))
+row_inserted table key value = option_map (λ i. (id_at table i, with_row table i key value)) (free_index table)

@@ -100,7 +100,7 @@ impl<T> Model for IdTable<T> {
 ghost use Rattle.std.specs.Prelude.{◌≢◌, vec_capacity, nat_eq, ◌&&◌, not, if◌then◌else◌};
 ghost use Rattle.indexmap.specs.IndexMap.{get, spare};
 ghost use Rattle.shm_base.specs.Identifier as flat;
-ghost use Rattle.shm_ids.specs.Table.{free_index, shown, find_key, look, id_at, identifier, index_of, inserted, with_row, with_key, without_row, entry_at, key_at, look_row};
+ghost use Rattle.shm_ids.specs.Table.{free_index, shown, find_key, look, id_at, identifier, index_of, row_inserted, with_row, with_key, without_row, entry_at, key_at, look_row};
 
 // The least free index from `first` on.
 fn free_from<T>(entries: &Vec<Entry<T>>, first: usize) -> Option<usize>
@@ -163,8 +163,7 @@ fn put_row<T: Drop>(entries: &mut Vec<Entry<T>>, index: usize, key: u32, value: 
 {
     let row = Some(Row { key, value });
     if index == entries.len() {
-        let pushed = entries.push(Entry { destroyed: 0, row });
-        prove!(pushed.is_ok());
+        entries.push_reserved(Entry { destroyed: 0, row });
         return id_of(index, 0);
     }
     let entry = &mut entries[index];
@@ -241,7 +240,7 @@ fn take_row<T>(entries: &mut Vec<Entry<T>>, index: usize) -> Row<T>
 }
 
 impl<T> Entry<T> {
-    ghost use Rattle.shm_ids.specs.Table.{look_entry};
+    ghost use Rattle.shm_ids.specs.Table.{look_entry, row_key};
     ghost use Rattle.shm_ids.specs.Lends.{lends_entry};
     ghost use Rattle.shm_ids.specs.Rows.{row_listed};
     ghost use Rattle.shm_ids.specs.Sound.{holds};
@@ -269,15 +268,16 @@ impl<T> Entry<T> {
         }
     }
 
-    fn look(&self, sequence: u32) -> Result<&T, LookRefused>
-        ensures ok { IfOk result (λ v. look_entry sequence self.now ≡ Ok v.now) }
+    fn look(&self, sequence: u32) -> Result<&Row<T>, LookRefused>
+        ensures ok { IfOk result (λ r. look_entry sequence self.now ≡ Ok r.now.value) }
+        ensures key { IfOk result (λ r. r.now.key ≡ row_key self.now.row) }
         ensures err { IfErr result (λ e. look_entry sequence self.now ≡ Err e) }
     {
         if sequence < self.destroyed {
             return Err(LookRefused::Removed);
         }
         match &self.row {
-            Some(row) if sequence == self.destroyed => Ok(&row.value),
+            Some(row) if sequence == self.destroyed => Ok(row),
             _ => Err(LookRefused::Invalid),
         }
     }
@@ -336,7 +336,7 @@ impl<T: Drop> IdTable<T> {
     /// before, nothing grows.
     pub fn insert(&mut self, key: u32, value: T) -> Result<ShmId, (T, InsertRefused)>
         requires absent { find_key self.old key ≡ None }
-        ensures ok { IfOk result (λ id. inserted self.old key value ≡ Some (id, self.new)) }
+        ensures ok { IfOk result (λ id. row_inserted self.old key value ≡ Some (id, self.new)) }
         ensures index { IfOk result (λ id. free_index self.old ≡ Some (index_of id)) }
         ensures fresh { IfOk result (λ id. look self.old id ≡ Err LookRefused.Invalid) }
         ensures few { OnOk result (length self.new ≤ 32768) }
@@ -389,10 +389,11 @@ impl<T: Drop> IdTable<T> {
         }
     }
 
-    /// The value under an identifier: `Removed` where its row was destroyed, `Invalid` where the
-    /// identifier was never issued.
-    pub fn look(&self, id: ShmId) -> Result<&T, LookRefused>
-        ensures ok { IfOk result (λ v. look self.now id ≡ Ok v.now) }
+    /// The row under an identifier: `Removed` where it was destroyed, `Invalid` where the identifier was
+    /// never issued.
+    pub fn look(&self, id: ShmId) -> Result<&Row<T>, LookRefused>
+        ensures ok { IfOk result (λ r. look self.now id ≡ Ok r.now.value) }
+        ensures key { IfOk result (λ r. r.now.key ≡ key_at self.now (index_of id)) }
         ensures err { IfErr result (λ e. look self.now id ≡ Err e) }
     {
         if id < 0 {
@@ -404,15 +405,14 @@ impl<T: Drop> IdTable<T> {
         }
     }
 
-    /// The key of a live row, 0 where it has none.
-    pub fn key_of(&self, id: ShmId) -> u32
-        requires live { IsOk (look self.now id) }
-        ensures { result ≡ key_at self.now (index_of id) }
+    /// A live row's number as its identifier. Each such number is below 2^31.
+    pub fn live_id(&self, number: u32) -> ShmId
+        requires live { IsOk (look self.now (pos number)) }
+        ensures { result ≡ pos number }
     {
-        match &self.entries[index_in(id)].row {
-            Some(row) => row.key,
-            None => unreachable!(),
-        }
+        // A field is named, so that the bound that the table keeps is known here.
+        let _ = &self.entries;
+        number as ShmId
     }
 
     fn value_mut(&mut self, index: usize) -> &mut T
@@ -433,7 +433,7 @@ impl<T: Drop> IdTable<T> {
         self.value_mut(index_in(id))
     }
 
-    /// As `look`, for writing. A write changes that row's value alone.
+    /// The value of the row that `look` finds, for writing. A write changes that row's value alone.
     pub fn look_mut(&mut self, id: ShmId) -> Result<&mut T, LookRefused>
         ensures* lends { sem 𝓛 (lends_look T.row self.entry id result) }
         ensures ok { IfOk result (λ v. look self.old id ≡ Ok v.now) }

@@ -1,5 +1,5 @@
 -- By how much each move changes how many pieces there are.
-use Rattle.shm_laws.proofs.Names.{◌≡◌, ◌≢◌, ◌⊎◌, ℕ, ◌+◌, ◌<◌, ◌==◌, ℤ, pos, Bool, true, false, not, if◌then◌else◌, List, [], ◌∷◌, Option, Some, slice_set, refl, sym, ap, ◌∙◌, inl, inr, arith, common_steps, filter, flat_map-cons, none-some, ShmidDs, Call, Shmat, Shmdt, Fork, Exec, Exit, Addr, Done, Event, AtFlags, Piece, Live, Runner, Machine, Look, look, occupied, cut, origin_of, is_named, without_named, pieces_of, attach_count, Caller, Outcome, caller_of, acts, step_by, is_remap, stat, gives, is_refusal, IsMove, one_more, pieces_of-inserted, pieces_of-filter, sum-set, held, hands_pieces, CountsPieces, pieces_of_caller}
+use Rattle.shm_laws.proofs.Names.{◌≡◌, ◌≢◌, ◌⊎◌, ℕ, ◌+◌, ◌<◌, ◌==◌, ℤ, pos, Bool, true, false, not, if◌then◌else◌, List, [], ◌∷◌, Option, Some, slice_set, refl, sym, ap, ◌∙◌, inl, inr, arith, common_steps, filter, flat_map-cons, none-some, ShmidDs, Call, Shmat, Shmdt, Fork, Exec, Exit, Addr, Done, Event, AtFlags, Piece, Live, Runner, Machine, Look, look, occupied, cut, origin_of, is_named, without_named, pieces_of, attach_count, Caller, Outcome, caller_of, acts, step_by, is_remap, stat, gives, is_refusal, IsMove, one_more, pieces_of-inserted, pieces_of-filter, sum-set, piece_count, hands_pieces, CountsPieces, pieces_of_caller}
 use Rattle.shm_base.specs.declared.call.Call.TheVariants as calls
 use Rattle.shm_base.specs.declared.call.Reply.TheVariants as replies
 use Rattle.shm_laws.proofs.Handing.{Takes, caller-at, Rests, Attaches, Leaves, Forks, Hands, none-stay, hands-acts}
@@ -52,17 +52,17 @@ module _ (s : Machine) (pid : ℕ) (c : Caller) (live : caller_of s pid ≡ Some
       let place : at.place ≡ c.index = omega (arith, at.at) in
       sum-set (λ (y : Runner). pieces_of j y.pieces) s.runners c.index r (record { pid = pid; life = Live c.cred; pieces = c.pieces }) (rw place at at.there)
 
-  mine : (j : ℕ) → held s pid j ≡ pieces_of j c.pieces
+  mine : (j : ℕ) → piece_count s pid j ≡ pieces_of j c.pieces
   mine j = ap (λ h. pieces_of j (pieces_of_caller h)) live
 
   attach-counts : Hands s c call o → (id addr base : ℕ) (flags : AtFlags) → call ≡ Shmat (pos id) addr flags → o.reply ≡ Addr base → is_remap flags ≡ false
       → (j : ℕ) → attach_count o.state.runners j ≡ attach_count s.runners j + (if id == j then 1 else 0)
   attach-counts h1 id addr base flags asked answer plain j = grind (arith, cut-free, pieces_of-inserted, swap, no-rest)
 
-  fork-counts : Hands s c call o → (child : ℕ) → call ≡ Fork child → o.reply ≡ Done → (j : ℕ) → attach_count o.state.runners j ≡ attach_count s.runners j + held s pid j
+  fork-counts : Hands s c call o → (child : ℕ) → call ≡ Fork child → o.reply ≡ Done → (j : ℕ) → attach_count o.state.runners j ≡ attach_count s.runners j + piece_count s pid j
   fork-counts h1 child asked answer j = grind (arith, common_steps, unborn-bare, sum-set, mine, no-rest, no-fork)
 
-  left-counts : Hands s c call o → (call ≡ Exec) ⊎ (call ≡ Exit) → o.reply ≡ Done → (j : ℕ) → attach_count o.state.runners j + held s pid j ≡ attach_count s.runners j
+  left-counts : Hands s c call o → (call ≡ Exec) ⊎ (call ≡ Exit) → o.reply ≡ Done → (j : ℕ) → attach_count o.state.runners j + piece_count s pid j ≡ attach_count s.runners j
   left-counts h1 which answer j = grind (arith, common_steps, none-stay, swap, mine, no-rest, all-hands)
 
   abbrev Loses : Type 0

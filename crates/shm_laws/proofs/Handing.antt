@@ -35,7 +35,7 @@ pub record Attaches (s : Machine) (c : Caller) (call : Call) (o : Outcome) : Typ
   pub segment : Segment
   pub asked : call ≡ Shmat (pos seg) addr flags
   pub stands : Stands s seg segment
-  pub leave : grants c.cred segment.perm (at_wish flags) ≡ true
+  pub permitted : grants c.cred segment.perm (at_wish flags) ≡ true
   pub page : All IsAligned c.pieces → base % 4096 ≡ 0
   pub free : is_remap flags ≡ false → occupied c.pieces base (base + 4096 * pages_in segment) ≡ false
   pub answer : o.reply ≡ Addr base
@@ -111,8 +111,8 @@ module _ (s : Machine) (n : ℕ) (c : Caller) where
   rests : (call : Call) (o : Outcome) → hands_pieces call ≡ false → o.state.runners ≡ s.runners → Hands s c call o
   rests call o why same = inl (record { why = inl why; runners = same })
 
-  -- of a call that asks for a segment that stands, and has leave
-  module _ (call : Call) (seg at : ℕ) (flags : AtFlags) (x : Segment) (asked : call ≡ Shmat (pos seg) at flags) (there : Stands s seg x) (leave : grants c.cred x.perm (at_wish flags) ≡ true) where
+  -- of a call that asks for a segment that stands, and has the permission
+  module _ (call : Call) (seg at : ℕ) (flags : AtFlags) (x : Segment) (asked : call ≡ Shmat (pos seg) at flags) (there : Stands s seg x) (permitted : grants c.cred x.perm (at_wish flags) ≡ true) where
     hands-attaches : (base : ℕ) → (All IsAligned c.pieces → base % 4096 ≡ 0) → (is_remap flags ≡ false → occupied c.pieces base (base + 4096 * pages_in x) ≡ false)
         → Hands s c call (attaches s n c seg x flags base)
     hands-attaches base page free =
@@ -125,7 +125,7 @@ module _ (s : Machine) (n : ℕ) (c : Caller) where
           segment = x;
           asked = asked;
           stands = there;
-          leave = leave;
+          permitted = permitted;
           page = page;
           free = free;
           answer = refl;
@@ -152,10 +152,10 @@ module _ (s : Machine) (n : ℕ) (c : Caller) where
       let asked : Shmat (pos m) at flags ≡ Shmat (pos (identifier i (destroyed_at s.table i))) at flags = ap (λ k. Shmat (pos k) at flags) (sym own) in
       pick_by (Hands s c (Shmat (pos m) at flags)) (not (grants c.cred x.perm (at_wish flags))) _ _ (λ h. refused _ _)
       (λ h.
-      let leave = not-false (grants c.cred x.perm (at_wish flags)) h in
+      let permitted = not-false (grants c.cred x.perm (at_wish flags)) h in
       pick (Hands s c (Shmat (pos m) at flags)) (addr == 0) _ _
-      (hands-chosen _ _ at flags x asked there leave (choose c.pieces (pages_in x)) refl)
-      (hands-fixed _ _ at flags x asked there leave (addr - addr % 4096) (omega arith)))
+      (hands-chosen _ _ at flags x asked there permitted (choose c.pieces (pages_in x)) refl)
+      (hands-fixed _ _ at flags x asked there permitted (addr - addr % 4096) (omega arith)))
 
   hands-look : (id : ℤ) (flags : AtFlags) (addr : ℕ) → Hands s c (Shmat id addr flags) (attaches_found s n c flags addr (look s.table id))
   hands-look (pos m) flags addr = hands-found m flags addr addr (look s.table (pos m)) refl

@@ -43,8 +43,8 @@ pub use Rattle.shm_segments.specs.Table.{segment_in}
 pub use Rattle.shm_laws.specs.Identity.{IsMadeBy, IsSame, KeepsNames, NamesAnew, NamesOneSegment, StandsAs}
 pub use Rattle.shm_laws.specs.Isolation.{DifferIn, HasNone, IsAsked, IsBlindOn, IsIsolated, IsPrivate, veil, veiled, veiled_entry, veiled_from}
 pub use Rattle.shm_laws.specs.Lawful.{IsLawful}
-pub use Rattle.shm_laws.specs.Leave.{GoesBack, Granted, Inherited, IsGranted, IsInherited, IsPart, KeepsOut, Kept, NoWayIn, OwnerAsks, Reach, StaysInside, controlled, reach}
-pub use Rattle.shm_laws.specs.Pieces.{CountsPieces, GivesPieces, PiecesAreOfSegments, PiecesNameWhatStands, hands_pieces, held}
+pub use Rattle.shm_laws.specs.Permission.{GoesBack, Granted, Inherited, IsGranted, IsInherited, IsPart, KeepsOut, Kept, NoWayIn, OwnerAsks, Reach, StaysInside, controlled, reach}
+pub use Rattle.shm_laws.specs.Pieces.{CountsPieces, GivesPieces, PiecesAreOfSegments, PiecesNameWhatStands, hands_pieces, piece_count}
 pub use Rattle.shm_laws.specs.Removal.{DestroysWhatIsDue, GoesWhenItMust, IsDue, MarkedHavePieces}
 pub use Rattle.shm_laws.specs.Replay.{IsReplayed, undone, without_failures}
 pub use Rattle.shm_laws.specs.Standing.{Always, Began, EachPiece, Has, IsGone, Lasted, MomentsBy, MovesBy, Since, Stands}

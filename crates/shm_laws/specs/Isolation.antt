@@ -6,7 +6,7 @@ use Rattle.shm_base.specs.Identifier.{identifier}
 use Rattle.shm_base.specs.History.{IsMove, LeadsFrom}
 use Rattle.shm_history.specs.WorldState.{failures_in}
 use Rattle.shm_laws.specs.Standing.{Has, IsMoment, EachTurn}
-use Rattle.shm_laws.specs.Leave.{Reach, reach}
+use Rattle.shm_laws.specs.Permission.{Reach, reach}
 
 -- a segment with as many zeros in place of its bytes, where they are hidden
 abbrev pub veiled : Bool → Segment → Segment

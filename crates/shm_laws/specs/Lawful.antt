@@ -5,7 +5,7 @@ use Rattle.shm_base.specs.State.{Machine, Opening}
 use Rattle.shm_laws.specs.Writing.{HasLastWriters}
 use Rattle.shm_laws.specs.Identity.{NamesOneSegment}
 use Rattle.shm_laws.specs.Removal.{GoesWhenItMust}
-use Rattle.shm_laws.specs.Leave.{NoWayIn}
+use Rattle.shm_laws.specs.Permission.{NoWayIn}
 use Rattle.shm_laws.specs.Isolation.{IsIsolated}
 use Rattle.shm_laws.specs.Pieces.{PiecesAreOfSegments}
 use Rattle.shm_laws.specs.Replay.{IsReplayed}
@@ -14,7 +14,7 @@ pub record IsLawful (o : Opening) (events : List Event) (end : Machine) : Type 0
   pub writers : HasLastWriters o events end
   pub identity : NamesOneSegment o events end
   pub removal : GoesWhenItMust o events end
-  pub leave : NoWayIn o events end
+  pub permission : NoWayIn o events end
   pub isolation : IsIsolated o events end
   pub pieces : PiecesAreOfSegments o events end
   pub replay : IsReplayed o events end

@@ -3,7 +3,7 @@ pub mod Standing
 pub mod Removal
 pub mod Identity
 pub mod Pieces
-pub mod Leave
+pub mod Permission
 pub mod Writing
 pub mod Isolation
 pub mod Lawful

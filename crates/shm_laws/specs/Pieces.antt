@@ -26,8 +26,8 @@ pub record GivesPieces (s : Machine) (e : Event) (t : Machine) : Type 0 where
   pub after : PiecesNameWhatStands t
 
 -- how many pieces of the segment the process has
-abbrev pub held : Machine → ℕ → ℕ → ℕ
-held s pid id = pieces_of id (pieces_of_caller (caller_of s pid))
+abbrev pub piece_count : Machine → ℕ → ℕ → ℕ
+piece_count s pid id = pieces_of id (pieces_of_caller (caller_of s pid))
 
 -- whether the call may change who has which piece
 abbrev pub hands_pieces : Call → Bool
@@ -46,8 +46,8 @@ pub record CountsPieces (s : Machine) (e : Event) (t : Machine) : Type 0 where
   pub attached :
       (id addr base : ℕ) (flags : AtFlags) → e.call ≡ Shmat (pos id) addr flags → e.reply ≡ Addr base → is_remap flags ≡ false
       → (k : ℕ) → attach_count t.runners k ≡ attach_count s.runners k + (if id == k then 1 else 0)
-  pub forked : (child : ℕ) → e.call ≡ Fork child → e.reply ≡ Done → (k : ℕ) → attach_count t.runners k ≡ attach_count s.runners k + held s e.pid k
-  pub left : (e.call ≡ Exec) ⊎ (e.call ≡ Exit) → e.reply ≡ Done → (k : ℕ) → attach_count t.runners k + held s e.pid k ≡ attach_count s.runners k
+  pub forked : (child : ℕ) → e.call ≡ Fork child → e.reply ≡ Done → (k : ℕ) → attach_count t.runners k ≡ attach_count s.runners k + piece_count s e.pid k
+  pub left : (e.call ≡ Exec) ⊎ (e.call ≡ Exit) → e.reply ≡ Done → (k : ℕ) → attach_count t.runners k + piece_count s e.pid k ≡ attach_count s.runners k
   pub detached :
       (addr : ℕ) → e.call ≡ Shmdt addr → e.reply ≡ Done
       → (id : ℕ) × (attach_count t.runners id < attach_count s.runners id) × ((k : ℕ) → k ≢ id → attach_count t.runners k ≡ attach_count s.runners k)

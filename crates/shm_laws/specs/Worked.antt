@@ -13,7 +13,7 @@ use Rattle.shm_base.specs.Segments.{attach_count}
 use Rattle.shm_base.specs.Step.{step}
 use Rattle.shm_laws.specs.Standing.{IsGone}
 use Rattle.shm_laws.specs.Replay.{without_failures}
-use Rattle.shm_laws.specs.Pieces.{held}
+use Rattle.shm_laws.specs.Pieces.{piece_count}
 use Rattle.shm_laws.specs.Writing.{IsByte}
 use Rattle.shm_laws.specs.Isolation.{DifferIn}
 
@@ -94,11 +94,11 @@ PiecesWorked =
     × (attach_count (after_two_go 7).runners 1 ≡ 0)
     × (attach_count (after_two_go 2).runners 0 ≡ 0)
     × (attach_count (after_two_go 3).runners 0 ≡ 1)
-    × (held (after_two_go 7) 2 0 ≡ 1)
+    × (piece_count (after_two_go 7) 2 0 ≡ 1)
     × (attach_count (after_two_go 8).runners 0 ≡ 0)
 
--- LEAVE: another user may read, its process attaches for reading and has a child; the segment's owner then takes leave back,
--- which counts at the next shmat alone
+-- PERMISSION: another user may read, its process attaches for reading and has a child; the segment's owner then takes the
+-- permission back, which counts at the next shmat alone
 
 abbrev pub three : Opening
 three = record opening { processes = process 1 100 100 ∷ process 2 200 200 ∷ child 3 ∷ [] }
@@ -124,8 +124,8 @@ read_only = record { base = 0x40000000; seg = 0; first_page = 0; pages = 1; writ
 
 -- it is legal; nobody has a piece before the shmat that was granted; the child has the piece of its parent, as read-only
 -- as that, and to the end
-abbrev pub LeaveWorked : Type 0
-LeaveWorked =
+abbrev pub PermissionWorked : Type 0
+PermissionWorked =
     IsLegal three others_read
     × (pieces_now three others_read 2 1 ≡ Some [])
     × (pieces_now three others_read 3 1 ≡ Some (read_only ∷ []))

@@ -4,7 +4,7 @@
 mod identity;
 mod isolation;
 mod laws;
-mod leave;
+mod permission;
 mod pieces;
 mod removal;
 mod replay;
@@ -14,7 +14,7 @@ mod writing;
 pub use identity::named_once;
 pub use isolation::isolated;
 pub use laws::lawful;
-pub use leave::kept_out;
+pub use permission::kept_out;
 pub use pieces::pieces_stand;
 pub use removal::removed_in_time;
 pub use replay::replayed;

@@ -5,7 +5,7 @@ fn worked_histories()
     ensures replay { worked.ReplayWorked }
     ensures removal { worked.RemovalWorked }
     ensures pieces { worked.PiecesWorked }
-    ensures leave { worked.LeaveWorked }
+    ensures permission { worked.PermissionWorked }
     ensures writing { worked.WritingWorked }
     ensures isolation { worked.IsolationWorked }
 {}

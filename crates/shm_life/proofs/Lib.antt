@@ -10,5 +10,5 @@ pub mod Opens
 pub mod Created
 pub mod Changed
 pub mod Going
-pub mod Shmat
+pub mod Attaching
 pub mod Reserved

@@ -44,7 +44,7 @@ pub use Rattle.shm_fault.specs.Segs.{SegRec, find_seg}
 pub use Rattle.shm_fault.specs.Sound.{IsStoreSound}
 pub use Rattle.shm_fault.specs.Steps.{MovesLead}
 pub use Rattle.shm_fault.specs.Store.{StoreView, frame_of, held_by, used}
-pub use Rattle.shm_fault.specs.declared.touched.Move.{Move}
+pub use Rattle.shm_fault.specs.declared.touched.PageMove.{PageMove}
 pub use Rattle.shm_fault.specs.declared.touched.Touched.{Touched}
 pub use Rattle.shm_ids.proofs.Flat.{change-index}
 pub use Rattle.shm_pager.specs.Pages.{pager_seen}
@@ -67,8 +67,8 @@ pub use Rattle.shm_life.specs.Address.{misplaced}
 pub use Rattle.shm_life.specs.Kept.{IsKeptBut, IsMachineKept, IsWell, IsWellBut}
 pub use Rattle.shm_life.specs.MachineView.{KeepsOn}
 pub use Rattle.shm_life.specs.Orphans.{OrphansAmong, Sweeps, is_among}
-pub use Rattle.shm_life.specs.Placing.{base_for, chosen, if_few, lost_to, piece_for, pieces_after, placed, placed_at, placed_found, placed_outcome, wished}
+pub use Rattle.shm_life.specs.Placing.{base_for, gap_found, if_few, lost_to, piece_for, pieces_after, placed, placed_at, placed_found, placed_outcome, wished}
 pub use Rattle.shm_life.specs.Start.{are_pids, are_sizes, start_error}
 pub use Rattle.shm_base.specs.Processes.{has_pid}
 pub use Rattle.shm_life.specs.Tied.{PieceFits, PiecesFit}
-pub use Rattle.shm_life.specs.declared.attach.Placed.{Placed}
+pub use Rattle.shm_life.specs.declared.shmat.Placed.{Placed}

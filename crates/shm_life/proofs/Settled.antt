@@ -1,5 +1,5 @@
 -- What is kept through calls that take pieces out, and through those that put pieces in.
-use Rattle.shm_life.proofs.Names.{nat_tests, ◌≡◌, ℕ, zero, suc, ◌+◌, ◌<◌, take, Bool, List, [], ◌∷◌, length, get_or, filter, Some, None, refl, sym, ap, ◌∙◌, arith, All-nil, All-map, All-filter, none-some, All, find, Bounds, Piece, Live, Entry, Runner, Span, meets, cut_segments, has_origin, origin_of, StoreView, Move, Touched, MovesLead, Accessed, answer_of, Translation, AreTrue, IsCaller, pieces_at, caller_there, IsLive, orphan, id_at, change, detached, detach_all, SameTable, detach_all-same, PieceFits, PiecesFit, is_among, OrphansAmong, IsKeptBut, IsWellBut, IsWell}
+use Rattle.shm_life.proofs.Names.{nat_tests, ◌≡◌, ℕ, zero, suc, ◌+◌, ◌<◌, take, Bool, List, [], ◌∷◌, length, get_or, filter, Some, None, refl, sym, ap, ◌∙◌, arith, All-nil, All-map, All-filter, none-some, All, find, Bounds, Piece, Live, Entry, Runner, Span, meets, cut_segments, has_origin, origin_of, StoreView, PageMove, Touched, MovesLead, Accessed, answer_of, Translation, AreTrue, IsCaller, pieces_at, caller_there, IsLive, orphan, id_at, change, detached, detach_all, SameTable, detach_all-same, PieceFits, PiecesFit, is_among, OrphansAmong, IsKeptBut, IsWellBut, IsWell}
 use Rattle.std.proofs.Common.{map, slice_get, Option, option_map}
 use Rattle.std.specs.Prelude.{Result, Ok, Err}
 use Rattle.shm_attach.specs.declared.process.Caller.{Caller}
@@ -20,7 +20,7 @@ pub still-well : {lost : List ℕ} (limits : Bounds) (t u : List Entry) (rs : Li
 still-well limits t u rs ts us m n w same frames all = record { kept = settled-table limits t u rs w.kept same; frames = frames ∙ w.frames; room = w.room; translated = all }
 
 -- nor an access, whose moves were noted
-pub noted-well : (limits : Bounds) (t u : List Entry) (rs after : List Runner) (ts us : List Translation) (m n : StoreView) (ms : List Move) → IsWell limits t rs ts m → SameTable t u → length n.frames ≡ length m.frames
+pub noted-well : (limits : Bounds) (t u : List Entry) (rs after : List Runner) (ts us : List Translation) (m n : StoreView) (ms : List PageMove) → IsWell limits t rs ts m → SameTable t u → length n.frames ≡ length m.frames
     → after ≡ rs → ((a b : StoreView) → AreTrue ts a → MovesLead ms a b → AreTrue us b) → MovesLead ms m n → IsWell limits u after us n
 noted-well limits t u rs after ts us m n ms w same frames runners noted moved = rw runners (still-well limits t u rs ts us m n w same frames (noted m n w.translated moved))
 

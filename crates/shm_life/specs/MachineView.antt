@@ -7,7 +7,7 @@ use Rattle.shm_base.specs.Segments as flat
 use Rattle.shm_slots.specs.View.{sizes, slots}
 use Rattle.shm_slots.specs.Cause.{GoesOn, had_cause}
 use Rattle.shm_fault.specs.Store.{StoreView, used}
-use Rattle.shm_fault.specs.Steps.{Kept}
+use Rattle.shm_fault.specs.Steps.{LockedPagesStay}
 use Rattle.shm_fault.specs.Sound.{IsStoreSound}
 use Rattle.shm_segments.specs.View.{ShowsTable}
 
@@ -18,7 +18,7 @@ pub record MachineView : Type 0 where
 -- what every call and every flush keeps of the memory: pages of locked segments stay resident, and counts
 -- of failures never fall
 pub record KeepsOn (before after : StoreView) : Type 0 where
-  pub kept : Kept before after
+  pub kept : LockedPagesStay before after
   pub goes_on : GoesOn before.swap after.swap
 
 -- a pager failed where the flat machine refuses nothing, and its state stays

@@ -13,11 +13,11 @@ use Rattle.shm_base.specs.Step.{Caller, Outcome, gives, refuses, with_pieces, is
 use Rattle.shm_areas.specs.Fixed.{fixed}
 use Rattle.shm_attach.specs.Place.{new_piece}
 use Rattle.shm_life.specs.Address.{misplaced}
-use Rattle.shm_life.specs.declared.attach.Placed.{Placed}
+use Rattle.shm_life.specs.declared.shmat.Placed.{Placed}
 
-abbrev pub chosen : Option ℕ → Result ℕ Errno
-chosen None = Err Enomem
-chosen (Some base) = Ok base
+abbrev pub gap_found : Option ℕ → Result ℕ Errno
+gap_found None = Err Enomem
+gap_found (Some base) = Ok base
 
 -- no process has more than 256 pieces
 abbrev pub if_few : List Piece → ℕ → Result ℕ Errno → Result ℕ Errno
@@ -26,7 +26,7 @@ if_few ps pages (Ok base) = if nat_lt 256 (length (cut base (base + 4096 * pages
 
 -- where so many pages would go: where the system chooses, or at the address, rounded down
 abbrev pub wished : List Piece → ℕ → AtFlags → ℕ → Result ℕ Errno
-wished ps pages flags addr = if addr == 0 then chosen (choose ps pages) else fixed ps addr pages flags
+wished ps pages flags addr = if addr == 0 then gap_found (choose ps pages) else fixed ps addr pages flags
 
 abbrev pub base_for : List Piece → ℕ → AtFlags → ℕ → Result ℕ Errno
 base_for ps pages flags addr = if_few ps pages (wished ps pages flags addr)

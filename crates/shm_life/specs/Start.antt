@@ -29,9 +29,9 @@ start_error areas processes =
 abbrev pub IsFirstError : StartError → Option StartError → Type 0
 IsFirstError e first = (first ≡ Some e) ⊎ ((e ≡ HostMemory) × (first ≡ None))
 
-abbrev pub number_of : StartError → ℕ
-number_of Areas = 1
-number_of AreaSize = 2
-number_of Processes = 3
-number_of Pid = 4
-number_of HostMemory = 5
+abbrev pub error_number : StartError → ℕ
+error_number Areas = 1
+error_number AreaSize = 2
+error_number Processes = 3
+error_number Pid = 4
+error_number HostMemory = 5

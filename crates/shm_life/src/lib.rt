@@ -2,17 +2,18 @@
 #![tactic(auto)]
 
 mod access;
-mod attach;
-mod control;
-mod detach;
+mod exec_exit;
 mod fork;
-mod get;
 mod kernel;
-mod leave;
+mod shmat;
+mod shmctl;
+mod shmdt;
+mod shmget;
 mod shown;
 mod start;
 mod swapoff;
+mod sweep;
 mod system;
 
-pub use start::StartError;
+pub use start::{StartError, first_area_error};
 pub use system::{Opening, System};

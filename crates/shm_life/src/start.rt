@@ -1,6 +1,7 @@
 //! What a system starts from, and why a start is refused.
-ghost use Rattle.std.specs.Prelude.{◌≡◌, length, map};
-ghost use Rattle.shm_life.specs.Start.{start_error, are_sizes, are_pids, number_of};
+ghost use Rattle.std.specs.Prelude.{◌≡◌, ℕ, [], length, map};
+ghost use Rattle.std.specs.Fn.{FnReturnsAt};
+ghost use Rattle.shm_life.specs.Start.{start_error, are_pids, error_number};
 
 use shm_base::{LAST_PID, MOST_AREAS, MOST_PROCESSES, Process, has_pid, is_slot_count};
 use shm_pager::Pager;
@@ -27,7 +28,7 @@ pub enum StartError {
 impl StartError {
     /// The number by which the error goes in a message, from 1.
     pub fn number(self) -> u8
-        ensures { result ≡ number_of self }
+        ensures { result ≡ error_number self }
     {
         match self {
             StartError::Areas => 1,
@@ -39,15 +40,20 @@ impl StartError {
     }
 }
 
-fn are_sizes_sound<P: Pager>(pagers: &[P]) -> bool
-    ensures { result ≡ are_sizes (map (λ p. length (P.content p)) pagers.now) }
+/// The first start error of swap areas that holds, where `slots` gives an area's slots. It takes no memory.
+pub fn first_area_error<A, F: Fn(&A) -> u32>(areas: &[A], slots: F) -> Option<StartError>
+    requires { F.IsAlwaysCallable slots }
+    ensures { (size : A → ℕ) → ((a : A) (n : ℕ) → FnReturnsAt F.Fn slots a n → n ≡ size a) → result ≡ start_error (map size areas.now) [] }
 {
-    for pager in pagers {
-        if !is_slot_count(u64::from(pager.slots())) {
-            return false;
+    if areas.is_empty() || areas.len() > MOST_AREAS {
+        return Some(StartError::Areas);
+    }
+    for area in areas {
+        if !is_slot_count(u64::from(slots(area))) {
+            return Some(StartError::AreaSize);
         }
     }
-    true
+    None
 }
 
 fn are_pids_sound(processes: &[Process]) -> bool
@@ -68,11 +74,8 @@ fn are_pids_sound(processes: &[Process]) -> bool
 pub(crate) fn first_error<P: Pager>(pagers: &[P], processes: &[Process]) -> Option<StartError>
     ensures { result ≡ start_error (map (λ p. length (P.content p)) pagers.now) processes.now }
 {
-    if pagers.is_empty() || pagers.len() > MOST_AREAS {
-        return Some(StartError::Areas);
-    }
-    if !are_sizes_sound(pagers) {
-        return Some(StartError::AreaSize);
+    if let Some(error) = first_area_error(pagers, |pager| pager.slots()) {
+        return Some(error);
     }
     if processes.len() > MOST_PROCESSES {
         return Some(StartError::Processes);

@@ -1,6 +1,8 @@
 -- What pagers that show blank areas start as.
-use Rattle.std.proofs.Common.{◌≡◌, ◌⊎◌, ℕ, List, [], ◌∷◌, map, length, Some, refl, sym, ap, ◌∙◌, inl, inr, arith}
+use Rattle.std.proofs.Common.{◌≡◌, ◌≤◌, ◌⊎◌, ℕ, List, [], ◌∷◌, map, length, None, Some, refl, sym, ap, ◌∙◌, inl, inr, arith}
+use Rattle.std.proofs.lemmas.Bool.Decides.{nat_tests}
 use Rattle.std.proofs.lemmas.Grind.{common_steps}
+use Rattle.std.proofs.lemmas.List.{length-map}
 use Rattle.shm_base.specs.declared.call.Process.{Process}
 use Rattle.shm_pager.specs.Pages.{PagerView, pager_seen}
 use Rattle.shm_slots.specs.View.{fresh}
@@ -9,7 +11,7 @@ use Rattle.shm_life.specs.declared.start.StartError.{StartError}
 use Rattle.shm_life.specs.declared.start.StartError.TheVariants.{HostMemory}
 use Rattle.shm_machine.specs.declared.area.AreaPager.{AreaPager}
 use Rattle.shm_machine.specs.declared.opening.AreaConfig.{AreaConfig}
-use Rattle.shm_machine.specs.Areas.{blank, pages_in, failed_in}
+use Rattle.shm_machine.specs.Areas.{blank, area_pages, failed_in}
 use Rattle.shm_machine.specs.Opened.{sizes_of}
 
 abbrev blanks : List AreaConfig → List PagerView
@@ -23,15 +25,19 @@ blank-sizes : (areas : List AreaConfig) → map (λ (v : PagerView). length v.pa
 blank-sizes [] = refl
 blank-sizes (a ∷ areas) = grind (arith, common_steps, (blank-sizes areas))
 
-pub pager-sizes : (ps : List AreaPager) (areas : List AreaConfig) → map (pager_seen pages_in failed_in) ps ≡ blanks areas → map (λ (p : AreaPager). length (pages_in p)) ps ≡ sizes_of areas
+pub pager-sizes : (ps : List AreaPager) (areas : List AreaConfig) → map (pager_seen area_pages failed_in) ps ≡ blanks areas → map (λ (p : AreaPager). length (area_pages p)) ps ≡ sizes_of areas
 pager-sizes ps areas is =
-    map-after (λ (v : PagerView). length v.pages) (pager_seen pages_in failed_in) ps ∙ (ap (λ vs. map (λ (v : PagerView). length v.pages) vs) is ∙ blank-sizes areas)
+    map-after (λ (v : PagerView). length v.pages) (pager_seen area_pages failed_in) ps ∙ (ap (λ vs. map (λ (v : PagerView). length v.pages) vs) is ∙ blank-sizes areas)
 
-pub pager-areas : (ps : List AreaPager) (areas : List AreaConfig) → map (pager_seen pages_in failed_in) ps ≡ blanks areas
-    → map (λ (p : AreaPager). fresh (pager_seen pages_in failed_in p)) ps ≡ map (λ (a : AreaConfig). fresh (blank a.slots)) areas
+pub pager-areas : (ps : List AreaPager) (areas : List AreaConfig) → map (pager_seen area_pages failed_in) ps ≡ blanks areas
+    → map (λ (p : AreaPager). fresh (pager_seen area_pages failed_in p)) ps ≡ map (λ (a : AreaConfig). fresh (blank a.slots)) areas
 pager-areas ps areas is =
-    map-after fresh (pager_seen pages_in failed_in) ps ∙ (ap (λ vs. map fresh vs) is ∙ sym (map-after fresh (λ (a : AreaConfig). blank a.slots) areas))
+    map-after fresh (pager_seen area_pages failed_in) ps ∙ (ap (λ vs. map fresh vs) is ∙ sym (map-after fresh (λ (a : AreaConfig). blank a.slots) areas))
 
 pub first-error : (e : StartError) (sizes known : List ℕ) (processes : List Process) → sizes ≡ known → IsFirstError e (start_error sizes processes) → (e ≡ HostMemory) ⊎ (start_error known processes ≡ Some e)
 first-error e sizes known processes same (inl is) = inr (ap (λ ns. start_error ns processes) (sym same) ∙ is)
 first-error e sizes known processes same (inr none) = inl none.0
+
+-- areas without an error are few
+pub few-areas : (areas : List AreaConfig) → start_error (sizes_of areas) [] ≡ None → length areas ≤ 8
+few-areas areas none = grind (arith, common_steps, length-map, nat_tests)

@@ -56,10 +56,10 @@ fits Exit Done = true
 fits (Swapoff area) Done = true
 fits _ _ = false
 
--- the reply by which an answer is told, where there is one
-abbrev pub told : {A : Type 0} → (A → Reply) → Result A Refusal → Result Reply Refusal
-told reply_of (Ok a) = Ok (reply_of a)
-told reply_of (Err refusal) = Err refusal
+-- the reply that an answer was taken from, where there is one
+abbrev pub as_reply : {A : Type 0} → (A → Reply) → Result A Refusal → Result Reply Refusal
+as_reply reply_of (Ok a) = Ok (reply_of a)
+as_reply reply_of (Err refusal) = Err refusal
 
 -- a call that has no more to tell
 abbrev pub done : {A : Type 0} → A → Reply

@@ -9,10 +9,10 @@ use Rattle.shm_machine.specs.declared.area.AreaKind.{AreaKind}
 use Rattle.shm_machine.specs.declared.area.AreaKind.TheVariants as kinds
 
 -- the page in each slot
-abbrev pub pages_in : AreaPager → List (List ℕ)
-pages_in (Ram f) = f.inner.pages
-pages_in (Sparse f) = f.inner.pages
-pages_in (Mirror m) = pages_shown m
+abbrev pub area_pages : AreaPager → List (List ℕ)
+area_pages (Ram f) = f.inner.pages
+area_pages (Sparse f) = f.inner.pages
+area_pages (Mirror m) = pages_shown m
 
 -- how many reads and writes have failed
 abbrev pub failed_in : AreaPager → ℕ

@@ -1,7 +1,7 @@
 //! A swap area of one of the kinds, as one type.
 ghost use Rattle.std.specs.Prelude.{◌≡◌, IfOk, replicate};
 ghost use Rattle.shm_pager.specs.Pages.{zero_page};
-ghost use Rattle.shm_machine.specs.Areas.{pages_in, failed_in, FailsWhere, IsOfKind};
+ghost use Rattle.shm_machine.specs.Areas.{area_pages, failed_in, FailsWhere, IsOfKind};
 
 use shm_base::{HostMemory, PAGE_BYTES};
 use shm_pager::{FusePager, MirrorPager, Pager, PagerFault, RamPager, SparsePager};
@@ -57,7 +57,7 @@ impl AreaPager {
         left: Failing,
         right: Failing,
     ) -> Result<AreaPager, HostMemory>
-        ensures pages { IfOk result (λ p. pages_in p ≡ replicate slots zero_page) }
+        ensures pages { IfOk result (λ p. area_pages p ≡ replicate slots zero_page) }
         ensures failed { IfOk result (λ p. failed_in p ≡ 0) }
         ensures kind { IfOk result (λ p. IsOfKind kind slots left.reads.items left.writes.items p) }
     {
@@ -81,7 +81,7 @@ impl AreaPager {
 }
 
 impl Pager for AreaPager {
-    ghost content = { pages_in };
+    ghost content = { area_pages };
 
     ghost failed = { failed_in };
 

@@ -2,7 +2,7 @@
 ghost use Rattle.std.specs.Prelude.{◌≡◌, length, IfOk};
 ghost use Rattle.shm_base.specs.declared.call.Call.TheVariants as call;
 ghost use Rattle.shm_base.specs.declared.call.Reply.TheVariants as reply;
-ghost use Rattle.shm_machine.specs.Answered.{Answered, told};
+ghost use Rattle.shm_machine.specs.Answered.{Answered, as_reply};
 
 use crate::machine::Machine;
 use crate::refusal::Refusal;
@@ -18,7 +18,7 @@ impl Machine {
         mode: u16,
         flags: GetFlags,
     ) -> Result<ShmId, Refusal>
-        ensures { Answered self.old.system pid (call.Shmget key size mode flags) (told (λ i. reply.Id i) result) self.new.system }
+        ensures { Answered self.old.system pid (call.Shmget key size mode flags) (as_reply (λ i. reply.Id i) result) self.new.system }
     {
         match self.answer(
             pid,
@@ -37,7 +37,7 @@ impl Machine {
 
     /// shmat(2): the address at which the segment is attached.
     pub fn attach(&mut self, pid: u32, id: ShmId, addr: u64, flags: AtFlags) -> Result<u64, Refusal>
-        ensures { Answered self.old.system pid (call.Shmat id addr flags) (told (λ a. reply.Addr a) result) self.new.system }
+        ensures { Answered self.old.system pid (call.Shmat id addr flags) (as_reply (λ a. reply.Addr a) result) self.new.system }
     {
         match self.answer(pid, &Call::Shmat { id, addr, flags }) {
             Ok(Reply::Addr(at)) => Ok(at),
@@ -48,7 +48,7 @@ impl Machine {
 
     /// Reads bytes of attached memory.
     pub fn load(&mut self, pid: u32, addr: u64, len: AccessLen) -> Result<Chunk, Refusal>
-        ensures answered { Answered self.old.system pid (call.Load addr len) (told (λ b. reply.Bytes b) result) self.new.system }
+        ensures answered { Answered self.old.system pid (call.Load addr len) (as_reply (λ b. reply.Bytes b) result) self.new.system }
         ensures length { IfOk result (λ b. length b ≡ len) }
     {
         match &self.answer(pid, &Call::Load { addr, len }) {
@@ -60,7 +60,7 @@ impl Machine {
 
     /// shmctl(2), IPC_STAT: what the segment shows.
     pub fn stat(&mut self, pid: u32, id: ShmId) -> Result<ShmidDs, Refusal>
-        ensures { Answered self.old.system pid (call.Stat id) (told (λ s. reply.Stat s) result) self.new.system }
+        ensures { Answered self.old.system pid (call.Stat id) (as_reply (λ s. reply.Stat s) result) self.new.system }
     {
         match self.answer(pid, &Call::Stat { id }) {
             Ok(Reply::Stat(shown)) => Ok(shown),
@@ -71,7 +71,7 @@ impl Machine {
 
     /// Adds to eight little-endian bytes of attached memory modulo 2^64, and answers the number that stood there.
     pub fn add(&mut self, pid: u32, addr: u64, add: u64) -> Result<u64, Refusal>
-        ensures { Answered self.old.system pid (call.Xadd addr add) (told (λ n. reply.Number n) result) self.new.system }
+        ensures { Answered self.old.system pid (call.Xadd addr add) (as_reply (λ n. reply.Number n) result) self.new.system }
     {
         match self.answer(pid, &Call::Xadd { addr, add }) {
             Ok(Reply::Number(before)) => Ok(before),

@@ -5,13 +5,13 @@ ghost use Rattle.shm_life.specs.declared.start.StartError.TheVariants as start;
 ghost use Rattle.shm_machine.specs.Opened.{IsOpened, sizes_of};
 ghost use Rattle.shm_base.specs.declared.call.Reply.TheVariants as replies;
 ghost use Rattle.shm_base.specs.History.{is_refusal};
-ghost use Rattle.shm_machine.specs.Answered.{Answered, told, done, fits};
+ghost use Rattle.shm_machine.specs.Answered.{Answered, as_reply, done, fits};
 
 use crate::area::AreaPager;
-use crate::opening::{AreaConfig, Failure, are_sizes_sound, pagers_for};
+use crate::opening::{AreaConfig, Failure, pagers_for};
 use crate::refusal::Refusal;
-use shm_base::{Call, Errno, HostMemory, Limits, MOST_AREAS, Process, Reply};
-use shm_life::{StartError, System};
+use shm_base::{Call, Errno, HostMemory, Limits, Process, Reply};
+use shm_life::{StartError, System, first_area_error};
 use std::alloc::Global;
 
 /// A machine over swap areas of the kinds that there are. What is counted and listed of it, and flushing, are its system's.
@@ -50,11 +50,8 @@ impl Machine {
         ensures ok { OnOk result (start_error (sizes_of areas.now) processes.now ≡ None) }
         ensures err { IfErr result (λ e. (e ≡ start.HostMemory) ⊎ (start_error (sizes_of areas.now) processes.now ≡ Some e)) }
     {
-        if areas.is_empty() || areas.len() > MOST_AREAS {
-            return Err(StartError::Areas);
-        }
-        if !are_sizes_sound(areas) {
-            return Err(StartError::AreaSize);
+        if let Some(error) = first_area_error(areas, |area| area.slots) {
+            return Err(error);
         }
         let Ok(pagers) = pagers_for(alloc, areas, failures) else {
             return Err(StartError::HostMemory);
@@ -86,7 +83,7 @@ impl Machine {
     /// store, fork, exec, exit, and swapoff(2).
     pub fn perform(&mut self, pid: u32, call: &Call) -> Result<(), Refusal>
         requires { fits call.now replies.Done ≡ true }
-        ensures { Answered self.old.system pid call.now (told done result) self.new.system }
+        ensures { Answered self.old.system pid call.now (as_reply done result) self.new.system }
     {
         match self.answer(pid, call) {
             Ok(Reply::Done) => Ok(()),

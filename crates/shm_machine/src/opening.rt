@@ -1,12 +1,11 @@
 //! From what a machine is opened.
 ghost use Rattle.std.specs.Prelude.{◌≡◌, ◌==◌, ◌≤◌, IfOk, map, length, true, false};
-ghost use Rattle.shm_life.specs.Start.{are_sizes};
 ghost use Rattle.shm_pager.specs.Pages.{pager_seen};
-ghost use Rattle.shm_machine.specs.Areas.{blank, pages_in, failed_in, IsOfKind};
-ghost use Rattle.shm_machine.specs.Opened.{is_at, calls_at, sizes_of};
+ghost use Rattle.shm_machine.specs.Areas.{blank, area_pages, failed_in, IsOfKind};
+ghost use Rattle.shm_machine.specs.Opened.{is_at, calls_at};
 
 use crate::area::{AreaKind, AreaPager, Failing};
-use shm_base::{HostMemory, is_slot_count};
+use shm_base::HostMemory;
 use std::alloc::Global;
 
 /// A swap area: its kind, and how many slots it has. Each side of a mirror has as many.
@@ -83,7 +82,7 @@ fn pager_for(
     area: &AreaConfig,
     failures: &[Failure],
 ) -> Result<AreaPager, HostMemory>
-    ensures blank { IfOk result (λ p. pager_seen pages_in failed_in p ≡ blank area.now.slots) }
+    ensures blank { IfOk result (λ p. pager_seen area_pages failed_in p ≡ blank area.now.slots) }
     ensures kind { IfOk result (λ p. IsOfKind area.now.kind area.now.slots (calls_at index Side.Left false failures.now) (calls_at index Side.Left true failures.now) p) }
 {
     let left = failing(alloc, failures, index, Side::Left)?;
@@ -98,23 +97,11 @@ pub(crate) fn pagers_for(
     failures: &[Failure],
 ) -> Result<Vec<AreaPager>, HostMemory>
     requires { length areas.now ≤ 8 }
-    ensures { IfOk result (λ v. map (pager_seen pages_in failed_in) v.items ≡ map (λ a. blank a.slots) areas.now) }
+    ensures { IfOk result (λ v. map (pager_seen area_pages failed_in) v.items ≡ map (λ a. blank a.slots) areas.now) }
 {
     let mut pagers = Vec::new(alloc);
     for (index, area) in areas.iter().enumerate() {
         pagers.push(pager_for(alloc, index as u32, area, failures)?)?;
     }
     Ok(pagers)
-}
-
-/// Whether each area has 1 to 65536 slots. It is asked before memory is taken for any of them.
-pub(crate) fn are_sizes_sound(areas: &[AreaConfig]) -> bool
-    ensures { result ≡ are_sizes (sizes_of areas.now) }
-{
-    for area in areas {
-        if !is_slot_count(u64::from(area.slots)) {
-            return false;
-        }
-    }
-    true
 }

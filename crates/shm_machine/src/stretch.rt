@@ -1,5 +1,5 @@
 //! Loads and stores of any length, as calls of at most 64 bytes each.
-ghost use Rattle.std.specs.Prelude.{◌≡◌, ◌+◌, ◌≤◌, length, Ok, Err, MatchResult};
+ghost use Rattle.std.specs.Prelude.{◌≡◌, ◌+◌, ◌^◌, ◌≤◌, length, Ok, Err, MatchResult};
 ghost use Rattle.shm_base.specs.declared.call.Call.TheVariants as call;
 ghost use Rattle.shm_base.specs.declared.call.Reply.TheVariants as reply;
 ghost use Rattle.shm_machine.specs.Answered.{Replied};
@@ -16,15 +16,21 @@ pub struct Progress {
     pub stopped: Option<Refusal>,
 }
 
+// Where a stretch goes on behind the bytes that were done. An address past 64 bits has no piece.
+fn next_address(addr: u64, done: usize) -> Result<u64, Refusal>
+    ensures { MatchResult result (λ a. a ≡ addr + done) (λ e. (2 ^ 64 ≤ addr + done) × (e ≡ Refusal.Refused Errno.Sigsegv)) }
+{
+    addr.checked_add(done as u64)
+        .ok_or(Refusal::Refused(Errno::Sigsegv))
+}
+
 impl Machine {
     // One call of a read: so many bytes, behind those that were done.
     fn read_on(&mut self, pid: u32, addr: u64, done: usize, len: usize) -> Result<Chunk, Refusal>
         requires { (1 ≤ len) × (len ≤ 64) }
         ensures { MatchResult result (λ b. Replied self.old.system pid (call.Load (addr + done) len) (reply.Bytes b) self.new.system × (length b ≡ len)) (λ e. StoppedAt self.old.system pid (addr + done) (call.Load (addr + done) len) e self.new.system) }
     {
-        let Some(at) = addr.checked_add(done as u64) else {
-            return Err(Refusal::Refused(Errno::Sigsegv));
-        };
+        let at = next_address(addr, done)?;
         match AccessLen::new(len as u64) {
             Some(len) => self.load(pid, at, len),
             None => unreachable!(),
@@ -36,9 +42,7 @@ impl Machine {
         requires { (1 ≤ length bytes.now) × (length bytes.now ≤ 64) }
         ensures { MatchResult result (λ _. Replied self.old.system pid (call.Store (addr + done) bytes.now) reply.Done self.new.system) (λ e. StoppedAt self.old.system pid (addr + done) (call.Store (addr + done) bytes.now) e self.new.system) }
     {
-        let Some(addr) = addr.checked_add(done as u64) else {
-            return Err(Refusal::Refused(Errno::Sigsegv));
-        };
+        let addr = next_address(addr, done)?;
         match Chunk::new(bytes) {
             Some(chunk) => self.perform(pid, &Call::Store { addr, chunk }),
             None => unreachable!(),

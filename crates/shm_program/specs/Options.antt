@@ -15,9 +15,9 @@ abbrev pub slots_of : List ℕ → Option ℕ
 slots_of w = sized (decimal_of w)
 
 -- a place of a read or a write, from 1 on
-abbrev pub placed : Option ℕ → Option ℕ
-placed None = None
-placed (Some k) = if nat_le 1 k then Some k else None
+abbrev pub place_in : Option ℕ → Option ℕ
+place_in None = None
+place_in (Some k) = if nat_le 1 k then Some k else None
 
 abbrev pub area_by : List ℕ → Option ℕ → Option SwapWord
 area_by kind None = None
@@ -41,7 +41,7 @@ colon w = position (λ b. b == 58) w
 abbrev pub rest_by : List ℕ → List ℕ → Option ℕ → Option SwapWord
 rest_by kind rest None = area_by kind (slots_of rest)
 rest_by kind rest (Some j) =
-    if bytes_eq kind (codes "fuse") then fuse_by (drop (j + 1) rest) (slots_of (take j rest)) (placed (decimal_of (drop 1 (drop (j + 1) rest)))) else None
+    if bytes_eq kind (codes "fuse") then fuse_by (drop (j + 1) rest) (slots_of (take j rest)) (place_in (decimal_of (drop 1 (drop (j + 1) rest)))) else None
 
 abbrev pub swap_by : List ℕ → Option ℕ → Option SwapWord
 swap_by w None = None

@@ -4,7 +4,7 @@ use Rattle.std.specs.Io.KnownBytes.{Appends, Keeps}
 use Rattle.shm_base.specs.State.{Opening}
 use Rattle.shm_base.specs.History.{IsHistory}
 use Rattle.shm_life.specs.declared.start.StartError.{StartError}
-use Rattle.shm_life.specs.Start.{start_error, number_of}
+use Rattle.shm_life.specs.Start.{start_error, error_number}
 use Rattle.shm_life.specs.MachineView.{IsExactly}
 use Rattle.shm_history.specs.WorldState.{WorldState, AreCounted}
 use Rattle.shm_laws.specs.Lawful.{IsLawful}
@@ -48,7 +48,7 @@ Prints IsText old new areas input =
 abbrev pub IsCause : RunFault → List ℕ → List ℕ → Type 0
 IsCause (Script fault) areas input = script_of input ≡ Err fault
 IsCause (StartRefused n) areas input =
-    (script : ScriptView) × (script_of input ≡ Ok script) × ((e : StartError) × (start_error areas script.processes ≡ Some e) × (number_of e ≡ n))
+    (script : ScriptView) × (script_of input ≡ Ok script) × ((e : StartError) × (start_error areas script.processes ≡ Some e) × (error_number e ≡ n))
 IsCause _ areas input = Unit {0}
 
 -- a fault once the input was read as this script
@@ -69,6 +69,6 @@ IsSilent _ old new = Keeps old new
 
 -- a world is not opened for the first start error, or out of memory where there is none
 abbrev pub IsStop : RunFault → Option StartError → Type 0
-IsStop (StartRefused n) first = (e : StartError) × (first ≡ Some e) × (number_of e ≡ n)
+IsStop (StartRefused n) first = (e : StartError) × (first ≡ Some e) × (error_number e ≡ n)
 IsStop HostMemory first = first ≡ None
 IsStop _ first = ⊥

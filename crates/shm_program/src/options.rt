@@ -1,6 +1,6 @@
 //! The words of the command line.
 ghost use Rattle.std.specs.Prelude.{◌≡◌, ◌≤◌, ◌<◌, ◌+◌, length, take, drop, map, option_map, IfOk, IfSome};
-ghost use Rattle.shm_program.specs.Options.{slots_of, placed, area_by, fuse_by, colon, swap_of, swaps_of};
+ghost use Rattle.shm_program.specs.Options.{slots_of, place_in, area_by, fuse_by, colon, swap_of, swaps_of};
 ghost use Rattle.shm_text.specs.Number.{decimal_of};
 
 use shm_base::{MOST_AREAS, is_slot_count};
@@ -30,7 +30,7 @@ fn slots_of(word: &[u8]) -> Option<u32>
 }
 
 fn place_of(word: &[u8]) -> Option<u64>
-    ensures { result ≡ placed (decimal_of word.now) }
+    ensures { result ≡ place_in (decimal_of word.now) }
 {
     let place = read_decimal(word)?;
     if place < 1 {
@@ -55,7 +55,7 @@ fn area_of(kind: &[u8], slots: &[u8]) -> Option<SwapWord>
 }
 
 fn fuse_of(slots: &[u8], place: &[u8]) -> Option<SwapWord>
-    ensures { result ≡ fuse_by place.now (slots_of slots.now) (placed (decimal_of (drop 1 place.now))) }
+    ensures { result ≡ fuse_by place.now (slots_of slots.now) (place_in (decimal_of (drop 1 place.now))) }
 {
     let slots = slots_of(slots)?;
     let kind = *place.first()?;

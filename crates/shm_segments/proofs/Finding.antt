@@ -1,5 +1,5 @@
 -- A row that the table has is a segment that was found.
-use Rattle.shm_segments.proofs.Names.{◌≡◌, ℕ, pos, ◌/◌, ◌%◌, ◌<◌, List, length, slice_get, Option, Some, None, ℤ, ◌==◌, true, if◌then◌else◌, refl, ap, ◌∙◌, arith, cases_lt, none-some, bytes_at, bytes_at_entry, Row, entry_at, identifier, flat_entry, row_shown, row_listed, at_past, at-table, past-flat, Held, bytes_of, Head, Found, segment_of, whole, joined, Agree, SizesFit, IsFound, segment_seen, nat_tests, common_steps, is_some, option_map, FlatEntry, Entry, live}
+use Rattle.shm_segments.proofs.Names.{◌≡◌, ℕ, pos, ◌/◌, ◌%◌, ◌<◌, List, length, slice_get, Option, Some, None, ℤ, ◌==◌, true, if◌then◌else◌, refl, ap, ◌∙◌, arith, cases_lt, none-some, bytes_at, bytes_at_entry, Row, entry_at, identifier, flat_entry, row_shown, row_listed, at_past, at-table, past-flat, Held, bytes_of, Head, Found, segment_of, whole, joined_table, Agree, SizesFit, IsFound, segment_seen, nat_tests, common_steps, is_some, option_map, FlatEntry, Entry, live_row}
 use Rattle.shm_segments.proofs.Joins.{at-live, held-as}
 use Rattle.shm_segments.specs.Table as table
 
@@ -15,11 +15,11 @@ row-within rows i r is = grind (arith, at_past rows i, is)
 
 -- what the flat table has at its index
 pub at-row : (hs : List Held) (rows : List (Entry Head)) (i : ℕ) (r : Row Head) → (entry_at rows i).row ≡ Some r
-    → slice_get (joined hs rows) i ≡ Some (record { destroyed = (entry_at rows i).destroyed; segment = Some (whole hs (identifier i (entry_at rows i).destroyed) r) })
+    → slice_get (joined_table hs rows) i ≡ Some (record { destroyed = (entry_at rows i).destroyed; segment = Some (whole hs (identifier i (entry_at rows i).destroyed) r) })
 at-row hs rows i r is = grind (arith, common_steps, at-table, row-within)
 
 pub found_at : (hs : List Held) (rows : List (Entry Head)) (i : ℕ) (r : Row Head) → Agree hs rows → SizesFit rows → (entry_at rows i).row ≡ Some r
-    → IsFound (joined hs rows) (record { seg = identifier i (entry_at rows i).destroyed; id = pos (identifier i (entry_at rows i).destroyed); key = r.key; head = r.value })
+    → IsFound (joined_table hs rows) (record { seg = identifier i (entry_at rows i).destroyed; id = pos (identifier i (entry_at rows i).destroyed); key = r.key; head = r.value })
 found_at hs rows i r agree sizes is =
     let d = (entry_at rows i).destroyed in
     let within = row-within rows i r is in
@@ -27,9 +27,9 @@ found_at hs rows i r agree sizes is =
     let own : identifier i d % 32768 ≡ i = index-of i d small in
     let sequence : identifier i d / 32768 ≡ d = sequence-of i d small in
     let there = at-row hs rows i r is in
-    let bytes : bytes_at (joined hs rows) (identifier i d) ≡ bytes_of hs (identifier i d) =
-    ap (λ k. bytes_at_entry (slice_get (joined hs rows) k)) own ∙ ap bytes_at_entry there in
-    let lives : live rows (identifier i d) ≡ Some r = at-live rows i small ∙ is in
+    let bytes : bytes_at (joined_table hs rows) (identifier i d) ≡ bytes_of hs (identifier i d) =
+    ap (λ k. bytes_at_entry (slice_get (joined_table hs rows) k)) own ∙ ap bytes_at_entry there in
+    let lives : live_row rows (identifier i d) ≡ Some r = at-live rows i small ∙ is in
     record {
       entry = grind (arith, common_steps, slice_get, d, pos, own, there, sequence, bytes);
       id = refl;
@@ -59,10 +59,10 @@ in-flat : (hs : List Held) (i id : ℕ) (e : Entry Head) → i ≡ id % 32768
 in-flat hs i id e own = grind (arith, nat_tests, own)
 
 -- what is live in the flat table
-pub live-joined : (hs : List Held) (rows : List (Entry Head)) (id : ℕ) → table.live (joined hs rows) id ≡ option_map (whole hs id) (live rows id)
+pub live-joined : (hs : List Held) (rows : List (Entry Head)) (id : ℕ) → table.live (joined_table hs rows) id ≡ option_map (whole hs id) (live_row rows id)
 live-joined hs rows id = grind (arith, common_steps, at-table, in-flat, past-flat, at_past)
 
-pub is_live-row : (hs : List Held) (rows : List (Entry Head)) (id : ℕ) → table.IsLive (joined hs rows) id → is_some (live rows id) ≡ true
+pub is_live-row : (hs : List Held) (rows : List (Entry Head)) (id : ℕ) → table.IsLive (joined_table hs rows) id → is_some (live_row rows id) ≡ true
 is_live-row hs rows id is = grind (arith, live-joined hs rows id, is)
 
 -- WHAT IS NOT LIVE
@@ -71,5 +71,5 @@ pub live-found : (t : List FlatEntry) (f : Found) → IsFound t f → table.live
 live-found t f found = grind (arith, common_steps, table.live_in, found.entry)
 
 -- an index without a row has no segment
-pub none-at : (hs : List Held) (rows : List (Entry Head)) (i : ℕ) → (entry_at rows i).row ≡ None → table.segment_in (slice_get (joined hs rows) i) ≡ None
+pub none-at : (hs : List Held) (rows : List (Entry Head)) (i : ℕ) → (entry_at rows i).row ≡ None → table.segment_in (slice_get (joined_table hs rows) i) ≡ None
 none-at hs rows i none = grind (arith, cases_lt i (length rows), at-table (whole hs) i rows, past-flat (whole hs) 0 i rows, none)

@@ -1,5 +1,5 @@
 -- The rows and the flat machine's table: what is live, what agrees, and what an edit shows.
-use Rattle.shm_segments.proofs.Names.{◌≡◌, ◌≢◌, ℕ, zero, suc, ◌+◌, ◌*◌, ◌%◌, ◌<◌, ◌≤◌, true, List, [], ◌∷◌, length, set, Option, Some, refl, sym, ap, ◌∙◌, arith, nat_tests, Segment, pages_of, Row, identifier, entry_at, flat_entry, flat_from, at_past, identifier-mod, flat_from-make, flat_table-make, Held, find_held, bytes_of, is_held, Head, segment_of, whole, joined, Agree, common_steps, is_some, option_map, slice_set, Entry, live}
+use Rattle.shm_segments.proofs.Names.{◌≡◌, ◌≢◌, ℕ, zero, suc, ◌+◌, ◌*◌, ◌%◌, ◌<◌, ◌≤◌, true, List, [], ◌∷◌, length, set, Option, Some, refl, sym, ap, ◌∙◌, arith, nat_tests, Segment, pages_of, Row, identifier, entry_at, flat_entry, flat_from, at_past, identifier-mod, flat_from-make, flat_table-make, Held, find_held, bytes_of, is_held, Head, segment_of, whole, joined_table, Agree, common_steps, is_some, option_map, slice_set, Entry, live_row}
 use Rattle.shm_segments.proofs.Bytes.{SameBytes}
 
 -- WHAT IS LIVE
@@ -10,11 +10,11 @@ pub record LiveAt (rows : List (Entry Head)) (id : ℕ) (r : Row Head) : Type 0 
   pub there : (entry_at rows (id % 32768)).row ≡ Some r
   pub own : identifier (id % 32768) (entry_at rows (id % 32768)).destroyed ≡ id
 
-pub live-at : (rows : List (Entry Head)) (id : ℕ) (r : Row Head) → live rows id ≡ Some r → LiveAt rows id r
+pub live-at : (rows : List (Entry Head)) (id : ℕ) (r : Row Head) → live_row rows id ≡ Some r → LiveAt rows id r
 live-at rows id r is = grind (arith, nat_tests, at_past rows (id % 32768), is)
 
 -- what stands at an index is live under its identifier
-pub at-live : (rows : List (Entry Head)) (i : ℕ) → i < 32768 → live rows (identifier i (entry_at rows i).destroyed) ≡ (entry_at rows i).row
+pub at-live : (rows : List (Entry Head)) (i : ℕ) → i < 32768 → live_row rows (identifier i (entry_at rows i).destroyed) ≡ (entry_at rows i).row
 at-live rows i small = grind (arith, common_steps, identifier-mod)
 
 -- THE TABLE SEES BYTES ALONE
@@ -28,7 +28,7 @@ row-same hs gs id o e = grind (arith, e)
 entry-same : (hs gs : List Held) (i : ℕ) (e : Entry Head) → bytes_of gs (identifier i e.destroyed) ≡ bytes_of hs (identifier i e.destroyed) → flat_entry (whole gs) i e ≡ flat_entry (whole hs) i e
 entry-same hs gs i e same = ap (λ (s : Option Segment). record { destroyed = e.destroyed; segment = s }) (row-same hs gs (identifier i e.destroyed) e.row same)
 
-pub joined-same : (hs gs : List Held) (rows : List (Entry Head)) → SameBytes hs gs → joined gs rows ≡ joined hs rows
+pub joined-same : (hs gs : List Held) (rows : List (Entry Head)) → SameBytes hs gs → joined_table gs rows ≡ joined_table hs rows
 joined-same hs gs rows same = flat_table-make (whole gs) (whole hs) rows (λ k r lt is. whole-same hs gs (identifier k (entry_at rows k).destroyed) r (same (identifier k (entry_at rows k).destroyed)))
 
 -- ONE ENTRY AND WHAT IS HELD UNDER ITS IDENTIFIER
@@ -58,7 +58,7 @@ set-from n (suc k) hs gs (e ∷ es) x same =
 -- an entry set, where what is held changes under identifiers of its index alone
 pub set-joined : (hs gs : List Held) (rows : List (Entry Head)) (i : ℕ) (x : Entry Head) → length rows ≤ 32768
     → ((id : ℕ) → id % 32768 ≢ i → bytes_of gs id ≡ bytes_of hs id)
-    → slice_set (joined hs rows) i (flat_entry (whole gs) i x) ≡ joined gs (set rows i x)
+    → slice_set (joined_table hs rows) i (flat_entry (whole gs) i x) ≡ joined_table gs (set rows i x)
 set-joined hs gs rows i x few same =
     let here : 0 + i ≡ i = omega arith in
     rw here at
@@ -69,7 +69,7 @@ set-joined hs gs rows i x few same =
 
 -- WHAT AGREES
 
-pub same-held : (hs : List Held) (rows : List (Entry Head)) (id : ℕ) → Agree hs rows → is_held hs id ≡ is_some (live rows id)
+pub same-held : (hs : List Held) (rows : List (Entry Head)) (id : ℕ) → Agree hs rows → is_held hs id ≡ is_some (live_row rows id)
 same-held hs rows id agree = grind (arith, nat_tests, agree.same id)
 
 -- what is held of a live segment
@@ -81,5 +81,5 @@ pub record HeldAs (hs : List Held) (id : ℕ) (r : Row Head) : Type 0 where
   pub held : is_held hs id ≡ true
   pub size : length (bytes_of hs id) ≡ 4096 * pages_of r.value.size
 
-pub held-as : (hs : List Held) (rows : List (Entry Head)) (id : ℕ) (r : Row Head) → Agree hs rows → live rows id ≡ Some r → HeldAs hs id r
+pub held-as : (hs : List Held) (rows : List (Entry Head)) (id : ℕ) (r : Row Head) → Agree hs rows → live_row rows id ≡ Some r → HeldAs hs id r
 held-as hs rows id r agree there = grind (arith, common_steps, agree.same, option_map, is_some)

@@ -1,20 +1,20 @@
 -- What is kept where a head changes.
-use Rattle.shm_segments.proofs.Names.{◌≡◌, ℕ, pos, ◌%◌, ◌≤◌, List, Some, sym, ◌∙◌, arith, Segment, change, Row, key_at, look, with_value, with_key, Held, bytes_of, Head, segment_of, whole, joined, SizesFit, AreSegmentsKept, common_steps, Ok, FlatEntry, Entry, live}
+use Rattle.shm_segments.proofs.Names.{◌≡◌, ℕ, pos, ◌%◌, ◌≤◌, List, Some, sym, ◌∙◌, arith, Segment, change, Row, key_at, look, with_value, with_key, Held, bytes_of, Head, segment_of, whole, joined_table, SizesFit, AreSegmentsKept, common_steps, Ok, FlatEntry, Entry, live_row}
 use Rattle.shm_segments.proofs.Sums.{pages-with_other, locked-other_same}
 use Rattle.shm_segments.proofs.Edits.{look-live, with_other, other-value, other-both, live-other_same, live-other, joined-other, agree-other}
 
 -- another row of a size in range
-pub sizes-other : (rows : List (Entry Head)) (id : ℕ) (r s : Row Head) → live rows id ≡ Some r → SizesFit rows → (1 ≤ s.value.size) × (s.value.size ≤ 16777216) → SizesFit (with_other rows id s)
+pub sizes-other : (rows : List (Entry Head)) (id : ℕ) (r s : Row Head) → live_row rows id ≡ Some r → SizesFit rows → (1 ≤ s.value.size) × (s.value.size ≤ 16777216) → SizesFit (with_other rows id s)
 sizes-other rows id r s lives sizes range = grind (arith, common_steps, with_other, live-other_same, live-other)
 
 -- what rows and bytes keep, and what they show
 pub record KeptAs (hs : List Held) (rows : List (Entry Head)) (pages locked_pages : ℕ) (shown : List FlatEntry) : Type 0 where
   pub kept : AreSegmentsKept hs rows pages locked_pages
-  pub is : joined hs rows ≡ shown
+  pub is : joined_table hs rows ≡ shown
 
 -- another row of the same size and lock
-kept-other : (hs : List Held) (rows : List (Entry Head)) (pages locks seg : ℕ) (r s : Row Head) (f : Segment → Segment) → AreSegmentsKept hs rows pages locks → live rows seg ≡ Some r
-    → s.value.size ≡ r.value.size → s.value.locked ≡ r.value.locked → f (whole hs seg r) ≡ whole hs seg s → KeptAs hs (with_other rows seg s) pages locks (change (joined hs rows) seg f)
+kept-other : (hs : List Held) (rows : List (Entry Head)) (pages locks seg : ℕ) (r s : Row Head) (f : Segment → Segment) → AreSegmentsKept hs rows pages locks → live_row rows seg ≡ Some r
+    → s.value.size ≡ r.value.size → s.value.locked ≡ r.value.locked → f (whole hs seg r) ≡ whole hs seg s → KeptAs hs (with_other rows seg s) pages locks (change (joined_table hs rows) seg f)
 kept-other hs rows pages locks seg r s f k lives size locked same = record {
   kept =
       record {
@@ -33,7 +33,7 @@ kept-other hs rows pages locks seg r s f k lives size locked same = record {
 pub kept-value : (hs : List Held) (rows : List (Entry Head)) (pages locks seg : ℕ) (v w : Head) (f : Segment → Segment) → AreSegmentsKept hs rows pages locks → look rows (pos seg) ≡ Ok v
     → w.size ≡ v.size → w.locked ≡ v.locked
     → ((key : ℕ) (bs : List ℕ) → f (segment_of (record { key = key; value = v }) bs) ≡ segment_of (record { key = key; value = w }) bs)
-    → KeptAs hs (with_value rows (seg % 32768) w) pages locks (change (joined hs rows) seg f)
+    → KeptAs hs (with_value rows (seg % 32768) w) pages locks (change (joined_table hs rows) seg f)
 kept-value hs rows pages locks seg v w f k looked size locked same =
     let r : Row Head = record { key = key_at rows (seg % 32768); value = v } in
     let lives = look-live rows seg v looked in
@@ -43,7 +43,7 @@ kept-value hs rows pages locks seg v w f k looked size locked same =
 pub kept-both : (hs : List Held) (rows : List (Entry Head)) (pages locks seg : ℕ) (v w : Head) (f : Segment → Segment) → AreSegmentsKept hs rows pages locks → look rows (pos seg) ≡ Ok v
     → w.size ≡ v.size → w.locked ≡ v.locked
     → ((key : ℕ) (bs : List ℕ) → f (segment_of (record { key = key; value = v }) bs) ≡ segment_of (record { key = 0; value = w }) bs)
-    → KeptAs hs (with_key (with_value rows (seg % 32768) w) (seg % 32768) 0) pages locks (change (joined hs rows) seg f)
+    → KeptAs hs (with_key (with_value rows (seg % 32768) w) (seg % 32768) 0) pages locks (change (joined_table hs rows) seg f)
 kept-both hs rows pages locks seg v w f k looked size locked same =
     let r : Row Head = record { key = key_at rows (seg % 32768); value = v } in
     let lives = look-live rows seg v looked in

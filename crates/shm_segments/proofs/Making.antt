@@ -1,5 +1,5 @@
 -- What is kept where a segment is made, destroyed, locked or written.
-use Rattle.shm_segments.proofs.Names.{locked_in_row, pages_in_row, ◌≡◌, ◌≢◌, ◌⊎◌, ℕ, pos, ℤ, ◌+◌, ◌-◌, ◌*◌, ◌/◌, ◌%◌, ◌<◌, ◌≤◌, Bool, true, false, if◌then◌else◌, List, Option, Some, None, is_none, refl, sym, ap, ◌∙◌, inl, inr, arith, cases_eq, none-some, pages_of, change, Row, entry_at, identifier, key_at, look, with_value, with_row, without_row, free_index-flat, destroyed_at-flat, Held, find_held, is_held, pages_in, pages_if_locked, with_zeros, without, with_lock, apart-push, apart-without, apart-lock, Head, whole, joined, Agree, SizesFit, AreSegmentsKept, made, created, destroyed, nat_tests, common_steps, replicate, slice_set, Ok, is_some, option_map, Entry, free_index, id_at, live, relocked}
+use Rattle.shm_segments.proofs.Names.{locked_in_row, pages_in_row, ◌≡◌, ◌≢◌, ◌⊎◌, ℕ, pos, ℤ, ◌+◌, ◌-◌, ◌*◌, ◌/◌, ◌%◌, ◌<◌, ◌≤◌, Bool, true, false, if◌then◌else◌, List, Option, Some, None, is_none, refl, sym, ap, ◌∙◌, inl, inr, arith, cases_eq, none-some, pages_of, change, Row, entry_at, identifier, key_at, look, with_value, with_row, without_row, free_index-flat, destroyed_at-flat, Held, find_held, is_held, pages_in, pages_if_locked, with_zeros, without, with_lock, apart-push, apart-without, apart-lock, Head, whole, joined_table, Agree, SizesFit, AreSegmentsKept, made, created, destroyed, nat_tests, common_steps, replicate, slice_set, Ok, is_some, option_map, Entry, free_index, id_at, live_row, relocked}
 use Rattle.shm_base.specs.Identifier as flat
 use Rattle.shm_segments.proofs.Joins.{LiveAt, live-at, held-as}
 use Rattle.shm_segments.proofs.Edits.{look-live, other-value, agree-lock, joined-locked}
@@ -16,17 +16,17 @@ pub record HeldHere (hs : List Held) (id : ℕ) (r : Row Head) : Type 0 where
   pub pages : pages_in g ≡ pages_of r.value.size
   pub locks : pages_if_locked g ≡ (if r.value.locked then pages_of r.value.size else 0)
 
-pub held-here : (hs : List Held) (rows : List (Entry Head)) (id : ℕ) (r : Row Head) → Agree hs rows → live rows id ≡ Some r → HeldHere hs id r
+pub held-here : (hs : List Held) (rows : List (Entry Head)) (id : ℕ) (r : Row Head) → Agree hs rows → live_row rows id ≡ Some r → HeldHere hs id r
 held-here hs rows id r agree there = grind (arith, common_steps, held-as)
 
 -- DESTROYED
 
 pub kept-without : (hs : List Held) (rows : List (Entry Head)) (pages locks seg : ℕ) (v : Head) → AreSegmentsKept hs rows pages locks → look rows (pos seg) ≡ Ok v
-    → KeptAs (without hs seg) (without_row rows (seg % 32768)) (pages - pages_of v.size) (locks - (if v.locked then pages_of v.size else 0)) (destroyed (joined hs rows) seg)
+    → KeptAs (without hs seg) (without_row rows (seg % 32768)) (pages - pages_of v.size) (locks - (if v.locked then pages_of v.size else 0)) (destroyed (joined_table hs rows) seg)
 kept-without hs rows pages locks seg v k looked =
     let i = seg % 32768 in
     let r : Row Head = record { key = key_at rows i; value = v } in
-    let lives : live rows seg ≡ Some r = look-live rows seg v looked in
+    let lives : live_row rows seg ≡ Some r = look-live rows seg v looked in
     let at = live-at rows seg r lives in
     let own : id_of rows i ≡ seg = at.own in
     let small : i < 32768 = omega arith in
@@ -45,7 +45,7 @@ kept-without hs rows pages locks seg v k looked =
             few_pages = omega (arith, sum-without pages_in hs seg here.g here.is, here.pages, k.few_pages);
             few_locked = omega (arith, sum-without pages_if_locked hs seg here.g here.is, here.locks, k.few_locked);
           };
-      is = rw own at (joined-without hs rows i k.agree.few small) ∙ ap (λ n. slice_set (joined hs rows) i (record { destroyed = n + 1; segment = None })) sequence;
+      is = rw own at (joined-without hs rows i k.agree.few small) ∙ ap (λ n. slice_set (joined_table hs rows) i (record { destroyed = n + 1; segment = None })) sequence;
     }
   where
     sizes : LiveAt rows seg (record { key = key_at rows (seg % 32768); value = v }) → SizesFit (without_row rows (seg % 32768))
@@ -55,11 +55,11 @@ kept-without hs rows pages locks seg v k looked =
 
 pub kept-locked : (hs : List Held) (rows : List (Entry Head)) (pages locks seg : ℕ) (v : Head) (b : Bool) → AreSegmentsKept hs rows pages locks → look rows (pos seg) ≡ Ok v
     → KeptAs (with_lock hs seg b) (with_value rows (seg % 32768) (record v { locked = b })) pages
-    (locks - (if v.locked then pages_of v.size else 0) + (if b then pages_of v.size else 0)) (change (joined hs rows) seg (relocked b))
+    (locks - (if v.locked then pages_of v.size else 0) + (if b then pages_of v.size else 0)) (change (joined_table hs rows) seg (relocked b))
 kept-locked hs rows pages locks seg v b k looked =
     let r : Row Head = record { key = key_at rows (seg % 32768); value = v } in
     let w : Head = record v { locked = b } in
-    let lives : live rows seg ≡ Some r = look-live rows seg v looked in
+    let lives : live_row rows seg ≡ Some r = look-live rows seg v looked in
     let range = k.sizes seg r lives in
     let loose = sum-other locked_in_row refl rows seg r (record r { value = w }) lives in
     let within = locked-within rows seg r lives in
@@ -83,7 +83,7 @@ kept-locked hs rows pages locks seg v b k looked =
 
 pub kept-made : (hs : List Held) (rows : List (Entry Head)) (pages locks i key : ℕ) (v : Head) → AreSegmentsKept hs rows pages locks → free_index rows ≡ Some i → v.locked ≡ false
     → (1 ≤ v.size) × (v.size ≤ 16777216)
-    → KeptAs (with_zeros hs (id_of rows i) (pages_of v.size)) (with_row rows i key v) (pages + pages_of v.size) locks (created (joined hs rows) i key v)
+    → KeptAs (with_zeros hs (id_of rows i) (pages_of v.size)) (with_row rows i key v) (pages + pages_of v.size) locks (created (joined_table hs rows) i key v)
 kept-made hs rows pages locks i key v k found loose range =
     let free = index-free rows i k.agree.few found in
     let more = sum-with_row pages_in_row refl rows i key v free in
@@ -104,20 +104,20 @@ kept-made hs rows pages locks i key v k found loose range =
     sizes : IsFree rows i → SizesFit (with_row rows i key v)
     sizes free = λ id q is. by id q is (cases_eq id (id_of rows i))
       where
-        by : (id : ℕ) (q : Row Head) → live (with_row rows i key v) id ≡ Some q → (id ≡ id_of rows i) ⊎ (id ≢ id_of rows i) → (1 ≤ q.value.size) × (q.value.size ≤ 16777216)
+        by : (id : ℕ) (q : Row Head) → live_row (with_row rows i key v) id ≡ Some q → (id ≡ id_of rows i) ⊎ (id ≢ id_of rows i) → (1 ≤ q.value.size) × (q.value.size ≤ 16777216)
         by id q is (inl e) =
-            let own : live (with_row rows i key v) (id_of rows i) ≡ Some q = rw e at is in
+            let own : live_row (with_row rows i key v) (id_of rows i) ≡ Some q = rw e at is in
             let same : record { key = key; value = v } ≡ q = cc (sym (live-with_row_same rows i key v free) ∙ own) in
             rw (← same) range
         by id q is (inr n) = k.sizes id q (sym (live-with_row_other rows i id key v free n) ∙ is)
 
 -- the free index
-pub free-some : (hs : List Held) (rows : List (Entry Head)) → is_none (flat.free_index (joined hs rows)) ≡ false → is_some (free_index rows) ≡ true
+pub free-some : (hs : List Held) (rows : List (Entry Head)) → is_none (flat.free_index (joined_table hs rows)) ≡ false → is_some (free_index rows) ≡ true
 free-some hs rows some = grind (arith, nat_tests, free_index-flat (whole hs) rows, some)
 
 -- what is made is what the flat table makes
 pub made-joined : (hs : List Held) (rows : List (Entry Head)) (i key : ℕ) (v : Head) → free_index rows ≡ Some i
-    → made (joined hs rows) key v ≡ Some (pos (id_of rows i), created (joined hs rows) i key v)
+    → made (joined_table hs rows) key v ≡ Some (pos (id_of rows i), created (joined_table hs rows) i key v)
 made-joined hs rows i key v found = grind (arith, common_steps, flat.free_index, free_index-flat, option_map, pos, flat.identifier, flat.destroyed_at, destroyed_at-flat)
 
 -- the next identifier is that of the free index, and nothing is held under it

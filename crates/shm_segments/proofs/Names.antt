@@ -24,14 +24,14 @@ pub use Rattle.shm_fault.specs.Adding.{number_in}
 pub use Rattle.shm_fault.specs.Dropping.{IsBlank}
 pub use Rattle.shm_fault.specs.Segs.{SegRec, but, find_seg, new_seg, rec_in}
 pub use Rattle.shm_fault.specs.Sound.{IsStoreSound}
-pub use Rattle.shm_fault.specs.Steps.{Kept}
+pub use Rattle.shm_fault.specs.Steps.{LockedPagesStay}
 pub use Rattle.shm_fault.specs.Store.{StoreView, frame_of, fresh_store, held}
 pub use Rattle.shm_frames.specs.Frame.{Frame}
 pub use Rattle.shm_ids.proofs.Entries.{at_past, at_row, at_row_other, at_set, at_set_other, with_key-with_value, with_row-end, with_row-few, with_row-within}
 pub use Rattle.shm_ids.proofs.Flat.{at-table, change-flat, destroyed_at-flat, find_key-absent, find_key-flat, find_key-look, flat_from-make, flat_table-make, free_index-flat, length-flat, look-flat, past-flat, segment_count-flat, with_segment-flat}
 pub use Rattle.shm_ids.proofs.Free.{free_found}
-pub use Rattle.shm_ids.proofs.Look.{identifier-mod, live_row, look-entry}
-pub use Rattle.shm_ids.specs.Flat.{flat_answer, flat_entry, flat_found, flat_from, number_of}
+pub use Rattle.shm_ids.proofs.Look.{identifier-mod, live_looked, look-entry}
+pub use Rattle.shm_ids.specs.Flat.{flat_answer, flat_entry, flat_found, flat_from, natural_of}
 pub use Rattle.shm_ids.specs.Rows.{row_listed, row_shown}
 pub use Rattle.shm_ids.specs.Table.{entry_at, find_key, identifier, index_of, key_at, look, row_count, unused, with_key, with_row, with_value, without_row, free_index, id_at}
 pub use Rattle.shm_ids.specs.declared.table.LookRefused.TheVariants.{Invalid, Removed}
@@ -43,7 +43,7 @@ pub use Rattle.shm_plain.specs.Apart.{AreHeldApart}
 pub use Rattle.shm_plain.specs.Held.{FitsPage, Held, bytes_in, bytes_of, find_held, is_held, is_locked, pages_if_locked, pages_in, paste, pasted, read_from, with_lock, with_zeros, without, written}
 pub use Rattle.shm_slots.specs.Cause.{GoesOn}
 pub use Rattle.shm_slots.specs.View.{SwapView}
-pub use Rattle.shm_segments.specs.Joined.{Agree, Shape, joined, locked_in_row, locked_of_rows, pages_in_row, pages_of_rows, segment_of, shape_held, shape_row, whole, live}
+pub use Rattle.shm_segments.specs.Joined.{Agree, Shape, joined_table, locked_in_row, locked_of_rows, pages_in_row, pages_of_rows, segment_of, shape_held, shape_row, whole, live_row}
 pub use Rattle.shm_segments.specs.Kept.{AreSegmentsKept, IsWhole, SizesFit}
 pub use Rattle.shm_segments.specs.Left.{id_in, is_left, orphan, orphan_in}
 pub use Rattle.shm_segments.specs.Table.{IsFound, SpanFits, created, destroyed, live_in, look_of, made, number_at, pages_at, refused_look, reowned, segment_seen, relocked}

@@ -1,5 +1,5 @@
 -- What the memory keeps, and that it shows the table.
-use Rattle.shm_segments.proofs.Names.{◌≡◌, ◌≢◌, ℕ, ◌==◌, false, List, [], ◌∷◌, ◌++◌, length, Option, None, refl, sym, ap, ◌∙◌, arith, eq-eqb, not, append-nil, All, Result, OnOk, OnErr, sum_by, Span, Held, find_held, is_held, is_locked, with_zeros, without, FitsPage, written, find_held-id, find-without_same, find-without_other, find-zeros_same, find-zeros_other, StoreView, frame_of, fresh_store, Frame, SwapView, SegRec, find_seg, but, new_seg, rec_in, IsBlank, not-held, rec-added, Kept, IsStoreSound, GoesOn-refl, GoesOn-trans, GoesOn, Head, joined, Agree, SegmentsView, ShowsTable, Runs, AreSegmentsKept, IsWhole, stored, span_places, SpanFits, filter-append, filter-none, common_steps, is_some, option_map, Ok, Err, FlatEntry, Entry, live}
+use Rattle.shm_segments.proofs.Names.{◌≡◌, ◌≢◌, ℕ, ◌==◌, false, List, [], ◌∷◌, ◌++◌, length, Option, None, refl, sym, ap, ◌∙◌, arith, eq-eqb, not, append-nil, All, Result, OnOk, OnErr, sum_by, Span, Held, find_held, is_held, is_locked, with_zeros, without, FitsPage, written, find_held-id, find-without_same, find-without_other, find-zeros_same, find-zeros_other, StoreView, frame_of, fresh_store, Frame, SwapView, SegRec, find_seg, but, new_seg, rec_in, IsBlank, not-held, rec-added, LockedPagesStay, IsStoreSound, GoesOn-refl, GoesOn-trans, GoesOn, Head, joined_table, Agree, SegmentsView, ShowsTable, Runs, AreSegmentsKept, IsWhole, stored, span_places, SpanFits, filter-append, filter-none, common_steps, is_some, option_map, Ok, Err, FlatEntry, Entry, live_row}
 use Rattle.shm_fault.specs.Store.{held}
 use Rattle.shm_segments.proofs.Finding.{live-joined}
 use Rattle.shm_segments.proofs.Shown.{agree-written, store_shown}
@@ -13,8 +13,8 @@ view_of t m = record { table = t; memory = m }
 
 -- SHOWN
 
-pub shows-joined : (m : StoreView) (rows : List (Entry Head)) → Agree (held m) rows → ShowsTable (joined (held m) rows) m
-shows-joined m rows agree id = grind (arith, common_steps, live, find_held, held, option_map, live-joined, find_held-id)
+pub shows-joined : (m : StoreView) (rows : List (Entry Head)) → Agree (held m) rows → ShowsTable (joined_table (held m) rows) m
+shows-joined m rows agree id = grind (arith, common_steps, live_row, find_held, held, option_map, live-joined, find_held-id)
 
 -- KEPT
 
@@ -38,7 +38,7 @@ pub runs-without : (a b : StoreView) (id : ℕ) → held b ≡ without (held a) 
 runs-without a b id is goes frames still = grind (arith, common_steps, find-without_same, find-without_other, is_some)
 
 -- no byte and no lock changed
-pub runs-same : (a b : StoreView) → held b ≡ held a → Kept a b → GoesOn a.swap b.swap → length b.frames ≡ length a.frames → Runs a b
+pub runs-same : (a b : StoreView) → held b ≡ held a → LockedPagesStay a b → GoesOn a.swap b.swap → length b.frames ≡ length a.frames → Runs a b
 runs-same a b is kept goes frames = record { kept = kept; locks = λ id e. rw is at e; goes_on = goes; frames = frames }
 
 -- A SEGMENT THAT WAS MADE AND IS TAKEN BACK
@@ -76,7 +76,7 @@ kept-written hs rows pages locks ps new k fit =
       few_locked = omega (arith, sums.locks, k.few_locked);
     }
 
-runs-written : (a b : StoreView) (rows : List (Entry Head)) (ps : List Span) (new : List ℕ) → Agree (held a) rows → All (FitsPage (held a)) ps → held b ≡ written (held a) ps new → Kept a b → GoesOn a.swap b.swap → length b.frames ≡ length a.frames → Runs a b
+runs-written : (a b : StoreView) (rows : List (Entry Head)) (ps : List Span) (new : List ℕ) → Agree (held a) rows → All (FitsPage (held a)) ps → held b ≡ written (held a) ps new → LockedPagesStay a b → GoesOn a.swap b.swap → length b.frames ≡ length a.frames → Runs a b
 runs-written a b rows ps new agree fit is kept goes frames = record {
   kept = kept;
   locks = λ id e. sym (agree-locks (held a) (written (held a) ps new) rows id agree (agree-written (held a) rows ps new agree fit)) ∙ (rw is at e);
@@ -88,11 +88,11 @@ runs-written a b rows ps new agree fit is kept goes frames = record {
 pub record Wrote {A E : Type 0} (r : Result A E) (s n : StoreView) (rows : List (Entry Head)) (pages locks : ℕ) (ps : List Span) (new : List ℕ) : Type 0 where
   pub whole : IsWhole n rows pages locks
   pub runs : Runs s n
-  pub written : OnOk r (joined (held n) rows ≡ stored (joined (held s) rows) (span_places false ps) new)
-  pub same : OnErr r (joined (held n) rows ≡ joined (held s) rows)
+  pub written : OnOk r (joined_table (held n) rows ≡ stored (joined_table (held s) rows) (span_places false ps) new)
+  pub same : OnErr r (joined_table (held n) rows ≡ joined_table (held s) rows)
 
-pub wrote : {A E : Type 0} (r : Result A E) (s n : StoreView) (rows : List (Entry Head)) (pages locks : ℕ) (ps : List Span) (new : List ℕ) → IsWhole s rows pages locks → All (SpanFits (joined (held s) rows)) ps → sum_by len_of ps ≡ length new
-    → OnOk r (held n ≡ written (held s) ps new) → OnErr r (held n ≡ held s) → IsStoreSound n → Kept s n → GoesOn s.swap n.swap → length n.frames ≡ length s.frames → Wrote r s n rows pages locks ps new
+pub wrote : {A E : Type 0} (r : Result A E) (s n : StoreView) (rows : List (Entry Head)) (pages locks : ℕ) (ps : List Span) (new : List ℕ) → IsWhole s rows pages locks → All (SpanFits (joined_table (held s) rows)) ps → sum_by len_of ps ≡ length new
+    → OnOk r (held n ≡ written (held s) ps new) → OnErr r (held n ≡ held s) → IsStoreSound n → LockedPagesStay s n → GoesOn s.swap n.swap → length n.frames ≡ length s.frames → Wrote r s n rows pages locks ps new
 wrote (Ok a) s n rows pages locks ps new w fits size is same sound kept goes frames =
     let agree = w.kept.agree in
     let fit = spans-fit (held s) rows ps agree fits in

@@ -1,5 +1,5 @@
 -- Segments that come and go, as the flat machine's table shows them.
-use Rattle.shm_segments.proofs.Names.{◌≡◌, ◌≢◌, ℕ, ◌+◌, ◌*◌, ◌%◌, ◌<◌, ◌≤◌, ◌==◌, if◌then◌else◌, false, List, length, Some, None, sym, ap, ◌∙◌, arith, inl, inr, length-set, cases_lt, cases_eq, length-replicate, pages_of, with_segment, Row, identifier, entry_at, with_row, without_row, at_set, at_set_other, at_row, at_row_other, with_row-few, free_found, identifier-mod, with_segment-flat, flat_table-make, Held, bytes_of, bytes_in, is_held, with_zeros, without, find-without_same, find-without_other, find-zeros_same, find-zeros_other, Head, segment_of, whole, joined, Agree, nat_tests, common_steps, replicate, is_some, option_map, slice_set, Entry, free_index, live}
+use Rattle.shm_segments.proofs.Names.{◌≡◌, ◌≢◌, ℕ, ◌+◌, ◌*◌, ◌%◌, ◌<◌, ◌≤◌, ◌==◌, if◌then◌else◌, false, List, length, Some, None, sym, ap, ◌∙◌, arith, inl, inr, length-set, cases_lt, cases_eq, length-replicate, pages_of, with_segment, Row, identifier, entry_at, with_row, without_row, at_set, at_set_other, at_row, at_row_other, with_row-few, free_found, identifier-mod, with_segment-flat, flat_table-make, Held, bytes_of, bytes_in, is_held, with_zeros, without, find-without_same, find-without_other, find-zeros_same, find-zeros_other, Head, segment_of, whole, joined_table, Agree, nat_tests, common_steps, replicate, is_some, option_map, slice_set, Entry, free_index, live_row}
 use Rattle.shm_segments.proofs.Joins.{at-live, set-joined, same-held}
 
 -- the identifier that an index has
@@ -7,11 +7,11 @@ abbrev pub id_of : List (Entry Head) → ℕ → ℕ
 id_of rows i = identifier i (entry_at rows i).destroyed
 
 -- no other identifier is live at an index
-pub live-stale : (rows : List (Entry Head)) (i at : ℕ) → at % 32768 ≡ i → at ≢ id_of rows i → live rows at ≡ None
+pub live-stale : (rows : List (Entry Head)) (i at : ℕ) → at % 32768 ≡ i → at ≢ id_of rows i → live_row rows at ≡ None
 live-stale rows i at here other = grind (arith, nat_tests, here, other)
 
 -- what is live is the entries' matter
-live-entry : (rows gs : List (Entry Head)) (at : ℕ) → entry_at gs (at % 32768) ≡ entry_at rows (at % 32768) → live gs at ≡ live rows at
+live-entry : (rows gs : List (Entry Head)) (at : ℕ) → entry_at gs (at % 32768) ≡ entry_at rows (at % 32768) → live_row gs at ≡ live_row rows at
 live-entry rows gs at same = ap (λ (e : Entry Head). if identifier (at % 32768) e.destroyed == at then e.row else None) same
 
 -- DESTROYED
@@ -21,7 +21,7 @@ emptied rows i = record { destroyed = (entry_at rows i).destroyed + 1; row = Non
 
 -- a row destroyed, and what is held of it dropped
 pub joined-without : (hs : List Held) (rows : List (Entry Head)) (i : ℕ) → length rows ≤ 32768 → i < 32768
-    → joined (without hs (id_of rows i)) (without_row rows i) ≡ slice_set (joined hs rows) i (record { destroyed = (entry_at rows i).destroyed + 1; segment = None })
+    → joined_table (without hs (id_of rows i)) (without_row rows i) ≡ slice_set (joined_table hs rows) i (record { destroyed = (entry_at rows i).destroyed + 1; segment = None })
 joined-without hs rows i few small =
     let id : ℕ = id_of rows i in
     let own : id % 32768 ≡ i = identifier-mod i (entry_at rows i).destroyed small in
@@ -30,14 +30,14 @@ joined-without hs rows i few small =
     (λ at other. ap bytes_in (find-without_other hs id at (λ is. other (ap (λ n. n % 32768) is ∙ own)))))
 
 -- nothing is live then at its index
-pub live-without_here : (rows : List (Entry Head)) (i at : ℕ) → i < length rows → at % 32768 ≡ i → live (without_row rows i) at ≡ None
+pub live-without_here : (rows : List (Entry Head)) (i at : ℕ) → i < length rows → at % 32768 ≡ i → live_row (without_row rows i) at ≡ None
 live-without_here rows i at within here = grind (arith, nat_tests, here, at_set rows i (emptied rows i) within)
 
-pub live-without_other : (rows : List (Entry Head)) (i at : ℕ) → at % 32768 ≢ i → live (without_row rows i) at ≡ live rows at
+pub live-without_other : (rows : List (Entry Head)) (i at : ℕ) → at % 32768 ≢ i → live_row (without_row rows i) at ≡ live_row rows at
 live-without_other rows i at other = live-entry rows (without_row rows i) at (at_set_other rows i (at % 32768) (emptied rows i) other)
 
 -- what was not destroyed is live as before
-pub live-without : (rows : List (Entry Head)) (i at : ℕ) → i < length rows → at ≢ id_of rows i → live (without_row rows i) at ≡ live rows at
+pub live-without : (rows : List (Entry Head)) (i at : ℕ) → i < length rows → at ≢ id_of rows i → live_row (without_row rows i) at ≡ live_row rows at
 live-without rows i at within apart = elim (cases_eq (at % 32768) i) [ inl here ↦ live-without_here rows i at within here ∙ sym (live-stale rows i at here apart) | inr other ↦ live-without_other rows i at other ]
 
 pub agree-without : (hs : List Held) (rows : List (Entry Head)) (i : ℕ) → Agree hs rows → i < length rows → Agree (without hs (id_of rows i)) (without_row rows i)
@@ -68,10 +68,10 @@ free-new hs rows i agree free = same-held hs rows (id_of rows i) agree ∙ ap is
 
 -- the row is new, and zeros are held for it
 pub joined-with_row : (hs : List Held) (rows : List (Entry Head)) (i key pages : ℕ) (v : Head) → Agree hs rows → IsFree rows i
-    → joined (with_zeros hs (id_of rows i) pages) (with_row rows i key v)
-    ≡ with_segment (joined hs rows) i (segment_of (record { key = key; value = v }) (replicate (4096 * pages) 0))
+    → joined_table (with_zeros hs (id_of rows i) pages) (with_row rows i key v)
+    ≡ with_segment (joined_table hs rows) i (segment_of (record { key = key; value = v }) (replicate (4096 * pages) 0))
 joined-with_row hs rows i key pages v agree free =
-    sym (with_segment-flat (whole gs) rows i key v free.within) ∙ ap (λ t. with_segment t i (whole gs id row)) same ∙ ap (λ xs. with_segment (joined hs rows) i (segment_of row xs)) bytes
+    sym (with_segment-flat (whole gs) rows i key v free.within) ∙ ap (λ t. with_segment t i (whole gs id row)) same ∙ ap (λ xs. with_segment (joined_table hs rows) i (segment_of row xs)) bytes
   where
     id : ℕ
     id = id_of rows i
@@ -85,14 +85,14 @@ joined-with_row hs rows i key pages v agree free =
     bytes : bytes_of gs id ≡ replicate (4096 * pages) 0
     bytes = ap bytes_in (find-zeros_same hs id pages (free-new hs rows i agree free))
 
-    same : joined gs rows ≡ joined hs rows
+    same : joined_table gs rows ≡ joined_table hs rows
     same = grind (arith, common_steps, flat_table-make, gs, find-zeros_other, id, id_of, identifier-mod, agree.few, free.small, free.none)
 
 -- what is live then
-pub live-with_row_same : (rows : List (Entry Head)) (i key : ℕ) (v : Head) → IsFree rows i → live (with_row rows i key v) (id_of rows i) ≡ Some (record { key = key; value = v })
+pub live-with_row_same : (rows : List (Entry Head)) (i key : ℕ) (v : Head) → IsFree rows i → live_row (with_row rows i key v) (id_of rows i) ≡ Some (record { key = key; value = v })
 live-with_row_same rows i key v free = grind (arith, common_steps, id_of, identifier-mod, free.small, at_row, free.within)
 
-pub live-with_row_other : (rows : List (Entry Head)) (i at key : ℕ) (v : Head) → IsFree rows i → at ≢ id_of rows i → live (with_row rows i key v) at ≡ live rows at
+pub live-with_row_other : (rows : List (Entry Head)) (i at key : ℕ) (v : Head) → IsFree rows i → at ≢ id_of rows i → live_row (with_row rows i key v) at ≡ live_row rows at
 live-with_row_other rows i at key v free apart = grind (arith, common_steps, at_row, free.within, at_row_other)
 
 pub agree-with_row : (hs : List Held) (rows : List (Entry Head)) (i key pages : ℕ) (v : Head) → Agree hs rows → IsFree rows i → v.locked ≡ false → pages ≡ pages_of v.size

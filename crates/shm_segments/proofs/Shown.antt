@@ -1,5 +1,5 @@
 -- Loads and stores over spans, as the flat machine's table shows them.
-use Rattle.shm_segments.proofs.Names.{◌≡◌, ℕ, zero, suc, ◌+◌, ◌%◌, ◌≤◌, Bool, true, false, List, [], ◌∷◌, ◌++◌, length, set, map, Option, Some, refl, sym, ap, ◌∙◌, arith, nat_tests, common_steps, set-get_or, w64, from_le_bytes, sum_by, All, Place, set_in, with_byte, entry_byte_set, stored, loaded, bytes_at, Span, identifier, unused, entry_at, flat_entry, at-table, run, span_places, Held, bytes_of, pasted, written, FitsPage, read_from, find_held-id, find-map, Head, segment_of, whole, joined, Agree, is_some, slice_index, slice_set, Entry, live}
+use Rattle.shm_segments.proofs.Names.{◌≡◌, ℕ, zero, suc, ◌+◌, ◌%◌, ◌≤◌, Bool, true, false, List, [], ◌∷◌, ◌++◌, length, set, map, Option, Some, refl, sym, ap, ◌∙◌, arith, nat_tests, common_steps, set-get_or, w64, from_le_bytes, sum_by, All, Place, set_in, with_byte, entry_byte_set, stored, loaded, bytes_at, Span, identifier, unused, entry_at, flat_entry, at-table, run, span_places, Held, bytes_of, pasted, written, FitsPage, read_from, find_held-id, find-map, Head, segment_of, whole, joined_table, Agree, is_some, slice_index, slice_set, Entry, live_row}
 use Rattle.shm_fault.specs.Adding as store
 use Rattle.shm_segments.specs.Table as table
 use Rattle.shm_segments.proofs.Bytes.{put, puts, get, bytes_of-put_same, bytes_of-put_other, Each, each, written-keeps, len_of, written-same, get-spans}
@@ -11,9 +11,9 @@ some-is : {X : Type 0} (o : Option X) → is_some o ≡ true → (x : X) × (o �
 some-is o e = grind (arith, common_steps, nat_tests)
 
 -- a byte set
-pub with_byte-joined : (hs : List Held) (rows : List (Entry Head)) (p : Place) (b : ℕ) → length rows ≤ 32768 → is_some (live rows p.seg) ≡ true → with_byte (joined hs rows) p b ≡ joined (put hs p b) rows
+pub with_byte-joined : (hs : List Held) (rows : List (Entry Head)) (p : Place) (b : ℕ) → length rows ≤ 32768 → is_some (live_row rows p.seg) ≡ true → with_byte (joined_table hs rows) p b ≡ joined_table (put hs p b) rows
 with_byte-joined hs rows p b few there =
-    let row = some-is (live rows p.seg) there in
+    let row = some-is (live_row rows p.seg) there in
     let l = live-at rows p.seg row.0 row.1 in
     let i : ℕ = p.seg % 32768 in
     let e : Entry Head = entry_at rows i in
@@ -22,30 +22,30 @@ with_byte-joined hs rows p b few there =
     let bytes : set (bytes_of hs id) p.at b ≡ bytes_of gs id = rw l.own (sym (bytes_of-put_same hs p b)) in
     let changed : entry_byte_set p.at b (flat_entry (whole hs) i e) ≡ flat_entry (whole gs) i e =
     rw l.there (ap (λ xs. record { destroyed = e.destroyed; segment = Some (segment_of row.0 xs) }) bytes) in
-    ap (set_in (joined hs rows) i (entry_byte_set p.at b)) (at-table (whole hs) i rows l.within)
-    ∙ ap (slice_set (joined hs rows) i) changed
+    ap (set_in (joined_table hs rows) i (entry_byte_set p.at b)) (at-table (whole hs) i rows l.within)
+    ∙ ap (slice_set (joined_table hs rows) i) changed
     ∙ set-joined hs gs rows i e few (λ at other. bytes_of-put_other hs p b at (λ is. other (ap (λ n. n % 32768) is)))
-    ∙ ap (joined gs) (set-get_or rows i unused)
+    ∙ ap (joined_table gs) (set-get_or rows i unused)
 
 -- the bytes of a segment
-pub bytes_at-joined : (hs : List Held) (rows : List (Entry Head)) (id : ℕ) → is_some (live rows id) ≡ true → bytes_at (joined hs rows) id ≡ bytes_of hs id
+pub bytes_at-joined : (hs : List Held) (rows : List (Entry Head)) (id : ℕ) → is_some (live_row rows id) ≡ true → bytes_at (joined_table hs rows) id ≡ bytes_of hs id
 bytes_at-joined hs rows id there = grind (arith, common_steps, some-is, live-at, at-table)
 
 -- PLACE BY PLACE
 
 abbrev AreLive : List (Entry Head) → List Place → Type 0
-AreLive rows ps = Each (λ (p : Place). is_some (live rows p.seg) ≡ true) ps
+AreLive rows ps = Each (λ (p : Place). is_some (live_row rows p.seg) ≡ true) ps
 
-stored-joined : (ps : List Place) (bs : List ℕ) (hs : List Held) (rows : List (Entry Head)) → length rows ≤ 32768 → AreLive rows ps → stored (joined hs rows) ps bs ≡ joined (puts hs ps bs) rows
+stored-joined : (ps : List Place) (bs : List ℕ) (hs : List Held) (rows : List (Entry Head)) → length rows ≤ 32768 → AreLive rows ps → stored (joined_table hs rows) ps bs ≡ joined_table (puts hs ps bs) rows
 stored-joined [] bs hs rows few h = refl
 stored-joined (p ∷ ps) [] hs rows few h = refl
 stored-joined (p ∷ ps) (b ∷ bs) hs rows few h = ap (λ t. stored t ps bs) (with_byte-joined hs rows p b few h.0) ∙ stored-joined ps bs (put hs p b) rows few h.1
 
-loaded-joined : (ps : List Place) (hs : List Held) (rows : List (Entry Head)) → AreLive rows ps → loaded (joined hs rows) ps ≡ map (get hs) ps
+loaded-joined : (ps : List Place) (hs : List Held) (rows : List (Entry Head)) → AreLive rows ps → loaded (joined_table hs rows) ps ≡ map (get hs) ps
 loaded-joined [] hs rows h = refl
-loaded-joined (p ∷ ps) hs rows h = ap (λ xs. slice_index xs p.at ∷ loaded (joined hs rows) ps) (bytes_at-joined hs rows p.seg h.0) ∙ ap (λ xs. get hs p ∷ xs) (loaded-joined ps hs rows h.1)
+loaded-joined (p ∷ ps) hs rows h = ap (λ xs. slice_index xs p.at ∷ loaded (joined_table hs rows) ps) (bytes_at-joined hs rows p.seg h.0) ∙ ap (λ xs. get hs p ∷ xs) (loaded-joined ps hs rows h.1)
 
-live-run : (n seg at : ℕ) (w : Bool) (rows : List (Entry Head)) → is_some (live rows seg) ≡ true → AreLive rows (run seg at n w)
+live-run : (n seg at : ℕ) (w : Bool) (rows : List (Entry Head)) → is_some (live_row rows seg) ≡ true → AreLive rows (run seg at n w)
 live-run zero seg at w rows h = tt
 live-run (suc n) seg at w rows h = (h, live-run n seg (at + 1) w rows h)
 
@@ -65,7 +65,7 @@ live-spans (p ∷ ps) w hs rows agree h =
 
 -- a store shows in the table as the bytes at the places replaced
 pub store_shown : (hs : List Held) (rows : List (Entry Head)) (w : Bool) (ps : List Span) (new : List ℕ) → Agree hs rows → All (FitsPage hs) ps → sum_by len_of ps ≡ length new
-    → stored (joined hs rows) (span_places w ps) new ≡ joined (written hs ps new) rows
+    → stored (joined_table hs rows) (span_places w ps) new ≡ joined_table (written hs ps new) rows
 store_shown hs rows w ps new agree fit size =
     let fits = each (FitsPage hs) ps fit in
     stored-joined (span_places w ps) new hs rows agree.few (live-spans ps w hs rows agree fits)
@@ -73,11 +73,11 @@ store_shown hs rows w ps new agree fit size =
 
 -- a load gives the bytes at the places of the table
 pub load_shown : (hs : List Held) (rows : List (Entry Head)) (w : Bool) (ps : List Span) → Agree hs rows → All (FitsPage hs) ps
-    → loaded (joined hs rows) (span_places w ps) ≡ read_from hs ps
+    → loaded (joined_table hs rows) (span_places w ps) ≡ read_from hs ps
 load_shown hs rows w ps agree fit = let fits = each (FitsPage hs) ps fit in loaded-joined (span_places w ps) hs rows (live-spans ps w hs rows agree fits) ∙ get-spans ps w hs fits
 
 -- the number that stands there
-pub number_shown : (hs : List Held) (rows : List (Entry Head)) (ps : List Span) → Agree hs rows → All (FitsPage hs) ps → table.number_at (joined hs rows) (span_places false ps) ≡ store.number_in hs ps
+pub number_shown : (hs : List Held) (rows : List (Entry Head)) (ps : List Span) → Agree hs rows → All (FitsPage hs) ps → table.number_at (joined_table hs rows) (span_places false ps) ≡ store.number_in hs ps
 number_shown hs rows ps agree fit = ap (from_le_bytes w64) (load_shown hs rows false ps agree fit)
 
 -- WHAT A STORE LEAVES

@@ -1,5 +1,5 @@
 -- Segments and pages counted over the rows.
-use Rattle.shm_segments.proofs.Names.{◌≡◌, ℕ, suc, ◌+◌, ◌*◌, ◌<◌, ◌≤◌, false, List, [], ◌∷◌, length, Option, Some, None, refl, arith, sum_by-cons, sum_by-set, sum_by_push, get_or-le-sum_by, sum_by, Segment, pages_of, reserved, locked, segment_count, Row, identifier, entry_at, with_row, without_row, row_count, option_map, flat_entry, flat_from, with_row-within, with_row-end, segment_count-flat, Held, bytes_of, Head, whole, joined, pages_in_row, locked_in_row, pages_of_rows, locked_of_rows, Agree, nat_tests, common_steps, FlatEntry, pages_held, pages_locked, Entry, live}
+use Rattle.shm_segments.proofs.Names.{◌≡◌, ℕ, suc, ◌+◌, ◌*◌, ◌<◌, ◌≤◌, false, List, [], ◌∷◌, length, Option, Some, None, refl, arith, sum_by-cons, sum_by-set, sum_by_push, get_or-le-sum_by, sum_by, Segment, pages_of, reserved, locked, segment_count, Row, identifier, entry_at, with_row, without_row, row_count, option_map, flat_entry, flat_from, with_row-within, with_row-end, segment_count-flat, Held, bytes_of, Head, whole, joined_table, pages_in_row, locked_in_row, pages_of_rows, locked_of_rows, Agree, nat_tests, common_steps, FlatEntry, pages_held, pages_locked, Entry, live_row}
 use Rattle.shm_segments.proofs.Joins.{at-live, held-as, live-at}
 use Rattle.shm_segments.proofs.Edits.{with_other}
 use Rattle.shm_segments.proofs.Rows.{IsFree}
@@ -35,13 +35,13 @@ sum-from weigh f hs one n (e ∷ es) all =
     let entry : FlatEntry = flat_entry (whole hs) n e in
     omega (arith, here, rest, sum_by-cons (λ (x : FlatEntry). weigh x.segment) entry (flat_from (whole hs) (n + 1) es), sum_by-cons (λ (x : Entry Head). f x.row) e es)
 
-pub reserved-joined : (hs : List Held) (rows : List (Entry Head)) → Agree hs rows → reserved (joined hs rows) ≡ pages_of_rows rows
+pub reserved-joined : (hs : List Held) (rows : List (Entry Head)) → Agree hs rows → reserved (joined_table hs rows) ≡ pages_of_rows rows
 reserved-joined hs rows agree = sum-from pages_held pages_in_row hs (row-pages hs) 0 rows (all-whole hs rows agree)
 
-pub locked-joined : (hs : List Held) (rows : List (Entry Head)) → Agree hs rows → locked (joined hs rows) ≡ locked_of_rows rows
+pub locked-joined : (hs : List Held) (rows : List (Entry Head)) → Agree hs rows → locked (joined_table hs rows) ≡ locked_of_rows rows
 locked-joined hs rows agree = sum-from pages_locked locked_in_row hs (row-locked hs) 0 rows (all-whole hs rows agree)
 
-pub segment_count-joined : (hs : List Held) (rows : List (Entry Head)) → segment_count (joined hs rows) ≡ row_count rows
+pub segment_count-joined : (hs : List Held) (rows : List (Entry Head)) → segment_count (joined_table hs rows) ≡ row_count rows
 segment_count-joined hs rows = segment_count-flat (whole hs) 0 rows
 
 -- A ROW MORE, ANOTHER OR NONE
@@ -57,12 +57,12 @@ module _ (f : Option (Row Head) → ℕ) (nothing : f None ≡ 0) where
   pub sum-without_row : (rows : List (Entry Head)) (i : ℕ) (r : Row Head) → i < length rows → (entry_at rows i).row ≡ Some r → sum_of (without_row rows i) + f (Some r) ≡ sum_of rows
   sum-without_row rows i r within there = grind (arith, common_steps, sum_by-set)
 
-  pub sum-other : (rows : List (Entry Head)) (id : ℕ) (r s : Row Head) → live rows id ≡ Some r → sum_of (with_other rows id s) + f (Some r) ≡ sum_of rows + f (Some s)
+  pub sum-other : (rows : List (Entry Head)) (id : ℕ) (r s : Row Head) → live_row rows id ≡ Some r → sum_of (with_other rows id s) + f (Some r) ≡ sum_of rows + f (Some s)
   sum-other rows id r s there = grind (arith, common_steps, live-at, sum_by-set)
 
 -- PAGES
 
-pub pages-with_other : (rows : List (Entry Head)) (id : ℕ) (r s : Row Head) → live rows id ≡ Some r → s.value.size ≡ r.value.size → pages_of_rows (with_other rows id s) ≡ pages_of_rows rows
+pub pages-with_other : (rows : List (Entry Head)) (id : ℕ) (r s : Row Head) → live_row rows id ≡ Some r → s.value.size ≡ r.value.size → pages_of_rows (with_other rows id s) ≡ pages_of_rows rows
 pages-with_other rows id r s there size = grind (arith, common_steps, sum-other)
 
 -- LOCKED PAGES
@@ -71,9 +71,9 @@ pub locked-with_row : (rows : List (Entry Head)) (i key : ℕ) (v : Head) → Is
 locked-with_row rows i key v free lock = grind (arith, common_steps, sum-with_row)
 
 -- the same where size and lock stay
-pub locked-other_same : (rows : List (Entry Head)) (id : ℕ) (r s : Row Head) → live rows id ≡ Some r → s.value.size ≡ r.value.size → s.value.locked ≡ r.value.locked → locked_of_rows (with_other rows id s) ≡ locked_of_rows rows
+pub locked-other_same : (rows : List (Entry Head)) (id : ℕ) (r s : Row Head) → live_row rows id ≡ Some r → s.value.size ≡ r.value.size → s.value.locked ≡ r.value.locked → locked_of_rows (with_other rows id s) ≡ locked_of_rows rows
 locked-other_same rows id r s there size lock = grind (arith, common_steps, sum-other locked_in_row refl)
 
 -- a locked segment's pages are among those of all locked ones, and these among all
-pub locked-within : (rows : List (Entry Head)) (id : ℕ) (r : Row Head) → live rows id ≡ Some r → locked_in_row (Some r) ≤ locked_of_rows rows
+pub locked-within : (rows : List (Entry Head)) (id : ℕ) (r : Row Head) → live_row rows id ≡ Some r → locked_in_row (Some r) ≤ locked_of_rows rows
 locked-within rows id r there = grind (arith, common_steps, live-at, get_or-le-sum_by)

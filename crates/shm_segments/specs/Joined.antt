@@ -30,12 +30,12 @@ abbrev pub whole : List Held → ℕ → Row Head → Segment
 whole hs id r = segment_of r (bytes_of hs id)
 
 -- the flat machine's table
-abbrev pub joined : List Held → List (Entry Head) → List FlatEntry
-joined hs rows = flat_table (whole hs) rows
+abbrev pub joined_table : List Held → List (Entry Head) → List FlatEntry
+joined_table hs rows = flat_table (whole hs) rows
 
 -- the row of the live segment with an identifier
-abbrev pub live : List (Entry Head) → ℕ → Option (Row Head)
-live rows id = if identifier (id % 32768) (entry_at rows (id % 32768)).destroyed == id then (entry_at rows (id % 32768)).row else None
+abbrev pub live_row : List (Entry Head) → ℕ → Option (Row Head)
+live_row rows id = if identifier (id % 32768) (entry_at rows (id % 32768)).destroyed == id then (entry_at rows (id % 32768)).row else None
 
 abbrev pub pages_in_row : Option (Row Head) → ℕ
 pages_in_row None = 0
@@ -66,4 +66,4 @@ shape_row r = record { locked = r.value.locked; size = 4096 * pages_of r.value.s
 -- a segment is held where it is live, with its row's lock and pages, and nothing else is held
 pub record Agree (hs : List Held) (rows : List (Entry Head)) : Type 0 where
   pub few : length rows ≤ 32768
-  pub same : (id : ℕ) → option_map shape_held (find_held hs id) ≡ option_map shape_row (live rows id)
+  pub same : (id : ℕ) → option_map shape_held (find_held hs id) ≡ option_map shape_row (live_row rows id)

@@ -4,7 +4,7 @@ use Rattle.shm_base.specs.State.{Segment, Entry}
 use Rattle.shm_plain.specs.Held.{Held, find_held, is_locked}
 use Rattle.shm_slots.specs.Cause.{GoesOn}
 use Rattle.shm_fault.specs.Store.{StoreView, held}
-use Rattle.shm_fault.specs.Steps.{Kept}
+use Rattle.shm_fault.specs.Steps.{LockedPagesStay}
 use Rattle.shm_fault.specs.Sound.{IsStoreSound}
 use Rattle.shm_segments.specs.Table.{live}
 
@@ -27,7 +27,7 @@ pub record IsTableExact (table : List Entry) (m : StoreView) : Type 0 where
 
 -- what each step but a lock keeps of the memory
 pub record Runs (before after : StoreView) : Type 0 where
-  pub kept : Kept before after
+  pub kept : LockedPagesStay before after
   pub locks : (id : ℕ) → is_locked (held after) id ≡ true → is_locked (held before) id ≡ true
   pub goes_on : GoesOn before.swap after.swap
   pub frames : length after.frames ≡ length before.frames

@@ -43,19 +43,19 @@ impl<P: Pager> Drop for Segments<P> {
 
 impl<P: Pager> Model for Segments<P> {
     ghost use Rattle.shm_fault.specs.Store.{held};
-    ghost use Rattle.shm_segments.specs.Joined.{joined};
+    ghost use Rattle.shm_segments.specs.Joined.{joined_table};
     ghost use Rattle.shm_segments.specs.Kept.{IsWhole};
     ghost use Rattle.shm_segments.specs.View.{SegmentsView};
 
     ghost Value = { SegmentsView };
 
-    ghost view = { λ s. record { table = joined (held s.store) s.table; memory = s.store } };
+    ghost view = { λ s. record { table = joined_table (held s.store) s.table; memory = s.store } };
 
     ghost invariant = { λ s. IsWhole s.store s.table s.reserved s.locked };
 }
 
 ghost use Rattle.shm_ids.specs.Table.{look, find_key, free_index, with_key, with_row, without_row, index_of, key_at};
-ghost use Rattle.shm_segments.specs.Joined.{live as live_row};
+ghost use Rattle.shm_segments.specs.Joined.{live_row};
 
 // The identifier of a live segment, as the table has it.
 fn id_of(table: &IdTable<Head>, seg: u32) -> ShmId
@@ -63,10 +63,7 @@ fn id_of(table: &IdTable<Head>, seg: u32) -> ShmId
     ensures id { result ≡ pos seg }
     ensures live { IsOk (look table.now (pos seg)) }
 {
-    match table.row_at(seg as usize % INDEXES as usize) {
-        Some((id, _, _)) => id,
-        None => unreachable!(),
-    }
+    table.live_id(seg)
 }
 
 // The pages of a segment, if it is locked.
@@ -84,12 +81,12 @@ fn found_under(table: &IdTable<Head>, id: ShmId) -> Result<Found, LookRefused>
     ensures head { IfOk result (λ f. look table.now id ≡ Ok f.head) }
     ensures err { IfErr result (λ e. look table.now id ≡ Err e) }
 {
-    let head = *table.look(id)?;
+    let row = table.look(id)?;
     Ok(Found {
         seg: id as u32,
         id,
-        key: table.key_of(id),
-        head,
+        key: row.key,
+        head: row.value,
     })
 }
 

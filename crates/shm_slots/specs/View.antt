@@ -48,12 +48,12 @@ abbrev pub CountedFault : AreaView → AreaView → Type 0
 CountedFault before after = (after.failed ≡ before.failed + 1) ⊎ ((before.failed ≡ last_count) × (after ≡ before))
 
 -- a read that failed: the count alone may differ
-abbrev pub ReadFault : AreaView → AreaView → Type 0
-ReadFault before after = (after ≡ record before { failed = after.failed }) × CountedFault before after
+abbrev pub AfterReadFault : AreaView → AreaView → Type 0
+AfterReadFault before after = (after ≡ record before { failed = after.failed }) × CountedFault before after
 
 -- a write that failed: what the slot holds is unknown, and the count may differ
-abbrev pub WriteFault : ℕ → AreaView → AreaView → Type 0
-WriteFault slot before after =
+abbrev pub AfterWriteFault : ℕ → AreaView → AreaView → Type 0
+AfterWriteFault slot before after =
     (after ≡ record before { pages = after.pages; failed = after.failed }) × SlotUnknown slot before.pages after.pages × CountedFault before after
 
 -- the area with a page in one slot

@@ -53,7 +53,7 @@ impl<P: Pager> Model for Area<P> {
 }
 
 impl<P: Pager> Area<P> {
-    ghost use Rattle.shm_slots.specs.View.{with_page, with_owner, ReadFault, WriteFault, is_spent, rise, off, fresh, size_of, used_in, IsArea};
+    ghost use Rattle.shm_slots.specs.View.{with_page, with_owner, AfterReadFault, AfterWriteFault, is_spent, rise, off, fresh, size_of, used_in, IsArea};
 
     /// An area with no slot owned.
     pub fn new(alloc: Global, pager: P) -> Result<Area<P>, AllocError>
@@ -157,7 +157,7 @@ impl<P: Pager> Area<P> {
     pub fn write(&mut self, slot: u32, page: &[u8; PAGE_BYTES]) -> Result<(), PagerFault>
         requires { slot < length self.old.pages }
         ensures ok { IfOk result (λ _. self.new ≡ with_page self.old slot page.now) }
-        ensures err { IfErr result (λ _. WriteFault slot self.old self.new) }
+        ensures err { IfErr result (λ _. AfterWriteFault slot self.old self.new) }
         ensures rest { self.new ≡ record self.old { pages = self.new.pages; failed = self.new.failed } }
         ensures counts { self.old.failed ≤ self.new.failed }
         ensures sound { IsArea self.new }
@@ -173,7 +173,7 @@ impl<P: Pager> Area<P> {
         requires { slot < length self.old.pages }
         ensures ok { IfOk result (λ _. self.new ≡ self.old) }
         ensures page { IfOk result (λ _. get_or self.old.pages slot [] ≡ page.new) }
-        ensures err { IfErr result (λ _. ReadFault self.old self.new) }
+        ensures err { IfErr result (λ _. AfterReadFault self.old self.new) }
         ensures rest { self.new ≡ record self.old { failed = self.new.failed } }
         ensures counts { self.old.failed ≤ self.new.failed }
         ensures sound { IsArea self.new }

@@ -35,7 +35,7 @@ fn stays_unspent<P: Pager>(never_spent: bool, area: &Area<P>) -> bool
 }
 
 impl<P: Pager> Swap<P> {
-    ghost use Rattle.shm_slots.specs.View.{SwapView, new_swap, fresh, area_at, with_area, off, HasSlot, owner_of, page_in, with_slot_page, without_slot, FoundFree, Takes, OneArea, SameSlots, ReadFault, WriteFault, size_of, sizes, slots, used_in, used_slots, IsAreaSize, IsSwap};
+    ghost use Rattle.shm_slots.specs.View.{SwapView, new_swap, fresh, area_at, with_area, off, HasSlot, owner_of, page_in, with_slot_page, without_slot, FoundFree, Takes, OneArea, SameSlots, AfterReadFault, AfterWriteFault, size_of, sizes, slots, used_in, used_slots, IsAreaSize, IsSwap};
     ghost use Rattle.shm_slots.specs.Cause.{total, had_cause, GoesOn, IsSteady};
 
     /// Swap over these pagers, which become the areas 0, 1 and so on. No slot is owned. A pager that is
@@ -190,7 +190,7 @@ impl<P: Pager> Swap<P> {
         requires { HasSlot self.old slot.area slot.slot }
         ensures ok { IfOk result (λ _. self.new ≡ with_slot_page self.old slot page.now) }
         ensures err { IfErr result (λ _.
-            WriteFault slot.slot (area_at self.old slot.area) (area_at self.new slot.area)) }
+            AfterWriteFault slot.slot (area_at self.old slot.area) (area_at self.new slot.area)) }
         ensures cause { OnErr result (had_cause self.old self.new ≡ true) }
         ensures others { OneArea slot.area self.old self.new }
         ensures goes_on { GoesOn self.old self.new }
@@ -210,7 +210,7 @@ impl<P: Pager> Swap<P> {
         ensures ok { IfOk result (λ _. self.new ≡ self.old) }
         ensures page { IfOk result (λ _. page_in self.old slot.area slot.slot ≡ page.new) }
         ensures err { IfErr result (λ _.
-            ReadFault (area_at self.old slot.area) (area_at self.new slot.area)) }
+            AfterReadFault (area_at self.old slot.area) (area_at self.new slot.area)) }
         ensures cause { OnErr result (had_cause self.old self.new ≡ true) }
         ensures kept { SameSlots self.old self.new }
         ensures others { OneArea slot.area self.old self.new }

@@ -36,7 +36,7 @@ fn put(space: &mut Space, base: u64, seg: u32, pages: u32) -> bool {
     if base > END_ADDRESS - PAGE_SIZE * pages as u64 || space.pieces().len() >= 256 {
         return false;
     }
-    if space.is_occupied(base, base + PAGE_SIZE * pages as u64) {
+    if !space.met(base, base + PAGE_SIZE * pages as u64).is_empty() {
         return false;
     }
     space.insert(Piece {

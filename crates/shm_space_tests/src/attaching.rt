@@ -5,7 +5,7 @@ use shm_attach::Spaces;
 use shm_base::{
     Cred, END_ADDRESS, FrameNo, HostMemory, LOWEST_ADDRESS, PAGE_SIZE, PageRef, Process, Span,
 };
-use shm_fault::{Move, PageStore};
+use shm_fault::{PageMove, PageStore};
 use shm_pager::RamPager;
 use shm_slots::Swap;
 use std::alloc::Global;
@@ -34,7 +34,7 @@ enum Act {
     /// The frames that a process has for its pages from an address on.
     Frames(u32, u64, &'static [Option<FrameNo>]),
     /// Pages move.
-    Note(&'static [Move]),
+    Note(&'static [PageMove]),
 }
 
 /// Process 1 of user 100, and child 2.
@@ -319,11 +319,11 @@ const MOVES: &[Act] = &[
     Act::Attach(0, 0x40000000, 3, true),
     Act::Fork(2, true),
     Act::Frames(2, 0x40002000, &[None]),
-    Act::Note(&[Move::Came(FIRST, 5), Move::Came(LAST, 6)]),
+    Act::Note(&[PageMove::Came(FIRST, 5), PageMove::Came(LAST, 6)]),
     Act::Frames(1, 0x40002000, &[Some(6)]),
     Act::Frames(2, 0x40002000, &[Some(6)]),
     Act::Frames(2, 0x40001000, &[None]),
-    Act::Note(&[Move::Gone(LAST), Move::Came(OTHER, 6)]),
+    Act::Note(&[PageMove::Gone(LAST), PageMove::Came(OTHER, 6)]),
     Act::Frames(1, 0x40002fff, &[None]),
     Act::Frames(2, 0x40002fff, &[None]),
     Act::Frames(2, 0x40000000, &[Some(5)]),
@@ -336,7 +336,7 @@ fn moves_reach_each_piece_and_each_process(rt: HostRuntime) -> Result<(), HostMe
 
 const GONE: &[Act] = &[
     Act::Attach(0, 0x40000000, 1, true),
-    Act::Note(&[Move::Came(FIRST, 5)]),
+    Act::Note(&[PageMove::Came(FIRST, 5)]),
     Act::Attach(0, 0x40001000, 2, true),
     Act::Detach(0x40000000, Some(0)),
     Act::Frames(1, 0x40001000, &[Some(5), None]),
@@ -353,15 +353,15 @@ fn a_gone_segment_has_no_frames(rt: HostRuntime) -> Result<(), HostMemory> {
 // Of four pages in frames 10 to 13, two are replaced, and one goes.
 const CUT_TWICE: &[Act] = &[
     Act::Attach(0, 0x40000000, 4, true),
-    Act::Note(&[Move::Came(FIRST, 10)]),
-    Act::Note(&[Move::Came(PageRef { seg: 0, page: 1 }, 11)]),
-    Act::Note(&[Move::Came(LAST, 12)]),
-    Act::Note(&[Move::Came(PageRef { seg: 0, page: 3 }, 13)]),
+    Act::Note(&[PageMove::Came(FIRST, 10)]),
+    Act::Note(&[PageMove::Came(PageRef { seg: 0, page: 1 }, 11)]),
+    Act::Note(&[PageMove::Came(LAST, 12)]),
+    Act::Note(&[PageMove::Came(PageRef { seg: 0, page: 3 }, 13)]),
     Act::Attach(1, 0x40001000, 1, true),
     Act::Frames(1, 0x40000000, &[Some(10), None, Some(12), Some(13)]),
     Act::Attach(1, 0x40002000, 1, true),
     Act::Frames(1, 0x40000000, &[Some(10), None, None, Some(13)]),
-    Act::Note(&[Move::Gone(PageRef { seg: 0, page: 3 })]),
+    Act::Note(&[PageMove::Gone(PageRef { seg: 0, page: 3 })]),
     Act::Frames(1, 0x40000000, &[Some(10), None, None, None]),
 ];
 

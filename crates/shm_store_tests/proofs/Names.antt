@@ -22,5 +22,5 @@ pub use Rattle.shm_plain.specs.Access.{IsAccess}
 pub use Rattle.shm_plain.specs.Apart.{AreHeldApart}
 pub use Rattle.shm_plain.specs.Held.{FitsPage, Held, bytes_in, bytes_of, find_held, is_held, pages_held, pages_in, pasted, with_lock, with_zeros, without, written}
 pub use Rattle.shm_slots.specs.View.{AreaView, SwapView, fresh, new_swap, owner_of, size_of}
-pub use Rattle.shm_store_tests.specs.Trial.{AreAlike, HasThree, Row, known, pages_all, pages_pinned, row_of, row_with_lock, three, with_frame}
+pub use Rattle.shm_store_tests.specs.Trial.{AreAlike, HasThree, Row, frame_named, pages_all, pages_pinned, row_of, row_pages, row_with_lock, three_pages}
 pub use Rattle.shm_store_tests.specs.Unlocked.{is_unlocked}

@@ -1,9 +1,9 @@
 -- What the rows of a run tell of the segments that are held.
-use Rattle.shm_store_tests.proofs.Names.{◌≡◌, ℕ, ◌+◌, ◌/◌, ◌≤◌, ◌==◌, Bool, true, false, not, List, [], ◌∷◌, ◌++◌, length, map, filter, take, drop, get_or, Option, Some, is_some, option_map, refl, sym, ap, ◌∙◌, inl, inr, arith, All, sum_by, eqb_tells, common_steps, length-replicate, length-map, sum_by-cons, All-head, All-tail, All-get_or, All-map, Span, Held, find_held, bytes_in, bytes_of, is_held, pages_in, pages_held, with_zeros, without, with_lock, FitsPage, pasted, written, AreHeldApart, apart-push, apart-without, apart-lock, apart-pasted, fits-pasted, length-paste, StoreView, held, frame_of, page_of, Row, row_of, known, row_with_lock, pages_all, with_frame, AreAlike, IsAccess, NameFrames}
+use Rattle.shm_store_tests.proofs.Names.{◌≡◌, ℕ, ◌+◌, ◌/◌, ◌≤◌, ◌==◌, Bool, true, false, not, List, [], ◌∷◌, ◌++◌, length, map, filter, take, drop, get_or, Option, Some, is_some, option_map, refl, sym, ap, ◌∙◌, inl, inr, arith, All, sum_by, eqb_tells, common_steps, length-replicate, length-map, sum_by-cons, All-head, All-tail, All-get_or, All-map, Span, Held, find_held, bytes_in, bytes_of, is_held, pages_in, pages_held, with_zeros, without, with_lock, FitsPage, pasted, written, AreHeldApart, apart-push, apart-without, apart-lock, apart-pasted, fits-pasted, length-paste, StoreView, held, frame_of, page_of, Row, row_of, row_pages, row_with_lock, pages_all, frame_named, AreAlike, IsAccess, NameFrames}
 
-pub known-is : (hs : List Held) (id : ℕ) → known (map row_of hs) id ≡ option_map pages_in (find_held hs id)
-known-is [] id = refl
-known-is (g ∷ gs) id = elim (eqb_tells g.id id) [ inl w ↦ rw w.0 refl | inr w ↦ rw w.0 (known-is gs id) ]
+pub row_pages-is : (hs : List Held) (id : ℕ) → row_pages (map row_of hs) id ≡ option_map pages_in (find_held hs id)
+row_pages-is [] id = refl
+row_pages-is (g ∷ gs) id = elim (eqb_tells g.id id) [ inl w ↦ rw w.0 refl | inr w ↦ rw w.0 (row_pages-is gs id) ]
 
 pub all-is : (hs : List Held) → pages_all (map row_of hs) ≡ pages_held hs
 all-is [] = refl
@@ -58,11 +58,11 @@ some-told : (o : Option Held) → is_some (option_map pages_in o) ≡ is_some o
 some-told o = grind (arith, common_steps)
 
 module _ (s : StoreView) (hs : List Held) (rows : List Row) (a : AreAlike s hs rows) where
-  pub pages-told : (id n : ℕ) → known rows id ≡ Some n → (is_held (held s) id ≡ true) × (length (bytes_of (held s) id) / 4096 ≡ n)
-  pages-told id n e = told-some (find_held (held s) id) n (sym (known-is (held s) id) ∙ ap (λ r. known r id) (sym a.told) ∙ e)
+  pub pages-told : (id n : ℕ) → row_pages rows id ≡ Some n → (is_held (held s) id ≡ true) × (length (bytes_of (held s) id) / 4096 ≡ n)
+  pages-told id n e = told-some (find_held (held s) id) n (sym (row_pages-is (held s) id) ∙ ap (λ r. row_pages r id) (sym a.told) ∙ e)
 
-  pub has-told : (id : ℕ) → is_some (known rows id) ≡ is_held (held s) id
-  has-told id = ap (λ r. is_some (known r id)) a.told ∙ ap is_some (known-is (held s) id) ∙ some-told (find_held (held s) id)
+  pub has-told : (id : ℕ) → is_some (row_pages rows id) ≡ is_held (held s) id
+  has-told id = ap (λ r. is_some (row_pages r id)) a.told ∙ ap is_some (row_pages-is (held s) id) ∙ some-told (find_held (held s) id)
 
   -- WHAT A CALL LEAVES
 
@@ -90,16 +90,16 @@ module _ (s : StoreView) (hs : List Held) (rows : List Row) (a : AreAlike s hs r
 
 -- FRAMES NAMED
 
-sum-named : (s : StoreView) (ps : List Span) → sum_by (λ (p : Span). p.len) (map (with_frame s) ps) ≡ sum_by (λ (p : Span). p.len) ps
+sum-named : (s : StoreView) (ps : List Span) → sum_by (λ (p : Span). p.len) (map (frame_named s) ps) ≡ sum_by (λ (p : Span). p.len) ps
 sum-named s [] = refl
 sum-named s (p ∷ ps) = grind (arith, common_steps, sum_by-cons, sum-named s ps)
 
-pub access-named : (s t : StoreView) (ps : List Span) (n : ℕ) → IsAccess (FitsPage (held s)) ps n → held t ≡ held s → IsAccess (FitsPage (held t)) (map (with_frame s) ps) n
+pub access-named : (s t : StoreView) (ps : List Span) (n : ℕ) → IsAccess (FitsPage (held s)) ps n → held t ≡ held s → IsAccess (FitsPage (held t)) (map (frame_named s) ps) n
 access-named s t ps n a same = record {
-  few = rw (length-map ps (with_frame s)) a.few;
-  fit = rw same (All-map (FitsPage (held s)) (with_frame s) ps a.fit);
+  few = rw (length-map ps (frame_named s)) a.few;
+  fit = rw same (All-map (FitsPage (held s)) (frame_named s) ps a.fit);
   sum = sum-named s ps ∙ a.sum;
 }
 
-pub frames-named : (s : StoreView) (ps : List Span) → NameFrames s (map (with_frame s) ps)
-frames-named s ps = All-map (λ (p : Span). p.frame ≡ frame_of s p.seg (page_of p)) (with_frame s) ps (λ k d lt. refl)
+pub frames-named : (s : StoreView) (ps : List Span) → NameFrames s (map (frame_named s) ps)
+frames-named s ps = All-map (λ (p : Span). p.frame ≡ frame_of s p.seg (page_of p)) (frame_named s) ps (λ k d lt. refl)

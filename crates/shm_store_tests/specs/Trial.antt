@@ -15,16 +15,16 @@ abbrev pub row_of : Held → Row
 row_of g = record { seg = g.id; locked = g.locked; pages = pages_in g }
 
 -- the store holds segment 0 alone, of three pages
-abbrev pub three : List Row
-three = record { seg = 0; locked = false; pages = 3 } ∷ []
+abbrev pub three_pages : List Row
+three_pages = record { seg = 0; locked = false; pages = 3 } ∷ []
 
 abbrev pub HasThree : StoreView → Type 0
-HasThree s = map row_of (held s) ≡ three
+HasThree s = map row_of (held s) ≡ three_pages
 
 -- how many pages a segment has, if there is a row of that number
-abbrev pub known : List Row → ℕ → Option ℕ
-known [] seg = None
-known (r ∷ rs) seg = if r.seg == seg then Some r.pages else known rs seg
+abbrev pub row_pages : List Row → ℕ → Option ℕ
+row_pages [] seg = None
+row_pages (r ∷ rs) seg = if r.seg == seg then Some r.pages else row_pages rs seg
 
 abbrev pub row_with_lock : ℕ → Bool → Row → Row
 row_with_lock seg locked r = if r.seg == seg then record r { locked = locked } else r
@@ -48,5 +48,5 @@ pub record AreAlike (s : StoreView) (plain : List Held) (rows : List Row) : Type
   pub apart : AreHeldApart (held s)
 
 -- the span with the frame that its page is in
-abbrev pub with_frame : StoreView → Span → Span
-with_frame s p = record p { frame = frame_of s p.seg (page_of p) }
+abbrev pub frame_named : StoreView → Span → Span
+frame_named s p = record p { frame = frame_of s p.seg (page_of p) }

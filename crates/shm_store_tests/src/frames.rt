@@ -13,7 +13,7 @@ fn comes(frames: &mut Frames, seg: u32, resident: u64) -> bool {
     let page = PageRef { seg, page: 2 };
     frames.fill(frame, page);
     u64::from(frame) + 1 == resident
-        && frames.owner(frame) == Some(page)
+        && frames.resident_page(frame) == page
         && frames.bytes(frame)[4095] == 9
         && frames.resident() == resident
 }
@@ -38,7 +38,7 @@ fn set_bits(frames: &mut Frames, frame: u32) -> bool {
 }
 
 // A frame is emptied, if it is taken; whether it is, and is the free frame of least number again, with its bytes.
-fn leaves(frames: &mut Frames, frame: u32) -> bool {
+fn empties(frames: &mut Frames, frame: u32) -> bool {
     if frame >= frames.count() || frames.owner(frame).is_none() {
         return false;
     }
@@ -56,7 +56,7 @@ enum Act {
     /// Both bits of a frame are set.
     Set(u32),
     /// A frame is emptied.
-    Leave(u32),
+    Empty(u32),
     /// A frame's bits, whether it is referenced and whether it is dirty.
     Bits(u32, bool, bool),
     /// How many frames are resident and how many are dirty.
@@ -68,7 +68,7 @@ fn answers(frames: &mut Frames, looks: &mut Looks, act: Act) -> bool {
     match act {
         Act::Come(seg, resident) => comes(frames, seg, resident),
         Act::Set(frame) => set_bits(frames, frame),
-        Act::Leave(frame) => leaves(frames, frame),
+        Act::Empty(frame) => empties(frames, frame),
         Act::Bits(frame, referenced, dirty) => has_bits(frames, frame, looks, referenced, dirty),
         Act::Counts(resident, dirty) => frames.resident() == resident && frames.dirty() == dirty,
     }
@@ -83,7 +83,7 @@ const ACTS: &[Act] = &[
     Act::Set(1),
     Act::Bits(1, true, true),
     Act::Counts(2, 1),
-    Act::Leave(1),
+    Act::Empty(1),
     Act::Bits(1, false, false),
     Act::Counts(1, 0),
 ];

@@ -4,7 +4,7 @@ ghost use Rattle.std.specs.Prelude.{◌≡◌, ◌+◌, ◌<◌, ◌==◌, ◌||
 ghost use Rattle.shm_plain.specs.Held.{FitsPage, is_held};
 ghost use Rattle.shm_plain.specs.Access.{IsAccess};
 ghost use Rattle.shm_fault.specs.Store.{held};
-ghost use Rattle.shm_store_tests.specs.Trial.{Row as Told, known, row_with_lock, pages_all, pages_pinned, with_frame, AreAlike};
+ghost use Rattle.shm_store_tests.specs.Trial.{Row as Told, row_pages, row_with_lock, pages_all, pages_pinned, frame_named, AreAlike};
 
 use crate::pagers::{fuse, mirror};
 use crate::paging::{add_segment, is_area};
@@ -68,7 +68,7 @@ fn below(dice: &mut Dice, n: u32) -> u32
 
 // How many pages a segment has, if there is one of that number.
 fn find(rows: &Vec<Row>, seg: u32) -> Option<u32>
-    ensures { result ≡ known rows.now.items seg }
+    ensures { result ≡ row_pages rows.now.items seg }
 {
     for row in rows {
         if row.seg == seg {
@@ -239,7 +239,7 @@ fn stretch<P: Pager>(pair: &Pair<P>, seg: u32, page: u32, from: u32, len: u32) -
 
 // Notes the frame that the page of each stretch is in.
 fn name_frames<P: Pager>(rt: &impl Abort, store: &PageStore<P>, spans: &mut [Span])
-    ensures { spans.new ≡ map (with_frame store.now) spans.old }
+    ensures { spans.new ≡ map (frame_named store.now) spans.old }
 {
     for span in spans.iter_mut() {
         assert!(rt; span.at < 1000000000);

@@ -11,7 +11,7 @@ use Rattle.shm_text.specs.declared.script.LineId.{LineId}
 use Rattle.shm_text.specs.declared.script.LineAddr.{LineAddr}
 use Rattle.shm_text.specs.declared.script.LineCall.{LineCall}
 use Rattle.shm_text.specs.declared.script.LineCall.TheVariants.{Shmget, Shmat, Shmdt, Stat, Set, Rmid, Lock, Unlock, Load, Store, Xadd, Fork, Exec, Exit, Swapoff}
-use Rattle.shm_text.specs.Operand.{◌>>=◌, wanted, ranged, any, key_word, id_word, ranged_id, addr_word, ranged_addr, mode_word, get_flags_word, at_flags_word, chunk_word}
+use Rattle.shm_text.specs.Operand.{◌>>=◌, required_number, ranged, any, key_word, id_word, ranged_id, addr_word, ranged_addr, mode_word, get_flags_word, at_flags_word, chunk_word}
 use Rattle.shm_text.specs.Words.{word_at}
 
 -- the words of calls that name no segment
@@ -85,7 +85,7 @@ addr_operand ws i = addr_word (word_at ws i) >>= ranged_addr
 unfoldable pub shmget_call : List (List ℕ) → ℕ → Result LineCall FaultKind
 shmget_call ws i = do
   key ← key_word (word_at ws i)
-  size ← wanted (word_at ws (i + 1))
+  size ← required_number (word_at ws (i + 1))
   mode ← mode_word (take 3 (word_at ws (i + 2)))
   flags ← get_flags_word (drop 3 (word_at ws (i + 2)))
   key ← ranged 0 4294967295 key
@@ -104,7 +104,7 @@ shmat_call ws i = do
 unfoldable pub xadd_call : List (List ℕ) → ℕ → Result LineCall FaultKind
 xadd_call ws i = do
   addr ← addr_word (word_at ws i)
-  add ← wanted (word_at ws (i + 1))
+  add ← required_number (word_at ws (i + 1))
   addr ← ranged_addr addr
   add ← any add
   Ok (Xadd addr add)
@@ -112,7 +112,7 @@ xadd_call ws i = do
 unfoldable pub load_call : List (List ℕ) → ℕ → Result LineCall FaultKind
 load_call ws i = do
   addr ← addr_word (word_at ws i)
-  len ← wanted (word_at ws (i + 1))
+  len ← required_number (word_at ws (i + 1))
   addr ← ranged_addr addr
   len ← ranged 1 64 len
   Ok (Load addr len)
@@ -127,8 +127,8 @@ store_call ws i = do
 unfoldable pub set_call : List (List ℕ) → ℕ → Result LineCall FaultKind
 set_call ws i = do
   id ← id_word (word_at ws i)
-  uid ← wanted (word_at ws (i + 1))
-  gid ← wanted (word_at ws (i + 2))
+  uid ← required_number (word_at ws (i + 1))
+  gid ← required_number (word_at ws (i + 2))
   mode ← mode_word (word_at ws (i + 3))
   id ← ranged_id id
   uid ← ranged 0 4294967295 uid
@@ -137,13 +137,13 @@ set_call ws i = do
 
 unfoldable pub fork_call : List (List ℕ) → ℕ → Result LineCall FaultKind
 fork_call ws i = do
-  child ← wanted (word_at ws i)
+  child ← required_number (word_at ws i)
   child ← ranged 1 2147483647 child
   Ok (Fork child)
 
 unfoldable pub swapoff_call : List (List ℕ) → ℕ → Result LineCall FaultKind
 swapoff_call ws i = do
-  area ← wanted (word_at ws i)
+  area ← required_number (word_at ws i)
   area ← ranged 0 7 area
   Ok (Swapoff area)
 

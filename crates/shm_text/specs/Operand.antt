@@ -28,8 +28,8 @@ abbrev pub ◌>>=◌ : {E A B : Type 0} → Result A E → (A → Result B E) �
 (Err e) >>= f = Err e
 
 -- a word that has to be a number
-abbrev pub wanted : List ℕ → Result Number FaultKind
-wanted w = ok_or (number_of w) BadLine
+abbrev pub required_number : List ℕ → Result Number FaultKind
+required_number w = ok_or (number_of w) BadLine
 
 -- a number within its range
 abbrev pub ranged : ℕ → ℕ → Number → Result ℕ FaultKind
@@ -42,7 +42,7 @@ any n = ranged 0 (2 ^ 64 - 1) n
 
 -- a key: `private`, which is 0, or a number
 abbrev pub key_word : List ℕ → Result Number FaultKind
-key_word w = if bytes_eq w (codes "private") then Ok (Fits 0) else wanted w
+key_word w = if bytes_eq w (codes "private") then Ok (Fits 0) else required_number w
 
 -- the variable of a word's first letter
 abbrev pub letter_of : List ℕ → Option ℕ
@@ -51,7 +51,7 @@ letter_of w = if within 97 122 (slice_index w 0) then Some (slice_index w 0) els
 -- an identifier: one letter, or a number
 abbrev pub id_by : List ℕ → Option ℕ → Result IdWord FaultKind
 id_by w (Some v) = if length w == 1 then Ok (id_words.Letter v) else Err BadLine
-id_by w None = wanted w >>= λ n. Ok (id_words.Literal n)
+id_by w None = required_number w >>= λ n. Ok (id_words.Literal n)
 
 abbrev pub id_word : List ℕ → Result IdWord FaultKind
 id_word w = id_by w (letter_of w)
@@ -64,9 +64,9 @@ ranged_id (id_words.Letter v) = Ok (ids.Var v)
 abbrev pub addr_by : List ℕ → Option ℕ → Result AddrWord FaultKind
 addr_by w (Some v) =
     if length w == 1 then Ok (addr_words.Letter v) else
-    if slice_index w 1 == 43 then (wanted (drop 2 w) >>= λ n. Ok (addr_words.LetterPlus v n)) else
+    if slice_index w 1 == 43 then (required_number (drop 2 w) >>= λ n. Ok (addr_words.LetterPlus v n)) else
     Err BadLine
-addr_by w None = wanted w >>= λ n. Ok (addr_words.Literal n)
+addr_by w None = required_number w >>= λ n. Ok (addr_words.Literal n)
 
 abbrev pub addr_word : List ℕ → Result AddrWord FaultKind
 addr_word w = if bytes_eq w (codes "null") then Ok (addr_words.Literal (Fits 0)) else addr_by w (letter_of w)

@@ -19,7 +19,7 @@ use Rattle.shm_text.specs.declared.script.Item.TheVariants as items
 use Rattle.shm_text.specs.Script.{ScriptView}
 use Rattle.shm_text.specs.declared.number.Number.{Number}
 use Rattle.shm_text.specs.Calls.{call_words}
-use Rattle.shm_text.specs.Operand.{◌>>=◌, wanted, ranged, any, letter_of}
+use Rattle.shm_text.specs.Operand.{◌>>=◌, required_number, ranged, any, letter_of}
 use Rattle.shm_text.specs.Words.{is_allowed, words_of, lines_of, word_at}
 
 -- what the lines above a line said
@@ -40,11 +40,11 @@ limits_by (Err e) = Err (BadLimits e.0)
 
 unfoldable pub limits_item : List (List ℕ) → Result Item FaultKind
 limits_item ws = if length ws == 6 then (do
-  shmmax ← wanted (word_at ws 1)
-  shmmni ← wanted (word_at ws 2)
-  shmall ← wanted (word_at ws 3)
-  frames ← wanted (word_at ws 4)
-  memlock ← wanted (word_at ws 5)
+  shmmax ← required_number (word_at ws 1)
+  shmmni ← required_number (word_at ws 2)
+  shmall ← required_number (word_at ws 3)
+  frames ← required_number (word_at ws 4)
+  memlock ← required_number (word_at ws 5)
   shmmax ← any shmmax
   shmmni ← any shmmni
   shmall ← any shmall
@@ -64,9 +64,9 @@ declared seen p =
 
 unfoldable pub process_item : SeenView → List (List ℕ) → Result Item FaultKind
 process_item seen ws = if length ws == 4 then (do
-  pid ← wanted (word_at ws 1)
-  uid ← wanted (word_at ws 2)
-  gid ← wanted (word_at ws 3)
+  pid ← required_number (word_at ws 1)
+  uid ← required_number (word_at ws 2)
+  gid ← required_number (word_at ws 3)
   pid ← ranged 1 2147483647 pid
   uid ← ranged 0 4294967295 uid
   gid ← ranged 0 4294967295 gid
@@ -74,7 +74,7 @@ process_item seen ws = if length ws == 4 then (do
 
 unfoldable pub child_item : SeenView → List (List ℕ) → Result Item FaultKind
 child_item seen ws = if length ws == 2 then (do
-  pid ← wanted (word_at ws 1)
+  pid ← required_number (word_at ws 1)
   pid ← ranged 1 2147483647 pid
   declared seen (record { pid = pid; born = None })) else Err BadLine
 
@@ -119,27 +119,27 @@ command seen pid var ws = do
 -- a flush round of so many pages at most
 unfoldable pub flush_item : List (List ℕ) → Result Item FaultKind
 flush_item ws = if (length ws == 3) && has ws 1 (codes "flush") then (do
-  pages ← wanted (word_at ws 2)
+  pages ← required_number (word_at ws 2)
   pages ← ranged 1 4096 pages
   Ok (items.Line (lines.Flush pages))) else Err BadLine
 
 -- the word `0` is no pid, and stands before `flush` alone
 unfoldable pub command_item : SeenView → List (List ℕ) → Result Item FaultKind
 command_item seen ws = if has ws 0 (codes "0") then flush_item ws else (do
-  pid ← wanted (word_at ws 0)
+  pid ← required_number (word_at ws 0)
   command seen pid (taker ws) ws)
 
 -- LINES
 
 -- where there may be one more command or flush line
-abbrev pub counted : SeenView → Result Item FaultKind → Result Item FaultKind
-counted seen said = said >>= λ item. if nat_lt seen.commands 100000 then Ok item else Err TooMany
+abbrev pub with_room : SeenView → Result Item FaultKind → Result Item FaultKind
+with_room seen said = said >>= λ item. if nat_lt seen.commands 100000 then Ok item else Err TooMany
 
 -- a line behind the limits
 unfoldable pub body_item : SeenView → List (List ℕ) → Result Item FaultKind
 body_item seen ws =
     if has ws 0 (codes "process") || has ws 0 (codes "child") then declaration seen ws else
-    counted seen (command_item seen ws)
+    with_room seen (command_item seen ws)
 
 -- no words, or a first word that begins with #
 abbrev pub is_skipped : List (List ℕ) → Bool
@@ -226,8 +226,8 @@ abbrev pub script_from : List Item → Result ScriptView ScriptFault
 script_from items = script_by (limits_after None items) items
 
 -- what lines say, one after another from the first
-abbrev pub told : List (List ℕ) → Result ScriptView ScriptFault
-told text_lines = items_of 1 nothing text_lines >>= script_from
+abbrev pub script_of_lines : List (List ℕ) → Result ScriptView ScriptFault
+script_of_lines text_lines = items_of 1 nothing text_lines >>= script_from
 
 -- a blank line or a comment, whatever its bytes
 abbrev pub is_wordless : List ℕ → Bool
@@ -244,7 +244,7 @@ without_words text_lines = record { line = 1; kind = kind_without_limits (slice_
 
 -- what the lines of a text say
 abbrev pub said : List (List ℕ) → Result ScriptView ScriptFault
-said text_lines = if list_all is_wordless text_lines then Err (without_words text_lines) else told text_lines
+said text_lines = if list_all is_wordless text_lines then Err (without_words text_lines) else script_of_lines text_lines
 
 -- what a script says, or its first fault
 unfoldable pub script_of : List ℕ → Result ScriptView ScriptFault

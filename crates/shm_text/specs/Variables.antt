@@ -61,16 +61,16 @@ id_number (pos n) = Some n
 id_number (negsuc n) = None
 
 -- the number that a variable takes from a reply
-abbrev pub number_in : Reply → Option ℕ
-number_in (Id id) = id_number id
-number_in (Addr addr) = Some addr
-number_in (Number n) = Some n
-number_in _ = None
+abbrev pub reply_number : Reply → Option ℕ
+reply_number (Id id) = id_number id
+reply_number (Addr addr) = Some addr
+reply_number (Number n) = Some n
+reply_number _ = None
 
 -- a call that is out of memory gives no reply
 abbrev pub answer_in : Option Reply → Option ℕ
 answer_in None = None
-answer_in (Some r) = number_in r
+answer_in (Some r) = reply_number r
 
 -- the variables once a line with this variable, or none, was answered
 abbrev pub values_after : List (Option ℕ) → Option ℕ → Option Reply → List (Option ℕ)

@@ -1,7 +1,7 @@
 //! The forms of lines.
 ghost use Rattle.std.specs.Prelude.{◌≡◌, ◌<◌, ◌≤◌, length, true, false, IfOk};
 ghost use Rattle.shm_text.specs.Form.{is_pid};
-ghost use Rattle.shm_text.specs.Reading.{limits_item, process_item, child_item, declared, declaration, taker, known, known_child, declared_pid, flush_item, words_item, line_item, is_command, counted, some_item, is_skipped, HasPlace, HasPlaceFor, IsLimits, IsLine};
+ghost use Rattle.shm_text.specs.Reading.{limits_item, process_item, child_item, declared, declaration, taker, known, known_child, declared_pid, flush_item, words_item, line_item, is_command, with_room, some_item, is_skipped, HasPlace, HasPlaceFor, IsLimits, IsLine};
 
 use crate::calls::call_words;
 use crate::fault::FaultKind;
@@ -163,7 +163,7 @@ fn flush_item(words: &Words<'_>) -> Result<Item, FaultKind>
 // A flush line, where there may be one more.
 #[tactic(auto, unfolding(crate::specs::Reading::command_item))]
 fn counted_flush(seen: &Seen, words: &Words<'_>) -> Result<Item, FaultKind>
-    ensures value { result ≡ counted seen.now (flush_item words.now) }
+    ensures value { result ≡ with_room seen.now (flush_item words.now) }
     ensures item { IfOk result IsLine }
 {
     match flush_item(words) {

@@ -2,7 +2,7 @@
 //! afterwards, so that a bad line comes before a bad number.
 ghost use Rattle.std.specs.Prelude.{◌≡◌, ◌≤◌, ◌<◌, ◌==◌, true, length, drop, Ok, IfOk, Some};
 ghost use Rattle.std.specs.Str.{bytes_eq};
-ghost use Rattle.shm_text.specs.Operand.{wanted, ranged, any, key_word, letter_of, addr_by, id_word, addr_word, ranged_id, ranged_addr, mode_word, get_flags_word, names_of, times, at_flags_word, chunk_word};
+ghost use Rattle.shm_text.specs.Operand.{required_number, ranged, any, key_word, letter_of, addr_by, id_word, addr_word, ranged_id, ranged_addr, mode_word, get_flags_word, names_of, times, at_flags_word, chunk_word};
 ghost use Rattle.shm_text.specs.Form.{is_id, is_get_flags, is_at_flags};
 
 use crate::fault::FaultKind;
@@ -37,7 +37,7 @@ pub(crate) fn is_word(word: &[u8], text: &[u8]) -> bool
 /// A word that has to be a number.
 #[inline(always)]
 pub(crate) fn wanted(word: &[u8]) -> Result<Number, FaultKind>
-    ensures { result ≡ wanted word.now }
+    ensures { result ≡ required_number word.now }
 {
     read_number(word).ok_or(FaultKind::BadLine)
 }

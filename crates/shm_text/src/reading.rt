@@ -1,7 +1,7 @@
 //! Reads a script, line by line from the top.
 ghost use Rattle.std.specs.Prelude.{◌≡◌, ◌<◌, ◌≤◌, ◌++◌, ◌/◌, [], IfOk, OnOk, IsOk, IfErr, Ok, Err, length, not, MatchOption, nat_le, is_some, min};
 ghost use Rattle.std.specs.List.{list_all};
-ghost use Rattle.shm_text.specs.Reading.{told, script_of, without_words, is_wordless, nothing, seen_next, with_item, processes_in, lines_in, is_declared, IsFaultOf, FaultStands, HasPlaceFor};
+ghost use Rattle.shm_text.specs.Reading.{script_of_lines, script_of, without_words, is_wordless, nothing, seen_next, with_item, processes_in, lines_in, is_declared, IsFaultOf, FaultStands, HasPlaceFor};
 ghost use Rattle.shm_text.specs.Words.{lines_of};
 
 use crate::fault::{FaultKind, ReadRefused, ScriptFault};
@@ -142,7 +142,7 @@ const NO_LIMITS: ScriptFault = ScriptFault {
 /// The first fault of a text's lines, or out of memory where they have none.
 fn fault_or_memory(bytes: &[u8]) -> ReadRefused
     requires { length bytes.now ≤ LONGEST_SCRIPT }
-    ensures { IsFaultOf result (told (lines_of bytes.now)) }
+    ensures { IsFaultOf result (script_of_lines (lines_of bytes.now)) }
 {
     match first_fault(bytes) {
         Some(fault) => ReadRefused::Fault(fault),
@@ -153,7 +153,7 @@ fn fault_or_memory(bytes: &[u8]) -> ReadRefused
 /// The first fault of a text's lines. Takes no memory.
 fn first_fault(bytes: &[u8]) -> Option<ScriptFault>
     requires { length bytes.now ≤ LONGEST_SCRIPT }
-    ensures { MatchOption result (IsOk (told (lines_of bytes.now))) (λ f. told (lines_of bytes.now) ≡ Err f) }
+    ensures { MatchOption result (IsOk (script_of_lines (lines_of bytes.now))) (λ f. script_of_lines (lines_of bytes.now) ≡ Err f) }
 {
     let mut seen = Seen::new();
     let mut lines = Lines::of(bytes);
@@ -200,8 +200,8 @@ fn keep(
 /// What the lines of a text say, or the first fault. Where memory is out, nothing is known of the lines.
 fn read_lines(alloc: Global, bytes: &[u8]) -> Result<Script, ReadRefused>
     requires { length bytes.now ≤ LONGEST_SCRIPT }
-    ensures read { IfOk result (λ script. told (lines_of bytes.now) ≡ Ok script) }
-    ensures fault { IfErr result (λ e. FaultStands e (told (lines_of bytes.now))) }
+    ensures read { IfOk result (λ script. script_of_lines (lines_of bytes.now) ≡ Ok script) }
+    ensures fault { IfErr result (λ e. FaultStands e (script_of_lines (lines_of bytes.now))) }
 {
     let mut seen = Seen::new();
     let mut processes = Vec::new(alloc);

@@ -3,7 +3,7 @@ ghost use Rattle.std.specs.Prelude.{◌≡◌, ◌-◌, ◌<◌, List, Option, �
 ghost use Rattle.std.specs.Option.{option_copied};
 ghost use Rattle.std.specs.Prelude.{true};
 ghost use Rattle.shm_text.specs.Form.{is_id};
-ghost use Rattle.shm_text.specs.Variables.{no_values, value_at, id_of, id_from, addr_of, addr_from, call_of, number_in, values_after};
+ghost use Rattle.shm_text.specs.Variables.{no_values, value_at, id_of, id_from, addr_of, addr_from, call_of, reply_number, values_after};
 
 use crate::script::{Command, LineAddr, LineCall, LineId, Variable};
 use shm_base::{Call, LAST_ID, Reply, ShmId};
@@ -30,7 +30,7 @@ impl Drop for Vars {
 }
 
 fn number_of(reply: &Reply) -> Option<u64>
-    ensures { result ≡ number_in reply.now }
+    ensures { result ≡ reply_number reply.now }
 {
     match reply {
         Reply::Id(id) => u64::try_from(*id).ok(),

@@ -9,7 +9,7 @@ use crate::gate::Gate;
 use crate::mismatch::{copied, mismatch};
 use crate::outcome::{Outcome, RunError};
 use crate::shared::{ProcessState, Shared, states};
-use crate::worker::{Ended, Flushed, flush_all, jobs, work};
+use crate::worker::{Ended, FlusherEnded, flush_all, jobs, work};
 use shm_base::HostMemory;
 use shm_history::{Keeper, Opening, World};
 use shm_pager::Pager;
@@ -64,9 +64,7 @@ pub fn run_threads_gauged<R: Threads + Wait + Sync, G: Gate, P: Pager + Send>(
     ensures numbers { IfOk result (λ r. IsCaughtUp r.0.world r.1.numbers) }
 {
     let (outcome, keeper) = run_with(rt, alloc, world, Some(keeper), script, gate)?;
-    let Some(mut keeper) = keeper else {
-        unreachable!()
-    };
+    let mut keeper = keeper.unwrap();
     outcome.world.publish(rt, &mut keeper);
     Ok((outcome, keeper))
 }
@@ -220,7 +218,7 @@ fn ended<P: Pager>(world: World<P>, run: Joined) -> (Outcome<P>, Option<Keeper>)
 #[derive(Drop)]
 struct SameCell(Snapshot<Option<Keeper>>);
 
-impl Promise<Flushed> for SameCell {
+impl Promise<FlusherEnded> for SameCell {
     ghost use Rattle.std.specs.Prelude.{◌≡◌};
     ghost use Rattle.shm_threads.specs.Keepers.{cell_of};
 
@@ -268,7 +266,7 @@ fn run_all<R: Threads + Wait + Sync, G: Gate, P: Pager + Send>(
                 jobs,
                 handles,
             );
-            let Flushed { keeper, is_expired } = flusher.join(rt);
+            let FlusherEnded { keeper, is_expired } = flusher.join(rt);
             let (transcripts, mut expired) = join_all(rt, handles, transcripts);
             if is_expired {
                 expired = Some(0);
@@ -311,9 +309,7 @@ fn start_all<'s, E, R: Threads + Wait + Sync, G: Gate, P: Pager + Send>(
             { work(rt, shared, lines, gate, job) },
         );
         if let Ok(handle) = started {
-            let Ok(()) = handles.push(handle) else {
-                unreachable!()
-            };
+            handles.push_reserved(handle);
         } else {
             is_refused = true;
             shared.end(rt, pid);
@@ -351,9 +347,7 @@ fn join_all<R: Threads + Wait>(
         if is_expired {
             expired = Some(least(expired, transcript.pid));
         }
-        let Ok(()) = transcripts.push(transcript) else {
-            unreachable!()
-        };
+        transcripts.push_reserved(transcript);
     }
     (transcripts, expired)
 }

@@ -64,7 +64,7 @@ fn is_line_of(line: &Line, pid: u32) -> bool
 
 /// The keeper that the flusher had, if there is one, and whether the gate ended the flusher.
 #[derive(Drop)]
-pub(crate) struct Flushed {
+pub(crate) struct FlusherEnded {
     pub(crate) keeper: Option<Keeper>,
     pub(crate) is_expired: bool,
 }
@@ -76,7 +76,7 @@ pub(crate) fn flush_all<R: Wait, G: Gate, P: Pager>(
     lines: &[Line],
     gate: &G,
     mut keeper: Option<Keeper>,
-) -> Flushed
+) -> FlusherEnded
     ensures { cell_of result.keeper ≡ cell_of keeper }
 {
     let mut n = 0u64;
@@ -86,7 +86,7 @@ pub(crate) fn flush_all<R: Wait, G: Gate, P: Pager>(
         };
         n += 1;
         if !gate.before(0, n) {
-            return Flushed {
+            return FlusherEnded {
                 keeper,
                 is_expired: true,
             };
@@ -94,7 +94,7 @@ pub(crate) fn flush_all<R: Wait, G: Gate, P: Pager>(
         shared.flush(rt, round.pages(), &mut keeper);
         gate.after(0, n);
     }
-    Flushed {
+    FlusherEnded {
         keeper,
         is_expired: false,
     }
@@ -148,9 +148,7 @@ fn run_lines<R: Wait, G: Gate, P: Pager>(
         gate.after(pid, n);
         vars.took(command, entry.answer.reply());
         let has_ended = entry.is_end();
-        let Ok(()) = transcript.entries.push(entry) else {
-            unreachable!()
-        };
+        transcript.entries.push_reserved(entry);
         if has_ended {
             return true;
         }

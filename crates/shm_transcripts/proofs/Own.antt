@@ -7,7 +7,7 @@ use Rattle.std.proofs.lemmas.Bool.{cases_lt}
 use Rattle.shm_base.specs.History.{own_part}
 use Rattle.shm_base.specs.declared.call.Call.{Call}
 use Rattle.shm_base.specs.declared.call.Event.{Event}
-use Rattle.shm_transcripts.specs.Transcripts.{told, events_of, reply_in, is_answered}
+use Rattle.shm_transcripts.specs.Transcripts.{transcript_events, events_of, reply_in, is_answered}
 use Rattle.shm_transcripts.specs.declared.transcript.Answer.{Answer}
 use Rattle.shm_transcripts.specs.declared.transcript.Answer.TheVariants.{Reply as Replied, HostMemory}
 use Rattle.shm_transcripts.specs.declared.transcript.Entry.{Entry}
@@ -17,9 +17,9 @@ some-event pid call (Replied r) rest is none = absurd (let more : length (events
 some-event pid call HostMemory rest is none = absurd (cc)
 
 -- an entry that is answered tells of an event
-pub told-some : (pid k : ℕ) (es : List Entry) → k < length es → is_answered (slice_get es k) ≡ true → told pid (drop k es) ≡ [] → ⊥
+pub told-some : (pid k : ℕ) (es : List Entry) → k < length es → is_answered (slice_get es k) ≡ true → transcript_events pid (drop k es) ≡ [] → ⊥
 told-some pid k [] lt is none = absurd (omega (arith, lt))
-told-some pid zero (e ∷ es) lt is none = some-event pid e.call e.answer (told pid es) is none
+told-some pid zero (e ∷ es) lt is none = some-event pid e.call e.answer (transcript_events pid es) is none
 told-some pid (suc k) (e ∷ es) lt is none = told-some pid k es (omega (arith, lt)) is none
 
 first-event :
@@ -32,9 +32,9 @@ first-event pid call HostMemory rest v more is eq = absurd (cc)
 pub told-first :
     (pid k : ℕ) (es : List Entry) (e v : Entry) (w : Event) (more : List Event)
     → k < length es → is_answered (slice_get es k) ≡ true → get_or es k v ≡ e
-    → told pid (drop k es) ≡ w ∷ more → (e.call ≡ w.call) × (e.answer ≡ Replied w.reply)
+    → transcript_events pid (drop k es) ≡ w ∷ more → (e.call ≡ w.call) × (e.answer ≡ Replied w.reply)
 told-first pid k [] e v w more lt is at eq = absurd (omega (arith, lt))
-told-first pid zero (x ∷ es) e v w more lt is at eq = rw (sym at) (first-event pid x.call x.answer (told pid es) w more is eq)
+told-first pid zero (x ∷ es) e v w more lt is at eq = rw (sym at) (first-event pid x.call x.answer (transcript_events pid es) w more is eq)
 told-first pid (suc k) (x ∷ es) e v w more lt is at eq = told-first pid k es e v w more (omega (arith, lt)) is at eq
 
 pub own-next : (pid i : ℕ) (hs : List Event) (v : Event) → i < length hs → v ≡ get_or hs i v → v.pid ≡ pid → own_part pid (drop i hs) ≡ v ∷ own_part pid (drop (i + 1) hs)
@@ -45,7 +45,7 @@ own-next pid i hs v lt is same =
 -- where no event is left, just those entries agree of which none is answered
 pub no-more-events :
     (pid k i : ℕ) (es : List Entry) (hs : List Event) → length hs ≤ i → (k < length es → is_answered (slice_get es k) ≡ true)
-    → told pid (drop k es) ≡ own_part pid (drop i hs) ↔ nat_le (length es) k ≡ true
+    → transcript_events pid (drop k es) ≡ own_part pid (drop i hs) ↔ nat_le (length es) k ≡ true
 no-more-events pid k i es hs end answered =
     rw (drop_all i hs end) (
       λ none. elim (cases_lt k (length es)) [

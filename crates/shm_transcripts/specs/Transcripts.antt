@@ -53,9 +53,9 @@ events_of pid call (Replied r) rest = record { pid = pid; call = call; reply = r
 events_of pid call HostMemory rest = rest
 
 -- the events that a transcript tells of
-abbrev pub told : ℕ → List Entry → List Event
-told pid [] = []
-told pid (e ∷ es) = events_of pid e.call e.answer (told pid es)
+abbrev pub transcript_events : ℕ → List Entry → List Event
+transcript_events pid [] = []
+transcript_events pid (e ∷ es) = events_of pid e.call e.answer (transcript_events pid es)
 
 -- whether the entry is one that is not marked
 abbrev pub is_answered : Option Entry → Bool
@@ -93,7 +93,7 @@ FitsMark e = e.answer ≡ HostMemory → takes_memory e.call ≡ true
 -- What holds of one transcript. Without its marked entries it is its process's own part of the history
 pub record IsTranscript (script : ScriptView) (history : List Event) (t : Transcript) : Type 0 where
   pub lines : HasLines script history t
-  pub own : told t.pid t.entries.items ≡ own_part t.pid history
+  pub own : transcript_events t.pid t.entries.items ≡ own_part t.pid history
   pub marks : All FitsMark t.entries.items
 
 -- the lesser of a pid and the least so far

@@ -3,7 +3,7 @@
 ghost use Rattle.std.specs.Prelude.{◌≡◌, ℕ, ◌↔◌, ◌<◌, ◌≤◌, IsNone, IsTrue, All, map, length, drop, true, slice_get};
 ghost use Rattle.shm_base.specs.History.{own_part};
 ghost use Rattle.shm_text.specs.Variables.{no_values};
-ghost use Rattle.shm_transcripts.specs.Transcripts.{commands_of, Follows, told, is_fork_of, is_forked, is_child, pid_in, pid_of, HasLines, FitsMark, IsTranscript, IsAdmitted, is_answered, least_of};
+ghost use Rattle.shm_transcripts.specs.Transcripts.{commands_of, Follows, transcript_events, is_fork_of, is_forked, is_child, pid_in, pid_of, HasLines, FitsMark, IsTranscript, IsAdmitted, is_answered, least_of};
 
 use crate::transcript::{Answer, Entry, Transcript};
 use shm_base::{Call, Errno, Event, Process, Reply, has_pid};
@@ -180,7 +180,7 @@ fn has_call(entry: &Entry, call: &Call) -> bool
 
 // Whether the answered entries are the process's own part of the history.
 fn is_own(history: &[Event], pid: u32, entries: &[Entry]) -> bool
-    ensures { IsTrue result ↔ told pid entries.now ≡ own_part pid history.now }
+    ensures { IsTrue result ↔ transcript_events pid entries.now ≡ own_part pid history.now }
 {
     let mut next = 0;
     for event in history {
@@ -210,7 +210,7 @@ fn is_event(entry: &Entry, event: &Event) -> bool
 fn next_answered(entries: &[Entry], from: usize) -> usize
     requires { from ≤ length entries.now }
     ensures bound { result ≤ length entries.now }
-    ensures same { (pid : ℕ) → told pid (drop from entries.now) ≡ told pid (drop result entries.now) }
+    ensures same { (pid : ℕ) → transcript_events pid (drop from entries.now) ≡ transcript_events pid (drop result entries.now) }
     ensures answered { result < length entries.now → is_answered (slice_get entries.now result) ≡ true }
 {
     let mut next = from;

@@ -2,7 +2,7 @@
 ghost use Rattle.std.specs.Prelude.{◌≡◌, ◌+◌, ◌*◌, ◌<◌, ◌≤◌, false, length, replicate, take, drop, IfOk};
 ghost use Rattle.shm_plain.specs.Held.{Held, paste};
 
-use shm_base::HostMemory;
+use shm_base::{HostMemory, PAGE_BYTES};
 use std::alloc::Global;
 use std::marker::Model;
 
@@ -28,7 +28,7 @@ impl Segment {
         requires { pages ≤ 4096 }
         ensures { IfOk result (λ s. s ≡ record { id = id; locked = false; bytes = replicate (4096 * pages) 0 }) }
     {
-        let bytes = vec![in alloc; 0u8; 4096 * pages as usize]?;
+        let bytes = vec![in alloc; 0u8; PAGE_BYTES * pages as usize]?;
         Ok(Segment {
             id,
             locked: false,

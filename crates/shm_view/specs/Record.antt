@@ -66,13 +66,13 @@ bits_text referenced dirty = (if referenced then codes "r" else codes "-") ++ (i
 abbrev pub page_text : PageRef → List ℕ
 page_text p = decimal p.seg ++ (codes " " ++ decimal p.page)
 
-abbrev pub frame_by : ℕ → Frame → Option PageRef → List ℕ
-frame_by i f None = []
-frame_by i f (Some p) = codes "frame " ++ (decimal i ++ (codes " " ++ (page_text p ++ (codes " " ++ (bits_text f.referenced f.dirty ++ codes "\n")))))
+abbrev pub frame_line_for : ℕ → Frame → Option PageRef → List ℕ
+frame_line_for i f None = []
+frame_line_for i f (Some p) = codes "frame " ++ (decimal i ++ (codes " " ++ (page_text p ++ (codes " " ++ (bits_text f.referenced f.dirty ++ codes "\n")))))
 
 -- `frame NUMBER SEGMENT PAGE BITS` where a page owns it, nothing where it is free
 abbrev pub frame_line : ℕ → Frame → List ℕ
-frame_line i f = frame_by i f f.owner
+frame_line i f = frame_line_for i f f.owner
 
 -- how many frames there are, where the clock's hand stands, and the frames that are owned
 abbrev pub frames_text : StoreView → List ℕ

@@ -14,23 +14,23 @@ use Rattle.shm_view.specs.declared.action.Action.TheVariants as actions
 use Rattle.shm_view.specs.Record.{step_text}
 use Rattle.shm_program.specs.Runs.{IsWorldSound, IsWorldOf}
 use Rattle.shm_program.specs.Values.{HolderView, fresh_holder, values_of, answered}
-use Rattle.shmview.specs.Steps.{is_among, steps_asked}
+use Rattle.shmview.specs.Steps.{has_step, steps_asked}
 use Rattle.shmview.specs.declared.steps.Steps.{Steps}
 
 -- the call that a command line makes with these variables
-abbrev pub call_by : List HolderView → CommandView → Call
-call_by hs c = call_of (values_of hs c.pid) c.call
+abbrev pub call_made : List HolderView → CommandView → Call
+call_made hs c = call_of (values_of hs c.pid) c.call
 
 -- what a line does to the variables and to the world, and how that is told
 abbrev pub HasRun : List HolderView → WorldState → Line → Action → List HolderView → WorldState → Type 0
 HasRun hs w (Command c) action after next =
-    (reply : Reply) × (action ≡ actions.Call (event c.pid (call_by hs c) reply)) × IsCalled w c.pid (call_by hs c) reply next × (after ≡ answered hs c (Some reply))
+    (reply : Reply) × (action ≡ actions.Call (event c.pid (call_made hs c) reply)) × IsCalled w c.pid (call_made hs c) reply next × (after ≡ answered hs c (Some reply))
 HasRun hs w (Flush pages) action after next =
     (report : FlushReport) × (action ≡ actions.Flush pages report) × IsRound w pages report next × (after ≡ hs)
 
 -- the record of a step that is shown, and nothing of another
 abbrev pub shown_text : Steps → ℕ → Action → WorldState → List ℕ
-shown_text steps n action w = if is_among steps n then step_text n action w else []
+shown_text steps n action w = if has_step steps n then step_text n action w else []
 
 -- the lines lead from a world through others, whose memory shows their machine exactly, and these are the records of
 -- their steps, the first of which has a number

@@ -4,8 +4,8 @@ use Rattle.shm_text.specs.Number.{decimal_of}
 use Rattle.shmview.specs.declared.steps.Steps.{Steps}
 
 -- the step is one of these
-abbrev pub is_among : Steps → ℕ → Bool
-is_among s n = nat_le s.from n && nat_le n s.to
+abbrev pub has_step : Steps → ℕ → Bool
+has_step s n = nat_le s.from n && nat_le n s.to
 
 abbrev pub steps_between : Option ℕ → Option ℕ → Option Steps
 steps_between None to = None

@@ -1,6 +1,6 @@
 //! Which steps of a run are shown.
 ghost use Rattle.std.specs.Prelude.{◌≡◌, ◌+◌, ◌<◌, length, IfSome};
-ghost use Rattle.shmview.specs.Steps.{is_among, hyphen, steps_of, steps_asked};
+ghost use Rattle.shmview.specs.Steps.{has_step, hyphen, steps_of, steps_asked};
 
 use shm_text::read_decimal;
 
@@ -24,7 +24,7 @@ impl Steps {
 
     /// Whether a step is one of these.
     pub(crate) fn is_among(self, number: u64) -> bool
-        ensures { result ≡ is_among self number }
+        ensures { result ≡ has_step self number }
     {
         self.from <= number && number <= self.to
     }

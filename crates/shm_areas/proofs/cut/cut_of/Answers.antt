@@ -1,4 +1,4 @@
-use Rattle.shm_areas.proofs.Names.{◌≡◌, ◌-◌, ◌++◌, suc, sym, arith, get_or, take-append-drop, splice, lowest_address, kept_below, kept_above, kept_cut, IsPieceRange}
+use Rattle.shm_areas.proofs.Names.{◌≡◌, ◌-◌, ◌++◌, suc, sym, arith, get_or, take-append-drop, splice, lowest_address, stored_below, stored_above, stored_cut, IsPieceRange}
 use Rattle.shm_areas.proofs.Placing.{nothing, fit_at}
 use Rattle.shm_areas.proofs.Cuts.{cut-none, cut-run}
 use Rattle.shm_areas.proofs.cut.cut_of.Goals as goal
@@ -37,6 +37,6 @@ returns c =
     let next : suc (last - 1) ≡ last = omega (arith, c.if-run.false) in
     let run : IsPieceRange c.args.from c.args.to ps first (suc (last - 1)) = rw next r in
     let left = cut-run c.args.from c.args.to first (last - 1) lowest_address ps nothing c.requires.arranged run (omega (arith, c.if-run.false)) in
-    let whole : splice ps first last (kept_below c.args.from (get_or ps first nothing) ++ kept_above c.args.to (get_or ps (last - 1) nothing))
-    ≡ kept_cut c.args.from c.args.to ps = rw next at left in
+    let whole : splice ps first last (stored_below c.args.from (get_or ps first nothing) ++ stored_above c.args.to (get_or ps (last - 1) nothing))
+    ≡ stored_cut c.args.from c.args.to ps = rw next at left in
     record { order = r.order; bound = r.bound; leaves = rw (c.part_below.ensures, c.part_above.ensures) whole }

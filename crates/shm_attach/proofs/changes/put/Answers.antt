@@ -1,24 +1,24 @@
-use Rattle.shm_attach.proofs.Names.{values_of, common_steps, ◌≡◌, refl, arith, Some, slice_get, length-map, inserted, bare, bare_all, IsPlaceFor, Runner}
+use Rattle.shm_attach.proofs.Names.{values_of, common_steps, ◌≡◌, refl, sym, arith, Some, slice_get, length-map, inserted, bare, bare_all, IsPlaceFor, Runner}
 use Rattle.shm_attach.proofs.Processes.{pieces_of-inserted, some_if-le}
 use Rattle.shm_attach.proofs.Held.{pieces_at-stored, held-inserted}
 use Rattle.shm_attach.proofs.Sound.{changed, fit-inserted, sound-changed, counts-small}
-use Rattle.shm_attach.proofs.changes.put.Goals.{In-Some}
+use Rattle.shm_attach.proofs.changes.put.Goals.{After-index_mut}
 use Rattle.shm_attach.proofs.changes.put.Goals as goal
 
-stands : (c : In-Some) → Some c.in-Some.runner.now ≡ slice_get (values_of c.args.processes.now.entries) c.args.index
-stands c = rw c.in-Some.is at c.get_index_mut.ensures.value
+stands : (c : After-index_mut) → Some c.index_mut.result.now ≡ slice_get (values_of c.args.processes.now.entries) c.args.index
+stands c = sym c.index_mut.ensures.value
 
-place : (c : In-Some) → IsPlaceFor (bare c.args.piece) (bare_all c.in-Some.runner.now.space)
-place c = rw (← pieces_at-stored c.args.processes.now.entries c.args.index c.in-Some.runner.now (stands c)) c.requires.place
+place : (c : After-index_mut) → IsPlaceFor (bare c.args.piece) (bare_all c.index_mut.result.now.space)
+place c = rw (← pieces_at-stored c.args.processes.now.entries c.args.index c.index_mut.result.now (stands c)) c.requires.place
 
 pub replace-requires-clause-fits : goal.replace-requires-clause-fits
 replace-requires-clause-fits c = omega (arith, counts-small c.args.processes.now.entries c.args.tables.now c.requires.holds c.args.piece.seg)
 
 pub insert-requires-clause-room : goal.insert-requires-clause-room
-insert-requires-clause-room c = rw (← length-map c.in-Some.runner.now.space bare) (place (goal.at.insert-requires-clause-room c).In-Some).room
+insert-requires-clause-room c = rw (← length-map c.index_mut.result.now.space bare) (place (goal.at.insert-requires-clause-room c).After-index_mut).room
 
 pub insert-requires-clause-free : goal.insert-requires-clause-free
-insert-requires-clause-free c = (place (goal.at.insert-requires-clause-free c).In-Some).free
+insert-requires-clause-free c = (place (goal.at.insert-requires-clause-free c).After-index_mut).free
 
 pub returns : goal.returns
 returns c =
@@ -26,9 +26,9 @@ returns c =
     let i = c.args.index in
     let t = c.args.tables.now in
     let p = c.args.piece in
-    let w = c.in-Some.runner.now in
+    let w = c.index_mut.result.now in
     let v : Runner = record { life = w.life; space = c.insert.new.self } in
-    let at = stands (goal.at.returns c).In-Some in
+    let at = stands (goal.at.returns c).After-index_mut in
     let ch = changed es i w v (inserted (bare p)) at refl c.insert.ensures.flat in
     record {
       runners = ch.runners;

@@ -7,7 +7,7 @@ pub returns-clause-runners : goal.returns-clause-runners
 returns-clause-runners c = grind (arith, common_steps, runners_live)
 
 pub returns-clause-count : goal.returns-clause-count
-returns-clause-count c = length-set_value_at c.args.processes.now.entries c.args.index (record { life = c.args.life; space = c.in-Some.runner.now.space })
+returns-clause-count c = length-set_value_at c.args.processes.now.entries c.args.index (record { life = c.args.life; space = c.index_mut.result.now.space })
 
 pub returns-clause-stored : goal.returns-clause-stored
 returns-clause-stored c = grind (arith, common_steps, stored_at-set, stored_at-value, stored_at-other)

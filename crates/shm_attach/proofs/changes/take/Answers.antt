@@ -1,20 +1,20 @@
-use Rattle.shm_attach.proofs.Names.{values_of, ◌≡◌, ℕ, ◌+◌, ◌-◌, ◌≤◌, ◌∙◌, not, ap, refl, arith, eq-eqb, List, Some, slice_get, length, filter, common_steps, All, length-map, meets, cut, without_named, pieces_of, bare, bare_all, kept_named, kept_without, arranged_filter, bare_filter, some_if, runners_view, pieces_at, IsCuttable, counted, stored_at, IsHeld, Piece, Runner}
+use Rattle.shm_attach.proofs.Names.{values_of, ◌≡◌, ℕ, ◌+◌, ◌-◌, ◌≤◌, ◌∙◌, not, ap, sym, refl, arith, eq-eqb, List, Some, slice_get, length, filter, common_steps, All, length-map, meets, cut, without_named, pieces_of, bare, bare_all, stored_named, stored_without, arranged_filter, bare_filter, some_if, runners_view, pieces_at, IsCuttable, counted, stored_at, IsHeld, Piece, Runner}
 use Rattle.shm_attach.proofs.Processes.{bare-met, met-meets, pieces_of-filter, pieces_of-cut_met, pieces_of-without, shorter_filter}
 use Rattle.shm_attach.proofs.Held.{pieces_at-stored, stored_at-value, held-cut, held-filter}
 use Rattle.shm_attach.proofs.Sound.{changed, fit-cut, fit-without, sound-changed, counts-small, counts-own}
-use Rattle.shm_attach.proofs.changes.take.Goals.{In-Some, In-Range, After-pieces}
+use Rattle.shm_attach.proofs.changes.take.Goals.{After-index_mut, In-Range, After-pieces}
 use Rattle.shm_attach.proofs.changes.take.Goals as goal
 
-stands : (c : In-Some) → Some c.in-Some.runner.now ≡ slice_get (values_of c.args.processes.now.entries) c.args.index
-stands c = rw c.in-Some.is at c.get_index_mut.ensures.value
+stands : (c : After-index_mut) → Some c.index_mut.result.now ≡ slice_get (values_of c.args.processes.now.entries) c.args.index
+stands c = sym c.index_mut.ensures.value
 
-shown : (c : In-Some) → pieces_at (runners_view c.args.processes.now.entries) c.args.index ≡ bare_all c.in-Some.runner.now.space
-shown c = pieces_at-stored c.args.processes.now.entries c.args.index c.in-Some.runner.now (stands c)
+shown : (c : After-index_mut) → pieces_at (runners_view c.args.processes.now.entries) c.args.index ≡ bare_all c.index_mut.result.now.space
+shown c = pieces_at-stored c.args.processes.now.entries c.args.index c.index_mut.result.now (stands c)
 
-own : (c : In-Some) → stored_at c.args.processes.now.entries c.args.index ≡ c.in-Some.runner.now.space
-own c = stored_at-value c.args.processes.now.entries c.args.index c.in-Some.runner.now (stands c)
+own : (c : After-index_mut) → stored_at c.args.processes.now.entries c.args.index ≡ c.index_mut.result.now.space
+own c = stored_at-value c.args.processes.now.entries c.args.index c.index_mut.result.now (stands c)
 
-mine : (c : In-Some) (id : ℕ) → pieces_of id (bare_all c.in-Some.runner.now.space) ≤ counted c.args.tables.now id
+mine : (c : After-index_mut) (id : ℕ) → pieces_of id (bare_all c.index_mut.result.now.space) ≤ counted c.args.tables.now id
 mine c id = rw (← shown c) (counts-own c.args.processes.now.entries c.args.tables.now c.args.index c.requires.holds c.requires.there id)
 
 -- A RANGE
@@ -26,20 +26,20 @@ pub recount-requires-clause-fit : goal.recount-requires-clause-fit
 recount-requires-clause-fit c = grind (arith, common_steps, arranged_filter)
 
 pub recount-requires-clause-meets : goal.recount-requires-clause-meets
-recount-requires-clause-meets c = rw c.met.ensures.value (met-meets c.in-Range.from c.in-Range.to c.in-Some.runner.now.space)
+recount-requires-clause-meets c = rw c.met.ensures.value (met-meets c.in-Range.from c.in-Range.to c.index_mut.result.now.space)
 
 pub recount-requires-clause-tables : goal.recount-requires-clause-tables
 recount-requires-clause-tables c =
     let t = c.args.tables.now.slab in
-    let all : All (IsHeld t) c.in-Some.runner.now.space =
-    rw (own (goal.at.recount-requires-clause-tables c).In-Some) at (c.requires.holds.sound.held c.args.index) in
-    rw c.met.ensures.value (held-filter t (λ (p : Piece). meets c.in-Range.from c.in-Range.to (bare p)) c.in-Some.runner.now.space all)
+    let all : All (IsHeld t) c.index_mut.result.now.space =
+    rw (own (goal.at.recount-requires-clause-tables c).After-index_mut) at (c.requires.holds.sound.held c.args.index) in
+    rw c.met.ensures.value (held-filter t (λ (p : Piece). meets c.in-Range.from c.in-Range.to (bare p)) c.index_mut.result.now.space all)
 
 pub recount-requires-clause-counted : goal.recount-requires-clause-counted
 recount-requires-clause-counted c = λ id.
-    let ps = bare_all c.in-Some.runner.now.space in
-    let all = mine (goal.at.recount-requires-clause-counted c).In-Some id in
-    rw (c.met.ensures.value, bare-met c.in-Range.from c.in-Range.to c.in-Some.runner.now.space)
+    let ps = bare_all c.index_mut.result.now.space in
+    let all = mine (goal.at.recount-requires-clause-counted c).After-index_mut id in
+    rw (c.met.ensures.value, bare-met c.in-Range.from c.in-Range.to c.index_mut.result.now.space)
     (omega (arith, all, pieces_of-filter id (meets c.in-Range.from c.in-Range.to) ps))
 
 pub recount-requires-clause-small : goal.recount-requires-clause-small
@@ -62,17 +62,17 @@ returns-in-Range c =
     let from = c.in-Range.from in
     let to = c.in-Range.to in
     let t = c.args.tables.now in
-    let w = c.in-Some.runner.now in
+    let w = c.index_mut.result.now in
     let v : Runner = record { life = w.life; space = c.cut.new.self } in
     let b = goal.at.returns-in-Range c in
-    let ch = changed es i w v (cut from to) (stands b.In-Some) refl c.cut.ensures.flat in
+    let ch = changed es i w v (cut from to) (stands b.After-index_mut) refl c.cut.ensures.flat in
     let same = ap bare_all c.met.ensures.value ∙ bare-met from to w.space in
     record {
       runners = rw c.in-Range.is ch.runners;
       count = ch.count;
       sound = λ extra s.
           let counts = λ (id : ℕ). cut_counts from to (counted t id) (counted c.recount.new.tables id) id c.met.result.now w.space same (c.recount.ensures.counts id) in
-          sound-changed extra es t c.recount.new.tables i w v (cut from to) c.requires.there (stands b.In-Some) refl c.cut.ensures.flat s
+          sound-changed extra es t c.recount.new.tables i w v (cut from to) c.requires.there (stands b.After-index_mut) refl c.cut.ensures.flat s
           (fit-cut extra es t i from to s (can b.In-Range)) (λ all. rw c.cut.ensures.kept (held-cut t.slab from to w.space all))
           (record { counts = counts; held = c.recount.ensures.held; tied = c.recount.ensures.tied });
       held = c.recount.ensures.held;
@@ -81,33 +81,33 @@ returns-in-Range c =
 
 -- AN ATTACH
 
-fewer : (addr seg b a : ℕ) (own left : List Piece) → left ≡ kept_without addr seg own → b ≡ length own → a ≡ length left → a ≤ b
+fewer : (addr seg b a : ℕ) (own left : List Piece) → left ≡ stored_without addr seg own → b ≡ length own → a ≡ length left → a ≤ b
 fewer addr seg b a own left kept before after = grind (arith, common_steps, shorter_filter)
 
-gone_by : (addr seg b a : ℕ) (own left : List Piece) → left ≡ kept_without addr seg own → b ≡ length own → a ≡ length left
+gone_by : (addr seg b a : ℕ) (own left : List Piece) → left ≡ stored_without addr seg own → b ≡ length own → a ≡ length left
     → length (without_named addr seg (bare_all own)) + (b - a) ≡ length (bare_all own)
 gone_by addr seg b a own left kept before after = grind (arith, common_steps, fewer, bare_filter, length-map)
 
 gone : (c : After-pieces)
-    → length (without_named c.in-Attach.addr c.in-Attach.seg (bare_all c.in-Some.runner.now.space)) + (length c.pieces-before.result.now - length c.pieces.result.now)
-    ≡ length (bare_all c.in-Some.runner.now.space)
+    → length (without_named c.in-Attach.addr c.in-Attach.seg (bare_all c.index_mut.result.now.space)) + (length c.pieces-before.result.now - length c.pieces.result.now)
+    ≡ length (bare_all c.index_mut.result.now.space)
 gone c = grind (arith, common_steps, gone_by)
 
 pub overflow_sub-gone : goal.overflow_sub-gone
 overflow_sub-gone c = grind (arith, common_steps, fewer)
 
 named : (c : After-pieces) (id : ℕ)
-    → pieces_of id (without_named c.in-Attach.addr c.in-Attach.seg (bare_all c.in-Some.runner.now.space))
+    → pieces_of id (without_named c.in-Attach.addr c.in-Attach.seg (bare_all c.index_mut.result.now.space))
     + some_if id c.in-Attach.seg (length c.pieces-before.result.now - length c.pieces.result.now)
-    ≡ pieces_of id (bare_all c.in-Some.runner.now.space)
+    ≡ pieces_of id (bare_all c.index_mut.result.now.space)
 named c id = grind (arith, common_steps, pieces_of-without, gone)
 
-pub leave-requires-clause-gone : goal.leave-requires-clause-gone
-leave-requires-clause-gone c =
-    let b = goal.at.leave-requires-clause-gone c in
+pub release-requires-clause-gone : goal.release-requires-clause-gone
+release-requires-clause-gone c =
+    let b = goal.at.release-requires-clause-gone c in
     let seg = c.in-Attach.seg in
     let went = rw (eq-eqb seg seg refl) at (named b.After-pieces seg) in
-    omega (arith, went, mine b.In-Some seg)
+    omega (arith, went, mine b.After-index_mut seg)
 
 pub returns-in-Attach : goal.returns-in-Attach
 returns-in-Attach c =
@@ -115,25 +115,25 @@ returns-in-Attach c =
     let i = c.args.index in
     let f = without_named c.in-Attach.addr c.in-Attach.seg in
     let t = c.args.tables.now in
-    let w = c.in-Some.runner.now in
+    let w = c.index_mut.result.now in
     let v : Runner = record { life = w.life; space = c.take_at.new.self } in
     let b = goal.at.returns-in-Attach c in
-    let ch = changed es i w v f (stands b.In-Some) refl c.take_at.ensures.flat in
+    let ch = changed es i w v f (stands b.After-index_mut) refl c.take_at.ensures.flat in
     record {
       runners = rw c.in-Attach.is ch.runners;
       count = ch.count;
       sound = λ extra s.
-          sound-changed extra es t c.leave.new.self i w v f c.requires.there (stands b.In-Some) refl c.take_at.ensures.flat s
+          sound-changed extra es t c.release.new.self i w v f c.requires.there (stands b.After-index_mut) refl c.take_at.ensures.flat s
           (fit-without extra es t i c.in-Attach.addr c.in-Attach.seg s)
-          (λ all. rw c.take_at.ensures.kept (held-filter t.slab (λ (p : Piece). not (kept_named c.in-Attach.addr c.in-Attach.seg p)) w.space all))
+          (λ all. rw c.take_at.ensures.kept (held-filter t.slab (λ (p : Piece). not (stored_named c.in-Attach.addr c.in-Attach.seg p)) w.space all))
           (record {
-            counts = λ id. omega (arith, named b.After-pieces id, c.leave.ensures.counts id);
-            held = c.leave.ensures.held;
-            tied = c.leave.ensures.tied;
+            counts = λ id. omega (arith, named b.After-pieces id, c.release.ensures.counts id);
+            held = c.release.ensures.held;
+            tied = c.release.ensures.tied;
           });
-      held = c.leave.ensures.held;
-      translated = c.leave.ensures.translated;
+      held = c.release.ensures.held;
+      translated = c.release.ensures.translated;
     }
 
-pub leave-requires-clause-fits : goal.leave-requires-clause-fits
-leave-requires-clause-fits c = omega (arith, counts-small c.args.processes.now.entries c.args.tables.now c.requires.holds c.in-Attach.seg)
+pub release-requires-clause-fits : goal.release-requires-clause-fits
+release-requires-clause-fits c = omega (arith, counts-small c.args.processes.now.entries c.args.tables.now c.requires.holds c.in-Attach.seg)

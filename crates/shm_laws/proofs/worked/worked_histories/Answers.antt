@@ -8,7 +8,7 @@ returns c =
       replay = (legal opening a_store_fails (refl, (refl, (refl, (refl, (refl, refl))))), refl);
       removal = (legal opening two_go (refl, (refl, (refl, (refl, (refl, (refl, (refl, (refl, (refl, (refl, refl)))))))))), refl, refl, refl, refl, refl, refl);
       pieces = (refl, refl, refl, refl, refl, refl);
-      leave = (legal three others_read (refl, (refl, (refl, (refl, (refl, (refl, (refl, (refl, (refl, refl))))))))), refl, refl, refl, refl, refl);
+      permission = (legal three others_read (refl, (refl, (refl, (refl, (refl, (refl, (refl, (refl, (refl, refl))))))))), refl, refl, refl, refl, refl);
       isolation = (legal opening (stores_own 5) (refl, (refl, (refl, (refl, (refl, (refl, (refl, (refl, refl)))))))), legal opening (stores_own 6) (refl, (refl, (refl, (refl, (refl, (refl, (refl, (refl, refl)))))))), refl, refl, refl, refl);
       writing = (legal opening two_write (refl, (refl, (refl, (refl, (refl, (refl, (refl, (refl, (refl, refl))))))))), (true, refl), (true, refl), (true, refl), refl, refl, refl, refl);
     }

@@ -1,5 +1,5 @@
 use Rattle.shm_store_tests.proofs.Names.{common_steps, ◌≡◌, ap, arith, pager_seen, with_zeros, held, fresh_store}
-use Rattle.shm_store_tests.proofs.Trials.{fresh-free, fresh-held, three-added}
+use Rattle.shm_store_tests.proofs.Trials.{fresh-free, fresh-held, three_pages-added}
 use Rattle.shm_store_tests.proofs.paging.store_over.Goals as goal
 
 pub new-requires-2-clause-free : goal.new-requires-2-clause-free
@@ -16,4 +16,4 @@ returns-in-Ok-add_segment g c =
     let s = c.in-Ok-new.store in
     let made : held s ≡ held (fresh_store s.frames c.in-Ok.swap) = ap held c.in-Ok-new.ensures.fresh in
     let is : held c.add_segment.new.store ≡ with_zeros (held s) 0 3 = c.in-Ok-add_segment.ensures.held in
-    rw (is, made) (three-added s.frames c.in-Ok.swap)
+    rw (is, made) (three_pages-added s.frames c.in-Ok.swap)

@@ -13,8 +13,8 @@ loop-job-preserved-then-is_refused g c =
     let rest = All-rest P c.in-Some.job (into_iter_items c.next.new.self) (into_iter_items c.loop-job.job-iterator) c.in-Some.ensures.steps.0 c.loop-job.invariant.2 in
     (tt, tt, rest, search rules, search rules)
 
-pub loop-job-preserved-in-Ok-push : goal.loop-job-preserved-in-Ok-push
-loop-job-preserved-in-Ok-push g c =
+pub loop-job-preserved-in-Ok : goal.loop-job-preserved-in-Ok
+loop-job-preserved-in-Ok g c =
     let P : Transcript → Type 0 = HasRoom c.args.lines.now in
     let rest = All-rest P c.in-Some.job (into_iter_items c.next.new.self) (into_iter_items c.loop-job.job-iterator) c.in-Some.ensures.steps.0 c.loop-job.invariant.2 in
     (tt, tt, rest, search rules, search rules)

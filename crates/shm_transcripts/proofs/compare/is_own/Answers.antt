@@ -1,7 +1,7 @@
 use Rattle.std.proofs.Common.{◌≡◌, ◌+◌, false, true, sym, ap, ◌∙◌, length, ◌∷◌, [], drop, arith}
 use Rattle.std.proofs.lemmas.List.{drop_all}
 use Rattle.shm_base.specs.History.{own_part}
-use Rattle.shm_transcripts.specs.Transcripts.{told}
+use Rattle.shm_transcripts.specs.Transcripts.{transcript_events}
 use Rattle.shm_transcripts.proofs.Own.{told-first, own-next, no-more-events}
 use Rattle.shm_transcripts.proofs.compare.is_own.Goals as goal
 use Rattle.shm_transcripts.proofs.compare.is_own.Goals.{then-next-entries-via-then-next-entries, then-next-entries-via-else-next-entries+then-not-is_event}
@@ -17,12 +17,12 @@ returns-then-next-entries c =
     let next = own-next pid i c.args.history.now v c.loop-event-test.true c.event-item.is c.if-event-pid.false in (
       λ f. absurd (let k : false ≡ true = f in cc),
       λ whole. absurd (
-          let here : told pid (drop r es) ≡ v ∷ rest = sym (c.next_answered-next.ensures.same pid) ∙ c.loop-event.invariant.1.1 whole ∙ next in
+          let here : transcript_events pid (drop r es) ≡ v ∷ rest = sym (c.next_answered-next.ensures.same pid) ∙ c.loop-event.invariant.1.1 whole ∙ next in
           elim c.then-next-entries.branch [
             | then-next-entries-via-then-next-entries w ↦
-                (let none : told pid (drop r es) ≡ [] = ap (told pid) (drop_all r es w.if-next-entries.true) in
-                let more : length (told pid (drop r es)) ≡ length (v ∷ rest) = ap length here in
-                let zero : length (told pid (drop r es)) ≡ 0 = ap length none in
+                (let none : transcript_events pid (drop r es) ≡ [] = ap (transcript_events pid) (drop_all r es w.if-next-entries.true) in
+                let more : length (transcript_events pid (drop r es)) ≡ length (v ∷ rest) = ap length here in
+                let zero : length (transcript_events pid (drop r es)) ≡ 0 = ap length none in
                 omega (arith, more, zero))
             | then-next-entries-via-else-next-entries+then-not-is_event w ↦
                 (let same = told-first pid r es w.index-entries-next.result w.index-entries-next.result v rest w.if-next-entries.false (c.next_answered-next.ensures.answered w.if-next-entries.false) (sym w.index-entries-next.is) here in

@@ -1,12 +1,12 @@
-use Rattle.shm_areas.proofs.Names.{◌≡◌, ◌≤◌, ◌∙◌, length, List, arith, common_steps, length-map, cut, Piece, bare, bare_all, kept_cut, left_by}
+use Rattle.shm_areas.proofs.Names.{◌≡◌, ◌≤◌, ◌∙◌, length, List, arith, common_steps, length-map, cut, Piece, bare, bare_all, stored_cut, left_by}
 use Rattle.shm_areas.proofs.Edits.{bare_cut, arranged_cut}
 use Rattle.shm_areas.proofs.space.Space.cut.Goals.{After-cut_of-cut}
 use Rattle.shm_areas.proofs.space.Space.cut.Goals as goal
 
-few : (from to : _) (ps : List Piece) → length (cut from to (bare_all ps)) ≤ 256 → length (kept_cut from to ps) ≤ 256
-few from to ps h = rw (← length-map (kept_cut from to ps) bare, bare_cut from to ps) h
+few : (from to : _) (ps : List Piece) → length (cut from to (bare_all ps)) ≤ 256 → length (stored_cut from to ps) ≤ 256
+few from to ps h = rw (← length-map (stored_cut from to ps) bare, bare_cut from to ps) h
 
-left : (c : After-cut_of-cut) → left_by c.self.inside.pieces.items c.cut_of-cut.result ≡ kept_cut c.args.from c.args.to c.args.self.now
+left : (c : After-cut_of-cut) → left_by c.self.inside.pieces.items c.cut_of-cut.result ≡ stored_cut c.args.from c.args.to c.args.self.now
 left c = grind (arith, common_steps)
 
 pub replace-requires-clause-room : goal.replace-requires-clause-room

@@ -1,8 +1,8 @@
-use Rattle.shm_attach.proofs.Names.{◌≡◌, ◌+◌, ◌∙◌, List, [], ◌∷◌, get_or, sym, subst, take, take_all, moved, Move, Gone, AllTrue}
+use Rattle.shm_attach.proofs.Names.{◌≡◌, ◌+◌, ◌∙◌, List, [], ◌∷◌, get_or, sym, subst, take, take_all, moved, PageMove, Gone, AllTrue}
 use Rattle.shm_attach.proofs.Residency.{moved-more, true-same}
 use Rattle.shm_attach.proofs.tables.Tables.note.Goals as goal
 
-abbrev nothing : Move
+abbrev nothing : PageMove
 nothing = Gone (record { seg = 0; page = 0 })
 
 pub loop-entry-preserved : goal.loop-entry-preserved
@@ -25,4 +25,4 @@ returns-clause-translated c = λ at all.
     let ms = c.args.moves.now in
     let i = c.loop-entry.entry-index in
     let whole : take i ms ≡ ms = take_all i ms c.loop-entry-test.false in
-    subst (λ (xs : List Move). AllTrue (λ seg page. moved xs seg page (at seg page)) c.loop-entry.self.slab) whole (c.loop-entry.invariant.translated at all)
+    subst (λ (xs : List PageMove). AllTrue (λ seg page. moved xs seg page (at seg page)) c.loop-entry.self.slab) whole (c.loop-entry.invariant.translated at all)

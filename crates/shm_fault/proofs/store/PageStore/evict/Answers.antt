@@ -6,8 +6,8 @@ pub returns-in-Ok-clause-gone : goal.returns-in-Ok-clause-gone
 returns-in-Ok-clause-gone g c =
     let s = c.args.self.now in
     let segs = ap (λ (v : StoreView). v.segs) c.turn-frame.ensures.rest in
-    evicted-gone s c.turn-frame.new.self c.clean.new.self c.leave-page.new.self c.turn-frame.result c.leave-page.result c.args.pinned no_frame no_frame
-    segs c.clean.ensures.still c.clean.ensures.away c.leave-page.ensures.was c.leave-page.ensures.segs
+    evicted-gone s c.turn-frame.new.self c.clean.new.self c.vacate-page.new.self c.turn-frame.result c.vacate-page.result c.args.pinned no_frame no_frame
+    segs c.clean.ensures.still c.clean.ensures.away c.vacate-page.ensures.was c.vacate-page.ensures.segs
 
 pub returns-in-Ok-clause-visits : goal.returns-in-Ok-clause-visits
 returns-in-Ok-clause-visits g c =
@@ -16,19 +16,19 @@ returns-in-Ok-clause-visits g c =
     let f = c.turn-frame.result in
     let segs = ap (λ (v : StoreView). v.segs) c.turn-frame.ensures.rest in
     let set_at = get_or-set_same t₁.frames f (record (frame_at t₁.frames f) { dirty = false }) no_frame (rw c.turn-frame.ensures.goes.size c.turn-frame.ensures.there) in
-    let owner : (frame_at s.frames f).owner ≡ Some c.leave-page.result = sym (c.turn-frame.ensures.alike f).owner ∙ (sym (ap (λ (fs : List Frame). (frame_at fs f).owner) c.in-Ok.ensures.ok ∙ ap (λ (x : Frame). x.owner) set_at) ∙ c.leave-page.ensures.page) in
-    evicted-visits s t₁ c.clean.new.self c.leave-page.new.self f c.leave-page.result c.args.pinned (record (frame_at t₁.frames f) { dirty = false }) (record no_frame { bytes = (frame_at c.clean.new.self.frames f).bytes })
-    segs c.clean.ensures.still c.clean.ensures.away c.leave-page.ensures.was c.leave-page.ensures.segs
-    c.turn-frame.ensures.goes c.clean.ensures.goes c.leave-page.ensures.goes c.turn-frame.ensures.pin c.in-Ok.ensures.ok c.leave-page.ensures.frames c.turn-frame.ensures.may owner
+    let owner : (frame_at s.frames f).owner ≡ Some c.vacate-page.result = sym (c.turn-frame.ensures.alike f).owner ∙ (sym (ap (λ (fs : List Frame). (frame_at fs f).owner) c.in-Ok.ensures.ok ∙ ap (λ (x : Frame). x.owner) set_at) ∙ c.vacate-page.ensures.page) in
+    evicted-visits s t₁ c.clean.new.self c.vacate-page.new.self f c.vacate-page.result c.args.pinned (record (frame_at t₁.frames f) { dirty = false }) (record no_frame { bytes = (frame_at c.clean.new.self.frames f).bytes })
+    segs c.clean.ensures.still c.clean.ensures.away c.vacate-page.ensures.was c.vacate-page.ensures.segs
+    c.turn-frame.ensures.goes c.clean.ensures.goes c.vacate-page.ensures.goes c.turn-frame.ensures.pin c.in-Ok.ensures.ok c.vacate-page.ensures.frames c.turn-frame.ensures.may owner
 
-pub leave-page-requires-clause-there : goal.leave-page-requires-clause-there
-leave-page-requires-clause-there g c = rw (c.in-Ok.ensures.ok, length-set, c.turn-frame.ensures.goes.size) c.turn-frame.ensures.there
+pub vacate-page-requires-clause-there : goal.vacate-page-requires-clause-there
+vacate-page-requires-clause-there g c = rw (c.in-Ok.ensures.ok, length-set, c.turn-frame.ensures.goes.size) c.turn-frame.ensures.there
 
-pub leave-page-requires-clause-clean : goal.leave-page-requires-clause-clean
-leave-page-requires-clause-clean g c = grind (arith, common_steps)
+pub vacate-page-requires-clause-clean : goal.vacate-page-requires-clause-clean
+vacate-page-requires-clause-clean g c = grind (arith, common_steps)
 
 pub returns-in-Ok-clause-hand : goal.returns-in-Ok-clause-hand
-returns-in-Ok-clause-hand g c = ap (λ (v : StoreView). v.hand) c.leave-page.ensures.rest ∙ ap (λ (v : StoreView). v.hand) c.clean.ensures.rest ∙ c.turn-frame.ensures.hand
+returns-in-Ok-clause-hand g c = ap (λ (v : StoreView). v.hand) c.vacate-page.ensures.rest ∙ ap (λ (v : StoreView). v.hand) c.clean.ensures.rest ∙ c.turn-frame.ensures.hand
 
 pub returns-in-Err-clause-hand : goal.returns-in-Err-clause-hand
 returns-in-Err-clause-hand g c = ap (λ (v : StoreView). v.hand) c.clean.ensures.rest ∙ c.turn-frame.ensures.hand

@@ -6,13 +6,13 @@ use Rattle.shm_fault.proofs.store.PageStore.slot_for.Given as given
 use Rattle.shm_fault.proofs.store.PageStore.slot_for.Goals as goal
 use Rattle.shm_fault.proofs.store.PageStore.slot_for.Goals.{After-set_page}
 
-pub unreachable-requires-in_default-take_slot : goal.unreachable-requires-in_default-take_slot
-unreachable-requires-in_default-take_slot g c =
+pub unreachable-requires : goal.unreachable-requires
+unreachable-requires g c =
     let i = c.self.inside in
     let sound = c.self.invariant in
-    let page = c.in-Some.page in
-    let owned : (frame_at i.frames c.args.frame).owner ≡ Some page = sym c.owner.ensures ∙ c.in-Some.is in
-    let none : (rec_by i.segs page).slot ≡ None = ap (λ (p : PageRec). p.slot) (sym c.page-place.ensures) ∙ c.in_default-slot.is in
+    let page = c.resident_page-page.result in
+    let owned : (frame_at i.frames c.args.frame).owner ≡ Some page = c.resident_page-page.ensures in
+    let none : (rec_by i.segs page).slot ≡ None = ap (λ (p : PageRec). p.slot) (sym c.page-place.ensures) ∙ c.in_default.is in
     let full : used_slots i.swap ≡ slots i.swap = c.in_default-take_slot.ensures.full in
     let few = some_slotless (seen i) sound.apart page (sound.tied.owners c.args.frame page owned) none in
     let same = used-slots (seen i) sound.apart sound.tied in
@@ -22,14 +22,14 @@ done : (g : given.Over) (c : After-set_page g)
     → Takes c.args.frame c.in-Some-take_slot.slot (seen c.self.inside) (record (seen c.self.inside) { segs = c.set_page.new.self; swap = c.take_slot.new.self })
 done g c =
     let i = c.self.inside in
-    let page = c.in-Some.page in
+    let page = c.resident_page-page.result in
     let slot = c.in-Some-take_slot.slot in
-    let none : (rec_by i.segs page).slot ≡ None = ap (λ (p : PageRec). p.slot) (sym c.page-place.ensures) ∙ c.in_default-slot.is in
+    let none : (rec_by i.segs page).slot ≡ None = ap (λ (p : PageRec). p.slot) (sym c.page-place.ensures) ∙ c.in_default.is in
     let first = c.in-Some-take_slot.ensures.found in
     let u : c.take_slot.new.self ≡ with_slot_owner i.swap slot (Some page) = c.in-Some-take_slot.ensures.taken in
     let e = c.take_slot.ensures in
     rw (c.set_page.ensures, u, c.page-place.ensures)
-    (takes (seen i) c.self.invariant page c.args.frame slot (sym c.owner.ensures ∙ c.in-Some.is) (rw (← c.self.view_is) at c.requires.dirty) none
+    (takes (seen i) c.self.invariant page c.args.frame slot c.resident_page-page.ensures (rw (← c.self.view_is) at c.requires.dirty) none
     first.there first.free (rw u at e.sound) (rw u at e.steady.same_sizes) (rw u at e.steady.goes_on))
 
 pub returns-clause-goes : goal.returns-clause-goes

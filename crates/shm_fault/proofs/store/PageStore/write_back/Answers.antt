@@ -1,4 +1,4 @@
-use Rattle.shm_fault.proofs.Names.{◌≡◌, ℕ, Some, true, false, set, refl, sym, arith, set-get_or, IsSome, PageRef, Slot, SwapView, IsSwap, HasSlot, sizes, area_at, with_slot_page, OneArea, WriteFault, GoesOn, no_frame, frame_at, rec_by, StoreView, IsStoreSound, common_steps, nat_tests}
+use Rattle.shm_fault.proofs.Names.{◌≡◌, ℕ, Some, true, false, set, refl, sym, arith, set-get_or, IsSome, PageRef, Slot, SwapView, IsSwap, HasSlot, sizes, area_at, with_slot_page, OneArea, AfterWriteFault, GoesOn, no_frame, frame_at, rec_by, StoreView, IsStoreSound, common_steps, nat_tests}
 use Rattle.shm_fault.proofs.Seen.{seen}
 use Rattle.shm_fault.proofs.Slots.{OnlySlot-page, OnlySlot-fault, owner-written, owner-fault, page-written}
 use Rattle.shm_fault.proofs.Failures.{total-written, total-fault}
@@ -29,7 +29,7 @@ module _ (s : StoreView) (sound : IsStoreSound s) (f : ℕ) (k : Slot) (some : I
       (OnlySlot-page k s.swap bytes) (owner-written k s.swap bytes has) (λ e. sym (page-written k s.swap bytes has)) swap same goes
 
   -- it failed
-  failed : (u : SwapView) → (frame_at s.frames f).dirty ≡ true → OneArea k.area s.swap u → WriteFault k.slot (area_at s.swap k.area) (area_at u k.area)
+  failed : (u : SwapView) → (frame_at s.frames f).dirty ≡ true → OneArea k.area s.swap u → AfterWriteFault k.slot (area_at s.swap k.area) (area_at u k.area)
       → IsSwap u → sizes u ≡ sizes s.swap → GoesOn s.swap u → Keeps s (record s { swap = u })
   failed u dirty one fault swap same goes =
       let k0 = keeps-write s sound owner.page f k (frame_at s.frames f) u s.ins s.outs owner.is (slot owner.page owner.is) owner.is refl

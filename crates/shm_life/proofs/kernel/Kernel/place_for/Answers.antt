@@ -1,5 +1,5 @@
 use Rattle.shm_life.proofs.Names.{rules, ◌≡◌, ◌∙◌, true, false, sym, ap, to_z, of_z, w32, arith, List, Machine, Piece, pages_of, look, grants, at_wish, sizes, bare_all, caller_seen, pieces_at, look_of, misplaced, if_few, base_for, wished, placed_at, placed}
-use Rattle.shm_life.proofs.Shmat.{placed-found, if_few-under, if_few-over}
+use Rattle.shm_life.proofs.Attaching.{placed-found, if_few-under, if_few-over}
 use Rattle.std.specs.Prelude.{IfOk}
 use Rattle.shm_attach.specs.Place.{IsRange}
 use Rattle.shm_life.proofs.kernel.Kernel.place_for.Given.{Over}

@@ -1,6 +1,6 @@
 use Rattle.shm_life.proofs.Names.{◌≡◌, refl, ap, sym, ◌∙◌, rules, to_z, of_z, w32, Outcome, shmat, is_refusal, AreTrue, IsCaller, caller_seen, SegmentsView, piece_for, placed_outcome, PieceFits}
 use Rattle.shm_life.proofs.Going.{Goes, attached-goes, attached-first, well-gone}
-use Rattle.shm_life.proofs.Shmat.{shmat-placed, on-err}
+use Rattle.shm_life.proofs.Attaching.{shmat-placed, on-err}
 use Rattle.shm_life.proofs.kernel.Kernel.shmat.Given.{Over}
 use Rattle.shm_life.proofs.kernel.Kernel.shmat.Goals as goal
 use Rattle.shm_life.proofs.kernel.Kernel.shmat.Goals.{After-place_for, After-as_slice}

@@ -1,10 +1,13 @@
-use Rattle.std.proofs.Common.{ap, sym, ◌∙◌, List, ℕ}
+use Rattle.std.proofs.Common.{ap, sym, ◌∙◌, List, ℕ, rules}
 use Rattle.shm_base.specs.State.{Opening, start_of}
 use Rattle.shm_slots.specs.View.{AreaView, new_swap}
 use Rattle.shm_fault.specs.Store.{fresh_store}
 use Rattle.shm_life.specs.Start.{start_error}
-use Rattle.shm_machine.proofs.Sizes.{pager-sizes, pager-areas, first-error}
+use Rattle.shm_machine.proofs.Sizes.{pager-sizes, pager-areas, first-error, few-areas}
 use Rattle.shm_machine.proofs.machine.Machine.open.Goals as goal
+
+pub pagers_for-requires : goal.pagers_for-requires
+pagers_for-requires c = few-areas c.args.areas.now (sym (c.first_area_error.ensures (λ area. area.slots) (λ area slots gives. search rules)) ∙ c.in_default.is)
 
 pub returns-in-Ok-start-clause-opened : goal.returns-in-Ok-start-clause-opened
 returns-in-Ok-start-clause-opened c =

@@ -1,4 +1,4 @@
-use Rattle.shm_segments.proofs.Names.{◌%◌, List, refl, ap, change, attached, with_value, joined, held, FlatEntry}
+use Rattle.shm_segments.proofs.Names.{◌%◌, List, refl, ap, change, attached, with_value, joined_table, held, FlatEntry}
 use Rattle.shm_segments.proofs.Finding.{is_live-row}
 use Rattle.shm_segments.proofs.Keeping.{KeptAs, kept-value}
 use Rattle.shm_segments.proofs.Remembered.{view_of}
@@ -11,7 +11,7 @@ head_mut-head-requires g c = is_live-row (held c.self.inside.store) c.self.insid
 
 kept : (g : Over) (c : After-head_mut-head g)
     → KeptAs (held c.self.inside.store) (with_value c.self.inside.table (c.args.seg % 32768) (record c.head_mut-head.result.now { atime = c.args.time; lpid = c.args.pid })) c.self.inside.reserved c.self.inside.locked
-    (change (joined (held c.self.inside.store) c.self.inside.table) c.args.seg (attached c.args.time c.args.pid))
+    (change (joined_table (held c.self.inside.store) c.self.inside.table) c.args.seg (attached c.args.time c.args.pid))
 kept g c = kept-value _ _ _ _ _ c.head_mut-head.result.now _ (attached c.args.time c.args.pid) c.self.invariant.kept c.head_mut-head.ensures.value refl refl (λ key bs. refl)
 
 pub invariant_of-self : goal.invariant_of-self

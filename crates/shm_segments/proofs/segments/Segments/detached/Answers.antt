@@ -1,4 +1,4 @@
-use Rattle.shm_segments.proofs.Names.{◌%◌, List, refl, ap, change, detached, with_value, joined, held, FlatEntry}
+use Rattle.shm_segments.proofs.Names.{◌%◌, List, refl, ap, change, detached, with_value, joined_table, held, FlatEntry}
 use Rattle.shm_segments.proofs.Finding.{is_live-row}
 use Rattle.shm_segments.proofs.Keeping.{KeptAs, kept-value}
 use Rattle.shm_segments.proofs.Remembered.{view_of}
@@ -8,7 +8,7 @@ use Rattle.shm_segments.proofs.segments.Segments.detached.Goals.{After-head_mut-
 
 kept : (g : Over) (c : After-head_mut-head g)
     → KeptAs (held c.self.inside.store) (with_value c.self.inside.table (c.args.seg % 32768) (record c.head_mut-head.result.now { dtime = c.args.time; lpid = c.args.pid })) c.self.inside.reserved c.self.inside.locked
-    (change (joined (held c.self.inside.store) c.self.inside.table) c.args.seg (detached c.args.time c.args.pid))
+    (change (joined_table (held c.self.inside.store) c.self.inside.table) c.args.seg (detached c.args.time c.args.pid))
 kept g c = kept-value _ _ _ _ _ c.head_mut-head.result.now _ (detached c.args.time c.args.pid) c.self.invariant.kept c.head_mut-head.ensures.value refl refl (λ key bs. refl)
 
 pub returns : goal.returns

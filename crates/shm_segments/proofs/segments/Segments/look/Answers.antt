@@ -1,11 +1,11 @@
-use Rattle.shm_segments.proofs.Names.{rules, ◌≡◌, to_z, of_z, w32, Removed, Invalid, look, held, joined, IsFound, look_of, Err}
+use Rattle.shm_segments.proofs.Names.{rules, ◌≡◌, to_z, of_z, w32, Removed, Invalid, look, held, joined_table, IsFound, look_of, Err}
 use Rattle.shm_segments.proofs.Looking.{found-under, look-removed, look-invalid}
 use Rattle.shm_base.specs.Identifier as flat
 use Rattle.shm_segments.proofs.segments.Segments.look.Given.{Over}
 use Rattle.shm_segments.proofs.segments.Segments.look.Goals as goal
 use Rattle.shm_segments.proofs.segments.Segments.look.Goals.{In-Ok}
 
-under : (g : Over) (c : In-Ok g) → IsFound (joined (held c.self.inside.store) c.self.inside.table) c.in-Ok.found × (flat.look (joined (held c.self.inside.store) c.self.inside.table) c.args.id ≡ look_of (joined (held c.self.inside.store) c.self.inside.table) c.in-Ok.found)
+under : (g : Over) (c : In-Ok g) → IsFound (joined_table (held c.self.inside.store) c.self.inside.table) c.in-Ok.found × (flat.look (joined_table (held c.self.inside.store) c.self.inside.table) c.args.id ≡ look_of (joined_table (held c.self.inside.store) c.self.inside.table) c.in-Ok.found)
 under g c =
     let signed : to_z w32 (of_z w32 c.args.id) ≡ c.args.id = search rules in
     let e = c.in-Ok.ensures in

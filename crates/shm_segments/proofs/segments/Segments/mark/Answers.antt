@@ -1,4 +1,4 @@
-use Rattle.shm_segments.proofs.Names.{List, true, refl, ap, change, marked, joined, held, FlatEntry}
+use Rattle.shm_segments.proofs.Names.{List, true, refl, ap, change, marked, joined_table, held, FlatEntry}
 use Rattle.shm_segments.proofs.Finding.{is_live-row}
 use Rattle.shm_segments.proofs.Keeping.{KeptAs, kept-both}
 use Rattle.shm_segments.proofs.Remembered.{view_of}
@@ -9,7 +9,7 @@ use Rattle.shm_segments.proofs.segments.Segments.mark.Goals.{After-hide}
 pub head_mut-requires : goal.head_mut-requires
 head_mut-requires g c = is_live-row (held c.self.inside.store) c.self.inside.table c.args.seg (rw (← c.self.view_is) at c.requires)
 
-kept : (g : Over) (c : After-hide g) → KeptAs (held c.self.inside.store) c.hide.new.table c.self.inside.reserved c.self.inside.locked (change (joined (held c.self.inside.store) c.self.inside.table) c.args.seg marked)
+kept : (g : Over) (c : After-hide g) → KeptAs (held c.self.inside.store) c.hide.new.table c.self.inside.reserved c.self.inside.locked (change (joined_table (held c.self.inside.store) c.self.inside.table) c.args.seg marked)
 kept g c =
     let v = c.head_mut.result.now in
     rw c.hide.ensures (kept-both _ _ _ _ _ v (record v { dest = true }) marked c.self.invariant.kept c.head_mut.ensures.value refl refl (λ key bs. refl))

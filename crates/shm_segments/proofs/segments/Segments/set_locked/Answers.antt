@@ -1,4 +1,4 @@
-use Rattle.shm_segments.proofs.Names.{◌≡◌, ◌≤◌, ◌+◌, ◌%◌, length, true, sym, ap, ◌∙◌, arith, with_value, with_lock, joined, locked_of_rows, change, locked, held, SegmentsView, relocked}
+use Rattle.shm_segments.proofs.Names.{◌≡◌, ◌≤◌, ◌+◌, ◌%◌, length, true, sym, ap, ◌∙◌, arith, with_value, with_lock, joined_table, locked_of_rows, change, locked, held, SegmentsView, relocked}
 use Rattle.shm_segments.proofs.Edits.{look-live}
 use Rattle.shm_segments.proofs.Finding.{is_live-row}
 use Rattle.shm_segments.proofs.Making.{kept-locked, few-pages}
@@ -14,8 +14,8 @@ set_locked-requires-clause-few g c = λ on.
     let v = c.head_mut-head.result.now in
     let rows = with_value c.self.inside.table (c.args.seg % 32768) (record v { locked = true }) in
     let k = kept-locked (held s) c.self.inside.table c.self.inside.reserved c.self.inside.locked c.args.seg v true c.self.invariant.kept c.head_mut-head.ensures.value in
-    let few : locked (change (joined (held s) c.self.inside.table) c.args.seg (relocked true)) + 2 ≤ length s.frames = (rw (← c.self.view_is) at c.requires.few) on in
-    let sum : locked (change (joined (held s) c.self.inside.table) c.args.seg (relocked true)) ≡ locked_of_rows rows = ap locked (sym k.is) ∙ locked-joined (with_lock (held s) c.args.seg true) rows k.kept.agree in
+    let few : locked (change (joined_table (held s) c.self.inside.table) c.args.seg (relocked true)) + 2 ≤ length s.frames = (rw (← c.self.view_is) at c.requires.few) on in
+    let sum : locked (change (joined_table (held s) c.self.inside.table) c.args.seg (relocked true)) ≡ locked_of_rows rows = ap locked (sym k.is) ∙ locked-joined (with_lock (held s) c.args.seg true) rows k.kept.agree in
     omega (arith, few, sum, k.kept.few_locked, k.kept.locked)
 
 pub overflow_add-self : goal.overflow_add-self

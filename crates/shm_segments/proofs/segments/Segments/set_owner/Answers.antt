@@ -1,4 +1,4 @@
-use Rattle.shm_segments.proofs.Names.{ℕ, ◌%◌, List, refl, ap, reowned, change, with_value, Head, joined, held, FlatEntry}
+use Rattle.shm_segments.proofs.Names.{ℕ, ◌%◌, List, refl, ap, reowned, change, with_value, Head, joined_table, held, FlatEntry}
 use Rattle.shm_segments.proofs.Finding.{is_live-row}
 use Rattle.shm_segments.proofs.Keeping.{KeptAs, kept-value}
 use Rattle.shm_segments.proofs.Remembered.{view_of}
@@ -14,7 +14,7 @@ owned v time uid gid mode = record v { perm = record v.perm { uid = uid; gid = g
 
 kept : (g : Over) (c : After-head_mut-head g)
     → KeptAs (held c.self.inside.store) (with_value c.self.inside.table (c.args.seg % 32768) (owned c.head_mut-head.result.now c.args.time c.args.uid c.args.gid c.args.mode)) c.self.inside.reserved c.self.inside.locked
-    (change (joined (held c.self.inside.store) c.self.inside.table) c.args.seg (reowned c.args.time c.args.uid c.args.gid c.args.mode))
+    (change (joined_table (held c.self.inside.store) c.self.inside.table) c.args.seg (reowned c.args.time c.args.uid c.args.gid c.args.mode))
 kept g c = kept-value _ _ _ _ _ c.head_mut-head.result.now _ (reowned c.args.time c.args.uid c.args.gid c.args.mode) c.self.invariant.kept c.head_mut-head.ensures.value refl refl (λ key bs. refl)
 
 pub invariant_of-self : goal.invariant_of-self

@@ -11,8 +11,8 @@ ghost use Rattle.shm_life.specs.MachineView.{KeepsOn};
 ghost use Rattle.shm_life.specs.Placing.{placed, piece_for};
 ghost use Rattle.shm_life.specs.Tied.{IsCallerOf, PieceFits};
 
-use crate::detach::after_detach;
 use crate::kernel::Kernel;
+use crate::sweep::after_detach;
 use bitflags::Flags;
 use shm_attach::Caller;
 use shm_base::{AtFlags, Errno, HostMemory, MOST_PIECES, PAGE_SIZE, Reply, ShmId, Want, grants};

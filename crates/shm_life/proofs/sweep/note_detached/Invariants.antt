@@ -1,5 +1,5 @@
 use Rattle.shm_life.proofs.Names.{◌≡◌, take, detach_all}
-use Rattle.shm_life.proofs.detach.note_detached.Given as goal
+use Rattle.shm_life.proofs.sweep.note_detached.Given as goal
 
 abbrev pub invariant-loop-seg : goal.invariant-loop-seg
 invariant-loop-seg g l = l.segments ≡ record l.initial.segments { table = detach_all l.time l.pid l.initial.segments.table (take l.seg-index l.lost) }

@@ -10,8 +10,8 @@ ghost use Rattle.shm_segments.specs.Table.{IsFound, segment_seen};
 ghost use Rattle.shm_life.specs.MachineView.{KeepsOn};
 ghost use Rattle.shm_life.specs.Made.{status_bits};
 
-use crate::detach::sweep;
 use crate::kernel::Kernel;
+use crate::sweep::sweep;
 use bitflags::Flags;
 use shm_attach::Caller;
 use shm_base::{Cred, Errno, Perm, Reply, ShmId, ShmidDs, Status, Want, grants};

@@ -1,6 +1,6 @@
 use Rattle.shm_life.proofs.Names.{List, take, sym, ap, ◌∙◌, slice_index_or, Entry, change, detached, SegmentsView, view_of}
 use Rattle.shm_life.proofs.Settled.{detach_all-more, live-detached}
-use Rattle.shm_life.proofs.detach.note_detached.Goals as goal
+use Rattle.shm_life.proofs.sweep.note_detached.Goals as goal
 
 pub detached-requires : goal.detached-requires
 detached-requires g c =

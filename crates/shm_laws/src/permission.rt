@@ -1,5 +1,5 @@
 ghost use Rattle.std.specs.Prelude.{◌≡◌};
-ghost use Rattle.shm_laws.specs.Leave.{NoWayIn};
+ghost use Rattle.shm_laws.specs.Permission.{NoWayIn};
 
 use shm_base::Event;
 use shm_history::World;

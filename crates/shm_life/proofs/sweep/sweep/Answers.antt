@@ -1,9 +1,9 @@
 use Rattle.shm_life.proofs.Names.{◌≡◌, drop, [], refl, sym, subst, ◌∙◌, drop_all, runs-refl, runs-trans, OrphansAmong}
 use Rattle.shm_life.proofs.Orphans.{swept-none}
 use Rattle.shm_life.proofs.Running.{sweeps-none, sweeps-trans, among-next, swept-well, keeps_runs}
-use Rattle.shm_life.proofs.detach.sweep.Given.{Over}
-use Rattle.shm_life.proofs.detach.sweep.Goals as goal
-use Rattle.shm_life.proofs.detach.sweep.Goals.{After-loop-seg}
+use Rattle.shm_life.proofs.sweep.sweep.Given.{Over}
+use Rattle.shm_life.proofs.sweep.sweep.Goals as goal
+use Rattle.shm_life.proofs.sweep.sweep.Goals.{After-loop-seg}
 
 pub loop-seg-init : goal.loop-seg-init
 loop-seg-init g c =

@@ -1,4 +1,4 @@
--- Leave: nobody gets at a segment without it.
+-- Permission: nobody gets at a segment without it.
 use Rattle.std.specs.Prelude.{◌≡◌, ◌≤◌, ◌<◌, ◌⊎◌, ℕ, ◌+◌, ◌*◌, ◌%◌, ℤ, pos, Bool, true, false, not, List, [], ◌∷◌, ◌++◌, length, Option, Some, None}
 use Rattle.shm_base.specs.declared.owner.Cred.{Cred}
 use Rattle.shm_base.specs.declared.owner.Perm.{Perm}
@@ -35,7 +35,7 @@ pub record IsGranted (s : Machine) (e : Event) (pid : ℕ) (p : Piece) : Type 0 
   pub live : caller_of s pid ≡ Some caller
   pub segment : Segment
   pub stands : Stands s p.seg segment
-  pub leave : grants caller.cred segment.perm (record { read = true; write = p.writable }) ≡ true
+  pub permitted : grants caller.cred segment.perm (record { read = true; write = p.writable }) ≡ true
   pub page : p.base % 4096 ≡ 0
   pub whole : (p.first_page ≡ 0) × (p.pages ≡ pages_in segment)
 
@@ -98,7 +98,7 @@ pub record KeepsOut (s : Machine) (e : Event) (t : Machine) : Type 0 where
   pub inside : StaysInside s e
   pub owner : (id : ℤ) → controlled e.call ≡ Some id → e.reply ≡ Done → OwnerAsks s e.pid id
 
--- THE LAW. At each moment each piece goes back to a shmat that was granted, and each move keeps out who has no leave
+-- THE LAW. At each moment each piece goes back to a shmat that was granted, and each move keeps out who has no permission
 pub record NoWayIn (o : Opening) (events : List Event) (end : Machine) : Type 0 where
   pub pieces : Always (λ before s. EachPiece (GoesBack o before) s) o events
   pub moves : EachMove KeepsOut o events end

@@ -1,8 +1,8 @@
 use Rattle.shm_life.proofs.Names.{◌≡◌, false, ℕ, List, ◌∷◌, ap, sym, ◌∙◌, refl, attach_count, is_left, live, segment_seen, live-found, OrphansAmong}
 use Rattle.shm_life.proofs.Sweeping.{fewer-left, fewer-destroyed, sweeps-destroyed, left-parts}
-use Rattle.shm_life.proofs.detach.sweep_one.Given.{Over}
-use Rattle.shm_life.proofs.detach.sweep_one.Goals as goal
-use Rattle.shm_life.proofs.detach.sweep_one.Goals.{After-is_left}
+use Rattle.shm_life.proofs.sweep.sweep_one.Given.{Over}
+use Rattle.shm_life.proofs.sweep.sweep_one.Goals as goal
+use Rattle.shm_life.proofs.sweep.sweep_one.Goals.{After-is_left}
 
 pub returns-then-is_left-clause-sweeps : goal.returns-then-is_left-clause-sweeps
 returns-then-is_left-clause-sweeps g c =

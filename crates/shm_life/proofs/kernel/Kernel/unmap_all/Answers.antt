@@ -1,9 +1,9 @@
 use Rattle.shm_base.specs.State.{Live, Ended}
 use Rattle.shm_life.proofs.Names.{All, IsLive, IsWellBut}
 use Rattle.shm_life.proofs.Going.{all-gone}
-use Rattle.shm_life.proofs.kernel.Kernel.leave.Given.{Over}
-use Rattle.shm_life.proofs.kernel.Kernel.leave.Goals as goal
-use Rattle.shm_life.proofs.kernel.Kernel.leave.Goals.{After-as_slice, then-ends, else-ends}
+use Rattle.shm_life.proofs.kernel.Kernel.unmap_all.Given.{Over}
+use Rattle.shm_life.proofs.kernel.Kernel.unmap_all.Goals as goal
+use Rattle.shm_life.proofs.kernel.Kernel.unmap_all.Goals.{After-as_slice, then-ends, else-ends}
 
 -- all is well but for the segments that lost pieces, which are live
 left : (g : Over) (c : After-as_slice g) → All (IsLive c.if-ends.self-inside.segments.table) c.as_slice.result.now

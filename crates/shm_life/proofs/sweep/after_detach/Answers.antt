@@ -1,6 +1,6 @@
 use Rattle.shm_life.proofs.Names.{refl, detach_all, detach_all-same}
 use Rattle.shm_life.proofs.Settled.{orphans-same, still-well}
-use Rattle.shm_life.proofs.detach.after_detach.Goals as goal
+use Rattle.shm_life.proofs.sweep.after_detach.Goals as goal
 
 pub sweep-requires-clause-orphans : goal.sweep-requires-clause-orphans
 sweep-requires-clause-orphans g c =

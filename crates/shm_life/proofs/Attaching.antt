@@ -1,5 +1,5 @@
 -- The flat machine's shmat, by where its piece goes.
-use Rattle.shm_life.proofs.Names.{nat_tests, ◌≡◌, ℕ, ℤ, ◌+◌, ◌-◌, ◌*◌, ◌%◌, ◌<◌, ◌≤◌, ◌==◌, if◌then◌else◌, true, false, List, length, Some, None, refl, arith, lt-ltb, le-ltb, Emfile, AtFlags, Segment, Piece, Machine, pages_of, Look, Invalid, Removed, look, identifier, destroyed_at, grants, choose, cut, at_wish, shmat, attaches, attaches_chosen, attaches_fixed, attaches_found, OnErr, fixed_at, length-inserted, IsFound, look_of, misplaced, chosen, if_few, base_for, placed_at, placed_found, placed, placed_outcome}
+use Rattle.shm_life.proofs.Names.{nat_tests, ◌≡◌, ℕ, ℤ, ◌+◌, ◌-◌, ◌*◌, ◌%◌, ◌<◌, ◌≤◌, ◌==◌, if◌then◌else◌, true, false, List, length, Some, None, refl, arith, lt-ltb, le-ltb, Emfile, AtFlags, Segment, Piece, Machine, pages_of, Look, Invalid, Removed, look, identifier, destroyed_at, grants, choose, cut, at_wish, shmat, attaches, attaches_chosen, attaches_fixed, attaches_found, OnErr, fixed_at, length-inserted, IsFound, look_of, misplaced, gap_found, if_few, base_for, placed_at, placed_found, placed, placed_outcome}
 use Rattle.std.proofs.Common.{Option, Result, Ok, Err}
 use Rattle.shm_base.specs.State.{pages_in}
 use Rattle.shm_base.specs.Identifier.{Found}
@@ -12,7 +12,7 @@ module _ (s : Machine) (n : ℕ) (c : Caller) (flags : AtFlags) where
   few-outcome id x base = grind (arith, length-inserted)
 
   chosen-outcome : (id : ℕ) (x : Segment) (o : Option ℕ)
-      → attaches_chosen s n c id x flags o ≡ placed_outcome s n c flags (placed_at id (pages_in x) (if_few c.pieces (pages_in x) (chosen o)))
+      → attaches_chosen s n c id x flags o ≡ placed_outcome s n c flags (placed_at id (pages_in x) (if_few c.pieces (pages_in x) (gap_found o)))
   chosen-outcome id x None = refl
   chosen-outcome id x (Some base) = few-outcome id x base
 

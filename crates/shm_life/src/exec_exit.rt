@@ -5,8 +5,8 @@ ghost use Rattle.shm_attach.specs.Spaces.{caller_seen};
 ghost use Rattle.shm_life.specs.MachineView.{KeepsOn};
 ghost use Rattle.shm_life.specs.Tied.{IsCallerOf};
 
-use crate::detach::after_detach;
 use crate::kernel::Kernel;
+use crate::sweep::after_detach;
 use shm_attach::Caller;
 use shm_base::Reply;
 use shm_pager::Pager;
@@ -15,7 +15,7 @@ impl<P: Pager> Kernel<P> {
     #[tactic(auto, using(crate::proofs::Running::keeps_refl))]
     // Detaches every piece of a process, which ends or goes on. What it takes of the stack no other call has.
     #[inline(never)]
-    fn leave(&mut self, time: u64, caller: &Caller, ends: bool, reply: &mut Reply)
+    fn unmap_all(&mut self, time: u64, caller: &Caller, ends: bool, reply: &mut Reply)
         requires { IsCallerOf self.old.flat caller.now }
         ensures exec { ends ≡ false → flat.exec self.old.flat time (caller_seen caller.now self.old.flat.runners) ≡ record { reply = reply.new; state = self.new.flat } }
         ensures exit { ends ≡ true → flat.exit self.old.flat time (caller_seen caller.now self.old.flat.runners) ≡ record { reply = reply.new; state = self.new.flat } }
@@ -42,7 +42,7 @@ impl<P: Pager> Kernel<P> {
         ensures step { flat.exec self.old.flat time (caller_seen caller.now self.old.flat.runners) ≡ record { reply = reply.new; state = self.new.flat } }
         ensures keeps { KeepsOn self.old.memory self.new.memory }
     {
-        self.leave(time, caller, false, reply);
+        self.unmap_all(time, caller, false, reply);
     }
 
     /// Detaches every piece, and ends the process.
@@ -51,6 +51,6 @@ impl<P: Pager> Kernel<P> {
         ensures step { flat.exit self.old.flat time (caller_seen caller.now self.old.flat.runners) ≡ record { reply = reply.new; state = self.new.flat } }
         ensures keeps { KeepsOn self.old.memory self.new.memory }
     {
-        self.leave(time, caller, true, reply);
+        self.unmap_all(time, caller, true, reply);
     }
 }
