@@ -1,5 +1,5 @@
 -- What a `Kept` owns, taken apart and put together. Assumes `Logic`.
-use Rattle.nogcuvema.proofs.Names.{List, [], ◌∷◌, ◌++◌, refl, sym, subst, Option, Some, IsSome, Ura, Ty, impl, tnil, dnil, Val, vptr, vstruct, vcons, vnil, of_list, has_ty, WT, T, ◌&&◌, true≢false, never, fst∗, Fml, Logic, sem, Item, Goal, Seq, Step, step, ‵, ◌$◌, move, fsplit, fjoin, fpick, fpack, feq_i, feq_l, Valss, Ptr, block_ptr, null_ptr, ptr_val, in_a_block, nothing, layout, lone, shape, Al, Fits, handle_tells, and_tt, box_owns, ghosts, Machine, held, the_row, the_type, RattleType}
+use Rattle.nogcuvema.proofs.Names.{List, [], ◌∷◌, ◌++◌, refl, sym, subst, Option, Some, IsSome, Ura, Ty, impl, tnil, dnil, Val, vptr, vstruct, vcons, vnil, of_list, has_ty, WT, T, ◌&&◌, true≢false, never, fst∗, Fml, Logic, sem, Item, Goal, Seq, Step, step, ‵, ◌$◌, move, fsplit, fjoin, fpick, fpack, feq_i, feq_l, Valss, Ptr, block_ptr, null_ptr, ptr_val, in_a_block, nothing, layout, lone, shape, Al, Fits, handle_tells, and_tt, box_owns, ghosts, Machine, owned, the_row, the_type, RattleType}
 use Rattle.std.proofs.Common.{◌≡◌}
 use Rattle.std.specs.Prelude.{None}
 use mir.Raw.{raw as bare}
@@ -34,12 +34,12 @@ pub both_typed : (b o : Prim.Native.Nat.ℕ) (h : Val) → Fits al h → T (has_
 both_typed b o h fits = (and_tt (has_ty (layout Heap) h) fits.0, (tt, (fits.1, tt)))
 
 module _ {M : Type 1} {𝓤 : Ura M} {𝓛 : Logic 𝓤} {K : Type 0} {Γ : List (Item 𝓤)} {G : Goal 𝓤 𝓛.H} where
-  pub kept_in : K → (p : Ptr) (v : Option Machine) → Step K 𝓛 (‵ (the_row.own_val (record { at = p; value = v }) (alone (ptr_val p) ∷ [])) ∷ Γ) G (‵ (held token p v) ∷ Γ) G
+  pub kept_in : K → (p : Ptr) (v : Option Machine) → Step K 𝓛 (‵ (the_row.own_val (record { at = p; value = v }) (alone (ptr_val p) ∷ [])) ∷ Γ) G (‵ (owned token p v) ∷ Γ) G
   kept_in t p v = step (λ s. let w = alone (ptr_val p) in
       nothing t $ feq_i t (List Val) (ptr_val p ∷ []) (ptr_val p ∷ []) refl $ fjoin t $ feq_i t (List Val) (w ∷ []) (w ∷ []) refl $ fjoin t $
       fpack t (Valss (RawPtr ∷ [])) (within (shape the_type) (p, tt) (w ∷ [])) (ptr_val p ∷ [], tt) $ fjoin t $ s)
 
-  pub kept_out : K → (d : the_row.Denot) (vs : List Val) → (vs ≡ alone (ptr_val d.at) ∷ [] → Seq K 𝓛 (‵ (held token d.at d.value) ∷ Γ) G) → Seq K 𝓛 (‵ (the_row.own_val d vs) ∷ Γ) G
+  pub kept_out : K → (d : the_row.Denot) (vs : List Val) → (vs ≡ alone (ptr_val d.at) ∷ [] → Seq K 𝓛 (‵ (owned token d.at d.value) ∷ Γ) G) → Seq K 𝓛 (‵ (the_row.own_val d vs) ∷ Γ) G
   kept_out t d vs k = fsplit t $ fpick t (λ vss. fsplit t $ feq_l t (λ ev. fsplit t $ feq_l t (λ ep. drop t $
       k (subst (λ (ps : List Val). vs ≡ vstruct (of_list (ps ++ [])) ∷ []) ep ev))))
 
@@ -60,6 +60,6 @@ module _ {M : Type 1} {𝓤 : Ura M} {𝓛 : Logic 𝓤} {K : Type 0} {Γ : List
 
   pub held_some : K → (p : Ptr) (v : Option Machine) → IsSome v
       → ((b o : Prim.Native.Nat.ℕ) (c : Machine) → p ≡ block_ptr b o → v ≡ Some c → Seq K 𝓛 (‵ (box_owns token Inner (block_ptr b o) c) ∷ Γ) G)
-      → Seq K 𝓛 (‵ (held token p v) ∷ Γ) G
+      → Seq K 𝓛 (‵ (owned token p v) ∷ Γ) G
   held_some t p (Some c) is k = in_a_block t p (λ q. box_owns token Inner q c) (fst∗ 𝓤 (never 𝓤) (sem 𝓛 (token (bare (lone Inner.mir)) null_ptr))) (λ b o e. k b o c e refl)
   held_some t p None is k = absurd (true≢false (sym is))

@@ -59,10 +59,10 @@ pub use types.Logic.{Logic, sem}
 pub use types.Part.{agg, sub, whole}
 pub use types.Run.{and_then, blocks, enter, exec, first, fld, lit, no_more, of_opd, returns, stop}
 pub use Rattle.nogcuvema.specs.Answers.{AnswersFor, refusal_code}
-pub use Rattle.nogcuvema.specs.Held.{held}
+pub use Rattle.nogcuvema.specs.Owned.{owned}
 pub use Rattle.nogcuvema.specs.Opens.{Opens, are_kinds, are_there, area_of, bounds_of, failure_of, process_of}
 pub use Rattle.nogcuvema.specs.Through.{ReadBy, WrittenBy, stop_code}
-pub use Rattle.nogcuvema.specs.contracts.held.Kept.{the_row, the_type}
+pub use Rattle.nogcuvema.specs.contracts.owned.Kept.{the_row, the_type}
 pub use Rattle.nogcuvema.specs.declared.structs.NogArea.{NogArea}
 pub use Rattle.nogcuvema.specs.declared.structs.NogFailure.{NogFailure}
 pub use Rattle.nogcuvema.specs.declared.structs.NogLimits.{NogLimits}

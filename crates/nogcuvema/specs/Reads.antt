@@ -14,14 +14,14 @@ abbrev pub Reads : Option Machine → (Machine → Type 0) → ℕ → Option Ma
 Reads None shows code after = Unchanged closed None code after
 Reads (Some m) shows code after = Unchanged 0 (Some m) code after × shows m
 
-abbrev pub ListedBy : ℕ → NogSegment → ℕ → Option (ℤ × ShmidDs) → Type 0
-ListedBy index segment code None = code ≡ out_of_range
-ListedBy index segment code (Some found) = (code ≡ 0) × (segment.index ≡ index) × (segment.id ≡ found.0) × (shown_by segment ≡ found.1)
+abbrev pub AnswersFound : ℕ → NogSegment → ℕ → Option (ℤ × ShmidDs) → Type 0
+AnswersFound index segment code None = code ≡ out_of_range
+AnswersFound index segment code (Some found) = (code ≡ 0) × (segment.index ≡ index) × (segment.id ≡ found.0) × (shown_by segment ≡ found.1)
 
 -- the segment at an index, out of range where there is none; the machine stays as it is
-abbrev pub Listed : Option Machine → ℕ → NogSegment → ℕ → Option Machine → Type 0
-Listed None index segment code after = Unchanged closed None code after
-Listed (Some m) index segment code after = ListedBy index segment code (segment_at m.system.machine index) × (after ≡ Some m)
+abbrev pub AnswersSegment : Option Machine → ℕ → NogSegment → ℕ → Option Machine → Type 0
+AnswersSegment None index segment code after = Unchanged closed None code after
+AnswersSegment (Some m) index segment code after = AnswersFound index segment code (segment_at m.system.machine index) × (after ≡ Some m)
 
 -- a flush round, by what it reports
 abbrev pub FlushedTo : Option Machine → ℕ → FlushReport → ℕ → Option Machine → Type 0

@@ -1,8 +1,8 @@
 //! What a C program holds.
 ghost use Rattle.std.specs.Prelude.{◌≡◌, Option, Some, None, option_map};
-ghost use Rattle.nogcuvema.specs.Held.{IsOpenAs};
+ghost use Rattle.nogcuvema.specs.Owned.{IsOpenAs};
 
-use crate::held::Kept;
+use crate::owned::Kept;
 use crate::parts::Parts;
 use shm_machine::Machine;
 use std::alloc::Global;

@@ -2,7 +2,7 @@
 ghost use Rattle.std.specs.Prelude.{◌≡◌, ◌≢◌, length};
 ghost use Rattle.shm_life.specs.Counts.{Counts};
 ghost use Rattle.nogcuvema.specs.Shown.{tally_by, report_by};
-ghost use Rattle.nogcuvema.specs.Reads.{Reads, Listed, FlushedTo};
+ghost use Rattle.nogcuvema.specs.Reads.{Reads, AnswersSegment, FlushedTo};
 
 use crate::code::{CLOSED, DONE, OUT_OF_RANGE};
 use crate::handle::Handle;
@@ -79,7 +79,7 @@ pub extern "C" fn nog_segment_at(
     index: u32,
     segment: &mut NogSegment,
 ) -> u32
-    ensures machine { Listed handle.old.kept.value index segment.new result handle.new.kept.value }
+    ensures machine { AnswersSegment handle.old.kept.value index segment.new result handle.new.kept.value }
     ensures segment { result ≢ 0 → segment.new ≡ segment.old }
 {
     let Some(machine) = handle.take(alloc) else {

@@ -5,9 +5,9 @@ mod about;
 mod access;
 mod code;
 mod handle;
-mod held;
 mod inspect;
 mod open;
+mod owned;
 mod parts;
 mod perform;
 mod segments;
@@ -17,9 +17,9 @@ mod structs;
 pub use about::{nog_layout, nog_text, nog_version};
 pub use access::{nog_add, nog_load};
 pub use handle::Handle;
-pub use held::Kept;
 pub use inspect::{nog_calls, nog_flush, nog_indexes, nog_segment_at, nog_tally_of};
 pub use open::{nog_close, nog_open};
+pub use owned::Kept;
 pub use perform::{
     nog_detach, nog_exec, nog_exit, nog_fork, nog_lock, nog_remove, nog_set, nog_store,
     nog_swapoff, nog_unlock,

@@ -35,7 +35,7 @@ impl Piece {
     ghost use Rattle.shm_base.specs.Access as flat;
     ghost use Rattle.std.specs.Prelude.{length, true};
     ghost use Rattle.shm_base.specs.Space.{has_origin, meets, parts};
-    ghost use Rattle.shm_areas.specs.Arranged.{bare, IsFit};
+    ghost use Rattle.shm_areas.specs.Arranged.{bare, IsFit, IsCovering};
 
     /// Where the piece ends.
     pub fn end(&self) -> u64
@@ -43,6 +43,15 @@ impl Piece {
         ensures { result ≡ flat.end_of (bare self.now) }
     {
         self.base + PAGE_SIZE * self.pages as u64
+    }
+
+    /// The byte of its segment that an address in the piece denotes.
+    #[inline(always)]
+    pub fn byte_at(&self, addr: u64) -> u64
+        requires { IsCovering addr self.now }
+        ensures { result ≡ (flat.place_by (bare self.now) addr).at }
+    {
+        PAGE_SIZE * self.first_page as u64 + (addr - self.base)
     }
 
     /// How many parts of a piece with a page in a range lie outside it.

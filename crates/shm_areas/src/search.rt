@@ -1,7 +1,7 @@
 //! Where an address or a range lies among pieces in order. Each search is binary.
-ghost use Rattle.std.specs.Prelude.{◌≡◌, ◌+◌, ◌*◌, ◌<◌, ◌≤◌, ℕ, Bool, true, All, length, IfSome, option_map, slice_index_or};
+ghost use Rattle.std.specs.Prelude.{◌≡◌, ◌+◌, ◌*◌, ◌<◌, ◌≤◌, ℕ, length, slice_index_or};
 ghost use Rattle.shm_base.specs.Space as flat;
-ghost use Rattle.shm_areas.specs.Arranged.{bare, bare_all, Arranged, IsCovering, covering};
+ghost use Rattle.shm_areas.specs.Arranged.{bare_all, Arranged};
 ghost use Rattle.shm_areas.specs.Gap.{gap_from};
 ghost use Rattle.shm_areas.specs.Met.{IsPieceRange};
 ghost use Rattle.shm_areas.specs.declared.piece.Piece.{Piece as Stored};
@@ -43,25 +43,6 @@ pub(crate) fn count_below(pieces: &[Piece], addr: u64) -> usize
         return 0;
     }
     count_to(pieces, addr - 1)
-}
-
-/// The piece that an address lies in.
-pub(crate) fn piece_in(pieces: &[Piece], addr: u64) -> Option<Piece>
-    requires { Arranged flat.lowest_address (bare_all pieces.now) }
-    ensures value { option_map bare result ≡ covering addr (bare_all pieces.now) }
-    ensures within { IfSome result (λ p. IsCovering addr p) }
-    ensures among { (test : Stored → Bool) → All (λ (p : Stored). test p ≡ true) pieces.now → IfSome result (λ p. test p ≡ true) }
-{
-    let count = count_to(pieces, addr);
-    if count == 0 {
-        return None;
-    }
-    let piece = pieces[count - 1];
-    if addr < piece.end() {
-        Some(piece)
-    } else {
-        None
-    }
 }
 
 /// The pieces with a page in a range.

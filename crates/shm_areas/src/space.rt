@@ -11,7 +11,7 @@ ghost use Rattle.shm_areas.specs.declared.piece.Piece.{Piece as Stored};
 
 use crate::cut::{count_left, cut_of, replace};
 use crate::piece::{Piece, Place};
-use crate::search::{count_below, count_to, least_gap, piece_in, run_in};
+use crate::search::{count_below, count_to, least_gap, run_in};
 use bitflags::Flags;
 use shm_base::{AtFlags, END_ADDRESS, Errno, HostMemory, LOWEST_ADDRESS, MOST_PIECES, PAGE_SIZE};
 use std::alloc::Global;
@@ -70,7 +70,16 @@ impl Space {
         ensures whole { IfSome result (λ p. (b : ℕ) → p.base ≤ b → b < access.end_of (bare p) → covering b (bare_all self.now) ≡ Some (bare p)) }
         ensures among { (test : Stored → Bool) → All (λ (p : Stored). test p ≡ true) self.now → IfSome result (λ p. test p ≡ true) }
     {
-        piece_in(&self.pieces, addr)
+        let count = count_to(&self.pieces, addr);
+        if count == 0 {
+            return None;
+        }
+        let piece = &self.pieces[count - 1];
+        if addr < piece.end() {
+            Some(*piece)
+        } else {
+            None
+        }
     }
 
     /// The byte that an address denotes.
@@ -83,7 +92,7 @@ impl Space {
         };
         Some(Place {
             seg: piece.seg,
-            at: PAGE_SIZE * piece.first_page as u64 + (addr - piece.base),
+            at: piece.byte_at(addr),
             writable: piece.writable,
         })
     }

@@ -1,5 +1,5 @@
 -- An access within one page asks for a run of one piece; one over two pages asks for the places of both.
-use Rattle.shm_attach.proofs.Names.{◌≡◌, inl, inr, ℕ, zero, suc, ◌+◌, ◌-◌, ◌*◌, ◌%◌, ◌<◌, ◌≤◌, Bool, true, false, not, ◌&&◌, List, [], ◌∷◌, ◌++◌, map, Option, Some, None, option_map, refl, ap, subst, ◌∙◌, arith, common_steps, All, cases_Bool, none-some, map-append, Place, places, joined, covers, all_writable, only_writable, covering, place_covering, run, unmarked, wanted_in}
+use Rattle.shm_attach.proofs.Names.{◌≡◌, inl, inr, ℕ, zero, suc, ◌+◌, ◌-◌, ◌*◌, ◌%◌, ◌<◌, ◌≤◌, Bool, true, false, ◌&&◌, List, [], ◌∷◌, ◌++◌, map, Option, Some, None, option_map, refl, ap, subst, ◌∙◌, arith, common_steps, All, cases_Bool, none-some, map-append, Place, places, joined, covers, all_writable, only_writable, covering, place_covering, run, unmarked, wanted_in}
 use Rattle.shm_base.specs.State.{Piece}
 
 -- TWO PARTS OF AN ACCESS
@@ -98,9 +98,3 @@ covering-passes P a (q ∷ ps) p all found =
 -- the addresses of a page lie on one side of a whole page's boundary
 pub in_page : (base pages a b n : ℕ) → base % 4096 ≡ 0 → base ≤ a → a < base + 4096 * pages → a % 4096 + n ≤ 4096 → b < a + n → b < base + 4096 * pages
 in_page base pages a b n aligned from to page lt = omega arith
-
-pub from_not : (b : Bool) → not b ≡ true → b ≡ false
-from_not b h = grind arith
-
-pub from_not_false : (b : Bool) → not b ≡ false → b ≡ true
-from_not_false b h = grind arith

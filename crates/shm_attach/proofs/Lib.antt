@@ -5,7 +5,7 @@ pub mod Accesses
 pub mod Callers
 pub mod Keeping
 pub mod Bases
-pub mod Held
+pub mod HavingTables
 pub mod Sound
 pub mod Tied
 pub mod Translations

@@ -1,9 +1,9 @@
 -- The counts stay exact, and each piece has its segment's table, where one process changes.
-use Rattle.shm_attach.proofs.Names.{length-set_value_at, values_of, ◌≡◌, ◌≢◌, ℕ, ◌+◌, ◌<◌, ◌≤◌, List, [], length, Some, slice_get, sym, subst, arith, common_steps, All, length-map, set_value_at, lowest_address, inserted, cut, without_named, pieces_of, bare_all, Arranged, arranged_cut, arranged_inserted, Tables, runner_view, runners_view, with_pieces_at, with_life_at, pieces_at, life_at, counted, stored_at, IsHeld, OneTableEach, AllHeld, IsPlaceFor, IsCuttable, AreCountsExact, AreTablesSound, HasHolds, no_holds, Unborn, Piece, Runner}
+use Rattle.shm_attach.proofs.Names.{length-set_value_at, values_of, ◌≡◌, ◌≢◌, ℕ, ◌+◌, ◌<◌, ◌≤◌, List, [], length, Some, slice_get, sym, subst, arith, common_steps, All, length-map, set_value_at, lowest_address, inserted, cut, without_named, pieces_of, bare_all, Arranged, arranged_cut, arranged_inserted, Tables, runner_view, runners_view, with_pieces_at, with_life_at, pieces_at, life_at, counted, stored_at, HasTable, OneTableEach, AllHaveTables, IsPlaceFor, IsCuttable, AreCountsExact, AreTablesSound, HasReservations, no_reservations, Unborn, Piece, Runner}
 use Rattle.shm_base.specs.State as flat
 use Rattle.shm_attach.proofs.Processes.{runners_set, length-inserted, shorter_filter}
 use Rattle.shm_attach.proofs.Keeping.{IsExact-changed, IsExact-life, arranged-without, small_counts, own_counted}
-use Rattle.shm_attach.proofs.Held.{stored_at-value, pieces_at-stored, stored_at-set, stored_at-other, held-changed, held-all}
+use Rattle.shm_attach.proofs.HavingTables.{stored_at-value, pieces_at-stored, stored_at-set, stored_at-other, tables-changed, tables-all}
 
 -- ONE PROCESS
 
@@ -21,7 +21,7 @@ changed es i w v f at life space = grind (arith, common_steps, runners_set, leng
 -- the tables follow pieces that give way to others
 pub record IsRecounted (t u : Tables) (before after : List flat.Piece) : Type 0 where
   pub counts : (id : ℕ) → counted u id + pieces_of id before ≡ counted t id + pieces_of id after
-  pub held : (p : Piece) → IsHeld t.slab p → 0 < counted u p.seg → IsHeld u.slab p
+  pub tables : (p : Piece) → HasTable t.slab p → 0 < counted u p.seg → HasTable u.slab p
   pub tied : OneTableEach u
 
 -- other pieces that are few and in order
@@ -47,7 +47,7 @@ fit-without extra es t i addr seg sound = grind (arith, common_steps, shorter_fi
 
 pub sound-changed : (extra : ℕ → ℕ) (es : List (ℕ × Runner)) (t u : Tables) (i : ℕ) (w v : Runner) (f : List flat.Piece → List flat.Piece) → i < length es
     → Some w ≡ slice_get (values_of es) i → v.life ≡ w.life → bare_all v.space ≡ f (bare_all w.space) → AreTablesSound extra es t
-    → AreFit (runners_view es) i (f (pieces_at (runners_view es) i)) → (All (IsHeld t.slab) w.space → All (IsHeld t.slab) v.space)
+    → AreFit (runners_view es) i (f (pieces_at (runners_view es) i)) → (All (HasTable t.slab) w.space → All (HasTable t.slab) v.space)
     → IsRecounted t u (bare_all w.space) (f (bare_all w.space)) → AreTablesSound extra (set_value_at es i v) u
 sound-changed extra es t u i w v f lt at life space sound fit table re =
     let rs = runners_view es in
@@ -56,26 +56,26 @@ sound-changed extra es t u i w v f lt at life space sound fit table re =
     let within : i < length rs = omega (arith, lt, length-map es runner_view) in
     let exact : AreCountsExact extra (runners_view fs) u =
     rw ch.runners (IsExact-changed extra rs i f t u sound.exact within fit.few fit.order fit.unborn (rw (pieces_at-stored es i w at) re.counts)) in
-    let here : All (IsHeld t.slab) (stored_at fs i) = rw ch.own (table (rw (stored_at-value es i w at) at (sound.held i))) in
-    let left : AllHeld fs t.slab = held-changed es fs t.slab i sound.held here ch.others in
-    record { exact = exact; tied = re.tied; held = held-all extra fs t.slab u exact left re.held }
+    let here : All (HasTable t.slab) (stored_at fs i) = rw ch.own (table (rw (stored_at-value es i w at) at (sound.tables i))) in
+    let left : AllHaveTables fs t.slab = tables-changed es fs t.slab i sound.tables here ch.others in
+    record { exact = exact; tied = re.tied; tables = tables-all extra fs t.slab u exact left re.tables }
 
-pub sound-life : (es fs : List (ℕ × Runner)) (t : Tables) (i : ℕ) (l : flat.Life) → i < length es → l ≢ Unborn → AreTablesSound no_holds es t
-    → runners_view fs ≡ with_life_at (runners_view es) i l → ((j : ℕ) → stored_at fs j ≡ stored_at es j) → AreTablesSound no_holds fs t
+pub sound-life : (es fs : List (ℕ × Runner)) (t : Tables) (i : ℕ) (l : flat.Life) → i < length es → l ≢ Unborn → AreTablesSound no_reservations es t
+    → runners_view fs ≡ with_life_at (runners_view es) i l → ((j : ℕ) → stored_at fs j ≡ stored_at es j) → AreTablesSound no_reservations fs t
 sound-life es fs t i l lt awake sound life same =
     let within : i < length (runners_view es) = omega (arith, lt, length-map es runner_view) in
     record {
-      exact = rw life (IsExact-life no_holds (runners_view es) i l t sound.exact within awake);
+      exact = rw life (IsExact-life no_reservations (runners_view es) i l t sound.exact within awake);
       tied = sound.tied;
-      held = λ j. subst (λ (ps : List Piece). All (IsHeld t.slab) ps) (sym (same j)) (sound.held j);
+      tables = λ j. subst (λ (ps : List Piece). All (HasTable t.slab) ps) (sym (same j)) (sound.tables j);
     }
 
 -- WHAT HOLDS A SEGMENT
 
--- other segments are held beside the pieces
-pub sound-holds : (e f : ℕ → ℕ) (es : List (ℕ × Runner)) (t u : Tables) → AreTablesSound e es t → ((id : ℕ) → counted u id + e id ≡ counted t id + f id) → OneTableEach u
-    → ((p : Piece) → IsHeld t.slab p → 0 < counted u p.seg → IsHeld u.slab p) → AreTablesSound f es u
-sound-holds e f es t u sound counts tied step =
+-- other tables are reserved beside the pieces
+pub sound-reserved : (e f : ℕ → ℕ) (es : List (ℕ × Runner)) (t u : Tables) → AreTablesSound e es t → ((id : ℕ) → counted u id + e id ≡ counted t id + f id) → OneTableEach u
+    → ((p : Piece) → HasTable t.slab p → 0 < counted u p.seg → HasTable u.slab p) → AreTablesSound f es u
+sound-reserved e f es t u sound counts tied step =
     let exact : AreCountsExact f (runners_view es) u =
     record {
       counts = λ id. omega (arith, counts id, sound.exact.counts id);
@@ -84,15 +84,15 @@ sound-holds e f es t u sound counts tied step =
       unborn = sound.exact.unborn;
       arranged = sound.exact.arranged;
     } in
-    record { exact = exact; tied = tied; held = held-all f es t.slab u exact sound.held step }
+    record { exact = exact; tied = tied; tables = tables-all f es t.slab u exact sound.tables step }
 
-pub none_held : (es : List (ℕ × Runner)) (t : Tables) → AreTablesSound no_holds es t → HasHolds es t
-none_held es t sound = record { extra = no_holds; few = λ id. omega arith; sound = sound }
+pub none_reserved : (es : List (ℕ × Runner)) (t : Tables) → AreTablesSound no_reservations es t → HasReservations es t
+none_reserved es t sound = record { extra = no_reservations; few = λ id. omega arith; sound = sound }
 
 -- THE COUNTS
 
-pub counts-small : (es : List (ℕ × Runner)) (t : Tables) → HasHolds es t → (id : ℕ) → counted t id ≤ 16385
+pub counts-small : (es : List (ℕ × Runner)) (t : Tables) → HasReservations es t → (id : ℕ) → counted t id ≤ 16385
 counts-small es t h id = omega (arith, small_counts h.extra (runners_view es) t h.sound.exact id, h.few id)
 
-pub counts-own : (es : List (ℕ × Runner)) (t : Tables) (i : ℕ) → HasHolds es t → i < length es → (id : ℕ) → pieces_of id (pieces_at (runners_view es) i) ≤ counted t id
+pub counts-own : (es : List (ℕ × Runner)) (t : Tables) (i : ℕ) → HasReservations es t → i < length es → (id : ℕ) → pieces_of id (pieces_at (runners_view es) i) ≤ counted t id
 counts-own es t i h lt id = own_counted h.extra (runners_view es) t i h.sound.exact (omega (arith, lt, length-map es runner_view)) id

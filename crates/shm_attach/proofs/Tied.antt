@@ -1,9 +1,9 @@
 -- One table for each segment with pieces: what a change of the map and of the slab leaves.
-use Rattle.shm_attach.proofs.Names.{◌≡◌, ◌≢◌, ℕ, ◌<◌, Option, Some, None, refl, arith, common_steps, cases_eq, none-some, Slab, get, with_value, Updates, PageRef, Tables, seg_in, count_in, TrueTable, TrueSlot, AllTrue, with_frame, counted, counted_under, key_of, IsHeld, OneTableEach, Piece, TableView}
+use Rattle.shm_attach.proofs.Names.{◌≡◌, ◌≢◌, ℕ, ◌<◌, Option, Some, None, refl, arith, common_steps, cases_eq, none-some, Slab, get, with_value, Updates, PageRef, Tables, seg_in, count_in, TrueTable, TrueSlot, AllTrue, with_frame, counted, counted_under, key_of, HasTable, OneTableEach, Piece, TableView}
 
 -- a piece that has its table is counted
-pub held-counted : (t : Tables) (p : Piece) → OneTableEach t → IsHeld t.slab p → 0 < counted t p.seg
-held-counted t p tied own = grind (arith, common_steps, key_of, cases_eq, counted, none-some)
+pub table-counted : (t : Tables) (p : Piece) → OneTableEach t → HasTable t.slab p → 0 < counted t p.seg
+table-counted t p tied own = grind (arith, common_steps, key_of, cases_eq, counted, none-some)
 
 -- A TABLE WITH OTHER FRAMES
 

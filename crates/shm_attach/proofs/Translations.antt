@@ -1,8 +1,8 @@
 -- The translations of all pieces are true where each entry is.
 use Rattle.shm_attach.proofs.Names.{◌≡◌, ◌≢◌, ℕ, zero, suc, ◌+◌, ◌<◌, List, [], ◌∷◌, ◌++◌, length, get_or, Option, Some, None, refl, ap, sym, subst, ◌∙◌, arith, common_steps, All, ⊤, flat_map, All-append, All-nil, All-cons, All-head, All-tail, Slab, get, StoreView, frame_of, Tables, Translation, AreTrue, translations_from, translations_in, translations_of, seg_in, TrueSlot, AllTrue, counted, OneTableEach, TableView}
 
-abbrev Holds : (ℕ → ℕ → Option ℕ) → Translation → Type 0
-Holds at t = t.frame ≡ at t.seg t.page
+abbrev IsTrueAt : (ℕ → ℕ → Option ℕ) → Translation → Type 0
+IsTrueAt at t = t.frame ≡ at t.seg t.page
 
 All-left : {X : Type 0} (P : X → Type 0) (xs ys : List X) → All P (xs ++ ys) → All P xs
 All-left P [] ys all = All-nil P
@@ -14,30 +14,30 @@ All-right P (x ∷ xs) ys all = All-right P xs ys (All-tail P x (xs ++ ys) all)
 
 -- ONE ENTRY
 
-frames-of : (at : ℕ → ℕ → Option ℕ) (seg first : ℕ) (fs : List (Option ℕ)) → All (Holds at) (translations_from seg first fs)
+frames-of : (at : ℕ → ℕ → Option ℕ) (seg first : ℕ) (fs : List (Option ℕ)) → All (IsTrueAt at) (translations_from seg first fs)
     → (j : ℕ) → j < length fs → get_or fs j None ≡ at seg (first + j)
 frames-of at seg first [] all j lt = absurd (omega arith)
 frames-of at seg first (f ∷ fs) all zero lt = grind (arith, common_steps, All-head, translations_from)
 frames-of at seg first (f ∷ fs) all (suc j) lt =
-    grind (arith, common_steps, frames-of at seg (first + 1) fs (All-tail (Holds at) (record { seg = seg; page = first; frame = f }) (translations_from seg (first + 1) fs) all) j)
+    grind (arith, common_steps, frames-of at seg (first + 1) fs (All-tail (IsTrueAt at) (record { seg = seg; page = first; frame = f }) (translations_from seg (first + 1) fs) all) j)
 
 of-frames : (at : ℕ → ℕ → Option ℕ) (seg first : ℕ) (fs : List (Option ℕ)) → ((j : ℕ) → j < length fs → get_or fs j None ≡ at seg (first + j))
-    → All (Holds at) (translations_from seg first fs)
-of-frames at seg first [] each = All-nil (Holds at)
+    → All (IsTrueAt at) (translations_from seg first fs)
+of-frames at seg first [] each = All-nil (IsTrueAt at)
 of-frames at seg first (f ∷ fs) each =
     let here : first + 0 ≡ first = omega arith in
     let head : f ≡ at seg first = rw here at (each 0 (omega arith)) in
-    All-cons (Holds at) (record { seg = seg; page = first; frame = f }) (translations_from seg (first + 1) fs) head
+    All-cons (IsTrueAt at) (record { seg = seg; page = first; frame = f }) (translations_from seg (first + 1) fs) head
     (of-frames at seg (first + 1) fs (λ j lt. let next : (first + 1) + j ≡ first + suc j = omega arith in rw next (each (suc j) (omega (arith, lt)))))
 
 -- ALL ENTRIES
 
-slots-of : (at : ℕ → ℕ → Option ℕ) (os : List (Option TableView)) → All (Holds at) (flat_map translations_in os) → (k : ℕ) → TrueSlot at (get_or os k None)
+slots-of : (at : ℕ → ℕ → Option ℕ) (os : List (Option TableView)) → All (IsTrueAt at) (flat_map translations_in os) → (k : ℕ) → TrueSlot at (get_or os k None)
 slots-of at [] all k = tt
 slots-of at (None ∷ os) all zero = tt
 slots-of at (Some e ∷ os) all zero =
-    λ j lt. let here : 0 + j ≡ j = omega arith in rw here at (frames-of at e.seg 0 e.frames (All-left (Holds at) (translations_from e.seg 0 e.frames) (flat_map translations_in os) all) j lt)
-slots-of at (o ∷ os) all (suc k) = slots-of at os (All-right (Holds at) (translations_in o) (flat_map translations_in os) all) k
+    λ j lt. let here : 0 + j ≡ j = omega arith in rw here at (frames-of at e.seg 0 e.frames (All-left (IsTrueAt at) (translations_from e.seg 0 e.frames) (flat_map translations_in os) all) j lt)
+slots-of at (o ∷ os) all (suc k) = slots-of at os (All-right (IsTrueAt at) (translations_in o) (flat_map translations_in os) all) k
 
 -- a fact of each entry's translations is one of all
 slots-all : (P : Translation → Type 0) (S : Option TableView → Type 0) → ((o : Option TableView) → S o → All P (translations_in o)) → (os : List (Option TableView))
@@ -45,15 +45,15 @@ slots-all : (P : Translation → Type 0) (S : Option TableView → Type 0) → (
 slots-all P S one [] each = All-nil P
 slots-all P S one (o ∷ os) each = All-append P (translations_in o) (flat_map translations_in os) (one o (each 0)) (slots-all P S one os (λ k. each (suc k)))
 
-of-slot : (at : ℕ → ℕ → Option ℕ) (o : Option TableView) → TrueSlot at o → All (Holds at) (translations_in o)
-of-slot at None tr = All-nil (Holds at)
+of-slot : (at : ℕ → ℕ → Option ℕ) (o : Option TableView) → TrueSlot at o → All (IsTrueAt at) (translations_in o)
+of-slot at None tr = All-nil (IsTrueAt at)
 of-slot at (Some e) tr = of-frames at e.seg 0 e.frames (λ j lt. let here : 0 + j ≡ j = omega arith in rw here (tr j lt))
 
 pub all-true : (at : ℕ → ℕ → Option ℕ) (t : Slab TableView) → All (λ (x : Translation). x.frame ≡ at x.seg x.page) (translations_of t) → AllTrue at t
 all-true at t all = slots-of at t.slots all
 
 pub true-all : (at : ℕ → ℕ → Option ℕ) (t : Slab TableView) → AllTrue at t → All (λ (x : Translation). x.frame ≡ at x.seg x.page) (translations_of t)
-true-all at t all = slots-all (Holds at) (TrueSlot at) (of-slot at) t.slots all
+true-all at t all = slots-all (IsTrueAt at) (TrueSlot at) (of-slot at) t.slots all
 
 -- translations stay true where each entry does
 pub keeps : (ts : List Translation) (t u : Slab TableView) → translations_of t ≡ ts → ((at : ℕ → ℕ → Option ℕ) → AllTrue at t → AllTrue at u)

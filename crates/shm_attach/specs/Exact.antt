@@ -7,10 +7,10 @@ use Rattle.shm_areas.specs.Arranged.{Arranged}
 use Rattle.shm_attach.specs.declared.process.Runner.{Runner}
 use Rattle.shm_attach.specs.declared.tables.Tables.{Tables}
 use Rattle.shm_attach.specs.Views.{runners_view}
-use Rattle.shm_attach.specs.Tables.{counted, OneTableEach, AllHeld}
+use Rattle.shm_attach.specs.Tables.{counted, OneTableEach, AllHaveTables}
 use Rattle.shm_attach.specs.Spaces.{pieces_at, life_at}
 
--- each count is that of the pieces and of what holds a segment beside them; the pieces are few and in order in each
+-- each count is that of the pieces and of the reservations beside them; the pieces are few and in order in each
 -- process; a process that is not born has none
 pub record AreCountsExact (extra : ℕ → ℕ) (rs : List flat.Runner) (t : Tables) : Type 0 where
   pub counts : (id : ℕ) → counted t id ≡ attach_count rs id + extra id
@@ -23,13 +23,14 @@ pub record AreCountsExact (extra : ℕ → ℕ) (rs : List flat.Runner) (t : Tab
 pub record AreTablesSound (extra : ℕ → ℕ) (es : List (ℕ × Runner)) (t : Tables) : Type 0 where
   pub exact : AreCountsExact extra (runners_view es) t
   pub tied : OneTableEach t
-  pub held : AllHeld es t.slab
+  pub tables : AllHaveTables es t.slab
 
-abbrev pub no_holds : ℕ → ℕ
-no_holds id = 0
+-- no table is reserved
+abbrev pub no_reservations : ℕ → ℕ
+no_reservations id = 0
 
--- at most one attach under way holds each segment
-pub record HasHolds (es : List (ℕ × Runner)) (t : Tables) : Type 0 where
+-- at most one attach under way has reserved each segment's table
+pub record HasReservations (es : List (ℕ × Runner)) (t : Tables) : Type 0 where
   pub extra : ℕ → ℕ
   pub few : (id : ℕ) → extra id ≤ 1
   pub sound : AreTablesSound extra es t

@@ -1,9 +1,11 @@
 -- Spans of bytes of segments, as the places that an access asks for.
-use Rattle.std.specs.Prelude.{ℕ, ◌≡◌, ◌+◌, ◌<◌, Bool, true, false, List, Option, option_map, map, All}
+use Rattle.std.specs.Prelude.{ℕ, ◌≡◌, ◌+◌, ◌<◌, Bool, true, false, List, Option, Some, option_map, map, All, sum_by}
 use Rattle.shm_base.specs.State.{Piece, Runner}
 use Rattle.shm_base.specs.Access.{Place, places, writable_places}
 use Rattle.shm_base.specs.Processes.{pieces_of_caller}
 use Rattle.shm_base.specs.Step.{caller_from}
+use Rattle.shm_base.specs.Spans.{span_places, InPage, page_of}
+use Rattle.shm_base.specs.declared.paging.Span.{Span}
 
 -- a place without its mark
 abbrev pub unmarked : Place → Place
@@ -29,3 +31,11 @@ wanted write pid addr len rs = wanted_in write (pieces_by pid rs) addr len
 -- a test passes at every page of every piece
 abbrev pub PassPages : (ℕ → ℕ → Bool) → List Piece → Type 0
 PassPages test ps = All (λ (p : Piece). (j : ℕ) → j < p.pages → test p.seg (p.first_page + j) ≡ true) ps
+
+-- the spans of an access of a process with these pieces: each within a page, of so many bytes together, of pages that its
+-- pieces have
+pub record AreSpans (write : Bool) (ps : List Piece) (addr len : ℕ) (s : List Span) : Type 0 where
+  pub places : wanted_in write ps addr len ≡ Some (span_places false s)
+  pub within : All InPage s
+  pub sum : sum_by (λ (p : Span). p.len) s ≡ len
+  pub pages : (test : ℕ → ℕ → Bool) → PassPages test ps → All (λ (p : Span). test p.seg (page_of p) ≡ true) s

@@ -26,7 +26,7 @@ pub record OneTableEach (t : Tables) : Type 0 where
   pub some : (id : ℕ) → counted t id ≡ 0 → key_of t id ≡ None
 
 -- a piece's key is that of a table of its segment, which has its pages
-pub record IsHeld (t : Slab TableView) (p : Piece) : Type 0 where
+pub record HasTable (t : Slab TableView) (p : Piece) : Type 0 where
   pub seg : seg_in (get t p.key) ≡ Some p.seg
   pub pages : p.first_page + p.pages ≤ size_in (get t p.key)
 
@@ -39,5 +39,5 @@ abbrev pub stored_at : List (ℕ × Runner) → ℕ → List Piece
 stored_at es i = stored_in (slice_get es i)
 
 -- so it is with every piece
-abbrev pub AllHeld : List (ℕ × Runner) → Slab TableView → Type 0
-AllHeld es t = (i : ℕ) → All (IsHeld t) (stored_at es i)
+abbrev pub AllHaveTables : List (ℕ × Runner) → Slab TableView → Type 0
+AllHaveTables es t = (i : ℕ) → All (HasTable t) (stored_at es i)

@@ -18,7 +18,7 @@ impl Spaces {
     /// Attaches the first so many pages of a segment, all of them, at a base. Pieces in the range give way to
     /// the new one, and those that reach beyond it are cut; the answer names the segments that lost pages so.
     /// Where the piece is its segment's first, the translations are what the store's pages are then. The
-    /// growths come first, and hold the segment's table while pieces go that may be its last.
+    /// growths come first, and reserve the segment's table while pieces go that may be its last.
     pub fn attach<P: Pager>(
         &mut self,
         caller: &Caller,
@@ -38,7 +38,7 @@ impl Spaces {
         ensures err { OnErr result (self.new ≡ self.old) }
     {
         let end = base + PAGE_SIZE * pages as u64;
-        let key = self.tables.hold(store, seg, pages)?;
+        let key = self.tables.reserve(store, seg, pages)?;
         let lost = Lost::of(space_at(&self.processes, caller.index).met(base, end));
         take(
             &mut self.processes,

@@ -1,6 +1,6 @@
 //! Changes of the pieces of one process. Every piece that comes goes through `put` and every one that goes through
 //! `take`, whatever the cause: shmat, a remap, shmdt, fork, exec and exit. The pieces, the counts and the
-//! translations change together, so that the counts stay exact and each piece has its segment's table. A shmat holds
+//! translations change together, so that the counts stay exact and each piece has its segment's table. A shmat reserves
 //! that table by one count more until its piece stands.
 ghost use Rattle.std.specs.Prelude.{◌≡◌, ◌≢◌, ℕ, Option, ◌<◌, ◌≤◌, ◌+◌, length, true, All};
 ghost use Rattle.shm_base.specs.State.{Unborn};
@@ -10,10 +10,10 @@ ghost use Rattle.shm_areas.specs.Arranged.{bare, bare_all, Arranged};
 ghost use Rattle.shm_attach.specs.Views.{life_view, with_pieces_at, with_life_at, runners_view};
 ghost use Rattle.shm_attach.specs.Spaces.{pieces_at, life_at};
 ghost use Rattle.shm_attach.specs.Table.{AllTrue};
-ghost use Rattle.shm_attach.specs.Tables.{counted, stored_at, IsHeld, OneTableEach};
+ghost use Rattle.shm_attach.specs.Tables.{counted, stored_at, HasTable, OneTableEach};
 ghost use Rattle.shm_attach.specs.Place.{IsPlaceFor};
 ghost use Rattle.shm_attach.specs.Part.{left, CanGo};
-ghost use Rattle.shm_attach.specs.Exact.{AreTablesSound, HasHolds};
+ghost use Rattle.shm_attach.specs.Exact.{AreTablesSound, HasReservations};
 
 use crate::process::{Life, Runner};
 use crate::tables::Tables;
@@ -49,13 +49,13 @@ pub(crate) fn put(
     requires there { index < length processes.old.entries }
     requires born { life_at (runners_view processes.old.entries) index ≢ Unborn }
     requires place { IsPlaceFor (bare piece) (pieces_at (runners_view processes.old.entries) index) }
-    requires table { IsHeld tables.old.slab piece }
-    requires holds { HasHolds processes.old.entries tables.old }
+    requires table { HasTable tables.old.slab piece }
+    requires reservations { HasReservations processes.old.entries tables.old }
     ensures runners { runners_view processes.new.entries ≡ with_pieces_at (runners_view processes.old.entries) index (inserted (bare piece)) }
     ensures count { length processes.new.entries ≡ length processes.old.entries }
     ensures others { (j : ℕ) → j ≢ index → stored_at processes.new.entries j ≡ stored_at processes.old.entries j }
     ensures sound { (extra : ℕ → ℕ) → AreTablesSound extra processes.old.entries tables.old → AreTablesSound extra processes.new.entries tables.new }
-    ensures held { (p : Stored) → IsHeld tables.old.slab p → IsHeld tables.new.slab p }
+    ensures tables { (p : Stored) → HasTable tables.old.slab p → HasTable tables.new.slab p }
     ensures translated { (at : ℕ → ℕ → Option ℕ) → AllTrue at tables.old.slab → AllTrue at tables.new.slab }
 {
     tables.replace(piece.seg, piece.key, 0, 1);
@@ -66,13 +66,13 @@ pub(crate) fn put(
 fn recount(tables: &mut Tables, met: &[Piece], from: u64, to: u64)
     requires fit { Arranged lowest_address (bare_all met.now) }
     requires meets { All (λ (p : Stored). meets from to (bare p) ≡ true) met.now }
-    requires tables { All (IsHeld tables.old.slab) met.now }
+    requires tables { All (HasTable tables.old.slab) met.now }
     requires counted { (id : ℕ) → pieces_of id (bare_all met.now) ≤ counted tables.old id }
     requires small { (id : ℕ) → counted tables.old id ≤ 65536 }
     requires few { length met.now ≤ 256 }
     requires tied { OneTableEach tables.old }
     ensures counts { (id : ℕ) → counted tables.new id + pieces_of id (bare_all met.now) ≡ counted tables.old id + pieces_of id (cut from to (bare_all met.now)) }
-    ensures held { (p : Stored) → IsHeld tables.old.slab p → 0 < counted tables.new p.seg → IsHeld tables.new.slab p }
+    ensures tables { (p : Stored) → HasTable tables.old.slab p → 0 < counted tables.new p.seg → HasTable tables.new.slab p }
     ensures translated { (at : ℕ → ℕ → Option ℕ) → AllTrue at tables.old.slab → AllTrue at tables.new.slab }
     ensures tied { OneTableEach tables.new }
 {
@@ -91,11 +91,11 @@ pub(crate) fn take(
 )
     requires there { index < length processes.old.entries }
     requires part { CanGo part (pieces_at (runners_view processes.old.entries) index) }
-    requires holds { HasHolds processes.old.entries tables.old }
+    requires reservations { HasReservations processes.old.entries tables.old }
     ensures runners { runners_view processes.new.entries ≡ with_pieces_at (runners_view processes.old.entries) index (left part) }
     ensures count { length processes.new.entries ≡ length processes.old.entries }
     ensures sound { (extra : ℕ → ℕ) → AreTablesSound extra processes.old.entries tables.old → AreTablesSound extra processes.new.entries tables.new }
-    ensures held { (p : Stored) → IsHeld tables.old.slab p → 0 < counted tables.new p.seg → IsHeld tables.new.slab p }
+    ensures tables { (p : Stored) → HasTable tables.old.slab p → 0 < counted tables.new p.seg → HasTable tables.new.slab p }
     ensures translated { (at : ℕ → ℕ → Option ℕ) → AllTrue at tables.old.slab → AllTrue at tables.new.slab }
 {
     let space = &mut processes[index].space;

@@ -7,7 +7,7 @@ ghost use Rattle.shm_attach.specs.Views.{with_pieces_at, runners_view};
 ghost use Rattle.shm_fault.specs.Store.{StoreView};
 ghost use Rattle.shm_attach.specs.Table.{AllTrue};
 ghost use Rattle.shm_attach.specs.Spaces.{pieces_at, life_at, caller_seen, IsCaller, AreTrue};
-ghost use Rattle.shm_attach.specs.Exact.{AreTablesSound, no_holds};
+ghost use Rattle.shm_attach.specs.Exact.{AreTablesSound, no_reservations};
 ghost use Rattle.shm_attach.specs.Fork.{born_child};
 
 use crate::changes::{put, set_life_at, space_at};
@@ -15,17 +15,6 @@ use crate::process::{Caller, Child, Life, Runner};
 use crate::spaces::Spaces;
 use crate::tables::Tables;
 use indexmap::IndexMap;
-
-/// The place of a child that is not born yet.
-pub(crate) fn unborn_at(processes: &IndexMap<u32, Runner>, child: u32) -> Option<usize>
-    ensures { result ≡ unborn_from 0 child (runners_view processes.now.entries) }
-{
-    let (index, _, runner) = processes.get_full(&child)?;
-    match runner.life {
-        Life::Unborn => Some(index),
-        _ => None,
-    }
-}
 
 /// Puts the pieces of one process into another that has none.
 fn copy_pieces(
@@ -39,9 +28,9 @@ fn copy_pieces(
     requires apart { parent ≢ child }
     requires born { life_at (runners_view processes.old.entries) child ≢ Unborn }
     requires none { pieces_at (runners_view processes.old.entries) child ≡ [] }
-    requires sound { AreTablesSound no_holds processes.old.entries tables.old }
+    requires sound { AreTablesSound no_reservations processes.old.entries tables.old }
     ensures runners { runners_view processes.new.entries ≡ with_pieces_at (runners_view processes.old.entries) child (λ _. pieces_at (runners_view processes.old.entries) parent) }
-    ensures sound { AreTablesSound no_holds processes.new.entries tables.new }
+    ensures sound { AreTablesSound no_reservations processes.new.entries tables.new }
     ensures translated { (at : ℕ → ℕ → Option ℕ) → AllTrue at tables.old.slab → AllTrue at tables.new.slab }
 {
     let count = space_at(processes, parent).pieces().len();

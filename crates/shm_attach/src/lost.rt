@@ -43,6 +43,7 @@ impl Lost {
         Lost { segments }
     }
 
+    /// The segments.
     pub fn as_slice(&self) -> &[u32]
         ensures value { result.now ≡ self.now }
         ensures few { length result.now ≤ 256 }

@@ -1,21 +1,18 @@
 //! The pieces of all processes.
-ghost use Rattle.std.specs.Prelude.{◌≡◌, ◌≢◌, ℕ, ◌≤◌, length, map, [], None, Some, IfSome, IfNone, IfOk, OnErr, Bool, true, false, All, AllPairs, sum_by};
+ghost use Rattle.std.specs.Prelude.{◌≡◌, ◌≢◌, ℕ, ◌≤◌, length, map, [], None, Some, IfSome, IfNone, IfOk, OnErr, All, AllPairs};
 ghost use Rattle.shm_base.specs.State.{life_at_start, runner_at_start};
 ghost use Rattle.shm_base.specs.Segments.{attach_count};
 ghost use Rattle.shm_base.specs.Step.{caller_from, unborn_from};
 ghost use Rattle.shm_base.specs.declared.call.Process.{Process as Declared};
-ghost use Rattle.shm_base.specs.declared.paging.Span.{Span as SpanValue};
 ghost use Rattle.shm_attach.specs.Views.{life_view};
 ghost use Rattle.shm_fault.specs.Store.{StoreView};
 ghost use Rattle.shm_fault.specs.Access.{NameFrames};
 ghost use Rattle.shm_fault.specs.Steps.{MovesLead};
 ghost use Rattle.shm_areas.specs.Arranged.{bare_all};
 ghost use Rattle.shm_attach.specs.Spaces.{IsCaller, Translation, AreTrue, pieces_at};
-ghost use Rattle.shm_base.specs.Spans.{span_places, InPage, page_of};
-ghost use Rattle.shm_attach.specs.Spans.{wanted, pieces_by, PassPages};
+ghost use Rattle.shm_attach.specs.Spans.{wanted, pieces_by, AreSpans};
 
 use crate::changes::space_at;
-use crate::fork::unborn_at;
 use crate::process::{Caller, Child, Life, Runner};
 use crate::spans::{Segv, Spans, spans_in};
 use crate::tables::Tables;
@@ -45,14 +42,14 @@ impl Drop for Spaces {
 impl Model for Spaces {
     ghost use Rattle.shm_attach.specs.Views.{runners_view};
     ghost use Rattle.shm_attach.specs.Spaces.{SpacesView};
-    ghost use Rattle.shm_attach.specs.Exact.{AreTablesSound, no_holds};
+    ghost use Rattle.shm_attach.specs.Exact.{AreTablesSound, no_reservations};
     ghost use Rattle.shm_attach.specs.Table.{translations_of};
 
     ghost Value = { SpacesView };
 
     ghost view = { λ s. record { runners = runners_view s.processes.entries; translations = translations_of s.tables.slab } };
 
-    ghost invariant = { λ s. AreTablesSound no_holds s.processes.entries s.tables };
+    ghost invariant = { λ s. AreTablesSound no_reservations s.processes.entries s.tables };
 }
 
 fn born(process: &Process) -> Life
@@ -104,8 +101,11 @@ impl Spaces {
         ensures unborn { IfSome result (λ c. unborn_from 0 c.pid self.now.runners ≡ Some c.index) }
         ensures none { IfNone result (unborn_from 0 pid self.now.runners ≡ None) }
     {
-        let index = unborn_at(&self.processes, pid)?;
-        Some(Child { index, pid })
+        let (index, _, runner) = self.processes.get_full(&pid)?;
+        match runner.life {
+            Life::Unborn => Some(Child { index, pid }),
+            _ => None,
+        }
     }
 
     /// The address space of a live process.
@@ -129,11 +129,8 @@ impl Spaces {
     /// piece that is read-only.
     pub fn spans(&self, pid: u32, addr: u64, len: u64, write: bool) -> Result<Spans, Segv>
         requires size { (1 ≤ len) × (len ≤ 64) }
-        ensures places { IfOk result (λ s. wanted write pid addr len self.now.runners ≡ Some (span_places false s)) }
+        ensures spans { IfOk result (λ s. AreSpans write (pieces_by pid self.now.runners) addr len s) }
         ensures none { OnErr result (wanted write pid addr len self.now.runners ≡ None) }
-        ensures within { IfOk result (λ s. All InPage s) }
-        ensures sum { IfOk result (λ s. sum_by (λ (p : SpanValue). p.len) s ≡ len) }
-        ensures pages { IfOk result (λ s. (test : ℕ → ℕ → Bool) → PassPages test (pieces_by pid self.now.runners) → All (λ (p : SpanValue). test p.seg (page_of p) ≡ true) s) }
         ensures frames { IfOk result (λ s. (m : StoreView) → AreTrue self.now.translations m → NameFrames m s) }
     {
         match self.caller(pid) {
@@ -147,11 +144,8 @@ impl Spaces {
     pub fn spans_of(&self, caller: &Caller, addr: u64, len: u64, write: bool) -> Result<Spans, Segv>
         requires live { IsCaller caller.now self.now.runners }
         requires size { (1 ≤ len) × (len ≤ 64) }
-        ensures places { IfOk result (λ s. wanted write caller.now.pid addr len self.now.runners ≡ Some (span_places false s)) }
+        ensures spans { IfOk result (λ s. AreSpans write (pieces_by caller.now.pid self.now.runners) addr len s) }
         ensures none { OnErr result (wanted write caller.now.pid addr len self.now.runners ≡ None) }
-        ensures within { IfOk result (λ s. All InPage s) }
-        ensures sum { IfOk result (λ s. sum_by (λ (p : SpanValue). p.len) s ≡ len) }
-        ensures pages { IfOk result (λ s. (test : ℕ → ℕ → Bool) → PassPages test (pieces_by caller.now.pid self.now.runners) → All (λ (p : SpanValue). test p.seg (page_of p) ≡ true) s) }
         ensures frames { IfOk result (λ s. (m : StoreView) → AreTrue self.now.translations m → NameFrames m s) }
     {
         let space = space_at(&self.processes, caller.index);

@@ -3,9 +3,9 @@ ghost use Rattle.std.specs.Prelude.{◌≡◌, ◌+◌, ◌%◌, ◌<◌, ◌≤
 ghost use Rattle.shm_base.specs.declared.paging.Span.{Span as SpanValue};
 ghost use Rattle.shm_areas.specs.Arranged.{bare_all};
 ghost use Rattle.shm_attach.specs.Table.{AllTrue};
-ghost use Rattle.shm_attach.specs.Tables.{IsHeld};
+ghost use Rattle.shm_attach.specs.Tables.{HasTable};
 ghost use Rattle.shm_base.specs.Spans.{run, span_places, InPage, page_of};
-ghost use Rattle.shm_attach.specs.Spans.{wanted_in, PassPages};
+ghost use Rattle.shm_attach.specs.Spans.{wanted_in, PassPages, AreSpans};
 
 use crate::tables::Tables;
 use shm_areas::Space;
@@ -65,6 +65,7 @@ impl Spans {
         }
     }
 
+    /// The spans.
     #[inline(always)]
     pub fn as_slice(&self) -> &[Span]
         ensures value { result.now ≡ self.now }
@@ -78,7 +79,7 @@ impl Spans {
 #[inline(always)]
 fn span_in(space: &Space, tables: &Tables, addr: u64, len: u64, write: bool) -> Option<Span>
     requires some { 1 ≤ len }
-    requires held { All (IsHeld tables.now.slab) space.now }
+    requires tables { All (HasTable tables.now.slab) space.now }
     requires page { addr % 4096 + len ≤ 4096 }
     ensures places { IfSome result (λ s. wanted_in write (bare_all space.now) addr len ≡ Some (run s.seg s.at s.len false)) }
     ensures none { IfNone result (wanted_in write (bare_all space.now) addr len ≡ None) }
@@ -92,7 +93,7 @@ fn span_in(space: &Space, tables: &Tables, addr: u64, len: u64, write: bool) -> 
     if write && !piece.writable {
         return None;
     }
-    let at = PAGE_SIZE * piece.first_page as u64 + (addr - piece.base);
+    let at = piece.byte_at(addr);
     Some(Span {
         seg: piece.seg,
         at,
@@ -111,12 +112,9 @@ pub(crate) fn spans_in(
     write: bool,
 ) -> Result<Spans, Segv>
     requires size { (1 ≤ len) × (len ≤ 64) }
-    requires held { All (IsHeld tables.now.slab) space.now }
-    ensures places { IfOk result (λ s. wanted_in write (bare_all space.now) addr len ≡ Some (span_places false s)) }
+    requires tables { All (HasTable tables.now.slab) space.now }
+    ensures spans { IfOk result (λ s. AreSpans write (bare_all space.now) addr len s) }
     ensures none { OnErr result (wanted_in write (bare_all space.now) addr len ≡ None) }
-    ensures within { IfOk result (λ s. All InPage s) }
-    ensures sum { IfOk result (λ s. sum_by (λ (p : SpanValue). p.len) s ≡ len) }
-    ensures pages { IfOk result (λ s. (test : ℕ → ℕ → Bool) → PassPages test (bare_all space.now) → All (λ (p : SpanValue). test p.seg (page_of p) ≡ true) s) }
     ensures frames { IfOk result (λ s. (at : ℕ → ℕ → Option ℕ) → AllTrue at tables.now.slab → All (λ (p : SpanValue). p.frame ≡ at p.seg (page_of p)) s) }
 {
     let room = PAGE_SIZE - addr % PAGE_SIZE;

@@ -7,7 +7,7 @@ ghost use Rattle.shm_fault.specs.Steps.{moved};
 ghost use Rattle.shm_fault.specs.Store.{frame_of};
 ghost use Rattle.shm_attach.specs.Views.{some_if};
 ghost use Rattle.shm_attach.specs.Table.{frame_in, seg_in, size_in, AllTrue, with_frame};
-ghost use Rattle.shm_attach.specs.Tables.{counted, key_of, IsHeld, OneTableEach};
+ghost use Rattle.shm_attach.specs.Tables.{counted, key_of, HasTable, OneTableEach};
 
 use crate::table::Table;
 use shm_base::{FrameNo, HostMemory, PageRef};
@@ -90,7 +90,7 @@ impl Tables {
         ensures counts { (id : ℕ) → counted self.new id ≡ counted self.old id }
         ensures seg { (k : ℕ) → seg_in (get self.new.slab k) ≡ seg_in (get self.old.slab k) }
         ensures pages { (id : ℕ) → seg_in (get self.old.slab key) ≡ Some id → OnOk result (pages ≤ size_in (get self.new.slab key)) }
-        ensures held { (p : Stored) → IsHeld self.old.slab p → IsHeld self.new.slab p }
+        ensures tables { (p : Stored) → HasTable self.old.slab p → HasTable self.new.slab p }
         ensures translated { AllTrue (frame_of store.now) self.old.slab → AllTrue (frame_of store.now) self.new.slab }
         ensures tied { OneTableEach self.new }
         ensures err { OnErr result (self.new.slab.slots ≡ self.old.slab.slots) }
@@ -101,9 +101,9 @@ impl Tables {
         }
     }
 
-    /// Holds a segment for a piece that is to come: it counts as one, and the table, whose key is told, has the
-    /// first so many pages. The growths come first.
-    pub(crate) fn hold<P: Pager>(
+    /// Reserves a segment's table for a piece that is to come: it counts as one, and the table, whose key is told,
+    /// has the first so many pages. The growths come first.
+    pub(crate) fn reserve<P: Pager>(
         &mut self,
         store: &PageStore<P>,
         seg: u32,
@@ -114,7 +114,7 @@ impl Tables {
         ensures counts { OnOk result ((id : ℕ) → counted self.new id ≡ counted self.old id + some_if id seg 1) }
         ensures seg { IfOk result (λ key. seg_in (get self.new.slab key) ≡ Some seg) }
         ensures pages { IfOk result (λ key. pages ≤ size_in (get self.new.slab key)) }
-        ensures held { (p : Stored) → IsHeld self.old.slab p → IsHeld self.new.slab p }
+        ensures tables { (p : Stored) → HasTable self.old.slab p → HasTable self.new.slab p }
         ensures translated { AllTrue (frame_of store.now) self.old.slab → AllTrue (frame_of store.now) self.new.slab }
         ensures tied { OneTableEach self.new }
         ensures slots { OnErr result (self.new.slab.slots ≡ self.old.slab.slots) }
@@ -142,7 +142,7 @@ impl Tables {
         requires fits { counted self.old seg + parts < 2 ^ 32 }
         requires tied { OneTableEach self.old }
         ensures counts { (id : ℕ) → counted self.new id + some_if id seg gone ≡ counted self.old id + some_if id seg parts }
-        ensures held { (p : Stored) → IsHeld self.old.slab p → 0 < counted self.new p.seg → IsHeld self.new.slab p }
+        ensures tables { (p : Stored) → HasTable self.old.slab p → 0 < counted self.new p.seg → HasTable self.new.slab p }
         ensures translated { (at : ℕ → ℕ → Option ℕ) → AllTrue at self.old.slab → AllTrue at self.new.slab }
         ensures tied { OneTableEach self.new }
     {
@@ -161,7 +161,7 @@ impl Tables {
         requires fits { counted self.old seg < 2 ^ 32 }
         requires tied { OneTableEach self.old }
         ensures counts { (id : ℕ) → counted self.new id + some_if id seg gone ≡ counted self.old id }
-        ensures held { (p : Stored) → IsHeld self.old.slab p → 0 < counted self.new p.seg → IsHeld self.new.slab p }
+        ensures tables { (p : Stored) → HasTable self.old.slab p → 0 < counted self.new p.seg → HasTable self.new.slab p }
         ensures translated { (at : ℕ → ℕ → Option ℕ) → AllTrue at self.old.slab → AllTrue at self.new.slab }
         ensures tied { OneTableEach self.new }
     {
@@ -174,29 +174,15 @@ impl Tables {
     fn set(&mut self, page: PageRef, frame: Option<FrameNo>)
         requires { OneTableEach self.old }
         ensures counts { (id : ℕ) → counted self.new id ≡ counted self.old id }
-        ensures held { (p : Stored) → IsHeld self.old.slab p → IsHeld self.new.slab p }
+        ensures tables { (p : Stored) → HasTable self.old.slab p → HasTable self.new.slab p }
         ensures translated { (at : ℕ → ℕ → Option ℕ) → AllTrue at self.old.slab → AllTrue (with_frame page frame at) self.new.slab }
         ensures tied { OneTableEach self.new }
     {
-        let Some(key) = self.keys.get(&page.seg) else {
+        let Some(key) = self.key(page.seg) else {
             return;
         };
-        if let Some(table) = self.slab.get_mut(*key) {
+        if let Some(table) = self.slab.get_mut(key) {
             table.set(page, frame);
-        }
-    }
-
-    // Notes one move.
-    fn note_one(&mut self, entry: PageMove)
-        requires { OneTableEach self.old }
-        ensures counts { (id : ℕ) → counted self.new id ≡ counted self.old id }
-        ensures held { (p : Stored) → IsHeld self.old.slab p → IsHeld self.new.slab p }
-        ensures translated { (at : ℕ → ℕ → Option ℕ) → AllTrue at self.old.slab → AllTrue (λ seg page. moved (entry ∷ []) seg page (at seg page)) self.new.slab }
-        ensures tied { OneTableEach self.new }
-    {
-        match entry {
-            PageMove::Gone(page) => self.set(page, None),
-            PageMove::Came(page, frame) => self.set(page, Some(frame)),
         }
     }
 
@@ -204,12 +190,15 @@ impl Tables {
     pub(crate) fn note(&mut self, moves: &[PageMove])
         requires { OneTableEach self.old }
         ensures counts { (id : ℕ) → counted self.new id ≡ counted self.old id }
-        ensures held { (p : Stored) → IsHeld self.old.slab p → IsHeld self.new.slab p }
+        ensures tables { (p : Stored) → HasTable self.old.slab p → HasTable self.new.slab p }
         ensures translated { (at : ℕ → ℕ → Option ℕ) → AllTrue at self.old.slab → AllTrue (λ seg page. moved moves.now seg page (at seg page)) self.new.slab }
         ensures tied { OneTableEach self.new }
     {
         for entry in moves {
-            self.note_one(*entry);
+            match *entry {
+                PageMove::Gone(page) => self.set(page, None),
+                PageMove::Came(page, frame) => self.set(page, Some(frame)),
+            }
         }
     }
 }

@@ -5,7 +5,7 @@ use Rattle.std.proofs.lemmas.Bool.{ne_eqb, eqb-true}
 use Rattle.std.proofs.lemmas.List.Sums.{sum_by-cons}
 use Rattle.shm_base.specs.declared.paging.PageRef.{PageRef}
 use Rattle.shm_frames.specs.Frame.{Frame, frame_at}
-use Rattle.shm_clock.specs.Clock.{ring, distance, may_go, listed, owner_passes, is_pinned}
+use Rattle.shm_clock.specs.Clock.{ring, distance, may_go, candidates, owner_passes, is_pinned}
 use Rattle.shm_clock.proofs.Ring.{length-ring, distance-lt, ring_at-distance}
 use Rattle.shm_clock.proofs.Firsts.{filter-split}
 
@@ -14,7 +14,7 @@ nonempty [] ys x e = cc
 nonempty (z ∷ xs) ys x e = cc
 
 -- one frame may go
-pub some_eligible : (passes : PageRef → Bool) (pinned : Option ℕ) (frames : List Frame) (hand i : ℕ) → hand < length frames → i < length frames → may_go passes pinned frames i ≡ true → listed passes pinned frames hand ≢ []
+pub some_eligible : (passes : PageRef → Bool) (pinned : Option ℕ) (frames : List Frame) (hand i : ℕ) → hand < length frames → i < length frames → may_go passes pinned frames i ≡ true → candidates passes pinned frames hand ≢ []
 some_eligible passes pinned frames hand i on there may e =
     let n : ℕ = length frames in
     let j : ℕ = distance hand n i in
@@ -67,7 +67,7 @@ module _ (passes : PageRef → Bool) where
       by false e c p rest = let n = count-cons f fs false e in rest (omega (arith, n))
 
 -- the pages in two frames may go, of which one at most is pinned
-pub two_eligible : (passes : PageRef → Bool) (pinned : Option ℕ) (frames : List Frame) (hand : ℕ) → hand < length frames → 2 ≤ count_by (page_may_go passes) frames → listed passes pinned frames hand ≢ []
+pub two_eligible : (passes : PageRef → Bool) (pinned : Option ℕ) (frames : List Frame) (hand : ℕ) → hand < length frames → 2 ≤ count_by (page_may_go passes) frames → candidates passes pinned frames hand ≢ []
 two_eligible passes pinned frames hand on two =
     let o = two_of passes pinned 0 frames two in
     let z : 0 + o.i ≡ o.i = omega arith in

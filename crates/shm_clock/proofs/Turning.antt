@@ -5,7 +5,7 @@ use Rattle.std.specs.Prelude.{IfSome}
 use Rattle.std.proofs.lemmas.List.{take_all}
 use Rattle.shm_base.specs.declared.paging.PageRef.{PageRef}
 use Rattle.shm_frames.specs.Frame.{Frame, frame_at}
-use Rattle.shm_clock.specs.Clock.{ring, ring_at, may_go, is_referenced, unset, unset_all, listed, looked_at}
+use Rattle.shm_clock.specs.Clock.{ring, ring_at, may_go, is_referenced, unset, unset_all, candidates, looked_at}
 use Rattle.shm_clock.proofs.Ring.{length-ring, distance-ring_at, ring_at-lt}
 use Rattle.shm_clock.proofs.Firsts.{EachPasses, EachPasses-push, first_of, first_of-push, first_of-none, filter_more-true, filter_more-false, stops, ends}
 use Rattle.shm_clock.proofs.Bits.{unset_all-at, unset_all-push, may_go-unset_all, among_is}
@@ -95,5 +95,5 @@ module _ (passes : PageRef → Bool) (pinned : Option ℕ) (hand : ℕ) (before 
     pub round_counted : (v : ℕ) → first ≡ Some v → looks ≡ looked + looked_at before (filter p xs) v
     round_counted v some = grind (arith, ends p (is_referenced before) xs step v past way.set (sym way.first_is ∙ some))
 
-    pub none_met : first ≡ None → listed passes pinned before hand ≡ []
+    pub none_met : first ≡ None → candidates passes pinned before hand ≡ []
     none_met none = ap (filter p) (sym (take_all step xs past)) ∙ first_of-none (filter p (take step xs)) (sym way.first_is ∙ none)

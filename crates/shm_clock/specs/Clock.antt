@@ -24,8 +24,8 @@ abbrev pub may_go : (PageRef → Bool) → Option ℕ → List Frame → ℕ →
 may_go passes pinned frames i = owner_passes passes (frame_at frames i).owner && not (is_pinned pinned i)
 
 -- the frames that may be taken, by number from the hand on and round the ring
-abbrev pub listed : (PageRef → Bool) → Option ℕ → List Frame → ℕ → List ℕ
-listed passes pinned frames hand = filter (may_go passes pinned frames) (ring hand (length frames))
+abbrev pub candidates : (PageRef → Bool) → Option ℕ → List Frame → ℕ → List ℕ
+candidates passes pinned frames hand = filter (may_go passes pinned frames) (ring hand (length frames))
 
 abbrev pub is_referenced : List Frame → ℕ → Bool
 is_referenced frames i = (frame_at frames i).referenced

@@ -6,7 +6,7 @@
 //! bits. What becomes of the victim's page is the caller's part.
 ghost use Rattle.std.specs.Prelude.{◌≡◌, ◌≢◌, ◌+◌, ◌-◌, ◌*◌, ◌<◌, ◌≤◌, ◌^◌, [], Bool, length};
 ghost use Rattle.shm_base.specs.declared.paging.PageRef.{PageRef};
-ghost use Rattle.shm_clock.specs.Clock.{ring_at, may_go, listed, victim_of, unset_all, passed_by, looked_at, next, IsClockVictim};
+ghost use Rattle.shm_clock.specs.Clock.{ring_at, may_go, candidates, victim_of, unset_all, passed_by, looked_at, next, IsClockVictim};
 
 use shm_base::{FrameNo, PageRef};
 use shm_frames::{Frames, Looks};
@@ -38,7 +38,7 @@ fn may_go<E: Fn(PageRef) -> bool>(
     requires answers { (page : PageRef) (answer : Bool) → E.post eligible.now page answer → answer ≡ passes page }
     ensures { result ≡ may_go passes pinned frames.now frame }
 {
-    let held = match pinned {
+    let is_pinned = match pinned {
         Some(other) => other == frame,
         None => false,
     };
@@ -46,7 +46,7 @@ fn may_go<E: Fn(PageRef) -> bool>(
         Some(page) => eligible(page),
         None => false,
     };
-    passed && !held
+    passed && !is_pinned
 }
 
 // The victim, found by one turn of the hand at most, which clears the bits that it passes.
@@ -61,13 +61,13 @@ fn turn<E: Fn(PageRef) -> bool>(
     requires hand { hand < length frames.old }
     requires callable { E.IsAlwaysCallable eligible.now }
     requires answers { (page : PageRef) (answer : Bool) → E.post eligible.now page answer → answer ≡ passes page }
-    requires one { listed passes pinned frames.old hand ≢ [] }
+    requires one { candidates passes pinned frames.old hand ≢ [] }
     requires countable { looks.old + length frames.old < 2 ^ 64 }
-    ensures victim { result ≡ victim_of frames.old (listed passes pinned frames.old hand) }
-    ensures bits { frames.new ≡ unset_all frames.old (passed_by frames.old (listed passes pinned frames.old hand)) }
+    ensures victim { result ≡ victim_of frames.old (candidates passes pinned frames.old hand) }
+    ensures bits { frames.new ≡ unset_all frames.old (passed_by frames.old (candidates passes pinned frames.old hand)) }
     ensures there { result < length frames.old }
     ensures looks { looks.new ≤ looks.old + length frames.old }
-    ensures counted { looks.new ≡ looks.old + looked_at frames.old (listed passes pinned frames.old hand) result }
+    ensures counted { looks.new ≡ looks.old + looked_at frames.old (candidates passes pinned frames.old hand) result }
 {
     let count = frames.count();
     let mut first = None;
@@ -103,19 +103,19 @@ pub fn victim<E: Fn(PageRef) -> bool>(
     requires hand { hand.old < length frames.old }
     requires callable { E.IsAlwaysCallable eligible.now }
     requires answers { (page : PageRef) (answer : Bool) → E.post eligible.now page answer → answer ≡ passes page }
-    requires one { listed passes pinned frames.old hand.old ≢ [] }
+    requires one { candidates passes pinned frames.old hand.old ≢ [] }
     requires countable { looks.old + length frames.old < 2 ^ 64 }
 
     // The rule as a list of frames: who is taken, which bits become clear, and where the hand stands.
-    ensures victim { result ≡ victim_of frames.old (listed passes pinned frames.old hand.old) }
-    ensures bits { frames.new ≡ unset_all frames.old (passed_by frames.old (listed passes pinned frames.old hand.old)) }
+    ensures victim { result ≡ victim_of frames.old (candidates passes pinned frames.old hand.old) }
+    ensures bits { frames.new ≡ unset_all frames.old (passed_by frames.old (candidates passes pinned frames.old hand.old)) }
     ensures hand { hand.new ≡ next (length frames.old) result }
 
     // The same, frame by frame.
     ensures clock { IsClockVictim (may_go passes pinned frames.old) hand.old frames.old result frames.new }
 
     ensures looks { looks.new ≤ looks.old + length frames.old }
-    ensures counted { looks.new ≡ looks.old + looked_at frames.old (listed passes pinned frames.old hand.old) result }
+    ensures counted { looks.new ≡ looks.old + looked_at frames.old (candidates passes pinned frames.old hand.old) result }
 {
     let count = frames.count();
     let frame = turn(frames, *hand, eligible, pinned, looks);

@@ -197,7 +197,7 @@ pub cleaned-more : (area n : ℕ) (s t u : StoreView) → IsCleaned area n s t �
 cleaned-more area n s t u d sound goes still rest cleared = record {
   sound = sound;
   goes = Goes-trans s t u d.goes goes;
-  still = λ q. still q ∙ d.still q;
+  still = λ seg page. still seg page ∙ d.still seg page;
   rest = AtRest-trans s t u d.rest rest;
   free = λ slot lt. grind (arith, nat_tests, common_steps, cleared.free, cleared.rest, d.free);
 }

@@ -1,5 +1,5 @@
 -- Each step of a page from one place to another, and what it keeps.
-use Rattle.shm_fault.proofs.Names.{◌≡◌, ◌≢◌, ℕ, ◌<◌, Bool, true, false, List, length, set, Option, Some, None, refl, sym, ap, ◌∙◌, inl, inr, arith, length-set, get_or-set_same, set-set, IsSome, PageRef, Slot, SwapView, IsSwap, sizes, owner_of, page_in, HasSlot, SameSlots, with_slot_owner, GoesOn, Frame, no_frame, frame_at, PageRec, rec_by, HasPage, with_rec, StoreView, slot_bytes, page_bytes, IsTied, IsStoreSound, Alike, Goes, Still, StaysAway, common_steps, nat_tests}
+use Rattle.shm_fault.proofs.Names.{◌≡◌, ◌≢◌, ℕ, ◌<◌, Bool, true, false, List, length, set, Option, Some, None, refl, sym, ap, ◌∙◌, inl, inr, arith, length-set, get_or-set_same, set-set, IsSome, PageRef, Slot, SwapView, IsSwap, sizes, owner_of, page_in, HasSlot, SameSlots, with_slot_owner, GoesOn, Frame, no_frame, frame_at, PageRec, rec_by, HasPage, with_rec, StoreView, slot_bytes, page_bytes, IsTied, IsStoreSound, Alike, Goes, StaysAway, common_steps, nat_tests}
 use Rattle.shm_fault.proofs.Pages.{rec-with, rec-with_other, still-with, cases_ref, other, other-false, other-true, has-frame, rec-past}
 use Rattle.shm_fault.proofs.Slots.{OnlySlot, OnlySlot-owner, owner-set, cases_slot, set-cases}
 use Rattle.shm_fault.proofs.Ties.{FramesApart, SlotsApart, Touches, IsOwn-none, IsOwn-some, segs-same, segs-with, frames-same, frames-set, slots-same, slots-only, bytes_touched}
@@ -99,7 +99,7 @@ pub record Takes (f : ℕ) (k : Slot) (s t : StoreView) : Type 0 where
   pub sound : IsStoreSound t
   pub goes : Goes s t
   pub slot : (q : PageRef) → (frame_at s.frames f).owner ≡ Some q → (rec_by t.segs q).slot ≡ Some k
-  pub still : Still s t
+  pub still : (r : PageRef) → (rec_by t.segs r).frame ≡ (rec_by s.segs r).frame
   pub away : StaysAway s t
 
 module _ (s : StoreView) (sound : IsStoreSound s) (r : PageRef) (f : ℕ) (k : Slot)

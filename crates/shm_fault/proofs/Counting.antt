@@ -1,9 +1,9 @@
 -- What steps count, one after another.
-use Rattle.shm_fault.proofs.Names.{bool_byte, ◌≡◌, ℕ, zero, suc, ◌+◌, Bool, true, false, refl, ◌∙◌, arith, Touched, StoreView, one_more, raised, one_if, AtRest, CountsOn, common_steps, nat_tests}
+use Rattle.shm_fault.proofs.Names.{bool_byte, ◌≡◌, ℕ, zero, suc, ◌+◌, Bool, true, false, refl, ◌∙◌, arith, Touched, StoreView, next_count, raised, one_if, AtRest, CountsOn, common_steps, nat_tests}
 
 pub raised-trans : (n a b : ℕ) → raised (raised n a) b ≡ raised n (a + b)
 raised-trans n zero b = let e : 0 + b ≡ b = omega arith in rw e refl
-raised-trans n (suc a) b = let e : suc a + b ≡ suc (a + b) = omega arith in rw e (raised-trans (one_more n) a b)
+raised-trans n (suc a) b = let e : suc a + b ≡ suc (a + b) = omega arith in rw e (raised-trans (next_count n) a b)
 
 -- a bit that is counted
 pub byte-one : (b : Bool) → bool_byte b ≡ one_if b

@@ -1,5 +1,5 @@
 -- The stored segments and what they show: looked up, added, taken out, changed.
-use Rattle.shm_fault.proofs.Names.{◌≡◌, ◌≢◌, ℕ, zero, suc, not, cond, eqb, List, [], ◌∷◌, ◌++◌, map, filter, Some, None, refl, sym, ap, ◌∙◌, inl, inr, arith, option_map, nat_eq, lookup, lookup_key, remove_entry, values_of, cases_Bool, cases_eq, eq-eqb, ne_eqb, set_value_at, insert_entry, PageTable, SegRec, find_seg, AreApart, but, seg_view, segs_view, key_at, nat_tests, common_steps}
+use Rattle.shm_fault.proofs.Names.{◌≡◌, ◌≢◌, ℕ, zero, suc, not, cond, eqb, List, [], ◌∷◌, ◌++◌, map, filter, Some, None, refl, sym, ap, ◌∙◌, inl, inr, arith, option_map, nat_eq, lookup, lookup_key, remove_entry, values_of, cases_Bool, cases_eq, eq-eqb, ne_eqb, set_value_at, insert_entry, PageTable, SegRec, find_seg, AreApart, but, seg_view, segs_view, seg_at, nat_tests, common_steps}
 use Rattle.std.proofs.Common.{slice_get}
 use Rattle.shm_fault.proofs.Pages.{find-map}
 
@@ -83,7 +83,7 @@ pub none_found : (es : List (ℕ × PageTable)) (id : ℕ) → None ≡ lookup (
 none_found es id none = find-lookup es id ∙ ap (option_map (seg_of id)) (sym none)
 
 -- the entry with this key and this value
-pub entry-from : (es : List (ℕ × PageTable)) (i id : ℕ) (w : PageTable) → key_at es i ≡ Some id → slice_get (values_of es) i ≡ Some w → slice_get es i ≡ Some (id, w)
+pub entry-from : (es : List (ℕ × PageTable)) (i id : ℕ) (w : PageTable) → seg_at es i ≡ Some id → slice_get (values_of es) i ≡ Some w → slice_get es i ≡ Some (id, w)
 entry-from [] i id w key value = cc
 entry-from (e ∷ es) zero id w key value = grind arith
 entry-from (e ∷ es) (suc i) id w key value = entry-from es i id w key value
@@ -100,6 +100,6 @@ pub record IsEdited (f : SegRec → SegRec) (id : ℕ) (es fs : List (ℕ × Pag
   pub apart : AreApart (segs_view fs)
 
 pub edited : (f : SegRec → SegRec) → ((g : SegRec) → (f g).id ≡ g.id) → (es : List (ℕ × PageTable)) (i id : ℕ) (w v : PageTable) → AreApart (segs_view es)
-    → key_at es i ≡ Some id → slice_get (values_of es) i ≡ Some w → seg_of id v ≡ f (seg_of id w) → IsEdited f id es (set_value_at es i v)
+    → seg_at es i ≡ Some id → slice_get (values_of es) i ≡ Some w → seg_of id v ≡ f (seg_of id w) → IsEdited f id es (set_value_at es i v)
 edited f keeps es i id w v apart key value is =
     grind (arith, edit-view f es i id w v apart (entry-from es i id w key value) is, apart-edit f keeps (segs_view es) id apart)

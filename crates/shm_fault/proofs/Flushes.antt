@@ -99,7 +99,7 @@ module _ (n : ℕ) (s : StoreView) (i : ℕ) (t : StoreView) (written failed : �
       record {
         sound = sound;
         goes = Goes-trans s t u d.goes goes;
-        still = λ r. still r ∙ d.still r;
+        still = λ seg page. still seg page ∙ d.still seg page;
         sum = rw is (omega (arith, sum, d.sum, length-append l (i ∷ [])));
         failures = rw is (
             let a = sum_by_push (λ y. cond (dirty_after u y) 1 0) l i in

@@ -17,7 +17,7 @@ pub use Rattle.shm_base.specs.declared.paging.Span.{Span}
 pub use Rattle.shm_clock.proofs.Eligible.{page_may_go, two_eligible}
 pub use Rattle.shm_clock.specs.Clock.{IsClockVictim, is_pinned, may_go, next, owner_passes}
 pub use Rattle.shm_frames.specs.Frame.{Frame, IsFrameBlank, OwnedBelow, dirty_of, frame_at, is_dirty, is_owned, no_frame, resident_of}
-pub use Rattle.shm_pager.specs.Pages.{last_count}
+pub use Rattle.shm_pager.specs.Pages.{last_count, next_count}
 pub use Rattle.shm_plain.proofs.Pasted.{length-paste}
 pub use Rattle.shm_plain.specs.Held.{FitsPage, Held, bytes_of, find_held, is_held, is_locked, pages_held, pages_if_locked, pages_in, pages_locked, paste, pasted, span_bytes, with_lock, with_zeros, without}
 pub use Rattle.shm_slots.proofs.Causes.{rises-le, total-le}
@@ -26,16 +26,16 @@ pub use Rattle.shm_slots.specs.Owners.{used_count}
 pub use Rattle.shm_slots.specs.View.{AreaView, HasSlot, IsArea, IsFirstFree, IsSwap, OneArea, SameSlots, SwapView, AfterWriteFault, area_at, is_spent_here, no_area, off, owner_of, page_in, rise, size_of, sizes, slots, slots_in, used_in, used_slots, with_area, with_owner, with_page, with_slot_owner, with_slot_page, without_slot}
 pub use mir.Val.{bool_byte}
 pub use Rattle.shm_fault.specs.Access.{Accessed, AreIn, Brings, IsUntouched, Visited}
-pub use Rattle.shm_fault.specs.Counting.{AtRest, CountsOn, hand_after, hand_for_frame, one_if, one_more, raised}
+pub use Rattle.shm_fault.specs.Counting.{AtRest, CountsOn, hand_after, hand_for_frame, one_if, raised}
 pub use Rattle.shm_fault.specs.Dropping.{Dropped, Given, IsBlank, emptied}
-pub use Rattle.shm_fault.specs.Entries.{key_at, seg_view, segs_view}
+pub use Rattle.shm_fault.specs.Entries.{seg_at, seg_view, segs_view}
 pub use Rattle.shm_fault.specs.Flushing.{IsFlushed, dirty_after, may_flush}
-pub use Rattle.shm_fault.specs.Goes.{Alike, Goes, KeepsLocked, MovesOn, Outline, StaysAway, Still, Visits, frame_by, outline, outlines, referenced_at, same_ref, unlocked}
+pub use Rattle.shm_fault.specs.Goes.{Alike, Goes, KeepsLocked, MovesOn, Outline, StaysAway, Visits, frame_by, outline, outlines, referenced_at, unlocked}
 pub use Rattle.shm_fault.specs.Moving.{IsCleared, IsRelocated, SameOwned}
 pub use Rattle.shm_fault.specs.Segs.{AreApart, HasPage, SegRec, but, count_by_id, find_seg, locked_by, locked_pages, new_seg, no_page, page_count, rec_at, rec_by, seg_with, with_rec, with_seg_lock}
 pub use Rattle.shm_fault.specs.Sound.{IsStoreSound, IsTied, Tied}
 pub use Rattle.shm_fault.specs.Steps.{LockedPagesStay, moved}
-pub use Rattle.shm_fault.specs.Store.{IsResident, StoreView, bytes_by, dirty, dirty_in, disowned, fresh_store, has_frame, has_slot, held, held_by, is_dirty_page, is_swapped, page_bytes, page_of, pages_among, ref_of, resident, same_page, slot_bytes, swapped_among, used}
+pub use Rattle.shm_fault.specs.Store.{IsResident, Still, StoreView, bytes_by, dirty, dirty_in, disowned, fresh_store, has_frame, has_slot, held, held_by, is_dirty_page, is_page, is_swapped, page_bytes, page_of, pages_among, ref_of, resident, same_page, slot_bytes, swapped_among, used}
 pub use Rattle.shm_fault.specs.declared.access.InFrames.{InFrames}
 pub use Rattle.shm_fault.specs.declared.page_tables.PageRec.{PageRec}
 pub use Rattle.shm_fault.specs.declared.page_tables.PageTable.{PageTable}

@@ -1,22 +1,23 @@
 -- Where pages are, looked up and changed; what a list of segments keeps where its pages move.
-use Rattle.shm_fault.proofs.Names.{◌≡◌, ◌≢◌, ◌⊎◌, ℕ, ◌<◌, ◌≤◌, Bool, true, false, not, cond, eqb, List, [], ◌∷◌, length, sum_by, Some, None, refl, sym, ap, ◌∙◌, inl, inr, arith, length-set, get_or-set_same, get_or-set_other, map, option_map, cases_Bool, cases_lt, eq-eqb, ne_eqb, eqb-true, and_parts, false≢true, not-false, false_from_ne_true, get_or_past, sum_by-cons, Slot, PageRef, PageRec, Outline, outline, outlines, same_ref, SegRec, no_page, rec_at, find_seg, AreApart, rec_by, count_by_id, HasPage, locked_by, seg_with, with_rec, page_count, locked_pages, nat_tests, common_steps}
+use Rattle.shm_fault.proofs.Names.{◌≡◌, ◌≢◌, ◌⊎◌, ℕ, ◌<◌, ◌≤◌, Bool, true, false, not, cond, eqb, List, [], ◌∷◌, length, sum_by, Some, None, refl, sym, ap, ◌∙◌, inl, inr, arith, length-set, get_or-set_same, get_or-set_other, map, option_map, cases_Bool, cases_lt, eq-eqb, ne_eqb, eqb-true, and_parts, false≢true, not-false, false_from_ne_true, get_or_past, sum_by-cons, Slot, PageRef, PageRec, Outline, outline, outlines, is_page, SegRec, no_page, rec_at, find_seg, AreApart, rec_by, count_by_id, HasPage, locked_by, seg_with, with_rec, page_count, locked_pages, nat_tests, common_steps, StoreView, Still}
+use Rattle.shm_fault.specs.Store.{frame_of}
 
 -- the name of another page
 abbrev pub other : PageRef → PageRef → Bool
-other r q = not (same_ref q r)
+other r q = not (is_page q r.seg r.page)
 
 -- a name is its parts
 pub ref_parts : (q r : PageRef) → q.seg ≡ r.seg → q.page ≡ r.page → q ≡ r
 ref_parts q r a b = let l : record { seg = q.seg; page = q.page } ≡ record { seg = r.seg; page = r.page } = rw (a, b) refl in l
 
-pub same-true : (q r : PageRef) → same_ref q r ≡ true → q ≡ r
+pub same-true : (q r : PageRef) → is_page q r.seg r.page ≡ true → q ≡ r
 same-true q r t = grind (arith, nat_tests, common_steps, and_parts, eqb, q.seg, r.seg, q.page, r.page, ref_parts, eqb-true)
 
-pub same-self : (r : PageRef) → same_ref r r ≡ true
+pub same-self : (r : PageRef) → is_page r r.seg r.page ≡ true
 same-self r = rw (eq-eqb r.seg r.seg refl, eq-eqb r.page r.page refl) refl
 
 pub other-false : (r q : PageRef) → other r q ≡ false → q ≡ r
-other-false r q e = same-true q r (not-false (same_ref q r) e)
+other-false r q e = same-true q r (not-false (is_page q r.seg r.page) e)
 
 pub other-self : (r : PageRef) → other r r ≡ false
 other-self r = rw (same-self r) refl
@@ -27,8 +28,8 @@ other-true r q n = grind (arith, nat_tests, n, other-false r q)
 pub other_ne : (r q : PageRef) → other r q ≡ true → q ≢ r
 other_ne r q e same = false≢true (sym (other-self r) ∙ (rw same at e))
 
-pub same-other : (r q : PageRef) → other r q ≡ true → same_ref r q ≡ false
-same-other r q off = false_from_ne_true (same_ref r q) (λ t. other_ne r q off (sym (same-true r q t)))
+pub same-other : (r q : PageRef) → other r q ≡ true → is_page r q.seg q.page ≡ false
+same-other r q off = false_from_ne_true (is_page r q.seg q.page) (λ t. other_ne r q off (sym (same-true r q t)))
 
 pub cases_ref : (r q : PageRef) → (q ≡ r) ⊎ (other r q ≡ true)
 cases_ref r q = elim (cases_Bool (other r q)) [ inl t ↦ inr t | inr f ↦ inl (other-false r q f) ]
@@ -123,6 +124,15 @@ rec-with_other gs r q p off = grind (arith, nat_tests, common_steps, find-with, 
 -- no page's frame changed
 pub still-with : (gs : List SegRec) (r : PageRef) (p : PageRec) → HasPage gs r → p.frame ≡ (rec_by gs r).frame → (q : PageRef) → (rec_by (with_rec gs r p) q).frame ≡ (rec_by gs q).frame
 still-with gs r p has same q = grind (arith, cases_ref r q, rec-with gs r p has, rec-with_other gs r q p, same)
+
+-- a page's frame is the same, by its name and by its numbers
+pub still-by : (s t : StoreView) → Still s t → (r : PageRef) → (rec_by t.segs r).frame ≡ (rec_by s.segs r).frame
+unfolding frame_of
+still-by s t still r = still r.seg r.page
+
+pub by-still : (s t : StoreView) → ((r : PageRef) → (rec_by t.segs r).frame ≡ (rec_by s.segs r).frame) → Still s t
+unfolding frame_of
+by-still s t still seg page = still (record { seg = seg; page = page })
 
 -- a page that is somewhere is there
 pub has-somewhere : (gs : List SegRec) (r : PageRef) → rec_by gs r ≢ no_page → HasPage gs r

@@ -22,7 +22,7 @@ puts s sound p f new fit at size =
     let x : Frame = put_in (frame_at s.frames f) off new in
     let t : StoreView = record s { frames = set s.frames f x } in
     let has = has-frame s.segs r f at in
-    let fits : off + length new ≤ 4096 = omega (arith, fit.3, size) in
+    let fits : off + length new ≤ 4096 = omega (arith, fit.2.1, size) in
     let was : bytes_at s r ≡ b = rw at refl in
     let full : length b ≡ 4096 = rw was at (sound.tied.pages r has).whole in
     let whole : length x.bytes ≡ 4096 = length-paste b off new (omega (arith, full, fits)) ∙ full in

@@ -26,19 +26,19 @@ module _ (s : StoreView) (sound : IsStoreSound s) where
 
   -- the page of a span is there
   pub fits-has : (p : Span) → FitsPage (held s) p → HasPage s.segs (ref_of p)
-  fits-has p fit = grind (arith, nat_tests, common_steps, length-in, p.seg, fit.1, fit.2)
+  fits-has p fit = grind (arith, nat_tests, common_steps, length-in, p.seg, fit.1, fit.2.0)
 
   pub span-read : (p : Span) (f : ℕ) → FitsPage (held s) p → frame_by s (ref_of p) ≡ Some f → span_bytes (held s) p ≡ take p.len (drop (p.at % 4096) (frame_at s.frames f).bytes)
   span-read p f fit at =
       let has = fits-has p fit in
       let split : 4096 * (p.at / 4096 - 0) + p.at % 4096 ≡ p.at = omega arith in
-      let read = joined-read (bytes_at s) (ref_of p) (count_by_id s.segs p.seg) (whole-in p.seg) p.len (p.at % 4096) 0 (count_by_id s.segs p.seg) (omega arith) (omega arith) has (omega (arith, fit.3)) in
+      let read = joined-read (bytes_at s) (ref_of p) (count_by_id s.segs p.seg) (whole-in p.seg) p.len (p.at % 4096) 0 (count_by_id s.segs p.seg) (omega arith) (omega arith) has (omega (arith, fit.2.1)) in
       let bytes : bytes_at s (ref_of p) ≡ (frame_at s.frames f).bytes = rw at refl in
       rw (bytes-in p.seg) (rw split at read ∙ ap (λ l. take p.len (drop (p.at % 4096) l)) bytes)
 
 -- a span that fits a page still does where segments have the same pages
 pub fits-same : (s t : StoreView) → IsStoreSound s → IsStoreSound t → t.segs ≡ s.segs → (p : Span) → FitsPage (held s) p → FitsPage (held t) p
-fits-same s t before after segs p fit = grind (arith, nat_tests, common_steps, p.seg, held-in, is_some, length-in, fit.0, fit.1, fit.2, fit.3)
+fits-same s t before after segs p fit = grind (arith, nat_tests, common_steps, p.seg, held-in, is_some, length-in, fit.0, fit.1, fit.2.0, fit.2.1)
 
 -- one span written
 pasted-list : (b c : PageRef → List ℕ) (gs : List SegRec) (r : PageRef) (off : ℕ) (new : List ℕ) → AreApart gs → ((q : PageRef) → HasPage gs q → length (b q) ≡ 4096) → HasPage gs r → off + length new ≤ 4096

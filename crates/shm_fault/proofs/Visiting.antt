@@ -1,6 +1,7 @@
 -- Visits to pages, resident or not.
 use Rattle.shm_fault.proofs.Names.{◌≡◌, ℕ, ◌≤◌, ◌+◌, ◌&&◌, Bool, true, false, length, Option, Some, None, is_some, refl, sym, ap, arith, false≢true, PageRef, had_cause, Touched, rec_by, StoreView, is_swapped, Visits, MovesOn, frame_by, one_if, CountsOn, hand_for_frame, Visited, common_steps, nat_tests}
 use Rattle.shm_fault.proofs.Counting.{counts-still}
+use Rattle.shm_fault.proofs.Pages.{by-still}
 use Rattle.shm_fault.proofs.Visits.{moves-still}
 
 -- a resident page's frame was touched
@@ -9,7 +10,7 @@ visited-touched r pinned f s t u known visits rest =
     let segs = ap (λ (v : StoreView). v.segs) rest in
     record {
       visits = visits;
-      moves = moves-still u.moved.items s t (λ q. rw segs refl);
+      moves = moves-still u.moved.items s t (by-still s t (λ q. rw segs refl));
       few = omega arith;
       ins = let none : is_swapped (rec_by s.segs r) ≡ false = rw (← known) refl in rw none (omega arith);
       outs = omega arith;

@@ -1,7 +1,7 @@
 -- Steps of a visit to a page, one after another.
-use Rattle.shm_fault.proofs.Names.{◌≡◌, ◌≢◌, ℕ, suc, ◌<◌, true, false, not, cond, List, [], ◌∷◌, ◌++◌, length, set, Option, Some, None, refl, sym, ap, ◌∙◌, arith, length-set, get_or-set_same, get_or-set_other, and_parts, not-true, PageRef, Frame, no_frame, frame_at, may_go, owner_passes, is_pinned, PageRec, SegRec, rec_by, HasPage, with_rec, locked_by, SwapView, IsSwap, SameSlots, sizes, GoesOn, StoreView, slot_bytes, IsStoreSound, Goes, Still, StaysAway, Alike, Visits, MovesOn, unlocked, frame_by, referenced_at, same_ref, PageMove, Gone, Came, moved, common_steps, nat_tests}
+use Rattle.shm_fault.proofs.Names.{◌≡◌, ◌≢◌, ℕ, suc, ◌<◌, true, false, not, cond, List, [], ◌∷◌, ◌++◌, length, set, Option, Some, None, refl, sym, ap, ◌∙◌, arith, length-set, get_or-set_same, get_or-set_other, and_parts, not-true, PageRef, Frame, no_frame, frame_at, may_go, owner_passes, is_pinned, PageRec, SegRec, rec_by, HasPage, with_rec, locked_by, SwapView, IsSwap, SameSlots, sizes, GoesOn, StoreView, slot_bytes, IsStoreSound, Goes, Still, StaysAway, Alike, Visits, MovesOn, unlocked, frame_by, referenced_at, is_page, PageMove, Gone, Came, moved, common_steps, nat_tests}
 use Rattle.shm_fault.specs.Store.{frame_of}
-use Rattle.shm_fault.proofs.Pages.{rec-with, rec-with_other, cases_ref, other_ne, other-true, has-frame, same-self, same-other}
+use Rattle.shm_fault.proofs.Pages.{rec-with, rec-with_other, cases_ref, other_ne, other-true, has-frame, same-self, same-other, still-by}
 use Rattle.shm_fault.proofs.Sound.{frame-own, Goes-trans, KeepsLocked-trans}
 use Rattle.shm_fault.proofs.Changes.{keeps-alike, keeps-load, keeps-settle}
 use Rattle.shm_fault.proofs.Slots.{set-cases}
@@ -30,16 +30,16 @@ module _ (s t₁ t₂ t₃ : StoreView) (f : ℕ) (page : PageRef) (pinned : Opt
   there = has-frame t₂.segs page f was
 
   first : (rec_by s.segs page).frame ≡ Some f
-  first = ap (λ (gs : List SegRec). (rec_by gs page).frame) (sym segs₁) ∙ sym (still page) ∙ was
+  first = ap (λ (gs : List SegRec). (rec_by gs page).frame) (sym segs₁) ∙ sym (still-by t₁ t₂ still page) ∙ was
 
-  pub evicted-gone : (q : PageRef) → frame_by t₃ q ≡ cond (same_ref page q) None (frame_by s q)
-  evicted-gone q = grind (arith, nat_tests, common_steps, t₂.segs, cases_ref, same-self, same-other, rec-with, there, rec-with_other)
+  pub evicted-gone : (q : PageRef) → frame_by t₃ q ≡ cond (is_page page q.seg q.page) None (frame_by s q)
+  evicted-gone q = grind (arith, nat_tests, common_steps, still-by t₁ t₂ still, t₂.segs, cases_ref, same-self, same-other, rec-with, there, rec-with_other)
 
   other-rec : (q : PageRef) → q ≢ page → rec_by t₃.segs q ≡ rec_by t₂.segs q
   other-rec q n = ap (λ (gs : List SegRec). rec_by gs q) segs₃ ∙ (rec-with_other t₂.segs page q (record (rec_by t₂.segs page) { frame = None }) (other-true page q n))
 
   other-frame : (q : PageRef) → q ≢ page → (rec_by t₃.segs q).frame ≡ (rec_by s.segs q).frame
-  other-frame q n = ap (λ (p : PageRec). p.frame) (other-rec q n) ∙ still q ∙ ap (λ (gs : List SegRec). (rec_by gs q).frame) segs₁
+  other-frame q n = ap (λ (p : PageRec). p.frame) (other-rec q n) ∙ still-by t₁ t₂ still q ∙ ap (λ (gs : List SegRec). (rec_by gs q).frame) segs₁
 
   module _ (g₁ : Goes s t₁) (g₂ : Goes t₁ t₂) (g₃ : Goes t₂ t₃) (pin : (p : ℕ) → pinned ≡ Some p → frame_at t₁.frames p ≡ frame_at s.frames p)
       (frames₂ : t₂.frames ≡ set t₁.frames f x) (frames₃ : t₃.frames ≡ set t₂.frames f y)
@@ -80,7 +80,7 @@ step-load s sound f bytes free u ins kept is same goes_on =
 -- a page comes into a free frame
 pub record Settles (page : PageRef) (f : ℕ) (s t : StoreView) : Type 0 where
   pub sound : IsStoreSound t
-  pub came : (q : PageRef) → frame_by t q ≡ cond (same_ref page q) (Some f) (frame_by s q)
+  pub came : (q : PageRef) → frame_by t q ≡ cond (is_page page q.seg q.page) (Some f) (frame_by s q)
   pub bit : referenced_at t f ≡ true
   pub visits : (pinned : Option ℕ) → Visits page pinned s t
 
@@ -111,8 +111,7 @@ moved-append (Gone r ∷ ms) m seg page f = moved-append ms m seg page _
 moved-append (Came r k ∷ ms) m seg page f = moved-append ms m seg page _
 
 pub moves-still : (ms : List PageMove) (s t : StoreView) → Still s t → MovesOn ms ms s t
-unfolding frame_of
-moves-still ms s t still b led seg page = still (record { seg = seg; page = page }) ∙ led seg page
+moves-still ms s t still b led seg page = still seg page ∙ led seg page
 
 pub moves-more : (ms : List PageMove) (m : PageMove) (s t : StoreView) → ((q : PageRef) → frame_by t q ≡ moved (m ∷ []) q.seg q.page (frame_by s q)) → MovesOn ms (ms ++ m ∷ []) s t
 unfolding frame_of

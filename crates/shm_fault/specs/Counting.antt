@@ -1,19 +1,16 @@
 -- What is counted as read in and written out, and where the clock's hand stands.
-use Rattle.std.specs.Prelude.{ℕ, zero, suc, ◌≡◌, ◌+◌, ◌-◌, ◌^◌, Bool, if◌then◌else◌, Option, Some, None, is_some, length, min, position}
+use Rattle.std.specs.Prelude.{ℕ, zero, suc, ◌≡◌, Bool, if◌then◌else◌, Option, Some, None, is_some, length, position}
+use Rattle.shm_pager.specs.Pages.{next_count}
 use Rattle.shm_frames.specs.Frame.{is_free}
-use Rattle.shm_clock.specs.Clock.{listed, victim_of, next}
+use Rattle.shm_clock.specs.Clock.{candidates, victim_of, next}
 use Rattle.shm_fault.specs.declared.touched.Touched.{Touched}
 use Rattle.shm_fault.specs.Store.{StoreView}
 use Rattle.shm_fault.specs.Goes.{unlocked}
 
--- one more, up to the last count
-abbrev pub one_more : ℕ → ℕ
-one_more n = min (n + 1) (2 ^ 64 - 1)
-
 -- so many more, one after another
 abbrev pub raised : ℕ → ℕ → ℕ
 raised n zero = n
-raised n (suc k) = raised (one_more n) k
+raised n (suc k) = raised (next_count n) k
 
 abbrev pub one_if : Bool → ℕ
 one_if b = if b then 1 else 0
@@ -31,7 +28,7 @@ pub record CountsOn (u v : Touched) (s t : StoreView) : Type 0 where
 
 -- the frame whose page has to go, by the clock
 abbrev pub victim_by : StoreView → Option ℕ → ℕ
-victim_by s pinned = victim_of s.frames (listed (unlocked s.segs) pinned s.frames s.hand)
+victim_by s pinned = victim_of s.frames (candidates (unlocked s.segs) pinned s.frames s.hand)
 
 -- where the hand stands once that was found: at the number after it
 abbrev pub turned : StoreView → Option ℕ → ℕ

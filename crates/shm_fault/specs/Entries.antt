@@ -10,5 +10,5 @@ abbrev pub segs_view : List (ℕ × PageTable) → List SegRec
 segs_view es = map seg_view es
 
 -- the identifier at a place
-abbrev pub key_at : List (ℕ × PageTable) → ℕ → Option ℕ
-key_at es i = option_map (λ (e : ℕ × PageTable). e.0) (slice_get es i)
+abbrev pub seg_at : List (ℕ × PageTable) → ℕ → Option ℕ
+seg_at es i = option_map (λ (e : ℕ × PageTable). e.0) (slice_get es i)

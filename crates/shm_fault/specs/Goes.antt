@@ -1,5 +1,5 @@
 -- What each step of an access, of a flush and of a move to another area keeps.
-use Rattle.std.specs.Prelude.{ℕ, ◌≡◌, ◌≢◌, ◌==◌, ◌&&◌, Bool, true, not, Option, Some, None, length, List, map, is_some}
+use Rattle.std.specs.Prelude.{ℕ, ◌≡◌, ◌≢◌, Bool, true, not, Option, Some, None, length, List, map, is_some}
 use Rattle.shm_base.specs.declared.paging.PageRef.{PageRef}
 use Rattle.shm_slots.specs.View.{sizes}
 use Rattle.shm_slots.specs.Cause.{GoesOn, some_spent, had_cause}
@@ -36,10 +36,6 @@ pub record Alike (x y : Frame) : Type 0 where
   pub owner : y.owner ≡ x.owner
   pub bytes : y.bytes ≡ x.bytes
   pub dirty : y.dirty ≡ x.dirty
-
--- every page is where it was, as far as frames go
-abbrev pub Still : StoreView → StoreView → Type 0
-Still s t = (r : PageRef) → (rec_by t.segs r).frame ≡ (rec_by s.segs r).frame
 
 -- pages of locked segments stay resident
 abbrev pub KeepsLocked : StoreView → StoreView → Type 0
@@ -79,7 +75,3 @@ MovesOn ms more s t = (b : StoreView) → MovesLead ms b s → MovesLead more b 
 
 abbrev pub frame_by : StoreView → PageRef → Option ℕ
 frame_by s r = (rec_by s.segs r).frame
-
--- two names of one page
-abbrev pub same_ref : PageRef → PageRef → Bool
-same_ref q r = (q.seg == r.seg) && (q.page == r.page)

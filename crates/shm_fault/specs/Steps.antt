@@ -1,13 +1,10 @@
 -- What a call leaves of the residency and of the swap.
-use Rattle.std.specs.Prelude.{ℕ, ◌≡◌, ◌==◌, ◌&&◌, Bool, true, if◌then◌else◌, List, [], ◌∷◌, Option, Some, None, is_some}
-use Rattle.shm_base.specs.declared.paging.PageRef.{PageRef}
+use Rattle.std.specs.Prelude.{ℕ, ◌≡◌, true, if◌then◌else◌, List, [], ◌∷◌, Option, Some, None, is_some}
 use Rattle.shm_plain.specs.Held.{is_locked}
 use Rattle.shm_fault.specs.declared.touched.PageMove.{PageMove}
 use Rattle.shm_fault.specs.declared.touched.PageMove.TheVariants.{Gone, Came}
+pub use Rattle.shm_fault.specs.Store.{is_page}
 use Rattle.shm_fault.specs.Store.{StoreView, held, frame_of}
-
-abbrev pub is_page : PageRef → ℕ → ℕ → Bool
-is_page r seg page = (r.seg == seg) && (r.page == page)
 
 -- the frame of one page after the moves, from the frame before them
 abbrev pub moved : List PageMove → ℕ → ℕ → Option ℕ → Option ℕ

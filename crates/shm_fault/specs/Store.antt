@@ -48,6 +48,10 @@ rec_of s seg page = rec_by s.segs (record { seg = seg; page = page })
 unfoldable pub frame_of : StoreView → ℕ → ℕ → Option ℕ
 frame_of s seg page = (rec_of s seg page).frame
 
+-- no page comes into a frame, leaves it or changes it
+abbrev pub Still : StoreView → StoreView → Type 0
+Still s t = (seg page : ℕ) → frame_of t seg page ≡ frame_of s seg page
+
 abbrev pub ref_of : Span → PageRef
 ref_of p = record { seg = p.seg; page = page_of p }
 
@@ -88,8 +92,12 @@ used s = sum_by (λ (g : SegRec). count_by has_slot g.pages) s.segs
 abbrev pub is_swapped : PageRec → Bool
 is_swapped p = not (is_some p.frame) && is_some p.slot
 
+abbrev pub is_page : PageRef → ℕ → ℕ → Bool
+is_page r seg page = (r.seg == seg) && (r.page == page)
+
+-- the spans lie in one page
 abbrev pub same_page : Span → Span → Bool
-same_page p q = (p.seg == q.seg) && (page_of p == page_of q)
+same_page p q = is_page (ref_of p) q.seg (page_of q)
 
 -- how many pages the spans name; two may lie in one page
 abbrev pub pages_among : List Span → ℕ

@@ -1,6 +1,6 @@
 //! Segments that go, with their frames and slots.
 ghost use Rattle.std.specs.Prelude.{◌≡◌, ◌≢◌, ℕ, true, length};
-ghost use Rattle.shm_base.specs.declared.paging.Slot.{Slot as Place};
+ghost use Rattle.shm_base.specs.declared.paging.Slot.{Slot as SlotValue};
 ghost use Rattle.shm_plain.specs.Held.{is_held, without};
 ghost use Rattle.shm_slots.specs.View.{owner_of, sizes, IsSwap};
 ghost use Rattle.shm_slots.specs.Cause.{GoesOn, IsSteady, total};
@@ -48,7 +48,7 @@ impl<P: Pager> PageStore<P> {
         ensures segs { self.new.segs ≡ with_rec self.old.segs page no_page }
         ensures held { without (held self.new) page.seg ≡ without (held self.old) page.seg }
         ensures frames { (f : ℕ) → disowned page.seg (frame_at self.new.frames f).owner ≡ disowned page.seg (frame_at self.old.frames f).owner }
-        ensures slots { (k : Place) → disowned page.seg (owner_of self.new.swap k.area k.slot) ≡ disowned page.seg (owner_of self.old.swap k.area k.slot) }
+        ensures slots { (k : SlotValue) → disowned page.seg (owner_of self.new.swap k.area k.slot) ≡ disowned page.seg (owner_of self.old.swap k.area k.slot) }
         ensures size { length self.new.frames ≡ length self.old.frames }
         ensures steady { IsSteady self.old.swap self.new.swap }
         ensures rest { AtRest self.old self.new }
@@ -61,7 +61,8 @@ impl<P: Pager> PageStore<P> {
     }
 
     /// Takes a segment out, and its pages out of their frames and slots, which are free then. No pager is
-    /// asked for a page, and nothing is counted. The other segments' bytes stay, and where none of its pages was anywhere, so does all else. The segment is held.
+    /// asked for a page, and nothing is counted. The other segments' bytes stay, and where none of its
+    /// pages was anywhere, so does all else. The segment is held.
     pub fn drop_segment(&mut self, seg: u32)
         requires there { is_held (held self.old) seg ≡ true }
         ensures held { held self.new ≡ without (held self.old) seg }

@@ -3,10 +3,10 @@ ghost use Rattle.std.specs.Prelude.{◌≡◌, ℕ, ◌+◌, ◌-◌, ◌<◌, �
 ghost use Rattle.shm_slots.specs.View.{sizes};
 ghost use Rattle.shm_slots.specs.Cause.{GoesOn, total, some_spent};
 ghost use Rattle.shm_frames.specs.Frame.{frame_at};
-ghost use Rattle.shm_fault.specs.Store.{held, frame_of};
+ghost use Rattle.shm_fault.specs.Store.{held, Still};
 ghost use Rattle.shm_fault.specs.Sound.{IsStoreSound};
 ghost use Rattle.shm_fault.specs.Steps.{LockedPagesStay};
-ghost use Rattle.shm_fault.specs.Goes.{Goes, Still};
+ghost use Rattle.shm_fault.specs.Goes.{Goes};
 ghost use Rattle.shm_fault.specs.Counting.{raised};
 ghost use Rattle.shm_fault.specs.Flushing.{IsFlushed, may_flush, dirty_after};
 
@@ -54,7 +54,7 @@ impl<P: Pager> PageStore<P> {
     pub fn flush(&mut self, n: u64) -> FlushReport
         ensures flushed { IsFlushed self.old self.new n result }
         ensures held { held self.new ≡ held self.old }
-        ensures still { (s page : ℕ) → frame_of self.new s page ≡ frame_of self.old s page }
+        ensures still { Still self.old self.new }
         ensures kept { LockedPagesStay self.old self.new }
         ensures counts { GoesOn self.old.swap self.new.swap }
         ensures sizes { sizes self.new.swap ≡ sizes self.old.swap }

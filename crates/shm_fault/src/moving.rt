@@ -1,13 +1,13 @@
 //! Swap areas that go, whose pages move to the other areas.
-ghost use Rattle.std.specs.Prelude.{◌≡◌, ℕ, ◌+◌, ◌<◌, ◌≤◌, true, [], length, set, Some, None, IfOk, IfErr, OnOk, OnErr};
+ghost use Rattle.std.specs.Prelude.{◌≡◌, ◌+◌, ◌<◌, ◌≤◌, true, [], length, set, Some, None, IfOk, IfErr, OnOk, OnErr};
 ghost use Rattle.shm_plain.specs.Held.{pages_held};
 ghost use Rattle.shm_slots.specs.View.{HasSlot, IsSwap, area_at, page_in, sizes, slots, used_in, used_slots};
 ghost use Rattle.shm_slots.specs.Cause.{GoesOn, had_cause};
 ghost use Rattle.shm_fault.specs.Segs.{rec_by};
-ghost use Rattle.shm_fault.specs.Store.{held, frame_of};
+ghost use Rattle.shm_fault.specs.Store.{held, Still};
 ghost use Rattle.shm_fault.specs.Sound.{IsStoreSound};
 ghost use Rattle.shm_fault.specs.Steps.{LockedPagesStay};
-ghost use Rattle.shm_fault.specs.Goes.{Goes, Still};
+ghost use Rattle.shm_fault.specs.Goes.{Goes};
 ghost use Rattle.shm_fault.specs.Counting.{AtRest};
 ghost use Rattle.shm_fault.specs.Moving.{SameOwned, IsRelocated, IsCleared};
 
@@ -157,7 +157,7 @@ impl<P: Pager> PageStore<P> {
         ensures cause { OnErr result (had_cause self.old.swap self.new.swap ≡ true) }
         ensures moved { IfErr result (λ e. e.touched.moved.items ≡ []) }
         ensures rest { AtRest self.old self.new }
-        ensures still { (s page : ℕ) → frame_of self.new s page ≡ frame_of self.old s page }
+        ensures still { Still self.old self.new }
         ensures kept { LockedPagesStay self.old self.new }
         ensures counts { GoesOn self.old.swap self.new.swap }
         ensures sound { IsStoreSound self.new }

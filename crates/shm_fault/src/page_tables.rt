@@ -1,7 +1,7 @@
 //! The page tables of the segments that the store holds: where each of their pages is.
 ghost use Rattle.std.specs.Prelude.{◌≡◌, ◌<◌, [], ◌∷◌, ◌++◌, length, set, map, filter, not, ◌==◌, None, Some, IfSome, IfNone, IfOk, OnOk, OnErr, replicate};
 ghost use Rattle.shm_fault.specs.Segs.{SegRec, find_seg, rec_at, rec_by, count_by_id, locked_by, HasPage, with_rec, with_seg_lock, no_page, new_seg};
-ghost use Rattle.shm_fault.specs.Entries.{segs_view, key_at};
+ghost use Rattle.shm_fault.specs.Entries.{segs_view, seg_at};
 
 use indexmap::IndexMap;
 use shm_base::{FrameNo, HostMemory, PageRef, Slot};
@@ -77,7 +77,7 @@ fn blank_pages(alloc: Global, count: u32) -> Result<Vec<PageRec>, AllocError>
 }
 
 // Where a page of a segment is.
-fn place_at(pages: &Vec<PageRec>, page: u32) -> PageRec
+fn page_at(pages: &Vec<PageRec>, page: u32) -> PageRec
     ensures { result ≡ rec_at pages.now.items page }
 {
     pages
@@ -87,16 +87,16 @@ fn place_at(pages: &Vec<PageRec>, page: u32) -> PageRec
 }
 
 // Notes where a page of a segment is.
-fn set_place(pages: &mut Vec<PageRec>, page: u32, place: PageRec)
+fn set_page_at(pages: &mut Vec<PageRec>, page: u32, rec: PageRec)
     requires { page < length pages.old.items }
-    ensures { pages.new.items ≡ set pages.old.items page place }
+    ensures { pages.new.items ≡ set pages.old.items page rec }
 {
-    pages[page as usize] = place;
+    pages[page as usize] = rec;
 }
 
 // At which place a segment stands.
 fn index_of(by_id: &IndexMap<u32, PageTable>, id: u32) -> Option<usize>
-    ensures some { IfSome result (λ i. key_at by_id.now.entries i ≡ Some id) }
+    ensures some { IfSome result (λ i. seg_at by_id.now.entries i ≡ Some id) }
     ensures none { IfNone result (find_seg (segs_view by_id.now.entries) id ≡ None) }
 {
     let (index, _, _) = by_id.get_full(&id)?;
@@ -141,7 +141,7 @@ impl PageTables {
         ensures { result ≡ rec_by self.now page }
     {
         match self.by_id.get(&page.seg) {
-            Some(table) => place_at(&table.pages, page.page),
+            Some(table) => page_at(&table.pages, page.page),
             None => PageRec::NOWHERE,
         }
     }
@@ -167,12 +167,12 @@ impl PageTables {
     }
 
     /// Notes where a page is.
-    pub(crate) fn set_page(&mut self, page: PageRef, place: PageRec)
+    pub(crate) fn set_page(&mut self, page: PageRef, rec: PageRec)
         requires { HasPage self.old page }
-        ensures { self.new ≡ with_rec self.old page place }
+        ensures { self.new ≡ with_rec self.old page rec }
     {
         if let Some(index) = index_of(&self.by_id, page.seg) {
-            set_place(&mut self.by_id[index].pages, page.page, place);
+            set_page_at(&mut self.by_id[index].pages, page.page, rec);
         }
     }
 

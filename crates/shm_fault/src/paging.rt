@@ -4,13 +4,13 @@ ghost use Rattle.shm_base.specs.declared.paging.PageRef.{PageRef as Ref};
 ghost use Rattle.shm_slots.specs.View.{SameSlots, HasSlot, IsSwap, sizes};
 ghost use Rattle.shm_slots.specs.Cause.{had_cause, total, some_spent, GoesOn};
 ghost use Rattle.shm_frames.specs.Frame.{frame_at, no_frame, OwnedBelow};
-ghost use Rattle.shm_clock.specs.Clock.{may_go, listed, victim_of, next, IsClockVictim};
+ghost use Rattle.shm_clock.specs.Clock.{may_go, candidates, victim_of, next, IsClockVictim};
 ghost use Rattle.shm_fault.specs.Segs.{rec_by, HasPage, with_rec};
-ghost use Rattle.shm_fault.specs.Store.{slot_bytes};
+ghost use Rattle.shm_fault.specs.Store.{Still, is_page, slot_bytes};
 ghost use Rattle.shm_fault.specs.Sound.{IsStoreSound};
 ghost use Rattle.shm_fault.specs.Counting.{raised, one_if, CountsOn, victim_by, turned, hand_for_frame};
 ghost use Rattle.shm_fault.specs.Access.{Visited};
-ghost use Rattle.shm_fault.specs.Goes.{Goes, Still, StaysAway, Alike, Visits, MovesOn, referenced_at, unlocked, frame_by, same_ref};
+ghost use Rattle.shm_fault.specs.Goes.{Goes, StaysAway, Alike, Visits, MovesOn, referenced_at, unlocked, frame_by};
 
 use crate::page_tables::{PageRec, PageTables};
 use crate::store::PageStore;
@@ -38,9 +38,9 @@ fn choose(
 ) -> FrameNo
     requires hand { hand.old < length frames.old }
     requires few { length frames.old ≤ 4096 }
-    requires one { listed (unlocked segs.now) pinned frames.old hand.old ≢ [] }
+    requires one { candidates (unlocked segs.now) pinned frames.old hand.old ≢ [] }
     ensures clock { IsClockVictim (may_go (unlocked segs.now) pinned frames.old) hand.old frames.old result frames.new }
-    ensures victim { result ≡ victim_of frames.old (listed (unlocked segs.now) pinned frames.old hand.old) }
+    ensures victim { result ≡ victim_of frames.old (candidates (unlocked segs.now) pinned frames.old hand.old) }
     ensures hand { hand.new ≡ next (length frames.old) result }
 {
     let eligible = |page: PageRef| !segs.is_locked(page.seg);
@@ -222,7 +222,7 @@ impl<P: Pager> PageStore<P> {
     fn evict(&mut self, pinned: Option<FrameNo>) -> Result<Evicted, PagerFault>
         requires full { OwnedBelow self.old.frames (length self.old.frames) }
         ensures visits { (r : Ref) → Visits r pinned self.old self.new }
-        ensures gone { IfOk result (λ e. (s : Ref) → frame_by self.new s ≡ (if same_ref e.page s then None else frame_by self.old s)) }
+        ensures gone { IfOk result (λ e. (s : Ref) → frame_by self.new s ≡ (if is_page e.page s.seg s.page then None else frame_by self.old s)) }
         ensures free { IfOk result (λ e. (e.frame < length self.new.frames) × ((frame_at self.new.frames e.frame).owner ≡ None)) }
         ensures err { OnErr result (Still self.old self.new) }
         ensures hand { self.new.hand ≡ turned self.old pinned }
@@ -266,26 +266,26 @@ impl<P: Pager> PageStore<P> {
         }
     }
 
-    // Gives a free frame that has a page's bytes to the page.
-    fn settle(&mut self, frame: FrameNo, page: PageRef)
+    // Gives a free frame that has a page's bytes to the page, whose slot is handed in.
+    fn settle(&mut self, frame: FrameNo, page: PageRef, slot: Option<Slot>)
         requires there { frame < length self.old.frames }
         requires free { (frame_at self.old.frames frame).owner ≡ None }
         requires has { HasPage self.old.segs page }
         requires away { frame_by self.old page ≡ None }
-        requires bytes { (frame_at self.old.frames frame).bytes ≡ slot_bytes self.old.swap (rec_by self.old.segs page).slot }
-        ensures came { (s : Ref) → frame_by self.new s ≡ (if same_ref page s then Some frame else frame_by self.old s) }
+        requires slot { slot ≡ (rec_by self.old.segs page).slot }
+        requires bytes { (frame_at self.old.frames frame).bytes ≡ slot_bytes self.old.swap slot }
+        ensures came { (s : Ref) → frame_by self.new s ≡ (if is_page page s.seg s.page then Some frame else frame_by self.old s) }
         ensures bit { (frame_at self.new.frames frame).referenced ≡ true }
         ensures rest { self.new ≡ record self.old { segs = self.new.segs; frames = self.new.frames } }
         ensures visits { (pinned : Option ℕ) → Visits page pinned self.old self.new }
     {
-        let place = self.segs.page(page);
         self.frames.fill(frame, page);
         self.frames.set_referenced(frame, true);
         self.segs.set_page(
             page,
             PageRec {
                 frame: Some(frame),
-                slot: place.slot,
+                slot,
             },
         );
     }
@@ -314,11 +314,11 @@ impl<P: Pager> PageStore<P> {
         ensures hand { self.new.hand ≡ self.old.hand }
         ensures cause { OnErr result (had_cause self.old.swap self.new.swap ≡ true) }
     {
-        let place = self.segs.page(page);
-        match self.load(frame, place.slot) {
+        let slot = self.segs.page(page).slot;
+        match self.load(frame, slot) {
             Ok(()) => {
-                self.settle(frame, page);
-                touched.ins += u64::from(place.slot.is_some());
+                self.settle(frame, page, slot);
+                touched.ins += u64::from(slot.is_some());
                 touched.moved.push(PageMove::Came(page, frame));
                 Ok(())
             }
@@ -370,14 +370,7 @@ impl<P: Pager> PageStore<P> {
         requires room { length touched.old.moved.items ≤ 2 }
         requires small { (touched.old.ins < 2 ^ 32) × (touched.old.outs < 2 ^ 32) }
         ensures here { IfOk result (λ f. (frame_by self.new page ≡ Some f) × (referenced_at self.new f ≡ true)) }
-        ensures visits { Visits page pinned self.old self.new }
-        ensures moves { MovesOn touched.old.moved.items touched.new.moved.items self.old self.new }
-        ensures few { length touched.new.moved.items ≤ length touched.old.moved.items + 2 }
-        ensures ins { touched.new.ins ≡ touched.old.ins + one_if (is_ok result && is_some (rec_by self.old.segs page).slot) }
-        ensures outs { touched.new.outs ≤ touched.old.outs + 1 }
-        ensures counts { CountsOn touched.old touched.new self.old self.new }
-        ensures hand { self.new.hand ≡ hand_for_frame self.old pinned }
-        ensures cause { OnErr result (had_cause self.old.swap self.new.swap ≡ true) }
+        ensures visited { Visited page pinned None self.old self.new touched.old touched.new (is_ok result) }
     {
         match self.take_frame(pinned, touched) {
             Ok(frame) => match self.come_in(frame, page, touched) {

@@ -1,11 +1,11 @@
 //! The store, made and looked at.
 ghost use Rattle.std.specs.Prelude.{◌≡◌, ℕ, [], ◌∷◌, ◌++◌, ◌+◌, ◌-◌, ◌≤◌, ◌^◌, true, false, length, map, min, None, IfOk, OnOk, OnErr};
 ghost use Rattle.shm_plain.specs.Held.{is_held, pages_held, pages_locked, with_zeros, with_lock};
-ghost use Rattle.shm_slots.specs.View.{slots, owner_of, size_of, area_at};
+ghost use Rattle.shm_slots.specs.View.{slots, owner_of};
 ghost use Rattle.shm_slots.specs.Cause.{total};
 ghost use Rattle.shm_frames.specs.Frame.{IsFrameBlank};
 ghost use Rattle.shm_fault.specs.Segs.{with_seg_lock, new_seg};
-ghost use Rattle.shm_fault.specs.Store.{fresh_store, held, frame_of, resident, dirty, used};
+ghost use Rattle.shm_fault.specs.Store.{fresh_store, held, frame_of, Still, resident, dirty, used};
 ghost use Rattle.shm_fault.specs.Sound.{IsStoreSound};
 
 use crate::page_tables::PageTables;
@@ -74,20 +74,6 @@ impl<P: Pager> PageStore<P> {
         })
     }
 
-    /// The slots of the areas that are there.
-    pub fn capacity(&self) -> u64
-        ensures { result ≡ slots self.now.swap }
-    {
-        self.swap.capacity()
-    }
-
-    /// The slots of an area, if it is there.
-    pub fn area_size(&self, area: u32) -> Option<u32>
-        ensures { result ≡ size_of (area_at self.now.swap area) }
-    {
-        self.swap.size(area)
-    }
-
     /// The frame that a page is in; none where it is not resident, or no such page is there.
     pub fn frame(&self, seg: u32, page: u32) -> Option<FrameNo>
         ensures { result ≡ frame_of self.now seg page }
@@ -103,7 +89,7 @@ impl<P: Pager> PageStore<P> {
         requires room { pages_held (held self.old) + pages ≤ slots self.old.swap }
         ensures held { OnOk result (held self.new ≡ with_zeros (held self.old) seg pages) }
         ensures rest { OnOk result (self.new ≡ record self.old { segs = self.old.segs ++ new_seg seg pages ∷ [] }) }
-        ensures still { (s page : ℕ) → frame_of self.new s page ≡ frame_of self.old s page }
+        ensures still { Still self.old self.new }
         ensures err { OnErr result (self.new ≡ self.old) }
         ensures sound { IsStoreSound self.new }
     {
@@ -117,7 +103,7 @@ impl<P: Pager> PageStore<P> {
         requires few { locked ≡ true → pages_locked (with_lock (held self.old) seg true) + 2 ≤ length self.old.frames }
         ensures only { self.new ≡ record self.old { segs = map (with_seg_lock seg locked) self.old.segs } }
         ensures held { held self.new ≡ with_lock (held self.old) seg locked }
-        ensures still { (s page : ℕ) → frame_of self.new s page ≡ frame_of self.old s page }
+        ensures still { Still self.old self.new }
         ensures sound { IsStoreSound self.new }
     {
         self.segs.set_locked(seg, locked);

@@ -8,7 +8,7 @@ use Rattle.std.proofs.lemmas.List.Folds.{sum_by-replicate}
 use Rattle.std.proofs.lemmas.List.Sums.{sum_by-cons, sum_by-set, count_by-le-length}
 use Rattle.shm_base.specs.declared.paging.PageRef.{PageRef}
 use Rattle.shm_frames.specs.declared.frames.FrameState.{FrameState}
-use Rattle.shm_frames.specs.Table.{free_entry, entry_at, has_owner, has_no_owner, has_changed, UsedBelow, IsFrameTable}
+use Rattle.shm_frames.specs.Table.{free_entry, state_at, has_owner, has_no_owner, has_changed, UsedBelow, IsFrameTable}
 
 -- where one test passes only if the other does, it passes no more often
 count_by-le : {X : Type 0} (p q : X → Bool) (d : X) (xs : List X) → ((i : ℕ) → i < length xs → p (get_or xs i d) ≡ true → q (get_or xs i d) ≡ true) → count_by p xs ≤ count_by q xs
@@ -29,7 +29,7 @@ changed-owned x clear changed = grind arith
 -- a dirty frame is owned
 pub dirty-le-resident : (table : List FrameState) (first owned changed : ℕ) → IsFrameTable table first owned changed → changed ≤ owned
 dirty-le-resident table first owned changed k =
-    rw (k.resident, k.dirty) (count_by-le has_changed has_owner free_entry table (λ i l h. changed-owned (entry_at table i) (k.clear i) h))
+    rw (k.resident, k.dirty) (count_by-le has_changed has_owner free_entry table (λ i l h. changed-owned (state_at table i) (k.clear i) h))
 
 pub resident-le : (table : List FrameState) (first owned changed : ℕ) → IsFrameTable table first owned changed → owned ≤ length table
 resident-le table first owned changed k = rw k.resident (count_by-le-length has_owner table)
@@ -39,7 +39,7 @@ worth true = refl
 worth false = refl
 
 -- what is kept after an edit of one entry, of which `was` is what stood there
-module _ {table : List FrameState} {first owned changed i : ℕ} {was : FrameState} (k : IsFrameTable table first owned changed) (there : i < length table) (at : was ≡ entry_at table i) where
+module _ {table : List FrameState} {first owned changed i : ℕ} {was : FrameState} (k : IsFrameTable table first owned changed) (there : i < length table) (at : was ≡ state_at table i) where
   owned-set : (x : FrameState) → count_by has_owner (set table i x) + from_bool (has_owner was) ≡ owned + from_bool (has_owner x)
   owned-set x = rw (← worth (has_owner was), ← worth (has_owner x), at, k.resident) (sum_by-set (λ y. cond (has_owner y) 1 0) table i x free_entry there)
 
@@ -64,10 +64,10 @@ module _ {table : List FrameState} {first owned changed i : ℕ} {was : FrameSta
       let e : count_by has_changed (set table i x) + from_bool was.dirty ≡ changed + from_bool now = changed-set x in
       omega (arith, changed-there, count_by-le-length has_changed (set table i x), length-set table i x)
 
-  clear-set : (x : FrameState) → (x.owner ≡ None → x ≡ free_entry) → (j : ℕ) → (entry_at (set table i x) j).owner ≡ None → entry_at (set table i x) j ≡ free_entry
+  clear-set : (x : FrameState) → (x.owner ≡ None → x ≡ free_entry) → (j : ℕ) → (state_at (set table i x) j).owner ≡ None → state_at (set table i x) j ≡ free_entry
   clear-set x clear j = grind (arith, common_steps)
 
-  used-set : (x : FrameState) (n : ℕ) → has_no_owner x ≡ false → ((j : ℕ) → j < n → j ≢ i → has_no_owner (entry_at table j) ≡ false) → UsedBelow (set table i x) n
+  used-set : (x : FrameState) (n : ℕ) → has_no_owner x ≡ false → ((j : ℕ) → j < n → j ≢ i → has_no_owner (state_at table j) ≡ false) → UsedBelow (set table i x) n
   used-set x n busy others j lt = grind (arith, common_steps)
 
   -- the bits of an owned frame change
@@ -75,7 +75,7 @@ module _ {table : List FrameState} {first owned changed i : ℕ} {was : FrameSta
   kept-bits x changed' some same by = grind (arith, common_steps)
 
   -- a free frame is given to a page
-  pub kept-fill : (r : PageRef) (later : ℕ) → was.owner ≡ None → later ≤ length table → ((j : ℕ) → j < later → j ≢ i → has_no_owner (entry_at table j) ≡ false) → IsFrameTable (set table i (record was { owner = Some r })) later (owned + 1) changed
+  pub kept-fill : (r : PageRef) (later : ℕ) → was.owner ≡ None → later ≤ length table → ((j : ℕ) → j < later → j ≢ i → has_no_owner (state_at table j) ≡ false) → IsFrameTable (set table i (record was { owner = Some r })) later (owned + 1) changed
   kept-fill r later free bound used = grind (arith, common_steps, owned-set, length-set, used-set, changed-set, clear-set)
 
   -- a frame is made free
@@ -87,11 +87,11 @@ pub record AreNew (table : List FrameState) (pages : List (List ℕ)) (n : ℕ) 
   pub entries : table ≡ replicate n free_entry
   pub beside : length pages ≡ n
 
-free-entries : (n i : ℕ) → entry_at (replicate n free_entry) i ≡ free_entry
+free-entries : (n i : ℕ) → state_at (replicate n free_entry) i ≡ free_entry
 free-entries n i = grind (arith, common_steps)
 
 -- a table of free entries
-pub new-entry : (table : List FrameState) (n i : ℕ) → table ≡ replicate n free_entry → entry_at table i ≡ free_entry
+pub new-entry : (table : List FrameState) (n i : ℕ) → table ≡ replicate n free_entry → state_at table i ≡ free_entry
 new-entry table n i e = rw e (free-entries n i)
 
 pub kept-new : (table : List FrameState) (n : ℕ) → table ≡ replicate n free_entry → n < 2 ^ 32 → IsFrameTable table 0 0 0

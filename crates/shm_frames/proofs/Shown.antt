@@ -8,7 +8,7 @@ use Rattle.std.proofs.lemmas.List.{get_or_read}
 use Rattle.shm_frames.specs.declared.frames.FrameState.{FrameState}
 use Rattle.shm_frames.specs.declared.frames.Frames.TheInside.{Inside}
 use Rattle.shm_frames.specs.Frame.{Frame, frame_at, is_free, is_owned, is_dirty, resident_of, dirty_of, FreeAreClear}
-use Rattle.shm_frames.specs.Table.{frame_shown, frames_of, free_entry, entry_at, has_owner, has_no_owner, has_changed, IsFrameTable}
+use Rattle.shm_frames.specs.Table.{frame_shown, frames_of, free_entry, state_at, has_owner, has_no_owner, has_changed, IsFrameTable}
 
 pub record AreFramesShown (table : List FrameState) (pages : List (List ℕ)) (frames : List Frame) : Type 0 where
   pub beside : length pages ≡ length table
@@ -23,7 +23,7 @@ length-frames_of [] pages e = refl
 length-frames_of (x ∷ table) [] e = absurd (omega arith)
 length-frames_of (x ∷ table) (b ∷ pages) e = ap suc (length-frames_of table pages (omega arith))
 
-get-frames_of : (table : List FrameState) (pages : List (List ℕ)) (i : ℕ) → length pages ≡ length table → frame_at (frames_of table pages) i ≡ frame_shown (entry_at table i) (get_or pages i [])
+get-frames_of : (table : List FrameState) (pages : List (List ℕ)) (i : ℕ) → length pages ≡ length table → frame_at (frames_of table pages) i ≡ frame_shown (state_at table i) (get_or pages i [])
 get-frames_of [] [] i e = refl
 get-frames_of [] (b ∷ pages) i e = absurd (omega arith)
 get-frames_of (x ∷ table) [] i e = absurd (omega arith)
@@ -37,7 +37,7 @@ set-frames_of (y ∷ table) [] (suc i) x = refl
 set-frames_of (y ∷ table) (b ∷ pages) zero x = refl
 set-frames_of (y ∷ table) (b ∷ pages) (suc i) x = ap (λ fs. frame_shown y b ∷ fs) (set-frames_of table pages i x)
 
-paste-frames_of : (table : List FrameState) (pages : List (List ℕ)) (i : ℕ) (w : List ℕ) → frames_of table (set pages i w) ≡ set (frames_of table pages) i (frame_shown (entry_at table i) w)
+paste-frames_of : (table : List FrameState) (pages : List (List ℕ)) (i : ℕ) (w : List ℕ) → frames_of table (set pages i w) ≡ set (frames_of table pages) i (frame_shown (state_at table i) w)
 paste-frames_of [] pages i w = refl
 paste-frames_of (y ∷ table) [] i w = refl
 paste-frames_of (y ∷ table) (b ∷ pages) zero w = refl
@@ -59,13 +59,13 @@ module _ {table : List FrameState} {pages : List (List ℕ)} {frames : List Fram
   pub length-shown : length frames ≡ length table
   length-shown = ap length (sym s.is) ∙ length-frames_of table pages s.beside
 
-  pub frame-shown : (i : ℕ) → frame_at frames i ≡ frame_shown (entry_at table i) (get_or pages i [])
+  pub frame-shown : (i : ℕ) → frame_at frames i ≡ frame_shown (state_at table i) (get_or pages i [])
   frame-shown i = ap (λ fs. frame_at fs i) (sym s.is) ∙ get-frames_of table pages i s.beside
 
   pub paste-shown : (i : ℕ) (w : List ℕ) → frames_of table (set pages i w) ≡ set frames i (record (frame_at frames i) { bytes = w })
   paste-shown i w = rw (frame-shown i, ← s.is) (paste-frames_of table pages i w)
 
-  pub entry-is : (i : ℕ) (x : FrameState) → i < length frames → x ≡ get_or table i x → x ≡ entry_at table i
+  pub entry-is : (i : ℕ) (x : FrameState) → i < length frames → x ≡ get_or table i x → x ≡ state_at table i
   entry-is i x there read = get_or_read table i x (rw (← length-shown) there) read free_entry
 
   -- what an edit of the entry that was read makes of the frames
@@ -85,7 +85,7 @@ module _ {table : List FrameState} {pages : List (List ℕ)} {frames : List Fram
   pub dirty-shown : dirty_of frames ≡ count_by has_changed table
   dirty-shown = rw (← s.is) (count-frames_of is_dirty has_changed (λ x b. refl) table pages s.beside)
 
-  pub clear-shown : ((i : ℕ) → (entry_at table i).owner ≡ None → entry_at table i ≡ free_entry) → FreeAreClear frames
+  pub clear-shown : ((i : ℕ) → (state_at table i).owner ≡ None → state_at table i ≡ free_entry) → FreeAreClear frames
   clear-shown clear i free = rw (frame-shown i) (ap (λ x. frame_shown x (get_or pages i [])) (clear i (ap (λ (f : Frame). f.owner) (sym (frame-shown i)) ∙ free)))
 
   pub free-shown : position is_free frames ≡ position has_no_owner table

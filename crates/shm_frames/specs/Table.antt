@@ -15,8 +15,8 @@ frames_of (e ∷ es) (bytes ∷ pages) = frame_shown e bytes ∷ frames_of es pa
 abbrev pub free_entry : FrameState
 free_entry = record { owner = None; referenced = false; dirty = false }
 
-abbrev pub entry_at : List FrameState → ℕ → FrameState
-entry_at table i = get_or table i free_entry
+abbrev pub state_at : List FrameState → ℕ → FrameState
+state_at table i = get_or table i free_entry
 
 abbrev pub has_owner : FrameState → Bool
 has_owner e = is_some e.owner
@@ -29,7 +29,7 @@ has_changed e = e.dirty
 
 -- no entry below is free
 abbrev pub UsedBelow : List FrameState → ℕ → Type 0
-UsedBelow table n = (i : ℕ) → i < n → has_no_owner (entry_at table i) ≡ false
+UsedBelow table n = (i : ℕ) → i < n → has_no_owner (state_at table i) ≡ false
 
 -- what is kept beside the table
 pub record IsFrameTable (table : List FrameState) (first_free owned changed : ℕ) : Type 0 where
@@ -38,4 +38,4 @@ pub record IsFrameTable (table : List FrameState) (first_free owned changed : �
   pub used : UsedBelow table first_free
   pub resident : owned ≡ count_by has_owner table
   pub dirty : changed ≡ count_by has_changed table
-  pub clear : (i : ℕ) → (entry_at table i).owner ≡ None → entry_at table i ≡ free_entry
+  pub clear : (i : ℕ) → (state_at table i).owner ≡ None → state_at table i ≡ free_entry

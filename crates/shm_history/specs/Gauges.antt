@@ -50,9 +50,9 @@ IsGaugeKept words views =
     × ((by : ℕ) (v : SeatView) → get_elem? views by ≡ some v → (v.is_keeper ≡ true → by ≡ seat) × (v.seen.events ≤ now.events))
 
 -- a reader's load: it has seen the words, which stay
-abbrev pub Loaded : SeatView → List ℕ → List ℕ → SeatView → Type 0
-Loaded v before after w = (w ≡ having_seen (numbers_of after)) × IsReading w.seen × (v.seen.events ≤ w.seen.events)
+abbrev pub IsLoad : SeatView → List ℕ → List ℕ → SeatView → Type 0
+IsLoad v before after w = (w ≡ having_seen (numbers_of after)) × IsReading w.seen × (v.seen.events ≤ w.seen.events)
 
 -- the keeper's store: it knows the words that it stored
-abbrev pub Stored : SeatView → List ℕ → List ℕ → SeatView → Type 0
-Stored v before after w = w ≡ keeping (numbers_of after)
+abbrev pub IsStore : SeatView → List ℕ → List ℕ → SeatView → Type 0
+IsStore v before after w = w ≡ keeping (numbers_of after)

@@ -15,14 +15,14 @@ pub struct Reading {
     pub used: u64,
 }
 
-// What a seat knows: whether it is the keeper's, and four counts. The keeper's are those that it stored last, a
-// reader's those that it loaded last. No value of it is made.
+/// What a seat knows: whether it is the keeper's, and four counts. The keeper's are those that it stored last, a
+/// reader's those that it loaded last. No value of it is made.
 pub struct SeatView {
     pub is_keeper: bool,
     pub seen: Reading,
 }
 
-// The rule of the cell, and what the keeper's seat knows first.
+/// The rule of the cell, and what the keeper's seat knows first.
 pub struct Gauged;
 
 impl Protocol<[u64; 4], SeatView> for Gauged {
@@ -33,25 +33,25 @@ impl Protocol<[u64; 4], SeatView> for Gauged {
     ghost first = { keeping zeros };
 }
 
-// A reader's load: what it has seen are the words.
+/// A reader's load: what it has seen are the words.
 pub struct Loads;
 
 impl Outcome<[u64; 4], SeatView> for Loads {
-    ghost use Rattle.shm_history.specs.Gauges.{Loaded};
+    ghost use Rattle.shm_history.specs.Gauges.{IsLoad};
 
-    ghost then = { Loaded };
+    ghost then = { IsLoad };
 }
 
-// The keeper's store: what it knows are the words that it stored.
+/// The keeper's store: what it knows are the words that it stored.
 pub struct Stores;
 
 impl Outcome<[u64; 4], SeatView> for Stores {
-    ghost use Rattle.shm_history.specs.Gauges.{Stored};
+    ghost use Rattle.shm_history.specs.Gauges.{IsStore};
 
-    ghost then = { Stored };
+    ghost then = { IsStore };
 }
 
-// A reader's seat, split off beside the keeper's.
+/// A reader's seat, split off beside the keeper's.
 pub struct NewReader;
 
 impl Split<SeatView> for NewReader {

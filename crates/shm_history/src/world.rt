@@ -83,6 +83,7 @@ impl<P: Pager> World<P> {
         }
     }
 
+    /// What its machine started from.
     pub fn opening(&self) -> &Opening
         ensures { result.now ≡ self.now.opening }
     {

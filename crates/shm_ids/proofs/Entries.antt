@@ -1,17 +1,17 @@
 -- What stands at each index after a change.
-use Rattle.shm_ids.proofs.Names.{◌≡◌, ◌≢◌, ℕ, ◌<◌, ◌≤◌, List, [], ◌∷◌, ◌++◌, length, set, Some, arith, get_or-set_same, get_or-set_other, get_or_past, set-set, common_steps, Entry, Row, unused, entry_at, held, with_row, with_key, with_value}
+use Rattle.shm_ids.proofs.Names.{◌≡◌, ◌≢◌, ℕ, ◌<◌, ◌≤◌, List, [], ◌∷◌, ◌++◌, length, set, Some, arith, get_or-set_same, get_or-set_other, get_or_past, set-set, common_steps, Entry, Row, unused, entry_at, filled, with_row, with_key, with_value}
 
 module _ {T : Type 0} where
   pub at_past : (t : List (Entry T)) (i : ℕ) → length t ≤ i → entry_at t i ≡ unused
   at_past t i h = get_or_past t i unused h
 
-  pub with_row-within : (t : List (Entry T)) (i key : ℕ) (v : T) → i < length t → with_row t i key v ≡ set t i (held (entry_at t i) key v)
+  pub with_row-within : (t : List (Entry T)) (i key : ℕ) (v : T) → i < length t → with_row t i key v ≡ set t i (filled (entry_at t i) key v)
   with_row-within t i key v h = grind (arith, common_steps)
 
-  pub with_row-end : (t : List (Entry T)) (i key : ℕ) (v : T) → i ≡ length t → with_row t i key v ≡ t ++ held unused key v ∷ []
+  pub with_row-end : (t : List (Entry T)) (i key : ℕ) (v : T) → i ≡ length t → with_row t i key v ≡ t ++ filled unused key v ∷ []
   with_row-end t i key v h = grind (arith, common_steps)
 
-  pub at_row : (t : List (Entry T)) (i key : ℕ) (v : T) → i ≤ length t → entry_at (with_row t i key v) i ≡ held (entry_at t i) key v
+  pub at_row : (t : List (Entry T)) (i key : ℕ) (v : T) → i ≤ length t → entry_at (with_row t i key v) i ≡ filled (entry_at t i) key v
   at_row t i key v h = grind (arith, common_steps)
 
   pub at_row_other : (t : List (Entry T)) (i k key : ℕ) (v : T) → i ≤ length t → k ≢ i → entry_at (with_row t i key v) k ≡ entry_at t k

@@ -1,5 +1,5 @@
 -- The table's words agree with the flat machine's.
-use Rattle.shm_ids.proofs.Names.{◌≡◌, ◌≢◌, ℕ, zero, suc, ◌+◌, ◌%◌, ◌<◌, ◌≤◌, ℤ, pos, negsuc, List, [], ◌∷◌, ◌++◌, length, set, slice_get, slice_set, Option, Some, None, IsOk, refl, sym, ap, ◌∙◌, inl, inr, arith, eq-eqb, ne_eqb, common_steps, cases_eq, sum_by-cons, Entry, Row, unused, map, shown, blank_segment, option_map, entry_at, free_index, identifier, index_of, row_key, index_found, find_key, look, look_entry, held, with_row, row_count, flat_entry, flat_from, flat_table, flat_answer, flat_look, flat_found, ShowsKeys}
+use Rattle.shm_ids.proofs.Names.{◌≡◌, ◌≢◌, ℕ, zero, suc, ◌+◌, ◌%◌, ◌<◌, ◌≤◌, ℤ, pos, negsuc, List, [], ◌∷◌, ◌++◌, length, set, slice_get, slice_set, Option, Some, None, IsOk, refl, sym, ap, ◌∙◌, inl, inr, arith, eq-eqb, ne_eqb, common_steps, cases_eq, sum_by-cons, Entry, Row, unused, map, blank_entry, blank_segment, option_map, entry_at, free_index, identifier, index_of, row_key, index_found, find_key, look, look_entry, filled, with_row, row_count, flat_entry, flat_from, flat_table, flat_answer, flat_look, flat_found, ShowsKeys}
 use Rattle.shm_base.specs.State.{Segment, Entry as FlatEntry}
 use Rattle.shm_base.specs.Identifier as flat
 use Rattle.shm_base.specs.Segments as flat_segments
@@ -50,7 +50,7 @@ module _ {T : Type 0} (make : ℕ → Row T → Segment) where
 
   -- THE LEAST FREE INDEX
 
-  free_from-flat : (i j : ℕ) (t : List (Entry T)) → flat.free_from j (flat_from make i t) ≡ flat.free_from j (map shown t)
+  free_from-flat : (i j : ℕ) (t : List (Entry T)) → flat.free_from j (flat_from make i t) ≡ flat.free_from j (map blank_entry t)
   free_from-flat i j [] = refl
   free_from-flat i j (e ∷ es) = grind (arith, common_steps, free_from-flat (i + 1) (j + 1) es)
 
@@ -78,7 +78,7 @@ module _ {T : Type 0} (make : ℕ → Row T → Segment) where
   same_key shows id key (Some r) = rw (shows id r) refl
 
   found_from : ShowsKeys make → (n key : ℕ) (t : List (Entry T)) (at : ℕ → Entry T) → ((k : ℕ) → k < length t → entry_at t k ≡ at (n + k))
-      → flat.key_from key n (flat_from make n t) ≡ flat_found make at (index_found (flat.key_from key n (map shown t)))
+      → flat.key_from key n (flat_from make n t) ≡ flat_found make at (index_found (flat.key_from key n (map blank_entry t)))
   found_from shows n key [] at same = refl
   found_from shows n key (e ∷ es) at same =
       let here : e ≡ at n = same 0 (omega arith) ∙ ap at (omega arith) in
@@ -90,7 +90,7 @@ module _ {T : Type 0} (make : ℕ → Row T → Segment) where
   pub find_key-flat : ShowsKeys make → (t : List (Entry T)) (key : ℕ) → key ≢ 0 → flat.find_key (flat_table make t) key ≡ flat_found make (entry_at t) (find_key t key)
   find_key-flat shows t key live = rw (ne_eqb key 0 live) (found_from shows 0 key t (entry_at t) (λ k l. ap (entry_at t) (omega arith)))
 
-  index_from : ShowsKeys make → (n key : ℕ) (t : List (Entry T)) → index_found (flat.key_from key n (flat_from make n t)) ≡ index_found (flat.key_from key n (map shown t))
+  index_from : ShowsKeys make → (n key : ℕ) (t : List (Entry T)) → index_found (flat.key_from key n (flat_from make n t)) ≡ index_found (flat.key_from key n (map blank_entry t))
   index_from shows n key [] = refl
   index_from shows n key (e ∷ es) =
       let own = same_key shows (identifier n e.destroyed) key e.row in
@@ -115,8 +115,8 @@ module _ {T : Type 0} (make : ℕ → Row T → Segment) where
       elim (cases_eq i (length t)) [
         | inl e ↦
             let d : (entry_at t i).destroyed ≡ 0 = ap (λ (x : Entry T). x.destroyed) (at_past t i (omega arith)) in
-            rw (long, eq-eqb i (length t) e, d) (ap (λ n. flat_table make t ++ flat_entry make n (held unused key v) ∷ []) e ∙ push-table t (held unused key v))
-        | inr n ↦ rw (long, ne_eqb i (length t) n, destroyed_at-flat t i) (set-table i t (held (entry_at t i) key v))
+            rw (long, eq-eqb i (length t) e, d) (ap (λ n. flat_table make t ++ flat_entry make n (filled unused key v) ∷ []) e ∙ push-table t (filled unused key v))
+        | inr n ↦ rw (long, ne_eqb i (length t) n, destroyed_at-flat t i) (set-table i t (filled (entry_at t i) key v))
       ]
 
   pub segment_count-flat : (i : ℕ) (t : List (Entry T)) → flat_segments.segment_count (flat_from make i t) ≡ row_count t

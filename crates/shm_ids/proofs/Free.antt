@@ -1,5 +1,5 @@
 -- The least free index.
-use Rattle.shm_ids.proofs.Names.{◌≡◌, ◌⊎◌, ℕ, zero, suc, ◌+◌, ◌<◌, ◌≤◌, List, [], ◌∷◌, length, map, drop, Some, None, refl, inl, inr, arith, common_steps, drop_more, Entry, unused, shown, entry_at, IsFree, free_index, UsedBelow}
+use Rattle.shm_ids.proofs.Names.{◌≡◌, ◌⊎◌, ℕ, zero, suc, ◌+◌, ◌<◌, ◌≤◌, List, [], ◌∷◌, length, map, drop, Some, None, refl, inl, inr, arith, common_steps, drop_more, Entry, unused, blank_entry, entry_at, IsFree, free_index, UsedBelow}
 use Rattle.shm_base.specs.Identifier as flat
 use Rattle.shm_ids.proofs.Entries.{at_past}
 
@@ -9,7 +9,7 @@ module _ {T : Type 0} where
   used_within t first used = let past = used (length t) in grind (arith, common_steps, at_past)
 
   -- so the search may begin there
-  pub skip : (t : List (Entry T)) (first : ℕ) → UsedBelow first t → free_index t ≡ flat.free_from first (map shown (drop first t))
+  pub skip : (t : List (Entry T)) (first : ℕ) → UsedBelow first t → free_index t ≡ flat.free_from first (map blank_entry (drop first t))
   skip t zero used = refl
   skip t (suc n) used =
       let within = used_within t (suc n) used in
@@ -29,10 +29,10 @@ module _ {T : Type 0} where
     pub used : UsedBelow place t
 
   -- the search stops at an entry whose index is free, or goes on
-  step : (n : ℕ) (e : Entry T) (es : List (Entry T)) → ((e.row ≡ None) × (e.destroyed < 65536) × (flat.free_from n (map shown (e ∷ es)) ≡ Some n)) ⊎ ((IsFree e → ⊥) × (flat.free_from n (map shown (e ∷ es)) ≡ flat.free_from (n + 1) (map shown es)))
+  step : (n : ℕ) (e : Entry T) (es : List (Entry T)) → ((e.row ≡ None) × (e.destroyed < 65536) × (flat.free_from n (map blank_entry (e ∷ es)) ≡ Some n)) ⊎ ((IsFree e → ⊥) × (flat.free_from n (map blank_entry (e ∷ es)) ≡ flat.free_from (n + 1) (map blank_entry es)))
   step n e es = grind (arith, common_steps)
 
-  pub free_found : (n j : ℕ) (t : List (Entry T)) → flat.free_from n (map shown t) ≡ Some j → FreeAt n j t
+  pub free_found : (n j : ℕ) (t : List (Entry T)) → flat.free_from n (map blank_entry t) ≡ Some j → FreeAt n j t
   free_found n j [] h = record { place = 0; at = grind arith; within = omega arith; row = refl; wear = omega arith; small = λ _. grind (arith, common_steps); used = λ i l. absurd (omega arith) }
   free_found n j (e ∷ es) h =
       elim (step n e es) [

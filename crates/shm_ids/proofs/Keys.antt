@@ -1,5 +1,5 @@
 -- The map of the live keys, and the search for a key through the table.
-use Rattle.shm_ids.proofs.Names.{rules, ◌≡◌, ◌≢◌, ◌⊎◌, ℕ, zero, suc, ◌+◌, nat_eq, not, ◌&&◌, List, [], ◌∷◌, Option, Some, None, if◌then◌else◌, refl, sym, ap, ◌∙◌, inl, inr, arith, cases_eq, common_steps, IndexMap, get, Entry, key_at, row_key, map, shown, index_found, find_key, Keyed}
+use Rattle.shm_ids.proofs.Names.{rules, ◌≡◌, ◌≢◌, ◌⊎◌, ℕ, zero, suc, ◌+◌, nat_eq, not, ◌&&◌, List, [], ◌∷◌, Option, Some, None, if◌then◌else◌, refl, sym, ap, ◌∙◌, inl, inr, arith, cases_eq, common_steps, IndexMap, get, Entry, key_at, row_key, map, blank_entry, index_found, find_key, Keyed}
 use Rattle.shm_base.specs.Identifier as flat
 
 -- what a key put into the map, or taken out of it, leaves
@@ -12,7 +12,7 @@ drop-answer : (key q j : ℕ) (before after : Option ℕ) → after ≡ (if not 
 drop-answer key q j before after put got = grind (arith, common_steps)
 
 module _ {T : Type 0} where
-  key_from-at : (n i key : ℕ) (t : List (Entry T)) → key ≢ 0 → key_at t i ≡ key → ((j : ℕ) → key_at t j ≡ key → j ≡ i) → index_found (flat.key_from key n (map shown t)) ≡ Some (n + i)
+  key_from-at : (n i key : ℕ) (t : List (Entry T)) → key ≢ 0 → key_at t i ≡ key → ((j : ℕ) → key_at t j ≡ key → j ≡ i) → index_found (flat.key_from key n (map blank_entry t)) ≡ Some (n + i)
   key_from-at n i key [] live at alone = absurd (live (sym at))
   key_from-at n zero key (e ∷ es) live at alone = grind (arith, common_steps)
   key_from-at n (suc i) key (e ∷ es) live at alone =
@@ -20,7 +20,7 @@ module _ {T : Type 0} where
       let rest = key_from-at (n + 1) i key es live at (λ j same. omega (arith, alone (suc j) same)) in
       grind (arith, common_steps)
 
-  key_from-none : (n key : ℕ) (t : List (Entry T)) → key ≢ 0 → ((j : ℕ) → key_at t j ≡ key → ⊥) → index_found (flat.key_from key n (map shown t)) ≡ None
+  key_from-none : (n key : ℕ) (t : List (Entry T)) → key ≢ 0 → ((j : ℕ) → key_at t j ≡ key → ⊥) → index_found (flat.key_from key n (map blank_entry t)) ≡ None
   key_from-none n key [] live none = refl
   key_from-none n key (e ∷ es) live none =
       let other : row_key e.row ≢ key = none 0 in

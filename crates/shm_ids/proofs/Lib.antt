@@ -5,5 +5,5 @@ pub mod Keys
 pub mod Steps
 pub mod Counts
 pub mod Look
-pub mod Left
+pub mod Rest
 pub mod Flat

@@ -1,5 +1,5 @@
 -- What a live identifier has.
-use Rattle.shm_ids.proofs.Names.{◌≡◌, ℕ, ◌∙◌, ◌/◌, ◌%◌, ◌<◌, ℤ, pos, negsuc, nat_eq, List, length, Option, Some, None, Ok, IsOk, refl, sym, arith, true≢false, common_steps, slice_get-map, unwrap_or, unwrap_or-slice_get, slice_get, shown, option_map, unused, looked, Entry, Row, IndexMap, get, entry_at, key_at, look, look_entry, look_row, index_of, identifier, id_at, natural_of, Sound}
+use Rattle.shm_ids.proofs.Names.{◌≡◌, ℕ, ◌∙◌, ◌/◌, ◌%◌, ◌<◌, ℤ, pos, negsuc, nat_eq, List, length, Option, Some, None, Ok, IsOk, refl, sym, arith, true≢false, common_steps, slice_get-map, unwrap_or, unwrap_or-slice_get, slice_get, blank_entry, option_map, unused, looked, Entry, Row, IndexMap, get, entry_at, key_at, look, look_entry, look_row, index_of, identifier, id_at, natural_of, Sound}
 use Rattle.shm_base.specs.Identifier as flat
 use Rattle.shm_ids.proofs.Entries.{at_past}
 
@@ -21,7 +21,7 @@ module _ {T : Type 0} where
       by None p = absurd (grind (arith, common_steps))
       by (Some r) p = (r, p, grind (arith, common_steps))
 
-  looked-shown : (at : ℕ → Entry T) (i q : ℕ) (o : Option (Entry T)) → unwrap_or o unused ≡ at i → looked at (flat.look_entry i q (option_map shown o)) ≡ look_entry q (at i)
+  looked-shown : (at : ℕ → Entry T) (i q : ℕ) (o : Option (Entry T)) → unwrap_or o unused ≡ at i → looked at (flat.look_entry i q (option_map blank_entry o)) ≡ look_entry q (at i)
   looked-shown at i q o here = grind (arith, common_steps)
 
   -- a look at an identifier is one at what stands at its index

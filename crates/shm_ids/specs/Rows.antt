@@ -1,9 +1,8 @@
 -- The rows of a table, by rising index.
-use Rattle.std.specs.Prelude.{ℕ, ◌+◌, ◌≤◌, ℤ, pos, List, [], ◌∷◌, length, Option, Some, None}
+use Rattle.std.specs.Prelude.{ℕ, ◌+◌, ℤ, pos, List, [], ◌∷◌, Option, Some, None}
 use Rattle.shm_ids.specs.declared.table.Entry.{Entry}
 use Rattle.shm_ids.specs.declared.table.Row.{Row}
-use Rattle.shm_ids.specs.Table.{identifier, entry_at}
-use Rattle.shm_ids.specs.Sound.{holds}
+use Rattle.shm_ids.specs.Table.{identifier}
 
 module _ {T : Type 0} where
   -- a row as it is listed: identifier, key and value
@@ -23,8 +22,3 @@ module _ {T : Type 0} where
   abbrev pub rows_from : ℕ → List (Entry T) → List (ℤ × (ℕ × T))
   rows_from i [] = []
   rows_from i (e ∷ es) = rows_row i e.destroyed e.row (rows_from (i + 1) es)
-
-  -- the entries from an index on have identifiers that fit
-  pub record Left (i : ℕ) (es : List (Entry T)) : Type 0 where
-    pub indexes : i + length es ≤ 32768
-    pub sequences : (k : ℕ) → (entry_at es k).destroyed + holds (entry_at es k).row ≤ 65536

@@ -6,14 +6,16 @@ use Rattle.shm_ids.specs.declared.table.Row.{Row}
 use Rattle.shm_ids.specs.Table.{IsFree, entry_at, key_at}
 
 module _ {T : Type 0} where
-  abbrev pub holds : Option (Row T) → ℕ
-  holds None = 0
-  holds (Some r) = 1
+  -- how many rows stand at an index: one or none
+  abbrev pub rows_in : Option (Row T) → ℕ
+  rows_in None = 0
+  rows_in (Some r) = 1
 
-  -- sequences stay below 65536, and so do indexes below 32768
-  pub record Fits (table : List (Entry T)) : Type 0 where
-    pub indexes : length table ≤ 32768
-    pub sequences : (i : ℕ) → (entry_at table i).destroyed + holds (entry_at table i).row ≤ 65536
+  -- the entries, the first of which stands at this index, have identifiers that fit: sequences stay below 65536, and so
+  -- do indexes below 32768
+  pub record HaveIdentifiers (first : ℕ) (es : List (Entry T)) : Type 0 where
+    pub indexes : first + length es ≤ 32768
+    pub sequences : (k : ℕ) → (entry_at es k).destroyed + rows_in (entry_at es k).row ≤ 65536
 
   -- no index below is free
   abbrev pub UsedBelow : ℕ → List (Entry T) → Type 0
@@ -26,6 +28,6 @@ module _ {T : Type 0} where
 
   -- what is kept
   pub record Sound {S : Type 0} (table : List (Entry T)) (first : ℕ) (keys : IndexMap ℕ ℕ S) : Type 0 where
-    pub fits : Fits table
+    pub identifiers : HaveIdentifiers 0 table
     pub used : UsedBelow first table
     pub keyed : Keyed table keys

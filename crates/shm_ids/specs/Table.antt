@@ -26,16 +26,16 @@ module _ {T : Type 0} where
   blank_segment r = record { key = r.key; perm = record { uid = 0; gid = 0; cuid = 0; cgid = 0; mode = 0 }; size = 0; cpid = 0; lpid = 0; dest = false; locked = false; atime = 0; dtime = 0; ctime = 0; bytes = [] }
 
   -- an entry with its row so
-  abbrev pub shown : Entry T → FlatEntry
-  shown e = record { destroyed = e.destroyed; segment = option_map blank_segment e.row }
+  abbrev pub blank_entry : Entry T → FlatEntry
+  blank_entry e = record { destroyed = e.destroyed; segment = option_map blank_segment e.row }
 
   -- the least free index
   abbrev pub free_index : List (Entry T) → Option ℕ
-  free_index table = flat.free_index (map shown table)
+  free_index table = flat.free_index (map blank_entry table)
 
   -- the index of an entry is free: it is in a table of that entry alone
   abbrev pub IsFree : Entry T → Type 0
-  IsFree e = flat.free_index (shown e ∷ []) ≡ Some 0
+  IsFree e = flat.free_index (blank_entry e ∷ []) ≡ Some 0
 
   abbrev pub entry_at : List (Entry T) → ℕ → Entry T
   entry_at table i = get_or table i unused
@@ -44,15 +44,15 @@ module _ {T : Type 0} where
   abbrev pub id_at : List (Entry T) → ℕ → ℤ
   id_at table i = pos (identifier i (entry_at table i).destroyed)
 
-  abbrev pub held : Entry T → ℕ → T → Entry T
-  held e key value = record e { row = Some (record { key = key; value = value }) }
+  abbrev pub filled : Entry T → ℕ → T → Entry T
+  filled e key value = record e { row = Some (record { key = key; value = value }) }
 
   -- the table with a row at an index, which may be the next one
   abbrev pub with_row : List (Entry T) → ℕ → ℕ → T → List (Entry T)
   with_row table i key value =
       if i == length table
-      then table ++ held unused key value ∷ []
-      else set table i (held (entry_at table i) key value)
+      then table ++ filled unused key value ∷ []
+      else set table i (filled (entry_at table i) key value)
 
   abbrev pub look_row : Option (Row T) → Result T LookRefused
   look_row None = Err Invalid
@@ -66,11 +66,11 @@ module _ {T : Type 0} where
 
   -- the value at an entry, whatever its index is
   abbrev pub look_entry : ℕ → Entry T → Result T LookRefused
-  look_entry sequence e = looked (λ i. e) (flat.look_entry 0 sequence (Some (shown e)))
+  look_entry sequence e = looked (λ i. e) (flat.look_entry 0 sequence (Some (blank_entry e)))
 
   -- the value under an identifier; one that was never issued is invalid
   abbrev pub look : List (Entry T) → ℤ → Result T LookRefused
-  look table id = looked (entry_at table) (flat.look (map shown table) id)
+  look table id = looked (entry_at table) (flat.look (map blank_entry table) id)
 
   -- the key of a row, 0 where there is none
   abbrev pub row_key : Option (Row T) → ℕ
@@ -82,7 +82,7 @@ module _ {T : Type 0} where
 
   -- the index of the row with a key. No row is found under 0
   abbrev pub find_key : List (Entry T) → ℕ → Option ℕ
-  find_key table key = if key == 0 then None else index_found (flat.find_key (map shown table) key)
+  find_key table key = if key == 0 then None else index_found (flat.find_key (map blank_entry table) key)
 
   -- how many rows are live
   abbrev pub row_count : List (Entry T) → ℕ

@@ -18,11 +18,12 @@ impl<'a, T> Model for Rows<'a, T> {
 
     ghost Value = { List (ℤ × (ℕ × T)) };
 
-    ghost use Rattle.shm_ids.specs.Rows.{rows_from, Left};
+    ghost use Rattle.shm_ids.specs.Rows.{rows_from};
+    ghost use Rattle.shm_ids.specs.Sound.{HaveIdentifiers};
 
     ghost view = { λ r. rows_from r.index r.entries.now };
 
-    ghost invariant = { λ r. Left r.index r.entries.now };
+    ghost invariant = { λ r. HaveIdentifiers r.index r.entries.now };
 }
 
 impl<'a, T> Iterator for Rows<'a, T> {

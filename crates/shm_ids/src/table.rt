@@ -100,12 +100,12 @@ impl<T> Model for IdTable<T> {
 ghost use Rattle.std.specs.Prelude.{◌≢◌, vec_capacity, nat_eq, ◌&&◌, not, if◌then◌else◌};
 ghost use Rattle.indexmap.specs.IndexMap.{get, spare};
 ghost use Rattle.shm_base.specs.Identifier as flat;
-ghost use Rattle.shm_ids.specs.Table.{free_index, shown, find_key, look, id_at, identifier, index_of, row_inserted, with_row, with_key, without_row, entry_at, key_at, look_row};
+ghost use Rattle.shm_ids.specs.Table.{free_index, blank_entry, find_key, look, id_at, identifier, index_of, row_inserted, with_row, with_key, without_row, entry_at, key_at, look_row};
 
 // The least free index from `first` on.
 fn free_from<T>(entries: &Vec<Entry<T>>, first: usize) -> Option<usize>
     requires { first ≤ length entries.now.items }
-    ensures { result ≡ flat.free_from first (map shown (drop first entries.now.items)) }
+    ensures { result ≡ flat.free_from first (map blank_entry (drop first entries.now.items)) }
 {
     for i in first..entries.len() {
         let entry = &entries[i];
@@ -243,7 +243,7 @@ impl<T> Entry<T> {
     ghost use Rattle.shm_ids.specs.Table.{look_entry, row_key};
     ghost use Rattle.shm_ids.specs.Lends.{lends_entry};
     ghost use Rattle.shm_ids.specs.Rows.{row_listed};
-    ghost use Rattle.shm_ids.specs.Sound.{holds};
+    ghost use Rattle.shm_ids.specs.Sound.{rows_in};
 
     fn value_mut(&mut self) -> &mut T
         requires { IsSome self.old.row }
@@ -259,7 +259,7 @@ impl<T> Entry<T> {
     // The row as it is listed at an index: identifier, key and value.
     fn listed(&self, index: usize) -> Option<(ShmId, u32, &T)>
         requires index { index < 32768 }
-        requires wear { self.now.destroyed + holds self.now.row ≤ 65536 }
+        requires wear { self.now.destroyed + rows_in self.now.row ≤ 65536 }
         ensures { option_map (λ r. (r.0, (r.1, r.2.now))) result ≡ row_listed index self.now }
     {
         match &self.row {
@@ -389,9 +389,9 @@ impl<T: Drop> IdTable<T> {
         }
     }
 
-    /// The row under an identifier: `Removed` where it was destroyed, `Invalid` where the identifier was
+    /// The row under an identifier, with its key: `Removed` where it was destroyed, `Invalid` where the identifier was
     /// never issued.
-    pub fn look(&self, id: ShmId) -> Result<&Row<T>, LookRefused>
+    pub fn row_of(&self, id: ShmId) -> Result<&Row<T>, LookRefused>
         ensures ok { IfOk result (λ r. look self.now id ≡ Ok r.now.value) }
         ensures key { IfOk result (λ r. r.now.key ≡ key_at self.now (index_of id)) }
         ensures err { IfErr result (λ e. look self.now id ≡ Err e) }
@@ -399,10 +399,18 @@ impl<T: Drop> IdTable<T> {
         if id < 0 {
             return Err(LookRefused::Invalid);
         }
-        match self.entries.get(id as usize % INDEXES as usize) {
+        match self.entries.get(index_in(id)) {
             Some(entry) => entry.look(id as u32 / INDEXES),
             None => Err(LookRefused::Invalid),
         }
+    }
+
+    /// The value under an identifier, refused as `row_of` refuses.
+    pub fn look(&self, id: ShmId) -> Result<&T, LookRefused>
+        ensures ok { IfOk result (λ v. look self.now id ≡ Ok v.now) }
+        ensures err { IfErr result (λ e. look self.now id ≡ Err e) }
+    {
+        Ok(&self.row_of(id)?.value)
     }
 
     /// A live row's number as its identifier. Each such number is below 2^31.
@@ -415,22 +423,13 @@ impl<T: Drop> IdTable<T> {
         number as ShmId
     }
 
-    fn value_mut(&mut self, index: usize) -> &mut T
-        requires within { index < length self.old }
-        requires row { IsSome (entry_at self.old index).row }
-        ensures* lends { sem 𝓛 (lends_at T.row self.entry index result) }
-        ensures value { look_row (entry_at self.old index).row ≡ Ok result.now }
-    {
-        self.entries[index].value_mut()
-    }
-
     /// The value of a live row, for writing. A write changes that row's value alone.
-    pub fn value_of(&mut self, id: ShmId) -> &mut T
+    pub fn value_mut(&mut self, id: ShmId) -> &mut T
         requires live { IsOk (look self.old id) }
         ensures* lends { sem 𝓛 (lends_at T.row self.entry (index_of id) result) }
         ensures value { look self.old id ≡ Ok result.now }
     {
-        self.value_mut(index_in(id))
+        self.entries[index_in(id)].value_mut()
     }
 
     /// The value of the row that `look` finds, for writing. A write changes that row's value alone.
@@ -442,7 +441,7 @@ impl<T: Drop> IdTable<T> {
         if let Err(refused) = self.look(id) {
             return Err(refused);
         }
-        Ok(self.value_of(id))
+        Ok(self.value_mut(id))
     }
 
     /// Makes a live row's key 0, so that it is found no more.

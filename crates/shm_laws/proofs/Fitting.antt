@@ -1,5 +1,5 @@
 -- Each piece lies within a segment that stands.
-use Rattle.shm_laws.proofs.Names.{◌≡◌, ℕ, ◌+◌, ◌*◌, ◌%◌, ◌≤◌, true, length, get_or, Option, Some, None, refl, arith, common_steps, none-some, All-contains, Contains-get_or, Event, Segment, Piece, Runner, Machine, Opening, start_of, Place, covers, place_by, place, attach_count, Caller, caller_of, IsMove, Stands, Has, EachPiece, pieces_of_caller}
+use Rattle.shm_laws.proofs.Names.{◌≡◌, ℕ, ◌+◌, ◌*◌, ◌%◌, ◌≤◌, true, length, get_or, Option, Some, None, refl, arith, common_steps, none-some, All-contains, Contains-get_or, Event, Segment, Piece, Runner, Machine, Opening, start_of, Place, covers, place_by, place, attach_count, Caller, caller_of, IsMove, Stands, HasPiece, EachPiece, pieces_of_caller}
 use Rattle.shm_laws.proofs.Fates.{kind-move}
 use Rattle.shm_laws.proofs.Accessing.{lies-in}
 use Rattle.shm_laws.proofs.Granting.{IsPieceGiven, Aligned, each-has, has-own, mine, each-start, given-move, aligned-move}
@@ -19,7 +19,7 @@ one-index s a b x y h k same = grind (arith, common_steps)
 
 -- WHO HAS A PIECE IS COUNTED
 
-pub has-count : (s : Machine) (pid : ℕ) (p : Piece) → Has s pid p → 1 ≤ attach_count s.runners p.seg
+pub has-count : (s : Machine) (pid : ℕ) (p : Piece) → HasPiece s pid p → 1 ≤ attach_count s.runners p.seg
 has-count s pid p h = grind (arith, common_steps)
 
 -- WITHIN ITS SEGMENT
@@ -62,7 +62,7 @@ fit-move s n e t now m = record { whole = whole; aligned = aligned-move s n e t 
     fits k d lt j q le =
         let r : Runner = get_or t.runners k d in
         let p : Piece = get_or r.pieces j q in
-        let has : Has t r.pid p = has-own t r (Contains-get_or t.runners k d lt) j q le in
+        let has : HasPiece t r.pid p = has-own t r (Contains-get_or t.runners k d lt) j q le in
         let there = whole.pieces p.seg (has-count t r.pid p has) in
         let from = came-from s t e now.whole.sound (kind-move s n e t now.whole.sound.bare m) p.seg there.0 there.1 in
         fits-on s e t p there.0 (fits-given s e r.pid p now.fits (given k d lt j q le)) there.1 from
@@ -72,7 +72,7 @@ fit-move s n e t now m = record { whole = whole; aligned = aligned-move s n e t 
 -- a place lies in a piece of the process that fits
 pub record SpotFits (s : Machine) (pid a : ℕ) (q : Place) : Type 0 where
   pub piece : Piece
-  pub has : Has s pid piece
+  pub has : HasPiece s pid piece
   pub fits : Fits s piece
   pub covered : covers piece a ≡ true
   pub spot : q ≡ place_by piece a
@@ -84,5 +84,5 @@ spot-fits s pid a q fits found = by (caller_of s pid) refl found
     by None is none = absurd (none-some q none)
     by (Some c) is there =
         let l = lies-in c.pieces a q there in
-        let has : Has s pid l.piece = All-contains (Has s pid) c.pieces l.piece (mine s pid c is) l.is in
+        let has : HasPiece s pid l.piece = All-contains (HasPiece s pid) c.pieces l.piece (mine s pid c is) l.is in
         record { piece = l.piece; has = has; fits = each-has (λ m r. Fits s r) s pid l.piece fits has; covered = l.covered; spot = l.spot }

@@ -1,5 +1,5 @@
 -- Each piece goes back to a shmat that was granted, and each move keeps out who has no permission.
-use Rattle.shm_laws.proofs.Names.{◌≡◌, ◌⊎◌, ℕ, ◌+◌, ◌*◌, ◌%◌, ◌<◌, ℤ, Bool, true, false, not, List, [], ◌∷◌, ◌++◌, length, get_or, Option, Some, None, slice_get, slice_set, refl, sym, ap, subst, ◌∙◌, inl, inr, arith, true≢false, All, Contains, none-some, slice_get_within, get_or_from_slice_get, All-nil, All-append, All-filter, All-map, All-weaker, All-contains, Contains-get_or, flat_map-cons, common_steps, Call, Load, Store, Xadd, Done, Event, Place, covers, places, writable_places, Segment, Piece, Live, Runner, Machine, Opening, start_of, runner_at_start, pages_in, look, meets, part_below, part_above, parts, cut, inserted, Caller, Outcome, caller_of, acts, pieces_with, is_rdonly, controls, load, store, xadd, is_refusal, IsMove, IsHistory, all-cons, all-head, all-tail, all-slice_set, Has, EachPiece, IsPart, IsGranted, IsInherited, GoesBack, Granted, Kept, Inherited, Reach, StaysInside, controlled, OwnerAsks, KeepsOut, NoWayIn}
+use Rattle.shm_laws.proofs.Names.{◌≡◌, ◌⊎◌, ℕ, ◌+◌, ◌*◌, ◌%◌, ◌<◌, ℤ, Bool, true, false, not, List, [], ◌∷◌, ◌++◌, length, get_or, Option, Some, None, slice_get, slice_set, refl, sym, ap, subst, ◌∙◌, inl, inr, arith, true≢false, All, Contains, none-some, slice_get_within, get_or_from_slice_get, All-nil, All-append, All-filter, All-map, All-weaker, All-contains, Contains-get_or, flat_map-cons, common_steps, Call, Load, Store, Xadd, Done, Event, Place, covers, places, writable_places, Segment, Piece, Live, Runner, Machine, Opening, start_of, runner_at_start, pages_in, look, meets, part_below, part_above, parts, cut, inserted, Caller, Outcome, caller_of, acts, pieces_with, is_rdonly, controls, load, store, xadd, is_refusal, IsMove, IsHistory, all-cons, all-head, all-tail, all-slice_set, HasPiece, EachPiece, IsPart, IsGranted, IsInherited, GoesBack, Granted, Kept, Inherited, Reach, StaysInside, controlled, OwnerAsks, KeepsOut, NoWayIn}
 use Rattle.shm_laws.proofs.Accessing.{lies-in, place-of, writable-at, writable-parts}
 use Rattle.shm_laws.proofs.Handing.{CallerAt, caller-at, IsAligned, Attaches, Leaves, Forks, Hands, hands-acts}
 use Rattle.shm_laws.proofs.Inducting.{each_move, at_all_times}
@@ -33,14 +33,14 @@ all-inserted P p (q ∷ qs) h hs = grind (arith, common_steps, all-cons, all-hea
 
 -- WHERE A PIECE COMES FROM IN A MOVE
 
-pub each-has : (law : ℕ → Piece → Type 0) (s : Machine) (pid : ℕ) (p : Piece) → EachPiece law s → Has s pid p → law pid p
+pub each-has : (law : ℕ → Piece → Type 0) (s : Machine) (pid : ℕ) (p : Piece) → EachPiece law s → HasPiece s pid p → law pid p
 each-has law s pid p each h = grind (arith, common_steps)
 
-pub has-own : (s : Machine) (r : Runner) → Contains s.runners r → All (Has s r.pid) r.pieces
+pub has-own : (s : Machine) (r : Runner) → Contains s.runners r → All (HasPiece s r.pid) r.pieces
 has-own s r is = λ k d lt. record { process = r; is = is; named = refl; has = Contains-get_or r.pieces k d lt }
 
 abbrev pub IsPieceKept : Machine → ℕ → Piece → Type 0
-IsPieceKept s pid p = (q : Piece) × Has s pid q × IsPart p q
+IsPieceKept s pid p = (q : Piece) × HasPiece s pid q × IsPart p q
 
 abbrev pub IsPieceGiven : Machine → Event → ℕ → Piece → Type 0
 IsPieceGiven s e pid p = IsPieceKept s pid p ⊎ (IsInherited s e pid p ⊎ IsGranted s e pid p)
@@ -54,7 +54,7 @@ Aligned s = EachPiece (λ pid p. IsAligned p) s
 kept-all : (s : Machine) (e : Event) → AllGiven s e s.runners
 kept-all s e = λ k d lt.
     let r = get_or s.runners k d in
-    All-weaker (Has s r.pid) (IsPieceGiven s e r.pid) (λ p h. inl (p, h, part_refl p)) r.pieces (has-own s r (Contains-get_or s.runners k d lt))
+    All-weaker (HasPiece s r.pid) (IsPieceGiven s e r.pid) (λ p h. inl (p, h, part_refl p)) r.pieces (has-own s r (Contains-get_or s.runners k d lt))
 
 module _ (s : Machine) (pid : ℕ) (c : Caller) (is : caller_of s pid ≡ Some c) where
   abbrev me : Runner
@@ -66,7 +66,7 @@ module _ (s : Machine) (pid : ℕ) (c : Caller) (is : caller_of s pid ≡ Some c
   pub me-is : Contains s.runners me
   me-is = (there.place, slice_get_within s.runners there.place me there.there, get_or_from_slice_get s.runners there.place me me there.there)
 
-  pub mine : All (Has s pid) c.pieces
+  pub mine : All (HasPiece s pid) c.pieces
   mine = has-own s me me-is
 
   module _ (call : Call) (o : Outcome) (aligned : Aligned s) where
@@ -108,7 +108,7 @@ module _ (s : Machine) (pid : ℕ) (c : Caller) (is : caller_of s pid ≡ Some c
 
         left : All (IsPieceGiven s e pid) (cut k.base (k.base + 4096 * pages_in k.segment) c.pieces)
         left =
-            all-cut (λ p. Has s pid p × IsAligned p) (IsPieceGiven s e pid) k.base (k.base + 4096 * pages_in k.segment)
+            all-cut (λ p. HasPiece s pid p × IsAligned p) (IsPieceGiven s e pid) k.base (k.base + 4096 * pages_in k.segment)
             (λ p h. All-weaker (λ q. IsPart q p) (IsPieceGiven s e pid) (λ q part. inl (p, h.0, part)) (parts k.base (k.base + 4096 * pages_in k.segment) p)
             (all-parts k.base (k.base + 4096 * pages_in k.segment) (k.page pages) page_to p h.1))
             c.pieces (λ j d lt. (mine j d lt, pages j d lt))
@@ -120,7 +120,7 @@ module _ (s : Machine) (pid : ℕ) (c : Caller) (is : caller_of s pid ≡ Some c
     given-leaves k =
         rw k.runners
         (given-set c.index (record { pid = c.pid; life = k.life; pieces = _ })
-        (rw there.own (All-filter k.stays (IsPieceGiven s e pid) c.pieces (All-weaker (Has s pid) (IsPieceGiven s e pid) (λ p h. inl (p, h, part_refl p)) c.pieces mine))))
+        (rw there.own (All-filter k.stays (IsPieceGiven s e pid) c.pieces (All-weaker (HasPiece s pid) (IsPieceGiven s e pid) (λ p h. inl (p, h, part_refl p)) c.pieces mine))))
 
     given-forks : Forks s c call o → AllGiven s e o.state.runners
     given-forks k = grind (arith, common_steps, given-set, mine)
@@ -178,7 +178,7 @@ goes_on o before s e t h now m =
 
 module _ (s : Machine) (n pid : ℕ) (c : Caller) (live : caller_of s pid ≡ Some c) where
   abbrev At : Reach → Type 0
-  At r = (k : ℕ) → k < r.len → (p : Piece) × Has s pid p × (covers p (r.from + k) ≡ true) × (r.writes ≡ true → p.writable ≡ true)
+  At r = (k : ℕ) → k < r.len → (p : Piece) × HasPiece s pid p × (covers p (r.from + k) ≡ true) × (r.writes ≡ true → p.writable ≡ true)
 
   -- the addresses of an access
   lies : (a len : ℕ) (w : Bool) (qs : List Place) → places c.pieces a len ≡ Some qs → ((k : ℕ) (q : Place) → slice_get qs k ≡ Some q → w ≡ true → q.writable ≡ true)
@@ -189,7 +189,7 @@ module _ (s : Machine) (n pid : ℕ) (c : Caller) (live : caller_of s pid ≡ So
       at k lt =
           let spot = place-of c.pieces a len qs found k lt in
           let l = lies-in c.pieces (a + k) spot.spot spot.is in
-          let has : Has s pid l.piece = All-contains (Has s pid) c.pieces l.piece (mine s pid c live) l.is in
+          let has : HasPiece s pid l.piece = All-contains (HasPiece s pid) c.pieces l.piece (mine s pid c live) l.is in
           (l.piece, has, l.covered, λ h. ap (λ (q : Place). q.writable) (sym l.spot) ∙ may k spot.spot spot.at h)
 
   -- of one that writes

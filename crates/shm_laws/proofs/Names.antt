@@ -38,7 +38,7 @@ pub use Rattle.shm_history.specs.WorldState.{calls_of, failures_in}
 pub use Rattle.shm_life.proofs.Leaving.{keeps-set}
 pub use Rattle.shm_life.proofs.Pieces.{all-cons, all-head, all-slice_set, all-tail}
 pub use Rattle.shm_segments.proofs.Entries.{get-set_other, get-set_same, length-slice_set, sum-set}
-pub use Rattle.shm_segments.specs.Left.{orphan, orphan_in}
+pub use Rattle.shm_segments.specs.Orphan.{orphan, orphan_in}
 pub use Rattle.shm_segments.specs.Table.{segment_in}
 pub use Rattle.shm_laws.specs.Identity.{IsMadeBy, IsSame, KeepsNames, NamesAnew, NamesOneSegment, StandsAs}
 pub use Rattle.shm_laws.specs.Isolation.{DifferIn, HasNone, IsAsked, IsBlindOn, IsIsolated, IsPrivate, veil, veiled, veiled_entry, veiled_from}
@@ -47,6 +47,6 @@ pub use Rattle.shm_laws.specs.Permission.{GoesBack, Granted, Inherited, IsGrante
 pub use Rattle.shm_laws.specs.Pieces.{CountsPieces, GivesPieces, PiecesAreOfSegments, PiecesNameWhatStands, hands_pieces, piece_count}
 pub use Rattle.shm_laws.specs.Removal.{DestroysWhatIsDue, GoesWhenItMust, IsDue, MarkedHavePieces}
 pub use Rattle.shm_laws.specs.Replay.{IsReplayed, undone, without_failures}
-pub use Rattle.shm_laws.specs.Standing.{Always, Began, EachPiece, Has, IsGone, Lasted, MomentsBy, MovesBy, Since, Stands}
+pub use Rattle.shm_laws.specs.Standing.{Always, Began, EachPiece, HasPiece, IsGone, Lasted, MomentsBy, MovesBy, Since, Stands}
 pub use Rattle.shm_laws.specs.Worked.{IsLegal, a_store_fails, opening, others_read, stores_own, three, two_go, two_write}
 pub use Rattle.shm_laws.specs.Writing.{AreLast, HasLastWriters, IsByte, IsLast, Makes, Put, Recalls, Remembers, Spares, Writes, put}

@@ -5,7 +5,7 @@ use Rattle.shm_base.specs.State.{Segment, Entry, Piece, Machine, Opening}
 use Rattle.shm_base.specs.Identifier.{identifier}
 use Rattle.shm_base.specs.History.{IsMove, LeadsFrom}
 use Rattle.shm_history.specs.WorldState.{failures_in}
-use Rattle.shm_laws.specs.Standing.{Has, IsMoment, EachTurn}
+use Rattle.shm_laws.specs.Standing.{HasPiece, IsMoment, EachTurn}
 use Rattle.shm_laws.specs.Permission.{Reach, reach}
 
 -- a segment with as many zeros in place of its bytes, where they are hidden
@@ -29,7 +29,7 @@ DifferIn hidden s other = veil hidden s ≡ veil hidden other
 
 -- the process has no piece of them
 abbrev pub HasNone : (ℕ → Bool) → Machine → ℕ → Type 0
-HasNone hidden s pid = (p : Piece) → Has s pid p → hidden p.seg ≡ false
+HasNone hidden s pid = (p : Piece) → HasPiece s pid p → hidden p.seg ≡ false
 
 -- had the bytes of segments of which the process has no piece been others, its call would have had the same reply, and
 -- they alone would have been others after it
@@ -40,7 +40,7 @@ IsBlind before s e t =
 
 -- all pieces of the process are of them
 abbrev pub HasNoOther : (ℕ → Bool) → Machine → ℕ → Type 0
-HasNoOther hidden s pid = (p : Piece) → Has s pid p → hidden p.seg ≡ true
+HasNoOther hidden s pid = (p : Piece) → HasPiece s pid p → hidden p.seg ≡ true
 
 -- in either event the process reaches for bytes, of those segments alone
 pub record IsPrivate (hidden : ℕ → Bool) (s : Machine) (e f : Event) : Type 0 where

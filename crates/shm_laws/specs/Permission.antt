@@ -12,7 +12,7 @@ use Rattle.shm_base.specs.Permission.{grants}
 use Rattle.shm_base.specs.Access.{end_of, covers}
 use Rattle.shm_base.specs.Step.{Caller, caller_of, is_rdonly}
 use Rattle.shm_base.specs.History.{is_refusal, IsHistory}
-use Rattle.shm_laws.specs.Standing.{Stands, Has, EachPiece, EachMove, Always}
+use Rattle.shm_laws.specs.Standing.{Stands, HasPiece, EachPiece, EachMove, Always}
 
 -- p is a part of q: it has at each of its addresses the page that q has there, and is as writable
 pub record IsPart (p q : Piece) : Type 0 where
@@ -43,14 +43,14 @@ pub record IsGranted (s : Machine) (e : Event) (pid : ℕ) (p : Piece) : Type 0 
 pub record IsInherited (s : Machine) (e : Event) (pid : ℕ) (p : Piece) : Type 0 where
   pub call : e.call ≡ Fork pid
   pub reply : e.reply ≡ Done
-  pub parent : Has s e.pid p
+  pub parent : HasPiece s e.pid p
 
 -- A process that has a piece after these events: the last of them granted it, or the process had it before that, or a
 -- piece that it is a part of, or it was born of one that had it. What was had before goes back in the same way
 pub data GoesBack (o : Opening) : List Event → ℕ → Piece → Type 0 where
   Granted : (before : List Event) (s : Machine) (e : Event) (pid : ℕ) (p : Piece) → IsHistory o before s → IsGranted s e pid p → GoesBack o (before ++ e ∷ []) pid p
   Kept :
-      (before : List Event) (s : Machine) (e : Event) (pid : ℕ) (p q : Piece) → IsHistory o before s → Has s pid q → IsPart p q → GoesBack o before pid q → GoesBack o (before ++ e ∷ []) pid p
+      (before : List Event) (s : Machine) (e : Event) (pid : ℕ) (p q : Piece) → IsHistory o before s → HasPiece s pid q → IsPart p q → GoesBack o before pid q → GoesBack o (before ++ e ∷ []) pid p
   Inherited :
       (before : List Event) (s : Machine) (e : Event) (pid : ℕ) (p : Piece) → IsHistory o before s → IsInherited s e pid p → GoesBack o before e.pid p → GoesBack o (before ++ e ∷ []) pid p
 
@@ -70,7 +70,7 @@ reach _ = None
 abbrev pub StaysInside : Machine → Event → Type 0
 StaysInside s e =
     is_refusal e.reply ≡ false → (r : Reach) → reach e.call ≡ Some r → (k : ℕ) → k < r.len
-    → (p : Piece) × Has s e.pid p × (covers p (r.from + k) ≡ true) × (r.writes ≡ true → p.writable ≡ true)
+    → (p : Piece) × HasPiece s e.pid p × (covers p (r.from + k) ≡ true) × (r.writes ≡ true → p.writable ≡ true)
 
 -- which segment a call would change or remove
 abbrev pub controlled : Call → Option ℤ

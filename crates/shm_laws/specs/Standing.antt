@@ -14,7 +14,7 @@ abbrev pub IsGone : Machine → ℕ → Type 0
 IsGone s id = look s.table (pos id) ≡ Removed
 
 -- the process has the piece
-pub record Has (s : Machine) (pid : ℕ) (p : Piece) : Type 0 where
+pub record HasPiece (s : Machine) (pid : ℕ) (p : Piece) : Type 0 where
   pub process : Runner
   pub is : Contains s.runners process
   pub named : process.pid ≡ pid

@@ -72,7 +72,7 @@ spans-there t rs c ps n is fit few within sum pages =
     let own : pieces_by c.pid rs ≡ pieces_at rs c.index = pieces_by-caller c.pid rs (caller_seen c rs) is in
     let fits = caller-fits t c rs is fit in
     let pass : PassPages (page_there t) (pieces_by c.pid rs) = rw own (λ k d lt. (fits k d lt).1) in
-    record { few = few; fit = λ k d lt. ((within k d lt).0, (within k d lt).1, pages (page_there t) pass k d lt); sum = sum }
+    record { few = few; fit = λ k d lt. (within k d lt, pages (page_there t) pass k d lt); sum = sum }
 
 -- the places that a process asks for are those that its own pieces give
 pub asked : (write : Bool) (rs : List Runner) (c : Caller) (addr len : ℕ) (r : Option (List Place)) → IsCaller c rs → wanted write c.pid addr len rs ≡ r → wanted_in write (pieces_at rs c.index) addr len ≡ r

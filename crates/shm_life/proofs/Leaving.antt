@@ -1,5 +1,5 @@
 -- Which segments may be left without pieces when pieces go.
-use Rattle.shm_life.proofs.Names.{◌≡◌, ℕ, ◌-◌, ◌≤◌, true, false, not, List, [], ◌∷◌, length, filter, Some, refl, arith, Piece, Entry, Runner, attach_count, meets, cut, cut_segments, inserted, pieces_of, is_named, without_named, one_more, shorter_filter, pieces_of-inserted, pieces_of-cut_met, pieces_of-without, orphan_in, id_in, id_at, is_among, OrphansAmong, sum-set, nat_tests}
+use Rattle.shm_life.proofs.Names.{◌≡◌, ℕ, ◌-◌, ◌≤◌, true, false, not, List, [], ◌∷◌, length, filter, Some, refl, arith, Piece, Entry, Runner, attach_count, meets, cut, cut_segments, inserted, pieces_of, is_named, without_named, one_more, shorter_filter, pieces_of-inserted, pieces_of-cut_met, pieces_of-without, orphan_in, id_in, identifier_at, is_among, OrphansAmong, sum-set, nat_tests}
 use Rattle.std.proofs.Common.{map, slice_get, slice_set, Option}
 
 -- other segments keep their pieces
@@ -11,7 +11,7 @@ orphan-more rs after i o le h = grind (arith, nat_tests)
 
 -- so only segments that lost pieces are left without
 pub orphans-among : (lost : List ℕ) (rs after : List Runner) (t : List Entry) → OrphansAmong [] rs t → KeepsPieces lost rs after → OrphansAmong lost after t
-orphans-among lost rs after t none keeps = λ i h. grind (arith, nat_tests, none i, orphan-more rs after i (slice_get t i), keeps (id_at t i), h)
+orphans-among lost rs after t none keeps = λ i h. grind (arith, nat_tests, none i, orphan-more rs after i (slice_get t i), keeps (identifier_at t i), h)
 
 -- ONE PROCESS CHANGED
 

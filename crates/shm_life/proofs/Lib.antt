@@ -1,3 +1,4 @@
+pub mod PlacedOutcome
 pub mod Names
 pub mod Swapping
 pub mod Running

@@ -55,19 +55,20 @@ pub use Rattle.shm_plain.specs.Held.{Held, find_held, is_held, without}
 pub use Rattle.shm_segments.proofs.Entries.{get-set_other, get-set_same, length-slice_set, sum-set}
 pub use Rattle.shm_segments.proofs.Finding.{live-found}
 pub use Rattle.shm_segments.proofs.Held.{sum-without}
-pub use Rattle.shm_segments.proofs.Remembered.{runs-refl, runs-trans, view_of}
+pub use Rattle.shm_segments.proofs.Remembered.{memory-refl, memory-trans, view_of}
 pub use Rattle.shm_segments.proofs.Same.{SamePages, SameTable, change-left, change-locked, change-pages, change-same, detach_all-same, same-refl, stored-same}
 pub use Rattle.shm_segments.specs.Joined.{segment_of, whole}
-pub use Rattle.shm_segments.specs.Left.{id_at, id_in, is_left, orphan, orphan_in}
+pub use Rattle.shm_segments.specs.Orphan.{identifier_at, id_in, is_orphan, orphan, orphan_in}
 pub use Rattle.shm_segments.specs.Table.{IsFound, IsLive, SpanFits, created, destroyed, live, look_of, made, page_there, pages_at, relocked, reowned, segment_seen}
-pub use Rattle.shm_segments.specs.View.{Runs, SegmentsView, ShowsTable}
+pub use Rattle.shm_segments.specs.View.{KeepsMemory, SegmentsView, ShowsTable}
 pub use Rattle.shm_segments.specs.declared.head.Head.{Head}
 pub use Rattle.shm_slots.specs.View.{AreaView, IsAreaSize, SwapView, area_at, fresh, new_swap, no_area, owner_of, size_of, sizes}
 pub use Rattle.shm_life.specs.Address.{misplaced}
 pub use Rattle.shm_life.specs.Kept.{IsKeptBut, IsMachineKept, IsWell, IsWellBut}
 pub use Rattle.shm_life.specs.MachineView.{KeepsOn}
 pub use Rattle.shm_life.specs.Orphans.{OrphansAmong, Sweeps, is_among}
-pub use Rattle.shm_life.specs.Placing.{base_for, gap_found, if_few, lost_to, piece_for, pieces_after, placed, placed_at, placed_found, placed_outcome, wished}
+pub use Rattle.shm_life.specs.Placing.{base_for, gap_found, if_few, piece_for, placed, placed_at, placed_found, wished}
+pub use Rattle.shm_life.proofs.PlacedOutcome.{lost_to, pieces_after, placed_outcome}
 pub use Rattle.shm_life.specs.Start.{are_pids, are_sizes, start_error}
 pub use Rattle.shm_base.specs.Processes.{has_pid}
 pub use Rattle.shm_life.specs.Tied.{PieceFits, PiecesFit}

@@ -1,13 +1,13 @@
 -- What calls keep of the memory.
-use Rattle.shm_life.proofs.Names.{◌≡◌, ◌<◌, ◌+◌, ℕ, true, false, List, [], ◌∷◌, length, drop, get_or, refl, sym, ◌∙◌, arith, ◌≤◌, drop-cons, is_err, OnOk, OnErr, Bounds, Entry, Runner, sizes, StoreView, frame_of, GoesOn-refl, Translation, AreTrue, Runs, IsWell, IsWellBut, IsKeptBut, KeepsOn, OrphansAmong, Sweeps, PiecesFit, reserved, locked}
+use Rattle.shm_life.proofs.Names.{◌≡◌, ◌<◌, ◌+◌, ℕ, true, false, List, [], ◌∷◌, length, drop, get_or, refl, sym, ◌∙◌, arith, ◌≤◌, drop-cons, is_err, OnOk, OnErr, Bounds, Entry, Runner, sizes, StoreView, frame_of, GoesOn-refl, Translation, AreTrue, KeepsMemory, IsWell, IsWellBut, IsKeptBut, KeepsOn, OrphansAmong, Sweeps, PiecesFit, reserved, locked}
 use Rattle.std.proofs.Common.{true≢false}
 use Rattle.std.specs.Prelude.{Result, Ok, Err}
 
 pub keeps_refl : (m : StoreView) → KeepsOn m m
 keeps_refl m = record { kept = λ seg page a b e. e; goes_on = GoesOn-refl m.swap }
 
-pub keeps_runs : (a b : StoreView) → Runs a b → KeepsOn a b
-keeps_runs a b r = record { kept = r.kept; goes_on = r.goes_on }
+pub keeps_on : (a b : StoreView) → KeepsMemory a b → KeepsOn a b
+keeps_on a b r = record { kept = r.kept; goes_on = r.goes_on }
 
 -- translations stay true where no page moves
 pub true_still : (ts : List Translation) (a b : StoreView) → ((s page : ℕ) → frame_of b s page ≡ frame_of a s page) → AreTrue ts a → AreTrue ts b
@@ -16,7 +16,7 @@ true_still ts a b still all = λ k d lt. all k d lt ∙ sym (still (get_or ts k 
 -- some segments of a list were looked at, and those left without pieces destroyed
 pub record SweptTo (rs : List Runner) (ts : List Translation) (table₀ table : List Entry) (m₀ m : StoreView) : Type 0 where
   pub sweeps : Sweeps rs table₀ table
-  pub runs : Runs m₀ m
+  pub keeps : KeepsMemory m₀ m
   pub translated : AreTrue ts m₀ → AreTrue ts m
   pub same_sizes : sizes m.swap ≡ sizes m₀.swap
 

@@ -1,5 +1,5 @@
 -- One segment destroyed in a sweep, or left where it is no orphan.
-use Rattle.shm_life.proofs.Names.{common_steps, ◌≡◌, ◌≢◌, ℕ, ◌+◌, ◌/◌, ◌%◌, ◌<◌, ◌≤◌, ◌==◌, ◌&&◌, Bool, true, false, List, ◌∷◌, length, get_or, Some, None, refl, arith, cases_eq, slice_get_past, get_or-le-sum_by, Segment, Piece, Entry, Runner, identifier, attach_count, pages_held, pages_locked, pieces_of, pieces_of-there, live, destroyed, is_left, orphan, id_at, get-set_same, get-set_other, length-slice_set, sum-set, PieceFits, OrphansAmong, Sweeps, nat_tests}
+use Rattle.shm_life.proofs.Names.{common_steps, ◌≡◌, ◌≢◌, ℕ, ◌+◌, ◌/◌, ◌%◌, ◌<◌, ◌≤◌, ◌==◌, ◌&&◌, Bool, true, false, List, ◌∷◌, length, get_or, Some, None, refl, arith, cases_eq, slice_get_past, get_or-le-sum_by, Segment, Piece, Entry, Runner, identifier, attach_count, pages_held, pages_locked, pieces_of, pieces_of-there, live, destroyed, is_orphan, orphan, identifier_at, get-set_same, get-set_other, length-slice_set, sum-set, PieceFits, OrphansAmong, Sweeps, nat_tests}
 use Rattle.std.proofs.Common.{slice_get}
 use Rattle.std.specs.Prelude.{is_some}
 use Rattle.shm_life.proofs.Orphans.{swept-destroyed}
@@ -10,11 +10,11 @@ use Rattle.shm_life.proofs.Pieces.{fit-table}
 orphan-index : (rs : List Runner) (t : List Entry) (i : ℕ) → length t ≤ 32768 → orphan rs t i ≡ true → i < 32768
 orphan-index rs t i few h = grind (arith, nat_tests, slice_get_past t i, few, h)
 
-own_left : (rs : List Runner) (t : List Entry) (seg i : ℕ) → i < 32768 → orphan rs t i ≡ true → id_at t i ≡ seg → is_left rs seg (live t seg) ≡ true
+own_left : (rs : List Runner) (t : List Entry) (seg i : ℕ) → i < 32768 → orphan rs t i ≡ true → identifier_at t i ≡ seg → is_orphan rs seg (live t seg) ≡ true
 own_left rs t seg i small h own = grind (arith, nat_tests, small, h, own)
 
 -- a segment that is no orphan need not be among them
-pub fewer-left : (rs : List Runner) (t : List Entry) (seg : ℕ) (rest : List ℕ) → length t ≤ 32768 → is_left rs seg (live t seg) ≡ false → OrphansAmong (seg ∷ rest) rs t → OrphansAmong rest rs t
+pub fewer-left : (rs : List Runner) (t : List Entry) (seg : ℕ) (rest : List ℕ) → length t ≤ 32768 → is_orphan rs seg (live t seg) ≡ false → OrphansAmong (seg ∷ rest) rs t → OrphansAmong rest rs t
 fewer-left rs t seg rest few none among = λ i h. grind (arith, nat_tests, own_left rs t seg i, orphan-index rs t i few h, none, among i h, h)
 
 -- DESTROYED
@@ -45,7 +45,7 @@ pub sweeps-destroyed : (rs : List Runner) (t : List Entry) (seg : ℕ) (s : Segm
 sweeps-destroyed rs t seg s there dest none =
     let x : Entry = record { destroyed = seg / 32768; segment = Some s } in
     let id : identifier (seg % 32768) (seg / 32768) ≡ seg = omega arith in
-    let left : is_left rs (identifier (seg % 32768) (seg / 32768)) (Some s) ≡ true = rw (id, dest, none) refl in
+    let left : is_orphan rs (identifier (seg % 32768) (seg / 32768)) (Some s) ≡ true = rw (id, dest, none) refl in
     let pages = sum-set (λ (e : Entry). pages_held e.segment) t (seg % 32768) (record { destroyed = seg / 32768 + 1; segment = None }) x there in
     let locks = sum-set (λ (e : Entry). pages_locked e.segment) t (seg % 32768) (record { destroyed = seg / 32768 + 1; segment = None }) x there in
     record {

@@ -1,7 +1,6 @@
--- A new segment, and the status bits of one.
-use Rattle.std.specs.Prelude.{ℕ, ◌+◌, ◌%◌, Bool, false, if◌then◌else◌}
+-- The head of a new segment.
+use Rattle.std.specs.Prelude.{ℕ, ◌%◌, false}
 use Rattle.shm_base.specs.declared.owner.Cred.{Cred}
-use Rattle.shm_base.specs.declared.flags.Status.{Status}
 use Rattle.shm_segments.specs.declared.head.Head.{Head}
 
 abbrev pub new_head : ℕ → ℕ → Cred → ℕ → ℕ → Head
@@ -17,6 +16,3 @@ new_head n pid cred size mode =
       dtime = 0;
       ctime = n;
     }
-
-abbrev pub status_bits : Bool → Bool → Status
-status_bits dest locked = record { 0 = (if dest then 512 else 0) + (if locked then 1024 else 0) }

@@ -3,7 +3,7 @@ use Rattle.std.specs.Prelude.{◌≡◌, ◌≤◌, ◌==◌, ℕ, Bool, true, L
 use Rattle.std.specs.List.{list_any}
 use Rattle.shm_base.specs.State.{Entry, Runner}
 use Rattle.shm_base.specs.Segments.{reserved, locked, swept}
-use Rattle.shm_segments.specs.Left.{orphan, id_at}
+use Rattle.shm_segments.specs.Orphan.{orphan, identifier_at}
 use Rattle.shm_life.specs.Tied.{PiecesFit}
 
 abbrev pub is_among : List ℕ → ℕ → Bool
@@ -11,7 +11,7 @@ is_among ids id = list_any (λ x. x == id) ids
 
 -- all such segments are among these
 abbrev pub OrphansAmong : List ℕ → List Runner → List Entry → Type 0
-OrphansAmong ids rs table = (i : ℕ) → orphan rs table i ≡ true → is_among ids (id_at table i) ≡ true
+OrphansAmong ids rs table = (i : ℕ) → orphan rs table i ≡ true → is_among ids (identifier_at table i) ≡ true
 
 -- some of them were destroyed, and nothing else changed
 pub record Sweeps (rs : List Runner) (before after : List Entry) : Type 0 where

@@ -1,15 +1,13 @@
--- Where shmat puts a new piece: its refusals in their order, and what the flat machine does then.
+-- Where shmat puts a new piece: its refusals in their order.
 use Rattle.std.specs.Prelude.{ℕ, ℤ, ◌+◌, ◌*◌, ◌==◌, nat_lt, not, if◌then◌else◌, List, length, Option, Some, None, Result, Ok, Err}
 use Rattle.shm_base.specs.declared.errno.Errno.{Errno}
 use Rattle.shm_base.specs.declared.errno.Errno.TheVariants.{Einval, Eidrm, Eacces, Enomem, Emfile}
 use Rattle.shm_base.specs.declared.flags.AtFlags.{AtFlags}
-use Rattle.shm_base.specs.declared.call.Reply.TheVariants.{Addr}
 use Rattle.shm_base.specs.State.{Piece, Machine, pages_in}
 use Rattle.shm_base.specs.Identifier.{Look, Invalid, Removed, Found, look, identifier, destroyed_at}
 use Rattle.shm_base.specs.Permission.{grants}
-use Rattle.shm_base.specs.Segments.{change, attached, detach_all, swept}
-use Rattle.shm_base.specs.Space.{choose, inserted, cut, cut_segments}
-use Rattle.shm_base.specs.Step.{Caller, Outcome, gives, refuses, with_pieces, is_rdonly, at_wish}
+use Rattle.shm_base.specs.Space.{choose, cut}
+use Rattle.shm_base.specs.Step.{Caller, is_rdonly, at_wish}
 use Rattle.shm_areas.specs.Fixed.{fixed}
 use Rattle.shm_attach.specs.Place.{new_piece}
 use Rattle.shm_life.specs.Address.{misplaced}
@@ -48,18 +46,3 @@ placed s c id addr flags = if misplaced addr flags then Err Einval else placed_f
 -- the new piece
 abbrev pub piece_for : AtFlags → Placed → Piece
 piece_for flags p = new_piece p.seg p.base p.pages (not (is_rdonly flags))
-
--- the caller's pieces with it
-abbrev pub pieces_after : List Piece → AtFlags → Placed → List Piece
-pieces_after ps flags p = inserted (piece_for flags p) (cut p.base (p.base + 4096 * p.pages) ps)
-
--- the segments that lose pages to it
-abbrev pub lost_to : List Piece → Placed → List ℕ
-lost_to ps p = cut_segments p.base (p.base + 4096 * p.pages) ps
-
--- what the flat machine does with the place, or the refusal
-abbrev pub placed_outcome : Machine → ℕ → Caller → AtFlags → Result Placed Errno → Outcome
-placed_outcome s n c flags (Err e) = refuses s e
-placed_outcome s n c flags (Ok p) =
-    let rs = with_pieces s.runners c (pieces_after c.pieces flags p) in
-    gives (record s { table = swept rs (change (detach_all n c.pid s.table (lost_to c.pieces p)) p.seg (attached n c.pid)); runners = rs }) (Addr p.base)

@@ -1,8 +1,6 @@
--- What ties a machine's pieces to its segments, and a caller to its processes.
+-- What ties a machine's pieces to its segments.
 use Rattle.std.specs.Prelude.{◌≡◌, ◌+◌, ◌<◌, ℕ, true, List, All}
-use Rattle.shm_base.specs.State.{Entry, Piece, Runner, Machine}
-use Rattle.shm_attach.specs.declared.process.Caller.{Caller}
-use Rattle.shm_attach.specs.Spaces.{IsCaller}
+use Rattle.shm_base.specs.State.{Entry, Piece, Runner}
 use Rattle.shm_segments.specs.Table.{IsLive, page_there}
 
 -- a piece's segment is live and has its pages
@@ -12,7 +10,3 @@ PieceFits table p = IsLive table p.seg × ((j : ℕ) → j < p.pages → page_th
 -- so it is with every piece
 abbrev pub PiecesFit : List Entry → List Runner → Type 0
 PiecesFit table rs = All (λ (r : Runner). All (PieceFits table) r.pieces) rs
-
--- the caller is a live process of the machine
-abbrev pub IsCallerOf : Machine → Caller → Type 0
-IsCallerOf s c = IsCaller c s.runners

@@ -4,9 +4,8 @@ ghost use Rattle.shm_base.specs.Access.{places, writable_places};
 ghost use Rattle.shm_base.specs.History.{is_failure};
 ghost use Rattle.shm_base.specs.Step as flat;
 ghost use Rattle.shm_base.specs.declared.call.Call.TheVariants as call;
-ghost use Rattle.shm_attach.specs.Spaces.{caller_seen};
+ghost use Rattle.shm_attach.specs.Spaces.{IsCaller, caller_seen};
 ghost use Rattle.shm_life.specs.MachineView.{IsFailed, KeepsOn};
-ghost use Rattle.shm_life.specs.Tied.{IsCallerOf};
 
 use crate::kernel::Kernel;
 use shm_attach::Caller;
@@ -18,7 +17,7 @@ impl<P: Pager> Kernel<P> {
     #[tactic(auto, using(crate::proofs::Running::keeps_refl))]
     /// Reads bytes; Sigsegv where an address has no piece, Sigbus where a pager failed.
     pub(crate) fn load(&mut self, caller: &Caller, addr: u64, len: AccessLen, reply: &mut Reply)
-        requires { IsCallerOf self.old.flat caller.now }
+        requires { IsCaller caller.now self.old.flat.runners }
         ensures step { is_failure (call.Load addr len) reply.new ≡ false → flat.load self.old.flat (places (caller_seen caller.now self.old.flat.runners).pieces addr len) ≡ record { reply = reply.new; state = self.new.flat } }
         ensures failed { is_failure (call.Load addr len) reply.new ≡ true → IsFailed (flat.load self.old.flat (places (caller_seen caller.now self.old.flat.runners).pieces addr len)) self.old self.new }
         ensures keeps { KeepsOn self.old.memory self.new.memory }
@@ -45,7 +44,7 @@ impl<P: Pager> Kernel<P> {
     /// Replaces bytes; Sigsegv where an address has no piece, or one that is read-only, Sigbus where a pager
     /// failed, and then no byte has changed.
     pub(crate) fn store(&mut self, caller: &Caller, addr: u64, chunk: &Chunk, reply: &mut Reply)
-        requires { IsCallerOf self.old.flat caller.now }
+        requires { IsCaller caller.now self.old.flat.runners }
         ensures step { is_failure (call.Store addr chunk.now) reply.new ≡ false → flat.store self.old.flat chunk.now (writable_places (caller_seen caller.now self.old.flat.runners).pieces addr (length chunk.now)) ≡ record { reply = reply.new; state = self.new.flat } }
         ensures failed { is_failure (call.Store addr chunk.now) reply.new ≡ true → IsFailed (flat.store self.old.flat chunk.now (writable_places (caller_seen caller.now self.old.flat.runners).pieces addr (length chunk.now))) self.old self.new }
         ensures keeps { KeepsOn self.old.memory self.new.memory }
@@ -70,7 +69,7 @@ impl<P: Pager> Kernel<P> {
     /// Adds to eight little-endian bytes modulo 2^64, and answers the number that stood there. It is refused
     /// as a store is.
     pub(crate) fn xadd(&mut self, caller: &Caller, addr: u64, add: u64, reply: &mut Reply)
-        requires { IsCallerOf self.old.flat caller.now }
+        requires { IsCaller caller.now self.old.flat.runners }
         ensures step { is_failure (call.Xadd addr add) reply.new ≡ false → flat.xadd self.old.flat add (writable_places (caller_seen caller.now self.old.flat.runners).pieces addr 8) ≡ record { reply = reply.new; state = self.new.flat } }
         ensures failed { is_failure (call.Xadd addr add) reply.new ≡ true → IsFailed (flat.xadd self.old.flat add (writable_places (caller_seen caller.now self.old.flat.runners).pieces addr 8)) self.old self.new }
         ensures keeps { KeepsOn self.old.memory self.new.memory }

@@ -1,9 +1,8 @@
 //! exec and exit: all pieces of a process go.
 ghost use Rattle.std.specs.Prelude.{◌≡◌, true, false};
 ghost use Rattle.shm_base.specs.Step as flat;
-ghost use Rattle.shm_attach.specs.Spaces.{caller_seen};
+ghost use Rattle.shm_attach.specs.Spaces.{IsCaller, caller_seen};
 ghost use Rattle.shm_life.specs.MachineView.{KeepsOn};
-ghost use Rattle.shm_life.specs.Tied.{IsCallerOf};
 
 use crate::kernel::Kernel;
 use crate::sweep::after_detach;
@@ -16,7 +15,7 @@ impl<P: Pager> Kernel<P> {
     // Detaches every piece of a process, which ends or goes on. What it takes of the stack no other call has.
     #[inline(never)]
     fn unmap_all(&mut self, time: u64, caller: &Caller, ends: bool, reply: &mut Reply)
-        requires { IsCallerOf self.old.flat caller.now }
+        requires { IsCaller caller.now self.old.flat.runners }
         ensures exec { ends ≡ false → flat.exec self.old.flat time (caller_seen caller.now self.old.flat.runners) ≡ record { reply = reply.new; state = self.new.flat } }
         ensures exit { ends ≡ true → flat.exit self.old.flat time (caller_seen caller.now self.old.flat.runners) ≡ record { reply = reply.new; state = self.new.flat } }
         ensures keeps { KeepsOn self.old.memory self.new.memory }
@@ -38,7 +37,7 @@ impl<P: Pager> Kernel<P> {
 
     /// Detaches every piece (shmop(2)).
     pub(crate) fn exec(&mut self, time: u64, caller: &Caller, reply: &mut Reply)
-        requires { IsCallerOf self.old.flat caller.now }
+        requires { IsCaller caller.now self.old.flat.runners }
         ensures step { flat.exec self.old.flat time (caller_seen caller.now self.old.flat.runners) ≡ record { reply = reply.new; state = self.new.flat } }
         ensures keeps { KeepsOn self.old.memory self.new.memory }
     {
@@ -47,7 +46,7 @@ impl<P: Pager> Kernel<P> {
 
     /// Detaches every piece, and ends the process.
     pub(crate) fn exit(&mut self, time: u64, caller: &Caller, reply: &mut Reply)
-        requires { IsCallerOf self.old.flat caller.now }
+        requires { IsCaller caller.now self.old.flat.runners }
         ensures step { flat.exit self.old.flat time (caller_seen caller.now self.old.flat.runners) ≡ record { reply = reply.new; state = self.new.flat } }
         ensures keeps { KeepsOn self.old.memory self.new.memory }
     {

@@ -1,9 +1,8 @@
 //! fork: a child is born with its parent's pieces.
 ghost use Rattle.std.specs.Prelude.{◌≡◌};
 ghost use Rattle.shm_base.specs.Step as flat;
-ghost use Rattle.shm_attach.specs.Spaces.{caller_seen};
+ghost use Rattle.shm_attach.specs.Spaces.{IsCaller, caller_seen};
 ghost use Rattle.shm_life.specs.MachineView.{KeepsOn};
-ghost use Rattle.shm_life.specs.Tied.{IsCallerOf};
 
 use crate::kernel::Kernel;
 use shm_attach::Caller;
@@ -15,7 +14,7 @@ impl<P: Pager> Kernel<P> {
     /// A child that was declared is born, with the caller's credentials and pieces (fork(2)). Eagain where the
     /// process is no such child.
     pub(crate) fn fork(&mut self, caller: &Caller, child: u32, reply: &mut Reply)
-        requires { IsCallerOf self.old.flat caller.now }
+        requires { IsCaller caller.now self.old.flat.runners }
         ensures step { flat.fork self.old.flat (caller_seen caller.now self.old.flat.runners) child ≡ record { reply = reply.new; state = self.new.flat } }
         ensures keeps { KeepsOn self.old.memory self.new.memory }
     {

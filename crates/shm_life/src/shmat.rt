@@ -5,11 +5,11 @@ ghost use Rattle.shm_base.specs.Space.{cut};
 ghost use Rattle.shm_base.specs.Step as flat;
 ghost use Rattle.shm_areas.specs.Arranged.{bare_all};
 ghost use Rattle.shm_attach.specs.Place.{IsRange};
-ghost use Rattle.shm_attach.specs.Spaces.{pieces_at, caller_seen};
+ghost use Rattle.shm_attach.specs.Spaces.{IsCaller, pieces_at, caller_seen};
 ghost use Rattle.shm_life.specs.Address.{misplaced};
 ghost use Rattle.shm_life.specs.MachineView.{KeepsOn};
 ghost use Rattle.shm_life.specs.Placing.{placed, piece_for};
-ghost use Rattle.shm_life.specs.Tied.{IsCallerOf, PieceFits};
+ghost use Rattle.shm_life.specs.Tied.{PieceFits};
 
 use crate::kernel::Kernel;
 use crate::sweep::after_detach;
@@ -49,7 +49,7 @@ impl<P: Pager> Kernel<P> {
         addr: u64,
         flags: AtFlags,
     ) -> Result<Placed, Errno>
-        requires { IsCallerOf self.now.flat caller.now }
+        requires { IsCaller caller.now self.now.flat.runners }
         ensures value { result ≡ placed self.now.flat (caller_seen caller.now self.now.flat.runners) id addr flags }
         ensures fits { IfOk result (λ p. PieceFits self.now.flat.table (piece_for flags p)) }
         ensures pages { IfOk result (λ p. (1 ≤ p.pages) × (p.pages ≤ 4096)) }
@@ -93,7 +93,7 @@ impl<P: Pager> Kernel<P> {
         flags: AtFlags,
         reply: &mut Reply,
     ) -> Result<(), HostMemory>
-        requires { IsCallerOf self.old.flat caller.now }
+        requires { IsCaller caller.now self.old.flat.runners }
         ensures step { OnOk result (flat.shmat self.old.flat time (caller_seen caller.now self.old.flat.runners) id addr flags ≡ record { reply = reply.new; state = self.new.flat }) }
         ensures keeps { KeepsOn self.old.memory self.new.memory }
         ensures err { OnErr result (self.new ≡ self.old) }

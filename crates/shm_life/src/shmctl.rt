@@ -1,14 +1,14 @@
 //! shmctl: stat, set, rmid, lock and unlock.
-ghost use Rattle.std.specs.Prelude.{◌≡◌, ℕ, ◌+◌, ◌&&◌, not, nat_lt, ◌%◌, IfOk, IfErr};
+ghost use Rattle.std.specs.Prelude.{◌≡◌, ℕ, ◌+◌, ◌&&◌, not, nat_lt, ◌%◌, [], IfSome, IfNone};
 ghost use Rattle.shm_base.specs.Identifier as flat_ids;
 ghost use Rattle.shm_base.specs.Permission as permission;
 ghost use Rattle.shm_base.specs.Segments.{locked};
 ghost use Rattle.shm_base.specs.State.{Segment, pages_of};
 ghost use Rattle.shm_base.specs.Step as flat;
 ghost use Rattle.shm_attach.specs.Spaces.{caller_seen};
+ghost use Rattle.shm_segments.specs.Joined.{segment_of};
 ghost use Rattle.shm_segments.specs.Table.{IsFound, segment_seen};
 ghost use Rattle.shm_life.specs.MachineView.{KeepsOn};
-ghost use Rattle.shm_life.specs.Made.{status_bits};
 
 use crate::kernel::Kernel;
 use crate::sweep::sweep;
@@ -26,7 +26,7 @@ fn owns(cred: &Cred, perm: &Perm) -> bool
 }
 
 fn status_of(found: &Found) -> Status
-    ensures { result ≡ status_bits found.now.head.dest found.now.head.locked }
+    ensures { result ≡ record { 0 = flat.status_of (segment_of (record { key = found.now.key; value = found.now.head }) []) } }
 {
     match (found.head.dest, found.head.locked) {
         (false, false) => Status::empty(),
@@ -78,17 +78,19 @@ impl<P: Pager> Kernel<P> {
         *reply = Reply::Stat(self.shown(&found));
     }
 
-    // The segment that a caller controls: Einval or Eidrm for the identifier, Eperm where it is another's.
-    fn controlled(&self, caller: &Caller, id: ShmId) -> Result<Found, Errno>
-        ensures found { IfOk result (IsFound self.now.flat.table) }
-        ensures ok { IfOk result (λ f. (act : ℕ → Segment → flat.Outcome) → flat.controls self.now.flat (caller_seen caller.now self.now.flat.runners) act (flat_ids.look self.now.flat.table id) ≡ act (f.seg % 32768) (segment_seen self.now.flat.table f)) }
-        ensures err { IfErr result (λ e. (act : ℕ → Segment → flat.Outcome) → flat.controls self.now.flat (caller_seen caller.now self.now.flat.runners) act (flat_ids.look self.now.flat.table id) ≡ flat.refuses self.now.flat e) }
+    // The segment that a caller controls, or none where the reply says why not: Einval or Eidrm for the identifier,
+    // Eperm where it is another's.
+    fn controlled(&self, caller: &Caller, id: ShmId, reply: &mut Reply) -> Option<Found>
+        ensures found { IfSome result (IsFound self.now.flat.table) }
+        ensures some { IfSome result (λ f. (act : ℕ → Segment → flat.Outcome) → flat.controls self.now.flat (caller_seen caller.now self.now.flat.runners) act (flat_ids.look self.now.flat.table id) ≡ act (f.seg % 32768) (segment_seen self.now.flat.table f)) }
+        ensures none { IfNone result ((act : ℕ → Segment → flat.Outcome) → flat.controls self.now.flat (caller_seen caller.now self.now.flat.runners) act (flat_ids.look self.now.flat.table id) ≡ record { reply = reply.new; state = self.now.flat }) }
     {
-        let found = self.segments.look(id)?;
-        if !owns(&caller.cred, &found.head.perm) {
-            return Err(Errno::Eperm);
+        match self.segments.look(id) {
+            Ok(found) if owns(&caller.cred, &found.head.perm) => return Some(found),
+            Ok(_) => *reply = Reply::Refused(Errno::Eperm),
+            Err(errno) => *reply = Reply::Refused(errno),
         }
-        Ok(found)
+        None
     }
 
     #[tactic(auto, using(crate::proofs::Running::keeps_refl))]
@@ -106,12 +108,8 @@ impl<P: Pager> Kernel<P> {
         ensures step { flat.controls self.old.flat (caller_seen caller.now self.old.flat.runners) (flat.sets self.old.flat time uid gid mode) (flat_ids.look self.old.flat.table id) ≡ record { reply = reply.new; state = self.new.flat } }
         ensures keeps { KeepsOn self.old.memory self.new.memory }
     {
-        let found = match self.controlled(caller, id) {
-            Ok(found) => found,
-            Err(errno) => {
-                *reply = Reply::Refused(errno);
-                return;
-            }
+        let Some(found) = self.controlled(caller, id, reply) else {
+            return;
         };
         self.segments.set_owner(found.seg, time, uid, gid, mode);
         *reply = Reply::Done;
@@ -123,12 +121,8 @@ impl<P: Pager> Kernel<P> {
         ensures step { flat.controls self.old.flat (caller_seen caller.now self.old.flat.runners) (flat.removes self.old.flat) (flat_ids.look self.old.flat.table id) ≡ record { reply = reply.new; state = self.new.flat } }
         ensures keeps { KeepsOn self.old.memory self.new.memory }
     {
-        let found = match self.controlled(caller, id) {
-            Ok(found) => found,
-            Err(errno) => {
-                *reply = Reply::Refused(errno);
-                return;
-            }
+        let Some(found) = self.controlled(caller, id, reply) else {
+            return;
         };
         self.segments.mark(found.seg);
         sweep(&mut self.segments, &self.spaces, &[found.seg]);
@@ -150,12 +144,8 @@ impl<P: Pager> Kernel<P> {
         ensures step { flat.controls self.old.flat (caller_seen caller.now self.old.flat.runners) (flat.locks self.old.flat) (flat_ids.look self.old.flat.table id) ≡ record { reply = reply.new; state = self.new.flat } }
         ensures keeps { KeepsOn self.old.memory self.new.memory }
     {
-        let found = match self.controlled(caller, id) {
-            Ok(found) => found,
-            Err(errno) => {
-                *reply = Reply::Refused(errno);
-                return;
-            }
+        let Some(found) = self.controlled(caller, id, reply) else {
+            return;
         };
         if self.exceeds_memlock(&found) {
             *reply = Reply::Refused(Errno::Enomem);
@@ -171,12 +161,8 @@ impl<P: Pager> Kernel<P> {
         ensures step { flat.controls self.old.flat (caller_seen caller.now self.old.flat.runners) (flat.unlocks self.old.flat) (flat_ids.look self.old.flat.table id) ≡ record { reply = reply.new; state = self.new.flat } }
         ensures keeps { KeepsOn self.old.memory self.new.memory }
     {
-        let found = match self.controlled(caller, id) {
-            Ok(found) => found,
-            Err(errno) => {
-                *reply = Reply::Refused(errno);
-                return;
-            }
+        let Some(found) = self.controlled(caller, id, reply) else {
+            return;
         };
         self.segments.set_locked(found.seg, false);
         *reply = Reply::Done;

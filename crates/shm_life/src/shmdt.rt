@@ -1,9 +1,8 @@
 //! shmdt: the pieces that are left of an attach go.
 ghost use Rattle.std.specs.Prelude.{◌≡◌};
 ghost use Rattle.shm_base.specs.Step as flat;
-ghost use Rattle.shm_attach.specs.Spaces.{caller_seen};
+ghost use Rattle.shm_attach.specs.Spaces.{IsCaller, caller_seen};
 ghost use Rattle.shm_life.specs.MachineView.{KeepsOn};
-ghost use Rattle.shm_life.specs.Tied.{IsCallerOf};
 
 use crate::kernel::Kernel;
 use crate::sweep::after_detach;
@@ -17,7 +16,7 @@ impl<P: Pager> Kernel<P> {
     /// the address the lowest names the segment, and all pieces of that segment with this origin go (the origin
     /// is this profile's). Einval where there is none.
     pub(crate) fn shmdt(&mut self, time: u64, caller: &Caller, addr: u64, reply: &mut Reply)
-        requires { IsCallerOf self.old.flat caller.now }
+        requires { IsCaller caller.now self.old.flat.runners }
         ensures step { flat.shmdt self.old.flat time (caller_seen caller.now self.old.flat.runners) addr ≡ record { reply = reply.new; state = self.new.flat } }
         ensures keeps { KeepsOn self.old.memory self.new.memory }
     {

@@ -140,7 +140,7 @@ impl<P: Pager> Kernel<P> {
             *reply = Reply::Refused(Errno::Enospc);
             return Ok(());
         }
-        if reserved > self.segments.store().capacity() {
+        if reserved > self.segments.store().swap().capacity() {
             *reply = Reply::Refused(Errno::Enomem);
             return Ok(());
         }

@@ -13,8 +13,8 @@ impl<P: Pager> System<P> {
         ensures value { result.now ≡ self.now.memory }
         ensures exact { IsExactly self.now.machine self.now.memory }
     {
-        let machine = &self.kernel;
-        machine.segments.store()
+        let kernel = &self.kernel;
+        kernel.segments.store()
     }
 
     /// The processes, each with its address space.

@@ -40,7 +40,8 @@ impl StartError {
     }
 }
 
-/// The first start error of swap areas that holds, where `slots` gives an area's slots. It takes no memory.
+/// The first start error of swap areas that holds, where `slots` gives an area's slots: `Areas` where there are not 1
+/// to 8, else `AreaSize` where one has not 1 to 65536 slots. It takes no memory.
 pub fn first_area_error<A, F: Fn(&A) -> u32>(areas: &[A], slots: F) -> Option<StartError>
     requires { F.IsAlwaysCallable slots }
     ensures { (size : A → ℕ) → ((a : A) (n : ℕ) → FnReturnsAt F.Fn slots a n → n ≡ size a) → result ≡ start_error (map size areas.now) [] }

@@ -25,12 +25,12 @@ impl<P: Pager> Kernel<P> {
             *reply = Reply::Refused(Errno::Eperm);
             return;
         }
-        let store = self.segments.store();
-        let Some(size) = store.area_size(area) else {
+        let swap = self.segments.store().swap();
+        let Some(size) = swap.size(area) else {
             *reply = Reply::Refused(Errno::Einval);
             return;
         };
-        if store.capacity() < self.segments.reserved() + u64::from(size) {
+        if swap.capacity() < self.segments.reserved() + u64::from(size) {
             *reply = Reply::Refused(Errno::Enomem);
             return;
         }

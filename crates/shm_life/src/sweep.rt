@@ -5,7 +5,7 @@ ghost use Rattle.shm_base.specs.Segments.{attach_count, detach_all, swept};
 ghost use Rattle.shm_attach.specs.Spaces.{Translation, AreTrue};
 ghost use Rattle.shm_slots.specs.View.{sizes};
 ghost use Rattle.shm_segments.specs.Table.{IsLive};
-ghost use Rattle.shm_segments.specs.View.{Runs};
+ghost use Rattle.shm_segments.specs.View.{KeepsMemory};
 ghost use Rattle.shm_life.specs.Kept.{IsWell, IsWellBut};
 ghost use Rattle.shm_life.specs.MachineView.{KeepsOn};
 ghost use Rattle.shm_life.specs.Orphans.{OrphansAmong, Sweeps};
@@ -25,7 +25,7 @@ fn note_detached<P: Pager>(segments: &mut Segments<P>, lost: &[u32], time: u64, 
 }
 
 // Whether a segment is marked and no piece names it.
-fn is_left(spaces: &Spaces, found: &Found) -> bool
+fn is_orphan(spaces: &Spaces, found: &Found) -> bool
     ensures value { result ≡ (found.now.head.dest && (attach_count spaces.now.runners found.now.seg == 0)) }
     ensures unnamed { result ≡ true → All (λ (t : Translation). t.seg ≢ found.now.seg) spaces.now.translations }
 {
@@ -37,14 +37,14 @@ fn sweep_one<P: Pager>(segments: &mut Segments<P>, spaces: &Spaces, seg: u32)
     requires { length segments.old.table ≤ 32768 }
     ensures sweeps { Sweeps spaces.now.runners segments.old.table segments.new.table }
     ensures fewer { (rest : List ℕ) → OrphansAmong (seg ∷ rest) spaces.now.runners segments.old.table → OrphansAmong rest spaces.now.runners segments.new.table }
-    ensures runs { Runs segments.old.memory segments.new.memory }
+    ensures keeps { KeepsMemory segments.old.memory segments.new.memory }
     ensures sizes { sizes segments.new.memory.swap ≡ sizes segments.old.memory.swap }
     ensures translated { AreTrue spaces.now.translations segments.old.memory → AreTrue spaces.now.translations segments.new.memory }
 {
     let Some(found) = segments.find(seg) else {
         return;
     };
-    if is_left(spaces, &found) {
+    if is_orphan(spaces, &found) {
         segments.destroy(seg);
     }
 }

@@ -1,16 +1,11 @@
 //! A machine with its swap areas, how it began, and how many calls it answered.
-ghost use Rattle.std.specs.Prelude.{◌≡◌, true, false, ◌+◌, ◌-◌, ◌^◌, ◌<◌, length, map, IfOk, IfErr, OnOk, OnErr, IsOk, None};
-ghost use Rattle.shm_base.specs.State as flat;
+ghost use Rattle.std.specs.Prelude.{◌≡◌, ◌<◌, length, map, IfOk, IfErr, OnOk, OnErr, None};
 ghost use Rattle.shm_life.specs.Start.{start_error, IsFirstError};
-ghost use Rattle.shm_base.specs.History.{IsMove, is_failure, is_refusal};
-ghost use Rattle.shm_base.specs.Step.{step};
-ghost use Rattle.shm_slots.specs.Cause.{had_cause};
-ghost use Rattle.shm_slots.specs.View.{fresh, new_swap};
+ghost use Rattle.shm_slots.specs.View.{fresh};
 ghost use Rattle.shm_pager.specs.Pages.{pager_seen};
-ghost use Rattle.shm_fault.specs.Store.{fresh_store};
 ghost use Rattle.shm_fault.specs.Flushing.{IsFlushed};
 ghost use Rattle.shm_life.specs.MachineView.{KeepsOn, IsExactly};
-ghost use Rattle.shm_base.specs.Memory.{TakesNoMemory};
+ghost use Rattle.shm_life.specs.SystemState.{IsStarted, IsOutOfMemory, Replied, most_calls};
 ghost use Rattle.shm_life.specs.Counts.{Counts};
 ghost use Rattle.shm_life.specs.Listed.{segment_at};
 
@@ -100,10 +95,7 @@ impl<P: Pager> System<P> {
         pagers: Vec<P>,
         processes: &[Process],
     ) -> Result<System<P>, StartError>
-        ensures opening { IfOk result (λ s. s.opening ≡ record { limits = limits; areas = map (λ p. length (P.content p)) pagers.items; processes = processes.now }) }
-        ensures calls { IfOk result (λ s. s.calls ≡ 0) }
-        ensures machine { IfOk result (λ s. s.machine ≡ flat.start_of s.opening) }
-        ensures memory { IfOk result (λ s. s.memory ≡ fresh_store s.memory.frames (new_swap (map (λ p. fresh (pager_seen P.content P.failed p)) pagers.items))) }
+        ensures started { IfOk result (λ s. IsStarted limits (map (λ p. length (P.content p)) pagers.items) (map (λ p. fresh (pager_seen P.content P.failed p)) pagers.items) processes.now s) }
         ensures ok { OnOk result (start_error (map (λ p. length (P.content p)) pagers.items) processes.now ≡ None) }
         ensures err { IfErr result (λ e. IsFirstError e (start_error (map (λ p. length (P.content p)) pagers.items) processes.now)) }
     {
@@ -124,10 +116,7 @@ impl<P: Pager> System<P> {
         processes: &[Process],
     ) -> Result<System<P>, HostMemory>
         requires none { start_error (map (λ p. length (P.content p)) pagers.items) processes.now ≡ None }
-        ensures opening { IfOk result (λ s. s.opening ≡ record { limits = limits; areas = map (λ p. length (P.content p)) pagers.items; processes = processes.now }) }
-        ensures calls { IfOk result (λ s. s.calls ≡ 0) }
-        ensures machine { IfOk result (λ s. s.machine ≡ flat.start_of s.opening) }
-        ensures memory { IfOk result (λ s. s.memory ≡ fresh_store s.memory.frames (new_swap (map (λ p. fresh (pager_seen P.content P.failed p)) pagers.items))) }
+        ensures { IfOk result (λ s. IsStarted limits (map (λ p. length (P.content p)) pagers.items) (map (λ p. fresh (pager_seen P.content P.failed p)) pagers.items) processes.now s) }
     {
         // What is read has a proof know its range.
         let (_, _) = (limits.shmall(), limits.memlock());
@@ -163,18 +152,12 @@ impl<P: Pager> System<P> {
     }
 
     /// One call of a process, at the time that is its place among the calls. Where memory is out, nothing
-    /// changes and the call is not counted; that comes only where the flat machine refuses nothing. Where a pager fails the reply says so in place of the flat machine's,
-    /// and nothing else changes.
+    /// changes and the call is not counted; that comes only at a call that takes memory, and where the flat machine
+    /// refuses nothing. Where a pager fails the reply says so in place of the flat machine's, and nothing else changes.
     pub fn call(&mut self, pid: u32, call: &Call) -> Result<Reply, HostMemory>
-        requires room { self.old.calls < 2 ^ 64 - 1 }
-        ensures move_of { IfOk result (λ r. IsMove self.old.machine (self.old.calls + 1) (record { pid = pid; call = call.now; reply = r }) self.new.machine) }
-        ensures cause { IfOk result (λ r. is_failure call.now r ≡ true → had_cause self.old.memory.swap self.new.memory.swap ≡ true) }
-        ensures counted { OnOk result (self.new.calls ≡ self.old.calls + 1) }
-        ensures opening { self.new.opening ≡ self.old.opening }
-        ensures keeps { KeepsOn self.old.memory self.new.memory }
-        ensures err { OnErr result (self.new ≡ self.old) }
-        ensures memory { OnErr result (is_refusal (step self.old.machine (self.old.calls + 1) pid call.now).reply ≡ false) }
-        ensures no_memory { TakesNoMemory call.now → IsOk result }
+        requires room { self.old.calls < most_calls }
+        ensures ok { IfOk result (λ r. Replied self.old pid call.now r self.new) }
+        ensures err { OnErr result (IsOutOfMemory self.old pid call.now self.new) }
     {
         let mut reply = Reply::Done;
         self.call_into(pid, call, &mut reply)?;
@@ -186,15 +169,9 @@ impl<P: Pager> System<P> {
     /// A reply has 88 bytes, and each hand that takes it would clear and copy them.
     #[inline(always)]
     pub fn call_into(&mut self, pid: u32, call: &Call, reply: &mut Reply) -> Result<(), HostMemory>
-        requires room { self.old.calls < 2 ^ 64 - 1 }
-        ensures move_of { OnOk result (IsMove self.old.machine (self.old.calls + 1) (record { pid = pid; call = call.now; reply = reply.new }) self.new.machine) }
-        ensures cause { OnOk result (is_failure call.now reply.new ≡ true → had_cause self.old.memory.swap self.new.memory.swap ≡ true) }
-        ensures counted { OnOk result (self.new.calls ≡ self.old.calls + 1) }
-        ensures opening { self.new.opening ≡ self.old.opening }
-        ensures keeps { KeepsOn self.old.memory self.new.memory }
-        ensures err { OnErr result (self.new ≡ self.old) }
-        ensures memory { OnErr result (is_refusal (step self.old.machine (self.old.calls + 1) pid call.now).reply ≡ false) }
-        ensures no_memory { TakesNoMemory call.now → IsOk result }
+        requires room { self.old.calls < most_calls }
+        ensures ok { OnOk result (Replied self.old pid call.now reply.new self.new) }
+        ensures err { OnErr result (IsOutOfMemory self.old pid call.now self.new) }
     {
         let time = self.calls + 1;
         self.kernel.call(time, pid, call, reply)?;
@@ -218,13 +195,13 @@ impl<P: Pager> System<P> {
         ensures exact { IsExactly self.now.machine self.now.memory }
     {
         let pages = self.store().tally();
-        let machine = &self.kernel;
+        let kernel = &self.kernel;
         Tally {
             events: self.calls,
-            segments: machine.segments.count(),
-            reserved: machine.segments.reserved(),
-            locked: machine.segments.locked(),
-            frames: machine.limits.frames(),
+            segments: kernel.segments.count(),
+            reserved: kernel.segments.reserved(),
+            locked: kernel.segments.locked(),
+            frames: kernel.limits.frames(),
             resident: pages.resident,
             dirty: pages.dirty,
             slots: pages.slots,

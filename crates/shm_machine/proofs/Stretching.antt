@@ -9,7 +9,7 @@ use Rattle.shm_base.specs.declared.call.Call.{Call}
 use Rattle.shm_base.specs.declared.call.Reply.{Reply}
 use Rattle.shm_plain.proofs.Spans.{length-put_mid}
 use Rattle.shm_life.specs.SystemState.{SystemState}
-use Rattle.shm_machine.specs.Answered.{Replied}
+use Rattle.shm_life.specs.SystemState.{Replied}
 use Rattle.shm_machine.specs.Stretched.{Reached}
 use Rattle.shm_base.specs.declared.call.Call.TheVariants.{Load, Store}
 use Rattle.shm_base.specs.declared.call.Reply.TheVariants.{Bytes, Done}

@@ -1,11 +1,9 @@
 -- What a machine is opened from, and what it is then.
-use Rattle.std.specs.Prelude.{ℕ, ◌≡◌, ◌==◌, ◌&&◌, Bool, true, false, not, List, map, filter}
+use Rattle.std.specs.Prelude.{ℕ, ◌==◌, ◌&&◌, Bool, true, false, not, List, map, filter}
 use Rattle.shm_base.specs.Bounds.{Bounds}
 use Rattle.shm_base.specs.declared.call.Process.{Process}
-use Rattle.shm_base.specs.State.{Opening, start_of}
-use Rattle.shm_slots.specs.View.{fresh, new_swap}
-use Rattle.shm_fault.specs.Store.{fresh_store}
-use Rattle.shm_life.specs.SystemState.{SystemState}
+use Rattle.shm_slots.specs.View.{fresh}
+use Rattle.shm_life.specs.SystemState.{SystemState, IsStarted}
 use Rattle.shm_machine.specs.declared.opening.AreaConfig.{AreaConfig}
 use Rattle.shm_machine.specs.declared.opening.Failure.{Failure}
 use Rattle.shm_machine.specs.declared.opening.Side.{Side}
@@ -32,12 +30,6 @@ calls_at area side is_write failures = map (λ (f : Failure). f.call) (filter (i
 abbrev pub sizes_of : List AreaConfig → List ℕ
 sizes_of areas = map (λ (a : AreaConfig). a.slots) areas
 
-abbrev pub opening_of : Bounds → List AreaConfig → List Process → Opening
-opening_of limits areas processes = record { limits = limits; areas = sizes_of areas; processes = processes }
-
--- no call was answered, the areas have zeros in each slot, and no failure was counted
-pub record IsOpened (limits : Bounds) (areas : List AreaConfig) (processes : List Process) (s : SystemState) : Type 0 where
-  pub opening : s.opening ≡ opening_of limits areas processes
-  pub calls : s.calls ≡ 0
-  pub machine : s.machine ≡ start_of (opening_of limits areas processes)
-  pub memory : s.memory ≡ fresh_store s.memory.frames (new_swap (map (λ (a : AreaConfig). fresh (blank a.slots)) areas))
+-- as it starts, the areas with zeros in each slot and no failure counted
+abbrev pub IsOpened : Bounds → List AreaConfig → List Process → SystemState → Type 0
+IsOpened limits areas processes s = IsStarted limits (sizes_of areas) (map (λ (a : AreaConfig). fresh (blank a.slots)) areas) processes s

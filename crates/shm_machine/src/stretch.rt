@@ -2,7 +2,7 @@
 ghost use Rattle.std.specs.Prelude.{◌≡◌, ◌+◌, ◌^◌, ◌≤◌, length, Ok, Err, MatchResult};
 ghost use Rattle.shm_base.specs.declared.call.Call.TheVariants as call;
 ghost use Rattle.shm_base.specs.declared.call.Reply.TheVariants as reply;
-ghost use Rattle.shm_machine.specs.Answered.{Replied};
+ghost use Rattle.shm_life.specs.SystemState.{Replied};
 ghost use Rattle.shm_machine.specs.Stretched.{StoppedAt, ReadTo, WrittenTo};
 
 use crate::machine::Machine;

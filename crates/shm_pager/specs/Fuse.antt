@@ -1,7 +1,7 @@
 -- What contracts see of a fuse.
-use Rattle.std.specs.Prelude.{ℕ, ◌+◌, Bool, ◌==◌, List, min, replicate}
+use Rattle.std.specs.Prelude.{ℕ, Bool, ◌==◌, List, replicate}
 use Rattle.std.specs.List.{list_any}
-use Rattle.shm_pager.specs.Pages.{PagerView, last_count}
+use Rattle.shm_pager.specs.Pages.{PagerView, next_count}
 
 pub record FuseView : Type 0 where
   pub inner : PagerView
@@ -18,10 +18,6 @@ pub record FuseView : Type 0 where
 abbrev pub new_fuse : PagerView → List ℕ → List ℕ → ℕ → FuseView
 new_fuse inner bad_reads bad_writes failed =
     record { inner = inner; bad_reads = bad_reads; bad_writes = bad_writes; reads = 0; writes = 0; failed = failed }
-
--- one more, up to the last value
-abbrev pub next_count : ℕ → ℕ
-next_count n = min (n + 1) last_count
 
 abbrev pub is_listed : List ℕ → ℕ → Bool
 is_listed places n = list_any (λ k. k == n) places

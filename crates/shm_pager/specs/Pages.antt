@@ -1,5 +1,5 @@
 -- Pages by slot, counts of failures, and what a call leaves of a pager.
-use Rattle.std.specs.Prelude.{ℕ, ◌≡◌, ◌+◌, ◌-◌, ◌^◌, ◌≤◌, ◌⊎◌, Bool, true, ◌==◌, ◌&&◌, nat_lt, List, [], get_or, replicate, set, Result, MatchResult}
+use Rattle.std.specs.Prelude.{ℕ, ◌≡◌, ◌+◌, ◌-◌, ◌^◌, ◌≤◌, ◌⊎◌, Bool, true, ◌==◌, ◌&&◌, nat_lt, List, [], get_or, min, replicate, set, Result, MatchResult}
 
 -- a page of zeros
 unfoldable pub zero_page : List ℕ
@@ -8,6 +8,10 @@ zero_page = replicate 4096 0
 -- where a count stays
 abbrev pub last_count : ℕ
 last_count = 2 ^ 64 - 1
+
+-- one more, up to the last count
+abbrev pub next_count : ℕ → ℕ
+next_count n = min (n + 1) last_count
 
 -- the page in each slot, and how many reads and writes have failed
 pub record PagerView : Type 0 where

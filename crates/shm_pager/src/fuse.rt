@@ -1,7 +1,7 @@
 //! A pager that fails where it is told to.
 ghost use Rattle.std.specs.Prelude.{◌≡◌, ◌<◌, [], length, set, get_or, replicate, true, false, not, ◌&&◌, if◌then◌else◌, is_ok, IfOk};
-ghost use Rattle.shm_pager.specs.Pages.{zero_page, last_count, pager_seen, served, SlotUnknown, CountsErr, TriesWrite, TriesRead};
-ghost use Rattle.shm_pager.specs.Fuse.{new_fuse, next_count, is_listed, read_is_bad, write_is_bad, scorched_page};
+ghost use Rattle.shm_pager.specs.Pages.{zero_page, last_count, next_count, pager_seen, served, SlotUnknown, CountsErr, TriesWrite, TriesRead};
+ghost use Rattle.shm_pager.specs.Fuse.{new_fuse, is_listed, read_is_bad, write_is_bad, scorched_page};
 
 use crate::pager::{Pager, PagerFault, read_if, try_write};
 use shm_base::PAGE_BYTES;
@@ -39,13 +39,13 @@ impl<P: Pager> Model for FusePager<P> {
     } };
 }
 
-// Takes the next place of a list, and says whether it is listed.
-fn take_place(listed: &Vec<u64>, place: &mut u64) -> bool
-    ensures place { place.new ≡ next_count place.old }
-    ensures listed { result ≡ is_listed listed.now.items (next_count place.old) }
+// Counts the next call, and says whether it is listed.
+fn next_call(listed: &Vec<u64>, call: &mut u64) -> bool
+    ensures call { call.new ≡ next_count call.old }
+    ensures listed { result ≡ is_listed listed.now.items (next_count call.old) }
 {
-    *place = place.saturating_add(1);
-    listed.contains(place)
+    *call = call.saturating_add(1);
+    listed.contains(call)
 }
 
 impl<P: Pager> FusePager<P> {
@@ -111,7 +111,7 @@ impl<P: Pager> Pager for FusePager<P> {
           failed = self.new.failed;
         } }
     {
-        let bad = take_place(&self.bad_writes, &mut self.writes);
+        let bad = next_call(&self.bad_writes, &mut self.writes);
         let page = if bad { &[SCORCH; PAGE_BYTES] } else { page };
         let written = try_write(&mut self.inner, slot, page).is_ok();
         if written && !bad {
@@ -138,7 +138,7 @@ impl<P: Pager> Pager for FusePager<P> {
           failed = self.new.failed;
         } }
     {
-        let bad = take_place(&self.bad_reads, &mut self.reads);
+        let bad = next_call(&self.bad_reads, &mut self.reads);
         if read_if(!bad, &mut self.inner, slot, page) {
             return Ok(());
         }

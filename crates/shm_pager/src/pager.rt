@@ -104,7 +104,12 @@ pub fn try_read<P: Pager>(
 }
 
 /// As [`try_read`], but where the pager is not to be asked, the read fails and the pager stays.
-pub fn read_if<P: Pager>(asked: bool, pager: &mut P, slot: u32, page: &mut [u8; PAGE_BYTES]) -> bool
+pub(crate) fn read_if<P: Pager>(
+    asked: bool,
+    pager: &mut P,
+    slot: u32,
+    page: &mut [u8; PAGE_BYTES],
+) -> bool
     requires { slot < length (P.content pager.old) }
     ensures asked { let view = pager_seen P.content P.failed in
         asked ≡ true → TriesRead (view pager.old) (view pager.new) }

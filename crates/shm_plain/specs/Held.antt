@@ -1,7 +1,8 @@
 -- Segments as lists of bytes, and what loads and stores over spans of pages do to them.
-use Rattle.std.specs.Prelude.{ℕ, ◌≡◌, ◌<◌, ◌≤◌, ◌+◌, ◌*◌, ◌/◌, Bool, true, false, ◌==◌, not, if◌then◌else◌, List, [], ◌∷◌, ◌++◌, Option, Some, None, length, map, filter, take, drop, replicate, is_some, sum_by}
+use Rattle.std.specs.Prelude.{ℕ, ◌≡◌, ◌≤◌, ◌+◌, ◌*◌, ◌/◌, Bool, true, false, ◌==◌, not, if◌then◌else◌, List, [], ◌∷◌, ◌++◌, Option, Some, None, length, map, filter, take, drop, replicate, is_some, sum_by}
 use Rattle.std.specs.List.{flat_map}
 use Rattle.shm_base.specs.declared.paging.Span.{Span}
+use Rattle.shm_base.specs.Spans.{InPage}
 
 -- a segment that the store holds
 pub record Held : Type 0 where
@@ -63,11 +64,7 @@ with_lock hs id locked = map (relocked id locked) hs
 
 -- a span lies in one page of a segment that is held
 abbrev pub FitsPage : List Held → Span → Type 0
-FitsPage hs p =
-    (is_held hs p.seg ≡ true)
-    × (p.at + p.len ≤ length (bytes_of hs p.seg))
-    × (0 < p.len)
-    × (p.at + p.len ≤ 4096 * (p.at / 4096) + 4096)
+FitsPage hs p = (is_held hs p.seg ≡ true) × (p.at + p.len ≤ length (bytes_of hs p.seg)) × InPage p
 
 abbrev pub span_bytes : List Held → Span → List ℕ
 span_bytes hs p = take p.len (drop p.at (bytes_of hs p.seg))

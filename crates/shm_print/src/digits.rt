@@ -5,7 +5,7 @@ ghost use Rattle.std.specs.Fmt.{digits, digit_glyph};
 use std::alloc::AllocError;
 
 /// As many digits as 64 bits can have in any base.
-const MOST: usize = 64;
+const MOST_DIGITS: usize = 64;
 
 // The digit of a number below 16.
 fn digit(number: u64) -> u8
@@ -20,11 +20,11 @@ fn digit(number: u64) -> u8
 }
 
 // Puts the digits of a number at the end of the room, and returns where they begin.
-fn fill_digits(number: u64, room: &mut [u8; MOST]) -> usize
-    ensures start { result ≤ MOST }
+fn fill_digits(number: u64, room: &mut [u8; MOST_DIGITS]) -> usize
+    ensures start { result ≤ MOST_DIGITS }
     ensures digits { drop result room.new ≡ digits 16 false number }
 {
-    let mut at = MOST;
+    let mut at = MOST_DIGITS;
     let mut left = number;
     while at > 0 {
         at -= 1;
@@ -41,7 +41,7 @@ fn fill_digits(number: u64, room: &mut [u8; MOST]) -> usize
 pub(crate) fn push_digits(text: &mut String, number: u64) -> Result<(), AllocError>
     ensures { OnOk result (string_bytes text.new ≡ string_bytes text.old ++ digits 16 false number) }
 {
-    let mut room = [0u8; MOST];
+    let mut room = [0u8; MOST_DIGITS];
     let start = fill_digits(number, &mut room);
     text.push_str(str::from_utf8(&room[start..]).unwrap())
 }

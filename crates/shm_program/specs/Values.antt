@@ -24,5 +24,5 @@ with_values [] pid values = []
 with_values (h ∷ hs) pid values = if h.pid == pid then record { pid = h.pid; values = values } ∷ hs else h ∷ with_values hs pid values
 
 -- the variables of all processes once a line was answered
-abbrev pub answered : List HolderView → CommandView → Option Reply → List HolderView
-answered hs c reply = with_values hs c.pid (values_after (values_of hs c.pid) c.var reply)
+abbrev pub with_answer : List HolderView → CommandView → Option Reply → List HolderView
+with_answer hs c reply = with_values hs c.pid (values_after (values_of hs c.pid) c.var reply)

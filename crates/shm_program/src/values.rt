@@ -1,7 +1,7 @@
 //! The variables of all processes of a script.
 ghost use Rattle.std.specs.Prelude.{◌≡◌, map, IfOk, Some};
 ghost use Rattle.shm_text.specs.Variables.{call_of};
-ghost use Rattle.shm_program.specs.Values.{fresh_holder, values_of, answered};
+ghost use Rattle.shm_program.specs.Values.{fresh_holder, values_of, with_answer};
 
 use shm_base::{Call, Process, Reply};
 use shm_text::{Command, Vars};
@@ -68,14 +68,14 @@ impl Values {
 
     /// Takes the reply to a command line.
     pub fn took(&mut self, command: &Command, reply: &Reply)
-        ensures { self.new ≡ answered self.old command.now (Some reply.now) }
+        ensures { self.new ≡ with_answer self.old command.now (Some reply.now) }
     {
         take_reply(&mut self.holders, command, reply);
     }
 }
 
 fn take_reply(holders: &mut Vec<Holder>, command: &Command, reply: &Reply)
-    ensures { holders.new.items ≡ answered holders.old.items command.now (Some reply.now) }
+    ensures { holders.new.items ≡ with_answer holders.old.items command.now (Some reply.now) }
 {
     let pid = command.pid();
     for index in 0..holders.len() {

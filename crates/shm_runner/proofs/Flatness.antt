@@ -14,7 +14,7 @@ use Rattle.shm_text.specs.Variables.{call_of}
 use Rattle.shm_text.specs.declared.script.Line.{Line}
 use Rattle.shm_text.specs.declared.script.Line.TheVariants.{Command, Flush}
 use Rattle.shm_history.proofs.Clear.{clear_step, first_clear, rest_clear}
-use Rattle.shm_program.specs.Values.{HolderView, fresh_holder, values_of, answered}
+use Rattle.shm_program.specs.Values.{HolderView, fresh_holder, values_of, with_answer}
 use Rattle.shm_program.specs.Runs.{IsWorldOf, opening_of}
 use Rattle.shm_runner.specs.Output.{RunsInOrder, world_text}
 use Rattle.shm_runner.specs.Flat.{line_step, flat_events, flat_end, flat_text}
@@ -32,7 +32,7 @@ is_flat n s hs (Command c ∷ ls) (e ∷ es) t follows leads none =
     let reply : e.reply ≡ (line_step s n hs c).reply = sym (ap (λ (o : Outcome). o.reply) same) in
     let state : leads.0 ≡ (line_step s n hs c).state = sym (ap (λ (o : Outcome). o.state) same) in
     let first : e ≡ event c.pid call (line_step s n hs c).reply = λ i. record { pid = follows.0 i; call = follows.1 i; reply = reply i } in
-    let more = is_flat (n + 1) leads.0 (answered hs c (Some e.reply)) ls es t follows.2 leads.2 (rest_clear e es none) in
+    let more = is_flat (n + 1) leads.0 (with_answer hs c (Some e.reply)) ls es t follows.2 leads.2 (rest_clear e es none) in
     let rest = rw (state, reply) at more in
     ((λ i. first i ∷ rest.0 i), rest.1)
 

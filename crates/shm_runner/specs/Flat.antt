@@ -11,7 +11,7 @@ use Rattle.shm_text.specs.Script.{ScriptView}
 use Rattle.shm_text.specs.Variables.{call_of}
 use Rattle.shm_text.specs.declared.script.Line.{Line}
 use Rattle.shm_text.specs.declared.script.Line.TheVariants.{Command, Flush}
-use Rattle.shm_program.specs.Values.{HolderView, fresh_holder, values_of, answered}
+use Rattle.shm_program.specs.Values.{HolderView, fresh_holder, values_of, with_answer}
 use Rattle.shm_program.specs.Runs.{opening_of}
 
 -- the step that a line makes, with the variables of its process
@@ -20,7 +20,7 @@ line_step s n hs c = step s n c.pid (call_of (values_of hs c.pid) c.call)
 
 -- the variables once a line got the reply of that step
 abbrev pub holders_after : Machine → ℕ → List HolderView → CommandView → List HolderView
-holders_after s n hs c = answered hs c (Some (line_step s n hs c).reply)
+holders_after s n hs c = with_answer hs c (Some (line_step s n hs c).reply)
 
 -- the events of the lines, the first at place n, from this state and with these variables
 abbrev pub flat_events : ℕ → Machine → List HolderView → List Line → List Event

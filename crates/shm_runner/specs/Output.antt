@@ -10,7 +10,7 @@ use Rattle.shm_history.specs.WorldState.{WorldState, tally_of}
 use Rattle.shm_text.specs.Variables.{call_of}
 use Rattle.shm_text.specs.declared.script.Line.{Line}
 use Rattle.shm_text.specs.declared.script.Line.TheVariants.{Command, Flush}
-use Rattle.shm_program.specs.Values.{HolderView, fresh_holder, values_of, answered}
+use Rattle.shm_program.specs.Values.{HolderView, fresh_holder, values_of, with_answer}
 use Rattle.shm_program.specs.Runs.{IsWorldOf}
 use Rattle.shm_runner.specs.Flat.{flat_text}
 
@@ -21,7 +21,7 @@ RunsInOrder hs [] (e ∷ es) = ⊥
 RunsInOrder hs (Flush n ∷ ls) es = RunsInOrder hs ls es
 RunsInOrder hs (Command c ∷ ls) [] = ⊥
 RunsInOrder hs (Command c ∷ ls) (e ∷ es) =
-    (e.pid ≡ c.pid) × (e.call ≡ call_of (values_of hs c.pid) c.call) × RunsInOrder (answered hs c (Some e.reply)) ls es
+    (e.pid ≡ c.pid) × (e.call ≡ call_of (values_of hs c.pid) c.call) × RunsInOrder (with_answer hs c (Some e.reply)) ls es
 
 -- what is printed of a world: the event lines, the listing, and the usage
 abbrev pub world_text : WorldState → List ℕ

@@ -1,10 +1,10 @@
 -- What a run with threads prints, and what its faults say of its input.
-use Rattle.std.specs.Prelude.{◌≡◌, ◌⊎◌, ℕ, Bool, true, false, List, map, Option, Result, All, OnOk, IfErr, IfSome}
+use Rattle.std.specs.Prelude.{◌≡◌, ◌⊎◌, ℕ, Bool, true, false, List, Option, Result, OnOk, IfErr, IfSome}
 use Rattle.std.specs.List.{list_any}
 use Rattle.std.specs.Io.KnownBytes.{IsAtEnd}
 use Rattle.shm_history.specs.WorldState.{WorldState}
 use Rattle.shm_text.specs.Script.{ScriptView}
-use Rattle.shm_transcripts.specs.Transcripts.{IsTranscript, IsAdmitted, pid_in, pid_of}
+use Rattle.shm_transcripts.specs.Transcripts.{AreTranscripts}
 use Rattle.shm_transcripts.specs.declared.transcript.Answer.{Answer}
 use Rattle.shm_transcripts.specs.declared.transcript.Answer.TheVariants as answers
 use Rattle.shm_transcripts.specs.declared.transcript.Entry.{Entry}
@@ -25,18 +25,13 @@ has_mark entries = list_any (λ (e : Entry). is_marked e.answer) entries
 abbrev pub have_mark : List Transcript → Bool
 have_mark transcripts = list_any (λ (t : Transcript). has_mark t.entries.items) transcripts
 
--- a history that the script's processes made, each in its own order
-pub record IsRunOf (script : ScriptView) (world : WorldState) (transcripts : List Transcript) : Type 0 where
-  pub processes : map pid_of transcripts ≡ map pid_in script.processes
-  pub follow : All (IsTranscript script world.events) transcripts
-  pub admitted : All (IsAdmitted script.processes) world.events
-
--- the text of the world of such a run; and whether one of its calls is marked out of memory
+-- the text of the world of a run that the script's processes made, each in its own order; and whether one of its calls is
+-- marked out of memory
 pub record IsThreadedOutput (marked : Bool) (script : ScriptView) (areas : List ℕ) (text : List ℕ) : Type 0 where
   pub world : WorldState
   pub transcripts : List Transcript
   pub is_world : IsWorldOf script areas world
-  pub is_run : IsRunOf script world transcripts
+  pub is_run : AreTranscripts script world.events transcripts
   pub marks : have_mark transcripts ≡ marked
   pub printed : text ≡ world_text world
 

@@ -5,7 +5,7 @@ ghost use Rattle.shm_runner.specs.Faults.{ended_as};
 use shm_program::RunFault;
 use shm_threads::RunError;
 
-pub(crate) fn ended(error: RunError) -> RunFault
+pub(crate) fn run_fault(error: RunError) -> RunFault
     ensures { result ≡ ended_as error }
 {
     match error {

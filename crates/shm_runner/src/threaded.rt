@@ -6,7 +6,7 @@ ghost use Rattle.shm_program.specs.Runs.{IsCauseIn, IsOpening, IsWorldSound, IsW
 ghost use Rattle.shm_runner.specs.Output.{world_text};
 ghost use Rattle.shm_runner.specs.Threaded.{is_marked, has_mark, have_mark, IsThreadedOutput, IsThreadedRun, IsAllOrNothing};
 
-use crate::fault::ended;
+use crate::fault::run_fault;
 use crate::world::write_world;
 use shm_history::World;
 use shm_pager::Pager;
@@ -73,7 +73,7 @@ fn run_in<T: Threads + Wait + Sync, W: Write, P: Pager + Send>(
 {
     match run_threads(rt, alloc, world, script, &OpenGate) {
         Ok(outcome) => write_outcome(alloc, writer, &outcome),
-        Err(error) => Err(ended(error)),
+        Err(error) => Err(run_fault(error)),
     }
 }
 

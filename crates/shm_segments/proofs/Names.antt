@@ -45,9 +45,9 @@ pub use Rattle.shm_slots.specs.Cause.{GoesOn}
 pub use Rattle.shm_slots.specs.View.{SwapView}
 pub use Rattle.shm_segments.specs.Joined.{Agree, Shape, joined_table, locked_in_row, locked_of_rows, pages_in_row, pages_of_rows, segment_of, shape_held, shape_row, whole, live_row}
 pub use Rattle.shm_segments.specs.Kept.{AreSegmentsKept, IsWhole, SizesFit}
-pub use Rattle.shm_segments.specs.Left.{id_in, is_left, orphan, orphan_in}
+pub use Rattle.shm_segments.specs.Orphan.{id_in, is_orphan, orphan, orphan_in}
 pub use Rattle.shm_segments.specs.Table.{IsFound, SpanFits, created, destroyed, live_in, look_of, made, number_at, pages_at, refused_look, reowned, segment_seen, relocked}
-pub use Rattle.shm_segments.specs.View.{Runs, SegmentsView, ShowsTable}
+pub use Rattle.shm_segments.specs.View.{KeepsMemory, SegmentsView, ShowsTable}
 pub use Rattle.shm_segments.specs.declared.head.Found.{Found}
 pub use Rattle.shm_segments.specs.declared.head.Head.{Head}
 pub use Rattle.shm_ids.specs.declared.table.Entry.{Entry}

@@ -1,5 +1,5 @@
 -- What the memory keeps, and that it shows the table.
-use Rattle.shm_segments.proofs.Names.{◌≡◌, ◌≢◌, ℕ, ◌==◌, false, List, [], ◌∷◌, ◌++◌, length, Option, None, refl, sym, ap, ◌∙◌, arith, eq-eqb, not, append-nil, All, Result, OnOk, OnErr, sum_by, Span, Held, find_held, is_held, is_locked, with_zeros, without, FitsPage, written, find_held-id, find-without_same, find-without_other, find-zeros_same, find-zeros_other, StoreView, frame_of, fresh_store, Frame, SwapView, SegRec, find_seg, but, new_seg, rec_in, IsBlank, not-held, rec-added, LockedPagesStay, IsStoreSound, GoesOn-refl, GoesOn-trans, GoesOn, Head, joined_table, Agree, SegmentsView, ShowsTable, Runs, AreSegmentsKept, IsWhole, stored, span_places, SpanFits, filter-append, filter-none, common_steps, is_some, option_map, Ok, Err, FlatEntry, Entry, live_row}
+use Rattle.shm_segments.proofs.Names.{◌≡◌, ◌≢◌, ℕ, ◌==◌, false, List, [], ◌∷◌, ◌++◌, length, Option, None, refl, sym, ap, ◌∙◌, arith, eq-eqb, not, append-nil, All, Result, OnOk, OnErr, sum_by, Span, Held, find_held, is_held, is_locked, with_zeros, without, FitsPage, written, find_held-id, find-without_same, find-without_other, find-zeros_same, find-zeros_other, StoreView, frame_of, fresh_store, Frame, SwapView, SegRec, find_seg, but, new_seg, rec_in, IsBlank, not-held, rec-added, LockedPagesStay, IsStoreSound, GoesOn-refl, GoesOn-trans, GoesOn, Head, joined_table, Agree, SegmentsView, ShowsTable, KeepsMemory, AreSegmentsKept, IsWhole, stored, span_places, SpanFits, filter-append, filter-none, common_steps, is_some, option_map, Ok, Err, FlatEntry, Entry, live_row}
 use Rattle.shm_fault.specs.Store.{held}
 use Rattle.shm_segments.proofs.Finding.{live-joined}
 use Rattle.shm_segments.proofs.Shown.{agree-written, store_shown}
@@ -18,11 +18,11 @@ shows-joined m rows agree id = grind (arith, common_steps, live_row, find_held, 
 
 -- KEPT
 
-pub runs-refl : (m : StoreView) → Runs m m
-runs-refl m = record { kept = λ seg page a b e. e; locks = λ id e. e; goes_on = GoesOn-refl m.swap; frames = refl }
+pub memory-refl : (m : StoreView) → KeepsMemory m m
+memory-refl m = record { kept = λ seg page a b e. e; locks = λ id e. e; goes_on = GoesOn-refl m.swap; frames = refl }
 
-pub runs-trans : (a b c : StoreView) → Runs a b → Runs b c → Runs a c
-runs-trans a b c p q = record {
+pub memory-trans : (a b c : StoreView) → KeepsMemory a b → KeepsMemory b c → KeepsMemory a c
+memory-trans a b c p q = record {
   kept = λ seg page before after e. let mid = q.locks seg after in q.kept seg page mid after (p.kept seg page before mid e);
   locks = λ id e. p.locks id (q.locks id e);
   goes_on = GoesOn-trans a.swap b.swap c.swap p.goes_on q.goes_on;
@@ -30,16 +30,16 @@ runs-trans a b c p q = record {
 }
 
 -- frames and swap as they were, and no page moved
-pub runs-zeros : (a b : StoreView) (id n : ℕ) → is_held (held a) id ≡ false → held b ≡ with_zeros (held a) id n → b.swap ≡ a.swap → b.frames ≡ a.frames → ((s page : ℕ) → frame_of b s page ≡ frame_of a s page) → Runs a b
-runs-zeros a b id n new is swap frames still = grind (arith, common_steps, find-zeros_same, find-zeros_other)
+pub memory-zeros : (a b : StoreView) (id n : ℕ) → is_held (held a) id ≡ false → held b ≡ with_zeros (held a) id n → b.swap ≡ a.swap → b.frames ≡ a.frames → ((s page : ℕ) → frame_of b s page ≡ frame_of a s page) → KeepsMemory a b
+memory-zeros a b id n new is swap frames still = grind (arith, common_steps, find-zeros_same, find-zeros_other)
 
 -- a segment is gone, and the others' pages are where they were
-pub runs-without : (a b : StoreView) (id : ℕ) → held b ≡ without (held a) id → GoesOn a.swap b.swap → length b.frames ≡ length a.frames → ((s page : ℕ) → s ≢ id → frame_of b s page ≡ frame_of a s page) → Runs a b
-runs-without a b id is goes frames still = grind (arith, common_steps, find-without_same, find-without_other, is_some)
+pub memory-without : (a b : StoreView) (id : ℕ) → held b ≡ without (held a) id → GoesOn a.swap b.swap → length b.frames ≡ length a.frames → ((s page : ℕ) → s ≢ id → frame_of b s page ≡ frame_of a s page) → KeepsMemory a b
+memory-without a b id is goes frames still = grind (arith, common_steps, find-without_same, find-without_other, is_some)
 
 -- no byte and no lock changed
-pub runs-same : (a b : StoreView) → held b ≡ held a → LockedPagesStay a b → GoesOn a.swap b.swap → length b.frames ≡ length a.frames → Runs a b
-runs-same a b is kept goes frames = record { kept = kept; locks = λ id e. rw is at e; goes_on = goes; frames = frames }
+pub memory-same : (a b : StoreView) → held b ≡ held a → LockedPagesStay a b → GoesOn a.swap b.swap → length b.frames ≡ length a.frames → KeepsMemory a b
+memory-same a b is kept goes frames = record { kept = kept; locks = λ id e. rw is at e; goes_on = goes; frames = frames }
 
 -- A SEGMENT THAT WAS MADE AND IS TAKEN BACK
 
@@ -76,8 +76,8 @@ kept-written hs rows pages locks ps new k fit =
       few_locked = omega (arith, sums.locks, k.few_locked);
     }
 
-runs-written : (a b : StoreView) (rows : List (Entry Head)) (ps : List Span) (new : List ℕ) → Agree (held a) rows → All (FitsPage (held a)) ps → held b ≡ written (held a) ps new → LockedPagesStay a b → GoesOn a.swap b.swap → length b.frames ≡ length a.frames → Runs a b
-runs-written a b rows ps new agree fit is kept goes frames = record {
+memory-written : (a b : StoreView) (rows : List (Entry Head)) (ps : List Span) (new : List ℕ) → Agree (held a) rows → All (FitsPage (held a)) ps → held b ≡ written (held a) ps new → LockedPagesStay a b → GoesOn a.swap b.swap → length b.frames ≡ length a.frames → KeepsMemory a b
+memory-written a b rows ps new agree fit is kept goes frames = record {
   kept = kept;
   locks = λ id e. sym (agree-locks (held a) (written (held a) ps new) rows id agree (agree-written (held a) rows ps new agree fit)) ∙ (rw is at e);
   goes_on = goes;
@@ -87,7 +87,7 @@ runs-written a b rows ps new agree fit is kept goes frames = record {
 -- done or not, all is whole, and the table shows what was done
 pub record Wrote {A E : Type 0} (r : Result A E) (s n : StoreView) (rows : List (Entry Head)) (pages locks : ℕ) (ps : List Span) (new : List ℕ) : Type 0 where
   pub whole : IsWhole n rows pages locks
-  pub runs : Runs s n
+  pub keeps : KeepsMemory s n
   pub written : OnOk r (joined_table (held n) rows ≡ stored (joined_table (held s) rows) (span_places false ps) new)
   pub same : OnErr r (joined_table (held n) rows ≡ joined_table (held s) rows)
 
@@ -98,11 +98,11 @@ wrote (Ok a) s n rows pages locks ps new w fits size is same sound kept goes fra
     let fit = spans-fit (held s) rows ps agree fits in
     record {
       whole = record { kept = rw is (kept-written (held s) rows pages locks ps new w.kept fit); sound = sound };
-      runs = runs-written s n rows ps new agree fit is kept goes frames;
+      keeps = memory-written s n rows ps new agree fit is kept goes frames;
       written = rw is (sym (store_shown (held s) rows false ps new agree fit size));
       same = tt;
     }
-wrote (Err e) s n rows pages locks ps new w fits size is same sound kept goes frames = grind (arith, common_steps, kept, same, w.kept, runs-same)
+wrote (Err e) s n rows pages locks ps new w fits size is same sound kept goes frames = grind (arith, common_steps, kept, same, w.kept, memory-same)
 
 -- NO SEGMENT
 

@@ -1,8 +1,8 @@
 -- Changes of a table that leave alone how many pages each segment has, which are locked, and which are marked.
-use Rattle.shm_segments.proofs.Names.{◌≡◌, ℕ, ◌%◌, List, [], ◌∷◌, ◌∙◌, length, slice_get, Option, Some, None, refl, arith, cases_eq, Segment, Runner, Place, set_in, with_byte, entry_byte_set, stored, change, with_entry, reserved, locked, detached, detach_all, live_in, pages_at, is_left, orphan_in, orphan, id_in, nat_tests, common_steps, slice_set, is_some, option_map, pages_held, pages_locked}
+use Rattle.shm_segments.proofs.Names.{◌≡◌, ℕ, ◌%◌, List, [], ◌∷◌, ◌∙◌, length, slice_get, Option, Some, None, refl, arith, cases_eq, Segment, Runner, Place, set_in, with_byte, entry_byte_set, stored, change, with_entry, reserved, locked, detached, detach_all, live_in, pages_at, is_orphan, orphan_in, orphan, id_in, nat_tests, common_steps, slice_set, is_some, option_map, pages_held, pages_locked}
 use Rattle.shm_base.specs.State.{Entry}
 use Rattle.shm_segments.specs.Table.{live}
-use Rattle.shm_segments.specs.Left.{id_at}
+use Rattle.shm_segments.specs.Orphan.{identifier_at}
 use Rattle.shm_segments.proofs.Entries.{get-set_same, get-set_other, length-slice_set, sum-set_same}
 
 -- two segments, or none, of as many pages
@@ -16,7 +16,7 @@ pub record SamePages (t u : List Entry) : Type 0 where
   pub reserved : reserved u ≡ reserved t
   pub pages : (id : ℕ) → pages_at u id ≡ pages_at t id
   pub there : (id : ℕ) → is_some (live u id) ≡ is_some (live t id)
-  pub ids : (i : ℕ) → id_at u i ≡ id_at t i
+  pub ids : (i : ℕ) → identifier_at u i ≡ identifier_at t i
 
 -- and the same are locked, and marked
 pub record SameTable (t u : List Entry) : Type 0 where
@@ -56,7 +56,7 @@ set-pages t i x p there a =
     }
 
 -- what is marked where one entry is set to one that is marked alike
-pub set-left : (t : List Entry) (i : ℕ) (x : Entry) (p : Option Segment) → slice_get t i ≡ Some x → ((rs : List Runner) (id : ℕ) → is_left rs id p ≡ is_left rs id x.segment)
+pub set-left : (t : List Entry) (i : ℕ) (x : Entry) (p : Option Segment) → slice_get t i ≡ Some x → ((rs : List Runner) (id : ℕ) → is_orphan rs id p ≡ is_orphan rs id x.segment)
     → (rs : List Runner) (j : ℕ) → orphan rs (slice_set t i (record { destroyed = x.destroyed; segment = p })) j ≡ orphan rs t j
 set-left t i x p there a rs j = at-set (orphan_in j rs) t i j (record { destroyed = x.destroyed; segment = p }) x there (a rs _)
 
@@ -69,7 +69,7 @@ module _ (f : Segment → Segment) where
   mapped-locked : ((s : Segment) → length (f s).bytes ≡ length s.bytes) → ((s : Segment) → (f s).locked ≡ s.locked) → (o : Option Segment) → pages_locked (option_map f o) ≡ pages_locked o
   mapped-locked k l o = grind (arith, nat_tests, k, l)
 
-  mapped-left : ((s : Segment) → (f s).dest ≡ s.dest) → (o : Option Segment) (rs : List Runner) (id : ℕ) → is_left rs id (option_map f o) ≡ is_left rs id o
+  mapped-left : ((s : Segment) → (f s).dest ≡ s.dest) → (o : Option Segment) (rs : List Runner) (id : ℕ) → is_orphan rs id (option_map f o) ≡ is_orphan rs id o
   mapped-left k o rs id = grind (arith, k)
 
   in-pages : ((s : Segment) → length (f s).bytes ≡ length s.bytes) → (t : List Entry) (i : ℕ) (o : Option Entry) → slice_get t i ≡ o → SamePages t (set_in t i (with_entry f) o)

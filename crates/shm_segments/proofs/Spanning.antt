@@ -7,7 +7,7 @@ pages-row : (hs : List Held) (rows : List (Entry Head)) (id : ℕ) → pages_at 
 pages-row hs rows id = ap pages_held (live-joined hs rows id)
 
 span-fits : (hs : List Held) (rows : List (Entry Head)) (p : Span) → Agree hs rows → SpanFits (joined_table hs rows) p → FitsPage hs p
-span-fits hs rows p agree fit = grind (arith, common_steps, p.at, option_map, pages-row, ltb-true, fit.2, held-as, fit.1, fit.0)
+span-fits hs rows p agree fit = grind (arith, common_steps, p.at, option_map, pages-row, ltb-true, fit.1, held-as, fit.0.1, fit.0.0)
 
 pub spans-fit : (hs : List Held) (rows : List (Entry Head)) (ps : List Span) → Agree hs rows → All (SpanFits (joined_table hs rows)) ps → All (FitsPage hs) ps
 spans-fit hs rows ps agree fit = λ k d lt. span-fits hs rows (get_or ps k d) agree (fit k d lt)

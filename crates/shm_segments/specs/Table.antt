@@ -1,5 +1,5 @@
 -- Words on the flat machine's table that contracts cite.
-use Rattle.std.specs.Prelude.{slice_get, slice_set, replicate, option_map, ℤ, ◌≡◌, ◌≤◌, ◌<◌, ◌+◌, ◌*◌, ◌/◌, ◌%◌, ◌^◌, ◌==◌, ℕ, pos, Bool, true, nat_lt, if◌then◌else◌, is_some, List, length, Option, Some, None}
+use Rattle.std.specs.Prelude.{slice_get, slice_set, replicate, option_map, ℤ, ◌≡◌, ◌≤◌, ◌+◌, ◌*◌, ◌/◌, ◌%◌, ◌^◌, ◌==◌, ℕ, pos, Bool, true, nat_lt, if◌then◌else◌, is_some, List, length, Option, Some, None}
 use Rattle.std.specs.Int.{w64, from_le_bytes, to_le_bytes}
 use Rattle.shm_base.specs.declared.errno.Errno.{Errno}
 use Rattle.shm_base.specs.declared.errno.Errno.TheVariants.{Eidrm, Einval}
@@ -7,6 +7,7 @@ use Rattle.shm_base.specs.declared.paging.Span.{Span}
 use Rattle.shm_base.specs.State.{Segment, Entry, pages_of}
 use Rattle.shm_base.specs.Identifier as flat
 use Rattle.shm_base.specs.Access.{Place, bytes_at, loaded, stored}
+use Rattle.shm_base.specs.Spans.{InPage, page_of}
 use Rattle.shm_base.specs.Segments.{pages_held}
 use Rattle.shm_segments.specs.Joined.{segment_of}
 use Rattle.shm_segments.specs.declared.head.Head.{Head}
@@ -58,7 +59,7 @@ page_there table id page = nat_lt page (pages_at table id)
 
 -- a span lies in a page of a live segment
 abbrev pub SpanFits : List Entry → Span → Type 0
-SpanFits table p = (0 < p.len) × (p.at + p.len ≤ 4096 * (p.at / 4096) + 4096) × (page_there table p.seg (p.at / 4096) ≡ true)
+SpanFits table p = InPage p × (page_there table p.seg (page_of p) ≡ true)
 
 -- a segment that is made at an index
 abbrev pub created : List Entry → ℕ → ℕ → Head → List Entry

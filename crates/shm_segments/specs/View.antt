@@ -26,7 +26,7 @@ pub record IsTableExact (table : List Entry) (m : StoreView) : Type 0 where
   pub shows : ShowsTable table m
 
 -- what each step but a lock keeps of the memory
-pub record Runs (before after : StoreView) : Type 0 where
+pub record KeepsMemory (before after : StoreView) : Type 0 where
   pub kept : LockedPagesStay before after
   pub locks : (id : ℕ) → is_locked (held after) id ≡ true → is_locked (held before) id ≡ true
   pub goes_on : GoesOn before.swap after.swap

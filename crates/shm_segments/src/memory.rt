@@ -6,11 +6,11 @@ ghost use Rattle.shm_base.specs.Spans.{span_places};
 ghost use Rattle.shm_plain.specs.Access.{IsAccess};
 ghost use Rattle.shm_slots.specs.View.{slots, sizes, area_at};
 ghost use Rattle.shm_slots.specs.Cause.{had_cause};
-ghost use Rattle.shm_fault.specs.Store.{frame_of};
+ghost use Rattle.shm_fault.specs.Store.{Still};
 ghost use Rattle.shm_fault.specs.Access.{Accessed, NameFrames, IsUntouched, answer_of};
 ghost use Rattle.shm_fault.specs.Flushing.{IsFlushed};
 ghost use Rattle.shm_segments.specs.Table.{SpanFits, number_at, added};
-ghost use Rattle.shm_segments.specs.View.{IsTableExact, Runs};
+ghost use Rattle.shm_segments.specs.View.{IsTableExact, KeepsMemory};
 
 use crate::segments::Segments;
 use shm_base::{FlushReport, Span};
@@ -42,7 +42,7 @@ impl<P: Pager> Segments<P> {
         ensures bytes { OnOk result (out.new ≡ loaded self.old.table (span_places false spans.now)) }
         ensures table { self.new.table ≡ self.old.table }
         ensures access { Accessed spans.now self.old.memory self.new.memory (answer_of touched.new result) }
-        ensures runs { Runs self.old.memory self.new.memory }
+        ensures keeps { KeepsMemory self.old.memory self.new.memory }
     {
         self.store.read_with(spans, out, touched)
     }
@@ -61,7 +61,7 @@ impl<P: Pager> Segments<P> {
         ensures written { OnOk result (self.new.table ≡ stored self.old.table (span_places false spans.now) bytes.now) }
         ensures same { OnErr result (self.new.table ≡ self.old.table) }
         ensures access { Accessed spans.now self.old.memory self.new.memory (answer_of touched.new result) }
-        ensures runs { Runs self.old.memory self.new.memory }
+        ensures keeps { KeepsMemory self.old.memory self.new.memory }
     {
         self.store.write_with(spans, bytes, touched)
     }
@@ -83,7 +83,7 @@ impl<P: Pager> Segments<P> {
         ensures written { OnOk result (self.new.table ≡ added self.old.table (span_places false spans.now) more) }
         ensures same { OnErr result (self.new.table ≡ self.old.table) }
         ensures access { Accessed spans.now self.old.memory self.new.memory (answer_of touched.new result) }
-        ensures runs { Runs self.old.memory self.new.memory }
+        ensures keeps { KeepsMemory self.old.memory self.new.memory }
     {
         self.store.add_with(spans, more, old, touched)
     }
@@ -92,9 +92,9 @@ impl<P: Pager> Segments<P> {
     pub fn flush(&mut self, n: u64) -> FlushReport
         ensures flushed { IsFlushed self.old.memory self.new.memory n result }
         ensures table { self.new.table ≡ self.old.table }
-        ensures still { (s page : ℕ) → frame_of self.new.memory s page ≡ frame_of self.old.memory s page }
+        ensures still { Still self.old.memory self.new.memory }
         ensures sizes { sizes self.new.memory.swap ≡ sizes self.old.memory.swap }
-        ensures runs { Runs self.old.memory self.new.memory }
+        ensures keeps { KeepsMemory self.old.memory self.new.memory }
     {
         self.store.flush(n)
     }
@@ -106,10 +106,10 @@ impl<P: Pager> Segments<P> {
         requires room { reserved self.old.table + length (area_at self.old.memory.swap area).pages ≤ slots self.old.memory.swap }
         ensures table { self.new.table ≡ self.old.table }
         ensures gone { OnOk result (sizes self.new.memory.swap ≡ set (sizes self.old.memory.swap) area None) }
-        ensures still { (s page : ℕ) → frame_of self.new.memory s page ≡ frame_of self.old.memory s page }
+        ensures still { Still self.old.memory self.new.memory }
         ensures cause { OnErr result (had_cause self.old.memory.swap self.new.memory.swap ≡ true) }
         ensures sizes { OnErr result (sizes self.new.memory.swap ≡ sizes self.old.memory.swap) }
-        ensures runs { Runs self.old.memory self.new.memory }
+        ensures keeps { KeepsMemory self.old.memory self.new.memory }
     {
         self.store.move_off(area)
     }

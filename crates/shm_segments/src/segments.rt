@@ -6,8 +6,8 @@ ghost use Rattle.shm_base.specs.Segments.{reserved, segment_count, change, attac
 ghost use Rattle.shm_base.specs.Segments.{locked as locked_pages};
 ghost use Rattle.shm_slots.specs.View.{slots, sizes, owner_of};
 ghost use Rattle.shm_fault.specs.Segs.{with_seg_lock};
-ghost use Rattle.shm_fault.specs.Store.{fresh_store, frame_of};
-ghost use Rattle.shm_segments.specs.View.{Runs};
+ghost use Rattle.shm_fault.specs.Store.{Still, fresh_store, frame_of};
+ghost use Rattle.shm_segments.specs.View.{KeepsMemory};
 ghost use Rattle.shm_segments.specs.Lends.{lends_head};
 ghost use Rattle.std.specs.Borrow.{sem};
 ghost use Rattle.shm_segments.specs.Table.{IsFound, IsLive, look_of, refused_look, live, segment_in, made, destroyed, reowned, relocked};
@@ -81,7 +81,7 @@ fn found_under(table: &IdTable<Head>, id: ShmId) -> Result<Found, LookRefused>
     ensures head { IfOk result (λ f. look table.now id ≡ Ok f.head) }
     ensures err { IfErr result (λ e. look table.now id ≡ Err e) }
 {
-    let row = table.look(id)?;
+    let row = table.row_of(id)?;
     Ok(Found {
         seg: id as u32,
         id,
@@ -97,7 +97,7 @@ fn head_mut(table: &mut IdTable<Head>, seg: u32) -> &mut Head
     ensures value { look table.old (pos seg) ≡ Ok result.now }
 {
     let id = id_of(table, seg);
-    table.value_of(id)
+    table.value_mut(id)
 }
 
 // Hides the key of a live segment.
@@ -252,9 +252,9 @@ impl<P: Pager> Segments<P> {
         requires few { reserved self.old.table ≤ 65536 }
         requires room { reserved self.old.table + flat.pages_of head.size ≤ slots self.old.memory.swap }
         ensures ok { IfOk result (λ id. made self.old.table key head ≡ Some (id, self.new.table)) }
-        ensures runs { OnOk result (Runs self.old.memory self.new.memory) }
+        ensures keeps { OnOk result (KeepsMemory self.old.memory self.new.memory) }
         ensures swap { OnOk result (self.new.memory.swap ≡ self.old.memory.swap) }
-        ensures still { (s page : ℕ) → frame_of self.new.memory s page ≡ frame_of self.old.memory s page }
+        ensures still { Still self.old.memory self.new.memory }
         ensures err { OnErr result (self.new ≡ self.old) }
     {
         let Some(id) = self.table.next_id() else {
@@ -278,7 +278,7 @@ impl<P: Pager> Segments<P> {
     pub fn destroy(&mut self, seg: u32)
         requires { IsLive self.old.table seg }
         ensures table { self.new.table ≡ destroyed self.old.table seg }
-        ensures runs { Runs self.old.memory self.new.memory }
+        ensures keeps { KeepsMemory self.old.memory self.new.memory }
         ensures sizes { sizes self.new.memory.swap ≡ sizes self.old.memory.swap }
         ensures still { (s page : ℕ) → s ≢ seg → frame_of self.new.memory s page ≡ frame_of self.old.memory s page }
     {
@@ -336,7 +336,7 @@ impl<P: Pager> Segments<P> {
         requires few { locked ≡ true → locked_pages (change self.old.table seg (relocked true)) + 2 ≤ length self.old.memory.frames }
         ensures table { self.new.table ≡ change self.old.table seg (relocked locked) }
         ensures only { self.new.memory ≡ record self.old.memory { segs = map (with_seg_lock seg locked) self.old.memory.segs } }
-        ensures still { (s page : ℕ) → frame_of self.new.memory s page ≡ frame_of self.old.memory s page }
+        ensures still { Still self.old.memory self.new.memory }
     {
         let head = head_mut(&mut self.table, seg);
         let unlocked = self.locked - pages_locked(head);

@@ -11,7 +11,7 @@ use std::marker::Model;
 
 /// A swap area. It keeps what its pager's count stood at when it was handed in, and, once the pager is
 /// gone, what it stood at then.
-pub struct Area<P: Pager> {
+pub(crate) struct Area<P: Pager> {
     pager: Option<P>,
     owners: Owners,
     start: u64,
@@ -56,7 +56,7 @@ impl<P: Pager> Area<P> {
     ghost use Rattle.shm_slots.specs.View.{with_page, with_owner, AfterReadFault, AfterWriteFault, is_spent, rise, off, fresh, size_of, used_in, IsArea};
 
     /// An area with no slot owned.
-    pub fn new(alloc: Global, pager: P) -> Result<Area<P>, AllocError>
+    pub(crate) fn new(alloc: Global, pager: P) -> Result<Area<P>, AllocError>
         requires { length (P.content pager) ≤ 65536 }
         ensures made { IfOk result (λ a. a ≡ fresh (pager_seen P.content P.failed pager)) }
         ensures sound { IfOk result IsArea }
@@ -72,7 +72,7 @@ impl<P: Pager> Area<P> {
     }
 
     /// What the pager's count stands at, or stood at last.
-    pub fn count(&self) -> u64
+    pub(crate) fn count(&self) -> u64
         ensures { result ≡ self.now.failed }
     {
         match &self.pager {
@@ -82,35 +82,35 @@ impl<P: Pager> Area<P> {
     }
 
     /// Whether the count stands at its last value.
-    pub fn is_spent(&self) -> bool
+    pub(crate) fn is_spent(&self) -> bool
         ensures { result ≡ is_spent self.now }
     {
         self.count() == u64::MAX
     }
 
     /// What the pager's count has risen by.
-    pub fn rise(&self) -> u64
+    pub(crate) fn rise(&self) -> u64
         ensures { result ≡ rise self.now }
     {
         self.count() - self.start
     }
 
     /// How many slots there are, if the area is there.
-    pub fn size(&self) -> Option<u32>
+    pub(crate) fn size(&self) -> Option<u32>
         ensures { result ≡ size_of self.now }
     {
         Some(self.pager.as_ref()?.slots())
     }
 
     /// How many slots are owned.
-    pub fn used(&self) -> u32
+    pub(crate) fn used(&self) -> u32
         ensures { result ≡ used_in self.now }
     {
         self.owners.used()
     }
 
     /// Who owns a slot.
-    pub fn owner(&self, slot: u32) -> Option<PageRef>
+    pub(crate) fn owner(&self, slot: u32) -> Option<PageRef>
         requires { slot < length self.now.owners }
         ensures { result ≡ get_or self.now.owners slot None }
     {
@@ -118,21 +118,21 @@ impl<P: Pager> Area<P> {
     }
 
     /// Who owns the slots, by rising number.
-    pub fn owners(&self) -> &[Option<PageRef>]
+    pub(crate) fn owners(&self) -> &[Option<PageRef>]
         ensures { result.now ≡ self.now.owners }
     {
         self.owners.as_slice()
     }
 
     /// The least slot that nobody owns.
-    pub fn least_free(&self) -> Option<u32>
+    pub(crate) fn least_free(&self) -> Option<u32>
         ensures { FoundLeast self.now.owners result }
     {
         self.owners.least_free()
     }
 
     /// Gives the least free slot an owner.
-    pub fn take(&mut self, slot: u32, owner: PageRef)
+    pub(crate) fn take(&mut self, slot: u32, owner: PageRef)
         requires { IsLeastFree self.old.owners slot }
         ensures taken { self.new ≡ with_owner self.old slot (Some owner) }
         ensures sound { IsArea self.new }
@@ -141,7 +141,7 @@ impl<P: Pager> Area<P> {
     }
 
     /// Frees a slot, and tells the pager that nobody needs what it holds.
-    pub fn give(&mut self, slot: u32)
+    pub(crate) fn give(&mut self, slot: u32)
         requires { slot < length self.old.pages }
         ensures pages { SlotUnknown slot self.old.pages self.new.pages }
         ensures rest { self.new ≡ record (with_owner self.old slot None) { pages = self.new.pages } }
@@ -154,7 +154,7 @@ impl<P: Pager> Area<P> {
     }
 
     /// Puts a page into a slot.
-    pub fn write(&mut self, slot: u32, page: &[u8; PAGE_BYTES]) -> Result<(), PagerFault>
+    pub(crate) fn write(&mut self, slot: u32, page: &[u8; PAGE_BYTES]) -> Result<(), PagerFault>
         requires { slot < length self.old.pages }
         ensures ok { IfOk result (λ _. self.new ≡ with_page self.old slot page.now) }
         ensures err { IfErr result (λ _. AfterWriteFault slot self.old self.new) }
@@ -169,7 +169,7 @@ impl<P: Pager> Area<P> {
     }
 
     /// Reads the page in a slot.
-    pub fn read(&mut self, slot: u32, page: &mut [u8; PAGE_BYTES]) -> Result<(), PagerFault>
+    pub(crate) fn read(&mut self, slot: u32, page: &mut [u8; PAGE_BYTES]) -> Result<(), PagerFault>
         requires { slot < length self.old.pages }
         ensures ok { IfOk result (λ _. self.new ≡ self.old) }
         ensures page { IfOk result (λ _. get_or self.old.pages slot [] ≡ page.new) }
@@ -185,7 +185,7 @@ impl<P: Pager> Area<P> {
     }
 
     /// Drops the pager. The count stays as it stood.
-    pub fn turn_off(&mut self)
+    pub(crate) fn turn_off(&mut self)
         ensures gone { self.new ≡ off self.old }
         ensures sound { IsArea self.new }
     {

@@ -8,7 +8,7 @@ use std::alloc::{AllocError, Global};
 use std::marker::Model;
 
 /// The owners of an area's slots.
-pub struct Owners {
+pub(crate) struct Owners {
     slots: Vec<Option<PageRef>>,
     first_free: usize,
     used: usize,
@@ -52,7 +52,7 @@ fn least_free_from(slots: &Vec<Option<PageRef>>, first: usize) -> Option<usize>
 
 impl Owners {
     /// So many free slots.
-    pub fn new(alloc: Global, count: u32) -> Result<Owners, AllocError>
+    pub(crate) fn new(alloc: Global, count: u32) -> Result<Owners, AllocError>
         ensures { IfOk result (λ o. o ≡ replicate count None) }
     {
         let mut slots = Vec::with_capacity(alloc, count as usize)?;
@@ -67,14 +67,14 @@ impl Owners {
     }
 
     /// How many slots are owned.
-    pub fn used(&self) -> u32
+    pub(crate) fn used(&self) -> u32
         ensures { result ≡ used_count self.now }
     {
         self.used as u32
     }
 
     /// Who owns a slot.
-    pub fn get(&self, slot: u32) -> Option<PageRef>
+    pub(crate) fn get(&self, slot: u32) -> Option<PageRef>
         requires { slot < length self.now }
         ensures { result ≡ get_or self.now slot None }
     {
@@ -82,14 +82,14 @@ impl Owners {
     }
 
     /// The owners of all slots, by rising number.
-    pub fn as_slice(&self) -> &[Option<PageRef>]
+    pub(crate) fn as_slice(&self) -> &[Option<PageRef>]
         ensures { result.now ≡ self.now }
     {
         self.slots.as_slice()
     }
 
     /// The least free slot.
-    pub fn least_free(&self) -> Option<u32>
+    pub(crate) fn least_free(&self) -> Option<u32>
         ensures { FoundLeast self.now result }
     {
         if self.used == self.slots.len() {
@@ -100,7 +100,7 @@ impl Owners {
     }
 
     /// Gives the least free slot an owner.
-    pub fn take(&mut self, slot: u32, owner: PageRef)
+    pub(crate) fn take(&mut self, slot: u32, owner: PageRef)
         requires { IsLeastFree self.old slot }
         ensures { self.new ≡ set self.old slot (Some owner) }
     {
@@ -110,7 +110,7 @@ impl Owners {
     }
 
     /// Frees a slot.
-    pub fn give(&mut self, slot: u32)
+    pub(crate) fn give(&mut self, slot: u32)
         requires { slot < length self.old }
         ensures { self.new ≡ set self.old slot None }
     {
@@ -123,7 +123,7 @@ impl Owners {
     }
 
     /// Leaves no slot.
-    pub fn clear(&mut self)
+    pub(crate) fn clear(&mut self)
         ensures { self.new ≡ [] }
     {
         self.slots.clear();

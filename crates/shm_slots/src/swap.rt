@@ -121,6 +121,7 @@ impl<P: Pager> Swap<P> {
         ensures value { result ≡ self.now.never_spent }
         ensures sound { IsSwap self.now }
     {
+        // Kept by each read and write, so that no pager is asked here.
         self.never_spent
     }
 

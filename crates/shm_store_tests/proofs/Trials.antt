@@ -41,7 +41,7 @@ three_pages-held hs e = sym (all-is hs) ∙ ap pages_all e
 pub three_pages-fit : (hs : List Held) (p : Span) → map row_of hs ≡ three_pages → p.seg ≡ 0 → p.at < 12288 → p.len ≡ 1 → FitsPage hs p
 three_pages-fit hs p e seg at len =
     let told = told-some (find_held hs 0) 3 (sym (row_pages-is hs 0) ∙ ap (λ rs. row_pages rs 0) e) in
-    rw seg (told.0, omega (arith, told.1, at, len), omega (arith, len), omega (arith, len))
+    rw seg (told.0, omega (arith, told.1, at, len), (omega (arith, len), omega (arith, len)))
 
 -- an area that has a size is there
 pub sized : (a : AreaView) (n : ℕ) → size_of a ≡ Some n → (a.here ≡ true) × (length a.pages ≡ n)

@@ -1,5 +1,5 @@
 ghost use Rattle.std.specs.Prelude.{◌≡◌, ◌+◌, ◌<◌, ◌≤◌, ◌^◌, length, IfSome, true, ◌≢◌, []};
-ghost use Rattle.shm_clock.specs.Clock.{may_go, listed};
+ghost use Rattle.shm_clock.specs.Clock.{may_go, candidates};
 ghost use Rattle.shm_store_tests.specs.Unlocked.{is_unlocked};
 
 use shm_base::{FrameNo, HostMemory, PageRef};
@@ -27,7 +27,7 @@ fn may_go(frames: &Frames, frame: FrameNo, locked: u32, pinned: Option<FrameNo>)
 // Whether a frame, other than the pinned one, has a segment that is not the locked one.
 fn some_unlocked(frames: &Frames, hand: FrameNo, locked: u32, pinned: Option<FrameNo>) -> bool
     requires { hand < length frames.now }
-    ensures { result ≡ true → listed (is_unlocked locked) pinned frames.now hand ≢ [] }
+    ensures { result ≡ true → candidates (is_unlocked locked) pinned frames.now hand ≢ [] }
 {
     for frame in 0..frames.count() {
         if may_go(frames, frame, locked, pinned) {

@@ -63,7 +63,7 @@ fn store_over<P: Pager>(
         Ok(store) => store,
         Err(error) => return Err(error),
     };
-    assert!(rt; store.capacity() >= 3);
+    assert!(rt; store.swap().capacity() >= 3);
     match add_segment(rt, &mut store, 0, 3) {
         Ok(()) => Ok(store),
         Err(error) => Err(error),
@@ -114,10 +114,10 @@ fn move_off<P: Pager>(rt: &impl Abort, store: &mut PageStore<P>, area: u32) -> b
     requires { HasThree store.old }
     ensures { HasThree store.new }
 {
-    let Some(size) = store.area_size(area) else {
+    let Some(size) = store.swap().size(area) else {
         return false;
     };
-    assert!(rt; 3 + u64::from(size) <= store.capacity());
+    assert!(rt; 3 + u64::from(size) <= store.swap().capacity());
     match store.move_off(area) {
         Ok(()) => true,
         Err(_) => false,

@@ -143,7 +143,7 @@ fn add<P: Pager>(
 {
     assert!(rt; pages <= 4096);
     let wanted = all_pages(rt, &pair.rows) + u64::from(pages);
-    if has(pair, seg) || wanted > pair.paged.capacity() {
+    if has(pair, seg) || wanted > pair.paged.swap().capacity() {
         return Ok(());
     }
     match add_segment(rt, &mut pair.paged, seg, pages) {
@@ -208,10 +208,10 @@ fn move_off<P: Pager>(rt: &impl Abort, pair: &mut Pair<P>, area: u32)
     requires { AreAlike pair.old.paged pair.old.plain pair.old.rows.items }
     ensures { AreAlike pair.new.paged pair.new.plain pair.new.rows.items }
 {
-    let Some(size) = pair.paged.area_size(area) else {
+    let Some(size) = pair.paged.swap().size(area) else {
         return;
     };
-    if all_pages(rt, &pair.rows) + u64::from(size) > pair.paged.capacity() {
+    if all_pages(rt, &pair.rows) + u64::from(size) > pair.paged.swap().capacity() {
         return;
     }
     let before = moves(&pair.paged);

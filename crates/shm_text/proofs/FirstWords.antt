@@ -1,5 +1,5 @@
 -- The first words of a line decide what it says.
-use Rattle.shm_text.proofs.Names.{arith, ◌≡◌, ◌≤◌, ◌<◌, ◌+◌, refl, ℕ, List, take, length, eqb, Bool, true, false, is_some, codes, nat_lt, not, ◌&&◌, ◌||◌, if◌then◌else◌, nat_tests, length-take, common_steps, word_at, FaultKind, NoLimits, TooMany, Number, LineCall, Verb, ◌>>=◌, required_number, call_by, call_with, SeenView, taker, is_skipped, is_command, with_room, command, has, declared_pid, command_of}
+use Rattle.shm_text.proofs.Names.{arith, ◌≡◌, ◌≤◌, ◌<◌, ◌+◌, refl, ℕ, List, take, length, eqb, Bool, true, false, is_some, codes, nat_lt, not, ◌&&◌, ◌||◌, if◌then◌else◌, nat_tests, length-take, common_steps, word_at, FaultKind, NoLimits, TooMany, Number, LineCall, Verb, ◌>>=◌, required_number, call_by, call_with, SeenView, taker, is_skipped, is_command, with_room, command, word_at_is, declared_pid, command_of}
 use Rattle.std.specs.Prelude.{Result, Ok, Err}
 use Rattle.shm_text.specs.declared.calls.Verb.TheVariants as verbs
 use Rattle.shm_text.specs.Calls.{shmget_call, shmat_call, xadd_call, load_call, store_call, set_call, fork_call, swapoff_call, call_words}
@@ -82,9 +82,9 @@ pub command_words : (seen : SeenView) (ws : List (List ℕ)) → is_command seen
     → words_item seen ws ≡ with_room seen (required_number (word_at ws 0) >>= λ pid. command seen pid (taker ws) ws)
 unfolding words_item body_item command_item
 command_words seen ws is =
-    chosen (with_room seen) (is_some seen.limits) (has ws 0 (codes "0")) (has ws 0 (codes "process")) (has ws 0 (codes "child")) (declaration seen ws) (flush_item ws)
+    chosen (with_room seen) (is_some seen.limits) (word_at_is ws 0 (codes "0")) (word_at_is ws 0 (codes "process")) (word_at_is ws 0 (codes "child")) (declaration seen ws) (flush_item ws)
     (required_number (word_at ws 0) >>= λ pid. command seen pid (taker ws) ws)
-    (if has ws 0 (codes "limits") then limits_item ws else Err NoLimits)
+    (if word_at_is ws 0 (codes "limits") then limits_item ws else Err NoLimits)
     is
 
 -- where the call and the pid can be read

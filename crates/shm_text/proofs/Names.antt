@@ -25,7 +25,7 @@ pub use Rattle.shm_base.specs.Bounds.{Bounds}
 pub use Rattle.shm_text.specs.Calls.{call_by, call_with}
 pub use Rattle.shm_text.specs.Number.{number_from}
 pub use Rattle.shm_text.specs.Operand.{names_of, required_number, ◌>>=◌}
-pub use Rattle.shm_text.specs.Reading.{SeenView, command, command_of, with_room, declared_pid, has, is_command, is_skipped, is_wordless, items_of, limits_after, line_item, lines_in, nothing, processes_in, script_by, script_from, seen_next, taker, with_item}
+pub use Rattle.shm_text.specs.Reading.{SeenView, command, command_of, with_room, declared_pid, word_at_is, is_command, is_skipped, is_wordless, items_of, limits_after, line_item, lines_in, nothing, processes_in, script_by, script_from, seen_next, taker, with_item}
 pub use Rattle.shm_text.specs.Script.{ScriptView}
 pub use Rattle.shm_text.specs.Words.{first_line, is_allowed, is_space, line_end, lines_of, with_word, without_rest, word_at, words_of}
 pub use Rattle.shm_text.specs.declared.calls.Verb.{Verb}

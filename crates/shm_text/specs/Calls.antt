@@ -11,7 +11,7 @@ use Rattle.shm_text.specs.declared.script.LineId.{LineId}
 use Rattle.shm_text.specs.declared.script.LineAddr.{LineAddr}
 use Rattle.shm_text.specs.declared.script.LineCall.{LineCall}
 use Rattle.shm_text.specs.declared.script.LineCall.TheVariants.{Shmget, Shmat, Shmdt, Stat, Set, Rmid, Lock, Unlock, Load, Store, Xadd, Fork, Exec, Exit, Swapoff}
-use Rattle.shm_text.specs.Operand.{◌>>=◌, required_number, ranged, any, key_word, id_word, ranged_id, addr_word, ranged_addr, mode_word, get_flags_word, at_flags_word, chunk_word}
+use Rattle.shm_text.specs.Operand.{◌>>=◌, required_number, ranged, within_64_bits, key_word, id_word, ranged_id, addr_word, ranged_addr, mode_word, get_flags_word, at_flags_word, chunk_word}
 use Rattle.shm_text.specs.Words.{word_at}
 
 -- the words of calls that name no segment
@@ -89,7 +89,7 @@ shmget_call ws i = do
   mode ← mode_word (take 3 (word_at ws (i + 2)))
   flags ← get_flags_word (drop 3 (word_at ws (i + 2)))
   key ← ranged 0 4294967295 key
-  size ← any size
+  size ← within_64_bits size
   Ok (Shmget key size mode flags)
 
 unfoldable pub shmat_call : List (List ℕ) → ℕ → Result LineCall FaultKind
@@ -106,7 +106,7 @@ xadd_call ws i = do
   addr ← addr_word (word_at ws i)
   add ← required_number (word_at ws (i + 1))
   addr ← ranged_addr addr
-  add ← any add
+  add ← within_64_bits add
   Ok (Xadd addr add)
 
 unfoldable pub load_call : List (List ℕ) → ℕ → Result LineCall FaultKind

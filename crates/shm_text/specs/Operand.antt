@@ -37,8 +37,8 @@ ranged low high (Fits n) = if nat_le low n && nat_le n high then Ok n else Err B
 ranged low high TooLarge = Err BadNumber
 
 -- a number of 64 bits
-abbrev pub any : Number → Result ℕ FaultKind
-any n = ranged 0 (2 ^ 64 - 1) n
+abbrev pub within_64_bits : Number → Result ℕ FaultKind
+within_64_bits n = ranged 0 (2 ^ 64 - 1) n
 
 -- a key: `private`, which is 0, or a number
 abbrev pub key_word : List ℕ → Result Number FaultKind
@@ -72,9 +72,9 @@ abbrev pub addr_word : List ℕ → Result AddrWord FaultKind
 addr_word w = if bytes_eq w (codes "null") then Ok (addr_words.Literal (Fits 0)) else addr_by w (letter_of w)
 
 abbrev pub ranged_addr : AddrWord → Result LineAddr FaultKind
-ranged_addr (addr_words.Literal n) = any n >>= λ n. Ok (addrs.Number n)
+ranged_addr (addr_words.Literal n) = within_64_bits n >>= λ n. Ok (addrs.Number n)
 ranged_addr (addr_words.Letter v) = Ok (addrs.Var v)
-ranged_addr (addr_words.LetterPlus v n) = any n >>= λ n. Ok (addrs.Sum v n)
+ranged_addr (addr_words.LetterPlus v n) = within_64_bits n >>= λ n. Ok (addrs.Sum v n)
 
 -- three octal digits
 abbrev pub is_mode : List ℕ → Bool

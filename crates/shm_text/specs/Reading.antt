@@ -19,7 +19,7 @@ use Rattle.shm_text.specs.declared.script.Item.TheVariants as items
 use Rattle.shm_text.specs.Script.{ScriptView}
 use Rattle.shm_text.specs.declared.number.Number.{Number}
 use Rattle.shm_text.specs.Calls.{call_words}
-use Rattle.shm_text.specs.Operand.{◌>>=◌, required_number, ranged, any, letter_of}
+use Rattle.shm_text.specs.Operand.{◌>>=◌, required_number, ranged, within_64_bits, letter_of}
 use Rattle.shm_text.specs.Words.{is_allowed, words_of, lines_of, word_at}
 
 -- what the lines above a line said
@@ -29,8 +29,8 @@ pub record SeenView : Type 0 where
   pub commands : ℕ
 
 -- whether the word at a place is this one
-abbrev pub has : List (List ℕ) → ℕ → List ℕ → Bool
-has ws i text = bytes_eq (word_at ws i) text
+abbrev pub word_at_is : List (List ℕ) → ℕ → List ℕ → Bool
+word_at_is ws i text = bytes_eq (word_at ws i) text
 
 -- LIMITS AND PROCESSES
 
@@ -45,11 +45,11 @@ limits_item ws = if length ws == 6 then (do
   shmall ← required_number (word_at ws 3)
   frames ← required_number (word_at ws 4)
   memlock ← required_number (word_at ws 5)
-  shmmax ← any shmmax
-  shmmni ← any shmmni
-  shmall ← any shmall
-  frames ← any frames
-  memlock ← any memlock
+  shmmax ← within_64_bits shmmax
+  shmmni ← within_64_bits shmmni
+  shmall ← within_64_bits shmall
+  frames ← within_64_bits frames
+  memlock ← within_64_bits memlock
   limits_by (limits_of shmmax shmmni shmall frames memlock)) else Err BadLine
 
 abbrev pub is_declared : SeenView → ℕ → Bool
@@ -82,7 +82,7 @@ child_item seen ws = if length ws == 2 then (do
 unfoldable pub declaration : SeenView → List (List ℕ) → Result Item FaultKind
 declaration seen ws =
     if not (seen.commands == 0) then Err BadLine else
-    if has ws 0 (codes "process") then process_item seen ws else
+    if word_at_is ws 0 (codes "process") then process_item seen ws else
     child_item seen ws
 
 -- COMMANDS
@@ -92,7 +92,7 @@ command_of pid var call = items.Line (lines.Command (record { pid = pid; var = v
 
 -- the variable that takes the answer: one letter, before `=`
 abbrev pub taker : List (List ℕ) → Option ℕ
-taker ws = if (length (word_at ws 1) == 1) && has ws 2 (codes "=") then letter_of (word_at ws 1) else None
+taker ws = if (length (word_at ws 1) == 1) && word_at_is ws 2 (codes "=") then letter_of (word_at ws 1) else None
 
 -- a pid that was declared above
 abbrev pub known : SeenView → ℕ → Result (Unit {0}) FaultKind
@@ -118,14 +118,14 @@ command seen pid var ws = do
 
 -- a flush round of so many pages at most
 unfoldable pub flush_item : List (List ℕ) → Result Item FaultKind
-flush_item ws = if (length ws == 3) && has ws 1 (codes "flush") then (do
+flush_item ws = if (length ws == 3) && word_at_is ws 1 (codes "flush") then (do
   pages ← required_number (word_at ws 2)
   pages ← ranged 1 4096 pages
   Ok (items.Line (lines.Flush pages))) else Err BadLine
 
 -- the word `0` is no pid, and stands before `flush` alone
 unfoldable pub command_item : SeenView → List (List ℕ) → Result Item FaultKind
-command_item seen ws = if has ws 0 (codes "0") then flush_item ws else (do
+command_item seen ws = if word_at_is ws 0 (codes "0") then flush_item ws else (do
   pid ← required_number (word_at ws 0)
   command seen pid (taker ws) ws)
 
@@ -138,7 +138,7 @@ with_room seen said = said >>= λ item. if nat_lt seen.commands 100000 then Ok i
 -- a line behind the limits
 unfoldable pub body_item : SeenView → List (List ℕ) → Result Item FaultKind
 body_item seen ws =
-    if has ws 0 (codes "process") || has ws 0 (codes "child") then declaration seen ws else
+    if word_at_is ws 0 (codes "process") || word_at_is ws 0 (codes "child") then declaration seen ws else
     with_room seen (command_item seen ws)
 
 -- no words, or a first word that begins with #
@@ -148,12 +148,12 @@ is_skipped ws = (length ws == 0) || (slice_index (word_at ws 0) 0 == 35)
 unfoldable pub words_item : SeenView → List (List ℕ) → Result Item FaultKind
 words_item seen ws =
     if is_some seen.limits then body_item seen ws else
-    if has ws 0 (codes "limits") then limits_item ws else
+    if word_at_is ws 0 (codes "limits") then limits_item ws else
     Err NoLimits
 
 -- a command of a process stands behind the limits, and begins with no word of another line
 abbrev pub is_command : SeenView → List (List ℕ) → Bool
-is_command seen ws = is_some seen.limits && (not (has ws 0 (codes "0")) && (not (has ws 0 (codes "process")) && not (has ws 0 (codes "child"))))
+is_command seen ws = is_some seen.limits && (not (word_at_is ws 0 (codes "0")) && (not (word_at_is ws 0 (codes "process")) && not (word_at_is ws 0 (codes "child"))))
 
 -- a line that says something
 abbrev pub some_item : Result Item FaultKind → Result (Option Item) FaultKind

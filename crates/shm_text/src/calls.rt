@@ -5,8 +5,8 @@ ghost use Rattle.shm_text.specs.Calls.{verb_of, access_verb_of, control_verb_of,
 
 use crate::fault::FaultKind;
 use crate::operand::{
-    addr_word, any, at_flags_word, chunk_word, get_flags_word, id_word, is_word, key_word,
-    mode_word, ranged, ranged_addr, ranged_id, wanted,
+    addr_word, at_flags_word, chunk_word, get_flags_word, id_word, is_word, key_word, mode_word,
+    ranged, ranged_addr, ranged_id, required_number, within_64_bits,
 };
 use crate::script::{LineAddr, LineCall, LineId};
 use crate::words::Words;
@@ -172,11 +172,11 @@ fn shmget_call(words: &Words<'_>, index: usize) -> Result<LineCall, FaultKind>
     ensures answer { IfOk result (λ c. has_answer c ≡ true) }
 {
     let key = key_word(words.at(index))?;
-    let size = wanted(words.at(index + 1))?;
+    let size = required_number(words.at(index + 1))?;
     let mode = mode_word(mode_part(words.at(index + 2)))?;
     let flags = get_flags_word(flags_part(words.at(index + 2)))?;
     let key = ranged(key, 0, u32::MAX)?;
-    let size = any(size)?;
+    let size = within_64_bits(size)?;
     Ok(LineCall::Shmget {
         key,
         size,
@@ -210,9 +210,9 @@ fn xadd_call(words: &Words<'_>, index: usize) -> Result<LineCall, FaultKind>
     ensures answer { IfOk result (λ c. has_answer c ≡ true) }
 {
     let addr = addr_word(words.at(index))?;
-    let add = wanted(words.at(index + 1))?;
+    let add = required_number(words.at(index + 1))?;
     let addr = ranged_addr(addr)?;
-    let add = any(add)?;
+    let add = within_64_bits(add)?;
     Ok(LineCall::Xadd { addr, add })
 }
 
@@ -232,7 +232,7 @@ fn load_call(words: &Words<'_>, index: usize) -> Result<LineCall, FaultKind>
     ensures form { IfOk result (λ c. is_call c ≡ true) }
 {
     let addr = addr_word(words.at(index))?;
-    let len = wanted(words.at(index + 1))?;
+    let len = required_number(words.at(index + 1))?;
     let addr = ranged_addr(addr)?;
     let len = ranged(len, 1, LONGEST_ACCESS as u32)?;
     Ok(LineCall::Load {
@@ -262,8 +262,8 @@ fn set_call(words: &Words<'_>, index: usize) -> Result<LineCall, FaultKind>
     ensures form { IfOk result (λ c. is_call c ≡ true) }
 {
     let id = id_word(words.at(index))?;
-    let uid = wanted(words.at(index + 1))?;
-    let gid = wanted(words.at(index + 2))?;
+    let uid = required_number(words.at(index + 1))?;
+    let gid = required_number(words.at(index + 2))?;
     let mode = mode_word(words.at(index + 3))?;
     let id = ranged_id(id)?;
     let uid = ranged(uid, 0, u32::MAX)?;
@@ -277,7 +277,7 @@ fn fork_call(words: &Words<'_>, index: usize) -> Result<LineCall, FaultKind>
     ensures value { result ≡ fork_call words.now index }
     ensures form { IfOk result (λ c. is_call c ≡ true) }
 {
-    let child = wanted(words.at(index))?;
+    let child = required_number(words.at(index))?;
     let child = ranged(child, 1, LAST_PID)?;
     Ok(LineCall::Fork { child })
 }
@@ -288,7 +288,7 @@ fn swapoff_call(words: &Words<'_>, index: usize) -> Result<LineCall, FaultKind>
     ensures value { result ≡ swapoff_call words.now index }
     ensures form { IfOk result (λ c. is_call c ≡ true) }
 {
-    let area = wanted(words.at(index))?;
+    let area = required_number(words.at(index))?;
     let area = ranged(area, 0, LAST_AREA)?;
     Ok(LineCall::Swapoff { area })
 }

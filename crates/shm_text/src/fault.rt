@@ -6,11 +6,11 @@ use std::fmt;
 
 /// What is wrong with a line, in the order in which a line is looked at. `TooLong`: the script has more
 /// than 1,048,576 bytes. `BadByte`: a byte that is no tab and not 0x20 to 0x7e. `NoLimits`: the first line
-/// with words has another first word than `limits`, or there is no such line and this is line 1. `BadLine`: the words have no form of the language.
-/// `BadNumber`: a number is out of its range. `BadLimits`: the limits are refused, by the number of the
-/// first that is out of range. `UnknownProcess`: the pid of a command, or the child of a fork, is not
-/// declared above. `Twice`: a pid is declared above. `TooMany`: the 65th process, or the 100,001st command
-/// or flush line.
+/// with words has another first word than `limits`, or there is no such line and this is line 1. `BadLine`:
+/// the words have no form of the language. `BadNumber`: a number is out of its range. `BadLimits`: the limits
+/// are refused, by the number of the first that is out of range. `UnknownProcess`: the pid of a command, or
+/// the child of a fork, is not declared above. `Twice`: a pid is declared above. `TooMany`: the 65th process,
+/// or the 100,001st command or flush line.
 #[derive(Clone, Copy, Debug, PartialEq, Eq)]
 pub enum FaultKind {
     TooLong,

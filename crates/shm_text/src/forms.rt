@@ -7,7 +7,7 @@ use crate::calls::call_words;
 use crate::fault::FaultKind;
 use crate::lines::Lines;
 use crate::number::Number;
-use crate::operand::{any, first_letter, ranged, wanted};
+use crate::operand::{first_letter, ranged, required_number, within_64_bits};
 use crate::reading::Seen;
 use crate::script::{Command, FlushLine, Item, Line, LineCall, Variable};
 use crate::words::Words;
@@ -21,16 +21,16 @@ fn limits_item(words: &Words<'_>) -> Result<Item, FaultKind>
     if words.len() != 6 {
         return Err(FaultKind::BadLine);
     }
-    let shmmax = wanted(words.at(1))?;
-    let shmmni = wanted(words.at(2))?;
-    let shmall = wanted(words.at(3))?;
-    let frames = wanted(words.at(4))?;
-    let memlock = wanted(words.at(5))?;
-    let shmmax = any(shmmax)?;
-    let shmmni = any(shmmni)?;
-    let shmall = any(shmall)?;
-    let frames = any(frames)?;
-    let memlock = any(memlock)?;
+    let shmmax = required_number(words.at(1))?;
+    let shmmni = required_number(words.at(2))?;
+    let shmall = required_number(words.at(3))?;
+    let frames = required_number(words.at(4))?;
+    let memlock = required_number(words.at(5))?;
+    let shmmax = within_64_bits(shmmax)?;
+    let shmmni = within_64_bits(shmmni)?;
+    let shmall = within_64_bits(shmall)?;
+    let frames = within_64_bits(frames)?;
+    let memlock = within_64_bits(memlock)?;
     match Limits::new(shmmax, shmmni, shmall, frames, memlock) {
         Ok(limits) => Ok(Item::Limits(limits)),
         Err(bad) => Err(FaultKind::BadLimits(bad.0)),
@@ -59,9 +59,9 @@ fn process_item(seen: &Seen, words: &Words<'_>) -> Result<Item, FaultKind>
     if words.len() != 4 {
         return Err(FaultKind::BadLine);
     }
-    let pid = wanted(words.at(1))?;
-    let uid = wanted(words.at(2))?;
-    let gid = wanted(words.at(3))?;
+    let pid = required_number(words.at(1))?;
+    let uid = required_number(words.at(2))?;
+    let gid = required_number(words.at(3))?;
     let pid = ranged(pid, 1, LAST_PID)?;
     let uid = ranged(uid, 0, u32::MAX)?;
     let gid = ranged(gid, 0, u32::MAX)?;
@@ -77,7 +77,7 @@ fn child_item(seen: &Seen, words: &Words<'_>) -> Result<Item, FaultKind>
     if words.len() != 2 {
         return Err(FaultKind::BadLine);
     }
-    let pid = wanted(words.at(1))?;
+    let pid = required_number(words.at(1))?;
     let pid = ranged(pid, 1, LAST_PID)?;
     declared(seen, Process { pid, born: None })
 }
@@ -155,7 +155,7 @@ fn flush_item(words: &Words<'_>) -> Result<Item, FaultKind>
     if words.len() != 3 || !words.is(1, b"flush") {
         return Err(FaultKind::BadLine);
     }
-    let pages = wanted(words.at(2))?;
+    let pages = required_number(words.at(2))?;
     let pages = ranged(pages, 1, MOST_FLUSHED)?;
     Ok(Item::Line(Line::Flush(flush_line(pages))))
 }
@@ -211,7 +211,7 @@ fn command(seen: &Seen, words: &Words<'_>) -> Result<Option<Item>, FaultKind>
     ensures value { result ≡ some_item (words_item seen.now words.now) }
     ensures place { IfOk result (λ item. HasPlaceFor seen.now item) }
 {
-    let pid = wanted(words.at(0))?;
+    let pid = required_number(words.at(0))?;
     let var = taker(words);
     let call = call_words(words, var.is_some())?;
     let pid = declared_pid(seen, pid, &call)?;

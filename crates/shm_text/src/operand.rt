@@ -2,7 +2,7 @@
 //! afterwards, so that a bad line comes before a bad number.
 ghost use Rattle.std.specs.Prelude.{◌≡◌, ◌≤◌, ◌<◌, ◌==◌, true, length, drop, Ok, IfOk, Some};
 ghost use Rattle.std.specs.Str.{bytes_eq};
-ghost use Rattle.shm_text.specs.Operand.{required_number, ranged, any, key_word, letter_of, addr_by, id_word, addr_word, ranged_id, ranged_addr, mode_word, get_flags_word, names_of, times, at_flags_word, chunk_word};
+ghost use Rattle.shm_text.specs.Operand.{required_number, ranged, within_64_bits, key_word, letter_of, addr_by, id_word, addr_word, ranged_id, ranged_addr, mode_word, get_flags_word, names_of, times, at_flags_word, chunk_word};
 ghost use Rattle.shm_text.specs.Form.{is_id, is_get_flags, is_at_flags};
 
 use crate::fault::FaultKind;
@@ -26,7 +26,7 @@ pub(crate) enum AddrWord {
     LetterPlus(Variable, Number),
 }
 
-/// Whether a word is a text.
+/// Whether a word is a text, which may be an array: `==` takes none beside a slice.
 #[inline(always)]
 pub(crate) fn is_word(word: &[u8], text: &[u8]) -> bool
     ensures { result ≡ bytes_eq word.now text.now }
@@ -36,7 +36,7 @@ pub(crate) fn is_word(word: &[u8], text: &[u8]) -> bool
 
 /// A word that has to be a number.
 #[inline(always)]
-pub(crate) fn wanted(word: &[u8]) -> Result<Number, FaultKind>
+pub(crate) fn required_number(word: &[u8]) -> Result<Number, FaultKind>
     ensures { result ≡ required_number word.now }
 {
     read_number(word).ok_or(FaultKind::BadLine)
@@ -54,8 +54,8 @@ pub(crate) fn ranged(number: Number, low: u32, high: u32) -> Result<u32, FaultKi
 }
 
 /// A number of 64 bits.
-pub(crate) fn any(number: Number) -> Result<u64, FaultKind>
-    ensures { result ≡ any number }
+pub(crate) fn within_64_bits(number: Number) -> Result<u64, FaultKind>
+    ensures { result ≡ within_64_bits number }
 {
     match number {
         Number::Fits(n) => Ok(n),
@@ -70,7 +70,7 @@ pub(crate) fn key_word(word: &[u8]) -> Result<Number, FaultKind>
     if is_word(word, b"private") {
         return Ok(Number::Fits(0));
     }
-    wanted(word)
+    required_number(word)
 }
 
 /// The variable of a word's first letter.
@@ -88,7 +88,7 @@ pub(crate) fn id_word(word: &[u8]) -> Result<IdWord, FaultKind>
         Some(var) if word.len() == 1 => Ok(IdWord::Letter(var)),
         Some(_) => Err(FaultKind::BadLine),
         None => {
-            let number = wanted(word)?;
+            let number = required_number(word)?;
             Ok(IdWord::Literal(number))
         }
     }
@@ -126,7 +126,7 @@ fn letter_addr(var: Variable, word: &[u8]) -> Result<AddrWord, FaultKind>
     if word[1] != b'+' {
         return Err(FaultKind::BadLine);
     }
-    let number = wanted(behind_sign(word))?;
+    let number = required_number(behind_sign(word))?;
     Ok(AddrWord::LetterPlus(var, number))
 }
 
@@ -141,7 +141,7 @@ pub(crate) fn addr_word(word: &[u8]) -> Result<AddrWord, FaultKind>
     match first_letter(word) {
         Some(var) => letter_addr(var, word),
         None => {
-            let number = wanted(word)?;
+            let number = required_number(word)?;
             Ok(AddrWord::Literal(number))
         }
     }
@@ -153,12 +153,12 @@ pub(crate) fn ranged_addr(word: AddrWord) -> Result<LineAddr, FaultKind>
 {
     match word {
         AddrWord::Literal(number) => {
-            let number = any(number)?;
+            let number = within_64_bits(number)?;
             Ok(LineAddr::Number(number))
         }
         AddrWord::Letter(var) => Ok(LineAddr::Var(var)),
         AddrWord::LetterPlus(var, number) => {
-            let number = any(number)?;
+            let number = within_64_bits(number)?;
             Ok(LineAddr::Sum(var, number))
         }
     }
@@ -249,8 +249,5 @@ pub(crate) fn chunk_word(word: &[u8]) -> Result<Chunk, FaultKind>
     if hex::decode_to_slice(word, bytes).is_err() {
         return Err(FaultKind::BadLine);
     }
-    match Chunk::new(bytes) {
-        Some(chunk) => Ok(chunk),
-        None => unreachable!(),
-    }
+    Ok(Chunk::new(bytes).unwrap())
 }

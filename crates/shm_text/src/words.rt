@@ -8,7 +8,7 @@ ghost use Rattle.shm_text.specs.Words.{is_allowed, is_space, words_of, with_word
 use std::marker::Model;
 
 /// One word more than a line of any form has.
-pub(crate) const MOST: usize = 8;
+pub(crate) const MOST_WORDS: usize = 8;
 
 // Whether a byte is allowed and no space.
 #[inline(always)]
@@ -28,7 +28,7 @@ fn is_space(byte: u8) -> bool
 /// The first words of a line.
 #[derive(Drop)]
 pub(crate) struct Words<'a> {
-    found: [&'a [u8]; MOST],
+    found: [&'a [u8]; MOST_WORDS],
     count: usize,
 }
 
@@ -54,7 +54,7 @@ impl<'a> Words<'a> {
     {
         let nothing: &[u8] = &[];
         Words {
-            found: [nothing; MOST],
+            found: [nothing; MOST_WORDS],
             count: 0,
         }
     }
@@ -62,9 +62,9 @@ impl<'a> Words<'a> {
     // Puts a word behind the others, where it has bytes and there is room.
     #[inline(always)]
     fn keep(&mut self, word: &'a [u8])
-        ensures { self.new ≡ take MOST (self.old ++ with_word word.now) }
+        ensures { self.new ≡ take MOST_WORDS (self.old ++ with_word word.now) }
     {
-        if self.count >= MOST {
+        if self.count >= MOST_WORDS {
             return;
         }
         if word.is_empty() {
@@ -79,7 +79,7 @@ impl<'a> Words<'a> {
     #[inline(always)]
     pub(crate) fn take(&mut self, text: &'a [u8]) -> Scanned
         ensures end { result.end ≡ line_end text.now }
-        ensures words { self.new ≡ take MOST (words_of (first_line text.now)) }
+        ensures words { self.new ≡ take MOST_WORDS (words_of (first_line text.now)) }
         ensures allowed { result.allowed ≡ list_all is_allowed (first_line text.now) }
     {
         self.count = 0;

@@ -108,8 +108,8 @@ fn run_prepared<R: Threads + Wait + Sync, G: Gate, P: Pager + Send>(
     let shared = Shared::new(world, processes);
     let run = run_all(rt, &shared, keeper, script, gate, plan);
     let world = shared.into_world();
-    match fault(&opening, &world, script, &run) {
-        None => Ok(ended(world, run)),
+    match run_error(&opening, &world, script, &run) {
+        None => Ok(outcome_of(world, run)),
         Some(error) => Err(error),
     }
 }
@@ -178,7 +178,7 @@ struct Joined {
 }
 
 // Why a run has no outcome, if it has none.
-fn fault<P: Pager>(
+fn run_error<P: Pager>(
     opening: &Opening,
     world: &World<P>,
     script: &Script,
@@ -200,7 +200,8 @@ fn fault<P: Pager>(
     }
 }
 
-fn ended<P: Pager>(world: World<P>, run: Joined) -> (Outcome<P>, Option<Keeper>)
+// The outcome of a run without an error, and the keeper that comes back.
+fn outcome_of<P: Pager>(world: World<P>, run: Joined) -> (Outcome<P>, Option<Keeper>)
     ensures world { result.0.world ≡ world }
     ensures transcripts { result.0.transcripts ≡ run.transcripts }
     ensures keeper { result.1 ≡ run.keeper }

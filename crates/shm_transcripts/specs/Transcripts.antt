@@ -1,5 +1,5 @@
 -- What transcripts say of a history.
-use Rattle.std.specs.Prelude.{◌≡◌, ◌≢◌, ◌⊎◌, ◌==◌, ℕ, List, [], ◌∷◌, Bool, true, false, not, ◌&&◌, is_some, if◌then◌else◌, Option, Some, None, MatchBool, All, min}
+use Rattle.std.specs.Prelude.{◌≡◌, ◌≢◌, ◌⊎◌, ◌==◌, ℕ, List, [], ◌∷◌, map, Bool, true, false, not, ◌&&◌, is_some, if◌then◌else◌, Option, Some, None, MatchBool, All, min}
 use Rattle.std.specs.List.{list_any}
 use Rattle.shm_base.specs.History.{own_part}
 use Rattle.shm_base.specs.declared.call.Call.{Call}
@@ -87,14 +87,14 @@ HasLines script history t =
     ⊎ ((is_child t.pid script.processes ≡ true) × (t.entries.items ≡ []) × (is_forked t.pid history ≡ false))
 
 -- only a call that may take memory is marked as out of it
-abbrev pub FitsMark : Entry → Type 0
-FitsMark e = e.answer ≡ HostMemory → takes_memory e.call ≡ true
+abbrev pub IsMarkAllowed : Entry → Type 0
+IsMarkAllowed e = e.answer ≡ HostMemory → takes_memory e.call ≡ true
 
 -- What holds of one transcript. Without its marked entries it is its process's own part of the history
 pub record IsTranscript (script : ScriptView) (history : List Event) (t : Transcript) : Type 0 where
   pub lines : HasLines script history t
   pub own : transcript_events t.pid t.entries.items ≡ own_part t.pid history
-  pub marks : All FitsMark t.entries.items
+  pub marks : All IsMarkAllowed t.entries.items
 
 -- the lesser of a pid and the least so far
 abbrev pub least_of : Option ℕ → ℕ → ℕ
@@ -105,3 +105,10 @@ least_of (Some other) pid = min other pid
 pub record IsAdmitted (processes : List Process) (e : Event) : Type 0 where
   pub declared : has_pid e.pid processes ≡ true
   pub live : e.reply ≢ Refused Esrch
+
+-- What a run owes of its transcripts: there is one for each process, in the script's order, which is its process's, and
+-- the history has no events of others
+pub record AreTranscripts (script : ScriptView) (history : List Event) (all : List Transcript) : Type 0 where
+  pub processes : map pid_of all ≡ map pid_in script.processes
+  pub each : All (IsTranscript script history) all
+  pub events : All (IsAdmitted script.processes) history

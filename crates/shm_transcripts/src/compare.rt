@@ -3,7 +3,7 @@
 ghost use Rattle.std.specs.Prelude.{◌≡◌, ℕ, ◌↔◌, ◌<◌, ◌≤◌, IsNone, IsTrue, All, map, length, drop, true, slice_get};
 ghost use Rattle.shm_base.specs.History.{own_part};
 ghost use Rattle.shm_text.specs.Variables.{no_values};
-ghost use Rattle.shm_transcripts.specs.Transcripts.{commands_of, Follows, transcript_events, is_fork_of, is_forked, is_child, pid_in, pid_of, HasLines, FitsMark, IsTranscript, IsAdmitted, is_answered, least_of};
+ghost use Rattle.shm_transcripts.specs.Transcripts.{commands_of, Follows, transcript_events, is_fork_of, is_forked, is_child, pid_in, pid_of, HasLines, IsMarkAllowed, IsTranscript, IsAdmitted, AreTranscripts, is_answered, least_of};
 
 use crate::transcript::{Answer, Entry, Transcript};
 use shm_base::{Call, Errno, Event, Process, Reply, has_pid};
@@ -16,7 +16,7 @@ pub fn disagreement(
     history: &[Event],
     transcripts: &Vec<Transcript>,
 ) -> Option<u32>
-    ensures { IsNone result ↔ (map pid_of transcripts.now.items ≡ map pid_in script.now.processes) × All (IsTranscript script.now history.now) transcripts.now.items × All (IsAdmitted script.now.processes) history.now }
+    ensures { IsNone result ↔ AreTranscripts script.now history.now transcripts.now.items }
 {
     if !has_each(&script.processes, transcripts) {
         return Some(0);
@@ -88,7 +88,7 @@ fn is_whole(script: &Script, history: &[Event], transcript: &Transcript) -> bool
 {
     has_lines(script, history, transcript)
         && is_own(history, transcript.pid, &transcript.entries)
-        && fit(&transcript.entries)
+        && are_marks_allowed(&transcript.entries)
 }
 
 fn has_lines(script: &Script, history: &[Event], transcript: &Transcript) -> bool
@@ -126,14 +126,14 @@ fn is_fork_of(event: &Event, child: u32) -> bool
 }
 
 // Whether only calls that may take memory are marked.
-fn fit(entries: &[Entry]) -> bool
-    ensures { IsTrue result ↔ All FitsMark entries.now }
+fn are_marks_allowed(entries: &[Entry]) -> bool
+    ensures { IsTrue result ↔ All IsMarkAllowed entries.now }
 {
-    entries.iter().all(|entry| fits(entry))
+    entries.iter().all(|entry| is_mark_allowed(entry))
 }
 
-fn fits(entry: &Entry) -> bool
-    ensures { IsTrue result ↔ FitsMark entry.now }
+fn is_mark_allowed(entry: &Entry) -> bool
+    ensures { IsTrue result ↔ IsMarkAllowed entry.now }
 {
     match (&entry.call, &entry.answer) {
         (_, Answer::Reply(_)) => true,

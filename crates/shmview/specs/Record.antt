@@ -13,7 +13,7 @@ use Rattle.shm_view.specs.declared.action.Action.{Action}
 use Rattle.shm_view.specs.declared.action.Action.TheVariants as actions
 use Rattle.shm_view.specs.Record.{step_text}
 use Rattle.shm_program.specs.Runs.{IsWorldSound, IsWorldOf}
-use Rattle.shm_program.specs.Values.{HolderView, fresh_holder, values_of, answered}
+use Rattle.shm_program.specs.Values.{HolderView, fresh_holder, values_of, with_answer}
 use Rattle.shmview.specs.Steps.{has_step, steps_asked}
 use Rattle.shmview.specs.declared.steps.Steps.{Steps}
 
@@ -24,7 +24,7 @@ call_made hs c = call_of (values_of hs c.pid) c.call
 -- what a line does to the variables and to the world, and how that is told
 abbrev pub HasRun : List HolderView → WorldState → Line → Action → List HolderView → WorldState → Type 0
 HasRun hs w (Command c) action after next =
-    (reply : Reply) × (action ≡ actions.Call (event c.pid (call_made hs c) reply)) × IsCalled w c.pid (call_made hs c) reply next × (after ≡ answered hs c (Some reply))
+    (reply : Reply) × (action ≡ actions.Call (event c.pid (call_made hs c) reply)) × IsCalled w c.pid (call_made hs c) reply next × (after ≡ with_answer hs c (Some reply))
 HasRun hs w (Flush pages) action after next =
     (report : FlushReport) × (action ≡ actions.Flush pages report) × IsRound w pages report next × (after ≡ hs)
 

@@ -12,14 +12,17 @@ pub(crate) struct Steps {
 }
 
 /// How many steps a run has at most that is shown whole.
-pub(crate) const MOST: u64 = 2000;
+pub(crate) const MOST_STEPS: u64 = 2000;
 
 impl Steps {
     /// Those that are shown: all of a run that is not too long, where none are asked for.
     pub(crate) fn asked(steps: Option<Steps>) -> Steps
         ensures { result ≡ steps_asked steps }
     {
-        steps.unwrap_or(Steps { from: 0, to: MOST })
+        steps.unwrap_or(Steps {
+            from: 0,
+            to: MOST_STEPS,
+        })
     }
 
     /// Whether a step is one of these.

@@ -7,7 +7,7 @@ ghost use Rattle.shmview.specs.Record.{IsRecord};
 ghost use Rattle.shmview.specs.Stop.{IsStopIn, IsStopOf, IsTooLong, WritesNothing};
 
 use crate::lines::record;
-use crate::steps::{MOST, Steps};
+use crate::steps::{MOST_STEPS, Steps};
 use crate::stop::Stop;
 use shm_base::HostMemory;
 use shm_history::World;
@@ -46,7 +46,7 @@ fn too_many(script: &Script, asked: Option<Steps>) -> Option<u64>
     ensures { MatchOption result (asked ≡ None → length script.now.lines ≤ 2000) (IsTooLong asked script.now) }
 {
     let lines = script.lines.len() as u64;
-    if asked.is_none() && lines > MOST {
+    if asked.is_none() && lines > MOST_STEPS {
         Some(lines)
     } else {
         None

@@ -1,6 +1,6 @@
 use Rattle.shm_attach.proofs.Names.{values_of, common_steps, ◌≡◌, refl, sym, arith, Some, slice_get, length-map, inserted, bare, bare_all, IsPlaceFor, Runner}
 use Rattle.shm_attach.proofs.Processes.{pieces_of-inserted, some_if-le}
-use Rattle.shm_attach.proofs.Held.{pieces_at-stored, held-inserted}
+use Rattle.shm_attach.proofs.HavingTables.{pieces_at-stored, tables-inserted}
 use Rattle.shm_attach.proofs.Sound.{changed, fit-inserted, sound-changed, counts-small}
 use Rattle.shm_attach.proofs.changes.put.Goals.{After-index_mut}
 use Rattle.shm_attach.proofs.changes.put.Goals as goal
@@ -12,7 +12,7 @@ place : (c : After-index_mut) → IsPlaceFor (bare c.args.piece) (bare_all c.ind
 place c = rw (← pieces_at-stored c.args.processes.now.entries c.args.index c.index_mut.result.now (stands c)) c.requires.place
 
 pub replace-requires-clause-fits : goal.replace-requires-clause-fits
-replace-requires-clause-fits c = omega (arith, counts-small c.args.processes.now.entries c.args.tables.now c.requires.holds c.args.piece.seg)
+replace-requires-clause-fits c = omega (arith, counts-small c.args.processes.now.entries c.args.tables.now c.requires.reservations c.args.piece.seg)
 
 pub insert-requires-clause-room : goal.insert-requires-clause-room
 insert-requires-clause-room c = rw (← length-map c.index_mut.result.now.space bare) (place (goal.at.insert-requires-clause-room c).After-index_mut).room
@@ -37,12 +37,12 @@ returns c =
       sound = λ extra s.
           sound-changed extra es t c.replace.new.self i w v (inserted (bare p)) c.requires.there at refl c.insert.ensures.flat s
           (fit-inserted extra es t i (bare p) s c.requires.place c.requires.born)
-          (λ all. rw c.insert.ensures.kept (held-inserted t.slab p w.space c.requires.table all))
+          (λ all. rw c.insert.ensures.kept (tables-inserted t.slab p w.space c.requires.table all))
           (record {
             counts = λ id. omega (arith, c.replace.ensures.counts id, pieces_of-inserted id (bare p) (bare_all w.space), some_if-le id p.seg 0);
-            held = c.replace.ensures.held;
+            tables = c.replace.ensures.tables;
             tied = c.replace.ensures.tied;
           });
-      held = grind (arith, common_steps);
+      tables = grind (arith, common_steps);
       translated = c.replace.ensures.translated;
     }

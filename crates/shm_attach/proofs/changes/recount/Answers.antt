@@ -29,11 +29,11 @@ loop-piece-preserved c =
       left = λ id. omega (arith, kept.left id, kept.some id, here id, cuts id, c.replace.ensures.counts id);
       some = λ id. omega (arith, kept.some id, here id, c.replace.ensures.counts id);
       small = λ id. omega (arith, kept.small id, some_if-le id p.seg c.parts_outside-parts.result, came, c.replace.ensures.counts id);
-      held = λ q own some.
+      tables = λ q own some.
           let before : 0 < counted c.loop-piece.tables q.seg =
           was_counted q.seg p.seg (counted c.loop-piece.tables q.seg) (counted c.replace.new.self q.seg) 1 c.parts_outside-parts.result
           (λ same. subst (λ id. 0 < counted c.loop-piece.tables id) same own_count) (c.replace.ensures.counts q.seg) some in
-          c.replace.ensures.held q (kept.held q own before) some;
+          c.replace.ensures.tables q (kept.tables q own before) some;
       translated = λ at all. c.replace.ensures.translated at (kept.translated at all);
       tied = c.replace.ensures.tied;
     }

@@ -1,6 +1,6 @@
 use Rattle.shm_attach.proofs.Names.{length-set_value_at, arith, common_steps}
 use Rattle.shm_attach.proofs.Processes.{runners_live}
-use Rattle.shm_attach.proofs.Held.{stored_at-set, stored_at-value, stored_at-other}
+use Rattle.shm_attach.proofs.HavingTables.{stored_at-set, stored_at-value, stored_at-other}
 use Rattle.shm_attach.proofs.changes.set_life_at.Goals as goal
 
 pub returns-clause-runners : goal.returns-clause-runners

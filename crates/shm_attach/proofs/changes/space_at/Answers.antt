@@ -1,5 +1,5 @@
 use Rattle.shm_attach.proofs.Names.{sym}
-use Rattle.shm_attach.proofs.Held.{pieces_at-stored, stored_at-value}
+use Rattle.shm_attach.proofs.HavingTables.{pieces_at-stored, stored_at-value}
 use Rattle.shm_attach.proofs.changes.space_at.Goals as goal
 
 pub returns-clause-flat : goal.returns-clause-flat

@@ -1,6 +1,6 @@
-use Rattle.shm_attach.proofs.Names.{values_of, ◌≡◌, ℕ, ◌+◌, ◌-◌, ◌≤◌, ◌∙◌, not, ap, sym, refl, arith, eq-eqb, List, Some, slice_get, length, filter, common_steps, All, length-map, meets, cut, without_named, pieces_of, bare, bare_all, stored_named, stored_without, arranged_filter, bare_filter, some_if, runners_view, pieces_at, IsCuttable, counted, stored_at, IsHeld, Piece, Runner}
+use Rattle.shm_attach.proofs.Names.{values_of, ◌≡◌, ℕ, ◌+◌, ◌-◌, ◌≤◌, ◌∙◌, not, ap, sym, refl, arith, eq-eqb, List, Some, slice_get, length, filter, common_steps, All, length-map, meets, cut, without_named, pieces_of, bare, bare_all, stored_named, stored_without, arranged_filter, bare_filter, some_if, runners_view, pieces_at, IsCuttable, counted, stored_at, HasTable, Piece, Runner}
 use Rattle.shm_attach.proofs.Processes.{bare-met, met-meets, pieces_of-filter, pieces_of-cut_met, pieces_of-without, shorter_filter}
-use Rattle.shm_attach.proofs.Held.{pieces_at-stored, stored_at-value, held-cut, held-filter}
+use Rattle.shm_attach.proofs.HavingTables.{pieces_at-stored, stored_at-value, tables-cut, tables-filter}
 use Rattle.shm_attach.proofs.Sound.{changed, fit-cut, fit-without, sound-changed, counts-small, counts-own}
 use Rattle.shm_attach.proofs.changes.take.Goals.{After-index_mut, In-Range, After-pieces}
 use Rattle.shm_attach.proofs.changes.take.Goals as goal
@@ -15,7 +15,7 @@ own : (c : After-index_mut) → stored_at c.args.processes.now.entries c.args.in
 own c = stored_at-value c.args.processes.now.entries c.args.index c.index_mut.result.now (stands c)
 
 mine : (c : After-index_mut) (id : ℕ) → pieces_of id (bare_all c.index_mut.result.now.space) ≤ counted c.args.tables.now id
-mine c id = rw (← shown c) (counts-own c.args.processes.now.entries c.args.tables.now c.args.index c.requires.holds c.requires.there id)
+mine c id = rw (← shown c) (counts-own c.args.processes.now.entries c.args.tables.now c.args.index c.requires.reservations c.requires.there id)
 
 -- A RANGE
 
@@ -31,9 +31,9 @@ recount-requires-clause-meets c = rw c.met.ensures.value (met-meets c.in-Range.f
 pub recount-requires-clause-tables : goal.recount-requires-clause-tables
 recount-requires-clause-tables c =
     let t = c.args.tables.now.slab in
-    let all : All (IsHeld t) c.index_mut.result.now.space =
-    rw (own (goal.at.recount-requires-clause-tables c).After-index_mut) at (c.requires.holds.sound.held c.args.index) in
-    rw c.met.ensures.value (held-filter t (λ (p : Piece). meets c.in-Range.from c.in-Range.to (bare p)) c.index_mut.result.now.space all)
+    let all : All (HasTable t) c.index_mut.result.now.space =
+    rw (own (goal.at.recount-requires-clause-tables c).After-index_mut) at (c.requires.reservations.sound.tables c.args.index) in
+    rw c.met.ensures.value (tables-filter t (λ (p : Piece). meets c.in-Range.from c.in-Range.to (bare p)) c.index_mut.result.now.space all)
 
 pub recount-requires-clause-counted : goal.recount-requires-clause-counted
 recount-requires-clause-counted c = λ id.
@@ -43,7 +43,7 @@ recount-requires-clause-counted c = λ id.
     (omega (arith, all, pieces_of-filter id (meets c.in-Range.from c.in-Range.to) ps))
 
 pub recount-requires-clause-small : goal.recount-requires-clause-small
-recount-requires-clause-small c = λ id. omega (arith, counts-small c.args.processes.now.entries c.args.tables.now c.requires.holds id)
+recount-requires-clause-small c = λ id. omega (arith, counts-small c.args.processes.now.entries c.args.tables.now c.requires.reservations id)
 
 pub cut-requires-clause-few : goal.cut-requires-clause-few
 cut-requires-clause-few c = grind (arith, common_steps, can, shown)
@@ -73,9 +73,9 @@ returns-in-Range c =
       sound = λ extra s.
           let counts = λ (id : ℕ). cut_counts from to (counted t id) (counted c.recount.new.tables id) id c.met.result.now w.space same (c.recount.ensures.counts id) in
           sound-changed extra es t c.recount.new.tables i w v (cut from to) c.requires.there (stands b.After-index_mut) refl c.cut.ensures.flat s
-          (fit-cut extra es t i from to s (can b.In-Range)) (λ all. rw c.cut.ensures.kept (held-cut t.slab from to w.space all))
-          (record { counts = counts; held = c.recount.ensures.held; tied = c.recount.ensures.tied });
-      held = c.recount.ensures.held;
+          (fit-cut extra es t i from to s (can b.In-Range)) (λ all. rw c.cut.ensures.kept (tables-cut t.slab from to w.space all))
+          (record { counts = counts; tables = c.recount.ensures.tables; tied = c.recount.ensures.tied });
+      tables = c.recount.ensures.tables;
       translated = c.recount.ensures.translated;
     }
 
@@ -125,15 +125,15 @@ returns-in-Attach c =
       sound = λ extra s.
           sound-changed extra es t c.release.new.self i w v f c.requires.there (stands b.After-index_mut) refl c.take_at.ensures.flat s
           (fit-without extra es t i c.in-Attach.addr c.in-Attach.seg s)
-          (λ all. rw c.take_at.ensures.kept (held-filter t.slab (λ (p : Piece). not (stored_named c.in-Attach.addr c.in-Attach.seg p)) w.space all))
+          (λ all. rw c.take_at.ensures.kept (tables-filter t.slab (λ (p : Piece). not (stored_named c.in-Attach.addr c.in-Attach.seg p)) w.space all))
           (record {
             counts = λ id. omega (arith, named b.After-pieces id, c.release.ensures.counts id);
-            held = c.release.ensures.held;
+            tables = c.release.ensures.tables;
             tied = c.release.ensures.tied;
           });
-      held = c.release.ensures.held;
+      tables = c.release.ensures.tables;
       translated = c.release.ensures.translated;
     }
 
 pub release-requires-clause-fits : goal.release-requires-clause-fits
-release-requires-clause-fits c = omega (arith, counts-small c.args.processes.now.entries c.args.tables.now c.requires.holds c.in-Attach.seg)
+release-requires-clause-fits c = omega (arith, counts-small c.args.processes.now.entries c.args.tables.now c.requires.reservations c.in-Attach.seg)

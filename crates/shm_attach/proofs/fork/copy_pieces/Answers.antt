@@ -1,6 +1,6 @@
-use Rattle.shm_attach.proofs.Names.{◌≡◌, ◌+◌, ◌<◌, ◌∙◌, ap, arith, List, length, get_or, take, common_steps, length-map, lowest_address, inserted, bare, nothing, runner_view, runners_view, with_pieces_at, pieces_at, stored_at, no_holds}
+use Rattle.shm_attach.proofs.Names.{◌≡◌, ◌+◌, ◌<◌, ◌∙◌, ap, arith, List, length, get_or, take, common_steps, length-map, lowest_address, inserted, bare, nothing, runner_view, runners_view, with_pieces_at, pieces_at, stored_at, no_reservations}
 use Rattle.shm_base.specs.State.{Piece}
-use Rattle.shm_attach.proofs.Held.{pieces_at-bare}
+use Rattle.shm_attach.proofs.HavingTables.{pieces_at-bare}
 use Rattle.shm_attach.proofs.Keeping.{with_pieces_at-same, with_pieces_at-twice, pieces_at-changed, bare-get_or, inserted_next, place_next}
 use Rattle.shm_attach.proofs.fork.copy_pieces.Goals.{Start, After-pieces}
 use Rattle.shm_attach.proofs.fork.copy_pieces.Goals as goal
@@ -45,6 +45,6 @@ loop-k-preserved c =
           ∙ ap (λ (ps : List Piece). with_pieces_at rs c.args.child (λ (_ : List Piece). ps)) more;
       count = c.put.ensures.count ∙ kept.count;
       own = c.put.ensures.others c.args.parent c.requires.apart ∙ kept.own;
-      sound = c.put.ensures.sound no_holds kept.sound;
+      sound = c.put.ensures.sound no_reservations kept.sound;
       translated = λ at all. c.put.ensures.translated at (kept.translated at all);
     }

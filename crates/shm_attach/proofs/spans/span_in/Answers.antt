@@ -1,7 +1,7 @@
-use Rattle.shm_attach.proofs.Names.{◌≡◌, ℕ, ◌+◌, ◌-◌, ◌*◌, ◌/◌, ◌<◌, ◌∙◌, true, get_or, sym, arith, common_steps, true≢false, bare, bare_all, IsCovering, get, size_in, IsHeld}
+use Rattle.shm_attach.proofs.Names.{◌≡◌, ℕ, ◌+◌, ◌-◌, ◌/◌, ◌<◌, ◌∙◌, true, get_or, sym, arith, common_steps, true≢false, bare, bare_all, IsCovering, get, size_in, HasTable}
 use Rattle.shm_base.specs.State.{Piece}
-use Rattle.shm_attach.proofs.Accesses.{wanted_in-run, wanted_in-none, wanted_in-readonly, covering-passes, in_page, from_not, from_not_false}
-use Rattle.shm_attach.proofs.Held.{is_held, held-passes, held-passed, frame-true}
+use Rattle.shm_attach.proofs.Accesses.{wanted_in-run, wanted_in-none, wanted_in-readonly, covering-passes, in_page}
+use Rattle.shm_attach.proofs.HavingTables.{has_table, tables-passes, tables-passed, frame-true}
 use Rattle.shm_attach.proofs.spans.span_in.Goals as goal
 use Rattle.shm_attach.proofs.spans.span_in.Goals.{else-write-via-then-write+else-not-piece, else-write-via-else-write}
 
@@ -9,7 +9,7 @@ pub returns-in_err-piece-clause-none : goal.returns-in_err-piece-clause-none
 returns-in_err-piece-clause-none c = grind (arith, common_steps, wanted_in-none)
 
 pub returns-then-not-piece-clause-none : goal.returns-then-not-piece-clause-none
-returns-then-not-piece-clause-none c = grind (arith, common_steps, wanted_in-readonly, from_not)
+returns-then-not-piece-clause-none c = grind (arith, common_steps, wanted_in-readonly)
 
 pub returns-clause-places : goal.returns-clause-places
 returns-clause-places c =
@@ -17,19 +17,20 @@ returns-clause-places c =
     let within : IsCovering c.args.addr c.in_ok-piece.piece = c.in_ok-piece.ensures.within in
     let may : c.args.write ≡ true → p.writable ≡ true =
     elim c.else-write.branch [
-      | else-write-via-then-write+else-not-piece w ↦ λ _. from_not_false c.in_ok-piece.piece.writable w.if-not-piece.false
+      | else-write-via-then-write+else-not-piece w ↦ λ _. w.if-not-piece.false
       | else-write-via-else-write w ↦ λ writes. absurd (true≢false (sym writes ∙ w.if-write.false))
     ] in
-    wanted_in-run c.args.write (bare_all c.args.space.now) p c.args.addr c.args.len may within.from
+    rw c.byte_at-at.ensures
+    (wanted_in-run c.args.write (bare_all c.args.space.now) p c.args.addr c.args.len may within.from
     (λ b from to.
     c.in_ok-piece.ensures.whole b (omega (arith, within.from, from))
-    (in_page p.base p.pages c.args.addr b c.args.len within.fit.aligned within.from within.to c.requires.page to))
+    (in_page p.base p.pages c.args.addr b c.args.len within.fit.aligned within.from within.to c.requires.page to)))
 
 pub returns-clause-pages : goal.returns-clause-pages
 returns-clause-pages c = λ test all.
     let p = bare c.in_ok-piece.piece in
     let within : IsCovering c.args.addr c.in_ok-piece.piece = c.in_ok-piece.ensures.within in
-    let page : (4096 * p.first_page + (c.args.addr - p.base)) / 4096 ≡ p.first_page + (c.args.addr - p.base) / 4096 = omega arith in
+    let page : c.byte_at-at.result / 4096 ≡ p.first_page + (c.args.addr - p.base) / 4096 = omega arith in
     let inside : (c.args.addr - p.base) / 4096 < p.pages = omega (arith, within.from, within.to) in
     rw page
     (covering-passes (λ (q : Piece). (j : ℕ) → j < q.pages → test q.seg (q.first_page + j) ≡ true) c.args.addr (bare_all c.args.space.now) p all
@@ -41,7 +42,7 @@ returns-clause-frames c = λ at all.
     let t = c.args.tables.now.slab in
     let ps = c.args.space.now in
     let within : IsCovering c.args.addr p = c.in_ok-piece.ensures.within in
-    let own : IsHeld t p = held-passed t p (c.in_ok-piece.ensures.among (is_held t) (λ k d lt. held-passes t (get_or ps k d) (c.requires.held k d lt))) in
-    let page = (4096 * p.first_page + (c.args.addr - p.base)) / 4096 in
+    let own : HasTable t p = tables-passed t p (c.in_ok-piece.ensures.among (has_table t) (λ k d lt. tables-passes t (get_or ps k d) (c.requires.tables k d lt))) in
+    let page = c.byte_at-at.result / 4096 in
     let inside : page < size_in (get t p.key) = omega (arith, within.from, within.to, own.pages) in
     c.frame.ensures ∙ frame-true at (get t p.key) p.seg page own.seg (all p.key) inside

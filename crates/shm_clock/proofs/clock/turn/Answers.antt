@@ -1,5 +1,5 @@
 use Rattle.std.proofs.Common.{◌≡◌, ◌≢◌, ◌<◌, [], length, sym, ◌∙◌, arith}
-use Rattle.shm_clock.specs.Clock.{ring_at, listed}
+use Rattle.shm_clock.specs.Clock.{ring_at, candidates}
 use Rattle.shm_clock.proofs.Turning.{stops_here, stop_counted, goes_on, passes_over, comes_round, round_counted, none_met}
 use Rattle.shm_clock.proofs.clock.turn.Goals as goal
 use Rattle.shm_clock.proofs.clock.turn.Goals.{then-may_go+else-not-referenced, else-may_go}
@@ -36,7 +36,7 @@ loop-step-preserved g c =
 
 pub unreachable-requires : goal.unreachable-requires
 unreachable-requires g c =
-    let some : listed g.passes c.args.pinned c.args.frames.now c.args.hand ≢ [] = c.requires.1.1.1.1.0 in
+    let some : candidates g.passes c.args.pinned c.args.frames.now c.args.hand ≢ [] = c.requires.1.1.1.1.0 in
     some (none_met g.passes c.args.pinned c.args.hand c.args.frames.now c.requires.1.0 c.args.looks.now c.loop-step.step c.loop-step.frames c.loop-step.first c.loop-step.looks c.loop-step.invariant (omega arith) c.in-None.is)
 
 pub returns-clause-victim : goal.returns-clause-victim

@@ -1,6 +1,6 @@
-use Rattle.shm_life.proofs.Names.{◌≡◌, drop, [], refl, sym, subst, ◌∙◌, drop_all, runs-refl, runs-trans, OrphansAmong}
+use Rattle.shm_life.proofs.Names.{◌≡◌, drop, [], refl, sym, subst, ◌∙◌, drop_all, memory-refl, memory-trans, OrphansAmong}
 use Rattle.shm_life.proofs.Orphans.{swept-none}
-use Rattle.shm_life.proofs.Running.{sweeps-none, sweeps-trans, among-next, swept-well, keeps_runs}
+use Rattle.shm_life.proofs.Running.{sweeps-none, sweeps-trans, among-next, swept-well, keeps_on}
 use Rattle.shm_life.proofs.sweep.sweep.Given.{Over}
 use Rattle.shm_life.proofs.sweep.sweep.Goals as goal
 use Rattle.shm_life.proofs.sweep.sweep.Goals.{After-loop-seg}
@@ -8,7 +8,7 @@ use Rattle.shm_life.proofs.sweep.sweep.Goals.{After-loop-seg}
 pub loop-seg-init : goal.loop-seg-init
 loop-seg-init g c =
     let s = c.args.segments.now in
-    (record { sweeps = sweeps-none c.args.spaces.now.runners s.table; runs = runs-refl s.memory; same_sizes = refl; translated = λ all. all }, c.requires.orphans)
+    (record { sweeps = sweeps-none c.args.spaces.now.runners s.table; keeps = memory-refl s.memory; same_sizes = refl; translated = λ all. all }, c.requires.orphans)
 
 pub loop-seg-preserved : goal.loop-seg-preserved
 loop-seg-preserved g c =
@@ -18,7 +18,7 @@ loop-seg-preserved g c =
     let u = c.sweep_one.new.segments in
     let d = c.loop-seg.invariant.0 in
     let e = c.sweep_one.ensures in (
-      record { sweeps = sweeps-trans rs s.table t.table u.table d.sweeps e.sweeps; runs = runs-trans s.memory t.memory u.memory d.runs e.runs; same_sizes = e.sizes ∙ d.same_sizes; translated = λ all. e.translated (d.translated all) },
+      record { sweeps = sweeps-trans rs s.table t.table u.table d.sweeps e.sweeps; keeps = memory-trans s.memory t.memory u.memory d.keeps e.keeps; same_sizes = e.sizes ∙ d.same_sizes; translated = λ all. e.translated (d.translated all) },
       among-next rs t.table u.table c.args.lost.now c.loop-seg.seg-index 0 c.loop-seg-test.true c.loop-seg.invariant.1 e.fewer,
     )
 
@@ -35,4 +35,4 @@ pub returns-clause-well : goal.returns-clause-well
 returns-clause-well g c = λ limits w. swept-well limits _ _ _ _ _ _ c.loop-seg.invariant.0 (none g c) w
 
 pub returns-clause-keeps : goal.returns-clause-keeps
-returns-clause-keeps g c = keeps_runs _ _ c.loop-seg.invariant.0.runs
+returns-clause-keeps g c = keeps_on _ _ c.loop-seg.invariant.0.keeps

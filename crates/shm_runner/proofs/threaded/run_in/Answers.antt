@@ -1,7 +1,6 @@
 use Rattle.std.proofs.Common.{ap, subst, sym, inl}
 use Rattle.shm_base.specs.State.{Opening}
 use Rattle.shm_program.specs.Runs.{IsOpening, IsWorldOf}
-use Rattle.shm_runner.specs.Threaded.{IsRunOf}
 use Rattle.shm_program.proofs.Causes.{world_causes, silent_kept}
 use Rattle.shm_runner.proofs.Causes.{ended_cause}
 use Rattle.shm_runner.proofs.Texts.{threaded_text, marked_text}
@@ -11,8 +10,7 @@ pub returns-in-Ok-clause-ok : goal.returns-in-Ok-clause-ok
 returns-in-Ok-clause-ok g c =
     let o = c.in-Ok.ensures in
     let is : IsWorldOf c.args.script.now c.args.world.opening.areas c.in-Ok.outcome.world = record { opened = subst (IsOpening c.args.script.now) (sym o.opening) c.requires; over = ap (λ (o : Opening). o.areas) o.opening; sound = c.write_outcome.ensures.sound } in
-    let run : IsRunOf c.args.script.now c.in-Ok.outcome.world c.in-Ok.outcome.transcripts.items = record { processes = o.processes; follow = o.transcripts; admitted = o.events } in
-    threaded_text c.write_outcome.result c.args.script.now c.args.world.opening.areas c.in-Ok.outcome.world c.in-Ok.outcome.transcripts.items (g.W.Write.contents c.args.writer.now) (g.W.Write.contents c.write_outcome.new.writer) is run c.write_outcome.ensures.ok
+    threaded_text c.write_outcome.result c.args.script.now c.args.world.opening.areas c.in-Ok.outcome.world c.in-Ok.outcome.transcripts.items (g.W.Write.contents c.args.writer.now) (g.W.Write.contents c.write_outcome.new.writer) is o.transcripts c.write_outcome.ensures.ok
 
 pub returns-in-Ok-clause-cause : goal.returns-in-Ok-clause-cause
 returns-in-Ok-clause-cause g c = world_causes c.write_outcome.result c.args.world.opening.areas c.args.script.now c.write_outcome.ensures.fault
@@ -21,11 +19,10 @@ pub returns-in-Ok-clause-written : goal.returns-in-Ok-clause-written
 returns-in-Ok-clause-written g c =
     let o = c.in-Ok.ensures in
     let is : IsWorldOf c.args.script.now c.args.world.opening.areas c.in-Ok.outcome.world = record { opened = subst (IsOpening c.args.script.now) (sym o.opening) c.requires; over = ap (λ (o : Opening). o.areas) o.opening; sound = c.write_outcome.ensures.sound } in
-    let run : IsRunOf c.args.script.now c.in-Ok.outcome.world c.in-Ok.outcome.transcripts.items = record { processes = o.processes; follow = o.transcripts; admitted = o.events } in
-    marked_text c.write_outcome.result c.args.script.now c.args.world.opening.areas c.in-Ok.outcome.world c.in-Ok.outcome.transcripts.items (g.W.Write.contents c.args.writer.now) (g.W.Write.contents c.write_outcome.new.writer) is run c.write_outcome.ensures.written
+    marked_text c.write_outcome.result c.args.script.now c.args.world.opening.areas c.in-Ok.outcome.world c.in-Ok.outcome.transcripts.items (g.W.Write.contents c.args.writer.now) (g.W.Write.contents c.write_outcome.new.writer) is o.transcripts c.write_outcome.ensures.written
 
 pub returns-in-Err-clause-cause : goal.returns-in-Err-clause-cause
-returns-in-Err-clause-cause g c = rw c.ended.ensures (ended_cause c.in-Err.error c.args.world.opening.areas c.args.script.now)
+returns-in-Err-clause-cause g c = rw c.run_fault.ensures (ended_cause c.in-Err.error c.args.world.opening.areas c.args.script.now)
 
 pub returns-in-Err-clause-written : goal.returns-in-Err-clause-written
-returns-in-Err-clause-written g c = inl (silent_kept c.ended.result (g.W.Write.contents c.args.writer.now))
+returns-in-Err-clause-written g c = inl (silent_kept c.run_fault.result (g.W.Write.contents c.args.writer.now))

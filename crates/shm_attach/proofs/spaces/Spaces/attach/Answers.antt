@@ -1,9 +1,9 @@
-use Rattle.shm_attach.proofs.Names.{◌≡◌, ℕ, ◌+◌, ◌*◌, ◌<◌, ◌≤◌, ◌∙◌, ap, sym, subst, arith, List, length, common_steps, cut, bare, frame_of, Tables, some_if, runner_view, runners_view, SpacesView, Translation, AreTrue, IsCaller, pieces_at, life_at, AreTablesSound, no_holds, AllTrue, translations_of, counted, IsHeld, length-map, Piece, Runner}
+use Rattle.shm_attach.proofs.Names.{◌≡◌, ℕ, ◌+◌, ◌*◌, ◌<◌, ◌≤◌, ◌∙◌, ap, sym, subst, arith, List, length, common_steps, cut, bare, frame_of, Tables, some_if, runner_view, runners_view, SpacesView, Translation, AreTrue, IsCaller, pieces_at, life_at, AreTablesSound, no_reservations, AllTrue, translations_of, counted, HasTable, length-map, Piece, Runner}
 use Rattle.shm_attach.proofs.Processes.{some_if-le, seg-met}
 use Rattle.shm_attach.proofs.Callers.{caller_within, caller_born, with_pieces-of}
 use Rattle.shm_attach.proofs.Keeping.{pieces_at-changed, life_at-changed, with_pieces_at-twice}
 use Rattle.shm_attach.proofs.Bases.{place-range}
-use Rattle.shm_attach.proofs.Sound.{none_held, sound-holds, counts-small}
+use Rattle.shm_attach.proofs.Sound.{none_reserved, sound-reserved, counts-small}
 use Rattle.shm_attach.proofs.Translations.{all-true, true-all}
 use Rattle.shm_attach.proofs.spaces.Spaces.attach.Given.{Over}
 use Rattle.shm_attach.proofs.spaces.Spaces.attach.Goals.{After-self, In_ok-key, After-put}
@@ -17,35 +17,35 @@ live g c = rw (← c.self.view_is) at c.requires.live
 stands : (g : Over) (c : After-self g) → c.args.caller.now.index < length c.self.inside.processes.entries
 stands g c = caller_within c.args.caller.now c.self.inside.processes.entries (live g c)
 
-pub hold-requires-clause-fits : goal.hold-requires-clause-fits
-hold-requires-clause-fits g c =
+pub reserve-requires-clause-fits : goal.reserve-requires-clause-fits
+reserve-requires-clause-fits g c =
     let es = c.self.inside.processes.entries in
-    omega (arith, counts-small es c.self.inside.tables (none_held es c.self.inside.tables c.self.invariant) c.args.seg)
+    omega (arith, counts-small es c.self.inside.tables (none_reserved es c.self.inside.tables c.self.invariant) c.args.seg)
 
 pub space_at-requires : goal.space_at-requires
 space_at-requires g c = stands g (goal.at.space_at-requires g c).After-self
 
--- THE SEGMENT IS HELD
+-- THE TABLE IS RESERVED
 
-held : (g : Over) (c : In_ok-key g) → AreTablesSound (λ id. some_if id c.args.seg 1) c.self.inside.processes.entries c.hold.new.self
-held g c = grind (arith, common_steps, sound-holds)
+reserved : (g : Over) (c : In_ok-key g) → AreTablesSound (λ id. some_if id c.args.seg 1) c.self.inside.processes.entries c.reserve.new.self
+reserved g c = grind (arith, common_steps, sound-reserved)
 
 pub take-requires-clause-there : goal.take-requires-clause-there
 take-requires-clause-there g c = stands g (goal.at.take-requires-clause-there g c).After-self
 
-pub take-requires-clause-holds : goal.take-requires-clause-holds
-take-requires-clause-holds g c = record { extra = λ id. some_if id c.args.seg 1; few = λ id. some_if-le id c.args.seg 1; sound = held g (goal.at.take-requires-clause-holds g c).In_ok-key }
+pub take-requires-clause-reservations : goal.take-requires-clause-reservations
+take-requires-clause-reservations g c = record { extra = λ id. some_if id c.args.seg 1; few = λ id. some_if-le id c.args.seg 1; sound = reserved g (goal.at.take-requires-clause-reservations g c).In_ok-key }
 
 -- THE RANGE IS FREE
 
--- a segment that is held is counted
-counts_hold : (seg : ℕ) (es : List (ℕ × Runner)) (t : Tables) → AreTablesSound (λ id. some_if id seg 1) es t → 1 ≤ counted t seg
-counts_hold seg es t sound = grind (arith, common_steps)
+-- a segment whose table is reserved is counted
+counts_reserved : (seg : ℕ) (es : List (ℕ × Runner)) (t : Tables) → AreTablesSound (λ id. some_if id seg 1) es t → 1 ≤ counted t seg
+counts_reserved seg es t sound = grind (arith, common_steps)
 
 abbrev new : (g : Over) (c : In_ok-key g) → Piece
 new g c = record { base = c.args.base; seg = c.args.seg; first_page = 0; pages = c.args.pages; writable = c.args.writable; key = c.in_ok-key.key }
 
-knows : (g : Over) (c : In_ok-key g) → IsHeld c.hold.new.self.slab (new g c)
+knows : (g : Over) (c : In_ok-key g) → HasTable c.reserve.new.self.slab (new g c)
 knows g c = record { seg = c.in_ok-key.ensures.seg; pages = omega (arith, c.in_ok-key.ensures.pages) }
 
 pub put-requires : goal.put-requires
@@ -58,7 +58,7 @@ put-requires g c =
     let b = goal.at.put-requires g c in
     let within = stands g b.After-self in
     let lt : i < length rs = omega (arith, within, length-map es runner_view) in
-    let sound = c.take.ensures.sound (λ id. some_if id seg 1) (held g b.In_ok-key) in
+    let sound = c.take.ensures.sound (λ id. some_if id seg 1) (reserved g b.In_ok-key) in
     let few : length (f (pieces_at rs i)) + 1 ≤ 256 = rw (← c.self.view_is) at c.requires.room in
     let place = place-range (bare (new g b.In_ok-key)) (pieces_at rs i) c.requires.pages.0 (omega (arith, c.requires.pages.1)) c.requires.range few in
     record {
@@ -66,13 +66,13 @@ put-requires g c =
       born = λ none.
           caller_born c.args.caller.now rs (live g b.After-self) (sym (life_at-changed rs i f lt) ∙ ap (λ xs. life_at xs i) (sym c.take.ensures.runners) ∙ none);
       place = rw (c.take.ensures.runners, pieces_at-changed rs i f lt) place;
-      table = c.take.ensures.held (new g b.In_ok-key) (knows g b.In_ok-key) (counts_hold seg c.take.new.processes.entries c.take.new.tables sound);
-      holds = record { extra = λ id. some_if id seg 1; few = λ id. some_if-le id seg 1; sound = sound };
+      table = c.take.ensures.tables (new g b.In_ok-key) (knows g b.In_ok-key) (counts_reserved seg c.take.new.processes.entries c.take.new.tables sound);
+      reservations = record { extra = λ id. some_if id seg 1; few = λ id. some_if-le id seg 1; sound = sound };
     }
 
 -- THE PIECE IS THERE
 
-placed : (g : Over) (c : After-put g) → AreTablesSound (λ id. some_if id c.args.seg 1) c.self.inside.processes.entries c.hold.new.self
+placed : (g : Over) (c : After-put g) → AreTablesSound (λ id. some_if id c.args.seg 1) c.self.inside.processes.entries c.reserve.new.self
     → AreTablesSound (λ id. some_if id c.args.seg 1) c.put.new.processes.entries c.put.new.tables
 placed g c sound = c.put.ensures.sound (λ id. some_if id c.args.seg 1) (c.take.ensures.sound (λ id. some_if id c.args.seg 1) sound)
 
@@ -81,14 +81,14 @@ replace-requires g c =
     let seg = c.args.seg in
     let b = goal.at.replace-requires g c in
     let q = new g b.In_ok-key in
-    let before = held g b.In_ok-key in
+    let before = reserved g b.In_ok-key in
     let cleared = c.take.ensures.sound (λ id. some_if id seg 1) before in
-    let table = c.take.ensures.held q (knows g b.In_ok-key) (counts_hold seg c.take.new.processes.entries c.take.new.tables cleared) in
+    let table = c.take.ensures.tables q (knows g b.In_ok-key) (counts_reserved seg c.take.new.processes.entries c.take.new.tables cleared) in
     let sound = placed g b.After-put before in
     let small = counts-small c.put.new.processes.entries c.put.new.tables (record { extra = λ id. some_if id seg 1; few = λ id. some_if-le id seg 1; sound = sound }) seg in
     record {
-      own = (c.put.ensures.held q table).seg;
-      gone = counts_hold seg c.put.new.processes.entries c.put.new.tables sound;
+      own = (c.put.ensures.tables q table).seg;
+      gone = counts_reserved seg c.put.new.processes.entries c.put.new.tables sound;
       fits = omega (arith, small);
       tied = sound.tied;
     }
@@ -97,8 +97,8 @@ pub invariant_of-self-2 : goal.invariant_of-self-2
 invariant_of-self-2 g c =
     let seg = c.args.seg in
     let b = goal.at.invariant_of-self-2 g c in
-    sound-holds (λ id. some_if id seg 1) no_holds c.put.new.processes.entries c.put.new.tables c.replace.new.self (placed g b.After-put (held g b.In_ok-key))
-    (λ id. omega (arith, c.replace.ensures.counts id, some_if-le id seg 0)) c.replace.ensures.tied c.replace.ensures.held
+    sound-reserved (λ id. some_if id seg 1) no_reservations c.put.new.processes.entries c.put.new.tables c.replace.new.self (placed g b.After-put (reserved g b.In_ok-key))
+    (λ id. omega (arith, c.replace.ensures.counts id, some_if-le id seg 0)) c.replace.ensures.tied c.replace.ensures.tables
 
 -- WHAT IT ENSURES
 

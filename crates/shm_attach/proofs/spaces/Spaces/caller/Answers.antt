@@ -1,5 +1,5 @@
 use Rattle.shm_attach.proofs.Names.{◌≡◌, sym, arith, common_steps, caller_by, caller_from, bare_all, life_view, runners_view}
-use Rattle.shm_attach.proofs.Held.{pieces_at-entry}
+use Rattle.shm_attach.proofs.HavingTables.{pieces_at-entry}
 use Rattle.shm_attach.proofs.Callers.{caller_from-position, caller_from-absent, not_live}
 use Rattle.shm_attach.proofs.spaces.Spaces.caller.Goals.{In_ok-index}
 use Rattle.shm_attach.proofs.spaces.Spaces.caller.Goals as goal

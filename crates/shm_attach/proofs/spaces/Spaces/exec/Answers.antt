@@ -1,4 +1,4 @@
-use Rattle.shm_attach.proofs.Names.{◌≡◌, ◌<◌, ap, refl, arith, [], length, common_steps, map-map, lowest_address, last_address, cut, runners_view, SpacesView, pieces_at, no_holds}
+use Rattle.shm_attach.proofs.Names.{◌≡◌, ◌<◌, ap, refl, arith, [], length, common_steps, map-map, lowest_address, last_address, cut, runners_view, SpacesView, pieces_at, no_reservations}
 use Rattle.shm_attach.proofs.Callers.{caller_within, with_pieces-of}
 use Rattle.shm_attach.proofs.Keeping.{cut-all}
 use Rattle.shm_attach.proofs.Translations.{keeps}
@@ -21,7 +21,7 @@ pub take-requires-clause-part : goal.take-requires-clause-part
 take-requires-clause-part c = record { from_page = refl; to_page = refl; order = omega arith; few = omega (arith, ap length (all_go (goal.at.take-requires-clause-part c).After-self)) }
 
 pub invariant_of-self : goal.invariant_of-self
-invariant_of-self c = c.take.ensures.sound no_holds c.self.invariant
+invariant_of-self c = c.take.ensures.sound no_reservations c.self.invariant
 
 pub returns-clause-lost : goal.returns-clause-lost
 returns-clause-lost c = grind (arith, common_steps, map-map)

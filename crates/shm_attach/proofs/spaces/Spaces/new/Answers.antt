@@ -1,5 +1,5 @@
 use Rattle.shm_attach.proofs.Names.{◌≡◌, take, map, arith, common_steps, take_all, runner_at_start, runners_view}
-use Rattle.shm_attach.proofs.Starts.{IsExact-start, view-more, AllHeld-start}
+use Rattle.shm_attach.proofs.Starts.{IsExact-start, view-more, AllHaveTables-start}
 use Rattle.shm_attach.proofs.spaces.Spaces.new.Goals as goal
 
 pub invariant_of-result : goal.invariant_of-result
@@ -9,7 +9,7 @@ invariant_of-result c =
     record {
       exact = rw same (IsExact-start c.args.processes.now c.new-2.result c.requires.few c.new-2.ensures.none);
       tied = c.new-2.ensures.tied;
-      held = AllHeld-start c.loop-process.by_pid.entries c.args.processes.now c.new-2.result.slab same;
+      tables = AllHaveTables-start c.loop-process.by_pid.entries c.args.processes.now c.new-2.result.slab same;
     }
 
 pub loop-process-preserved : goal.loop-process-preserved

@@ -5,5 +5,5 @@ use Rattle.shm_attach.proofs.spaces.Spaces.spans.Goals as goal
 pub returns-in-None-clause-none : goal.returns-in-None-clause-none
 returns-in-None-clause-none c = grind (arith, common_steps, wanted_in-none)
 
-pub returns-in-Some-clause-pages : goal.returns-in-Some-clause-pages
-returns-in-Some-clause-pages c = rw c.in-Some.ensures.pid at c.spans_of.ensures.pages
+pub returns-in-Some-clause-spans : goal.returns-in-Some-clause-spans
+returns-in-Some-clause-spans c = rw c.in-Some.ensures.pid at c.spans_of.ensures.spans

@@ -1,10 +1,15 @@
-use Rattle.shm_attach.proofs.Names.{◌≡◌, ℕ, ap, sym, subst, List, Option, All, IfOk-weaker, Span, page_of, StoreView, frame_of, SpacesView, Translation, AreTrue, AllTrue}
+use Rattle.shm_attach.proofs.Names.{◌≡◌, ℕ, ap, sym, subst, arith, common_steps, List, Option, All, IfOk-weaker, Span, page_of, StoreView, frame_of, SpacesView, Translation, AreTrue, AllTrue, bare_all, pieces_by}
 use Rattle.shm_attach.proofs.Callers.{caller_within}
 use Rattle.shm_attach.proofs.Translations.{all-true}
 use Rattle.shm_attach.proofs.spaces.Spaces.spans_of.Goals as goal
 
 pub space_at-space-requires : goal.space_at-space-requires
 space_at-space-requires c = caller_within c.args.caller.now c.self.inside.processes.entries (rw (← c.self.view_is) at c.requires.live)
+
+pub returns-clause-spans : goal.returns-clause-spans
+returns-clause-spans c =
+    let own : bare_all c.space_at-space.result.now ≡ pieces_by c.args.caller.now.pid c.args.self.now.runners = grind (arith, common_steps) in
+    rw own at c.spans_in.ensures.spans
 
 pub returns-clause-frames : goal.returns-clause-frames
 returns-clause-frames c =

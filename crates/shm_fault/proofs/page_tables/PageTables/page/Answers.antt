@@ -6,4 +6,4 @@ pub returns-in-None : goal.returns-in-None
 returns-in-None c = rw (← c.self.view_is, find-lookup, ← c.in-None.ensures.value) refl
 
 pub returns-in-Some : goal.returns-in-Some
-returns-in-Some c = rw (← c.self.view_is, find-lookup, ← c.in-Some.ensures.value) c.place_at.ensures
+returns-in-Some c = rw (← c.self.view_is, find-lookup, ← c.in-Some.ensures.value) c.page_at.ensures

@@ -1,7 +1,8 @@
-use Rattle.shm_fault.proofs.Names.{◌≡◌, None, Some, refl, ap, arith, HasSlot, owner_of, PageRec, rec_by, HasPage, SameOwned, common_steps, nat_tests}
+use Rattle.shm_fault.proofs.Names.{◌≡◌, None, Some, refl, ap, sym, HasSlot, owner_of, PageRec, rec_by, HasPage, SameOwned, with_rec}
+use Rattle.shm_fault.specs.Store.{frame_of}
 use Rattle.shm_fault.proofs.Seen.{seen}
 use Rattle.shm_fault.proofs.Sound.{slot-own}
-use Rattle.shm_fault.proofs.Pages.{has-slot, still-with}
+use Rattle.shm_fault.proofs.Pages.{by-still, has-slot, still-with}
 use Rattle.shm_fault.proofs.Changes.{Keeps}
 use Rattle.shm_fault.proofs.Areas.{has-room, keeps-carried, keeps-owned, cleared-relocated}
 use Rattle.shm_fault.proofs.store.PageStore.carry.Given as given
@@ -46,7 +47,11 @@ pub returns-in-Ok-clause-goes : goal.returns-in-Ok-clause-goes
 returns-in-Ok-clause-goes g c = rw (← c.self.view_is) (kept g c).goes
 
 pub returns-in-Ok-clause-still : goal.returns-in-Ok-clause-still
-returns-in-Ok-clause-still g c = grind (arith, nat_tests, common_steps, c.set_page.ensures, c.self.view_is, still-with, c.self.inside.segs, c.args.page, c.in-Ok.to, has, place)
+returns-in-Ok-clause-still g c =
+    let o = (goal.at.returns-in-Ok-clause-still g c).After-self in
+    let s = seen c.self.inside in
+    let new : PageRec = record { frame = None; slot = Some c.in-Ok.to } in
+    rw (c.set_page.ensures, ← c.self.view_is) (by-still s (record s { segs = with_rec s.segs c.args.page new; swap = c.relocate.new.swap }) (still-with s.segs c.args.page new (has g o) (sym (ap (λ (p : PageRec). p.frame) (place g o)))))
 
 pub returns-in-Ok-clause-cleared : goal.returns-in-Ok-clause-cleared
 returns-in-Ok-clause-cleared g c = rw (← c.self.view_is) (cleared-relocated c.args.page c.args.slot c.in-Ok.to c.self.inside.swap c.relocate.new.swap c.in-Ok.ensures.ok)
@@ -64,4 +69,5 @@ pub returns-in-Err-clause-sound : goal.returns-in-Err-clause-sound
 returns-in-Err-clause-sound g c = (failed g (goal.at.returns-in-Err-clause-sound g c).After-relocate c.in-Err.ensures.err).sound
 
 pub returns-in-Err-clause-still : goal.returns-in-Err-clause-still
-returns-in-Err-clause-still g c = rw (← c.self.view_is) (λ r. refl)
+unfolding frame_of
+returns-in-Err-clause-still g c = rw (← c.self.view_is) (λ seg page. refl)

@@ -1,6 +1,7 @@
 use Rattle.shm_fault.proofs.Names.{◌≡◌, ◌∙◌, ◌+◌, arith, is_some, [], ◌∷◌, ◌++◌, Option, Some, None, refl, ap, MatchOption, PageRef, Slot, HasSlot, Came, rec_by, StoreView, one_if}
 use Rattle.shm_fault.proofs.Seen.{seen}
 use Rattle.shm_fault.proofs.Sound.{slot-own}
+use Rattle.shm_fault.proofs.Pages.{by-still}
 use Rattle.shm_fault.proofs.Visits.{Visits-trans, moves-more, moves-still, moves-trans}
 use Rattle.shm_fault.proofs.Counting.{byte-one, counts-more}
 use Rattle.shm_fault.proofs.store.PageStore.come_in.Goals as goal
@@ -11,7 +12,7 @@ slot_there s r has (Some k) e = has k e
 
 pub load-requires-clause-slot : goal.load-requires-clause-slot
 load-requires-clause-slot g c =
-    rw (c.page-place.ensures, ← c.self.view_is)
+    rw (c.page-slot.ensures, ← c.self.view_is)
     (slot_there (seen c.self.inside) c.args.page (λ k e. (slot-own (seen c.self.inside) c.self.invariant c.args.page k e).0) (rec_by c.self.inside.segs c.args.page).slot refl)
 
 pub returns-in-Ok-clause-visits : goal.returns-in-Ok-clause-visits
@@ -21,7 +22,7 @@ returns-in-Ok-clause-visits g c = λ pinned.
 pub returns-in-Ok-clause-moves : goal.returns-in-Ok-clause-moves
 returns-in-Ok-clause-moves g c =
     let ms = c.args.touched.now.moved.items in
-    let still = λ (r : PageRef). ap (λ (v : StoreView). (rec_by v.segs r).frame) c.load.ensures.rest in
+    let still = by-still _ _ λ (r : PageRef). ap (λ (v : StoreView). (rec_by v.segs r).frame) c.load.ensures.rest in
     rw c.push.ensures.items
     (moves-trans ms ms (ms ++ Came c.args.page c.args.frame ∷ []) c.args.self.now c.load.new.self c.settle.new.self
     (moves-still ms c.args.self.now c.load.new.self still)
@@ -32,11 +33,11 @@ returns-in-Err-clause-visits g c = λ pinned. c.load.ensures.visits c.args.page 
 
 pub returns-in-Err-clause-moves : goal.returns-in-Err-clause-moves
 returns-in-Err-clause-moves g c =
-    moves-still c.args.touched.now.moved.items c.args.self.now c.load.new.self (λ (r : PageRef). ap (λ (v : StoreView). (rec_by v.segs r).frame) c.load.ensures.rest)
+    moves-still c.args.touched.now.moved.items c.args.self.now c.load.new.self (by-still _ _ λ (r : PageRef). ap (λ (v : StoreView). (rec_by v.segs r).frame) c.load.ensures.rest)
 
 pub returns-in-Ok-clause-counts : goal.returns-in-Ok-clause-counts
 returns-in-Ok-clause-counts g c =
-    counts-more c.args.touched.now _ c.args.self.now c.settle.new.self (one_if (is_some c.page-place.result.slot)) 0
+    counts-more c.args.touched.now _ c.args.self.now c.settle.new.self (one_if (is_some c.page-slot.result.slot)) 0
     (ap (λ n. c.args.touched.now.ins + n) (c.from.ensures ∙ byte-one _ ∙ ap one_if c.is_some.ensures)) (ap (λ (v : StoreView). v.ins) c.settle.ensures.rest ∙ c.in-Ok.ensures.ins)
     (omega arith) (ap (λ (v : StoreView). v.outs) c.settle.ensures.rest ∙ ap (λ (v : StoreView). v.outs) c.load.ensures.rest)
 
@@ -49,8 +50,11 @@ settle-requires-clause-has g c = rw c.load.ensures.rest c.requires.has
 pub settle-requires-clause-away : goal.settle-requires-clause-away
 settle-requires-clause-away g c = rw c.load.ensures.rest c.requires.away
 
+pub settle-requires-clause-slot : goal.settle-requires-clause-slot
+settle-requires-clause-slot g c = rw (ap (λ (v : StoreView). v.segs) c.load.ensures.rest, c.page-slot.ensures, ← c.self.view_is) refl
+
 pub settle-requires-clause-bytes : goal.settle-requires-clause-bytes
-settle-requires-clause-bytes g c = rw (c.in-Ok.ensures.bytes, c.in-Ok.ensures.swap, ap (λ (v : StoreView). v.segs) c.load.ensures.rest, c.page-place.ensures, ← c.self.view_is) refl
+settle-requires-clause-bytes g c = rw (c.in-Ok.ensures.bytes, c.in-Ok.ensures.swap) refl
 
 pub returns-in-Ok-clause-hand : goal.returns-in-Ok-clause-hand
 returns-in-Ok-clause-hand g c = ap (λ (v : StoreView). v.hand) c.settle.ensures.rest ∙ ap (λ (v : StoreView). v.hand) c.load.ensures.rest

@@ -1,4 +1,5 @@
 use Rattle.shm_fault.proofs.Names.{arith, common_steps, ◌≡◌, Some, false, length-set, rec_by, List, ap, sym, ◌∙◌, get_or-set_same, Frame, no_frame, frame_at, StoreView}
+use Rattle.shm_fault.proofs.Pages.{by-still, still-by}
 use Rattle.shm_fault.proofs.Visits.{evicted-gone, evicted-visits}
 use Rattle.shm_fault.proofs.store.PageStore.evict.Goals as goal
 
@@ -33,5 +34,8 @@ returns-in-Ok-clause-hand g c = ap (λ (v : StoreView). v.hand) c.vacate-page.en
 pub returns-in-Err-clause-hand : goal.returns-in-Err-clause-hand
 returns-in-Err-clause-hand g c = ap (λ (v : StoreView). v.hand) c.clean.ensures.rest ∙ c.turn-frame.ensures.hand
 
+pub returns-in-Err-clause-visits : goal.returns-in-Err-clause-visits
+returns-in-Err-clause-visits g c = let still = still-by _ _ c.clean.ensures.still in grind (arith, common_steps, still)
+
 pub returns-in-Err-clause-err : goal.returns-in-Err-clause-err
-returns-in-Err-clause-err g c = λ r. c.clean.ensures.still r ∙ ap (λ (v : StoreView). (rec_by v.segs r).frame) c.turn-frame.ensures.rest
+returns-in-Err-clause-err g c = by-still _ _ λ r. still-by _ _ c.clean.ensures.still r ∙ ap (λ (v : StoreView). (rec_by v.segs r).frame) c.turn-frame.ensures.rest

@@ -1,6 +1,9 @@
-use Rattle.shm_fault.proofs.Names.{◌≡◌, ap, ◌∙◌, PageRec, rec_by, Visits, MovesOn}
+use Rattle.shm_fault.proofs.Names.{◌≡◌, ap, ◌∙◌, arith, false, is_ok, None, PageRec, rec_by, Visited, Visits, MovesOn}
 use Rattle.shm_fault.proofs.Pages.{has-same}
 use Rattle.shm_fault.proofs.Sound.{cause-after}
+use Rattle.shm_fault.proofs.Failures.{OnErr-map}
+use Rattle.shm_fault.proofs.Bringing.{err_of}
+use Rattle.shm_fault.proofs.Visiting.{visited-fault}
 use Rattle.shm_fault.proofs.Visits.{Visits-trans, moves-trans, visits-away}
 use Rattle.shm_fault.proofs.store.PageStore.fault.Given as given
 use Rattle.shm_fault.proofs.store.PageStore.fault.Goals as goal
@@ -24,27 +27,27 @@ come_in-requires-clause-has g c =
 pub come_in-requires-clause-away : goal.come_in-requires-clause-away
 come_in-requires-clause-away g c = ap (λ (p : PageRec). p.frame) (away g (goal.at.come_in-requires-clause-away g c).After-take_frame) ∙ c.requires.away
 
-pub returns-in-Ok-come_in-clause-visits : goal.returns-in-Ok-come_in-clause-visits
-returns-in-Ok-come_in-clause-visits g c = visits g (goal.at.returns-in-Ok-come_in-clause-visits g c).After-come_in
+-- what both steps leave, also where the second failed
+visited : (g : given.Over) (c : After-come_in g)
+    → Visited c.args.page c.args.pinned None c.args.self.now c.come_in.new.self c.args.touched.now c.come_in.new.touched (is_ok c.come_in.result)
+visited g c =
+    let took = c.take_frame.ensures in
+    let came = c.come_in.ensures in
+    let same = visits-away c.args.pinned c.args.self.now c.take_frame.new.self took.visits c.args.page c.requires.away in
+    let cause = OnErr-map c.come_in.result _ _ came.cause (cause-after c.args.self.now c.take_frame.new.self c.come_in.new.self (took.visits c.args.page).goes (came.visits c.args.pinned).goes) in
+    visited-fault c.args.page c.args.pinned c.args.self.now c.come_in.new.self c.args.touched.now c.come_in.new.touched (is_ok c.come_in.result) c.requires.away (visits g c) (moves g c)
+    (omega (arith, took.few, came.few)) (rw (← same, ← took.ins) came.ins) (omega (arith, took.outs, came.outs))
+    (record { ins = λ n e. came.counts.ins n (took.counts.ins n e); outs = λ n e. came.counts.outs n (took.counts.outs n e) })
+    (came.hand ∙ took.hand) (err_of c.come_in.result _ cause)
 
-pub returns-in-Err-come_in-clause-visits : goal.returns-in-Err-come_in-clause-visits
-returns-in-Err-come_in-clause-visits g c = visits g (goal.at.returns-in-Err-come_in-clause-visits g c).After-come_in
+pub returns-in-Ok-come_in-clause-visited : goal.returns-in-Ok-come_in-clause-visited
+returns-in-Ok-come_in-clause-visited g c = rw c.in-Ok-come_in.is at (visited g (goal.at.returns-in-Ok-come_in-clause-visited g c).After-come_in)
 
-pub returns-in-Err-clause-visits : goal.returns-in-Err-clause-visits
-returns-in-Err-clause-visits g c = c.take_frame.ensures.visits c.args.page
+pub returns-in-Err-come_in-clause-visited : goal.returns-in-Err-come_in-clause-visited
+returns-in-Err-come_in-clause-visited g c = rw c.in-Err-come_in.is at (visited g (goal.at.returns-in-Err-come_in-clause-visited g c).After-come_in)
 
-pub returns-in-Ok-come_in-clause-moves : goal.returns-in-Ok-come_in-clause-moves
-returns-in-Ok-come_in-clause-moves g c = moves g (goal.at.returns-in-Ok-come_in-clause-moves g c).After-come_in
-
-pub returns-in-Err-come_in-clause-moves : goal.returns-in-Err-come_in-clause-moves
-returns-in-Err-come_in-clause-moves g c = moves g (goal.at.returns-in-Err-come_in-clause-moves g c).After-come_in
-
-pub returns-in-Ok-come_in-clause-ins : goal.returns-in-Ok-come_in-clause-ins
-returns-in-Ok-come_in-clause-ins g c =
-    let same = away g (goal.at.returns-in-Ok-come_in-clause-ins g c).After-take_frame in
-    let ins = c.in-Ok-come_in.ensures.ins in
-    rw (← same, ← c.take_frame.ensures.ins) ins
-
-pub returns-in-Err-come_in-clause-cause : goal.returns-in-Err-come_in-clause-cause
-returns-in-Err-come_in-clause-cause g c =
-    cause-after c.args.self.now c.take_frame.new.self c.come_in.new.self (c.take_frame.ensures.visits c.args.page).goes (c.come_in.ensures.visits c.args.pinned).goes c.in-Err-come_in.ensures.cause
+pub returns-in-Err-clause-visited : goal.returns-in-Err-clause-visited
+returns-in-Err-clause-visited g c =
+    let took = c.take_frame.ensures in
+    visited-fault c.args.page c.args.pinned c.args.self.now c.take_frame.new.self c.args.touched.now c.take_frame.new.touched false c.requires.away (took.visits c.args.page) took.moves
+    (omega (arith, took.few)) (omega (arith, took.ins)) took.outs took.counts took.hand (λ e. c.in-Err.ensures.cause)

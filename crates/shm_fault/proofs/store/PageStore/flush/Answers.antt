@@ -1,5 +1,4 @@
 use Rattle.shm_fault.proofs.Names.{◌≡◌, ◌<◌, ◌+◌, true, length, sym, ◌∙◌, arith, may_flush, common_steps, nat_tests}
-use Rattle.shm_fault.specs.Store.{frame_of}
 use Rattle.shm_fault.proofs.Bringing.{kept-locked}
 use Rattle.shm_fault.proofs.Flushes.{flushed-none, flushed-enough, flushed-not, flushed-more, flushed-all}
 use Rattle.shm_fault.proofs.store.PageStore.flush.Goals.{then-report-n+then-is_flushable, else-report-n, else-report-n-via-then-report-n+else-is_flushable, else-report-n-via-else-report-n}
@@ -39,8 +38,7 @@ returns-clause-flushed g c =
     flushed-all c.args.n s c.loop-frame.frame c.loop-frame.self c.loop-frame.report.written c.loop-frame.report.failed last d
 
 pub returns-clause-still : goal.returns-clause-still
-unfolding frame_of
-returns-clause-still g c = λ seg page. c.loop-frame.invariant.still (record { seg = seg; page = page })
+returns-clause-still g c = c.loop-frame.invariant.still
 
 pub returns-clause-kept : goal.returns-clause-kept
 returns-clause-kept g c = grind (arith, nat_tests, common_steps, c.loop-frame.invariant, kept-locked, c.args.self.now, c.loop-frame.self)

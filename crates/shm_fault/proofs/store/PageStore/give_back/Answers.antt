@@ -1,7 +1,7 @@
-use Rattle.shm_fault.proofs.Names.{◌≡◌, Some, ap, arith, PageRec, rec_by, HasPage, common_steps, nat_tests}
+use Rattle.shm_fault.proofs.Names.{◌≡◌, None, Some, ap, sym, PageRec, rec_by, HasPage, with_rec}
 use Rattle.shm_fault.proofs.Seen.{seen}
 use Rattle.shm_fault.proofs.Sound.{frame-own, slot-own}
-use Rattle.shm_fault.proofs.Pages.{has-slot, still-with}
+use Rattle.shm_fault.proofs.Pages.{by-still, has-slot, still-with}
 use Rattle.shm_fault.proofs.Changes.{Keeps}
 use Rattle.shm_fault.proofs.Areas.{keeps-back}
 use Rattle.shm_fault.proofs.store.PageStore.give_back.Given as given
@@ -37,7 +37,11 @@ pub returns-clause-goes : goal.returns-clause-goes
 returns-clause-goes g c = rw (← c.self.view_is) (kept g c).goes
 
 pub returns-clause-still : goal.returns-clause-still
-returns-clause-still g c = grind (arith, nat_tests, common_steps, c.set_page.ensures, c.self.view_is, still-with, c.self.inside.segs, c.args.page, c.args.frame, has, place)
+returns-clause-still g c =
+    let o = (goal.at.returns-clause-still g c).After-self in
+    let s = seen c.self.inside in
+    let new : PageRec = record { frame = Some c.args.frame; slot = None } in
+    rw (c.set_page.ensures, ← c.self.view_is) (by-still s (record s { segs = with_rec s.segs c.args.page new; frames = c.set_dirty.new.self; swap = c.give_slot.new.self }) (still-with s.segs c.args.page new (has g o) (sym (ap (λ (p : PageRec). p.frame) (place g o)))))
 
 pub returns-clause-sound : goal.returns-clause-sound
 returns-clause-sound g c = (kept g c).sound

@@ -27,7 +27,7 @@ done g c =
 
 -- a write that failed moved no page's frame
 still-err : (g : given.Over) (c : In-Err g) → Still c.args.self.now c.clear_slot.new.self
-still-err g c q = c.clear_slot.ensures.still q ∙ c.loop-slot.invariant.still q
+still-err g c seg page = c.clear_slot.ensures.still seg page ∙ c.loop-slot.invariant.still seg page
 
 pub clear_slot-requires-clause-there : goal.clear_slot-requires-clause-there
 clear_slot-requires-clause-there g c =
@@ -48,8 +48,7 @@ returns-in-Err-clause-cause g c =
     cause-after c.args.self.now c.loop-slot.self c.clear_slot.new.self c.loop-slot.invariant.goes c.clear_slot.ensures.goes c.in-Err.ensures.cause
 
 pub returns-in-Err-clause-still : goal.returns-in-Err-clause-still
-unfolding frame_of
-returns-in-Err-clause-still g c = λ seg page. still-err g (goal.at.returns-in-Err-clause-still g c).In-Err (record { seg = seg; page = page })
+returns-in-Err-clause-still g c = still-err g (goal.at.returns-in-Err-clause-still g c).In-Err
 
 pub returns-in-Err-clause-kept : goal.returns-in-Err-clause-kept
 returns-in-Err-clause-kept g c = grind (arith, nat_tests, common_steps, still-err, kept-locked, c.args.self.now, c.clear_slot.new.self)
@@ -71,7 +70,7 @@ returns-clause-held g c = (done g c).1
 
 pub returns-clause-still : goal.returns-clause-still
 unfolding frame_of
-returns-clause-still g c = λ seg page. (cleaned g (goal.at.returns-clause-still g c).After-self-2).still (record { seg = seg; page = page })
+returns-clause-still g c = λ seg page. (cleaned g (goal.at.returns-clause-still g c).After-self-2).still seg page
 
 pub returns-clause-kept : goal.returns-clause-kept
 returns-clause-kept g c = grind (arith, nat_tests, common_steps, seen, c.self-2.inside, c.turn_off.new.self, kept-locked, c.args.self.now, cleaned)

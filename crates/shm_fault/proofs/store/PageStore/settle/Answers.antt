@@ -11,9 +11,10 @@ done : (g : given.Over) (c : After-set_page g)
 done g c =
     let i = c.self.inside in
     let there = rw (← c.self.view_is) at c.requires.there in
-    let bytes = rw (← c.self.view_is) at c.requires.bytes in
+    let slot = rw (← c.self.view_is) at c.requires.slot in
+    let bytes = rw (← c.self.view_is, slot) at c.requires.bytes in
     let x : Frame = record (frame_at i.frames c.args.frame) { owner = Some c.args.page } in
-    rw (set-twice i.frames c.args.frame x (λ y. record y { referenced = true }) there c.fill.ensures c.set_referenced.ensures, c.set_page.ensures, c.page-place.ensures)
+    rw (set-twice i.frames c.args.frame x (λ y. record y { referenced = true }) there c.fill.ensures c.set_referenced.ensures, c.set_page.ensures, slot)
     (settles (seen i) c.self.invariant c.args.page c.args.frame (rw (← c.self.view_is) at c.requires.has) there
     (rw (← c.self.view_is) at c.requires.free) (rw (← c.self.view_is) at c.requires.away) bytes)
 

@@ -1,6 +1,7 @@
 use Rattle.shm_fault.proofs.Names.{◌≡◌, Some, None, sym, ap, ◌∙◌, arith, used_slots, slots, with_slot_owner, frame_at, PageRec, rec_by}
 use Rattle.shm_fault.proofs.Seen.{seen}
 use Rattle.shm_fault.proofs.Tally.{used-slots, some_slotless}
+use Rattle.shm_fault.proofs.Pages.{by-still}
 use Rattle.shm_fault.proofs.Changes.{Takes, takes}
 use Rattle.shm_fault.proofs.store.PageStore.slot_for.Given as given
 use Rattle.shm_fault.proofs.store.PageStore.slot_for.Goals as goal
@@ -39,7 +40,7 @@ pub returns-clause-slot : goal.returns-clause-slot
 returns-clause-slot g c = rw (← c.self.view_is) (done g c).slot
 
 pub returns-clause-still : goal.returns-clause-still
-returns-clause-still g c = rw (← c.self.view_is) (done g c).still
+returns-clause-still g c = rw (← c.self.view_is) (by-still _ _ (done g c).still)
 
 pub returns-clause-away : goal.returns-clause-away
 returns-clause-away g c = rw (← c.self.view_is) (done g c).away

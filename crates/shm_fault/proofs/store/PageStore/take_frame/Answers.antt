@@ -1,4 +1,5 @@
 use Rattle.shm_fault.proofs.Names.{Gone, refl, ap, ◌+◌, ◌∙◌, arith, one_if}
+use Rattle.shm_fault.specs.Store.{frame_of}
 use Rattle.shm_fault.proofs.Seen.{seen}
 use Rattle.shm_fault.proofs.Visits.{moves-more, moves-still}
 use Rattle.shm_fault.proofs.Counting.{byte-one, counts-still, counts-more}
@@ -15,6 +16,7 @@ returns-in-Ok-clause-moves g c =
     rw (c.push.ensures.items, ← c.self.view_is) (moves-more c.args.touched.now.moved.items (Gone c.in-Ok.evicted.page) (seen c.self.inside) c.evict.new.self c.in-Ok.ensures.gone)
 
 pub returns-in-Err-clause-moves : goal.returns-in-Err-clause-moves
+unfolding frame_of
 returns-in-Err-clause-moves g c =
     rw (← c.self.view_is) (moves-still c.args.touched.now.moved.items (seen c.self.inside) c.evict.new.self c.in-Err.ensures.err)
 

@@ -1,6 +1,5 @@
 use Rattle.std.proofs.Common.{sym, ◌∙◌}
-use Rattle.shm_fault.proofs.Bringing.{err_of}
-use Rattle.shm_fault.proofs.Visiting.{visited-touched, visited-fault}
+use Rattle.shm_fault.proofs.Visiting.{visited-touched}
 use Rattle.shm_fault.proofs.store.PageStore.visit.Goals as goal
 
 pub returns-in-Some-clause-visited : goal.returns-in-Some-clause-visited
@@ -9,5 +8,4 @@ returns-in-Some-clause-visited g c =
 
 pub returns-in-None-clause-visited : goal.returns-in-None-clause-visited
 returns-in-None-clause-visited g c =
-    let e = c.fault.ensures in
-    rw c.in-None.is (visited-fault c.args.page c.args.pinned c.args.self.now c.fault.new.self c.args.touched.now c.fault.new.touched _ (sym c.requires.known ∙ c.in-None.is) e.visits e.moves e.few e.ins e.outs e.counts e.hand (err_of c.fault.result _ e.cause))
+    rw c.in-None.is c.fault.ensures.visited

@@ -1,6 +1,6 @@
 use Rattle.std.proofs.Common.{arith, refl, ◌≡◌, ◌<◌, length, length-set}
 use Rattle.std.proofs.lemmas.Grind.{common_steps}
-use Rattle.shm_frames.specs.Table.{entry_at, free_entry}
+use Rattle.shm_frames.specs.Table.{state_at, free_entry}
 use Rattle.shm_frames.specs.Frame.{no_frame}
 use Rattle.shm_frames.proofs.Shown.{shown, length-shown, edit-shown, entry-is}
 use Rattle.shm_frames.proofs.Counts.{kept-empty, owned-there, changed-there}
@@ -10,7 +10,7 @@ use Rattle.shm_frames.proofs.frames.Frames.empty.Goals.{After-self, After-index}
 there : (c : After-self) → c.args.frame < length c.self.inside.table.items
 there c = omega (arith, c.requires, length-shown (shown c.self.inside c.self.invariant c.self.view_is))
 
-at : (c : After-index) → c.index.result.now ≡ entry_at c.self.inside.table.items c.args.frame
+at : (c : After-index) → c.index.result.now ≡ state_at c.self.inside.table.items c.args.frame
 at c = entry-is (shown c.self.inside c.self.invariant c.self.view_is) c.args.frame c.index.result.now c.requires c.index.ensures
 
 pub index-requires : goal.index-requires

@@ -1,6 +1,6 @@
 use Rattle.std.proofs.Common.{arith, refl, sym, ◌∙◌, ◌≡◌, ◌<◌, ◌≤◌, length, length-set, None, Some, ◌+◌}
 use Rattle.std.proofs.lemmas.Grind.{common_steps}
-use Rattle.shm_frames.specs.Table.{entry_at}
+use Rattle.shm_frames.specs.Table.{state_at}
 use Rattle.shm_frames.proofs.Shown.{shown, length-shown, edit-shown, entry-is, entry-read}
 use Rattle.shm_frames.proofs.Counts.{kept-fill, owned-more}
 use Rattle.shm_frames.proofs.frames.Frames.fill.Goals as goal
@@ -9,7 +9,7 @@ use Rattle.shm_frames.proofs.frames.Frames.fill.Goals.{After-self, After-index_m
 there : (c : After-self) → c.args.frame < length c.self.inside.table.items
 there c = omega (arith, c.requires.there, length-shown (shown c.self.inside c.self.invariant c.self.view_is))
 
-at : (c : After-index_mut-entry) → c.index_mut-entry.result.now ≡ entry_at c.self.inside.table.items c.args.frame
+at : (c : After-index_mut-entry) → c.index_mut-entry.result.now ≡ state_at c.self.inside.table.items c.args.frame
 at c = entry-is (shown c.self.inside c.self.invariant c.self.view_is) c.args.frame c.index_mut-entry.result.now c.requires.there c.index_mut-entry.ensures.value
 
 free : (c : After-index_mut-entry) → c.index_mut-entry.result.now.owner ≡ None

@@ -1,7 +1,7 @@
 use Rattle.std.proofs.Common.{arith, refl, ◌≡◌, ◌<◌, ◌≤◌, length, length-set, ◌+◌, ◌-◌}
 use Rattle.std.proofs.lemmas.Grind.{common_steps}
 use Rattle.std.specs.Int.{from_bool}
-use Rattle.shm_frames.specs.Table.{entry_at}
+use Rattle.shm_frames.specs.Table.{state_at}
 use Rattle.shm_frames.proofs.Shown.{shown, length-shown, edit-shown, entry-is, entry-read}
 use Rattle.shm_frames.proofs.Counts.{kept-bits, changed-there, changed-more}
 use Rattle.shm_frames.proofs.frames.Frames.set_dirty.Goals as goal
@@ -10,7 +10,7 @@ use Rattle.shm_frames.proofs.frames.Frames.set_dirty.Goals.{After-self, After-in
 there : (c : After-self) → c.args.frame < length c.self.inside.table.items
 there c = omega (arith, c.requires.there, length-shown (shown c.self.inside c.self.invariant c.self.view_is))
 
-at : (c : After-index_mut-entry) → c.index_mut-entry.result.now ≡ entry_at c.self.inside.table.items c.args.frame
+at : (c : After-index_mut-entry) → c.index_mut-entry.result.now ≡ state_at c.self.inside.table.items c.args.frame
 at c = entry-is (shown c.self.inside c.self.invariant c.self.view_is) c.args.frame c.index_mut-entry.result.now c.requires.there c.index_mut-entry.ensures.value
 
 pub index_mut-entry-requires : goal.index_mut-entry-requires

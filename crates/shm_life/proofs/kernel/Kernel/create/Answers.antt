@@ -1,4 +1,4 @@
-use Rattle.shm_life.proofs.Names.{◌∙◌, ◌≡◌, ◌+◌, ◌≤◌, ℕ, Some, ap, pages_of, reserved, frame_of, made, Runs}
+use Rattle.shm_life.proofs.Names.{◌∙◌, ◌≡◌, ◌+◌, ◌≤◌, ℕ, Some, ap, pages_of, reserved, frame_of, made, KeepsMemory}
 use Rattle.shm_life.proofs.Created.{created-kept}
 use Rattle.shm_life.proofs.Running.{true_still}
 use Rattle.shm_life.proofs.kernel.Kernel.create.Goals as goal
@@ -11,12 +11,12 @@ invariant_of-self-2 g c =
     rw (size, ← c.reserved.ensures, ← c.pages_of.ensures.value, ← c.shmall.ensures.value) c.if-reserved-shmall.false in
     let same = c.is_full.ensures.same in
     let ok : made c.self.inside.segments.table c.args.key h ≡ Some (c.in_ok-id.id, c.create.new.self.table) = rw same at c.in_ok-id.ensures.ok in
-    let runs : Runs c.self.inside.segments.memory c.create.new.self.memory = rw same at c.in_ok-id.ensures.runs in
+    let keeps : KeepsMemory c.self.inside.segments.memory c.create.new.self.memory = rw same at c.in_ok-id.ensures.keeps in
     let still : (s page : ℕ) → frame_of c.create.new.self.memory s page ≡ frame_of c.self.inside.segments.memory s page = rw same at c.create.ensures.still in
     record {
       kept = created-kept c.self.inside.limits c.self.inside.segments.table c.create.new.self.table c.self.inside.spaces.runners c.args.key h c.in_ok-id.id c.self.invariant.kept ok
           room (ap (λ x. x.dest) c.new_head-head.ensures) (ap (λ x. x.locked) c.new_head-head.ensures);
-      frames = runs.frames ∙ c.self.invariant.frames;
+      frames = keeps.frames ∙ c.self.invariant.frames;
       room = c.self.invariant.room;
       translated = true_still c.self.inside.spaces.translations c.self.inside.segments.memory c.create.new.self.memory still c.self.invariant.translated;
     }

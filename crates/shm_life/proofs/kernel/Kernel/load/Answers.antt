@@ -10,7 +10,7 @@ use Rattle.shm_life.proofs.kernel.Kernel.load.Goals.{After-note}
 
 pub read-read-requires-clause-spans : goal.read-read-requires-clause-spans
 read-read-requires-clause-spans g c =
-    rw c.as_slice.ensures.value (spans-there _ _ c.args.caller.now c.in-Ok.spans _ (rw (← c.self.view_is) at c.requires) c.self.invariant.kept.pieces (rw c.as_slice.ensures.value at c.as_slice.ensures.few.1) c.in-Ok.ensures.within (grind (arith, common_steps)) c.in-Ok.ensures.pages)
+    rw c.as_slice.ensures.value (spans-there _ _ c.args.caller.now c.in-Ok.spans _ (rw (← c.self.view_is) at c.requires) c.self.invariant.kept.pieces (rw c.as_slice.ensures.value at c.as_slice.ensures.few.1) c.in-Ok.ensures.spans.within (grind (arith, common_steps, c.in-Ok.ensures.spans.sum)) c.in-Ok.ensures.spans.pages)
 
 -- as many bytes were read as were asked for
 size : (g : Over) (c : After-note g) → c.args.len ≡ length c.read-read.new.out
@@ -29,7 +29,7 @@ returns-clause-step g c = λ _.
     let caller = c.args.caller.now in
     let spans = span_places false c.in-Ok.spans in
     let is : IsCaller caller rs = rw (← c.self.view_is) at c.requires in
-    let places : wanted false caller.pid c.args.addr c.args.len rs ≡ Some spans = rw c.get.ensures.value at c.in-Ok.ensures.places in
+    let places : wanted false caller.pid c.args.addr c.args.len rs ≡ Some spans = rw c.get.ensures.value at c.in-Ok.ensures.spans.places in
     let step = load-wanted m (pieces_at rs caller.index) c.args.addr c.args.len spans (asked false rs caller c.args.addr c.args.len _ is places) in
     let out = ok_fact c.read-read.result _ (sym c.is_err.ensures.value ∙ c.if-is_err.false) c.read-read.ensures.bytes in
     let read = size g (goal.at.returns-clause-step g c).After-note in
@@ -40,7 +40,7 @@ returns-clause-step g c = λ _.
 well : (g : Over) (c : After-note g) → IsWell c.self.inside.limits c.read-read.new.self.table c.note.new.self.runners c.note.new.self.translations c.read-read.new.self.memory
 well g c =
     let same : SameTable c.self.inside.segments.table c.read-read.new.self.table = rw c.read-read.ensures.table (same-refl _) in
-    noted-well _ _ _ _ _ _ _ _ _ c.read-read.new.touched.moved.items c.self.invariant same c.read-read.ensures.runs.frames c.note.ensures.runners (rw c.as_slice-2.ensures.value at c.note.ensures.translated) (moved-by _ _ _ _ c.read-read.result c.read-read.ensures.access)
+    noted-well _ _ _ _ _ _ _ _ _ c.read-read.new.touched.moved.items c.self.invariant same c.read-read.ensures.keeps.frames c.note.ensures.runners (rw c.as_slice-2.ensures.value at c.note.ensures.translated) (moved-by _ _ _ _ c.read-read.result c.read-read.ensures.access)
 
 pub invariant_of-self : goal.invariant_of-self
 invariant_of-self g c = well g (goal.at.invariant_of-self g c).After-note

@@ -5,11 +5,11 @@ use Rattle.shm_life.proofs.kernel.Kernel.lock.Given.{Over}
 use Rattle.shm_life.proofs.kernel.Kernel.lock.Goals as goal
 use Rattle.shm_life.proofs.kernel.Kernel.lock.Goals.{Else-exceeds_memlock}
 
-few : (g : Over) (c : Else-exceeds_memlock g) → locked (change c.self.inside.segments.table c.in-Ok.found.seg (relocked true)) ≤ c.self.inside.limits.memlock
+few : (g : Over) (c : Else-exceeds_memlock g) → locked (change c.self.inside.segments.table c.in-Some.found.seg (relocked true)) ≤ c.self.inside.limits.memlock
 few g c =
     let t = c.self.inside.segments.table in
-    let found : IsFound t c.in-Ok.found = rw (← c.self.view_is) at c.in-Ok.ensures.found in
-    lock-few t c.in-Ok.found c.self.inside.limits.memlock found c.self.invariant.kept.locked (rw (← c.self.view_is) at (sym c.exceeds_memlock.ensures ∙ c.if-exceeds_memlock.false))
+    let found : IsFound t c.in-Some.found = rw (← c.self.view_is) at c.in-Some.ensures.found in
+    lock-few t c.in-Some.found c.self.inside.limits.memlock found c.self.invariant.kept.locked (rw (← c.self.view_is) at (sym c.exceeds_memlock.ensures ∙ c.if-exceeds_memlock.false))
 
 pub set_locked-requires-clause-few : goal.set_locked-requires-clause-few
 set_locked-requires-clause-few g c = λ _.
@@ -19,16 +19,16 @@ set_locked-requires-clause-few g c = λ _.
 pub invariant_of-self : goal.invariant_of-self
 invariant_of-self g c =
     let few = few g (goal.at.invariant_of-self g c).Else-exceeds_memlock in
-    rw c.set_locked.ensures.table (relocked-well _ _ _ _ _ _ c.in-Ok.found.seg true c.self.invariant few (ap (λ (m : StoreView). length m.frames) c.set_locked.ensures.only) c.set_locked.ensures.still)
+    rw c.set_locked.ensures.table (relocked-well _ _ _ _ _ _ c.in-Some.found.seg true c.self.invariant few (ap (λ (m : StoreView). length m.frames) c.set_locked.ensures.only) c.set_locked.ensures.still)
 
 pub returns-clause-step : goal.returns-clause-step
 returns-clause-step g c =
     let m = c.args.self.now.flat in
-    let f = c.in-Ok.found in
-    let found : IsFound m.table f = c.in-Ok.ensures.found in
+    let f = c.in-Some.found in
+    let found : IsFound m.table f = c.in-Some.ensures.found in
     let pages : pages_in (segment_seen m.table f) ≡ pages_of f.head.size = pages-seen m.table f found in
     let fits : (not f.head.locked && nat_lt m.limits.memlock (locked m.table + pages_of f.head.size)) ≡ false = sym c.exceeds_memlock.ensures ∙ c.if-exceeds_memlock.false in
     let act : locks m (f.seg % 32768) (segment_seen m.table f) ≡ gives (record m { table = change m.table f.seg (relocked true) }) Done =
     rw (pages, fits) (ap (λ (t : List Entry). gives (record m { table = t }) Done) (change-index {T = Head} (whole []) m.table f.seg (relocked true))) in
     let signed : to_z w32 (of_z w32 c.args.id) ≡ c.args.id = search rules in
-    rw signed at (c.in-Ok.ensures.ok (locks m)) ∙ act ∙ rw (← c.self.view_is, c.set_locked.ensures.table, c.set_locked.ensures.only) refl
+    rw signed at (c.in-Some.ensures.some (locks m)) ∙ act ∙ rw (← c.self.view_is, c.set_locked.ensures.table, c.set_locked.ensures.only) refl

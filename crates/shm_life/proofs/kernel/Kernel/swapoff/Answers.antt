@@ -1,4 +1,4 @@
-use Rattle.shm_life.proofs.Names.{◌≡◌, None, sym, ap, refl, ◌∙◌, arith, Machine, Outcome, gives, swapoff, is_refusal, Done, caller_seen, sizes}
+use Rattle.shm_life.proofs.Names.{◌≡◌, None, sym, ap, refl, ◌∙◌, arith, Machine, Outcome, gives, swapoff, is_refusal, Done, caller_seen, sizes, StoreView}
 use Rattle.std.proofs.Common.{slice_set}
 use Rattle.shm_base.specs.Segments.{slots}
 use Rattle.shm_life.proofs.Swapping.{IsThere, is_there, off-few, off-done}
@@ -10,8 +10,8 @@ use Rattle.shm_life.proofs.kernel.Kernel.swapoff.Goals.{After-from, After-is_err
 -- the area is there, and the capacity is that of all areas
 there : (g : Over) (c : After-from g) → IsThere (sizes c.self.inside.segments.memory.swap) c.args.area c.in-Some.size × (c.capacity.result ≡ slots (sizes c.self.inside.segments.memory.swap))
 there g c =
-    let store = c.store-store.ensures.value in
-    (is_there c.self.inside.segments.memory.swap c.args.area c.in-Some.size (rw store at (sym c.area_size.ensures ∙ c.in-Some.is)), rw store at c.capacity.ensures)
+    let swap : c.swap-swap.result.now ≡ c.self.inside.segments.memory.swap = c.swap-swap.ensures ∙ ap (λ (m : StoreView). m.swap) c.store.ensures.value in
+    (is_there c.self.inside.segments.memory.swap c.args.area c.in-Some.size (rw swap at (sym c.size.ensures ∙ c.in-Some.is)), rw swap at c.capacity.ensures)
 
 pub returns-then-capacity-reserved-clause-step : goal.returns-then-capacity-reserved-clause-step
 returns-then-capacity-reserved-clause-step g c = λ _.

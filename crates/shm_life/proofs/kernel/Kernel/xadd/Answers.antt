@@ -7,14 +7,14 @@ use Rattle.shm_life.proofs.kernel.Kernel.xadd.Goals.{After-note}
 
 pub add-added-requires-clause-spans : goal.add-added-requires-clause-spans
 add-added-requires-clause-spans g c =
-    rw c.as_slice.ensures.value (spans-there _ _ c.args.caller.now c.in-Ok.spans _ (rw (← c.self.view_is) at c.requires) c.self.invariant.kept.pieces (rw c.as_slice.ensures.value at c.as_slice.ensures.few.1) c.in-Ok.ensures.within (grind (arith, common_steps)) c.in-Ok.ensures.pages)
+    rw c.as_slice.ensures.value (spans-there _ _ c.args.caller.now c.in-Ok.spans _ (rw (← c.self.view_is) at c.requires) c.self.invariant.kept.pieces (rw c.as_slice.ensures.value at c.as_slice.ensures.few.1) c.in-Ok.ensures.spans.within (grind (arith, common_steps, c.in-Ok.ensures.spans.sum)) c.in-Ok.ensures.spans.pages)
 
 -- done or not
 well : (g : Over) (c : After-note g) → IsWell c.self.inside.limits c.add-added.new.self.table c.note.new.self.runners c.note.new.self.translations c.add-added.new.self.memory
 well g c =
     let t = c.self.inside.segments.table in
     let same : SameTable t c.add-added.new.self.table = either-same c.add-added.result t _ _ c.add-added.ensures.written c.add-added.ensures.same (stored-same (span_places false c.as_slice.result.now) _ t) in
-    noted-well _ _ _ _ _ _ _ _ _ c.add-added.new.touched.moved.items c.self.invariant same c.add-added.ensures.runs.frames c.note.ensures.runners (rw c.as_slice-2.ensures.value at c.note.ensures.translated) (moved-by _ _ _ _ c.add-added.result c.add-added.ensures.access)
+    noted-well _ _ _ _ _ _ _ _ _ c.add-added.new.touched.moved.items c.self.invariant same c.add-added.ensures.keeps.frames c.note.ensures.runners (rw c.as_slice-2.ensures.value at c.note.ensures.translated) (moved-by _ _ _ _ c.add-added.result c.add-added.ensures.access)
 
 pub invariant_of-self : goal.invariant_of-self
 invariant_of-self g c = well g (goal.at.invariant_of-self g c).After-note

@@ -26,12 +26,14 @@ pub invariant_of-result : goal.invariant_of-result
 invariant_of-result g c = λ _.
     rw (c.in_ok-new-2.ensures.memory, c.in_ok-new-2.ensures.table, c.in_ok-new.ensures, sizes-new g.P.Pager.content g.P.Pager.failed c.args.pagers.items, c.in_ok-new-3.ensures.runners, c.in_ok-from_slice.ensures.items, c.in_ok-sizes_of.ensures, c.deref.ensures.value) refl
 
-pub returns-clause-opening : goal.returns-clause-opening
-returns-clause-opening g c = rw (c.in_ok-from_slice.ensures.items, c.in_ok-sizes_of.ensures, c.deref.ensures.value) refl
-
-pub returns-clause-machine : goal.returns-clause-machine
-returns-clause-machine g c =
-    rw (c.in_ok-new-2.ensures.memory, c.in_ok-new-2.ensures.table, c.in_ok-new.ensures, sizes-new g.P.Pager.content g.P.Pager.failed c.args.pagers.items, c.in_ok-new-3.ensures.runners, c.in_ok-from_slice.ensures.items, c.in_ok-sizes_of.ensures, c.deref.ensures.value) refl
+pub returns : goal.returns
+returns g c = record {
+  opening = rw (c.in_ok-from_slice.ensures.items, c.in_ok-sizes_of.ensures, c.deref.ensures.value) refl;
+  calls = refl;
+  machine =
+      rw (c.in_ok-new-2.ensures.memory, c.in_ok-new-2.ensures.table, c.in_ok-new.ensures, sizes-new g.P.Pager.content g.P.Pager.failed c.args.pagers.items, c.in_ok-new-3.ensures.runners, c.in_ok-from_slice.ensures.items, c.in_ok-sizes_of.ensures, c.deref.ensures.value) refl;
+  memory = rw (← c.in_ok-new.ensures) c.in_ok-new-2.ensures.memory;
+}
 
 pub new-requires-3-clause-few : goal.new-requires-3-clause-few
 new-requires-3-clause-few g c = (is_open (λ p. length (g.P.Pager.content p)) c.args.pagers.items c.args.processes.now c.requires.none).few

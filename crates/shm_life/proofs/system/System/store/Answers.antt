@@ -4,16 +4,16 @@ use Rattle.shm_life.proofs.system.System.store.Goals as goal
 
 pub returns-clause-exact : goal.returns-clause-exact
 returns-clause-exact g c =
-    let t = c.machine.inside.segments.table in
-    let m = c.machine.inside.segments.memory in
-    let k = c.machine.invariant.kept in
+    let t = c.kernel.inside.segments.table in
+    let m = c.kernel.inside.segments.memory in
+    let k = c.kernel.invariant.kept in
     let e = c.store.ensures.exact in
-    rw (← c.self.view_is, ← c.machine.view_is)
+    rw (← c.self.view_is, ← c.kernel.view_is)
     record {
       sound = e.sound;
       shows = e.shows;
       areas = search rules;
-      frames = c.machine.invariant.frames;
+      frames = c.kernel.invariant.frames;
       used = few-used t m e.sound e.shows;
       room = few-reserved t m e.sound e.shows k.few;
       reserved = k.reserved;

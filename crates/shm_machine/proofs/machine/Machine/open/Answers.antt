@@ -1,7 +1,4 @@
 use Rattle.std.proofs.Common.{ap, sym, ◌∙◌, List, ℕ, rules}
-use Rattle.shm_base.specs.State.{Opening, start_of}
-use Rattle.shm_slots.specs.View.{AreaView, new_swap}
-use Rattle.shm_fault.specs.Store.{fresh_store}
 use Rattle.shm_life.specs.Start.{start_error}
 use Rattle.shm_machine.proofs.Sizes.{pager-sizes, pager-areas, first-error, few-areas}
 use Rattle.shm_machine.proofs.machine.Machine.open.Goals as goal
@@ -11,15 +8,7 @@ pagers_for-requires c = few-areas c.args.areas.now (sym (c.first_area_error.ensu
 
 pub returns-in-Ok-start-clause-opened : goal.returns-in-Ok-start-clause-opened
 returns-in-Ok-start-clause-opened c =
-    let e = c.in-Ok-start.ensures in
-    let sizes = pager-sizes c.in-Ok.pagers.items c.args.areas.now c.in-Ok.ensures in
-    let opening = e.opening ∙ ap (λ (ns : List ℕ). let o : Opening = record { limits = c.args.limits; areas = ns; processes = c.args.processes.now } in o) sizes in
-    record {
-      opening = opening;
-      calls = e.calls;
-      machine = e.machine ∙ ap start_of opening;
-      memory = e.memory ∙ ap (λ (areas : List AreaView). fresh_store c.in-Ok-start.system.memory.frames (new_swap areas)) (pager-areas c.in-Ok.pagers.items c.args.areas.now c.in-Ok.ensures);
-    }
+    rw (← pager-sizes c.in-Ok.pagers.items c.args.areas.now c.in-Ok.ensures, ← pager-areas c.in-Ok.pagers.items c.args.areas.now c.in-Ok.ensures) c.in-Ok-start.ensures.started
 
 pub returns-in-Ok-start-clause-ok : goal.returns-in-Ok-start-clause-ok
 returns-in-Ok-start-clause-ok c =

@@ -34,5 +34,5 @@ returns-clause-written g c =
 pub returns-clause-same : goal.returns-clause-same
 returns-clause-same g c = rw (← c.self.view_is) (done g (goal.at.returns-clause-same g c).After-add_with).same
 
-pub returns-clause-runs : goal.returns-clause-runs
-returns-clause-runs g c = rw (← c.self.view_is) (done g (goal.at.returns-clause-runs g c).After-add_with).runs
+pub returns-clause-keeps : goal.returns-clause-keeps
+returns-clause-keeps g c = rw (← c.self.view_is) (done g (goal.at.returns-clause-keeps g c).After-add_with).keeps

@@ -3,7 +3,7 @@ use Rattle.shm_segments.proofs.Rows.{id_of}
 use Rattle.shm_segments.proofs.Looking.{none-mapped}
 use Rattle.shm_segments.proofs.Making.{kept-made, made-joined, free-some, IsNext, next-free}
 use Rattle.shm_segments.proofs.Sums.{reserved-joined}
-use Rattle.shm_segments.proofs.Remembered.{undone, runs-zeros}
+use Rattle.shm_segments.proofs.Remembered.{undone, memory-zeros}
 use Rattle.shm_segments.proofs.segments.Segments.create.Given.{Over}
 use Rattle.shm_segments.proofs.segments.Segments.create.Goals as goal
 use Rattle.shm_segments.proofs.segments.Segments.create.Goals.{In-Some, In_ok-add_segment, In-Ok, After-drop_segment}
@@ -86,10 +86,10 @@ returns-in-Ok-clause-ok g c =
     rw (← c.self.view_is, n.is, zeros g at.In_ok-add_segment n, row g at.In-Ok n)
     (made-joined (held c.self.inside.store) c.self.inside.table n.i c.args.key c.args.head n.found ∙ ap (λ (t : List FlatEntry). Some (pos (id_of c.self.inside.table n.i), t)) (sym k.is))
 
-pub returns-in-Ok-clause-runs : goal.returns-in-Ok-clause-runs
-returns-in-Ok-clause-runs g c =
-    let at = goal.at.returns-in-Ok-clause-runs g c in
+pub returns-in-Ok-clause-keeps : goal.returns-in-Ok-clause-keeps
+returns-in-Ok-clause-keeps g c =
+    let at = goal.at.returns-in-Ok-clause-keeps g c in
     let n = next g at.In-Some in
     let rest = c.in_ok-add_segment.ensures.rest in
     rw (← c.self.view_is)
-    (runs-zeros c.self.inside.store c.add_segment.new.self (id_of c.self.inside.table n.i) (pages_of c.args.head.size) n.new (zeros g at.In_ok-add_segment n) (ap (λ (v : StoreView). v.swap) rest) (ap (λ (v : StoreView). v.frames) rest) c.add_segment.ensures.still)
+    (memory-zeros c.self.inside.store c.add_segment.new.self (id_of c.self.inside.table n.i) (pages_of c.args.head.size) n.new (zeros g at.In_ok-add_segment n) (ap (λ (v : StoreView). v.swap) rest) (ap (λ (v : StoreView). v.frames) rest) c.add_segment.ensures.still)

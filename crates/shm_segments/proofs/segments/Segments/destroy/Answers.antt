@@ -1,7 +1,7 @@
 use Rattle.shm_segments.proofs.Names.{ap, ◌∙◌, arith, destroyed, held, SegmentsView, common_steps}
 use Rattle.shm_segments.proofs.Finding.{is_live-row}
 use Rattle.shm_segments.proofs.Making.{kept-without}
-use Rattle.shm_segments.proofs.Remembered.{runs-without}
+use Rattle.shm_segments.proofs.Remembered.{memory-without}
 use Rattle.shm_segments.proofs.segments.Segments.destroy.Goals as goal
 
 pub take-head-requires : goal.take-head-requires
@@ -17,8 +17,8 @@ returns-clause-table g c =
     let k = kept-without (held c.self.inside.store) c.self.inside.table c.self.inside.reserved c.self.inside.locked c.args.seg c.take-head.result c.self.invariant.kept c.take-head.ensures.value in
     rw (c.drop_segment.ensures.held, c.take-head.ensures.after) (k.is ∙ ap (λ (v : SegmentsView). destroyed v.table c.args.seg) c.self.view_is)
 
-pub returns-clause-runs : goal.returns-clause-runs
-returns-clause-runs g c = grind (arith, common_steps, c.drop_segment.ensures, c.self.view_is, runs-without)
+pub returns-clause-keeps : goal.returns-clause-keeps
+returns-clause-keeps g c = grind (arith, common_steps, c.drop_segment.ensures, c.self.view_is, memory-without)
 
 pub returns-clause-sizes : goal.returns-clause-sizes
 returns-clause-sizes g c = rw (← c.self.view_is) c.drop_segment.ensures.sizes

@@ -1,5 +1,5 @@
 use Rattle.shm_segments.proofs.Names.{ap, arith, SegmentsView, common_steps}
-use Rattle.shm_segments.proofs.Remembered.{runs-same}
+use Rattle.shm_segments.proofs.Remembered.{memory-same}
 use Rattle.shm_segments.proofs.segments.Segments.flush.Goals as goal
 
 pub invariant_of-self : goal.invariant_of-self
@@ -8,5 +8,5 @@ invariant_of-self g c = record { kept = rw c.flush.ensures.held c.self.invariant
 pub returns-clause-table : goal.returns-clause-table
 returns-clause-table g c = rw c.flush.ensures.held (ap (λ (v : SegmentsView). v.table) c.self.view_is)
 
-pub returns-clause-runs : goal.returns-clause-runs
-returns-clause-runs g c = grind (arith, common_steps, c.flush.ensures, c.self.view_is, runs-same)
+pub returns-clause-keeps : goal.returns-clause-keeps
+returns-clause-keeps g c = grind (arith, common_steps, c.flush.ensures, c.self.view_is, memory-same)

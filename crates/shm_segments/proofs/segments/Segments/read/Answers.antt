@@ -1,7 +1,7 @@
 use Rattle.shm_segments.proofs.Names.{false, ap, arith, held, SegmentsView, common_steps}
 use Rattle.shm_segments.proofs.Spanning.{spans-fit}
 use Rattle.shm_segments.proofs.Shown.{load_shown}
-use Rattle.shm_segments.proofs.Remembered.{runs-same}
+use Rattle.shm_segments.proofs.Remembered.{memory-same}
 use Rattle.shm_segments.proofs.segments.Segments.read.Goals as goal
 
 pub read_with-requires-clause-spans : goal.read_with-requires-clause-spans
@@ -18,5 +18,5 @@ returns-clause-bytes g c =
 pub returns-clause-table : goal.returns-clause-table
 returns-clause-table g c = rw c.read_with.ensures.held (ap (λ (v : SegmentsView). v.table) c.self.view_is)
 
-pub returns-clause-runs : goal.returns-clause-runs
-returns-clause-runs g c = grind (arith, common_steps, c.read_with.ensures.access, c.self.view_is, runs-same, c.read_with.ensures.held)
+pub returns-clause-keeps : goal.returns-clause-keeps
+returns-clause-keeps g c = grind (arith, common_steps, c.read_with.ensures.access, c.self.view_is, memory-same, c.read_with.ensures.held)

@@ -21,5 +21,5 @@ returns-clause-written g c = rw (← c.self.view_is) (done g (goal.at.returns-cl
 pub returns-clause-same : goal.returns-clause-same
 returns-clause-same g c = rw (← c.self.view_is) (done g (goal.at.returns-clause-same g c).After-write_with).same
 
-pub returns-clause-runs : goal.returns-clause-runs
-returns-clause-runs g c = rw (← c.self.view_is) (done g (goal.at.returns-clause-runs g c).After-write_with).runs
+pub returns-clause-keeps : goal.returns-clause-keeps
+returns-clause-keeps g c = rw (← c.self.view_is) (done g (goal.at.returns-clause-keeps g c).After-write_with).keeps

@@ -7,9 +7,9 @@ use Rattle.std.specs.Box.Ownership.{box_owns}
 use Rattle.shm_machine.specs.declared.machine.Machine.{Machine}
 use Rattle.shm_machine.specs.contracts.machine.Machine.{the_row}
 
-abbrev pub held : (Ty → Ptr → Fml) → Ptr → Option Machine → Fml
-held frees p None = ftrue
-held frees p (Some m) = box_owns frees the_row p m
+abbrev pub owned : (Ty → Ptr → Fml) → Ptr → Option Machine → Fml
+owned frees p None = ftrue
+owned frees p (Some m) = box_owns frees the_row p m
 
 -- the flag of a handle says whether it holds one
 abbrev pub IsOpenAs : ℕ → Option Machine → Type 0

@@ -1,5 +1,5 @@
 -- The table of each piece: what a change of the pieces and of the tables leaves.
-use Rattle.shm_attach.proofs.Names.{values_of, gets, slice_get-map, ◌≡◌, ◌≢◌, inl, inr, ℕ, zero, suc, ◌+◌, ◌<◌, ◌≤◌, ◌==◌, ◌&&◌, Bool, true, false, nat_lt, List, [], ◌∷◌, length, filter, get_or, slice_get, Option, Some, None, refl, ap, sym, subst, ◌∙◌, arith, common_steps, All, cases_Bool, cases_eq, slice_get_cases, All-append, All-cons, All-head, All-tail, All-filter, length-map, set_value_at, Slab, get, pieces_of, bare, bare_all, stored_inserted, stored_parts, stored_cut, Tables, runner_view, runners_view, pieces_at, seg_in, size_in, frame_in, TrueSlot, counted, stored_in, stored_at, IsHeld, AllHeld, AreCountsExact, Piece, Runner, TableView}
+use Rattle.shm_attach.proofs.Names.{values_of, gets, slice_get-map, ◌≡◌, ◌≢◌, inl, inr, ℕ, zero, suc, ◌+◌, ◌<◌, ◌≤◌, ◌==◌, ◌&&◌, Bool, true, false, nat_lt, List, [], ◌∷◌, length, filter, get_or, slice_get, Option, Some, None, refl, ap, sym, subst, ◌∙◌, arith, common_steps, All, cases_Bool, cases_eq, slice_get_cases, All-append, All-cons, All-head, All-tail, All-filter, length-map, set_value_at, Slab, get, pieces_of, bare, bare_all, stored_inserted, stored_parts, stored_cut, Tables, runner_view, runners_view, pieces_at, seg_in, size_in, frame_in, TrueSlot, counted, stored_in, stored_at, HasTable, AllHaveTables, AreCountsExact, Piece, Runner, TableView}
 use Rattle.shm_base.specs.State as flat
 use Rattle.shm_attach.proofs.Processes.{entry_there, entries_set}
 use Rattle.shm_attach.proofs.Keeping.{own_counted, pieces_of-there, bare-get_or}
@@ -41,14 +41,14 @@ seg_is None seg = false
 seg_is (Some own) seg = own == seg
 
 -- whether a piece has its table
-abbrev pub is_held : Slab TableView → Piece → Bool
-is_held t p = seg_is (seg_in (get t p.key)) p.seg && nat_lt (p.first_page + p.pages) (size_in (get t p.key) + 1)
+abbrev pub has_table : Slab TableView → Piece → Bool
+has_table t p = seg_is (seg_in (get t p.key)) p.seg && nat_lt (p.first_page + p.pages) (size_in (get t p.key) + 1)
 
-pub held-passes : (t : Slab TableView) (p : Piece) → IsHeld t p → is_held t p ≡ true
-held-passes t p own = grind (arith, common_steps)
+pub tables-passes : (t : Slab TableView) (p : Piece) → HasTable t p → has_table t p ≡ true
+tables-passes t p own = grind (arith, common_steps)
 
-pub held-passed : (t : Slab TableView) (p : Piece) → is_held t p ≡ true → IsHeld t p
-held-passed t p passes = grind (arith, common_steps)
+pub tables-passed : (t : Slab TableView) (p : Piece) → has_table t p ≡ true → HasTable t p
+tables-passed t p passes = grind (arith, common_steps)
 
 -- what is read under a key is true
 pub frame-true : (at : ℕ → ℕ → Option ℕ) (o : Option TableView) (seg page : ℕ) → seg_in o ≡ Some seg → TrueSlot at o → page < size_in o → frame_in o page ≡ at seg page
@@ -57,25 +57,25 @@ frame-true at o seg page own tr lt = grind arith
 -- ALL PIECES OF ONE PROCESS
 
 module _ (t : Slab TableView) where
-  pub held-inserted : (p : Piece) (ps : List Piece) → IsHeld t p → All (IsHeld t) ps → All (IsHeld t) (stored_inserted p ps)
-  held-inserted p [] own all = All-cons (IsHeld t) p [] own all
-  held-inserted p (q ∷ qs) own all =
+  pub tables-inserted : (p : Piece) (ps : List Piece) → HasTable t p → All (HasTable t) ps → All (HasTable t) (stored_inserted p ps)
+  tables-inserted p [] own all = All-cons (HasTable t) p [] own all
+  tables-inserted p (q ∷ qs) own all =
       elim (cases_Bool (nat_lt p.base q.base)) [
-        | inl h ↦ rw h (All-cons (IsHeld t) p (q ∷ qs) own all)
-        | inr h ↦ rw h (All-cons (IsHeld t) q (stored_inserted p qs) (All-head (IsHeld t) q qs all) (held-inserted p qs own (All-tail (IsHeld t) q qs all)))
+        | inl h ↦ rw h (All-cons (HasTable t) p (q ∷ qs) own all)
+        | inr h ↦ rw h (All-cons (HasTable t) q (stored_inserted p qs) (All-head (HasTable t) q qs all) (tables-inserted p qs own (All-tail (HasTable t) q qs all)))
       ]
 
-  pub held-filter : (f : Piece → Bool) (ps : List Piece) → All (IsHeld t) ps → All (IsHeld t) (filter f ps)
-  held-filter f ps all = All-filter f (IsHeld t) ps all
+  pub tables-filter : (f : Piece → Bool) (ps : List Piece) → All (HasTable t) ps → All (HasTable t) (filter f ps)
+  tables-filter f ps all = All-filter f (HasTable t) ps all
 
-  held-parts : (from to : ℕ) (p : Piece) → IsHeld t p → All (IsHeld t) (stored_parts from to p)
-  held-parts from to p own = grind (arith, common_steps)
+  tables-parts : (from to : ℕ) (p : Piece) → HasTable t p → All (HasTable t) (stored_parts from to p)
+  tables-parts from to p own = grind (arith, common_steps)
 
-  pub held-cut : (from to : ℕ) (ps : List Piece) → All (IsHeld t) ps → All (IsHeld t) (stored_cut from to ps)
-  held-cut from to [] all = all
-  held-cut from to (p ∷ ps) all =
-      All-append (IsHeld t) (stored_parts from to p) (stored_cut from to ps)
-      (held-parts from to p (All-head (IsHeld t) p ps all)) (held-cut from to ps (All-tail (IsHeld t) p ps all))
+  pub tables-cut : (from to : ℕ) (ps : List Piece) → All (HasTable t) ps → All (HasTable t) (stored_cut from to ps)
+  tables-cut from to [] all = all
+  tables-cut from to (p ∷ ps) all =
+      All-append (HasTable t) (stored_parts from to p) (stored_cut from to ps)
+      (tables-parts from to p (All-head (HasTable t) p ps all)) (tables-cut from to ps (All-tail (HasTable t) p ps all))
 
 -- ALL PIECES
 
@@ -95,11 +95,11 @@ counts-piece extra es u exact i k d lt =
     omega (arith, here, all)
 
 -- the tables that are left are those of the pieces that are there
-pub held-all : (extra : ℕ → ℕ) (es : List (ℕ × Runner)) (t : Slab TableView) (u : Tables) → AreCountsExact extra (runners_view es) u → AllHeld es t
-    → ((p : Piece) → IsHeld t p → 0 < counted u p.seg → IsHeld u.slab p) → AllHeld es u.slab
-held-all extra es t u exact all step i k d lt = step (get_or (stored_at es i) k d) (all i k d lt) (counts-piece extra es u exact i k d lt)
+pub tables-all : (extra : ℕ → ℕ) (es : List (ℕ × Runner)) (t : Slab TableView) (u : Tables) → AreCountsExact extra (runners_view es) u → AllHaveTables es t
+    → ((p : Piece) → HasTable t p → 0 < counted u p.seg → HasTable u.slab p) → AllHaveTables es u.slab
+tables-all extra es t u exact all step i k d lt = step (get_or (stored_at es i) k d) (all i k d lt) (counts-piece extra es u exact i k d lt)
 
 -- one process has other pieces
-pub held-changed : (es fs : List (ℕ × Runner)) (t : Slab TableView) (i : ℕ) → AllHeld es t → All (IsHeld t) (stored_at fs i)
-    → ((j : ℕ) → j ≢ i → stored_at fs j ≡ stored_at es j) → AllHeld fs t
-held-changed es fs t i all own others j = elim (cases_eq j i) [ inl same ↦ rw same own | inr other ↦ rw (others j other) (all j) ]
+pub tables-changed : (es fs : List (ℕ × Runner)) (t : Slab TableView) (i : ℕ) → AllHaveTables es t → All (HasTable t) (stored_at fs i)
+    → ((j : ℕ) → j ≢ i → stored_at fs j ≡ stored_at es j) → AllHaveTables fs t
+tables-changed es fs t i all own others j = elim (cases_eq j i) [ inl same ↦ rw same own | inr other ↦ rw (others j other) (all j) ]

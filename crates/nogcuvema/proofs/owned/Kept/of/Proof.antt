@@ -1,10 +1,10 @@
 -- `of` moves the pointer over, with what it owns.
-use Rattle.nogcuvema.proofs.Names.{List, [], ◌∷◌, ◌++◌, refl, sym, subst, Some, Option, Val, vptr, SProp, ent, emp, id⊢, ftrue, WpFn, ‵, raw, ◌⊛◌, ◌$◌, ◌∵◌, !, qed, by, move, keep, split, fsplit, fjoin, suffices, use0, use1, stop, fld, of_opd, no_more, and_then, returns, enter, alloc_all, pass_all, free_all, look_at, get, get_in, sets, agg, sub, whole, fact, fact_i, tables, yes, owns, types_at, plain, block_ptr, nothing, Stays, stay_dropped, walk_of, Goes-blank, proved_at, leaves, Machine, held}
+use Rattle.nogcuvema.proofs.Names.{List, [], ◌∷◌, ◌++◌, refl, sym, subst, Some, Option, Val, vptr, SProp, ent, emp, id⊢, ftrue, WpFn, ‵, raw, ◌⊛◌, ◌$◌, ◌∵◌, !, qed, by, move, keep, split, fsplit, fjoin, suffices, use0, use1, stop, fld, of_opd, no_more, and_then, returns, enter, alloc_all, pass_all, free_all, look_at, get, get_in, sets, agg, sub, whole, fact, fact_i, tables, yes, owns, types_at, plain, block_ptr, nothing, Stays, stay_dropped, walk_of, Goes-blank, proved_at, leaves, Machine, owned}
 use Rattle.std.specs.Prelude.{◌≡◌}
 use Rattle.nogcuvema.proofs.KeptSteps.{alone, both, both_typed, token, kept_in, parts_out, PartsRow}
-use Rattle.nogcuvema.specs.contracts.held.Kept.of as f
-use Rattle.nogcuvema.proofs.held.Kept.of.Statement.{statement}
-use Rattle.nogcuvema.proofs.held.Kept.of.Code as code
+use Rattle.nogcuvema.specs.contracts.owned.Kept.of as f
+use Rattle.nogcuvema.proofs.owned.Kept.of.Statement.{statement}
+use Rattle.nogcuvema.proofs.owned.Kept.of.Code as code
 
 abbrev stayed : Stays f.ended.signature.params f.ended.kept
 stayed = (stay_dropped (plain (λ _. PartsRow)) yes, tt)
@@ -19,7 +19,7 @@ of_spec 𝓤 𝓛 𝓜 𝓡 wired =
     qed 𝓛 ((‵ ftrue ⊛ ‵ (owns (types_at f.signature.params κs) z.0.3 z.0.4)) ∷ ‵ ftrue ∷ []) ∵ split ! $ move ! (1 ∷ []) $ fsplit ! $
     parts_out ! v z.0.4.0 (λ b o h e ws fits.
     let w : Val = both (vptr b o) h in
-    use1 𝓛 (‵ (held token (block_ptr b o) now)) (id⊢ 𝓤 _) $ kept_in ! (block_ptr b o) now $
+    use1 𝓛 (‵ (owned token (block_ptr b o) now)) (id⊢ 𝓤 _) $ kept_in ! (block_ptr b o) now $
     suffices ! (Run (w ∷ [])) (subst (λ (us : List Val). ent 𝓤 (Run (w ∷ [])) (Run us)) (sym (λ i. ws i ++ [])) (id⊢ 𝓤 (Run (w ∷ [])))) $
     enter ! 𝓣.C 𝓣.Λ code.function (w ∷ []) Post $ alloc_all ! (λ l. pass_all ! refl (both_typed b o h fits, tt) $
     sets ! (of_opd ! (get_in ! (fld ! refl (stop !)) (sub ! 0 refl (whole !)))) refl (tt, tt) $

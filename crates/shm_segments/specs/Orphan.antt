@@ -4,13 +4,13 @@ use Rattle.shm_base.specs.State.{Segment, Entry, Runner}
 use Rattle.shm_base.specs.Identifier.{identifier}
 use Rattle.shm_base.specs.Segments.{attach_count}
 
-abbrev pub is_left : List Runner → ℕ → Option Segment → Bool
-is_left rs id None = false
-is_left rs id (Some s) = s.dest && (attach_count rs id == 0)
+abbrev pub is_orphan : List Runner → ℕ → Option Segment → Bool
+is_orphan rs id None = false
+is_orphan rs id (Some s) = s.dest && (attach_count rs id == 0)
 
 abbrev pub orphan_in : ℕ → List Runner → Option Entry → Bool
 orphan_in i rs None = false
-orphan_in i rs (Some e) = is_left rs (identifier i e.destroyed) e.segment
+orphan_in i rs (Some e) = is_orphan rs (identifier i e.destroyed) e.segment
 
 -- the segment at an index is marked, and no piece names it
 abbrev pub orphan : List Runner → List Entry → ℕ → Bool
@@ -21,5 +21,5 @@ id_in i None = i
 id_in i (Some e) = identifier i e.destroyed
 
 -- the identifier at an index
-abbrev pub id_at : List Entry → ℕ → ℕ
-id_at table i = id_in i (slice_get table i)
+abbrev pub identifier_at : List Entry → ℕ → ℕ
+identifier_at table i = id_in i (slice_get table i)

@@ -3,10 +3,10 @@ use Rattle.nogcuvema.proofs.Names.{List, [], ◌∷◌, ◌++◌, refl, sym, sub
 use Rattle.std.specs.Prelude.{◌≡◌}
 use Rattle.std.specs.contracts.alloc.Global.{the_row as Heap}
 use Rattle.nogcuvema.proofs.KeptSteps.{al, alone, both, both_typed, held_some, kept_out, parts_in}
-use Rattle.nogcuvema.specs.contracts.held.Kept.{the_row as Row}
-use Rattle.nogcuvema.specs.contracts.held.Kept.into_parts as f
-use Rattle.nogcuvema.proofs.held.Kept.into_parts.Statement.{statement}
-use Rattle.nogcuvema.proofs.held.Kept.into_parts.Code as code
+use Rattle.nogcuvema.specs.contracts.owned.Kept.{the_row as Row}
+use Rattle.nogcuvema.specs.contracts.owned.Kept.into_parts as f
+use Rattle.nogcuvema.proofs.owned.Kept.into_parts.Statement.{statement}
+use Rattle.nogcuvema.proofs.owned.Kept.into_parts.Code as code
 
 abbrev stayed : Stays f.ended.signature.params f.ended.kept
 stayed = (stay_dropped (plain (λ _. Row)) yes, (stay_dropped (plain (λ _. Heap)) yes, tt))

@@ -1,6 +1,6 @@
 //! A machine on the heap, behind a pointer that C keeps.
 ghost use Rattle.std.specs.Prelude.{◌≡◌, Option, Some, None, IsSome};
-ghost use Rattle.nogcuvema.specs.Held.{held};
+ghost use Rattle.nogcuvema.specs.Owned.{owned};
 ghost use Rattle.shm_machine.specs.declared.machine.Machine.{Machine};
 
 use crate::parts::Parts;
@@ -17,7 +17,7 @@ pub struct Kept {
 }
 
 impl Model for Kept {
-    ghost also_owns = { λ k. held (⟦<Global as Allocator>⟧.dealloc_token (record { memory = record { seal = tt } })) k.at k.value };
+    ghost also_owns = { λ k. owned (⟦<Global as Allocator>⟧.dealloc_token (record { memory = record { seal = tt } })) k.at k.value };
 }
 
 impl Kept {
