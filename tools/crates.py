@@ -1,4 +1,5 @@
-"""The crates of the repository as crates.txt names them, and rooms in which one is worked on beside others.
+"""The crates of the repository as crates.txt names them, and rooms in which one is worked on beside others. As a command
+it prints how many checks may run side by side.
 
 A run of rt in a crate keeps every other out of the crates below it. So what runs side by side gets a room each: a folder
 with the sources of a crate and of all below it, and with the libraries below it as they were built, by hard links where
@@ -13,6 +14,8 @@ import tempfile
 
 TOP = os.path.dirname(os.path.dirname(os.path.realpath(__file__)))
 ROOMS = f"{TOP}/build"
+# about the most bytes that a check takes
+CHECK = 2_500_000_000
 
 
 @contextlib.contextmanager
@@ -66,6 +69,11 @@ def free_memory():
         return 1024 * int(re.search(r"MemAvailable:\s+(\d+)", file.read())[1])
 
 
+def lanes():
+    """Returns how many checks of one job may run side by side."""
+    return max(1, min(len(os.sched_getaffinity(0)), free_memory() // CHECK))
+
+
 def link_or_copy(source, to):
     try:
         os.link(source, to)
@@ -89,3 +97,7 @@ def furnish(room, crate, below):
                 link_or_copy(source, to)
             elif os.path.isdir(source):
                 shutil.copytree(source, to, copy_function=link_or_copy)
+
+
+if __name__ == "__main__":
+    print(lanes())

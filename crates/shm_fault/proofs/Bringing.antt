@@ -1,5 +1,5 @@
 -- What an access leaves, put together from the visits to its pages.
-use Rattle.shm_fault.proofs.Names.{◌≡◌, ◌≢◌, ℕ, map, ◌≤◌, ◌+◌, Bool, true, false, ◌&&◌, cond, List, [], ◌∷◌, length, get_or, Option, Some, None, is_some, Result, Ok, Err, is_ok, OnErr, refl, sym, ap, ◌∙◌, arith, All, IsSome, false≢true, PageRef, Span, is_locked, SwapView, Frame, frame_at, PageRec, Touched, SegRec, rec_by, locked_by, StoreView, held_by, page_of, ref_of, is_swapped, IsResident, pages_among, swapped_among, same_page, LockedPagesStay, KeepsLocked, Visits, frame_by, referenced_at, InFrames, PagerFailed, IsStoreSound, raised, one_if, hand_after, Visited, AreIn, Brings, Accessed, IsUntouched, nat_tests, common_steps}
+use Rattle.shm_fault.proofs.Names.{◌≡◌, ◌≢◌, ℕ, map, ◌≤◌, ◌+◌, Bool, true, false, ◌&&◌, cond, List, [], ◌∷◌, length, get_or, Option, Some, None, is_some, Result, Ok, Err, is_ok, OnErr, refl, sym, ap, ◌∙◌, arith, All, IsSome, false≢true, PageRef, Span, holds_locked, SwapView, Frame, frame_at, PageRec, Touched, SegRec, rec_by, locked_by, StoreView, held_by, page_of, ref_of, is_swapped, IsResident, pages_among, swapped_among, same_page, LockedPagesStay, KeepsLocked, Visits, frame_by, referenced_at, InFrames, PagerFailed, IsStoreSound, raised, one_if, hand_after, Visited, AreIn, Brings, Accessed, IsUntouched, nat_tests, common_steps}
 use Rattle.shm_plain.proofs.Spans.{no_span}
 use Rattle.shm_fault.specs.Store.{held, frame_of}
 use Rattle.shm_fault.proofs.Sound.{Goes-trans, KeepsLocked-trans, cause-after}
@@ -163,17 +163,17 @@ brings-not p q s t u v none w =
       cause = w.cause;
     }
 
-lock-held : (frames : List Frame) (swap : SwapView) (gs : List SegRec) (id : ℕ) → is_locked (map (held_by frames swap) gs) id ≡ locked_by gs id
+lock-held : (frames : List Frame) (swap : SwapView) (gs : List SegRec) (id : ℕ) → holds_locked (map (held_by frames swap) gs) id ≡ locked_by gs id
 lock-held frames swap [] id = refl
 lock-held frames swap (g ∷ gs) id = grind (arith, nat_tests, lock-held frames swap gs id)
 
-pub is_locked-held : (s : StoreView) (id : ℕ) → is_locked (held s) id ≡ locked_by s.segs id
+pub holds_locked-held : (s : StoreView) (id : ℕ) → holds_locked (held s) id ≡ locked_by s.segs id
 unfolding held
-is_locked-held s id = lock-held s.frames s.swap s.segs id
+holds_locked-held s id = lock-held s.frames s.swap s.segs id
 
 pub kept-locked : (s t : StoreView) → KeepsLocked s t → LockedPagesStay s t
 unfolding frame_of
-kept-locked s t keeps seg page locked after e = keeps (record { seg = seg; page = page }) (rw (is_locked-held s seg) at locked) e
+kept-locked s t keeps seg page locked after e = keeps (record { seg = seg; page = page }) (rw (holds_locked-held s seg) at locked) e
 
 -- what an access that was done leaves, where frames may have changed since
 module _ (s t : StoreView) (frames : List Frame) (count : length frames ≡ length t.frames) (bits : (f : ℕ) → (frame_at frames f).referenced ≡ referenced_at t f) (sound : IsStoreSound (record t { frames = frames })) where

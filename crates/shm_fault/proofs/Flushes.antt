@@ -2,7 +2,7 @@
 use Rattle.shm_fault.proofs.Names.{◌≡◌, ◌≢◌, ℕ, zero, suc, ◌<◌, ◌≤◌, ◌+◌, Bool, true, false, not, cond, List, [], ◌∷◌, ◌++◌, length, set, take, filter, Some, refl, sym, ap, ◌∙◌, arith, append-nil, length-append, get_or-set_same, get_or-set_other, count_by, Contains, All, range_with_len, length-take, take_all, take-append-le, filter-append, Contains-push, Contains-append_left, All-head, All-tail, All-push, All-weaker, sum_by-cons, sum_by_push, PageRef, total, some_spent, Frame, no_frame, frame_at, locked_by, StoreView, IsStoreSound, Goes, Still, raised, one_if, may_flush, dirty_after, IsFlushed, nat_tests, common_steps}
 use Rattle.shm_fault.proofs.Sound.{Goes-trans}
 use Rattle.shm_fault.proofs.Failures.{unspent-before}
-use Rattle.shm_fault.proofs.Bringing.{is_locked-held}
+use Rattle.shm_fault.proofs.Bringing.{holds_locked-held}
 
 -- those of the frames below i that may be flushed
 abbrev pub due : StoreView → ℕ → List ℕ
@@ -126,4 +126,4 @@ pub flushed-all : (n : ℕ) (s : StoreView) (i : ℕ) (t : StoreView) (written f
 flushed-all n s i t written failed e d = grind (arith, nat_tests, common_steps, due, d.sum, length-take, d.failures, d.frames, d.others, d.counted, d.written_out, d.read_in, d.hand)
 
 pub flushable : (s : StoreView) (i : ℕ) (r : PageRef) → (frame_at s.frames i).owner ≡ Some r → (frame_at s.frames i).dirty ≡ true → not (locked_by s.segs r.seg) ≡ may_flush s i
-flushable s i r owner dirty = rw (owner, dirty) (ap not (sym (is_locked-held s r.seg)))
+flushable s i r owner dirty = rw (owner, dirty) (ap not (sym (holds_locked-held s r.seg)))

@@ -1,5 +1,5 @@
 -- Stores as they are made, and whole segments that are added, locked or unlocked.
-use Rattle.shm_fault.proofs.Names.{◌≡◌, ℕ, zero, suc, ◌≤◌, ◌+◌, ◌*◌, Bool, true, false, cond, eqb, List, [], ◌∷◌, ◌++◌, map, length, replicate, sum_by, Option, Some, None, is_some, refl, sym, ap, ◌∙◌, inl, inr, arith, flat_map, cases_Bool, cases_lt, length-replicate, map-append, get_or-replicate, get_or_past, replicate-append-replicate, sum_by-cons, sum_by-append, PageRef, Slot, is_held, pages_in, pages_held, pages_if_locked, pages_locked, with_zeros, with_lock, SwapView, IsSwap, slots, owner_of, Frame, IsFrameBlank, SegRec, no_page, rec_at, find_seg, AreApart, rec_by, count_by_id, HasPage, with_seg_lock, new_seg, page_count, locked_pages, StoreView, page_bytes, held_by, fresh_store, IsStoreSound, outline, outlines, nat_tests, common_steps}
+use Rattle.shm_fault.proofs.Names.{◌≡◌, ℕ, zero, suc, ◌≤◌, ◌+◌, ◌*◌, Bool, true, false, cond, eqb, List, [], ◌∷◌, ◌++◌, map, length, replicate, sum_by, Option, Some, None, is_some, refl, sym, ap, ◌∙◌, inl, inr, arith, flat_map, cases_Bool, cases_lt, length-replicate, map-append, get_or-replicate, get_or_past, replicate-append-replicate, sum_by-cons, sum_by-append, PageRef, Slot, is_held, pages_in, pages_in_store, pages_if_locked, pages_locked, with_zeros, with_lock, SwapView, IsSwap, slots, owner_of, Frame, IsFrameBlank, SegRec, no_page, rec_at, find_seg, AreApart, rec_by, count_by_id, HasPage, with_seg_lock, new_seg, page_count, locked_pages, StoreView, page_bytes, held_by, fresh_store, IsStoreSound, outline, outlines, nat_tests, common_steps}
 use Rattle.shm_pager.specs.Pages.{zero_page}
 use Rattle.shm_fault.specs.Store.{held}
 use Rattle.shm_fault.proofs.Entries.{apart-append, apart-edit}
@@ -43,8 +43,8 @@ module _ (s : StoreView) (sound : IsStoreSound s) where
         omega (arith, rest.1, lock, sum_by-cons pages_if_locked (held_one b (outline g)) (held_of b (outlines gs)), sum_by-cons locked_pages g gs),
       )
 
-  pub pages_held-is : pages_held (held s) ≡ sum_by page_count s.segs
-  pages_held-is = ap (sum_by pages_in) (held-is s sound.apart) ∙ (pages-list (bytes_at s) s.segs sound.apart length-page).0
+  pub pages_in_store-is : pages_in_store (held s) ≡ sum_by page_count s.segs
+  pages_in_store-is = ap (sum_by pages_in) (held-is s sound.apart) ∙ (pages-list (bytes_at s) s.segs sound.apart length-page).0
 
   -- a segment of zeros is added
   module _ (id n : ℕ) (new : find_seg s.segs id ≡ None) where

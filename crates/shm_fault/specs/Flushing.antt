@@ -3,7 +3,7 @@ use Rattle.std.specs.Prelude.{ℕ, ◌≡◌, ◌+◌, Bool, false, not, ◌&&�
 use Rattle.std.specs.List.{range_with_len}
 use Rattle.shm_base.specs.declared.paging.PageRef.{PageRef}
 use Rattle.shm_base.specs.declared.paging.FlushReport.{FlushReport}
-use Rattle.shm_plain.specs.Held.{is_locked}
+use Rattle.shm_plain.specs.Held.{holds_locked}
 use Rattle.shm_slots.specs.Cause.{total, some_spent}
 use Rattle.shm_frames.specs.Frame.{frame_at}
 use Rattle.shm_clock.specs.Clock.{owner_passes}
@@ -12,7 +12,7 @@ use Rattle.shm_fault.specs.Counting.{raised}
 
 -- the frame is dirty, and its segment is not locked
 abbrev pub may_flush : StoreView → ℕ → Bool
-may_flush s f = (frame_at s.frames f).dirty && owner_passes (λ (r : PageRef). not (is_locked (held s) r.seg)) (frame_at s.frames f).owner
+may_flush s f = (frame_at s.frames f).dirty && owner_passes (λ (r : PageRef). not (holds_locked (held s) r.seg)) (frame_at s.frames f).owner
 
 -- the dirty frames of segments that are not locked, by rising number
 abbrev pub dirty_list : StoreView → List ℕ

@@ -1,6 +1,6 @@
 -- What a call leaves of the residency and of the swap.
 use Rattle.std.specs.Prelude.{ℕ, ◌≡◌, true, if◌then◌else◌, List, [], ◌∷◌, Option, Some, None, is_some}
-use Rattle.shm_plain.specs.Held.{is_locked}
+use Rattle.shm_plain.specs.Held.{holds_locked}
 use Rattle.shm_fault.specs.declared.touched.PageMove.{PageMove}
 use Rattle.shm_fault.specs.declared.touched.PageMove.TheVariants.{Gone, Came}
 pub use Rattle.shm_fault.specs.Store.{is_page}
@@ -19,5 +19,5 @@ MovesLead ms before after = (seg page : ℕ) → frame_of after seg page ≡ mov
 -- every page of a locked segment that is resident before is resident after
 abbrev pub LockedPagesStay : StoreView → StoreView → Type 0
 LockedPagesStay before after =
-    (seg page : ℕ) → is_locked (held before) seg ≡ true → is_locked (held after) seg ≡ true
+    (seg page : ℕ) → holds_locked (held before) seg ≡ true → holds_locked (held after) seg ≡ true
     → is_some (frame_of before seg page) ≡ true → is_some (frame_of after seg page) ≡ true

@@ -1,6 +1,6 @@
 //! Swap areas that go, whose pages move to the other areas.
 ghost use Rattle.std.specs.Prelude.{◌≡◌, ◌+◌, ◌<◌, ◌≤◌, true, [], length, set, Some, None, IfOk, IfErr, OnOk, OnErr};
-ghost use Rattle.shm_plain.specs.Held.{pages_held};
+ghost use Rattle.shm_plain.specs.Held.{pages_in_store};
 ghost use Rattle.shm_slots.specs.View.{HasSlot, IsSwap, area_at, page_in, sizes, slots, used_in, used_slots};
 ghost use Rattle.shm_slots.specs.Cause.{GoesOn, had_cause};
 ghost use Rattle.shm_fault.specs.Segs.{rec_by};
@@ -66,10 +66,8 @@ fn relocate<P: Pager>(swap: &mut Swap<P>, page: PageRef, from: Slot) -> Result<S
     ensures sound { IsSwap swap.new }
 {
     let mut bytes = zeros();
-    match swap.read_slot(from, &mut bytes) {
-        Ok(()) => write_outside(swap, page, from, &bytes),
-        Err(fault) => Err(fault),
-    }
+    swap.read_slot(from, &mut bytes)?;
+    write_outside(swap, page, from, &bytes)
 }
 
 impl<P: Pager> PageStore<P> {
@@ -96,7 +94,7 @@ impl<P: Pager> PageStore<P> {
     // A page that is not resident moves to another area.
     fn carry(&mut self, page: PageRef, slot: Slot) -> Result<(), PagerFault>
         requires place { rec_by self.old.segs page ≡ record { frame = None; slot = Some slot } }
-        requires room { pages_held (held self.old) + length (area_at self.old.swap slot.area).pages ≤ slots self.old.swap }
+        requires room { pages_in_store (held self.old) + length (area_at self.old.swap slot.area).pages ≤ slots self.old.swap }
         ensures goes { Goes self.old self.new }
         ensures still { Still self.old self.new }
         ensures cleared { OnOk result (IsCleared slot self.old.swap self.new.swap) }
@@ -104,25 +102,21 @@ impl<P: Pager> PageStore<P> {
         ensures cause { OnErr result (had_cause self.old.swap self.new.swap ≡ true) }
         ensures sound { IsStoreSound self.new }
     {
-        match relocate(&mut self.swap, page, slot) {
-            Ok(to) => {
-                self.segs.set_page(
-                    page,
-                    PageRec {
-                        frame: None,
-                        slot: Some(to),
-                    },
-                );
-                Ok(())
-            }
-            Err(fault) => Err(fault),
-        }
+        let to = relocate(&mut self.swap, page, slot)?;
+        self.segs.set_page(
+            page,
+            PageRec {
+                frame: None,
+                slot: Some(to),
+            },
+        );
+        Ok(())
     }
 
     // Makes a slot free, whose page goes elsewhere.
     fn clear_slot(&mut self, slot: Slot) -> Result<(), PagerFault>
         requires there { HasSlot self.old.swap slot.area slot.slot }
-        requires room { pages_held (held self.old) + length (area_at self.old.swap slot.area).pages ≤ slots self.old.swap }
+        requires room { pages_in_store (held self.old) + length (area_at self.old.swap slot.area).pages ≤ slots self.old.swap }
         ensures goes { Goes self.old self.new }
         ensures still { Still self.old self.new }
         ensures cleared { OnOk result (IsCleared slot self.old.swap self.new.swap) }
@@ -149,7 +143,7 @@ impl<P: Pager> PageStore<P> {
     /// for each page of each segment.
     pub fn move_off(&mut self, area: u32) -> Result<(), PagerFailed>
         requires there { (area_at self.old.swap area).here ≡ true }
-        requires room { pages_held (held self.old) + length (area_at self.old.swap area).pages ≤ slots self.old.swap }
+        requires room { pages_in_store (held self.old) + length (area_at self.old.swap area).pages ≤ slots self.old.swap }
         ensures held { held self.new ≡ held self.old }
         ensures gone { OnOk result (sizes self.new.swap ≡ set (sizes self.old.swap) area None) }
         ensures sizes { OnErr result (sizes self.new.swap ≡ sizes self.old.swap) }

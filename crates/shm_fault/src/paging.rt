@@ -122,14 +122,10 @@ impl<P: Pager> PageStore<P> {
         ensures counted { some_spent self.new.swap ≡ false → total self.new.swap ≡ total self.old.swap + (if is_ok result then 0 else 1) }
         ensures sound { IsStoreSound self.new }
     {
-        match self.swap.write_slot(slot, self.frames.bytes(frame)) {
-            Ok(()) => {
-                self.frames.set_dirty(frame, false);
-                self.outs = self.outs.saturating_add(1);
-                Ok(())
-            }
-            Err(fault) => Err(fault),
-        }
+        self.swap.write_slot(slot, self.frames.bytes(frame))?;
+        self.frames.set_dirty(frame, false);
+        self.outs = self.outs.saturating_add(1);
+        Ok(())
     }
 
     /// Writes a dirty frame to the slot of its page, or to the least free slot of the lowest-numbered
@@ -211,10 +207,8 @@ impl<P: Pager> PageStore<P> {
         if !self.frames.is_dirty(frame) {
             return Ok(false);
         }
-        match self.page_out(frame) {
-            Ok(()) => Ok(true),
-            Err(fault) => Err(fault),
-        }
+        self.page_out(frame)?;
+        Ok(true)
     }
 
     // Makes a frame free by having its page leave it. Where the page's write fails, the page stays. The hand
@@ -231,17 +225,13 @@ impl<P: Pager> PageStore<P> {
         ensures cause { OnErr result (had_cause self.old.swap self.new.swap ≡ true) }
     {
         let frame = self.turn(pinned);
-        match self.clean(frame) {
-            Ok(written) => {
-                let page = self.vacate(frame);
-                Ok(Evicted {
-                    frame,
-                    page,
-                    written,
-                })
-            }
-            Err(fault) => Err(fault),
-        }
+        let written = self.clean(frame)?;
+        let page = self.vacate(frame);
+        Ok(Evicted {
+            frame,
+            page,
+            written,
+        })
     }
 
     // Puts a page's bytes into a free frame. Where the read fails the frame stays free.
@@ -257,13 +247,9 @@ impl<P: Pager> PageStore<P> {
         ensures visits { (page : Ref) (pinned : Option ℕ) → Visits page pinned self.old self.new }
         ensures cause { OnErr result (had_cause self.old.swap self.new.swap ≡ true) }
     {
-        match fill_from(&mut self.frames, &mut self.swap, frame, slot) {
-            Ok(()) => {
-                self.ins = self.ins.saturating_add(u64::from(slot.is_some()));
-                Ok(())
-            }
-            Err(fault) => Err(fault),
-        }
+        fill_from(&mut self.frames, &mut self.swap, frame, slot)?;
+        self.ins = self.ins.saturating_add(u64::from(slot.is_some()));
+        Ok(())
     }
 
     // Gives a free frame that has a page's bytes to the page, whose slot is handed in.
@@ -315,15 +301,11 @@ impl<P: Pager> PageStore<P> {
         ensures cause { OnErr result (had_cause self.old.swap self.new.swap ≡ true) }
     {
         let slot = self.segs.page(page).slot;
-        match self.load(frame, slot) {
-            Ok(()) => {
-                self.settle(frame, page, slot);
-                touched.ins += u64::from(slot.is_some());
-                touched.moved.push(PageMove::Came(page, frame));
-                Ok(())
-            }
-            Err(fault) => Err(fault),
-        }
+        self.load(frame, slot)?;
+        self.settle(frame, page, slot);
+        touched.ins += u64::from(slot.is_some());
+        touched.moved.push(PageMove::Came(page, frame));
+        Ok(())
     }
 
     // A free frame: the one of least number, or the one of the page that has to go.
@@ -344,17 +326,13 @@ impl<P: Pager> PageStore<P> {
         ensures hand { self.new.hand ≡ hand_for_frame self.old pinned }
         ensures cause { OnErr result (had_cause self.old.swap self.new.swap ≡ true) }
     {
-        match self.frames.free_frame() {
-            Some(frame) => Ok(frame),
-            None => match self.evict(pinned) {
-                Ok(evicted) => {
-                    touched.outs += u64::from(evicted.written);
-                    touched.moved.push(PageMove::Gone(evicted.page));
-                    Ok(evicted.frame)
-                }
-                Err(fault) => Err(fault),
-            },
+        if let Some(frame) = self.frames.free_frame() {
+            return Ok(frame);
         }
+        let evicted = self.evict(pinned)?;
+        touched.outs += u64::from(evicted.written);
+        touched.moved.push(PageMove::Gone(evicted.page));
+        Ok(evicted.frame)
     }
 
     // Brings in a page that is not resident.
@@ -372,13 +350,9 @@ impl<P: Pager> PageStore<P> {
         ensures here { IfOk result (λ f. (frame_by self.new page ≡ Some f) × (referenced_at self.new f ≡ true)) }
         ensures visited { Visited page pinned None self.old self.new touched.old touched.new (is_ok result) }
     {
-        match self.take_frame(pinned, touched) {
-            Ok(frame) => match self.come_in(frame, page, touched) {
-                Ok(()) => Ok(frame),
-                Err(fault) => Err(fault),
-            },
-            Err(fault) => Err(fault),
-        }
+        let frame = self.take_frame(pinned, touched)?;
+        self.come_in(frame, page, touched)?;
+        Ok(frame)
     }
 
     // Sets the referenced bit of a resident page's frame.

@@ -1,6 +1,6 @@
 //! The store, made and looked at.
 ghost use Rattle.std.specs.Prelude.{◌≡◌, ℕ, [], ◌∷◌, ◌++◌, ◌+◌, ◌-◌, ◌≤◌, ◌^◌, true, false, length, map, min, None, IfOk, OnOk, OnErr};
-ghost use Rattle.shm_plain.specs.Held.{is_held, pages_held, pages_locked, with_zeros, with_lock};
+ghost use Rattle.shm_plain.specs.Held.{is_held, pages_in_store, pages_locked, with_zeros, with_lock};
 ghost use Rattle.shm_slots.specs.View.{slots, owner_of};
 ghost use Rattle.shm_slots.specs.Cause.{total};
 ghost use Rattle.shm_frames.specs.Frame.{IsFrameBlank};
@@ -86,7 +86,7 @@ impl<P: Pager> PageStore<P> {
     /// slots.
     pub fn add_segment(&mut self, seg: u32, pages: u32) -> Result<(), HostMemory>
         requires new { is_held (held self.old) seg ≡ false }
-        requires room { pages_held (held self.old) + pages ≤ slots self.old.swap }
+        requires room { pages_in_store (held self.old) + pages ≤ slots self.old.swap }
         ensures held { OnOk result (held self.new ≡ with_zeros (held self.old) seg pages) }
         ensures rest { OnOk result (self.new ≡ record self.old { segs = self.old.segs ++ new_seg seg pages ∷ [] }) }
         ensures still { Still self.old self.new }

@@ -6,7 +6,7 @@ use Rattle.crossbeam_utils.specs.Register.{Turns, Forks}
 use Rattle.atomic_table.proofs.Lists.{at_set, at_snoc, set_again, set_else, at_longer}
 use Rattle.shm_history.specs.declared.cell.Reading.{Reading}
 use Rattle.shm_history.specs.declared.cell.SeatView.{SeatView}
-use Rattle.shm_history.specs.Gauges.{zeros, cell_words, numbers_of, IsReading, keeping, having_seen, IsGaugeKept, IsLoad, IsStore}
+use Rattle.shm_history.specs.Gauges.{zeros, cell_words, numbers_of, IsReading, keeping, having_seen, IsGaugeSound, IsLoad, IsStore}
 
 set_there : (l : List SeatView) (i : ℕ) (a b : SeatView) → get_elem? l i ≡ some b → get_elem? (set l i a) i ≡ some a
 set_there [] i a b e = absurd (some-ne-none b (sym e))
@@ -31,7 +31,7 @@ same_view : (views : List SeatView) (i j : ℕ) (v w : SeatView) → get_elem? v
 same_view views i j v w at there e = some-injective v w (sym at ∙ ap (λ k. get_elem? views k) e ∙ there)
 
 -- make
-pub begins : IsGaugeKept (cell_words zeros) (keeping zeros ∷ [])
+pub begins : IsGaugeSound (cell_words zeros) (keeping zeros ∷ [])
 begins = (0, zeros, refl, (omega arith, omega arith, omega arith), refl, one)
   where
     one : (by : ℕ) (v : SeatView) → get_elem? (keeping zeros ∷ []) by ≡ some v → Fits 0 zeros by v
@@ -39,7 +39,7 @@ begins = (0, zeros, refl, (omega arith, omega arith, omega arith), refl, one)
     one (suc by) v e = absurd (some-ne-none v (sym e))
 
 -- split
-pub forks : (by : ℕ) (v : SeatView) → Forks IsGaugeKept by v v (having_seen zeros)
+pub forks : (by : ℕ) (v : SeatView) → Forks IsGaugeSound by v v (having_seen zeros)
 forks by v words views h at =
     let back = set_again views by v at in (
       h.0,
@@ -54,7 +54,7 @@ forks by v words views h at =
     )
 
 -- load
-pub loads : (by : ℕ) (v : SeatView) → v.is_keeper ≡ false → Turns IsGaugeKept by v (λ x. x) IsLoad
+pub loads : (by : ℕ) (v : SeatView) → v.is_keeper ≡ false → Turns IsGaugeSound by v (λ x. x) IsLoad
 loads by v reads words views h at =
     let w = having_seen h.1 in
     let apart : h.0 ≢ by = λ e. true≢false (ap (λ (u : SeatView). u.is_keeper) (same_view views h.0 by (keeping h.1) v h.4 at e) ∙ reads) in (
@@ -71,7 +71,7 @@ loads by v reads words views h at =
     )
 
 -- store
-pub stores : (by : ℕ) (old new : Reading) → old.events ≤ new.events → IsReading new → Turns IsGaugeKept by (keeping old) (λ _. cell_words new) IsStore
+pub stores : (by : ℕ) (old new : Reading) → old.events ≤ new.events → IsReading new → Turns IsGaugeSound by (keeping old) (λ _. cell_words new) IsStore
 stores by old new more sound words views h at =
     let mine : by ≡ h.0 = (h.5 by (keeping old) at).0 refl in
     let known : keeping old ≡ keeping h.1 = same_view views by h.0 (keeping old) (keeping h.1) at h.4 mine in
@@ -92,6 +92,6 @@ stores by old new more sound words views h at =
     )
 
 -- the store, at a view and words that are known
-pub stores_as : (by : ℕ) (v : SeatView) (old new : Reading) (words : List ℕ) → v ≡ keeping old → words ≡ cell_words new → old.events ≤ new.events → IsReading new → Turns IsGaugeKept by v (λ _. words) IsStore
+pub stores_as : (by : ℕ) (v : SeatView) (old new : Reading) (words : List ℕ) → v ≡ keeping old → words ≡ cell_words new → old.events ≤ new.events → IsReading new → Turns IsGaugeSound by v (λ _. words) IsStore
 stores_as by v old new words is these more sound =
-    subst (λ (p : SeatView × List ℕ). Turns IsGaugeKept by p.0 (λ _. p.1) IsStore) (λ i. (sym is i, sym these i)) (stores by old new more sound)
+    subst (λ (p : SeatView × List ℕ). Turns IsGaugeSound by p.0 (λ _. p.1) IsStore) (λ i. (sym is i, sym these i)) (stores by old new more sound)

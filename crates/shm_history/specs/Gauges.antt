@@ -42,8 +42,8 @@ having_seen r = record { is_keeper = false; seen = r }
 
 -- THE RULE: one seat is the keeper's, and the words are the counts that it knows, which keep their bounds. No seat
 -- has seen more events than the words
-abbrev pub IsGaugeKept : List ℕ → List SeatView → Type 0
-IsGaugeKept words views =
+abbrev pub IsGaugeSound : List ℕ → List SeatView → Type 0
+IsGaugeSound words views =
     (seat : ℕ) × (now : Reading)
     × (words ≡ cell_words now) × IsReading now
     × (get_elem? views seat ≡ some (keeping now))

@@ -26,9 +26,9 @@ pub struct SeatView {
 pub struct Gauged;
 
 impl Protocol<[u64; 4], SeatView> for Gauged {
-    ghost use Rattle.shm_history.specs.Gauges.{IsGaugeKept, keeping, zeros};
+    ghost use Rattle.shm_history.specs.Gauges.{IsGaugeSound, keeping, zeros};
 
-    ghost holds = { IsGaugeKept };
+    ghost holds = { IsGaugeSound };
 
     ghost first = { keeping zeros };
 }

@@ -2,16 +2,15 @@
 //!
 //! The rule that the type keeps: the history is legal on the flat machine from the opening, and leads
 //! to the machine that the system shows. A call and its reply are recorded together or not at all.
-ghost use Rattle.std.specs.Prelude.{◌≡◌, ◌+◌, ◌-◌, ◌<◌, ◌≤◌, [], ◌∷◌, ◌++◌, length, drop, vec_len, vec_capacity, IfOk, OnOk, OnErr, IsOk, All, true, false};
-ghost use Rattle.shm_base.specs.History.{IsHistory, IsMove, is_failure, is_refusal};
+ghost use Rattle.std.specs.Prelude.{◌≡◌, ◌+◌, ◌-◌, ◌<◌, ◌≤◌, [], ◌++◌, length, drop, vec_len, vec_capacity, IfOk, OnOk, OnErr, IsOk, All, false};
+ghost use Rattle.shm_base.specs.History.{IsHistory, is_refusal};
 ghost use Rattle.shm_base.specs.Step.{step};
 ghost use mathlib.Core.List.{IsPrefix};
-ghost use Rattle.shm_slots.specs.Cause.{had_cause};
 ghost use Rattle.shm_fault.specs.Flushing.{IsFlushed};
 ghost use Rattle.shm_life.specs.MachineView.{IsExactly, KeepsOn};
 ghost use Rattle.shm_base.specs.Memory.{TakesNoMemory};
 ghost use Rattle.shm_life.specs.Listed.{segment_at};
-ghost use Rattle.shm_history.specs.WorldState.{event, tally_of, AreCounted, calls_of, step_calls, IsRun, RunTo, MayStop, StopsIn, StepTakesNone};
+ghost use Rattle.shm_history.specs.WorldState.{tally_of, AreCounted, calls_of, step_calls, IsCalled, IsRun, RunTo, MayStop, StopsIn, StepTakesNone};
 
 use shm_base::{Call, Event, FlushReport, HostMemory, Reply, ShmId, ShmidDs, Step, Tally};
 use shm_life::{Opening, System};
@@ -142,16 +141,11 @@ impl<P: Pager> World<P> {
     /// nothing is recorded; with room left, that comes only where the flat machine refuses nothing, and the
     /// calls that take no memory always get their reply.
     pub fn call(&mut self, pid: u32, call: &Call) -> Result<Reply, HostMemory>
-        ensures recorded { IfOk result (λ r. self.new.events ≡ self.old.events ++ event pid call.now r ∷ []) }
-        ensures move_of { IfOk result (λ r. IsMove self.old.machine (length self.old.events + 1) (event pid call.now r) self.new.machine) }
-        ensures cause { IfOk result (λ r. is_failure call.now r ≡ true → had_cause self.old.memory.swap self.new.memory.swap ≡ true) }
-        ensures keeps { KeepsOn self.old.memory self.new.memory }
-        ensures opening { self.new.opening ≡ self.old.opening }
+        ensures called { IfOk result (λ r. IsCalled self.old pid call.now r self.new) }
         ensures err { OnErr result (self.new ≡ record self.old { room = self.new.room }) }
         ensures memory { OnErr result (0 < self.old.room → is_refusal (step self.old.machine (length self.old.events + 1) pid call.now).reply ≡ false) }
         ensures no_memory { TakesNoMemory call.now → 0 < self.old.room → IsOk result }
-        ensures room { self.old.room ≤ self.new.room + 1 }
-        ensures room_kept { OnErr result (self.old.room ≤ self.new.room) }
+        ensures room { OnErr result (self.old.room ≤ self.new.room) }
     {
         make_room(&mut self.history)?;
         // The memory that the system lends is exact, before the call too.

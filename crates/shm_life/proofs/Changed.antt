@@ -1,5 +1,5 @@
 -- What is kept where a segment is locked, marked or written, and where a process forks.
-use Rattle.shm_life.proofs.Names.{OrphansAmong, ◌≡◌, ℕ, ◌+◌, ◌/◌, ◌%◌, ◌≤◌, ◌&&◌, nat_lt, not, Bool, true, false, if◌then◌else◌, List, [], ◌∷◌, length, Some, refl, sym, ◌∙◌, arith, All, IsAccess, OnOk, OnErr, Place, Bounds, Live, Entry, Runner, pages_of, attach_count, change, marked, locked, Span, Translation, IsCaller, caller_seen, pieces_at, InPage, page_of, PassPages, pieces_by, wanted, wanted_in, Child, born_child, pieces_by-caller, IsFound, SpanFits, page_there, relocked, get-set_same, get-set_other, sum-set, SamePages, SameTable, same-refl, change-pages, change-locked, change-left, PieceFits, PiecesFit, IsMachineKept, IsWell, IsWellBut, StoreView, frame_of, cases_eq, nat_tests}
+use Rattle.shm_life.proofs.Names.{OrphansAmong, ◌≡◌, ℕ, ◌+◌, ◌/◌, ◌%◌, ◌≤◌, ◌&&◌, nat_lt, not, Bool, true, false, if◌then◌else◌, List, [], ◌∷◌, length, Some, refl, sym, ◌∙◌, arith, All, IsAccess, OnOk, OnErr, Place, Bounds, Live, Entry, Runner, pages_of, attach_count, change, marked, locked, Span, Translation, IsCaller, caller_seen, pieces_at, InPage, page_of, PassPages, pieces_by, wanted, wanted_in, Child, born_child, pieces_by-caller, IsFound, SpanFits, page_there, relocked, get-set_same, get-set_other, sum-set, SamePages, SameTable, same-refl, change-pages, change-locked, change-left, PieceFits, PiecesFit, IsTableSound, IsWell, IsWellBut, StoreView, frame_of, cases_eq, nat_tests}
 use Rattle.std.proofs.Common.{slice_set, sum_by, true≢false}
 use Rattle.std.specs.Prelude.{Option, Result, Ok, Err}
 use Rattle.shm_base.specs.State.{pages_in}
@@ -31,7 +31,7 @@ module _ (t : List Entry) (f : Found) (found : IsFound t f) (b : Bool) where
   pub relocked-sum : locked (change t f.seg (relocked b)) + (if f.head.locked then pages_of f.head.size else 0) ≡ locked t + (if b then pages_of f.head.size else 0)
   relocked-sum = grind (arith, sum-set)
 
-kept-relocked : (limits : Bounds) (t : List Entry) (rs : List Runner) (seg : ℕ) (b : Bool) → IsMachineKept limits t rs → locked (change t seg (relocked b)) ≤ limits.memlock → IsMachineKept limits (change t seg (relocked b)) rs
+kept-relocked : (limits : Bounds) (t : List Entry) (rs : List Runner) (seg : ℕ) (b : Bool) → IsTableSound limits t rs → locked (change t seg (relocked b)) ≤ limits.memlock → IsTableSound limits (change t seg (relocked b)) rs
 kept-relocked limits t rs seg b k few =
     let same : SamePages t (change t seg (relocked b)) = change-pages (relocked b) (λ s. refl) t seg in
     kept-by limits t (change t seg (relocked b)) rs rs k (omega (arith, same.size)) (omega (arith, same.reserved)) few (fit-same t (change t seg (relocked b)) rs same k.pieces)
@@ -88,5 +88,5 @@ either-same (Err e) t u w written same alike = rw same (same-refl t)
 pub born-fits : (t : List Entry) (rs : List Runner) (k : FlatCaller) (child : Child) → PiecesFit t rs → All (PieceFits t) k.pieces → PiecesFit t (born_child rs k child)
 born-fits t rs k child fit own = fit-set t rs child.index (record { pid = child.pid; life = Live k.cred; pieces = k.pieces }) fit own
 
-pub forked-kept : (limits : Bounds) (t : List Entry) (rs after : List Runner) → IsMachineKept limits t rs → PiecesFit t after → ((id : ℕ) → attach_count rs id ≤ attach_count after id) → IsMachineKept limits t after
+pub forked-kept : (limits : Bounds) (t : List Entry) (rs after : List Runner) → IsTableSound limits t rs → PiecesFit t after → ((id : ℕ) → attach_count rs id ≤ attach_count after id) → IsTableSound limits t after
 forked-kept limits t rs after k fit more = kept-by limits t t rs after k (omega arith) (omega arith) k.locked fit (orphans-among [] rs after t k.orphans (λ id _. more id))

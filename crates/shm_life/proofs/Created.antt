@@ -1,5 +1,5 @@
 -- What is kept where a segment is made.
-use Rattle.shm_life.proofs.Names.{◌≡◌, ◌≢◌, ◌⊎◌, ℕ, zero, suc, pos, ℤ, ◌+◌, ◌*◌, ◌/◌, ◌%◌, ◌<◌, ◌≤◌, ◌&&◌, nat_lt, Bool, true, false, is_none, List, [], ◌∷◌, ◌++◌, length, get_or, replicate, Some, None, refl, sym, ap, ◌∙◌, inl, inr, arith, eq-eqb, ne_eqb, cases_eq, cases_Bool, cases_lt, lt-ltb, le-ltb, none-some, slice_get_past, slice_get-get_or, length-append, length-replicate, sum_by-append, sum_by-cons, Bounds, Segment, Piece, Entry, Runner, pages_of, identifier, free_from, free_index, destroyed_at, destroyed_in, with_segment, pages_held, pages_locked, reserved, locked, Head, segment_of, live, made, created, get-set_same, get-set_other, length-slice_set, sum-set, PieceFits, OrphansAmong, IsMachineKept, nat_tests}
+use Rattle.shm_life.proofs.Names.{◌≡◌, ◌≢◌, ◌⊎◌, ℕ, zero, suc, pos, ℤ, ◌+◌, ◌*◌, ◌/◌, ◌%◌, ◌<◌, ◌≤◌, ◌&&◌, nat_lt, Bool, true, false, is_none, List, [], ◌∷◌, ◌++◌, length, get_or, replicate, Some, None, refl, sym, ap, ◌∙◌, inl, inr, arith, eq-eqb, ne_eqb, cases_eq, cases_Bool, cases_lt, lt-ltb, le-ltb, none-some, slice_get_past, slice_get-get_or, length-append, length-replicate, sum_by-append, sum_by-cons, Bounds, Segment, Piece, Entry, Runner, pages_of, identifier, free_from, free_index, destroyed_at, destroyed_in, with_segment, pages_held, pages_locked, reserved, locked, Head, segment_of, live, made, created, get-set_same, get-set_other, length-slice_set, sum-set, PieceFits, OrphansAmong, IsTableSound, nat_tests}
 use Rattle.std.proofs.Common.{is_some, slice_get, slice_set, Option, option_map}
 use Rattle.shm_base.specs.State.{pages_in}
 use Rattle.shm_life.proofs.Pieces.{fit-table}
@@ -130,14 +130,14 @@ pages-zeros : (size : ℕ) → length {A = ℕ} (replicate (4096 * pages_of size
 pages-zeros size = let long : length {A = ℕ} (replicate (4096 * pages_of size) 0) ≡ 4096 * pages_of size = length-replicate (4096 * pages_of size) 0 in rw long (omega arith)
 
 -- a segment made
-pub created-kept : (limits : Bounds) (t u : List Entry) (rs : List Runner) (key : ℕ) (h : Head) (id : ℤ) → IsMachineKept limits t rs → made t key h ≡ Some (id, u)
-    → reserved t + pages_of h.size ≤ limits.shmall → h.dest ≡ false → h.locked ≡ false → IsMachineKept limits u rs
+pub created-kept : (limits : Bounds) (t u : List Entry) (rs : List Runner) (key : ℕ) (h : Head) (id : ℤ) → IsTableSound limits t rs → made t key h ≡ Some (id, u)
+    → reserved t + pages_of h.size ≤ limits.shmall → h.dest ≡ false → h.locked ≡ false → IsTableSound limits u rs
 created-kept limits t u rs key h id k is room dest loose = by (free_index t) refl is
   where
     s : Segment
     s = segment_of (record { key = key; value = h }) (replicate (4096 * pages_of h.size) 0)
 
-    kept : (i : ℕ) → IsFree t i → (v : List Entry) → Added t v i s → IsMachineKept limits v rs
+    kept : (i : ℕ) → IsFree t i → (v : List Entry) → Added t v i s → IsTableSound limits v rs
     kept i free v a =
         let few = pages-zeros h.size in
         let locks : pages_locked (Some s) ≡ 0 = rw loose refl in
@@ -151,7 +151,7 @@ created-kept limits t u rs key h id k is room dest loose = by (free_index t) ref
           orphans = orphans-added t v i s a free dest rs k.orphans;
         }
 
-    by : (o : Option ℕ) → free_index t ≡ o → option_map {U = ℤ × List Entry} (λ i. (pos (identifier i (destroyed_at t i)), created t i key h)) o ≡ Some (id, u) → IsMachineKept limits u rs
+    by : (o : Option ℕ) → free_index t ≡ o → option_map {U = ℤ × List Entry} (λ i. (pos (identifier i (destroyed_at t i)), created t i key h)) o ≡ Some (id, u) → IsTableSound limits u rs
     by None found z = absurd (none-some _ z)
     by (Some i) found z =
         let free = is-free t i found in

@@ -1,6 +1,6 @@
 -- A process whose pieces go, or come: what the calls on segments need, and what is kept but for segments that
 -- lost their last piece.
-use Rattle.shm_life.proofs.Names.{common_steps, ◌≡◌, ◌≤◌, ℕ, ◌+◌, ◌*◌, ◌%◌, false, List, [], ◌∷◌, zero, suc, Some, None, refl, sym, ap, ◌∙◌, arith, All-nil, All, set_in, Bounds, Piece, Life, Live, Entry, Runner, cut, pieces_of, origin_of, without_named, change, with_entry, attached, detached, detach_all, segments_of, AtFlags, StoreView, Translation, AreTrue, IsCaller, caller_seen, pieces_at, IsLive, SameTable, change-same, Placed, piece_for, pieces_after, lost_to, PieceFits, is_among, IsMachineKept, IsKeptBut, IsWell, IsWellBut}
+use Rattle.shm_life.proofs.Names.{common_steps, ◌≡◌, ◌≤◌, ℕ, ◌+◌, ◌*◌, ◌%◌, false, List, [], ◌∷◌, zero, suc, Some, None, refl, sym, ap, ◌∙◌, arith, All-nil, All, set_in, Bounds, Piece, Life, Live, Entry, Runner, cut, pieces_of, origin_of, without_named, change, with_entry, attached, detached, detach_all, segments_of, AtFlags, StoreView, Translation, AreTrue, IsCaller, caller_seen, pieces_at, IsLive, SameTable, change-same, Placed, piece_for, pieces_after, lost_to, PieceFits, is_among, IsTableSound, IsTableSoundBut, IsWell, IsWellBut}
 use Rattle.std.proofs.Common.{slice_get, slice_set, Option, option_map}
 use Rattle.shm_attach.specs.declared.process.Caller.{Caller}
 use Rattle.shm_life.proofs.Leaving.{keeps-set, keeps-all, keeps-without, keeps-cut}
@@ -14,19 +14,19 @@ replaced rs c life ps = slice_set rs c.index (record { pid = c.pid; life = life;
 -- the segments that lose pieces are live, and only these may be left without any
 pub record Goes (limits : Bounds) (t : List Entry) (after : List Runner) (lost : List ℕ) : Type 0 where
   pub live : All (IsLive t) lost
-  pub kept : IsKeptBut lost limits t after
+  pub kept : IsTableSoundBut lost limits t after
 
 -- so all is well but for these
 pub well-gone : {lost : List ℕ} (limits : Bounds) (t u : List Entry) (rs after : List Runner) (ts us : List Translation) (m : StoreView) → IsWell limits t rs ts m → Goes limits u after lost → AreTrue us m
     → IsWellBut lost limits u after us m
 well-gone limits t u rs after ts us m w goes all = record { kept = goes.kept; frames = w.frames; room = w.room; translated = all }
 
-module _ (limits : Bounds) (t : List Entry) (rs : List Runner) (c : Caller) (k : IsMachineKept limits t rs) (is : IsCaller c rs) where
+module _ (limits : Bounds) (t : List Entry) (rs : List Runner) (c : Caller) (k : IsTableSound limits t rs) (is : IsCaller c rs) where
   own : All (PieceFits t) (pieces_at rs c.index)
   own = caller-fits t c rs is k.pieces
 
   going : (life : Life) (ps : List Piece) (lost : List ℕ) → All (PieceFits t) ps → ((id : ℕ) → is_among lost id ≡ false → pieces_of id (pieces_at rs c.index) ≤ pieces_of id ps)
-      → IsKeptBut lost limits t (replaced rs c life ps)
+      → IsTableSoundBut lost limits t (replaced rs c life ps)
   going life ps lost fits le = grind (arith, common_steps, keeps-set, caller-runner)
 
   -- shmdt
@@ -62,7 +62,7 @@ all-gone limits t rs c ts m w is life us all =
 -- ATTACHING
 
 -- a segment whose attach was noted
-pub attached-goes : (limits : Bounds) (t : List Entry) (rs : List Runner) (c : Caller) (n : ℕ) (flags : AtFlags) (p : Placed) → IsMachineKept limits t rs → IsCaller c rs → PieceFits t (piece_for flags p)
+pub attached-goes : (limits : Bounds) (t : List Entry) (rs : List Runner) (c : Caller) (n : ℕ) (flags : AtFlags) (p : Placed) → IsTableSound limits t rs → IsCaller c rs → PieceFits t (piece_for flags p)
     → Goes limits (change t p.seg (attached n c.pid)) (replaced rs c (Live c.cred) (pieces_after (pieces_at rs c.index) flags p)) (lost_to (pieces_at rs c.index) p)
 attached-goes limits t rs c n flags p k is fits =
     let v = change t p.seg (attached n c.pid) in

@@ -38,7 +38,7 @@ pub use Rattle.shm_base.specs.declared.flags.AtFlags.{AtFlags}
 pub use Rattle.shm_base.specs.declared.paging.PageRef.{PageRef}
 pub use Rattle.shm_base.specs.declared.paging.Span.{Span}
 pub use Rattle.shm_fault.proofs.Sound.{GoesOn-refl}
-pub use Rattle.shm_fault.proofs.Whole.{pages_held-is}
+pub use Rattle.shm_fault.proofs.Whole.{pages_in_store-is}
 pub use Rattle.shm_fault.specs.Access.{Accessed, answer_of}
 pub use Rattle.shm_fault.specs.Segs.{SegRec, find_seg}
 pub use Rattle.shm_fault.specs.Sound.{IsStoreSound}
@@ -64,7 +64,7 @@ pub use Rattle.shm_segments.specs.View.{KeepsMemory, SegmentsView, ShowsTable}
 pub use Rattle.shm_segments.specs.declared.head.Head.{Head}
 pub use Rattle.shm_slots.specs.View.{AreaView, IsAreaSize, SwapView, area_at, fresh, new_swap, no_area, owner_of, size_of, sizes}
 pub use Rattle.shm_life.specs.Address.{misplaced}
-pub use Rattle.shm_life.specs.Kept.{IsKeptBut, IsMachineKept, IsWell, IsWellBut}
+pub use Rattle.shm_life.specs.Sound.{IsTableSoundBut, IsTableSound, IsWell, IsWellBut}
 pub use Rattle.shm_life.specs.MachineView.{KeepsOn}
 pub use Rattle.shm_life.specs.Orphans.{OrphansAmong, Sweeps, is_among}
 pub use Rattle.shm_life.specs.Placing.{base_for, gap_found, if_few, piece_for, placed, placed_at, placed_found, wished}

@@ -1,9 +1,9 @@
 -- The pages of the table's segments are those of the segments that the memory holds.
-use Rattle.shm_life.proofs.Names.{◌≡◌, ◌≢◌, ℕ, zero, suc, ◌+◌, ◌/◌, ◌%◌, ◌<◌, ◌≤◌, true, List, [], ◌∷◌, length, Some, None, refl, sym, ap, ◌∙◌, arith, eq-eqb, ne_eqb, slice_get_within, sum_by-cons, Entry, identifier, reserved, pages_held, AreHeldApart, Held, find_held, is_held, without, SegRec, find_seg, StoreView, held_by, used, IsStoreSound, pages_held-is, pages_at, ShowsTable, get-set_other, sum-set, sum-without, find-without_other, nat_tests}
+use Rattle.shm_life.proofs.Names.{◌≡◌, ◌≢◌, ℕ, zero, suc, ◌+◌, ◌/◌, ◌%◌, ◌<◌, ◌≤◌, true, List, [], ◌∷◌, length, Some, None, refl, sym, ap, ◌∙◌, arith, eq-eqb, ne_eqb, slice_get_within, sum_by-cons, Entry, identifier, reserved, pages_held, AreHeldApart, Held, find_held, is_held, without, SegRec, find_seg, StoreView, held_by, used, IsStoreSound, pages_in_store-is, pages_at, ShowsTable, get-set_other, sum-set, sum-without, find-without_other, nat_tests}
 use Rattle.std.proofs.Common.{map, slice_get, slice_set, Option}
 use Rattle.std.specs.Prelude.{is_some}
 use Rattle.shm_slots.specs.View.{slots}
-use Rattle.shm_plain.specs.Held.{pages_in, pages_held as held_pages}
+use Rattle.shm_plain.specs.Held.{pages_in, pages_in_store}
 use Rattle.shm_fault.specs.Segs as segs
 use Rattle.shm_fault.specs.Store.{held}
 
@@ -44,7 +44,7 @@ fewer : (t : List Entry) (id n : ℕ) → n ≤ pages_at t id → (u : List Entr
 fewer t id zero most = (t, record { fewer = omega arith; others = λ other apart. omega arith })
 fewer t id (suc n) most = (emptied t id, empty-at t id (suc n) (omega arith) most)
 
-no-more : (hs : List Held) (t : List Entry) → AreHeldApart hs → NoMore hs t → held_pages hs ≤ reserved t
+no-more : (hs : List Held) (t : List Entry) → AreHeldApart hs → NoMore hs t → pages_in_store hs ≤ reserved t
 no-more [] t apart each = omega arith
 no-more (h ∷ hs) t apart each =
     let here : pages_in h ≤ pages_at t h.id = each h.id h (rw (eq-eqb h.id h.id refl) refl) in
@@ -66,7 +66,7 @@ pages_found (Some g) = pages_in g
 abbrev NoLess : ℕ → List Held → List Entry → Type 0
 NoLess n hs t = (k : ℕ) (e : Entry) → slice_get t k ≡ Some e → pages_held e.segment ≤ pages_found (find_held hs (identifier (n + k) e.destroyed))
 
-no-less : (n : ℕ) (t : List Entry) (hs : List Held) → n + length t ≤ 32768 → NoLess n hs t → reserved t ≤ held_pages hs
+no-less : (n : ℕ) (t : List Entry) (hs : List Held) → n + length t ≤ 32768 → NoLess n hs t → reserved t ≤ pages_in_store hs
 no-less n [] hs few each = omega arith
 no-less n (e ∷ t) hs few each =
     by (λ gs all. no-less (n + 1) t gs (omega arith) all) (find_held hs (identifier n e.destroyed)) refl (let at : n + 0 ≡ n = omega arith in rw at at (each 0 e refl))
@@ -78,7 +78,7 @@ no-less n (e ∷ t) hs few each =
         let apart : identifier ((n + 1) + k) x.destroyed ≢ identifier n e.destroyed = λ equal. omega (arith, equal, within, few) in
         rw (same (identifier ((n + 1) + k) x.destroyed) apart) (rw next at (each (suc k) x is))
 
-    by : ((gs : List Held) → NoLess (n + 1) gs t → reserved t ≤ held_pages gs) → (o : Option Held) → find_held hs (identifier n e.destroyed) ≡ o → pages_held e.segment ≤ pages_found o → reserved (e ∷ t) ≤ held_pages hs
+    by : ((gs : List Held) → NoLess (n + 1) gs t → reserved t ≤ pages_in_store gs) → (o : Option Held) → find_held hs (identifier n e.destroyed) ≡ o → pages_held e.segment ≤ pages_found o → reserved (e ∷ t) ≤ pages_in_store hs
     by more None is none =
         let others = more hs (rest hs (λ id apart. refl)) in
         omega (arith, none, others, sum_by-cons (λ (x : Entry). pages_held x.segment) e t)
@@ -96,7 +96,7 @@ module _ (t : List Entry) (m : StoreView) (sound : IsStoreSound m) (shows : Show
 
   -- the slots that are used are no more than the pages of all segments
   pub few-used : used m ≤ reserved t
-  few-used = grind (arith, pages_held-is, no-more, apart-held)
+  few-used = grind (arith, pages_in_store-is, no-more, apart-held)
 
   module _ (few : length t ≤ 32768) where
     less : NoLess 0 (held m) t
@@ -104,4 +104,4 @@ module _ (t : List Entry) (m : StoreView) (sound : IsStoreSound m) (shows : Show
 
     -- the pages of all segments are no more than the slots
     pub few-reserved : reserved t ≤ slots m.swap
-    few-reserved = grind (arith, pages_held-is m sound, no-less 0 t (held m) (omega (arith, few)) less)
+    few-reserved = grind (arith, pages_in_store-is m sound, no-less 0 t (held m) (omega (arith, few)) less)

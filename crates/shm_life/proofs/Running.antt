@@ -1,5 +1,5 @@
 -- What calls keep of the memory.
-use Rattle.shm_life.proofs.Names.{◌≡◌, ◌<◌, ◌+◌, ℕ, true, false, List, [], ◌∷◌, length, drop, get_or, refl, sym, ◌∙◌, arith, ◌≤◌, drop-cons, is_err, OnOk, OnErr, Bounds, Entry, Runner, sizes, StoreView, frame_of, GoesOn-refl, Translation, AreTrue, KeepsMemory, IsWell, IsWellBut, IsKeptBut, KeepsOn, OrphansAmong, Sweeps, PiecesFit, reserved, locked}
+use Rattle.shm_life.proofs.Names.{◌≡◌, ◌<◌, ◌+◌, ℕ, true, false, List, [], ◌∷◌, length, drop, get_or, refl, sym, ◌∙◌, arith, ◌≤◌, drop-cons, is_err, OnOk, OnErr, Bounds, Entry, Runner, sizes, StoreView, frame_of, GoesOn-refl, Translation, AreTrue, KeepsMemory, IsWell, IsWellBut, IsTableSoundBut, KeepsOn, OrphansAmong, Sweeps, PiecesFit, reserved, locked}
 use Rattle.std.proofs.Common.{true≢false}
 use Rattle.std.specs.Prelude.{Result, Ok, Err}
 
@@ -27,8 +27,8 @@ pub sweeps-none : (rs : List Runner) (a : List Entry) → Sweeps rs a a
 sweeps-none rs a = record { swept = refl; size = refl; reserved = omega arith; locked = omega arith; pieces = λ fit. fit }
 
 -- another table and other processes, where nothing grows past its bound
-pub kept-by : {lost more : List ℕ} (limits : Bounds) (t u : List Entry) (rs after : List Runner) → IsKeptBut lost limits t rs → length u ≤ length t → reserved u ≤ reserved t → locked u ≤ limits.memlock → PiecesFit u after → OrphansAmong more after u
-    → IsKeptBut more limits u after
+pub kept-by : {lost more : List ℕ} (limits : Bounds) (t u : List Entry) (rs after : List Runner) → IsTableSoundBut lost limits t rs → length u ≤ length t → reserved u ≤ reserved t → locked u ≤ limits.memlock → PiecesFit u after → OrphansAmong more after u
+    → IsTableSoundBut more limits u after
 kept-by limits t u rs after k few_entries few_pages few_locked pieces orphans = grind arith
 
 -- once no orphan is left, all is as it was

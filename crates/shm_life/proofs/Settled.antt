@@ -1,5 +1,5 @@
 -- What is kept through calls that take pieces out, and through those that put pieces in.
-use Rattle.shm_life.proofs.Names.{nat_tests, ◌≡◌, ℕ, zero, suc, ◌+◌, ◌<◌, take, Bool, List, [], ◌∷◌, length, get_or, filter, Some, None, refl, sym, ap, ◌∙◌, arith, All-nil, All-map, All-filter, none-some, All, find, Bounds, Piece, Live, Entry, Runner, Span, meets, cut_segments, has_origin, origin_of, StoreView, PageMove, Touched, MovesLead, Accessed, answer_of, Translation, AreTrue, IsCaller, pieces_at, caller_there, IsLive, orphan, identifier_at, change, detached, detach_all, SameTable, detach_all-same, PieceFits, PiecesFit, is_among, OrphansAmong, IsKeptBut, IsWellBut, IsWell}
+use Rattle.shm_life.proofs.Names.{nat_tests, ◌≡◌, ℕ, zero, suc, ◌+◌, ◌<◌, take, Bool, List, [], ◌∷◌, length, get_or, filter, Some, None, refl, sym, ap, ◌∙◌, arith, All-nil, All-map, All-filter, none-some, All, find, Bounds, Piece, Live, Entry, Runner, Span, meets, cut_segments, has_origin, origin_of, StoreView, PageMove, Touched, MovesLead, Accessed, answer_of, Translation, AreTrue, IsCaller, pieces_at, caller_there, IsLive, orphan, identifier_at, change, detached, detach_all, SameTable, detach_all-same, PieceFits, PiecesFit, is_among, OrphansAmong, IsTableSoundBut, IsWellBut, IsWell}
 use Rattle.std.proofs.Common.{map, slice_get, Option, option_map}
 use Rattle.std.specs.Prelude.{Result, Ok, Err}
 use Rattle.shm_attach.specs.declared.process.Caller.{Caller}
@@ -10,7 +10,7 @@ pub orphans-same : (ids : List ℕ) (rs : List Runner) (t u : List Entry) → ((
 orphans-same ids rs t u left own among = λ i h. ap (is_among ids) (own i) ∙ among i (sym (left rs i) ∙ h)
 
 -- where no piece goes
-pub settled-table : {lost : List ℕ} (limits : Bounds) (t u : List Entry) (rs : List Runner) → IsKeptBut lost limits t rs → SameTable t u → IsKeptBut lost limits u rs
+pub settled-table : {lost : List ℕ} (limits : Bounds) (t u : List Entry) (rs : List Runner) → IsTableSoundBut lost limits t rs → SameTable t u → IsTableSoundBut lost limits u rs
 settled-table {lost} limits t u rs k same =
     kept-by limits t u rs rs k (omega (arith, same.same.size)) (omega (arith, same.same.reserved)) (omega (arith, k.locked, same.locked)) (fit-same t u rs same.same k.pieces) (orphans-same lost rs t u same.left same.same.ids k.orphans)
 

@@ -1,10 +1,9 @@
 pub mod Tied
-pub mod Kept
+pub mod Sound
 pub mod Orphans
 pub mod Listed
 pub mod Address
 pub mod Placing
-pub mod Made
 pub mod Start
 pub mod SystemState
 pub mod MachineView

@@ -1,5 +1,5 @@
-//! exec and exit: all pieces of a process go.
-ghost use Rattle.std.specs.Prelude.{◌≡◌, true, false};
+//! exec and exit: all pieces of a process go. What either takes of the stack no other call has.
+ghost use Rattle.std.specs.Prelude.{◌≡◌};
 ghost use Rattle.shm_base.specs.Step as flat;
 ghost use Rattle.shm_attach.specs.Spaces.{IsCaller, caller_seen};
 ghost use Rattle.shm_life.specs.MachineView.{KeepsOn};
@@ -12,19 +12,14 @@ use shm_pager::Pager;
 
 impl<P: Pager> Kernel<P> {
     #[tactic(auto, using(crate::proofs::Running::keeps_refl))]
-    // Detaches every piece of a process, which ends or goes on. What it takes of the stack no other call has.
+    /// Detaches every piece (shmop(2)).
     #[inline(never)]
-    fn unmap_all(&mut self, time: u64, caller: &Caller, ends: bool, reply: &mut Reply)
+    pub(crate) fn exec(&mut self, time: u64, caller: &Caller, reply: &mut Reply)
         requires { IsCaller caller.now self.old.flat.runners }
-        ensures exec { ends ≡ false → flat.exec self.old.flat time (caller_seen caller.now self.old.flat.runners) ≡ record { reply = reply.new; state = self.new.flat } }
-        ensures exit { ends ≡ true → flat.exit self.old.flat time (caller_seen caller.now self.old.flat.runners) ≡ record { reply = reply.new; state = self.new.flat } }
+        ensures step { flat.exec self.old.flat time (caller_seen caller.now self.old.flat.runners) ≡ record { reply = reply.new; state = self.new.flat } }
         ensures keeps { KeepsOn self.old.memory self.new.memory }
     {
-        let lost = if ends {
-            self.spaces.exit(caller)
-        } else {
-            self.spaces.exec(caller)
-        };
+        let lost = self.spaces.exec(caller);
         after_detach(
             &mut self.segments,
             &self.spaces,
@@ -35,21 +30,22 @@ impl<P: Pager> Kernel<P> {
         *reply = Reply::Done;
     }
 
-    /// Detaches every piece (shmop(2)).
-    pub(crate) fn exec(&mut self, time: u64, caller: &Caller, reply: &mut Reply)
-        requires { IsCaller caller.now self.old.flat.runners }
-        ensures step { flat.exec self.old.flat time (caller_seen caller.now self.old.flat.runners) ≡ record { reply = reply.new; state = self.new.flat } }
-        ensures keeps { KeepsOn self.old.memory self.new.memory }
-    {
-        self.unmap_all(time, caller, false, reply);
-    }
-
+    #[tactic(auto, using(crate::proofs::Running::keeps_refl))]
     /// Detaches every piece, and ends the process.
+    #[inline(never)]
     pub(crate) fn exit(&mut self, time: u64, caller: &Caller, reply: &mut Reply)
         requires { IsCaller caller.now self.old.flat.runners }
         ensures step { flat.exit self.old.flat time (caller_seen caller.now self.old.flat.runners) ≡ record { reply = reply.new; state = self.new.flat } }
         ensures keeps { KeepsOn self.old.memory self.new.memory }
     {
-        self.unmap_all(time, caller, true, reply);
+        let lost = self.spaces.exit(caller);
+        after_detach(
+            &mut self.segments,
+            &self.spaces,
+            lost.as_slice(),
+            time,
+            caller.pid,
+        );
+        *reply = Reply::Done;
     }
 }

@@ -30,7 +30,7 @@ impl<P: Pager> Drop for Kernel<P> {
 
 impl<P: Pager> Model for Kernel<P> {
     ghost use Rattle.shm_slots.specs.View.{sizes};
-    ghost use Rattle.shm_life.specs.Kept.{IsWell};
+    ghost use Rattle.shm_life.specs.Sound.{IsWell};
     ghost use Rattle.shm_life.specs.MachineView.{MachineView};
 
     ghost Value = { MachineView };

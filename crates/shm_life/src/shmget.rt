@@ -1,13 +1,13 @@
 //! shmget: an existing segment by its key, or a new one.
-ghost use Rattle.std.specs.Prelude.{◌≡◌, ◌≢◌, ℕ, false, OnOk, OnErr};
+ghost use Rattle.std.specs.Prelude.{◌≡◌, ◌≢◌, ℕ, false, [], OnOk, OnErr};
 ghost use Rattle.shm_base.specs.History.{is_refusal};
 ghost use Rattle.shm_base.specs.Identifier as flat_ids;
 ghost use Rattle.shm_base.specs.Permission as permission;
 ghost use Rattle.shm_base.specs.Step as flat;
 ghost use Rattle.shm_attach.specs.Spaces.{caller_seen};
+ghost use Rattle.shm_segments.specs.Joined.{head_of};
 ghost use Rattle.shm_segments.specs.Table.{IsFound, look_of};
 ghost use Rattle.shm_life.specs.MachineView.{KeepsOn};
-ghost use Rattle.shm_life.specs.Made.{new_head};
 
 use crate::kernel::Kernel;
 use bitflags::Flags;
@@ -27,9 +27,10 @@ fn wish_of(mode: u16) -> Want
     }
 }
 
-/// A new segment's owner and creator is the caller; its last times are 0, and its creation is now.
+/// The head of a new segment, whatever its key and the caller's pieces: its owner and creator is the caller; its last
+/// times are 0, and its creation is now.
 fn new_head(time: u64, caller: &Caller, size: u64, mode: u16) -> Head
-    ensures { result ≡ new_head time caller.now.pid caller.now.cred size mode }
+    ensures { result ≡ head_of (flat.new_segment time (caller_seen caller.now []) 0 size mode) }
 {
     Head {
         perm: Perm {

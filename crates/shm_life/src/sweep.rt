@@ -6,7 +6,7 @@ ghost use Rattle.shm_attach.specs.Spaces.{Translation, AreTrue};
 ghost use Rattle.shm_slots.specs.View.{sizes};
 ghost use Rattle.shm_segments.specs.Table.{IsLive};
 ghost use Rattle.shm_segments.specs.View.{KeepsMemory};
-ghost use Rattle.shm_life.specs.Kept.{IsWell, IsWellBut};
+ghost use Rattle.shm_life.specs.Sound.{IsWell, IsWellBut};
 ghost use Rattle.shm_life.specs.MachineView.{KeepsOn};
 ghost use Rattle.shm_life.specs.Orphans.{OrphansAmong, Sweeps};
 

@@ -5,7 +5,7 @@ use Rattle.std.proofs.lemmas.Bool.Decides.{eqb_tells}
 use Rattle.std.proofs.lemmas.List.{drop_more}
 use Rattle.std.proofs.lemmas.Option.{slice_get_read}
 use Rattle.std.specs.Prelude.{slice_get}
-use Rattle.shm_plain.specs.Held.{Held, find_held, is_held, without, relocked, with_lock}
+use Rattle.shm_plain.specs.Held.{Held, find_held, is_held, without, lock_changed, with_lock}
 use Rattle.shm_plain.specs.Apart.{AreHeldApart}
 
 pub true_false : true ≡ false → ⊥
@@ -85,15 +85,15 @@ set-map f id others hs i g y apart found within is after = grind (arith, common_
 
 -- A LOCK SET
 
-relocked-others : (id : ℕ) (locked : Bool) (g : Held) → g.id ≢ id → relocked id locked g ≡ g
-relocked-others id locked g other = rw (ne_eqb g.id id other) refl
+lock_changed-others : (id : ℕ) (locked : Bool) (g : Held) → g.id ≢ id → lock_changed id locked g ≡ g
+lock_changed-others id locked g other = rw (ne_eqb g.id id other) refl
 
-relocked-keeps : (id : ℕ) (locked : Bool) → KeepsId (relocked id locked)
-relocked-keeps id locked g = elim (eqb_tells g.id id) [ inl w ↦ rw w.0 refl | inr w ↦ rw w.0 refl ]
+lock_changed-keeps : (id : ℕ) (locked : Bool) → KeepsId (lock_changed id locked)
+lock_changed-keeps id locked g = elim (eqb_tells g.id id) [ inl w ↦ rw w.0 refl | inr w ↦ rw w.0 refl ]
 
 pub lock-set : (hs : List Held) (id i : ℕ) (locked : Bool) (g y : Held) → AreHeldApart hs → find_held hs id ≡ slice_get hs i → i < length hs → g ≡ get_or hs i g → y ≡ record g { locked = locked }
     → set hs i y ≡ with_lock hs id locked
-lock-set hs id i locked g y apart found within is after = grind (arith, common_steps, set-map, relocked-others)
+lock-set hs id i locked g y apart found within is after = grind (arith, common_steps, set-map, lock_changed-others)
 
 pub apart-lock : (hs : List Held) (id : ℕ) (locked : Bool) → AreHeldApart hs → AreHeldApart (with_lock hs id locked)
-apart-lock hs id locked apart = apart-map (relocked id locked) (relocked-keeps id locked) hs apart
+apart-lock hs id locked apart = apart-map (lock_changed id locked) (lock_changed-keeps id locked) hs apart

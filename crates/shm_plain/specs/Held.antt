@@ -14,13 +14,13 @@ abbrev pub find_held : List Held → ℕ → Option Held
 find_held [] id = None
 find_held (g ∷ gs) id = if g.id == id then Some g else find_held gs id
 
-abbrev pub bytes_in : Option Held → List ℕ
-bytes_in None = []
-bytes_in (Some g) = g.bytes
+abbrev pub held_bytes : Option Held → List ℕ
+held_bytes None = []
+held_bytes (Some g) = g.bytes
 
 -- the bytes of a segment, none where it is not held
 abbrev pub bytes_of : List Held → ℕ → List ℕ
-bytes_of hs id = bytes_in (find_held hs id)
+bytes_of hs id = held_bytes (find_held hs id)
 
 abbrev pub is_held : List Held → ℕ → Bool
 is_held hs id = is_some (find_held hs id)
@@ -30,15 +30,15 @@ lock_in None = false
 lock_in (Some g) = g.locked
 
 -- whether a segment is held and locked
-abbrev pub is_locked : List Held → ℕ → Bool
-is_locked hs id = lock_in (find_held hs id)
+abbrev pub holds_locked : List Held → ℕ → Bool
+holds_locked hs id = lock_in (find_held hs id)
 
 abbrev pub pages_in : Held → ℕ
 pages_in g = length g.bytes / 4096
 
 -- the pages of all segments
-abbrev pub pages_held : List Held → ℕ
-pages_held hs = sum_by pages_in hs
+abbrev pub pages_in_store : List Held → ℕ
+pages_in_store hs = sum_by pages_in hs
 
 abbrev pub pages_if_locked : Held → ℕ
 pages_if_locked g = if g.locked then pages_in g else 0
@@ -55,12 +55,12 @@ with_zeros hs id pages = hs ++ record { id = id; locked = false; bytes = replica
 abbrev pub without : List Held → ℕ → List Held
 without hs id = filter (λ (g : Held). not (g.id == id)) hs
 
-abbrev pub relocked : ℕ → Bool → Held → Held
-relocked id locked g = if g.id == id then record g { locked = locked } else g
+abbrev pub lock_changed : ℕ → Bool → Held → Held
+lock_changed id locked g = if g.id == id then record g { locked = locked } else g
 
 -- one segment's lock set
 abbrev pub with_lock : List Held → ℕ → Bool → List Held
-with_lock hs id locked = map (relocked id locked) hs
+with_lock hs id locked = map (lock_changed id locked) hs
 
 -- a span lies in one page of a segment that is held
 abbrev pub FitsPage : List Held → Span → Type 0

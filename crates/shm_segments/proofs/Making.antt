@@ -1,5 +1,5 @@
 -- What is kept where a segment is made, destroyed, locked or written.
-use Rattle.shm_segments.proofs.Names.{locked_in_row, pages_in_row, ◌≡◌, ◌≢◌, ◌⊎◌, ℕ, pos, ℤ, ◌+◌, ◌-◌, ◌*◌, ◌/◌, ◌%◌, ◌<◌, ◌≤◌, Bool, true, false, if◌then◌else◌, List, Option, Some, None, is_none, refl, sym, ap, ◌∙◌, inl, inr, arith, cases_eq, none-some, pages_of, change, Row, entry_at, identifier, key_at, look, with_value, with_row, without_row, free_index-flat, destroyed_at-flat, Held, find_held, is_held, pages_in, pages_if_locked, with_zeros, without, with_lock, apart-push, apart-without, apart-lock, Head, whole, joined_table, Agree, SizesFit, AreSegmentsKept, made, created, destroyed, nat_tests, common_steps, replicate, slice_set, Ok, is_some, option_map, Entry, free_index, id_at, live_row, relocked}
+use Rattle.shm_segments.proofs.Names.{locked_in_row, pages_in_row, ◌≡◌, ◌≢◌, ◌⊎◌, ℕ, pos, ℤ, ◌+◌, ◌-◌, ◌*◌, ◌/◌, ◌%◌, ◌<◌, ◌≤◌, Bool, true, false, if◌then◌else◌, List, Option, Some, None, is_none, refl, sym, ap, ◌∙◌, inl, inr, arith, cases_eq, none-some, pages_of, change, Row, entry_at, identifier, key_at, look, with_value, with_row, without_row, free_index-flat, destroyed_at-flat, Held, find_held, is_held, pages_in, pages_if_locked, with_zeros, without, with_lock, apart-push, apart-without, apart-lock, Head, whole, joined_table, Agree, SizesFit, AreSegmentsSound, made, created, destroyed, nat_tests, common_steps, replicate, slice_set, Ok, is_some, option_map, Entry, free_index, id_at, live_row, relocked}
 use Rattle.shm_base.specs.Identifier as flat
 use Rattle.shm_segments.proofs.Joins.{LiveAt, live-at, held-as}
 use Rattle.shm_segments.proofs.Edits.{look-live, other-value, agree-lock, joined-locked}
@@ -21,7 +21,7 @@ held-here hs rows id r agree there = grind (arith, common_steps, held-as)
 
 -- DESTROYED
 
-pub kept-without : (hs : List Held) (rows : List (Entry Head)) (pages locks seg : ℕ) (v : Head) → AreSegmentsKept hs rows pages locks → look rows (pos seg) ≡ Ok v
+pub kept-without : (hs : List Held) (rows : List (Entry Head)) (pages locks seg : ℕ) (v : Head) → AreSegmentsSound hs rows pages locks → look rows (pos seg) ≡ Ok v
     → KeptAs (without hs seg) (without_row rows (seg % 32768)) (pages - pages_of v.size) (locks - (if v.locked then pages_of v.size else 0)) (destroyed (joined_table hs rows) seg)
 kept-without hs rows pages locks seg v k looked =
     let i = seg % 32768 in
@@ -53,7 +53,7 @@ kept-without hs rows pages locks seg v k looked =
 
 -- LOCKED OR UNLOCKED
 
-pub kept-locked : (hs : List Held) (rows : List (Entry Head)) (pages locks seg : ℕ) (v : Head) (b : Bool) → AreSegmentsKept hs rows pages locks → look rows (pos seg) ≡ Ok v
+pub kept-locked : (hs : List Held) (rows : List (Entry Head)) (pages locks seg : ℕ) (v : Head) (b : Bool) → AreSegmentsSound hs rows pages locks → look rows (pos seg) ≡ Ok v
     → KeptAs (with_lock hs seg b) (with_value rows (seg % 32768) (record v { locked = b })) pages
     (locks - (if v.locked then pages_of v.size else 0) + (if b then pages_of v.size else 0)) (change (joined_table hs rows) seg (relocked b))
 kept-locked hs rows pages locks seg v b k looked =
@@ -81,7 +81,7 @@ kept-locked hs rows pages locks seg v b k looked =
 
 -- MADE
 
-pub kept-made : (hs : List Held) (rows : List (Entry Head)) (pages locks i key : ℕ) (v : Head) → AreSegmentsKept hs rows pages locks → free_index rows ≡ Some i → v.locked ≡ false
+pub kept-made : (hs : List Held) (rows : List (Entry Head)) (pages locks i key : ℕ) (v : Head) → AreSegmentsSound hs rows pages locks → free_index rows ≡ Some i → v.locked ≡ false
     → (1 ≤ v.size) × (v.size ≤ 16777216)
     → KeptAs (with_zeros hs (id_of rows i) (pages_of v.size)) (with_row rows i key v) (pages + pages_of v.size) locks (created (joined_table hs rows) i key v)
 kept-made hs rows pages locks i key v k found loose range =

@@ -1,5 +1,5 @@
 -- What the memory keeps, and that it shows the table.
-use Rattle.shm_segments.proofs.Names.{◌≡◌, ◌≢◌, ℕ, ◌==◌, false, List, [], ◌∷◌, ◌++◌, length, Option, None, refl, sym, ap, ◌∙◌, arith, eq-eqb, not, append-nil, All, Result, OnOk, OnErr, sum_by, Span, Held, find_held, is_held, is_locked, with_zeros, without, FitsPage, written, find_held-id, find-without_same, find-without_other, find-zeros_same, find-zeros_other, StoreView, frame_of, fresh_store, Frame, SwapView, SegRec, find_seg, but, new_seg, rec_in, IsBlank, not-held, rec-added, LockedPagesStay, IsStoreSound, GoesOn-refl, GoesOn-trans, GoesOn, Head, joined_table, Agree, SegmentsView, ShowsTable, KeepsMemory, AreSegmentsKept, IsWhole, stored, span_places, SpanFits, filter-append, filter-none, common_steps, is_some, option_map, Ok, Err, FlatEntry, Entry, live_row}
+use Rattle.shm_segments.proofs.Names.{◌≡◌, ◌≢◌, ℕ, ◌==◌, false, List, [], ◌∷◌, ◌++◌, length, Option, None, refl, sym, ap, ◌∙◌, arith, eq-eqb, not, append-nil, All, Result, OnOk, OnErr, sum_by, Span, Held, find_held, is_held, holds_locked, with_zeros, without, FitsPage, written, find_held-id, find-without_same, find-without_other, find-zeros_same, find-zeros_other, StoreView, frame_of, fresh_store, Frame, SwapView, SegRec, find_seg, but, new_seg, rec_in, IsBlank, not-held, rec-added, LockedPagesStay, IsStoreSound, GoesOn-refl, GoesOn-trans, GoesOn, Head, joined_table, Agree, SegmentsView, ShowsTable, KeepsMemory, AreSegmentsSound, IsWhole, stored, span_places, SpanFits, filter-append, filter-none, common_steps, is_some, option_map, Ok, Err, FlatEntry, Entry, live_row}
 use Rattle.shm_fault.specs.Store.{held}
 use Rattle.shm_segments.proofs.Finding.{live-joined}
 use Rattle.shm_segments.proofs.Shown.{agree-written, store_shown}
@@ -58,12 +58,12 @@ undone s t u id n sound new is dropped =
     dropped blank ∙ ap (λ (v : StoreView). record v { segs = but id v.segs }) is ∙ taken-back s id n none
 
 -- what agrees with the same rows has the same locks
-pub agree-locks : (hs gs : List Held) (rows : List (Entry Head)) (id : ℕ) → Agree hs rows → Agree gs rows → is_locked gs id ≡ is_locked hs id
+pub agree-locks : (hs gs : List Held) (rows : List (Entry Head)) (id : ℕ) → Agree hs rows → Agree gs rows → holds_locked gs id ≡ holds_locked hs id
 agree-locks hs gs rows id a b = grind (arith, a.same id, b.same id)
 
 -- A STORE
 
-kept-written : (hs : List Held) (rows : List (Entry Head)) (pages locks : ℕ) (ps : List Span) (new : List ℕ) → AreSegmentsKept hs rows pages locks → All (FitsPage hs) ps → AreSegmentsKept (written hs ps new) rows pages locks
+kept-written : (hs : List Held) (rows : List (Entry Head)) (pages locks : ℕ) (ps : List Span) (new : List ℕ) → AreSegmentsSound hs rows pages locks → All (FitsPage hs) ps → AreSegmentsSound (written hs ps new) rows pages locks
 kept-written hs rows pages locks ps new k fit =
     let sums = sums-written hs ps new k.apart fit in
     record {

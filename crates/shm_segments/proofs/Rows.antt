@@ -1,5 +1,5 @@
 -- Segments that come and go, as the flat machine's table shows them.
-use Rattle.shm_segments.proofs.Names.{◌≡◌, ◌≢◌, ℕ, ◌+◌, ◌*◌, ◌%◌, ◌<◌, ◌≤◌, ◌==◌, if◌then◌else◌, false, List, length, Some, None, sym, ap, ◌∙◌, arith, inl, inr, length-set, cases_lt, cases_eq, length-replicate, pages_of, with_segment, Row, identifier, entry_at, with_row, without_row, at_set, at_set_other, at_row, at_row_other, with_row-few, free_found, identifier-mod, with_segment-flat, flat_table-make, Held, bytes_of, bytes_in, is_held, with_zeros, without, find-without_same, find-without_other, find-zeros_same, find-zeros_other, Head, segment_of, whole, joined_table, Agree, nat_tests, common_steps, replicate, is_some, option_map, slice_set, Entry, free_index, live_row}
+use Rattle.shm_segments.proofs.Names.{◌≡◌, ◌≢◌, ℕ, ◌+◌, ◌*◌, ◌%◌, ◌<◌, ◌≤◌, ◌==◌, if◌then◌else◌, false, List, length, Some, None, sym, ap, ◌∙◌, arith, inl, inr, length-set, cases_lt, cases_eq, length-replicate, pages_of, with_segment, Row, identifier, entry_at, with_row, without_row, at_set, at_set_other, at_row, at_row_other, with_row-few, free_found, identifier-mod, with_segment-flat, flat_table-make, Held, bytes_of, held_bytes, is_held, with_zeros, without, find-without_same, find-without_other, find-zeros_same, find-zeros_other, Head, segment_of, whole, joined_table, Agree, nat_tests, common_steps, replicate, is_some, option_map, slice_set, Entry, free_index, live_row}
 use Rattle.shm_segments.proofs.Joins.{at-live, set-joined, same-held}
 
 -- the identifier that an index has
@@ -27,7 +27,7 @@ joined-without hs rows i few small =
     let own : id % 32768 ≡ i = identifier-mod i (entry_at rows i).destroyed small in
     sym
     (set-joined hs (without hs id) rows i (record { destroyed = (entry_at rows i).destroyed + 1; row = None }) few
-    (λ at other. ap bytes_in (find-without_other hs id at (λ is. other (ap (λ n. n % 32768) is ∙ own)))))
+    (λ at other. ap held_bytes (find-without_other hs id at (λ is. other (ap (λ n. n % 32768) is ∙ own)))))
 
 -- nothing is live then at its index
 pub live-without_here : (rows : List (Entry Head)) (i at : ℕ) → i < length rows → at % 32768 ≡ i → live_row (without_row rows i) at ≡ None
@@ -83,7 +83,7 @@ joined-with_row hs rows i key pages v agree free =
     row = record { key = key; value = v }
 
     bytes : bytes_of gs id ≡ replicate (4096 * pages) 0
-    bytes = ap bytes_in (find-zeros_same hs id pages (free-new hs rows i agree free))
+    bytes = ap held_bytes (find-zeros_same hs id pages (free-new hs rows i agree free))
 
     same : joined_table gs rows ≡ joined_table hs rows
     same = grind (arith, common_steps, flat_table-make, gs, find-zeros_other, id, id_of, identifier-mod, agree.few, free.small, free.none)

@@ -25,6 +25,21 @@ segment_of r bytes =
       bytes = bytes;
     }
 
+-- what a head has of a segment: all but its key and its bytes
+abbrev pub head_of : Segment → Head
+head_of x =
+    record {
+      perm = x.perm;
+      size = x.size;
+      cpid = x.cpid;
+      lpid = x.lpid;
+      dest = x.dest;
+      locked = x.locked;
+      atime = x.atime;
+      dtime = x.dtime;
+      ctime = x.ctime;
+    }
+
 -- the segment of a row, with the bytes that are held under its identifier
 abbrev pub whole : List Held → ℕ → Row Head → Segment
 whole hs id r = segment_of r (bytes_of hs id)

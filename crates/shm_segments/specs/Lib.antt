@@ -1,6 +1,6 @@
 pub mod Joined
 pub mod Table
-pub mod Kept
+pub mod Sound
 pub mod Orphan
 pub mod View
 pub mod Lends

@@ -86,5 +86,5 @@ abbrev pub number_at : List Entry → List Place → ℕ
 number_at table ps = from_le_bytes w64 (loaded table ps)
 
 -- the table with so much added to it, modulo 2^64, as the step's `xadd` leaves it
-abbrev pub added : List Entry → List Place → ℕ → List Entry
-added table ps more = stored table ps (to_le_bytes w64 ((number_at table ps + more) % 2 ^ 64))
+abbrev pub added_at : List Entry → List Place → ℕ → List Entry
+added_at table ps more = stored table ps (to_le_bytes w64 ((number_at table ps + more) % 2 ^ 64))

@@ -1,7 +1,7 @@
 -- What contracts see of the segments: the flat machine's table, and the memory that its bytes lie in.
 use Rattle.std.specs.Prelude.{ℕ, ◌≡◌, true, List, option_map, length}
 use Rattle.shm_base.specs.State.{Segment, Entry}
-use Rattle.shm_plain.specs.Held.{Held, find_held, is_locked}
+use Rattle.shm_plain.specs.Held.{Held, find_held, holds_locked}
 use Rattle.shm_slots.specs.Cause.{GoesOn}
 use Rattle.shm_fault.specs.Store.{StoreView, held}
 use Rattle.shm_fault.specs.Steps.{LockedPagesStay}
@@ -28,6 +28,6 @@ pub record IsTableExact (table : List Entry) (m : StoreView) : Type 0 where
 -- what each step but a lock keeps of the memory
 pub record KeepsMemory (before after : StoreView) : Type 0 where
   pub kept : LockedPagesStay before after
-  pub locks : (id : ℕ) → is_locked (held after) id ≡ true → is_locked (held before) id ≡ true
+  pub locks : (id : ℕ) → holds_locked (held after) id ≡ true → holds_locked (held before) id ≡ true
   pub goes_on : GoesOn before.swap after.swap
   pub frames : length after.frames ≡ length before.frames

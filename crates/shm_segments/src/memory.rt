@@ -9,7 +9,7 @@ ghost use Rattle.shm_slots.specs.Cause.{had_cause};
 ghost use Rattle.shm_fault.specs.Store.{Still};
 ghost use Rattle.shm_fault.specs.Access.{Accessed, NameFrames, IsUntouched, answer_of};
 ghost use Rattle.shm_fault.specs.Flushing.{IsFlushed};
-ghost use Rattle.shm_segments.specs.Table.{SpanFits, number_at, added};
+ghost use Rattle.shm_segments.specs.Table.{SpanFits, number_at, added_at};
 ghost use Rattle.shm_segments.specs.View.{IsTableExact, KeepsMemory};
 
 use crate::segments::Segments;
@@ -80,7 +80,7 @@ impl<P: Pager> Segments<P> {
         requires frames { NameFrames self.old.memory spans.now }
         requires none { IsUntouched touched.old }
         ensures number { OnOk result (old.new ≡ number_at self.old.table (span_places false spans.now)) }
-        ensures written { OnOk result (self.new.table ≡ added self.old.table (span_places false spans.now) more) }
+        ensures written { OnOk result (self.new.table ≡ added_at self.old.table (span_places false spans.now) more) }
         ensures same { OnErr result (self.new.table ≡ self.old.table) }
         ensures access { Accessed spans.now self.old.memory self.new.memory (answer_of touched.new result) }
         ensures keeps { KeepsMemory self.old.memory self.new.memory }

@@ -44,7 +44,7 @@ impl<P: Pager> Drop for Segments<P> {
 impl<P: Pager> Model for Segments<P> {
     ghost use Rattle.shm_fault.specs.Store.{held};
     ghost use Rattle.shm_segments.specs.Joined.{joined_table};
-    ghost use Rattle.shm_segments.specs.Kept.{IsWhole};
+    ghost use Rattle.shm_segments.specs.Sound.{IsWhole};
     ghost use Rattle.shm_segments.specs.View.{SegmentsView};
 
     ghost Value = { SegmentsView };

@@ -20,8 +20,8 @@ module _ {X : Type 0} where
   abbrev pub used_count : List (Option X) → ℕ
   used_count owners = count_by is_some owners
 
-  -- what is kept beside the owners: a bound below which none is free, and how many are owned
-  pub record AreOwnersKept (owners : List (Option X)) (first_free used : ℕ) : Type 0 where
+  -- what stands beside the owners: a bound below which none is free, and how many are owned
+  pub record AreOwnersSound (owners : List (Option X)) (first_free used : ℕ) : Type 0 where
     pub bound : first_free ≤ length owners
     pub used_below : UsedBelow first_free owners
     pub counted : used ≡ used_count owners

@@ -1,7 +1,7 @@
 //! One swap area: its pager while that is there, and who owns each slot.
 ghost use Rattle.std.specs.Prelude.{◌≡◌, ◌<◌, ◌≤◌, [], length, get_or, Some, None, IfOk, IfErr};
 ghost use Rattle.shm_pager.specs.Pages.{pager_seen, SlotUnknown};
-ghost use Rattle.shm_slots.specs.Owners.{IsLeastFree, FoundLeast};
+ghost use Rattle.shm_slots.specs.Owners.{IsLeastFree};
 
 use crate::owners::Owners;
 use shm_base::{PAGE_BYTES, PageRef};
@@ -53,7 +53,7 @@ impl<P: Pager> Model for Area<P> {
 }
 
 impl<P: Pager> Area<P> {
-    ghost use Rattle.shm_slots.specs.View.{with_page, with_owner, AfterReadFault, AfterWriteFault, is_spent, rise, off, fresh, size_of, used_in, IsArea};
+    ghost use Rattle.shm_slots.specs.View.{with_page, with_owner, AfterReadFault, AfterWriteFault, is_spent, rise, off, fresh, size_of, IsArea};
 
     /// An area with no slot owned.
     pub(crate) fn new(alloc: Global, pager: P) -> Result<Area<P>, AllocError>
@@ -102,33 +102,11 @@ impl<P: Pager> Area<P> {
         Some(self.pager.as_ref()?.slots())
     }
 
-    /// How many slots are owned.
-    pub(crate) fn used(&self) -> u32
-        ensures { result ≡ used_in self.now }
-    {
-        self.owners.used()
-    }
-
-    /// Who owns a slot.
-    pub(crate) fn owner(&self, slot: u32) -> Option<PageRef>
-        requires { slot < length self.now.owners }
-        ensures { result ≡ get_or self.now.owners slot None }
-    {
-        self.owners.get(slot)
-    }
-
-    /// Who owns the slots, by rising number.
-    pub(crate) fn owners(&self) -> &[Option<PageRef>]
+    /// Who owns each slot.
+    pub(crate) fn owners(&self) -> &Owners
         ensures { result.now ≡ self.now.owners }
     {
-        self.owners.as_slice()
-    }
-
-    /// The least slot that nobody owns.
-    pub(crate) fn least_free(&self) -> Option<u32>
-        ensures { FoundLeast self.now.owners result }
-    {
-        self.owners.least_free()
+        &self.owners
     }
 
     /// Gives the least free slot an owner.

@@ -27,13 +27,13 @@ impl Drop for Owners {
 impl Model for Owners {
     ghost use Rattle.std.specs.Prelude.{◌<◌, ◌^◌, List, Option, length};
     ghost use Rattle.shm_base.specs.declared.paging.PageRef.{PageRef};
-    ghost use Rattle.shm_slots.specs.Owners.{AreOwnersKept};
+    ghost use Rattle.shm_slots.specs.Owners.{AreOwnersSound};
 
     ghost Value = { List (Option PageRef) };
 
     ghost view = { λ o. o.slots.items };
 
-    ghost invariant = { λ o. (length o.slots.items < 2 ^ 32) × AreOwnersKept o.slots.items o.first_free o.used };
+    ghost invariant = { λ o. (length o.slots.items < 2 ^ 32) × AreOwnersSound o.slots.items o.first_free o.used };
 }
 
 // The least free slot, where none below the first is free.

@@ -73,7 +73,7 @@ impl<P: Pager> Swap<P> {
     {
         let mut total: u64 = 0;
         for area in &self.areas {
-            total += u64::from(area.used());
+            total += u64::from(area.owners().used());
         }
         total
     }
@@ -97,7 +97,7 @@ impl<P: Pager> Swap<P> {
         ensures { result.now ≡ (area_at self.now area).owners }
     {
         match self.areas.get(area as usize) {
-            Some(area) => area.owners(),
+            Some(area) => area.owners().as_slice(),
             None => &[],
         }
     }
@@ -130,7 +130,7 @@ impl<P: Pager> Swap<P> {
         requires { HasSlot self.now slot.area slot.slot }
         ensures { result ≡ owner_of self.now slot.area slot.slot }
     {
-        self.areas[slot.area as usize].owner(slot.slot)
+        self.areas[slot.area as usize].owners().get(slot.slot)
     }
 
     /// Gives the least free slot of the lowest-numbered area that has one an owner. None only where all
@@ -178,7 +178,7 @@ impl<P: Pager> Swap<P> {
             if left_out == Some(area) {
                 continue;
             }
-            if let Some(slot) = self.areas[i].least_free() {
+            if let Some(slot) = self.areas[i].owners().least_free() {
                 return Some(Slot { area, slot });
             }
         }

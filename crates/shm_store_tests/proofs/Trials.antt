@@ -1,5 +1,5 @@
 -- What the tests know of the stores that they make.
-use Rattle.shm_store_tests.proofs.Names.{◌≡◌, ℕ, zero, suc, ◌<◌, true, List, [], ◌∷◌, length, get_or, map, replicate, Option, Some, None, refl, sym, ap, ◌∙◌, arith, All, common_steps, PageRef, Span, PagerView, Held, FitsPage, find_held, pages_held, written, with_zeros, AreHeldApart, AreaView, SwapView, fresh, new_swap, owner_of, size_of, Frame, fresh_store, row_of, row_pages, pages_all, three_pages}
+use Rattle.shm_store_tests.proofs.Names.{◌≡◌, ℕ, zero, suc, ◌<◌, true, List, [], ◌∷◌, length, get_or, map, replicate, Option, Some, None, refl, sym, ap, ◌∙◌, arith, All, common_steps, PageRef, Span, PagerView, Held, FitsPage, find_held, pages_in_store, written, with_zeros, AreHeldApart, AreaView, SwapView, fresh, new_swap, owner_of, size_of, Frame, fresh_store, row_of, row_pages, pages_all, three_pages}
 use Rattle.shm_fault.specs.Store.{held}
 use Rattle.shm_store_tests.proofs.Rows.{row_pages-is, told-some, all-is, rows-zeros, rows-written}
 
@@ -35,7 +35,7 @@ one-apart (g ∷ h ∷ hs) e = let more : length (map row_of (g ∷ h ∷ hs)) �
 pub three_pages-written : (hs : List Held) (p : Span) (new : List ℕ) → map row_of hs ≡ three_pages → FitsPage hs p → map row_of (written hs (p ∷ []) new) ≡ three_pages
 three_pages-written hs p new e fit = (rows-written (p ∷ []) hs new (one-apart hs e) (all-one (FitsPage hs) p fit)).0 ∙ e
 
-pub three_pages-held : (hs : List Held) → map row_of hs ≡ three_pages → pages_held hs ≡ 3
+pub three_pages-held : (hs : List Held) → map row_of hs ≡ three_pages → pages_in_store hs ≡ 3
 three_pages-held hs e = sym (all-is hs) ∙ ap pages_all e
 
 pub three_pages-fit : (hs : List Held) (p : Span) → map row_of hs ≡ three_pages → p.seg ≡ 0 → p.at < 12288 → p.len ≡ 1 → FitsPage hs p

@@ -42,7 +42,7 @@ pieces_text ps = flat_map piece_line ps
 -- a process that is not live was not born yet, or has ended
 abbrev pub idle_text : Option ℕ → List ℕ
 idle_text None = codes " ended\n"
-idle_text (Some place) = codes " unborn\n"
+idle_text (Some index) = codes " unborn\n"
 
 abbrev pub process_by : ℕ → Option ℕ → Option Caller → List ℕ
 process_by pid unborn None = codes "process " ++ (decimal pid ++ idle_text unborn)

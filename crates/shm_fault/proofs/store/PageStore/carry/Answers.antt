@@ -19,7 +19,7 @@ kept : (g : given.Over) (c : After-set_page g) → Keeps (seen c.self.inside) (r
 kept g c =
     let e = c.relocate.ensures in
     rw c.set_page.ensures
-    (keeps-carried (seen c.self.inside) c.self.invariant c.args.page c.args.slot c.in-Ok.to c.relocate.new.swap (rw (← c.self.view_is) at c.requires.place) c.in-Ok.ensures.ok e.sound e.sizes e.goes_on)
+    (keeps-carried (seen c.self.inside) c.self.invariant c.args.page c.args.slot c.in_ok-to.to c.relocate.new.swap (rw (← c.self.view_is) at c.requires.place) c.in_ok-to.ensures.ok e.sound e.sizes e.goes_on)
 
 own : (g : given.Over) (c : After-self g) → HasSlot c.self.inside.swap c.args.slot.area c.args.slot.slot × (owner_of c.self.inside.swap c.args.slot.area c.args.slot.slot ≡ Some c.args.page)
 own g c = slot-own (seen c.self.inside) c.self.invariant c.args.page c.args.slot (ap (λ (p : PageRec). p.slot) (place g c))
@@ -40,34 +40,34 @@ relocate-requires-clause-room g c =
 pub set_page-requires : goal.set_page-requires
 set_page-requires g c = has g (goal.at.set_page-requires g c).After-self
 
-pub invariant_of-self : goal.invariant_of-self
-invariant_of-self g c = (kept g c).sound
+pub invariant_of-self-2 : goal.invariant_of-self-2
+invariant_of-self-2 g c = (kept g c).sound
 
-pub returns-in-Ok-clause-goes : goal.returns-in-Ok-clause-goes
-returns-in-Ok-clause-goes g c = rw (← c.self.view_is) (kept g c).goes
+pub returns-clause-goes : goal.returns-clause-goes
+returns-clause-goes g c = rw (← c.self.view_is) (kept g c).goes
 
-pub returns-in-Ok-clause-still : goal.returns-in-Ok-clause-still
-returns-in-Ok-clause-still g c =
-    let o = (goal.at.returns-in-Ok-clause-still g c).After-self in
+pub returns-clause-still : goal.returns-clause-still
+returns-clause-still g c =
+    let o = (goal.at.returns-clause-still g c).After-self in
     let s = seen c.self.inside in
-    let new : PageRec = record { frame = None; slot = Some c.in-Ok.to } in
+    let new : PageRec = record { frame = None; slot = Some c.in_ok-to.to } in
     rw (c.set_page.ensures, ← c.self.view_is) (by-still s (record s { segs = with_rec s.segs c.args.page new; swap = c.relocate.new.swap }) (still-with s.segs c.args.page new (has g o) (sym (ap (λ (p : PageRec). p.frame) (place g o)))))
 
-pub returns-in-Ok-clause-cleared : goal.returns-in-Ok-clause-cleared
-returns-in-Ok-clause-cleared g c = rw (← c.self.view_is) (cleared-relocated c.args.page c.args.slot c.in-Ok.to c.self.inside.swap c.relocate.new.swap c.in-Ok.ensures.ok)
+pub returns-clause-cleared : goal.returns-clause-cleared
+returns-clause-cleared g c = rw (← c.self.view_is) (cleared-relocated c.args.page c.args.slot c.in_ok-to.to c.self.inside.swap c.relocate.new.swap c.in_ok-to.ensures.ok)
 
-pub returns-in-Ok-clause-sound : goal.returns-in-Ok-clause-sound
-returns-in-Ok-clause-sound g c = (kept g c).sound
+pub returns-clause-sound : goal.returns-clause-sound
+returns-clause-sound g c = (kept g c).sound
 
-pub invariant_of-self-in-Err : goal.invariant_of-self-in-Err
-invariant_of-self-in-Err g c = (failed g (goal.at.invariant_of-self-in-Err g c).After-relocate c.in-Err.ensures.err).sound
+pub invariant_of-self : goal.invariant_of-self
+invariant_of-self g c = (failed g (goal.at.invariant_of-self g c).After-relocate c.in_err-to.ensures.err).sound
 
-pub returns-in-Err-clause-goes : goal.returns-in-Err-clause-goes
-returns-in-Err-clause-goes g c = rw (← c.self.view_is) (failed g (goal.at.returns-in-Err-clause-goes g c).After-relocate c.in-Err.ensures.err).goes
+pub returns-in_err-to-clause-goes : goal.returns-in_err-to-clause-goes
+returns-in_err-to-clause-goes g c = rw (← c.self.view_is) (failed g (goal.at.returns-in_err-to-clause-goes g c).After-relocate c.in_err-to.ensures.err).goes
 
-pub returns-in-Err-clause-sound : goal.returns-in-Err-clause-sound
-returns-in-Err-clause-sound g c = (failed g (goal.at.returns-in-Err-clause-sound g c).After-relocate c.in-Err.ensures.err).sound
+pub returns-in_err-to-clause-sound : goal.returns-in_err-to-clause-sound
+returns-in_err-to-clause-sound g c = (failed g (goal.at.returns-in_err-to-clause-sound g c).After-relocate c.in_err-to.ensures.err).sound
 
-pub returns-in-Err-clause-still : goal.returns-in-Err-clause-still
+pub returns-in_err-to-clause-still : goal.returns-in_err-to-clause-still
 unfolding frame_of
-returns-in-Err-clause-still g c = rw (← c.self.view_is) (λ seg page. refl)
+returns-in_err-to-clause-still g c = rw (← c.self.view_is) (λ seg page. refl)

@@ -1,3 +1,4 @@
+use Rattle.std.proofs.lemmas.Result.{MatchResult-from_err}
 use Rattle.shm_fault.proofs.Names.{◌≡◌, ◌∙◌, ℕ, Bool, true, false, List, set, sym, set-get_or, Frame, no_frame, frame_at}
 use Rattle.shm_fault.proofs.store.PageStore.clean.Goals as goal
 
@@ -11,8 +12,6 @@ returns-then-not-is_dirty-clause-ok g c = rw (← c.self.view_is) (sym (dirty-sa
 pub page_out-requires-clause-dirty : goal.page_out-requires-clause-dirty
 page_out-requires-clause-dirty g c = rw (← c.self.view_is) (sym c.is_dirty.ensures ∙ c.if-not-is_dirty.false)
 
-pub returns-in-Ok-clause-ok : goal.returns-in-Ok-clause-ok
-returns-in-Ok-clause-ok g c = c.in-Ok.ensures.frames
-
-pub returns-in-Err-clause-err : goal.returns-in-Err-clause-err
-returns-in-Err-clause-err g c = c.in-Err.ensures.frames ∙ dirty-same c.args.self.now.frames c.args.frame true (rw (← c.self.view_is) (sym c.is_dirty.ensures ∙ c.if-not-is_dirty.false))
+pub returns-in_err-page_out-clause-err : goal.returns-in_err-page_out-clause-err
+returns-in_err-page_out-clause-err g c =
+    MatchResult-from_err _ _ _ c.from_residual.ensures.0 λ _. c.in_err-page_out.ensures.frames ∙ dirty-same c.args.self.now.frames c.args.frame true (rw (← c.self.view_is) (sym c.is_dirty.ensures ∙ c.if-not-is_dirty.false))

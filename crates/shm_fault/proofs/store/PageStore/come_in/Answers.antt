@@ -15,12 +15,12 @@ load-requires-clause-slot g c =
     rw (c.page-slot.ensures, ← c.self.view_is)
     (slot_there (seen c.self.inside) c.args.page (λ k e. (slot-own (seen c.self.inside) c.self.invariant c.args.page k e).0) (rec_by c.self.inside.segs c.args.page).slot refl)
 
-pub returns-in-Ok-clause-visits : goal.returns-in-Ok-clause-visits
-returns-in-Ok-clause-visits g c = λ pinned.
+pub returns-clause-visits : goal.returns-clause-visits
+returns-clause-visits g c = λ pinned.
     Visits-trans c.args.page pinned c.args.self.now c.load.new.self c.settle.new.self (c.load.ensures.visits c.args.page pinned) (c.settle.ensures.visits pinned)
 
-pub returns-in-Ok-clause-moves : goal.returns-in-Ok-clause-moves
-returns-in-Ok-clause-moves g c =
+pub returns-clause-moves : goal.returns-clause-moves
+returns-clause-moves g c =
     let ms = c.args.touched.now.moved.items in
     let still = by-still _ _ λ (r : PageRef). ap (λ (v : StoreView). (rec_by v.segs r).frame) c.load.ensures.rest in
     rw c.push.ensures.items
@@ -28,17 +28,17 @@ returns-in-Ok-clause-moves g c =
     (moves-still ms c.args.self.now c.load.new.self still)
     (moves-more ms (Came c.args.page c.args.frame) c.load.new.self c.settle.new.self c.settle.ensures.came))
 
-pub returns-in-Err-clause-visits : goal.returns-in-Err-clause-visits
-returns-in-Err-clause-visits g c = λ pinned. c.load.ensures.visits c.args.page pinned
+pub returns-in_err-load-clause-visits : goal.returns-in_err-load-clause-visits
+returns-in_err-load-clause-visits g c = λ pinned. c.load.ensures.visits c.args.page pinned
 
-pub returns-in-Err-clause-moves : goal.returns-in-Err-clause-moves
-returns-in-Err-clause-moves g c =
+pub returns-in_err-load-clause-moves : goal.returns-in_err-load-clause-moves
+returns-in_err-load-clause-moves g c =
     moves-still c.args.touched.now.moved.items c.args.self.now c.load.new.self (by-still _ _ λ (r : PageRef). ap (λ (v : StoreView). (rec_by v.segs r).frame) c.load.ensures.rest)
 
-pub returns-in-Ok-clause-counts : goal.returns-in-Ok-clause-counts
-returns-in-Ok-clause-counts g c =
+pub returns-clause-counts : goal.returns-clause-counts
+returns-clause-counts g c =
     counts-more c.args.touched.now _ c.args.self.now c.settle.new.self (one_if (is_some c.page-slot.result.slot)) 0
-    (ap (λ n. c.args.touched.now.ins + n) (c.from.ensures ∙ byte-one _ ∙ ap one_if c.is_some.ensures)) (ap (λ (v : StoreView). v.ins) c.settle.ensures.rest ∙ c.in-Ok.ensures.ins)
+    (ap (λ n. c.args.touched.now.ins + n) (c.from.ensures ∙ byte-one _ ∙ ap one_if c.is_some.ensures)) (ap (λ (v : StoreView). v.ins) c.settle.ensures.rest ∙ c.in_ok-load.ensures.ins)
     (omega arith) (ap (λ (v : StoreView). v.outs) c.settle.ensures.rest ∙ ap (λ (v : StoreView). v.outs) c.load.ensures.rest)
 
 pub settle-requires-clause-there : goal.settle-requires-clause-there
@@ -54,7 +54,7 @@ pub settle-requires-clause-slot : goal.settle-requires-clause-slot
 settle-requires-clause-slot g c = rw (ap (λ (v : StoreView). v.segs) c.load.ensures.rest, c.page-slot.ensures, ← c.self.view_is) refl
 
 pub settle-requires-clause-bytes : goal.settle-requires-clause-bytes
-settle-requires-clause-bytes g c = rw (c.in-Ok.ensures.bytes, c.in-Ok.ensures.swap) refl
+settle-requires-clause-bytes g c = rw (c.in_ok-load.ensures.bytes, c.in_ok-load.ensures.swap) refl
 
-pub returns-in-Ok-clause-hand : goal.returns-in-Ok-clause-hand
-returns-in-Ok-clause-hand g c = ap (λ (v : StoreView). v.hand) c.settle.ensures.rest ∙ ap (λ (v : StoreView). v.hand) c.load.ensures.rest
+pub returns-clause-hand : goal.returns-clause-hand
+returns-clause-hand g c = ap (λ (v : StoreView). v.hand) c.settle.ensures.rest ∙ ap (λ (v : StoreView). v.hand) c.load.ensures.rest

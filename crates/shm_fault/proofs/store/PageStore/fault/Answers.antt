@@ -1,4 +1,5 @@
-use Rattle.shm_fault.proofs.Names.{◌≡◌, ap, ◌∙◌, arith, false, is_ok, None, PageRec, rec_by, Visited, Visits, MovesOn}
+use Rattle.std.proofs.lemmas.Result.{err_from_is_err_and}
+use Rattle.shm_fault.proofs.Names.{ap, ◌∙◌, arith, false, is_ok, None, PageRec, Visited, Visits, MovesOn}
 use Rattle.shm_fault.proofs.Pages.{has-same}
 use Rattle.shm_fault.proofs.Sound.{cause-after}
 use Rattle.shm_fault.proofs.Failures.{OnErr-map}
@@ -7,11 +8,7 @@ use Rattle.shm_fault.proofs.Visiting.{visited-fault}
 use Rattle.shm_fault.proofs.Visits.{Visits-trans, moves-trans, visits-away}
 use Rattle.shm_fault.proofs.store.PageStore.fault.Given as given
 use Rattle.shm_fault.proofs.store.PageStore.fault.Goals as goal
-use Rattle.shm_fault.proofs.store.PageStore.fault.Goals.{After-take_frame, After-come_in}
-
--- the page is where it was once a frame was taken
-away : (g : given.Over) (c : After-take_frame g) → rec_by c.take_frame.new.self.segs c.args.page ≡ rec_by c.args.self.now.segs c.args.page
-away g c = visits-away c.args.pinned c.args.self.now c.take_frame.new.self c.take_frame.ensures.visits c.args.page c.requires.away
+use Rattle.shm_fault.proofs.store.PageStore.fault.Goals.{After-come_in}
 
 visits : (g : given.Over) (c : After-come_in g) → Visits c.args.page c.args.pinned c.args.self.now c.come_in.new.self
 visits g c = Visits-trans c.args.page c.args.pinned c.args.self.now c.take_frame.new.self c.come_in.new.self (c.take_frame.ensures.visits c.args.page) (c.come_in.ensures.visits c.args.pinned)
@@ -25,7 +22,8 @@ come_in-requires-clause-has g c =
     has-same c.args.self.now.segs c.take_frame.new.self.segs c.args.page (c.take_frame.ensures.visits c.args.page).goes.shape c.requires.has
 
 pub come_in-requires-clause-away : goal.come_in-requires-clause-away
-come_in-requires-clause-away g c = ap (λ (p : PageRec). p.frame) (away g (goal.at.come_in-requires-clause-away g c).After-take_frame) ∙ c.requires.away
+come_in-requires-clause-away g c =
+    ap (λ (p : PageRec). p.frame) (visits-away c.args.pinned c.args.self.now c.take_frame.new.self c.take_frame.ensures.visits c.args.page c.requires.away) ∙ c.requires.away
 
 -- what both steps leave, also where the second failed
 visited : (g : given.Over) (c : After-come_in g)
@@ -40,14 +38,16 @@ visited g c =
     (record { ins = λ n e. came.counts.ins n (took.counts.ins n e); outs = λ n e. came.counts.outs n (took.counts.outs n e) })
     (came.hand ∙ took.hand) (err_of c.come_in.result _ cause)
 
-pub returns-in-Ok-come_in-clause-visited : goal.returns-in-Ok-come_in-clause-visited
-returns-in-Ok-come_in-clause-visited g c = rw c.in-Ok-come_in.is at (visited g (goal.at.returns-in-Ok-come_in-clause-visited g c).After-come_in)
+pub returns-clause-visited : goal.returns-clause-visited
+returns-clause-visited g c = rw c.in_ok-come_in.was at (visited g (goal.at.returns-clause-visited g c).After-come_in)
 
-pub returns-in-Err-come_in-clause-visited : goal.returns-in-Err-come_in-clause-visited
-returns-in-Err-come_in-clause-visited g c = rw c.in-Err-come_in.is at (visited g (goal.at.returns-in-Err-come_in-clause-visited g c).After-come_in)
+pub returns-in_err-come_in-clause-visited : goal.returns-in_err-come_in-clause-visited
+returns-in_err-come_in-clause-visited g c =
+    rw (err_from_is_err_and c.from_residual-in_err-come_in.result c.from_residual-in_err-come_in.ensures.1).1 (rw c.in_err-come_in.was at (visited g (goal.at.returns-in_err-come_in-clause-visited g c).After-come_in))
 
-pub returns-in-Err-clause-visited : goal.returns-in-Err-clause-visited
-returns-in-Err-clause-visited g c =
+pub returns-in_err-frame-clause-visited : goal.returns-in_err-frame-clause-visited
+returns-in_err-frame-clause-visited g c =
     let took = c.take_frame.ensures in
-    visited-fault c.args.page c.args.pinned c.args.self.now c.take_frame.new.self c.args.touched.now c.take_frame.new.touched false c.requires.away (took.visits c.args.page) took.moves
-    (omega (arith, took.few)) (omega (arith, took.ins)) took.outs took.counts took.hand (λ e. c.in-Err.ensures.cause)
+    rw (err_from_is_err_and c.from_residual.result c.from_residual.ensures.1).1
+    (visited-fault c.args.page c.args.pinned c.args.self.now c.take_frame.new.self c.args.touched.now c.take_frame.new.touched false c.requires.away (took.visits c.args.page) took.moves
+    (omega (arith, took.few)) (omega (arith, took.ins)) took.outs took.counts took.hand (λ e. c.in_err-frame.ensures.cause))

@@ -13,15 +13,15 @@ step g c ins =
     rw e.frames
     (step-load (seen c.self.inside) c.self.invariant c.args.frame bytes (rw (← c.self.view_is) at c.requires.free) c.fill_from.new.swap ins e.kept (e.sound c.self.invariant.swap) e.sizes e.goes_on)
 
+pub invariant_of-self-2 : goal.invariant_of-self-2
+invariant_of-self-2 g c = (step g (goal.at.invariant_of-self-2 g c).After-fill_from c.saturating_add-self-inside.result).sound
+
 pub invariant_of-self : goal.invariant_of-self
-invariant_of-self g c = (step g (goal.at.invariant_of-self g c).After-fill_from c.saturating_add-self-inside.result).sound
+invariant_of-self g c = (step g (goal.at.invariant_of-self g c).After-fill_from c.self.inside.ins).sound
 
-pub invariant_of-self-in-Err : goal.invariant_of-self-in-Err
-invariant_of-self-in-Err g c = (step g (goal.at.invariant_of-self-in-Err g c).After-fill_from c.self.inside.ins).sound
+pub returns-clause-visits : goal.returns-clause-visits
+returns-clause-visits g c =
+    rw (← c.self.view_is) (step g (goal.at.returns-clause-visits g c).After-fill_from c.saturating_add-self-inside.result).visits
 
-pub returns-in-Ok-clause-visits : goal.returns-in-Ok-clause-visits
-returns-in-Ok-clause-visits g c =
-    rw (← c.self.view_is) (step g (goal.at.returns-in-Ok-clause-visits g c).After-fill_from c.saturating_add-self-inside.result).visits
-
-pub returns-in-Err-clause-visits : goal.returns-in-Err-clause-visits
-returns-in-Err-clause-visits g c = rw (← c.self.view_is) (step g (goal.at.returns-in-Err-clause-visits g c).After-fill_from c.self.inside.ins).visits
+pub returns-in_err-fill_from-clause-visits : goal.returns-in_err-fill_from-clause-visits
+returns-in_err-fill_from-clause-visits g c = rw (← c.self.view_is) (step g (goal.at.returns-in_err-fill_from-clause-visits g c).After-fill_from c.self.inside.ins).visits

@@ -5,28 +5,28 @@ use Rattle.shm_fault.proofs.Visits.{moves-more, moves-still}
 use Rattle.shm_fault.proofs.Counting.{byte-one, counts-still, counts-more}
 use Rattle.shm_fault.proofs.store.PageStore.take_frame.Goals as goal
 
-pub returns-in-Ok-clause-visits : goal.returns-in-Ok-clause-visits
-returns-in-Ok-clause-visits g c = λ r. rw (← c.self.view_is) (rw c.free_frame.ensures.same at (c.evict.ensures.visits r))
+pub returns-clause-visits : goal.returns-clause-visits
+returns-clause-visits g c = λ r. rw (← c.self.view_is) (rw c.free_frame.ensures.same at (c.evict.ensures.visits r))
 
-pub returns-in-Err-clause-visits : goal.returns-in-Err-clause-visits
-returns-in-Err-clause-visits g c = λ r. rw (← c.self.view_is) (rw c.free_frame.ensures.same at (c.evict.ensures.visits r))
+pub returns-in_err-evicted-clause-visits : goal.returns-in_err-evicted-clause-visits
+returns-in_err-evicted-clause-visits g c = λ r. rw (← c.self.view_is) (rw c.free_frame.ensures.same at (c.evict.ensures.visits r))
 
-pub returns-in-Ok-clause-moves : goal.returns-in-Ok-clause-moves
-returns-in-Ok-clause-moves g c =
-    rw (c.push.ensures.items, ← c.self.view_is) (moves-more c.args.touched.now.moved.items (Gone c.in-Ok.evicted.page) (seen c.self.inside) c.evict.new.self c.in-Ok.ensures.gone)
+pub returns-clause-moves : goal.returns-clause-moves
+returns-clause-moves g c =
+    rw (c.push.ensures.items, ← c.self.view_is) (moves-more c.args.touched.now.moved.items (Gone c.in_ok-evicted.evicted.page) (seen c.self.inside) c.evict.new.self c.in_ok-evicted.ensures.gone)
 
-pub returns-in-Err-clause-moves : goal.returns-in-Err-clause-moves
+pub returns-in_err-evicted-clause-moves : goal.returns-in_err-evicted-clause-moves
 unfolding frame_of
-returns-in-Err-clause-moves g c =
-    rw (← c.self.view_is) (moves-still c.args.touched.now.moved.items (seen c.self.inside) c.evict.new.self c.in-Err.ensures.err)
+returns-in_err-evicted-clause-moves g c =
+    rw (← c.self.view_is) (moves-still c.args.touched.now.moved.items (seen c.self.inside) c.evict.new.self c.in_err-evicted.ensures.err)
 
-pub returns-in-Ok-clause-counts : goal.returns-in-Ok-clause-counts
-returns-in-Ok-clause-counts g c =
+pub returns-clause-counts : goal.returns-clause-counts
+returns-clause-counts g c =
     rw (← c.self.view_is)
-    (counts-more c.args.touched.now _ (seen c.self.inside) c.evict.new.self 0 (one_if c.in-Ok.evicted.written) (omega arith) c.evict.ensures.ins (ap (λ n. c.args.touched.now.outs + n) (c.from.ensures ∙ byte-one _)) c.in-Ok.ensures.outs)
+    (counts-more c.args.touched.now _ (seen c.self.inside) c.evict.new.self 0 (one_if c.in_ok-evicted.evicted.written) (omega arith) c.evict.ensures.ins (ap (λ n. c.args.touched.now.outs + n) (c.from.ensures ∙ byte-one _)) c.in_ok-evicted.ensures.outs)
 
 pub evict-requires : goal.evict-requires
-evict-requires g c = record { full = rw c.free_frame.ensures.same c.in-None.ensures.least }
+evict-requires g c = record { full = rw c.free_frame.ensures.same c.in_default.ensures.least }
 
 pub returns-in-Some-clause-moves : goal.returns-in-Some-clause-moves
 returns-in-Some-clause-moves g c = λ b m. rw (c.free_frame.ensures.same, c.self.view_is) m
@@ -37,11 +37,11 @@ returns-in-Some-clause-counts g c = rw (c.free_frame.ensures.same, c.self.view_i
 pub returns-in-Some-clause-hand : goal.returns-in-Some-clause-hand
 returns-in-Some-clause-hand g c = rw (← c.self.view_is, ← c.in-Some.ensures.value) refl
 
-pub returns-in-Ok-clause-hand : goal.returns-in-Ok-clause-hand
-returns-in-Ok-clause-hand g c = rw (← c.self.view_is, ← c.in-None.ensures.value) (rw c.free_frame.ensures.same at c.evict.ensures.hand)
+pub returns-clause-hand : goal.returns-clause-hand
+returns-clause-hand g c = rw (← c.self.view_is, ← c.in_default.ensures.value) (rw c.free_frame.ensures.same at c.evict.ensures.hand)
 
-pub returns-in-Err-clause-hand : goal.returns-in-Err-clause-hand
-returns-in-Err-clause-hand g c = rw (← c.self.view_is, ← c.in-None.ensures.value) (rw c.free_frame.ensures.same at c.evict.ensures.hand)
+pub returns-in_err-evicted-clause-hand : goal.returns-in_err-evicted-clause-hand
+returns-in_err-evicted-clause-hand g c = rw (← c.self.view_is, ← c.in_default.ensures.value) (rw c.free_frame.ensures.same at c.evict.ensures.hand)
 
-pub returns-in-Err-clause-counts : goal.returns-in-Err-clause-counts
-returns-in-Err-clause-counts g c = rw (← c.self.view_is) (counts-still c.args.touched.now _ _ c.evict.ensures.ins c.in-Err.ensures.outs)
+pub returns-in_err-evicted-clause-counts : goal.returns-in_err-evicted-clause-counts
+returns-in_err-evicted-clause-counts g c = rw (← c.self.view_is) (counts-still c.args.touched.now _ _ c.evict.ensures.ins c.in_err-evicted.ensures.outs)

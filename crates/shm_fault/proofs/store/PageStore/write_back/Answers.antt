@@ -1,3 +1,4 @@
+use Rattle.std.proofs.lemmas.Result.{err_from_is_err_and}
 use Rattle.shm_fault.proofs.Names.{◌≡◌, ℕ, Some, true, false, set, refl, sym, arith, set-get_or, IsSome, PageRef, Slot, SwapView, IsSwap, HasSlot, sizes, area_at, with_slot_page, OneArea, AfterWriteFault, GoesOn, no_frame, frame_at, rec_by, StoreView, IsStoreSound, common_steps, nat_tests}
 use Rattle.shm_fault.proofs.Seen.{seen}
 use Rattle.shm_fault.proofs.Slots.{OnlySlot-page, OnlySlot-fault, owner-written, owner-fault, page-written}
@@ -5,7 +6,7 @@ use Rattle.shm_fault.proofs.Failures.{total-written, total-fault}
 use Rattle.shm_fault.proofs.Changes.{Own, own, Keeps, keeps-write}
 use Rattle.shm_fault.proofs.store.PageStore.write_back.Given as given
 use Rattle.shm_fault.proofs.store.PageStore.write_back.Goals as goal
-use Rattle.shm_fault.proofs.store.PageStore.write_back.Goals.{After-self, After-saturating_add-self-inside, In-Err}
+use Rattle.shm_fault.proofs.store.PageStore.write_back.Goals.{After-self, After-saturating_add-self-inside, After-from_residual}
 
 -- the swap with the frame's bytes in the slot
 abbrev written : StoreView → ℕ → Slot → SwapView
@@ -45,43 +46,42 @@ wrote : (g : given.Over) (c : After-saturating_add-self-inside g)
 wrote g c =
     let s = seen c.self.inside in
     let e = c.write_slot.ensures in
-    let u : c.write_slot.new.self ≡ written s c.args.frame c.args.slot = rw c.bytes.ensures.value at c.in-Ok.ensures.ok in
+    let u : c.write_slot.new.self ≡ written s c.args.frame c.args.slot = rw c.bytes.ensures.value at c.in_ok-write_slot.ensures.ok in
     rw (c.set_dirty.ensures, u)
     (done s c.self.invariant c.args.frame c.args.slot (rw (← c.self.view_is) at c.requires.owned) (rw (← c.self.view_is) at c.requires.slot)
     c.saturating_add-self-inside.result (rw u at e.sound) (rw u at e.sizes) (rw u at e.goes_on))
 
-unwritten : (g : given.Over) (c : In-Err g) → Keeps (seen c.self.inside) (record (seen c.self.inside) { swap = c.write_slot.new.self })
+unwritten : (g : given.Over) (c : After-from_residual g) → Keeps (seen c.self.inside) (record (seen c.self.inside) { swap = c.write_slot.new.self })
 unwritten g c =
     let e = c.write_slot.ensures in
     failed (seen c.self.inside) c.self.invariant c.args.frame c.args.slot (rw (← c.self.view_is) at c.requires.owned) (rw (← c.self.view_is) at c.requires.slot) c.write_slot.new.self
-    (rw (← c.self.view_is) at c.requires.dirty) e.others c.in-Err.ensures.err e.sound e.sizes e.goes_on
+    (rw (← c.self.view_is) at c.requires.dirty) e.others c.in_err-write_slot.ensures.err e.sound e.sizes e.goes_on
 
 pub write_slot-requires : goal.write_slot-requires
 write_slot-requires g c = there g (goal.at.write_slot-requires g c).After-self
 
+pub invariant_of-self-2 : goal.invariant_of-self-2
+invariant_of-self-2 g c = (wrote g (goal.at.invariant_of-self-2 g c).After-saturating_add-self-inside).sound
+
+pub returns-clause-sound : goal.returns-clause-sound
+returns-clause-sound g c = invariant_of-self-2 g c
+
+pub returns-clause-goes : goal.returns-clause-goes
+returns-clause-goes g c = rw (← c.self.view_is) (wrote g (goal.at.returns-clause-goes g c).After-saturating_add-self-inside).goes
+
+pub returns-clause-counted : goal.returns-clause-counted
+returns-clause-counted g c = grind (arith, nat_tests, common_steps, there, c.write_slot.new.self, c.self.inside.swap, c.in_ok-write_slot.ensures.ok, total-written, c.args.slot, c.self.view_is)
+
 pub invariant_of-self : goal.invariant_of-self
-invariant_of-self g c = (wrote g (goal.at.invariant_of-self g c).After-saturating_add-self-inside).sound
+invariant_of-self g c = (unwritten g c).sound
 
-pub returns-in-Ok-clause-sound : goal.returns-in-Ok-clause-sound
-returns-in-Ok-clause-sound g c = (wrote g (goal.at.returns-in-Ok-clause-sound g c).After-saturating_add-self-inside).sound
+pub returns-in_err-write_slot-clause-sound : goal.returns-in_err-write_slot-clause-sound
+returns-in_err-write_slot-clause-sound g c = (unwritten g c).sound
 
-pub returns-in-Ok-clause-goes : goal.returns-in-Ok-clause-goes
-returns-in-Ok-clause-goes g c = rw (← c.self.view_is) (wrote g (goal.at.returns-in-Ok-clause-goes g c).After-saturating_add-self-inside).goes
+pub returns-in_err-write_slot-clause-goes : goal.returns-in_err-write_slot-clause-goes
+returns-in_err-write_slot-clause-goes g c = rw (← c.self.view_is) (unwritten g c).goes
 
-pub returns-in-Ok-clause-counted : goal.returns-in-Ok-clause-counted
-returns-in-Ok-clause-counted g c = grind (arith, nat_tests, common_steps, there, c.write_slot.new.self, c.self.inside.swap, c.in-Ok.ensures.ok, total-written, c.args.slot, c.self.view_is)
-
-pub invariant_of-self-in-Err : goal.invariant_of-self-in-Err
-invariant_of-self-in-Err g c = (unwritten g c).sound
-
-pub returns-in-Err-clause-sound : goal.returns-in-Err-clause-sound
-returns-in-Err-clause-sound g c = (unwritten g c).sound
-
-pub returns-in-Err-clause-goes : goal.returns-in-Err-clause-goes
-returns-in-Err-clause-goes g c = rw (← c.self.view_is) (unwritten g c).goes
-
-pub returns-in-Err-clause-counted : goal.returns-in-Err-clause-counted
-returns-in-Err-clause-counted g c =
-    let at = there g (goal.at.returns-in-Err-clause-counted g c).After-self in
-    let e = c.write_slot.ensures in
-    λ unspent. rw (← c.self.view_is) (total-fault c.self.inside.swap c.write_slot.new.self c.args.slot c.self.invariant.swap at e.others c.in-Err.ensures.err unspent)
+pub returns-in_err-write_slot-clause-counted : goal.returns-in_err-write_slot-clause-counted
+returns-in_err-write_slot-clause-counted g c =
+    let at = there g (goal.at.returns-in_err-write_slot-clause-counted g c).After-self in
+    λ unspent. rw ((err_from_is_err_and c.from_residual.result c.from_residual.ensures.1).1, ← c.self.view_is) (total-fault c.self.inside.swap c.write_slot.new.self c.args.slot c.self.invariant.swap at c.write_slot.ensures.others c.in_err-write_slot.ensures.err unspent)

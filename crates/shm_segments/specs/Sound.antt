@@ -1,9 +1,9 @@
--- What is kept between heads, bytes and counts.
+-- What always holds between heads, bytes and counts.
 use Rattle.std.specs.Prelude.{◌≡◌, ◌≤◌, ℕ, List, Some}
 use Rattle.shm_ids.specs.declared.table.Entry.{Entry}
 use Rattle.shm_ids.specs.declared.table.Row.{Row}
 use Rattle.shm_plain.specs.Apart.{AreHeldApart}
-use Rattle.shm_plain.specs.Held.{Held, pages_held, pages_locked}
+use Rattle.shm_plain.specs.Held.{Held, pages_in_store, pages_locked}
 use Rattle.shm_fault.specs.Store.{StoreView, held}
 use Rattle.shm_fault.specs.Sound.{IsStoreSound}
 use Rattle.shm_segments.specs.declared.head.Head.{Head}
@@ -14,16 +14,16 @@ abbrev pub SizesFit : List (Entry Head) → Type 0
 SizesFit rows = (id : ℕ) (r : Row Head) → live_row rows id ≡ Some r → (1 ≤ r.value.size) × (r.value.size ≤ 16777216)
 
 -- heads and bytes are of the same segments, and their pages are counted
-pub record AreSegmentsKept (hs : List Held) (rows : List (Entry Head)) (pages locks : ℕ) : Type 0 where
+pub record AreSegmentsSound (hs : List Held) (rows : List (Entry Head)) (pages locks : ℕ) : Type 0 where
   pub agree : Agree hs rows
   pub sizes : SizesFit rows
   pub reserved : pages ≡ pages_of_rows rows
   pub locked : locks ≡ locked_of_rows rows
   pub apart : AreHeldApart hs
-  pub few_pages : pages_held hs ≤ pages
+  pub few_pages : pages_in_store hs ≤ pages
   pub few_locked : pages_locked hs ≤ locks
 
 -- so it is with what the memory holds, which is sound
 pub record IsWhole (m : StoreView) (rows : List (Entry Head)) (pages locks : ℕ) : Type 0 where
-  pub kept : AreSegmentsKept (held m) rows pages locks
+  pub kept : AreSegmentsSound (held m) rows pages locks
   pub sound : IsStoreSound m

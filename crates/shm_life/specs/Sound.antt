@@ -1,4 +1,4 @@
--- What is kept between a machine's limits, its segments and its pieces. Within a call the segments among `lost`
+-- What always holds between a machine's limits, its segments and its pieces. Within a call the segments among `lost`
 -- may be marked and without pieces.
 use Rattle.std.specs.Prelude.{ℕ, ◌≡◌, ◌≤◌, ◌+◌, List, [], length}
 use Rattle.shm_base.specs.Bounds.{Bounds}
@@ -9,7 +9,7 @@ use Rattle.shm_attach.specs.Spaces.{Translation, AreTrue}
 use Rattle.shm_life.specs.Tied.{PiecesFit}
 use Rattle.shm_life.specs.Orphans.{OrphansAmong}
 
-pub record IsKeptBut (lost : List ℕ) (limits : Bounds) (table : List Entry) (rs : List Runner) : Type 0 where
+pub record IsTableSoundBut (lost : List ℕ) (limits : Bounds) (table : List Entry) (rs : List Runner) : Type 0 where
   pub few : length table ≤ 32768
   pub reserved : reserved table ≤ limits.shmall
   pub shmall : limits.shmall ≤ 65536
@@ -21,14 +21,14 @@ pub record IsKeptBut (lost : List ℕ) (limits : Bounds) (table : List Entry) (r
 -- so it is, there are as many frames as the limits say, two more than may be locked, and each page of each
 -- piece is where its translation says
 pub record IsWellBut (lost : List ℕ) (limits : Bounds) (table : List Entry) (rs : List Runner) (ts : List Translation) (memory : StoreView) : Type 0 where
-  pub kept : IsKeptBut lost limits table rs
+  pub kept : IsTableSoundBut lost limits table rs
   pub frames : length memory.frames ≡ limits.frames
   pub room : limits.memlock + 2 ≤ limits.frames
   pub translated : AreTrue ts memory
 
 -- between calls no segment that is marked is left without pieces
-abbrev pub IsMachineKept : Bounds → List Entry → List Runner → Type 0
-IsMachineKept limits table rs = IsKeptBut [] limits table rs
+abbrev pub IsTableSound : Bounds → List Entry → List Runner → Type 0
+IsTableSound limits table rs = IsTableSoundBut [] limits table rs
 
 abbrev pub IsWell : Bounds → List Entry → List Runner → List Translation → StoreView → Type 0
 IsWell limits table rs ts memory = IsWellBut [] limits table rs ts memory
