@@ -1,9 +1,9 @@
 """The crates of the repository as crates.txt names them, and rooms in which one is worked on beside others. As a command
 it prints how many checks may run side by side.
 
-A run of rt in a crate keeps every other out of the crates below it. So what runs side by side gets a room each: a folder
-with the sources of a crate and of all below it, and with the libraries below it as they were built, by hard links where
-that is possible.
+A run of rt in a crate keeps every other out of the crates below it. So what is worked on beside others gets a room: for a
+build a folder with the sources of a crate and of all below it, and with the libraries below it as they were built, by hard
+links where that is possible (`furnish`).
 """
 import contextlib
 import fcntl

@@ -1,5 +1,5 @@
 -- Pages that leave a swap area, and the area that goes.
-use Rattle.shm_fault.proofs.Names.{◌≡◌, ◌≢◌, ℕ, zero, suc, ◌<◌, ◌≤◌, ◌+◌, true, cond, List, [], ◌∷◌, length, get_or, set, sum_by, Option, Some, None, is_some, refl, sym, ap, ◌∙◌, inl, inr, arith, length-set, get_or-set_same, get_or-set_other, cases_eq, get_or_past, length-map, sum_by-set, sum_by-cons, PageRef, Slot, pages_in_store, used_count, SwapView, no_area, area_at, with_area, off, HasSlot, IsSwap, IsFirstFree, OneArea, AfterWriteFault, owner_of, page_in, size_of, sizes, slots, slots_in, used_in, used_slots, with_slot_owner, with_slot_page, without_slot, GoesOn, IsSteady, had_cause, Frame, no_frame, frame_at, PageRec, rec_by, HasPage, with_rec, StoreView, held, IsTied, Tied, IsStoreSound, Goes, Still, AtRest, SameOwned, IsRelocated, IsCleared, common_steps, nat_tests}
+use Rattle.shm_fault.proofs.Names.{◌≡◌, ◌≢◌, ℕ, zero, suc, ◌<◌, ◌≤◌, ◌+◌, true, cond, List, [], ◌∷◌, length, get_or, set, sum_by, Option, Some, None, is_some, refl, sym, ap, ◌∙◌, inl, inr, arith, length-set, get_or-set_same, get_or-set_other, cases_eq, get_or_past, length-map, sum_by-set, sum_by-cons, PageRef, Slot, pages_in_store, used_count, SwapView, no_area, area_at, with_area, off, HasSlot, IsSwap, IsFirstFree, OneArea, AfterWriteFault, owner_of, page_in, size_of, sizes, swap_slots, slots_in, used_in, used_slots, with_slot_owner, with_slot_page, without_slot, GoesOn, IsSteady, had_cause, Frame, no_frame, frame_at, PageRec, rec_by, HasPage, with_rec, StoreView, held, IsTied, Tied, IsStoreSound, Goes, Still, AtRest, SameOwned, IsRelocated, IsCleared, common_steps, nat_tests}
 use Rattle.shm_fault.proofs.Pages.{rec-with, other, other_ne, has-frame, has-slot}
 use Rattle.shm_fault.proofs.Slots.{OnlySlot, OnlySlot-trans, OnlySlot-owner, OnlySlot-page, OnlySlot-given, page-written, owner-written, owner-set, owner-given, cases_slot, set-cases}
 use Rattle.shm_fault.proofs.Ties.{SlotsApart, Touches, IsOwn-some, segs-same, segs-with, frames-same, frames-set, tied_touched, bytes_touched}
@@ -21,8 +21,8 @@ count-one (o ∷ os) zero r e = grind (arith, e, sum_by-cons (λ (p : Option Pag
 count-one (o ∷ os) (suc i) r e = grind (arith, count-one os i r e, sum_by-cons (λ (p : Option PageRef). cond (is_some p) 1 0) o os)
 
 -- a free slot is found where the other areas have one for each page
-pub has-room : (s : StoreView) → IsStoreSound s → (k : Slot) (r : PageRef) → owner_of s.swap k.area k.slot ≡ Some r → pages_in_store (held s) + length (area_at s.swap k.area).pages ≤ slots s.swap
-    → used_slots s.swap + length (area_at s.swap k.area).pages < slots s.swap + used_in (area_at s.swap k.area)
+pub has-room : (s : StoreView) → IsStoreSound s → (k : Slot) (r : PageRef) → owner_of s.swap k.area k.slot ≡ Some r → pages_in_store (held s) + length (area_at s.swap k.area).pages ≤ swap_slots s.swap
+    → used_slots s.swap + length (area_at s.swap k.area).pages < swap_slots s.swap + used_in (area_at s.swap k.area)
 has-room s sound k r own room = grind (arith, nat_tests, common_steps, pages_in_store-is, sound.few_used, used-slots, sound.apart, sound.tied, count-one, s.swap, k.area, k.slot)
 
 -- a page was written to another slot, and its old one given back
@@ -174,7 +174,7 @@ module _ (s : StoreView) (sound : IsStoreSound s) (area : ℕ) (here : (area_at 
   held-off = held-same s without_area sound.apart sound.apart refl (λ r has. bytes_touched every s without_area to-off r refl (sound.tied.pages r has))
 
   sound-off : IsSwap (with_area s.swap area (off (area_at s.swap area))) → sizes (with_area s.swap area (off (area_at s.swap area))) ≡ set (sizes s.swap) area None
-      → pages_in_store (held s) + length (area_at s.swap area).pages ≤ slots s.swap → IsStoreSound without_area
+      → pages_in_store (held s) + length (area_at s.swap area).pages ≤ swap_slots s.swap → IsStoreSound without_area
   sound-off is same room =
       let lt : area < length (sizes s.swap) = rw (length-map s.swap.areas size_of) (here-lt s.swap area here) in
       let sum = sum_by-set slots_in (sizes s.swap) area None None lt in
@@ -209,7 +209,7 @@ module _ (area n : ℕ) (s t : StoreView) (d : IsCleaned area n s t) (here : (ar
   pub cleaned-there : n < length (area_at s.swap area).pages → HasSlot t.swap area n
   cleaned-there lt = let same = cleaned-here.1 in (here-lt t.swap area cleaned-here.0, omega (arith, lt, same))
 
-  pub cleaned-room : pages_in_store (held s) + length (area_at s.swap area).pages ≤ slots s.swap → pages_in_store (held t) + length (area_at t.swap area).pages ≤ slots t.swap
+  pub cleaned-room : pages_in_store (held s) + length (area_at s.swap area).pages ≤ swap_slots s.swap → pages_in_store (held t) + length (area_at t.swap area).pages ≤ swap_slots t.swap
   cleaned-room room = grind (arith, nat_tests, common_steps, cleaned-here.1, d.goes.bytes, t.swap, s.swap, sum_by, d.goes.same_sizes)
 
   -- the area goes once the slots that it has are free
@@ -218,7 +218,7 @@ module _ (area n : ℕ) (s t : StoreView) (d : IsCleaned area n s t) (here : (ar
     cleaned-free slot = grind (arith, nat_tests, common_steps, d.free, get_or_past, t.swap, cleaned-here.1, d.sound.swap.each)
 
     pub cleaned-off : (u : SwapView) → u ≡ with_area t.swap area (off (area_at t.swap area)) → IsSwap u → sizes u ≡ set (sizes t.swap) area None
-        → pages_in_store (held s) + length (area_at s.swap area).pages ≤ slots s.swap → IsStoreSound (record t { swap = u }) × (held (record t { swap = u }) ≡ held s)
+        → pages_in_store (held s) + length (area_at s.swap area).pages ≤ swap_slots s.swap → IsStoreSound (record t { swap = u }) × (held (record t { swap = u }) ≡ held s)
     cleaned-off u gone is sized room =
         let sized₁ : sizes (with_area t.swap area (off (area_at t.swap area))) ≡ set (sizes t.swap) area None = rw gone at sized in
         rw gone (sound-off t d.sound area cleaned-here.0 cleaned-free (rw gone at is) sized₁ (cleaned-room room), held-off t d.sound area cleaned-here.0 cleaned-free ∙ d.goes.bytes)

@@ -19,11 +19,11 @@ pub use Rattle.shm_clock.specs.Clock.{IsClockVictim, is_pinned, may_go, next, ow
 pub use Rattle.shm_frames.specs.Frame.{Frame, IsFrameBlank, OwnedBelow, dirty_of, frame_at, is_dirty, is_owned, no_frame, resident_of}
 pub use Rattle.shm_pager.specs.Pages.{last_count, next_count}
 pub use Rattle.shm_plain.proofs.Pasted.{length-paste}
-pub use Rattle.shm_plain.specs.Held.{FitsPage, Held, bytes_of, find_held, is_held, holds_locked, pages_in_store, pages_if_locked, pages_in, pages_locked, paste, pasted, span_bytes, with_lock, with_zeros, without}
+pub use Rattle.shm_plain.specs.Held.{FitsPage, Held, bytes_of, find_held, is_held, holds_locked, pages_in_store, pages_if_locked, held_pages, locked_pages_in_store, paste, pasted, span_bytes, with_lock, with_zeros, without}
 pub use Rattle.shm_slots.proofs.Causes.{rises-le, total-le}
 pub use Rattle.shm_slots.specs.Cause.{GoesOn, IsSteady, had_cause, some_spent, total}
 pub use Rattle.shm_slots.specs.Owners.{used_count}
-pub use Rattle.shm_slots.specs.View.{AreaView, HasSlot, IsArea, IsFirstFree, IsSwap, OneArea, SameSlots, SwapView, AfterWriteFault, area_at, is_spent_here, no_area, off, owner_of, page_in, rise, size_of, sizes, slots, slots_in, used_in, used_slots, with_area, with_owner, with_page, with_slot_owner, with_slot_page, without_slot}
+pub use Rattle.shm_slots.specs.View.{AreaView, HasSlot, IsArea, IsFirstFree, IsSwap, OneArea, SameSlots, SwapView, AfterWriteFault, area_at, is_spent_here, no_area, off, owner_of, page_in, rise, size_of, sizes, swap_slots, slots_in, used_in, used_slots, with_area, with_owner, with_page, with_slot_owner, with_slot_page, without_slot}
 pub use mir.Val.{bool_byte}
 pub use Rattle.shm_fault.specs.Access.{Accessed, AreIn, Brings, IsUntouched, Visited}
 pub use Rattle.shm_fault.specs.Counting.{AtRest, CountsOn, hand_after, hand_for_frame, one_if, raised}

@@ -1,5 +1,5 @@
 -- Stores as they are made, and whole segments that are added, locked or unlocked.
-use Rattle.shm_fault.proofs.Names.{◌≡◌, ℕ, zero, suc, ◌≤◌, ◌+◌, ◌*◌, Bool, true, false, cond, eqb, List, [], ◌∷◌, ◌++◌, map, length, replicate, sum_by, Option, Some, None, is_some, refl, sym, ap, ◌∙◌, inl, inr, arith, flat_map, cases_Bool, cases_lt, length-replicate, map-append, get_or-replicate, get_or_past, replicate-append-replicate, sum_by-cons, sum_by-append, PageRef, Slot, is_held, pages_in, pages_in_store, pages_if_locked, pages_locked, with_zeros, with_lock, SwapView, IsSwap, slots, owner_of, Frame, IsFrameBlank, SegRec, no_page, rec_at, find_seg, AreApart, rec_by, count_by_id, HasPage, with_seg_lock, new_seg, page_count, locked_pages, StoreView, page_bytes, held_by, fresh_store, IsStoreSound, outline, outlines, nat_tests, common_steps}
+use Rattle.shm_fault.proofs.Names.{◌≡◌, ℕ, zero, suc, ◌≤◌, ◌+◌, ◌*◌, Bool, true, false, cond, eqb, List, [], ◌∷◌, ◌++◌, map, length, replicate, sum_by, Option, Some, None, is_some, refl, sym, ap, ◌∙◌, inl, inr, arith, flat_map, cases_Bool, cases_lt, length-replicate, map-append, get_or-replicate, get_or_past, replicate-append-replicate, sum_by-cons, sum_by-append, PageRef, Slot, is_held, held_pages, pages_in_store, pages_if_locked, locked_pages_in_store, with_zeros, with_lock, SwapView, IsSwap, swap_slots, owner_of, Frame, IsFrameBlank, SegRec, no_page, rec_at, find_seg, AreApart, rec_by, count_by_id, HasPage, with_seg_lock, new_seg, page_count, locked_pages, StoreView, page_bytes, held_by, fresh_store, IsStoreSound, outline, outlines, nat_tests, common_steps}
 use Rattle.shm_pager.specs.Pages.{zero_page}
 use Rattle.shm_fault.specs.Store.{held}
 use Rattle.shm_fault.proofs.Entries.{apart-append, apart-edit}
@@ -32,19 +32,19 @@ module _ (s : StoreView) (sound : IsStoreSound s) where
 
   -- the pages of the held segments
   pages-list : (b : PageRef → List ℕ) (gs : List SegRec) → AreApart gs → ((r : PageRef) → HasPage gs r → length (b r) ≡ 4096)
-      → (sum_by pages_in (held_of b (outlines gs)) ≡ sum_by page_count gs) × (sum_by pages_if_locked (held_of b (outlines gs)) ≡ sum_by locked_pages gs)
+      → (sum_by held_pages (held_of b (outlines gs)) ≡ sum_by page_count gs) × (sum_by pages_if_locked (held_of b (outlines gs)) ≡ sum_by locked_pages gs)
   pages-list b [] apart whole = (refl, refl)
   pages-list b (g ∷ gs) apart whole =
       let rest = pages-list b gs apart.1 (λ r has. whole r (has-tail g gs apart r has)) in
       let size = length-joined b (record { seg = g.id; page = 0 }) (length g.pages) (λ j l. whole (record { seg = g.id; page = j }) (has-head g gs j l)) 0 (length g.pages) (omega arith) in
-      let here : pages_in (held_one b (outline g)) ≡ length g.pages = omega (arith, size) in
+      let here : held_pages (held_one b (outline g)) ≡ length g.pages = omega (arith, size) in
       let lock : pages_if_locked (held_one b (outline g)) ≡ locked_pages g = grind (arith, nat_tests, here) in (
-        omega (arith, rest.0, here, sum_by-cons pages_in (held_one b (outline g)) (held_of b (outlines gs)), sum_by-cons page_count g gs),
+        omega (arith, rest.0, here, sum_by-cons held_pages (held_one b (outline g)) (held_of b (outlines gs)), sum_by-cons page_count g gs),
         omega (arith, rest.1, lock, sum_by-cons pages_if_locked (held_one b (outline g)) (held_of b (outlines gs)), sum_by-cons locked_pages g gs),
       )
 
   pub pages_in_store-is : pages_in_store (held s) ≡ sum_by page_count s.segs
-  pages_in_store-is = ap (sum_by pages_in) (held-is s sound.apart) ∙ (pages-list (bytes_at s) s.segs sound.apart length-page).0
+  pages_in_store-is = ap (sum_by held_pages) (held-is s sound.apart) ∙ (pages-list (bytes_at s) s.segs sound.apart length-page).0
 
   -- a segment of zeros is added
   module _ (id n : ℕ) (new : find_seg s.segs id ≡ None) where
@@ -68,7 +68,7 @@ module _ (s : StoreView) (sound : IsStoreSound s) where
     has-added : (r : PageRef) → HasPage s.segs r → HasPage added r
     has-added r has = grind (arith, nat_tests, find-added s.segs r.seg, has)
 
-    pub sound-added : sum_by page_count s.segs + n ≤ slots s.swap → IsStoreSound (record s { segs = added })
+    pub sound-added : sum_by page_count s.segs + n ≤ swap_slots s.swap → IsStoreSound (record s { segs = added })
     unfolding zero_page
     sound-added room =
         let t : StoreView = record s { segs = added } in
@@ -140,14 +140,14 @@ fewer-locked : (id : ℕ) (g : SegRec) → locked_pages (with_seg_lock id false 
 fewer-locked id g = elim (cases_Bool (eqb g.id id)) [ inl t ↦ rw t (omega arith) | inr f ↦ rw f (omega arith) ]
 
 -- locking, where the pages are few enough
-pub few-locked : (s : StoreView) → IsStoreSound s → (id : ℕ) (locked : Bool) → (locked ≡ true → pages_locked (with_lock (held s) id true) + 2 ≤ length s.frames) → sum_by locked_pages (map (with_seg_lock id locked) s.segs) + 2 ≤ length s.frames
+pub few-locked : (s : StoreView) → IsStoreSound s → (id : ℕ) (locked : Bool) → (locked ≡ true → locked_pages_in_store (with_lock (held s) id true) + 2 ≤ length s.frames) → sum_by locked_pages (map (with_seg_lock id locked) s.segs) + 2 ≤ length s.frames
 few-locked s sound id false few = let f = sum-map-le locked_pages (with_seg_lock id false) (fewer-locked id) s.segs in omega (arith, f, sound.locked)
 few-locked s sound id true few =
     let t : StoreView = record s { segs = map (with_seg_lock id true) s.segs } in
     let apart : AreApart t.segs = apart-edit (λ (g : SegRec). record g { locked = true }) (λ g. refl) s.segs id sound.apart in
-    let e : pages_locked (held t) ≡ sum_by locked_pages t.segs =
+    let e : locked_pages_in_store (held t) ≡ sum_by locked_pages t.segs =
     ap (sum_by pages_if_locked) (held-is t apart) ∙ (pages-list s sound (bytes_at t) t.segs apart (λ r has. rw (rec-locked s sound id true r) (length-page s sound r (rw (count-locked s sound id true r.seg) at has)))).1 in
-    let h : pages_locked (held t) ≡ pages_locked (with_lock (held s) id true) = ap pages_locked (held-locked s sound id true) in
+    let h : locked_pages_in_store (held t) ≡ locked_pages_in_store (with_lock (held s) id true) = ap locked_pages_in_store (held-locked s sound id true) in
     let f = few refl in
     omega (arith, e, h, f)
 

@@ -2,7 +2,7 @@
 use Rattle.std.specs.Prelude.{ℕ, ◌≡◌, ◌<◌, ◌≤◌, ◌+◌, false, Some, None, length, sum_by}
 use Rattle.shm_base.specs.declared.paging.PageRef.{PageRef}
 use Rattle.shm_base.specs.declared.paging.Slot.{Slot}
-use Rattle.shm_slots.specs.View.{HasSlot, owner_of, slots, IsSwap}
+use Rattle.shm_slots.specs.View.{HasSlot, owner_of, swap_slots, IsSwap}
 use Rattle.shm_frames.specs.Frame.{frame_at}
 use Rattle.shm_fault.specs.Segs.{rec_by, HasPage, AreApart, page_count, locked_pages}
 use Rattle.shm_fault.specs.Store.{StoreView, slot_bytes, page_bytes, resident, dirty, used}
@@ -29,7 +29,7 @@ pub record IsStoreSound (s : StoreView) : Type 0 where
   pub frames : (2 ≤ length s.frames) × (length s.frames ≤ 4096)
   pub swap : IsSwap s.swap
   pub hand : s.hand < length s.frames
-  pub capacity : sum_by page_count s.segs ≤ slots s.swap
+  pub capacity : sum_by page_count s.segs ≤ swap_slots s.swap
   pub locked : sum_by locked_pages s.segs + 2 ≤ length s.frames
   pub few_resident : resident s ≤ length s.frames
   pub few_dirty : dirty s ≤ resident s

@@ -1,7 +1,7 @@
 //! The store, made and looked at.
 ghost use Rattle.std.specs.Prelude.{◌≡◌, ℕ, [], ◌∷◌, ◌++◌, ◌+◌, ◌-◌, ◌≤◌, ◌^◌, true, false, length, map, min, None, IfOk, OnOk, OnErr};
-ghost use Rattle.shm_plain.specs.Held.{is_held, pages_in_store, pages_locked, with_zeros, with_lock};
-ghost use Rattle.shm_slots.specs.View.{slots, owner_of};
+ghost use Rattle.shm_plain.specs.Held.{is_held, pages_in_store, locked_pages_in_store, with_zeros, with_lock};
+ghost use Rattle.shm_slots.specs.View.{swap_slots, owner_of};
 ghost use Rattle.shm_slots.specs.Cause.{total};
 ghost use Rattle.shm_frames.specs.Frame.{IsFrameBlank};
 ghost use Rattle.shm_fault.specs.Segs.{with_seg_lock, new_seg};
@@ -86,7 +86,7 @@ impl<P: Pager> PageStore<P> {
     /// slots.
     pub fn add_segment(&mut self, seg: u32, pages: u32) -> Result<(), HostMemory>
         requires new { is_held (held self.old) seg ≡ false }
-        requires room { pages_in_store (held self.old) + pages ≤ slots self.old.swap }
+        requires room { pages_in_store (held self.old) + pages ≤ swap_slots self.old.swap }
         ensures held { OnOk result (held self.new ≡ with_zeros (held self.old) seg pages) }
         ensures rest { OnOk result (self.new ≡ record self.old { segs = self.old.segs ++ new_seg seg pages ∷ [] }) }
         ensures still { Still self.old self.new }
@@ -100,7 +100,7 @@ impl<P: Pager> PageStore<P> {
     /// The pages of locked segments and 2 are at most the frames.
     pub fn set_locked(&mut self, seg: u32, locked: bool)
         requires there { is_held (held self.old) seg ≡ true }
-        requires few { locked ≡ true → pages_locked (with_lock (held self.old) seg true) + 2 ≤ length self.old.frames }
+        requires few { locked ≡ true → locked_pages_in_store (with_lock (held self.old) seg true) + 2 ≤ length self.old.frames }
         ensures only { self.new ≡ record self.old { segs = map (with_seg_lock seg locked) self.old.segs } }
         ensures held { held self.new ≡ with_lock (held self.old) seg locked }
         ensures still { Still self.old self.new }
@@ -113,7 +113,7 @@ impl<P: Pager> PageStore<P> {
     pub fn tally(&self) -> PageTally
         ensures resident { result.resident ≡ resident self.now }
         ensures dirty { result.dirty ≡ dirty self.now }
-        ensures slots { result.slots ≡ slots self.now.swap }
+        ensures slots { result.slots ≡ swap_slots self.now.swap }
         ensures used { result.used ≡ used self.now }
         ensures ins { result.ins ≡ self.now.ins }
         ensures outs { result.outs ≡ self.now.outs }

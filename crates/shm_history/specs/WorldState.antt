@@ -13,7 +13,7 @@ use Rattle.shm_base.specs.Step.{step}
 use Rattle.shm_base.specs.State.{Opening, Machine}
 use Rattle.shm_base.specs.Segments.{segment_count, reserved, locked}
 use Rattle.shm_base.specs.declared.paging.Tally.{Tally}
-use Rattle.shm_slots.specs.View.{SwapView, slots}
+use Rattle.shm_slots.specs.View.{SwapView, swap_slots}
 use Rattle.shm_slots.specs.Cause.{total, had_cause}
 use Rattle.shm_fault.specs.Store.{StoreView, resident, dirty, used}
 use Rattle.shm_fault.specs.Flushing.{IsFlushed}
@@ -108,7 +108,7 @@ tally_of w =
       frames = w.machine.limits.frames;
       resident = resident w.memory;
       dirty = dirty w.memory;
-      slots = slots w.memory.swap;
+      slots = swap_slots w.memory.swap;
       used = used w.memory;
       ins = w.memory.ins;
       outs = w.memory.outs;

@@ -2,8 +2,8 @@
 use Rattle.shm_life.proofs.Names.{◌≡◌, ◌≢◌, ℕ, zero, suc, ◌+◌, ◌/◌, ◌%◌, ◌<◌, ◌≤◌, true, List, [], ◌∷◌, length, Some, None, refl, sym, ap, ◌∙◌, arith, eq-eqb, ne_eqb, slice_get_within, sum_by-cons, Entry, identifier, reserved, pages_held, AreHeldApart, Held, find_held, is_held, without, SegRec, find_seg, StoreView, held_by, used, IsStoreSound, pages_in_store-is, pages_at, ShowsTable, get-set_other, sum-set, sum-without, find-without_other, nat_tests}
 use Rattle.std.proofs.Common.{map, slice_get, slice_set, Option}
 use Rattle.std.specs.Prelude.{is_some}
-use Rattle.shm_slots.specs.View.{slots}
-use Rattle.shm_plain.specs.Held.{pages_in, pages_in_store}
+use Rattle.shm_slots.specs.View.{swap_slots}
+use Rattle.shm_plain.specs.Held.{held_pages, pages_in_store}
 use Rattle.shm_fault.specs.Segs as segs
 use Rattle.shm_fault.specs.Store.{held}
 
@@ -25,7 +25,7 @@ apart-held m apart = apart-all m m.segs apart
 
 -- no held segment has more pages than the table says
 abbrev NoMore : List Held → List Entry → Type 0
-NoMore hs t = (id : ℕ) (g : Held) → find_held hs id ≡ Some g → pages_in g ≤ pages_at t id
+NoMore hs t = (id : ℕ) (g : Held) → find_held hs id ≡ Some g → held_pages g ≤ pages_at t id
 
 -- the table without what stands at an identifier's index
 abbrev emptied : List Entry → ℕ → List Entry
@@ -47,20 +47,20 @@ fewer t id (suc n) most = (emptied t id, empty-at t id (suc n) (omega arith) mos
 no-more : (hs : List Held) (t : List Entry) → AreHeldApart hs → NoMore hs t → pages_in_store hs ≤ reserved t
 no-more [] t apart each = omega arith
 no-more (h ∷ hs) t apart each =
-    let here : pages_in h ≤ pages_at t h.id = each h.id h (rw (eq-eqb h.id h.id refl) refl) in
-    let less = fewer t h.id (pages_in h) here in
+    let here : held_pages h ≤ pages_at t h.id = each h.id h (rw (eq-eqb h.id h.id refl) refl) in
+    let less = fewer t h.id (held_pages h) here in
     let other : (id : ℕ) (g : Held) → find_held hs id ≡ Some g → id ≢ h.id = λ id g is same. let there : is_held hs h.id ≡ true = rw (← same, is) refl in absurd (cc (there, apart.0)) in
     let rest = no-more hs less.0 apart.1 (λ id g is.
     let ne : id ≢ h.id = other id g is in
-    let before : pages_in g ≤ pages_at t id = each id g (rw (ne_eqb h.id id (λ k. ne (sym k))) is) in
+    let before : held_pages g ≤ pages_at t id = each id g (rw (ne_eqb h.id id (λ k. ne (sym k))) is) in
     omega (arith, before, less.1.others id ne)) in
-    omega (arith, rest, less.1.fewer, sum_by-cons pages_in h hs)
+    omega (arith, rest, less.1.fewer, sum_by-cons held_pages h hs)
 
 -- AND NO LESS
 
 abbrev pages_found : Option Held → ℕ
 pages_found None = 0
-pages_found (Some g) = pages_in g
+pages_found (Some g) = held_pages g
 
 -- each segment of the table is held with as many pages; the table's first index is n
 abbrev NoLess : ℕ → List Held → List Entry → Type 0
@@ -85,7 +85,7 @@ no-less n (e ∷ t) hs few each =
     by more (Some g) is some =
         let id = identifier n e.destroyed in
         let others = more (without hs id) (rest (without hs id) (λ other apart. find-without_other hs id other apart)) in
-        let sum = sum-without pages_in hs id g is in
+        let sum = sum-without held_pages hs id g is in
         omega (arith, some, others, sum, sum_by-cons (λ (x : Entry). pages_held x.segment) e t)
 
 -- BOTH, WHERE THE MEMORY SHOWS THE TABLE
@@ -103,5 +103,5 @@ module _ (t : List Entry) (m : StoreView) (sound : IsStoreSound m) (shows : Show
     less k e is = grind (arith, slice_get_within)
 
     -- the pages of all segments are no more than the slots
-    pub few-reserved : reserved t ≤ slots m.swap
+    pub few-reserved : reserved t ≤ swap_slots m.swap
     few-reserved = grind (arith, pages_in_store-is m sound, no-less 0 t (held m) (omega (arith, few)) less)

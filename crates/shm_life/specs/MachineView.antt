@@ -4,7 +4,7 @@ use Rattle.shm_base.specs.State.{Machine}
 use Rattle.shm_base.specs.Step.{Outcome}
 use Rattle.shm_base.specs.History.{is_refusal}
 use Rattle.shm_base.specs.Segments as flat
-use Rattle.shm_slots.specs.View.{sizes, slots}
+use Rattle.shm_slots.specs.View.{sizes, swap_slots}
 use Rattle.shm_slots.specs.Cause.{GoesOn, had_cause}
 use Rattle.shm_fault.specs.Store.{StoreView, used}
 use Rattle.shm_fault.specs.Steps.{LockedPagesStay}
@@ -35,7 +35,7 @@ pub record IsExactly (m : Machine) (memory : StoreView) : Type 0 where
   pub areas : m.areas ≡ sizes memory.swap
   pub frames : length memory.frames ≡ m.limits.frames
   pub used : used memory ≤ flat.reserved m.table
-  pub room : flat.reserved m.table ≤ slots memory.swap
+  pub room : flat.reserved m.table ≤ swap_slots memory.swap
   pub reserved : flat.reserved m.table ≤ m.limits.shmall
   pub shmall : m.limits.shmall ≤ 65536
   pub locked : flat.locked m.table ≤ m.limits.memlock

@@ -25,27 +25,27 @@ bytes_of hs id = held_bytes (find_held hs id)
 abbrev pub is_held : List Held → ℕ → Bool
 is_held hs id = is_some (find_held hs id)
 
-abbrev pub lock_in : Option Held → Bool
-lock_in None = false
-lock_in (Some g) = g.locked
+abbrev pub held_lock : Option Held → Bool
+held_lock None = false
+held_lock (Some g) = g.locked
 
 -- whether a segment is held and locked
 abbrev pub holds_locked : List Held → ℕ → Bool
-holds_locked hs id = lock_in (find_held hs id)
+holds_locked hs id = held_lock (find_held hs id)
 
-abbrev pub pages_in : Held → ℕ
-pages_in g = length g.bytes / 4096
+abbrev pub held_pages : Held → ℕ
+held_pages g = length g.bytes / 4096
 
 -- the pages of all segments
 abbrev pub pages_in_store : List Held → ℕ
-pages_in_store hs = sum_by pages_in hs
+pages_in_store hs = sum_by held_pages hs
 
 abbrev pub pages_if_locked : Held → ℕ
-pages_if_locked g = if g.locked then pages_in g else 0
+pages_if_locked g = if g.locked then held_pages g else 0
 
 -- the pages of the locked segments
-abbrev pub pages_locked : List Held → ℕ
-pages_locked hs = sum_by pages_if_locked hs
+abbrev pub locked_pages_in_store : List Held → ℕ
+locked_pages_in_store hs = sum_by pages_if_locked hs
 
 -- one more segment, of zeros
 abbrev pub with_zeros : List Held → ℕ → ℕ → List Held

@@ -1,6 +1,6 @@
 -- The pages of the segments that are held.
-use Rattle.shm_segments.proofs.Names.{◌≡◌, ◌≢◌, ℕ, ◌+◌, ◌*◌, ◌/◌, ◌≤◌, Bool, false, if◌then◌else◌, List, [], ◌∷◌, length, map, Some, refl, ◌∙◌, arith, ne_eqb, not, ◌==◌, none-some, common_steps, length-replicate, sum_by-cons, sum_by-append, sum_by, All, Span, AreHeldApart, Held, find_held, is_held, pages_in, pages_if_locked, with_zeros, without, with_lock, pasted, written, FitsPage, find_held-id, apart-pasted, sum_by-filter_both, nat_tests, replicate}
-use Rattle.shm_plain.specs.Held.{pages_in_store, pages_locked, lock_changed}
+use Rattle.shm_segments.proofs.Names.{◌≡◌, ◌≢◌, ℕ, ◌+◌, ◌*◌, ◌/◌, ◌≤◌, Bool, false, if◌then◌else◌, List, [], ◌∷◌, length, map, Some, refl, ◌∙◌, arith, ne_eqb, not, ◌==◌, none-some, common_steps, length-replicate, sum_by-cons, sum_by-append, sum_by, All, Span, AreHeldApart, Held, find_held, is_held, held_pages, pages_if_locked, with_zeros, without, with_lock, pasted, written, FitsPage, find_held-id, apart-pasted, sum_by-filter_both, nat_tests, replicate}
+use Rattle.shm_plain.specs.Held.{pages_in_store, locked_pages_in_store, lock_changed}
 use Rattle.shm_segments.proofs.Bytes.{each, written-keeps}
 
 -- ZEROS
@@ -14,7 +14,7 @@ zeros-pages n = let size : length (zeros n) ≡ 4096 * n = length-replicate (409
 pub pages-zeros : (hs : List Held) (id n : ℕ) → pages_in_store (with_zeros hs id n) ≡ pages_in_store hs + n
 pages-zeros hs id n = grind (arith, common_steps, sum_by-append, sum_by-cons, zeros-pages)
 
-pub locks-zeros : (hs : List Held) (id n : ℕ) → pages_locked (with_zeros hs id n) ≡ pages_locked hs
+pub locks-zeros : (hs : List Held) (id n : ℕ) → locked_pages_in_store (with_zeros hs id n) ≡ locked_pages_in_store hs
 locks-zeros hs id n = grind (arith, common_steps, sum_by-append, sum_by-cons)
 
 -- ONE LESS
@@ -46,22 +46,22 @@ only-lock id b h n = rw (ne_eqb h.id id n) refl
 -- a lock
 pub pages-lock : (hs : List Held) (id : ℕ) (b : Bool) → pages_in_store (with_lock hs id b) ≡ pages_in_store hs
 pages-lock [] id b = refl
-pages-lock (h ∷ hs) id b = grind (arith, nat_tests, pages-lock hs id b, sum_by-cons pages_in h hs, sum_by-cons pages_in (lock_changed id b h) (with_lock hs id b))
+pages-lock (h ∷ hs) id b = grind (arith, nat_tests, pages-lock hs id b, sum_by-cons held_pages h hs, sum_by-cons held_pages (lock_changed id b h) (with_lock hs id b))
 
-pub locks-lock : (hs : List Held) (id : ℕ) (b : Bool) (g : Held) → AreHeldApart hs → find_held hs id ≡ Some g → pages_locked (with_lock hs id b) + pages_if_locked g ≡ pages_locked hs + (if b then pages_in g else 0)
+pub locks-lock : (hs : List Held) (id : ℕ) (b : Bool) (g : Held) → AreHeldApart hs → find_held hs id ≡ Some g → locked_pages_in_store (with_lock hs id b) + pages_if_locked g ≡ locked_pages_in_store hs + (if b then held_pages g else 0)
 locks-lock hs id b g apart is = grind (arith, common_steps, sum-changed, only-lock, find_held-id)
 
 -- BYTES REPLACED
 
 pasted-sums : (hs : List Held) (p : Span) (new : List ℕ) → AreHeldApart hs → FitsPage hs p → length new ≤ p.len
-    → (pages_in_store (map (pasted p.seg p.at new) hs) ≡ pages_in_store hs) × (pages_locked (map (pasted p.seg p.at new) hs) ≡ pages_locked hs)
+    → (pages_in_store (map (pasted p.seg p.at new) hs) ≡ pages_in_store hs) × (locked_pages_in_store (map (pasted p.seg p.at new) hs) ≡ locked_pages_in_store hs)
 pasted-sums hs p new apart fit few = grind (arith, common_steps, find_held, pages_in_store, sum-changed)
 
 -- what a store over spans leaves
 pub record SameSums (hs gs : List Held) : Type 0 where
   pub apart : AreHeldApart gs
   pub pages : pages_in_store gs ≡ pages_in_store hs
-  pub locks : pages_locked gs ≡ pages_locked hs
+  pub locks : locked_pages_in_store gs ≡ locked_pages_in_store hs
 
 pub sums-written : (hs : List Held) (ps : List Span) (new : List ℕ) → AreHeldApart hs → All (FitsPage hs) ps → SameSums hs (written hs ps new)
 sums-written hs ps new apart fit = written-keeps (SameSums hs) one ps hs new (record { apart = apart; pages = refl; locks = refl }) (each (FitsPage hs) ps fit)

@@ -1,5 +1,5 @@
 -- What is kept where a segment is made, destroyed, locked or written.
-use Rattle.shm_segments.proofs.Names.{locked_in_row, pages_in_row, ◌≡◌, ◌≢◌, ◌⊎◌, ℕ, pos, ℤ, ◌+◌, ◌-◌, ◌*◌, ◌/◌, ◌%◌, ◌<◌, ◌≤◌, Bool, true, false, if◌then◌else◌, List, Option, Some, None, is_none, refl, sym, ap, ◌∙◌, inl, inr, arith, cases_eq, none-some, pages_of, change, Row, entry_at, identifier, key_at, look, with_value, with_row, without_row, free_index-flat, destroyed_at-flat, Held, find_held, is_held, pages_in, pages_if_locked, with_zeros, without, with_lock, apart-push, apart-without, apart-lock, Head, whole, joined_table, Agree, SizesFit, AreSegmentsSound, made, created, destroyed, nat_tests, common_steps, replicate, slice_set, Ok, is_some, option_map, Entry, free_index, id_at, live_row, relocked}
+use Rattle.shm_segments.proofs.Names.{locked_in_row, pages_in_row, ◌≡◌, ◌≢◌, ◌⊎◌, ℕ, pos, ℤ, ◌+◌, ◌-◌, ◌*◌, ◌/◌, ◌%◌, ◌<◌, ◌≤◌, Bool, true, false, if◌then◌else◌, List, Option, Some, None, is_none, refl, sym, ap, ◌∙◌, inl, inr, arith, cases_eq, none-some, pages_of, change, Row, entry_at, identifier, key_at, look, with_value, with_row, without_row, free_index-flat, destroyed_at-flat, Held, find_held, is_held, held_pages, pages_if_locked, with_zeros, without, with_lock, apart-push, apart-without, apart-lock, Head, whole, joined_table, Agree, SizesFit, AreSegmentsSound, made, created, destroyed, nat_tests, common_steps, replicate, slice_set, Ok, is_some, option_map, Entry, free_index, id_at, live_row, relocked}
 use Rattle.shm_base.specs.Identifier as flat
 use Rattle.shm_segments.proofs.Joins.{LiveAt, live-at, held-as}
 use Rattle.shm_segments.proofs.Edits.{look-live, other-value, agree-lock, joined-locked}
@@ -13,7 +13,7 @@ use Rattle.shm_segments.proofs.Held.{pages-zeros, locks-zeros, sum-without, page
 pub record HeldHere (hs : List Held) (id : ℕ) (r : Row Head) : Type 0 where
   pub g : Held
   pub is : find_held hs id ≡ Some g
-  pub pages : pages_in g ≡ pages_of r.value.size
+  pub pages : held_pages g ≡ pages_of r.value.size
   pub locks : pages_if_locked g ≡ (if r.value.locked then pages_of r.value.size else 0)
 
 pub held-here : (hs : List Held) (rows : List (Entry Head)) (id : ℕ) (r : Row Head) → Agree hs rows → live_row rows id ≡ Some r → HeldHere hs id r
@@ -42,7 +42,7 @@ kept-without hs rows pages locks seg v k looked =
             reserved = omega (arith, fewer, k.reserved);
             locked = omega (arith, looser, k.locked);
             apart = apart-without hs seg k.apart;
-            few_pages = omega (arith, sum-without pages_in hs seg here.g here.is, here.pages, k.few_pages);
+            few_pages = omega (arith, sum-without held_pages hs seg here.g here.is, here.pages, k.few_pages);
             few_locked = omega (arith, sum-without pages_if_locked hs seg here.g here.is, here.locks, k.few_locked);
           };
       is = rw own at (joined-without hs rows i k.agree.few small) ∙ ap (λ n. slice_set (joined_table hs rows) i (record { destroyed = n + 1; segment = None })) sequence;
@@ -64,7 +64,7 @@ kept-locked hs rows pages locks seg v b k looked =
     let loose = sum-other locked_in_row refl rows seg r (record r { value = w }) lives in
     let within = locked-within rows seg r lives in
     let here = held-here hs rows seg r k.agree lives in
-    let more : (b : Bool) → (if b then pages_in here.g else 0) ≡ (if b then pages_of v.size else 0) = λ b. ap (λ n. if b then n else 0) here.pages in
+    let more : (b : Bool) → (if b then held_pages here.g else 0) ≡ (if b then pages_of v.size else 0) = λ b. ap (λ n. if b then n else 0) here.pages in
     rw (other-value rows seg r w lives) (record {
       kept =
           record {

@@ -40,13 +40,13 @@ pub use Rattle.shm_plain.proofs.Found.{bytes_of-lock, find-without_other, find-w
 pub use Rattle.shm_plain.proofs.Kept.{apart-lock, apart-push, apart-without, find-map, find_held-id}
 pub use Rattle.shm_plain.proofs.Pasted.{apart-pasted, bytes_of-pasted_other, bytes_of-pasted_same, fits-pasted}
 pub use Rattle.shm_plain.specs.Apart.{AreHeldApart}
-pub use Rattle.shm_plain.specs.Held.{FitsPage, Held, held_bytes, bytes_of, find_held, is_held, holds_locked, pages_if_locked, pages_in, paste, pasted, read_from, with_lock, with_zeros, without, written}
+pub use Rattle.shm_plain.specs.Held.{FitsPage, Held, held_bytes, bytes_of, find_held, is_held, holds_locked, pages_if_locked, held_pages, paste, pasted, read_from, with_lock, with_zeros, without, written}
 pub use Rattle.shm_slots.specs.Cause.{GoesOn}
 pub use Rattle.shm_slots.specs.View.{SwapView}
 pub use Rattle.shm_segments.specs.Joined.{Agree, Shape, joined_table, locked_in_row, locked_of_rows, pages_in_row, pages_of_rows, segment_of, shape_held, shape_row, whole, live_row}
 pub use Rattle.shm_segments.specs.Sound.{AreSegmentsSound, IsWhole, SizesFit}
 pub use Rattle.shm_segments.specs.Orphan.{id_in, is_orphan, orphan, orphan_in}
-pub use Rattle.shm_segments.specs.Table.{IsFound, SpanFits, created, destroyed, live_in, look_of, made, number_at, pages_at, refused_look, reowned, segment_seen, relocked}
+pub use Rattle.shm_segments.specs.Table.{IsFound, SpanFits, created, destroyed, live_in, look_of, made, loaded_number, pages_at, refused_look, reowned, segment_seen, relocked}
 pub use Rattle.shm_segments.specs.View.{KeepsMemory, SegmentsView, ShowsTable}
 pub use Rattle.shm_segments.specs.declared.head.Found.{Found}
 pub use Rattle.shm_segments.specs.declared.head.Head.{Head}

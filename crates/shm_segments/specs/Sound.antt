@@ -3,7 +3,7 @@ use Rattle.std.specs.Prelude.{◌≡◌, ◌≤◌, ℕ, List, Some}
 use Rattle.shm_ids.specs.declared.table.Entry.{Entry}
 use Rattle.shm_ids.specs.declared.table.Row.{Row}
 use Rattle.shm_plain.specs.Apart.{AreHeldApart}
-use Rattle.shm_plain.specs.Held.{Held, pages_in_store, pages_locked}
+use Rattle.shm_plain.specs.Held.{Held, pages_in_store, locked_pages_in_store}
 use Rattle.shm_fault.specs.Store.{StoreView, held}
 use Rattle.shm_fault.specs.Sound.{IsStoreSound}
 use Rattle.shm_segments.specs.declared.head.Head.{Head}
@@ -21,7 +21,7 @@ pub record AreSegmentsSound (hs : List Held) (rows : List (Entry Head)) (pages l
   pub locked : locks ≡ locked_of_rows rows
   pub apart : AreHeldApart hs
   pub few_pages : pages_in_store hs ≤ pages
-  pub few_locked : pages_locked hs ≤ locks
+  pub few_locked : locked_pages_in_store hs ≤ locks
 
 -- so it is with what the memory holds, which is sound
 pub record IsWhole (m : StoreView) (rows : List (Entry Head)) (pages locks : ℕ) : Type 0 where

@@ -82,9 +82,9 @@ abbrev pub relocked : Bool → Segment → Segment
 relocked b y = record y { locked = b }
 
 -- the little-endian number that stands at places, as the step's `xadd` reads it
-abbrev pub number_at : List Entry → List Place → ℕ
-number_at table ps = from_le_bytes w64 (loaded table ps)
+abbrev pub loaded_number : List Entry → List Place → ℕ
+loaded_number table ps = from_le_bytes w64 (loaded table ps)
 
 -- the table with so much added to it, modulo 2^64, as the step's `xadd` leaves it
 abbrev pub added_at : List Entry → List Place → ℕ → List Entry
-added_at table ps more = stored table ps (to_le_bytes w64 ((number_at table ps + more) % 2 ^ 64))
+added_at table ps more = stored table ps (to_le_bytes w64 ((loaded_number table ps + more) % 2 ^ 64))

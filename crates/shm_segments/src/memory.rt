@@ -4,12 +4,12 @@ ghost use Rattle.shm_base.specs.Access.{loaded, stored};
 ghost use Rattle.shm_base.specs.Segments.{reserved};
 ghost use Rattle.shm_base.specs.Spans.{span_places};
 ghost use Rattle.shm_plain.specs.Access.{IsAccess};
-ghost use Rattle.shm_slots.specs.View.{slots, sizes, area_at};
+ghost use Rattle.shm_slots.specs.View.{swap_slots, sizes, area_at};
 ghost use Rattle.shm_slots.specs.Cause.{had_cause};
 ghost use Rattle.shm_fault.specs.Store.{Still};
 ghost use Rattle.shm_fault.specs.Access.{Accessed, NameFrames, IsUntouched, answer_of};
 ghost use Rattle.shm_fault.specs.Flushing.{IsFlushed};
-ghost use Rattle.shm_segments.specs.Table.{SpanFits, number_at, added_at};
+ghost use Rattle.shm_segments.specs.Table.{SpanFits, loaded_number, added_at};
 ghost use Rattle.shm_segments.specs.View.{IsTableExact, KeepsMemory};
 
 use crate::segments::Segments;
@@ -79,7 +79,7 @@ impl<P: Pager> Segments<P> {
         requires spans { IsAccess (SpanFits self.old.table) spans.now 8 }
         requires frames { NameFrames self.old.memory spans.now }
         requires none { IsUntouched touched.old }
-        ensures number { OnOk result (old.new ≡ number_at self.old.table (span_places false spans.now)) }
+        ensures number { OnOk result (old.new ≡ loaded_number self.old.table (span_places false spans.now)) }
         ensures written { OnOk result (self.new.table ≡ added_at self.old.table (span_places false spans.now) more) }
         ensures same { OnErr result (self.new.table ≡ self.old.table) }
         ensures access { Accessed spans.now self.old.memory self.new.memory (answer_of touched.new result) }
@@ -103,7 +103,7 @@ impl<P: Pager> Segments<P> {
     /// each segment. Where a pager fails it stays.
     pub fn move_off(&mut self, area: u32) -> Result<(), PagerFailed>
         requires there { (area_at self.old.memory.swap area).here ≡ true }
-        requires room { reserved self.old.table + length (area_at self.old.memory.swap area).pages ≤ slots self.old.memory.swap }
+        requires room { reserved self.old.table + length (area_at self.old.memory.swap area).pages ≤ swap_slots self.old.memory.swap }
         ensures table { self.new.table ≡ self.old.table }
         ensures gone { OnOk result (sizes self.new.memory.swap ≡ set (sizes self.old.memory.swap) area None) }
         ensures still { Still self.old.memory self.new.memory }

@@ -4,7 +4,7 @@ ghost use Rattle.shm_base.specs.State as flat;
 ghost use Rattle.shm_base.specs.Identifier as flat_ids;
 ghost use Rattle.shm_base.specs.Segments.{reserved, segment_count, change, attached, detached, marked};
 ghost use Rattle.shm_base.specs.Segments.{locked as locked_pages};
-ghost use Rattle.shm_slots.specs.View.{slots, sizes, owner_of};
+ghost use Rattle.shm_slots.specs.View.{swap_slots, sizes, owner_of};
 ghost use Rattle.shm_fault.specs.Segs.{with_seg_lock};
 ghost use Rattle.shm_fault.specs.Store.{Still, fresh_store, frame_of};
 ghost use Rattle.shm_segments.specs.View.{KeepsMemory};
@@ -250,7 +250,7 @@ impl<P: Pager> Segments<P> {
         requires size { (1 ≤ head.size) × (head.size ≤ 16777216) }
         requires loose { head.locked ≡ false }
         requires few { reserved self.old.table ≤ 65536 }
-        requires room { reserved self.old.table + flat.pages_of head.size ≤ slots self.old.memory.swap }
+        requires room { reserved self.old.table + flat.pages_of head.size ≤ swap_slots self.old.memory.swap }
         ensures ok { IfOk result (λ id. made self.old.table key head ≡ Some (id, self.new.table)) }
         ensures keeps { OnOk result (KeepsMemory self.old.memory self.new.memory) }
         ensures swap { OnOk result (self.new.memory.swap ≡ self.old.memory.swap) }

@@ -6,7 +6,7 @@ use Rattle.std.proofs.lemmas.List.Sums.{sum_by-cons}
 use Rattle.shm_base.specs.declared.paging.PageRef.{PageRef}
 use Rattle.shm_base.specs.declared.paging.Slot.{Slot}
 use Rattle.shm_slots.specs.Owners.{UsedBelow, IsLeastFree}
-use Rattle.shm_slots.specs.View.{AreaView, SwapView, area_at, no_area, size_of, slots_in, slots, used_in, used_slots, FoundFree, Takes, IsFirstFree, IsArea, IsSwap}
+use Rattle.shm_slots.specs.View.{AreaView, SwapView, area_at, no_area, size_of, slots_in, swap_slots, used_in, used_slots, FoundFree, Takes, IsFirstFree, IsArea, IsSwap}
 use Rattle.shm_slots.proofs.Least.{count-full}
 
 slots_in-size_of : (a : AreaView) → IsArea a → slots_in (size_of a) ≡ length a.pages
@@ -40,13 +40,13 @@ used-full_but (x ∷ xs) (suc out) each used =
     omega (arith, first, rest, sum_by-cons used_in x xs, sum_by-cons slots_in (size_of x) (map size_of xs))
 
 -- where no slot was found, as many are used as there are
-pub used_slots-full : (found : Option Slot) (owner : PageRef) (s t : SwapView) → FoundFree s None found → Takes owner s found t → IsSwap t → IfNone found (used_slots s ≡ slots s)
+pub used_slots-full : (found : Option Slot) (owner : PageRef) (s t : SwapView) → FoundFree s None found → Takes owner s found t → IsSwap t → IfNone found (used_slots s ≡ swap_slots s)
 used_slots-full None owner s t all same swap = used-full s.areas (rw same at swap).each (λ k l. all k l (λ e. cc))
 used_slots-full (Some k) owner s t found taken swap = search rules
 
 -- where no slot was found outside an area, as many are used outside it as there are
 pub used_slots-full_but : (found : Option Slot) (owner : PageRef) (s t : SwapView) (out : ℕ) → FoundFree s (Some out) found → Takes owner s found t → IsSwap t
-    → IfNone found (used_slots s + length (area_at s out).pages ≡ slots s + used_in (area_at s out))
+    → IfNone found (used_slots s + length (area_at s out).pages ≡ swap_slots s + used_in (area_at s out))
 used_slots-full_but None owner s t out all same swap = used-full_but s.areas out (rw same at swap).each (λ k l n. all k l (λ e. n (cc)))
 used_slots-full_but (Some k) owner s t out found taken swap = search rules
 

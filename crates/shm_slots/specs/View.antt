@@ -4,7 +4,7 @@ use Rattle.std.specs.List.{list_any}
 use Rattle.shm_base.specs.declared.paging.PageRef.{PageRef}
 use Rattle.shm_base.specs.declared.paging.Slot.{Slot}
 pub use Rattle.shm_base.specs.Segments.{slots_in}
-use Rattle.shm_base.specs.Segments.{slots as slots_of}
+use Rattle.shm_base.specs.Segments.{slots}
 use Rattle.shm_pager.specs.Pages.{PagerView, SlotUnknown, last_count}
 use Rattle.shm_slots.specs.Owners.{used_count}
 
@@ -152,8 +152,8 @@ abbrev pub sizes : SwapView → List (Option ℕ)
 sizes s = map size_of s.areas
 
 -- the slots of the areas that are there
-abbrev pub slots : SwapView → ℕ
-slots s = slots_of (sizes s)
+abbrev pub swap_slots : SwapView → ℕ
+swap_slots s = slots (sizes s)
 
 -- how many slots of an area are owned
 abbrev pub used_in : AreaView → ℕ

@@ -35,7 +35,7 @@ fn stays_unspent<P: Pager>(never_spent: bool, area: &Area<P>) -> bool
 }
 
 impl<P: Pager> Swap<P> {
-    ghost use Rattle.shm_slots.specs.View.{SwapView, new_swap, fresh, area_at, with_area, off, HasSlot, owner_of, page_in, with_slot_page, without_slot, FoundFree, Takes, OneArea, SameSlots, AfterReadFault, AfterWriteFault, size_of, sizes, slots, used_in, used_slots, IsAreaSize, IsSwap};
+    ghost use Rattle.shm_slots.specs.View.{SwapView, new_swap, fresh, area_at, with_area, off, HasSlot, owner_of, page_in, with_slot_page, without_slot, FoundFree, Takes, OneArea, SameSlots, AfterReadFault, AfterWriteFault, size_of, sizes, swap_slots, used_in, used_slots, IsAreaSize, IsSwap};
     ghost use Rattle.shm_slots.specs.Cause.{total, had_cause, GoesOn, IsSteady};
 
     /// Swap over these pagers, which become the areas 0, 1 and so on. No slot is owned. A pager that is
@@ -58,7 +58,7 @@ impl<P: Pager> Swap<P> {
 
     /// The slots of the areas that are there.
     pub fn capacity(&self) -> u64
-        ensures { result ≡ slots self.now }
+        ensures { result ≡ swap_slots self.now }
     {
         let mut total: u64 = 0;
         for area in &self.areas {
@@ -138,7 +138,7 @@ impl<P: Pager> Swap<P> {
     pub fn take_slot(&mut self, owner: PageRef) -> Option<Slot>
         ensures found { FoundFree self.old None result }
         ensures taken { Takes owner self.old result self.new }
-        ensures full { IfNone result (used_slots self.old ≡ slots self.old) }
+        ensures full { IfNone result (used_slots self.old ≡ swap_slots self.old) }
         ensures steady { IsSteady self.old self.new }
         ensures sound { IsSwap self.new }
     {
@@ -151,7 +151,7 @@ impl<P: Pager> Swap<P> {
         ensures taken { Takes owner self.old result self.new }
         ensures full { let without = area_at self.old area in
             IfNone result
-            (used_slots self.old + length without.pages ≡ slots self.old + used_in without) }
+            (used_slots self.old + length without.pages ≡ swap_slots self.old + used_in without) }
         ensures steady { IsSteady self.old self.new }
         ensures sound { IsSwap self.new }
     {

@@ -1,7 +1,7 @@
 -- What the rows of a run tell of the segments that are held.
-use Rattle.shm_store_tests.proofs.Names.{◌≡◌, ℕ, ◌+◌, ◌/◌, ◌≤◌, ◌==◌, Bool, true, false, not, List, [], ◌∷◌, ◌++◌, length, map, filter, take, drop, get_or, Option, Some, is_some, option_map, refl, sym, ap, ◌∙◌, inl, inr, arith, All, sum_by, eqb_tells, common_steps, length-replicate, length-map, sum_by-cons, All-head, All-tail, All-get_or, All-map, Span, Held, find_held, held_bytes, bytes_of, is_held, pages_in, pages_in_store, with_zeros, without, with_lock, FitsPage, pasted, written, AreHeldApart, apart-push, apart-without, apart-lock, apart-pasted, fits-pasted, length-paste, StoreView, held, frame_of, page_of, Row, row_of, row_pages, row_with_lock, pages_all, frame_named, AreAlike, IsAccess, NameFrames}
+use Rattle.shm_store_tests.proofs.Names.{◌≡◌, ℕ, ◌+◌, ◌/◌, ◌≤◌, ◌==◌, Bool, true, false, not, List, [], ◌∷◌, ◌++◌, length, map, filter, take, drop, get_or, Option, Some, is_some, option_map, refl, sym, ap, ◌∙◌, inl, inr, arith, All, sum_by, eqb_tells, common_steps, length-replicate, length-map, sum_by-cons, All-head, All-tail, All-get_or, All-map, Span, Held, find_held, held_bytes, bytes_of, is_held, held_pages, pages_in_store, with_zeros, without, with_lock, FitsPage, pasted, written, AreHeldApart, apart-push, apart-without, apart-lock, apart-pasted, fits-pasted, length-paste, StoreView, held, frame_of, page_of, Row, row_of, row_pages, row_with_lock, pages_all, frame_named, AreAlike, IsAccess, NameFrames}
 
-pub row_pages-is : (hs : List Held) (id : ℕ) → row_pages (map row_of hs) id ≡ option_map pages_in (find_held hs id)
+pub row_pages-is : (hs : List Held) (id : ℕ) → row_pages (map row_of hs) id ≡ option_map held_pages (find_held hs id)
 row_pages-is [] id = refl
 row_pages-is (g ∷ gs) id = elim (eqb_tells g.id id) [ inl w ↦ rw w.0 refl | inr w ↦ rw w.0 (row_pages-is gs id) ]
 
@@ -51,10 +51,10 @@ rows-written (p ∷ ps) hs new apart fit =
 
 -- WHAT THE ROWS TELL
 
-pub told-some : (o : Option Held) (n : ℕ) → option_map pages_in o ≡ Some n → (is_some o ≡ true) × (length (held_bytes o) / 4096 ≡ n)
+pub told-some : (o : Option Held) (n : ℕ) → option_map held_pages o ≡ Some n → (is_some o ≡ true) × (length (held_bytes o) / 4096 ≡ n)
 told-some o n e = grind (arith, common_steps)
 
-some-told : (o : Option Held) → is_some (option_map pages_in o) ≡ is_some o
+some-told : (o : Option Held) → is_some (option_map held_pages o) ≡ is_some o
 some-told o = grind (arith, common_steps)
 
 module _ (s : StoreView) (hs : List Held) (rows : List Row) (a : AreAlike s hs rows) where

@@ -1,7 +1,7 @@
 -- What the tests keep true of the stores that they make.
 use Rattle.std.specs.Prelude.{ℕ, ◌≡◌, ◌==◌, ◌||◌, Bool, false, if◌then◌else◌, List, [], ◌∷◌, Option, Some, None, map, length, sum_by}
 use Rattle.shm_base.specs.declared.paging.Span.{Span}
-use Rattle.shm_plain.specs.Held.{Held, pages_in}
+use Rattle.shm_plain.specs.Held.{Held, held_pages}
 use Rattle.shm_plain.specs.Apart.{AreHeldApart}
 use Rattle.shm_fault.specs.Store.{StoreView, held, frame_of, page_of}
 
@@ -12,7 +12,7 @@ pub record Row : Type 0 where
   pub pages : ℕ
 
 abbrev pub row_of : Held → Row
-row_of g = record { seg = g.id; locked = g.locked; pages = pages_in g }
+row_of g = record { seg = g.id; locked = g.locked; pages = held_pages g }
 
 -- the store holds segment 0 alone, of three pages
 abbrev pub three_pages : List Row

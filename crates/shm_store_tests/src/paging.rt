@@ -1,7 +1,7 @@
 //! Pages in and out, flushed and moved, with their pagers, seen by their bytes and by the tally.
 ghost use Rattle.std.specs.Prelude.{◌≡◌, ◌+◌, ◌≤◌, false, length, IfOk, OnOk, IsTrue};
 ghost use Rattle.shm_plain.specs.Held.{FitsPage, is_held, pages_in_store, with_zeros};
-ghost use Rattle.shm_slots.specs.View.{IsAreaSize, slots};
+ghost use Rattle.shm_slots.specs.View.{IsAreaSize, swap_slots};
 ghost use Rattle.shm_fault.specs.Store.{held, frame_of, page_of};
 ghost use Rattle.shm_store_tests.specs.Trial.{HasThree};
 
@@ -32,7 +32,7 @@ pub(crate) fn add_segment<P: Pager>(
     pages: u32,
 ) -> Result<(), HostMemory>
     requires new { is_held (held store.old) seg ≡ false }
-    requires room { pages_in_store (held store.old) + pages ≤ slots store.old.swap }
+    requires room { pages_in_store (held store.old) + pages ≤ swap_slots store.old.swap }
     ensures held { OnOk result (held store.new ≡ with_zeros (held store.old) seg pages) }
     ensures frames { OnOk result (length store.new.frames ≡ length store.old.frames) }
 {

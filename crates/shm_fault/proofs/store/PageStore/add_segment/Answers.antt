@@ -1,4 +1,4 @@
-use Rattle.shm_fault.proofs.Names.{◌≡◌, ◌≤◌, ◌+◌, None, sum_by, arith, pages_in_store, slots, find_seg, page_count, held, IsStoreSound, common_steps, nat_tests}
+use Rattle.shm_fault.proofs.Names.{◌≡◌, ◌≤◌, ◌+◌, None, sum_by, arith, pages_in_store, swap_slots, find_seg, page_count, held, IsStoreSound, common_steps, nat_tests}
 use Rattle.shm_fault.specs.Store.{frame_of}
 use Rattle.shm_fault.proofs.Seen.{seen}
 use Rattle.shm_fault.proofs.Failures.{OnOk-map, either_way}
@@ -13,8 +13,8 @@ new g c = not-held (seen c.self.inside) c.self.invariant c.args.seg (rw (← c.s
 sound : (g : given.Over) (c : After-add g) → find_seg c.self.inside.segs c.args.seg ≡ None → IsStoreSound (record (seen c.self.inside) { segs = c.add.new.self })
 sound g c none =
     let s = seen c.self.inside in
-    let room₀ : pages_in_store (held s) + c.args.pages ≤ slots s.swap = rw (← c.self.view_is) at c.requires.room in
-    let room : sum_by page_count s.segs + c.args.pages ≤ slots s.swap = rw (pages_in_store-is s c.self.invariant) at room₀ in
+    let room₀ : pages_in_store (held s) + c.args.pages ≤ swap_slots s.swap = rw (← c.self.view_is) at c.requires.room in
+    let room : sum_by page_count s.segs + c.args.pages ≤ swap_slots s.swap = rw (pages_in_store-is s c.self.invariant) at room₀ in
     grind (arith, sound-added s c.self.invariant c.args.seg c.args.pages none room)
 
 pub add-requires : goal.add-requires

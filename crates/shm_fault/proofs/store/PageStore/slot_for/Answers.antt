@@ -1,4 +1,4 @@
-use Rattle.shm_fault.proofs.Names.{◌≡◌, Some, None, sym, ap, ◌∙◌, arith, used_slots, slots, with_slot_owner, frame_at, PageRec, rec_by}
+use Rattle.shm_fault.proofs.Names.{◌≡◌, Some, None, sym, ap, ◌∙◌, arith, used_slots, swap_slots, with_slot_owner, frame_at, PageRec, rec_by}
 use Rattle.shm_fault.proofs.Seen.{seen}
 use Rattle.shm_fault.proofs.Tally.{used-slots, some_slotless}
 use Rattle.shm_fault.proofs.Pages.{by-still}
@@ -14,7 +14,7 @@ unreachable-requires g c =
     let page = c.resident_page-page.result in
     let owned : (frame_at i.frames c.args.frame).owner ≡ Some page = c.resident_page-page.ensures in
     let none : (rec_by i.segs page).slot ≡ None = ap (λ (p : PageRec). p.slot) (sym c.page-place.ensures) ∙ c.in_default.is in
-    let full : used_slots i.swap ≡ slots i.swap = c.in_default-take_slot.ensures.full in
+    let full : used_slots i.swap ≡ swap_slots i.swap = c.in_default-take_slot.ensures.full in
     let few = some_slotless (seen i) sound.apart page (sound.tied.owners c.args.frame page owned) none in
     let same = used-slots (seen i) sound.apart sound.tied in
     omega (arith, full, few, same, sound.capacity)

@@ -1,4 +1,4 @@
-use Rattle.shm_segments.proofs.Names.{◌≡◌, ◌+◌, ◌%◌, ◌^◌, false, w64, to_le_bytes, span_places, held, number_in, joined_table, number_at}
+use Rattle.shm_segments.proofs.Names.{◌≡◌, ◌+◌, ◌%◌, ◌^◌, false, w64, to_le_bytes, span_places, held, number_in, joined_table, loaded_number}
 use Rattle.shm_segments.proofs.Shown.{number_shown}
 use Rattle.shm_segments.proofs.Spanning.{spans-fit}
 use Rattle.shm_segments.proofs.Remembered.{Wrote, wrote}
@@ -9,7 +9,7 @@ use Rattle.shm_segments.proofs.segments.Segments.add.Goals.{After-self, After-ad
 pub add_with-requires-clause-spans : goal.add_with-requires-clause-spans
 add_with-requires-clause-spans g c = let a = rw (← c.self.view_is) at c.requires.spans in record { few = a.few; fit = spans-fit _ _ c.args.spans.now c.self.invariant.kept.agree a.fit; sum = a.sum }
 
-number : (g : Over) (c : After-self g) → number_at (joined_table (held c.self.inside.store) c.self.inside.table) (span_places false c.args.spans.now) ≡ number_in (held c.self.inside.store) c.args.spans.now
+number : (g : Over) (c : After-self g) → loaded_number (joined_table (held c.self.inside.store) c.self.inside.table) (span_places false c.args.spans.now) ≡ number_in (held c.self.inside.store) c.args.spans.now
 number g c =
     let agree = c.self.invariant.kept.agree in
     number_shown (held c.self.inside.store) c.self.inside.table c.args.spans.now agree (spans-fit _ _ c.args.spans.now agree (rw (← c.self.view_is) at c.requires.spans.fit))
