@@ -179,7 +179,7 @@ module _ (s : StoreView) (sound : IsStoreSound s) (area : ℕ) (here : (area_at 
       let lt : area < length (sizes s.swap) = rw (length-map s.swap.areas size_of) (here-lt s.swap area here) in
       let sum = sum_by-set slots_in (sizes s.swap) area None None lt in
       let size : slots_in (get_or (sizes s.swap) area None) ≡ length (area_at s.swap area).pages = rw (size-at s.swap area, here) refl in
-      let after : slots without_area.swap ≡ sum_by slots_in (set (sizes s.swap) area None) = ap (λ l. sum_by slots_in l) same in
+      let after : swap_slots without_area.swap ≡ sum_by slots_in (set (sizes s.swap) area None) = ap (λ l. sum_by slots_in l) same in
       let all = pages_in_store-is s sound in
       IsSound-from without_area tied-off sound.apart sound.frames is sound.hand
       (omega (arith, sum, size, after, all, room))

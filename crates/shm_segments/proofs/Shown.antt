@@ -77,7 +77,7 @@ pub load_shown : (hs : List Held) (rows : List (Entry Head)) (w : Bool) (ps : Li
 load_shown hs rows w ps agree fit = let fits = each (FitsPage hs) ps fit in loaded-joined (span_places w ps) hs rows (live-spans ps w hs rows agree fits) ∙ get-spans ps w hs fits
 
 -- the number that stands there
-pub number_shown : (hs : List Held) (rows : List (Entry Head)) (ps : List Span) → Agree hs rows → All (FitsPage hs) ps → table.number_at (joined_table hs rows) (span_places false ps) ≡ store.number_in hs ps
+pub number_shown : (hs : List Held) (rows : List (Entry Head)) (ps : List Span) → Agree hs rows → All (FitsPage hs) ps → table.loaded_number (joined_table hs rows) (span_places false ps) ≡ store.number_in hs ps
 number_shown hs rows ps agree fit = ap (from_le_bytes w64) (load_shown hs rows false ps agree fit)
 
 -- WHAT A STORE LEAVES
