@@ -18,7 +18,7 @@ pub record Counts (calls : ℕ) (m : Machine) (memory : StoreView) (t : Tally) :
   pub frames : t.frames ≡ m.limits.frames
   pub resident : t.resident ≡ store.resident memory
   pub dirty : t.dirty ≡ store.dirty memory
-  pub slots : t.slots ≡ view.slots memory.swap
+  pub slots : t.slots ≡ view.swap_slots memory.swap
   pub used : t.used ≡ store.used memory
   pub ins : t.ins ≡ memory.ins
   pub outs : t.outs ≡ memory.outs
