@@ -1,11 +1,9 @@
 -- Failures that are answered are failures that were counted.
-use Rattle.std.proofs.Common.{◌≡◌, ℕ, suc, ◌<◌, ◌≤◌, true, false, List, [], ◌∷◌, length, get_or, refl, inl, inr, arith, sum_by}
+use Rattle.std.proofs.Common.{◌≡◌, ℕ, suc, ◌<◌, ◌≤◌, true, false, List, [], ◌∷◌, length, get_or, refl, arith, sum_by}
 use Rattle.std.specs.List.{list_any}
-use Rattle.std.proofs.lemmas.Bool.Decides.{eqb_tells}
 use Rattle.std.proofs.lemmas.List.Sums.{sum_by-cons}
 use Rattle.std.proofs.lemmas.Grind.{common_steps}
-use Rattle.shm_pager.specs.Pages.{last_count}
-use Rattle.shm_slots.specs.View.{AreaView, SwapView, no_area, rise, is_spent_here, NoneSpent}
+use Rattle.shm_slots.specs.View.{AreaView, SwapView, no_area, rise, is_spent, is_spent_here, IsSwap}
 use Rattle.shm_slots.specs.Cause.{some_spent, total, had_cause, GoesOn}
 
 -- counts that never fell, area by area
@@ -24,17 +22,14 @@ pub total-le : (s t : SwapView) → GoesOn s t → total s ≤ total t
 unfolding total
 total-le s t goes = rises-le s.areas t.areas goes.areas goes.starts goes.counts
 
-none_spent : (xs : List AreaView) → ((k : ℕ) → k < length xs → (get_or xs k no_area).failed < last_count) → list_any is_spent_here xs ≡ false
-none_spent [] below = refl
-none_spent (x ∷ xs) below = elim (eqb_tells x.failed last_count) [
-  | inl w ↦ absurd (omega (arith, below 0, w.1))
-  | inr w ↦ rw w.0 (none_spent xs (λ k l. below (suc k) (omega arith)))
-]
+spent-here : (xs : List AreaView) → list_any is_spent xs ≡ false → list_any is_spent_here xs ≡ false
+spent-here [] e = refl
+spent-here (x ∷ xs) e = grind (arith, common_steps, e, spent-here xs)
 
 -- no area of a swap that was never spent is spent
-pub some_spent-never : (s : SwapView) → NoneSpent s → s.never_spent ≡ true → some_spent s ≡ false
+pub some_spent-never : (s : SwapView) → IsSwap s → s.never_spent ≡ true → some_spent s ≡ false
 unfolding some_spent
-some_spent-never s none flag = none_spent s.areas (none flag)
+some_spent-never s swap flag = grind (arith, common_steps, spent-here s.areas, swap.unspent, flag)
 
 -- where no area was spent, a cause is a failure that was counted
 pub total-lt : (s t : SwapView) → some_spent s ≡ false → had_cause s t ≡ true → total s < total t

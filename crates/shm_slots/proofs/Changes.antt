@@ -1,5 +1,5 @@
 -- One area of a swap changed.
-use Rattle.std.proofs.Common.{◌≡◌, ℕ, zero, suc, ◌<◌, ◌≤◌, Bool, true, not, ◌&&◌, List, [], ◌∷◌, ◌++◌, Option, None, length, get_or, set, map, sum_by, refl, sym, ap, ◌∙◌, inl, inr, arith, get_or-set_same}
+use Rattle.std.proofs.Common.{◌≡◌, ℕ, zero, suc, ◌<◌, ◌≤◌, Bool, true, false, not, ◌&&◌, ◌||◌, List, [], ◌∷◌, ◌++◌, Option, None, length, get_or, set, map, sum_by, refl, sym, ap, ◌∙◌, inl, inr, arith, get_or-set_same}
 use Rattle.std.specs.Prelude.{Result, IfErr, OnErr}
 use Rattle.std.specs.List.{list_any}
 use Rattle.std.proofs.lemmas.Result.{IfErr-weaker}
@@ -58,6 +58,24 @@ map-changed f [] i was a found same = refl
 map-changed f (x ∷ xs) zero was a found same = ap (λ y. y ∷ map f xs) (same ∙ ap f found)
 map-changed f (x ∷ xs) (suc i) was a found same = ap (λ ys. f x ∷ ys) (map-changed f xs i was a found same)
 
+-- whether some area was spent, where one of them has another count
+any_spent-set : (xs : List AreaView) (i : ℕ) (a : AreaView) → i < length xs → (is_spent (get_or xs i no_area) ≡ true → is_spent a ≡ true)
+    → list_any is_spent (set xs i a) ≡ not (not (list_any is_spent xs) && not (is_spent a))
+any_spent-set [] i a lt stays = absurd (omega (arith, lt))
+any_spent-set (x ∷ xs) zero a lt stays = grind (arith, common_steps, stays)
+any_spent-set (x ∷ xs) (suc i) a lt stays = grind (arith, common_steps, any_spent-set xs i a (omega (arith, lt)) stays)
+
+none_spent-at : (xs : List AreaView) (i : ℕ) → i < length xs → list_any is_spent xs ≡ false → is_spent (get_or xs i no_area) ≡ false
+none_spent-at [] i lt e = absurd (omega (arith, lt))
+none_spent-at (x ∷ xs) zero lt e = grind (arith, common_steps, e)
+none_spent-at (x ∷ xs) (suc i) lt e = grind (arith, common_steps, e, none_spent-at xs i (omega (arith, lt)))
+
+any_spent-kept : (xs : List AreaView) (i : ℕ) (was a : AreaView) → was ≡ get_or xs i was → is_spent a ≡ is_spent was
+    → list_any is_spent (set xs i a) ≡ list_any is_spent xs
+any_spent-kept [] i was a found same = refl
+any_spent-kept (x ∷ xs) zero was a found same = grind (arith, common_steps, found, same)
+any_spent-kept (x ∷ xs) (suc i) was a found same = ap (λ b. is_spent x || b) (any_spent-kept xs i was a found same)
+
 size_of-kept : (was a : AreaView) → IsArea was → IsArea a → a.here ≡ was.here → length a.owners ≡ length was.owners → size_of a ≡ size_of was
 size_of-kept was a old new here owners = grind (arith, common_steps)
 
@@ -96,7 +114,7 @@ module _ (s : SwapView) (i : ℕ) (was a : AreaView) (found : was ≡ get_or s.a
 
   -- the count stayed, as did the flag
   IsSwap-kept : IsSwap s → IsArea a → a.failed ≡ was.failed → IsSwap (changed s i a s.never_spent)
-  IsSwap-kept swap area same = grind (arith, common_steps)
+  IsSwap-kept swap area same = grind (arith, common_steps, any_spent-kept s.areas i was a found)
 
   GoesOn-kept : a.start ≡ was.start → a.failed ≡ was.failed → (a.here ≡ true → was.here ≡ true) → GoesOn s (changed s i a s.never_spent)
   GoesOn-kept start failed here = GoesOn-changed s.never_spent start (omega (arith, failed)) here (λ flag. flag)
@@ -115,10 +133,10 @@ module _ (s : SwapView) (i : ℕ) (was a : AreaView) (found : was ≡ get_or s.a
 
   -- the pager was asked
   flag-kept : i < length s.areas → IsSwap s → a.failed ≡ was.failed → (s.never_spent && not (is_spent a)) ≡ s.never_spent
-  flag-kept within swap same = grind (arith, common_steps, at_i within, swap.unspent)
+  flag-kept within swap same = grind (arith, common_steps, at_i within, swap.unspent, none_spent-at s.areas i within)
 
-  IsSwap-asked : IsSwap s → IsArea a → IsSwap (asked_of s i a)
-  IsSwap-asked swap area = grind (arith, common_steps)
+  IsSwap-asked : i < length s.areas → was.failed ≤ a.failed → IsSwap s → IsArea a → IsSwap (asked_of s i a)
+  IsSwap-asked within counts swap area = grind (arith, common_steps, at_i within, any_spent-set s.areas i a within)
 
   module _ (pages : List (List ℕ)) (failed : ℕ) (is : a ≡ record was { pages = pages; failed = failed }) where
     GoesOn-asked : was.failed ≤ a.failed → GoesOn s (asked_of s i a)
@@ -139,7 +157,7 @@ module _ (s : SwapView) (i : ℕ) (was a : AreaView) (found : was ≡ get_or s.a
           before = sym (at_i there.0);
           after = get_or-set_same s.areas i a no_area there.0;
           flag = flag-kept there.0 swap;
-          sound = IsSwap-asked swap area;
+          sound = IsSwap-asked there.0 counts swap area;
           goes_on = GoesOn-asked counts;
           same_sizes = sizes-asked swap area;
           cause = IfErr-weaker r _ _ (λ _ f. had_cause-asked _ slot there swap f) fault;

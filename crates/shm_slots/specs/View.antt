@@ -1,5 +1,5 @@
 -- What contracts see of swap areas, and what the calls change of them.
-use Rattle.std.specs.Prelude.{ℕ, ◌≡◌, ◌≢◌, ◌<◌, ◌≤◌, ◌+◌, ◌-◌, ◌⊎◌, ◌==◌, ◌&&◌, Bool, true, false, not, if◌then◌else◌, List, [], Option, Some, None, set, get_or, map, replicate, length, is_some, sum_by, MatchOption}
+use Rattle.std.specs.Prelude.{ℕ, ◌≡◌, ◌≢◌, ◌<◌, ◌≤◌, ◌+◌, ◌-◌, ◌⊎◌, ◌==◌, ◌&&◌, Bool, true, false, not, if◌then◌else◌, List, [], Option, Some, None, set, get_or, map, replicate, length, is_some, sum_by, All, MatchOption}
 use Rattle.std.specs.List.{list_any}
 use Rattle.shm_base.specs.declared.paging.PageRef.{PageRef}
 use Rattle.shm_base.specs.declared.paging.Slot.{Slot}
@@ -163,9 +163,22 @@ used_in a = used_count a.owners
 abbrev pub used_slots : SwapView → ℕ
 used_slots s = sum_by used_in s.areas
 
--- no area of a swap that was never spent is spent
-abbrev pub NoneSpent : SwapView → Type 0
-NoneSpent s = s.never_spent ≡ true → (area : ℕ) → area < length s.areas → (area_at s area).failed < last_count
+-- some area, one that is gone included, has its count at its last value
+abbrev pub was_spent : SwapView → Bool
+was_spent s = list_any is_spent s.areas
+
+-- the number is the count of some pager of this type
+abbrev pub IsCountOf : {P : Type 0} → (P → ℕ) → ℕ → Type 0
+IsCountOf {P = P} failed n = (p : P) × (failed p ≡ n)
+
+-- so are the area's count as its pager was handed in and its count as it stands
+pub record IsCounted {P : Type 0} (failed : P → ℕ) (a : AreaView) : Type 0 where
+  pub start : IsCountOf failed a.start
+  pub now : IsCountOf failed a.failed
+
+-- so it is with every area: no count is of anything but a pager
+abbrev pub AreCountsOf : {P : Type 0} → (P → ℕ) → SwapView → Type 0
+AreCountsOf failed s = All (IsCounted failed) s.areas
 
 -- how many slots an area may have
 abbrev pub IsAreaSize : ℕ → Type 0
@@ -179,8 +192,8 @@ pub record IsArea (a : AreaView) : Type 0 where
   pub begun : a.start ≤ a.failed
   pub countable : a.failed ≤ last_count
 
--- what is true of every swap
+-- what is true of every swap; it was never spent exactly when no area's count has its last value
 pub record IsSwap (s : SwapView) : Type 0 where
   pub few : length s.areas ≤ 8
   pub each : (area : ℕ) → IsArea (area_at s area)
-  pub unspent : NoneSpent s
+  pub unspent : s.never_spent ≡ not (was_spent s)

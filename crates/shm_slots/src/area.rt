@@ -31,7 +31,7 @@ impl<P: Pager> Drop for Area<P> {
 
 impl<P: Pager> Model for Area<P> {
     ghost use Rattle.std.specs.Prelude.{is_some};
-    ghost use Rattle.shm_slots.specs.View.{AreaView, content_of, count_of, IsArea};
+    ghost use Rattle.shm_slots.specs.View.{AreaView, content_of, count_of, IsArea, IsCountOf};
 
     ghost Value = { AreaView };
 
@@ -49,11 +49,11 @@ impl<P: Pager> Model for Area<P> {
       owners = a.owners;
       start = a.start;
       failed = count_of P.failed a.last a.pager;
-    }) };
+    }) × IsCountOf P.failed a.start × IsCountOf P.failed a.last };
 }
 
 impl<P: Pager> Area<P> {
-    ghost use Rattle.shm_slots.specs.View.{with_page, with_owner, AfterReadFault, AfterWriteFault, is_spent, rise, off, fresh, size_of, IsArea};
+    ghost use Rattle.shm_slots.specs.View.{with_page, with_owner, AfterReadFault, AfterWriteFault, is_spent, rise, off, fresh, size_of, IsArea, IsCounted};
 
     /// An area with no slot owned.
     pub(crate) fn new(alloc: Global, pager: P) -> Result<Area<P>, AllocError>
@@ -90,7 +90,8 @@ impl<P: Pager> Area<P> {
 
     /// What the pager's count has risen by.
     pub(crate) fn rise(&self) -> u64
-        ensures { result ≡ rise self.now }
+        ensures rise { result ≡ rise self.now }
+        ensures counted { IsCounted P.failed self.now }
     {
         self.count() - self.start
     }

@@ -35,7 +35,7 @@ fn stays_unspent<P: Pager>(never_spent: bool, area: &Area<P>) -> bool
 }
 
 impl<P: Pager> Swap<P> {
-    ghost use Rattle.shm_slots.specs.View.{SwapView, new_swap, fresh, area_at, with_area, off, HasSlot, owner_of, page_in, with_slot_page, without_slot, FoundFree, Takes, OneArea, SameSlots, AfterReadFault, AfterWriteFault, size_of, sizes, swap_slots, used_in, used_slots, IsAreaSize, IsSwap};
+    ghost use Rattle.shm_slots.specs.View.{SwapView, new_swap, fresh, area_at, with_area, off, HasSlot, owner_of, page_in, with_slot_page, without_slot, FoundFree, Takes, OneArea, SameSlots, AfterReadFault, AfterWriteFault, size_of, sizes, swap_slots, used_in, used_slots, IsAreaSize, IsSwap, AreCountsOf};
     ghost use Rattle.shm_slots.specs.Cause.{total, had_cause, GoesOn, IsSteady};
 
     /// Swap over these pagers, which become the areas 0, 1 and so on. No slot is owned. A pager that is
@@ -104,9 +104,11 @@ impl<P: Pager> Swap<P> {
 
     #[tactic(auto, unfolding(crate::specs::Cause::total))]
     /// How many failures the pagers have counted since they were handed in, those gone included. The
-    /// sum stays at `u64::MAX`.
+    /// sum stays at `u64::MAX`. Each area's counts, first and last, are counts of pagers: where pagers of this
+    /// type count no failure, there is none.
     pub fn failures(&self) -> u64
         ensures value { result ≡ min (total self.now) last_count }
+        ensures counted { AreCountsOf P.failed self.now }
         ensures sound { IsSwap self.now }
     {
         let mut total: u64 = 0;
