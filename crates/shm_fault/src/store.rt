@@ -1,7 +1,7 @@
 //! The store, made and looked at.
 ghost use Rattle.std.specs.Prelude.{◌≡◌, ℕ, [], ◌∷◌, ◌++◌, ◌+◌, ◌-◌, ◌≤◌, ◌^◌, true, false, length, map, min, None, IfOk, OnOk, OnErr};
 ghost use Rattle.shm_plain.specs.Held.{is_held, pages_in_store, locked_pages_in_store, with_zeros, with_lock};
-ghost use Rattle.shm_slots.specs.View.{swap_slots, owner_of};
+ghost use Rattle.shm_slots.specs.View.{swap_slots, owner_of, AreCountsOf};
 ghost use Rattle.shm_slots.specs.Cause.{total};
 ghost use Rattle.shm_frames.specs.Frame.{IsFrameBlank};
 ghost use Rattle.shm_fault.specs.Segs.{with_seg_lock, new_seg};
@@ -118,6 +118,7 @@ impl<P: Pager> PageStore<P> {
         ensures ins { result.ins ≡ self.now.ins }
         ensures outs { result.outs ≡ self.now.outs }
         ensures failures { result.failures ≡ min (total self.now.swap) (2 ^ 64 - 1) }
+        ensures counted { AreCountsOf P.failed self.now.swap }
         ensures sound { IsStoreSound self.now }
     {
         PageTally {

@@ -39,18 +39,18 @@ begins = (0, zeros, refl, (omega arith, omega arith, omega arith), refl, one)
     one (suc by) v e = absurd (some-ne-none v (sym e))
 
 -- split
-pub forks : (by : ℕ) (v : SeatView) → Forks IsGaugeSound by v v (having_seen zeros)
+pub forks : (by : ℕ) (v : SeatView) → Forks IsGaugeSound by v v (having_seen v.seen)
 forks by v words views h at =
     let back = set_again views by v at in (
       h.0,
       h.1,
       h.2,
       h.3,
-      at_longer (set views by v) (having_seen zeros ∷ []) h.0 (keeping h.1) (ap (λ l. get_elem? l h.0) back ∙ h.4),
+      at_longer (set views by v) (having_seen v.seen ∷ []) h.0 (keeping h.1) (ap (λ l. get_elem? l h.0) back ∙ h.4),
       λ j u e. ⊎_elim
           (λ was. h.5 j u (subst (λ l. get_elem? l j ≡ some u) back was))
-          (λ (same : having_seen zeros ≡ u). subst (Fits h.0 h.1 j) same ((λ c. absurd (off c)), omega arith))
-          (at_snoc (set views by v) (having_seen zeros) u j e),
+          (λ (same : having_seen v.seen ≡ u). subst (Fits h.0 h.1 j) same ((λ c. absurd (off c)), (h.5 by v at).1))
+          (at_snoc (set views by v) (having_seen v.seen) u j e),
     )
 
 -- load

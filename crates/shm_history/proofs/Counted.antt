@@ -3,7 +3,7 @@ use Rattle.std.proofs.Common.{◌≡◌, ℕ, ◌+◌, ◌<◌, ◌≤◌, Bool,
 use Rattle.std.proofs.lemmas.Grind.{common_steps}
 use Rattle.shm_base.specs.History.{is_failure}
 use Rattle.shm_base.specs.declared.call.Event.{Event}
-use Rattle.shm_slots.specs.View.{SwapView, NoneSpent}
+use Rattle.shm_slots.specs.View.{SwapView, IsSwap}
 use Rattle.shm_slots.specs.Cause.{total, had_cause, GoesOn}
 use Rattle.shm_slots.proofs.Causes.{total-le, some_spent-never, total-lt}
 use Rattle.shm_history.specs.WorldState.{failures_in, AreCounted}
@@ -16,13 +16,13 @@ counted_by true old s t a c d = omega (arith, d refl)
 counted_by false old s t a c d = omega arith
 
 -- one more event: its reply, if it names a failure, was counted
-pub counted_more : (events : List Event) (e : Event) (s t : SwapView) → GoesOn s t → NoneSpent s → (is_failure e.call e.reply ≡ true → had_cause s t ≡ true) → AreCounted events s → AreCounted (events ++ e ∷ []) t
+pub counted_more : (events : List Event) (e : Event) (s t : SwapView) → GoesOn s t → IsSwap s → (is_failure e.call e.reply ≡ true → had_cause s t ≡ true) → AreCounted events s → AreCounted (events ++ e ∷ []) t
 unfolding AreCounted
-counted_more events e s t goes none cause before = λ flag.
+counted_more events e s t goes swap cause before = λ flag.
     let old = goes.flag flag in
     rw (failures-more events e)
     (counted_by (is_failure e.call e.reply) (failures_in events) (total s) (total t) (before old) (total-le s t goes)
-    (λ hit. total-lt s t (some_spent-never s none old) (cause hit)))
+    (λ hit. total-lt s t (some_spent-never s swap old) (cause hit)))
 
 -- and none more
 pub counted_on : (events : List Event) (s t : SwapView) → GoesOn s t → AreCounted events s → AreCounted events t

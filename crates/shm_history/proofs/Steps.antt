@@ -70,12 +70,12 @@ run_part n all w v h =
 
 -- the steps stop at one whose place was reached
 pub stops_at : (all : List Step) (i : ℕ) (stop : Step) (w u v : WorldState) → i < length all → stop ≡ get_or all i stop
-    → RunTo w (take i all) u → MayStop u stop → v ≡ record u { room = v.room } → StopsIn w all v
-stops_at all i stop w u v within is ran may rest =
+    → RunTo w (take i all) u → MayStop u stop → v ≡ record u { room = v.room } → u.room ≤ v.room → StopsIn w all v
+stops_at all i stop w u v within is ran may rest room =
     let left = drop (suc i) all in
     let split : all ≡ take i all ++ stop ∷ left =
     sym (take-append-drop i all) ∙ ap (λ (s : List Step). take i all ++ s) (drop-cons all i stop within ∙ ap (λ (s : Step). s ∷ left) (sym is)) in
-    (take i all, stop, left, u, split, ran, may, rest)
+    (take i all, stop, left, u, split, ran, may, rest, room)
 
 step_room : (one : Step) (w v : WorldState) → IsRun w one v → w.room ≤ v.room + length (calls_in one)
 step_room (steps.Call pid call) w v h = h.1.room

@@ -17,7 +17,7 @@ use Rattle.shm_slots.specs.View.{SwapView, swap_slots}
 use Rattle.shm_slots.specs.Cause.{total, had_cause}
 use Rattle.shm_fault.specs.Store.{StoreView, resident, dirty, used}
 use Rattle.shm_fault.specs.Flushing.{IsFlushed}
-use Rattle.shm_life.specs.MachineView.{KeepsOn}
+use Rattle.shm_life.specs.MachineView.{KeepsOn, StillIfRefused}
 use Rattle.shm_base.specs.Memory.{TakesNoMemory}
 
 pub record WorldState : Type 0 where
@@ -56,6 +56,7 @@ pub record IsCalled (before : WorldState) (pid : ℕ) (call : Call) (reply : Rep
   pub move_of : IsMove before.machine (length before.events + 1) (event pid call reply) after.machine
   pub cause : is_failure call reply ≡ true → had_cause before.memory.swap after.memory.swap ≡ true
   pub keeps : KeepsOn before.memory after.memory
+  pub still : StillIfRefused reply before.memory after.memory
   pub opening : after.opening ≡ before.opening
   pub room : before.room ≤ after.room + 1
 
@@ -80,7 +81,7 @@ abbrev pub MayStop : WorldState → Step → Type 0
 MayStop w (steps.Call pid call) = 0 < w.room → (TakesNoMemory call → ⊥) × (is_refusal (step w.machine (length w.events + 1) pid call).reply ≡ false)
 MayStop w (Flush pages) = ⊥
 
--- the steps before one that may stop were run, and after them nothing but the room changed
+-- the steps before one that may stop were run; after them nothing changed but the room, which did not shrink
 abbrev pub StopsIn : WorldState → List Step → WorldState → Type 0
 StopsIn before steps after =
     (done : List Step)
@@ -91,6 +92,7 @@ StopsIn before steps after =
     × RunTo before done last
     × MayStop last stop
     × (after ≡ record last { room = after.room })
+    × (last.room ≤ after.room)
 
 -- a step that asks for no memory where room is left
 abbrev pub StepTakesNone : Step → Type 0

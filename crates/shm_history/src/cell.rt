@@ -51,15 +51,15 @@ impl Outcome<[u64; 4], SeatView> for Stores {
     ghost then = { IsStore };
 }
 
-/// A reader's seat, split off beside the keeper's.
+/// A reader's seat, split off the keeper's: it has seen what the keeper stored last.
 pub struct NewReader;
 
 impl Split<SeatView> for NewReader {
-    ghost use Rattle.shm_history.specs.Gauges.{having_seen, zeros};
+    ghost use Rattle.shm_history.specs.Gauges.{having_seen};
 
     ghost left = { λ v. v };
 
-    ghost right = { λ _. having_seen zeros };
+    ghost right = { λ v. having_seen v.seen };
 }
 
 pub type Cell = RuledSeqCell<[u64; 4], SeatView, Gauged, 4>;

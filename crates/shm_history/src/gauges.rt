@@ -124,10 +124,10 @@ impl Keeper {
         Ok((gauge, of(cell, pass)))
     }
 
-    /// A reader's seat, which has read zeros.
+    /// A reader's seat, which has seen the counts that were stored last.
     pub(crate) fn split_reader(&mut self) -> ReaderSeat
         ensures keeper { self.new ≡ self.old }
-        ensures seat { result ≡ record { cell = self.old.cell; numbers = zeros } }
+        ensures seat { result ≡ self.old }
     {
         ReaderSeat {
             pass: self.cell.split_pass::<NewReader>(&mut self.pass),

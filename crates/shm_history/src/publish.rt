@@ -44,7 +44,7 @@ impl<P: Pager> World<P> {
 }
 
 /// A gauge of a world, with its keeper, which has stored the world's counts, and the seat of a reader, which has
-/// read them.
+/// seen them.
 pub fn gauge<R: Wait, P: Pager>(
     rt: &R,
     alloc: Global,
@@ -52,11 +52,10 @@ pub fn gauge<R: Wait, P: Pager>(
 ) -> Result<(Gauge, Keeper, ReaderSeat), HostMemory>
     ensures cell { IfOk result (λ g. (g.1.cell ≡ g.0) × (g.2.cell ≡ g.0)) }
     ensures stored { IfOk result (λ g. g.1.numbers ≡ reading_of (tally_of world.now)) }
-    ensures seen { IfOk result (λ g. IsReading g.2.numbers) }
+    ensures seen { IfOk result (λ g. g.2.numbers ≡ reading_of (tally_of world.now)) }
 {
     let (gauge, mut keeper) = Keeper::new(alloc)?;
-    let mut seat = keeper.split_reader();
     world.publish(rt, &mut keeper);
-    gauge.read(rt, &mut seat);
+    let seat = keeper.split_reader();
     Ok((gauge, keeper, seat))
 }

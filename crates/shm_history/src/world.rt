@@ -6,6 +6,7 @@ ghost use Rattle.std.specs.Prelude.{◌≡◌, ◌+◌, ◌-◌, ◌<◌, ◌≤
 ghost use Rattle.shm_base.specs.History.{IsHistory, is_refusal};
 ghost use Rattle.shm_base.specs.Step.{step};
 ghost use mathlib.Core.List.{IsPrefix};
+ghost use Rattle.shm_slots.specs.View.{AreCountsOf};
 ghost use Rattle.shm_fault.specs.Flushing.{IsFlushed};
 ghost use Rattle.shm_life.specs.MachineView.{IsExactly, KeepsOn};
 ghost use Rattle.shm_base.specs.Memory.{TakesNoMemory};
@@ -178,16 +179,19 @@ impl<P: Pager> World<P> {
     /// The counts of the machine as they are, and of what its pagers did. They keep their bounds.
     pub fn tally(&self) -> Tally
         ensures counts { result ≡ tally_of self.now }
+        ensures counted { AreCountsOf P.failed self.now.memory.swap }
         ensures exact { IsExactly self.now.machine self.now.memory }
     {
         self.system.tally()
     }
 
-    // One step. Where memory is out, nothing changes but the room, and that comes only at a step that may find none.
+    // One step. Where memory is out, nothing changes but the room, which does not shrink; that comes only at a step that
+    // may find none.
     fn run_step(&mut self, step: &Step) -> Result<(), HostMemory>
         ensures ran { OnOk result (IsRun self.old step.now self.new) }
         ensures stopped { OnErr result (self.new ≡ record self.old { room = self.new.room }) }
         ensures may_stop { OnErr result (MayStop self.old step.now) }
+        ensures room { OnErr result (self.old.room ≤ self.new.room) }
     {
         match step {
             Step::Call(pid, call) => {
@@ -200,8 +204,9 @@ impl<P: Pager> World<P> {
         Ok(())
     }
 
-    /// Runs the steps in order. It stops where memory is out first, and the steps before it stand. With room for
-    /// every call, and no call that takes memory, it runs them all.
+    /// Runs the steps in order. It stops where memory is out first, and keeps the steps before that one. Each
+    /// recorded call takes the room of one event at most, and nothing else takes any. With room for every call, and
+    /// no call that takes memory, it runs them all.
     pub fn run_steps(&mut self, steps: &[Step]) -> Result<(), HostMemory>
         ensures steps { OnOk result (RunTo self.old steps.now self.new) }
         ensures stopped { OnErr result (StopsIn self.old steps.now self.new) }

@@ -1,5 +1,8 @@
 -- What contracts see of a machine: the flat machine, and the memory that its bytes lie in.
-use Rattle.std.specs.Prelude.{◌≡◌, ◌≤◌, true, false, length}
+use Rattle.std.specs.Prelude.{◌≡◌, ◌≤◌, Bool, true, false, length}
+use Rattle.shm_base.specs.declared.call.Reply.{Reply}
+use Rattle.shm_base.specs.declared.call.Reply.TheVariants.{Refused}
+use Rattle.shm_base.specs.declared.errno.Errno.TheVariants.{Sigbus, Eio}
 use Rattle.shm_base.specs.State.{Machine}
 use Rattle.shm_base.specs.Step.{Outcome}
 use Rattle.shm_base.specs.History.{is_refusal}
@@ -20,6 +23,16 @@ pub record MachineView : Type 0 where
 pub record KeepsOn (before after : StoreView) : Type 0 where
   pub kept : LockedPagesStay before after
   pub goes_on : GoesOn before.swap after.swap
+
+-- the refusals that name a pager's failure
+abbrev pub names_failure : Reply → Bool
+names_failure (Refused Sigbus) = true
+names_failure (Refused Eio) = true
+names_failure _ = false
+
+-- every other refusal leaves the memory as it was: no page moves, no bit changes, no count rises
+abbrev pub StillIfRefused : Reply → StoreView → StoreView → Type 0
+StillIfRefused reply before after = is_refusal reply ≡ true → names_failure reply ≡ false → after ≡ before
 
 -- a pager failed where the flat machine refuses nothing, and its state stays
 pub record IsFailed (o : Outcome) (s t : MachineView) : Type 0 where

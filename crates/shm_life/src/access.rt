@@ -5,7 +5,7 @@ ghost use Rattle.shm_base.specs.History.{is_failure};
 ghost use Rattle.shm_base.specs.Step as flat;
 ghost use Rattle.shm_base.specs.declared.call.Call.TheVariants as call;
 ghost use Rattle.shm_attach.specs.Spaces.{IsCaller, caller_seen};
-ghost use Rattle.shm_life.specs.MachineView.{IsFailed, KeepsOn};
+ghost use Rattle.shm_life.specs.MachineView.{IsFailed, KeepsOn, StillIfRefused};
 
 use crate::kernel::Kernel;
 use shm_attach::Caller;
@@ -21,6 +21,7 @@ impl<P: Pager> Kernel<P> {
         ensures step { is_failure (call.Load addr len) reply.new ≡ false → flat.load self.old.flat (places (caller_seen caller.now self.old.flat.runners).pieces addr len) ≡ record { reply = reply.new; state = self.new.flat } }
         ensures failed { is_failure (call.Load addr len) reply.new ≡ true → IsFailed (flat.load self.old.flat (places (caller_seen caller.now self.old.flat.runners).pieces addr len)) self.old self.new }
         ensures keeps { KeepsOn self.old.memory self.new.memory }
+        ensures still { StillIfRefused reply.new self.old.memory self.new.memory }
     {
         let Ok(spans) = self.spaces.spans_of(caller, addr, len.get() as u64, false) else {
             *reply = Reply::Refused(Errno::Sigsegv);
@@ -48,6 +49,7 @@ impl<P: Pager> Kernel<P> {
         ensures step { is_failure (call.Store addr chunk.now) reply.new ≡ false → flat.store self.old.flat chunk.now (writable_places (caller_seen caller.now self.old.flat.runners).pieces addr (length chunk.now)) ≡ record { reply = reply.new; state = self.new.flat } }
         ensures failed { is_failure (call.Store addr chunk.now) reply.new ≡ true → IsFailed (flat.store self.old.flat chunk.now (writable_places (caller_seen caller.now self.old.flat.runners).pieces addr (length chunk.now))) self.old self.new }
         ensures keeps { KeepsOn self.old.memory self.new.memory }
+        ensures still { StillIfRefused reply.new self.old.memory self.new.memory }
     {
         let bytes = chunk.as_slice();
         let Ok(spans) = self.spaces.spans_of(caller, addr, bytes.len() as u64, true) else {
@@ -73,6 +75,7 @@ impl<P: Pager> Kernel<P> {
         ensures step { is_failure (call.Xadd addr add) reply.new ≡ false → flat.xadd self.old.flat add (writable_places (caller_seen caller.now self.old.flat.runners).pieces addr 8) ≡ record { reply = reply.new; state = self.new.flat } }
         ensures failed { is_failure (call.Xadd addr add) reply.new ≡ true → IsFailed (flat.xadd self.old.flat add (writable_places (caller_seen caller.now self.old.flat.runners).pieces addr 8)) self.old self.new }
         ensures keeps { KeepsOn self.old.memory self.new.memory }
+        ensures still { StillIfRefused reply.new self.old.memory self.new.memory }
     {
         let Ok(spans) = self.spaces.spans_of(caller, addr, 8, true) else {
             *reply = Reply::Refused(Errno::Sigsegv);

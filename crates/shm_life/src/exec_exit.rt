@@ -2,7 +2,7 @@
 ghost use Rattle.std.specs.Prelude.{◌≡◌};
 ghost use Rattle.shm_base.specs.Step as flat;
 ghost use Rattle.shm_attach.specs.Spaces.{IsCaller, caller_seen};
-ghost use Rattle.shm_life.specs.MachineView.{KeepsOn};
+ghost use Rattle.shm_life.specs.MachineView.{KeepsOn, StillIfRefused};
 
 use crate::kernel::Kernel;
 use crate::sweep::after_detach;
@@ -18,6 +18,7 @@ impl<P: Pager> Kernel<P> {
         requires { IsCaller caller.now self.old.flat.runners }
         ensures step { flat.exec self.old.flat time (caller_seen caller.now self.old.flat.runners) ≡ record { reply = reply.new; state = self.new.flat } }
         ensures keeps { KeepsOn self.old.memory self.new.memory }
+        ensures still { StillIfRefused reply.new self.old.memory self.new.memory }
     {
         let lost = self.spaces.exec(caller);
         after_detach(
@@ -37,6 +38,7 @@ impl<P: Pager> Kernel<P> {
         requires { IsCaller caller.now self.old.flat.runners }
         ensures step { flat.exit self.old.flat time (caller_seen caller.now self.old.flat.runners) ≡ record { reply = reply.new; state = self.new.flat } }
         ensures keeps { KeepsOn self.old.memory self.new.memory }
+        ensures still { StillIfRefused reply.new self.old.memory self.new.memory }
     {
         let lost = self.spaces.exit(caller);
         after_detach(

@@ -8,7 +8,7 @@ ghost use Rattle.shm_base.specs.Step as flat;
 ghost use Rattle.shm_attach.specs.Spaces.{caller_seen};
 ghost use Rattle.shm_segments.specs.Joined.{segment_of};
 ghost use Rattle.shm_segments.specs.Table.{IsFound, segment_seen};
-ghost use Rattle.shm_life.specs.MachineView.{KeepsOn};
+ghost use Rattle.shm_life.specs.MachineView.{KeepsOn, StillIfRefused};
 
 use crate::kernel::Kernel;
 use crate::sweep::sweep;
@@ -107,6 +107,7 @@ impl<P: Pager> Kernel<P> {
     )
         ensures step { flat.controls self.old.flat (caller_seen caller.now self.old.flat.runners) (flat.sets self.old.flat time uid gid mode) (flat_ids.look self.old.flat.table id) ≡ record { reply = reply.new; state = self.new.flat } }
         ensures keeps { KeepsOn self.old.memory self.new.memory }
+        ensures still { StillIfRefused reply.new self.old.memory self.new.memory }
     {
         let Some(found) = self.controlled(caller, id, reply) else {
             return;
@@ -120,6 +121,7 @@ impl<P: Pager> Kernel<P> {
     pub(crate) fn rmid(&mut self, caller: &Caller, id: ShmId, reply: &mut Reply)
         ensures step { flat.controls self.old.flat (caller_seen caller.now self.old.flat.runners) (flat.removes self.old.flat) (flat_ids.look self.old.flat.table id) ≡ record { reply = reply.new; state = self.new.flat } }
         ensures keeps { KeepsOn self.old.memory self.new.memory }
+        ensures still { StillIfRefused reply.new self.old.memory self.new.memory }
     {
         let Some(found) = self.controlled(caller, id, reply) else {
             return;
@@ -143,6 +145,7 @@ impl<P: Pager> Kernel<P> {
     pub(crate) fn lock(&mut self, caller: &Caller, id: ShmId, reply: &mut Reply)
         ensures step { flat.controls self.old.flat (caller_seen caller.now self.old.flat.runners) (flat.locks self.old.flat) (flat_ids.look self.old.flat.table id) ≡ record { reply = reply.new; state = self.new.flat } }
         ensures keeps { KeepsOn self.old.memory self.new.memory }
+        ensures still { StillIfRefused reply.new self.old.memory self.new.memory }
     {
         let Some(found) = self.controlled(caller, id, reply) else {
             return;
@@ -160,6 +163,7 @@ impl<P: Pager> Kernel<P> {
     pub(crate) fn unlock(&mut self, caller: &Caller, id: ShmId, reply: &mut Reply)
         ensures step { flat.controls self.old.flat (caller_seen caller.now self.old.flat.runners) (flat.unlocks self.old.flat) (flat_ids.look self.old.flat.table id) ≡ record { reply = reply.new; state = self.new.flat } }
         ensures keeps { KeepsOn self.old.memory self.new.memory }
+        ensures still { StillIfRefused reply.new self.old.memory self.new.memory }
     {
         let Some(found) = self.controlled(caller, id, reply) else {
             return;

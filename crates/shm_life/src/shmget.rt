@@ -7,7 +7,7 @@ ghost use Rattle.shm_base.specs.Step as flat;
 ghost use Rattle.shm_attach.specs.Spaces.{caller_seen};
 ghost use Rattle.shm_segments.specs.Joined.{head_of};
 ghost use Rattle.shm_segments.specs.Table.{IsFound, look_of};
-ghost use Rattle.shm_life.specs.MachineView.{KeepsOn};
+ghost use Rattle.shm_life.specs.MachineView.{KeepsOn, StillIfRefused};
 
 use crate::kernel::Kernel;
 use bitflags::Flags;
@@ -67,6 +67,7 @@ impl<P: Pager> Kernel<P> {
     ) -> Result<(), HostMemory>
         ensures step { OnOk result (flat.shmget self.old.flat time (caller_seen caller.now self.old.flat.runners) key size mode flags ≡ record { reply = reply.new; state = self.new.flat }) }
         ensures keeps { KeepsOn self.old.memory self.new.memory }
+        ensures still { OnOk result (StillIfRefused reply.new self.old.memory self.new.memory) }
         ensures err { OnErr result (self.new ≡ self.old) }
         ensures memory { OnErr result (is_refusal (flat.shmget self.old.flat time (caller_seen caller.now self.old.flat.runners) key size mode flags).reply ≡ false) }
     {
@@ -126,6 +127,7 @@ impl<P: Pager> Kernel<P> {
         requires absent { key ≢ 0 → flat_ids.find_key self.old.flat.table key ≡ flat_ids.Invalid }
         ensures step { OnOk result (flat.creates self.old.flat time (caller_seen caller.now self.old.flat.runners) key size mode ≡ record { reply = reply.new; state = self.new.flat }) }
         ensures keeps { KeepsOn self.old.memory self.new.memory }
+        ensures still { OnOk result (StillIfRefused reply.new self.old.memory self.new.memory) }
         ensures err { OnErr result (self.new ≡ self.old) }
         ensures memory { OnErr result (is_refusal (flat.creates self.old.flat time (caller_seen caller.now self.old.flat.runners) key size mode).reply ≡ false) }
     {

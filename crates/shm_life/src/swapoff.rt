@@ -4,7 +4,7 @@ ghost use Rattle.shm_base.specs.History.{is_failure};
 ghost use Rattle.shm_base.specs.Step as flat;
 ghost use Rattle.shm_base.specs.declared.call.Call.TheVariants as call;
 ghost use Rattle.shm_attach.specs.Spaces.{caller_seen};
-ghost use Rattle.shm_life.specs.MachineView.{IsFailed, KeepsOn};
+ghost use Rattle.shm_life.specs.MachineView.{IsFailed, KeepsOn, StillIfRefused};
 
 use crate::kernel::Kernel;
 use shm_attach::Caller;
@@ -20,6 +20,7 @@ impl<P: Pager> Kernel<P> {
         ensures step { is_failure (call.Swapoff area) reply.new ≡ false → flat.swapoff self.old.flat (caller_seen caller.now self.old.flat.runners) area ≡ record { reply = reply.new; state = self.new.flat } }
         ensures failed { is_failure (call.Swapoff area) reply.new ≡ true → IsFailed (flat.swapoff self.old.flat (caller_seen caller.now self.old.flat.runners) area) self.old self.new }
         ensures keeps { KeepsOn self.old.memory self.new.memory }
+        ensures still { StillIfRefused reply.new self.old.memory self.new.memory }
     {
         if caller.cred.uid != 0 {
             *reply = Reply::Refused(Errno::Eperm);

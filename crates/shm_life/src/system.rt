@@ -1,7 +1,7 @@
 //! A machine with its swap areas, how it began, and how many calls it answered.
 ghost use Rattle.std.specs.Prelude.{◌≡◌, ◌<◌, length, map, IfOk, IfErr, OnOk, OnErr, None};
 ghost use Rattle.shm_life.specs.Start.{start_error, IsFirstError};
-ghost use Rattle.shm_slots.specs.View.{fresh};
+ghost use Rattle.shm_slots.specs.View.{fresh, AreCountsOf};
 ghost use Rattle.shm_pager.specs.Pages.{pager_seen};
 ghost use Rattle.shm_fault.specs.Flushing.{IsFlushed};
 ghost use Rattle.shm_life.specs.MachineView.{KeepsOn, IsExactly};
@@ -192,6 +192,7 @@ impl<P: Pager> System<P> {
     /// The counts of the machine as they are, and of what its pagers did. They keep their bounds.
     pub fn tally(&self) -> Tally
         ensures counts { Counts self.now.calls self.now.machine self.now.memory result }
+        ensures counted { AreCountsOf P.failed self.now.memory.swap }
         ensures exact { IsExactly self.now.machine self.now.memory }
     {
         let pages = self.store().tally();

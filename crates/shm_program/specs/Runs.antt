@@ -1,7 +1,10 @@
 -- The world that a script opens, what is written of it, and what a run's faults say of its input.
-use Rattle.std.specs.Prelude.{◌≡◌, ℕ, Bool, true, false, List, Option, Some, None, Ok, Err}
+use Rattle.std.specs.Prelude.{◌≡◌, ℕ, Bool, true, false, List, map, Option, Some, None, Ok, Err}
 use Rattle.std.specs.Io.KnownBytes.{Appends, Keeps}
 use Rattle.shm_base.specs.State.{Opening}
+use Rattle.shm_pager.specs.Pages.{pager_seen}
+use Rattle.shm_slots.specs.View.{SwapView, fresh, new_swap}
+use Rattle.shm_fault.specs.Store.{StoreView, fresh_store}
 use Rattle.shm_base.specs.History.{IsHistory}
 use Rattle.shm_life.specs.declared.start.StartError.{StartError}
 use Rattle.shm_life.specs.Start.{start_error, error_number}
@@ -28,6 +31,14 @@ pub record IsWorldSound (w : WorldState) : Type 0 where
 pub record IsOpening (script : ScriptView) (opening : Opening) : Type 0 where
   pub started : start_error opening.areas script.processes ≡ None
   pub is : opening ≡ opening_of script opening.areas
+
+-- the swap areas as these pagers are handed in
+abbrev pub handed_in : {P : Type 0} → (P → List (List ℕ)) → (P → ℕ) → List P → SwapView
+handed_in content failed pagers = new_swap (map (λ p. fresh (pager_seen content failed p)) pagers)
+
+-- the memory as a world opens over swap areas: no segment, and each area as it was handed in
+abbrev pub IsFresh : SwapView → StoreView → Type 0
+IsFresh swap memory = memory ≡ fresh_store memory.frames swap
 
 -- a world over these areas as a script opens it
 pub record IsWorldOf (script : ScriptView) (areas : List ℕ) (w : WorldState) : Type 0 where

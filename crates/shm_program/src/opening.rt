@@ -1,7 +1,7 @@
 //! The world that a script opens.
 ghost use Rattle.std.specs.Prelude.{◌≡◌, [], length, map, IfErr, IfOk};
 ghost use Rattle.shm_life.specs.Start.{start_error};
-ghost use Rattle.shm_program.specs.Runs.{IsOpening, IsStop};
+ghost use Rattle.shm_program.specs.Runs.{IsOpening, IsFresh, IsStop, handed_in};
 
 use crate::fault::{RunFault, stopped};
 use shm_history::{System, World};
@@ -9,7 +9,7 @@ use shm_pager::Pager;
 use shm_text::Script;
 use std::alloc::Global;
 
-/// A world as a script opens it, with no event yet. It fails as the start of its system does: by the first
+/// A world as a script opens it, with no event yet, over the pagers as they are handed in. It fails as the start of its system does: by the first
 /// start error that holds, or out of memory; the pagers are dropped then.
 pub fn open_world<P: Pager>(
     alloc: Global,
@@ -19,6 +19,7 @@ pub fn open_world<P: Pager>(
     ensures opened { IfOk result (λ w. IsOpening script.now w.opening) }
     ensures areas { IfOk result (λ w. w.opening.areas ≡ map (λ p. length (P.content p)) pagers.items) }
     ensures events { IfOk result (λ w. w.events ≡ []) }
+    ensures memory { IfOk result (λ w. IsFresh (handed_in P.content P.failed pagers.items) w.memory) }
     ensures err { IfErr result (λ f. IsStop f (start_error (map (λ p. length (P.content p)) pagers.items) script.now.processes)) }
 {
     match System::start(alloc, script.limits, pagers, &script.processes) {

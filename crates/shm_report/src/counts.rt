@@ -1,4 +1,5 @@
 ghost use Rattle.std.specs.Prelude.{◌≡◌, IfOk, string_bytes};
+ghost use Rattle.shm_slots.specs.View.{AreCountsOf};
 ghost use Rattle.shm_history.specs.WorldState.{tally_of};
 ghost use Rattle.shm_print.specs.Usage.{usage_text};
 
@@ -8,7 +9,8 @@ use std::alloc::{AllocError, Global};
 
 /// The usage of a world as it is, in three lines.
 pub fn usage<P: Pager>(alloc: Global, world: &World<P>) -> Result<String, AllocError>
-    ensures { IfOk result (λ s. string_bytes s ≡ usage_text (tally_of world.now)) }
+    ensures text { IfOk result (λ s. string_bytes s ≡ usage_text (tally_of world.now)) }
+    ensures counted { AreCountsOf P.failed world.now.memory.swap }
 {
     shm_print::usage_text(alloc, &world.tally())
 }

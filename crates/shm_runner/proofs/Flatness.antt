@@ -4,7 +4,9 @@ use Rattle.shm_base.specs.declared.call.Event.{Event}
 use Rattle.shm_base.specs.State.{Machine, Opening, start_of}
 use Rattle.shm_base.specs.Step.{Outcome, step}
 use Rattle.shm_base.specs.History.{LeadsFrom}
+use Rattle.shm_slots.specs.View.{AreCountsOf}
 use Rattle.shm_slots.specs.Cause.{total}
+use Rattle.shm_slots.proofs.Causes.{unfailing}
 use Rattle.shm_history.specs.WorldState.{WorldState, AreCounted, event, failures_in, tally_of}
 use Rattle.shm_print.specs.Text.{events_text}
 use Rattle.shm_print.specs.Usage.{usage_text}
@@ -16,7 +18,7 @@ use Rattle.shm_text.specs.declared.script.Line.TheVariants.{Command, Flush}
 use Rattle.shm_history.proofs.Clear.{clear_step, first_clear, rest_clear}
 use Rattle.shm_program.specs.Values.{HolderView, fresh_holder, values_of, with_answer}
 use Rattle.shm_program.specs.Runs.{IsWorldOf, opening_of}
-use Rattle.shm_runner.specs.Output.{RunsInOrder, world_text}
+use Rattle.shm_runner.specs.Output.{NeverFails, RunsInOrder, world_text}
 use Rattle.shm_runner.specs.Flat.{line_step, flat_events, flat_end, flat_text}
 
 pub is_flat : (n : ℕ) (s : Machine) (hs : List HolderView) (ls : List Line) (es : List Event) (t : Machine)
@@ -52,3 +54,21 @@ flat_printed script areas w is follows unspent clear =
     let usage = usage_text (tally_of w) in
     ap (λ (es : List Event). events_text 1 es ++ listing_of w.machine ++ usage) flat.0
     ∙ ap (λ (m : Machine). events_text 1 (flat_events 1 (start_of (opening_of script areas)) hs script.lines) ++ listing_of m ++ usage) flat.1
+
+-- over pagers that never fail no failure was counted, and no area was spent
+clear_counts : {P : Type 0} (failed : P → ℕ) {script : ScriptView} {areas : List ℕ} (w : WorldState) → IsWorldOf script areas w → AreCountsOf failed w.memory.swap → NeverFails failed
+    → (w.memory.swap.never_spent ≡ true) × (total w.memory.swap ≡ 0)
+clear_counts failed w is counted never = unfailing failed w.memory.swap is.sound.exact.sound.swap counted never
+
+-- what is printed of a world over pagers that never fail
+pub flat_unfailing : {P : Type 0} (failed : P → ℕ) (script : ScriptView) (areas : List ℕ) (w : WorldState) → IsWorldOf script areas w → AreCountsOf failed w.memory.swap → RunsInOrder (map fresh_holder script.processes) script.lines w.events
+    → NeverFails failed → world_text w ≡ flat_text script areas ++ usage_text (tally_of w)
+flat_unfailing failed script areas w is counted follows never =
+    let clear = clear_counts failed w is counted never in
+    flat_printed script areas w is follows clear.0 clear.1
+
+-- and its history names no failure
+pub none_unfailing : {P : Type 0} (failed : P → ℕ) (script : ScriptView) (areas : List ℕ) (w : WorldState) → IsWorldOf script areas w → AreCountsOf failed w.memory.swap → NeverFails failed → failures_in w.events ≡ 0
+none_unfailing failed script areas w is counted never =
+    let clear = clear_counts failed w is counted never in
+    omega (arith, no_failures w is clear.0, clear.1)

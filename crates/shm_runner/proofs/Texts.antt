@@ -2,6 +2,8 @@
 use Rattle.std.proofs.Common.{◌≡◌, refl, inl, inr, ℕ, Bool, true, false, List, Option, map, Ok}
 use Rattle.std.specs.Prelude.{IfSome, OnOk, IfErr, Result, Err}
 use Rattle.std.specs.Io.KnownBytes.{Appends, IsAtEnd}
+use Rattle.shm_slots.specs.View.{SwapView, AreCountsOf}
+use Rattle.shm_slots.specs.Cause.{GoesOn}
 use Rattle.shm_history.specs.WorldState.{WorldState}
 use Rattle.shm_text.specs.Script.{ScriptView}
 use Rattle.shm_text.specs.Reading.{script_of}
@@ -9,35 +11,54 @@ use Rattle.shm_transcripts.specs.declared.transcript.Transcript.{Transcript}
 use Rattle.shm_program.specs.Values.{fresh_holder}
 use Rattle.shm_program.specs.Runs.{IsWorldOf, IsWritten, Prints}
 use Rattle.shm_runner.specs.Output.{IsOutput, RunsInOrder, world_text}
-use Rattle.shm_runner.proofs.Flatness.{flat_printed}
+use Rattle.shm_runner.proofs.Flatness.{flat_printed, flat_unfailing, none_unfailing}
 use Rattle.shm_program.proofs.Texts.{shown}
 use Rattle.shm_transcripts.specs.Transcripts.{AreTranscripts}
 use Rattle.shm_runner.specs.Threaded.{IsThreadedOutput, IsAllOrNothing, have_mark}
 use Rattle.shm_program.specs.declared.fault.RunFault.{RunFault}
 
-pub serial_text : (result : Result (Unit {0}) RunFault) (script : ScriptView) (areas : List ℕ) (w : WorldState) (old new : Option (List ℕ)) → IsWorldOf script areas w → RunsInOrder (map fresh_holder script.processes) script.lines w.events → OnOk result (Appends old new (world_text w)) → OnOk result (IsWritten (IsOutput script areas) old new)
-serial_text (Ok done) script areas w old new is follows written = (world_text w, record { world = w; is_world = is; follows = follows; printed = refl; invisible = flat_printed script areas w is follows }, written)
-serial_text (Err fault) script areas w old new is follows written = tt
+-- what is known of a world that is printed, beside the order of its history
+pub record Known {P : Type 0} (failed : P → ℕ) (script : ScriptView) (areas : List ℕ) (w : WorldState) : Type 0 where
+  pub is_world : IsWorldOf script areas w
+  pub counted : AreCountsOf failed w.memory.swap
 
-text_of : (marked : Bool) (script : ScriptView) (areas : List ℕ) (w : WorldState) (transcripts : List Transcript) (old new : Option (List ℕ)) → IsWorldOf script areas w → AreTranscripts script w.events transcripts → have_mark transcripts ≡ marked → Appends old new (world_text w) → IsWritten (IsThreadedOutput marked script areas) old new
-text_of marked script areas w transcripts old new is run marks written = (world_text w, record { world = w; transcripts = transcripts; is_world = is; is_run = run; marks = marks; printed = refl }, written)
+pub serial_text : {P : Type 0} (failed : P → ℕ) (swap : SwapView) (result : Result (Unit {0}) RunFault) (script : ScriptView) (areas : List ℕ) (w : WorldState) (old new : Option (List ℕ))
+    → Known failed script areas w → OnOk result (GoesOn swap w.memory.swap) → OnOk result (RunsInOrder (map fresh_holder script.processes) script.lines w.events)
+    → OnOk result (Appends old new (world_text w)) → OnOk result (IsWritten (IsOutput failed swap script areas) old new)
+serial_text failed swap (Ok done) script areas w old new k began follows written =
+    let flat = flat_printed script areas w k.is_world follows in
+    let unfailing = flat_unfailing failed script areas w k.is_world k.counted follows in
+    (world_text w, record { world = w; is_world = k.is_world; began = began; counted = k.counted; follows = follows; printed = refl; invisible = flat; unfailing = unfailing }, written)
+serial_text failed swap (Err fault) script areas w old new k began follows written = tt
 
-pub threaded_text : (result : Result (Unit {0}) RunFault) (script : ScriptView) (areas : List ℕ) (w : WorldState) (transcripts : List Transcript) (old new : Option (List ℕ)) → IsWorldOf script areas w → AreTranscripts script w.events transcripts → OnOk result ((have_mark transcripts ≡ false) × Appends old new (world_text w)) → OnOk result (IsWritten (IsThreadedOutput false script areas) old new)
-threaded_text (Ok done) script areas w transcripts old new is run (marks, written) = text_of false script areas w transcripts old new is run marks written
-threaded_text (Err fault) script areas w transcripts old new is run e = tt
+module _ {P : Type 0} (failed : P → ℕ) (script : ScriptView) (areas : List ℕ) where
+  text_of : (marked : Bool) (w : WorldState) (transcripts : List Transcript) (old new : Option (List ℕ)) → Known failed script areas w → AreTranscripts script w.events transcripts → have_mark transcripts ≡ marked → Appends old new (world_text w)
+      → IsWritten (IsThreadedOutput failed marked script areas) old new
+  text_of marked w transcripts old new k run marks written =
+      let unfailing = none_unfailing failed script areas w k.is_world k.counted in
+      (world_text w, record { world = w; transcripts = transcripts; is_world = k.is_world; counted = k.counted; unfailing = unfailing; is_run = run; marks = marks; printed = refl }, written)
 
-marked_by : (fault : RunFault) (script : ScriptView) (areas : List ℕ) (w : WorldState) (transcripts : List Transcript) (old new : Option (List ℕ)) → IsWorldOf script areas w → AreTranscripts script w.events transcripts → IsAllOrNothing fault old new ((have_mark transcripts ≡ true) × Appends old new (world_text w)) → IsAllOrNothing fault old new (IsWritten (IsThreadedOutput true script areas) old new)
-marked_by fault script areas w transcripts old new is run (inl silent) = inl silent
-marked_by fault script areas w transcripts old new is run (inr (e, (marks, written))) = inr (e, text_of true script areas w transcripts old new is run marks written)
+  pub threaded_text : (result : Result (Unit {0}) RunFault) (w : WorldState) (transcripts : List Transcript) (old new : Option (List ℕ)) → Known failed script areas w → AreTranscripts script w.events transcripts → OnOk result ((have_mark transcripts ≡ false) × Appends old new (world_text w))
+      → OnOk result (IsWritten (IsThreadedOutput failed false script areas) old new)
+  threaded_text (Ok done) w transcripts old new k run (marks, written) = text_of false w transcripts old new k run marks written
+  threaded_text (Err fault) w transcripts old new k run e = tt
 
-pub marked_text : (result : Result (Unit {0}) RunFault) (script : ScriptView) (areas : List ℕ) (w : WorldState) (transcripts : List Transcript) (old new : Option (List ℕ)) → IsWorldOf script areas w → AreTranscripts script w.events transcripts → IfErr result (λ f. IsAllOrNothing f old new ((have_mark transcripts ≡ true) × Appends old new (world_text w))) → IfErr result (λ f. IsAllOrNothing f old new (IsWritten (IsThreadedOutput true script areas) old new))
-marked_text (Ok done) script areas w transcripts old new is run e = tt
-marked_text (Err fault) script areas w transcripts old new is run e = marked_by fault script areas w transcripts old new is run e
+  marked_by : (fault : RunFault) (w : WorldState) (transcripts : List Transcript) (old new : Option (List ℕ)) → Known failed script areas w → AreTranscripts script w.events transcripts → IsAllOrNothing fault old new ((have_mark transcripts ≡ true) × Appends old new (world_text w))
+      → IsAllOrNothing fault old new (IsWritten (IsThreadedOutput failed true script areas) old new)
+  marked_by fault w transcripts old new k run (inl silent) = inl silent
+  marked_by fault w transcripts old new k run (inr (e, (marks, written))) = inr (e, text_of true w transcripts old new k run marks written)
 
-marked_shown : (fault : RunFault) (input rest old new : Option (List ℕ)) (areas : List ℕ) (script : ScriptView) → IfSome input (λ bytes. script_of bytes ≡ Ok script) → IsAtEnd rest → IsAllOrNothing fault old new (IsWritten (IsThreadedOutput true script areas) old new) → IsAllOrNothing fault old new (IsAtEnd rest × IfSome input (λ bytes. Prints (IsThreadedOutput true) old new areas bytes))
-marked_shown fault input rest old new areas script read end (inl silent) = inl silent
-marked_shown fault input rest old new areas script read end (inr (e, written)) = inr (e, (end, shown (IsThreadedOutput true) input old new areas script read written))
+  pub marked_text : (result : Result (Unit {0}) RunFault) (w : WorldState) (transcripts : List Transcript) (old new : Option (List ℕ)) → Known failed script areas w → AreTranscripts script w.events transcripts → IfErr result (λ f. IsAllOrNothing f old new ((have_mark transcripts ≡ true) × Appends old new (world_text w)))
+      → IfErr result (λ f. IsAllOrNothing f old new (IsWritten (IsThreadedOutput failed true script areas) old new))
+  marked_text (Ok done) w transcripts old new k run e = tt
+  marked_text (Err fault) w transcripts old new k run e = marked_by fault w transcripts old new k run e
 
-pub marked_shows : (result : Result (Unit {0}) RunFault) (input rest old new : Option (List ℕ)) (areas : List ℕ) (script : ScriptView) → IfSome input (λ bytes. script_of bytes ≡ Ok script) → IsAtEnd rest → IfErr result (λ f. IsAllOrNothing f old new (IsWritten (IsThreadedOutput true script areas) old new)) → IfErr result (λ f. IsAllOrNothing f old new (IsAtEnd rest × IfSome input (λ bytes. Prints (IsThreadedOutput true) old new areas bytes)))
-marked_shows (Ok done) input rest old new areas script read end e = tt
-marked_shows (Err fault) input rest old new areas script read end e = marked_shown fault input rest old new areas script read end e
+  marked_shown : (fault : RunFault) (input rest old new : Option (List ℕ)) → IfSome input (λ bytes. script_of bytes ≡ Ok script) → IsAtEnd rest → IsAllOrNothing fault old new (IsWritten (IsThreadedOutput failed true script areas) old new)
+      → IsAllOrNothing fault old new (IsAtEnd rest × IfSome input (λ bytes. Prints (IsThreadedOutput failed true) old new areas bytes))
+  marked_shown fault input rest old new read end (inl silent) = inl silent
+  marked_shown fault input rest old new read end (inr (e, written)) = inr (e, (end, shown (IsThreadedOutput failed true) input old new areas script read written))
+
+  pub marked_shows : (result : Result (Unit {0}) RunFault) (input rest old new : Option (List ℕ)) → IfSome input (λ bytes. script_of bytes ≡ Ok script) → IsAtEnd rest → IfErr result (λ f. IsAllOrNothing f old new (IsWritten (IsThreadedOutput failed true script areas) old new))
+      → IfErr result (λ f. IsAllOrNothing f old new (IsAtEnd rest × IfSome input (λ bytes. Prints (IsThreadedOutput failed true) old new areas bytes)))
+  marked_shows (Ok done) input rest old new read end e = tt
+  marked_shows (Err fault) input rest old new read end e = marked_shown fault input rest old new read end e

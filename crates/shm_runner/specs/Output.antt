@@ -5,7 +5,8 @@ use Rattle.shm_text.specs.Script.{ScriptView}
 use Rattle.shm_report.specs.Listing.{listing_of}
 use Rattle.shm_print.specs.Text.{events_text}
 use Rattle.shm_print.specs.Usage.{usage_text}
-use Rattle.shm_slots.specs.Cause.{total}
+use Rattle.shm_slots.specs.View.{SwapView, AreCountsOf}
+use Rattle.shm_slots.specs.Cause.{GoesOn, total}
 use Rattle.shm_history.specs.WorldState.{WorldState, tally_of}
 use Rattle.shm_text.specs.Variables.{call_of}
 use Rattle.shm_text.specs.declared.script.Line.{Line}
@@ -27,11 +28,19 @@ RunsInOrder hs (Command c ∷ ls) (e ∷ es) =
 abbrev pub world_text : WorldState → List ℕ
 world_text w = events_text 1 w.events ++ listing_of w.machine ++ usage_text (tally_of w)
 
--- the text of such a world whose history the script's lines made; where no failure was counted and no area was spent, its
--- event lines and its listing are those of the flat machine, which the script and the areas' sizes determine
-pub record IsOutput (script : ScriptView) (areas : List ℕ) (text : List ℕ) : Type 0 where
+-- no pager of this type ever counts a failure
+abbrev pub NeverFails : {P : Type 0} → (P → ℕ) → Type 0
+NeverFails {P = P} failed = (p : P) → failed p ≡ 0
+
+-- the text of a world whose history the script's lines made, over the swap areas as they were handed in: its counts began
+-- there, and each is one of a pager. Where no failure was counted and no area was spent, its event lines and its listing are
+-- those of the flat machine, which the script and the areas' sizes determine; so they are over pagers that never fail
+pub record IsOutput {P : Type 0} (failed : P → ℕ) (swap : SwapView) (script : ScriptView) (areas : List ℕ) (text : List ℕ) : Type 0 where
   pub world : WorldState
   pub is_world : IsWorldOf script areas world
+  pub began : GoesOn swap world.memory.swap
+  pub counted : AreCountsOf failed world.memory.swap
   pub follows : RunsInOrder (map fresh_holder script.processes) script.lines world.events
   pub printed : text ≡ world_text world
   pub invisible : world.memory.swap.never_spent ≡ true → total world.memory.swap ≡ 0 → text ≡ flat_text script areas ++ usage_text (tally_of world)
+  pub unfailing : NeverFails failed → text ≡ flat_text script areas ++ usage_text (tally_of world)

@@ -2,7 +2,8 @@
 use Rattle.std.specs.Prelude.{◌≡◌, ◌⊎◌, ℕ, Bool, true, false, List, Option, Result, OnOk, IfErr, IfSome}
 use Rattle.std.specs.List.{list_any}
 use Rattle.std.specs.Io.KnownBytes.{IsAtEnd}
-use Rattle.shm_history.specs.WorldState.{WorldState}
+use Rattle.shm_slots.specs.View.{AreCountsOf}
+use Rattle.shm_history.specs.WorldState.{WorldState, failures_in}
 use Rattle.shm_text.specs.Script.{ScriptView}
 use Rattle.shm_transcripts.specs.Transcripts.{AreTranscripts}
 use Rattle.shm_transcripts.specs.declared.transcript.Answer.{Answer}
@@ -10,7 +11,7 @@ use Rattle.shm_transcripts.specs.declared.transcript.Answer.TheVariants as answe
 use Rattle.shm_transcripts.specs.declared.transcript.Entry.{Entry}
 use Rattle.shm_transcripts.specs.declared.transcript.Transcript.{Transcript}
 use Rattle.shm_program.specs.Runs.{IsWorldOf, IsSilent, IsCause, Prints}
-use Rattle.shm_runner.specs.Output.{world_text}
+use Rattle.shm_runner.specs.Output.{NeverFails, world_text}
 use Rattle.shm_program.specs.declared.fault.RunFault.{RunFault}
 use Rattle.shm_program.specs.declared.fault.RunFault.TheVariants.{HostMemory}
 
@@ -25,12 +26,14 @@ has_mark entries = list_any (λ (e : Entry). is_marked e.answer) entries
 abbrev pub have_mark : List Transcript → Bool
 have_mark transcripts = list_any (λ (t : Transcript). has_mark t.entries.items) transcripts
 
--- the text of the world of a run that the script's processes made, each in its own order; and whether one of its calls is
--- marked out of memory
-pub record IsThreadedOutput (marked : Bool) (script : ScriptView) (areas : List ℕ) (text : List ℕ) : Type 0 where
+-- the text of the world of a run that the script's processes made, each in its own order, and whether one of its calls is
+-- marked out of memory. Each count of the world is one of a pager; over pagers that never fail no reply names a failure
+pub record IsThreadedOutput {P : Type 0} (failed : P → ℕ) (marked : Bool) (script : ScriptView) (areas : List ℕ) (text : List ℕ) : Type 0 where
   pub world : WorldState
   pub transcripts : List Transcript
   pub is_world : IsWorldOf script areas world
+  pub counted : AreCountsOf failed world.memory.swap
+  pub unfailing : NeverFails failed → failures_in world.events ≡ 0
   pub is_run : AreTranscripts script world.events transcripts
   pub marks : have_mark transcripts ≡ marked
   pub printed : text ≡ world_text world
@@ -40,8 +43,8 @@ abbrev pub IsAllOrNothing : RunFault → Option (List ℕ) → Option (List ℕ)
 IsAllOrNothing fault old new Marked = IsSilent fault old new ⊎ ((fault ≡ HostMemory) × Marked)
 
 -- a run with threads, from what is left of the input before it and behind it, and what is written
-pub record IsThreadedRun (result : Result (Unit {0}) RunFault) (input rest old new : Option (List ℕ)) (areas : List ℕ) : Type 0 where
-  pub ok : OnOk result (IfSome input (λ bytes. Prints (IsThreadedOutput false) old new areas bytes))
+pub record IsThreadedRun {P : Type 0} (failed : P → ℕ) (result : Result (Unit {0}) RunFault) (input rest old new : Option (List ℕ)) (areas : List ℕ) : Type 0 where
+  pub ok : OnOk result (IfSome input (λ bytes. Prints (IsThreadedOutput failed false) old new areas bytes))
   pub whole : OnOk result (IsAtEnd rest)
   pub cause : IfErr result (λ f. IfSome input (λ bytes. IsCause f areas bytes))
-  pub written : IfErr result (λ f. IsAllOrNothing f old new (IsAtEnd rest × IfSome input (λ bytes. Prints (IsThreadedOutput true) old new areas bytes)))
+  pub written : IfErr result (λ f. IsAllOrNothing f old new (IsAtEnd rest × IfSome input (λ bytes. Prints (IsThreadedOutput failed true) old new areas bytes)))

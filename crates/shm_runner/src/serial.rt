@@ -2,7 +2,8 @@
 //! answered go to a writer.
 ghost use Rattle.std.specs.Prelude.{◌≡◌, ◌⊎◌, [], length, true, map, OnOk, IfErr, IfSome};
 ghost use Rattle.std.specs.Io.KnownBytes.{IsAtEnd};
-ghost use Rattle.shm_program.specs.Runs.{Prints, IsWritten, IsCause, IsCauseIn, is_serial, IsSilent, IsOpening};
+ghost use Rattle.shm_slots.specs.Cause.{GoesOn};
+ghost use Rattle.shm_program.specs.Runs.{Prints, IsWritten, IsCause, IsCauseIn, is_serial, IsSilent, IsOpening, handed_in};
 ghost use Rattle.shm_runner.specs.Output.{IsOutput, RunsInOrder};
 ghost use Rattle.shm_program.specs.Values.{fresh_holder};
 
@@ -18,14 +19,19 @@ use std::io::{Read, Write};
 /// Runs the script that the reader gives over swap areas behind these pagers, and writes an event line for
 /// each command line, the listing of the segments, and the usage. Before the first byte is written the whole
 /// output is there, so at any fault but `WriteFailed` nothing is written. Faults are looked for in this order:
-/// reading, script, start, run, writing.
+/// reading, script, start, run, writing. Over pagers that never fail, such as [`shm_pager::RamPager`], the event lines and
+/// the listing are what the script makes of the flat machine, whatever was paged out.
 pub fn run_serial<R: Read, W: Write, P: Pager>(
     alloc: Global,
     reader: &mut R,
     writer: &mut W,
     pagers: Vec<P>,
 ) -> Result<(), RunFault>
-    ensures ok { OnOk result (IfSome (R.remaining reader.old) (λ input. Prints IsOutput (W.contents writer.old) (W.contents writer.new) (map (λ p. length (P.content p)) pagers.items) input)) }
+    ensures ok {
+        let text = IsOutput P.failed (handed_in P.content P.failed pagers.items) in
+        let areas = map (λ p. length (P.content p)) pagers.items in
+        OnOk result (IfSome (R.remaining reader.old) (λ input.
+            Prints text (W.contents writer.old) (W.contents writer.new) areas input)) }
     ensures whole { OnOk result (IsAtEnd (R.remaining reader.new)) }
     ensures cause { IfErr result (λ f. IfSome (R.remaining reader.old) (λ input. IsCause f (map (λ p. length (P.content p)) pagers.items) input)) }
     ensures serial { IfErr result (λ f. is_serial f ≡ true) }
@@ -44,7 +50,10 @@ fn run_script<W: Write, P: Pager>(
     script: Script,
     pagers: Vec<P>,
 ) -> Result<(), RunFault>
-    ensures ok { OnOk result (IsWritten (IsOutput script (map (λ p. length (P.content p)) pagers.items)) (W.contents writer.old) (W.contents writer.new)) }
+    ensures ok {
+        let text = IsOutput P.failed (handed_in P.content P.failed pagers.items) in
+        let areas = map (λ p. length (P.content p)) pagers.items in
+        OnOk result (IsWritten (text script areas) (W.contents writer.old) (W.contents writer.new)) }
     ensures cause { IfErr result (λ f. IsCauseIn f (map (λ p. length (P.content p)) pagers.items) script) }
     ensures serial { IfErr result (λ f. is_serial f ≡ true) }
     ensures silent { IfErr result (λ f. IsSilent f (W.contents writer.old) (W.contents writer.new)) }
@@ -64,7 +73,9 @@ fn run_in<W: Write, P: Pager>(
 ) -> Result<(), RunFault>
     requires events { world.old.events ≡ [] }
     requires opened { IsOpening script world.old.opening }
-    ensures ok { OnOk result (IsWritten (IsOutput script world.old.opening.areas) (W.contents writer.old) (W.contents writer.new)) }
+    ensures ok {
+        let text = IsOutput P.failed world.old.memory.swap script world.old.opening.areas in
+        OnOk result (IsWritten text (W.contents writer.old) (W.contents writer.new)) }
     ensures fault { IfErr result (λ f. (f ≡ RunFault.HostMemory) ⊎ (f ≡ RunFault.WriteFailed)) }
     ensures silent { IfErr result (λ f. IsSilent f (W.contents writer.old) (W.contents writer.new)) }
 {
@@ -86,6 +97,7 @@ fn run_lines<P: Pager>(
     requires { world.old.events ≡ [] }
     ensures follows { OnOk result (RunsInOrder (map fresh_holder script.now.processes) script.now.lines world.new.events) }
     ensures opening { world.new.opening ≡ world.old.opening }
+    ensures counts { OnOk result (GoesOn world.old.memory.swap world.new.memory.swap) }
 {
     let mut values = Values::new(alloc, &script.processes)?;
     world.reserve(script.lines.len())?;

@@ -2,6 +2,7 @@
 ghost use Rattle.std.specs.Prelude.{◌≡◌, ◌⊎◌, OnOk, IfErr, IfOk, string_bytes};
 ghost use Rattle.std.specs.Io.KnownBytes.{Appends};
 ghost use Rattle.shm_print.specs.Text.{events_text};
+ghost use Rattle.shm_slots.specs.View.{AreCountsOf};
 ghost use Rattle.shm_program.specs.Runs.{IsSilent, IsWorldSound};
 ghost use Rattle.shm_runner.specs.Output.{world_text};
 
@@ -32,10 +33,13 @@ fn history_text(alloc: Global, history: &[Event]) -> Result<String, AllocError>
 fn world_text<P: Pager>(alloc: Global, world: &World<P>) -> Result<String, AllocError>
     ensures text { IfOk result (λ text. string_bytes text ≡ world_text world.now) }
     ensures sound { IsWorldSound world.now }
+    ensures counted { AreCountsOf P.failed world.now.memory.swap }
 {
-    let mut text = history_text(alloc, lawful(world))?;
+    let history = lawful(world);
+    let counts = usage(alloc, world)?;
+    let mut text = history_text(alloc, history)?;
     text.push_str(&listing(alloc, world)?)?;
-    text.push_str(&usage(alloc, world)?)?;
+    text.push_str(&counts)?;
     Ok(text)
 }
 
@@ -47,6 +51,7 @@ pub(crate) fn write_world<W: Write, P: Pager>(
 ) -> Result<(), RunFault>
     ensures written { OnOk result (Appends (W.contents writer.old) (W.contents writer.new) (world_text world.now)) }
     ensures sound { IsWorldSound world.now }
+    ensures counted { AreCountsOf P.failed world.now.memory.swap }
     ensures fault { IfErr result (λ f. (f ≡ RunFault.HostMemory) ⊎ (f ≡ RunFault.WriteFailed)) }
     ensures silent { IfErr result (λ f. IsSilent f (W.contents writer.old) (W.contents writer.new)) }
 {

@@ -1,9 +1,9 @@
 -- Failures that are answered are failures that were counted.
-use Rattle.std.proofs.Common.{◌≡◌, ℕ, suc, ◌<◌, ◌≤◌, true, false, List, [], ◌∷◌, length, get_or, refl, arith, sum_by}
+use Rattle.std.proofs.Common.{◌≡◌, ℕ, suc, ◌<◌, ◌≤◌, true, false, List, [], ◌∷◌, All, length, get_or, refl, sym, ◌∙◌, arith, sum_by}
 use Rattle.std.specs.List.{list_any}
 use Rattle.std.proofs.lemmas.List.Sums.{sum_by-cons}
 use Rattle.std.proofs.lemmas.Grind.{common_steps}
-use Rattle.shm_slots.specs.View.{AreaView, SwapView, no_area, rise, is_spent, is_spent_here, IsSwap}
+use Rattle.shm_slots.specs.View.{AreaView, SwapView, no_area, rise, is_spent, is_spent_here, IsSwap, IsCounted, AreCountsOf}
 use Rattle.shm_slots.specs.Cause.{some_spent, total, had_cause, GoesOn}
 
 -- counts that never fell, area by area
@@ -34,3 +34,21 @@ some_spent-never s swap flag = grind (arith, common_steps, spent-here s.areas, s
 -- where no area was spent, a cause is a failure that was counted
 pub total-lt : (s t : SwapView) → some_spent s ≡ false → had_cause s t ≡ true → total s < total t
 total-lt s t clear cause = grind (arith, common_steps, clear, cause)
+
+-- counts that are all 0: none has risen, and none has its last value
+counts-zero : {P : Type 0} (failed : P → ℕ) (xs : List AreaView) → All (IsCounted failed) xs → ((p : P) → failed p ≡ 0)
+    → (list_any is_spent xs ≡ false) × (sum_by rise xs ≡ 0)
+counts-zero failed [] all none = (refl, refl)
+counts-zero failed (x ∷ xs) all none =
+    let start : x.start ≡ 0 = sym all.0.start.1 ∙ none all.0.start.0 in
+    let now : x.failed ≡ 0 = sym all.0.now.1 ∙ none all.0.now.0 in
+    let rest = counts-zero failed xs all.1 none in
+    (grind (arith, common_steps, now, rest.0), omega (arith, start, now, rest.1, sum_by-cons rise x xs))
+
+-- over pagers that count no failure none was ever counted, and no area was ever spent
+pub unfailing : {P : Type 0} (failed : P → ℕ) (s : SwapView) → IsSwap s → AreCountsOf failed s → ((p : P) → failed p ≡ 0)
+    → (s.never_spent ≡ true) × (total s ≡ 0)
+unfolding total
+unfailing failed s swap counted none =
+    let zero = counts-zero failed s.areas counted none in
+    (grind (arith, common_steps, swap.unspent, zero.0), zero.1)

@@ -1,12 +1,13 @@
-use Rattle.std.proofs.Common.{subst, ℕ, List, map, length}
-use Rattle.std.specs.Prelude.{OnOk}
-use Rattle.shm_program.specs.Runs.{IsWritten}
-use Rattle.shm_runner.specs.Output.{IsOutput}
+use Rattle.std.proofs.Common.{◌≡◌, ap, map, length}
+use Rattle.shm_fault.specs.Store.{StoreView}
+use Rattle.shm_program.specs.Runs.{handed_in}
 use Rattle.shm_program.proofs.Causes.{world_causes, world_serials, stop_cause, stop_serial, silent_kept}
 use Rattle.shm_runner.proofs.serial.run_script.Goals as goal
 
 pub returns-in-Ok-clause-ok : goal.returns-in-Ok-clause-ok
-returns-in-Ok-clause-ok g c = subst (λ (areas : List ℕ). OnOk c.run_in.result (IsWritten (IsOutput c.args.script areas) (g.W.Write.contents c.args.writer.now) (g.W.Write.contents c.run_in.new.writer))) c.in-Ok.ensures.areas c.run_in.ensures.ok
+returns-in-Ok-clause-ok g c =
+    let swap : c.in-Ok.world.memory.swap ≡ handed_in g.P.Pager.content g.P.Pager.failed c.args.pagers.items = ap (λ (m : StoreView). m.swap) c.in-Ok.ensures.memory in
+    rw (← c.in-Ok.ensures.areas, ← swap) c.run_in.ensures.ok
 
 pub returns-in-Ok-clause-cause : goal.returns-in-Ok-clause-cause
 returns-in-Ok-clause-cause g c = world_causes c.run_in.result (map (λ p. length (g.P.Pager.content p)) c.args.pagers.items) c.args.script c.run_in.ensures.fault

@@ -1,12 +1,13 @@
 use Rattle.std.proofs.Common.{map, length}
 use Rattle.std.specs.Io.KnownBytes.{IsAtEnd}
+use Rattle.shm_program.specs.Runs.{handed_in}
 use Rattle.shm_runner.specs.Output.{IsOutput}
 use Rattle.shm_program.proofs.Causes.{anyway, causes, early_cause, silent_kept}
 use Rattle.shm_program.proofs.Texts.{shows}
 use Rattle.shm_runner.proofs.serial.run_serial.Goals as goal
 
 pub returns-in-Ok-clause-ok : goal.returns-in-Ok-clause-ok
-returns-in-Ok-clause-ok g c = shows IsOutput c.run_script.result (g.R.Read.remaining c.args.reader.now) (g.W.Write.contents c.args.writer.now) (g.W.Write.contents c.run_script.new.writer) (map (λ p. length (g.P.Pager.content p)) c.args.pagers.items) c.in-Ok.script c.in-Ok.ensures.read c.run_script.ensures.ok
+returns-in-Ok-clause-ok g c = shows (IsOutput g.P.Pager.failed (handed_in g.P.Pager.content g.P.Pager.failed c.args.pagers.items)) c.run_script.result (g.R.Read.remaining c.args.reader.now) (g.W.Write.contents c.args.writer.now) (g.W.Write.contents c.run_script.new.writer) (map (λ p. length (g.P.Pager.content p)) c.args.pagers.items) c.in-Ok.script c.in-Ok.ensures.read c.run_script.ensures.ok
 
 pub returns-in-Ok-clause-whole : goal.returns-in-Ok-clause-whole
 returns-in-Ok-clause-whole g c = anyway c.run_script.result (IsAtEnd (g.R.Read.remaining c.whole_script.new.reader)) c.in-Ok.ensures.whole

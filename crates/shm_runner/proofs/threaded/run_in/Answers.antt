@@ -10,7 +10,7 @@ pub returns-in-Ok-clause-ok : goal.returns-in-Ok-clause-ok
 returns-in-Ok-clause-ok g c =
     let o = c.in-Ok.ensures in
     let is : IsWorldOf c.args.script.now c.args.world.opening.areas c.in-Ok.outcome.world = record { opened = subst (IsOpening c.args.script.now) (sym o.opening) c.requires; over = ap (λ (o : Opening). o.areas) o.opening; sound = c.write_outcome.ensures.sound } in
-    threaded_text c.write_outcome.result c.args.script.now c.args.world.opening.areas c.in-Ok.outcome.world c.in-Ok.outcome.transcripts.items (g.W.Write.contents c.args.writer.now) (g.W.Write.contents c.write_outcome.new.writer) is o.transcripts c.write_outcome.ensures.ok
+    threaded_text g.P.Pager.failed c.args.script.now c.args.world.opening.areas c.write_outcome.result c.in-Ok.outcome.world c.in-Ok.outcome.transcripts.items (g.W.Write.contents c.args.writer.now) (g.W.Write.contents c.write_outcome.new.writer) (record { is_world = is; counted = c.write_outcome.ensures.counted }) o.transcripts c.write_outcome.ensures.ok
 
 pub returns-in-Ok-clause-cause : goal.returns-in-Ok-clause-cause
 returns-in-Ok-clause-cause g c = world_causes c.write_outcome.result c.args.world.opening.areas c.args.script.now c.write_outcome.ensures.fault
@@ -19,7 +19,7 @@ pub returns-in-Ok-clause-written : goal.returns-in-Ok-clause-written
 returns-in-Ok-clause-written g c =
     let o = c.in-Ok.ensures in
     let is : IsWorldOf c.args.script.now c.args.world.opening.areas c.in-Ok.outcome.world = record { opened = subst (IsOpening c.args.script.now) (sym o.opening) c.requires; over = ap (λ (o : Opening). o.areas) o.opening; sound = c.write_outcome.ensures.sound } in
-    marked_text c.write_outcome.result c.args.script.now c.args.world.opening.areas c.in-Ok.outcome.world c.in-Ok.outcome.transcripts.items (g.W.Write.contents c.args.writer.now) (g.W.Write.contents c.write_outcome.new.writer) is o.transcripts c.write_outcome.ensures.written
+    marked_text g.P.Pager.failed c.args.script.now c.args.world.opening.areas c.write_outcome.result c.in-Ok.outcome.world c.in-Ok.outcome.transcripts.items (g.W.Write.contents c.args.writer.now) (g.W.Write.contents c.write_outcome.new.writer) (record { is_world = is; counted = c.write_outcome.ensures.counted }) o.transcripts c.write_outcome.ensures.written
 
 pub returns-in-Err-clause-cause : goal.returns-in-Err-clause-cause
 returns-in-Err-clause-cause g c = rw c.run_fault.ensures (ended_cause c.in-Err.error c.args.world.opening.areas c.args.script.now)

@@ -25,14 +25,14 @@ pub returns-in_err-run_step-clause-stopped : goal.returns-in_err-run_step-clause
 returns-in_err-run_step-clause-stopped g c =
     let stops : StopsIn c.args.self.now c.args.steps.now c.run_step.new.self =
     stops_at c.args.steps.now c.loop-step.step-index c.step-item.result c.args.self.now c.loop-step.self c.run_step.new.self
-    (omega (arith, c.loop-step-test.true)) c.step-item.is c.loop-step.invariant c.in_err-run_step.ensures.may_stop c.in_err-run_step.ensures.stopped in
+    (omega (arith, c.loop-step-test.true)) c.step-item.is c.loop-step.invariant c.in_err-run_step.ensures.may_stop c.in_err-run_step.ensures.stopped c.in_err-run_step.ensures.room in
     search (rules, stops)
 
 pub returns-in_err-run_step-clause-no_memory : goal.returns-in_err-run_step-clause-no_memory
 returns-in_err-run_step-clause-no_memory g c =
     let stops : StopsIn c.args.self.now c.args.steps.now c.run_step.new.self =
     stops_at c.args.steps.now c.loop-step.step-index c.step-item.result c.args.self.now c.loop-step.self c.run_step.new.self
-    (omega (arith, c.loop-step-test.true)) c.step-item.is c.loop-step.invariant c.in_err-run_step.ensures.may_stop c.in_err-run_step.ensures.stopped in
+    (omega (arith, c.loop-step-test.true)) c.step-item.is c.loop-step.invariant c.in_err-run_step.ensures.may_stop c.in_err-run_step.ensures.stopped c.in_err-run_step.ensures.room in
     λ none enough. absurd (never_stops c.args.steps.now c.args.self.now c.run_step.new.self stops none enough)
 
 pub loop-step-preserved : goal.loop-step-preserved
