@@ -4,7 +4,7 @@ use Rattle.std.proofs.lemmas.Grind.{common_steps}
 use Rattle.std.specs.List.{list_all}
 use Rattle.std.proofs.lemmas.List.{map-set, take_all, length-map}
 use Rattle.shm_pager.specs.Pages.{zero_page}
-use Rattle.shm_pager.specs.Sparse.{Room, page_behind, NoZeros}
+use Rattle.shm_pager.specs.Sparse.{page_behind, NoZeros}
 
 zeros-from_all : (xs : List ℕ) → list_all (λ b. b == 0) xs ≡ true → xs ≡ replicate (length xs) 0
 zeros-from_all [] h = refl
@@ -23,7 +23,7 @@ zero_page-from_all page whole = (
   λ e. ap (list_all (λ b. b == 0)) e ∙ all-from_zeros 4096,
 )
 
-pub pages-set : (places : List (Option Room)) (i : ℕ) (o : Option Room) → map page_behind (set places i o) ≡ set (map page_behind places) i (page_behind o)
+pub pages-set : (places : List (Option (List ℕ))) (i : ℕ) (o : Option (List ℕ)) → map page_behind (set places i o) ≡ set (map page_behind places) i (page_behind o)
 pages-set places i o = map-set page_behind places i o
 
 pub pages-replicate : (n : ℕ) → map page_behind (replicate n None) ≡ replicate n zero_page
@@ -36,12 +36,12 @@ NoZeros-replicate (suc n) zero room found zeros = (cc)
 NoZeros-replicate (suc n) (suc slot) room found zeros = NoZeros-replicate n slot room found zeros
 
 -- all rooms given back
-pub pages-wiped : (before after : List (Option Room)) (n : ℕ) → length after ≡ length before → n ≡ length before → take n after ≡ replicate n None
+pub pages-wiped : (before after : List (Option (List ℕ))) (n : ℕ) → length after ≡ length before → n ≡ length before → take n after ≡ replicate n None
     → map page_behind after ≡ replicate (length (map page_behind before)) zero_page
 pages-wiped before after n same all e = grind (arith, common_steps, take_all, pages-replicate, length-map)
 
 -- a room whose page is not zeros
-pub NoZeros-set : (places : List (Option Room)) (i : ℕ) (room : Room) → i < length places → NoZeros places → (room.value ≡ zero_page → ⊥) → NoZeros (set places i (Some room))
+pub NoZeros-set : (places : List (Option (List ℕ))) (i : ℕ) (room : List ℕ) → i < length places → NoZeros places → (room ≡ zero_page → ⊥) → NoZeros (set places i (Some room))
 NoZeros-set places i room within before other slot found at zeros = grind (arith, common_steps)
 
 pub ruleset rooms = (pages-set, pages-replicate, NoZeros-set)

@@ -7,11 +7,54 @@ use shm_base::PAGE_BYTES;
 use std::alloc::{AllocError, Global};
 use std::marker::Model;
 
+/// The memory of a page. The page is zeroed before its memory goes back, wherever that is.
+struct Room {
+    page: Box<[u8; PAGE_BYTES]>,
+}
+
+impl Model for Room {
+    ghost use Rattle.std.specs.Prelude.{ℕ, List};
+
+    ghost Value = { List ℕ };
+
+    ghost view = { λ r. r.page.value };
+}
+
+impl Room {
+    fn new(alloc: Global, page: &[u8; PAGE_BYTES]) -> Result<Room, AllocError>
+        ensures { IfOk result (λ r. r ≡ page.now) }
+    {
+        Ok(Room {
+            page: Box::new(alloc, *page)?,
+        })
+    }
+
+    fn fill(&mut self, page: &[u8; PAGE_BYTES])
+        ensures { self.new ≡ page.now }
+    {
+        *self.page = *page;
+    }
+
+    // Gives the memory back, in which nothing but zeros is left.
+    fn release(self)
+        requires { self ≡ zero_page }
+    {
+        let Room { page: _ } = self;
+    }
+}
+
+impl Drop for Room {
+    fn drop(mut self) {
+        self.fill(&zeros());
+        self.release();
+    }
+}
+
 /// Pages in memory, with an allocation for each that is not all zeros. A read never fails; a write fails
 /// only where it needs room and the allocator has none. A page of zeros written gives its room back.
 pub struct SparsePager {
     alloc: Global,
-    pages: Vec<Option<Box<[u8; PAGE_BYTES]>>>,
+    pages: Vec<Option<Room>>,
     failed: u64,
 }
 
@@ -93,10 +136,10 @@ impl Pager for SparsePager {
             return Ok(());
         }
         if let Some(room) = place {
-            **room = *page;
+            room.fill(page);
             return Ok(());
         }
-        match Box::new(self.alloc, *page) {
+        match Room::new(self.alloc, page) {
             Ok(room) => {
                 *place = Some(room);
                 Ok(())
@@ -115,7 +158,7 @@ impl Pager for SparsePager {
         ensures page { get_or self.old.pages slot [] ≡ page.new }
     {
         match &self.pages[slot as usize] {
-            Some(room) => *page = **room,
+            Some(room) => *page = *room.page,
             None => *page = zeros(),
         }
         Ok(())
