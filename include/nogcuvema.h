@@ -8,9 +8,10 @@
    way to use this.
 
    ANSWERS. Each function but nog_version answers 0 or a code. Outputs are written where the answer is 0, and else they
-   are left as they were (but for `done` of nog_read and nog_write). A call that is answered by an error of errno(3), or
-   by one of the two signals, changed nothing but the count of calls and which pages are in frames. At a code from 2001
-   on nothing is changed at all.
+   are left as they were; nog_read and nog_write say below what they leave. A call that is refused by an error of errno(3)
+   or by NOG_SIGSEGV changed nothing but the count of calls. NOG_SIGBUS and NOG_EIO name a swap area's failure: no byte of
+   a segment changed, nor a process, a segment or an attach, but pages may have come into frames or left them, and the
+   counts of the memory have risen. At a code from 2001 on the call changed nothing at all.
 
    Each function that takes a machine answers NOG_CLOSED for a closed one (but nog_open, which opens it). Each call of a
    process, nog_get to nog_swapoff, answers NOG_SPENT where 2^64 - 1 calls were answered, and else NOG_ESRCH where no
@@ -155,7 +156,7 @@ typedef struct nog_tally {
     uint64_t used;      /* slots that pages have */
     uint64_t ins;       /* pages that were read from areas */
     uint64_t outs;      /* pages that were written to areas */
-    uint64_t failures;  /* reads and writes of areas that failed; of a mirror, those that failed on both sides */
+    uint64_t failures;  /* reads and writes of areas that failed; of a mirror, those in which no side served */
 } nog_tally;
 
 /* What a flush round did. */
@@ -182,7 +183,7 @@ enum nog_key { NOG_PRIVATE = 0 };
    NOG_BAD_SHMMAX to NOG_BAD_MEMLOCK: the first limit that is out of its range.
    NOG_OUT_OF_RANGE: a kind is none; a failure's area or side is not there, or its call is 0.
    NOG_BAD_AREAS, NOG_BAD_AREA_SIZE, NOG_BAD_PROCESSES, NOG_BAD_PID: the first of these.
-   NOG_NO_MEMORY: the heap gave none; it may come in place of 0 and of the last four. */
+   NOG_NO_MEMORY: the heap gave none; it comes only in place of 0 and of the last four. */
 uint32_t nog_open(nog_machine *machine, const nog_limits *limits, const nog_area *areas, size_t area_count,
                   const nog_failure *failures, size_t failure_count, const nog_process *processes, size_t process_count);
 
@@ -267,11 +268,14 @@ uint32_t nog_swapoff(nog_machine *machine, uint32_t pid, uint32_t area);
 /* ---- accesses of any length ---- */
 
 /* Reads `len` bytes by loads of 64 bytes from `addr` on, the last one of what is left: each is a call of its own and is
-   counted, and a length of 0 makes none. It ends at the first load that is refused, with its answer. How many bytes were
-   read is put into `done`, whatever the answer, but where that is NOG_CLOSED. The codes are those of nog_load. */
+   counted, and a length of 0 makes none. It ends at the first load that is refused, with its answer; the bytes of the loads
+   before it are in `bytes` then. How many bytes were read is put into `done`, whatever the answer, but where that is
+   NOG_CLOSED. The codes are those of nog_load, without NOG_OUT_OF_RANGE. An address past 2^64 - 1 is NOG_SIGSEGV, and that
+   load is not counted. */
 uint32_t nog_read(nog_machine *machine, uint32_t pid, uint64_t addr, uint8_t *bytes, size_t len, uint64_t *done);
 
-/* Writes `len` bytes by stores, as nog_read reads them. What was stored stays where a later store is refused. */
+/* Writes `len` bytes by stores, as nog_read reads them, with the same codes. The first `done` bytes were stored, and stay
+   stored, whatever the answer: also where it is NOG_SPENT. */
 uint32_t nog_write(nog_machine *machine, uint32_t pid, uint64_t addr, const uint8_t *bytes, size_t len, uint64_t *done);
 
 /* ---- the machine's memory, and its state ---- */

@@ -1,5 +1,5 @@
 -- Pages that leave a swap area, and the area that goes.
-use Rattle.shm_fault.proofs.Names.{◌≡◌, ◌≢◌, ℕ, zero, suc, ◌<◌, ◌≤◌, ◌+◌, true, cond, List, [], ◌∷◌, length, get_or, set, sum_by, Option, Some, None, is_some, refl, sym, ap, ◌∙◌, inl, inr, arith, length-set, get_or-set_same, get_or-set_other, cases_eq, get_or_past, length-map, sum_by-set, sum_by-cons, PageRef, Slot, pages_in_store, used_count, SwapView, no_area, area_at, with_area, off, HasSlot, IsSwap, IsFirstFree, OneArea, AfterWriteFault, owner_of, page_in, size_of, sizes, swap_slots, slots_in, used_in, used_slots, with_slot_owner, with_slot_page, without_slot, GoesOn, IsSteady, had_cause, Frame, no_frame, frame_at, PageRec, rec_by, HasPage, with_rec, StoreView, held, IsTied, Tied, IsStoreSound, Goes, Still, AtRest, SameOwned, IsRelocated, IsCleared, common_steps, nat_tests}
+use Rattle.shm_fault.proofs.Names.{◌≡◌, ◌≢◌, ℕ, zero, suc, ◌<◌, ◌≤◌, ◌+◌, true, cond, List, [], ◌∷◌, length, get_or, set, sum_by, Option, Some, None, is_some, refl, sym, ap, ◌∙◌, inl, inr, arith, length-set, get_or-set_same, get_or-set_other, cases_eq, get_or_past, length-map, sum_by-set, sum_by-cons, PageRef, Slot, pages_in_store, used_count, SwapView, no_area, area_at, with_area, off, HasSlot, IsArea, IsSwap, IsFirstFree, OneArea, AfterWriteFault, owner_of, page_in, size_of, sizes, swap_slots, slots_in, used_in, used_slots, with_slot_owner, with_slot_page, without_slot, GoesOn, IsSteady, had_cause, Frame, no_frame, frame_at, PageRec, rec_by, HasPage, with_rec, StoreView, held, IsTied, Tied, IsStoreSound, Goes, Still, AtRest, SameOwned, IsRelocated, IsCleared, common_steps, nat_tests}
 use Rattle.shm_fault.proofs.Pages.{rec-with, other, other_ne, has-frame, has-slot}
 use Rattle.shm_fault.proofs.Slots.{OnlySlot, OnlySlot-trans, OnlySlot-owner, OnlySlot-page, OnlySlot-given, page-written, owner-written, owner-set, owner-given, cases_slot, set-cases}
 use Rattle.shm_fault.proofs.Ties.{SlotsApart, Touches, IsOwn-some, segs-same, segs-with, frames-same, frames-set, tied_touched, bytes_touched}
@@ -50,9 +50,9 @@ relocated page from to s bytes last swap sound has first is =
     }
 
 -- the write failed, and the new slot was given back
-pub relocated-not : (page : PageRef) (from to : Slot) (s u : SwapView) (last : List ℕ) → IsSwap s → IsSwap u → IsFirstFree s (Some from.area) to
+pub relocated-not : (page : PageRef) (from to : Slot) (s u : SwapView) (last : List ℕ) → ((i : ℕ) → IsArea (area_at s i)) → ((i : ℕ) → IsArea (area_at u i)) → IsFirstFree s (Some from.area) to
     → OneArea to.area (with_slot_owner s to (Some page)) u → AfterWriteFault to.slot (area_at (with_slot_owner s to (Some page)) to.area) (area_at u to.area) → SameOwned s (without_slot u to last)
-relocated-not page from to s u last swap sound first one fault = grind (arith, nat_tests, common_steps, to.area, to.slot, first.there, owner-given, sound.each, cases_slot, first.free)
+relocated-not page from to s u last before after first one fault = grind (arith, nat_tests, common_steps, to.area, to.slot, first.there, owner-given, after, cases_slot, first.free)
 
 -- a cause in the middle of steps that count no failure
 pub cause-within : (s t u v : SwapView) → IsSwap s → IsSteady s t → GoesOn t u → IsSteady u v → had_cause t u ≡ true → had_cause s v ≡ true

@@ -1,6 +1,7 @@
 -- Failures that are answered are failures that were counted.
 use Rattle.std.proofs.Common.{◌≡◌, ℕ, suc, ◌<◌, ◌≤◌, true, false, List, [], ◌∷◌, All, length, get_or, refl, sym, ◌∙◌, arith, sum_by}
 use Rattle.std.specs.List.{list_any}
+use Rattle.std.proofs.lemmas.List.Elements.{All-head, All-tail}
 use Rattle.std.proofs.lemmas.List.Sums.{sum_by-cons}
 use Rattle.std.proofs.lemmas.Grind.{common_steps}
 use Rattle.shm_slots.specs.View.{AreaView, SwapView, no_area, rise, is_spent, is_spent_here, IsSwap, IsCounted, AreCountsOf}
@@ -40,9 +41,10 @@ counts-zero : {P : Type 0} (failed : P → ℕ) (xs : List AreaView) → All (Is
     → (list_any is_spent xs ≡ false) × (sum_by rise xs ≡ 0)
 counts-zero failed [] all none = (refl, refl)
 counts-zero failed (x ∷ xs) all none =
-    let start : x.start ≡ 0 = sym all.0.start.1 ∙ none all.0.start.0 in
-    let now : x.failed ≡ 0 = sym all.0.now.1 ∙ none all.0.now.0 in
-    let rest = counts-zero failed xs all.1 none in
+    let first = All-head (IsCounted failed) x xs all in
+    let start : x.start ≡ 0 = sym first.start.1 ∙ none first.start.0 in
+    let now : x.failed ≡ 0 = sym first.now.1 ∙ none first.now.0 in
+    let rest = counts-zero failed xs (All-tail (IsCounted failed) x xs all) none in
     (grind (arith, common_steps, now, rest.0), omega (arith, start, now, rest.1, sum_by-cons rise x xs))
 
 -- over pagers that count no failure none was ever counted, and no area was ever spent

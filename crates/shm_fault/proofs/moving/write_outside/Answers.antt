@@ -13,7 +13,7 @@ returns-in-Ok-clause-ok g c =
 pub returns-in-Err-clause-err : goal.returns-in-Err-clause-err
 returns-in-Err-clause-err g c =
     rw c.give_slot-in-Err.ensures.given
-    (relocated-not c.args.page c.args.from c.in-Some.to c.args.swap.now c.write_slot.new.self _ c.requires.sound c.write_slot.ensures.sound c.in-Some.ensures.found
+    (relocated-not c.args.page c.args.from c.in-Some.to c.args.swap.now c.write_slot.new.self _ c.requires.sound.each c.write_slot.ensures.sound.each c.in-Some.ensures.found
     (rw c.in-Some.ensures.taken at c.write_slot.ensures.others) (rw c.in-Some.ensures.taken at c.in-Err.ensures.err))
 
 pub returns-in-Err-clause-cause : goal.returns-in-Err-clause-cause

@@ -11,3 +11,6 @@ returns-clause-dirty g c = rw (← c.self.view_is) (c.dirty.ensures.count ∙ sy
 
 pub returns-clause-used : goal.returns-clause-used
 returns-clause-used g c = rw (← c.self.view_is) (c.used.ensures ∙ sym (used-slots (seen c.self.inside) c.self.invariant.apart c.self.invariant.tied))
+
+pub returns-clause-counted : goal.returns-clause-counted
+returns-clause-counted g c = rw (← c.self.view_is) c.failures.ensures.counted
