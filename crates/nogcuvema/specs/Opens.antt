@@ -1,5 +1,5 @@
 -- What nog_open answers, and which machine it opens.
-use Rattle.std.specs.Prelude.{ℕ, ◌≡◌, ◌≢◌, ◌+◌, ◌⊎◌, Bool, false, not, ◌&&◌, ◌==◌, nat_le, nat_lt, if◌then◌else◌, List, map, Option, Some, None, Result, Ok, Err, slice_get, IsSomeAnd}
+use Rattle.std.specs.Prelude.{ℕ, ◌≡◌, ◌≢◌, ◌+◌, ◌⊎◌, Bool, true, false, not, ◌&&◌, ◌||◌, ◌==◌, nat_le, nat_lt, if◌then◌else◌, List, map, Option, Some, None, Result, Ok, Err, slice_get, IsSomeAnd}
 use Rattle.std.specs.List.{list_all}
 use Rattle.shm_base.specs.Bounds.{Bounds, within, limits_of}
 use Rattle.shm_base.specs.declared.limits.BadLimits.{BadLimits}
@@ -68,8 +68,18 @@ pub record Opens (l : NogLimits) (areas : List NogArea) (failures : List NogFail
   pub sound : opening_code l areas failures processes ≡ 0
   pub opened : IsOpened (bounds_of l) (map area_of areas) (map process_of processes) m.system
 
+-- out of memory comes in place of 0 and of a start error alone: limits and numbers are looked at before memory is taken
+abbrev pub may_want_memory : ℕ → Bool
+may_want_memory code = (code == 0) || nat_lt 2020 code
+
+-- why nothing was opened: the first refusal, or out of memory where that may come
+abbrev pub IsRefusedBy : NogLimits → List NogArea → List NogFailure → List NogProcess → ℕ → Type 0
+IsRefusedBy l areas failures processes code =
+    ((code ≡ no_memory) × (may_want_memory (opening_code l areas failures processes) ≡ true))
+    ⊎ (code ≡ opening_code l areas failures processes)
+
 -- it was opened, or refused for the first reason or out of memory, and nothing changed
 abbrev pub OpenedTo : Option Machine → NogLimits → List NogArea → List NogFailure → List NogProcess → ℕ → Option Machine → Type 0
 OpenedTo before l areas failures processes code after =
     ((code ≡ 0) × IsSomeAnd after (Opens l areas failures processes))
-    ⊎ ((code ≢ 0) × (((code ≡ no_memory) ⊎ (code ≡ opening_code l areas failures processes)) × (after ≡ before)))
+    ⊎ ((code ≢ 0) × IsRefusedBy l areas failures processes code × (after ≡ before))

@@ -1,7 +1,7 @@
 //! Opening and closing.
-ghost use Rattle.std.specs.Prelude.{◌≡◌, ◌≢◌, ◌⊎◌, map, IfOk, IfErr, None, is_some, if◌then◌else◌};
-ghost use Rattle.nogcuvema.specs.Answers.{closed, no_memory};
-ghost use Rattle.nogcuvema.specs.Opens.{kind_of, area_of, failure_of, process_of, are_kinds, is_there, are_there, opening_code, Opens, OpenedTo};
+ghost use Rattle.std.specs.Prelude.{◌≡◌, ◌≢◌, map, IfOk, IfErr, None, is_some, if◌then◌else◌};
+ghost use Rattle.nogcuvema.specs.Answers.{closed};
+ghost use Rattle.nogcuvema.specs.Opens.{kind_of, area_of, failure_of, process_of, are_kinds, is_there, are_there, Opens, OpenedTo, IsRefusedBy};
 
 use crate::code::{CLOSED, DONE, NO_MEMORY, OUT_OF_RANGE};
 use crate::handle::Handle;
@@ -116,7 +116,8 @@ fn machine_of(
     processes: &[NogProcess],
 ) -> Result<Machine, u32>
     ensures ok { IfOk result (Opens limits.now areas.now failures.now processes.now) }
-    ensures err { IfErr result (λ code. (code ≢ 0) × ((code ≡ no_memory) ⊎ (code ≡ opening_code limits.now areas.now failures.now processes.now))) }
+    ensures err { IfErr result (λ code.
+        (code ≢ 0) × IsRefusedBy limits.now areas.now failures.now processes.now code) }
 {
     let bounds = match Limits::new(
         limits.shmmax,
