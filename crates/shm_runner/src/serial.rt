@@ -27,11 +27,10 @@ pub fn run_serial<R: Read, W: Write, P: Pager>(
     writer: &mut W,
     pagers: Vec<P>,
 ) -> Result<(), RunFault>
-    ensures ok {
-        let text = IsOutput P.failed (handed_in P.content P.failed pagers.items) in
+    ensures ok { let text = IsOutput P.failed (handed_in P.content P.failed pagers.items) in
         let areas = map (λ p. length (P.content p)) pagers.items in
         OnOk result (IfSome (R.remaining reader.old) (λ input.
-            Prints text (W.contents writer.old) (W.contents writer.new) areas input)) }
+        Prints text (W.contents writer.old) (W.contents writer.new) areas input)) }
     ensures whole { OnOk result (IsAtEnd (R.remaining reader.new)) }
     ensures cause { IfErr result (λ f. IfSome (R.remaining reader.old) (λ input. IsCause f (map (λ p. length (P.content p)) pagers.items) input)) }
     ensures serial { IfErr result (λ f. is_serial f ≡ true) }
@@ -50,8 +49,7 @@ fn run_script<W: Write, P: Pager>(
     script: Script,
     pagers: Vec<P>,
 ) -> Result<(), RunFault>
-    ensures ok {
-        let text = IsOutput P.failed (handed_in P.content P.failed pagers.items) in
+    ensures ok { let text = IsOutput P.failed (handed_in P.content P.failed pagers.items) in
         let areas = map (λ p. length (P.content p)) pagers.items in
         OnOk result (IsWritten (text script areas) (W.contents writer.old) (W.contents writer.new)) }
     ensures cause { IfErr result (λ f. IsCauseIn f (map (λ p. length (P.content p)) pagers.items) script) }
@@ -73,8 +71,7 @@ fn run_in<W: Write, P: Pager>(
 ) -> Result<(), RunFault>
     requires events { world.old.events ≡ [] }
     requires opened { IsOpening script world.old.opening }
-    ensures ok {
-        let text = IsOutput P.failed world.old.memory.swap script world.old.opening.areas in
+    ensures ok { let text = IsOutput P.failed world.old.memory.swap script world.old.opening.areas in
         OnOk result (IsWritten text (W.contents writer.old) (W.contents writer.new)) }
     ensures fault { IfErr result (λ f. (f ≡ RunFault.HostMemory) ⊎ (f ≡ RunFault.WriteFailed)) }
     ensures silent { IfErr result (λ f. IsSilent f (W.contents writer.old) (W.contents writer.new)) }
