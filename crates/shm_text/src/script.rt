@@ -35,7 +35,7 @@ impl Variable {
     }
 
     /// The letter's byte.
-    pub(crate) fn letter(self) -> u8
+    pub fn letter(self) -> u8
         ensures value { result ≡ self }
         ensures range { (97 ≤ result) × (result ≤ 122) }
     {
@@ -161,7 +161,7 @@ impl Command {
     }
 
     /// The variable that takes the answer.
-    pub(crate) fn var(&self) -> Option<Variable>
+    pub fn var(&self) -> Option<Variable>
         ensures { result ≡ self.now.var }
     {
         self.var

@@ -12,7 +12,8 @@ use Rattle.shm_history.specs.WorldState.{WorldState, event, IsCalled, IsRound}
 use Rattle.shm_view.specs.declared.action.Action.{Action}
 use Rattle.shm_view.specs.declared.action.Action.TheVariants as actions
 use Rattle.shm_view.specs.Record.{step_text}
-use Rattle.shm_program.specs.Runs.{IsWorldSound, IsWorldOf}
+use Rattle.shm_slots.specs.View.{SwapView}
+use Rattle.shm_program.specs.Runs.{IsWorldSound, IsWorldOf, IsFresh}
 use Rattle.shm_program.specs.Values.{HolderView, fresh_holder, values_of, with_answer}
 use Rattle.shmview.specs.Steps.{has_step, steps_asked}
 use Rattle.shmview.specs.declared.steps.Steps.{Steps}
@@ -39,12 +40,13 @@ Leads steps hs n w [] text = text ≡ []
 Leads steps hs n w (line ∷ lines) text =
     (action : Action) × (after : List HolderView) × (next : WorldState) × (rest : List ℕ) × HasRun hs w line action after next × IsWorldSound next × Leads steps after (n + 1) next lines rest × (text ≡ shown_text steps n action next ++ rest)
 
--- the record of a run of a script over these areas: step 0 is the world as it opens, and each line is a step. Where no
--- steps are asked for the script has at most 2,000 lines
-pub record IsRecord (asked : Option Steps) (script : ScriptView) (areas : List ℕ) (text : List ℕ) : Type 0 where
+-- the record of a run of a script over these areas: step 0 is the world as it opens, over the swap areas as they were handed
+-- in, and each line is a step. Where no steps are asked for the script has at most 2,000 lines
+pub record IsRecord (swap : SwapView) (asked : Option Steps) (script : ScriptView) (areas : List ℕ) (text : List ℕ) : Type 0 where
   pub world : WorldState
   pub is_world : IsWorldOf script areas world
   pub fresh : world.events ≡ []
+  pub memory : IsFresh swap world.memory
   pub few : asked ≡ None → length script.lines ≤ 2000
   pub rest : List ℕ
   pub leads : Leads (steps_asked asked) (map fresh_holder script.processes) 1 world script.lines rest

@@ -2,7 +2,7 @@
 //! step goes to a writer.
 ghost use Rattle.std.specs.Prelude.{◌≡◌, ◌⊎◌, ◌≤◌, [], length, map, None, OnOk, IfErr, IfSome, MatchOption};
 ghost use Rattle.std.specs.Io.KnownBytes.{Appends, IsAtEnd};
-ghost use Rattle.shm_program.specs.Runs.{Prints, IsWritten, IsOpening};
+ghost use Rattle.shm_program.specs.Runs.{Prints, IsWritten, IsOpening, IsFresh, handed_in};
 ghost use Rattle.shmview.specs.Record.{IsRecord};
 ghost use Rattle.shmview.specs.Stop.{IsStopIn, IsStopOf, IsTooLong, WritesNothing};
 
@@ -30,7 +30,10 @@ pub(crate) fn view<R: Read, W: Write, P: Pager>(
     pagers: Vec<P>,
     asked: Option<Steps>,
 ) -> Result<(), Stop>
-    ensures ok { OnOk result (IfSome (R.remaining reader.old) (λ input. Prints (IsRecord asked) (W.contents writer.old) (W.contents writer.new) (map (λ p. length (P.content p)) pagers.items) input)) }
+    ensures ok { let text = IsRecord (handed_in P.content P.failed pagers.items) asked in
+        let areas = map (λ p. length (P.content p)) pagers.items in
+        OnOk result (IfSome (R.remaining reader.old) (λ input.
+        Prints text (W.contents writer.old) (W.contents writer.new) areas input)) }
     ensures whole { OnOk result (IsAtEnd (R.remaining reader.new)) }
     ensures cause { IfErr result (λ s. IfSome (R.remaining reader.old) (λ input. IsStopOf s asked (map (λ p. length (P.content p)) pagers.items) input)) }
     ensures silent { IfErr result (λ s. WritesNothing s (W.contents writer.old) (W.contents writer.new)) }
@@ -62,7 +65,9 @@ fn view_script<W: Write, P: Pager>(
     pagers: Vec<P>,
     asked: Option<Steps>,
 ) -> Result<(), Stop>
-    ensures ok { OnOk result (IsWritten (IsRecord asked script.now (map (λ p. length (P.content p)) pagers.items)) (W.contents writer.old) (W.contents writer.new)) }
+    ensures ok { let text = IsRecord (handed_in P.content P.failed pagers.items) asked in
+        let areas = map (λ p. length (P.content p)) pagers.items in
+        OnOk result (IsWritten (text script.now areas) (W.contents writer.old) (W.contents writer.new)) }
     ensures cause { IfErr result (λ s. IsStopIn s asked (map (λ p. length (P.content p)) pagers.items) script.now) }
     ensures silent { IfErr result (λ s. WritesNothing s (W.contents writer.old) (W.contents writer.new)) }
 {
@@ -86,8 +91,10 @@ fn view_in<W: Write, P: Pager>(
 ) -> Result<(), Stop>
     requires events { world.old.events ≡ [] }
     requires opened { IsOpening script.now world.old.opening }
+    requires memory { IsFresh world.old.memory.swap world.old.memory }
     requires few { asked ≡ None → length script.now.lines ≤ 2000 }
-    ensures ok { OnOk result (IsWritten (IsRecord asked script.now world.old.opening.areas) (W.contents writer.old) (W.contents writer.new)) }
+    ensures ok { let text = IsRecord world.old.memory.swap asked script.now world.old.opening.areas in
+        OnOk result (IsWritten text (W.contents writer.old) (W.contents writer.new)) }
     ensures fault { IfErr result (λ s. (s ≡ Stop.Fault RunFault.HostMemory) ⊎ (s ≡ Stop.Fault RunFault.WriteFailed)) }
     ensures silent { IfErr result (λ s. WritesNothing s (W.contents writer.old) (W.contents writer.new)) }
 {

@@ -1,5 +1,6 @@
 use Rattle.std.proofs.Common.{map, length}
 use Rattle.std.specs.Io.KnownBytes.{IsAtEnd}
+use Rattle.shm_program.specs.Runs.{handed_in}
 use Rattle.shm_program.proofs.Causes.{anyway}
 use Rattle.shm_program.proofs.Texts.{shows}
 use Rattle.shmview.specs.Record.{IsRecord}
@@ -7,7 +8,7 @@ use Rattle.shmview.proofs.Stops.{stops, early_stop}
 use Rattle.shmview.proofs.view.view.Goals as goal
 
 pub returns-in-Ok-clause-ok : goal.returns-in-Ok-clause-ok
-returns-in-Ok-clause-ok g c = shows (IsRecord c.args.asked) c.view_script.result (g.R.Read.remaining c.args.reader.now) (g.W.Write.contents c.args.writer.now) (g.W.Write.contents c.view_script.new.writer) (map (λ p. length (g.P.Pager.content p)) c.args.pagers.items) c.in-Ok.script c.in-Ok.ensures.read c.view_script.ensures.ok
+returns-in-Ok-clause-ok g c = shows (IsRecord (handed_in g.P.Pager.content g.P.Pager.failed c.args.pagers.items) c.args.asked) c.view_script.result (g.R.Read.remaining c.args.reader.now) (g.W.Write.contents c.args.writer.now) (g.W.Write.contents c.view_script.new.writer) (map (λ p. length (g.P.Pager.content p)) c.args.pagers.items) c.in-Ok.script c.in-Ok.ensures.read c.view_script.ensures.ok
 
 pub returns-in-Ok-clause-whole : goal.returns-in-Ok-clause-whole
 returns-in-Ok-clause-whole g c = anyway c.view_script.result (IsAtEnd (g.R.Read.remaining c.whole_script.new.reader)) c.in-Ok.ensures.whole

@@ -18,7 +18,7 @@ returns-in-Ok-clause-ok g c =
     let is : IsWorldOf script w.opening.areas w = record { opened = c.requires.opened; over = refl; sound = record { legal = c.lawful-sound.ensures.legal; counted = c.lawful-sound.ensures.counted; exact = c.lawful-sound.ensures.exact; laws = rw c.lawful-sound.ensures.events at c.lawful-sound.ensures.laws } } in
     let told = subst (λ (steps : Steps). (rest : List ℕ) × Leads steps (map fresh_holder script.processes) 1 w script.lines rest × (text ≡ shown_text steps 0 Start w ++ rest)) c.asked.ensures c.in-Ok.ensures in
     let written : OnOk c.write_text.result (Appends (g.W.Write.contents c.args.writer.now) (g.W.Write.contents c.write_text.new.writer) text) = search rules in
-    record_text c.write_text.result c.args.asked script w.opening.areas w text (g.W.Write.contents c.args.writer.now) (g.W.Write.contents c.write_text.new.writer) is c.requires.events c.requires.few told written
+    record_text w.memory.swap c.write_text.result c.args.asked script w.opening.areas w text (g.W.Write.contents c.args.writer.now) (g.W.Write.contents c.write_text.new.writer) is c.requires.events c.requires.memory c.requires.few told written
 
 pub returns-in-Ok-clause-fault : goal.returns-in-Ok-clause-fault
 returns-in-Ok-clause-fault g c = writer_stops c.write_text.result c.write_text.ensures.fault
