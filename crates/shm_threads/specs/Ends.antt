@@ -3,9 +3,10 @@ use Rattle.std.specs.Prelude.{◌≡◌, ℕ, Bool, true, false, Option, Some, N
 use Rattle.shm_threads.specs.declared.outcome.RunError.{RunError}
 use Rattle.shm_threads.specs.declared.outcome.RunError.TheVariants.{HostMemory, GateExpired, HistoryMismatch, ThreadRefused}
 
--- a refused thread comes first, then a worker that the gate ended, and then what is found in the history
-abbrev pub IsFirst : Bool → Option ℕ → RunError → Type 0
-IsFirst refused expired ThreadRefused = refused ≡ true
-IsFirst refused expired (GateExpired pid) = (refused ≡ false) × (expired ≡ Some pid)
-IsFirst refused expired (HistoryMismatch pid) = (refused ≡ false) × (expired ≡ None)
-IsFirst refused expired HostMemory = ⊥
+-- a refused thread comes first, then the least pid of a worker that the gate ended, and then the pid that is found to
+-- disagree with the history
+abbrev pub IsFirst : Bool → Option ℕ → (Option ℕ → Type 0) → RunError → Type 0
+IsFirst refused expired IsFound ThreadRefused = refused ≡ true
+IsFirst refused expired IsFound (GateExpired pid) = (refused ≡ false) × (expired ≡ Some pid)
+IsFirst refused expired IsFound (HistoryMismatch pid) = (refused ≡ false) × (expired ≡ None) × IsFound (Some pid)
+IsFirst refused expired IsFound HostMemory = ⊥

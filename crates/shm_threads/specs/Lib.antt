@@ -1,3 +1,5 @@
+pub mod Asked
+pub mod Births
 pub mod Ends
 pub mod Keepers
 pub mod Outcomes

@@ -1,9 +1,13 @@
 //! A thread for each process of a script, over one world under a lock.
 #![tactic(auto)]
 
+mod births;
+mod callers;
+mod flusher;
 mod gate;
 mod mismatch;
 mod outcome;
+mod plan;
 mod run;
 mod shared;
 mod worker;

@@ -1,6 +1,6 @@
 //! The comparison of what a run gave with what was handed in, once all workers have ended.
-ghost use Rattle.std.specs.Prelude.{◌≡◌, ◌↔◌, IsNone, IfOk, IsTrue, Some};
-ghost use Rattle.shm_threads.specs.Outcomes.{IsOutcome};
+ghost use Rattle.std.specs.Prelude.{◌≡◌, ◌↔◌, IfOk, IsTrue};
+ghost use Rattle.shm_threads.specs.Outcomes.{IsMismatch};
 
 use shm_base::{HostMemory, Process};
 use shm_history::{Opening, World};
@@ -36,16 +36,15 @@ fn are_same(one: &[Process], other: &[Process]) -> bool
     one == other
 }
 
-/// The least pid whose part of the history and whose transcript disagree, or 0 where the opening or the list of
-/// transcripts is not as it was handed in.
+/// The least pid of which the history and the transcripts disagree, or 0 where the opening or the list of transcripts is
+/// not as it was handed in. None exactly where they are an outcome.
 pub(crate) fn mismatch<P: Pager>(
     opening: &Opening,
     world: &World<P>,
     script: &Script,
     transcripts: &Vec<Transcript>,
 ) -> Option<u32>
-    ensures whole { IsNone result ↔ IsOutcome script.now opening.now world.now transcripts.now.items }
-    ensures opening { (opening.now ≡ world.now.opening → ⊥) → result ≡ Some 0 }
+    ensures { IsMismatch script.now opening.now world.now transcripts.now.items result }
 {
     if !is_same(opening, world.opening()) {
         return Some(0);

@@ -2,14 +2,17 @@
 ghost use Rattle.std.specs.Prelude.{◌≡◌, ◌+◌, ◌≤◌, true, false, All, IfOk, OnOk, IfNone, IfSome, length, vec_len, vec_capacity};
 ghost use Rattle.shm_threads.specs.Ends.{IsFirst};
 ghost use Rattle.shm_threads.specs.Keepers.{cell_of, IsCaughtUp};
-ghost use Rattle.shm_threads.specs.Outcomes.{IsOutcome};
+ghost use Rattle.shm_threads.specs.Outcomes.{IsMismatch, IsOutcome};
 ghost use Rattle.shm_threads.specs.Plans.{HasRoom, IsPlan};
 
+use crate::births::{ProcessState, states};
+use crate::callers::{FlusherEnded, run_process, run_rounds};
 use crate::gate::Gate;
 use crate::mismatch::{copied, mismatch};
 use crate::outcome::{Outcome, RunError};
-use crate::shared::{ProcessState, Shared, states};
-use crate::worker::{Ended, FlusherEnded, flush_all, jobs, work};
+use crate::plan::jobs;
+use crate::shared::Shared;
+use crate::worker::Ended;
 use shm_base::HostMemory;
 use shm_history::{Keeper, Opening, World};
 use shm_pager::Pager;
@@ -186,7 +189,8 @@ fn run_error<P: Pager>(
 ) -> Option<RunError>
     ensures outcome { IfNone result (IsOutcome script.now opening.now world.now run.now.transcripts.items) }
     ensures started { IfNone result (run.now.is_refused ≡ false) }
-    ensures first { IfSome result (IsFirst run.now.is_refused run.now.expired) }
+    ensures first { let found = IsMismatch script.now opening.now world.now run.now.transcripts.items in
+        IfSome result (IsFirst run.now.is_refused run.now.expired found) }
 {
     if run.is_refused {
         return Some(RunError::ThreadRefused);
@@ -254,7 +258,7 @@ fn run_all<R: Threads + Wait + Sync, G: Gate, P: Pager + Send>(
             let same = SameCell(Snapshot::of(&keeper));
             let Ok(flusher) = scope.spawn_with(
                 same,
-                move || flush_all(rt, shared, &script.lines, gate, keeper),
+                move || run_rounds(rt, shared, &script.lines, gate, keeper),
             ) else {
                 return refused(transcripts);
             };
@@ -307,7 +311,7 @@ fn start_all<'s, E, R: Threads + Wait + Sync, G: Gate, P: Pager + Send>(
             scope,
             move || -> Ended
                 requires { HasRoom lines.now job }
-            { work(rt, shared, lines, gate, job) },
+            { run_process(rt, shared, lines, gate, job) },
         );
         if let Ok(handle) = started {
             handles.push_reserved(handle);

@@ -1,26 +1,21 @@
-//! The world under its lock, beside the state of each process.
+//! The world under its lock, and the state of each process.
 //!
-//! What holds of the world is a fact of its type, so it holds whenever the lock is free.
-ghost use Rattle.std.specs.Prelude.{◌≡◌, ◌++◌, []};
-ghost use Rattle.shm_threads.specs.Keepers.{cell_of, HasPublished};
+//! What holds of the world is a fact of its type, so it holds whenever the lock is free. Who notes a birth or an end has
+//! news, which cannot be let go without waking those who wait.
+ghost use Rattle.std.specs.Prelude.{◌≡◌, ◌++◌, [], is_some, map};
+ghost use Rattle.shm_history.specs.WorldState.{IsRound};
 ghost use Rattle.shm_text.specs.Variables.{call_of};
+ghost use Rattle.shm_threads.specs.Births.{births_after, is_birth, with_end};
+ghost use Rattle.shm_threads.specs.Keepers.{cell_of, HasPublished};
 ghost use Rattle.shm_transcripts.specs.Transcripts.{events_of};
 
-use shm_base::{Call, HostMemory, Process, Reply};
+use crate::births::{News, ProcessState, is_born, may_fork, note_birth, note_end};
+use shm_base::{Call, FlushReport, HostMemory, Reply};
 use shm_history::{Keeper, World};
 use shm_pager::Pager;
 use shm_text::{Command, Vars};
 use shm_transcripts::{Answer, Entry};
-use std::alloc::Global;
 use std::sync::{Condvar, Mutex, Wait};
-
-/// Whether a process was born, and whether its worker has ended.
-#[derive(Clone, Copy, Debug, PartialEq, Eq)]
-pub(crate) struct ProcessState {
-    pid: u32,
-    is_born: bool,
-    has_ended: bool,
-}
 
 #[derive(Drop)]
 struct RunState<P: Pager> {
@@ -29,90 +24,67 @@ struct RunState<P: Pager> {
 }
 
 impl<P: Pager> RunState<P> {
-    // Makes a command line's call. A child that it forks is noted.
-    fn call(&mut self, command: &Command, vars: &Vars) -> Entry
-        ensures line { result.call ≡ call_of vars.now command.now.call }
-        ensures recorded { self.new.world.events ≡ self.old.world.events ++ events_of command.now.pid result.call result.answer [] }
+    // Makes a command line's call. A child that it forks is noted, which is news.
+    fn call(&mut self, command: &Command, vars: &Vars) -> (Entry, Option<News>)
+        ensures line { result.0.call ≡ call_of vars.now command.now.call }
+        ensures recorded { let of = events_of command.now.pid result.0.call result.0.answer in
+            self.new.world.events ≡ self.old.world.events ++ of [] }
         ensures opening { self.new.world.opening ≡ self.old.world.opening }
+        ensures births { let after = births_after result.0.call result.0.answer in
+            self.new.processes.items ≡ after self.old.processes.items }
+        ensures news { is_some result.1 ≡ is_birth result.0.call result.0.answer }
     {
         let call = vars.call(command);
         match self.world.call(command.pid(), &call) {
             Ok(reply) => {
-                if let (Call::Fork { child }, Reply::Done) = (&call, &reply) {
-                    note_birth(&mut self.processes, *child);
-                }
-                Entry {
-                    call,
-                    answer: Answer::Reply(reply),
-                }
+                let news = self.born_by(&call, &reply);
+                let answer = Answer::Reply(reply);
+                (Entry { call, answer }, news)
             }
-            Err(HostMemory) => Entry {
-                call,
-                answer: Answer::HostMemory,
-            },
+            Err(HostMemory) => {
+                let answer = Answer::HostMemory;
+                (Entry { call, answer }, None)
+            }
+        }
+    }
+
+    // Notes the child that a call has forked, if it has.
+    fn born_by(&mut self, call: &Call, reply: &Reply) -> Option<News>
+        ensures births { let after = births_after call.now (Answer.Reply reply.now) in
+            self.new.processes.items ≡ after self.old.processes.items }
+        ensures news { is_some result ≡ is_birth call.now (Answer.Reply reply.now) }
+        ensures world { self.new.world ≡ self.old.world }
+    {
+        match (call, reply) {
+            (Call::Fork { child }, Reply::Done) => Some(note_birth(&mut self.processes, *child)),
+            _ => None,
         }
     }
 
     // A flush round of so many pages at most. Where there is a keeper, it publishes what is then counted.
-    fn flush<R: Wait>(&mut self, rt: &R, pages: u32, keeper: &mut Option<Keeper>)
-        ensures rest { self.new.world ≡ record self.old.world { memory = self.new.world.memory } }
+    fn flush<R: Wait>(&mut self, rt: &R, pages: u32, keeper: &mut Option<Keeper>) -> FlushReport
+        ensures round { IsRound self.old.world pages result self.new.world }
         ensures cell { cell_of keeper.new ≡ cell_of keeper.old }
         ensures published { HasPublished self.new.world keeper.new }
     {
-        let _report = self.world.flush(u64::from(pages));
+        let report = self.world.flush(u64::from(pages));
         if let Some(keeper) = keeper {
             self.world.publish(rt, keeper);
         }
+        report
     }
 
-    fn is_born(&self, pid: u32) -> bool {
-        self.processes
-            .iter()
-            .any(|process| process.pid == pid && process.is_born)
-    }
-
-    // Whether a worker of a born process has not ended, which may yet fork.
-    fn may_fork(&self) -> bool {
-        self.processes
-            .iter()
-            .any(|process| process.is_born && !process.has_ended)
+    // Notes that a process has left, which is news.
+    fn end(&mut self, pid: u32) -> News
+        ensures ended { self.new.processes.items ≡ map (with_end pid) self.old.processes.items }
+        ensures world { self.new.world ≡ self.old.world }
+    {
+        note_end(&mut self.processes, pid)
     }
 }
 
-/// The state of each process before the run.
-pub(crate) fn states(
-    alloc: Global,
-    processes: &[Process],
-) -> Result<Vec<ProcessState>, HostMemory> {
-    let mut states = Vec::with_capacity(alloc, processes.len())?;
-    for process in processes {
-        states.push(ProcessState {
-            pid: process.pid,
-            is_born: process.born.is_some(),
-            has_ended: false,
-        })?;
-    }
-    Ok(states)
-}
-
-fn note_birth(processes: &mut Vec<ProcessState>, pid: u32) {
-    for process in processes.iter_mut() {
-        if process.pid == pid {
-            process.is_born = true;
-        }
-    }
-}
-
-fn note_end(processes: &mut Vec<ProcessState>, pid: u32) {
-    for process in processes.iter_mut() {
-        if process.pid == pid {
-            process.has_ended = true;
-        }
-    }
-}
-
-/// What the threads of a run share: the world under its lock, and the condition that a child was forked or a
-/// worker has ended.
+/// What the threads of a run share: the world under its lock, and the condition that a child was forked or a process
+/// has left.
 #[derive(Drop)]
 pub(crate) struct Shared<P: Pager> {
     state: Mutex<RunState<P>>,
@@ -128,10 +100,13 @@ impl<P: Pager> Shared<P> {
     }
 
     /// Makes a command line's call under the lock.
-    pub(crate) fn call<R: Wait>(&self, rt: &R, command: &Command, vars: &Vars) -> Entry {
-        let entry = self.state.lock(rt).call(command, vars);
-        if let Call::Fork { .. } = entry.call {
-            self.changed.notify_all();
+    pub(crate) fn call<R: Wait>(&self, rt: &R, command: &Command, vars: &Vars) -> Entry
+        ensures { result.call ≡ call_of vars.now command.now.call }
+    {
+        let (entry, news) = self.state.lock(rt).call(command, vars);
+        match news {
+            Some(news) => news.announce(&self.changed),
+            None => {}
         }
         entry
     }
@@ -140,21 +115,21 @@ impl<P: Pager> Shared<P> {
     pub(crate) fn flush<R: Wait>(&self, rt: &R, pages: u32, keeper: &mut Option<Keeper>)
         ensures { cell_of keeper.new ≡ cell_of keeper.old }
     {
-        self.state.lock(rt).flush(rt, pages, keeper);
+        let _report = self.state.lock(rt).flush(rt, pages, keeper);
     }
 
-    /// Waits until the process is born, or no worker is left that could fork it. True if it is born.
+    /// Waits until the process is born, or no process is left that could fork it. True if it is born.
     pub(crate) fn wait_for_birth<R: Wait>(&self, rt: &R, pid: u32) -> bool {
         let state = self.changed.wait_while(rt, self.state.lock(rt), |state| {
-            !state.is_born(pid) && state.may_fork()
+            !is_born(&state.processes, pid) && may_fork(&state.processes)
         });
-        state.is_born(pid)
+        is_born(&state.processes, pid)
     }
 
-    /// Notes that a process's worker has ended.
+    /// Notes that a process has left.
     pub(crate) fn end<R: Wait>(&self, rt: &R, pid: u32) {
-        note_end(&mut self.state.lock(rt).processes, pid);
-        self.changed.notify_all();
+        let news = self.state.lock(rt).end(pid);
+        news.announce(&self.changed);
     }
 
     /// The world, once no worker is left.

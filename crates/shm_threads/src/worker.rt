@@ -1,18 +1,42 @@
-//! What a process's thread runs.
-ghost use Rattle.std.specs.Prelude.{◌≡◌, IfOk, All, length};
-ghost use Rattle.shm_threads.specs.Keepers.{cell_of};
-ghost use Rattle.shm_threads.specs.Plans.{HasRoom, is_line_of};
+//! What a process's thread does, whoever makes its calls.
+//!
+//! A worker asks its caller for each step. What it asks for, and in which order, is its contract: the caller may have
+//! any meaning.
+ghost use Rattle.std.specs.Prelude.{◌≡◌, [], ◌∷◌, List, not};
+ghost use Rattle.shm_text.specs.Variables.{call_of};
+ghost use Rattle.shm_threads.specs.Asked.{Asked, Adds, Born, Before, Called, After, Left, RunsLines, Works};
+ghost use Rattle.shm_threads.specs.Plans.{HasRoom};
 ghost use Rattle.shm_transcripts.specs.Transcripts.{commands_of};
 
-use crate::gate::Gate;
-use crate::shared::Shared;
-use shm_base::HostMemory;
-use shm_history::Keeper;
-use shm_pager::Pager;
-use shm_text::{Line, Script, Vars};
-use shm_transcripts::Transcript;
-use std::alloc::Global;
-use std::sync::Wait;
+use shm_text::{Command, Line, Vars};
+use shm_transcripts::{Entry, Transcript};
+
+/// What makes a process's calls for its worker.
+pub(crate) trait Caller {
+    /// That these may be what it was asked for so far.
+    ghost asked: { Self → List Asked → Type 0 };
+
+    /// Waits until the process is born. False if it never will be.
+    fn born(&mut self) -> bool
+        ensures { Adds (asked self.old) (Born result ∷ []) (asked self.new) };
+
+    /// Whether the process may make its n-th call. False ends its worker.
+    fn before(&mut self, n: u64) -> bool
+        ensures { Adds (asked self.old) (Before n result ∷ []) (asked self.new) };
+
+    /// Makes a command line's call.
+    fn call(&mut self, command: &Command, vars: &Vars) -> Entry
+        ensures line { result.call ≡ call_of vars.now command.now.call }
+        ensures asked { Adds (asked self.old) (Called vars.now command.now result ∷ []) (asked self.new) };
+
+    /// The process's n-th call was answered.
+    fn after(&mut self, n: u64)
+        ensures { Adds (asked self.old) (After n ∷ []) (asked self.new) };
+
+    /// The process has left: no worker makes calls of it from now on.
+    fn leave(&mut self)
+        ensures { Adds (asked self.old) (Left ∷ []) (asked self.new) };
+}
 
 /// A worker's transcript, and whether the gate ended it.
 #[derive(Drop)]
@@ -21,99 +45,15 @@ pub(crate) struct Ended {
     pub(crate) is_expired: bool,
 }
 
-/// An empty transcript for each process, with room for its lines.
-pub(crate) fn jobs(alloc: Global, script: &Script) -> Result<Vec<Transcript>, HostMemory>
-    ensures { IfOk result (λ jobs. All (HasRoom script.now.lines) jobs.items) }
-{
-    let mut jobs = Vec::with_capacity(alloc, script.processes.len())?;
-    for process in &script.processes {
-        let job = job(alloc, &script.lines, process.pid)?;
-        jobs.push(job)?;
-    }
-    Ok(jobs)
-}
-
-// An empty transcript with room for the lines of a process.
-fn job(alloc: Global, lines: &[Line], pid: u32) -> Result<Transcript, HostMemory>
-    ensures { IfOk result (λ t. HasRoom lines.now t) }
-{
-    let entries = Vec::with_capacity(alloc, line_count(lines, pid))?;
-    Ok(Transcript { pid, entries })
-}
-
-fn line_count(lines: &[Line], pid: u32) -> usize
-    ensures { result ≡ length (commands_of pid lines.now) }
-{
-    let mut count = 0;
-    for line in lines {
-        if is_line_of(line, pid) {
-            count += 1;
-        }
-    }
-    count
-}
-
-fn is_line_of(line: &Line, pid: u32) -> bool
-    ensures { result ≡ is_line_of pid line.now }
-{
-    match line {
-        Line::Command(command) => command.pid() == pid,
-        Line::Flush(_) => false,
-    }
-}
-
-/// The keeper that the flusher had, if there is one, and whether the gate ended the flusher.
-#[derive(Drop)]
-pub(crate) struct FlusherEnded {
-    pub(crate) keeper: Option<Keeper>,
-    pub(crate) is_expired: bool,
-}
-
-/// Runs the flush lines, in order, and has the keeper publish in each round.
-pub(crate) fn flush_all<R: Wait, G: Gate, P: Pager>(
-    rt: &R,
-    shared: &Shared<P>,
-    lines: &[Line],
-    gate: &G,
-    mut keeper: Option<Keeper>,
-) -> FlusherEnded
-    ensures { cell_of result.keeper ≡ cell_of keeper }
-{
-    let mut n = 0u64;
-    for line in lines {
-        let Line::Flush(round) = line else {
-            continue;
-        };
-        n += 1;
-        if !gate.before(0, n) {
-            return FlusherEnded {
-                keeper,
-                is_expired: true,
-            };
-        }
-        shared.flush(rt, round.pages(), &mut keeper);
-        gate.after(0, n);
-    }
-    FlusherEnded {
-        keeper,
-        is_expired: false,
-    }
-}
-
 /// Runs one process, from its birth to its end.
-pub(crate) fn work<R: Wait, G: Gate, P: Pager>(
-    rt: &R,
-    shared: &Shared<P>,
-    lines: &[Line],
-    gate: &G,
-    mut transcript: Transcript,
-) -> Ended
+pub(crate) fn work<C: Caller>(caller: &mut C, lines: &[Line], mut transcript: Transcript) -> Ended
     requires { HasRoom lines.now transcript }
+    ensures pid { result.transcript.pid ≡ transcript.pid }
+    ensures works { let own = commands_of transcript.pid lines.now in
+        Works (C.asked caller.old) (C.asked caller.new) own result.transcript.entries.items (not result.is_expired) }
 {
-    let pid = transcript.pid;
-    let is_expired = shared.wait_for_birth(rt, pid)
-        && !run_lines(rt, shared, lines, gate, &mut transcript);
-    shared.end(rt, pid);
+    let is_expired = caller.born() && !run_lines(caller, lines, &mut transcript);
+    caller.leave();
     Ended {
         transcript,
         is_expired,
@@ -121,14 +61,11 @@ pub(crate) fn work<R: Wait, G: Gate, P: Pager>(
 }
 
 // Runs the lines of a born process. False if the gate ended it.
-fn run_lines<R: Wait, G: Gate, P: Pager>(
-    rt: &R,
-    shared: &Shared<P>,
-    lines: &[Line],
-    gate: &G,
-    transcript: &mut Transcript,
-) -> bool
+fn run_lines<C: Caller>(caller: &mut C, lines: &[Line], transcript: &mut Transcript) -> bool
     requires { HasRoom lines.now transcript.old }
+    ensures pid { transcript.new.pid ≡ transcript.old.pid }
+    ensures runs { let own = commands_of transcript.old.pid lines.now in
+        RunsLines (C.asked caller.old) (C.asked caller.new) own transcript.new.entries.items result }
 {
     let pid = transcript.pid;
     let mut vars = Vars::new();
@@ -141,11 +78,11 @@ fn run_lines<R: Wait, G: Gate, P: Pager>(
             continue;
         }
         n += 1;
-        if !gate.before(pid, n) {
+        if !caller.before(n) {
             return false;
         }
-        let entry = shared.call(rt, command, &vars);
-        gate.after(pid, n);
+        let entry = caller.call(command, &vars);
+        caller.after(n);
         vars.took(command, entry.answer.reply());
         let has_ended = entry.is_end();
         transcript.entries.push_reserved(entry);

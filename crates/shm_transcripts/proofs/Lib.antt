@@ -1,3 +1,4 @@
 mod Following
 mod Found
+mod LeastWrong
 mod Own

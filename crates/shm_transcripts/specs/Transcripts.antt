@@ -1,5 +1,5 @@
 -- What transcripts say of a history.
-use Rattle.std.specs.Prelude.{◌≡◌, ◌≢◌, ◌⊎◌, ◌==◌, ℕ, List, [], ◌∷◌, map, Bool, true, false, not, ◌&&◌, is_some, if◌then◌else◌, Option, Some, None, MatchBool, All, min}
+use Rattle.std.specs.Prelude.{◌≡◌, ◌≢◌, ◌<◌, ◌↔◌, ◌⊎◌, ◌==◌, ℕ, List, [], ◌∷◌, map, Bool, true, false, not, ◌&&◌, is_some, if◌then◌else◌, Option, Some, None, IsNone, MatchBool, All, min}
 use Rattle.std.specs.List.{list_any}
 use Rattle.shm_base.specs.History.{own_part}
 use Rattle.shm_base.specs.declared.call.Call.{Call}
@@ -106,9 +106,42 @@ pub record IsAdmitted (processes : List Process) (e : Event) : Type 0 where
   pub declared : has_pid e.pid processes ≡ true
   pub live : e.reply ≢ Refused Esrch
 
+-- one transcript for each process of the script, in its order
+abbrev pub AreListed : ScriptView → List Transcript → Type 0
+AreListed script all = map pid_of all ≡ map pid_in script.processes
+
 -- What a run owes of its transcripts: there is one for each process, in the script's order, which is its process's, and
 -- the history has no events of others
 pub record AreTranscripts (script : ScriptView) (history : List Event) (all : List Transcript) : Type 0 where
-  pub processes : map pid_of all ≡ map pid_in script.processes
+  pub processes : AreListed script all
   pub each : All (IsTranscript script history) all
   pub events : All (IsAdmitted script.processes) history
+
+abbrev pub pid_at : Event → ℕ
+pid_at e = e.pid
+
+-- the elements of this pid are as they should be
+abbrev pub AllOfPid : {X : Type 0} (pid_in : X → ℕ) (P : X → Type 0) → ℕ → List X → Type 0
+AllOfPid pid_in P pid xs = All (λ x. pid_in x ≡ pid → P x) xs
+
+-- none: all elements are as they should be; else this is the least pid of one that is not
+abbrev pub IsLeastOf : {X : Type 0} (pid_in : X → ℕ) (P : X → Type 0) → List X → Option ℕ → Type 0
+IsLeastOf pid_in P xs None = All P xs
+IsLeastOf pid_in P xs (Some pid) = (AllOfPid pid_in P pid xs → ⊥) × ((lesser : ℕ) → lesser < pid → AllOfPid pid_in P lesser xs)
+
+-- The transcript of this pid is its process's, and its events are of a declared process, which was live
+pub record Agrees (script : ScriptView) (history : List Event) (all : List Transcript) (pid : ℕ) : Type 0 where
+  pub transcript : AllOfPid pid_of (IsTranscript script history) pid all
+  pub events : AllOfPid pid_at (IsAdmitted script.processes) pid history
+
+-- The least pid that does not agree
+pub record IsLeastWrong (script : ScriptView) (history : List Event) (all : List Transcript) (pid : ℕ) : Type 0 where
+  pub wrong : Agrees script history all pid → ⊥
+  pub least : (lesser : ℕ) → lesser < pid → Agrees script history all lesser
+
+-- What a comparison finds: nothing exactly where the transcripts are the run's, this pid exactly where it is the least
+-- that does not agree, and 0 where the list is not one transcript for each process
+pub record IsFound (script : ScriptView) (history : List Event) (all : List Transcript) (found : Option ℕ) : Type 0 where
+  pub none : IsNone found ↔ AreTranscripts script history all
+  pub least : AreListed script all → (pid : ℕ) → found ≡ Some pid ↔ IsLeastWrong script history all pid
+  pub unlisted : (AreListed script all → ⊥) → found ≡ Some 0

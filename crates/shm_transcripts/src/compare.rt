@@ -3,20 +3,21 @@
 ghost use Rattle.std.specs.Prelude.{◌≡◌, ℕ, ◌↔◌, ◌<◌, ◌≤◌, IsNone, IsTrue, All, map, length, drop, true, slice_get};
 ghost use Rattle.shm_base.specs.History.{own_part};
 ghost use Rattle.shm_text.specs.Variables.{no_values};
-ghost use Rattle.shm_transcripts.specs.Transcripts.{commands_of, Follows, transcript_events, is_fork_of, is_forked, is_child, pid_in, pid_of, HasLines, IsMarkAllowed, IsTranscript, IsAdmitted, AreTranscripts, is_answered, least_of};
+ghost use Rattle.shm_transcripts.specs.Transcripts.{commands_of, Follows, transcript_events, is_fork_of, is_forked, is_child, pid_in, pid_of, HasLines, IsMarkAllowed, IsTranscript, IsAdmitted, AreTranscripts, is_answered, least_of, pid_at, AreListed, IsFound, IsLeastOf};
 
 use crate::transcript::{Answer, Entry, Transcript};
 use shm_base::{Call, Errno, Event, Process, Reply, has_pid};
 use shm_text::{Line, Script, Vars};
 
-/// The least pid whose part of the history and whose transcript disagree, or 0 where there is not one transcript for
-/// each process of the script, in its order.
+/// The least pid that disagrees: its transcript is not its process's, or the history has an event of it though it is
+/// no declared process or was not live. 0 where there is not one transcript for each process of the script, in its
+/// order. None exactly where the transcripts are those of the script's processes in this history.
 pub fn disagreement(
     script: &Script,
     history: &[Event],
     transcripts: &Vec<Transcript>,
 ) -> Option<u32>
-    ensures { IsNone result ↔ AreTranscripts script.now history.now transcripts.now.items }
+    ensures { IsFound script.now history.now transcripts.now.items result }
 {
     if !has_each(&script.processes, transcripts) {
         return Some(0);
@@ -46,7 +47,7 @@ fn has_each(processes: &[Process], transcripts: &[Transcript]) -> bool
 
 // The least pid of an event that is of no declared process, or of one that was not live.
 fn first_stranger(processes: &[Process], history: &[Event]) -> Option<u32>
-    ensures { IsNone result ↔ All (IsAdmitted processes.now) history.now }
+    ensures { IsLeastOf pid_at (IsAdmitted processes.now) history.now result }
 {
     let mut found = None;
     for event in history {
@@ -72,7 +73,7 @@ pub fn least(so_far: Option<u32>, pid: u32) -> u32
 
 // The least pid whose transcript is not its process's.
 fn first_broken(script: &Script, history: &[Event], transcripts: &[Transcript]) -> Option<u32>
-    ensures { IsNone result ↔ All (IsTranscript script.now history.now) transcripts.now }
+    ensures { IsLeastOf pid_of (IsTranscript script.now history.now) transcripts.now result }
 {
     let mut found = None;
     for transcript in transcripts {

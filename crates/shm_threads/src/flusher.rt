@@ -1,0 +1,50 @@
+//! What the flusher's thread does, whoever makes its rounds.
+ghost use Rattle.std.specs.Prelude.{◌≡◌, [], ◌∷◌, List, Option};
+ghost use Rattle.shm_history.specs.Gauges.{CellName};
+ghost use Rattle.shm_threads.specs.Asked.{RoundAsked, Adds, May, Round, Made, RunsRounds, rounds_of};
+
+use shm_text::Line;
+
+/// What makes the flusher's rounds.
+pub(crate) trait Flusher {
+    /// That these may be what it was asked for so far.
+    ghost asked: { Self → List RoundAsked → Type 0 };
+
+    /// The cell in which it publishes, if it does.
+    ghost cell: { Self → Option CellName };
+
+    /// Whether the n-th round may be made. False ends the flusher.
+    fn before(&mut self, n: u64) -> bool
+        ensures asked { Adds (asked self.old) (May n result ∷ []) (asked self.new) }
+        ensures cell { cell self.new ≡ cell self.old };
+
+    /// Makes a round of so many pages at most, and publishes what is then counted.
+    fn round(&mut self, pages: u32)
+        ensures asked { Adds (asked self.old) (Round pages ∷ []) (asked self.new) }
+        ensures cell { cell self.new ≡ cell self.old };
+
+    /// The n-th round is made.
+    fn after(&mut self, n: u64)
+        ensures asked { Adds (asked self.old) (Made n ∷ []) (asked self.new) }
+        ensures cell { cell self.new ≡ cell self.old };
+}
+
+/// Runs the flush lines, in order. False if the gate ended the flusher.
+pub(crate) fn flush_all<F: Flusher>(flusher: &mut F, lines: &[Line]) -> bool
+    ensures runs { RunsRounds (F.asked flusher.old) (F.asked flusher.new) (rounds_of lines.now) result }
+    ensures cell { F.cell flusher.new ≡ F.cell flusher.old }
+{
+    let mut n = 0u64;
+    for line in lines {
+        let Line::Flush(round) = line else {
+            continue;
+        };
+        n += 1;
+        if !flusher.before(n) {
+            return false;
+        }
+        flusher.round(round.pages());
+        flusher.after(n);
+    }
+    true
+}
