@@ -9,7 +9,7 @@ use Rattle.shm_base.specs.Identifier.{Invalid, look}
 use Rattle.shm_laws.specs.Standing.{Stands, IsGone, EachMove, Always}
 use Rattle.shm_laws.specs.Removal.{IsMarked}
 
--- the segment stands and has the key
+-- the segment exists and has the key
 pub record HasKey (s : Machine) (id key : ℕ) : Type 0 where
   pub segment : Segment
   pub stands : Stands s id segment

@@ -98,7 +98,7 @@ pub record OwnerAsks (s : Machine) (pid : ℕ) (id : ℤ) : Type 0 where
   pub stands : Stands s number segment
   pub owner : IsOwner caller.cred segment.perm
 
--- the segment stands, and gives the process what it wants
+-- the segment exists, and its mode gives the process what it wants
 pub record MayAsk (s : Machine) (pid id : ℕ) (want : Want) : Type 0 where
   pub caller : Caller
   pub live : caller_of s pid ≡ Some caller
@@ -106,8 +106,8 @@ pub record MayAsk (s : Machine) (pid id : ℕ) (want : Want) : Type 0 where
   pub stands : Stands s id segment
   pub permitted : grants caller.cred segment.perm want ≡ true
 
--- a move reaches no byte outside the pieces of its process; set, rmid, lock and unlock are done for owners alone; stat is
--- answered to who may read, and a shmget with a segment that stood to who has what its mode asks for
+-- a move reaches no byte outside the pieces of its process; set, rmid, lock and unlock are granted to owners alone; stat is
+-- answered only to a process that may read, and a shmget with a segment that existed only to one that has what its mode asks for
 pub record KeepsOut (s : Machine) (e : Event) (t : Machine) : Type 0 where
   pub inside : StaysInside s e
   pub owner : (id : ℤ) → controlled e.call ≡ Some id → e.reply ≡ Done → OwnerAsks s e.pid id

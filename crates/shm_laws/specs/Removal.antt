@@ -36,7 +36,7 @@ pub record DestroysWhatIsDue (s : Machine) (e : Event) (t : Machine) : Type 0 wh
 
 -- WHAT IS MARKED
 
--- the segment stands and is marked
+-- the segment exists and is marked
 pub record IsMarked (s : Machine) (id : ℕ) : Type 0 where
   pub segment : Segment
   pub stands : Stands s id segment

@@ -11,11 +11,11 @@ pub record FillsPages (x : Segment) : Type 0 where
   pub enough : x.size ≤ length x.bytes
   pub least : length x.bytes < x.size + 4096
 
--- so it is with each segment that stands
+-- so it is with each segment that exists
 abbrev pub AllFillPages : Machine → Type 0
 AllFillPages s = (id : ℕ) (x : Segment) → Stands s id x → FillsPages x
 
--- what stands before a move and after it keeps its size, and has as many bytes
+-- a segment that exists before a move and after it keeps its size, and has as many bytes
 abbrev pub KeepsSizes : Machine → Event → Machine → Type 0
 KeepsSizes s e t = (id : ℕ) (x y : Segment) → Stands s id x → Stands t id y → (y.size ≡ x.size) × (length y.bytes ≡ length x.bytes)
 
