@@ -236,6 +236,6 @@ one_remaps =
 abbrev pub page_of : ℕ → ℕ → Piece
 page_of segment base = record { base = base; seg = segment; first_page = 0; pages = 1; writable = true }
 
--- it is legal, and the process has the first page of segment 0, and beside it the one of segment 1
+-- it is legal, and the process has the first page of segment 0, and after it the one of segment 1
 abbrev pub SpacesWorked : Type 0
 SpacesWorked = IsLegal opening one_remaps × (pieces_now opening one_remaps 5 0 ≡ Some (page_of 0 0x40000000 ∷ page_of 1 0x40001000 ∷ []))
