@@ -1,5 +1,5 @@
 -- Where a new segment goes: to an index that holds none.
-use Rattle.shm_laws.proofs.Names.{◌≡◌, ◌≢◌, ◌⊎◌, ℕ, suc, ◌+◌, ◌&&◌, true, nat_lt, is_none, List, [], ◌∷◌, length, Option, Some, None, slice_get, refl, sym, ap, ◌∙◌, inl, inr, arith, length-append, common_steps, cases_Bool, cases_eq, slice_get_past, Segment, Entry, free_from, free_index, destroyed_at, with_segment, get-set_same, get-set_other}
+use Rattle.shm_laws.proofs.Names.{◌≡◌, ◌≢◌, ◌⊎◌, ℕ, suc, ◌+◌, ◌/◌, ◌%◌, ◌<◌, pos, Invalid, look, none-some, ◌&&◌, true, nat_lt, is_none, List, [], ◌∷◌, length, Option, Some, None, slice_get, refl, sym, ap, ◌∙◌, inl, inr, arith, length-append, common_steps, cases_Bool, cases_eq, slice_get_past, Segment, Entry, free_from, free_index, destroyed_at, with_segment, get-set_same, get-set_other}
 use Rattle.std.proofs.lemmas.Option.{gets}
 
 -- an entry with no segment, or the place behind the last
@@ -9,16 +9,16 @@ IsEmpty d o = (o ≡ Some (record { destroyed = d; segment = None })) ⊎ ((o �
 pub record FreeAt (n j : ℕ) (t : List Entry) : Type 0 where
   pub place : ℕ
   pub at : n + place ≡ j
-  pub end : (place ≡ length t) ⊎ ((d : ℕ) × (slice_get t place ≡ Some (record { destroyed = d; segment = None })))
+  pub end : ((place ≡ length t) × (j < 32768)) ⊎ ((d : ℕ) × (slice_get t place ≡ Some (record { destroyed = d; segment = None })))
 
 entry-bare : (e : Entry) → is_none e.segment && nat_lt e.destroyed 65536 ≡ true → e ≡ record { destroyed = e.destroyed; segment = None }
 entry-bare e h = grind arith
 
-end-found : (n j : ℕ) → free_from n [] ≡ Some j → n ≡ j
-end-found n j h = grind arith
+end-found : (n j : ℕ) → free_from n [] ≡ Some j → (n ≡ j) × (j < 32768)
+end-found n j h = grind (arith, common_steps)
 
 pub free_found : (n j : ℕ) (t : List Entry) → free_from n t ≡ Some j → FreeAt n j t
-free_found n j [] h = record { place = 0; at = let same = end-found n j h in omega (arith, same); end = inl refl }
+free_found n j [] h = let last = end-found n j h in record { place = 0; at = omega (arith, last.0); end = inl (refl, last.1) }
 free_found n j (e ∷ es) h =
     elim (cases_Bool (is_none e.segment && nat_lt e.destroyed 65536)) [
       | inl b ↦ record { place = 0; at = grind arith; end = inr (e.destroyed, ap (λ (x : Entry). Some x) (entry-bare e b)) }
@@ -53,7 +53,25 @@ made-at t i x free = by f.end (cases_eq i (length t))
     place : f.place ≡ i
     place = omega (arith, f.at)
 
-    by : (f.place ≡ length t) ⊎ ((d : ℕ) × (slice_get t f.place ≡ Some (record { destroyed = d; segment = None }))) → (i ≡ length t) ⊎ (i ≢ length t) → MadeAt t i x
-    by (inl e) other = made-end t i x (sym place ∙ e)
+    by : ((f.place ≡ length t) × (i < 32768)) ⊎ ((d : ℕ) × (slice_get t f.place ≡ Some (record { destroyed = d; segment = None }))) → (i ≡ length t) ⊎ (i ≢ length t) → MadeAt t i x
+    by (inl e) other = made-end t i x (sym place ∙ e.0)
     by (inr e) (inl k) = made-end t i x k
     by (inr e) (inr apart) = made-within t i e.0 x apart (rw place at e.1)
+
+-- an index that was never used is taken below 32768 alone
+pub free-small : (t : List Entry) (i : ℕ) → free_index t ≡ Some i → slice_get t i ≡ None → i < 32768
+free-small t i free none = by f.end
+  where
+    f : FreeAt 0 i t
+    f = free_found 0 i t free
+
+    place : f.place ≡ i
+    place = omega (arith, f.at)
+
+    by : ((f.place ≡ length t) × (i < 32768)) ⊎ ((d : ℕ) × (slice_get t f.place ≡ Some (record { destroyed = d; segment = None }))) → i < 32768
+    by (inl e) = e.1
+    by (inr e) = absurd (none-some _ (sym none ∙ (rw place at e.1)))
+
+-- the next identifier of an index that holds none was never issued
+pub never : (t : List Entry) (id d : ℕ) (o : Option Entry) → slice_get t (id % 32768) ≡ o → IsEmpty d o → d ≡ id / 32768 → look t (pos id) ≡ Invalid
+never t id d o is empty count = grind (arith, common_steps)

@@ -1,10 +1,17 @@
 -- Each piece goes back to a shmat that was granted, and each move keeps out who has no permission.
-use Rattle.shm_laws.proofs.Names.{◌≡◌, ◌⊎◌, ℕ, ◌+◌, ◌*◌, ◌%◌, ◌<◌, ℤ, Bool, true, false, not, List, [], ◌∷◌, ◌++◌, length, get_or, Option, Some, None, slice_get, slice_set, refl, sym, ap, subst, ◌∙◌, inl, inr, arith, true≢false, All, Contains, none-some, slice_get_within, get_or_from_slice_get, All-nil, All-append, All-filter, All-map, All-weaker, All-contains, Contains-get_or, flat_map-cons, common_steps, Call, Load, Store, Xadd, Done, Event, Place, covers, places, writable_places, Segment, Piece, Live, Runner, Machine, Opening, start_of, runner_at_start, pages_in, look, meets, part_below, part_above, parts, cut, inserted, Caller, Outcome, caller_of, acts, pieces_with, is_rdonly, controls, load, store, xadd, is_refusal, IsMove, IsHistory, all-cons, all-head, all-tail, all-slice_set, HasPiece, EachPiece, IsPart, IsGranted, IsInherited, GoesBack, Granted, Kept, Inherited, Reach, StaysInside, controlled, OwnerAsks, KeepsOut, NoWayIn}
+use Rattle.shm_laws.proofs.Names.{◌≡◌, ◌⊎◌, ℕ, ◌+◌, ◌*◌, ◌%◌, ◌<◌, ℤ, Bool, true, false, not, List, [], ◌∷◌, ◌++◌, length, get_or, Option, Some, None, slice_get, slice_set, refl, sym, ap, subst, ◌∙◌, inl, inr, arith, true≢false, All, Contains, none-some, slice_get_within, get_or_from_slice_get, All-nil, All-append, All-filter, All-map, All-weaker, All-contains, Contains-get_or, flat_map-cons, common_steps, Call, Load, Store, Xadd, Done, Event, Place, covers, places, writable_places, Segment, Piece, Live, Runner, Machine, Opening, start_of, runner_at_start, pages_in, look, meets, part_below, part_above, parts, cut, inserted, Caller, Outcome, caller_of, acts, pieces_with, is_rdonly, controls, load, store, xadd, is_refusal, IsMove, IsHistory, all-cons, all-head, all-tail, all-slice_set, HasPiece, EachPiece, IsPart, IsGranted, IsInherited, GoesBack, Granted, Kept, Inherited, Reach, StaysInside, controlled, OwnerAsks, KeepsOut, KeepsCredentials, MayAsk, NoWayIn, ShmidDs, pos, negsuc, stat, wish_of, grants, not-false, Look, Found, Removed, Invalid, Stands, IsCreated}
 use Rattle.shm_laws.proofs.Accessing.{lies-in, place-of, writable-at, writable-parts}
 use Rattle.shm_laws.proofs.Handing.{CallerAt, caller-at, IsAligned, Attaches, Leaves, Forks, Hands, hands-acts}
 use Rattle.shm_laws.proofs.Inducting.{each_move, at_all_times}
 use Rattle.shm_laws.proofs.Looks.{found-own}
 use Rattle.shm_laws.proofs.Refusing.{by-move}
+use Rattle.shm_laws.proofs.Stepping.{pick_by}
+use Rattle.shm_laws.proofs.Fates.{IsMachineSound}
+use Rattle.shm_laws.proofs.Marking.{each_sound}
+use Rattle.shm_laws.proofs.Getting.{IsGot, GetsBy, gets-move}
+use Rattle.shm_laws.proofs.Crediting.{keeps-credentials}
+use Rattle.shm_base.specs.declared.call.Call.TheVariants as calls
+use Rattle.shm_base.specs.declared.call.Reply.TheVariants as replies
 
 -- PARTS
 
@@ -176,6 +183,10 @@ goes_on o before s e t h now m =
 
 -- WHO IS KEPT OUT
 
+-- the process may read the segment
+abbrev Reads : Machine → ℕ → ℤ → Type 0
+Reads s pid id = (m : ℕ) × (id ≡ pos m) × MayAsk s pid m (record { read = true; write = false })
+
 module _ (s : Machine) (n pid : ℕ) (c : Caller) (live : caller_of s pid ≡ Some c) where
   abbrev At : Reach → Type 0
   At r = (k : ℕ) → k < r.len → (p : Piece) × HasPiece s pid p × (covers p (r.from + k) ≡ true) × (r.writes ≡ true → p.writable ≡ true)
@@ -230,21 +241,75 @@ module _ (s : Machine) (n pid : ℕ) (c : Caller) (live : caller_of s pid ≡ So
   asks-acts : (call : Call) → Asks call (acts s n c call)
   asks-acts call id is done = grind (arith, common_steps, asked, none-some)
 
-keeps-out : (s : Machine) (n : ℕ) (e : Event) (t : Machine) → IsMove s n e t → KeepsOut s e t
-keeps-out s n e t =
-    by-move s n e t (λ r u. KeepsOut s (record { pid = e.pid; call = e.call; reply = r }) u)
-    (λ c is. record { inside = inside-acts s n e.pid c is e.call; owner = asks-acts s n e.pid c is e.call })
+  -- who may read is shown the segment
+  reads-found : (m : ℕ) (d : ShmidDs) (l : Look) → look s.table (pos m) ≡ l → (stat s c l).reply ≡ replies.Stat d → Reads s pid (pos m)
+  reads-found m d Invalid is told = absurd (cc told)
+  reads-found m d Removed is told = absurd (cc told)
+  reads-found m d (Found i x) is told =
+      pick_by (λ (o : Outcome). o.reply ≡ replies.Stat d → Reads s pid (pos m)) (not (grants c.cred x.perm (record { read = true; write = false }))) _ _ (λ h shown. absurd (cc shown))
+      (λ h shown. (
+        m,
+        refl,
+        record {
+          caller = c;
+          live = live;
+          segment = x;
+          stands = is ∙ ap (λ k. Found k x) (found-own s.table m i x is).0;
+          permitted = not-false (grants c.cred x.perm (record { read = true; write = false })) h;
+        },
+      )) told
+
+  reads : (id : ℤ) (d : ShmidDs) → (stat s c (look s.table id)).reply ≡ replies.Stat d → Reads s pid id
+  reads (pos m) d told = reads-found m d (look s.table (pos m)) refl told
+  reads (negsuc m) d told = absurd (cc told)
+
+  reads-acts : (call : Call) (id : ℤ) (d : ShmidDs) → call ≡ calls.Stat id → (acts s n c call).reply ≡ replies.Stat d → Reads s pid id
+  reads-acts call id d asked told = reads id d (ap (λ a. (acts s n c a).reply) (sym asked) ∙ told)
+
+-- what is asked of one process, where the others' part is told of it
+record Keeps (s : Machine) (e : Event) : Type 0 where
+  inside : StaysInside s e
+  owner : (id : ℤ) → controlled e.call ≡ Some id → e.reply ≡ Done → OwnerAsks s e.pid id
+  stat : (id : ℤ) (d : ShmidDs) → e.call ≡ calls.Stat id → e.reply ≡ replies.Stat d → Reads s e.pid id
+
+keeps : (s : Machine) (n : ℕ) (e : Event) (t : Machine) → IsMove s n e t → Keeps s e
+keeps s n e t =
+    by-move s n e t (λ r u. Keeps s (record { pid = e.pid; call = e.call; reply = r }))
+    (λ c is. record { inside = inside-acts s n e.pid c is e.call; owner = asks-acts s n e.pid c is e.call; stat = reads-acts s n e.pid c is e.call })
     (λ r no. record {
       inside = λ clear x reached k lt. absurd (true≢false (sym no ∙ clear));
       owner = λ id is done. absurd (true≢false (sym no ∙ ap is_refusal done));
+      stat = λ id d asked told. absurd (true≢false (sym no ∙ ap is_refusal told));
     })
+
+-- who gets a segment that stood had what the mode asks for
+got-granted : (s : Machine) (pid key mode id : ℕ) (t : Machine) (x : Segment) → Stands s id x → GetsBy s pid key mode (pos id) t → MayAsk s pid id (wish_of mode)
+got-granted s pid key mode id t x stood g = by g.either
+  where
+    same : g.id ≡ id
+    same = cc (sym g.named)
+
+    by : IsGot s g.caller key mode g.id ⊎ IsCreated s key g.id t → MayAsk s pid id (wish_of mode)
+    by (inl h) = record { caller = g.caller; live = g.live; segment = h.segment; stands = subst (λ n. Stands s n h.segment) same h.stands; permitted = h.permitted }
+    by (inr h) = let gone : look s.table (pos id) ≡ Invalid = subst (λ n. look s.table (pos n) ≡ Invalid) same h.never in absurd (cc (sym gone ∙ stood))
+
+keeps-out : (s : Machine) (n : ℕ) (e : Event) (t : Machine) → IsMachineSound s → IsMove s n e t → KeepsOut s e t
+keeps-out s n e t sound m =
+    let k = keeps s n e t m in
+    record {
+      inside = k.inside;
+      owner = k.owner;
+      stat = k.stat;
+      get = λ key size mode id flags x asked told stood. got-granted s e.pid key mode id t x stood (gets-move s n e t sound.short m key size mode flags (pos id) asked told);
+    }
 
 -- of every legal history
 pub no_way_in : (o : Opening) (events : List Event) (end : Machine) → IsHistory o events end → NoWayIn o events end
 no_way_in o events end h =
     let first : GoesBackAll o [] (start_of o) = record { aligned = each-start (λ pid p. IsAligned p) o; back = each-start (GoesBack o []) o } in
-    let moves = each_move (λ s. Unit {0}) KeepsOut (λ s n e t now m. (tt, keeps-out s n e t m)) 1 (start_of o) events end tt h in
+    let credentials = each_move (λ s. Unit {0}) KeepsCredentials (λ s n e t now m. (tt, keeps-credentials s n e t m)) 1 (start_of o) events end tt h in
     record {
       pieces = λ before s m. (at_all_times o (GoesBackAll o) (goes_on o) first events before s m).back;
-      moves = moves.1;
+      moves = each_sound KeepsOut keeps-out o events end h;
+      credentials = credentials.1;
     }

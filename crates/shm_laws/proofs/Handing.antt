@@ -1,7 +1,7 @@
 -- What each call does to the pieces of processes: nothing, or the caller attaches a segment, or loses pieces, or has a child.
-use Rattle.shm_laws.proofs.Names.{◌≡◌, ◌⊎◌, ℕ, suc, ◌+◌, ◌-◌, ◌*◌, ◌%◌, ◌==◌, ◌&&◌, ℤ, pos, negsuc, Bool, true, false, not, nat_lt, if◌then◌else◌, List, [], ◌∷◌, length, map, get_or, Option, Some, None, slice_get, slice_set, refl, sym, ap, ◌∙◌, inl, inr, arith, ne_eqb, common_steps, All, filter, find, cases_eq, not-false, none-some, All-map, Errno, Call, Shmget, Shmat, Shmdt, Load, Fork, Exec, Exit, Addr, Done, AtFlags, end_of, grants, Segment, Piece, Life, Live, Ended, Runner, Machine, pages_in, Look, Found, Removed, Invalid, identifier, destroyed_at, look, inside, occupied, choose, is_gap, first_chosen, origin_of, is_named, is_refusal, refuses, creates, Caller, Outcome, caller_from, acts, at_wish, is_rnd, is_remap, pieces_with, with_pieces, attaches, attaches_chosen, attaches_fixed, attaches_found, shmat, detaches, forks, unborn_from, all-cons, all-head, all-tail, Stands, hands_pieces}
+use Rattle.shm_laws.proofs.Names.{◌≡◌, ◌⊎◌, ℕ, suc, ◌+◌, ◌-◌, ◌*◌, ◌%◌, ◌≤◌, ◌==◌, ◌&&◌, ℤ, pos, negsuc, Bool, true, false, not, nat_lt, List, [], ◌∷◌, length, map, get_or, Option, Some, None, slice_get, slice_set, refl, sym, ap, ◌∙◌, inl, inr, arith, ne_eqb, common_steps, All, filter, find, cases_eq, not-false, none-some, All-map, Errno, Call, Shmget, Shmat, Shmdt, Load, Fork, Exec, Exit, Addr, Done, AtFlags, end_of, grants, Segment, Piece, Life, Live, Ended, Runner, Machine, pages_in, Look, Found, Removed, Invalid, identifier, destroyed_at, look, inside, occupied, choose, is_gap, first_chosen, lowest_address, last_address, origin_of, is_named, is_refusal, refuses, creates, Caller, Outcome, caller_from, acts, at_wish, is_rnd, is_remap, pieces_with, with_pieces, attaches, attaches_chosen, attaches_fixed, attaches_found, shmat, detaches, forks, unborn_from, all-cons, all-head, all-tail, Stands, hands_pieces}
 use Rattle.shm_laws.proofs.Looks.{found-own}
-use Rattle.shm_laws.proofs.Stepping.{pick}
+use Rattle.shm_laws.proofs.Stepping.{pick, pick_by}
 
 -- THE CALLER
 
@@ -37,6 +37,9 @@ pub record Attaches (s : Machine) (c : Caller) (call : Call) (o : Outcome) : Typ
   pub stands : Stands s seg segment
   pub permitted : grants c.cred segment.perm (at_wish flags) ≡ true
   pub page : All IsAligned c.pieces → base % 4096 ≡ 0
+  pub from : lowest_address ≤ base
+  pub to : base + 4096 * pages_in segment ≤ last_address
+  pub few : length (pieces_with c seg segment flags base) ≤ 256
   pub free : is_remap flags ≡ false → occupied c.pieces base (base + 4096 * pages_in segment) ≡ false
   pub answer : o.reply ≡ Addr base
   pub runners : o.state.runners ≡ with_pieces s.runners c (pieces_with c seg segment flags base)
@@ -51,6 +54,7 @@ pub record Leaves (s : Machine) (c : Caller) (call : Call) (o : Outcome) : Type 
   pub life : Life
   pub stays : Piece → Bool
   pub taken : Takes c call stays
+  pub who : (life ≡ Live c.cred) ⊎ (life ≡ Ended)
   pub answer : o.reply ≡ Done
   pub runners : o.state.runners ≡ slice_set s.runners c.index (record { pid = c.pid; life = life; pieces = filter stays c.pieces })
 
@@ -71,9 +75,6 @@ abbrev pub Hands : Machine → Caller → Call → Outcome → Type 0
 Hands s c call o = Rests s call o ⊎ (Attaches s c call o ⊎ (Leaves s c call o ⊎ Forks s c call o))
 
 -- EACH CALL
-
-pub pick_by : (P : Outcome → Type 0) (b : Bool) (o p : Outcome) → (b ≡ true → P o) → (b ≡ false → P p) → P (if b then o else p)
-pick_by P b o p h k = grind (arith, common_steps)
 
 find-all : {X : Type 0} (P : X → Type 0) (test : X → Bool) (xs : List X) (x : X) → find test xs ≡ Some x → All P xs → P x
 find-all P test [] x found all = absurd (none-some x found)
@@ -98,6 +99,23 @@ find-passes test (y ∷ ys) x found = let rest = find-passes test ys x in grind 
 chosen-free : (ps : List Piece) (pages base : ℕ) → choose ps pages ≡ Some base → occupied ps base (base + 4096 * pages) ≡ false
 chosen-free ps pages base found = grind (arith, common_steps, find-passes, map, arith)
 
+-- from the lowest address up to the last
+pub record IsInside (base end : ℕ) : Type 0 where
+  pub from : lowest_address ≤ base
+  pub to : end ≤ last_address
+
+chosen-inside : (ps : List Piece) (pages base : ℕ) → choose ps pages ≡ Some base → IsInside base (base + 4096 * pages)
+chosen-inside ps pages base found = by (find-passes (is_gap ps pages) (first_chosen ∷ map end_of ps) base found)
+  where
+    by : is_gap ps pages base ≡ true → IsInside base (base + 4096 * pages)
+    by h = grind (arith, common_steps)
+
+fixed-inside : (base pages : ℕ) → not (inside base pages) ≡ false → IsInside base (base + 4096 * pages)
+fixed-inside base pages h = grind (arith, common_steps)
+
+few-enough : (n : ℕ) → nat_lt 256 n ≡ false → n ≤ 256
+few-enough n h = grind (arith, common_steps)
+
 pub none-stay : (ps : List Piece) → [] ≡ filter (λ (p : Piece). false) ps
 none-stay [] = refl
 none-stay (p ∷ ps) = none-stay ps
@@ -113,11 +131,11 @@ module _ (s : Machine) (n : ℕ) (c : Caller) where
 
   -- of a call that asks for a segment that stands, and has the permission
   module _ (call : Call) (seg at : ℕ) (flags : AtFlags) (x : Segment) (asked : call ≡ Shmat (pos seg) at flags) (there : Stands s seg x) (permitted : grants c.cred x.perm (at_wish flags) ≡ true) where
-    hands-attaches : (base : ℕ) → (All IsAligned c.pieces → base % 4096 ≡ 0) → (is_remap flags ≡ false → occupied c.pieces base (base + 4096 * pages_in x) ≡ false)
+    hands-attaches : (base : ℕ) → (All IsAligned c.pieces → base % 4096 ≡ 0) → IsInside base (base + 4096 * pages_in x) → (is_remap flags ≡ false → occupied c.pieces base (base + 4096 * pages_in x) ≡ false)
         → Hands s c call (attaches s n c seg x flags base)
-    hands-attaches base page free =
-        pick (Hands s c call) (nat_lt 256 (length (pieces_with c seg x flags base))) _ _ (refused _ _)
-        (inr (inl (record {
+    hands-attaches base page inside free =
+        pick_by (Hands s c call) (nat_lt 256 (length (pieces_with c seg x flags base))) _ _ (λ h. refused call _)
+        (λ h. inr (inl (record {
           seg = seg;
           addr = at;
           flags = flags;
@@ -127,6 +145,9 @@ module _ (s : Machine) (n : ℕ) (c : Caller) where
           stands = there;
           permitted = permitted;
           page = page;
+          from = inside.from;
+          to = inside.to;
+          few = few-enough (length (pieces_with c seg x flags base)) h;
           free = free;
           answer = refl;
           runners = refl;
@@ -134,13 +155,13 @@ module _ (s : Machine) (n : ℕ) (c : Caller) where
 
     hands-chosen : (o : Option ℕ) → choose c.pieces (pages_in x) ≡ o → Hands s c call (attaches_chosen s n c seg x flags o)
     hands-chosen None is = refused _ _
-    hands-chosen (Some base) is = hands-attaches base (chosen-page c.pieces (pages_in x) base is) (λ plain. chosen-free c.pieces (pages_in x) base is)
+    hands-chosen (Some base) is = hands-attaches base (chosen-page c.pieces (pages_in x) base is) (chosen-inside c.pieces (pages_in x) base is) (λ plain. chosen-free c.pieces (pages_in x) base is)
 
     hands-fixed : (base : ℕ) → base % 4096 ≡ 0 → Hands s c call (attaches_fixed s n c seg x flags base)
     hands-fixed base page =
-        pick (Hands s c call) (not (inside base (pages_in x))) _ _ (refused _ _)
-        (pick_by (Hands s c call) (not (is_remap flags) && occupied c.pieces base (base + 4096 * pages_in x)) _ _ (λ h. refused call _)
-        (λ h. hands-attaches base (λ all. page) (λ plain. rw plain at h)))
+        pick_by (Hands s c call) (not (inside base (pages_in x))) _ _ (λ h. refused call _)
+        (λ within. pick_by (Hands s c call) (not (is_remap flags) && occupied c.pieces base (base + 4096 * pages_in x)) _ _ (λ h. refused call _)
+        (λ h. hands-attaches base (λ all. page) (fixed-inside base (pages_in x) within) (λ plain. rw plain at h)))
 
   hands-found : (m : ℕ) (flags : AtFlags) (addr at : ℕ) (l : Look) → look s.table (pos m) ≡ l → Hands s c (Shmat (pos m) at flags) (attaches_found s n c flags addr l)
   hands-found m flags addr at Invalid is = refused _ _
@@ -169,14 +190,15 @@ module _ (s : Machine) (n : ℕ) (c : Caller) where
   hands-detaches : (addr : ℕ) (o : Option Piece) → origin_of addr c.pieces ≡ o → Hands s c (Shmdt addr) (detaches s n c addr o)
   hands-detaches addr None is = refused _ _
   hands-detaches addr (Some p) is =
-      inr (inr (inl (record { life = Live c.cred; stays = λ q. not (is_named addr p.seg q); taken = inl (addr, p, refl, is, refl); answer = refl; runners = refl })))
+      inr (inr (inl (record { life = Live c.cred; stays = λ q. not (is_named addr p.seg q); taken = inl (addr, p, refl, is, refl); who = inl refl; answer = refl; runners = refl })))
 
-  hands-all : (call : Call) (o : Outcome) (life : Life) → (call ≡ Exec) ⊎ (call ≡ Exit) → o.reply ≡ Done → o.state.runners ≡ slice_set s.runners c.index (record { pid = c.pid; life = life; pieces = [] }) → Hands s c call o
-  hands-all call o life which done is =
+  hands-all : (call : Call) (o : Outcome) (life : Life) → (life ≡ Live c.cred) ⊎ (life ≡ Ended) → (call ≡ Exec) ⊎ (call ≡ Exit) → o.reply ≡ Done → o.state.runners ≡ slice_set s.runners c.index (record { pid = c.pid; life = life; pieces = [] }) → Hands s c call o
+  hands-all call o life who which done is =
       inr (inr (inl (record {
         life = life;
         stays = λ q. false;
         taken = inr (which, refl);
+        who = who;
         answer = done;
         runners = is ∙ ap (λ ps. slice_set s.runners c.index (record { pid = c.pid; life = life; pieces = ps })) (none-stay c.pieces);
       })))
@@ -197,7 +219,7 @@ module _ (s : Machine) (n : ℕ) (c : Caller) where
   hands-acts (Shmat id addr flags) = hands-shmat id addr flags
   hands-acts (Shmdt addr) = hands-detaches addr (origin_of addr c.pieces) refl
   hands-acts (Fork child) = hands-forks child (unborn_from 0 child s.runners) refl
-  hands-acts Exec = hands-all Exec _ (Live c.cred) (inl refl) refl refl
-  hands-acts Exit = hands-all Exit _ Ended (inr refl) refl refl
+  hands-acts Exec = hands-all Exec _ (Live c.cred) (inl refl) (inl refl) refl refl
+  hands-acts Exit = hands-all Exit _ Ended (inr refl) (inr refl) refl refl
   hands-acts (Load a len) = rests _ _ refl (grind arith)
   hands-acts call = rests _ _ refl (grind arith)

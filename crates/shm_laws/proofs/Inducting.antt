@@ -1,5 +1,5 @@
 -- What each move keeps holds at all times, and of each move.
-use Rattle.shm_laws.proofs.Names.{◌≡◌, ℕ, ◌+◌, List, [], ◌∷◌, ◌++◌, length, refl, sym, subst, arith, append_assoc, length-append, append-nil, Event, Machine, Opening, start_of, IsMove, LeadsFrom, IsHistory, history_more, MovesBy, Always, Since, Began, Lasted}
+use Rattle.shm_laws.proofs.Names.{◌≡◌, ℕ, ◌+◌, List, [], ◌∷◌, ◌++◌, length, refl, sym, subst, arith, append_assoc, length-append, append-nil, Event, Machine, Opening, start_of, IsMove, LeadsFrom, IsHistory, history_more, MovesBy, MomentsBy, IsMoment, Always, Since, Began, Lasted}
 
 -- what holds of a machine is kept by each move, and with it a law holds of the move
 abbrev pub Keeps : (Machine → Type 0) → (Machine → Event → Machine → Type 0) → Type 0
@@ -12,6 +12,16 @@ each_move holds law step n s (e ∷ es) t now h =
     let one = step s n e h.0 now h.1 in
     let more = each_move holds law step (n + 1) h.0 es t one.0 h.2 in
     (more.0, (h.0, h.1, one.1, more.1))
+
+-- what each move keeps from the machine before it to the one after it is kept from each moment to the end
+pub each_moment : (holds : Machine → Type 0) (law : Machine → Machine → Type 0) → ((s : Machine) → law s s) → ((s u t : Machine) → law s u → law u t → law s t)
+    → Keeps holds (λ s e t. law s t) → (n : ℕ) (s : Machine) (es : List Event) (t : Machine) → holds s → LeadsFrom n s es t → law s t × MomentsBy law n s es t
+each_moment holds law same chain step n s [] t now h = let kept : law s t = subst (law s) (sym h) (same s) in (kept, (kept, h))
+each_moment holds law same chain step n s (e ∷ es) t now h =
+    let one = step s n e h.0 now h.1 in
+    let more = each_moment holds law same chain step (n + 1) h.0 es t one.0 h.2 in
+    let kept : law s t = chain s h.0 t one.1 more.0 in
+    (kept, (kept, (h.0, h.1, more.1)))
 
 -- what holds of a history and the machine that it led to goes on to hold
 abbrev pub GoesOn : Opening → (List Event → Machine → Type 0) → Type 0
@@ -33,6 +43,10 @@ module _ (o : Opening) (holds : List Event → Machine → Type 0) (step : GoesO
   -- at each moment of a history
   pub at_all_times : holds [] (start_of o) → (events : List Event) → Always holds o events
   at_all_times first events before s m = always first before s m.leads
+
+-- what each move keeps holds at each moment
+pub held_always : (holds : Machine → Type 0) (law : Machine → Event → Machine → Type 0) → Keeps holds law → (o : Opening) → holds (start_of o) → (events before : List Event) (s : Machine) → IsMoment o events before s → holds s
+held_always holds law step o first events before s m = at_all_times o (λ _ u. holds u) (λ before s e t h now m. (step s (length before + 1) e t now m).0) first events before s m
 
 -- what began as more began as less, and so did what kept it up
 pub since-map : (o : Opening) (a b : Machine → Event → Type 0) (f g : Machine → Event → Type 0) → ((s : Machine) (e : Event) → a s e → b s e) → ((s : Machine) (e : Event) → f s e → g s e)

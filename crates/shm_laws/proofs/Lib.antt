@@ -8,6 +8,12 @@ pub mod Stepping
 pub mod Fates
 pub mod Removing
 pub mod Naming
+pub mod Marking
+pub mod Getting
+pub mod Keying
+pub mod Sizing
+pub mod Spacing
+pub mod Crediting
 pub mod Piecing
 pub mod Inducting
 pub mod Handing

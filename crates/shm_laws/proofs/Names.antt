@@ -1,6 +1,6 @@
 -- The names that the proofs cite, from below and from the words of this crate.
-pub use Rattle.std.proofs.Common.{Bool, List, None, Option, Some, [], ap, append_assoc, arith, cond, eq-eqb, false, get_or, if◌then◌else◌, inl, inr, is_none, length, length-append, map, nat_lt, ne_eqb, negsuc, not, pos, refl, replicate, slice_get, slice_set, subst, suc, sym, true, true≢false, zero, ℕ, ℤ, ◌%◌, ◌&&◌, ◌*◌, ◌++◌, ◌+◌, ◌-◌, ◌/◌, ◌<◌, ◌==◌, ◌^◌, ◌||◌, ◌∙◌, ◌∷◌, ◌≡◌, ◌≢◌, ◌≤◌, ◌⊎◌}
-pub use Rattle.std.proofs.lemmas.Bool.{and_parts, cases_Bool, cases_eq, not-false, or_right}
+pub use Rattle.std.proofs.Common.{Bool, List, None, Option, Some, [], ap, append_assoc, arith, cond, eq-eqb, false, get_or, if◌then◌else◌, inl, inr, is_none, length, length-append, map, nat_le, nat_lt, ne_eqb, negsuc, not, pos, refl, replicate, slice_get, slice_set, subst, suc, sym, true, true≢false, zero, ℕ, ℤ, ◌%◌, ◌&&◌, ◌*◌, ◌++◌, ◌+◌, ◌-◌, ◌/◌, ◌<◌, ◌==◌, ◌^◌, ◌||◌, ◌∙◌, ◌∷◌, ◌≡◌, ◌≢◌, ◌≤◌, ◌⊎◌}
+pub use Rattle.std.proofs.lemmas.Bool.{and_parts, both_ways, cases_Bool, cases_eq, cases_lt, not-false, or_parts, or_right}
 pub use Rattle.std.proofs.lemmas.Grind.{common_steps}
 pub use Rattle.std.proofs.lemmas.List.{append-nil, length-map, length-replicate}
 pub use Rattle.std.proofs.lemmas.List.Concat.{flat_map-cons}
@@ -8,19 +8,22 @@ pub use Rattle.std.proofs.lemmas.List.Elements.{All-append, All-contains, All-fi
 pub use Rattle.std.proofs.lemmas.List.Sums.{sum_by-cons}
 pub use Rattle.std.proofs.lemmas.Option.{get_or_from_slice_get, none-some, slice_get-get_or, slice_get-map, slice_get_past, slice_get_within}
 pub use Rattle.std.specs.Int.{from_le_bytes, to_le_bytes, w64}
-pub use Rattle.std.specs.Prelude.{All, Contains, filter, find, is_some, option_map, sum_by}
+pub use Rattle.std.specs.Prelude.{All, Contains, filter, find, is_some, option_map, sum_by, ⊤}
 pub use Rattle.shm_attach.proofs.Callers.{child_at, first_runner}
-pub use Rattle.shm_attach.proofs.Processes.{one_more, pieces_of-cut_cons, pieces_of-filter, pieces_of-inserted}
+pub use Rattle.shm_attach.proofs.Keeping.{occupied-cut}
+pub use Rattle.shm_attach.proofs.Processes.{one_more, pieces_of-cut_cons, pieces_of-filter, pieces_of-inserted, shorter_filter}
 pub use Rattle.shm_attach.specs.Spaces.{life_in}
 pub use Rattle.shm_base.specs.Access.{Place, all_writable, byte_at, byte_set, covers, end_of, entry_byte_set, loaded, only_writable, place, place_by, places, set_in, stored, with_byte, writable_places}
+pub use Rattle.shm_base.specs.Bounds.{within}
 pub use Rattle.shm_base.specs.History.{IsExcused, IsHistory, IsMove, LeadsFrom, is_failure, is_refusal}
 pub use Rattle.shm_base.specs.Identifier.{Found, Invalid, Look, Removed, destroyed_at, destroyed_in, find_key, free_from, free_index, has_key, identifier, key_from, look, look_entry, look_segment, with_segment}
 pub use Rattle.shm_base.specs.Permission.{grants, owns, wish_of}
 pub use Rattle.shm_base.specs.Processes.{pieces_of_caller}
-pub use Rattle.shm_base.specs.Segments.{after_detach, attach_count, attached, change, detach_all, detached, locked, marked, pages_held, pages_locked, reserved, segment_count, swept, swept_at, swept_from, with_entry}
-pub use Rattle.shm_base.specs.Space.{choose, cut, cut_segments, first_chosen, inserted, inside, is_gap, is_named, meets, occupied, origin_of, part_above, part_below, parts, pieces_of, without_named}
-pub use Rattle.shm_base.specs.State.{Ended, Entry, Life, Live, Machine, Opening, Piece, Runner, Segment, Unborn, pages_in, runner_at_start, start_of}
-pub use Rattle.shm_base.specs.Step.{Caller, Outcome, acts, at_wish, attaches, attaches_chosen, attaches_fixed, attaches_found, caller_from, caller_of, controls, creates, detaches, forks, gives, is_rdonly, is_remap, is_rnd, load, locks, new_segment, number_at, pieces_with, refuses, removes, segments_of, sets, shmat, shmget, stat, step, step_by, store, swapoff, takes_away, unborn_from, unlocks, wants_creation, wants_no_other, with_end, with_pieces, xadd}
+pub use Rattle.shm_base.specs.Segments.{after_detach, attach_count, attached, change, detach_all, detached, locked, marked, pages_held, pages_locked, reserved, segment_count, slots, swept, swept_at, swept_from, with_entry}
+pub use Rattle.shm_base.specs.Space.{choose, cut, cut_segments, first_chosen, inserted, inside, is_gap, is_named, last_address, lowest_address, meets, occupied, origin_of, part_above, part_below, parts, pieces_of, without_named}
+pub use Rattle.shm_base.specs.State.{Ended, Entry, Life, Live, Machine, Opening, Piece, Runner, Segment, Unborn, pages_in, pages_of, runner_at_start, start_of}
+pub use Rattle.shm_base.specs.Step.{Caller, Outcome, acts, at_wish, attaches, attaches_chosen, attaches_fixed, attaches_found, caller_from, caller_of, controls, creates, creates_at, detaches, forks, gives, is_rdonly, is_remap, is_rnd, load, locks, new_segment, number_at, pieces_with, refuses, removes, segments_of, sets, shmat, shmget, stat, step, step_by, store, swapoff, takes_away, unborn_from, unlocks, wants_creation, wants_no_other, with_end, with_pieces, xadd}
+pub use Rattle.shm_base.specs.declared.owner.Cred.{Cred}
 pub use Rattle.shm_base.specs.declared.call.Call.{Call}
 pub use Rattle.shm_base.specs.declared.call.Call.TheVariants.{Exec, Exit, Fork, Load, Lock, Rmid, Set, Shmat, Shmdt, Shmget, Stat, Store, Swapoff, Unlock, Xadd}
 pub use Rattle.shm_base.specs.declared.call.Event.{Event}
@@ -42,11 +45,14 @@ pub use Rattle.shm_segments.specs.Orphan.{orphan, orphan_in}
 pub use Rattle.shm_segments.specs.Table.{segment_in}
 pub use Rattle.shm_laws.specs.Identity.{IsMadeBy, IsSame, KeepsNames, NamesAnew, NamesOneSegment, StandsAs}
 pub use Rattle.shm_laws.specs.Isolation.{DifferIn, HasNone, IsAsked, IsBlindOn, IsIsolated, IsPrivate, veil, veiled, veiled_entry, veiled_from}
+pub use Rattle.shm_laws.specs.Keys.{FindsByKey, HasKey, IsCreated, KeepsKeys, KeysAreApart, KeysLeadToOne}
 pub use Rattle.shm_laws.specs.Lawful.{IsLawful}
-pub use Rattle.shm_laws.specs.Permission.{GoesBack, Granted, Inherited, IsGranted, IsInherited, IsPart, KeepsOut, Kept, NoWayIn, OwnerAsks, Reach, StaysInside, controlled, reach}
+pub use Rattle.shm_laws.specs.Permission.{GoesBack, Granted, Inherited, IsBornWith, IsGranted, IsInherited, IsPart, KeepsCredentials, KeepsOut, Kept, MayAsk, NoWayIn, OwnerAsks, Reach, StaysInside, controlled, reach}
 pub use Rattle.shm_laws.specs.Pieces.{CountsPieces, GivesPieces, PiecesAreOfSegments, PiecesNameWhatStands, hands_pieces, piece_count}
-pub use Rattle.shm_laws.specs.Removal.{DestroysWhatIsDue, GoesWhenItMust, IsDue, MarkedHavePieces}
+pub use Rattle.shm_laws.specs.Removal.{AreRemoved, DestroysWhatIsDue, GoesWhenItMust, IsDue, IsMarked, IsRemoval, KeepsMarks, MarkedHavePieces, Removes}
 pub use Rattle.shm_laws.specs.Replay.{IsReplayed, undone, without_failures}
-pub use Rattle.shm_laws.specs.Standing.{Always, Began, EachPiece, HasPiece, IsGone, Lasted, MomentsBy, MovesBy, Since, Stands}
-pub use Rattle.shm_laws.specs.Worked.{IsLegal, a_store_fails, opening, others_read, stores_own, three, two_go, two_write}
+pub use Rattle.shm_laws.specs.Size.{AllFillPages, FillsPages, HaveTheirPages, KeepsSizes}
+pub use Rattle.shm_laws.specs.Spaces.{AreLaidOut, LieApart, LiesInside, SpacesAreLaidOut}
+pub use Rattle.shm_laws.specs.Standing.{Always, Began, EachMove, EachPiece, HasPiece, IsGone, IsMoment, Lasted, MomentsBy, MovesBy, Since, Stands}
+pub use Rattle.shm_laws.specs.Worked.{IsLegal, a_store_fails, one_key, one_remaps, opening, others_read, stores_own, three, two_go, two_write}
 pub use Rattle.shm_laws.specs.Writing.{AreLast, HasLastWriters, IsByte, IsLast, Makes, Put, Recalls, Remembers, Spares, Writes, put}

@@ -1,13 +1,13 @@
 -- An identifier names one segment.
-use Rattle.shm_laws.proofs.Names.{◌≡◌, ◌⊎◌, ℕ, ◌+◌, ◌/◌, ◌%◌, ◌<◌, pos, List, [], ◌∷◌, ◌++◌, length, replicate, Option, Some, None, slice_get, refl, sym, ap, subst, ◌∙◌, inl, inr, arith, common_steps, Id, Event, Segment, Entry, Runner, Machine, Opening, start_of, Invalid, identifier, destroyed_in, look, swept_at, Caller, caller_of, IsMove, LeadsFrom, IsHistory, segment_in, Stands, IsGone, MovesBy, MomentsBy, Since, Began, Lasted, IsSame, KeepsNames, NamesAnew, IsMadeBy, StandsAs, NamesOneSegment, Makes}
+use Rattle.shm_laws.proofs.Names.{◌≡◌, ◌⊎◌, ℕ, ◌+◌, ◌/◌, ◌%◌, ◌<◌, ◌||◌, pos, false, List, [], ◌∷◌, ◌++◌, length, replicate, Option, Some, None, slice_get, refl, sym, ap, subst, ◌∙◌, inl, inr, arith, common_steps, Id, Event, Segment, Entry, Runner, Machine, Opening, start_of, Invalid, identifier, destroyed_in, look, swept_at, Caller, caller_of, IsMove, IsHistory, segment_in, Stands, IsGone, Since, Began, Lasted, IsSame, KeepsNames, NamesAnew, IsMadeBy, StandsAs, NamesOneSegment, Makes}
 use Rattle.shm_laws.specs.Identity.{AreMade}
-use Rattle.shm_laws.proofs.Fresh.{IsEmpty}
+use Rattle.shm_laws.proofs.Fresh.{IsEmpty, never}
 use Rattle.shm_laws.proofs.Turning.{same_refl, same_trans}
 use Rattle.shm_laws.proofs.Handing.{caller-at}
-use Rattle.shm_laws.proofs.Inducting.{GoesOn, at_all_times, since-map}
-use Rattle.shm_laws.proofs.Looks.{holds, bare_entry, stands-at, at-gone, entry-gone}
+use Rattle.shm_laws.proofs.Inducting.{GoesOn, each_move, each_moment, at_all_times, since-map}
+use Rattle.shm_laws.proofs.Looks.{holds, bare_entry, stands-at, at-stands, at-gone, entry-gone}
 use Rattle.shm_laws.proofs.Stepping.{overlay, made_by, Moved, removed}
-use Rattle.shm_laws.proofs.Fates.{IsMachineSound, IsNew, stays, comes, sound-after, kind-move, holds-empty}
+use Rattle.shm_laws.proofs.Fates.{IsMachineSound, IsNew, Stays, names, key_after, stays, comes, sound-after, kind-move, holds-empty}
 use Rattle.shm_laws.proofs.Removing.{sound-start, stands-or-gone}
 
 -- ONE MOVE
@@ -17,20 +17,19 @@ pub record Stood (s : Machine) (e : Event) (id : ℕ) (y : Segment) : Type 0 whe
   pub segment : Segment
   pub stood : Stands s id segment
   pub same : IsSame segment y
+  pub dest : y.dest ≡ (names (removed e.call e.reply) id || segment.dest)
+  pub key : y.key ≡ key_after (names (removed e.call e.reply) id) segment
   pub bytes : y.bytes ≡ overlay s e (id % 32768) segment.bytes
 
 -- one that was made
 pub record Made (s : Machine) (e : Event) (id : ℕ) (y : Segment) : Type 0 where
   pub makes : Makes s e id
+  pub dest : y.dest ≡ false
   pub zeros : (n : ℕ) × (y.bytes ≡ replicate n 0)
-  pub made : made_by (caller_of s e.pid) e.call y
+  pub made : made_by s.table (caller_of s e.pid) e.call y
 
 abbrev pub Before : Machine → Event → ℕ → Segment → Type 0
 Before s e id y = Stood s e id y ⊎ Made s e id y
-
--- the next identifier of an index that holds none was never issued
-never : (t : List Entry) (id d : ℕ) (o : Option Entry) → slice_get t (id % 32768) ≡ o → IsEmpty d o → d ≡ id / 32768 → look t (pos id) ≡ Invalid
-never t id d o is empty count = grind (arith, common_steps)
 
 module _ (s t : Machine) (e : Event) (sound : IsMachineSound s) (k : Moved s e t) (id : ℕ) where
   small : id % 32768 < 32768
@@ -41,9 +40,9 @@ module _ (s t : Machine) (e : Event) (sound : IsMachineSound s) (k : Moved s e t
 
   gone-entry : (d : ℕ) (p : Option Segment) → slice_get s.table (id % 32768) ≡ Some (record { destroyed = d; segment = p }) → id / 32768 < d → IsGone t id
   gone-entry d (Some x) is past =
-      let q = stays (overlay s e) (made_by (caller_of s e.pid) e.call) (removed e.call e.reply) e.reply s t sound (id % 32768) small d x k is in gone-swept t.runners d q.now past q.at
+      let q = stays (overlay s e) (made_by s.table (caller_of s e.pid) e.call) (removed e.call e.reply) e.reply s t sound (id % 32768) small d x k is in gone-swept t.runners d q.now past q.at
   gone-entry d None is past =
-      elim (comes (overlay s e) (made_by (caller_of s e.pid) e.call) (removed e.call e.reply) e.reply s t sound (id % 32768) small d (bare_entry d) k is (inl refl)) [
+      elim (comes (overlay s e) (made_by s.table (caller_of s e.pid) e.call) (removed e.call e.reply) e.reply s t sound (id % 32768) small d (bare_entry d) k is (inl refl)) [
         | inl h ↦ at-gone t.table id d None h past
         | inr h ↦ at-gone t.table id d (Some h.now) h.at past
       ]
@@ -51,31 +50,51 @@ module _ (s t : Machine) (e : Event) (sound : IsMachineSound s) (k : Moved s e t
   gone-on : IsGone s id → IsGone t id
   gone-on gone = grind (arith, common_steps, entry-gone, gone-entry)
 
-  was-swept : (d : ℕ) (x y z : Segment) → slice_get s.table (id % 32768) ≡ holds d x → IsSame x z → z.bytes ≡ overlay s e (id % 32768) x.bytes
-      → Some (swept_at (id % 32768) t.runners d (Some z)) ≡ holds (id / 32768) y → Before s e id y
-  was-swept d x y z is same bytes now = grind (arith, common_steps)
+  own : identifier (id % 32768) (id / 32768) ≡ id
+  own = omega arith
+
+  -- what is held after a sweep was held before it
+  unswept : (d : ℕ) (y z : Segment) → Some (swept_at (id % 32768) t.runners d (Some z)) ≡ holds (id / 32768) y → (d ≡ id / 32768) × (z ≡ y)
+  unswept d y z now = grind (arith, common_steps)
+
+  -- a segment that stood
+  was-swept : (d : ℕ) (x y : Segment) → slice_get s.table (id % 32768) ≡ holds d x → (q : Stays (overlay s e (id % 32768)) (id % 32768) t.runners (names (removed e.call e.reply) (identifier (id % 32768) d)) d x (slice_get t.table (id % 32768)))
+      → slice_get t.table (id % 32768) ≡ holds (id / 32768) y → Before s e id y
+  was-swept d x y is q at =
+      let same = unswept d y q.now (sym q.at ∙ at) in
+      let held : slice_get s.table (id % 32768) ≡ holds (id / 32768) x = is ∙ ap (λ n. holds n x) same.0 in
+      let named : identifier (id % 32768) d ≡ id = ap (identifier (id % 32768)) same.0 ∙ own in
+      inl (record {
+        segment = x;
+        stood = at-stands s.table id x held;
+        same = subst (IsSame x) same.1 q.same;
+        dest = ap (λ (w : Segment). w.dest) (sym same.1) ∙ q.dest ∙ ap (λ n. names (removed e.call e.reply) n || x.dest) named;
+        key = ap (λ (w : Segment). w.key) (sym same.1) ∙ q.key ∙ ap (λ n. key_after (names (removed e.call e.reply) n) x) named;
+        bytes = ap (λ (w : Segment). w.bytes) (sym same.1) ∙ q.bytes;
+      })
 
   -- a segment that is new
   was-empty : (y : Segment) → slice_get t.table (id % 32768) ≡ holds (id / 32768) y → (d : ℕ) (o : Option Entry) → slice_get s.table (id % 32768) ≡ o → IsEmpty d o
       → Before s e id y
-  was-empty y at d o is empty = either (comes (overlay s e) (made_by (caller_of s e.pid) e.call) (removed e.call e.reply) e.reply s t sound (id % 32768) small d o k is empty)
+  was-empty y at d o is empty = either (comes (overlay s e) (made_by s.table (caller_of s e.pid) e.call) (removed e.call e.reply) e.reply s t sound (id % 32768) small d o k is empty)
     where
-      either : (slice_get t.table (id % 32768) ≡ o) ⊎ IsNew (made_by (caller_of s e.pid) e.call) (id % 32768) e.reply d (slice_get t.table (id % 32768)) → Before s e id y
+      either : (slice_get t.table (id % 32768) ≡ o) ⊎ IsNew (made_by s.table (caller_of s e.pid) e.call) (id % 32768) e.reply d (slice_get t.table (id % 32768)) → Before s e id y
       either (inl h) = absurd (holds-empty (id / 32768) d y o (sym h ∙ at) empty)
       either (inr h) =
           let same : holds d h.now ≡ holds (id / 32768) y = sym h.at ∙ at in
           let count : d ≡ id / 32768 = ap destroyed_in same in
-          let own : identifier (id % 32768) d ≡ id = omega (arith, count) in
+          let numbered : identifier (id % 32768) d ≡ id = ap (identifier (id % 32768)) count ∙ own in
           let segment : h.now ≡ y = cc (ap segment_in same) in
           inr (record {
-            makes = (never s.table id d o is empty count, h.answer ∙ ap (λ n. Id (pos n)) own);
+            makes = (never s.table id d o is empty count, h.answer ∙ ap (λ n. Id (pos n)) numbered);
+            dest = ap (λ (w : Segment). w.dest) (sym segment) ∙ h.dest;
             zeros = (h.zeros.0, ap (λ (w : Segment). w.bytes) (sym segment) ∙ h.zeros.1);
-            made = subst (made_by (caller_of s e.pid) e.call) segment h.made;
+            made = subst (made_by s.table (caller_of s e.pid) e.call) segment h.made;
           })
 
   was-entry : (y : Segment) → slice_get t.table (id % 32768) ≡ holds (id / 32768) y → (d : ℕ) (p : Option Segment) → slice_get s.table (id % 32768) ≡ Some (record { destroyed = d; segment = p }) → Before s e id y
   was-entry y at d (Some x) is =
-      let q = stays (overlay s e) (made_by (caller_of s e.pid) e.call) (removed e.call e.reply) e.reply s t sound (id % 32768) small d x k is in was-swept d x y q.now is q.same q.bytes (sym q.at ∙ at)
+      was-swept d x y is (stays (overlay s e) (made_by s.table (caller_of s e.pid) e.call) (removed e.call e.reply) e.reply s t sound (id % 32768) small d x k is) at
   was-entry y at d None is = was-empty y at d (bare_entry d) is (inl refl)
 
   was-before : (y : Segment) → slice_get t.table (id % 32768) ≡ holds (id / 32768) y → (o : Option Entry) → slice_get s.table (id % 32768) ≡ o → Before s e id y
@@ -95,20 +114,20 @@ module _ (s t : Machine) (e : Event) (sound : IsMachineSound s) (k : Moved s e t
 
 -- KEPT FROM ONE TIME TO ANOTHER
 
-keeps-refl : (s : Machine) → KeepsNames s s
+pub keeps-refl : (s : Machine) → KeepsNames s s
 keeps-refl s = record { stands = λ id x h. inl (x, h, same_refl x); gone = λ id h. h }
 
-keeps-trans : (s u t : Machine) → KeepsNames s u → KeepsNames u t → KeepsNames s t
+pub keeps-trans : (s u t : Machine) → KeepsNames s u → KeepsNames u t → KeepsNames s t
 keeps-trans s u t a b = grind (arith, common_steps)
 
 -- WHOLE HISTORIES
 
-record OneMove (s : Machine) (e : Event) (t : Machine) : Type 0 where
-  sound : IsMachineSound t
-  kept : KeepsNames s t
-  new : NamesAnew s e t
+pub record OneMove (s : Machine) (e : Event) (t : Machine) : Type 0 where
+  pub sound : IsMachineSound t
+  pub kept : KeepsNames s t
+  pub new : NamesAnew s e t
 
-one_move : (s : Machine) (n : ℕ) (e : Event) (t : Machine) → IsMachineSound s → IsMove s n e t → OneMove s e t
+pub one_move : (s : Machine) (n : ℕ) (e : Event) (t : Machine) → IsMachineSound s → IsMove s n e t → OneMove s e t
 one_move s n e t sound m =
     let k = kind-move s n e t sound.bare m in
     record {
@@ -117,31 +136,17 @@ one_move s n e t sound m =
       new = record { new = λ id y stands. named s t e sound k id y stands };
     }
 
-record AllMoves (n : ℕ) (s : Machine) (es : List Event) (t : Machine) : Type 0 where
-  now : KeepsNames s t
-  kept : MomentsBy KeepsNames n s es t
-  new : MovesBy NamesAnew n s es t
-
-all_moves : (n : ℕ) (s : Machine) (es : List Event) (t : Machine) → IsMachineSound s → LeadsFrom n s es t → AllMoves n s es t
-all_moves n s [] t sound h =
-    let now : KeepsNames s t = subst (KeepsNames s) (sym h) (keeps-refl s) in record { now = now; kept = (now, h); new = h }
-all_moves n s (e ∷ es) t sound h =
-    let one = one_move s n e h.0 sound h.1 in
-    let more = all_moves (n + 1) h.0 es t one.sound h.2 in
-    let now : KeepsNames s t = keeps-trans s h.0 t one.kept more.now in
-    record { now = now; kept = (now, (h.0, h.1, more.kept)); new = (h.0, h.1, one.new, more.new) }
-
 -- WHO MADE IT
 
 made-now : (s : Machine) (e : Event) (id : ℕ) (y : Segment) → Made s e id y → IsMadeBy s e id y
 made-now s e id y m = by (caller_of s e.pid) refl m.made
   where
-    by : (o : Option Caller) → caller_of s e.pid ≡ o → made_by o e.call y → IsMadeBy s e id y
+    by : (o : Option Caller) → caller_of s e.pid ≡ o → made_by s.table o e.call y → IsMadeBy s e id y
     by None is none = absurd none
     by (Some c) is made =
         let at = caller-at 0 e.pid s.runners c is in
         record {
-          key = made.key;
+          key = y.key;
           mode = made.mode;
           flags = made.flags;
           call = made.asked;
@@ -178,9 +183,10 @@ start-made o id y stands = absurd (cc stands)
 -- of every legal history
 pub names_one_segment : (o : Opening) (events : List Event) (end : Machine) → IsHistory o events end → NamesOneSegment o events end
 names_one_segment o events end h =
-    let all = all_moves 1 (start_of o) events end (sound-start o) h in
+    let kept = each_moment IsMachineSound KeepsNames keeps-refl keeps-trans (λ s n e t sound m. let one = one_move s n e t sound m in (one.sound, one.kept)) 1 (start_of o) events end (sound-start o) h in
+    let new = each_move IsMachineSound NamesAnew (λ s n e t sound m. let one = one_move s n e t sound m in (one.sound, one.new)) 1 (start_of o) events end (sound-start o) h in
     record {
-      kept = all.kept;
-      new = all.new;
+      kept = kept.1;
+      new = new.1;
       made = λ before s m. (at_all_times o (Known o) (known-on o) (record { sound = sound-start o; made = start-made o }) events before s m).made;
     }

@@ -1,9 +1,8 @@
 -- Each move destroys what is due, and what is marked has a piece.
-use Rattle.shm_laws.proofs.Names.{◌≡◌, ◌⊎◌, ℕ, suc, zero, ◌+◌, ◌/◌, ◌%◌, ◌==◌, ◌&&◌, pos, Bool, true, false, List, [], ◌∷◌, map, Some, None, slice_get, refl, sym, ap, ◌∙◌, inl, inr, arith, eq-eqb, common_steps, or_right, none-some, Process, Event, Segment, Runner, Machine, Opening, start_of, runner_at_start, identifier, attach_count, caller_of, IsHistory, Stands, IsGone, IsSame, MarkedHavePieces, IsDue, DestroysWhatIsDue, GoesWhenItMust}
-use Rattle.shm_laws.proofs.Inducting.{Keeps, each_move}
+use Rattle.shm_laws.proofs.Names.{◌≡◌, ◌≤◌, ◌⊎◌, ℕ, suc, zero, ◌+◌, ◌/◌, ◌%◌, ◌==◌, ◌&&◌, ◌||◌, ◌≢◌, pos, Bool, true, false, List, [], ◌∷◌, map, Some, None, slice_get, refl, sym, ap, ◌∙◌, inl, inr, arith, eq-eqb, ne_eqb, cases_eq, common_steps, or_right, none-some, Process, Event, Segment, Runner, Machine, Opening, start_of, runner_at_start, identifier, attach_count, caller_of, IsMove, Stands, IsGone, IsSame, MarkedHavePieces, IsDue, DestroysWhatIsDue, IsMarked, IsRemoval, HasKey}
 use Rattle.shm_laws.proofs.Looks.{stands-at, at-stands, at-gone, not-both}
 use Rattle.shm_laws.proofs.Stepping.{Bare, overlay, made_by, Moved, removed}
-use Rattle.shm_laws.proofs.Fates.{IsMachineSound, names, Stays, stays, sound-after, kind-move}
+use Rattle.shm_laws.proofs.Fates.{IsMachineSound, names, key_after, Stays, stays, sound-after, kind-move}
 
 -- WHERE A MACHINE STARTS
 
@@ -13,7 +12,7 @@ bare-start (p ∷ ps) zero r is u = let same : runner_at_start p ≡ r = cc is i
 bare-start (p ∷ ps) (suc k) r is u = bare-start ps k r is u
 
 pub sound-start : (o : Opening) → IsMachineSound (start_of o)
-sound-start o = record { orphans = λ i small. refl; bare = bare-start o.processes }
+sound-start o = record { orphans = λ i small. refl; short = λ i far. refl; bare = bare-start o.processes }
 
 -- WHAT IS MARKED
 
@@ -27,7 +26,7 @@ module _ (s t : Machine) (e : Event) (sound : IsMachineSound s) (k : Moved s e t
   own = omega arith
 
   after : Stays (overlay s e (id % 32768)) (id % 32768) t.runners (names (removed e.call e.reply) (identifier (id % 32768) (id / 32768))) (id / 32768) x (slice_get t.table (id % 32768))
-  after = stays (overlay s e) (made_by (caller_of s e.pid) e.call) (removed e.call e.reply) e.reply s t sound (id % 32768) (omega arith) (id / 32768) x k (stands-at s.table id x stood)
+  after = stays (overlay s e) (made_by s.table (caller_of s e.pid) e.call) (removed e.call e.reply) e.reply s t sound (id % 32768) (omega arith) (id / 32768) x k (stands-at s.table id x stood)
 
   pub same-runners : removed e.call e.reply ≡ Some id → t.runners ≡ s.runners
   same-runners h = grind arith
@@ -58,10 +57,49 @@ module _ (s t : Machine) (e : Event) (sound : IsMachineSound s) (k : Moved s e t
   pub stands-or-gone : ((y : Segment) × Stands t id y × IsSame x y) ⊎ IsGone t id
   stands-or-gone = grind (arith, common_steps, inl, inr, goes-now, after, stands-on)
 
--- WHOLE HISTORIES
+  -- what is marked now is marked, or gone
+  marks : after.now.dest ≡ true → IsMarked t id ⊎ IsGone t id
+  marks dest = by goes refl
+    where
+      by : (b : Bool) → goes ≡ b → IsMarked t id ⊎ IsGone t id
+      by true h = inr (goes-now h)
+      by false h = inl (record { segment = after.now; stands = stands-on h; dest = dest })
 
-one_move : Keeps IsMachineSound DestroysWhatIsDue
-one_move s n e t sound m =
+  -- what a granted rmid names is marked, or gone
+  pub removal : removed e.call e.reply ≡ Some id → ((1 ≤ attach_count s.runners id) × IsMarked t id) ⊎ ((attach_count s.runners id ≡ 0) × IsGone t id)
+  removal r = by (cases_eq (attach_count s.runners id) 0)
+    where
+      dest : after.now.dest ≡ true
+      dest = after.dest ∙ ap (λ o. names o (identifier (id % 32768) (id / 32768)) || x.dest) r ∙ rw (eq-eqb id (identifier (id % 32768) (id / 32768)) (sym own)) refl
+
+      same : attach_count t.runners id ≡ attach_count s.runners id
+      same = ap (λ rs. attach_count rs id) (same-runners r)
+
+      by : (attach_count s.runners id ≡ 0) ⊎ (attach_count s.runners id ≢ 0) → ((1 ≤ attach_count s.runners id) × IsMarked t id) ⊎ ((attach_count s.runners id ≡ 0) × IsGone t id)
+      by (inl none) = inr (none, goes-now (goes-by dest (same ∙ none)))
+      by (inr some) = inl (omega (arith, some), record { segment = after.now; stands = stands-on (rw (dest, own, same) (ne_eqb _ 0 some)); dest = dest })
+
+  -- a key stays, or the segment is marked, or gone
+  pub key-stays : (key : ℕ) → x.key ≡ key → HasKey t id key ⊎ (IsMarked t id ⊎ IsGone t id)
+  key-stays key is = by goes (names (removed e.call e.reply) (identifier (id % 32768) (id / 32768))) refl refl
+    where
+      by : (g b : Bool) → goes ≡ g → names (removed e.call e.reply) (identifier (id % 32768) (id / 32768)) ≡ b → HasKey t id key ⊎ (IsMarked t id ⊎ IsGone t id)
+      by true b h k = inr (inr (goes-now h))
+      by false true h k = inr (inl (record { segment = after.now; stands = stands-on h; dest = after.dest ∙ ap (λ b. b || x.dest) k }))
+      by false false h k = inl (record { segment = after.now; stands = stands-on h; keyed = after.key ∙ ap (λ b. key_after b x) k ∙ is })
+
+  -- a mark stays
+  pub mark-stays : x.dest ≡ true → IsMarked t id ⊎ IsGone t id
+  mark-stays dest = marks (after.dest ∙ or_right _ x.dest dest)
+
+-- a granted rmid finds its segment
+pub removal-finds : (s t : Machine) (e : Event) (id : ℕ) → Moved s e t → IsRemoval e id → (x : Segment) × Stands s id x
+removal-finds s t e id k r = grind (arith, common_steps)
+
+-- ONE MOVE
+
+pub destroys-move : (s : Machine) (n : ℕ) (e : Event) (t : Machine) → IsMachineSound s → IsMove s n e t → IsMachineSound t × DestroysWhatIsDue s e t
+destroys-move s n e t sound m =
     let k = kind-move s n e t sound.bare m in
     let next = sound-after s e t k sound in (
       next,
@@ -71,9 +109,3 @@ one_move s n e t sound m =
         marked = marked-pieces t next;
       },
     )
-
--- of every legal history
-pub goes_when_it_must : (o : Opening) (events : List Event) (end : Machine) → IsHistory o events end → GoesWhenItMust o events end
-goes_when_it_must o events end h =
-    let all = each_move IsMachineSound DestroysWhatIsDue one_move 1 (start_of o) events end (sound-start o) h in
-    record { moves = all.1; marked = marked-pieces end all.0 }

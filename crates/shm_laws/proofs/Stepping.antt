@@ -1,8 +1,8 @@
 -- The four kinds of step on the segments: still, a sweep after a detach, a creation, a removal.
-use Rattle.shm_laws.proofs.Names.{◌≡◌, ◌⊎◌, ℕ, ◌+◌, ◌*◌, ◌%◌, ◌^◌, ◌≤◌, ◌==◌, ◌&&◌, ℤ, pos, negsuc, Bool, true, false, not, nat_lt, if◌then◌else◌, List, [], ◌∷◌, length, replicate, get_or, Option, Some, None, slice_get, slice_set, refl, sym, ap, subst, ◌∙◌, inl, inr, arith, common_steps, get-set_other, w64, to_le_bytes, slice_get-get_or, Emfile, GetFlags, AtFlags, Call, Shmget, Shmat, Shmdt, Stat, Set, Rmid, Lock, Unlock, Load, Store, Xadd, Fork, Exec, Exit, Swapoff, Reply, Id, Done, Addr, Event, grants, owns, wish_of, Place, places, writable_places, stored, Segment, Entry, Piece, Unborn, Live, Ended, Runner, Machine, pages_in, Look, Found, Removed, Invalid, identifier, destroyed_at, free_index, with_segment, look, find_key, inside, occupied, cut_segments, origin_of, attach_count, locked, change, attached, marked, detach_all, swept, Outcome, gives, refuses, segments_of, Caller, caller_of, acts, new_segment, creates, shmget, wants_creation, wants_no_other, is_rnd, is_remap, at_wish, attaches, attaches_chosen, attaches_fixed, attaches_found, shmat, pieces_with, with_pieces, detaches, forks, unborn_from, stat, controls, sets, removes, locks, unlocks, load, store, xadd, number_at, takes_away, swapoff, first_runner, child_at, life_in, keeps-set, IsSame, Put, put, pieces_of_caller}
+use Rattle.shm_laws.proofs.Names.{◌≡◌, ◌⊎◌, ℕ, ◌+◌, ◌*◌, ◌%◌, ◌^◌, ◌≤◌, ◌==◌, ◌&&◌, ℤ, pos, negsuc, Bool, true, false, not, nat_lt, nat_le, within, if◌then◌else◌, List, [], ◌∷◌, length, replicate, get_or, Option, Some, None, slice_get, slice_set, refl, sym, ap, subst, ◌∙◌, inl, inr, arith, common_steps, get-set_other, w64, to_le_bytes, slice_get-get_or, Emfile, GetFlags, AtFlags, Call, Shmget, Shmat, Shmdt, Stat, Set, Rmid, Lock, Unlock, Load, Store, Xadd, Fork, Exec, Exit, Swapoff, Reply, Id, Done, Addr, Event, grants, owns, wish_of, Place, places, writable_places, stored, Segment, Entry, Piece, Unborn, Live, Ended, Runner, Machine, pages_in, pages_of, Look, Found, Removed, Invalid, identifier, destroyed_at, free_index, with_segment, look, find_key, inside, occupied, cut_segments, origin_of, attach_count, locked, reserved, segment_count, change, attached, marked, detach_all, swept, Outcome, gives, refuses, segments_of, Caller, caller_of, acts, new_segment, creates, creates_at, shmget, wants_creation, wants_no_other, is_rnd, is_remap, at_wish, attaches, attaches_chosen, attaches_fixed, attaches_found, shmat, pieces_with, with_pieces, detaches, forks, unborn_from, stat, controls, sets, removes, locks, unlocks, load, store, xadd, number_at, takes_away, swapoff, first_runner, child_at, life_in, keeps-set, IsSame, Put, put, pieces_of_caller}
 use Rattle.shm_base.specs.Step.{gets}
 use Rattle.shm_laws.proofs.Accessing.{writable-parts}
-use Rattle.shm_laws.proofs.Turning.{Turned, unchanged, puts_in, turned-refl, turned-trans, turned-change, turned-detach, turned-stored, set-got}
+use Rattle.shm_laws.proofs.Turning.{IsAlike, Turned, unchanged, puts_in, turned-refl, turned-trans, turned-change, turned-detach, turned-stored, set-got}
 use Rattle.shm_laws.proofs.Looks.{entry-found}
 
 -- PROCESSES THAT ARE NOT BORN HAVE NO PIECES
@@ -92,23 +92,29 @@ over_put ps (Some p) i bytes = over_places (places ps p.from (length p.bytes)) p
 abbrev pub overlay : Machine → Event → ℕ → List ℕ → List ℕ
 overlay s e = over_put (pieces_of_caller (caller_of s e.pid)) (put e.call e.reply)
 
--- what is made by a call, and by whom
-pub record MadeBy (c : Caller) (call : Call) (y : Segment) : Type 0 where
-  pub key : ℕ
+-- a key that no segment has
+abbrev pub IsFree : List Entry → ℕ → Type 0
+IsFree t key = (i : ℕ) (x : Segment) → find_key t key ≡ Found i x → ⊥
+
+-- what is made by a call, and by whom: with the key that the call names, which no segment had, and so many pages of bytes
+pub record MadeBy (t : List Entry) (c : Caller) (call : Call) (y : Segment) : Type 0 where
   pub mode : ℕ
   pub flags : GetFlags
-  pub asked : call ≡ Shmget key y.size mode flags
+  pub asked : call ≡ Shmget y.key y.size mode flags
+  pub free : (y.key ≡ 0) ⊎ IsFree t y.key
+  pub some : 1 ≤ y.size
+  pub pages : length y.bytes ≡ 4096 * pages_of y.size
   pub process : y.cpid ≡ c.pid
   pub user : y.perm.cuid ≡ c.cred.uid
   pub group : y.perm.cgid ≡ c.cred.gid
 
-abbrev pub made_by : Option Caller → Call → Segment → Type 0
-made_by None call y = ⊥
-made_by (Some c) call y = MadeBy c call y
+abbrev pub made_by : List Entry → Option Caller → Call → Segment → Type 0
+made_by t None call y = ⊥
+made_by t (Some c) call y = MadeBy t c call y
 
 -- what a move is
 abbrev pub Moved : Machine → Event → Machine → Type 0
-Moved s e t = Kind (overlay s e) (made_by (caller_of s e.pid) e.call) s (removed e.call e.reply) e.reply t
+Moved s e t = Kind (overlay s e) (made_by s.table (caller_of s e.pid) e.call) s (removed e.call e.reply) e.reply t
 
 -- WHERE NO SEGMENT IS REMOVED
 
@@ -126,26 +132,53 @@ sweeps like s reply t middle turned table bare = inl (refl, inr (λ i bytes. ref
 pub pick : (P : Outcome → Type 0) (b : Bool) (o p : Outcome) → P o → P p → P (if b then o else p)
 pick P b o p h k = grind (arith, common_steps)
 
+pub pick_by : (P : Outcome → Type 0) (b : Bool) (o p : Outcome) → (b ≡ true → P o) → (b ≡ false → P p) → P (if b then o else p)
+pick_by P b o p h k = grind (arith, common_steps)
+
 same_head : (x y : Segment) → y.size ≡ x.size → y.cpid ≡ x.cpid → y.perm.cuid ≡ x.perm.cuid → y.perm.cgid ≡ x.perm.cgid → IsSame x y
 same_head x y a b c d = record { size = a; cpid = b; cuid = c; cgid = d }
 
+alike_head : (x y : Segment) → y.key ≡ x.key → y.dest ≡ x.dest → IsAlike x y
+alike_head x y a b = record { key = a; dest = b }
+
 living : (c : Caller) (ps : List Piece) (rs : List Runner) → Bare rs → Bare (with_pieces rs c ps)
 living c ps rs h = bare-set rs c.index (record { pid = c.pid; life = Live c.cred; pieces = ps }) h (λ (e : Live c.cred ≡ Unborn). cc e)
+
+pub is-zero : (key : ℕ) → (key == 0) ≡ true → key ≡ 0
+is-zero key h = grind (arith, common_steps)
+
+within-low : (size most : ℕ) → not (within 1 most size) ≡ false → 1 ≤ size
+within-low size most h = grind (arith, common_steps)
 
 module _ (like : Segment → Type 0) (s : Machine) (n : ℕ) (c : Caller) where
   abbrev Plain : Machine → Outcome → Type 0
   Plain u o = Kind idle like u None o.reply o.state
 
-  kind-creates : (key size mode : ℕ) → like (new_segment n c key size mode) → Plain s (creates s n c key size mode)
-  kind-creates key size mode made = grind (arith, common_steps, pick, still)
+  kind-makes : (key size mode : ℕ) (o : Option ℕ) → free_index s.table ≡ o → like (new_segment n c key size mode) → Plain s (creates_at s n c key size mode o)
+  kind-makes key size mode o is made = grind (arith, common_steps, pick, still)
 
-  kind-gets : (key size mode : ℕ) (flags : GetFlags) (l : Look) → like (new_segment n c key size mode) → Plain s (gets s n c key size mode flags l)
+  -- what is asked for has a size
+  abbrev Likes : ℕ → ℕ → ℕ → Type 0
+  Likes key size mode = 1 ≤ size → like (new_segment n c key size mode)
+
+  kind-creates : (key size mode : ℕ) → Likes key size mode → Plain s (creates s n c key size mode)
+  kind-creates key size mode made =
+      pick_by (Plain s) (not (within 1 s.limits.shmmax size)) _ _ (λ h. still like s _)
+      (λ h. pick (Plain s) (nat_lt s.limits.shmall (reserved s.table + pages_of size)) _ _ (still like s _)
+      (pick (Plain s) (nat_le s.limits.shmmni (segment_count s.table)) _ _ (still like s _) (kind-makes key size mode (free_index s.table) refl (made (within-low size s.limits.shmmax h)))))
+
+  kind-gets : (key size mode : ℕ) (flags : GetFlags) (l : Look) → (((i : ℕ) (x : Segment) → l ≡ Found i x → ⊥) → Likes key size mode) → Plain s (gets s n c key size mode flags l)
   kind-gets key size mode flags (Found i x) made = pick (Plain s) (wants_no_other flags) _ _ (still like s _) (pick (Plain s) (nat_lt x.size size) _ _ (still like s _) (pick (Plain s) (not (grants c.cred x.perm (wish_of mode))) _ _ (still like s _) (still like s _)))
-  kind-gets key size mode flags Removed made = pick (Plain s) (wants_creation flags) _ _ (kind-creates key size mode made) (still like s _)
-  kind-gets key size mode flags Invalid made = pick (Plain s) (wants_creation flags) _ _ (kind-creates key size mode made) (still like s _)
+  kind-gets key size mode flags Removed made = pick (Plain s) (wants_creation flags) _ _ (kind-creates key size mode (made (λ i x h. cc h))) (still like s _)
+  kind-gets key size mode flags Invalid made = pick (Plain s) (wants_creation flags) _ _ (kind-creates key size mode (made (λ i x h. cc h))) (still like s _)
 
-  kind-shmget : (key size mode : ℕ) (flags : GetFlags) → ((k : ℕ) → like (new_segment n c k size mode)) → Plain s (shmget s n c key size mode flags)
-  kind-shmget key size mode flags made = pick (Plain s) (key == 0) _ _ (kind-creates 0 size mode (made 0)) (kind-gets key size mode flags (find_key s.table key) (made key))
+  kind-shmget : (key size mode : ℕ) (flags : GetFlags) → ((key ≡ 0) ⊎ IsFree s.table key → Likes key size mode) → Plain s (shmget s n c key size mode flags)
+  kind-shmget key size mode flags made =
+      pick_by (Plain s) (key == 0) _ _ (λ h. kind-creates 0 size mode (private h))
+      (λ h. kind-gets key size mode flags (find_key s.table key) (λ free. made (inr free)))
+    where
+      private : (key == 0) ≡ true → Likes 0 size mode
+      private h = let none = is-zero key h in subst (λ k. Likes k size mode) none (made (inl none))
 
   kind-attaches : (id : ℕ) (x : Segment) (flags : AtFlags) (base : ℕ) → Plain s (attaches s n c id x flags base)
   kind-attaches id x flags base =
@@ -155,7 +188,7 @@ module _ (like : Segment → Type 0) (s : Machine) (n : ℕ) (c : Caller) where
       let after : Machine = record s { table = swept rs (change old id (attached n c.pid)); runners = rs } in
       pick (Plain s) (nat_lt 256 (length (pieces_with c id x flags base))) (refuses s Emfile) (gives after (Addr base)) (still like s _)
       (sweeps like s (Addr base) after (change old id (attached n c.pid))
-      (λ i. turned-trans unchanged unchanged s.table old (change old id (attached n c.pid)) i (turned-detach n c.pid lost s.table i) (turned-change (attached n c.pid) (λ y. same_head y (attached n c.pid y) refl refl refl refl) (λ y. refl) (λ y. refl) old id i))
+      (λ i. turned-trans unchanged unchanged s.table old (change old id (attached n c.pid)) i (turned-detach n c.pid lost s.table i) (turned-change (attached n c.pid) (λ y. same_head y (attached n c.pid y) refl refl refl refl) (λ y. record { key = refl; dest = refl }) (λ y. refl) old id i))
       refl (living c (pieces_with c id x flags base) s.runners))
 
   kind-chosen : (id : ℕ) (x : Segment) (flags : AtFlags) (o : Option ℕ) → Plain s (attaches_chosen s n c id x flags o)
@@ -201,13 +234,13 @@ module _ (like : Segment → Type 0) (s : Machine) (n : ℕ) (c : Caller) where
   kind-controls act acts (Found i x) = pick (Plain s) (not (owns c.cred x.perm)) _ _ (still like s _) (acts i x)
 
   kind-sets : (uid gid mode i : ℕ) (x : Segment) → Plain s (sets s n uid gid mode i x)
-  kind-sets uid gid mode i x = grind (arith, common_steps, quiet, turned-change, same_head)
+  kind-sets uid gid mode i x = grind (arith, common_steps, quiet, turned-change, same_head, alike_head)
 
   kind-locks : (i : ℕ) (x : Segment) → Plain s (locks s i x)
-  kind-locks i x = pick (Plain s) (not x.locked && nat_lt s.limits.memlock (locked s.table + pages_in x)) _ _ (still like s _) (quiet idle like s _ _ (turned-change (λ (y : Segment). record y { locked = true }) (λ y. same_head y _ refl refl refl refl) (λ y. refl) (λ y. refl) s.table i) refl)
+  kind-locks i x = pick (Plain s) (not x.locked && nat_lt s.limits.memlock (locked s.table + pages_in x)) _ _ (still like s _) (quiet idle like s _ _ (turned-change (λ (y : Segment). record y { locked = true }) (λ y. same_head y _ refl refl refl refl) (λ y. record { key = refl; dest = refl }) (λ y. refl) s.table i) refl)
 
   kind-unlocks : (i : ℕ) (x : Segment) → Plain s (unlocks s i x)
-  kind-unlocks i x = quiet idle like s _ _ (turned-change (λ (y : Segment). record y { locked = false }) (λ y. same_head y _ refl refl refl refl) (λ y. refl) (λ y. refl) s.table i) refl
+  kind-unlocks i x = quiet idle like s _ _ (turned-change (λ (y : Segment). record y { locked = false }) (λ y. same_head y _ refl refl refl refl) (λ y. record { key = refl; dest = refl }) (λ y. refl) s.table i) refl
 
   kind-load : (o : Option (List Place)) → Plain s (load s o)
   kind-load o = grind (arith, common_steps, still)
@@ -239,7 +272,7 @@ module _ (like : Segment → Type 0) (s : Machine) (n : ℕ) (c : Caller) where
   kind-rmid id l is = grind (arith, common_steps, still, entry-found, pick)
 
   -- each call
-  pub kind-acts : (call : Call) → Bare s.runners → ((key size mode : ℕ) (flags : GetFlags) → call ≡ Shmget key size mode flags → (k : ℕ) → like (new_segment n c k size mode))
+  pub kind-acts : (call : Call) → Bare s.runners → ((key size mode : ℕ) (flags : GetFlags) → call ≡ Shmget key size mode flags → (key ≡ 0) ⊎ IsFree s.table key → Likes key size mode)
       → let o = acts s n c call in Kind (over_put c.pieces (put call o.reply)) like s (removed call o.reply) o.reply o.state
   kind-acts (Shmget key size mode flags) bare made = kind-shmget key size mode flags (made key size mode flags refl)
   kind-acts (Shmat id addr flags) bare made = kind-shmat id addr flags

@@ -7,11 +7,22 @@ same_refl x = record { size = refl; cpid = refl; cuid = refl; cgid = refl }
 pub same_trans : (x y z : Segment) → IsSame x y → IsSame y z → IsSame x z
 same_trans x y z a b = record { size = b.size ∙ a.size; cpid = b.cpid ∙ a.cpid; cuid = b.cuid ∙ a.cuid; cgid = b.cgid ∙ a.cgid }
 
+-- it has the same key, and is marked if it was
+pub record IsAlike (x y : Segment) : Type 0 where
+  pub key : y.key ≡ x.key
+  pub dest : y.dest ≡ x.dest
+
+pub alike_refl : (x : Segment) → IsAlike x x
+alike_refl x = record { key = refl; dest = refl }
+
+pub alike_trans : (x y z : Segment) → IsAlike x y → IsAlike y z → IsAlike x z
+alike_trans x y z a b = record { key = b.key ∙ a.key; dest = b.dest ∙ a.dest }
+
 -- what stands at an index is changed so, and its bytes become these
 pub record Turned (over : List ℕ → List ℕ) (t u : List Entry) (i : ℕ) : Type 0 where
   pub turn : Segment → Segment
   pub same : (x : Segment) → IsSame x (turn x)
-  pub dest : (x : Segment) → (turn x).dest ≡ x.dest
+  pub alike : (x : Segment) → IsAlike x (turn x)
   pub bytes : (x : Segment) → (turn x).bytes ≡ over x.bytes
   pub at : slice_get u i ≡ option_map (with_entry turn) (slice_get t i)
 
@@ -22,20 +33,20 @@ entry-twice : (f g : Segment → Segment) (o : Option Entry) → option_map (wit
 entry-twice f g o = grind arith
 
 pub turned-over : (f g : List ℕ → List ℕ) (t u : List Entry) (i : ℕ) → ((bytes : List ℕ) → f bytes ≡ g bytes) → Turned f t u i → Turned g t u i
-turned-over f g t u i alike a = record { turn = a.turn; same = a.same; dest = a.dest; bytes = λ x. a.bytes x ∙ alike x.bytes; at = a.at }
+turned-over f g t u i become a = record { turn = a.turn; same = a.same; alike = a.alike; bytes = λ x. a.bytes x ∙ become x.bytes; at = a.at }
 
 -- they stay
 abbrev pub unchanged : List ℕ → List ℕ
 unchanged bytes = bytes
 
 pub turned-as : (t u : List Entry) (i : ℕ) → slice_get u i ≡ slice_get t i → Turned unchanged t u i
-turned-as t u i is = record { turn = λ x. x; same = same_refl; dest = λ x. refl; bytes = λ x. refl; at = is ∙ sym (entry-none (slice_get t i)) }
+turned-as t u i is = record { turn = λ x. x; same = same_refl; alike = alike_refl; bytes = λ x. refl; at = is ∙ sym (entry-none (slice_get t i)) }
 
 pub turned-refl : (t : List Entry) (i : ℕ) → Turned unchanged t t i
 turned-refl t i = turned-as t t i refl
 
 pub turned-trans : (f g : List ℕ → List ℕ) (t u v : List Entry) (i : ℕ) → Turned f t u i → Turned g u v i → Turned (λ bytes. g (f bytes)) t v i
-turned-trans f g t u v i a b = grind (arith, common_steps, same_trans, entry-twice)
+turned-trans f g t u v i a b = grind (arith, common_steps, same_trans, alike_trans, entry-twice)
 
 -- ONE ENTRY
 
@@ -51,9 +62,9 @@ set_in-here t k g o is = grind (arith, get-set_same)
 pub set_in-there : (t : List Entry) (k i : ℕ) (g : Entry → Entry) (o : Option Entry) → k ≢ i → slice_get (set_in t k g o) i ≡ slice_get t i
 set_in-there t k i g o apart = grind (arith, get-set_other)
 
-module _ (f : Segment → Segment) (same : (x : Segment) → IsSame x (f x)) (dest : (x : Segment) → (f x).dest ≡ x.dest) where
+module _ (f : Segment → Segment) (same : (x : Segment) → IsSame x (f x)) (alike : (x : Segment) → IsAlike x (f x)) where
   turned-here : (over : List ℕ → List ℕ) (t : List Entry) (k : ℕ) → ((x : Segment) → (f x).bytes ≡ over x.bytes) → Turned over t (set_in t k (with_entry f) (slice_get t k)) k
-  turned-here over t k bytes = record { turn = f; same = same; dest = dest; bytes = bytes; at = set_in-here t k (with_entry f) (slice_get t k) refl }
+  turned-here over t k bytes = record { turn = f; same = same; alike = alike; bytes = bytes; at = set_in-here t k (with_entry f) (slice_get t k) refl }
 
   turned-there : (t : List Entry) (k i : ℕ) → k ≢ i → Turned unchanged t (set_in t k (with_entry f) (slice_get t k)) i
   turned-there t k i apart = turned-as t (set_in t k (with_entry f) (slice_get t k)) i (set_in-there t k i (with_entry f) (slice_get t k) apart)
@@ -67,7 +78,7 @@ pub turned-detach : (n pid : ℕ) (ids : List ℕ) (t : List Entry) (i : ℕ) �
 turned-detach n pid [] t i = turned-refl t i
 turned-detach n pid (id ∷ ids) t i =
     turned-trans unchanged unchanged t (change t id (detached n pid)) (detach_all n pid (change t id (detached n pid)) ids) i
-    (turned-change (detached n pid) (λ x. record { size = refl; cpid = refl; cuid = refl; cgid = refl }) (λ x. refl) (λ x. refl) t id i)
+    (turned-change (detached n pid) (λ x. record { size = refl; cpid = refl; cuid = refl; cgid = refl }) (λ x. record { key = refl; dest = refl }) (λ x. refl) t id i)
     (turned-detach n pid ids (change t id (detached n pid)) i)
 
 -- one byte that is put, if it is one of the index's
@@ -86,14 +97,17 @@ turned-byte p v t i = by (cases_eq (p.seg % 32768) i)
     same : (x : Segment) → IsSame x (byte_set p.at v x)
     same x = record { size = refl; cpid = refl; cuid = refl; cgid = refl }
 
+    alike : (x : Segment) → IsAlike x (byte_set p.at v x)
+    alike x = record { key = refl; dest = refl }
+
     by : (p.seg % 32768 ≡ i) ⊎ (p.seg % 32768 ≢ i) → Turned (byte_in i p v) t (with_byte t p v) i
     by (inl h) =
         turned-over (λ bytes. slice_set bytes p.at v) (byte_in i p v) t (with_byte t p v) i (λ bytes. rw (eq-eqb (p.seg % 32768) i h) refl)
         (subst (Turned (λ bytes. slice_set bytes p.at v) t (with_byte t p v)) h
-        (turned-here (byte_set p.at v) same (λ x. refl) (λ bytes. slice_set bytes p.at v) t (p.seg % 32768) (λ x. refl)))
+        (turned-here (byte_set p.at v) same alike (λ bytes. slice_set bytes p.at v) t (p.seg % 32768) (λ x. refl)))
     by (inr apart) =
         turned-over unchanged (byte_in i p v) t (with_byte t p v) i (λ bytes. rw (ne_eqb (p.seg % 32768) i apart) refl)
-        (turned-there (byte_set p.at v) same (λ x. refl) t (p.seg % 32768) i apart)
+        (turned-there (byte_set p.at v) same alike t (p.seg % 32768) i apart)
 
 pub turned-stored : (ps : List Place) (vs : List ℕ) (t : List Entry) (i : ℕ) → Turned (puts_in i ps vs) t (stored t ps vs) i
 turned-stored [] vs t i = turned-refl t i

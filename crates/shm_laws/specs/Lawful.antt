@@ -9,6 +9,9 @@ use Rattle.shm_laws.specs.Permission.{NoWayIn}
 use Rattle.shm_laws.specs.Isolation.{IsIsolated}
 use Rattle.shm_laws.specs.Pieces.{PiecesAreOfSegments}
 use Rattle.shm_laws.specs.Replay.{IsReplayed}
+use Rattle.shm_laws.specs.Keys.{KeysLeadToOne}
+use Rattle.shm_laws.specs.Size.{HaveTheirPages}
+use Rattle.shm_laws.specs.Spaces.{SpacesAreLaidOut}
 
 pub record IsLawful (o : Opening) (events : List Event) (end : Machine) : Type 0 where
   pub writers : HasLastWriters o events end
@@ -16,5 +19,8 @@ pub record IsLawful (o : Opening) (events : List Event) (end : Machine) : Type 0
   pub removal : GoesWhenItMust o events end
   pub permission : NoWayIn o events end
   pub isolation : IsIsolated o events end
+  pub keys : KeysLeadToOne o events end
+  pub size : HaveTheirPages o events end
+  pub spaces : SpacesAreLaidOut o events end
   pub pieces : PiecesAreOfSegments o events end
   pub replay : IsReplayed o events end

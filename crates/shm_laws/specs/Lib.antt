@@ -1,6 +1,9 @@
 pub mod Replay
 pub mod Standing
 pub mod Removal
+pub mod Keys
+pub mod Size
+pub mod Spaces
 pub mod Identity
 pub mod Pieces
 pub mod Permission

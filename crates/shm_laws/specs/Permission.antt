@@ -1,14 +1,19 @@
 -- Permission: nobody gets at a segment without it.
-use Rattle.std.specs.Prelude.{◌≡◌, ◌≤◌, ◌<◌, ◌⊎◌, ℕ, ◌+◌, ◌*◌, ◌%◌, ℤ, pos, Bool, true, false, not, List, [], ◌∷◌, ◌++◌, length, Option, Some, None}
+use Rattle.std.specs.Prelude.{◌≡◌, ◌≤◌, ◌<◌, ◌⊎◌, ℕ, ◌+◌, ◌*◌, ◌%◌, ℤ, pos, Bool, true, false, not, List, [], ◌∷◌, ◌++◌, length, Option, Some, None, slice_get}
 use Rattle.shm_base.specs.declared.owner.Cred.{Cred}
 use Rattle.shm_base.specs.declared.owner.Perm.{Perm}
+use Rattle.shm_base.specs.declared.owner.Want.{Want}
+use Rattle.shm_base.specs.declared.flags.GetFlags.{GetFlags}
 use Rattle.shm_base.specs.declared.flags.AtFlags.{AtFlags}
 use Rattle.shm_base.specs.declared.call.Call.{Call}
-use Rattle.shm_base.specs.declared.call.Call.TheVariants.{Shmat, Set, Rmid, Lock, Unlock, Load, Store, Xadd, Fork}
-use Rattle.shm_base.specs.declared.call.Reply.TheVariants.{Addr, Done}
+use Rattle.shm_base.specs.declared.call.Call.TheVariants.{Shmget, Shmat, Set, Rmid, Lock, Unlock, Load, Store, Xadd, Fork}
+use Rattle.shm_base.specs.declared.call.Call.TheVariants as calls
+use Rattle.shm_base.specs.declared.call.ShmidDs.{ShmidDs}
+use Rattle.shm_base.specs.declared.call.Reply.TheVariants.{Id, Addr, Done}
+use Rattle.shm_base.specs.declared.call.Reply.TheVariants as replies
 use Rattle.shm_base.specs.declared.call.Event.{Event}
-use Rattle.shm_base.specs.State.{Segment, Piece, Machine, Opening, pages_in}
-use Rattle.shm_base.specs.Permission.{grants}
+use Rattle.shm_base.specs.State.{Segment, Piece, Unborn, Live, Runner, Machine, Opening, pages_in}
+use Rattle.shm_base.specs.Permission.{grants, wish_of}
 use Rattle.shm_base.specs.Access.{end_of, covers}
 use Rattle.shm_base.specs.Step.{Caller, caller_of, is_rdonly}
 use Rattle.shm_base.specs.History.{is_refusal, IsHistory}
@@ -93,12 +98,44 @@ pub record OwnerAsks (s : Machine) (pid : ℕ) (id : ℤ) : Type 0 where
   pub stands : Stands s number segment
   pub owner : IsOwner caller.cred segment.perm
 
--- a move reaches no byte outside the pieces of its process, and set, rmid, lock and unlock are done for owners alone
+-- the segment exists, and its mode gives the process what it wants
+pub record MayAsk (s : Machine) (pid id : ℕ) (want : Want) : Type 0 where
+  pub caller : Caller
+  pub live : caller_of s pid ≡ Some caller
+  pub segment : Segment
+  pub stands : Stands s id segment
+  pub permitted : grants caller.cred segment.perm want ≡ true
+
+-- a move reaches no byte outside the pieces of its process; set, rmid, lock and unlock are granted to owners alone; stat is
+-- answered only to a process that may read, and a shmget with a segment that existed only to one that has what its mode asks for
 pub record KeepsOut (s : Machine) (e : Event) (t : Machine) : Type 0 where
   pub inside : StaysInside s e
   pub owner : (id : ℤ) → controlled e.call ≡ Some id → e.reply ≡ Done → OwnerAsks s e.pid id
+  pub stat :
+      (id : ℤ) (d : ShmidDs) → e.call ≡ calls.Stat id → e.reply ≡ replies.Stat d
+      → (n : ℕ) × (id ≡ pos n) × MayAsk s e.pid n (record { read = true; write = false })
+  pub get :
+      (key size mode id : ℕ) (flags : GetFlags) (x : Segment) → e.call ≡ Shmget key size mode flags → e.reply ≡ Id (pos id)
+      → Stands s id x → MayAsk s e.pid id (wish_of mode)
 
--- THE LAW. At each moment each piece goes back to a shmat that was granted, and each move keeps out who has no permission
+-- the event is a fork that made the process, and its parent had these credentials
+pub record IsBornWith (s : Machine) (e : Event) (unborn : Runner) (cred : Cred) : Type 0 where
+  pub life : unborn.life ≡ Unborn
+  pub call : e.call ≡ Fork unborn.pid
+  pub reply : e.reply ≡ Done
+  pub parent : Caller
+  pub live : caller_of s e.pid ≡ Some parent
+  pub inherits : cred ≡ parent.cred
+
+-- the process at each place is the same before and after; and one that is live had its credentials before, or is born with them
+abbrev pub KeepsCredentials : Machine → Event → Machine → Type 0
+KeepsCredentials s e t =
+    (k : ℕ) (now : Runner) (cred : Cred) → slice_get t.runners k ≡ Some now → now.life ≡ Live cred
+    → (old : Runner) × (slice_get s.runners k ≡ Some old) × (old.pid ≡ now.pid) × ((old.life ≡ Live cred) ⊎ IsBornWith s e old cred)
+
+-- THE LAW. At each moment each piece goes back to a shmat that was granted; each move keeps out who has no permission, and
+-- gives no process other credentials
 pub record NoWayIn (o : Opening) (events : List Event) (end : Machine) : Type 0 where
   pub pieces : Always (λ before s. EachPiece (GoesBack o before) s) o events
   pub moves : EachMove KeepsOut o events end
+  pub credentials : EachMove KeepsCredentials o events end

@@ -5,7 +5,9 @@ use Rattle.shm_base.specs.declared.call.Reply.TheVariants.{Done}
 use Rattle.shm_base.specs.declared.call.Event.{Event}
 use Rattle.shm_base.specs.State.{Segment, Machine, Opening}
 use Rattle.shm_base.specs.Segments.{attach_count}
-use Rattle.shm_laws.specs.Standing.{Stands, IsGone, EachMove}
+use Rattle.shm_laws.specs.Standing.{Stands, IsGone, EachMove, Always, Since}
+
+-- WHEN A SEGMENT IS DESTROYED
 
 -- a marked segment that stands has a piece
 abbrev pub MarkedHavePieces : Machine → Type 0
@@ -32,7 +34,36 @@ pub record DestroysWhatIsDue (s : Machine) (e : Event) (t : Machine) : Type 0 wh
   pub must : (id : ℕ) (x : Segment) → Stands s id x → IsDue s e t id x → IsGone t id
   pub marked : MarkedHavePieces t
 
--- THE LAW. So does each move, and after each of them, as at the end, what is marked and stands has a piece
+-- WHAT IS MARKED
+
+-- the segment exists and is marked
+pub record IsMarked (s : Machine) (id : ℕ) : Type 0 where
+  pub segment : Segment
+  pub stands : Stands s id segment
+  pub dest : segment.dest ≡ true
+
+-- the event is an rmid of the segment, and was granted
+pub record IsRemoval (e : Event) (id : ℕ) : Type 0 where
+  pub call : e.call ≡ Rmid (pos id)
+  pub reply : e.reply ≡ Done
+
+-- a granted rmid marks its segment if a process has a piece of it, and destroys it if none has
+abbrev pub Removes : Machine → Event → Machine → Type 0
+Removes s e t = (id : ℕ) → IsRemoval e id → ((1 ≤ attach_count s.runners id) × IsMarked t id) ⊎ ((attach_count s.runners id ≡ 0) × IsGone t id)
+
+-- what is marked before a move is marked after it, or destroyed
+abbrev pub KeepsMarks : Machine → Event → Machine → Type 0
+KeepsMarks s e t = (id : ℕ) → IsMarked s id → IsMarked t id ⊎ IsGone t id
+
+-- each segment that is marked was removed by one of these events, and has been marked since
+abbrev pub AreRemoved : Opening → List Event → Machine → Type 0
+AreRemoved o before s = (id : ℕ) → IsMarked s id → Since o (λ u e. IsRemoval e id) (λ u e. IsMarked u id) before
+
+-- THE LAW. Each move destroys what is due, and after each of them, as at the end, what is marked and stands has a piece;
+-- a granted rmid marks or destroys, nothing else marks, and a mark stays until the segment is destroyed
 pub record GoesWhenItMust (o : Opening) (events : List Event) (end : Machine) : Type 0 where
   pub moves : EachMove DestroysWhatIsDue o events end
   pub marked : MarkedHavePieces end
+  pub removals : EachMove Removes o events end
+  pub kept : EachMove KeepsMarks o events end
+  pub removed : Always (AreRemoved o) o events

@@ -1,12 +1,12 @@
 -- Worked histories, in which the laws say something. They are computed.
-use Rattle.std.specs.Prelude.{◌≡◌, ℕ, ◌+◌, ◌*◌, ◌^◌, ◌==◌, pos, Bool, true, false, List, [], ◌∷◌, take, Option, Some, option_map, slice_get}
-use Rattle.shm_base.specs.declared.errno.Errno.TheVariants.{Eperm, Eacces, Eidrm, Sigbus, Sigsegv}
+use Rattle.std.specs.Prelude.{◌≡◌, ℕ, ◌+◌, ◌*◌, ◌^◌, ◌==◌, pos, Bool, true, false, List, [], ◌∷◌, length, take, Option, None, Some, option_map, slice_get}
+use Rattle.shm_base.specs.declared.errno.Errno.TheVariants.{Eperm, Enoent, Eacces, Einval, Eidrm, Sigbus, Sigsegv}
 use Rattle.shm_base.specs.declared.call.Call.TheVariants.{Shmdt, Set, Rmid, Load, Store, Xadd, Fork, Exec}
 use Rattle.shm_base.specs.declared.call.Reply.TheVariants.{Addr, Bytes, Number, Done, Refused}
 use Rattle.shm_base.specs.declared.call.Event.{Event}
 use Rattle.shm_base.specs.State.{Segment, Entry, Piece, Runner, Machine, Opening, start_of}
 use Rattle.shm_base.specs.History.{IsHistory, own_part}
-use Rattle.shm_base.specs.Rows.{Answers, does, id, mode, rdonly, shmget, shmat, stat, process, child}
+use Rattle.shm_base.specs.Rows.{Answers, does, id, mode, creat, rdonly, remap, shmget, shmat, stat, process, child}
 use Rattle.shm_base.specs.Identifier.{Look, Found, Removed, Invalid, look}
 use Rattle.shm_base.specs.Access.{bytes_at}
 use Rattle.shm_base.specs.Segments.{attach_count}
@@ -185,3 +185,57 @@ IsolationWorked =
     × (slice_get (bytes_at (after opening (stores_own 6) 8).table 1) 0 ≡ Some 6)
     × DifferIn (λ id. id == 1) (after opening (stores_own 5) 8) (after opening (stores_own 6) 8)
     × (own_part 1 (stores_own 5) ≡ own_part 1 (stores_own 6))
+
+-- KEYS AND SIZE: process 2 finds a segment by its key and attaches it; when it is marked the key leads to none, and a shmget
+-- that may create makes another
+
+abbrev pub one_key : List Event
+one_key =
+    does 1 (shmget 5 4097 (mode 6 0 0) creat) (id 0)
+    ∷ does 2 (shmget 5 0 (mode 6 0 0) 0) (id 0)
+    ∷ does 2 (shmat 0 0 0) (Addr 0x40000000)
+    ∷ does 1 (Rmid (pos 0)) Done
+    ∷ does 1 (shmget 5 0 (mode 6 0 0) 0) (Refused Enoent)
+    ∷ does 1 (shmget 5 4096 (mode 6 0 0) creat) (id 1)
+    ∷ []
+
+abbrev pub key_in : Look → Option ℕ
+key_in (Found i x) = Some x.key
+key_in Removed = None
+key_in Invalid = None
+
+abbrev pub after_one_key : ℕ → Machine
+after_one_key n = after opening one_key n
+
+-- it is legal; segment 0 has the key until it is marked, and then segment 1 has it
+abbrev pub KeysWorked : Type 0
+KeysWorked =
+    IsLegal opening one_key
+    × (key_in (look (after_one_key 3).table (pos 0)) ≡ Some 5)
+    × (key_in (look (after_one_key 4).table (pos 0)) ≡ Some 0)
+    × (key_in (look (after_one_key 6).table (pos 1)) ≡ Some 5)
+
+-- 4097 bytes need two pages, from the shmget on, and while the segment is marked
+abbrev pub SizeWorked : Type 0
+SizeWorked =
+    (length (bytes_at (after_one_key 1).table 0) ≡ 8192)
+    × (length (bytes_at (after_one_key 6).table 0) ≡ 8192)
+    × (length (bytes_at (after_one_key 6).table 1) ≡ 4096)
+
+-- ADDRESS SPACES: a shmat into the second page of a piece is refused, and with SHM_REMAP it takes that page
+
+abbrev pub one_remaps : List Event
+one_remaps =
+    does 1 (shmget 0 8192 (mode 6 0 0) 0) (id 0)
+    ∷ does 1 (shmget 0 4096 (mode 6 0 0) 0) (id 1)
+    ∷ does 1 (shmat 0 0 0) (Addr 0x40000000)
+    ∷ does 1 (shmat 1 0x40001000 0) (Refused Einval)
+    ∷ does 1 (shmat 1 0x40001000 remap) (Addr 0x40001000)
+    ∷ []
+
+abbrev pub page_of : ℕ → ℕ → Piece
+page_of segment base = record { base = base; seg = segment; first_page = 0; pages = 1; writable = true }
+
+-- it is legal, and the process has the first page of segment 0, and after it the one of segment 1
+abbrev pub SpacesWorked : Type 0
+SpacesWorked = IsLegal opening one_remaps × (pieces_now opening one_remaps 5 0 ≡ Some (page_of 0 0x40000000 ∷ page_of 1 0x40001000 ∷ []))

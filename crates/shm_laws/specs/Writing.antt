@@ -1,12 +1,12 @@
 -- The last writer: a byte is what the last event that wrote it put there, or 0 since its segment was made.
-use Rattle.std.specs.Prelude.{◌≡◌, ◌<◌, ◌⊎◌, ℕ, ◌+◌, ◌%◌, ◌^◌, pos, Bool, List, [], length, Option, Some, None, slice_get}
+use Rattle.std.specs.Prelude.{◌≡◌, ◌<◌, ◌⊎◌, ℕ, ◌+◌, ◌%◌, ◌^◌, pos, Bool, List, length, Option, Some, None, slice_get}
 use Rattle.std.specs.Int.{w64, to_le_bytes, from_le_bytes}
 use Rattle.shm_base.specs.declared.call.Call.{Call}
 use Rattle.shm_base.specs.declared.call.Call.TheVariants.{Load, Store, Xadd}
 use Rattle.shm_base.specs.declared.call.Reply.{Reply}
 use Rattle.shm_base.specs.declared.call.Reply.TheVariants.{Id, Bytes, Number, Done}
 use Rattle.shm_base.specs.declared.call.Event.{Event}
-use Rattle.shm_base.specs.State.{Segment, Piece, Machine, Opening}
+use Rattle.shm_base.specs.State.{Segment, Machine, Opening}
 use Rattle.shm_base.specs.Access.{place}
 use Rattle.shm_base.specs.Identifier.{Invalid, look}
 use Rattle.shm_base.specs.Processes.{pieces_of_caller}

@@ -8,4 +8,7 @@ fn worked_histories()
     ensures permission { worked.PermissionWorked }
     ensures writing { worked.WritingWorked }
     ensures isolation { worked.IsolationWorked }
+    ensures keys { worked.KeysWorked }
+    ensures size { worked.SizeWorked }
+    ensures spaces { worked.SpacesWorked }
 {}

@@ -1,0 +1,80 @@
+-- No move gives a process other credentials.
+use Rattle.shm_laws.proofs.Names.{◌≡◌, ◌≢◌, ◌⊎◌, ℕ, List, get_or, Some, slice_get, slice_set, refl, sym, ap, ◌∙◌, inl, inr, arith, cases_eq, slice_get-get_or, Fork, Event, Unborn, Live, Ended, Runner, Machine, Cred, Caller, Outcome, caller_of, acts, pieces_with, filter, IsMove, child_at, first_runner, life_in, get-set_other, IsBornWith, KeepsCredentials}
+use Rattle.shm_laws.proofs.Handing.{CallerAt, caller-at, Hands, hands-acts}
+use Rattle.shm_laws.proofs.Refusing.{by-move}
+use Rattle.shm_laws.proofs.Turning.{set-got}
+
+-- a process that had the credentials, or is born with them
+abbrev Had : Machine → Event → ℕ → ℕ → Cred → Type 0
+Had s e k pid cred = (old : Runner) × (slice_get s.runners k ≡ Some old) × (old.pid ≡ pid) × ((old.life ≡ Live cred) ⊎ IsBornWith s e old cred)
+
+abbrev KeepsIn : Machine → Event → List Runner → Type 0
+KeepsIn s e rs = (k : ℕ) (now : Runner) (cred : Cred) → slice_get rs k ≡ Some now → now.life ≡ Live cred → Had s e k now.pid cred
+
+had-same : (s : Machine) (e : Event) → KeepsIn s e s.runners
+had-same s e k now cred is live = (now, is, refl, inl live)
+
+-- one process is set
+had-set : (s : Machine) (e : Event) (i : ℕ) (r : Runner) → ((cred : Cred) → r.life ≡ Live cred → Had s e i r.pid cred) → KeepsIn s e (slice_set s.runners i r)
+had-set s e i r own k now cred is live = by (cases_eq i k)
+  where
+    by : (i ≡ k) ⊎ (i ≢ k) → Had s e k now.pid cred
+    by (inl here) =
+        let there : slice_get (slice_set s.runners i r) i ≡ Some now = ap (slice_get (slice_set s.runners i r)) here ∙ is in
+        let same : r ≡ now = set-got s.runners i r now there in
+        let h = own cred (ap (λ (q : Runner). q.life) same ∙ live) in
+        (h.0, ap (slice_get s.runners) (sym here) ∙ h.1, h.2 ∙ ap (λ (q : Runner). q.pid) same, h.3)
+    by (inr apart) = had-same s e k now cred (sym (get-set_other s.runners i k r apart) ∙ is) live
+
+module _ (s : Machine) (pid : ℕ) (c : Caller) (live : caller_of s pid ≡ Some c) (e : Event) (own : e.pid ≡ pid) where
+  at : CallerAt 0 pid s.runners c
+  at = caller-at 0 pid s.runners c live
+
+  -- the caller has its credentials
+  mine : (cred : Cred) → Live c.cred ≡ Live cred → Had s e c.index c.pid cred
+  mine cred same =
+      let place : at.place ≡ c.index = omega (arith, at.at) in
+      (record { pid = pid; life = Live c.cred; pieces = c.pieces }, ap (slice_get s.runners) (sym place) ∙ at.there, sym at.own, inl same)
+
+  had-hands : (o : Outcome) → Hands s c e.call o → (e.reply ≡ o.reply) → KeepsIn s e o.state.runners
+  had-hands o (inl k) told = rw k.runners (had-same s e)
+  had-hands o (inr (inl k)) told = rw k.runners (had-set s e c.index (record { pid = c.pid; life = Live c.cred; pieces = pieces_with c k.seg k.segment k.flags k.base }) mine)
+  had-hands o (inr (inr (inl k))) told = rw k.runners (had-set s e c.index (record { pid = c.pid; life = k.life; pieces = filter k.stays c.pieces }) (λ cred lives. left cred lives k.who))
+    where
+      left : (cred : Cred) → k.life ≡ Live cred → (k.life ≡ Live c.cred) ⊎ (k.life ≡ Ended) → Had s e c.index c.pid cred
+      left cred lives (inl h) = mine cred (sym h ∙ lives)
+      left cred lives (inr h) = absurd (cc (sym h ∙ lives))
+  had-hands o (inr (inr (inr k))) told = rw k.runners (had-set s e k.index (record { pid = k.child; life = Live c.cred; pieces = c.pieces }) born)
+    where
+      old : Runner
+      old = get_or s.runners k.index first_runner
+
+      there : slice_get s.runners k.index ≡ Some (get_or s.runners k.index first_runner)
+      there = slice_get-get_or s.runners k.index first_runner (child_at k.child k.index s.runners k.unborn).within
+
+      named : (get_or s.runners k.index first_runner).pid ≡ k.child
+      named = (child_at k.child k.index s.runners k.unborn).named
+
+      life : (get_or s.runners k.index first_runner).life ≡ Unborn
+      life = sym (ap life_in there) ∙ (child_at k.child k.index s.runners k.unborn).unborn
+
+      born : (cred : Cred) → Live c.cred ≡ Live cred → Had s e k.index k.child cred
+      born cred same = (
+        get_or s.runners k.index first_runner,
+        there,
+        named,
+        inr (record {
+          life = life;
+          call = k.asked ∙ ap Fork (sym named);
+          reply = told ∙ k.answer;
+          parent = c;
+          live = ap (caller_of s) own ∙ live;
+          inherits = cc (sym same);
+        }),
+      )
+
+pub keeps-credentials : (s : Machine) (n : ℕ) (e : Event) (t : Machine) → IsMove s n e t → KeepsCredentials s e t
+keeps-credentials s n e t =
+    by-move s n e t (λ r u. KeepsCredentials s (record { pid = e.pid; call = e.call; reply = r }) u)
+    (λ c is. had-hands s e.pid c is (record { pid = e.pid; call = e.call; reply = (acts s n c e.call).reply }) refl (acts s n c e.call) (hands-acts s n c e.call) refl)
+    (λ r no. had-same s (record { pid = e.pid; call = e.call; reply = r }))
