@@ -35,7 +35,8 @@ class Result:
     whole: int = 0
 
     def skip(self, reason, count=1):
-        self.skipped[reason] = self.skipped.get(reason, 0) + count
+        if count:
+            self.skipped[reason] = self.skipped.get(reason, 0) + count
 
     def name(self, rule):
         self.by_rule[rule] = self.by_rule.get(rule, 0) + 1

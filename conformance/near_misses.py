@@ -48,7 +48,7 @@ def whole_stat(reply):
 
 
 def read_lines(number, line):
-    """The calls of a line: one, or so many, each a page behind the one before."""
+    """The calls of a line: one, or several, each one page after the one before."""
     found = LINE.fullmatch(line)
     if found is None:
         raise ValueError(f"near_misses.txt: line {number}: no such line: {line}")
@@ -97,7 +97,7 @@ def compare(table, lines):
 
 
 def said_of(table, history, line):
-    """The word for a call behind others, and whether the comparison ends with it."""
+    """The word for a call after others, and whether the comparison ends with it."""
     probe = Line(0, True, Command(0, "1 stat 99"), "1 stat 99", "EINVAL", "EINVAL", "agree")
     with_it = compare(table, [*history, line])
     more = with_it - compare(table, history)
@@ -106,7 +106,7 @@ def said_of(table, history, line):
 
 
 def wanted_of(line):
-    """The word that is wanted: behind a DIFFER nothing is compared but where both sides refused."""
+    """The word that is wanted. A DIFFER ends the comparison, except where both sides refused."""
     refused = [re.fullmatch("E[A-Z]+|SIG[A-Z]+", reply) for reply in (line.ours, line.theirs)]
     return line.word + ", ends" * (line.word == "DIFFER" and not all(refused))
 

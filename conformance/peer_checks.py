@@ -1,4 +1,4 @@
-"""What conformance/check asks of the peer beside its replies: who ends it, what it runs, and where its own memory is."""
+"""What conformance/check asks of the peer besides its replies: what ends it, what exec runs, and where its own memory is."""
 
 import os
 import re
@@ -43,7 +43,7 @@ def children(pid):
 
 
 def start_peer(peer, options, text, lines):
-    """A peer in mid-case: so many commands are made, and its output is more than a pipe takes that nobody reads."""
+    """A peer in mid-case: it made this number of commands, and waits, because nobody reads its output and a pipe takes no more."""
     script = tempfile.TemporaryFile()
     script.write(text.encode())
     script.seek(0)

@@ -21,7 +21,7 @@
     return [text(row, ".base"), texts(row, ".page"), boxes.map(isFramed), hatched.length, text(row, ".rights")];
   };
   const process = (it) => [text(it, ".name"), text(it, ".state"), isFramed(it.querySelector(".state")), all(it, ".piece").map(piece)];
-  // an area that is gone has no slots; behind the slots a text tells how many more there are
+  // an area that is gone has no slots; a text after the slots says how many more there are
   const area = (it) => [text(it, ".name"), all(it, ".cell").map(cell), texts(it, ".grid .key")];
   const hasBar = (it) => style(it.querySelector(".marks"), "::after").borderBottomStyle === "solid";
   const coloured = () => [

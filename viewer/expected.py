@@ -110,7 +110,7 @@ def slots_of(block, at):
 
 
 def areas(block, blocks):
-    """Returns for each area its name, its slots, and the text that lies behind them; as many are drawn at each step."""
+    """Returns for each area its name, its slots, and the text after them. Each step of a page shows the same number of slots."""
     shown = []
     for at, line in enumerate(lines_of(block, "area")):
         if line[2] == "gone":
