@@ -35,7 +35,8 @@ class Result:
     whole: int = 0
 
     def skip(self, reason, count=1):
-        self.skipped[reason] = self.skipped.get(reason, 0) + count
+        if count:
+            self.skipped[reason] = self.skipped.get(reason, 0) + count
 
     def name(self, rule):
         self.by_rule[rule] = self.by_rule.get(rule, 0) + 1
@@ -63,13 +64,16 @@ def against_rules(case, events):
 def against_peer(case, events, others, has_clock=False, has_system_limits=False):
     """Each command of the program beside the peer's, till the two are in different states."""
     result = Result(whole=len(events))
-    machine = Machine(case.limits, dict(case.users), has_clock, has_system_limits=has_system_limits)
+    slots = [int(word.split(":")[1]) for word in case.swap]
+    may_fail = any(word.startswith("fuse:") for word in case.swap)
+    machine = Machine(case.limits, dict(case.users), has_clock, has_system_limits=has_system_limits, areas=slots,
+                      may_fail=may_fail)
     for index, (command, event, other) in enumerate(zip(case.commands, events, others)):
         is_alike = compare_one(result, machine, command, event, other)
         if not is_alike:
             result.skip("behind a difference that changes the state", len(events) - index - 1)
             break
-        machine.follow(event)
+        machine.follow(event, other)
     return result
 
 

@@ -614,7 +614,39 @@ static void enter_namespace(void) {
     if (!is_root && processes[0].uid != 0) drop_capabilities();
 }
 
-static void on_interrupt(int signal) { (void)signal; }
+/* an interrupt ends the director at whatever moment it comes: it is held up till there is one, and handed on */
+static volatile sig_atomic_t director;
+static sigset_t interrupts;
+static void on_interrupt(int signal) {
+    int before = errno;
+    (void)signal;
+    if (director > 0) kill(director, SIGTERM);
+    errno = before;
+}
+
+static void hold_interrupts(void) {
+    sigemptyset(&interrupts);
+    for (int i = 0; i < 3; i++) sigaddset(&interrupts, (int[]){SIGINT, SIGTERM, SIGHUP}[i]);
+    sigprocmask(SIG_BLOCK, &interrupts, NULL);
+}
+
+static void take_interrupts(void) {
+    struct sigaction action = {.sa_handler = on_interrupt};
+    for (int i = 0; i < 3; i++) sigaction((int[]){SIGINT, SIGTERM, SIGHUP}[i], &action, NULL);
+    sigprocmask(SIG_UNBLOCK, &interrupts, NULL);
+}
+
+/* how the director ended; it is not handed anything from its end on */
+static int await_director(void) {
+    siginfo_t ended;
+    int status = 0;
+    while (waitid(P_PID, (id_t)director, &ended, WEXITED | WNOWAIT) == -1 && errno == EINTR) continue;
+    pid_t pid = director;
+    director = 0;
+    while (waitpid(pid, &status, 0) == -1 && errno == EINTR) continue;
+    return status;
+}
+
 static void open_guard(int *life) {
     int alive[2];
     FILE *record = tmpfile();
@@ -626,16 +658,19 @@ static void open_guard(int *life) {
 }
 
 static int guard(void) {
-    int life[2], status = 0;
-    struct sigaction action = {.sa_handler = on_interrupt};
+    int life[2];
     open_guard(life);
     prctl(PR_SET_CHILD_SUBREAPER, 1);
-    pid_t director = fork();
-    if (director == 0) direct(life);
+    hold_interrupts();
+    director = fork();
+    if (director == 0) {
+        sigprocmask(SIG_UNBLOCK, &interrupts, NULL);
+        direct(life);
+    }
     if (director == -1) fail(3, "fork: %s", strerror(errno));
-    for (int i = 0; i < 3; i++) sigaction((int[]){SIGINT, SIGTERM, SIGHUP}[i], &action, NULL);
+    take_interrupts();
     close(ALIVE_FD);
-    while (waitpid(director, &status, 0) == -1 && errno == EINTR) kill(director, SIGTERM);
+    int status = await_director();
     clean_up();
     if (WIFSIGNALED(status)) fprintf(stderr, "peer: ended by signal %d\n", WTERMSIG(status));
     return WIFEXITED(status) ? WEXITSTATUS(status) : 3;

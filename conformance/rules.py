@@ -13,6 +13,8 @@ from script import stat_words, without_clock
 PAGE = 4096
 LOWEST = 0x10000
 END = 0x7ffffffff000
+NUMBERS = 2 ** 64
+PIECES = 256
 INVALID_USER = 4294967295
 
 RULES = ("removed identifier", "locked pages", "lowest address", "end of addresses", "execute bits", "whole access",
@@ -27,9 +29,14 @@ class Segment:
     cuid: int
     cgid: int
     mode: int
-    pages: int
+    size: int
     locked_by: int | None = None
     locked_there_by: int | None = None
+    is_gone: bool = False
+
+    @property
+    def pages(self):
+        return -(-self.size // PAGE)
 
 
 @dataclass
@@ -62,15 +69,26 @@ class Machine:
     data: dict = field(default_factory=dict)        # (identifier, offset) -> (rule, Linux's byte, or None for any)
     marked: set = field(default_factory=set)
     has_system_limits: bool = False
+    areas: list = field(default_factory=list)       # for each area its slots, 0 where it is gone
+    may_fail: bool = False                          # whether an area fails
 
     def time(self, place):
         return str(place) if self.has_clock else "set"
 
-    def follow(self, event):
-        """Takes in an event of the program."""
+    @property
+    def live(self):
+        return [segment for segment in self.segments.values() if not segment.is_gone]
+
+    def segment(self, word):
+        """The segment of an identifier, None where there is none, or none any more."""
+        segment = self.segments.get(number_of(word))
+        return None if segment is None or segment.is_gone else segment
+
+    def follow(self, event, other):
+        """Takes in an event of the program, and what the peer answered."""
         act = getattr(self, "follow_" + event.word, None)
         if event.word in ("store", "xadd"):
-            self.follow_write(event)
+            self.follow_write(event, other)
         elif act and not event.is_refused:
             act(event, *event.operands)
         self.sweep()
@@ -81,6 +99,10 @@ class Machine:
         for name in [name for name in self.marked if name not in held]:
             self.unlock(name)
             self.marked.discard(name)
+            self.segments[name].is_gone = True
+
+    def follow_swapoff(self, _event, area):
+        self.areas[int(area)] = 0
 
     def unlock(self, name):
         self.segments[name].locked_by = self.segments[name].locked_there_by = None
@@ -93,7 +115,7 @@ class Machine:
         name = int(event.reply)
         if name not in self.segments:
             uid, gid = self.users[event.pid]
-            self.segments[name] = Segment(uid, gid, uid, gid, int(flags[:3], 8), -(-int(size) // PAGE))
+            self.segments[name] = Segment(uid, gid, uid, gid, int(flags[:3], 8), int(size))
 
     def follow_set(self, _event, name, uid, gid, mode):
         segment = self.segments[int(name)]
@@ -103,26 +125,14 @@ class Machine:
         base, name = number_of(event.reply), int(name)
         segment = self.segments[name]
         new = Piece(base, segment.pages, name, 0, "rdonly" not in flags)
-        for segment_cut, is_split in self.cut(event.pid, base, new.end):
+        self.pieces[event.pid], lost = cut(self.pieces.get(event.pid, []), base, new.end)
+        for segment_cut, is_split in lost:
             self.words.pop((segment_cut, "lpid"), None)
             if is_split:
                 self.words[segment_cut, "atime"] = ("time of remap", self.time(event.place))
         self.words.pop((name, "atime"), None)
         self.words.pop((name, "lpid"), None)
-        self.pieces.setdefault(event.pid, []).append(new)
-
-    def cut(self, pid, begin, end):
-        """Takes a range out of a process's pieces: each segment that lost pages, and whether a part stays."""
-        lost, kept = [], []
-        for piece in self.pieces.get(pid, []):
-            if piece.end <= begin or end <= piece.base:
-                kept.append(piece)
-                continue
-            rest = [part_of(piece, piece.base, begin), part_of(piece, end, piece.end)]
-            kept += [part for part in rest if part]
-            lost.append((piece.segment, any(rest)))
-        self.pieces[pid] = kept
-        return lost
+        self.pieces[event.pid].append(new)
 
     def follow_shmdt(self, event, address):
         address = number_of(address)
@@ -155,20 +165,21 @@ class Machine:
     def follow_unlock(self, _event, name):
         self.unlock(int(name))
 
-    def follow_write(self, event):
-        """A store that is refused leaves on Linux what it had written before."""
+    def follow_write(self, event, other):
+        """A store that is refused leaves on Linux what it had written before; an add reads all bytes before it writes one."""
         address = number_of(event.operands[0])
-        values = list(bytes.fromhex(event.operands[1])) if event.word == "store" else [None] * 8
-        rule = "failing pager" if event.reply == "SIGBUS" else "whole access" if event.is_refused else None
-        if event.reply == "ESRCH":
+        touched = [self.byte_at(event.pid, address + i) for i in range(length_of(event))]
+        if event.reply == "ESRCH" or other.is_skipped or event.word == "xadd" and None in touched:
             return
-        touched = [self.byte_at(event.pid, address + i) for i in range(len(values))]
-        is_known = event.word == "store" or not any(at and at[0] in self.data for at in touched)
-        for at, value in zip(touched, values):
+        ours, theirs = written_by(event, event), written_by(event, other)
+        rule = "failing pager" if event.reply == "SIGBUS" else "whole access" if event.is_refused else None
+        if rule is None and ours != theirs:
+            rule = self.rule_of_bytes(touched)
+        for at, here, there in zip(touched, ours, theirs):
             if at is None or not at[1]:
                 break
-            if rule or not is_known:
-                self.data[at[0]] = (rule or self.rule_of_bytes(touched), value)
+            if event.is_refused or here != there:
+                self.data[at[0]] = (rule, there)
             else:
                 self.data.pop(at[0], None)
 
@@ -181,6 +192,32 @@ class Machine:
             if piece.base <= address < piece.end:
                 return (piece.segment, address - piece.origin), piece.is_writable
         return None
+
+
+def length_of(event):
+    return len(event.operands[1]) // 2 if event.word == "store" else 8
+
+
+def written_by(event, side):
+    """The bytes that a store or an add writes where this is its answer; None for any, of an add that was refused."""
+    if event.word == "store":
+        return list(bytes.fromhex(event.operands[1]))
+    if side.is_refused:
+        return [None] * 8
+    return list(((int(side.reply) + int(event.operands[1])) % NUMBERS).to_bytes(8, "little"))
+
+
+def cut(pieces, begin, end):
+    """Pieces without a range: what is left, and for each that lost pages its segment, and whether a part stays."""
+    lost, kept = [], []
+    for piece in pieces:
+        if piece.end <= begin or end <= piece.base:
+            kept.append(piece)
+            continue
+        rest = [part_of(piece, piece.base, begin), part_of(piece, end, piece.end)]
+        kept += [part for part in rest if part]
+        lost.append((piece.segment, any(rest)))
+    return kept, lost
 
 
 def part_of(piece, begin, end):
@@ -200,24 +237,30 @@ def number_of(word):
 def classify(machine, event, other, command):
     """The rule that Linux's other reply to an event is by, and whether the two are alike from there on."""
     ours, theirs = event.reply, other.reply
-    if ours == "EIDRM" and theirs == "EINVAL":
+    if ours == "EIDRM" and theirs == "EINVAL" and is_removed(machine, event):
         return "removed identifier", True
-    if ours == "SIGBUS" and event.word in ("load", "store", "xadd") and not other.is_refused:
+    if ours == "SIGBUS" and machine.may_fail and event.word in ("load", "store", "xadd") and not other.is_refused:
         return "failing pager", True
     by_word = {"shmget": of_creation, "shmat": of_attach, "stat": of_stat, "set": of_set, "lock": of_lock,
                "load": of_load, "xadd": of_add}.get(event.word)
     return by_word(machine, event, other, command) if by_word else None
 
 
+def is_removed(machine, event):
+    """Whether the call names a segment that was made and is destroyed."""
+    has_identifier = event.word in ("shmat", "stat", "set", "rmid", "lock", "unlock")
+    segment = machine.segments.get(number_of(event.operands[0])) if has_identifier else None
+    return segment is not None and segment.is_gone
+
+
 def of_creation(machine, event, other, command):
-    if event.reply == "ENOMEM" and not other.is_refused:
-        return "reserved swap", False
-    if machine.has_system_limits and event.reply in ("ENOSPC", "EINVAL") and not other.is_refused:
-        return "limits of the system", False
-    if event.is_refused or other.reply != "EACCES":
+    if event.is_refused:
+        is_made = not other.is_refused and machine.segment(other.reply) is None
+        return of_refused_creation(machine, event) if is_made else None
+    if other.reply != "EACCES":
         return None
     uid, gid = machine.users[event.pid]
-    segment = machine.segments.get(int(event.reply))
+    segment = machine.segment(event.reply)
     if segment is None or uid == 0:
         return None
     wanted = int(event.operands[2][:3], 8)
@@ -226,20 +269,43 @@ def of_creation(machine, event, other, command):
     return ("execute bits", not command.has_variable) if is_wanted and not segment.mode >> shift & 1 else None
 
 
+def of_refused_creation(machine, event):
+    """Linux made a segment: by more pages than slots, or under limits of its own that are wider."""
+    size, held = int(event.operands[1]), sum(segment.pages for segment in machine.live)
+    pages = -(-size // PAGE)
+    if event.reply == "ENOMEM":
+        return ("reserved swap", False) if held + pages > sum(machine.areas) else None
+    largest, most_segments, most_pages = machine.limits[:3]
+    is_full = held + pages > most_pages or len(machine.live) >= most_segments
+    is_by_limits = event.reply == "EINVAL" and size > largest or event.reply == "ENOSPC" and is_full
+    return ("limits of the system", False) if machine.has_system_limits and is_by_limits else None
+
+
 def of_attach(machine, event, other, _command):
-    address = number_of(event.operands[1])
-    base = address - address % PAGE
-    segment = machine.segments.get(number_of(event.operands[0]))
-    pages = segment.pages if segment else 1
-    if event.reply == "EMFILE" and not other.is_refused:
-        return "number of pieces", False
-    if event.reply != "EINVAL" or address == 0:
+    address, flags = number_of(event.operands[1]), event.operands[2].split(",")
+    base, segment = address - address % PAGE, machine.segment(event.operands[0])
+    is_placed = address != 0 and (address == base or "rnd" in flags)
+    if segment is None or not is_placed and address != 0:
         return None
-    if base < LOWEST and (other.reply == "EPERM" or not other.is_refused):
+    at = None if other.is_refused else number_of(other.reply)
+    if at is not None and is_placed and at != base:
+        return None
+    if event.reply == "EMFILE" and at is not None:
+        kept, _lost = cut(machine.pieces.get(event.pid, []), at, at + segment.pages * PAGE)
+        return ("number of pieces", False) if len(kept) >= PIECES else None
+    if event.reply != "EINVAL" or not is_placed:
+        return None
+    if base < LOWEST and (other.reply == "EPERM" or at is not None):
         return "lowest address", other.is_refused
-    if base + pages * PAGE > END and other.reply == "ENOMEM":
-        return "end of addresses", True
-    return None
+    is_beyond = base + segment.pages * PAGE > END and not is_invalid_there(machine, event, base, segment)
+    return ("end of addresses", True) if is_beyond and other.reply == "ENOMEM" else None
+
+
+def is_invalid_there(machine, event, base, segment):
+    """Whether Linux refuses the range itself: without SHM_REMAP, one that passes 2^64 or meets another attach."""
+    end = base + segment.size
+    is_met = any(piece.base < end and base < piece.end for piece in machine.pieces.get(event.pid, []))
+    return "remap" not in event.operands[2] and (end >= NUMBERS or is_met)
 
 
 def of_stat(machine, event, other, _command):
@@ -267,21 +333,27 @@ def of_set(_machine, event, other, _command):
 
 def of_lock(machine, event, other, _command):
     """Linux counts for each user, not user 0, and refuses all with EPERM where the limit is 0."""
-    if event.reply != "ENOMEM":
+    segment = machine.segment(event.operands[0])
+    if event.reply != "ENOMEM" or segment is None or not exceeds_limit(machine, segment):
         return None
     name, (uid, _gid) = number_of(event.operands[0]), machine.users[event.pid]
     is_there = (name, "status") in machine.words
-    if other.reply == "ok" and (uid == 0 or is_there or fits_limit(machine, name, uid)):
+    if other.reply == "ok" and (uid == 0 or is_there or fits_limit(machine, segment, uid)):
         machine.words[name, "status"] = ("locked pages", "locked")
-        machine.segments[name].locked_there_by = machine.segments[name].locked_there_by if is_there else uid
+        segment.locked_there_by = segment.locked_there_by if is_there else uid
         return "locked pages", True
     return ("locked pages", True) if other.reply == "EPERM" and uid != 0 and machine.limits[4] == 0 else None
 
 
-def fits_limit(machine, name, uid):
-    held = sum(segment.pages for segment in machine.segments.values()
-               if uid in (segment.locked_by, segment.locked_there_by))
-    return held + machine.segments[name].pages <= machine.limits[4]
+def exceeds_limit(machine, segment):
+    """Whether the one limit of this project refuses the lock."""
+    held = sum(it.pages for it in machine.live if it.locked_by is not None)
+    return segment.locked_by is None and held + segment.pages > machine.limits[4]
+
+
+def fits_limit(machine, segment, uid):
+    held = sum(it.pages for it in machine.live if uid in (it.locked_by, it.locked_there_by))
+    return held + segment.pages <= machine.limits[4]
 
 
 def of_load(machine, event, other, _command):
@@ -300,7 +372,14 @@ def of_load(machine, event, other, _command):
 
 
 def of_add(machine, event, other, _command):
+    """The number that stood there differs by the bytes of which Linux has others, and by no other byte."""
     if event.is_refused or other.is_refused:
         return None
-    touched = [machine.byte_at(event.pid, number_of(event.operands[0]) + i) for i in range(8)]
-    return (machine.rule_of_bytes(touched), True) if any(at[0] in machine.data for at in touched) else None
+    touched = [machine.byte_at(event.pid, number_of(event.operands[0]) + i)[0] for i in range(8)]
+    rules = []
+    for at, ours, theirs in zip(touched, int(event.reply).to_bytes(8, "little"), int(other.reply).to_bytes(8, "little")):
+        rule, linux = machine.data.get(at, (None, ours))
+        if linux not in (None, theirs):
+            return None
+        rules += [rule] * (ours != theirs)
+    return (rules[0], True) if rules else None

@@ -1,30 +1,94 @@
-// Goes through the steps of a page by its keys, and leaves what is shown at each as text.
+// Uses a page as its reader does, and leaves as text what is seen: as it opens, at each step, and after each other move.
 "use strict";
 (() => {
-  const texts = (root, selector) => [...root.querySelectorAll(selector)].map((it) => it.innerText.trim());
+  const errors = [];
+  addEventListener("error", (event) => errors.push(event.message));
+  const byId = (id) => document.getElementById(id);
+  const all = (root, selector) => [...root.querySelectorAll(selector)];
+  const texts = (root, selector) => all(root, selector).map((it) => it.innerText.trim());
   const text = (root, selector) => texts(root, selector)[0];
-  const cells = (root) => [...root.querySelectorAll(".cell")].map((cell) => [text(cell, ".number"), text(cell, ".owner"), text(cell, ".marks") || ""]);
-  const piece = (row) => [text(row, ".base"), texts(row, ".page"), text(row, ".rights"), row.querySelectorAll(".page.ro").length];
+  const style = (it, part) => getComputedStyle(it, part);
+  // the colour of what changed: that of the sentences
+  const accent = style(byId("changes")).color;
+  const isFramed = (it) => style(it).boxShadow.includes(accent);
+  const isFilled = (row) => style(row).backgroundColor !== "rgba(0, 0, 0, 0)";
+  const colour = (it) => style(it).backgroundColor;
+
+  const cell = (it) => [text(it, ".number"), text(it, ".owner"), text(it, ".marks") || "", isFramed(it)];
+  const piece = (row) => {
+    const boxes = all(row, ".page");
+    const hatched = boxes.filter((it) => style(it).backgroundImage.startsWith("repeating-linear-gradient"));
+    return [text(row, ".base"), texts(row, ".page"), boxes.map(isFramed), hatched.length, text(row, ".rights")];
+  };
+  const process = (it) => [text(it, ".name"), text(it, ".state"), isFramed(it.querySelector(".state")), all(it, ".piece").map(piece)];
+  // an area that is gone has no slots; a text after the slots says how many more there are
+  const area = (it) => [text(it, ".name"), all(it, ".cell").map(cell), texts(it, ".grid .key")];
+  const hasBar = (it) => style(it.querySelector(".marks"), "::after").borderBottomStyle === "solid";
+  const coloured = () => [
+    ...all(document, ".piece").flatMap((row) => all(row, ".page").map((it) => [text(row, ".rights").split(/[ ,]/)[1], colour(it)])),
+    ...all(document, ".cell").filter((it) => text(it, ".owner")).map((it) => [text(it, ".owner").split("·")[0], colour(it)]),
+    ...all(document, "#segments tr").map((row) => [texts(row, "td")[1], colour(row.querySelector(".swatch"))]),
+  ];
+  const number = (it, name) => Number(it.getAttribute(name));
+  const chart = () => {
+    const lines = all(byId("chart"), "line:not(#here)");
+    const here = byId("here");
+    return {
+      paths: all(byId("chart"), "path").map((it) => [style(it).stroke, it.getAttribute("d")]),
+      axis: lines.map((it) => [it.previousElementSibling.textContent, number(it, "y1"), number(it, "x1"), number(it, "x2")]),
+      here: here && [number(here, "x1"), number(here, "x2"), here.nextElementSibling.textContent],
+      legend: all(byId("legend"), "li").map((it) => [it.innerText.trim(), style(it.querySelector("i")).borderTopColor]),
+    };
+  };
+  const replyStyle = () => all(byId("call"), ".reply").map((it) => [style(it).color === accent, style(it).fontWeight]);
   const shown = () => ({
     where: text(document, "#where"),
-    link: document.querySelector("#where").getAttribute("href"),
+    link: byId("where").getAttribute("href"),
+    title: document.title,
+    slider: ["max", "value"].map((name) => byId("slider")[name]),
+    disabled: ["back", "on"].map((id) => byId(id).disabled),
     call: text(document, "#call"),
+    reply: replyStyle(),
     changes: texts(document, "#changes li:not(.none)"),
-    processes: [...document.querySelectorAll(".process")].map((it) => [text(it, ".name"), text(it, ".state"), [...it.querySelectorAll(".piece")].map(piece)]),
-    frames: cells(document.querySelector("#frames")),
-    areas: [...document.querySelectorAll(".area")].map((it) => [text(it, ".name"), cells(it)]),
-    segments: [...document.querySelectorAll("#segments tr")].map((row) => texts(row, "td")),
-    counts: texts(document, "#legend .count"),
+    none: texts(document, "#changes li.none"),
+    processes: all(document, ".process").map(process),
+    frames: all(byId("frames"), ".cell").map(cell),
+    hands: all(byId("frames"), ".cell").filter(hasBar).map((it) => text(it, ".number")),
+    areas: all(document, ".area").map(area),
+    segments: all(document, "#segments tr").map((row) => [...texts(row, "td"), isFilled(row)]),
+    coloured: coloured(),
+    chart: chart(),
   });
-  const press = (key) => dispatchEvent(new KeyboardEvent("keydown", { key }));
-  const all = [];
-  press("Home");
+
+  // a name of a move is a key, with what is held beside it; a button; the slider's value; or what the address ends with
+  const press = (held, key) => !dispatchEvent(new KeyboardEvent("keydown", { key, cancelable: true, [held + "Key"]: true }));
+  const slide = (value) => {
+    byId("slider").value = value;
+    byId("slider").dispatchEvent(new Event("input"));
+  };
+  const follow = (hash) => {
+    history.replaceState(null, "", hash);
+    dispatchEvent(new Event("hashchange"));
+  };
+  const move = (name) => {
+    const [kind, what] = name.split(" ");
+    if (kind === "button") byId(what).click();
+    else if (kind === "slider") slide(what);
+    else if (kind === "address") follow(what);
+    else return press(kind, what);
+    return null;
+  };
+  const opened = shown();
+  const steps = [];
+  press("no", "Home");
   do {
-    all.push(shown());
-    press("ArrowRight");
-  } while (document.querySelector("#where").getAttribute("href") !== all.at(-1).link);
+    steps.push(shown());
+    press("no", "ArrowRight");
+  } while (byId("where").getAttribute("href") !== steps.at(-1).link);
+  const moves = JSON.parse(byId("moves-to-make").textContent);
+  const moved = moves.map((name) => [name, move(name), location.hash, shown()]);
   const told = document.createElement("pre");
   told.id = "collected";
-  told.textContent = JSON.stringify(all);
+  told.textContent = JSON.stringify({ opened, steps, moved, errors });
   document.body.replaceChildren(told);
 })();

@@ -33,7 +33,7 @@ def terminal(text, told):
     for block, (_number, said) in zip(text.split("\n\n"), told):
         step, action, *lines = block.split("\n")
         blocks.append("\n".join([step, action, *(f"    {line}" for line in said), *lines]))
-    return "\n\n".join(blocks) + "\n"
+    return "".join(block + "\n\n" for block in blocks)
 
 
 def main(how):

@@ -1,0 +1,122 @@
+"""Reads near_misses.txt, and says of each of its lines what the comparison makes of it."""
+
+import os
+import re
+from collections import Counter
+from dataclasses import dataclass, field
+
+from compare import against_peer
+from script import Case, Command, read_declaration, read_event
+
+HERE = os.path.dirname(os.path.abspath(__file__))
+LINE = re.compile(r"(?P<tried>\? )?(?:(?P<times>\d+) x )?(?P<pid>\d+) (?P<text>(?:[a-z] = )?(?P<call>[^=]*)) = "
+                  r"(?P<ours>.*?)(?: / (?P<theirs>.*?))?(?: : (?P<word>.*))?")
+STAT = "key=0x00000000 uid=100 gid=100 cuid=100 cgid=100 mode=600 status=- size=4096 cpid=1 lpid=1 nattch=0 " \
+    "atime=0 dtime=0 ctime=0"
+AFTER = "behind a difference that changes the state"
+PAGE = 4096
+
+
+@dataclass
+class Table:
+    rule: str
+    case: Case
+    has_clock: bool = False
+    has_system_limits: bool = False
+    lines: list = field(default_factory=list)
+
+
+@dataclass
+class Line:
+    """A call with both replies, and what is to be said of it."""
+
+    number: int
+    is_tried: bool
+    command: Command
+    call: str
+    ours: str
+    theirs: str
+    word: str
+
+
+def whole_stat(reply):
+    """A reply of stat with the words that were left out."""
+    if "=" not in reply:
+        return reply
+    words = dict(word.split("=") for word in STAT.split()) | dict(word.split("=") for word in reply.split())
+    return " ".join(f"{name}={value}" for name, value in words.items())
+
+
+def read_lines(number, line):
+    """The calls of a line: one, or several, each one page after the one before."""
+    found = LINE.fullmatch(line)
+    if found is None:
+        raise ValueError(f"near_misses.txt: line {number}: no such line: {line}")
+    ours, theirs = found["ours"], found["theirs"] or found["ours"]
+    word = found["word"] or ("skipped" if theirs.startswith("skipped") else "agree")
+    for at in range(int(found["times"] or 1)):
+        def move(text, by=PAGE * at):
+            return re.sub("0x[0-9a-f]+", lambda it: hex(int(it[0], 16) + by), text) if by else text
+        text, call = move(f"{found['pid']} {found['text']}"), move(f"{found['pid']} {found['call']}")
+        yield Line(number, bool(found["tried"]), Command(number, text), call, whole_stat(move(ours)), whole_stat(move(theirs)), word)
+
+
+def read_tables():
+    tables, is_new = [], True
+    with open(os.path.join(HERE, "near_misses.txt"), encoding="ascii") as file:
+        rows = file.read().splitlines()
+    for number, row in enumerate(rows, 1):
+        words = row.split()
+        if not words:
+            is_new = True
+        elif row.startswith("#"):
+            continue
+        elif is_new:
+            tables.append(Table(row, Case("near_misses", "")))
+            is_new = False
+        elif words[0] == "swap":
+            tables[-1].case.swap = words[1:]
+        elif row == "seconds":
+            tables[-1].has_clock = True
+        elif row == "system limits":
+            tables[-1].has_system_limits = True
+        elif not read_declaration(tables[-1].case, words):
+            tables[-1].lines += read_lines(number, row)
+    return tables
+
+
+def compare(table, lines):
+    """What the comparison counts of these calls, by its words."""
+    case = Case("near_misses", "", [line.command for line in lines], table.case.swap, table.case.limits, table.case.users)
+    sides = [[read_event(f"{place} {line.call} = {reply}") for place, (line, reply) in enumerate(zip(lines, replies), 1)]
+             for replies in ([line.ours for line in lines], [line.theirs for line in lines])]
+    result = against_peer(case, *sides, table.has_clock, table.has_system_limits)
+    behind = result.skipped.get(AFTER, 0)
+    return Counter(result.by_rule) + Counter({"agree": result.agree, "DIFFER": len(result.different), "ends": behind,
+                                              "skipped": sum(result.skipped.values()) - behind})
+
+
+def said_of(table, history, line):
+    """The word for a call after others, and whether the comparison ends with it."""
+    probe = Line(0, True, Command(0, "1 stat 99"), "1 stat 99", "EINVAL", "EINVAL", "agree")
+    with_it = compare(table, [*history, line])
+    more = with_it - compare(table, history)
+    ends = compare(table, [*history, line, probe])["ends"] - with_it["ends"]
+    return " and ".join(f"{word} {count}" if count > 1 else word for word, count in more.items()) + ", ends" * ends
+
+
+def wanted_of(line):
+    """The word that is wanted. A DIFFER ends the comparison, except where both sides refused."""
+    refused = [re.fullmatch("E[A-Z]+|SIG[A-Z]+", reply) for reply in (line.ours, line.theirs)]
+    return line.word + ", ends" * (line.word == "DIFFER" and not all(refused))
+
+
+def judged():
+    """Yields each line that has a word, with its table and with what the comparison says of it."""
+    for table in read_tables():
+        history = []
+        for line in table.lines:
+            if line.is_tried or line.word != "agree":
+                yield table, line, said_of(table, history, line)
+            if not line.is_tried:
+                history.append(line)

@@ -1,0 +1,168 @@
+"""What conformance/check asks of the peer besides its replies: what ends it, what exec runs, and where its own memory is."""
+
+import os
+import re
+import shutil
+import signal
+import subprocess
+import tempfile
+
+from running import FLAGS, HERE, PEER_SOURCE
+
+SEGMENTS = "/proc/sysvipc/shm"
+HEAD = "limits 65536 16 64 16 4\nprocess 1 {0} {1}\nchild 2\n".format(os.geteuid(), os.getegid())
+# more than a pipe takes: the peer waits till somebody reads it
+MANY = "1 stat 0\n" * 1000
+LONG = HEAD + "1 s = shmget private 4096 600\n1 shmat s null -\n1 fork 2\n" + "2 stat 0\n1 stat 0\n" * 1000
+# each of the guardian's calls takes its time
+SLOW = """#define _GNU_SOURCE
+#include <signal.h>
+#include <sys/wait.h>
+#include <unistd.h>
+static inline int slow_sigaction(int n, const struct sigaction *a, struct sigaction *b) { usleep(9000); return sigaction(n, a, b); }
+static inline int slow_mask(int how, const sigset_t *a, sigset_t *b) { usleep(9000); return sigprocmask(how, a, b); }
+static inline int slow_waitid(idtype_t t, id_t i, siginfo_t *s, int o) { usleep(30000); return waitid(t, i, s, o); }
+static inline pid_t slow_waitpid(pid_t p, int *s, int o) { usleep(30000); return waitpid(p, s, o); }
+#define sigprocmask slow_mask
+#define waitid slow_waitid
+#define waitpid slow_waitpid
+#define sigaction(...) slow_sigaction(__VA_ARGS__)
+"""
+
+
+def segments_of(pid):
+    """The system's segments that a process made."""
+    with open(SEGMENTS, encoding="ascii") as file:
+        rows = [line.split() for line in file.readlines()[1:]]
+    return {row[1] for row in rows if row[4] == str(pid)}
+
+
+def children(pid):
+    with open(f"/proc/{pid}/task/{pid}/children", encoding="ascii") as file:
+        return [int(word) for word in file.read().split()]
+
+
+def start_peer(peer, options, text, lines):
+    """A peer in mid-case: it made this number of commands, and waits, because nobody reads its output and a pipe takes no more."""
+    script = tempfile.TemporaryFile()
+    script.write(text.encode())
+    script.seek(0)
+    process = subprocess.Popen([peer, "--limit", "1"] + options, stdin=script, stdout=subprocess.PIPE,
+                               stderr=subprocess.PIPE, start_new_session=True, bufsize=0)
+    return process, [process.stdout.readline().decode() for _ in range(lines)]
+
+
+def end_of(process, needs_no_reader):
+    """What else a peer said that was ended. Till it is read the director waits, so that its end comes in mid-case; but it
+    finds a worker gone only when it goes on. All processes have closed their ends of the pipes then."""
+    try:
+        if needs_no_reader:
+            process.wait(timeout=30)
+    except subprocess.TimeoutExpired:
+        pass
+    return process.communicate(timeout=60)
+
+
+def check_killed(count, peer):
+    """Whoever of the peer's processes is ended: the others end, and no segment is left."""
+    table = (("guardian", signal.SIGKILL), ("guardian", signal.SIGTERM), ("group", signal.SIGINT),
+             ("director", signal.SIGKILL), ("worker", signal.SIGKILL), ("worker", signal.SIGSTOP))
+    for who, number in table:
+        for options in ([], ["--shared"]):
+            process, said = start_peer(peer, options, LONG, 3)
+            director = children(process.pid)[0]
+            worker = children(director)[0]
+            made = segments_of(worker)
+            target = {"guardian": process.pid, "group": -process.pid, "director": director, "worker": worker}[who]
+            os.kill(target, number)
+            rest, errors = end_of(process, who != "worker")
+            is_right = said[2] == "3 1 fork 2 = ok\n" and len(made) == len(options) and b"\n2003 1 stat" not in rest
+            is_right = is_right and process.returncode != 0 and not segments_of(worker)
+            count.take(is_right, f"{who} ended by {number.name} {options}: {said}, made {made}, "
+                       f"status {process.returncode}, {errors.decode(errors='replace')!r}")
+
+
+def check_interrupted(count, folder):
+    """An interrupt is not lost, at whatever place the guardian is: here it has made none of its calls but the fork, or some."""
+    header, peer = os.path.join(folder, "slow.h"), os.path.join(folder, "slow_peer")
+    with open(header, "w", encoding="ascii") as file:
+        file.write(SLOW)
+    words = ["cc", *FLAGS, "-Wno-unused-function", "-include", header, "-I", HERE, "-o", peer, PEER_SOURCE]
+    done = subprocess.run(words, capture_output=True, check=False)
+    if done.returncode:
+        count.take(False, f"a slow guardian was not built: {done.stderr.decode(errors='replace')[:300]}")
+        return
+    for lines in (1, 1, 2, 3):
+        process, _said = start_peer(peer, ["--shared"], LONG, lines)
+        [director] = children(process.pid)
+        worker = children(director)[0]
+        os.kill(process.pid, signal.SIGTERM)
+        rest, errors = end_of(process, True)
+        is_right = process.returncode == 3 and b"\n2003 1 stat" not in rest and not segments_of(worker)
+        count.take(is_right, f"a slow guardian ended by SIGTERM: status {process.returncode}, {errors.decode(errors='replace')!r}")
+
+
+def replies_of(said):
+    return [line.split(" = ", 1)[1] for line in said.decode("ascii", "replace").splitlines()]
+
+
+def check_own_memory(count, peer):
+    """Where the peer's own memory is nothing is attached, read or written; beside it everything is."""
+    process = subprocess.Popen([peer], stdin=subprocess.PIPE, stdout=subprocess.PIPE, stderr=subprocess.DEVNULL)
+    # it reads its whole script before it makes a process
+    begins = []
+    while not begins and process.poll() is None:
+        with open(f"/proc/{process.pid}/maps", encoding="ascii", errors="replace") as file:
+            begins = [int(line.split("-")[0], 16) for line in file if line.rstrip().endswith(peer)]
+    begin = min(begins, default=0)
+    calls = ((f"shmat 0 {begin:#x} -", "skip"), (f"shmat 0 {begin:#x} remap", "skip"), (f"shmat 0 {begin - 4096:#x} -", "skip"),
+             (f"load {begin:#x} 1", "skip"), (f"load {begin - 1:#x} 2", "skip"), (f"store {begin:#x} 00", "skip"),
+             (f"xadd {begin - 7:#x} 1", "skip"), (f"load {begin - 1:#x} 1", "SIGSEGV"),
+             (f"shmat 0 {begin - 8192:#x} -", f"{begin - 8192:#x}"), (f"store {begin - 1:#x} 2a", "ok"), (f"load {begin - 1:#x} 1", "2a"))
+    text = HEAD + "1 shmget private 8192 600\n" + "".join(f"1 {call}\n" for call, _ in calls)
+    said, _ = process.communicate(text.encode(), timeout=60)
+    wanted = ["0", *(reply.replace("skip", "skipped: the peer's own memory is there") for _, reply in calls)]
+    count.take(replies_of(said) == wanted, f"the peer's own memory: {replies_of(said)} where {wanted} is wanted")
+
+
+def check_bus_error(count, peer):
+    """A segment whose file is cut off under its attach: the system answers each access with SIGBUS."""
+    text = HEAD + "1 shmget private 4096 600\n1 shmat 0 0x50000000 -\n1 store 0x50000000 01\n" + MANY + \
+        "1 load 0x50000000 1\n1 store 0x50000000 02\n1 xadd 0x50000000 1\n1 load 0x50001000 1\n1 load 0x50000000 1\n1 shmdt 0x50000000\n"
+    process, _said = start_peer(peer, [], text, 3)
+    worker = children(children(process.pid)[0])[0]
+    try:
+        os.truncate(f"/proc/{worker}/map_files/50000000-50001000", 0)
+    except OSError as error:
+        process.communicate(timeout=60)
+        count.skip(1, f"an access that the system answers with SIGBUS: {error.strerror}")
+        return
+    rest, errors = process.communicate(timeout=60)
+    wanted = ["SIGBUS", "SIGBUS", "SIGBUS", "SIGSEGV", "SIGBUS", "ok"]
+    count.take(replies_of(rest)[-6:] == wanted and process.returncode == 0, f"a file that was cut off: {replies_of(rest)[-6:]}, {errors!r}")
+
+
+def check_exec(count, peer, folder, conform):
+    """Under an emulator, exec runs the emulator again: here a script of its name, which notes what it runs."""
+    emulator, log = os.path.join(folder, "qemu-none"), os.path.join(folder, "log")
+    for path, text, mode in ((emulator, f'#!/bin/sh\necho "$@" >> {log}\nexec "$@"\n', 0o755), (log, "", 0o666)):
+        with open(path, "w", encoding="ascii") as file:
+            file.write(text)
+        os.chmod(path, mode)
+    with open(os.path.join(HERE, "cases", "deferred_by_exec.shm"), encoding="ascii") as file:
+        execs = len(re.findall(r"^\d+ exec$", file.read(), re.M))
+    status, said = conform("deferred_by_exec", "--peer", emulator, peer)
+    with open(log, encoding="ascii") as file:
+        ran = file.read().splitlines()
+    wanted = [f"{peer} --limit 10 --exec {emulator} {peer}"] + [peer] * execs
+    is_right = status == 0 and execs > 0 and re.search(r"^deferred_by_exec: (agree|profile)", said, re.M) and ran == wanted
+    count.take(is_right, f"exec under an emulator: status {status}, ran {ran}, {said[:1000]}")
+
+
+def words_without_root():
+    """The words that run a command as an ordinary user, or none where that user has no namespace."""
+    words = ["setpriv", "--reuid=65534", "--regid=65534", "--clear-groups"]
+    if os.geteuid() != 0 or shutil.which("setpriv") is None or shutil.which("unshare") is None:
+        return None
+    done = subprocess.run([*words, "unshare", "--user", "--ipc", "true"], capture_output=True, check=False)
+    return words if done.returncode == 0 else None

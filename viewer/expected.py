@@ -1,0 +1,278 @@
+"""What is to be seen of each step of a page, by the record's own lines and the sentences written by hand.
+
+Nothing here uses what the page is made with: a record is read anew, as docs/SCRIPT.md lays it out.
+"""
+
+import os
+import re
+
+HERE = os.path.dirname(os.path.abspath(__file__))
+# of an area this many slots are drawn, if it has them, and each that a page has at some step
+FEWEST_SLOTS = 8
+REFUSALS = ("EPERM ENOENT ESRCH EIO EAGAIN ENOMEM EACCES EEXIST EINVAL EMFILE ENOSPC EIDRM SIGBUS SIGSEGV").split()
+# the lines of the chart, in the order of the legend, and the words of usage that they show
+LINES = (("pages in frames", "frames"), ("dirty", "dirty"), ("slots in use", "slots"), ("read from swap", "in"),
+         ("written to swap", "out"), ("failures", "failures"))
+KEYS = ("ArrowLeft", "ArrowRight", "Home", "End")
+# the lines of the chart lie beside each other where their counts are alike: by no more than this
+NUDGE = 5
+
+
+def read_sentences():
+    """Returns for each script what sentences.txt has of it: a list of sentences by the number of the step."""
+    told = {}
+    with open(os.path.join(HERE, "sentences.txt"), encoding="ascii") as file:
+        for line in file.read().splitlines():
+            head = re.fullmatch(r"(\w+) (\d+)", line)
+            if head:
+                said = told.setdefault(head[1], {}).setdefault(int(head[2]), [])
+            elif line and not line.startswith("#"):
+                said.append(line)
+    return told
+
+
+def read_blocks(record):
+    """Returns the record's blocks as lists of lines of words."""
+    return [[line.split() for line in block.splitlines()] for block in record.strip().split("\n\n") if block]
+
+
+def number_of(block):
+    return int(block[0][1])
+
+
+def lines_of(block, word):
+    return [line for line in block if line[0] == word]
+
+
+def segments_of(block):
+    return [line for line in block if line[0].startswith("0x")]
+
+
+def where_is(block, page):
+    """Where the page of a segment is, as the boxes of pieces say."""
+    for line in lines_of(block, "frame"):
+        if line[2:4] == page:
+            return "f" + line[1]
+    for line in lines_of(block, "slot"):
+        if line[3:5] == page:
+            return f"s{line[1]}:{line[2]}" if len(lines_of(block, "area")) > 1 else "s" + line[2]
+    return "0"
+
+
+def pieces_of(block):
+    """Returns for each process its line, and the lines of its pieces."""
+    found = []
+    for line in block:
+        if line[0] == "process":
+            found.append((line, []))
+        elif line[0] == "piece":
+            found[-1][1].append(line)
+    return found
+
+
+def piece(block, before, line, is_new):
+    _, base, seg, first, count, rights = line
+    pages = [[seg, str(int(first) + at)] for at in range(int(count))]
+    boxes = [f"{page} {where_is(block, [seg, page])}" for _, page in pages]
+    framed = [is_new or bool(before) and where_is(block, page) != where_is(before, page) for page in pages]
+    is_read_only = rights == "ro"
+    told = f"segment {seg}, {'read-only' if is_read_only else 'read and write'}"
+    return [base, boxes, framed, len(boxes) if is_read_only else 0, told]
+
+
+def processes(block, before):
+    """Returns for each process its name, its state and whether that is framed, and its pieces."""
+    shown = []
+    earlier = pieces_of(before) if before else None
+    for at, (line, pieces) in enumerate(pieces_of(block)):
+        state = {"unborn": "not born yet", "ended": "ended"}.get(line[2]) or f"uid {line[3]} gid {line[4]}"
+        was, had = earlier[at] if earlier else (line, pieces)
+        rows = [piece(block, before, its, its not in had) for its in pieces]
+        shown.append([f"process {line[1]}", state, line != was, rows])
+    return shown
+
+
+def frames(block):
+    """Returns for each frame its number, its page and its marks."""
+    [[_, count, _, hand]] = lines_of(block, "frames")
+    locked = {line[1] for line in segments_of(block) if "locked" in line[6].split(",")}
+    owned = {line[1]: line for line in lines_of(block, "frame")}
+    shown = []
+    for number in map(str, range(int(count))):
+        line = owned.get(number)
+        marks = ["R"] * (line[4][0] == "r") + ["D"] * (line[4][1] == "d") + ["L"] * (line[2] in locked) if line else []
+        shown.append([number, f"{line[2]}·{line[3]}" if line else "", " ".join(marks + ["☞"] * (number == hand))])
+    return shown
+
+
+def slots_of(block, at):
+    return {int(line[2]): f"{line[3]}·{line[4]}" for line in lines_of(block, "slot") if line[1] == str(at)}
+
+
+def areas(block, blocks):
+    """Returns for each area its name, its slots, and the text after them. Each step of a page shows the same number of slots."""
+    shown = []
+    for at, line in enumerate(lines_of(block, "area")):
+        if line[2] == "gone":
+            shown.append([f"swap area {at} is gone", [], []])
+            continue
+        owned, size = slots_of(block, at), int(line[2])
+        ever = [slot + 1 for it in blocks for slot in slots_of(it, at)]
+        drawn = min(size, max([FEWEST_SLOTS, *ever]))
+        cells = [[str(slot), owned.get(slot, ""), ""] for slot in range(drawn)]
+        rest = [f"and {size - drawn} more, free"] if drawn < size else []
+        shown.append([f"swap area {at}: {len(owned)} of {size} slots", cells, rest])
+    return shown
+
+
+def with_frames(cells, before):
+    """Returns the cells, each with whether it is framed: it is where anything in it changed."""
+    return [[*cell, before is not None and cell not in before] for cell in cells]
+
+
+def call(block):
+    words = block[1]
+    if words[0] == "start":
+        return "the machine as it opens"
+    if words[0] == "flush":
+        return f"flush round for at most {words[1]}: {words[3]} written, {words[5]} failed"
+    return f"{words[1]}. process {words[2]} {' '.join(words[3:])}"
+
+
+def count_of(block, word):
+    usage = [it.split("/")[0] for line in lines_of(block, "usage") for it in line]
+    return int(usage[usage.index(word) + 1])
+
+
+def segments(block, before):
+    """Returns the lines of the segments, each with whether its row is filled with colour: where the line is new."""
+    old = segments_of(before) if before else None
+    return [[*line, old is not None and line not in old] for line in segments_of(block)]
+
+
+def shown_at(blocks, at, told):
+    """Returns what is to be seen at a place of a page, but for the chart and the colours of segments."""
+    block, before = blocks[at], blocks[at - 1] if at else None
+    number, last = number_of(block), number_of(blocks[-1])
+    drawn = areas(block, blocks)
+    drawn_before = areas(before, blocks) if before else [[None, None, None] for _ in drawn]
+    changes = told.get(number, []) if before else []
+    is_refused = block[1][-1] in REFUSALS and block[1][0] == "call"
+    [[_, _, _, hand]] = lines_of(block, "frames")
+    return {
+        "where": f"step {number} of {last}",
+        "link": f"#step-{number}",
+        "title": f"step {number} of a run of shared memory",
+        "slider": [str(len(blocks) - 1), str(at)],
+        "disabled": [at == 0, at == len(blocks) - 1],
+        "call": call(block),
+        "reply": [[is_refused, "700"]],
+        "changes": changes,
+        "none": [] if changes else ["nothing moved" if before else "the first step shown"],
+        "processes": processes(block, before),
+        "frames": with_frames(frames(block), frames(before) if before else None),
+        "hands": [hand],
+        "areas": [[name, with_frames(cells, old), rest] for (name, cells, rest), (_, old, _) in zip(drawn, drawn_before)],
+        "segments": segments(block, before),
+    }
+
+
+def wrong_parts(seen, want):
+    return [f"{part}: {seen.get(part)} where {want[part]} is wanted" for part in want if seen.get(part) != want[part]]
+
+
+def wrong_colours(steps):
+    """Segments have one colour everywhere, and no two the same."""
+    seen = {}
+    for seg, colour in (pair for step in steps for pair in step["coloured"]):
+        seen.setdefault(seg, set()).add(colour)
+    colours = [next(iter(it)) for it in seen.values()]
+    is_right = all(len(it) == 1 for it in seen.values()) and len({*colours}) == len(colours)
+    return [] if is_right else [f"colours of segments: {seen}"]
+
+
+def corners(path):
+    """Returns the places of a line of the chart, step by step, and its heights there."""
+    found = re.fullmatch(r"M([\d.]+) (-?[\d.]+)((?: H[\d.]+ V-?[\d.]+)*)", path.strip())
+    if not found:
+        return [], []
+    rest = re.findall(r"H([\d.]+) V(-?[\d.]+)", found[3])
+    return [float(found[1]), *(float(x) for x, _ in rest)], [float(found[2]), *(float(y) for _, y in rest)]
+
+
+def wrong_line(path, counts, axis, most):
+    """A line's heights are its counts between the chart's two marks, all nudged alike; its steps lie evenly between the ends."""
+    (_, low, left, right), (_, high, _, _) = axis
+    places, heights = corners(path)
+    if len(heights) != len(counts):
+        return f"{len(heights)} corners for {len(counts)} steps"
+    nudges = [y - (low + (high - low) * count / most) for y, count in zip(heights, counts)]
+    gap = (right - left) / max(1, len(counts) - 1)
+    is_even = all(abs(x - left - gap * at) < .1 for at, x in enumerate(places))
+    is_high = max(nudges) - min(nudges) < .11 and max(map(abs, nudges)) < NUDGE and high < low
+    return "" if is_even and is_high else f"{path} where {counts} is wanted"
+
+
+def wrong_chart(chart, blocks, at):
+    """What is wrong with a chart: its two marks, the place of the step, the legend, or a line."""
+    counts = {word: [count_of(block, word) for block in blocks] for _, word in LINES}
+    most = max(1, *(max(it) for it in counts.values()))
+    axis, here = chart["axis"], chart["here"]
+    if [it[0] for it in axis] != ["0", str(most)]:
+        return [f"marks of the chart: {axis}"]
+    wrong = []
+    legend = [f"{name} {counts[word][at]}" for name, word in LINES]
+    if [told for told, _ in chart["legend"]] != legend:
+        wrong.append(f"legend: {chart['legend']} where {legend} is wanted")
+    strokes = [stroke for stroke, _ in chart["paths"]]
+    if strokes != [colour for _, colour in chart["legend"]] or len({*strokes}) != len(LINES):
+        wrong.append(f"colours of the chart: {strokes} and {chart['legend']}")
+    for (name, word), (_, path) in zip(LINES, chart["paths"]):
+        fault = wrong_line(path, counts[word], axis, most)
+        wrong += [f"chart of {name}: {fault}"] * bool(fault)
+    place = axis[0][2] + (axis[0][3] - axis[0][2]) * at / max(1, len(blocks) - 1)
+    is_here = here and abs(here[0] - place) < .1 and here[0] == here[1] and here[2] == str(number_of(blocks[at]))
+    return wrong if is_here else [*wrong, f"place in the chart: {here} where {place} is wanted"]
+
+
+def moves_of(blocks):
+    """Returns the moves that are tried on a page."""
+    if not blocks:
+        return ["no End", "no ArrowLeft", "button on", "button back", "slider 1", "address #step-1"]
+    slides = [f"slider {at}" for at in reversed(range(len(blocks)))]
+    named = [f"address #step-{number_of(blocks[at])}" for at in (len(blocks) // 2, -1)]
+    return ["no End", "no ArrowRight", "no ArrowLeft", "button back", "no Home", "no ArrowLeft", "button back", "button on",
+            "no ArrowRight", "ctrl ArrowRight", "alt ArrowRight", "meta End", "no x", *slides, *named,
+            "address #step-99999", *named[:1], "address #steps", "no End", "button on"]
+
+
+def place_after(name, at, blocks):
+    """Returns the place that a page is at after a move, by docs/SCRIPT.md: at its ends it stays."""
+    kind, what = name.split(" ")
+    last = len(blocks) - 1
+    if kind == "slider":
+        return int(what)
+    if kind == "address":
+        numbers = [f"#step-{number_of(block)}" for block in blocks]
+        return numbers.index(what) if what in numbers else 0
+    if kind in ("no", "button"):
+        step = {"ArrowLeft": at - 1, "back": at - 1, "ArrowRight": at + 1, "on": at + 1, "Home": 0, "End": last}
+        return min(last, max(0, step.get(what, at)))
+    return at
+
+
+def wrong_moves(moved, steps, blocks):
+    """Returns what is wrong after each move: another step than the one named, another address, or a key that is not taken."""
+    at, address, wrong = len(blocks) - 1, steps[-1]["link"], []
+    for name, was_taken, was_address, seen in moved:
+        kind, what = name.split(" ")
+        at = place_after(name, at, blocks)
+        is_taken = {"no": what in KEYS, "ctrl": False, "alt": False, "meta": False}.get(kind)
+        if kind == "address":
+            address = what
+        elif is_taken is not False:
+            address = steps[at]["link"]
+        wrong += [f"after {name}: {seen['where']}, not as at step {number_of(blocks[at])}"] * (seen != steps[at])
+        wrong += [f"{name} is taken: {was_taken}"] * (was_taken != is_taken)
+        wrong += [f"address after {name}: {was_address} where {address} is wanted"] * (was_address != address)
+    return wrong
