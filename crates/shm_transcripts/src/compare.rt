@@ -1,9 +1,9 @@
 //! The comparison of transcripts with a history. What a run with threads promises is what this finds: its workers
 //! themselves promise nothing.
-ghost use Rattle.std.specs.Prelude.{◌≡◌, ℕ, ◌↔◌, ◌<◌, ◌≤◌, IsNone, IsTrue, All, map, length, drop, true, slice_get};
+ghost use Rattle.std.specs.Prelude.{◌≡◌, ℕ, ◌↔◌, ◌<◌, ◌≤◌, IsTrue, All, map, length, drop, true, slice_get};
 ghost use Rattle.shm_base.specs.History.{own_part};
 ghost use Rattle.shm_text.specs.Variables.{no_values};
-ghost use Rattle.shm_transcripts.specs.Transcripts.{commands_of, Follows, transcript_events, is_fork_of, is_forked, is_child, pid_in, pid_of, HasLines, IsMarkAllowed, IsTranscript, IsAdmitted, AreTranscripts, is_answered, least_of, pid_at, AreListed, IsFound, IsLeastOf};
+ghost use Rattle.shm_transcripts.specs.Transcripts.{commands_of, Follows, transcript_events, is_fork_of, is_forked, is_child, pid_in, pid_of, HasLines, IsMarkAllowed, IsTranscript, IsAdmitted, is_answered, least_of, pid_at, IsFound, IsLeastOf};
 
 use crate::transcript::{Answer, Entry, Transcript};
 use shm_base::{Call, Errno, Event, Process, Reply, has_pid};
