@@ -1,5 +1,5 @@
-//! The comparison of transcripts with a history. What a run with threads promises is what this finds: its workers
-//! themselves promise nothing.
+//! The comparison of transcripts with a history. It ties what the workers of a run with threads did to the one history
+//! that the lock kept: each worker promises what it asked for, and this finds that the history has just those calls.
 ghost use Rattle.std.specs.Prelude.{◌≡◌, ℕ, ◌↔◌, ◌<◌, ◌≤◌, IsTrue, All, map, length, drop, true, slice_get};
 ghost use Rattle.shm_base.specs.History.{own_part};
 ghost use Rattle.shm_text.specs.Variables.{no_values};
