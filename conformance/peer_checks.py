@@ -14,6 +14,8 @@ HEAD = "limits 65536 16 64 16 4\nprocess 1 {0} {1}\nchild 2\n".format(os.geteuid
 # more than a pipe takes: the peer waits till somebody reads it
 MANY = "1 stat 0\n" * 1000
 LONG = HEAD + "1 s = shmget private 4096 600\n1 shmat s null -\n1 fork 2\n" + "2 stat 0\n1 stat 0\n" * 1000
+# as much, of a process that never is: no worker is asked, so nobody sees that the guardian is gone
+IDLE = HEAD + "1 s = shmget private 4096 600\n1 shmat s null -\n" + "2 stat 0\n" * 3000
 # each of the guardian's calls takes its time
 SLOW = """#define _GNU_SOURCE
 #include <signal.h>
@@ -81,6 +83,17 @@ def check_killed(count, peer):
             is_right = is_right and process.returncode != 0 and not segments_of(worker)
             count.take(is_right, f"{who} ended by {number.name} {options}: {said}, made {made}, "
                        f"status {process.returncode}, {errors.decode(errors='replace')!r}")
+
+
+def check_guardian_gone(count, peer):
+    """The guardian is killed while no worker is asked: the director removes what was made when the script is done."""
+    process, _said = start_peer(peer, ["--shared"], IDLE, 2)
+    worker = children(children(process.pid)[0])[0]
+    made = segments_of(worker)
+    os.kill(process.pid, signal.SIGKILL)
+    rest, errors = end_of(process, True)
+    is_right = len(made) == 1 and b"\n3002 2 stat" in rest and not segments_of(worker)
+    count.take(is_right, f"the guardian killed while no worker is asked: made {made}, {errors!r}, left {segments_of(worker)}")
 
 
 def check_interrupted(count, folder):
