@@ -117,7 +117,7 @@ def check_interrupted(count, folder):
 
 
 def replies_of(said):
-    return [line.split(" = ", 1)[1] for line in said.decode("ascii", "replace").splitlines()]
+    return [line.partition(" = ")[2] for line in said.decode("ascii", "replace").splitlines()]
 
 
 def check_own_memory(count, peer):
