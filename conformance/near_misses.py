@@ -58,7 +58,8 @@ def read_lines(number, line):
         def move(text, by=PAGE * at):
             return re.sub("0x[0-9a-f]+", lambda it: hex(int(it[0], 16) + by), text) if by else text
         text, call = move(f"{found['pid']} {found['text']}"), move(f"{found['pid']} {found['call']}")
-        yield Line(number, bool(found["tried"]), Command(number, text), call, whole_stat(move(ours)), whole_stat(move(theirs)), word)
+        replies = [whole_stat(move(reply)) for reply in (ours, theirs)]
+        yield Line(number, bool(found["tried"]), Command(number, text), call, *replies, word)
 
 
 def read_tables():

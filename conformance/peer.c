@@ -357,10 +357,14 @@ static void clean_up(void) {
     while (got > 0 && waitpid(-1, NULL, 0) > 0) continue;
 }
 
-/* then its work is done here */
-static void lose_guardian(void) {
+/* the director cleans up too, so that nothing is left where the guardian is killed */
+static void end_workers(void) {
     for (int i = 0; i < script.process_count; i++) close(processes[i].to);
     clean_up();
+}
+
+static void lose_guardian(void) {
+    end_workers();
     fail(3, "the guardian is gone");
 }
 
@@ -577,6 +581,7 @@ __attribute__((noreturn)) static void direct(int *life) {
     for (int fd = ALIVE_FD; fd < FIRST_FD + 2 * script.process_count; fd++) close(fd);
     for (int place = 1; place <= script.command_count; run_command(place++))
         while ((began[place] = time(NULL)) <= began[place - 1] && has_seconds) wait_a_little();
+    end_workers();
     exit(0);
 }
 

@@ -14,12 +14,15 @@ HEAD = "limits 65536 16 64 16 4\nprocess 1 {0} {1}\nchild 2\n".format(os.geteuid
 # more than a pipe takes: the peer waits till somebody reads it
 MANY = "1 stat 0\n" * 1000
 LONG = HEAD + "1 s = shmget private 4096 600\n1 shmat s null -\n1 fork 2\n" + "2 stat 0\n1 stat 0\n" * 1000
+# as much, of a process that never is: no worker is asked, so nobody sees that the guardian is gone
+IDLE = HEAD + "1 s = shmget private 4096 600\n1 shmat s null -\n" + "2 stat 0\n" * 3000
 # each of the guardian's calls takes its time
 SLOW = """#define _GNU_SOURCE
 #include <signal.h>
 #include <sys/wait.h>
 #include <unistd.h>
-static inline int slow_sigaction(int n, const struct sigaction *a, struct sigaction *b) { usleep(9000); return sigaction(n, a, b); }
+typedef const struct sigaction *act;
+static inline int slow_sigaction(int n, act a, struct sigaction *b) { usleep(9000); return sigaction(n, a, b); }
 static inline int slow_mask(int how, const sigset_t *a, sigset_t *b) { usleep(9000); return sigprocmask(how, a, b); }
 static inline int slow_waitid(idtype_t t, id_t i, siginfo_t *s, int o) { usleep(30000); return waitid(t, i, s, o); }
 static inline pid_t slow_waitpid(pid_t p, int *s, int o) { usleep(30000); return waitpid(p, s, o); }
@@ -43,7 +46,7 @@ def children(pid):
 
 
 def start_peer(peer, options, text, lines):
-    """A peer in mid-case: it made this number of commands, and waits, because nobody reads its output and a pipe takes no more."""
+    """A peer in mid-case: it made this number of commands, and waits because nobody reads what is more than a pipe takes."""
     script = tempfile.TemporaryFile()
     script.write(text.encode())
     script.seek(0)
@@ -82,8 +85,19 @@ def check_killed(count, peer):
                        f"status {process.returncode}, {errors.decode(errors='replace')!r}")
 
 
+def check_guardian_gone(count, peer):
+    """The guardian is killed while no worker is asked: the director removes what was made when the script is done."""
+    process, _said = start_peer(peer, ["--shared"], IDLE, 2)
+    worker = children(children(process.pid)[0])[0]
+    made = segments_of(worker)
+    os.kill(process.pid, signal.SIGKILL)
+    rest, errors = end_of(process, True)
+    is_right = len(made) == 1 and b"\n3002 2 stat" in rest and not segments_of(worker)
+    count.take(is_right, f"the guardian killed while no worker is asked: made {made}, {errors!r}, left {segments_of(worker)}")
+
+
 def check_interrupted(count, folder):
-    """An interrupt is not lost, at whatever place the guardian is: here it has made none of its calls but the fork, or some."""
+    """An interrupt is not lost, whatever the guardian does: here it made only its fork, or some more of its calls."""
     header, peer = os.path.join(folder, "slow.h"), os.path.join(folder, "slow_peer")
     with open(header, "w", encoding="ascii") as file:
         file.write(SLOW)
@@ -103,7 +117,7 @@ def check_interrupted(count, folder):
 
 
 def replies_of(said):
-    return [line.split(" = ", 1)[1] for line in said.decode("ascii", "replace").splitlines()]
+    return [line.partition(" = ")[2] for line in said.decode("ascii", "replace").splitlines()]
 
 
 def check_own_memory(count, peer):
@@ -115,20 +129,23 @@ def check_own_memory(count, peer):
         with open(f"/proc/{process.pid}/maps", encoding="ascii", errors="replace") as file:
             begins = [int(line.split("-")[0], 16) for line in file if line.rstrip().endswith(peer)]
     begin = min(begins, default=0)
-    calls = ((f"shmat 0 {begin:#x} -", "skip"), (f"shmat 0 {begin:#x} remap", "skip"), (f"shmat 0 {begin - 4096:#x} -", "skip"),
-             (f"load {begin:#x} 1", "skip"), (f"load {begin - 1:#x} 2", "skip"), (f"store {begin:#x} 00", "skip"),
-             (f"xadd {begin - 7:#x} 1", "skip"), (f"load {begin - 1:#x} 1", "SIGSEGV"),
-             (f"shmat 0 {begin - 8192:#x} -", f"{begin - 8192:#x}"), (f"store {begin - 1:#x} 2a", "ok"), (f"load {begin - 1:#x} 1", "2a"))
+    skip = "skipped: the peer's own memory is there"
+    below = f"{begin - 8192:#x}"
+    calls = ((f"shmat 0 {begin:#x} -", skip), (f"shmat 0 {begin:#x} remap", skip), (f"shmat 0 {begin - 4096:#x} -", skip),
+             (f"load {begin:#x} 1", skip), (f"load {begin - 1:#x} 2", skip), (f"store {begin:#x} 00", skip),
+             (f"xadd {begin - 7:#x} 1", skip), (f"load {begin - 1:#x} 1", "SIGSEGV"), (f"shmat 0 {below} -", below),
+             (f"store {begin - 1:#x} 2a", "ok"), (f"load {begin - 1:#x} 1", "2a"))
     text = HEAD + "1 shmget private 8192 600\n" + "".join(f"1 {call}\n" for call, _ in calls)
     said, _ = process.communicate(text.encode(), timeout=60)
-    wanted = ["0", *(reply.replace("skip", "skipped: the peer's own memory is there") for _, reply in calls)]
+    wanted = ["0", *(reply for _, reply in calls)]
     count.take(replies_of(said) == wanted, f"the peer's own memory: {replies_of(said)} where {wanted} is wanted")
 
 
 def check_bus_error(count, peer):
     """A segment whose file is cut off under its attach: the system answers each access with SIGBUS."""
     text = HEAD + "1 shmget private 4096 600\n1 shmat 0 0x50000000 -\n1 store 0x50000000 01\n" + MANY + \
-        "1 load 0x50000000 1\n1 store 0x50000000 02\n1 xadd 0x50000000 1\n1 load 0x50001000 1\n1 load 0x50000000 1\n1 shmdt 0x50000000\n"
+        "1 load 0x50000000 1\n1 store 0x50000000 02\n1 xadd 0x50000000 1\n1 load 0x50001000 1\n1 load 0x50000000 1\n" \
+        "1 shmdt 0x50000000\n"
     process, _said = start_peer(peer, [], text, 3)
     worker = children(children(process.pid)[0])[0]
     try:
@@ -139,7 +156,8 @@ def check_bus_error(count, peer):
         return
     rest, errors = process.communicate(timeout=60)
     wanted = ["SIGBUS", "SIGBUS", "SIGBUS", "SIGSEGV", "SIGBUS", "ok"]
-    count.take(replies_of(rest)[-6:] == wanted and process.returncode == 0, f"a file that was cut off: {replies_of(rest)[-6:]}, {errors!r}")
+    got = replies_of(rest)[-6:]
+    count.take(got == wanted and process.returncode == 0, f"a file that was cut off: {got}, {errors!r}")
 
 
 def check_exec(count, peer, folder, conform):

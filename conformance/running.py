@@ -93,7 +93,10 @@ class Peer:
             if event is None or event.place != len(events) + 1:
                 raise Stopped(f"the peer printed no event line: {line[:80]!r}")
             events.append(event)
-        status = process.wait(2 * self.limit)
+        try:
+            status = process.wait(2 * self.limit)
+        except subprocess.TimeoutExpired:
+            raise Stopped(f"the peer did not end in {2 * self.limit} seconds after its last line") from None
         message = text_of(said)
         self.notes.update(line for line in message if " note: " in line)
         faults = [line for line in message if " note: " not in line]

@@ -20,12 +20,14 @@
     const hatched = boxes.filter((it) => style(it).backgroundImage.startsWith("repeating-linear-gradient"));
     return [text(row, ".base"), texts(row, ".page"), boxes.map(isFramed), hatched.length, text(row, ".rights")];
   };
-  const process = (it) => [text(it, ".name"), text(it, ".state"), isFramed(it.querySelector(".state")), all(it, ".piece").map(piece)];
+  const state = (it) => [text(it, ".state"), isFramed(it.querySelector(".state"))];
+  const process = (it) => [text(it, ".name"), ...state(it), all(it, ".piece").map(piece)];
   // an area that is gone has no slots; a text after the slots says how many more there are
   const area = (it) => [text(it, ".name"), all(it, ".cell").map(cell), texts(it, ".grid .key")];
   const hasBar = (it) => style(it.querySelector(".marks"), "::after").borderBottomStyle === "solid";
+  const segment = (row) => text(row, ".rights").split(/[ ,]/)[1];
   const coloured = () => [
-    ...all(document, ".piece").flatMap((row) => all(row, ".page").map((it) => [text(row, ".rights").split(/[ ,]/)[1], colour(it)])),
+    ...all(document, ".piece").flatMap((row) => all(row, ".page").map((it) => [segment(row), colour(it)])),
     ...all(document, ".cell").filter((it) => text(it, ".owner")).map((it) => [text(it, ".owner").split("·")[0], colour(it)]),
     ...all(document, "#segments tr").map((row) => [texts(row, "td")[1], colour(row.querySelector(".swatch"))]),
   ];

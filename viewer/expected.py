@@ -110,7 +110,7 @@ def slots_of(block, at):
 
 
 def areas(block, blocks):
-    """Returns for each area its name, its slots, and the text after them. Each step of a page shows the same number of slots."""
+    """Returns for each area its name, its slots, and the text after them. Each step shows the same number of slots."""
     shown = []
     for at, line in enumerate(lines_of(block, "area")):
         if line[2] == "gone":
@@ -201,7 +201,7 @@ def corners(path):
 
 
 def wrong_line(path, counts, axis, most):
-    """A line's heights are its counts between the chart's two marks, all nudged alike; its steps lie evenly between the ends."""
+    """A line's heights are its counts, between the chart's two marks and all nudged alike; its steps lie evenly."""
     (_, low, left, right), (_, high, _, _) = axis
     places, heights = corners(path)
     if len(heights) != len(counts):
