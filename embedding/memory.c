@@ -1,6 +1,7 @@
 /* memory: each allocation of a call fails in turn: the answer is NOG_NO_MEMORY, nothing is changed, and the call made
-   again is done. Calls but nog_open, nog_get and nog_attach take no memory. It is linked with --wrap=malloc and
-   --wrap=realloc, so that the library's own allocations come here. */
+   again is done. Calls but nog_open, nog_get and nog_attach take no memory. A sparse area gives a page's memory back, with
+   nothing but zeros in it, once nobody needs the page. It is linked with --wrap for malloc, realloc and free, so that the
+   library's own allocations come here. */
 #include <stdlib.h>
 #include "testing.h"
 
@@ -9,16 +10,50 @@ static long left = NEVER;  /* how many allocations are done until one fails */
 
 void *__real_malloc(size_t size);
 void *__real_realloc(void *block, size_t size);
+void __real_free(void *block);
 void *__wrap_malloc(size_t size);
 void *__wrap_realloc(void *block, size_t size);
+void __wrap_free(void *block);
 
 static int is_refused(void) {
     if (left == NEVER) return 0;
     return left-- == 0;
 }
 
-void *__wrap_malloc(size_t size) { return is_refused() ? NULL : __real_malloc(size); }
+/* blocks of just a page: those of a sparse area */
+enum { MOST_PAGES = 64 };
+static uint8_t *pages[MOST_PAGES];
+
+static int live_pages(void) {
+    int live = 0;
+    for (int i = 0; i < MOST_PAGES; i++) live += pages[i] != NULL;
+    return live;
+}
+
+static uint8_t **place_of(const void *page) {
+    for (int i = 0; i < MOST_PAGES; i++) if (pages[i] == page) return &pages[i];
+    return NULL;
+}
+
+void *__wrap_malloc(size_t size) {
+    void *block = is_refused() ? NULL : __real_malloc(size);
+    uint8_t **place = block && size == PAGE ? place_of(NULL) : NULL;
+    if (place) *place = block;
+    return block;
+}
+
 void *__wrap_realloc(void *block, size_t size) { return is_refused() ? NULL : __real_realloc(block, size); }
+
+/* a page that goes has nothing but zeros in it */
+void __wrap_free(void *block) {
+    static const uint8_t zeros[PAGE];
+    uint8_t **place = block ? place_of(block) : NULL;
+    if (place) {
+        TEST(memcmp(block, zeros, PAGE) == 0);
+        *place = NULL;
+    }
+    __real_free(block);
+}
 
 /* what can be seen of a machine */
 struct shown {
@@ -126,6 +161,25 @@ static void fail_write(nog_machine *m) {
     ANSWER(nog_store(m, USER, at + 2 * PAGE, (const uint8_t *)"b", 1), NOG_DONE);
 }
 
+/* a sparse area has memory for the pages that it holds, and none once their segment is destroyed */
+static void give_back(nog_machine *m) {
+    static const nog_limits two_frames = {65536, 1, 6, 2, 0};
+    static const nog_area sparse = {NOG_SPARSE, 6};
+    nog_tally t;
+    int32_t id;
+    uint64_t at;
+    ANSWER(nog_open(m, &two_frames, &sparse, 1, &none, 0, processes, 3), NOG_DONE);
+    TEST(live_pages() == 0);
+    ANSWER(nog_get(m, USER, NOG_PRIVATE, 6 * PAGE, 0600, 0, &id), NOG_DONE);
+    ANSWER(nog_attach(m, USER, id, 0, 0, &at), NOG_DONE);
+    for (uint64_t i = 0; i < 6; i++) ANSWER(nog_store(m, USER, at + i * PAGE, (const uint8_t *)"a", 1), NOG_DONE);
+    TEST(live_pages() == 4);
+    ANSWER(nog_detach(m, USER, at), NOG_DONE);
+    ANSWER(nog_remove(m, USER, id), NOG_DONE);
+    ANSWER(nog_tally_of(m, &t), NOG_DONE);
+    TEST(t.used == 0 && live_pages() == 0);
+}
+
 int main(void) {
     static const struct { step make; int takes_memory; } steps[] = {
         {get, 1}, {attach, 1}, {fork_child, 0}, {store, 0}, {add, 0}, {set, 0}, {flush, 0}, {detach, 0}, {exec, 0},
@@ -135,6 +189,7 @@ int main(void) {
     fail_each(&machine, open_usual, 1);
     for (size_t i = 0; i < sizeof steps / sizeof *steps; i++) fail_each(&machine, steps[i].make, steps[i].takes_memory);
     fail_write(&machine);
+    give_back(&machine);
     ANSWER(nog_close(&machine), NOG_DONE);
     return finish("memory");
 }
