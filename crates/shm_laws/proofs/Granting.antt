@@ -1,11 +1,11 @@
 -- Each piece goes back to a shmat that was granted, and each move keeps out who has no permission.
-use Rattle.shm_laws.proofs.Names.{◌≡◌, ◌⊎◌, ℕ, ◌+◌, ◌*◌, ◌%◌, ◌<◌, ℤ, Bool, true, false, not, List, [], ◌∷◌, ◌++◌, length, get_or, Option, Some, None, slice_get, slice_set, refl, sym, ap, subst, ◌∙◌, inl, inr, arith, true≢false, All, Contains, none-some, slice_get_within, get_or_from_slice_get, All-nil, All-append, All-filter, All-map, All-weaker, All-contains, Contains-get_or, flat_map-cons, common_steps, Call, Load, Store, Xadd, Done, Event, Place, covers, places, writable_places, Segment, Piece, Live, Runner, Machine, Opening, start_of, runner_at_start, pages_in, look, meets, part_below, part_above, parts, cut, inserted, Caller, Outcome, caller_of, acts, pieces_with, is_rdonly, controls, load, store, xadd, is_refusal, IsMove, IsHistory, all-cons, all-head, all-tail, all-slice_set, HasPiece, EachPiece, IsPart, IsGranted, IsInherited, GoesBack, Granted, Kept, Inherited, Reach, StaysInside, controlled, OwnerAsks, KeepsOut, KeepsCredentials, MayAsk, NoWayIn, ShmidDs, pos, negsuc, stat, wish_of, grants, not-false, Look, Found, Removed, Invalid, Stands, IsCreated}
+use Rattle.shm_laws.proofs.Names.{◌≡◌, ◌⊎◌, ℕ, ◌+◌, ◌*◌, ◌%◌, ◌<◌, ℤ, Bool, true, false, not, List, [], ◌∷◌, ◌++◌, length, get_or, Option, Some, None, slice_get, slice_set, refl, sym, ap, subst, ◌∙◌, inl, inr, arith, true≢false, All, Contains, none-some, slice_get_within, get_or_from_slice_get, All-nil, All-append, All-filter, All-map, All-weaker, All-contains, Contains-get_or, flat_map-cons, common_steps, Call, Load, Store, Xadd, Done, Event, Place, covers, places, writable_places, Segment, Piece, Live, Runner, Machine, Opening, start_of, runner_at_start, pages_in, look, meets, part_below, part_above, parts, cut, inserted, Caller, Outcome, caller_of, acts, pieces_with, is_rdonly, controls, load, store, xadd, is_refusal, IsMove, IsHistory, all-cons, all-head, all-tail, all-slice_set, HasPiece, EachPiece, IsPart, IsGranted, IsInherited, GoesBack, Granted, Kept, Inherited, Reach, StaysInside, controlled, OwnerAsks, KeepsOut, KeepsCredentials, MayAsk, NoWayIn, ShmidDs, pos, negsuc, stat, wish_of, grants, not-false, Look, Found, Removed, Invalid, Stands, IsCreated, Swapoff, swapoff, IsUserZero, ◌==◌}
 use Rattle.shm_laws.proofs.Accessing.{lies-in, place-of, writable-at, writable-parts}
 use Rattle.shm_laws.proofs.Handing.{CallerAt, caller-at, IsAligned, Attaches, Leaves, Forks, Hands, hands-acts}
 use Rattle.shm_laws.proofs.Inducting.{each_move, at_all_times}
 use Rattle.shm_laws.proofs.Looks.{found-own}
 use Rattle.shm_laws.proofs.Refusing.{by-move}
-use Rattle.shm_laws.proofs.Stepping.{pick_by}
+use Rattle.shm_laws.proofs.Stepping.{pick_by, is-zero}
 use Rattle.shm_laws.proofs.Fates.{IsMachineSound}
 use Rattle.shm_laws.proofs.Marking.{each_sound}
 use Rattle.shm_laws.proofs.Getting.{IsGot, GetsBy, gets-move}
@@ -266,20 +266,31 @@ module _ (s : Machine) (n pid : ℕ) (c : Caller) (live : caller_of s pid ≡ So
   reads-acts : (call : Call) (id : ℤ) (d : ShmidDs) → call ≡ calls.Stat id → (acts s n c call).reply ≡ replies.Stat d → Reads s pid id
   reads-acts call id d asked told = reads id d (ap (λ a. (acts s n c a).reply) (sym asked) ∙ told)
 
--- what is asked of one process, where the others' part is told of it
+  -- who takes an area away
+  takes : (area : ℕ) → (swapoff s c area).reply ≡ Done → IsUserZero s pid
+  takes area done =
+      pick_by (λ (o : Outcome). o.reply ≡ Done → IsUserZero s pid) (not (c.cred.uid == 0)) _ _ (λ h said. absurd (cc said))
+      (λ h said. (c, live, is-zero c.cred.uid (not-false (c.cred.uid == 0) h))) done
+
+  takes-acts : (call : Call) (area : ℕ) → call ≡ Swapoff area → (acts s n c call).reply ≡ Done → IsUserZero s pid
+  takes-acts call area asked done = takes area (ap (λ a. (acts s n c a).reply) (sym asked) ∙ done)
+
+-- all of it but what shmget answers
 record Keeps (s : Machine) (e : Event) : Type 0 where
   inside : StaysInside s e
   owner : (id : ℤ) → controlled e.call ≡ Some id → e.reply ≡ Done → OwnerAsks s e.pid id
   stat : (id : ℤ) (d : ShmidDs) → e.call ≡ calls.Stat id → e.reply ≡ replies.Stat d → Reads s e.pid id
+  swapoff : (area : ℕ) → e.call ≡ Swapoff area → e.reply ≡ Done → IsUserZero s e.pid
 
 keeps : (s : Machine) (n : ℕ) (e : Event) (t : Machine) → IsMove s n e t → Keeps s e
 keeps s n e t =
     by-move s n e t (λ r u. Keeps s (record { pid = e.pid; call = e.call; reply = r }))
-    (λ c is. record { inside = inside-acts s n e.pid c is e.call; owner = asks-acts s n e.pid c is e.call; stat = reads-acts s n e.pid c is e.call })
+    (λ c is. record { inside = inside-acts s n e.pid c is e.call; owner = asks-acts s n e.pid c is e.call; stat = reads-acts s n e.pid c is e.call; swapoff = takes-acts s n e.pid c is e.call })
     (λ r no. record {
       inside = λ clear x reached k lt. absurd (true≢false (sym no ∙ clear));
       owner = λ id is done. absurd (true≢false (sym no ∙ ap is_refusal done));
       stat = λ id d asked told. absurd (true≢false (sym no ∙ ap is_refusal told));
+      swapoff = λ area asked done. absurd (true≢false (sym no ∙ ap is_refusal done));
     })
 
 -- who gets a segment that stood had what the mode asks for
@@ -300,6 +311,7 @@ keeps-out s n e t sound m =
       inside = k.inside;
       owner = k.owner;
       stat = k.stat;
+      swapoff = k.swapoff;
       get = λ key size mode id flags x asked told stood. got-granted s e.pid key mode id t x stood (gets-move s n e t sound.short m key size mode flags (pos id) asked told);
     }
 

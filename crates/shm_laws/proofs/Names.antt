@@ -47,7 +47,7 @@ pub use Rattle.shm_laws.specs.Identity.{IsMadeBy, IsSame, KeepsNames, NamesAnew,
 pub use Rattle.shm_laws.specs.Isolation.{DifferIn, HasNone, IsAsked, IsBlindOn, IsIsolated, IsPrivate, veil, veiled, veiled_entry, veiled_from}
 pub use Rattle.shm_laws.specs.Keys.{FindsByKey, HasKey, IsCreated, KeepsKeys, KeysAreApart, KeysLeadToOne}
 pub use Rattle.shm_laws.specs.Lawful.{IsLawful}
-pub use Rattle.shm_laws.specs.Permission.{GoesBack, Granted, Inherited, IsBornWith, IsGranted, IsInherited, IsPart, KeepsCredentials, KeepsOut, Kept, MayAsk, NoWayIn, OwnerAsks, Reach, StaysInside, controlled, reach}
+pub use Rattle.shm_laws.specs.Permission.{GoesBack, Granted, Inherited, IsBornWith, IsGranted, IsInherited, IsPart, IsUserZero, KeepsCredentials, KeepsOut, Kept, MayAsk, NoWayIn, OwnerAsks, Reach, StaysInside, controlled, reach}
 pub use Rattle.shm_laws.specs.Pieces.{CountsPieces, GivesPieces, PiecesAreOfSegments, PiecesNameWhatStands, hands_pieces, piece_count}
 pub use Rattle.shm_laws.specs.Removal.{AreRemoved, DestroysWhatIsDue, GoesWhenItMust, IsDue, IsMarked, IsRemoval, KeepsMarks, MarkedHavePieces, Removes}
 pub use Rattle.shm_laws.specs.Replay.{IsReplayed, undone, without_failures}

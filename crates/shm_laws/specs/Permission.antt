@@ -6,7 +6,7 @@ use Rattle.shm_base.specs.declared.owner.Want.{Want}
 use Rattle.shm_base.specs.declared.flags.GetFlags.{GetFlags}
 use Rattle.shm_base.specs.declared.flags.AtFlags.{AtFlags}
 use Rattle.shm_base.specs.declared.call.Call.{Call}
-use Rattle.shm_base.specs.declared.call.Call.TheVariants.{Shmget, Shmat, Set, Rmid, Lock, Unlock, Load, Store, Xadd, Fork}
+use Rattle.shm_base.specs.declared.call.Call.TheVariants.{Shmget, Shmat, Set, Rmid, Lock, Unlock, Load, Store, Xadd, Fork, Swapoff}
 use Rattle.shm_base.specs.declared.call.Call.TheVariants as calls
 use Rattle.shm_base.specs.declared.call.ShmidDs.{ShmidDs}
 use Rattle.shm_base.specs.declared.call.Reply.TheVariants.{Id, Addr, Done}
@@ -106,8 +106,13 @@ pub record MayAsk (s : Machine) (pid id : ℕ) (want : Want) : Type 0 where
   pub stands : Stands s id segment
   pub permitted : grants caller.cred segment.perm want ≡ true
 
--- a move reaches no byte outside the pieces of its process; set, rmid, lock and unlock are granted to owners alone; stat is
--- answered only to a process that may read, and a shmget with a segment that existed only to one that has what its mode asks for
+-- the process is user 0's
+abbrev pub IsUserZero : Machine → ℕ → Type 0
+IsUserZero s pid = (caller : Caller) × (caller_of s pid ≡ Some caller) × (caller.cred.uid ≡ 0)
+
+-- a move reaches no byte outside the pieces of its process; set, rmid, lock and unlock are granted to owners alone, and swapoff
+-- to user 0; stat is answered only to a process that may read, and a shmget with a segment that existed only to one that has
+-- what its mode asks for
 pub record KeepsOut (s : Machine) (e : Event) (t : Machine) : Type 0 where
   pub inside : StaysInside s e
   pub owner : (id : ℤ) → controlled e.call ≡ Some id → e.reply ≡ Done → OwnerAsks s e.pid id
@@ -117,6 +122,7 @@ pub record KeepsOut (s : Machine) (e : Event) (t : Machine) : Type 0 where
   pub get :
       (key size mode id : ℕ) (flags : GetFlags) (x : Segment) → e.call ≡ Shmget key size mode flags → e.reply ≡ Id (pos id)
       → Stands s id x → MayAsk s e.pid id (wish_of mode)
+  pub swapoff : (area : ℕ) → e.call ≡ Swapoff area → e.reply ≡ Done → IsUserZero s e.pid
 
 -- the event is a fork that made the process, and its parent had these credentials
 pub record IsBornWith (s : Machine) (e : Event) (unborn : Runner) (cred : Cred) : Type 0 where
