@@ -13,6 +13,8 @@ use std::thread::Threads;
 
 const TURNS: u64 = 1_000_000;
 
+const SETTLED: u64 = 20_000;
+
 /// Waits until a count is so high, for so many turns. False if it was not.
 pub(crate) fn comes_to(count: &AtomicU64, least: u64) -> bool {
     for _ in 0..TURNS {
@@ -22,6 +24,13 @@ pub(crate) fn comes_to(count: &AtomicU64, least: u64) -> bool {
         thread::yield_now();
     }
     false
+}
+
+// Lets the other threads run until they wait, for all that is known.
+fn others_run() {
+    for _ in 0..SETTLED {
+        thread::yield_now();
+    }
 }
 
 /// What a gate does.
@@ -41,8 +50,11 @@ pub(crate) enum Rule {
     ChildFirst,
     /// Has process 2 make its call while process 1 is told of its own.
     WhileTold,
-    /// Holds the flusher's first round until process 1 has made four calls.
-    BehindFour,
+    /// Holds the flusher's first round until process 1 has made so many calls.
+    Behind(u64),
+    /// Holds process 1 before its first call so long that all children wait, and before its third until another process
+    /// has made a call.
+    Waited,
 }
 
 /// Of which call a gate was asked last for a worker, and of which it was told.
@@ -126,6 +138,18 @@ impl Ruled {
         }
     }
 
+    // Lets others run before the first call, and waits before the third until one of them has made a call.
+    fn has_waited(&self, n: u64) -> bool {
+        match n {
+            1 => {
+                others_run();
+                true
+            }
+            3 => comes_to(&self.second.told, 1),
+            _ => true,
+        }
+    }
+
     fn note(&self, is_in_turn: bool) {
         if !is_in_turn {
             self.wrong.fetch_add(1, Ordering::SeqCst);
@@ -156,7 +180,8 @@ impl Gate for Ruled {
             Rule::Meet => comes_to(&self.turn(3u32.wrapping_sub(pid)).asked, n),
             Rule::ChildFirst => pid != 1 || n == 1 || comes_to(&self.second.told, 1),
             Rule::WhileTold => pid == 1 || comes_to(&self.first.told, 1),
-            Rule::BehindFour => pid != 0 || comes_to(&self.first.told, 4),
+            Rule::Behind(calls) => pid != 0 || comes_to(&self.first.told, calls),
+            Rule::Waited => pid != 1 || self.has_waited(n),
         }
     }
 
@@ -190,6 +215,8 @@ pub(crate) struct Noted {
     pub(crate) transcripts: usize,
     /// How many calls each of the first five transcripts has; 0 where there is none.
     pub(crate) calls: [usize; 5],
+    /// How many calls are marked: the host refused memory for them.
+    pub(crate) marked: usize,
     pub(crate) indexes: u32,
     pub(crate) tally: Tally,
     /// The last event's process and reply.
@@ -213,6 +240,18 @@ fn calls_of(transcripts: &[Transcript]) -> [usize; 5] {
     calls
 }
 
+fn marked_in(transcripts: &[Transcript]) -> usize {
+    let mut marked = 0usize;
+    for transcript in transcripts {
+        for entry in &transcript.entries {
+            if entry.answer.reply().is_none() {
+                marked = marked.saturating_add(1);
+            }
+        }
+    }
+    marked
+}
+
 fn last_of(world: &World<RamPager>) -> Option<(u32, Reply)> {
     let event = world.history().last()?;
     Some((event.pid, event.reply))
@@ -229,6 +268,7 @@ fn look(world: &mut World<RamPager>, transcripts: &[Transcript]) -> Noted {
         events: world.history().len(),
         transcripts: transcripts.len(),
         calls: calls_of(transcripts),
+        marked: marked_in(transcripts),
         indexes: world.system().indexes(),
         tally: world.tally(),
         last: last_of(world),
@@ -236,7 +276,7 @@ fn look(world: &mut World<RamPager>, transcripts: &[Transcript]) -> Noted {
     }
 }
 
-fn ended(run: Result<Outcome<RamPager>, RunError>) -> Result<Noted, RunError> {
+pub(crate) fn ended(run: Result<Outcome<RamPager>, RunError>) -> Result<Noted, RunError> {
     let Outcome {
         mut world,
         transcripts,
@@ -251,7 +291,18 @@ pub(crate) fn run_script<R: Threads + Wait + Sync, G: Gate>(
     script: &Script,
     gate: &G,
 ) -> Result<Result<Noted, RunError>, Fail> {
-    let world = world_over(alloc, script, RamPager::new(alloc, 64)?)?;
+    run_over(rt, alloc, script, 64, gate)
+}
+
+// What is seen behind a run over an area of so many slots.
+fn run_over<R: Threads + Wait + Sync, G: Gate>(
+    rt: &R,
+    alloc: Global,
+    script: &Script,
+    slots: u32,
+    gate: &G,
+) -> Result<Result<Noted, RunError>, Fail> {
+    let world = world_over(alloc, script, RamPager::new(alloc, slots)?)?;
     Ok(ended(run_threads(rt, alloc, world, script, gate)))
 }
 
@@ -284,6 +335,18 @@ pub(crate) fn seen_by<R: Threads + Wait + Sync>(
     rule: Rule,
 ) -> Result<Noted, Fail> {
     Ok(run_behind(rt, alloc, text, &Ruled::by(rule))??)
+}
+
+/// What is seen behind a run by this rule over an area of so many slots.
+pub(crate) fn seen_over<R: Threads + Wait + Sync>(
+    rt: &R,
+    alloc: Global,
+    text: &[u8],
+    slots: u32,
+    rule: Rule,
+) -> Result<Noted, Fail> {
+    let script = script(alloc, text)?;
+    Ok(run_over(rt, alloc, &script, slots, &Ruled::by(rule))??)
 }
 
 /// Why a run by this rule has no outcome.

@@ -1,6 +1,6 @@
 //! When a gate is asked and told, and how a run ends that a gate ends.
 use crate::behind::{Rule, Ruled, fault_by, run_behind, seen_by};
-use crate::runs::{FAMILY, TWO};
+use crate::runs::{FAMILY, TURNED, TWO};
 use shm_base::Reply;
 use shm_threads::RunError;
 use std::test::Fail;
@@ -47,6 +47,12 @@ const ENDED: &[(&str, &[u8], Rule, Option<RunError>)] = &[
     (
         "both of two",
         TWO,
+        Rule::Below(1),
+        Some(RunError::GateExpired { pid: 1 }),
+    ),
+    (
+        "both of two, the second declared first",
+        TURNED,
         Rule::Below(1),
         Some(RunError::GateExpired { pid: 1 }),
     ),

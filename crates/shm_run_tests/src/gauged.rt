@@ -19,7 +19,7 @@ struct Readings {
     ended: AtomicU64,
     /// How many were none that a world can have, or went back in events.
     wrong: AtomicU64,
-    /// Whether one was that of two pages which a round has written out behind four calls.
+    /// How many of two pages rounds have written out behind four calls, as was read last.
     flushed: AtomicU64,
     /// Whether the run has ended.
     done: AtomicU64,
@@ -39,14 +39,8 @@ impl Readings {
     }
 
     fn note(&self, last: u64, now: Reading) {
-        let flushed = Reading {
-            events: 4,
-            resident: 2,
-            dirty: 0,
-            used: 2,
-        };
-        if now == flushed {
-            self.flushed.store(1, Ordering::SeqCst);
+        if now.events == 4 && now.resident == 2 && now.dirty.checked_add(now.used) == Some(2) {
+            self.flushed.store(now.used, Ordering::SeqCst);
         }
         let is_sound = now.dirty <= now.resident && now.resident <= 4096 && now.used <= 65536;
         if now.events < last || !is_sound {
@@ -185,11 +179,12 @@ fn readings_beside_four_that_count(rt: HostRuntime) -> Result<(), Fail> {
     Ok(())
 }
 
-/// Lets the flusher's round come behind process 1's fourth call, and holds the flusher until what it published is
-/// read.
+/// Lets the flusher's rounds come behind process 1's fourth call, and holds the flusher after each until it is read that
+/// as many pages more were written out.
 struct UntilRead<'a> {
     behind: Ruled,
     readings: &'a Readings,
+    pages: u64,
 }
 
 impl Drop for UntilRead<'_> {
@@ -197,6 +192,7 @@ impl Drop for UntilRead<'_> {
         let UntilRead {
             behind: _,
             readings: _,
+            pages: _,
         } = self;
     }
 }
@@ -208,23 +204,36 @@ impl Gate for UntilRead<'_> {
 
     fn after(&self, pid: u32, n: u64) {
         self.behind.after(pid, n);
-        if pid == 0 && n == 1 {
-            self.readings.wait(&self.readings.flushed, 1);
+        if pid == 0 {
+            let written = self.pages.saturating_mul(n);
+            self.readings.wait(&self.readings.flushed, written);
         }
     }
 }
 
-#[test]
-fn a_round_is_published(rt: HostRuntime) -> Result<(), Fail> {
-    let text = late(rt.alloc(), 2)?;
+// How a run ends whose rounds of so many pages are each read.
+fn read_after_each<R: Threads + Wait + Sync>(
+    rt: &R,
+    alloc: Global,
+    rounds: &[u64],
+) -> Result<Ending, Fail> {
+    let text = late(alloc, rounds)?;
     let readings = Readings::none();
     let gate = UntilRead {
-        behind: Ruled::by(Rule::BehindFour),
+        behind: Ruled::by(Rule::Behind(4)),
         readings: &readings,
+        pages: *rounds.first().ok_or("a round")?,
     };
-    let ending = over_memory(&rt, rt.alloc(), &text, &gate, &readings, 0)?;
-    assert!(rt; ending.fault.is_none());
-    assert_eq!(rt; (ending.events, ending.late), (4, 0));
+    over_memory(rt, alloc, &text, &gate, &readings, 0)
+}
+
+#[test]
+fn each_round_is_published(rt: HostRuntime) -> Result<(), Fail> {
+    for rounds in [[2].as_slice(), [1, 1].as_slice()] {
+        let ending = read_after_each(&rt, rt.alloc(), rounds)?;
+        assert!(rt; ending.fault.is_none(), "of {}", rounds.len());
+        assert_eq!(rt; (ending.events, ending.late), (4, 0));
+    }
     Ok(())
 }
 
@@ -314,8 +323,8 @@ fn readings_while_a_call_holds_the_lock(rt: HostRuntime) -> Result<(), Fail> {
 
 #[test]
 fn readings_while_the_flusher_holds_the_lock(rt: HostRuntime) -> Result<(), Fail> {
-    let text = late(rt.alloc(), 2)?;
-    let ending = over_a_waiting_pager(&rt, rt.alloc(), &text, Rule::BehindFour)?;
+    let text = late(rt.alloc(), &[2])?;
+    let ending = over_a_waiting_pager(&rt, rt.alloc(), &text, Rule::Behind(4))?;
     assert!(rt; ending.fault.is_none());
     assert_eq!(rt; (ending.events, ending.late), (4, 0));
     Ok(())

@@ -8,4 +8,5 @@ mod gates;
 #[cfg(test)]
 mod gauged;
 #[cfg(test)]
+mod refused;
 mod runs;

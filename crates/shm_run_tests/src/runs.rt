@@ -1,5 +1,5 @@
 //! Whole runs: whatever the schedule, they end as stated.
-use crate::behind::{Rule, Ruled, fault_behind, script, seen_by};
+use crate::behind::{Rule, Ruled, fault_behind, script, seen_by, seen_over};
 use shm_base::{Chunk, Reply, Tally};
 use shm_text::{FlushLine, Line, Script};
 use shm_threads::RunError;
@@ -11,6 +11,10 @@ use std::thread::Threads;
 pub(crate) const TWO: &[u8] =
     b"limits 65536 16 64 4 1\nprocess 1 100 100\nprocess 2 100 100\n1 shmget private 1 600\n1 shmget private 1 600\n2 shmget private 1 600\n2 shmget private 1 600\n";
 
+/// The second process is declared first.
+pub(crate) const TURNED: &[u8] =
+    b"limits 65536 16 64 4 1\nprocess 2 100 100\nprocess 1 100 100\n1 exec\n2 exec\n";
+
 const CHILD: &[u8] =
     b"limits 65536 16 64 4 1\nprocess 1 100 100\nchild 2\n1 exit\n2 exit\n1 exit\n";
 
@@ -21,6 +25,10 @@ pub(crate) const FAMILY: &[u8] =
 /// A child forks another, and one is never born.
 const TREE: &[u8] =
     b"limits 65536 16 64 4 1\nprocess 1 100 100\nchild 2\nchild 3\nchild 4\nchild 5\n5 exit\n2 fork 4\n1 fork 2\n1 fork 3\n";
+
+/// Eight children wait. One of them is born, and the others never are.
+const WAITERS: &[u8] =
+    b"limits 65536 16 64 4 1\nchild 2\nchild 3\nchild 4\nchild 5\nchild 6\nchild 7\nchild 8\nchild 9\nprocess 1 100 100\n1 exec\n1 fork 8\n8 exec\n1 exec\n";
 
 const PAIR: &[u8] = b"limits 65536 16 64 4 1\nprocess 1 100 100\nprocess 2 100 100\n";
 
@@ -204,10 +212,14 @@ fn the_flusher_makes_its_rounds(rt: HostRuntime) -> Result<(), Fail> {
 const FOUR_CALLS: &[u8] =
     b"limits 65536 16 64 4 1\nprocess 1 100 100\n1 s = shmget private 8192 600\n1 a = shmat s null -\n1 store a+4094 01020304\n1 load a+4093 6\n";
 
-/// Four calls that leave two pages dirty, and a flush round of so many pages at most.
-pub(crate) fn late(alloc: Global, pages: u64) -> Result<Vec<u8>, Fail> {
-    let round = format!(in alloc; "0 flush {pages}\n")?;
-    repeated(alloc, FOUR_CALLS, round.as_bytes(), 1)
+/// Four calls that leave two pages dirty, and flush rounds of so many pages at most.
+pub(crate) fn late(alloc: Global, rounds: &[u64]) -> Result<Vec<u8>, Fail> {
+    let mut text = Vec::from_slice(alloc, FOUR_CALLS)?;
+    for pages in rounds {
+        let round = format!(in alloc; "0 flush {pages}\n")?;
+        text.extend_from_slice(round.as_bytes())?;
+    }
+    Ok(text)
 }
 
 /// Behind four calls and a round of one page.
@@ -245,8 +257,8 @@ fn counted_late<R: Threads + Wait + Sync>(
     alloc: Global,
     pages: u64,
 ) -> Result<Tally, Fail> {
-    let text = late(alloc, pages)?;
-    Ok(seen_by(rt, alloc, &text, Rule::BehindFour)?.tally)
+    let text = late(alloc, &[pages])?;
+    Ok(seen_by(rt, alloc, &text, Rule::Behind(4))?.tally)
 }
 
 #[test]
@@ -257,5 +269,40 @@ fn a_round_behind_the_last_call(rt: HostRuntime) -> Result<(), Fail> {
             "of {pages}"
         );
     }
+    Ok(())
+}
+
+const WIDE: &[u8] =
+    b"limits 524288 16 128 128 0\nprocess 1 100 100\n1 s = shmget private 266240 600\n1 a = shmat s null -\n";
+
+// A byte is stored in each of 65 pages, and a round asks for all of them.
+fn wide(alloc: Global) -> Result<Vec<u8>, Fail> {
+    let mut text = Vec::from_slice(alloc, WIDE)?;
+    for page in 0u32..65 {
+        let addr = page * 4096;
+        let line = format!(in alloc; "1 store a+{addr} 01\n")?;
+        text.extend_from_slice(line.as_bytes())?;
+    }
+    text.extend_from_slice(b"0 flush 65\n".as_slice())?;
+    Ok(text)
+}
+
+#[test]
+fn a_round_of_many_pages(rt: HostRuntime) -> Result<(), Fail> {
+    let alloc = rt.alloc();
+    let text = wide(alloc)?;
+    let seen = seen_over(&rt, alloc, &text, 128, Rule::Behind(67))?;
+    assert_eq!(rt; seen.events, 67);
+    assert_eq!(rt; (seen.tally.resident, seen.tally.dirty), (65, 0));
+    assert_eq!(rt; (seen.tally.used, seen.tally.outs), (65, 65));
+    Ok(())
+}
+
+// A parent waits for the call of the child that it forked, while seven others wait that are never born.
+#[test]
+fn a_fork_wakes_the_child(rt: HostRuntime) -> Result<(), Fail> {
+    let seen = seen_by(&rt, rt.alloc(), WAITERS, Rule::Waited)?;
+    assert_eq!(rt; seen.events, 4);
+    assert_eq!(rt; seen.transcripts, 9);
     Ok(())
 }

@@ -1,0 +1,55 @@
+//! A run of which the host refuses one allocation: none of its calls is lost, none is made twice, and nobody waits for
+//! ever. `rt try --test --fail-alloc N -- refused::` has the N-th allocation fail.
+use crate::behind::{Noted, Rule, Ruled, ended};
+use shm_history::{System, World};
+use shm_pager::RamPager;
+use shm_text::{Script, read_script};
+use shm_threads::{RunError, run_threads};
+use std::alloc::Global;
+use std::sync::Wait;
+use std::test::Fail;
+use std::thread::Threads;
+
+/// A child, which waits, its parent, and another process. Four of the eight lines take memory.
+const TAKERS: &[u8] =
+    b"limits 65536 16 64 4 1\nchild 3\nprocess 1 100 100\nprocess 2 100 100\n1 s = shmget private 4096 600\n1 a = shmat s null -\n1 store a 2a\n1 fork 3\n3 load 0x40000000 1\n2 t = shmget private 4096 600\n2 b = shmat t null -\n2 store b 2b\n";
+
+// Whether the run ended as it may: with an event of each call but a marked one, or before any call, or, where a thread
+// was refused, with no call of a process that is declared behind that one.
+fn is_as_it_may(run: &Result<Noted, RunError>, gate: &Ruled) -> bool {
+    let [_, _, parent, _, others, _, _] = gate.counts();
+    match run {
+        Ok(seen) => seen.marked <= 1 && seen.events.checked_add(seen.marked) == Some(8),
+        Err(RunError::HostMemory) => parent == 0 && others == 0,
+        Err(RunError::ThreadRefused) => parent > 0 || others == 0,
+        Err(_) => false,
+    }
+}
+
+fn opened(alloc: Global, script: &Script) -> Option<World<RamPager>> {
+    let mut pagers = Vec::new(alloc);
+    let pager = RamPager::new(alloc, 64).ok()?;
+    pagers.push(pager).ok()?;
+    let system = System::start(alloc, script.limits, pagers, &script.processes).ok()?;
+    Some(World::new(alloc, system))
+}
+
+// What is seen behind the run, or none where memory was refused before it.
+fn ran<R: Threads + Wait + Sync>(
+    rt: &R,
+    alloc: Global,
+    gate: &Ruled,
+) -> Option<Result<Noted, RunError>> {
+    let script = read_script(alloc, TAKERS).ok()?;
+    let world = opened(alloc, &script)?;
+    Some(ended(run_threads(rt, alloc, world, &script, gate)))
+}
+
+#[test]
+fn one_allocation(rt: HostRuntime) -> Result<(), Fail> {
+    let gate = Ruled::by(Rule::Open);
+    if let Some(run) = ran(&rt, rt.alloc(), &gate) {
+        assert!(rt; is_as_it_may(&run, &gate));
+    }
+    Ok(())
+}
