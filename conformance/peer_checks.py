@@ -150,7 +150,7 @@ def check_bus_error(count, peer):
     worker = children(children(process.pid)[0])[0]
     try:
         os.truncate(f"/proc/{worker}/map_files/50000000-50001000", 0)
-    except OSError as error:
+    except PermissionError as error:
         process.communicate(timeout=60)
         count.skip(1, f"an access that the system answers with SIGBUS: {error.strerror}")
         return

@@ -9,9 +9,10 @@
 
    ANSWERS. Each function but nog_version answers 0 or a code. Outputs are written where the answer is 0, and else they
    are left as they were; nog_read and nog_write say below what they leave. A call that is refused by an error of errno(3)
-   or by NOG_SIGSEGV changed nothing but the count of calls. NOG_SIGBUS and NOG_EIO name a swap area's failure: no byte of
-   a segment changed, nor a process, a segment or an attach, but pages may have come into frames or left them, and the
-   counts of the memory have risen. At a code from 2001 on the call changed nothing at all.
+   other than NOG_EIO, or by NOG_SIGSEGV, changed nothing but the count of calls. NOG_SIGBUS and NOG_EIO name a swap area's
+   failure: no byte of a segment changed, nor a process, a segment or an attach, but pages may have come into frames or left
+   them, and the counts of the memory may have risen. At a code from 2001 on the call changed nothing at all, but for what
+   nog_read and nog_write had done before NOG_SPENT.
 
    Each function that takes a machine answers NOG_CLOSED for a closed one (but nog_open, which opens it). Each call of a
    process, nog_get to nog_swapoff, answers NOG_SPENT where 2^64 - 1 calls were answered, and else NOG_ESRCH where no

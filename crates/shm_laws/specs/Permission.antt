@@ -133,7 +133,7 @@ pub record IsBornWith (s : Machine) (e : Event) (unborn : Runner) (cred : Cred) 
   pub live : caller_of s e.pid ≡ Some parent
   pub inherits : cred ≡ parent.cred
 
--- the process at each place is the same before and after; and one that is live had its credentials before, or is born with them
+-- a process that is live after a move had its place before it, and had its credentials there, or is born with them
 abbrev pub KeepsCredentials : Machine → Event → Machine → Type 0
 KeepsCredentials s e t =
     (k : ℕ) (now : Runner) (cred : Cred) → slice_get t.runners k ≡ Some now → now.life ≡ Live cred

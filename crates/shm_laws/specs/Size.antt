@@ -4,7 +4,7 @@ use Rattle.shm_base.specs.declared.call.Event.{Event}
 use Rattle.shm_base.specs.State.{Segment, Machine, Opening}
 use Rattle.shm_laws.specs.Standing.{Stands, EachMove, Always}
 
--- it has a size, and the fewest whole pages of bytes that hold so many
+-- it has a size, and the fewest whole pages of bytes that hold it
 pub record FillsPages (x : Segment) : Type 0 where
   pub some : 1 ≤ x.size
   pub whole : length x.bytes % 4096 ≡ 0

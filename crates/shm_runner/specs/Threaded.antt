@@ -27,7 +27,8 @@ abbrev pub have_mark : List Transcript → Bool
 have_mark transcripts = list_any (λ (t : Transcript). has_mark t.entries.items) transcripts
 
 -- the text of the world of a run that the script's processes made, each in its own order, and whether one of its calls is
--- marked out of memory. Each count of the world is one of a pager; over pagers that never fail no reply names a failure
+-- marked out of memory. Each count of the world is one of a pager, with which
+-- counts its areas began is not said; over pagers that never fail no reply names a failure
 pub record IsThreadedOutput {P : Type 0} (failed : P → ℕ) (marked : Bool) (script : ScriptView) (areas : List ℕ) (text : List ℕ) : Type 0 where
   pub world : WorldState
   pub transcripts : List Transcript

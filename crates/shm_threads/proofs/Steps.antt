@@ -68,6 +68,3 @@ pub next_round : (i : ℕ) (ls : List Line) (l : Line) (p : ℕ) → i < length 
 next_round i ls l p lt is round =
     let first : drop i ls ≡ Flush p ∷ drop (i + 1) ls = drop_more ls i l lt ∙ ap (λ x. x ∷ drop (i + 1) ls) (sym is ∙ round) in
     rw first refl
-
-pub no_round : (i : ℕ) (ls : List Line) → length ls ≤ i → rounds_of (drop i ls) ≡ []
-no_round i ls end = rw (drop_all i ls end) refl

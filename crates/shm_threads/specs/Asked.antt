@@ -23,7 +23,7 @@ Adds {A} before more after = (log : List A) → before log → after (log ++ mor
 
 -- What a worker asks for these command lines, from these variables and the n-th call on, where its calls had these
 -- entries. For each line: whether it may, the call, that it was answered; after an exit answered ok nothing; and where
--- an entry is missing it was told that it may not
+-- an entry is missing the answer was no
 abbrev pub asks_of : List (Option ℕ) → ℕ → List CommandView → List Entry → List Asked
 asks_of values n [] es = []
 asks_of values n (c ∷ cs) [] = Before n false ∷ []
@@ -51,7 +51,7 @@ pub record Works (before after : List Asked → Type 0) (lines : List CommandVie
   pub follows : MatchBool is_born (FollowsTo no_values lines entries whole) ((entries ≡ []) × (whole ≡ true))
   pub asked : Adds before (Born is_born ∷ (if is_born then asks_of no_values 1 lines entries else []) ++ Left ∷ []) after
 
--- What the flusher asks for: whether it may make its n-th round, a round of so many pages at most, and that it is made
+-- What the flusher asks for: whether it may make its n-th round, a round of at most this many pages, and that it is made
 pub data RoundAsked : Type 0 where
   May : (n : ℕ) → (may : Bool) → RoundAsked
   Round : (pages : ℕ) → RoundAsked
@@ -63,8 +63,8 @@ rounds_of [] = []
 rounds_of (Command c ∷ ls) = rounds_of ls
 rounds_of (Flush pages ∷ ls) = pages ∷ rounds_of ls
 
--- What the flusher asks for these rounds, from the n-th on, where so many are made: for each whether it may, the round,
--- that it is made; and where one is left it was told that it may not
+-- What the flusher asks for these rounds, from the n-th on, where this many are made: for each whether it may, the round,
+-- that it is made; and where one is left the answer was no
 abbrev pub asks_of_rounds : ℕ → List ℕ → ℕ → List RoundAsked
 asks_of_rounds n [] made = []
 asks_of_rounds n (p ∷ ps) zero = May n false ∷ []
