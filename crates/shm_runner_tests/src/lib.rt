@@ -4,6 +4,10 @@
 #[cfg(test)]
 mod ends;
 #[cfg(test)]
+mod flat;
+#[cfg(test)]
+mod rows;
+#[cfg(test)]
 mod sweeps;
 #[cfg(test)]
 mod threaded;

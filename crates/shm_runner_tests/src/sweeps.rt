@@ -1,7 +1,8 @@
-//! One call of a pager fails, at each place in turn. Whatever failed, the history is that of areas which
-//! never fail, where a load of nothing stands for each call that was refused for the failure; and every
-//! byte at the end is the same.
-use shm_base::{AccessLen, AtFlags, Call, Errno, Event, Reply, ShmId};
+//! One call of a pager fails, at each place in turn, without a swapoff and with one. Whatever failed, each call has the
+//! reply that it has on lists of bytes, where a call that was refused for the failure does nothing; and every byte at
+//! the end is the same.
+use crate::flat::Flat;
+use shm_base::{AccessLen, AtFlags, Call, Chunk, Errno, Event, Reply, ShmId};
 use shm_history::World;
 use shm_pager::{FusePager, MirrorPager, Pager, RamPager};
 use shm_program::{Values, open_world};
@@ -12,7 +13,13 @@ use std::sync::Wait;
 use std::test::Fail;
 use std::thread::Threads;
 
-const SLOTS: u32 = 16;
+/// How many slots the areas have. The first is too small for all pages, so that the second is used without a swapoff.
+const FIRST_SLOTS: u32 = 8;
+
+const SECOND_SLOTS: u32 = 16;
+
+/// How many segments there may be.
+const SHMMNI: u32 = 16;
 
 const MOST_PLACES: u64 = 1000;
 
@@ -24,11 +31,11 @@ const HEAD: &[u8] =
 const ROUND: &[u8] =
     b"1 xadd p 72340172838076673\n2 xadd p+4090 578437695752307201\n1 store p+8190 01020304\n1 xadd p+8191 506381209866536711\n2 xadd q+4093 1234567890123456789\n1 lock d\n1 xadd q+12280 81985529216486895\n2 load p+16350 64\n3 xadd 0x40000ffc 1311768467463790320\n2 xadd r+4090 1229782938247303441\n0 flush 2\n1 xadd s+100 1229782938247303442\n1 t = shmget private 4096 600\n1 u = shmat t null -\n1 xadd u+8 1085102592571150095\n1 rmid t\n1 xadd u+12 4294967297\n1 load u 64\n1 shmdt u\n3 load 0x40003ff0 64\n2 unlock d\n0 flush 1\n2 xadd p+20472 72340172838076674\n1 xadd q 6510615555426900570\n3 xadd 0x40007ff8 3617008641903833650\n2 xadd r+8184 289360691352306692\n1 load r 64\n1 xadd p+12284 8608480567731124087\n2 load q+8130 64\n3 store 0x40005ffe 0102030405\n2 xadd q+8192 7378697629483820646\n1 load p+4064 64\n0 flush 3\n";
 
-// Twelve rounds, and an area that is taken away in their middle.
-fn script(alloc: Global) -> Result<Script, Fail> {
+// Twelve rounds; where asked, an area is taken away in their middle.
+fn script(alloc: Global, swapoff: bool) -> Result<Script, Fail> {
     let mut text = Vec::from_slice(alloc, HEAD)?;
     for round in 0..12 {
-        if round == 6 {
+        if swapoff && round == 6 {
             text.extend_from_slice(b"1 swapoff 0\n".as_slice())?;
         }
         text.extend_from_slice(ROUND)?;
@@ -45,9 +52,9 @@ fn at(alloc: Global, place: u64) -> Result<Vec<u64>, Fail> {
     Ok(places)
 }
 
-// An area whose read and whose write at these places fail; 0 is none.
-fn fuse(alloc: Global, read: u64, write: u64) -> Result<FusePager<RamPager>, Fail> {
-    let ram = RamPager::new(alloc, SLOTS)?;
+// An area of so many slots whose read and whose write at these places fail; 0 is none.
+fn fuse(alloc: Global, slots: u32, read: u64, write: u64) -> Result<FusePager<RamPager>, Fail> {
+    let ram = RamPager::new(alloc, slots)?;
     Ok(FusePager::new(ram, at(alloc, read)?, at(alloc, write)?))
 }
 
@@ -95,13 +102,6 @@ fn ran<R: Threads + Wait + Sync, P: Pager + Send>(
     Ok(world)
 }
 
-// Two areas that never fail.
-fn sound(alloc: Global) -> Result<Vec<RamPager>, Fail> {
-    let first = RamPager::new(alloc, SLOTS)?;
-    let second = RamPager::new(alloc, SLOTS)?;
-    Ok(vec![in alloc; first, second]?)
-}
-
 fn opened<P: Pager>(alloc: Global, script: &Script, pagers: Vec<P>) -> Result<World<P>, Fail> {
     Ok(open_world(alloc, script, pagers).ok().ok_or("it starts")?)
 }
@@ -112,80 +112,44 @@ fn load(addr: u64, len: u64) -> Result<Call, Fail> {
 }
 
 // Whether a call was refused for a pager's failure.
-fn is_failure(reply: &Reply) -> bool {
-    matches!(reply, Reply::Refused(Errno::Sigbus | Errno::Eio))
+fn is_failure(call: &Call, reply: &Reply) -> bool {
+    match call {
+        Call::Load { .. } | Call::Store { .. } | Call::Xadd { .. } => {
+            matches!(reply, Reply::Refused(Errno::Sigbus))
+        }
+        Call::Swapoff { .. } => matches!(reply, Reply::Refused(Errno::Eio)),
+        _ => false,
+    }
 }
 
 fn called<P: Pager>(world: &mut World<P>, pid: u32, call: &Call) -> Result<Reply, Fail> {
     Ok(world.call(pid, call).ok().ok_or("memory")?)
 }
 
-// Whether the call has its reply here too. Where a pager failed, a load of nothing is made in its place.
-fn is_answered_alike(plain: &mut World<RamPager>, event: &Event) -> Result<bool, Fail> {
-    if is_failure(&event.reply) {
-        let nothing = load(0, 1)?;
-        let reply = called(plain, event.pid, &nothing)?;
-        return Ok(reply == Reply::Refused(Errno::Sigsegv));
-    }
-    let reply = called(plain, event.pid, &event.call)?;
-    Ok(reply == event.reply)
-}
-
-// Makes the calls of a history on a world over areas that never fail.
-fn replay(plain: &mut World<RamPager>, history: &[Event]) -> Result<(), Fail> {
+// Makes the calls of a history on lists of bytes, where each must have the same reply, and says how many of them were
+// refused for a failure.
+fn replay(flat: &mut Flat, history: &[Event]) -> Result<u64, Fail> {
+    let mut failed = 0u64;
     for event in history {
-        if !is_answered_alike(plain, event)? {
+        if is_failure(&event.call, &event.reply) {
+            flat.passes_over();
+            failed = failed.wrapping_add(1);
+        } else if flat.answer(event.pid, &event.call)? != event.reply {
             return Err("another reply".into());
         }
     }
-    Ok(())
+    Ok(failed)
 }
 
-// The calls of the history again, on areas that never fail.
-fn replayed<P: Pager>(
-    alloc: Global,
-    script: &Script,
-    world: &World<P>,
-) -> Result<World<RamPager>, Fail> {
-    let mut plain = opened(alloc, script, sound(alloc)?)?;
-    replay(&mut plain, world.history())?;
-    Ok(plain)
-}
-
-// The reply to process 1. A load that a pager's failure refused is made once more.
-fn reply<P: Pager>(world: &mut World<P>, call: &Call) -> Result<Reply, Fail> {
-    let reply = called(world, 1, call)?;
-    if is_failure(&reply) {
-        return called(world, 1, call);
+// Whether a load of process 1 answers the bytes, and how often it was refused for a failure: at most once.
+fn loaded<P: Pager>(world: &mut World<P>, addr: u64, bytes: &[u8]) -> Result<(bool, u64), Fail> {
+    let load = load(addr, 64)?;
+    let wanted = Reply::Bytes(Chunk::new(bytes).ok_or("1 to 64 bytes")?);
+    let reply = called(world, 1, &load)?;
+    if is_failure(&load, &reply) {
+        return Ok((called(world, 1, &load)? == wanted, 1));
     }
-    Ok(reply)
-}
-
-// Whether a load of process 1 has the same bytes in both.
-fn same_load<P: Pager>(
-    world: &mut World<P>,
-    plain: &mut World<RamPager>,
-    load: &Call,
-) -> Result<bool, Fail> {
-    let loaded = reply(world, load)?;
-    let wanted = reply(plain, load)?;
-    Ok(matches!(&wanted, Reply::Bytes(_)) && loaded == wanted)
-}
-
-// Whether the bytes at the address are the same in both, to the end of a segment of this size.
-fn same_bytes<P: Pager>(
-    world: &mut World<P>,
-    plain: &mut World<RamPager>,
-    base: u64,
-    size: u64,
-) -> Result<bool, Fail> {
-    for part in 0..size / 64 {
-        let load = load(base.wrapping_add(part.wrapping_mul(64)), 64)?;
-        if !same_load(world, plain, &load)? {
-            return Ok(false);
-        }
-    }
-    Ok(true)
+    Ok((reply == wanted, 0))
 }
 
 // Where process 1 attaches the segment.
@@ -201,56 +165,67 @@ fn attached<P: Pager>(world: &mut World<P>, id: ShmId) -> Result<u64, Fail> {
     }
 }
 
-// Whether the segment has the same bytes in both.
+// Whether the segment has these bytes, and how many loads of them were refused for a failure.
+fn has_bytes<P: Pager>(world: &mut World<P>, id: ShmId, bytes: &[u8]) -> Result<(bool, u64), Fail> {
+    let mut addr = attached(world, id)?;
+    let mut failed = 0u64;
+    for part in bytes.chunks(64) {
+        let (is_same, again) = loaded(world, addr, part)?;
+        if !is_same {
+            return Ok((false, failed));
+        }
+        failed = failed.wrapping_add(again);
+        addr = addr.wrapping_add(64);
+    }
+    Ok((true, failed))
+}
+
+// Whether the index has the same segment in both, with every byte, and how many loads were refused for a failure.
 fn same_segment<P: Pager>(
     world: &mut World<P>,
-    plain: &mut World<RamPager>,
-    id: ShmId,
-    size: u64,
-) -> Result<bool, Fail> {
-    let base = attached(world, id)?;
-    if attached(plain, id)? != base {
-        return Ok(false);
-    }
-    same_bytes(world, plain, base, size)
-}
-
-// Whether the segments are the same in both, with every byte.
-fn same_segments<P: Pager>(
-    world: &mut World<P>,
-    plain: &mut World<RamPager>,
-) -> Result<bool, Fail> {
-    for index in 0..world.system().indexes() {
-        let found = world.segment(index);
-        if found != plain.segment(index) {
-            return Ok(false);
-        }
-        if let Some((id, row)) = found {
-            if !same_segment(world, plain, id, row.size)? {
-                return Ok(false);
+    flat: &Flat,
+    index: u32,
+) -> Result<(bool, u64), Fail> {
+    match (world.segment(index), flat.segment(index)) {
+        (None, None) => Ok((true, 0)),
+        (Some((id, row)), Some((wanted, shown, bytes))) => {
+            if id != wanted || row != shown {
+                return Ok((false, 0));
             }
+            has_bytes(world, id, bytes)
         }
+        _ => Ok((false, 0)),
     }
-    Ok(true)
 }
 
-// How many failures the areas of a world have counted, where it has the segments and bytes of the plain one.
-fn counted<P: Pager>(world: &mut World<P>, plain: &mut World<RamPager>) -> Result<u64, Fail> {
-    if !same_segments(world, plain)? {
-        return Err("another byte".into());
+// How many loads were refused for a failure, where the segments are the same in both, with every byte.
+fn compared_segments<P: Pager>(world: &mut World<P>, flat: &Flat) -> Result<u64, Fail> {
+    let mut failed = 0u64;
+    for index in 0..SHMMNI {
+        let (is_same, again) = same_segment(world, flat, index)?;
+        if !is_same {
+            return Err("another segment or byte".into());
+        }
+        failed = failed.wrapping_add(again);
     }
-    Ok(world.tally().failures)
+    Ok(failed)
 }
 
-// The failures of a world whose calls have the same replies and leave the same bytes on areas that never
-// fail.
-fn compared<P: Pager>(alloc: Global, script: &Script, world: &mut World<P>) -> Result<u64, Fail> {
-    let mut plain = replayed(alloc, script, world)?;
-    counted(world, &mut plain)
+// The failures of a world whose calls have the replies of lists of bytes, and leave the same bytes. Of the loads that
+// compare them one may fail; and no more calls are refused for a failure than failures are counted.
+fn compared<P: Pager>(alloc: Global, world: &mut World<P>) -> Result<u64, Fail> {
+    let mut flat = Flat::new(alloc)?;
+    let refused = replay(&mut flat, world.history())?;
+    let loads = compared_segments(world, &flat)?;
+    let failures = world.tally().failures;
+    if loads > 1 || refused.wrapping_add(loads) > failures {
+        return Err("refused without a failure".into());
+    }
+    Ok(failures)
 }
 
-// Runs the script over the areas, compares it with its calls on areas that never fail, and says how many
-// failures there were.
+// Runs the script over the areas, compares it with its calls on lists of bytes, and says how many failures there
+// were.
 fn failures<R: Threads + Wait + Sync, P: Pager + Send>(
     rt: &R,
     alloc: Global,
@@ -259,7 +234,7 @@ fn failures<R: Threads + Wait + Sync, P: Pager + Send>(
     threaded: bool,
 ) -> Result<u64, Fail> {
     let mut world = ran(rt, alloc, script, pagers, threaded)?;
-    compared(alloc, script, &mut world)
+    compared(alloc, &mut world)
 }
 
 // Which calls fail: the reads or the writes of the first area, or of the second.
@@ -280,8 +255,8 @@ fn fuses(alloc: Global, failing: Failing, place: u64) -> Result<Vec<FusePager<Ra
         Failing::SecondWrites => ((0, 0), (0, place)),
     };
     let mut areas = Vec::with_capacity(alloc, 2)?;
-    areas.push(fuse(alloc, first.0, first.1)?)?;
-    areas.push(fuse(alloc, second.0, second.1)?)?;
+    areas.push(fuse(alloc, FIRST_SLOTS, first.0, first.1)?)?;
+    areas.push(fuse(alloc, SECOND_SLOTS, second.0, second.1)?)?;
     Ok(areas)
 }
 
@@ -289,13 +264,13 @@ fn fuses(alloc: Global, failing: Failing, place: u64) -> Result<Vec<FusePager<Ra
 fn each_fails<R: Threads + Wait + Sync>(
     rt: &R,
     alloc: Global,
+    script: &Script,
     threaded: bool,
     failing: Failing,
 ) -> Result<(), Fail> {
-    let script = script(alloc)?;
     for place in 1..MOST_PLACES {
         let areas = fuses(alloc, failing, place)?;
-        if failures(rt, alloc, &script, areas, threaded)? == 0 {
+        if failures(rt, alloc, script, areas, threaded)? == 0 {
             return past(place);
         }
     }
@@ -314,19 +289,21 @@ fn each_call_fails<R: Threads + Wait + Sync>(
     rt: &R,
     alloc: Global,
     threaded: bool,
+    swapoff: bool,
 ) -> Result<(), Fail> {
-    each_fails(rt, alloc, threaded, Failing::FirstReads)?;
-    each_fails(rt, alloc, threaded, Failing::FirstWrites)?;
-    each_fails(rt, alloc, threaded, Failing::SecondReads)?;
-    each_fails(rt, alloc, threaded, Failing::SecondWrites)
+    let script = script(alloc, swapoff)?;
+    each_fails(rt, alloc, &script, threaded, Failing::FirstReads)?;
+    each_fails(rt, alloc, &script, threaded, Failing::FirstWrites)?;
+    each_fails(rt, alloc, &script, threaded, Failing::SecondReads)?;
+    each_fails(rt, alloc, &script, threaded, Failing::SecondWrites)
 }
 
 type Mirror = MirrorPager<FusePager<RamPager>, FusePager<RamPager>>;
 
-// A mirror whose left side fails at this write, and whose right side at this read.
-fn mirror(alloc: Global, write: u64, read: u64) -> Result<Mirror, Fail> {
-    let left = fuse(alloc, 0, write)?;
-    let right = fuse(alloc, read, 0)?;
+// A mirror of so many slots whose left side fails at this write, and whose right side at this read.
+fn mirror(alloc: Global, slots: u32, write: u64, read: u64) -> Result<Mirror, Fail> {
+    let left = fuse(alloc, slots, 0, write)?;
+    let right = fuse(alloc, slots, read, 0)?;
     Ok(
         MirrorPager::new(alloc, left, right)
             .ok()
@@ -337,8 +314,8 @@ fn mirror(alloc: Global, write: u64, read: u64) -> Result<Mirror, Fail> {
 // Two mirrors, of which the first fails so.
 fn mirrors(alloc: Global, write: u64, read: u64) -> Result<Vec<Mirror>, Fail> {
     let mut areas = Vec::with_capacity(alloc, 2)?;
-    areas.push(mirror(alloc, write, read)?)?;
-    areas.push(mirror(alloc, 0, 0)?)?;
+    areas.push(mirror(alloc, FIRST_SLOTS, write, read)?)?;
+    areas.push(mirror(alloc, SECOND_SLOTS, 0, 0)?)?;
     Ok(areas)
 }
 
@@ -347,8 +324,9 @@ fn each_side_fails<R: Threads + Wait + Sync>(
     rt: &R,
     alloc: Global,
     threaded: bool,
+    swapoff: bool,
 ) -> Result<(), Fail> {
-    let script = script(alloc)?;
+    let script = script(alloc, swapoff)?;
     for pair in 0..400 {
         let (write, read) = (1 + pair / 20, 1 + pair % 20);
         let pagers = mirrors(alloc, write, read)?;
@@ -359,20 +337,40 @@ fn each_side_fails<R: Threads + Wait + Sync>(
 
 #[test]
 fn each_call_fails_in_order(rt: HostRuntime) -> Result<(), Fail> {
-    each_call_fails(&rt, rt.alloc(), false)
+    each_call_fails(&rt, rt.alloc(), false, false)
+}
+
+#[test]
+fn each_call_fails_around_a_swapoff(rt: HostRuntime) -> Result<(), Fail> {
+    each_call_fails(&rt, rt.alloc(), false, true)
 }
 
 #[test]
 fn each_call_fails_beside_threads(rt: HostRuntime) -> Result<(), Fail> {
-    each_call_fails(&rt, rt.alloc(), true)
+    each_call_fails(&rt, rt.alloc(), true, false)
+}
+
+#[test]
+fn each_call_fails_beside_threads_around_a_swapoff(rt: HostRuntime) -> Result<(), Fail> {
+    each_call_fails(&rt, rt.alloc(), true, true)
 }
 
 #[test]
 fn each_side_fails_in_order(rt: HostRuntime) -> Result<(), Fail> {
-    each_side_fails(&rt, rt.alloc(), false)
+    each_side_fails(&rt, rt.alloc(), false, false)
+}
+
+#[test]
+fn each_side_fails_around_a_swapoff(rt: HostRuntime) -> Result<(), Fail> {
+    each_side_fails(&rt, rt.alloc(), false, true)
 }
 
 #[test]
 fn each_side_fails_beside_threads(rt: HostRuntime) -> Result<(), Fail> {
-    each_side_fails(&rt, rt.alloc(), true)
+    each_side_fails(&rt, rt.alloc(), true, false)
+}
+
+#[test]
+fn each_side_fails_beside_threads_around_a_swapoff(rt: HostRuntime) -> Result<(), Fail> {
+    each_side_fails(&rt, rt.alloc(), true, true)
 }

@@ -12,7 +12,7 @@ use std::sync::Wait;
 use std::test::Fail;
 
 /// A call of process 1.
-enum Ask {
+pub(crate) enum Ask {
     /// shmget of so many bytes, with no key.
     Get(u64),
     /// shmat of an identifier, where the system chooses.
@@ -22,10 +22,12 @@ enum Ask {
     /// So many bytes at an address are read.
     Load(u64, u64),
     Exit,
+    /// An area is to be taken away.
+    Swapoff(u32),
 }
 
 /// What a call has to answer.
-enum Want {
+pub(crate) enum Want {
     Id(i32),
     Addr(u64),
     Bytes(&'static [u8]),
@@ -33,7 +35,7 @@ enum Want {
     Refused(Errno),
 }
 
-type Row = (Ask, Want);
+pub(crate) type Row = (Ask, Want);
 
 fn world(alloc: Global, shmmax: u64) -> Result<World<RamPager>, Fail> {
     let limits = Limits::new(shmmax, 16, 64, 4, 1)
@@ -44,9 +46,19 @@ fn world(alloc: Global, shmmax: u64) -> Result<World<RamPager>, Fail> {
 }
 
 fn opened<P: Pager>(alloc: Global, limits: Limits, pagers: Vec<P>) -> Result<World<P>, Fail> {
+    opened_by(alloc, 100, limits, pagers)
+}
+
+// A world of this user's process 1.
+pub(crate) fn opened_by<P: Pager>(
+    alloc: Global,
+    uid: u32,
+    limits: Limits,
+    pagers: Vec<P>,
+) -> Result<World<P>, Fail> {
     let first = Process {
         pid: 1,
-        born: Some(Cred { uid: 100, gid: 100 }),
+        born: Some(Cred { uid, gid: 100 }),
     };
     let system = System::start(alloc, limits, pagers, &[first])
         .ok()
@@ -76,6 +88,7 @@ fn call_of(ask: &Ask) -> Option<Call> {
             len: AccessLen::new(len)?,
         },
         Ask::Exit => Call::Exit,
+        Ask::Swapoff(area) => Call::Swapoff { area },
     })
 }
 
@@ -107,7 +120,7 @@ fn reply<P: Pager>(rt: &impl Abort, world: &mut World<P>, call: &Call) -> Option
     called(world, call)
 }
 
-fn answers<P: Pager>(rt: &impl Abort, world: &mut World<P>, row: &Row) -> bool {
+pub(crate) fn answers<P: Pager>(rt: &impl Abort, world: &mut World<P>, row: &Row) -> bool {
     match made(row) {
         Some((call, wanted)) => reply(rt, world, &call) == Some(wanted),
         None => false,

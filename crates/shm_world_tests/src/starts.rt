@@ -6,7 +6,7 @@ use std::alloc::Global;
 use std::test::Fail;
 
 /// What a system is started over: the slots of its areas, and its processes; and the error that has to come.
-type Row = (&'static [u32], &'static [Process], Option<StartError>);
+pub(crate) type Row = (&'static [u32], &'static [Process], Option<StartError>);
 
 fn areas_of(alloc: Global, areas: &[u32]) -> Result<Vec<RamPager>, Fail> {
     let mut pagers = Vec::new(alloc);
@@ -51,7 +51,7 @@ const TWICE: &[Process] = &[FIRST, FIRST];
 
 const MANY: &[Process] = &[FIRST; 65];
 
-const ROWS: &[Row] = &[
+pub(crate) const ROWS: &[Row] = &[
     (&[], TWICE, Some(StartError::Areas)),
     (&[1; 9], TWICE, Some(StartError::Areas)),
     (&[1, 0], MANY, Some(StartError::AreaSize)),

@@ -1,0 +1,48 @@
+//! Whole runs of scripts that page much in a few frames: what they print, with what was paged.
+use crate::ends::{Sink, writer};
+use shm_pager::RamPager;
+use shm_program::RunFault;
+use shm_runner::run_serial;
+use std::alloc::Global;
+use std::io::ErrorKind;
+use std::test::Fail;
+
+/// A script, and all that must be printed.
+struct Row {
+    name: &'static str,
+    script: &'static [u8],
+    output: &'static [u8],
+}
+
+const ROWS: &[Row] = &[
+    // Two of the four frames keep the pages of the locked segment, and five pages pass through the others.
+    Row {
+        name: "pages of a locked segment stay",
+        script: b"limits 65536 16 64 4 2\nprocess 1 100 100\n1 s = shmget private 8192 600\n1 lock s\n1 t = shmget private 24576 600\n1 u = shmget private 4096 600\n1 lock u\n1 a = shmat s null -\n1 b = shmat t null -\n1 store a 01\n1 store a+4096 02\n1 load b 1\n1 load b+4096 1\n1 load b+8192 1\n1 load b+12288 1\n1 load b+16384 1\n1 load a 1\n",
+        output: b"1 1 shmget 0x00000000 8192 600 = 0\n2 1 lock 0 = ok\n3 1 shmget 0x00000000 24576 600 = 1\n4 1 shmget 0x00000000 4096 600 = 2\n5 1 lock 2 = ENOMEM\n6 1 shmat 0 null - = 0x40000000\n7 1 shmat 1 null - = 0x40002000\n8 1 store 0x40000000 01 = ok\n9 1 store 0x40001000 02 = ok\n10 1 load 0x40002000 1 = 00\n11 1 load 0x40003000 1 = 00\n12 1 load 0x40004000 1 = 00\n13 1 load 0x40005000 1 = 00\n14 1 load 0x40006000 1 = 00\n15 1 load 0x40000000 1 = 01\nkey        shmid      owner      perms      bytes      nattch     status\n0x00000000 0          100        600        8192       1          locked\n0x00000000 1          100        600        24576      1          -\n0x00000000 2          100        600        4096       0          -\nusage events 15 segments 3 reserved 9 locked 2\nusage frames 4/4 dirty 2 slots 0/64\nusage in 0 out 0 failures 0\n",
+    },
+    // The load over two pages brings the first one in where the second was, writes that to a slot, and reads it again.
+    Row {
+        name: "a fault evicts the second page",
+        script: b"limits 65536 16 64 2 0\nprocess 1 100 100\n1 s = shmget private 12288 600\n1 a = shmat s null -\n1 store a+4096 11\n1 load a+8192 1\n1 load a+4095 2\n",
+        output: b"1 1 shmget 0x00000000 12288 600 = 0\n2 1 shmat 0 null - = 0x40000000\n3 1 store 0x40001000 11 = ok\n4 1 load 0x40002000 1 = 00\n5 1 load 0x40000fff 2 = 0011\nkey        shmid      owner      perms      bytes      nattch     status\n0x00000000 0          100        600        12288      1          -\nusage events 5 segments 1 reserved 3 locked 0\nusage frames 2/2 dirty 0 slots 1/64\nusage in 1 out 1 failures 0\n",
+    },
+];
+
+fn run(alloc: Global, script: &[u8], writer: &mut Sink) -> Result<Option<RunFault>, Fail> {
+    let mut pagers = Vec::new(alloc);
+    pagers.push(RamPager::new(alloc, 64)?)?;
+    let mut reader = script;
+    Ok(run_serial(alloc, &mut reader, writer, pagers).err())
+}
+
+#[test]
+fn runs_print(rt: HostRuntime) -> Result<(), Fail> {
+    for row in ROWS {
+        let mut printed = writer(rt.alloc(), 4096, 0, ErrorKind::Other);
+        let fault = run(rt.alloc(), row.script, &mut printed)?;
+        assert!(rt; fault.is_none(), "{}", row.name);
+        assert!(rt; printed.taken.as_slice() == row.output, "{}", row.name);
+    }
+    Ok(())
+}

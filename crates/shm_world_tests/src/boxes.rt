@@ -1,0 +1,209 @@
+//! Boxes that count their drops: those of a start that is refused, and those of areas that a swapoff takes away. Each is
+//! dropped once, and none early. The test of starts holds also where the host refuses memory:
+//! `rt try --test --fail-alloc N -- boxes::a_refused_start` has the N-th allocation fail.
+use crate::histories::{Ask, Row, Want, answers, opened_by};
+use crate::starts::ROWS;
+use shm_base::{Errno, HostMemory, Limits, Process};
+use shm_history::{System, World};
+use shm_pager::{AnyPager, FusePager, Pager, PagerFault, SparsePager};
+use std::alloc::{AllocError, Global};
+use std::process::Abort;
+use std::sync::Arc;
+use std::sync::atomic::{AtomicU64, Ordering};
+use std::test::Fail;
+
+/// Pages in memory whose drop is counted.
+struct CountedPager {
+    inner: SparsePager,
+    drops: Arc<AtomicU64>,
+}
+
+impl Pager for CountedPager {
+    ghost content = { λ p. p.inner.pages };
+
+    ghost failed = { λ p. p.inner.failed };
+
+    fn slots(&self) -> u32 {
+        self.inner.slots()
+    }
+
+    fn failures(&self) -> u64 {
+        self.inner.failures()
+    }
+
+    fn write(&mut self, slot: u32, page: &[u8; 4096]) -> Result<(), PagerFault> {
+        self.inner.write(slot, page)
+    }
+
+    fn read(&mut self, slot: u32, page: &mut [u8; 4096]) -> Result<(), PagerFault> {
+        self.inner.read(slot, page)
+    }
+
+    fn discard(&mut self, slot: u32) {
+        self.inner.discard(slot);
+    }
+
+    fn wipe(&mut self) {
+        self.inner.wipe();
+    }
+}
+
+impl Drop for CountedPager {
+    fn drop(self) {
+        self.drops.fetch_add(1, Ordering::SeqCst);
+        let CountedPager { inner: _, drops: _ } = self;
+    }
+}
+
+/// Makes such pagers, and counts those that were made and dropped.
+struct Counter {
+    alloc: Global,
+    made: u64,
+    drops: Arc<AtomicU64>,
+}
+
+impl Drop for Counter {
+    fn drop(self) {
+        let Counter {
+            alloc: _,
+            made: _,
+            drops: _,
+        } = self;
+    }
+}
+
+impl Counter {
+    fn new(alloc: Global) -> Result<Counter, AllocError> {
+        Ok(Counter {
+            alloc,
+            made: 0,
+            drops: Arc::new(alloc, AtomicU64::new(0))?,
+        })
+    }
+
+    fn pager(&mut self, slots: u32) -> Result<CountedPager, AllocError> {
+        let inner = SparsePager::new(self.alloc, slots)?;
+        let drops = Arc::try_clone(&self.drops)?;
+        self.made = self.made.wrapping_add(1);
+        Ok(CountedPager { inner, drops })
+    }
+
+    /// A box of a pager, of which these reads fail.
+    fn boxed(&mut self, slots: u32, reads: &[u64]) -> Result<AnyPager, AllocError> {
+        let reads = reads.to_vec(self.alloc)?;
+        let pager = self.pager(slots)?;
+        let fuse = FusePager::new(pager, reads, Vec::new(self.alloc));
+        let boxed: AnyPager = Box::new(self.alloc, fuse)?;
+        Ok(boxed)
+    }
+
+    fn drops(&self) -> u64 {
+        self.drops.load(Ordering::SeqCst)
+    }
+}
+
+fn boxes(alloc: Global, counter: &mut Counter, areas: &[u32]) -> Result<Vec<AnyPager>, HostMemory> {
+    let mut boxes: Vec<AnyPager> = Vec::new(alloc);
+    for slots in areas {
+        boxes.push(counter.boxed(*slots, &[])?)?;
+    }
+    Ok(boxes)
+}
+
+// How many boxes were dropped when the start was refused; none where it was not.
+fn dropped<P: Pager>(
+    alloc: Global,
+    pagers: Vec<P>,
+    processes: &[Process],
+    counter: &Counter,
+) -> Option<u64> {
+    let limits = Limits::new(65536, 16, 64, 4, 1).ok()?;
+    match System::start(alloc, limits, pagers, processes) {
+        Ok(_) => None,
+        Err(_) => Some(counter.drops()),
+    }
+}
+
+// Starts over counted boxes; whether a refused start has dropped each once, and has no more to drop.
+fn drops_each(alloc: Global, areas: &[u32], processes: &[Process]) -> Result<bool, HostMemory> {
+    let mut counter = Counter::new(alloc)?;
+    let Ok(boxes) = boxes(alloc, &mut counter, areas) else {
+        return Ok(counter.drops() == counter.made);
+    };
+    let refused = dropped(alloc, boxes, processes, &counter);
+    let made = counter.made;
+    Ok(refused.unwrap_or(made) == made && counter.drops() == made && made == areas.len() as u64)
+}
+
+#[test]
+fn a_refused_start_drops_each_box_once(rt: HostRuntime) -> Result<(), Fail> {
+    for (at, row) in ROWS.iter().enumerate() {
+        let is_so = drops_each(rt.alloc(), row.0, row.1);
+        assert!(rt; is_so.unwrap_or(true), "at row {at}");
+    }
+    Ok(())
+}
+
+/// A page is in the first area when its read fails. The next swapoff takes the area away, and a second area has to stay.
+const SWAPOFFS: &[(Row, u64)] = &[
+    ((Ask::Get(12288), Want::Id(0)), 0),
+    ((Ask::At(0), Want::Addr(0x40000000)), 0),
+    ((Ask::Store(0x40000000, &[1]), Want::Done), 0),
+    ((Ask::Store(0x40001000, &[2]), Want::Done), 0),
+    ((Ask::Store(0x40002000, &[3]), Want::Done), 0),
+    ((Ask::Swapoff(2), Want::Refused(Errno::Einval)), 0),
+    ((Ask::Swapoff(0), Want::Refused(Errno::Eio)), 0),
+    ((Ask::Swapoff(0), Want::Done), 1),
+    ((Ask::Swapoff(0), Want::Refused(Errno::Einval)), 1),
+    ((Ask::Swapoff(1), Want::Refused(Errno::Enomem)), 1),
+    ((Ask::Load(0x40000000, 1), Want::Bytes(&[1])), 1),
+    ((Ask::Exit, Want::Done), 1),
+];
+
+fn boxes_of_two(
+    alloc: Global,
+    first: &mut Counter,
+    other: &mut Counter,
+) -> Result<Vec<AnyPager>, HostMemory> {
+    let mut boxes: Vec<AnyPager> = Vec::with_capacity(alloc, 2)?;
+    boxes.push(first.boxed(8, &[1])?)?;
+    boxes.push(other.boxed(8, &[])?)?;
+    Ok(boxes)
+}
+
+// Makes the calls; the first area's box is dropped when its swapoff is answered, and the other's never.
+fn drops_when_answered<P: Pager>(
+    rt: &impl Abort,
+    world: &mut World<P>,
+    first: &Counter,
+    other: &Counter,
+) {
+    for (at, row) in SWAPOFFS.iter().enumerate() {
+        assert!(rt; answers(rt, world, &row.0), "at row {at}");
+        assert!(rt; first.drops() == row.1, "at row {at}");
+        assert_eq!(rt; other.drops(), 0);
+    }
+}
+
+fn turns_off<P: Pager>(
+    rt: &impl Abort,
+    alloc: Global,
+    pagers: Vec<P>,
+    first: &Counter,
+    other: &Counter,
+) -> Result<(), Fail> {
+    let limits = Limits::new(65536, 16, 64, 2, 0).ok().ok_or("they hold")?;
+    let mut world = opened_by(alloc, 0, limits, pagers)?;
+    drops_when_answered(rt, &mut world, first, other);
+    Ok(())
+}
+
+#[test]
+fn a_swapoff_drops_the_box_once(rt: HostRuntime) -> Result<(), Fail> {
+    let alloc = rt.alloc();
+    let (mut first, mut other) = (Counter::new(alloc)?, Counter::new(alloc)?);
+    let boxes = boxes_of_two(alloc, &mut first, &mut other)?;
+    turns_off(&rt, alloc, boxes, &first, &other)?;
+    assert_eq!(rt; (first.drops(), other.drops()), (1, 1));
+    Ok(())
+}
