@@ -102,7 +102,7 @@ impl Write for Sink {
     }
 }
 
-fn run<R: Read>(
+pub(crate) fn run<R: Read>(
     alloc: Global,
     reader: &mut R,
     writer: &mut Sink,

@@ -13,7 +13,7 @@ const LOWEST_GAP: u64 = 0x40000000;
 
 const CHILD: u32 = 3;
 
-/// A segment at an index. It is kept when it is destroyed.
+/// A segment at an index. It is kept in the list when it is destroyed.
 #[derive(Drop)]
 struct Segment {
     index: u32,
@@ -23,7 +23,7 @@ struct Segment {
     bytes: Vec<u8>,
 }
 
-/// An attach of a process: so many bytes at an address, and the segment's number in the list.
+/// An attach of a process: its address and length, and the segment's number in the list.
 #[derive(Clone, Copy)]
 struct Attach {
     pid: u32,
@@ -41,6 +41,7 @@ struct Place {
     is_writable: bool,
 }
 
+/// The machine: two processes of user 0 and a child that is not born, over two swap areas.
 #[derive(Drop)]
 pub(crate) struct Flat {
     alloc: Global,
@@ -54,7 +55,7 @@ pub(crate) struct Flat {
 }
 
 impl Attach {
-    // How far behind the piece's begin an address is, if the piece covers it.
+    // How far an address is from the begin of the piece, if the piece of this process covers it.
     fn offset(&self, pid: u32, addr: u64) -> Option<u64> {
         if self.pid != pid || addr < self.addr {
             return None;
@@ -122,7 +123,7 @@ fn zeros(alloc: Global, size: u64) -> Result<Vec<u8>, Fail> {
     Ok(bytes)
 }
 
-// What stat shows of a segment that process makes at this time.
+// What stat shows of a segment that a process makes at this time.
 fn made(key: u32, mode: u16, size: u64, pid: u32, now: u64) -> ShmidDs {
     ShmidDs {
         key,
@@ -145,7 +146,7 @@ fn made(key: u32, mode: u16, size: u64, pid: u32, now: u64) -> ShmidDs {
 }
 
 impl Flat {
-    /// Two processes of user 0 that have made no call, over two areas.
+    /// No call is made yet.
     pub(crate) fn new(alloc: Global) -> Result<Flat, Fail> {
         let mut live = Vec::new(alloc);
         live.push(1)?;
@@ -199,7 +200,7 @@ impl Flat {
         reply.unwrap_or(Reply::Refused(Errno::Sigsegv))
     }
 
-    // The number in the list of the live segment with this key.
+    // The live segment with this key, where that is not 0.
     fn of_key(&self, key: u32) -> Option<&Segment> {
         for segment in &self.segments {
             if segment.is_live && key != 0 && segment.shown.key == key {
@@ -266,7 +267,7 @@ impl Flat {
         Err(Errno::Einval)
     }
 
-    // The least gap of the process for so many bytes: the first, or behind a piece.
+    // The least gap of the process for this many bytes. It begins at the lowest address or where a piece ends.
     fn gap(&self, pid: u32, len: u64) -> u64 {
         let mut addr = LOWEST_GAP;
         for _ in 0..=self.attaches.len() {
@@ -310,7 +311,7 @@ impl Flat {
         Ok(Reply::Addr(addr))
     }
 
-    // Takes the piece at the address out of the list, and says which segment it was of.
+    // Takes the piece at the address away, and answers which segment it was of.
     fn take(&mut self, pid: u32, addr: u64) -> Option<usize> {
         for attach in self.attaches.iter_mut() {
             if attach.pid == pid && attach.addr == addr {

@@ -1,8 +1,5 @@
 //! Whole runs of scripts that page much in a few frames: what they print, with what was paged.
-use crate::ends::{Sink, writer};
-use shm_pager::RamPager;
-use shm_program::RunFault;
-use shm_runner::run_serial;
+use crate::ends::{run, writer};
 use std::alloc::Global;
 use std::io::ErrorKind;
 use std::test::Fail;
@@ -29,20 +26,18 @@ const ROWS: &[Row] = &[
     },
 ];
 
-fn run(alloc: Global, script: &[u8], writer: &mut Sink) -> Result<Option<RunFault>, Fail> {
-    let mut pagers = Vec::new(alloc);
-    pagers.push(RamPager::new(alloc, 64)?)?;
+// Whether the script's run ends with no fault and prints this.
+fn prints(alloc: Global, script: &[u8], output: &[u8]) -> Result<bool, Fail> {
     let mut reader = script;
-    Ok(run_serial(alloc, &mut reader, writer, pagers).err())
+    let mut printed = writer(alloc, 4096, 0, ErrorKind::Other);
+    let fault = run(alloc, &mut reader, &mut printed, 1)?;
+    Ok(fault.is_none() && printed.taken.as_slice() == output)
 }
 
 #[test]
 fn runs_print(rt: HostRuntime) -> Result<(), Fail> {
     for row in ROWS {
-        let mut printed = writer(rt.alloc(), 4096, 0, ErrorKind::Other);
-        let fault = run(rt.alloc(), row.script, &mut printed)?;
-        assert!(rt; fault.is_none(), "{}", row.name);
-        assert!(rt; printed.taken.as_slice() == row.output, "{}", row.name);
+        assert!(rt; prints(rt.alloc(), row.script, row.output)?, "{}", row.name);
     }
     Ok(())
 }
