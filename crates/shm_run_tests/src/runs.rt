@@ -134,6 +134,8 @@ fn four_count_together(rt: HostRuntime) -> Result<(), Fail> {
     let text = repeated(alloc, COUNTER, COUNTS, 50)?;
     let seen = seen_by(&rt, alloc, &text, Rule::Open)?;
     assert_eq!(rt; seen.events, 412);
+    assert_eq!(rt; (seen.tally.segments, seen.tally.reserved), (1, 1));
+    assert!(rt; seen.tally.used <= 1);
     assert!(rt; seen.has_calls(&[112, 100, 100, 100]));
     // the counter of process 1 has counted all 400
     let sum = Chunk::new(&[0x90, 1, 0, 0, 0, 0, 0, 0]).ok_or("8 bytes")?;
