@@ -9,4 +9,5 @@ mod gates;
 mod gauged;
 #[cfg(test)]
 mod refused;
+#[cfg(test)]
 mod runs;
