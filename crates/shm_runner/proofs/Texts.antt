@@ -2,14 +2,15 @@
 use Rattle.std.proofs.Common.{◌≡◌, refl, inl, inr, ℕ, Bool, true, false, List, Option, map, Ok}
 use Rattle.std.specs.Prelude.{IfSome, OnOk, IfErr, Result, Err}
 use Rattle.std.specs.Io.KnownBytes.{Appends, IsAtEnd}
-use Rattle.shm_slots.specs.View.{SwapView, AreCountsOf}
+use Rattle.shm_slots.specs.View.{SwapView, AreCountsOf, AreUntouched, first_counts}
 use Rattle.shm_slots.specs.Cause.{GoesOn}
+use Rattle.shm_slots.proofs.Starts.{goes_on_from}
 use Rattle.shm_history.specs.WorldState.{WorldState}
 use Rattle.shm_text.specs.Script.{ScriptView}
 use Rattle.shm_text.specs.Reading.{script_of}
 use Rattle.shm_transcripts.specs.declared.transcript.Transcript.{Transcript}
 use Rattle.shm_program.specs.Values.{fresh_holder}
-use Rattle.shm_program.specs.Runs.{IsWorldOf, IsWritten, Prints}
+use Rattle.shm_program.specs.Runs.{IsWorldOf, IsWorldSound, IsWritten, Prints}
 use Rattle.shm_runner.specs.Output.{IsOutput, RunsInOrder, world_text}
 use Rattle.shm_runner.proofs.Flatness.{flat_printed, flat_unfailing, none_unfailing}
 use Rattle.shm_program.proofs.Texts.{shown}
@@ -31,34 +32,38 @@ serial_text failed swap (Ok done) script areas w old new k began follows written
     (world_text w, record { world = w; is_world = k.is_world; began = began; counted = k.counted; follows = follows; printed = refl; invisible = flat; unfailing = unfailing }, written)
 serial_text failed swap (Err fault) script areas w old new k began follows written = tt
 
-module _ {P : Type 0} (failed : P → ℕ) (script : ScriptView) (areas : List ℕ) where
-  text_of : (marked : Bool) (w : WorldState) (transcripts : List Transcript) (old new : Option (List ℕ)) → Known failed script areas w → AreTranscripts script w.events transcripts → have_mark transcripts ≡ marked → Appends old new (world_text w)
-      → IsWritten (IsThreadedOutput failed marked script areas) old new
-  text_of marked w transcripts old new k run marks written =
+-- the areas of a world that began with the counts that they were handed in with
+pub began_from : (swap : SwapView) (w : WorldState) → AreUntouched swap → IsWorldSound w → first_counts w.memory.swap ≡ first_counts swap → GoesOn swap w.memory.swap
+began_from swap w untouched sound same = goes_on_from swap w.memory.swap untouched sound.exact.sound.swap same
+
+module _ {P : Type 0} (failed : P → ℕ) (swap : SwapView) (script : ScriptView) (areas : List ℕ) where
+  text_of : (marked : Bool) (w : WorldState) (transcripts : List Transcript) (old new : Option (List ℕ)) → Known failed script areas w → GoesOn swap w.memory.swap → AreTranscripts script w.events transcripts → have_mark transcripts ≡ marked → Appends old new (world_text w)
+      → IsWritten (IsThreadedOutput failed swap marked script areas) old new
+  text_of marked w transcripts old new k began run marks written =
       let unfailing = none_unfailing failed script areas w k.is_world k.counted in
-      (world_text w, record { world = w; transcripts = transcripts; is_world = k.is_world; counted = k.counted; unfailing = unfailing; is_run = run; marks = marks; printed = refl }, written)
+      (world_text w, record { world = w; transcripts = transcripts; is_world = k.is_world; began = began; counted = k.counted; unfailing = unfailing; is_run = run; marks = marks; printed = refl }, written)
 
-  pub threaded_text : (result : Result (Unit {0}) RunFault) (w : WorldState) (transcripts : List Transcript) (old new : Option (List ℕ)) → Known failed script areas w → AreTranscripts script w.events transcripts → OnOk result ((have_mark transcripts ≡ false) × Appends old new (world_text w))
-      → OnOk result (IsWritten (IsThreadedOutput failed false script areas) old new)
-  threaded_text (Ok done) w transcripts old new k run (marks, written) = text_of false w transcripts old new k run marks written
-  threaded_text (Err fault) w transcripts old new k run e = tt
+  pub threaded_text : (result : Result (Unit {0}) RunFault) (w : WorldState) (transcripts : List Transcript) (old new : Option (List ℕ)) → Known failed script areas w → GoesOn swap w.memory.swap → AreTranscripts script w.events transcripts → OnOk result ((have_mark transcripts ≡ false) × Appends old new (world_text w))
+      → OnOk result (IsWritten (IsThreadedOutput failed swap false script areas) old new)
+  threaded_text (Ok done) w transcripts old new k began run (marks, written) = text_of false w transcripts old new k began run marks written
+  threaded_text (Err fault) w transcripts old new k began run e = tt
 
-  marked_by : (fault : RunFault) (w : WorldState) (transcripts : List Transcript) (old new : Option (List ℕ)) → Known failed script areas w → AreTranscripts script w.events transcripts → IsAllOrNothing fault old new ((have_mark transcripts ≡ true) × Appends old new (world_text w))
-      → IsAllOrNothing fault old new (IsWritten (IsThreadedOutput failed true script areas) old new)
-  marked_by fault w transcripts old new k run (inl silent) = inl silent
-  marked_by fault w transcripts old new k run (inr (e, (marks, written))) = inr (e, text_of true w transcripts old new k run marks written)
+  marked_by : (fault : RunFault) (w : WorldState) (transcripts : List Transcript) (old new : Option (List ℕ)) → Known failed script areas w → GoesOn swap w.memory.swap → AreTranscripts script w.events transcripts → IsAllOrNothing fault old new ((have_mark transcripts ≡ true) × Appends old new (world_text w))
+      → IsAllOrNothing fault old new (IsWritten (IsThreadedOutput failed swap true script areas) old new)
+  marked_by fault w transcripts old new k began run (inl silent) = inl silent
+  marked_by fault w transcripts old new k began run (inr (e, (marks, written))) = inr (e, text_of true w transcripts old new k began run marks written)
 
-  pub marked_text : (result : Result (Unit {0}) RunFault) (w : WorldState) (transcripts : List Transcript) (old new : Option (List ℕ)) → Known failed script areas w → AreTranscripts script w.events transcripts → IfErr result (λ f. IsAllOrNothing f old new ((have_mark transcripts ≡ true) × Appends old new (world_text w)))
-      → IfErr result (λ f. IsAllOrNothing f old new (IsWritten (IsThreadedOutput failed true script areas) old new))
-  marked_text (Ok done) w transcripts old new k run e = tt
-  marked_text (Err fault) w transcripts old new k run e = marked_by fault w transcripts old new k run e
+  pub marked_text : (result : Result (Unit {0}) RunFault) (w : WorldState) (transcripts : List Transcript) (old new : Option (List ℕ)) → Known failed script areas w → GoesOn swap w.memory.swap → AreTranscripts script w.events transcripts → IfErr result (λ f. IsAllOrNothing f old new ((have_mark transcripts ≡ true) × Appends old new (world_text w)))
+      → IfErr result (λ f. IsAllOrNothing f old new (IsWritten (IsThreadedOutput failed swap true script areas) old new))
+  marked_text (Ok done) w transcripts old new k began run e = tt
+  marked_text (Err fault) w transcripts old new k began run e = marked_by fault w transcripts old new k began run e
 
-  marked_shown : (fault : RunFault) (input rest old new : Option (List ℕ)) → IfSome input (λ bytes. script_of bytes ≡ Ok script) → IsAtEnd rest → IsAllOrNothing fault old new (IsWritten (IsThreadedOutput failed true script areas) old new)
-      → IsAllOrNothing fault old new (IsAtEnd rest × IfSome input (λ bytes. Prints (IsThreadedOutput failed true) old new areas bytes))
+  marked_shown : (fault : RunFault) (input rest old new : Option (List ℕ)) → IfSome input (λ bytes. script_of bytes ≡ Ok script) → IsAtEnd rest → IsAllOrNothing fault old new (IsWritten (IsThreadedOutput failed swap true script areas) old new)
+      → IsAllOrNothing fault old new (IsAtEnd rest × IfSome input (λ bytes. Prints (IsThreadedOutput failed swap true) old new areas bytes))
   marked_shown fault input rest old new read end (inl silent) = inl silent
-  marked_shown fault input rest old new read end (inr (e, written)) = inr (e, (end, shown (IsThreadedOutput failed true) input old new areas script read written))
+  marked_shown fault input rest old new read end (inr (e, written)) = inr (e, (end, shown (IsThreadedOutput failed swap true) input old new areas script read written))
 
-  pub marked_shows : (result : Result (Unit {0}) RunFault) (input rest old new : Option (List ℕ)) → IfSome input (λ bytes. script_of bytes ≡ Ok script) → IsAtEnd rest → IfErr result (λ f. IsAllOrNothing f old new (IsWritten (IsThreadedOutput failed true script areas) old new))
-      → IfErr result (λ f. IsAllOrNothing f old new (IsAtEnd rest × IfSome input (λ bytes. Prints (IsThreadedOutput failed true) old new areas bytes)))
+  pub marked_shows : (result : Result (Unit {0}) RunFault) (input rest old new : Option (List ℕ)) → IfSome input (λ bytes. script_of bytes ≡ Ok script) → IsAtEnd rest → IfErr result (λ f. IsAllOrNothing f old new (IsWritten (IsThreadedOutput failed swap true script areas) old new))
+      → IfErr result (λ f. IsAllOrNothing f old new (IsAtEnd rest × IfSome input (λ bytes. Prints (IsThreadedOutput failed swap true) old new areas bytes)))
   marked_shows (Ok done) input rest old new read end e = tt
   marked_shows (Err fault) input rest old new read end e = marked_shown fault input rest old new read end e

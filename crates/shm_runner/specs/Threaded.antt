@@ -2,7 +2,8 @@
 use Rattle.std.specs.Prelude.{◌≡◌, ◌⊎◌, ℕ, Bool, true, false, List, Option, Result, OnOk, IfErr, IfSome}
 use Rattle.std.specs.List.{list_any}
 use Rattle.std.specs.Io.KnownBytes.{IsAtEnd}
-use Rattle.shm_slots.specs.View.{AreCountsOf}
+use Rattle.shm_slots.specs.View.{SwapView, AreCountsOf}
+use Rattle.shm_slots.specs.Cause.{GoesOn}
 use Rattle.shm_history.specs.WorldState.{WorldState, failures_in}
 use Rattle.shm_text.specs.Script.{ScriptView}
 use Rattle.shm_transcripts.specs.Transcripts.{AreTranscripts}
@@ -27,12 +28,13 @@ abbrev pub have_mark : List Transcript → Bool
 have_mark transcripts = list_any (λ (t : Transcript). has_mark t.entries.items) transcripts
 
 -- the text of the world of a run that the script's processes made, each in its own order, and whether one of its calls is
--- marked out of memory. Each count of the world is one of a pager, with which
--- counts its areas began is not said; over pagers that never fail no reply names a failure
-pub record IsThreadedOutput {P : Type 0} (failed : P → ℕ) (marked : Bool) (script : ScriptView) (areas : List ℕ) (text : List ℕ) : Type 0 where
+-- marked out of memory, over the swap areas as they were handed in: its counts began there, and each is one of a pager. Over
+-- pagers that never fail no reply names a failure
+pub record IsThreadedOutput {P : Type 0} (failed : P → ℕ) (swap : SwapView) (marked : Bool) (script : ScriptView) (areas : List ℕ) (text : List ℕ) : Type 0 where
   pub world : WorldState
   pub transcripts : List Transcript
   pub is_world : IsWorldOf script areas world
+  pub began : GoesOn swap world.memory.swap
   pub counted : AreCountsOf failed world.memory.swap
   pub unfailing : NeverFails failed → failures_in world.events ≡ 0
   pub is_run : AreTranscripts script world.events transcripts
@@ -44,8 +46,8 @@ abbrev pub IsAllOrNothing : RunFault → Option (List ℕ) → Option (List ℕ)
 IsAllOrNothing fault old new Marked = IsSilent fault old new ⊎ ((fault ≡ HostMemory) × Marked)
 
 -- a run with threads, from what is left of the input before it and behind it, and what is written
-pub record IsThreadedRun {P : Type 0} (failed : P → ℕ) (result : Result (Unit {0}) RunFault) (input rest old new : Option (List ℕ)) (areas : List ℕ) : Type 0 where
-  pub ok : OnOk result (IfSome input (λ bytes. Prints (IsThreadedOutput failed false) old new areas bytes))
+pub record IsThreadedRun {P : Type 0} (failed : P → ℕ) (swap : SwapView) (result : Result (Unit {0}) RunFault) (input rest old new : Option (List ℕ)) (areas : List ℕ) : Type 0 where
+  pub ok : OnOk result (IfSome input (λ bytes. Prints (IsThreadedOutput failed swap false) old new areas bytes))
   pub whole : OnOk result (IsAtEnd rest)
   pub cause : IfErr result (λ f. IfSome input (λ bytes. IsCause f areas bytes))
-  pub written : IfErr result (λ f. IsAllOrNothing f old new (IsAtEnd rest × IfSome input (λ bytes. Prints (IsThreadedOutput failed true) old new areas bytes)))
+  pub written : IfErr result (λ f. IsAllOrNothing f old new (IsAtEnd rest × IfSome input (λ bytes. Prints (IsThreadedOutput failed swap true) old new areas bytes)))

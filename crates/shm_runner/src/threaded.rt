@@ -2,8 +2,8 @@
 //! the texts of the history that they made go to a writer.
 ghost use Rattle.std.specs.Prelude.{◌≡◌, ◌⊎◌, true, false, length, map, OnOk, IfErr};
 ghost use Rattle.std.specs.Io.KnownBytes.{Appends};
-ghost use Rattle.shm_slots.specs.View.{AreCountsOf};
-ghost use Rattle.shm_program.specs.Runs.{IsCauseIn, IsOpening, IsWorldSound, IsWritten};
+ghost use Rattle.shm_slots.specs.View.{AreCountsOf, AreUntouched};
+ghost use Rattle.shm_program.specs.Runs.{IsCauseIn, IsOpening, IsWorldSound, IsWritten, handed_in};
 ghost use Rattle.shm_runner.specs.Output.{world_text};
 ghost use Rattle.shm_runner.specs.Threaded.{is_marked, has_mark, have_mark, IsThreadedOutput, IsThreadedRun, IsAllOrNothing};
 
@@ -33,7 +33,9 @@ pub fn run_threaded<T: Threads + Wait + Sync, R: Read, W: Write, P: Pager + Send
     writer: &mut W,
     pagers: Vec<P>,
 ) -> Result<(), RunFault>
-    ensures { IsThreadedRun P.failed result (R.remaining reader.old) (R.remaining reader.new) (W.contents writer.old) (W.contents writer.new) (map (λ p. length (P.content p)) pagers.items) }
+    ensures { let swap = handed_in P.content P.failed pagers.items in
+        let ended = IsThreadedRun P.failed swap result (R.remaining reader.old) (R.remaining reader.new) in
+        ended (W.contents writer.old) (W.contents writer.new) (map (λ p. length (P.content p)) pagers.items) }
 {
     match whole_script(alloc, reader) {
         Ok(script) => run_script(rt, alloc, writer, &script, pagers),
@@ -49,9 +51,14 @@ fn run_script<T: Threads + Wait + Sync, W: Write, P: Pager + Send>(
     script: &Script,
     pagers: Vec<P>,
 ) -> Result<(), RunFault>
-    ensures ok { OnOk result (IsWritten (IsThreadedOutput P.failed false script.now (map (λ p. length (P.content p)) pagers.items)) (W.contents writer.old) (W.contents writer.new)) }
+    ensures ok { let text = IsThreadedOutput P.failed (handed_in P.content P.failed pagers.items) false script.now in
+        let areas = map (λ p. length (P.content p)) pagers.items in
+        OnOk result (IsWritten (text areas) (W.contents writer.old) (W.contents writer.new)) }
     ensures cause { IfErr result (λ f. IsCauseIn f (map (λ p. length (P.content p)) pagers.items) script.now) }
-    ensures written { IfErr result (λ f. IsAllOrNothing f (W.contents writer.old) (W.contents writer.new) (IsWritten (IsThreadedOutput P.failed true script.now (map (λ p. length (P.content p)) pagers.items)) (W.contents writer.old) (W.contents writer.new))) }
+    ensures written { let text = IsThreadedOutput P.failed (handed_in P.content P.failed pagers.items) true script.now in
+        let areas = map (λ p. length (P.content p)) pagers.items in
+        let marked = IsWritten (text areas) (W.contents writer.old) (W.contents writer.new) in
+        IfErr result (λ f. IsAllOrNothing f (W.contents writer.old) (W.contents writer.new) marked) }
 {
     match open_world(alloc, script, pagers) {
         Ok(world) => run_in(rt, alloc, writer, world, script),
@@ -67,10 +74,14 @@ fn run_in<T: Threads + Wait + Sync, W: Write, P: Pager + Send>(
     world: World<P>,
     script: &Script,
 ) -> Result<(), RunFault>
-    requires { IsOpening script.now world.opening }
-    ensures ok { OnOk result (IsWritten (IsThreadedOutput P.failed false script.now world.opening.areas) (W.contents writer.old) (W.contents writer.new)) }
+    requires opened { IsOpening script.now world.opening }
+    requires untouched { AreUntouched world.memory.swap }
+    ensures ok { let text = IsThreadedOutput P.failed world.memory.swap false script.now world.opening.areas in
+        OnOk result (IsWritten text (W.contents writer.old) (W.contents writer.new)) }
     ensures cause { IfErr result (λ f. IsCauseIn f world.opening.areas script.now) }
-    ensures written { IfErr result (λ f. IsAllOrNothing f (W.contents writer.old) (W.contents writer.new) (IsWritten (IsThreadedOutput P.failed true script.now world.opening.areas) (W.contents writer.old) (W.contents writer.new))) }
+    ensures written { let text = IsThreadedOutput P.failed world.memory.swap true script.now world.opening.areas in
+        let marked = IsWritten text (W.contents writer.old) (W.contents writer.new) in
+        IfErr result (λ f. IsAllOrNothing f (W.contents writer.old) (W.contents writer.new) marked) }
 {
     match run_threads(rt, alloc, world, script, &OpenGate) {
         Ok(outcome) => write_outcome(alloc, writer, &outcome),
@@ -86,11 +97,14 @@ pub fn write_outcome<W: Write, P: Pager>(
     writer: &mut W,
     outcome: &Outcome<P>,
 ) -> Result<(), RunFault>
-    ensures ok { OnOk result ((have_mark outcome.now.transcripts.items ≡ false) × Appends (W.contents writer.old) (W.contents writer.new) (world_text outcome.now.world)) }
+    ensures ok { let appended = Appends (W.contents writer.old) (W.contents writer.new) (world_text outcome.now.world) in
+        OnOk result ((have_mark outcome.now.transcripts.items ≡ false) × appended) }
     ensures sound { IsWorldSound outcome.now.world }
     ensures counted { AreCountsOf P.failed outcome.now.world.memory.swap }
     ensures fault { IfErr result (λ f. (f ≡ RunFault.HostMemory) ⊎ (f ≡ RunFault.WriteFailed)) }
-    ensures written { IfErr result (λ f. IsAllOrNothing f (W.contents writer.old) (W.contents writer.new) ((have_mark outcome.now.transcripts.items ≡ true) × Appends (W.contents writer.old) (W.contents writer.new) (world_text outcome.now.world))) }
+    ensures written { let appended = Appends (W.contents writer.old) (W.contents writer.new) (world_text outcome.now.world) in
+        let marked = (have_mark outcome.now.transcripts.items ≡ true) × appended in
+        IfErr result (λ f. IsAllOrNothing f (W.contents writer.old) (W.contents writer.new) marked) }
 {
     match write_world(alloc, writer, &outcome.world) {
         Ok(()) => {

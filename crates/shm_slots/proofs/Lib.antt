@@ -2,3 +2,4 @@ pub mod Least
 pub mod Changes
 pub mod Causes
 pub mod Counts
+pub mod Starts

@@ -163,9 +163,23 @@ used_in a = used_count a.owners
 abbrev pub used_slots : SwapView → ℕ
 used_slots s = sum_by used_in s.areas
 
+-- what each area's count stood at when its pager was handed in, areas that are gone included
+abbrev pub first_counts : SwapView → List ℕ
+first_counts s = map (λ (a : AreaView). a.start) s.areas
+
 -- some area, one that is gone included, has its count at its last value
 abbrev pub was_spent : SwapView → Bool
 was_spent s = list_any is_spent s.areas
+
+-- the area is as its pager was handed in: it is there, and no failure was counted
+pub record IsUntouched (a : AreaView) : Type 0 where
+  pub here : a.here ≡ true
+  pub count : a.failed ≡ a.start
+
+-- so is every area of the swap
+pub record AreUntouched (s : SwapView) : Type 0 where
+  pub each : All IsUntouched s.areas
+  pub unspent : s.never_spent ≡ not (was_spent s)
 
 -- the number is the count of some pager of this type
 abbrev pub IsCountOf : {P : Type 0} → (P → ℕ) → ℕ → Type 0

@@ -81,6 +81,13 @@ impl<P: Pager> Area<P> {
         }
     }
 
+    /// What the pager's count stood at when it was handed in.
+    pub(crate) fn first_count(&self) -> u64
+        ensures { result ≡ self.now.start }
+    {
+        self.start
+    }
+
     /// Whether the count stands at its last value.
     pub(crate) fn is_spent(&self) -> bool
         ensures { result ≡ is_spent self.now }

@@ -102,6 +102,16 @@ impl<P: Pager> Swap<P> {
         }
     }
 
+    /// What the count of an area's pager stood at when it was handed in. It is 0 if there is no such area.
+    pub fn first_count(&self, area: u32) -> u64
+        ensures { result ≡ (area_at self.now area).start }
+    {
+        match self.areas.get(area as usize) {
+            Some(area) => area.first_count(),
+            None => 0,
+        }
+    }
+
     #[tactic(auto, unfolding(crate::specs::Cause::total))]
     /// How many failures the pagers have counted since they were handed in, those gone included. The
     /// sum stays at `u64::MAX`. Each area's counts, first and last, are counts of pagers: where pagers of this

@@ -2,21 +2,28 @@
 use Rattle.std.specs.Prelude.{◌≡◌, ℕ, List, Option, Some, IsNone, ◌↔◌}
 use Rattle.shm_base.specs.History.{IsHistory}
 use Rattle.shm_base.specs.State.{Opening}
+use Rattle.shm_slots.specs.View.{first_counts}
 use Rattle.shm_history.specs.WorldState.{WorldState}
 use Rattle.shm_text.specs.Script.{ScriptView}
 use Rattle.shm_transcripts.specs.Transcripts.{AreTranscripts, AreListed, IsLeastWrong}
 use Rattle.shm_transcripts.specs.declared.transcript.Transcript.{Transcript}
 
--- The outcome of a run: the opening stays, the history is legal, and the transcripts are those of its processes
-pub record IsOutcome (script : ScriptView) (opened : Opening) (world : WorldState) (all : List Transcript) : Type 0 where
+-- The world started from this opening, over areas whose pagers had these counts of failures when they were handed in
+pub record StartedFrom (opened : Opening) (counts : List ℕ) (world : WorldState) : Type 0 where
   pub opening : world.opening ≡ opened
+  pub counts : first_counts world.memory.swap ≡ counts
+
+-- The outcome of a run: the world started from what was handed in, the history is legal, and the transcripts are those of
+-- its processes
+pub record IsOutcome (script : ScriptView) (opened : Opening) (counts : List ℕ) (world : WorldState) (all : List Transcript) : Type 0 where
+  pub started : StartedFrom opened counts world
   pub legal : IsHistory world.opening world.events world.machine
   pub transcripts : AreTranscripts script world.events all
 
--- What a run's world and transcripts are found to be: nothing exactly where they are its outcome; over the opening that
--- was handed in, and with one transcript for each process, this pid exactly where it is the least that disagrees; else 0
-pub record IsMismatch (script : ScriptView) (opened : Opening) (world : WorldState) (all : List Transcript) (found : Option ℕ) : Type 0 where
-  pub none : IsNone found ↔ IsOutcome script opened world all
-  pub least : world.opening ≡ opened → AreListed script all → (pid : ℕ) → found ≡ Some pid ↔ IsLeastWrong script world.events all pid
-  pub opening : (world.opening ≡ opened → ⊥) → found ≡ Some 0
+-- What a run's world and transcripts are found to be: nothing exactly where they are its outcome; if the world started from
+-- what was handed in, and each process has one transcript, this pid exactly where it is the least that disagrees; else 0
+pub record IsMismatch (script : ScriptView) (opened : Opening) (counts : List ℕ) (world : WorldState) (all : List Transcript) (found : Option ℕ) : Type 0 where
+  pub none : IsNone found ↔ IsOutcome script opened counts world all
+  pub least : StartedFrom opened counts world → AreListed script all → (pid : ℕ) → found ≡ Some pid ↔ IsLeastWrong script world.events all pid
+  pub started : (StartedFrom opened counts world → ⊥) → found ≡ Some 0
   pub unlisted : (AreListed script all → ⊥) → found ≡ Some 0

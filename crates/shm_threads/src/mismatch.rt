@@ -1,16 +1,73 @@
 //! The comparison of what a run gave with what was handed in, once all workers have ended.
 ghost use Rattle.std.specs.Prelude.{◌≡◌, ◌↔◌, IfOk, IsTrue};
-ghost use Rattle.shm_threads.specs.Outcomes.{IsMismatch};
+ghost use Rattle.shm_slots.specs.View.{first_counts};
+ghost use Rattle.shm_threads.specs.Outcomes.{IsMismatch, StartedFrom};
 
 use shm_base::{HostMemory, Process};
 use shm_history::{Opening, World};
 use shm_pager::Pager;
+use shm_slots::Swap;
 use shm_text::Script;
 use shm_transcripts::{Transcript, disagreement};
 use std::alloc::Global;
 
-/// A copy of an opening.
-pub(crate) fn copied(alloc: Global, opening: &Opening) -> Result<Opening, HostMemory>
+/// What a world started from.
+#[derive(Drop)]
+pub(crate) struct Origin {
+    pub(crate) opening: Opening,
+    // What each area's count of failures stood at when its pager was handed in.
+    pub(crate) counts: Vec<u64>,
+}
+
+impl Origin {
+    /// What this world started from.
+    pub(crate) fn of<P: Pager>(alloc: Global, world: &World<P>) -> Result<Origin, HostMemory>
+        ensures opening { IfOk result (λ o. o.opening ≡ world.now.opening) }
+        ensures counts { IfOk result (λ o. o.counts.items ≡ first_counts world.now.memory.swap) }
+    {
+        let opening = copied(alloc, world.opening())?;
+        let counts = first_counts(alloc, world.system().store().swap())?;
+        Ok(Origin { opening, counts })
+    }
+
+    // Whether the world started from it.
+    fn is_of<P: Pager>(&self, world: &World<P>) -> bool
+        ensures { IsTrue result ↔ StartedFrom self.now.opening self.now.counts.items world.now }
+    {
+        is_same(&self.opening, world.opening())
+            && have_counts(world.system().store().swap(), &self.counts)
+    }
+}
+
+// What each area's count stood at when its pager was handed in.
+fn first_counts<P: Pager>(alloc: Global, swap: &Swap<P>) -> Result<Vec<u64>, HostMemory>
+    ensures { IfOk result (λ counts. counts.items ≡ first_counts swap.now) }
+{
+    let areas = swap.areas();
+    let mut counts = Vec::with_capacity(alloc, areas as usize)?;
+    for area in 0..areas {
+        counts.push(swap.first_count(area))?;
+    }
+    Ok(counts)
+}
+
+// Whether they are these.
+fn have_counts<P: Pager>(swap: &Swap<P>, counts: &[u64]) -> bool
+    ensures { IsTrue result ↔ first_counts swap.now ≡ counts.now }
+{
+    if counts.len() != swap.areas() as usize {
+        return false;
+    }
+    for area in 0..counts.len() {
+        if counts[area] != swap.first_count(area as u32) {
+            return false;
+        }
+    }
+    true
+}
+
+// A copy of an opening.
+fn copied(alloc: Global, opening: &Opening) -> Result<Opening, HostMemory>
     ensures { IfOk result (λ o. o ≡ opening.now) }
 {
     let areas = Vec::from_slice(alloc, &opening.areas)?;
@@ -36,17 +93,18 @@ fn are_same(one: &[Process], other: &[Process]) -> bool
     one == other
 }
 
-/// The least pid of which the history and the transcripts disagree, or 0 where the opening or the list of transcripts is
-/// not as it was handed in. None exactly where they are an outcome.
+/// The least pid of which the history and the transcripts disagree, or 0 if the world did not start from this or the
+/// list of transcripts is not as it was handed in. None exactly where they are an outcome.
 pub(crate) fn mismatch<P: Pager>(
-    opening: &Opening,
+    origin: &Origin,
     world: &World<P>,
     script: &Script,
     transcripts: &Vec<Transcript>,
 ) -> Option<u32>
-    ensures { IsMismatch script.now opening.now world.now transcripts.now.items result }
+    ensures { let counts = origin.now.counts.items in
+        IsMismatch script.now origin.now.opening counts world.now transcripts.now.items result }
 {
-    if !is_same(opening, world.opening()) {
+    if !origin.is_of(world) {
         return Some(0);
     }
     disagreement(script, world.history(), transcripts)

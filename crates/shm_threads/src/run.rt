@@ -1,5 +1,6 @@
 //! A run with threads: start, joins, comparison.
 ghost use Rattle.std.specs.Prelude.{◌≡◌, ◌+◌, ◌≤◌, true, false, All, IfOk, OnOk, IfNone, IfSome, length, vec_len, vec_capacity};
+ghost use Rattle.shm_slots.specs.View.{first_counts};
 ghost use Rattle.shm_threads.specs.Ends.{IsFirst};
 ghost use Rattle.shm_threads.specs.Keepers.{cell_of, IsCaughtUp};
 ghost use Rattle.shm_threads.specs.Outcomes.{IsMismatch, IsOutcome};
@@ -8,13 +9,13 @@ ghost use Rattle.shm_threads.specs.Plans.{HasRoom, IsPlan};
 use crate::births::{ProcessState, states};
 use crate::callers::{FlusherEnded, run_process, run_rounds};
 use crate::gate::Gate;
-use crate::mismatch::{copied, mismatch};
+use crate::mismatch::{Origin, mismatch};
 use crate::outcome::{Outcome, RunError};
 use crate::plan::jobs;
 use crate::shared::Shared;
 use crate::worker::Ended;
 use shm_base::HostMemory;
-use shm_history::{Keeper, Opening, World};
+use shm_history::{Keeper, World};
 use shm_pager::Pager;
 use shm_text::{Line, Script};
 use shm_transcripts::{Transcript, least};
@@ -33,7 +34,8 @@ use std::thread::{Builder, JoinHandle, Promise, Scope, Threads};
 /// the lock. Nothing is said of the order in which threads get the lock, nor that a run ends: workers wait,
 /// and the gate may.
 ///
-/// The clause says of an outcome: its world has the opening that was handed in; its history is legal; it has a
+/// The clause says of an outcome: its world has the opening that was handed in, and its areas the counts of failures that
+/// they were handed in with; its history is legal; it has a
 /// transcript for each process, in the script's order, which follows the process's lines, or is empty and that
 /// of a child never born; without its marked calls a transcript is the process's own part of the history; only
 /// shmget and shmat are marked; the history has no other pids, and no call of one that was not live.
@@ -44,7 +46,8 @@ pub fn run_threads<R: Threads + Wait + Sync, G: Gate, P: Pager + Send>(
     script: &Script,
     gate: &G,
 ) -> Result<Outcome<P>, RunError>
-    ensures { IfOk result (λ o. IsOutcome script.now world.opening o.world o.transcripts.items) }
+    ensures { let counts = first_counts world.memory.swap in
+        IfOk result (λ o. IsOutcome script.now world.opening counts o.world o.transcripts.items) }
 {
     let (outcome, _) = run_with(rt, alloc, world, None, script, gate)?;
     Ok(outcome)
@@ -62,7 +65,8 @@ pub fn run_threads_gauged<R: Threads + Wait + Sync, G: Gate, P: Pager + Send>(
     script: &Script,
     gate: &G,
 ) -> Result<(Outcome<P>, Keeper), RunError>
-    ensures outcome { IfOk result (λ r. IsOutcome script.now world.opening r.0.world r.0.transcripts.items) }
+    ensures outcome { let counts = first_counts world.memory.swap in
+        IfOk result (λ r. IsOutcome script.now world.opening counts r.0.world r.0.transcripts.items) }
     ensures cell { IfOk result (λ r. r.1.cell ≡ keeper.cell) }
     ensures numbers { IfOk result (λ r. IsCaughtUp r.0.world r.1.numbers) }
 {
@@ -81,7 +85,8 @@ fn run_with<R: Threads + Wait + Sync, G: Gate, P: Pager + Send>(
     script: &Script,
     gate: &G,
 ) -> Result<(Outcome<P>, Option<Keeper>), RunError>
-    ensures outcome { IfOk result (λ r. IsOutcome script.now world.opening r.0.world r.0.transcripts.items) }
+    ensures outcome { let counts = first_counts world.memory.swap in
+        IfOk result (λ r. IsOutcome script.now world.opening counts r.0.world r.0.transcripts.items) }
     ensures cell { IfOk result (λ r. cell_of r.1 ≡ cell_of keeper) }
 {
     let start = prepared(alloc, &mut world, script)?;
@@ -97,21 +102,23 @@ fn run_prepared<R: Threads + Wait + Sync, G: Gate, P: Pager + Send>(
     script: &Script,
     gate: &G,
 ) -> Result<(Outcome<P>, Option<Keeper>), RunError>
-    requires opening { start.opening ≡ world.opening }
+    requires opening { start.origin.opening ≡ world.opening }
+    requires counts { start.origin.counts.items ≡ first_counts world.memory.swap }
     requires plan { IsPlan script.now.lines start.plan.jobs start.plan.handles start.plan.transcripts }
     requires room { length script.now.lines ≤ world.room }
-    ensures outcome { IfOk result (λ r. IsOutcome script.now world.opening r.0.world r.0.transcripts.items) }
+    ensures outcome { let counts = first_counts world.memory.swap in
+        IfOk result (λ r. IsOutcome script.now world.opening counts r.0.world r.0.transcripts.items) }
     ensures cell { IfOk result (λ r. cell_of r.1 ≡ cell_of keeper) }
 {
     let Start {
-        opening,
+        origin,
         processes,
         plan,
     } = start;
     let shared = Shared::new(world, processes);
     let run = run_all(rt, &shared, keeper, script, gate, plan);
     let world = shared.into_world();
-    match run_error(&opening, &world, script, &run) {
+    match run_error(&origin, &world, script, &run) {
         None => Ok(outcome_of(world, run)),
         Some(error) => Err(error),
     }
@@ -120,7 +127,7 @@ fn run_prepared<R: Threads + Wait + Sync, G: Gate, P: Pager + Send>(
 // All that a run takes memory for before its workers start, but for the room in its world.
 #[derive(Drop)]
 struct Start {
-    opening: Opening,
+    origin: Origin,
     processes: Vec<ProcessState>,
     plan: Plan,
 }
@@ -135,23 +142,24 @@ struct Plan {
     transcripts: Vec<Transcript>,
 }
 
-// The world's opening, and what the workers need. There is room for an event of each line.
+// What the world started from, and what the workers need. There is room for an event of each line.
 fn prepared<P: Pager>(
     alloc: Global,
     world: &mut World<P>,
     script: &Script,
 ) -> Result<Start, HostMemory>
-    ensures opening { IfOk result (λ s. s.opening ≡ world.old.opening) }
+    ensures opening { IfOk result (λ s. s.origin.opening ≡ world.old.opening) }
+    ensures counts { IfOk result (λ s. s.origin.counts.items ≡ first_counts world.old.memory.swap) }
     ensures plan { IfOk result (λ s. IsPlan script.now.lines s.plan.jobs s.plan.handles s.plan.transcripts) }
     ensures room { OnOk result (length script.now.lines ≤ world.new.room) }
     ensures rest { world.new ≡ record world.old { room = world.new.room } }
 {
-    let opening = copied(alloc, world.opening())?;
+    let origin = Origin::of(alloc, world)?;
     let processes = states(alloc, &script.processes)?;
     let plan = planned(alloc, script)?;
     world.reserve(script.lines.len())?;
     Ok(Start {
-        opening,
+        origin,
         processes,
         plan,
     })
@@ -182,14 +190,16 @@ struct Joined {
 
 // Why a run has no outcome, if it has none.
 fn run_error<P: Pager>(
-    opening: &Opening,
+    origin: &Origin,
     world: &World<P>,
     script: &Script,
     run: &Joined,
 ) -> Option<RunError>
-    ensures outcome { IfNone result (IsOutcome script.now opening.now world.now run.now.transcripts.items) }
+    ensures outcome { let counts = origin.now.counts.items in
+        IfNone result (IsOutcome script.now origin.now.opening counts world.now run.now.transcripts.items) }
     ensures started { IfNone result (run.now.is_refused ≡ false) }
-    ensures first { let found = IsMismatch script.now opening.now world.now run.now.transcripts.items in
+    ensures first { let counts = origin.now.counts.items in
+        let found = IsMismatch script.now origin.now.opening counts world.now run.now.transcripts.items in
         IfSome result (IsFirst run.now.is_refused run.now.expired found) }
 {
     if run.is_refused {
@@ -198,7 +208,7 @@ fn run_error<P: Pager>(
     if let Some(pid) = run.expired {
         return Some(RunError::GateExpired { pid });
     }
-    match mismatch(opening, world, script, &run.transcripts) {
+    match mismatch(origin, world, script, &run.transcripts) {
         None => None,
         Some(pid) => Some(RunError::HistoryMismatch { pid }),
     }

@@ -1,18 +1,29 @@
-use Rattle.std.proofs.Common.{subst, inl, ℕ, List, map, length}
-use Rattle.std.specs.Prelude.{OnOk, IfErr, true, false}
-use Rattle.shm_program.specs.Runs.{IsWritten, IsCauseIn}
-use Rattle.shm_runner.specs.Threaded.{IsThreadedOutput, IsAllOrNothing}
+use Rattle.std.proofs.Common.{◌≡◌, ap, sym, subst, inl, map, length}
+use Rattle.shm_pager.specs.Pages.{pager_seen}
+use Rattle.shm_slots.specs.View.{SwapView, AreUntouched}
+use Rattle.shm_slots.proofs.Starts.{untouched_new}
+use Rattle.shm_fault.specs.Store.{StoreView}
+use Rattle.shm_program.specs.Runs.{handed_in}
 use Rattle.shm_program.proofs.Causes.{stop_cause, silent_kept}
 use Rattle.shm_runner.proofs.threaded.run_script.Goals as goal
 
+pub requires-run_in-untouched : goal.requires-run_in-untouched
+requires-run_in-untouched g c =
+    let swap = ap (λ (m : StoreView). m.swap) c.in-Ok.ensures.memory in
+    subst AreUntouched (sym swap) (untouched_new (pager_seen g.P.Pager.content g.P.Pager.failed) c.args.pagers.items)
+
 pub returns-in-Ok-clause-ok : goal.returns-in-Ok-clause-ok
-returns-in-Ok-clause-ok g c = subst (λ (areas : List ℕ). OnOk c.run_in.result (IsWritten (IsThreadedOutput g.P.Pager.failed false c.args.script.now areas) (g.W.Write.contents c.args.writer.now) (g.W.Write.contents c.run_in.new.writer))) c.in-Ok.ensures.areas c.run_in.ensures.ok
+returns-in-Ok-clause-ok g c =
+    let swap : c.in-Ok.world.memory.swap ≡ handed_in g.P.Pager.content g.P.Pager.failed c.args.pagers.items = ap (λ (m : StoreView). m.swap) c.in-Ok.ensures.memory in
+    rw (← c.in-Ok.ensures.areas, ← swap) c.run_in.ensures.ok
 
 pub returns-in-Ok-clause-cause : goal.returns-in-Ok-clause-cause
-returns-in-Ok-clause-cause g c = subst (λ (areas : List ℕ). IfErr c.run_in.result (λ f. IsCauseIn f areas c.args.script.now)) c.in-Ok.ensures.areas c.run_in.ensures.cause
+returns-in-Ok-clause-cause g c = rw (← c.in-Ok.ensures.areas) c.run_in.ensures.cause
 
 pub returns-in-Ok-clause-written : goal.returns-in-Ok-clause-written
-returns-in-Ok-clause-written g c = subst (λ (areas : List ℕ). IfErr c.run_in.result (λ f. IsAllOrNothing f (g.W.Write.contents c.args.writer.now) (g.W.Write.contents c.run_in.new.writer) (IsWritten (IsThreadedOutput g.P.Pager.failed true c.args.script.now areas) (g.W.Write.contents c.args.writer.now) (g.W.Write.contents c.run_in.new.writer)))) c.in-Ok.ensures.areas c.run_in.ensures.written
+returns-in-Ok-clause-written g c =
+    let swap : c.in-Ok.world.memory.swap ≡ handed_in g.P.Pager.content g.P.Pager.failed c.args.pagers.items = ap (λ (m : StoreView). m.swap) c.in-Ok.ensures.memory in
+    rw (← c.in-Ok.ensures.areas, ← swap) c.run_in.ensures.written
 
 pub returns-in-Err-clause-cause : goal.returns-in-Err-clause-cause
 returns-in-Err-clause-cause g c = stop_cause c.in-Err.fault (map (λ p. length (g.P.Pager.content p)) c.args.pagers.items) c.args.script.now c.in-Err.ensures.err
