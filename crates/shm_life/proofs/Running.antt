@@ -1,6 +1,12 @@
 -- What calls keep of the memory.
 use Rattle.shm_life.proofs.Names.{◌≡◌, ◌<◌, ◌+◌, ℕ, true, false, List, [], ◌∷◌, length, drop, get_or, refl, sym, ◌∙◌, arith, ◌≤◌, drop-cons, is_err, OnOk, OnErr, Bounds, Entry, Runner, sizes, StoreView, frame_of, GoesOn-refl, Translation, AreTrue, KeepsMemory, IsWell, IsWellBut, IsTableSoundBut, KeepsOn, OrphansAmong, Sweeps, PiecesFit, reserved, locked}
 use Rattle.std.proofs.Common.{true≢false}
+use Rattle.shm_base.specs.Step.{Outcome}
+use Rattle.shm_base.specs.History.{is_refusal}
+use Rattle.shm_base.specs.declared.call.Reply.{Reply}
+use Rattle.shm_base.specs.declared.call.Reply.TheVariants.{Refused}
+use Rattle.shm_base.specs.declared.errno.Errno.{Errno}
+use Rattle.shm_life.specs.MachineView.{MachineView, Answered, IsFailed, names_failure}
 use Rattle.std.specs.Prelude.{Result, Ok, Err}
 
 pub keeps_refl : (m : StoreView) → KeepsOn m m
@@ -8,6 +14,18 @@ keeps_refl m = record { kept = λ seg page a b e. e; goes_on = GoesOn-refl m.swa
 
 pub keeps_on : (a b : StoreView) → KeepsMemory a b → KeepsOn a b
 keeps_on a b r = record { kept = r.kept; goes_on = r.goes_on }
+
+-- an answer that is no refusal
+pub granted : (o : Outcome) (reply : Reply) (s t : MachineView) → o ≡ record { reply = reply; state = t.flat } → is_refusal reply ≡ false → KeepsOn s.memory t.memory → Answered o false reply s t
+granted o reply s t step none keeps = record { step = λ _. step; failed = λ e. absurd (true≢false (sym e)); keeps = keeps; still = λ r _. absurd (true≢false (sym r ∙ none)) }
+
+-- an answer that leaves all as it was
+pub answered_as : (o : Outcome) (reply : Reply) (s : MachineView) → o ≡ record { reply = reply; state = s.flat } → Answered o false reply s s
+answered_as o reply s step = record { step = λ _. step; failed = λ e. absurd (true≢false (sym e)); keeps = keeps_refl s.memory; still = λ _ _. refl }
+
+-- a refusal that names a pager's failure
+pub failing : (o : Outcome) (errno : Errno) (s t : MachineView) → names_failure (Refused errno) ≡ true → IsFailed o s t → KeepsOn s.memory t.memory → Answered o true (Refused errno) s t
+failing o errno s t names failed keeps = record { step = λ e. absurd (true≢false e); failed = λ _. failed; keeps = keeps; still = λ _ n. absurd (true≢false (sym names ∙ n)) }
 
 -- translations stay true where no page moves
 pub true_still : (ts : List Translation) (a b : StoreView) → ((s page : ℕ) → frame_of b s page ≡ frame_of a s page) → AreTrue ts a → AreTrue ts b

@@ -1,17 +1,21 @@
 -- What contracts see of a machine: the flat machine, and the memory that its bytes lie in.
-use Rattle.std.specs.Prelude.{◌≡◌, ◌≤◌, Bool, true, false, length}
+use Rattle.std.specs.Prelude.{ℕ, ◌≡◌, ◌≤◌, Bool, true, false, length, Result, Ok, Err}
+use Rattle.shm_base.specs.declared.call.Call.{Call}
 use Rattle.shm_base.specs.declared.call.Reply.{Reply}
-use Rattle.shm_base.specs.declared.call.Reply.TheVariants.{Refused}
+use Rattle.shm_base.specs.declared.call.Reply.TheVariants.{Done, Refused}
+use Rattle.shm_base.specs.declared.errno.Errno.{Errno}
 use Rattle.shm_base.specs.declared.errno.Errno.TheVariants.{Sigbus, Eio}
 use Rattle.shm_base.specs.State.{Machine}
-use Rattle.shm_base.specs.Step.{Outcome}
-use Rattle.shm_base.specs.History.{is_refusal}
+use Rattle.shm_base.specs.Step.{Outcome, acts}
+use Rattle.shm_base.specs.History.{is_failure, is_refusal}
 use Rattle.shm_base.specs.Segments as flat
 use Rattle.shm_slots.specs.View.{sizes, swap_slots}
 use Rattle.shm_slots.specs.Cause.{GoesOn, had_cause}
 use Rattle.shm_fault.specs.Store.{StoreView, used}
 use Rattle.shm_fault.specs.Steps.{LockedPagesStay}
 use Rattle.shm_fault.specs.Sound.{IsStoreSound}
+use Rattle.shm_attach.specs.Spaces.{caller_seen}
+use Rattle.shm_attach.specs.declared.process.Caller.{Caller}
 use Rattle.shm_segments.specs.View.{ShowsTable}
 
 pub record MachineView : Type 0 where
@@ -39,6 +43,35 @@ pub record IsFailed (o : Outcome) (s t : MachineView) : Type 0 where
   pub instead : is_refusal o.reply ≡ false
   pub unchanged : t.flat ≡ s.flat
   pub cause : had_cause s.memory.swap t.memory.swap ≡ true
+
+-- the reply to a call that was answered so
+abbrev pub replied : {T : Type 0} → (T → Reply) → Result T Errno → Reply
+replied reply (Ok t) = reply t
+replied reply (Err errno) = Refused errno
+
+abbrev pub done : Unit {0} → Reply
+done _ = Done
+
+-- the same where the reply was put in a place of its own
+abbrev pub reply_in : Reply → Result (Unit {0}) Errno → Reply
+reply_in reply result = replied (λ _. reply) result
+
+-- What an answer leaves where the flat machine has this outcome: that reply and that state, or, where the reply names a
+-- pager's failure, the state as it was. The memory keeps on, and every other refusal leaves it as it was
+pub record Answered (o : Outcome) (names : Bool) (reply : Reply) (s t : MachineView) : Type 0 where
+  pub step : names ≡ false → o ≡ record { reply = reply; state = t.flat }
+  pub failed : names ≡ true → IsFailed o s t
+  pub keeps : KeepsOn s.memory t.memory
+  pub still : StillIfRefused reply s.memory t.memory
+
+-- what serving a caller's call at place n leaves
+abbrev pub Served : MachineView → ℕ → Caller → Call → Reply → MachineView → Type 0
+Served s n caller call reply t = Answered (acts s.flat n (caller_seen caller s.flat.runners) call) (is_failure call reply) reply s t
+
+-- no memory was left for a call that the flat machine does not refuse, and nothing changed
+pub record IsWithoutMemory (o : Outcome) (s t : MachineView) : Type 0 where
+  pub unchanged : t ≡ s
+  pub instead : is_refusal o.reply ≡ false
 
 -- The memory shows the flat machine and is sound, and no count is out of its bound: the slots that are used are
 -- no more than the pages of all segments, these no more than the slots that are there, nor than the limit

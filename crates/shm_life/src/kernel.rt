@@ -1,11 +1,12 @@
 //! The machine: one call of a process is one step of the flat machine.
-ghost use Rattle.std.specs.Prelude.{◌≡◌, true, false, OnOk, OnErr, IsOk};
-ghost use Rattle.shm_base.specs.Step.{step};
-ghost use Rattle.shm_base.specs.History.{is_failure, is_refusal};
-ghost use Rattle.shm_life.specs.MachineView.{IsFailed, KeepsOn, StillIfRefused};
+ghost use Rattle.std.specs.Prelude.{IfOk, OnOk, OnErr, IsOk};
+ghost use Rattle.shm_base.specs.Step.{acts, step};
+ghost use Rattle.shm_base.specs.History.{is_failure};
+ghost use Rattle.shm_attach.specs.Spaces.{IsCaller, caller_seen};
+ghost use Rattle.shm_life.specs.MachineView.{Answered, IsWithoutMemory, Served, reply_in};
 ghost use Rattle.shm_base.specs.Memory.{TakesNoMemory};
 
-use shm_attach::Spaces;
+use shm_attach::{Caller, Spaces};
 use shm_base::{Call, Errno, HostMemory, Limits, Reply};
 use shm_pager::Pager;
 use shm_segments::Segments;
@@ -50,44 +51,92 @@ impl<P: Pager> Kernel<P> {
         call: &Call,
         reply: &mut Reply,
     ) -> Result<(), HostMemory>
-        ensures step { OnOk result (is_failure call.now reply.new ≡ false → step self.old.flat time pid call.now ≡ record { reply = reply.new; state = self.new.flat }) }
-        ensures failed { OnOk result (is_failure call.now reply.new ≡ true → IsFailed (step self.old.flat time pid call.now) self.old self.new) }
-        ensures keeps { KeepsOn self.old.memory self.new.memory }
-        ensures still { OnOk result (StillIfRefused reply.new self.old.memory self.new.memory) }
-        ensures err { OnErr result (self.new ≡ self.old) }
-        ensures memory { OnErr result (is_refusal (step self.old.flat time pid call.now).reply ≡ false) }
+        ensures answered { OnOk result (Answered (step self.old.flat time pid call.now) (is_failure call.now reply.new) reply.new self.old self.new) }
+        ensures memory { OnErr result (IsWithoutMemory (step self.old.flat time pid call.now) self.old self.new) }
         ensures no_memory { TakesNoMemory call.now → IsOk result }
     {
         let Some(caller) = self.spaces.caller(pid) else {
             *reply = Reply::Refused(Errno::Esrch);
             return Ok(());
         };
-        match call {
+        if let Err(errno) = self.serve(time, &caller, call, reply)? {
+            *reply = Reply::Refused(errno);
+        }
+        Ok(())
+    }
+
+    // Serves a caller's call. The reply is put into its place, or the answer is why the call is refused.
+    #[inline(always)]
+    fn serve(
+        &mut self,
+        time: u64,
+        caller: &Caller,
+        call: &Call,
+        reply: &mut Reply,
+    ) -> Result<Result<(), Errno>, HostMemory>
+        requires { IsCaller caller.now self.old.flat.runners }
+        ensures served { IfOk result (λ r. Served self.old time caller.now call.now (reply_in reply.new r) self.new) }
+        ensures memory { let seen = caller_seen caller.now self.old.flat.runners in
+            OnErr result (IsWithoutMemory (acts self.old.flat time seen call.now) self.old self.new) }
+        ensures no_memory { TakesNoMemory call.now → IsOk result }
+    {
+        *reply = Reply::Done;
+        let served = match call {
             Call::Shmget {
                 key,
                 size,
                 mode,
                 flags,
-            } => return self.shmget(time, &caller, *key, *size, *mode, *flags, reply),
+            } => match self.shmget(time, caller, *key, *size, *mode, *flags)? {
+                Ok(id) => {
+                    *reply = Reply::Id(id);
+                    Ok(())
+                }
+                Err(errno) => Err(errno),
+            },
             Call::Shmat { id, addr, flags } => {
-                return self.shmat(time, &caller, *id, *addr, *flags, reply);
+                match self.shmat(time, caller, *id, *addr, *flags)? {
+                    Ok(base) => {
+                        *reply = Reply::Addr(base);
+                        Ok(())
+                    }
+                    Err(errno) => Err(errno),
+                }
             }
-            Call::Shmdt { addr } => self.shmdt(time, &caller, *addr, reply),
-            Call::Stat { id } => self.stat(&caller, *id, reply),
-            Call::Set { id, uid, gid, mode } => self.set(
-                time, &caller, *id, *uid, *gid, *mode, reply,
-            ),
-            Call::Rmid { id } => self.rmid(&caller, *id, reply),
-            Call::Lock { id } => self.lock(&caller, *id, reply),
-            Call::Unlock { id } => self.unlock(&caller, *id, reply),
-            Call::Load { addr, len } => self.load(&caller, *addr, *len, reply),
-            Call::Store { addr, chunk } => self.store(&caller, *addr, chunk, reply),
-            Call::Xadd { addr, add } => self.xadd(&caller, *addr, *add, reply),
-            Call::Fork { child } => self.fork(&caller, *child, reply),
-            Call::Exec => self.exec(time, &caller, reply),
-            Call::Exit => self.exit(time, &caller, reply),
-            Call::Swapoff { area } => self.swapoff(&caller, *area, reply),
-        }
-        Ok(())
+            Call::Shmdt { addr } => self.shmdt(time, caller, *addr),
+            Call::Stat { id } => match self.stat(caller, *id) {
+                Ok(shown) => {
+                    *reply = Reply::Stat(shown);
+                    Ok(())
+                }
+                Err(errno) => Err(errno),
+            },
+            Call::Set { id, uid, gid, mode } => {
+                self.set(time, caller, *id, *uid, *gid, *mode)
+            }
+            Call::Rmid { id } => self.rmid(caller, *id),
+            Call::Lock { id } => self.lock(caller, *id),
+            Call::Unlock { id } => self.unlock(caller, *id),
+            Call::Load { addr, len } => self.load(caller, *addr, *len, reply),
+            Call::Store { addr, chunk } => self.store(caller, *addr, chunk),
+            Call::Xadd { addr, add } => match self.xadd(caller, *addr, *add) {
+                Ok(number) => {
+                    *reply = Reply::Number(number);
+                    Ok(())
+                }
+                Err(errno) => Err(errno),
+            },
+            Call::Fork { child } => self.fork(caller, *child),
+            Call::Exec => {
+                self.exec(time, caller);
+                Ok(())
+            }
+            Call::Exit => {
+                self.exit(time, caller);
+                Ok(())
+            }
+            Call::Swapoff { area } => self.swapoff(caller, *area),
+        };
+        Ok(served)
     }
 }

@@ -1,13 +1,13 @@
 //! shmat: a segment is attached.
-ghost use Rattle.std.specs.Prelude.{◌≡◌, ◌+◌, ◌*◌, ◌≤◌, false, length, IfOk, OnOk, OnErr};
-ghost use Rattle.shm_base.specs.History.{is_refusal};
+ghost use Rattle.std.specs.Prelude.{◌≡◌, ◌+◌, ◌*◌, ◌≤◌, length, IfOk, OnErr};
 ghost use Rattle.shm_base.specs.Space.{cut};
 ghost use Rattle.shm_base.specs.Step as flat;
-ghost use Rattle.shm_areas.specs.Arranged.{bare_all};
+ghost use Rattle.shm_base.specs.declared.call.Call.TheVariants as call;
+ghost use Rattle.shm_base.specs.declared.call.Reply.TheVariants.{Addr};
 ghost use Rattle.shm_attach.specs.Place.{IsRange};
 ghost use Rattle.shm_attach.specs.Spaces.{IsCaller, pieces_at, caller_seen};
 ghost use Rattle.shm_life.specs.Address.{misplaced};
-ghost use Rattle.shm_life.specs.MachineView.{KeepsOn, StillIfRefused};
+ghost use Rattle.shm_life.specs.MachineView.{IsWithoutMemory, Served, replied};
 ghost use Rattle.shm_life.specs.Placing.{placed, piece_for};
 ghost use Rattle.shm_life.specs.Tied.{PieceFits};
 
@@ -15,7 +15,7 @@ use crate::kernel::Kernel;
 use crate::sweep::after_detach;
 use bitflags::Flags;
 use shm_attach::Caller;
-use shm_base::{AtFlags, Errno, HostMemory, MOST_PIECES, PAGE_SIZE, Reply, ShmId, Want, grants};
+use shm_base::{AtFlags, Errno, HostMemory, MOST_PIECES, PAGE_SIZE, ShmId, Want, grants};
 use shm_pager::Pager;
 
 /// Whether a null address comes with SHM_REMAP, or another is unaligned without SHM_RND (shmop(2)).
@@ -91,23 +91,16 @@ impl<P: Pager> Kernel<P> {
         id: ShmId,
         addr: u64,
         flags: AtFlags,
-        reply: &mut Reply,
-    ) -> Result<(), HostMemory>
+    ) -> Result<Result<u64, Errno>, HostMemory>
         requires { IsCaller caller.now self.old.flat.runners }
-        ensures step { OnOk result (flat.shmat self.old.flat time (caller_seen caller.now self.old.flat.runners) id addr flags ≡ record { reply = reply.new; state = self.new.flat }) }
-        ensures keeps { KeepsOn self.old.memory self.new.memory }
-        ensures still { OnOk result (StillIfRefused reply.new self.old.memory self.new.memory) }
-        ensures err { OnErr result (self.new ≡ self.old) }
-        ensures memory { OnErr result (is_refusal (flat.shmat self.old.flat time (caller_seen caller.now self.old.flat.runners) id addr flags).reply ≡ false) }
+        ensures served { IfOk result (λ r. Served self.old time caller.now (call.Shmat id addr flags) (replied Addr r) self.new) }
+        ensures memory { let seen = caller_seen caller.now self.old.flat.runners in
+            OnErr result (IsWithoutMemory (flat.shmat self.old.flat time seen id addr flags) self.old self.new) }
     {
-        let placed = match self.place_for(caller, id, addr, flags) {
+        let Placed { seg, pages, base } = match self.place_for(caller, id, addr, flags) {
             Ok(placed) => placed,
-            Err(errno) => {
-                *reply = Reply::Refused(errno);
-                return Ok(());
-            }
+            Err(errno) => return Ok(Err(errno)),
         };
-        let Placed { seg, pages, base } = placed;
         let writable = !flags.contains(AtFlags::RDONLY);
         let store = self.segments.store();
         let lost = self
@@ -121,7 +114,6 @@ impl<P: Pager> Kernel<P> {
             time,
             caller.pid,
         );
-        *reply = Reply::Addr(base);
-        Ok(())
+        Ok(Ok(base))
     }
 }

@@ -1,5 +1,5 @@
 //! shmctl: stat, set, rmid, lock and unlock.
-ghost use Rattle.std.specs.Prelude.{◌≡◌, ℕ, ◌+◌, ◌&&◌, not, nat_lt, ◌%◌, [], IfSome, IfNone};
+ghost use Rattle.std.specs.Prelude.{◌≡◌, ℕ, ◌+◌, ◌&&◌, not, nat_lt, ◌%◌, [], IfOk, IfErr};
 ghost use Rattle.shm_base.specs.Identifier as flat_ids;
 ghost use Rattle.shm_base.specs.Permission as permission;
 ghost use Rattle.shm_base.specs.Segments.{locked};
@@ -8,13 +8,15 @@ ghost use Rattle.shm_base.specs.Step as flat;
 ghost use Rattle.shm_attach.specs.Spaces.{caller_seen};
 ghost use Rattle.shm_segments.specs.Joined.{segment_of};
 ghost use Rattle.shm_segments.specs.Table.{IsFound, segment_seen};
-ghost use Rattle.shm_life.specs.MachineView.{KeepsOn, StillIfRefused};
+ghost use Rattle.shm_base.specs.declared.call.Call.TheVariants as call;
+ghost use Rattle.shm_base.specs.declared.call.Reply.TheVariants.{Stat, Refused};
+ghost use Rattle.shm_life.specs.MachineView.{Served, replied, done};
 
 use crate::kernel::Kernel;
 use crate::sweep::sweep;
 use bitflags::Flags;
 use shm_attach::Caller;
-use shm_base::{Cred, Errno, Perm, Reply, ShmId, ShmidDs, Status, Want, grants};
+use shm_base::{Cred, Errno, Perm, ShmId, ShmidDs, Status, Want, grants};
 use shm_pager::Pager;
 use shm_segments::Found;
 
@@ -57,40 +59,31 @@ impl<P: Pager> Kernel<P> {
     }
 
     /// Shows a segment (IPC_STAT): Einval or Eidrm for the identifier, Eacces without read permission.
-    pub(crate) fn stat(&self, caller: &Caller, id: ShmId, reply: &mut Reply)
-        ensures { flat.stat self.now.flat (caller_seen caller.now self.now.flat.runners) (flat_ids.look self.now.flat.table id) ≡ record { reply = reply.new; state = self.now.flat } }
+    pub(crate) fn stat(&self, caller: &Caller, id: ShmId) -> Result<ShmidDs, Errno>
+        ensures { (n : ℕ) → Served self.now n caller.now (call.Stat id) (replied Stat result) self.now }
     {
-        let found = match self.segments.look(id) {
-            Ok(found) => found,
-            Err(errno) => {
-                *reply = Reply::Refused(errno);
-                return;
-            }
-        };
+        let found = self.segments.look(id)?;
         let want = Want {
             read: true,
             write: false,
         };
         if !grants(&caller.cred, &found.head.perm, want) {
-            *reply = Reply::Refused(Errno::Eacces);
-            return;
+            return Err(Errno::Eacces);
         }
-        *reply = Reply::Stat(self.shown(&found));
+        Ok(self.shown(&found))
     }
 
-    // The segment that a caller controls, or none where the reply says why not: Einval or Eidrm for the identifier,
-    // Eperm where it is another's.
-    fn controlled(&self, caller: &Caller, id: ShmId, reply: &mut Reply) -> Option<Found>
-        ensures found { IfSome result (IsFound self.now.flat.table) }
-        ensures some { IfSome result (λ f. (act : ℕ → Segment → flat.Outcome) → flat.controls self.now.flat (caller_seen caller.now self.now.flat.runners) act (flat_ids.look self.now.flat.table id) ≡ act (f.seg % 32768) (segment_seen self.now.flat.table f)) }
-        ensures none { IfNone result ((act : ℕ → Segment → flat.Outcome) → flat.controls self.now.flat (caller_seen caller.now self.now.flat.runners) act (flat_ids.look self.now.flat.table id) ≡ record { reply = reply.new; state = self.now.flat }) }
+    // The segment that a caller controls: Einval or Eidrm for the identifier, Eperm if it is another's.
+    fn controlled(&self, caller: &Caller, id: ShmId) -> Result<Found, Errno>
+        ensures found { IfOk result (IsFound self.now.flat.table) }
+        ensures ok { IfOk result (λ f. (act : ℕ → Segment → flat.Outcome) → flat.controls self.now.flat (caller_seen caller.now self.now.flat.runners) act (flat_ids.look self.now.flat.table id) ≡ act (f.seg % 32768) (segment_seen self.now.flat.table f)) }
+        ensures err { IfErr result (λ e. (act : ℕ → Segment → flat.Outcome) → flat.controls self.now.flat (caller_seen caller.now self.now.flat.runners) act (flat_ids.look self.now.flat.table id) ≡ record { reply = Refused e; state = self.now.flat }) }
     {
-        match self.segments.look(id) {
-            Ok(found) if owns(&caller.cred, &found.head.perm) => return Some(found),
-            Ok(_) => *reply = Reply::Refused(Errno::Eperm),
-            Err(errno) => *reply = Reply::Refused(errno),
+        let found = self.segments.look(id)?;
+        if !owns(&caller.cred, &found.head.perm) {
+            return Err(Errno::Eperm);
         }
-        None
+        Ok(found)
     }
 
     #[tactic(auto, using(crate::proofs::Running::keeps_refl))]
@@ -103,32 +96,23 @@ impl<P: Pager> Kernel<P> {
         uid: u32,
         gid: u32,
         mode: u16,
-        reply: &mut Reply,
-    )
-        ensures step { flat.controls self.old.flat (caller_seen caller.now self.old.flat.runners) (flat.sets self.old.flat time uid gid mode) (flat_ids.look self.old.flat.table id) ≡ record { reply = reply.new; state = self.new.flat } }
-        ensures keeps { KeepsOn self.old.memory self.new.memory }
-        ensures still { StillIfRefused reply.new self.old.memory self.new.memory }
+    ) -> Result<(), Errno>
+        ensures { Served self.old time caller.now (call.Set id uid gid mode) (replied done result) self.new }
     {
-        let Some(found) = self.controlled(caller, id, reply) else {
-            return;
-        };
+        let found = self.controlled(caller, id)?;
         self.segments.set_owner(found.seg, time, uid, gid, mode);
-        *reply = Reply::Done;
+        Ok(())
     }
 
     #[tactic(auto, using(crate::proofs::Running::keeps_refl))]
     /// Destroys a segment without pieces, and marks one that has some (IPC_RMID).
-    pub(crate) fn rmid(&mut self, caller: &Caller, id: ShmId, reply: &mut Reply)
-        ensures step { flat.controls self.old.flat (caller_seen caller.now self.old.flat.runners) (flat.removes self.old.flat) (flat_ids.look self.old.flat.table id) ≡ record { reply = reply.new; state = self.new.flat } }
-        ensures keeps { KeepsOn self.old.memory self.new.memory }
-        ensures still { StillIfRefused reply.new self.old.memory self.new.memory }
+    pub(crate) fn rmid(&mut self, caller: &Caller, id: ShmId) -> Result<(), Errno>
+        ensures { (n : ℕ) → Served self.old n caller.now (call.Rmid id) (replied done result) self.new }
     {
-        let Some(found) = self.controlled(caller, id, reply) else {
-            return;
-        };
+        let found = self.controlled(caller, id)?;
         self.segments.mark(found.seg);
         sweep(&mut self.segments, &self.spaces, &[found.seg]);
-        *reply = Reply::Done;
+        Ok(())
     }
 
     // Whether a segment is not locked and its pages are too many beside those that are.
@@ -142,33 +126,24 @@ impl<P: Pager> Kernel<P> {
 
     #[tactic(auto, using(crate::proofs::Running::keeps_refl))]
     /// Locks a segment's pages (SHM_LOCK): Enomem where those of all locked segments would exceed MEMLOCK.
-    pub(crate) fn lock(&mut self, caller: &Caller, id: ShmId, reply: &mut Reply)
-        ensures step { flat.controls self.old.flat (caller_seen caller.now self.old.flat.runners) (flat.locks self.old.flat) (flat_ids.look self.old.flat.table id) ≡ record { reply = reply.new; state = self.new.flat } }
-        ensures keeps { KeepsOn self.old.memory self.new.memory }
-        ensures still { StillIfRefused reply.new self.old.memory self.new.memory }
+    pub(crate) fn lock(&mut self, caller: &Caller, id: ShmId) -> Result<(), Errno>
+        ensures { (n : ℕ) → Served self.old n caller.now (call.Lock id) (replied done result) self.new }
     {
-        let Some(found) = self.controlled(caller, id, reply) else {
-            return;
-        };
+        let found = self.controlled(caller, id)?;
         if self.exceeds_memlock(&found) {
-            *reply = Reply::Refused(Errno::Enomem);
-            return;
+            return Err(Errno::Enomem);
         }
         self.segments.set_locked(found.seg, true);
-        *reply = Reply::Done;
+        Ok(())
     }
 
     #[tactic(auto, using(crate::proofs::Running::keeps_refl))]
     /// Unlocks a segment's pages (SHM_UNLOCK).
-    pub(crate) fn unlock(&mut self, caller: &Caller, id: ShmId, reply: &mut Reply)
-        ensures step { flat.controls self.old.flat (caller_seen caller.now self.old.flat.runners) (flat.unlocks self.old.flat) (flat_ids.look self.old.flat.table id) ≡ record { reply = reply.new; state = self.new.flat } }
-        ensures keeps { KeepsOn self.old.memory self.new.memory }
-        ensures still { StillIfRefused reply.new self.old.memory self.new.memory }
+    pub(crate) fn unlock(&mut self, caller: &Caller, id: ShmId) -> Result<(), Errno>
+        ensures { (n : ℕ) → Served self.old n caller.now (call.Unlock id) (replied done result) self.new }
     {
-        let Some(found) = self.controlled(caller, id, reply) else {
-            return;
-        };
+        let found = self.controlled(caller, id)?;
         self.segments.set_locked(found.seg, false);
-        *reply = Reply::Done;
+        Ok(())
     }
 }

@@ -1,13 +1,12 @@
 //! shmdt: the pieces that are left of an attach go.
-ghost use Rattle.std.specs.Prelude.{◌≡◌};
-ghost use Rattle.shm_base.specs.Step as flat;
-ghost use Rattle.shm_attach.specs.Spaces.{IsCaller, caller_seen};
-ghost use Rattle.shm_life.specs.MachineView.{KeepsOn, StillIfRefused};
+ghost use Rattle.shm_base.specs.declared.call.Call.TheVariants as call;
+ghost use Rattle.shm_attach.specs.Spaces.{IsCaller};
+ghost use Rattle.shm_life.specs.MachineView.{Served, replied, done};
 
 use crate::kernel::Kernel;
 use crate::sweep::after_detach;
 use shm_attach::Caller;
-use shm_base::{Errno, Reply};
+use shm_base::Errno;
 use shm_pager::Pager;
 
 impl<P: Pager> Kernel<P> {
@@ -15,19 +14,16 @@ impl<P: Pager> Kernel<P> {
     /// Detaches the pieces that are left of an attach (shmop(2)): among the pieces whose segment would begin at
     /// the address the lowest names the segment, and all pieces of that segment with this origin go (the origin
     /// is this profile's). Einval where there is none.
-    pub(crate) fn shmdt(&mut self, time: u64, caller: &Caller, addr: u64, reply: &mut Reply)
+    pub(crate) fn shmdt(&mut self, time: u64, caller: &Caller, addr: u64) -> Result<(), Errno>
         requires { IsCaller caller.now self.old.flat.runners }
-        ensures step { flat.shmdt self.old.flat time (caller_seen caller.now self.old.flat.runners) addr ≡ record { reply = reply.new; state = self.new.flat } }
-        ensures keeps { KeepsOn self.old.memory self.new.memory }
-        ensures still { StillIfRefused reply.new self.old.memory self.new.memory }
+        ensures { Served self.old time caller.now (call.Shmdt addr) (replied done result) self.new }
     {
         let Some(origin) = self.spaces.space(caller).origin_of(addr) else {
-            *reply = Reply::Refused(Errno::Einval);
-            return;
+            return Err(Errno::Einval);
         };
         self.spaces.detach(caller, addr, origin.seg);
         let lost = [origin.seg];
         after_detach(&mut self.segments, &self.spaces, &lost, time, caller.pid);
-        *reply = Reply::Done;
+        Ok(())
     }
 }

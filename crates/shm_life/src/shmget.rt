@@ -1,18 +1,20 @@
 //! shmget: an existing segment by its key, or a new one.
-ghost use Rattle.std.specs.Prelude.{◌≡◌, ◌≢◌, ℕ, false, [], OnOk, OnErr};
-ghost use Rattle.shm_base.specs.History.{is_refusal};
+ghost use Rattle.std.specs.Prelude.{◌≡◌, ◌≢◌, ℕ, false, [], IfOk, OnErr};
+ghost use Rattle.shm_base.specs.State.{Machine};
+ghost use Rattle.shm_base.specs.declared.call.Call.TheVariants as call;
+ghost use Rattle.shm_base.specs.declared.call.Reply.TheVariants.{Id};
 ghost use Rattle.shm_base.specs.Identifier as flat_ids;
 ghost use Rattle.shm_base.specs.Permission as permission;
 ghost use Rattle.shm_base.specs.Step as flat;
 ghost use Rattle.shm_attach.specs.Spaces.{caller_seen};
 ghost use Rattle.shm_segments.specs.Joined.{head_of};
 ghost use Rattle.shm_segments.specs.Table.{IsFound, look_of};
-ghost use Rattle.shm_life.specs.MachineView.{KeepsOn, StillIfRefused};
+ghost use Rattle.shm_life.specs.MachineView.{Answered, IsWithoutMemory, Served, replied};
 
 use crate::kernel::Kernel;
 use bitflags::Flags;
 use shm_attach::Caller;
-use shm_base::{Errno, GetFlags, HostMemory, MODES, Perm, Reply, Want, grants, pages_of};
+use shm_base::{Errno, GetFlags, HostMemory, MODES, Perm, ShmId, Want, grants, pages_of};
 use shm_pager::Pager;
 use shm_segments::{Found, Head};
 
@@ -51,6 +53,28 @@ fn new_head(time: u64, caller: &Caller, size: u64, mode: u16) -> Head
     }
 }
 
+// An existing segment. Eexist where it was to be new, Einval where it is too small, Eacces.
+fn get(
+    caller: &Caller,
+    found: &Found,
+    size: u64,
+    mode: u16,
+    flags: GetFlags,
+) -> Result<ShmId, Errno>
+    ensures { (s : Machine) (n key : ℕ) → IsFound s.table found.now → flat.gets s n (caller_seen caller.now s.runners) key size mode flags (look_of s.table found.now) ≡ record { reply = replied Id result; state = s } }
+{
+    if flags.contains(GetFlags::CREAT) && flags.contains(GetFlags::EXCL) {
+        return Err(Errno::Eexist);
+    }
+    if size > found.head.size {
+        return Err(Errno::Einval);
+    }
+    if !grants(&caller.cred, &found.head.perm, wish_of(mode)) {
+        return Err(Errno::Eacces);
+    }
+    Ok(found.id)
+}
+
 impl<P: Pager> Kernel<P> {
     #[tactic(auto, using(crate::proofs::Running::keeps_refl))]
     /// The segment with a key, or a new one where the key is IPC_PRIVATE (0), or where no segment has it and
@@ -63,53 +87,19 @@ impl<P: Pager> Kernel<P> {
         size: u64,
         mode: u16,
         flags: GetFlags,
-        reply: &mut Reply,
-    ) -> Result<(), HostMemory>
-        ensures step { OnOk result (flat.shmget self.old.flat time (caller_seen caller.now self.old.flat.runners) key size mode flags ≡ record { reply = reply.new; state = self.new.flat }) }
-        ensures keeps { KeepsOn self.old.memory self.new.memory }
-        ensures still { OnOk result (StillIfRefused reply.new self.old.memory self.new.memory) }
-        ensures err { OnErr result (self.new ≡ self.old) }
-        ensures memory { OnErr result (is_refusal (flat.shmget self.old.flat time (caller_seen caller.now self.old.flat.runners) key size mode flags).reply ≡ false) }
+    ) -> Result<Result<ShmId, Errno>, HostMemory>
+        ensures served { IfOk result (λ r. Served self.old time caller.now (call.Shmget key size mode flags) (replied Id r) self.new) }
+        ensures memory { let seen = caller_seen caller.now self.old.flat.runners in
+            OnErr result (IsWithoutMemory (flat.shmget self.old.flat time seen key size mode flags) self.old self.new) }
     {
         if key == 0 {
-            return self.create(time, caller, 0, size, mode, reply);
+            return self.create(time, caller, 0, size, mode);
         }
         match self.segments.find_key(key) {
-            Some(found) => self.get(caller, &found, size, mode, flags, reply),
-            None if flags.contains(GetFlags::CREAT) => {
-                return self.create(time, caller, key, size, mode, reply);
-            }
-            None => *reply = Reply::Refused(Errno::Enoent),
+            Some(found) => Ok(get(caller, &found, size, mode, flags)),
+            None if flags.contains(GetFlags::CREAT) => self.create(time, caller, key, size, mode),
+            None => Ok(Err(Errno::Enoent)),
         }
-        Ok(())
-    }
-
-    // An existing segment. Eexist where it was to be new, Einval where it is too small, Eacces.
-    fn get(
-        &self,
-        caller: &Caller,
-        found: &Found,
-        size: u64,
-        mode: u16,
-        flags: GetFlags,
-        reply: &mut Reply,
-    )
-        requires { IsFound self.now.flat.table found.now }
-        ensures { (n key : ℕ) → flat.gets self.now.flat n (caller_seen caller.now self.now.flat.runners) key size mode flags (look_of self.now.flat.table found.now) ≡ record { reply = reply.new; state = self.now.flat } }
-    {
-        if flags.contains(GetFlags::CREAT) && flags.contains(GetFlags::EXCL) {
-            *reply = Reply::Refused(Errno::Eexist);
-            return;
-        }
-        if size > found.head.size {
-            *reply = Reply::Refused(Errno::Einval);
-            return;
-        }
-        if !grants(&caller.cred, &found.head.perm, wish_of(mode)) {
-            *reply = Reply::Refused(Errno::Eacces);
-            return;
-        }
-        *reply = Reply::Id(found.id);
     }
 
     #[tactic(auto, using(crate::proofs::Running::keeps_refl))]
@@ -122,34 +112,28 @@ impl<P: Pager> Kernel<P> {
         key: u32,
         size: u64,
         mode: u16,
-        reply: &mut Reply,
-    ) -> Result<(), HostMemory>
+    ) -> Result<Result<ShmId, Errno>, HostMemory>
         requires absent { key ≢ 0 → flat_ids.find_key self.old.flat.table key ≡ flat_ids.Invalid }
-        ensures step { OnOk result (flat.creates self.old.flat time (caller_seen caller.now self.old.flat.runners) key size mode ≡ record { reply = reply.new; state = self.new.flat }) }
-        ensures keeps { KeepsOn self.old.memory self.new.memory }
-        ensures still { OnOk result (StillIfRefused reply.new self.old.memory self.new.memory) }
-        ensures err { OnErr result (self.new ≡ self.old) }
-        ensures memory { OnErr result (is_refusal (flat.creates self.old.flat time (caller_seen caller.now self.old.flat.runners) key size mode).reply ≡ false) }
+        ensures created { let seen = caller_seen caller.now self.old.flat.runners in
+            IfOk result (λ r. Answered (flat.creates self.old.flat time seen key size mode) false (replied Id r) self.old self.new) }
+        ensures memory { let seen = caller_seen caller.now self.old.flat.runners in
+            OnErr result (IsWithoutMemory (flat.creates self.old.flat time seen key size mode) self.old self.new) }
     {
         if size < 1 || size > self.limits.shmmax() {
-            *reply = Reply::Refused(Errno::Einval);
-            return Ok(());
+            return Ok(Err(Errno::Einval));
         }
         let reserved = self.segments.reserved() + pages_of(size);
         if reserved > self.limits.shmall()
             || self.segments.count() >= self.limits.shmmni()
             || self.segments.is_full()
         {
-            *reply = Reply::Refused(Errno::Enospc);
-            return Ok(());
+            return Ok(Err(Errno::Enospc));
         }
         if reserved > self.segments.store().swap().capacity() {
-            *reply = Reply::Refused(Errno::Enomem);
-            return Ok(());
+            return Ok(Err(Errno::Enomem));
         }
         let head = new_head(time, caller, size, mode);
         let id = self.segments.create(key, head)?;
-        *reply = Reply::Id(id);
-        Ok(())
+        Ok(Ok(id))
     }
 }

@@ -1,14 +1,11 @@
 //! swapoff: a swap area is taken away.
-ghost use Rattle.std.specs.Prelude.{◌≡◌, true, false};
-ghost use Rattle.shm_base.specs.History.{is_failure};
-ghost use Rattle.shm_base.specs.Step as flat;
+ghost use Rattle.std.specs.Prelude.{ℕ};
 ghost use Rattle.shm_base.specs.declared.call.Call.TheVariants as call;
-ghost use Rattle.shm_attach.specs.Spaces.{caller_seen};
-ghost use Rattle.shm_life.specs.MachineView.{IsFailed, KeepsOn, StillIfRefused};
+ghost use Rattle.shm_life.specs.MachineView.{Served, replied, done};
 
 use crate::kernel::Kernel;
 use shm_attach::Caller;
-use shm_base::{Errno, Reply};
+use shm_base::Errno;
 use shm_pager::Pager;
 
 impl<P: Pager> Kernel<P> {
@@ -16,29 +13,22 @@ impl<P: Pager> Kernel<P> {
     /// Takes a swap area away (swapoff(2)). Eperm for every user but 0; Einval where there is no such area,
     /// or no more; Enomem where the others have fewer slots than all segments have pages; Eio where a pager
     /// failed, and then the area stays.
-    pub(crate) fn swapoff(&mut self, caller: &Caller, area: u32, reply: &mut Reply)
-        ensures step { is_failure (call.Swapoff area) reply.new ≡ false → flat.swapoff self.old.flat (caller_seen caller.now self.old.flat.runners) area ≡ record { reply = reply.new; state = self.new.flat } }
-        ensures failed { is_failure (call.Swapoff area) reply.new ≡ true → IsFailed (flat.swapoff self.old.flat (caller_seen caller.now self.old.flat.runners) area) self.old self.new }
-        ensures keeps { KeepsOn self.old.memory self.new.memory }
-        ensures still { StillIfRefused reply.new self.old.memory self.new.memory }
+    pub(crate) fn swapoff(&mut self, caller: &Caller, area: u32) -> Result<(), Errno>
+        ensures { (n : ℕ) → Served self.old n caller.now (call.Swapoff area) (replied done result) self.new }
     {
         if caller.cred.uid != 0 {
-            *reply = Reply::Refused(Errno::Eperm);
-            return;
+            return Err(Errno::Eperm);
         }
         let swap = self.segments.store().swap();
         let Some(size) = swap.size(area) else {
-            *reply = Reply::Refused(Errno::Einval);
-            return;
+            return Err(Errno::Einval);
         };
         if swap.capacity() < self.segments.reserved() + u64::from(size) {
-            *reply = Reply::Refused(Errno::Enomem);
-            return;
+            return Err(Errno::Enomem);
         }
         if self.segments.move_off(area).is_err() {
-            *reply = Reply::Refused(Errno::Eio);
-            return;
+            return Err(Errno::Eio);
         }
-        *reply = Reply::Done;
+        Ok(())
     }
 }

@@ -1,5 +1,6 @@
-use Rattle.shm_life.proofs.Names.{◌∙◌, ◌≡◌, ◌+◌, ◌≤◌, ℕ, Some, ap, pages_of, reserved, frame_of, made, KeepsMemory}
+use Rattle.shm_life.proofs.Names.{rules, ◌∙◌, ◌≡◌, ◌+◌, ◌≤◌, ℕ, Some, ap, pages_of, reserved, frame_of, made, KeepsMemory}
 use Rattle.shm_life.proofs.Created.{created-kept}
+use Rattle.shm_life.proofs.Attaching.{on-err}
 use Rattle.shm_life.proofs.Running.{true_still}
 use Rattle.shm_life.proofs.kernel.Kernel.create.Goals as goal
 
@@ -20,3 +21,6 @@ invariant_of-self-2 g c =
       room = c.self.invariant.room;
       translated = true_still c.self.inside.spaces.translations c.self.inside.segments.memory c.create.new.self.memory still c.self.invariant.translated;
     }
+
+pub returns-in_err-id-clause-memory : goal.returns-in_err-id-clause-memory
+returns-in_err-id-clause-memory g c = on-err c.from_residual.result (record { unchanged = search rules; instead = search rules })

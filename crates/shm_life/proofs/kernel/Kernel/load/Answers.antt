@@ -1,9 +1,9 @@
-use Rattle.shm_life.proofs.Names.{◌≡◌, length, refl, arith, common_steps, false, Some, sym, ap, ◌∙◌, loaded, span_places, Machine, gives, Bytes, IsCaller, pieces_at, wanted, load-wanted, sizes, SameTable, same-refl, IsWell}
+use Rattle.shm_life.proofs.Names.{rules, ◌≡◌, length, refl, arith, common_steps, false, Some, sym, ap, ◌∙◌, loaded, span_places, Machine, gives, Bytes, IsCaller, pieces_at, wanted, load-wanted, sizes, SameTable, same-refl, IsWell}
 use Rattle.std.proofs.Math.Seq.{take-append_seam}
 use Rattle.shm_base.proofs.Padded.{padded}
 use Rattle.shm_life.proofs.Settled.{noted-well, moved-by}
 use Rattle.shm_life.proofs.Changed.{spans-there, asked}
-use Rattle.shm_life.proofs.Running.{ok_fact}
+use Rattle.shm_life.proofs.Running.{granted, keeps_refl, ok_fact}
 use Rattle.shm_life.proofs.kernel.Kernel.load.Given.{Over}
 use Rattle.shm_life.proofs.kernel.Kernel.load.Goals as goal
 use Rattle.shm_life.proofs.kernel.Kernel.load.Goals.{After-note}
@@ -22,8 +22,8 @@ from_array-requires g c =
     let at : c.get-2.result ≡ length c.read-read.new.out = c.get-2.ensures.value ∙ read in
     record { zeros = rw at (padded c.read-read.new.out c.read-read.new.out c.args.len read (rw c.get-2.ensures.value at c.get-2.ensures.range.1) refl).1 }
 
-pub returns-clause-step : goal.returns-clause-step
-returns-clause-step g c = λ _.
+pub returns : goal.returns
+returns g c = λ n.
     let rs = c.self.inside.spaces.runners in
     let m : Machine = record { limits = c.self.inside.limits; areas = sizes c.self.inside.segments.memory.swap; table = c.self.inside.segments.table; runners = rs } in
     let caller = c.args.caller.now in
@@ -32,9 +32,9 @@ returns-clause-step g c = λ _.
     let places : wanted false caller.pid c.args.addr c.args.len rs ≡ Some spans = rw c.get.ensures.value at c.in-Ok.ensures.spans.places in
     let step = load-wanted m (pieces_at rs caller.index) c.args.addr c.args.len spans (asked false rs caller c.args.addr c.args.len _ is places) in
     let out = ok_fact c.read-read.result _ (sym c.is_err.ensures.value ∙ c.if-is_err.false) c.read-read.ensures.bytes in
-    let read = size g (goal.at.returns-clause-step g c).After-note in
+    let read = size g (goal.at.returns g c).After-note in
     let bytes : c.from_array.result ≡ loaded m.table spans = c.from_array.ensures ∙ rw read (take-append_seam c.read-read.new.out _) ∙ rw c.as_slice.ensures.value at out in
-    rw (← c.self.view_is, c.note.ensures.runners, c.read-read.ensures.table, c.read-read.ensures.access.same_sizes) (step ∙ ap (λ bs. gives m (Bytes bs)) (sym bytes))
+    granted _ _ _ _ (rw (← c.self.view_is, c.note.ensures.runners, c.read-read.ensures.table, c.read-read.ensures.access.same_sizes) (step ∙ ap (λ bs. gives m (Bytes bs)) (sym bytes))) refl (search (rules, keeps_refl))
 
 -- done or not
 well : (g : Over) (c : After-note g) → IsWell c.self.inside.limits c.read-read.new.self.table c.note.new.self.runners c.note.new.self.translations c.read-read.new.self.memory

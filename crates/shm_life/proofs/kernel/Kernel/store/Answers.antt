@@ -1,7 +1,7 @@
-use Rattle.shm_life.proofs.Names.{arith, common_steps, true, false, length, refl, sym, ◌∙◌, span_places, Machine, IsCaller, pieces_at, store-wanted, sizes, SameTable, stored-same, IsWell}
+use Rattle.shm_life.proofs.Names.{rules, arith, common_steps, true, false, length, refl, sym, ◌∙◌, span_places, Machine, IsCaller, pieces_at, store-wanted, sizes, SameTable, stored-same, IsWell}
 use Rattle.shm_life.proofs.Settled.{noted-well, moved-by}
 use Rattle.shm_life.proofs.Changed.{spans-there, asked, either-same}
-use Rattle.shm_life.proofs.Running.{ok_fact}
+use Rattle.shm_life.proofs.Running.{granted, keeps_refl, ok_fact}
 use Rattle.shm_life.proofs.kernel.Kernel.store.Given.{Over}
 use Rattle.shm_life.proofs.kernel.Kernel.store.Goals as goal
 use Rattle.shm_life.proofs.kernel.Kernel.store.Goals.{After-note}
@@ -23,8 +23,8 @@ invariant_of-self g c = well g (goal.at.invariant_of-self g c).After-note
 pub invariant_of-self-2 : goal.invariant_of-self-2
 invariant_of-self-2 g c = well g (goal.at.invariant_of-self-2 g c).After-note
 
-pub returns-clause-step : goal.returns-clause-step
-returns-clause-step g c = λ _.
+pub returns : goal.returns
+returns g c = λ n.
     let rs = c.self.inside.spaces.runners in
     let m : Machine = record { limits = c.self.inside.limits; areas = sizes c.self.inside.segments.memory.swap; table = c.self.inside.segments.table; runners = rs } in
     let caller = c.args.caller.now in
@@ -33,4 +33,4 @@ returns-clause-step g c = λ _.
     let is : IsCaller caller rs = rw (← c.self.view_is) at c.requires in
     let step = store-wanted m (pieces_at rs caller.index) c.args.addr bytes spans (asked true rs caller c.args.addr (length bytes) _ is c.in-Ok.ensures.spans.places) in
     let written = ok_fact c.write-written.result _ (sym c.is_err.ensures.value ∙ c.if-is_err.false) c.write-written.ensures.written in
-    rw (← c.self.view_is, ← c.as_slice-bytes.ensures.value) (step ∙ rw (c.note.ensures.runners, written, c.write-written.ensures.access.same_sizes, c.as_slice.ensures.value) refl)
+    granted _ _ _ _ (rw (← c.self.view_is, ← c.as_slice-bytes.ensures.value) (step ∙ rw (c.note.ensures.runners, written, c.write-written.ensures.access.same_sizes, c.as_slice.ensures.value) refl)) refl (search (rules, keeps_refl))

@@ -1,8 +1,8 @@
-use Rattle.shm_life.proofs.Names.{◌≡◌, None, sym, ap, refl, ◌∙◌, arith, Machine, Outcome, gives, swapoff, is_refusal, Done, caller_seen, sizes, StoreView}
+use Rattle.shm_life.proofs.Names.{rules, ◌≡◌, None, sym, ap, refl, ◌∙◌, arith, Machine, Outcome, gives, swapoff, is_refusal, Done, caller_seen, sizes, StoreView}
 use Rattle.std.proofs.Common.{slice_set}
 use Rattle.shm_base.specs.Segments.{slots}
 use Rattle.shm_life.proofs.Swapping.{IsThere, is_there, off-few, off-done}
-use Rattle.shm_life.proofs.Running.{ok_fact, err_fact}
+use Rattle.shm_life.proofs.Running.{failing, granted, keeps_refl, answered_as, ok_fact, err_fact}
 use Rattle.shm_life.proofs.kernel.Kernel.swapoff.Given.{Over}
 use Rattle.shm_life.proofs.kernel.Kernel.swapoff.Goals as goal
 use Rattle.shm_life.proofs.kernel.Kernel.swapoff.Goals.{After-from, After-is_err}
@@ -13,12 +13,12 @@ there g c =
     let swap : c.swap-swap.result.now ≡ c.self.inside.segments.memory.swap = c.swap-swap.ensures ∙ ap (λ (m : StoreView). m.swap) c.store.ensures.value in
     (is_there c.self.inside.segments.memory.swap c.args.area c.in-Some.size (rw swap at (sym c.size.ensures ∙ c.in-Some.is)), rw swap at c.capacity.ensures)
 
-pub returns-then-capacity-reserved-clause-step : goal.returns-then-capacity-reserved-clause-step
-returns-then-capacity-reserved-clause-step g c = λ _.
+pub returns-then-capacity-reserved : goal.returns-then-capacity-reserved
+returns-then-capacity-reserved g c = λ n.
     let rs = c.self.inside.spaces.runners in
     let m : Machine = record { limits = c.self.inside.limits; areas = sizes c.self.inside.segments.memory.swap; table = c.self.inside.segments.table; runners = rs } in
-    let at = there g (goal.at.returns-then-capacity-reserved-clause-step g c).After-from in
-    rw (← c.self.view_is) (off-few m (caller_seen c.args.caller.now rs) c.args.area c.in-Some.size c.if-caller-ne0.false at.0 (omega (arith, c.if-capacity-reserved.true, c.from.ensures, c.reserved.ensures, at.1)))
+    let at = there g (goal.at.returns-then-capacity-reserved g c).After-from in
+    answered_as _ _ _ (rw (← c.self.view_is) (off-few m (caller_seen c.args.caller.now rs) c.args.area c.in-Some.size c.if-caller-ne0.false at.0 (omega (arith, c.if-capacity-reserved.true, c.from.ensures, c.reserved.ensures, at.1))))
 
 -- the flat machine takes it away
 done : (g : Over) (c : After-is_err g) → IsThere (sizes c.self.inside.segments.memory.swap) c.args.area c.in-Some.size × (c.capacity.result ≡ slots (sizes c.self.inside.segments.memory.swap))
@@ -28,20 +28,20 @@ done g c at =
     let m : Machine = record { limits = c.self.inside.limits; areas = sizes c.self.inside.segments.memory.swap; table = c.self.inside.segments.table; runners = rs } in
     rw (← c.self.view_is) (off-done m (caller_seen c.args.caller.now rs) c.args.area c.in-Some.size c.if-caller-ne0.false at.0 (omega (arith, c.if-capacity-reserved.false, c.from.ensures, c.reserved.ensures, at.1)))
 
-pub returns-then-is_err-clause-failed : goal.returns-then-is_err-clause-failed
-returns-then-is_err-clause-failed g c = λ _.
-    let at = goal.at.returns-then-is_err-clause-failed g c in
+pub returns-then-is_err : goal.returns-then-is_err
+returns-then-is_err g c = λ n.
+    let at = goal.at.returns-then-is_err g c in
     let failed = sym c.is_err.ensures.value ∙ c.if-is_err.true in
     let e = c.move_off.ensures in
-    record {
+    failing _ _ _ _ refl (record {
       instead = ap (λ (o : Outcome). is_refusal o.reply) (done g at.After-is_err (there g at.After-from));
       unchanged = rw (← c.self.view_is, err_fact c.move_off.result _ failed e.sizes, e.table) refl;
       cause = rw (← c.self.view_is) (err_fact c.move_off.result _ failed e.cause);
-    }
+    }) (search (rules, keeps_refl))
 
-pub returns-clause-step : goal.returns-clause-step
-returns-clause-step g c = λ _.
-    let at = goal.at.returns-clause-step g c in
+pub returns : goal.returns
+returns g c = λ n.
+    let at = goal.at.returns g c in
     let e = c.move_off.ensures in
     let gone = ok_fact c.move_off.result _ (sym c.is_err.ensures.value ∙ c.if-is_err.false) e.gone in
-    done g at.After-is_err (there g at.After-from) ∙ rw (← c.self.view_is, gone, e.table) refl
+    granted _ _ _ _ (done g at.After-is_err (there g at.After-from) ∙ rw (← c.self.view_is, gone, e.table) refl) refl (search (rules, keeps_refl))

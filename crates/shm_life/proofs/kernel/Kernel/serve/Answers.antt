@@ -1,0 +1,45 @@
+use Rattle.shm_life.proofs.Names.{rules, ◌≡◌, to_z, of_z, w32}
+use Rattle.shm_life.proofs.kernel.Kernel.serve.Goals as goal
+
+pub returns-in-Rmid-clause-served : goal.returns-in-Rmid-clause-served
+returns-in-Rmid-clause-served g c =
+    let signed : to_z w32 (of_z w32 c.in-Rmid.id) ≡ c.in-Rmid.id = search rules in
+    rw c.in-Rmid.is (rw signed at (c.rmid-served.ensures c.args.time))
+
+pub returns-in-Lock-clause-served : goal.returns-in-Lock-clause-served
+returns-in-Lock-clause-served g c =
+    let signed : to_z w32 (of_z w32 c.in-Lock.id) ≡ c.in-Lock.id = search rules in
+    rw c.in-Lock.is (rw signed at (c.lock-served.ensures c.args.time))
+
+pub returns-in-Unlock-clause-served : goal.returns-in-Unlock-clause-served
+returns-in-Unlock-clause-served g c =
+    let signed : to_z w32 (of_z w32 c.in-Unlock.id) ≡ c.in-Unlock.id = search rules in
+    rw c.in-Unlock.is (rw signed at (c.unlock-served.ensures c.args.time))
+
+pub returns-in-Store-clause-served : goal.returns-in-Store-clause-served
+returns-in-Store-clause-served g c = rw c.in-Store.is (c.store-served.ensures c.args.time)
+
+pub returns-in-Load-clause-served : goal.returns-in-Load-clause-served
+returns-in-Load-clause-served g c = rw c.in-Load.is (c.load-served.ensures c.args.time)
+
+pub returns-in-Fork-clause-served : goal.returns-in-Fork-clause-served
+returns-in-Fork-clause-served g c = rw c.in-Fork.is (c.fork-served.ensures c.args.time)
+
+pub returns-in-Swapoff-clause-served : goal.returns-in-Swapoff-clause-served
+returns-in-Swapoff-clause-served g c = rw c.in-Swapoff.is (c.swapoff-served.ensures c.args.time)
+
+pub returns-in-Ok-stat-clause-served : goal.returns-in-Ok-stat-clause-served
+returns-in-Ok-stat-clause-served g c =
+    let signed : to_z w32 (of_z w32 c.in-Stat.id) ≡ c.in-Stat.id = search rules in
+    rw c.in-Stat.is (rw (signed, c.in-Ok-stat.is) at (c.stat.ensures c.args.time))
+
+pub returns-in-Ok-xadd-clause-served : goal.returns-in-Ok-xadd-clause-served
+returns-in-Ok-xadd-clause-served g c = rw c.in-Xadd.is (rw c.in-Ok-xadd.is at (c.xadd.ensures c.args.time))
+
+pub returns-in-Err-stat-clause-served : goal.returns-in-Err-stat-clause-served
+returns-in-Err-stat-clause-served g c =
+    let signed : to_z w32 (of_z w32 c.in-Stat.id) ≡ c.in-Stat.id = search rules in
+    rw c.in-Stat.is (rw (signed, c.in-Err-stat.is) at (c.stat.ensures c.args.time))
+
+pub returns-in-Err-xadd-clause-served : goal.returns-in-Err-xadd-clause-served
+returns-in-Err-xadd-clause-served g c = rw c.in-Xadd.is (rw c.in-Err-xadd.is at (c.xadd.ensures c.args.time))
