@@ -11,7 +11,7 @@ use Rattle.shm_transcripts.specs.declared.transcript.Transcript.{Transcript}
 -- The world started from this opening, over areas whose pagers had these counts of failures when they were handed in
 pub record StartedFrom (opened : Opening) (counts : List ℕ) (world : WorldState) : Type 0 where
   pub opening : world.opening ≡ opened
-  pub counts : first_counts world.memory.swap ≡ counts
+  pub began : first_counts world.memory.swap ≡ counts
 
 -- The outcome of a run: the world started from what was handed in, the history is legal, and the transcripts are those of
 -- its processes
