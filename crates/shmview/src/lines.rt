@@ -1,6 +1,6 @@
 //! The lines of a script are run, and the record of each step is put behind a text.
 ghost use Rattle.std.specs.Prelude.{◌≡◌, ◌++◌, List, ℕ, map, IfOk, OnOk, string_bytes};
-ghost use Rattle.shm_view.specs.declared.action.Action.TheVariants.{Start};
+ghost use Rattle.shm_report.specs.declared.action.Action.TheVariants.{Start};
 ghost use Rattle.shm_program.specs.Runs.{IsWorldSound};
 ghost use Rattle.shm_program.specs.Values.{fresh_holder};
 ghost use Rattle.shmview.specs.Record.{HasRun, Leads, shown_text};
@@ -12,7 +12,7 @@ use shm_laws::lawful;
 use shm_pager::Pager;
 use shm_program::Values;
 use shm_text::{Line, Script};
-use shm_view::{Action, push_step};
+use shm_report::{Action, push_step};
 use std::alloc::Global;
 
 // Runs a line with the variables of its process.

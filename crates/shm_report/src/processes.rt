@@ -1,7 +1,7 @@
 //! The processes, each with the pieces of its address space.
 ghost use Rattle.std.specs.Prelude.{◌≡◌, ◌++◌, OnOk, string_bytes};
 ghost use Rattle.shm_areas.specs.Arranged.{bare, bare_all};
-ghost use Rattle.shm_view.specs.Record.{piece_line, pieces_text, process_text, processes_text};
+ghost use Rattle.shm_report.specs.Record.{piece_line, pieces_text, process_text, processes_text};
 
 use shm_areas::Piece;
 use shm_attach::Spaces;

@@ -1,6 +1,6 @@
 use Rattle.std.proofs.Common.{◌≡◌, ◌++◌, drop, string_bytes}
-use Rattle.shm_view.specs.Record.{processes_text}
-use Rattle.shm_view.proofs.processes.push_processes.Given as goal
+use Rattle.shm_report.specs.Record.{processes_text}
+use Rattle.shm_report.proofs.processes.push_processes.Given as goal
 
 -- the lines so far, and then those of the processes that are left
 abbrev pub invariant-loop-process : goal.invariant-loop-process

@@ -13,8 +13,8 @@ use Rattle.shm_history.specs.WorldState.{WorldState, tally_of}
 use Rattle.shm_print.specs.Text.{event_text}
 use Rattle.shm_report.specs.Listing.{listing_of}
 use Rattle.shm_print.specs.Usage.{usage_text}
-use Rattle.shm_view.specs.declared.action.Action.{Action}
-use Rattle.shm_view.specs.declared.action.Action.TheVariants.{Start, Call, Flush}
+use Rattle.shm_report.specs.declared.action.Action.{Action}
+use Rattle.shm_report.specs.declared.action.Action.TheVariants.{Start, Call, Flush}
 
 -- the texts of the items of a list, each with its number
 module _ {X : Type 0} where

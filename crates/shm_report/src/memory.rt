@@ -2,7 +2,7 @@
 ghost use Rattle.std.specs.Prelude.{◌≡◌, ◌++◌, ◌<◌, length, Some, None, OnOk, string_bytes};
 ghost use Rattle.shm_slots.specs.View.{area_at};
 ghost use Rattle.shm_frames.specs.Frame.{frame_at};
-ghost use Rattle.shm_view.specs.Record.{numbered, frame_line, frames_text, slot_line, area_text, areas_text};
+ghost use Rattle.shm_report.specs.Record.{numbered, frame_line, frames_text, slot_line, area_text, areas_text};
 
 use shm_base::PageRef;
 use shm_fault::PageStore;

@@ -1,6 +1,6 @@
 //! What a step did.
 ghost use Rattle.std.specs.Prelude.{◌≡◌, ◌++◌, OnOk, string_bytes};
-ghost use Rattle.shm_view.specs.Record.{action_text};
+ghost use Rattle.shm_report.specs.Record.{action_text};
 
 use shm_base::{Event, FlushReport};
 use shm_print::push_event;

@@ -1,6 +1,6 @@
 use Rattle.std.proofs.Common.{◌≡◌, ◌++◌, length, drop, string_bytes}
-use Rattle.shm_view.specs.Record.{numbered, area_text}
-use Rattle.shm_view.proofs.memory.push_areas.Given as goal
+use Rattle.shm_report.specs.Record.{numbered, area_text}
+use Rattle.shm_report.proofs.memory.push_areas.Given as goal
 
 -- the lines so far, and then those of the areas that are left
 abbrev pub invariant-loop-area : goal.invariant-loop-area

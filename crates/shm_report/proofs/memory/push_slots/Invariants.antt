@@ -1,6 +1,6 @@
 use Rattle.std.proofs.Common.{◌≡◌, ◌++◌, length, drop, string_bytes}
-use Rattle.shm_view.specs.Record.{numbered, slot_line}
-use Rattle.shm_view.proofs.memory.push_slots.Given as goal
+use Rattle.shm_report.specs.Record.{numbered, slot_line}
+use Rattle.shm_report.proofs.memory.push_slots.Given as goal
 
 -- the lines so far, and then those of the slots that are left
 abbrev pub invariant-loop-slot : goal.invariant-loop-slot

@@ -1,14 +1,15 @@
 //! The record of one step.
 ghost use Rattle.std.specs.Prelude.{◌≡◌, ◌++◌, OnOk, string_bytes};
-ghost use Rattle.shm_view.specs.Record.{counts_text, machine_text, memory_text, step_text};
+ghost use Rattle.shm_report.specs.Record.{counts_text, machine_text, memory_text, step_text};
 
 use crate::action::{Action, push_action};
+use crate::counts::usage;
+use crate::lines::listing;
 use crate::memory::{push_areas, push_frames};
 use crate::processes::push_processes;
 use shm_fault::PageStore;
 use shm_history::World;
 use shm_pager::Pager;
-use shm_report::{listing, usage};
 use std::alloc::{AllocError, Global};
 
 // Puts the segments and the processes behind a text.
