@@ -1,13 +1,37 @@
 -- What calls keep of the memory.
-use Rattle.shm_life.proofs.Names.{◌≡◌, ◌<◌, ◌+◌, ℕ, true, false, List, [], ◌∷◌, length, drop, get_or, refl, sym, ◌∙◌, arith, ◌≤◌, drop-cons, is_err, OnOk, OnErr, Bounds, Entry, Runner, sizes, StoreView, frame_of, GoesOn-refl, Translation, AreTrue, KeepsMemory, IsWell, IsWellBut, IsTableSoundBut, KeepsOn, OrphansAmong, Sweeps, PiecesFit, reserved, locked}
-use Rattle.std.proofs.Common.{true≢false}
+use Rattle.shm_life.proofs.Names.{◌≡◌, ◌<◌, ◌+◌, ℕ, true, false, List, [], ◌∷◌, length, drop, get_or, refl, sym, ◌∙◌, arith, ◌≤◌, drop-cons, is_err, OnOk, OnErr, Bounds, Entry, Runner, sizes, StoreView, SegRec, held_by, nat_tests, frame_of, GoesOn-refl, Translation, AreTrue, KeepsMemory, IsWell, IsWellBut, IsTableSoundBut, KeepsOn, OrphansAmong, Sweeps, PiecesFit, reserved, locked}
+use Rattle.std.proofs.Common.{map, is_some, ap, true≢false}
+use Rattle.shm_fault.specs.Store.{held, Still}
+use Rattle.shm_fault.specs.Segs.{with_seg_lock}
+use Rattle.shm_plain.specs.Held.{holds_locked}
+use Rattle.shm_segments.proofs.Remembered.{memory-refl}
 use Rattle.std.specs.Prelude.{Result, Ok, Err}
 
 pub keeps_refl : (m : StoreView) → KeepsOn m m
 keeps_refl m = record { kept = λ seg page a b e. e; goes_on = GoesOn-refl m.swap }
 
+pub kept_refl : (m : StoreView) → KeepsMemory m m
+kept_refl m = memory-refl m
+
 pub keeps_on : (a b : StoreView) → KeepsMemory a b → KeepsOn a b
 keeps_on a b r = record { kept = r.kept; goes_on = r.goes_on }
+
+unlocked-less : (m : StoreView) (gs : List SegRec) (seg at : ℕ) → holds_locked (map (held_by m.frames m.swap) (map (with_seg_lock seg false) gs)) at ≡ true → holds_locked (map (held_by m.frames m.swap) gs) at ≡ true
+unlocked-less m [] seg at h = h
+unlocked-less m (g ∷ gs) seg at h = grind (arith, nat_tests, unlocked-less m gs seg at)
+
+unlocks : (a : StoreView) (seg at : ℕ) → holds_locked (held (record a { segs = map (with_seg_lock seg false) a.segs })) at ≡ true → holds_locked (held a) at ≡ true
+unfolding held
+unlocks a seg at = unlocked-less a a.segs seg at
+
+-- one segment unlocked
+pub unlock_keeps : (a b : StoreView) (seg : ℕ) → b ≡ record a { segs = map (with_seg_lock seg false) a.segs } → Still a b → KeepsMemory a b
+unlock_keeps a b seg is still = record {
+  kept = λ s page was is there. ap is_some (still s page) ∙ there;
+  locks = λ at. rw is (unlocks a seg at);
+  goes_on = rw is (GoesOn-refl a.swap);
+  frames = ap (λ (m : StoreView). length m.frames) is;
+}
 
 -- translations stay true where no page moves
 pub true_still : (ts : List Translation) (a b : StoreView) → ((s page : ℕ) → frame_of b s page ≡ frame_of a s page) → AreTrue ts a → AreTrue ts b

@@ -1,5 +1,7 @@
 -- What contracts see of a machine: the flat machine, and the memory that its bytes lie in.
-use Rattle.std.specs.Prelude.{◌≡◌, ◌≤◌, Bool, true, false, length}
+use Rattle.std.specs.Prelude.{ℕ, ◌≡◌, ◌≤◌, Bool, true, false, length}
+use Rattle.shm_base.specs.declared.call.Call.{Call}
+use Rattle.shm_base.specs.declared.call.Call.TheVariants.{Lock}
 use Rattle.shm_base.specs.declared.call.Reply.{Reply}
 use Rattle.shm_base.specs.declared.call.Reply.TheVariants.{Refused}
 use Rattle.shm_base.specs.declared.errno.Errno.TheVariants.{Sigbus, Eio}
@@ -7,9 +9,10 @@ use Rattle.shm_base.specs.State.{Machine}
 use Rattle.shm_base.specs.Step.{Outcome}
 use Rattle.shm_base.specs.History.{is_refusal}
 use Rattle.shm_base.specs.Segments as flat
+use Rattle.shm_plain.specs.Held.{holds_locked}
 use Rattle.shm_slots.specs.View.{sizes, swap_slots}
 use Rattle.shm_slots.specs.Cause.{GoesOn, had_cause}
-use Rattle.shm_fault.specs.Store.{StoreView, used}
+use Rattle.shm_fault.specs.Store.{StoreView, held, used}
 use Rattle.shm_fault.specs.Steps.{LockedPagesStay}
 use Rattle.shm_fault.specs.Sound.{IsStoreSound}
 use Rattle.shm_segments.specs.View.{ShowsTable}
@@ -23,6 +26,15 @@ pub record MachineView : Type 0 where
 pub record KeepsOn (before after : StoreView) : Type 0 where
   pub kept : LockedPagesStay before after
   pub goes_on : GoesOn before.swap after.swap
+
+-- what is locked afterwards was locked before
+abbrev pub LocksNothing : StoreView → StoreView → Type 0
+LocksNothing before after = (seg : ℕ) → holds_locked (held after) seg ≡ true → holds_locked (held before) seg ≡ true
+
+-- no call but a lock locks a segment
+abbrev pub OnlyLockLocks : Call → StoreView → StoreView → Type 0
+OnlyLockLocks (Lock id) before after = Unit {0}
+OnlyLockLocks _ before after = LocksNothing before after
 
 -- the refusals that name a pager's failure
 abbrev pub names_failure : Reply → Bool

@@ -2,7 +2,7 @@
 ghost use Rattle.std.specs.Prelude.{◌≡◌, true, false, OnOk, OnErr, IsOk};
 ghost use Rattle.shm_base.specs.Step.{step};
 ghost use Rattle.shm_base.specs.History.{is_failure, is_refusal};
-ghost use Rattle.shm_life.specs.MachineView.{IsFailed, KeepsOn, StillIfRefused};
+ghost use Rattle.shm_life.specs.MachineView.{IsFailed, KeepsOn, OnlyLockLocks, StillIfRefused};
 ghost use Rattle.shm_base.specs.Memory.{TakesNoMemory};
 
 use shm_attach::Spaces;
@@ -53,6 +53,7 @@ impl<P: Pager> Kernel<P> {
         ensures step { OnOk result (is_failure call.now reply.new ≡ false → step self.old.flat time pid call.now ≡ record { reply = reply.new; state = self.new.flat }) }
         ensures failed { OnOk result (is_failure call.now reply.new ≡ true → IsFailed (step self.old.flat time pid call.now) self.old self.new) }
         ensures keeps { KeepsOn self.old.memory self.new.memory }
+        ensures locks { OnlyLockLocks call.now self.old.memory self.new.memory }
         ensures still { OnOk result (StillIfRefused reply.new self.old.memory self.new.memory) }
         ensures err { OnErr result (self.new ≡ self.old) }
         ensures memory { OnErr result (is_refusal (step self.old.flat time pid call.now).reply ≡ false) }

@@ -7,7 +7,8 @@ ghost use Rattle.shm_areas.specs.Arranged.{bare_all};
 ghost use Rattle.shm_attach.specs.Place.{IsRange};
 ghost use Rattle.shm_attach.specs.Spaces.{IsCaller, pieces_at, caller_seen};
 ghost use Rattle.shm_life.specs.Address.{misplaced};
-ghost use Rattle.shm_life.specs.MachineView.{KeepsOn, StillIfRefused};
+ghost use Rattle.shm_segments.specs.View.{KeepsMemory};
+ghost use Rattle.shm_life.specs.MachineView.{StillIfRefused};
 ghost use Rattle.shm_life.specs.Placing.{placed, piece_for};
 ghost use Rattle.shm_life.specs.Tied.{PieceFits};
 
@@ -81,7 +82,7 @@ impl<P: Pager> Kernel<P> {
         Ok(Placed { seg, pages, base })
     }
 
-    #[tactic(auto, using(crate::proofs::Running::keeps_refl))]
+    #[tactic(auto, using(crate::proofs::Running::kept_refl))]
     /// Attaches a segment. Segments whose pieces are replaced are detached, and those marked that lose their
     /// last piece are destroyed after the new piece stands.
     pub(crate) fn shmat(
@@ -95,7 +96,7 @@ impl<P: Pager> Kernel<P> {
     ) -> Result<(), HostMemory>
         requires { IsCaller caller.now self.old.flat.runners }
         ensures step { OnOk result (flat.shmat self.old.flat time (caller_seen caller.now self.old.flat.runners) id addr flags ≡ record { reply = reply.new; state = self.new.flat }) }
-        ensures keeps { KeepsOn self.old.memory self.new.memory }
+        ensures keeps { KeepsMemory self.old.memory self.new.memory }
         ensures still { OnOk result (StillIfRefused reply.new self.old.memory self.new.memory) }
         ensures err { OnErr result (self.new ≡ self.old) }
         ensures memory { OnErr result (is_refusal (flat.shmat self.old.flat time (caller_seen caller.now self.old.flat.runners) id addr flags).reply ≡ false) }

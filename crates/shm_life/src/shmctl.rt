@@ -9,6 +9,7 @@ ghost use Rattle.shm_attach.specs.Spaces.{caller_seen};
 ghost use Rattle.shm_segments.specs.Joined.{segment_of};
 ghost use Rattle.shm_segments.specs.Table.{IsFound, segment_seen};
 ghost use Rattle.shm_life.specs.MachineView.{KeepsOn, StillIfRefused};
+ghost use Rattle.shm_segments.specs.View.{KeepsMemory};
 
 use crate::kernel::Kernel;
 use crate::sweep::sweep;
@@ -93,7 +94,7 @@ impl<P: Pager> Kernel<P> {
         None
     }
 
-    #[tactic(auto, using(crate::proofs::Running::keeps_refl))]
+    #[tactic(auto, using(crate::proofs::Running::kept_refl))]
     /// Gives a segment another owner and other permission bits (IPC_SET).
     pub(crate) fn set(
         &mut self,
@@ -106,7 +107,7 @@ impl<P: Pager> Kernel<P> {
         reply: &mut Reply,
     )
         ensures step { flat.controls self.old.flat (caller_seen caller.now self.old.flat.runners) (flat.sets self.old.flat time uid gid mode) (flat_ids.look self.old.flat.table id) ≡ record { reply = reply.new; state = self.new.flat } }
-        ensures keeps { KeepsOn self.old.memory self.new.memory }
+        ensures keeps { KeepsMemory self.old.memory self.new.memory }
         ensures still { StillIfRefused reply.new self.old.memory self.new.memory }
     {
         let Some(found) = self.controlled(caller, id, reply) else {
@@ -116,11 +117,11 @@ impl<P: Pager> Kernel<P> {
         *reply = Reply::Done;
     }
 
-    #[tactic(auto, using(crate::proofs::Running::keeps_refl))]
+    #[tactic(auto, using(crate::proofs::Running::kept_refl))]
     /// Destroys a segment without pieces, and marks one that has some (IPC_RMID).
     pub(crate) fn rmid(&mut self, caller: &Caller, id: ShmId, reply: &mut Reply)
         ensures step { flat.controls self.old.flat (caller_seen caller.now self.old.flat.runners) (flat.removes self.old.flat) (flat_ids.look self.old.flat.table id) ≡ record { reply = reply.new; state = self.new.flat } }
-        ensures keeps { KeepsOn self.old.memory self.new.memory }
+        ensures keeps { KeepsMemory self.old.memory self.new.memory }
         ensures still { StillIfRefused reply.new self.old.memory self.new.memory }
     {
         let Some(found) = self.controlled(caller, id, reply) else {
@@ -158,11 +159,11 @@ impl<P: Pager> Kernel<P> {
         *reply = Reply::Done;
     }
 
-    #[tactic(auto, using(crate::proofs::Running::keeps_refl))]
+    #[tactic(auto, using(crate::proofs::Running::kept_refl))]
     /// Unlocks a segment's pages (SHM_UNLOCK).
     pub(crate) fn unlock(&mut self, caller: &Caller, id: ShmId, reply: &mut Reply)
         ensures step { flat.controls self.old.flat (caller_seen caller.now self.old.flat.runners) (flat.unlocks self.old.flat) (flat_ids.look self.old.flat.table id) ≡ record { reply = reply.new; state = self.new.flat } }
-        ensures keeps { KeepsOn self.old.memory self.new.memory }
+        ensures keeps { KeepsMemory self.old.memory self.new.memory }
         ensures still { StillIfRefused reply.new self.old.memory self.new.memory }
     {
         let Some(found) = self.controlled(caller, id, reply) else {

@@ -7,7 +7,8 @@ ghost use Rattle.shm_base.specs.Step as flat;
 ghost use Rattle.shm_attach.specs.Spaces.{caller_seen};
 ghost use Rattle.shm_segments.specs.Joined.{head_of};
 ghost use Rattle.shm_segments.specs.Table.{IsFound, look_of};
-ghost use Rattle.shm_life.specs.MachineView.{KeepsOn, StillIfRefused};
+ghost use Rattle.shm_segments.specs.View.{KeepsMemory};
+ghost use Rattle.shm_life.specs.MachineView.{StillIfRefused};
 
 use crate::kernel::Kernel;
 use bitflags::Flags;
@@ -52,7 +53,7 @@ fn new_head(time: u64, caller: &Caller, size: u64, mode: u16) -> Head
 }
 
 impl<P: Pager> Kernel<P> {
-    #[tactic(auto, using(crate::proofs::Running::keeps_refl))]
+    #[tactic(auto, using(crate::proofs::Running::kept_refl))]
     /// The segment with a key, or a new one where the key is IPC_PRIVATE (0), or where no segment has it and
     /// IPC_CREAT is set (shmget(2)).
     pub(crate) fn shmget(
@@ -66,7 +67,7 @@ impl<P: Pager> Kernel<P> {
         reply: &mut Reply,
     ) -> Result<(), HostMemory>
         ensures step { OnOk result (flat.shmget self.old.flat time (caller_seen caller.now self.old.flat.runners) key size mode flags ≡ record { reply = reply.new; state = self.new.flat }) }
-        ensures keeps { KeepsOn self.old.memory self.new.memory }
+        ensures keeps { KeepsMemory self.old.memory self.new.memory }
         ensures still { OnOk result (StillIfRefused reply.new self.old.memory self.new.memory) }
         ensures err { OnErr result (self.new ≡ self.old) }
         ensures memory { OnErr result (is_refusal (flat.shmget self.old.flat time (caller_seen caller.now self.old.flat.runners) key size mode flags).reply ≡ false) }
@@ -112,7 +113,7 @@ impl<P: Pager> Kernel<P> {
         *reply = Reply::Id(found.id);
     }
 
-    #[tactic(auto, using(crate::proofs::Running::keeps_refl))]
+    #[tactic(auto, using(crate::proofs::Running::kept_refl))]
     // A new segment. Einval where the size is 0 or above SHMMAX; Enospc where SHMALL or SHMMNI is reached or
     // no identifier is left; Enomem where the swap areas could not take all pages.
     fn create(
@@ -126,7 +127,7 @@ impl<P: Pager> Kernel<P> {
     ) -> Result<(), HostMemory>
         requires absent { key ≢ 0 → flat_ids.find_key self.old.flat.table key ≡ flat_ids.Invalid }
         ensures step { OnOk result (flat.creates self.old.flat time (caller_seen caller.now self.old.flat.runners) key size mode ≡ record { reply = reply.new; state = self.new.flat }) }
-        ensures keeps { KeepsOn self.old.memory self.new.memory }
+        ensures keeps { KeepsMemory self.old.memory self.new.memory }
         ensures still { OnOk result (StillIfRefused reply.new self.old.memory self.new.memory) }
         ensures err { OnErr result (self.new ≡ self.old) }
         ensures memory { OnErr result (is_refusal (flat.creates self.old.flat time (caller_seen caller.now self.old.flat.runners) key size mode).reply ≡ false) }
