@@ -13,9 +13,6 @@ keeps_refl m = record { kept = λ seg page a b e. e; goes_on = GoesOn-refl m.swa
 pub kept_refl : (m : StoreView) → KeepsMemory m m
 kept_refl m = memory-refl m
 
-pub keeps_on : (a b : StoreView) → KeepsMemory a b → KeepsOn a b
-keeps_on a b r = record { kept = r.kept; goes_on = r.goes_on }
-
 unlocked-less : (m : StoreView) (gs : List SegRec) (seg at : ℕ) → holds_locked (map (held_by m.frames m.swap) (map (with_seg_lock seg false) gs)) at ≡ true → holds_locked (map (held_by m.frames m.swap) gs) at ≡ true
 unlocked-less m [] seg at h = h
 unlocked-less m (g ∷ gs) seg at h = grind (arith, nat_tests, unlocked-less m gs seg at)
