@@ -1,6 +1,7 @@
 /* memory: each allocation of a call fails in turn: the answer is NOG_NO_MEMORY, nothing is changed, and the call made
-   again is done. Calls but nog_open, nog_get and nog_attach take no memory. A sparse area gives a page's memory back, with
-   nothing but zeros in it, once nobody needs the page. It is linked with --wrap for malloc, realloc and free, so that the
+   again is done. A twin of the machine, which never lacks memory, makes the same calls: both show the same afterwards, and
+   read the same bytes. Calls but nog_open, nog_get and nog_attach take no memory. A sparse area gives a page's memory back,
+   with nothing but zeros in it, once nobody needs the page. It is linked with --wrap for malloc, realloc and free, so that the
    library's own allocations come here. */
 #include <stdlib.h>
 #include "testing.h"
@@ -73,6 +74,24 @@ static struct shown show(nog_machine *m) {
 
 typedef uint32_t (*step)(nog_machine *m);
 
+static nog_machine twin = NOG_MACHINE_INITIALIZER;
+
+static void same_shown(nog_machine *m) {
+    struct shown one = show(m), other = show(&twin);
+    TEST(memcmp(&one, &other, sizeof one) == 0);
+}
+
+/* each process reads what it has attached, from the lowest address on, in both machines */
+static void same_bytes(nog_machine *m) {
+    static const uint32_t readers[] = {ROOT, USER, CHILD};
+    static uint8_t one[6 * PAGE], other[6 * PAGE];
+    for (size_t i = 0; i < sizeof readers / sizeof *readers; i++) {
+        uint64_t done_one = 0, done_other = 0;
+        uint32_t code = nog_read(m, readers[i], LOWEST, one, sizeof one, &done_one);
+        ANSWER(nog_read(&twin, readers[i], LOWEST, other, sizeof other, &done_other), code);
+        TEST(done_one == done_other && memcmp(one, other, done_one) == 0);
+    }
+}
 
 static uint32_t open_mirror(nog_machine *m) {
     static const nog_area areas[] = {{NOG_MIRROR, 3}, {NOG_SPARSE, 5}};
@@ -89,6 +108,14 @@ static uint32_t attach(nog_machine *m) {
     uint64_t at;
     return nog_attach(m, USER, 0, 0, 0, &at);
 }
+
+/* the segment of the second get: its index is the first one's, which was destroyed there */
+static uint32_t attach_next(nog_machine *m) {
+    uint64_t at;
+    return nog_attach(m, USER, 32768, 0, 0, &at);
+}
+
+static uint32_t remove_next(nog_machine *m) { return nog_remove(m, USER, 32768); }
 
 static uint32_t fork_child(nog_machine *m) { return nog_fork(m, USER, CHILD); }
 
@@ -107,6 +134,10 @@ static void fail_each(nog_machine *m, step make, int takes_memory) {
     }
     ANSWER(code, NOG_DONE);
     TEST(takes_memory == (allocations > 0));
+    ANSWER(make(&twin), NOG_DONE);
+    same_shown(m);
+    same_bytes(m);
+    same_shown(m);
 }
 
 /* a machine that was not opened stays closed */
@@ -183,11 +214,12 @@ static void give_back(nog_machine *m) {
 int main(void) {
     static const struct { step make; int takes_memory; } steps[] = {
         {get, 1}, {attach, 1}, {fork_child, 0}, {store, 0}, {add, 0}, {set, 0}, {flush, 0}, {detach, 0}, {exec, 0},
-        {remove_it, 0}, {swapoff, 0}, {end, 0} };
+        {remove_it, 0}, {get, 1}, {attach_next, 1}, {store, 0}, {detach, 0}, {remove_next, 0}, {swapoff, 0}, {end, 0} };
     nog_machine machine = NOG_MACHINE_INITIALIZER;
     fail_each_open(&machine, open_mirror);
     fail_each(&machine, open_usual, 1);
     for (size_t i = 0; i < sizeof steps / sizeof *steps; i++) fail_each(&machine, steps[i].make, steps[i].takes_memory);
+    ANSWER(nog_close(&twin), NOG_DONE);
     fail_write(&machine);
     give_back(&machine);
     ANSWER(nog_close(&machine), NOG_DONE);

@@ -1,12 +1,16 @@
 -- What calls keep of the memory.
-use Rattle.shm_life.proofs.Names.{◌≡◌, ◌<◌, ◌+◌, ℕ, true, false, List, [], ◌∷◌, length, drop, get_or, refl, sym, ◌∙◌, arith, ◌≤◌, drop-cons, is_err, OnOk, OnErr, Bounds, Entry, Runner, sizes, StoreView, frame_of, GoesOn-refl, Translation, AreTrue, KeepsMemory, IsWell, IsWellBut, IsTableSoundBut, KeepsOn, OrphansAmong, Sweeps, PiecesFit, reserved, locked}
-use Rattle.std.proofs.Common.{true≢false}
+use Rattle.shm_life.proofs.Names.{◌≡◌, ◌<◌, ◌+◌, ℕ, Bool, true, false, List, [], ◌∷◌, length, drop, get_or, refl, sym, ◌∙◌, arith, ◌≤◌, drop-cons, is_err, OnOk, OnErr, Bounds, Entry, Runner, sizes, StoreView, frame_of, GoesOn-refl, Translation, AreTrue, KeepsMemory, IsWell, IsWellBut, IsTableSoundBut, KeepsOn, SegRec, held_by, nat_tests, OrphansAmong, Sweeps, PiecesFit, reserved, locked}
+use Rattle.std.proofs.Common.{map, is_some, ap, true≢false}
+use Rattle.shm_fault.specs.Store.{held, Still}
+use Rattle.shm_fault.specs.Segs.{with_seg_lock}
+use Rattle.shm_plain.specs.Held.{holds_locked}
+use Rattle.shm_segments.proofs.Remembered.{memory-refl}
 use Rattle.shm_base.specs.Step.{Outcome}
 use Rattle.shm_base.specs.History.{is_refusal}
 use Rattle.shm_base.specs.declared.call.Reply.{Reply}
 use Rattle.shm_base.specs.declared.call.Reply.TheVariants.{Refused}
 use Rattle.shm_base.specs.declared.errno.Errno.{Errno}
-use Rattle.shm_life.specs.MachineView.{MachineView, Answered, IsFailed, names_failure}
+use Rattle.shm_life.specs.MachineView.{MachineView, Answered, IsFailed, LocksNothing, names_failure}
 use Rattle.std.specs.Prelude.{Result, Ok, Err}
 
 pub keeps_refl : (m : StoreView) → KeepsOn m m
@@ -15,17 +19,41 @@ keeps_refl m = record { kept = λ seg page a b e. e; goes_on = GoesOn-refl m.swa
 pub keeps_on : (a b : StoreView) → KeepsMemory a b → KeepsOn a b
 keeps_on a b r = record { kept = r.kept; goes_on = r.goes_on }
 
+pub kept_refl : (m : StoreView) → KeepsMemory m m
+kept_refl m = memory-refl m
+
+unlocked-less : (m : StoreView) (gs : List SegRec) (seg at : ℕ) → holds_locked (map (held_by m.frames m.swap) (map (with_seg_lock seg false) gs)) at ≡ true → holds_locked (map (held_by m.frames m.swap) gs) at ≡ true
+unlocked-less m [] seg at h = h
+unlocked-less m (g ∷ gs) seg at h = grind (arith, nat_tests, unlocked-less m gs seg at)
+
+unlocks : (a : StoreView) (seg at : ℕ) → holds_locked (held (record a { segs = map (with_seg_lock seg false) a.segs })) at ≡ true → holds_locked (held a) at ≡ true
+unfolding held
+unlocks a seg at = unlocked-less a a.segs seg at
+
+-- one segment unlocked
+pub unlock_keeps : (a b : StoreView) (seg : ℕ) → b ≡ record a { segs = map (with_seg_lock seg false) a.segs } → Still a b → KeepsMemory a b
+unlock_keeps a b seg is still = record {
+  kept = λ s page was is there. ap is_some (still s page) ∙ there;
+  locks = λ at. rw is (unlocks a seg at);
+  goes_on = rw is (GoesOn-refl a.swap);
+  frames = ap (λ (m : StoreView). length m.frames) is;
+}
+
 -- an answer that is no refusal
-pub granted : (o : Outcome) (reply : Reply) (s t : MachineView) → o ≡ record { reply = reply; state = t.flat } → is_refusal reply ≡ false → KeepsOn s.memory t.memory → Answered o false reply s t
-granted o reply s t step none keeps = record { step = λ _. step; failed = λ e. absurd (true≢false (sym e)); keeps = keeps; still = λ r _. absurd (true≢false (sym r ∙ none)) }
+pub granted : (o : Outcome) (reply : Reply) (locks : Bool) (s t : MachineView) → o ≡ record { reply = reply; state = t.flat } → is_refusal reply ≡ false → KeepsMemory s.memory t.memory → Answered o false locks reply s t
+granted o reply locks s t step none keeps = record { step = λ _. step; failed = λ e. absurd (true≢false (sym e)); keeps = keeps_on s.memory t.memory keeps; locked = λ _. keeps.locks; still = λ r _. absurd (true≢false (sym r ∙ none)) }
+
+-- a lock that is granted
+pub locking : (o : Outcome) (reply : Reply) (s t : MachineView) → o ≡ record { reply = reply; state = t.flat } → is_refusal reply ≡ false → KeepsOn s.memory t.memory → Answered o false true reply s t
+locking o reply s t step none keeps = record { step = λ _. step; failed = λ e. absurd (true≢false (sym e)); keeps = keeps; locked = λ e. absurd (true≢false e); still = λ r _. absurd (true≢false (sym r ∙ none)) }
 
 -- an answer that leaves all as it was
-pub answered_as : (o : Outcome) (reply : Reply) (s : MachineView) → o ≡ record { reply = reply; state = s.flat } → Answered o false reply s s
-answered_as o reply s step = record { step = λ _. step; failed = λ e. absurd (true≢false (sym e)); keeps = keeps_refl s.memory; still = λ _ _. refl }
+pub answered_as : (o : Outcome) (reply : Reply) (locks : Bool) (s : MachineView) → o ≡ record { reply = reply; state = s.flat } → Answered o false locks reply s s
+answered_as o reply locks s step = record { step = λ _. step; failed = λ e. absurd (true≢false (sym e)); keeps = keeps_refl s.memory; locked = λ _ seg is. is; still = λ _ _. refl }
 
 -- a refusal that names a pager's failure
-pub failing : (o : Outcome) (errno : Errno) (s t : MachineView) → names_failure (Refused errno) ≡ true → IsFailed o s t → KeepsOn s.memory t.memory → Answered o true (Refused errno) s t
-failing o errno s t names failed keeps = record { step = λ e. absurd (true≢false e); failed = λ _. failed; keeps = keeps; still = λ _ n. absurd (true≢false (sym names ∙ n)) }
+pub failing : (o : Outcome) (errno : Errno) (locks : Bool) (s t : MachineView) → names_failure (Refused errno) ≡ true → IsFailed o s t → KeepsMemory s.memory t.memory → Answered o true locks (Refused errno) s t
+failing o errno locks s t names failed keeps = record { step = λ e. absurd (true≢false e); failed = λ _. failed; keeps = keeps_on s.memory t.memory keeps; locked = λ _. keeps.locks; still = λ _ n. absurd (true≢false (sym names ∙ n)) }
 
 -- translations stay true where no page moves
 pub true_still : (ts : List Translation) (a b : StoreView) → ((s page : ℕ) → frame_of b s page ≡ frame_of a s page) → AreTrue ts a → AreTrue ts b

@@ -1,6 +1,7 @@
 -- What contracts see of a machine: the flat machine, and the memory that its bytes lie in.
 use Rattle.std.specs.Prelude.{ℕ, ◌≡◌, ◌≤◌, Bool, true, false, length, Result, Ok, Err}
 use Rattle.shm_base.specs.declared.call.Call.{Call}
+use Rattle.shm_base.specs.declared.call.Call.TheVariants.{Lock}
 use Rattle.shm_base.specs.declared.call.Reply.{Reply}
 use Rattle.shm_base.specs.declared.call.Reply.TheVariants.{Done, Refused}
 use Rattle.shm_base.specs.declared.errno.Errno.{Errno}
@@ -9,9 +10,10 @@ use Rattle.shm_base.specs.State.{Machine}
 use Rattle.shm_base.specs.Step.{Outcome, acts}
 use Rattle.shm_base.specs.History.{is_failure, is_refusal}
 use Rattle.shm_base.specs.Segments as flat
+use Rattle.shm_plain.specs.Held.{holds_locked}
 use Rattle.shm_slots.specs.View.{sizes, swap_slots}
 use Rattle.shm_slots.specs.Cause.{GoesOn, had_cause}
-use Rattle.shm_fault.specs.Store.{StoreView, used}
+use Rattle.shm_fault.specs.Store.{StoreView, held, used}
 use Rattle.shm_fault.specs.Steps.{LockedPagesStay}
 use Rattle.shm_fault.specs.Sound.{IsStoreSound}
 use Rattle.shm_attach.specs.Spaces.{caller_seen}
@@ -27,6 +29,14 @@ pub record MachineView : Type 0 where
 pub record KeepsOn (before after : StoreView) : Type 0 where
   pub kept : LockedPagesStay before after
   pub goes_on : GoesOn before.swap after.swap
+
+-- what is locked afterwards was locked before
+abbrev pub LocksNothing : StoreView → StoreView → Type 0
+LocksNothing before after = (seg : ℕ) → holds_locked (held after) seg ≡ true → holds_locked (held before) seg ≡ true
+
+abbrev pub is_lock : Call → Bool
+is_lock (Lock id) = true
+is_lock _ = false
 
 -- the refusals that name a pager's failure
 abbrev pub names_failure : Reply → Bool
@@ -57,16 +67,18 @@ abbrev pub reply_in : Reply → Result (Unit {0}) Errno → Reply
 reply_in reply result = replied (λ _. reply) result
 
 -- What an answer leaves where the flat machine has this outcome: that reply and that state, or, where the reply names a
--- pager's failure, the state as it was. The memory keeps on, and every other refusal leaves it as it was
-pub record Answered (o : Outcome) (names : Bool) (reply : Reply) (s t : MachineView) : Type 0 where
+-- pager's failure, the state as it was. The memory keeps on, every other refusal leaves it as it was, and no call but a lock
+-- locks a segment
+pub record Answered (o : Outcome) (names locks : Bool) (reply : Reply) (s t : MachineView) : Type 0 where
   pub step : names ≡ false → o ≡ record { reply = reply; state = t.flat }
   pub failed : names ≡ true → IsFailed o s t
   pub keeps : KeepsOn s.memory t.memory
+  pub locked : locks ≡ false → LocksNothing s.memory t.memory
   pub still : StillIfRefused reply s.memory t.memory
 
 -- what serving a caller's call at place n leaves
 abbrev pub Served : MachineView → ℕ → Caller → Call → Reply → MachineView → Type 0
-Served s n caller call reply t = Answered (acts s.flat n (caller_seen caller s.flat.runners) call) (is_failure call reply) reply s t
+Served s n caller call reply t = Answered (acts s.flat n (caller_seen caller s.flat.runners) call) (is_failure call reply) (is_lock call) reply s t
 
 -- no memory was left for a call that the flat machine does not refuse, and nothing changed
 pub record IsWithoutMemory (o : Outcome) (s t : MachineView) : Type 0 where

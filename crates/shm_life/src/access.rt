@@ -12,7 +12,7 @@ use shm_fault::Touched;
 use shm_pager::Pager;
 
 impl<P: Pager> Kernel<P> {
-    #[tactic(auto, using(crate::proofs::Running::keeps_refl))]
+    #[tactic(auto, using(crate::proofs::Running::kept_refl))]
     /// Reads bytes into the reply, which moves no other reply about; Sigsegv where an address has no piece, Sigbus where a
     /// pager failed.
     pub(crate) fn load(
@@ -42,7 +42,7 @@ impl<P: Pager> Kernel<P> {
         Ok(())
     }
 
-    #[tactic(auto, using(crate::proofs::Running::keeps_refl))]
+    #[tactic(auto, using(crate::proofs::Running::kept_refl))]
     /// Replaces bytes; Sigsegv where an address has no piece, or one that is read-only, Sigbus where a pager
     /// failed, and then no byte has changed.
     pub(crate) fn store(&mut self, caller: &Caller, addr: u64, chunk: &Chunk) -> Result<(), Errno>
@@ -63,7 +63,7 @@ impl<P: Pager> Kernel<P> {
         Ok(())
     }
 
-    #[tactic(auto, using(crate::proofs::Running::keeps_refl))]
+    #[tactic(auto, using(crate::proofs::Running::kept_refl))]
     /// Adds to eight little-endian bytes modulo 2^64, and answers the number that stood there. It is refused
     /// as a store is.
     pub(crate) fn xadd(&mut self, caller: &Caller, addr: u64, add: u64) -> Result<u64, Errno>

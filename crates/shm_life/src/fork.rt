@@ -10,7 +10,7 @@ use shm_base::Errno;
 use shm_pager::Pager;
 
 impl<P: Pager> Kernel<P> {
-    #[tactic(auto, using(crate::proofs::Running::keeps_refl))]
+    #[tactic(auto, using(crate::proofs::Running::kept_refl))]
     /// A child that was declared is born, with the caller's credentials and pieces (fork(2)). Eagain where the
     /// process is no such child.
     pub(crate) fn fork(&mut self, caller: &Caller, child: u32) -> Result<(), Errno>

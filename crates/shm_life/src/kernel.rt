@@ -3,7 +3,7 @@ ghost use Rattle.std.specs.Prelude.{IfOk, OnOk, OnErr, IsOk};
 ghost use Rattle.shm_base.specs.Step.{acts, step};
 ghost use Rattle.shm_base.specs.History.{is_failure};
 ghost use Rattle.shm_attach.specs.Spaces.{IsCaller, caller_seen};
-ghost use Rattle.shm_life.specs.MachineView.{Answered, IsWithoutMemory, Served, reply_in};
+ghost use Rattle.shm_life.specs.MachineView.{Answered, IsWithoutMemory, Served, is_lock, reply_in};
 ghost use Rattle.shm_base.specs.Memory.{TakesNoMemory};
 
 use shm_attach::{Caller, Spaces};
@@ -42,7 +42,7 @@ impl<P: Pager> Model for Kernel<P> {
 }
 
 impl<P: Pager> Kernel<P> {
-    #[tactic(auto, using(crate::proofs::Running::keeps_refl))]
+    #[tactic(auto, using(crate::proofs::Running::kept_refl))]
     /// One step of the flat machine. A process that is not live is refused before anything else.
     pub(crate) fn call(
         &mut self,
@@ -51,7 +51,7 @@ impl<P: Pager> Kernel<P> {
         call: &Call,
         reply: &mut Reply,
     ) -> Result<(), HostMemory>
-        ensures answered { OnOk result (Answered (step self.old.flat time pid call.now) (is_failure call.now reply.new) reply.new self.old self.new) }
+        ensures answered { OnOk result (Answered (step self.old.flat time pid call.now) (is_failure call.now reply.new) (is_lock call.now) reply.new self.old self.new) }
         ensures memory { OnErr result (IsWithoutMemory (step self.old.flat time pid call.now) self.old self.new) }
         ensures no_memory { TakesNoMemory call.now → IsOk result }
     {

@@ -81,7 +81,7 @@ impl<P: Pager> Kernel<P> {
         Ok(Placed { seg, pages, base })
     }
 
-    #[tactic(auto, using(crate::proofs::Running::keeps_refl))]
+    #[tactic(auto, using(crate::proofs::Running::kept_refl))]
     /// Attaches a segment. Segments whose pieces are replaced are detached, and those marked that lose their
     /// last piece are destroyed after the new piece stands.
     pub(crate) fn shmat(

@@ -86,7 +86,7 @@ impl<P: Pager> Kernel<P> {
         Ok(found)
     }
 
-    #[tactic(auto, using(crate::proofs::Running::keeps_refl))]
+    #[tactic(auto, using(crate::proofs::Running::kept_refl))]
     /// Gives a segment another owner and other permission bits (IPC_SET).
     pub(crate) fn set(
         &mut self,
@@ -104,7 +104,7 @@ impl<P: Pager> Kernel<P> {
         Ok(())
     }
 
-    #[tactic(auto, using(crate::proofs::Running::keeps_refl))]
+    #[tactic(auto, using(crate::proofs::Running::kept_refl))]
     /// Destroys a segment without pieces, and marks one that has some (IPC_RMID).
     pub(crate) fn rmid(&mut self, caller: &Caller, id: ShmId) -> Result<(), Errno>
         ensures { (n : ℕ) → Served self.old n caller.now (call.Rmid id) (replied done result) self.new }
@@ -124,7 +124,7 @@ impl<P: Pager> Kernel<P> {
         !found.head.locked && wanted > self.limits.memlock()
     }
 
-    #[tactic(auto, using(crate::proofs::Running::keeps_refl))]
+    #[tactic(auto, using(crate::proofs::Running::kept_refl))]
     /// Locks a segment's pages (SHM_LOCK): Enomem where those of all locked segments would exceed MEMLOCK.
     pub(crate) fn lock(&mut self, caller: &Caller, id: ShmId) -> Result<(), Errno>
         ensures { (n : ℕ) → Served self.old n caller.now (call.Lock id) (replied done result) self.new }
@@ -137,7 +137,7 @@ impl<P: Pager> Kernel<P> {
         Ok(())
     }
 
-    #[tactic(auto, using(crate::proofs::Running::keeps_refl))]
+    #[tactic(auto, using(crate::proofs::Running::kept_refl))]
     /// Unlocks a segment's pages (SHM_UNLOCK).
     pub(crate) fn unlock(&mut self, caller: &Caller, id: ShmId) -> Result<(), Errno>
         ensures { (n : ℕ) → Served self.old n caller.now (call.Unlock id) (replied done result) self.new }

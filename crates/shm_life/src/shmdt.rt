@@ -10,7 +10,7 @@ use shm_base::Errno;
 use shm_pager::Pager;
 
 impl<P: Pager> Kernel<P> {
-    #[tactic(auto, using(crate::proofs::Running::keeps_refl))]
+    #[tactic(auto, using(crate::proofs::Running::kept_refl))]
     /// Detaches the pieces that are left of an attach (shmop(2)): among the pieces whose segment would begin at
     /// the address the lowest names the segment, and all pieces of that segment with this origin go (the origin
     /// is this profile's). Einval where there is none.

@@ -76,7 +76,7 @@ fn get(
 }
 
 impl<P: Pager> Kernel<P> {
-    #[tactic(auto, using(crate::proofs::Running::keeps_refl))]
+    #[tactic(auto, using(crate::proofs::Running::kept_refl))]
     /// The segment with a key, or a new one where the key is IPC_PRIVATE (0), or where no segment has it and
     /// IPC_CREAT is set (shmget(2)).
     pub(crate) fn shmget(
@@ -102,7 +102,7 @@ impl<P: Pager> Kernel<P> {
         }
     }
 
-    #[tactic(auto, using(crate::proofs::Running::keeps_refl))]
+    #[tactic(auto, using(crate::proofs::Running::kept_refl))]
     // A new segment. Einval where the size is 0 or above SHMMAX; Enospc where SHMALL or SHMMNI is reached or
     // no identifier is left; Enomem where the swap areas could not take all pages.
     fn create(
@@ -115,7 +115,7 @@ impl<P: Pager> Kernel<P> {
     ) -> Result<Result<ShmId, Errno>, HostMemory>
         requires absent { key ≢ 0 → flat_ids.find_key self.old.flat.table key ≡ flat_ids.Invalid }
         ensures created { let seen = caller_seen caller.now self.old.flat.runners in
-            IfOk result (λ r. Answered (flat.creates self.old.flat time seen key size mode) false (replied Id r) self.old self.new) }
+            IfOk result (λ r. Answered (flat.creates self.old.flat time seen key size mode) false false (replied Id r) self.old self.new) }
         ensures memory { let seen = caller_seen caller.now self.old.flat.runners in
             OnErr result (IsWithoutMemory (flat.creates self.old.flat time seen key size mode) self.old self.new) }
     {

@@ -9,7 +9,7 @@ use shm_base::Errno;
 use shm_pager::Pager;
 
 impl<P: Pager> Kernel<P> {
-    #[tactic(auto, using(crate::proofs::Running::keeps_refl))]
+    #[tactic(auto, using(crate::proofs::Running::kept_refl))]
     /// Takes a swap area away (swapoff(2)). Eperm for every user but 0; Einval where there is no such area,
     /// or no more; Enomem where the others have fewer slots than all segments have pages; Eio where a pager
     /// failed, and then the area stays.

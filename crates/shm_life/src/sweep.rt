@@ -7,7 +7,6 @@ ghost use Rattle.shm_slots.specs.View.{sizes};
 ghost use Rattle.shm_segments.specs.Table.{IsLive};
 ghost use Rattle.shm_segments.specs.View.{KeepsMemory};
 ghost use Rattle.shm_life.specs.Sound.{IsWell, IsWellBut};
-ghost use Rattle.shm_life.specs.MachineView.{KeepsOn};
 ghost use Rattle.shm_life.specs.Orphans.{OrphansAmong, Sweeps};
 
 use shm_attach::Spaces;
@@ -55,7 +54,7 @@ pub(crate) fn sweep<P: Pager>(segments: &mut Segments<P>, spaces: &Spaces, lost:
     requires orphans { OrphansAmong lost.now spaces.now.runners segments.old.table }
     ensures swept { segments.new.table ≡ swept spaces.now.runners segments.old.table }
     ensures well { (limits : Bounds) → IsWellBut lost.now limits segments.old.table spaces.now.runners spaces.now.translations segments.old.memory → IsWell limits segments.new.table spaces.now.runners spaces.now.translations segments.new.memory }
-    ensures keeps { KeepsOn segments.old.memory segments.new.memory }
+    ensures keeps { KeepsMemory segments.old.memory segments.new.memory }
     ensures sizes { sizes segments.new.memory.swap ≡ sizes segments.old.memory.swap }
 {
     for seg in lost {
@@ -77,7 +76,7 @@ pub(crate) fn after_detach<P: Pager>(
     requires orphans { OrphansAmong lost.now spaces.now.runners segments.old.table }
     ensures table { segments.new.table ≡ swept spaces.now.runners (detach_all time pid segments.old.table lost.now) }
     ensures well { (limits : Bounds) → IsWellBut lost.now limits segments.old.table spaces.now.runners spaces.now.translations segments.old.memory → IsWell limits segments.new.table spaces.now.runners spaces.now.translations segments.new.memory }
-    ensures keeps { KeepsOn segments.old.memory segments.new.memory }
+    ensures keeps { KeepsMemory segments.old.memory segments.new.memory }
     ensures sizes { sizes segments.new.memory.swap ≡ sizes segments.old.memory.swap }
 {
     note_detached(segments, lost, time, pid);

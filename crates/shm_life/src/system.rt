@@ -164,7 +164,7 @@ impl<P: Pager> System<P> {
         Ok(reply)
     }
 
-    #[tactic(auto, using(crate::proofs::Running::keeps_refl))]
+    #[tactic(auto, using(crate::proofs::Running::kept_refl))]
     /// As [`System::call`], with the reply put where the caller wants it, which is unknown where memory is out.
     /// A reply has 88 bytes, and each hand that takes it would clear and copy them.
     #[inline(always)]

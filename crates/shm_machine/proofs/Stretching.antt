@@ -10,6 +10,9 @@ use Rattle.shm_base.specs.declared.call.Reply.{Reply}
 use Rattle.shm_plain.proofs.Spans.{length-put_mid}
 use Rattle.shm_life.specs.SystemState.{SystemState}
 use Rattle.shm_life.specs.SystemState.{Replied}
+use Rattle.shm_fault.specs.Steps.{LockedPagesStay}
+use Rattle.shm_fault.specs.Store.{StoreView}
+use Rattle.shm_life.specs.MachineView.{LocksNothing}
 use Rattle.shm_machine.specs.Stretched.{Reached}
 use Rattle.shm_base.specs.declared.call.Call.TheVariants.{Load, Store}
 use Rattle.shm_base.specs.declared.call.Reply.TheVariants.{Bytes, Done}
@@ -108,6 +111,19 @@ write_more s t u n k pid a bs cs first second =
 pub stores : (s t : Machine) (n pid a : ℕ) (bs : List ℕ) → IsMove s n (record { pid = pid; call = Store a bs; reply = Done }) t → Stores s n pid a bs t
 stores s t n pid a bs is = grind (arith, common_steps)
 
+-- LOCKED PAGES
+
+-- pages of locked segments stay resident, and nothing becomes locked
+pub record KeepsLocked (a b : StoreView) : Type 0 where
+  pub kept : LockedPagesStay a b
+  pub locks : LocksNothing a b
+
+locked-trans : (a b c : StoreView) → KeepsLocked a b → KeepsLocked b c → KeepsLocked a c
+locked-trans a b c p q = record {
+  kept = λ seg page was is there. q.kept seg page (q.locks seg is) is (p.kept seg page was (q.locks seg is) there);
+  locks = λ seg is. p.locks seg (q.locks seg is);
+}
+
 -- ONE CALL MORE
 
 reached-next : (before now after : SystemState) (done len pid : ℕ) (call : Call) (reply : Reply) → Reached before done now → Replied now pid call reply after → done % 64 ≡ 0 → 0 < len → len ≤ 64 → Reached before (done + len) after
@@ -127,6 +143,7 @@ pub record ReadSo (before : SystemState) (pid addr : ℕ) (old : List ℕ) (done
   pub bytes : 0 < done → (step before.machine (before.calls + 1) pid (Load addr done)).reply ≡ Bytes (take done new)
   pub reached : Reached before done now
   pub machine : now.machine ≡ before.machine
+  pub locked : KeepsLocked before.memory now.memory
 
 pub read_next : (before now after : SystemState) (pid addr : ℕ) (old new xs : List ℕ) (done len room : ℕ) → ReadSo before pid addr old done new now → done < length old → len ≡ min (length old - done) 64 → room ≡ len
     → Replied now pid (Load (addr + done) len) (Bytes xs) after → length xs ≡ len → ReadSo before pid addr old (done + len) (put_mid done room new xs) after
@@ -144,6 +161,7 @@ read_next before now after pid addr old new xs done len room so lt len-is room-i
       bytes = λ some. one done len (so.bytes) next front;
       reached = reached-next before now after done len pid (Load (addr + done) len) (Bytes xs) so.reached moves (so.whole.1 lt) (omega (arith, lt, len-is)) (omega (arith, len-is));
       machine = l.state ∙ so.machine;
+      locked = locked-trans before.memory now.memory after.memory so.locked (record { kept = moves.keeps.kept; locks = moves.locked refl });
     }
   where
     drop_on : (done len : ℕ) (xs ys : List ℕ) → drop done xs ≡ drop done ys → drop (done + len) xs ≡ drop (done + len) ys
@@ -159,6 +177,7 @@ pub record WrittenSo (before : SystemState) (pid addr : ℕ) (bytes : List ℕ) 
   pub none : done ≡ 0 → now.machine ≡ before.machine
   pub stored : 0 < done → Stores before.machine (before.calls + 1) pid addr (take done bytes) now.machine
   pub reached : Reached before done now
+  pub locked : KeepsLocked before.memory now.memory
 
 pub write_next : (before now after : SystemState) (pid addr : ℕ) (bytes xs : List ℕ) (done len : ℕ) → WrittenSo before pid addr bytes done now → done < length bytes → len ≡ min (length bytes - done) 64
     → xs ≡ take len (drop done bytes) → Replied now pid (Store (addr + done) xs) Done after → WrittenSo before pid addr bytes (done + len) after
@@ -169,6 +188,7 @@ write_next before now after pid addr bytes xs done len so lt len-is is moves =
       none = λ zero-is. absurd (omega (arith, zero-is, some));
       stored = λ more. rw (take-add done len bytes, ← is) (one done lt so.none so.stored (stores now.machine after.machine (now.calls + 1) pid (addr + done) xs moves.move));
       reached = reached-next before now after done len pid (Store (addr + done) xs) Done so.reached moves (so.whole.1 lt) some (omega (arith, len-is));
+      locked = locked-trans before.memory now.memory after.memory so.locked (record { kept = moves.keeps.kept; locks = moves.locked refl });
     }
   where
     one : (done : ℕ) → done < length bytes → (done ≡ 0 → now.machine ≡ before.machine) → (0 < done → Stores before.machine (before.calls + 1) pid addr (take done bytes) now.machine) → Stores now.machine (now.calls + 1) pid (addr + done) xs after.machine

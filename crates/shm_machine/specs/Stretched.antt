@@ -6,6 +6,8 @@ use Rattle.shm_base.specs.declared.call.Reply.TheVariants.{Bytes, Done}
 use Rattle.shm_base.specs.declared.errno.Errno.TheVariants.{Sigsegv}
 use Rattle.shm_base.specs.Step.{step}
 use Rattle.shm_slots.specs.Cause.{GoesOn}
+use Rattle.shm_fault.specs.Steps.{LockedPagesStay}
+use Rattle.shm_life.specs.MachineView.{LocksNothing}
 use Rattle.shm_life.specs.SystemState.{SystemState}
 use Rattle.shm_machine.specs.declared.refusal.Refusal.{Refusal}
 use Rattle.shm_machine.specs.declared.refusal.Refusal.TheVariants.{Refused}
@@ -38,7 +40,8 @@ EndedAt stood pid addr size next p after =
     MatchOption p.stopped ((p.done ≡ size) × (after ≡ stood))
     (λ refusal. (p.done < size) × StoppedAt stood pid (addr + p.done) (next (next_len (size - p.done))) refusal after)
 
--- the bytes that were read are those of one load of the flat machine; the others stay
+-- the bytes that were read are those of one load of the flat machine; the others stay. Pages of locked segments stay
+-- resident, whether all was read or not, and nothing becomes locked
 pub record ReadTo (before : SystemState) (pid addr : ℕ) (old : List ℕ) (p : Progress) (new : List ℕ) (after : SystemState) : Type 0 where
   pub within : p.done ≤ length old
   pub rest : drop p.done new ≡ drop p.done old
@@ -47,8 +50,11 @@ pub record ReadTo (before : SystemState) (pid addr : ℕ) (old : List ℕ) (p : 
   pub reached : Reached before p.done stood
   pub machine : stood.machine ≡ before.machine
   pub ended : EndedAt stood pid addr (length old) (λ n. Load (addr + p.done) n) p after
+  pub kept : LockedPagesStay before.memory after.memory
+  pub locks : LocksNothing before.memory after.memory
 
--- the bytes that were written are there as by one store of the flat machine
+-- the bytes that were written are there as by one store of the flat machine. Pages of locked segments stay resident,
+-- whether all was written or not, and nothing becomes locked
 pub record WrittenTo (before : SystemState) (pid addr : ℕ) (bytes : List ℕ) (p : Progress) (after : SystemState) : Type 0 where
   pub within : p.done ≤ length bytes
   pub stood : SystemState
@@ -56,3 +62,5 @@ pub record WrittenTo (before : SystemState) (pid addr : ℕ) (bytes : List ℕ) 
   pub none : p.done ≡ 0 → stood.machine ≡ before.machine
   pub stored : 0 < p.done → step before.machine (before.calls + 1) pid (Store addr (take p.done bytes)) ≡ record { reply = Done; state = stood.machine }
   pub ended : EndedAt stood pid addr (length bytes) (λ n. Store (addr + p.done) (take n (drop p.done bytes))) p after
+  pub kept : LockedPagesStay before.memory after.memory
+  pub locks : LocksNothing before.memory after.memory

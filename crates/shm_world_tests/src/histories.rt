@@ -24,6 +24,8 @@ pub(crate) enum Ask {
     Exit,
     /// An area is to be taken away.
     Swapoff(u32),
+    /// A segment is to be destroyed.
+    Rmid(i32),
 }
 
 /// What a call has to answer.
@@ -89,6 +91,7 @@ fn call_of(ask: &Ask) -> Option<Call> {
         },
         Ask::Exit => Call::Exit,
         Ask::Swapoff(area) => Call::Swapoff { area },
+        Ask::Rmid(id) => Call::Rmid { id },
     })
 }
 

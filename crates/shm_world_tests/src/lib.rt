@@ -8,4 +8,6 @@ mod histories;
 #[cfg(test)]
 mod methods;
 #[cfg(test)]
+mod pagings;
+#[cfg(test)]
 mod starts;

@@ -1,6 +1,6 @@
 use Rattle.shm_life.proofs.Names.{◌≡◌, drop, [], refl, sym, subst, ◌∙◌, drop_all, memory-refl, memory-trans, OrphansAmong}
 use Rattle.shm_life.proofs.Orphans.{swept-none}
-use Rattle.shm_life.proofs.Running.{sweeps-none, sweeps-trans, among-next, swept-well, keeps_on}
+use Rattle.shm_life.proofs.Running.{sweeps-none, sweeps-trans, among-next, swept-well}
 use Rattle.shm_life.proofs.sweep.sweep.Given.{Over}
 use Rattle.shm_life.proofs.sweep.sweep.Goals as goal
 use Rattle.shm_life.proofs.sweep.sweep.Goals.{After-loop-seg}
@@ -35,4 +35,4 @@ pub returns-clause-well : goal.returns-clause-well
 returns-clause-well g c = λ limits w. swept-well limits _ _ _ _ _ _ c.loop-seg.invariant.0 (none g c) w
 
 pub returns-clause-keeps : goal.returns-clause-keeps
-returns-clause-keeps g c = keeps_on _ _ c.loop-seg.invariant.0.keeps
+returns-clause-keeps g c = c.loop-seg.invariant.0.keeps

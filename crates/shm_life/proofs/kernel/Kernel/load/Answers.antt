@@ -3,7 +3,7 @@ use Rattle.std.proofs.Math.Seq.{take-append_seam}
 use Rattle.shm_base.proofs.Padded.{padded}
 use Rattle.shm_life.proofs.Settled.{noted-well, moved-by}
 use Rattle.shm_life.proofs.Changed.{spans-there, asked}
-use Rattle.shm_life.proofs.Running.{granted, keeps_refl, ok_fact}
+use Rattle.shm_life.proofs.Running.{granted, kept_refl, ok_fact}
 use Rattle.shm_life.proofs.kernel.Kernel.load.Given.{Over}
 use Rattle.shm_life.proofs.kernel.Kernel.load.Goals as goal
 use Rattle.shm_life.proofs.kernel.Kernel.load.Goals.{After-note}
@@ -34,7 +34,7 @@ returns g c = λ n.
     let out = ok_fact c.read-read.result _ (sym c.is_err.ensures.value ∙ c.if-is_err.false) c.read-read.ensures.bytes in
     let read = size g (goal.at.returns g c).After-note in
     let bytes : c.from_array.result ≡ loaded m.table spans = c.from_array.ensures ∙ rw read (take-append_seam c.read-read.new.out _) ∙ rw c.as_slice.ensures.value at out in
-    granted _ _ _ _ (rw (← c.self.view_is, c.note.ensures.runners, c.read-read.ensures.table, c.read-read.ensures.access.same_sizes) (step ∙ ap (λ bs. gives m (Bytes bs)) (sym bytes))) refl (search (rules, keeps_refl))
+    granted _ _ _ _ _ (rw (← c.self.view_is, c.note.ensures.runners, c.read-read.ensures.table, c.read-read.ensures.access.same_sizes) (step ∙ ap (λ bs. gives m (Bytes bs)) (sym bytes))) refl (search (rules, kept_refl))
 
 -- done or not
 well : (g : Over) (c : After-note g) → IsWell c.self.inside.limits c.read-read.new.self.table c.note.new.self.runners c.note.new.self.translations c.read-read.new.self.memory

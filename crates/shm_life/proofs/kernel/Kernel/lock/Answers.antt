@@ -1,7 +1,7 @@
 use Rattle.shm_life.proofs.Names.{arith, rules, ◌≡◌, ◌+◌, ◌%◌, ◌≤◌, length, true, false, not, ◌&&◌, nat_lt, List, [], refl, sym, ap, ◌∙◌, to_z, of_z, w32, Entry, pages_of, change, locked, locks, gives, Done, IsFound, relocked, segment_seen, change-index, Head, whole, StoreView}
 use Rattle.shm_base.specs.State.{pages_in}
 use Rattle.shm_life.proofs.Changed.{relocked-well, lock-few, pages-seen}
-use Rattle.shm_life.proofs.Running.{granted, keeps_refl}
+use Rattle.shm_life.proofs.Running.{keeps_refl, locking}
 use Rattle.shm_life.proofs.kernel.Kernel.lock.Given.{Over}
 use Rattle.shm_life.proofs.kernel.Kernel.lock.Goals as goal
 use Rattle.shm_life.proofs.kernel.Kernel.lock.Goals.{Else-exceeds_memlock}
@@ -33,4 +33,4 @@ returns g c = λ n.
     rw (pages, fits) (ap (λ (t : List Entry). gives (record m { table = t }) Done) (change-index {T = Head} (whole []) m.table f.seg (relocked true))) in
     let signed : to_z w32 (of_z w32 c.args.id) ≡ c.args.id = search rules in
     let step = rw signed at (c.in_ok-found.ensures.ok (locks m)) ∙ act ∙ rw (← c.self.view_is, c.set_locked.ensures.table, c.set_locked.ensures.only) refl in
-    granted _ _ _ _ step refl (search (rules, keeps_refl))
+    locking _ _ _ _ step refl (search (rules, keeps_refl))

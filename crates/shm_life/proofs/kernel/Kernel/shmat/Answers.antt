@@ -1,7 +1,7 @@
 use Rattle.shm_life.proofs.Names.{◌≡◌, refl, ap, sym, ◌∙◌, rules, to_z, of_z, w32, Outcome, shmat, is_refusal, AreTrue, IsCaller, caller_seen, SegmentsView, piece_for, placed_outcome, PieceFits}
 use Rattle.shm_life.proofs.Going.{Goes, attached-goes, attached-first, well-gone}
 use Rattle.shm_life.proofs.Attaching.{shmat-placed, on-err}
-use Rattle.shm_life.proofs.Running.{granted, keeps_refl, answered_as}
+use Rattle.shm_life.proofs.Running.{granted, kept_refl, answered_as}
 use Rattle.shm_life.proofs.kernel.Kernel.shmat.Given.{Over}
 use Rattle.shm_life.proofs.kernel.Kernel.shmat.Goals as goal
 use Rattle.shm_life.proofs.kernel.Kernel.shmat.Goals.{After-place_for, After-as_slice}
@@ -52,10 +52,10 @@ pub returns-clause-served : goal.returns-clause-served
 returns-clause-served g c =
     let step = rw (c.in-Ok.is, ← c.self.view_is) at (outcome g (goal.at.returns-clause-served g c).After-place_for) in
     let gone = rw (c.as_slice.ensures.value, c.in_ok-lost.ensures.lost, c.in_ok-lost.ensures.runners, c.contains-writable.ensures tt) at c.after_detach.ensures.table in
-    granted _ _ _ _ (rw (← c.self.view_is) (step ∙ rw (c.after_detach.ensures.sizes, gone, c.attached.ensures, attached-first, c.in_ok-lost.ensures.runners, c.contains-writable.ensures tt) refl)) refl (search (rules, keeps_refl))
+    granted _ _ _ _ _ (rw (← c.self.view_is) (step ∙ rw (c.after_detach.ensures.sizes, gone, c.attached.ensures, attached-first, c.in_ok-lost.ensures.runners, c.contains-writable.ensures tt) refl)) refl (search (rules, kept_refl))
 
 pub returns-in-Err-clause-served : goal.returns-in-Err-clause-served
-returns-in-Err-clause-served g c = answered_as _ _ _ (rw c.in-Err.is at (outcome g (goal.at.returns-in-Err-clause-served g c).After-place_for))
+returns-in-Err-clause-served g c = answered_as _ _ _ _ (rw c.in-Err.is at (outcome g (goal.at.returns-in-Err-clause-served g c).After-place_for))
 
 pub returns-in_err-lost-clause-memory : goal.returns-in_err-lost-clause-memory
 returns-in_err-lost-clause-memory g c =

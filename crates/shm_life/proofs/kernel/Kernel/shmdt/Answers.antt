@@ -1,7 +1,7 @@
 use Rattle.shm_life.proofs.Names.{rules, ◌∙◌, ap, ◌≡◌, ◌∷◌, [], refl, sym, Some, Piece, Machine, origin_of, IsCaller, caller_seen, pieces_at, sizes, shmdt-named}
 use Rattle.std.proofs.Common.{option_map}
 use Rattle.shm_life.proofs.Going.{Goes, named-go, well-gone}
-use Rattle.shm_life.proofs.Running.{granted, keeps_refl}
+use Rattle.shm_life.proofs.Running.{granted, kept_refl}
 use Rattle.shm_life.proofs.kernel.Kernel.shmdt.Given.{Over}
 use Rattle.shm_life.proofs.kernel.Kernel.shmdt.Goals as goal
 use Rattle.shm_life.proofs.kernel.Kernel.shmdt.Goals.{After-detach}
@@ -32,4 +32,4 @@ returns g c =
     let rs = c.self.inside.spaces.runners in
     let m : Machine = record { limits = c.self.inside.limits; areas = sizes c.self.inside.segments.memory.swap; table = c.self.inside.segments.table; runners = rs } in
     let step = shmdt-named m c.args.time (caller_seen c.args.caller.now rs) c.args.addr c.in-Some.origin.seg (named g (goal.at.returns g c).After-detach) in
-    granted _ _ _ _ (rw (← c.self.view_is) (step ∙ rw (c.after_detach.ensures.sizes, c.after_detach.ensures.table, c.detach.ensures.gone) refl)) refl (search (rules, keeps_refl))
+    granted _ _ _ _ _ (rw (← c.self.view_is) (step ∙ rw (c.after_detach.ensures.sizes, c.after_detach.ensures.table, c.detach.ensures.gone) refl)) refl (search (rules, kept_refl))

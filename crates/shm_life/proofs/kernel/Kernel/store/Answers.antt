@@ -1,7 +1,7 @@
 use Rattle.shm_life.proofs.Names.{rules, arith, common_steps, true, false, length, refl, sym, ◌∙◌, span_places, Machine, IsCaller, pieces_at, store-wanted, sizes, SameTable, stored-same, IsWell}
 use Rattle.shm_life.proofs.Settled.{noted-well, moved-by}
 use Rattle.shm_life.proofs.Changed.{spans-there, asked, either-same}
-use Rattle.shm_life.proofs.Running.{granted, keeps_refl, ok_fact}
+use Rattle.shm_life.proofs.Running.{granted, kept_refl, ok_fact}
 use Rattle.shm_life.proofs.kernel.Kernel.store.Given.{Over}
 use Rattle.shm_life.proofs.kernel.Kernel.store.Goals as goal
 use Rattle.shm_life.proofs.kernel.Kernel.store.Goals.{After-note}
@@ -33,4 +33,4 @@ returns g c = λ n.
     let is : IsCaller caller rs = rw (← c.self.view_is) at c.requires in
     let step = store-wanted m (pieces_at rs caller.index) c.args.addr bytes spans (asked true rs caller c.args.addr (length bytes) _ is c.in-Ok.ensures.spans.places) in
     let written = ok_fact c.write-written.result _ (sym c.is_err.ensures.value ∙ c.if-is_err.false) c.write-written.ensures.written in
-    granted _ _ _ _ (rw (← c.self.view_is, ← c.as_slice-bytes.ensures.value) (step ∙ rw (c.note.ensures.runners, written, c.write-written.ensures.access.same_sizes, c.as_slice.ensures.value) refl)) refl (search (rules, keeps_refl))
+    granted _ _ _ _ _ (rw (← c.self.view_is, ← c.as_slice-bytes.ensures.value) (step ∙ rw (c.note.ensures.runners, written, c.write-written.ensures.access.same_sizes, c.as_slice.ensures.value) refl)) refl (search (rules, kept_refl))
