@@ -39,7 +39,7 @@ pub(crate) enum Want {
 
 pub(crate) type Row = (Ask, Want);
 
-fn world(alloc: Global, shmmax: u64) -> Result<World<RamPager>, Fail> {
+pub(crate) fn world(alloc: Global, shmmax: u64) -> Result<World<RamPager>, Fail> {
     let limits = Limits::new(shmmax, 16, 64, 4, 1)
         .ok()
         .ok_or("the limits hold")?;

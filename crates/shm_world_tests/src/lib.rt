@@ -6,6 +6,8 @@ mod boxes;
 #[cfg(test)]
 mod histories;
 #[cfg(test)]
+mod long;
+#[cfg(test)]
 mod methods;
 #[cfg(test)]
 mod pagings;
