@@ -21,3 +21,6 @@ pub mod Drops
 pub mod Areas
 pub mod Seen
 pub mod Puts
+pub mod Placed
+pub mod Places
+pub mod Moves

@@ -13,3 +13,6 @@ returns-clause-access g c =
 pub returns-clause-written : goal.returns-clause-written
 returns-clause-written g c =
     rw (c.store_spans.ensures.written, c.to_le_bytes.ensures, c.from_le_bytes.ensures, c.copy_spans.ensures, c.in-Ok.ensures.brings.goes.bytes) refl
+
+pub returns-clause-places : goal.returns-clause-places
+returns-clause-places g c = rw (← c.in-Ok.ensures.placed) c.store_spans.ensures.placed

@@ -8,3 +8,6 @@ returns-in-Err-clause-access g c = accessed-not c.args.spans.now c.args.self.now
 pub returns-clause-access : goal.returns-clause-access
 returns-clause-access g c =
     accessed c.args.self.now c.bring_spans.new.self c.bring_spans.new.self.frames refl (λ f. refl) c.bring_spans.ensures.sound c.args.spans.now c.in-Ok.here c.bring_spans.new.touched c.requires.spans.few c.in-Ok.ensures.brings c.in-Ok.ensures.here
+
+pub returns-clause-places : goal.returns-clause-places
+returns-clause-places g c = c.in-Ok.ensures.placed

@@ -8,3 +8,6 @@ pub returns-clause-access : goal.returns-clause-access
 returns-clause-access g c =
     let e = c.store_spans.ensures in
     rw e.rest (accessed c.args.self.now c.bring_spans.new.self c.store_spans.new.self.frames e.count e.bits (rw e.rest at e.sound) c.args.spans.now c.in-Ok.here c.bring_spans.new.touched c.requires.spans.few c.in-Ok.ensures.brings c.in-Ok.ensures.here)
+
+pub returns-clause-places : goal.returns-clause-places
+returns-clause-places g c = rw (← c.in-Ok.ensures.placed) c.store_spans.ensures.placed

@@ -1,0 +1,26 @@
+use Rattle.shm_fault.proofs.Names.{◌≡◌, ◌∷◌, [], get_or, arith, ap, ◌∙◌, Span, StoreView, rec_by, ref_of}
+use Rattle.shm_plain.proofs.Spans.{no_span}
+use Rattle.shm_fault.proofs.Places.{dirty-none, dirty-one, dirty-two}
+use Rattle.shm_fault.proofs.Bringing.{none-of, one-of, two-of, in-one, in-two}
+use Rattle.shm_fault.proofs.store.PageStore.store_spans.Goals as goal
+
+pub returns-in-empty-clause-placed : goal.returns-in-empty-clause-placed
+returns-in-empty-clause-placed g c = rw (none-of c.args.spans.now (omega (arith, c.in-empty.len_below))) at (dirty-none c.args.self.now)
+
+pub returns-in-len1-clause-placed : goal.returns-in-len1-clause-placed
+returns-in-len1-clause-placed g c =
+    let p : Span = get_or c.args.spans.now 0 no_span in
+    let is : p ∷ [] ≡ c.args.spans.now = one-of c.args.spans.now (omega (arith, c.in-len1.len_at_least, c.in-len1.len_below)) in
+    let at_p = in-one c.args.self.now c.args.spans.now p c.args.here is c.requires.here in
+    rw is at (dirty-one p c.args.self.now c.store.new.self c.args.here.first at_p c.store.ensures.placed)
+
+pub returns-in-len2-up-clause-placed : goal.returns-in-len2-up-clause-placed
+returns-in-len2-up-clause-placed g c =
+    let p : Span = get_or c.args.spans.now 0 no_span in
+    let q : Span = get_or c.args.spans.now 1 no_span in
+    let s = c.args.self.now in
+    let t = c.store-in-len2-up.new.self in
+    let is : p ∷ q ∷ [] ≡ c.args.spans.now = two-of c.args.spans.now (omega (arith, c.in-len2-up.len_at_least, c.requires.spans.few)) in
+    let both = in-two s c.args.spans.now p q c.args.here is c.requires.here in
+    let same = ap (λ (v : StoreView). (rec_by v.segs (ref_of q)).frame) c.store-in-len2-up.ensures.rest in
+    rw is at (dirty-two p q s t c.store-in-len2-up-2.new.self c.args.here.first c.args.here.second both.0 c.store-in-len2-up.ensures.placed (same ∙ both.1) c.store-in-len2-up-2.ensures.placed)
