@@ -24,3 +24,4 @@ pub mod Puts
 pub mod Placed
 pub mod Places
 pub mod Moves
+pub mod Forgets

@@ -1,12 +1,14 @@
 -- Where pages are and which bits are set, without their bytes, and what each step of paging makes of that.
-use Rattle.std.specs.Prelude.{ℕ, zero, suc, ◌≡◌, ◌<◌, ◌⊎◌, Bool, true, false, not, ◌||◌, if◌then◌else◌, List, [], ◌∷◌, map, set, get_or, length, Option, Some, None, is_some, is_none, nat_eq, unwrap_or, position}
+use Rattle.std.specs.Prelude.{ℕ, zero, suc, ◌≡◌, ◌<◌, ◌⊎◌, Bool, true, false, not, ◌||◌, if◌then◌else◌, List, [], ◌∷◌, map, set, get_or, length, sum_by, Option, Some, None, is_some, is_none, nat_eq, unwrap_or, position}
 use Rattle.shm_base.specs.declared.paging.PageRef.{PageRef}
 use Rattle.shm_base.specs.declared.paging.Slot.{Slot}
 use Rattle.shm_base.specs.declared.paging.Span.{Span}
+use Rattle.shm_slots.specs.Owners.{used_count}
 use Rattle.shm_slots.specs.View.{AreaView, SwapView}
-use Rattle.shm_frames.specs.Frame.{Frame, no_frame, frame_at, is_free}
+use Rattle.shm_frames.specs.Frame.{Frame, no_frame, frame_at, is_free, resident_of, dirty_of}
 use Rattle.shm_clock.specs.Clock.{candidates, victim_of, passed_by, unset_all, next}
-use Rattle.shm_fault.specs.Segs.{SegRec, rec_by, with_rec}
+use Rattle.shm_fault.specs.declared.touched.PageTally.{PageTally}
+use Rattle.shm_fault.specs.Segs.{SegRec, no_page, rec_by, with_rec, but}
 use Rattle.shm_fault.specs.Store.{StoreView, ref_of}
 use Rattle.shm_fault.specs.Goes.{unlocked}
 
@@ -221,3 +223,35 @@ pub record StopsMoving (area : ℕ) (s t : Places) : Type 0 where
   pub slot : ℕ
   pub there : slot < length (get_or s.slots area [])
   pub stopped : StopsAtMove (record { area = area; slot = slot }) (after_moves area slot s) t
+
+-- a frame is free and a slot is, where there is one
+abbrev pub frame_freed : Option ℕ → List Frame → List Frame
+frame_freed None frames = frames
+frame_freed (Some f) frames = set frames f no_frame
+
+abbrev pub slot_freed : Option Slot → List (List (Option PageRef)) → List (List (Option PageRef))
+slot_freed None slots = slots
+slot_freed (Some k) slots = own_slot slots k None
+
+-- a page is nowhere, and what it had is free
+unfoldable pub after_forget : PageRef → Places → Places
+after_forget r s = record s {
+  segs = with_rec s.segs r no_page;
+  frames = frame_freed (rec_by s.segs r).frame s.frames;
+  slots = slot_freed (rec_by s.segs r).slot s.slots;
+}
+
+-- that is so of the first pages of a segment
+unfoldable pub after_forgets : ℕ → ℕ → Places → Places
+after_forgets seg zero s = s
+after_forgets seg (suc n) s = after_forget (record { seg = seg; page = n }) (after_forgets seg n s)
+
+-- the segment is not there
+unfoldable pub without_segment : ℕ → Places → Places
+without_segment seg s = record s { segs = but seg s.segs }
+
+-- the counts are those of the frames that have a page, of those that are dirty, and of the slots that have a page
+pub record IsTallyOf (s : Places) (tally : PageTally) : Type 0 where
+  pub resident : tally.resident ≡ resident_of s.frames
+  pub dirty : tally.dirty ≡ dirty_of s.frames
+  pub used : tally.used ≡ sum_by used_count s.slots
