@@ -1,5 +1,5 @@
 -- What a segment that goes makes of the places, and what is counted of them.
-use Rattle.shm_fault.proofs.Names.{◌≡◌, ℕ, suc, ◌+◌, cond, List, [], ◌∷◌, map, set, length, sum_by, count_by, Option, Some, None, is_some, refl, sym, ap, ◌∙◌, arith, sum_by-cons, used_count, used_in, used_slots, AreaView, PageRef, Slot, SwapView, Frame, no_frame, frame_at, is_owned, is_dirty, resident_of, dirty_of, PageRec, SegRec, no_page, rec_by, with_rec, but, StoreView, Given, emptied, page_in, without_slot}
+use Rattle.shm_fault.proofs.Names.{◌≡◌, ℕ, suc, ◌+◌, cond, List, [], ◌∷◌, map, sum_by, Option, Some, None, refl, sym, ap, ◌∙◌, arith, sum_by-cons, used_count, used_in, used_slots, AreaView, PageRef, Slot, SwapView, Frame, no_frame, frame_at, is_owned, is_dirty, resident_of, dirty_of, no_page, rec_by, with_rec, but, StoreView, Given, emptied, page_in}
 use Rattle.shm_fault.specs.declared.touched.PageTally.{PageTally}
 use Rattle.shm_fault.specs.Placing.{Places, bare, area_owners, slot_owners, places, frame_freed, slot_freed, after_forget, after_forgets, without_segment, IsTallyOf}
 use Rattle.shm_fault.proofs.Placed.{bare-set, owners-without}
