@@ -1,7 +1,7 @@
 //! Pages that come into a frame and leave it. Each step here keeps all bytes of all segments.
 ghost use Rattle.std.specs.Prelude.{◌≡◌, ◌≢◌, ℕ, ◌+◌, ◌<◌, ◌≤◌, ◌^◌, true, false, not, if◌then◌else◌, [], length, set, Option, Some, None, ◌&&◌, is_ok, is_some, IfOk, OnOk, OnErr, IsSome, MatchOption, MatchResult};
 ghost use Rattle.shm_base.specs.declared.paging.PageRef.{PageRef as Ref};
-ghost use Rattle.shm_slots.specs.View.{SameSlots, HasSlot, IsSwap, sizes};
+ghost use Rattle.shm_slots.specs.View.{SameSlots, HasSlot, IsFirstFree, IsSwap, sizes};
 ghost use Rattle.shm_slots.specs.Cause.{had_cause, total, some_spent, GoesOn};
 ghost use Rattle.shm_frames.specs.Frame.{frame_at, no_frame, OwnedBelow};
 ghost use Rattle.shm_clock.specs.Clock.{may_go, candidates, victim_of, passed_by, unset_all, next, IsClockVictim};
@@ -86,6 +86,8 @@ impl<P: Pager> PageStore<P> {
         requires owned { IsSome (frame_at self.old.frames frame).owner }
         requires dirty { (frame_at self.old.frames frame).dirty ≡ true }
         ensures slot { (page : Ref) → (frame_at self.old.frames frame).owner ≡ Some page → (rec_by self.new.segs page).slot ≡ Some result }
+        ensures free { let owner = (frame_at self.old.frames frame).owner in (page : Ref)
+            → owner ≡ Some page → (rec_by self.old.segs page).slot ≡ None → IsFirstFree self.old.swap None result }
         ensures rest { self.new ≡ record self.old { segs = self.new.segs; swap = self.new.swap } }
         ensures still { Still self.old self.new }
         ensures away { StaysAway self.old self.new }

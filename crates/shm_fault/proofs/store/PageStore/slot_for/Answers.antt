@@ -69,3 +69,14 @@ returns-in-Some-clause-placed g c =
     let s = seen c.self.inside in
     rw (← c.self.view_is)
     (slotted-own s c.args.frame c.resident_page-page.result c.in-Some.slot c.resident_page-page.ensures (ap (λ (p : PageRec). p.slot) (sym c.page-place.ensures) ∙ c.in-Some.is))
+
+pub returns-clause-free : goal.returns-clause-free
+returns-clause-free g c = λ page owner none. rw (← c.self.view_is) c.in-Some-take_slot.ensures.found
+
+pub returns-in-Some-clause-free : goal.returns-in-Some-clause-free
+returns-in-Some-clause-free g c = λ page owner none.
+    let i = c.self.inside in
+    let has : (rec_by i.segs c.resident_page-page.result).slot ≡ Some c.in-Some.slot = ap (λ (p : PageRec). p.slot) (sym c.page-place.ensures) ∙ c.in-Some.is in
+    let owner₁ : (frame_at i.frames c.args.frame).owner ≡ Some page = rw (← c.self.view_is) at owner in
+    let none₁ : (rec_by i.segs page).slot ≡ None = rw (← c.self.view_is) at none in
+    cc (owner₁, none₁, has, c.resident_page-page.ensures)
