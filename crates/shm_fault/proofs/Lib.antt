@@ -25,3 +25,4 @@ pub mod Placed
 pub mod Places
 pub mod Moves
 pub mod Forgets
+pub mod Dirtied

@@ -1,5 +1,5 @@
 -- Where pages are and which bits are set, without their bytes, and what each step of paging makes of that.
-use Rattle.std.specs.Prelude.{ℕ, zero, suc, ◌≡◌, ◌<◌, ◌⊎◌, Bool, true, false, not, ◌||◌, if◌then◌else◌, List, [], ◌∷◌, map, set, get_or, length, sum_by, Option, Some, None, is_some, is_none, nat_eq, unwrap_or, position}
+use Rattle.std.specs.Prelude.{ℕ, zero, suc, ◌≡◌, ◌≢◌, ⊤, ◌<◌, ◌⊎◌, Bool, true, false, not, ◌||◌, if◌then◌else◌, List, [], ◌∷◌, map, set, get_or, length, sum_by, Option, Some, None, is_some, is_none, nat_eq, unwrap_or, position}
 use Rattle.shm_base.specs.declared.paging.PageRef.{PageRef}
 use Rattle.shm_base.specs.declared.paging.Slot.{Slot}
 use Rattle.shm_base.specs.declared.paging.Span.{Span}
@@ -9,8 +9,8 @@ use Rattle.shm_frames.specs.Frame.{Frame, no_frame, frame_at, is_free, resident_
 use Rattle.shm_clock.specs.Clock.{candidates, victim_of, passed_by, unset_all, next}
 use Rattle.shm_fault.specs.declared.touched.PageTally.{PageTally}
 use Rattle.shm_fault.specs.Segs.{SegRec, no_page, rec_by, with_rec, but}
-use Rattle.shm_fault.specs.Store.{StoreView, ref_of}
-use Rattle.shm_fault.specs.Goes.{unlocked}
+use Rattle.shm_fault.specs.Store.{StoreView, ref_of, dirty_in}
+use Rattle.shm_fault.specs.Goes.{unlocked, frame_by}
 
 -- each page's frame and slot, each frame's page and bits, the clock's hand, and each slot's page by area
 pub record Places : Type 0 where
@@ -255,3 +255,22 @@ pub record IsTallyOf (s : Places) (tally : PageTally) : Type 0 where
   pub resident : tally.resident ≡ resident_of s.frames
   pub dirty : tally.dirty ≡ dirty_of s.frames
   pub used : tally.used ≡ sum_by used_count s.slots
+
+-- no frame became dirty
+abbrev pub NoneDirtied : List Frame → List Frame → Type 0
+NoneDirtied before after = (f : ℕ) → (frame_at after f).dirty ≡ true → (frame_at before f).dirty ≡ true
+
+-- the frames of the pages of spans are dirty
+abbrev pub AreDirty : StoreView → List Span → Type 0
+AreDirty t [] = ⊤
+AreDirty t (p ∷ ps) = (dirty_in t.frames (frame_by t (ref_of p)) ≡ true) × AreDirty t ps
+
+-- a frame has none of these pages
+abbrev pub HasNone : StoreView → List Span → ℕ → Type 0
+HasNone t [] f = ⊤
+HasNone t (p ∷ ps) f = (frame_by t (ref_of p) ≢ Some f) × HasNone t ps f
+
+-- the frames of these pages became dirty, and no other
+pub record AreDirtied (ps : List Span) (s t : StoreView) : Type 0 where
+  pub dirty : AreDirty t ps
+  pub others : (f : ℕ) → HasNone t ps f → (frame_at t.frames f).dirty ≡ true → (frame_at s.frames f).dirty ≡ true

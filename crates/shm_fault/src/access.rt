@@ -1,5 +1,7 @@
 //! Reads and writes of bytes. The pages of an access come in first, in the order of its spans, and
-//! the first stays while the second comes in; only then are bytes read or changed.
+//! the first stays while the second comes in; only then are bytes read or changed. `after_access` says
+//! where each page is then and which bits are set, and `Stops` says it where a pager failed. A page that
+//! comes in is clean; a write makes the frames of its pages dirty, whatever bytes it puts there.
 ghost use Rattle.std.specs.Prelude.{◌≡◌, ℕ, ◌+◌, ◌<◌, ◌≤◌, [], ◌∷◌, length, map, set, true, Some, is_ok, IfOk, OnOk, OnErr, All};
 ghost use Rattle.shm_base.specs.declared.paging.Span.{Span as SpanValue};
 ghost use Rattle.shm_plain.specs.Held.{FitsPage, read_from, written, pasted, paste, span_bytes};
@@ -9,7 +11,7 @@ ghost use Rattle.shm_fault.specs.Segs.{HasPage};
 ghost use Rattle.shm_fault.specs.Store.{held, ref_of};
 ghost use Rattle.shm_fault.specs.Sound.{IsStoreSound};
 ghost use Rattle.shm_fault.specs.Goes.{frame_by, referenced_at};
-ghost use Rattle.shm_fault.specs.Placing.{places, with_bit, with_dirty, after_access, Stops};
+ghost use Rattle.shm_fault.specs.Placing.{places, with_bit, with_dirty, after_access, Stops, NoneDirtied, AreDirtied};
 ghost use Rattle.shm_fault.specs.Access.{NameFrames, IsUntouched, AreIn, Brings, Accessed, answer_of};
 ghost use Rattle.shm_fault.specs.Adding.{number_in, added};
 
@@ -201,6 +203,7 @@ impl<P: Pager> PageStore<P> {
         requires sound { IsStoreSound self.old }
         ensures written { held self.new ≡ written (held self.old) spans.now bytes.now }
         ensures bits { (f : ℕ) → referenced_at self.new f ≡ referenced_at self.old f }
+        ensures dirtied { AreDirtied spans.now self.old self.new }
         ensures placed { places self.new ≡ with_dirty spans.now (places self.old) }
         ensures rest { self.new ≡ record self.old { frames = self.new.frames } }
         ensures count { length self.new.frames ≡ length self.old.frames }
@@ -238,6 +241,7 @@ impl<P: Pager> PageStore<P> {
         ensures bytes { OnOk result (out.new ≡ read_from (held self.old) spans.now) }
         ensures held { held self.new ≡ held self.old }
         ensures access { Accessed spans.now self.old self.new (answer_of touched.new result) }
+        ensures clean { NoneDirtied self.old.frames self.new.frames }
         ensures places { OnOk result (places self.new ≡ after_access spans.now (places self.old)) }
         ensures stopped { OnErr result (Stops spans.now (places self.old) (places self.new)) }
     {
@@ -256,6 +260,7 @@ impl<P: Pager> PageStore<P> {
         ensures bytes { OnOk result (out.new ≡ read_from (held self.old) spans.now) }
         ensures held { held self.new ≡ held self.old }
         ensures access { Accessed spans.now self.old self.new result }
+        ensures clean { NoneDirtied self.old.frames self.new.frames }
         ensures places { OnOk result (places self.new ≡ after_access spans.now (places self.old)) }
         ensures stopped { OnErr result (Stops spans.now (places self.old) (places self.new)) }
     {
@@ -282,6 +287,8 @@ impl<P: Pager> PageStore<P> {
         ensures written { OnOk result (held self.new ≡ written (held self.old) spans.now bytes.now) }
         ensures same { OnErr result (held self.new ≡ held self.old) }
         ensures access { Accessed spans.now self.old self.new (answer_of touched.new result) }
+        ensures dirtied { OnOk result (AreDirtied spans.now self.old self.new) }
+        ensures clean { OnErr result (NoneDirtied self.old.frames self.new.frames) }
         ensures places { OnOk result (places self.new ≡ with_dirty spans.now (after_access spans.now (places self.old))) }
         ensures stopped { OnErr result (Stops spans.now (places self.old) (places self.new)) }
     {
@@ -300,6 +307,8 @@ impl<P: Pager> PageStore<P> {
         ensures written { OnOk result (held self.new ≡ written (held self.old) spans.now bytes.now) }
         ensures same { OnErr result (held self.new ≡ held self.old) }
         ensures access { Accessed spans.now self.old self.new result }
+        ensures dirtied { OnOk result (AreDirtied spans.now self.old self.new) }
+        ensures clean { OnErr result (NoneDirtied self.old.frames self.new.frames) }
         ensures places { OnOk result (places self.new ≡ with_dirty spans.now (after_access spans.now (places self.old))) }
         ensures stopped { OnErr result (Stops spans.now (places self.old) (places self.new)) }
     {
@@ -328,6 +337,8 @@ impl<P: Pager> PageStore<P> {
         ensures written { OnOk result (held self.new ≡ added (held self.old) spans.now more) }
         ensures same { OnErr result (held self.new ≡ held self.old) }
         ensures access { Accessed spans.now self.old self.new (answer_of touched.new result) }
+        ensures dirtied { OnOk result (AreDirtied spans.now self.old self.new) }
+        ensures clean { OnErr result (NoneDirtied self.old.frames self.new.frames) }
         ensures places { OnOk result (places self.new ≡ with_dirty spans.now (after_access spans.now (places self.old))) }
         ensures stopped { OnErr result (Stops spans.now (places self.old) (places self.new)) }
     {

@@ -1,4 +1,5 @@
 use Rattle.shm_fault.proofs.Bringing.{accessed, accessed-not}
+use Rattle.shm_fault.proofs.Dirtied.{none-in, none-stopped, dirtied-after}
 use Rattle.shm_fault.proofs.store.PageStore.write_with.Goals as goal
 
 pub returns-in-Err-clause-access : goal.returns-in-Err-clause-access
@@ -11,3 +12,10 @@ returns-clause-access g c =
 
 pub returns-clause-places : goal.returns-clause-places
 returns-clause-places g c = rw (← c.in-Ok.ensures.placed) c.store_spans.ensures.placed
+
+pub returns-in-Err-clause-clean : goal.returns-in-Err-clause-clean
+returns-in-Err-clause-clean g c = none-stopped c.args.spans.now c.args.self.now c.bring_spans.new.self c.in-Err.ensures.stopped
+
+pub returns-clause-dirtied : goal.returns-clause-dirtied
+returns-clause-dirtied g c =
+    dirtied-after c.args.spans.now c.args.self.now c.bring_spans.new.self c.store_spans.new.self (none-in c.args.spans.now c.args.self.now c.bring_spans.new.self c.in-Ok.ensures.placed) c.store_spans.ensures.dirtied
