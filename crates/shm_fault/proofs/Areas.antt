@@ -7,10 +7,13 @@ use Rattle.shm_fault.proofs.Bytes.{bytes_at, held-same}
 use Rattle.shm_fault.proofs.Tally.{used-slots}
 use Rattle.shm_fault.proofs.Whole.{pages_in_store-is}
 use Rattle.shm_fault.proofs.Failures.{size-at, pages-same, spent-cause, cause-before, cause-more}
-use Rattle.shm_fault.proofs.Sound.{IsSound-from, Goes-trans}
+use Rattle.shm_fault.proofs.Sound.{IsSound-from, Goes-trans, GoesOn-refl}
 use Rattle.shm_fault.proofs.Counting.{AtRest-trans}
 use Rattle.shm_fault.proofs.Changes.{Keeps, every, keeps-every, keeps-one}
 use Rattle.shm_fault.proofs.Drops.{GivenSlots, given-slots}
+use Rattle.shm_fault.specs.Store.{frame_of}
+use Rattle.shm_fault.specs.Placing.{places, after_move, after_moves}
+use Rattle.shm_fault.proofs.Moves.{moves-none, moves-then}
 
 pub here-lt : (s : SwapView) (area : ℕ) → (area_at s area).here ≡ true → area < length s.areas
 here-lt s area here = grind (arith, get_or_past s.areas area no_area, here)
@@ -192,14 +195,28 @@ pub record IsCleaned (area n : ℕ) (s t : StoreView) : Type 0 where
   pub still : Still s t
   pub rest : AtRest s t
   pub free : (slot : ℕ) → slot < n → owner_of t.swap area slot ≡ None
+  pub placed : places t ≡ after_moves area n (places s)
 
-pub cleaned-more : (area n : ℕ) (s t u : StoreView) → IsCleaned area n s t → IsStoreSound u → Goes t u → Still t u → AtRest t u → IsCleared (record { area = area; slot = n }) t.swap u.swap → IsCleaned area (n + 1) s u
-cleaned-more area n s t u d sound goes still rest cleared = record {
+pub cleaned-none : (area : ℕ) (s : StoreView) → IsStoreSound s → IsCleaned area 0 s s
+unfolding frame_of
+cleaned-none area s sound = record {
+  sound = sound;
+  goes = record { bytes = refl; shape = refl; size = refl; goes_on = GoesOn-refl s.swap; same_sizes = refl; spent = λ e. spent-cause s.swap s.swap sound.swap (GoesOn-refl s.swap) e };
+  still = λ seg page. refl;
+  rest = record { hand = refl; ins = refl; outs = refl };
+  free = λ slot lt. absurd (omega (arith, lt));
+  placed = moves-none area (places s);
+}
+
+pub cleaned-more : (area n : ℕ) (s t u : StoreView) → IsCleaned area n s t → IsStoreSound u → Goes t u → Still t u → AtRest t u → IsCleared (record { area = area; slot = n }) t.swap u.swap
+    → places u ≡ after_move (record { area = area; slot = n }) (places t) → IsCleaned area (n + 1) s u
+cleaned-more area n s t u d sound goes still rest cleared placed = record {
   sound = sound;
   goes = Goes-trans s t u d.goes goes;
   still = λ seg page. still seg page ∙ d.still seg page;
   rest = AtRest-trans s t u d.rest rest;
   free = λ slot lt. grind (arith, nat_tests, common_steps, cleared.free, cleared.rest, d.free);
+  placed = moves-then area n (places s) (places t) (places u) d.placed placed;
 }
 
 module _ (area n : ℕ) (s t : StoreView) (d : IsCleaned area n s t) (here : (area_at s.swap area).here ≡ true) where

@@ -185,7 +185,11 @@ module _ (s t : StoreView) (frames : List Frame) (count : length frames ≡ leng
 pub accessed-not : (ps : List Span) (s t : StoreView) (e : PagerFailed) → IsStoreSound t → Brings ps s t e.touched false → Accessed ps s t (Err e)
 accessed-not ps s t e sound b = grind (arith, kept-locked)
 
--- the spans of a list of one, and of two
+-- the spans of a list of none, of one, and of two
+pub none-of : (ps : List Span) → length ps ≡ 0 → [] ≡ ps
+none-of [] e = refl
+none-of (p ∷ ps) e = absurd (omega (arith, e))
+
 pub one-of : (ps : List Span) → length ps ≡ 1 → get_or ps 0 no_span ∷ [] ≡ ps
 one-of [] e = absurd (omega (arith, e))
 one-of (p ∷ []) e = refl
@@ -196,6 +200,13 @@ two-of [] e = absurd (omega (arith, e))
 two-of (p ∷ []) e = absurd (omega (arith, e))
 two-of (p ∷ q ∷ []) e = refl
 two-of (p ∷ q ∷ r ∷ ps) e = absurd (omega (arith, e))
+
+-- the frames of their pages
+pub in-one : (t : StoreView) (ps : List Span) (p : Span) (here : InFrames) → p ∷ [] ≡ ps → AreIn t ps here → frame_by t (ref_of p) ≡ Some here.first
+in-one t ps p here is are = let in_them : AreIn t (p ∷ []) here = rw (← is) at are in in_them.at
+
+pub in-two : (t : StoreView) (ps : List Span) (p q : Span) (here : InFrames) → p ∷ q ∷ [] ≡ ps → AreIn t ps here → (frame_by t (ref_of p) ≡ Some here.first) × (frame_by t (ref_of q) ≡ Some here.second)
+in-two t ps p q here is are = let in_them : AreIn t (p ∷ q ∷ []) here = rw (← is) at are in (in_them.0.at, in_them.1.at)
 
 -- where nothing moved the second page is where it was
 pub unmoved : (p q : Span) (s t : StoreView) (u v : Touched) (ok : Bool) → IsUntouched u → Visited (ref_of p) None (frame_by s (ref_of p)) s t u v ok → v.moved.items ≡ [] → q.frame ≡ frame_by s (ref_of q) → q.frame ≡ frame_by t (ref_of q)

@@ -1,5 +1,5 @@
 -- Each step of a page from one place to another, and what it keeps.
-use Rattle.shm_fault.proofs.Names.{◌≡◌, ◌≢◌, ℕ, ◌<◌, Bool, true, false, List, length, set, Option, Some, None, refl, sym, ap, ◌∙◌, inl, inr, arith, length-set, get_or-set_same, set-set, IsSome, PageRef, Slot, SwapView, IsSwap, sizes, owner_of, page_in, HasSlot, SameSlots, with_slot_owner, GoesOn, Frame, no_frame, frame_at, PageRec, rec_by, HasPage, with_rec, StoreView, slot_bytes, page_bytes, IsTied, IsStoreSound, Alike, Goes, StaysAway, common_steps, nat_tests}
+use Rattle.shm_fault.proofs.Names.{◌≡◌, ◌≢◌, ℕ, ◌<◌, Bool, true, false, List, length, set, Option, Some, None, refl, sym, ap, ◌∙◌, inl, inr, arith, length-set, get_or-set_same, set-get_or, set-set, IsSome, PageRef, Slot, SwapView, IsSwap, sizes, owner_of, page_in, HasSlot, SameSlots, with_slot_owner, GoesOn, Frame, no_frame, frame_at, PageRec, rec_by, HasPage, with_rec, StoreView, slot_bytes, page_bytes, IsTied, IsStoreSound, Alike, Goes, StaysAway, common_steps, nat_tests}
 use Rattle.shm_fault.proofs.Pages.{rec-with, rec-with_other, still-with, cases_ref, other, other-false, other-true, has-frame, rec-past}
 use Rattle.shm_fault.proofs.Slots.{OnlySlot, OnlySlot-owner, owner-set, cases_slot, set-cases}
 use Rattle.shm_fault.proofs.Ties.{FramesApart, SlotsApart, Touches, IsOwn-none, IsOwn-some, segs-same, segs-with, frames-same, frames-set, slots-same, slots-only, bytes_touched}
@@ -190,6 +190,10 @@ keeps-load s sound f bytes free u ins kept is same goes_on =
     let t : StoreView = record { segs = s.segs; frames = set s.frames f x; hand = s.hand; swap = u; ins = ins; outs = s.outs } in
     let to : Touches every s t = grind (arith, nat_tests, common_steps, segs-same, s.segs, frames-set, every, s.frames, x, sound.tied.free, slots-kept, s.swap) in
     keeps-every s t sound to is same (rw (length-set s.frames f x) sound.hand) goes_on
+
+-- a dirty bit set to what it is
+pub dirty-same : (fs : List Frame) (f : ℕ) (b : Bool) → (frame_at fs f).dirty ≡ b → set fs f (record (frame_at fs f) { dirty = b }) ≡ fs
+dirty-same fs f b e = rw (← e) (set-get_or fs f no_frame)
 
 -- a frame set twice
 pub set-twice : (frames : List Frame) (f : ℕ) (x : Frame) (h : Frame → Frame) {a b : List Frame} → f < length frames → a ≡ set frames f x → b ≡ set a f (h (frame_at a f)) → b ≡ set frames f (h x)

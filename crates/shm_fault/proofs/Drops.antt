@@ -4,12 +4,14 @@ use Rattle.shm_pager.specs.Pages.{zero_page}
 use Rattle.shm_fault.specs.Store.{held}
 use Rattle.shm_fault.proofs.Entries.{apart-filter, edit-none, find-but, find-out}
 use Rattle.shm_fault.proofs.Counting.{AtRest-trans}
-use Rattle.shm_fault.proofs.Sound.{IsSound-from, GoesOn-trans}
+use Rattle.shm_fault.proofs.Sound.{IsSound-from, GoesOn-refl, GoesOn-trans}
 use Rattle.shm_fault.proofs.Pages.{outlines-with, rec-with, rec-with_other, rec-past, count-same, apart-same, other, other-true, ref_parts}
 use Rattle.shm_fault.proofs.Slots.{OnlySlot, OnlySlot-given, owner-given, set-cases}
 use Rattle.shm_fault.proofs.Ties.{FramesApart, SlotsApart, Touches, segs-with, frames-set, frames-same, slots-only, bytes_touched, tied-segs}
 use Rattle.shm_fault.proofs.Bytes.{joined, held_one, held_of, bytes_at, held-is, joined-ext}
 use Rattle.shm_fault.proofs.Changes.{sound-one}
+use Rattle.shm_fault.specs.Placing.{places, after_forget}
+use Rattle.shm_fault.proofs.Forgets.{forgets-none, forgets-then}
 
 -- a page that is where it is said to be
 with-is : (gs : List SegRec) (r : PageRef) (p : PageRec) → AreApart gs → rec_by gs r ≡ p → with_rec gs r p ≡ gs
@@ -107,12 +109,28 @@ module _ (s : StoreView) (sound : IsStoreSound s) (r : PageRef) (has : HasPage s
 IsSteady-trans : (s t u : SwapView) → IsSteady s t → IsSteady t u → IsSteady s u
 IsSteady-trans s t u a b = record { goes_on = GoesOn-trans s t u a.goes_on b.goes_on; failures = b.failures ∙ a.failures; same_sizes = b.same_sizes ∙ a.same_sizes }
 
+pub dropped-none : (seg : ℕ) (s : StoreView) → Dropped seg 0 s s
+dropped-none seg s = record {
+  shape = refl;
+  bytes = refl;
+  frames = λ f. refl;
+  slots = λ k. refl;
+  size = refl;
+  steady = record { goes_on = GoesOn-refl s.swap; failures = refl; same_sizes = refl };
+  still = λ q ne. refl;
+  done = λ page lt. absurd (omega (arith, lt));
+  rest = record { hand = refl; ins = refl; outs = refl };
+  nothing = λ blank. refl;
+  placed = forgets-none seg (places s);
+}
+
 -- one page more
 pub dropped-more : (seg n : ℕ) (s t u : StoreView) → Dropped seg n s t → HasPage t.segs (record { seg = seg; page = n }) → u.segs ≡ with_rec t.segs (record { seg = seg; page = n }) no_page
     → without (held u) seg ≡ without (held t) seg → ((f : ℕ) → disowned seg (frame_at u.frames f).owner ≡ disowned seg (frame_at t.frames f).owner)
     → ((k : Slot) → disowned seg (owner_of u.swap k.area k.slot) ≡ disowned seg (owner_of t.swap k.area k.slot)) → length u.frames ≡ length t.frames → IsSteady t.swap u.swap
-    → AtRest t u → (rec_by t.segs (record { seg = seg; page = n }) ≡ no_page → u ≡ t) → Dropped seg (n + 1) s u
-dropped-more seg n s t u d has segs bytes frames slots size steady rest same =
+    → AtRest t u → (rec_by t.segs (record { seg = seg; page = n }) ≡ no_page → u ≡ t)
+    → places u ≡ after_forget (record { seg = seg; page = n }) (places t) → Dropped seg (n + 1) s u
+dropped-more seg n s t u d has segs bytes frames slots size steady rest same placed =
     let r : PageRef = record { seg = seg; page = n } in
     let at : (q : PageRef) → rec_by u.segs q ≡ rec_by (with_rec t.segs r no_page) q = λ q. ap (λ (gs : List SegRec). rec_by gs q) segs in
     record {
@@ -129,6 +147,7 @@ dropped-more seg n s t u d has segs bytes frames slots size steady rest same =
       ];
       rest = AtRest-trans s t u d.rest rest;
       nothing = λ blank. let is : t ≡ s = d.nothing blank in same (rw is (blank n)) ∙ is;
+      placed = forgets-then seg n (places s) (places t) (places u) d.placed placed;
     }
 
 -- a segment all of whose pages are nowhere is taken out

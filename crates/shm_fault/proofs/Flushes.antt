@@ -3,6 +3,8 @@ use Rattle.shm_fault.proofs.Names.{◌≡◌, ◌≢◌, ℕ, zero, suc, ◌<◌
 use Rattle.shm_fault.proofs.Sound.{Goes-trans}
 use Rattle.shm_fault.proofs.Failures.{unspent-before}
 use Rattle.shm_fault.proofs.Bringing.{holds_locked-held}
+use Rattle.shm_fault.specs.Placing.{places, after_page_out, after_flush}
+use Rattle.shm_fault.proofs.Moves.{flush-none, flush-push, flush-same}
 
 -- those of the frames below i that may be flushed
 abbrev pub due : StoreView → ℕ → List ℕ
@@ -23,6 +25,7 @@ pub record Flushed (n : ℕ) (s : StoreView) (i : ℕ) (t : StoreView) (written 
   pub written_out : t.outs ≡ raised s.outs written
   pub read_in : t.ins ≡ s.ins
   pub hand : t.hand ≡ s.hand
+  pub placed : places t ≡ after_flush (dirty_after t) (take n (due s i)) (places s)
 
 below-more : (i : ℕ) (xs : List ℕ) → All (λ x. x < i) xs → All (λ x. x < i + 1) xs
 below-more i xs all = All-weaker (λ x. x < i) (λ x. x < i + 1) (λ x l. omega arith) xs all
@@ -54,7 +57,7 @@ due-no : (s : StoreView) (i : ℕ) → may_flush s i ≡ false → due s (i + 1)
 due-no s i e = due-more s i ∙ rw e (append-nil (due s i))
 
 pub flushed-none : (n : ℕ) (s : StoreView) → IsStoreSound s → Flushed n s 0 s 0 0
-flushed-none n s sound = grind (arith, nat_tests, common_steps, take, due)
+flushed-none n s sound = grind (arith, nat_tests, common_steps, take, due, flush-none (dirty_after s) (places s))
 
 -- the frame may be flushed as it might at first
 pub may-same : (n : ℕ) (s : StoreView) (i : ℕ) (t : StoreView) (written failed : ℕ) → Flushed n s i t written failed → may_flush t i ≡ may_flush s i
@@ -76,6 +79,7 @@ module _ (n : ℕ) (s : StoreView) (i : ℕ) (t : StoreView) (written failed : �
     written_out = d.written_out;
     read_in = d.read_in;
     hand = d.hand;
+    placed = rw same d.placed;
   }
 
   -- enough frames were written
@@ -91,8 +95,9 @@ module _ (n : ℕ) (s : StoreView) (i : ℕ) (t : StoreView) (written failed : �
       → u.frames ≡ set t.frames i (record (frame_at t.frames i) { dirty = dirty_after u i }) → Goes t u → Still t u → IsStoreSound u
       → wrote + fails ≡ written + failed + 1 → fails ≡ failed + cond (dirty_after u i) 1 0
       → (some_spent u.swap ≡ false → total u.swap ≡ total t.swap + cond (dirty_after u i) 1 0)
-      → ((m : ℕ) → t.outs ≡ raised m written → u.outs ≡ raised m wrote) → u ≡ record t { segs = u.segs; frames = u.frames; swap = u.swap; outs = u.outs } → Flushed n s (i + 1) u wrote fails
-  flushed-more u wrote fails lt may there frames goes still sound sum more counted written_out rest =
+      → ((m : ℕ) → t.outs ≡ raised m written → u.outs ≡ raised m wrote) → u ≡ record t { segs = u.segs; frames = u.frames; swap = u.swap; outs = u.outs }
+      → places u ≡ after_page_out i (not (dirty_after u i)) (places t) → Flushed n s (i + 1) u wrote fails
+  flushed-more u wrote fails lt may there frames goes still sound sum more counted written_out rest placed =
       let l = take n (due s i) in
       let is : take n (due s (i + 1)) ≡ l ++ i ∷ [] =
       ap (take n) (due-yes s i (sym (may-same n s i t written failed d) ∙ may)) ∙ take-more n (due s i) i (omega (arith, lt, d.sum)) in
@@ -114,6 +119,9 @@ module _ (n : ℕ) (s : StoreView) (i : ℕ) (t : StoreView) (written failed : �
         written_out = written_out s.outs d.written_out;
         read_in = ap (λ (v : StoreView). v.ins) rest ∙ d.read_in;
         hand = ap (λ (v : StoreView). v.hand) rest ∙ d.hand;
+        placed =
+            let same = flush-same (dirty_after u) (dirty_after t) i l d.below (λ x low. ap (λ (y : Frame). y.dirty) (other x (λ e. absurd (omega (arith, e, low))))) (places s) in
+            rw (is, flush-push (dirty_after u) l i (places s), same, ← d.placed) placed;
       }
     where
       at : frame_at u.frames i ≡ record (frame_at t.frames i) { dirty = dirty_after u i }
@@ -123,7 +131,7 @@ module _ (n : ℕ) (s : StoreView) (i : ℕ) (t : StoreView) (written failed : �
       other f ne = ap (λ (fs : List Frame). frame_at fs f) frames ∙ get_or-set_other t.frames i f (record (frame_at t.frames i) { dirty = dirty_after u i }) no_frame ne
 
 pub flushed-all : (n : ℕ) (s : StoreView) (i : ℕ) (t : StoreView) (written failed : ℕ) → i ≡ length s.frames → Flushed n s i t written failed → IsFlushed s t n (record { written = written; failed = failed })
-flushed-all n s i t written failed e d = grind (arith, nat_tests, common_steps, due, d.sum, length-take, d.failures, d.frames, d.others, d.counted, d.written_out, d.read_in, d.hand)
+flushed-all n s i t written failed e d = grind (arith, nat_tests, common_steps, due, d.sum, length-take, d.failures, d.frames, d.others, d.counted, d.written_out, d.read_in, d.hand, d.placed)
 
 pub flushable : (s : StoreView) (i : ℕ) (r : PageRef) → (frame_at s.frames i).owner ≡ Some r → (frame_at s.frames i).dirty ≡ true → not (locked_by s.segs r.seg) ≡ may_flush s i
 flushable s i r owner dirty = rw (owner, dirty) (ap not (sym (holds_locked-held s r.seg)))

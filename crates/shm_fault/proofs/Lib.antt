@@ -21,3 +21,8 @@ pub mod Drops
 pub mod Areas
 pub mod Seen
 pub mod Puts
+pub mod Placed
+pub mod Places
+pub mod Moves
+pub mod Forgets
+pub mod Dirtied

@@ -10,6 +10,7 @@ use Rattle.shm_fault.specs.Segs.{rec_by, no_page}
 use Rattle.shm_fault.specs.Store.{StoreView, held, disowned}
 use Rattle.shm_fault.specs.Goes.{outlines}
 use Rattle.shm_fault.specs.Counting.{AtRest}
+use Rattle.shm_fault.specs.Placing.{places, after_forgets}
 
 -- the frames with one of them made free
 abbrev pub emptied : List Frame → Option ℕ → List Frame
@@ -42,3 +43,4 @@ pub record Dropped (seg n : ℕ) (s t : StoreView) : Type 0 where
   pub done : (page : ℕ) → page < n → rec_by t.segs (record { seg = seg; page = page }) ≡ no_page
   pub rest : AtRest s t
   pub nothing : IsBlank seg s → t ≡ s
+  pub placed : places t ≡ after_forgets seg n (places s)

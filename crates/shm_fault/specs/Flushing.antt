@@ -9,6 +9,7 @@ use Rattle.shm_frames.specs.Frame.{frame_at}
 use Rattle.shm_clock.specs.Clock.{owner_passes}
 use Rattle.shm_fault.specs.Store.{StoreView, held}
 use Rattle.shm_fault.specs.Counting.{raised}
+use Rattle.shm_fault.specs.Placing.{places, after_flush}
 
 -- the frame is dirty, and its segment is not locked
 abbrev pub may_flush : StoreView → ℕ → Bool
@@ -35,3 +36,5 @@ pub record IsFlushed (before after : StoreView) (n : ℕ) (report : FlushReport)
   pub written_out : after.outs ≡ raised before.outs report.written
   pub read_in : after.ins ≡ before.ins
   pub hand : after.hand ≡ before.hand
+  -- each was written to the slot of its page, or the write failed; no other place changed
+  pub places : places after ≡ after_flush (dirty_after after) (chosen before n) (places before)

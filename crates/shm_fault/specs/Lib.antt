@@ -6,6 +6,7 @@ pub mod Steps
 pub mod Flushing
 pub mod Goes
 pub mod Counting
+pub mod Placing
 pub mod Access
 pub mod Adding
 pub mod Dropping

@@ -1,6 +1,8 @@
 //! Reads and writes of bytes. The pages of an access come in first, in the order of its spans, and
-//! the first stays while the second comes in; only then are bytes read or changed.
-ghost use Rattle.std.specs.Prelude.{◌≡◌, ℕ, ◌+◌, ◌<◌, ◌≤◌, [], ◌∷◌, length, map, set, Some, is_ok, IfOk, OnOk, OnErr, All};
+//! the first stays while the second comes in; only then are bytes read or changed. `after_access` says
+//! where each page is then and which bits are set, and `Stops` says it where a pager failed. A page that
+//! comes in is clean; a write makes the frames of its pages dirty, whatever bytes it puts there.
+ghost use Rattle.std.specs.Prelude.{◌≡◌, ℕ, ◌+◌, ◌<◌, ◌≤◌, [], ◌∷◌, length, map, set, true, Some, is_ok, IfOk, OnOk, OnErr, All};
 ghost use Rattle.shm_base.specs.declared.paging.Span.{Span as SpanValue};
 ghost use Rattle.shm_plain.specs.Held.{FitsPage, read_from, written, pasted, paste, span_bytes};
 ghost use Rattle.shm_plain.specs.Access.{IsAccess};
@@ -9,6 +11,7 @@ ghost use Rattle.shm_fault.specs.Segs.{HasPage};
 ghost use Rattle.shm_fault.specs.Store.{held, ref_of};
 ghost use Rattle.shm_fault.specs.Sound.{IsStoreSound};
 ghost use Rattle.shm_fault.specs.Goes.{frame_by, referenced_at};
+ghost use Rattle.shm_fault.specs.Placing.{places, with_bit, with_dirty, after_access, Stops, NoneDirtied, AreDirtied};
 ghost use Rattle.shm_fault.specs.Access.{NameFrames, IsUntouched, AreIn, Brings, Accessed, answer_of};
 ghost use Rattle.shm_fault.specs.Adding.{number_in, added};
 
@@ -80,6 +83,8 @@ impl<P: Pager> PageStore<P> {
         requires none { IsUntouched touched.old }
         ensures here { IfOk result (AreIn self.new (first.now ∷ [])) }
         ensures brings { Brings (first.now ∷ []) self.old self.new touched.new (is_ok result) }
+        ensures placed { OnOk result (places self.new ≡ after_access (first.now ∷ []) (places self.old)) }
+        ensures stopped { OnErr result (Stops (first.now ∷ []) (places self.old) (places self.new)) }
     {
         let page = self.page_at(first);
         let frame = self.visit(page, first.frame, None, touched)?;
@@ -102,6 +107,8 @@ impl<P: Pager> PageStore<P> {
         requires none { IsUntouched touched.old }
         ensures here { IfOk result (AreIn self.new (first.now ∷ second.now ∷ [])) }
         ensures brings { Brings (first.now ∷ second.now ∷ []) self.old self.new touched.new (is_ok result) }
+        ensures placed { OnOk result (places self.new ≡ after_access (first.now ∷ second.now ∷ []) (places self.old)) }
+        ensures stopped { OnErr result (Stops (first.now ∷ second.now ∷ []) (places self.old) (places self.new)) }
     {
         let page = self.page_at(first);
         let near = self.visit(page, first.frame, None, touched)?;
@@ -124,6 +131,8 @@ impl<P: Pager> PageStore<P> {
         requires none { IsUntouched touched.old }
         ensures here { IfOk result (AreIn self.new spans.now) }
         ensures brings { Brings spans.now self.old self.new touched.new (is_ok result) }
+        ensures placed { OnOk result (places self.new ≡ after_access spans.now (places self.old)) }
+        ensures stopped { OnErr result (Stops spans.now (places self.old) (places self.new)) }
         ensures sound { IsStoreSound self.new }
     {
         let brought = match spans {
@@ -158,6 +167,7 @@ impl<P: Pager> PageStore<P> {
         ensures written { held self.new ≡ map (pasted span.now.seg span.now.at bytes.now) (held self.old) }
         ensures fits { (p : SpanValue) → FitsPage (held self.old) p → FitsPage (held self.new) p }
         ensures bits { (f : ℕ) → referenced_at self.new f ≡ referenced_at self.old f }
+        ensures placed { places self.new ≡ with_bit frame true (places self.old) }
         ensures rest { self.new ≡ record self.old { frames = self.new.frames } }
         ensures count { length self.new.frames ≡ length self.old.frames }
         ensures sound { IsStoreSound self.new }
@@ -193,6 +203,8 @@ impl<P: Pager> PageStore<P> {
         requires sound { IsStoreSound self.old }
         ensures written { held self.new ≡ written (held self.old) spans.now bytes.now }
         ensures bits { (f : ℕ) → referenced_at self.new f ≡ referenced_at self.old f }
+        ensures dirtied { AreDirtied spans.now self.old self.new }
+        ensures placed { places self.new ≡ with_dirty spans.now (places self.old) }
         ensures rest { self.new ≡ record self.old { frames = self.new.frames } }
         ensures count { length self.new.frames ≡ length self.old.frames }
         ensures sound { IsStoreSound self.new }
@@ -229,6 +241,9 @@ impl<P: Pager> PageStore<P> {
         ensures bytes { OnOk result (out.new ≡ read_from (held self.old) spans.now) }
         ensures held { held self.new ≡ held self.old }
         ensures access { Accessed spans.now self.old self.new (answer_of touched.new result) }
+        ensures clean { NoneDirtied self.old.frames self.new.frames }
+        ensures places { OnOk result (places self.new ≡ after_access spans.now (places self.old)) }
+        ensures stopped { OnErr result (Stops spans.now (places self.old) (places self.new)) }
     {
         let here = match self.bring_spans(spans, touched) {
             Ok(here) => here,
@@ -245,6 +260,9 @@ impl<P: Pager> PageStore<P> {
         ensures bytes { OnOk result (out.new ≡ read_from (held self.old) spans.now) }
         ensures held { held self.new ≡ held self.old }
         ensures access { Accessed spans.now self.old self.new result }
+        ensures clean { NoneDirtied self.old.frames self.new.frames }
+        ensures places { OnOk result (places self.new ≡ after_access spans.now (places self.old)) }
+        ensures stopped { OnErr result (Stops spans.now (places self.old) (places self.new)) }
     {
         let mut touched = Touched::none();
         match self.read_with(spans, out, &mut touched) {
@@ -269,6 +287,10 @@ impl<P: Pager> PageStore<P> {
         ensures written { OnOk result (held self.new ≡ written (held self.old) spans.now bytes.now) }
         ensures same { OnErr result (held self.new ≡ held self.old) }
         ensures access { Accessed spans.now self.old self.new (answer_of touched.new result) }
+        ensures dirtied { OnOk result (AreDirtied spans.now self.old self.new) }
+        ensures clean { OnErr result (NoneDirtied self.old.frames self.new.frames) }
+        ensures places { OnOk result (places self.new ≡ with_dirty spans.now (after_access spans.now (places self.old))) }
+        ensures stopped { OnErr result (Stops spans.now (places self.old) (places self.new)) }
     {
         let here = match self.bring_spans(spans, touched) {
             Ok(here) => here,
@@ -285,6 +307,10 @@ impl<P: Pager> PageStore<P> {
         ensures written { OnOk result (held self.new ≡ written (held self.old) spans.now bytes.now) }
         ensures same { OnErr result (held self.new ≡ held self.old) }
         ensures access { Accessed spans.now self.old self.new result }
+        ensures dirtied { OnOk result (AreDirtied spans.now self.old self.new) }
+        ensures clean { OnErr result (NoneDirtied self.old.frames self.new.frames) }
+        ensures places { OnOk result (places self.new ≡ with_dirty spans.now (after_access spans.now (places self.old))) }
+        ensures stopped { OnErr result (Stops spans.now (places self.old) (places self.new)) }
     {
         let mut touched = Touched::none();
         match self.write_with(spans, bytes, &mut touched) {
@@ -311,6 +337,10 @@ impl<P: Pager> PageStore<P> {
         ensures written { OnOk result (held self.new ≡ added (held self.old) spans.now more) }
         ensures same { OnErr result (held self.new ≡ held self.old) }
         ensures access { Accessed spans.now self.old self.new (answer_of touched.new result) }
+        ensures dirtied { OnOk result (AreDirtied spans.now self.old self.new) }
+        ensures clean { OnErr result (NoneDirtied self.old.frames self.new.frames) }
+        ensures places { OnOk result (places self.new ≡ with_dirty spans.now (after_access spans.now (places self.old))) }
+        ensures stopped { OnErr result (Stops spans.now (places self.old) (places self.new)) }
     {
         let here = match self.bring_spans(spans, touched) {
             Ok(here) => here,

@@ -5,10 +5,11 @@ ghost use Rattle.shm_plain.specs.Held.{is_held, without};
 ghost use Rattle.shm_slots.specs.View.{owner_of, sizes, IsSwap};
 ghost use Rattle.shm_slots.specs.Cause.{GoesOn, IsSteady, total};
 ghost use Rattle.shm_frames.specs.Frame.{frame_at};
-ghost use Rattle.shm_fault.specs.Segs.{HasPage, with_rec, no_page, rec_by, but};
+ghost use Rattle.shm_fault.specs.Segs.{HasPage, with_rec, no_page, rec_by, but, count_by_id};
 ghost use Rattle.shm_fault.specs.Store.{held, frame_of, disowned};
 ghost use Rattle.shm_fault.specs.Sound.{IsStoreSound};
 ghost use Rattle.shm_fault.specs.Counting.{AtRest};
+ghost use Rattle.shm_fault.specs.Placing.{places, after_forget, after_forgets, without_segment};
 ghost use Rattle.shm_fault.specs.Dropping.{emptied, Given, FrameThere, SlotThere, IsBlank};
 
 use crate::page_tables::PageRec;
@@ -52,6 +53,7 @@ impl<P: Pager> PageStore<P> {
         ensures size { length self.new.frames ≡ length self.old.frames }
         ensures steady { IsSteady self.old.swap self.new.swap }
         ensures rest { AtRest self.old self.new }
+        ensures placed { places self.new ≡ after_forget page (places self.old) }
         ensures nowhere { rec_by self.old.segs page ≡ no_page → self.new ≡ self.old }
     {
         let place = self.segs.page(page);
@@ -73,6 +75,8 @@ impl<P: Pager> PageStore<P> {
         ensures sizes { sizes self.new.swap ≡ sizes self.old.swap }
         ensures count { length self.new.frames ≡ length self.old.frames }
         ensures rest { AtRest self.old self.new }
+        ensures places { let pages = count_by_id self.old.segs seg in
+            places self.new ≡ without_segment seg (after_forgets seg pages (places self.old)) }
         ensures blank { IsBlank seg self.old → self.new ≡ record self.old { segs = but seg self.old.segs } }
         ensures sound { IsStoreSound self.new }
     {

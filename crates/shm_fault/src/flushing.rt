@@ -1,5 +1,5 @@
 //! Dirty frames written out before their pages have to go.
-ghost use Rattle.std.specs.Prelude.{◌≡◌, ℕ, ◌+◌, ◌-◌, ◌<◌, ◌^◌, true, false, if◌then◌else◌, length, set, IsSome};
+ghost use Rattle.std.specs.Prelude.{◌≡◌, ℕ, ◌+◌, ◌-◌, ◌<◌, ◌^◌, true, false, not, if◌then◌else◌, length, set, IsSome};
 ghost use Rattle.shm_slots.specs.View.{sizes};
 ghost use Rattle.shm_slots.specs.Cause.{GoesOn, total, some_spent};
 ghost use Rattle.shm_frames.specs.Frame.{frame_at};
@@ -8,6 +8,7 @@ ghost use Rattle.shm_fault.specs.Sound.{IsStoreSound};
 ghost use Rattle.shm_fault.specs.Steps.{LockedPagesStay};
 ghost use Rattle.shm_fault.specs.Goes.{Goes};
 ghost use Rattle.shm_fault.specs.Counting.{raised};
+ghost use Rattle.shm_fault.specs.Placing.{places, after_page_out};
 ghost use Rattle.shm_fault.specs.Flushing.{IsFlushed, may_flush, dirty_after};
 
 use crate::store::PageStore;
@@ -40,6 +41,7 @@ impl<P: Pager> PageStore<P> {
         ensures counted { some_spent self.new.swap ≡ false → total self.new.swap ≡ total self.old.swap + (if dirty_after self.new frame then 1 else 0) }
         ensures written_out { (n : ℕ) → self.old.outs ≡ raised n report.old.written → self.new.outs ≡ raised n report.new.written }
         ensures rest { self.new ≡ record self.old { segs = self.new.segs; frames = self.new.frames; swap = self.new.swap; outs = self.new.outs } }
+        ensures placed { places self.new ≡ after_page_out frame (not (dirty_after self.new frame)) (places self.old) }
         ensures sound { IsStoreSound self.new }
     {
         match self.page_out(frame) {

@@ -9,6 +9,7 @@ ghost use Rattle.shm_fault.specs.Sound.{IsStoreSound};
 ghost use Rattle.shm_fault.specs.Steps.{LockedPagesStay};
 ghost use Rattle.shm_fault.specs.Goes.{Goes};
 ghost use Rattle.shm_fault.specs.Counting.{AtRest};
+ghost use Rattle.shm_fault.specs.Placing.{places, slot_owners, free_slot, own_slot, moves_page, after_move, after_moves, without_area, StopsAtMove, StopsMoving};
 ghost use Rattle.shm_fault.specs.Moving.{SameOwned, IsRelocated, IsCleared};
 
 use crate::page_tables::PageRec;
@@ -32,6 +33,10 @@ fn write_outside<P: Pager>(
     requires sound { IsSwap swap.old }
     ensures ok { IfOk result (λ to. IsRelocated page from to swap.old swap.new) }
     ensures err { OnErr result (SameOwned swap.old swap.new) }
+    ensures found { IfOk result (λ to. free_slot (Some from.area) (slot_owners swap.old) ≡ Some to) }
+    ensures owners { let free = slot_owners swap.old in
+        IfOk result (λ to. slot_owners swap.new ≡ own_slot (own_slot free to (Some page)) from None) }
+    ensures same { OnErr result (slot_owners swap.new ≡ slot_owners swap.old) }
     ensures cause { OnErr result (had_cause swap.old swap.new ≡ true) }
     ensures goes_on { GoesOn swap.old swap.new }
     ensures sizes { sizes swap.new ≡ sizes swap.old }
@@ -60,6 +65,10 @@ fn relocate<P: Pager>(swap: &mut Swap<P>, page: PageRef, from: Slot) -> Result<S
     requires sound { IsSwap swap.old }
     ensures ok { IfOk result (λ to. IsRelocated page from to swap.old swap.new) }
     ensures err { OnErr result (SameOwned swap.old swap.new) }
+    ensures found { IfOk result (λ to. free_slot (Some from.area) (slot_owners swap.old) ≡ Some to) }
+    ensures owners { let free = slot_owners swap.old in
+        IfOk result (λ to. slot_owners swap.new ≡ own_slot (own_slot free to (Some page)) from None) }
+    ensures same { OnErr result (slot_owners swap.new ≡ slot_owners swap.old) }
     ensures cause { OnErr result (had_cause swap.old swap.new ≡ true) }
     ensures goes_on { GoesOn swap.old swap.new }
     ensures sizes { sizes swap.new ≡ sizes swap.old }
@@ -78,6 +87,7 @@ impl<P: Pager> PageStore<P> {
         ensures still { Still self.old self.new }
         ensures cleared { IsCleared slot self.old.swap self.new.swap }
         ensures rest { AtRest self.old self.new }
+        ensures placed { places self.new ≡ moves_page slot page (Some frame) None (places self.old) }
         ensures sound { IsStoreSound self.new }
     {
         self.swap.give_slot(slot);
@@ -99,6 +109,9 @@ impl<P: Pager> PageStore<P> {
         ensures still { Still self.old self.new }
         ensures cleared { OnOk result (IsCleared slot self.old.swap self.new.swap) }
         ensures rest { AtRest self.old self.new }
+        ensures placed { let to = free_slot (Some slot.area) (slot_owners self.old.swap) in
+            OnOk result (places self.new ≡ moves_page slot page None to (places self.old)) }
+        ensures stopped { OnErr result (places self.new ≡ places self.old) }
         ensures cause { OnErr result (had_cause self.old.swap self.new.swap ≡ true) }
         ensures sound { IsStoreSound self.new }
     {
@@ -121,6 +134,8 @@ impl<P: Pager> PageStore<P> {
         ensures still { Still self.old self.new }
         ensures cleared { OnOk result (IsCleared slot self.old.swap self.new.swap) }
         ensures rest { AtRest self.old self.new }
+        ensures placed { OnOk result (places self.new ≡ after_move slot (places self.old)) }
+        ensures stopped { OnErr result (StopsAtMove slot (places self.old) (places self.new)) }
         ensures cause { OnErr result (had_cause self.old.swap self.new.swap ≡ true) }
         ensures sound { IsStoreSound self.new }
     {
@@ -151,6 +166,9 @@ impl<P: Pager> PageStore<P> {
         ensures cause { OnErr result (had_cause self.old.swap self.new.swap ≡ true) }
         ensures moved { IfErr result (λ e. e.touched.moved.items ≡ []) }
         ensures rest { AtRest self.old self.new }
+        ensures places { let size = length (area_at self.old.swap area).pages in
+            OnOk result (places self.new ≡ without_area area (after_moves area size (places self.old))) }
+        ensures stopped { OnErr result (StopsMoving area (places self.old) (places self.new)) }
         ensures still { Still self.old self.new }
         ensures kept { LockedPagesStay self.old self.new }
         ensures counts { GoesOn self.old.swap self.new.swap }

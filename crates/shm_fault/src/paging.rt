@@ -1,14 +1,15 @@
 //! Pages that come into a frame and leave it. Each step here keeps all bytes of all segments.
 ghost use Rattle.std.specs.Prelude.{◌≡◌, ◌≢◌, ℕ, ◌+◌, ◌<◌, ◌≤◌, ◌^◌, true, false, not, if◌then◌else◌, [], length, set, Option, Some, None, ◌&&◌, is_ok, is_some, IfOk, OnOk, OnErr, IsSome, MatchOption, MatchResult};
 ghost use Rattle.shm_base.specs.declared.paging.PageRef.{PageRef as Ref};
-ghost use Rattle.shm_slots.specs.View.{SameSlots, HasSlot, IsSwap, sizes};
+ghost use Rattle.shm_slots.specs.View.{SameSlots, HasSlot, IsFirstFree, IsSwap, sizes};
 ghost use Rattle.shm_slots.specs.Cause.{had_cause, total, some_spent, GoesOn};
 ghost use Rattle.shm_frames.specs.Frame.{frame_at, no_frame, OwnedBelow};
-ghost use Rattle.shm_clock.specs.Clock.{may_go, candidates, victim_of, next, IsClockVictim};
+ghost use Rattle.shm_clock.specs.Clock.{may_go, candidates, victim_of, passed_by, unset_all, next, IsClockVictim};
 ghost use Rattle.shm_fault.specs.Segs.{rec_by, HasPage, with_rec};
 ghost use Rattle.shm_fault.specs.Store.{Still, is_page, slot_bytes};
 ghost use Rattle.shm_fault.specs.Sound.{IsStoreSound};
 ghost use Rattle.shm_fault.specs.Counting.{raised, one_if, CountsOn, victim_by, turned, hand_for_frame};
+ghost use Rattle.shm_fault.specs.Placing.{places, slotted, with_bit, after_page_out, vacated, after_turn, victim_in, after_clean, after_eviction, after_room, frame_for, settled, referenced, after_visit, StopsAt, StopsAtWrite};
 ghost use Rattle.shm_fault.specs.Access.{Visited};
 ghost use Rattle.shm_fault.specs.Goes.{Goes, StaysAway, Alike, Visits, MovesOn, referenced_at, unlocked, frame_by};
 
@@ -41,6 +42,7 @@ fn choose(
     requires one { candidates (unlocked segs.now) pinned frames.old hand.old ≢ [] }
     ensures clock { IsClockVictim (may_go (unlocked segs.now) pinned frames.old) hand.old frames.old result frames.new }
     ensures victim { result ≡ victim_of frames.old (candidates (unlocked segs.now) pinned frames.old hand.old) }
+    ensures bits { frames.new ≡ unset_all frames.old (passed_by frames.old (candidates (unlocked segs.now) pinned frames.old hand.old)) }
     ensures hand { hand.new ≡ next (length frames.old) result }
 {
     let eligible = |page: PageRef| !segs.is_locked(page.seg);
@@ -60,6 +62,7 @@ fn fill_from<P: Pager>(
     ensures bytes { OnOk result ((frame_at frames.new frame).bytes ≡ slot_bytes swap.old slot) }
     ensures swap { OnOk result (swap.new ≡ swap.old) }
     ensures kept { SameSlots swap.old swap.new }
+    ensures slot { OnErr result (is_some slot ≡ true) }
     ensures cause { OnErr result (had_cause swap.old swap.new ≡ true) }
     ensures goes_on { GoesOn swap.old swap.new }
     ensures sizes { sizes swap.new ≡ sizes swap.old }
@@ -83,11 +86,14 @@ impl<P: Pager> PageStore<P> {
         requires owned { IsSome (frame_at self.old.frames frame).owner }
         requires dirty { (frame_at self.old.frames frame).dirty ≡ true }
         ensures slot { (page : Ref) → (frame_at self.old.frames frame).owner ≡ Some page → (rec_by self.new.segs page).slot ≡ Some result }
+        ensures free { let owner = (frame_at self.old.frames frame).owner in (page : Ref)
+            → owner ≡ Some page → (rec_by self.old.segs page).slot ≡ None → IsFirstFree self.old.swap None result }
         ensures rest { self.new ≡ record self.old { segs = self.new.segs; swap = self.new.swap } }
         ensures still { Still self.old self.new }
         ensures away { StaysAway self.old self.new }
         ensures goes { Goes self.old self.new }
         ensures failures { total self.new.swap ≡ total self.old.swap }
+        ensures placed { places self.new ≡ slotted frame (places self.old) }
         ensures sound { IsStoreSound self.new }
     {
         let page = self.frames.resident_page(frame);
@@ -120,6 +126,7 @@ impl<P: Pager> PageStore<P> {
         ensures goes { Goes self.old self.new }
         ensures cause { OnErr result (had_cause self.old.swap self.new.swap ≡ true) }
         ensures counted { some_spent self.new.swap ≡ false → total self.new.swap ≡ total self.old.swap + (if is_ok result then 0 else 1) }
+        ensures placed { places self.new ≡ with_bit frame (not (is_ok result)) (places self.old) }
         ensures sound { IsStoreSound self.new }
     {
         self.swap.write_slot(slot, self.frames.bytes(frame))?;
@@ -142,6 +149,7 @@ impl<P: Pager> PageStore<P> {
         ensures goes { Goes self.old self.new }
         ensures cause { OnErr result (had_cause self.old.swap self.new.swap ≡ true) }
         ensures counted { some_spent self.new.swap ≡ false → total self.new.swap ≡ total self.old.swap + (if is_ok result then 0 else 1) }
+        ensures placed { places self.new ≡ after_page_out frame (is_ok result) (places self.old) }
         ensures sound { IsStoreSound self.new }
     {
         let slot = self.slot_for(frame);
@@ -158,6 +166,7 @@ impl<P: Pager> PageStore<P> {
         ensures frames { self.new.frames ≡ set self.old.frames frame (record no_frame { bytes = (frame_at self.old.frames frame).bytes }) }
         ensures segs { self.new.segs ≡ with_rec self.old.segs result (record (rec_by self.old.segs result) { frame = None }) }
         ensures rest { self.new ≡ record self.old { segs = self.new.segs; frames = self.new.frames } }
+        ensures placed { places self.new ≡ vacated frame (places self.old) }
         ensures goes { Goes self.old self.new }
         ensures sound { IsStoreSound self.new }
     {
@@ -185,6 +194,8 @@ impl<P: Pager> PageStore<P> {
         ensures rest { self.new ≡ record self.old { frames = self.new.frames; hand = self.new.hand } }
         ensures victim { result ≡ victim_by self.old pinned }
         ensures hand { self.new.hand ≡ turned self.old pinned }
+        ensures placed { places self.new ≡ after_turn pinned (places self.old) }
+        ensures chosen { result ≡ victim_in pinned (places self.old) }
         ensures goes { Goes self.old self.new }
     {
         choose(&self.segs, &mut self.frames, &mut self.hand, pinned)
@@ -199,6 +210,9 @@ impl<P: Pager> PageStore<P> {
         ensures written { IfOk result (λ w. w ≡ (frame_at self.old.frames frame).dirty) }
         ensures rest { self.new ≡ record self.old { segs = self.new.segs; frames = self.new.frames; swap = self.new.swap; outs = self.new.outs } }
         ensures outs { self.new.outs ≡ raised self.old.outs (one_if (is_ok result && (frame_at self.old.frames frame).dirty)) }
+        ensures placed { OnOk result (places self.new ≡ after_clean frame (places self.old)) }
+        ensures stopped { OnErr result (places self.new ≡ after_page_out frame false (places self.old)) }
+        ensures dirty { OnErr result ((frame_at self.old.frames frame).dirty ≡ true) }
         ensures still { Still self.old self.new }
         ensures away { StaysAway self.old self.new }
         ensures goes { Goes self.old self.new }
@@ -222,6 +236,9 @@ impl<P: Pager> PageStore<P> {
         ensures hand { self.new.hand ≡ turned self.old pinned }
         ensures ins { self.new.ins ≡ self.old.ins }
         ensures outs { MatchResult result (λ e. self.new.outs ≡ raised self.old.outs (one_if e.written)) (λ _. self.new.outs ≡ self.old.outs) }
+        ensures placed { OnOk result (places self.new ≡ after_eviction pinned (places self.old)) }
+        ensures chosen { IfOk result (λ e. e.frame ≡ victim_in pinned (places self.old)) }
+        ensures stopped { OnErr result (StopsAtWrite pinned (places self.old) (places self.new)) }
         ensures cause { OnErr result (had_cause self.old.swap self.new.swap ≡ true) }
     {
         let frame = self.turn(pinned);
@@ -244,6 +261,8 @@ impl<P: Pager> PageStore<P> {
         ensures rest { self.new ≡ record self.old { frames = self.new.frames; swap = self.new.swap; ins = self.new.ins } }
         ensures ins { self.new.ins ≡ raised self.old.ins (one_if (is_ok result && is_some slot)) }
         ensures free { (frame_at self.new.frames frame).owner ≡ None }
+        ensures placed { places self.new ≡ places self.old }
+        ensures slot { OnErr result (is_some slot ≡ true) }
         ensures visits { (page : Ref) (pinned : Option ℕ) → Visits page pinned self.old self.new }
         ensures cause { OnErr result (had_cause self.old.swap self.new.swap ≡ true) }
     {
@@ -262,6 +281,7 @@ impl<P: Pager> PageStore<P> {
         requires bytes { (frame_at self.old.frames frame).bytes ≡ slot_bytes self.old.swap slot }
         ensures came { (s : Ref) → frame_by self.new s ≡ (if is_page page s.seg s.page then Some frame else frame_by self.old s) }
         ensures bit { (frame_at self.new.frames frame).referenced ≡ true }
+        ensures placed { places self.new ≡ settled page frame (places self.old) }
         ensures rest { self.new ≡ record self.old { segs = self.new.segs; frames = self.new.frames } }
         ensures visits { (pinned : Option ℕ) → Visits page pinned self.old self.new }
     {
@@ -298,6 +318,9 @@ impl<P: Pager> PageStore<P> {
         ensures outs { touched.new.outs ≡ touched.old.outs }
         ensures counts { CountsOn touched.old touched.new self.old self.new }
         ensures hand { self.new.hand ≡ self.old.hand }
+        ensures placed { OnOk result (places self.new ≡ settled page frame (places self.old)) }
+        ensures stopped { OnErr result (places self.new ≡ places self.old) }
+        ensures slot { OnErr result (is_some (rec_by self.old.segs page).slot ≡ true) }
         ensures cause { OnErr result (had_cause self.old.swap self.new.swap ≡ true) }
     {
         let slot = self.segs.page(page).slot;
@@ -324,6 +347,9 @@ impl<P: Pager> PageStore<P> {
         ensures outs { touched.new.outs ≤ touched.old.outs + 1 }
         ensures counts { CountsOn touched.old touched.new self.old self.new }
         ensures hand { self.new.hand ≡ hand_for_frame self.old pinned }
+        ensures placed { OnOk result (places self.new ≡ after_room pinned (places self.old)) }
+        ensures chosen { IfOk result (λ f. f ≡ frame_for pinned (places self.old)) }
+        ensures stopped { OnErr result (StopsAtWrite pinned (places self.old) (places self.new)) }
         ensures cause { OnErr result (had_cause self.old.swap self.new.swap ≡ true) }
     {
         if let Some(frame) = self.frames.free_frame() {
@@ -349,6 +375,8 @@ impl<P: Pager> PageStore<P> {
         requires small { (touched.old.ins < 2 ^ 32) × (touched.old.outs < 2 ^ 32) }
         ensures here { IfOk result (λ f. (frame_by self.new page ≡ Some f) × (referenced_at self.new f ≡ true)) }
         ensures visited { Visited page pinned None self.old self.new touched.old touched.new (is_ok result) }
+        ensures placed { OnOk result (places self.new ≡ after_visit page pinned (places self.old)) }
+        ensures stopped { OnErr result (StopsAt page pinned (places self.old) (places self.new)) }
     {
         let frame = self.take_frame(pinned, touched)?;
         self.come_in(frame, page, touched)?;
@@ -360,6 +388,7 @@ impl<P: Pager> PageStore<P> {
     fn touch(&mut self, page: PageRef, frame: FrameNo)
         requires here { frame_by self.old page ≡ Some frame }
         ensures bit { referenced_at self.new frame ≡ true }
+        ensures placed { places self.new ≡ referenced frame (places self.old) }
         ensures visits { (pinned : Option ℕ) → Visits page pinned self.old self.new }
         ensures rest { self.new ≡ record self.old { frames = self.new.frames } }
     {
@@ -382,6 +411,8 @@ impl<P: Pager> PageStore<P> {
         requires small { (touched.old.ins < 2 ^ 32) × (touched.old.outs < 2 ^ 32) }
         ensures here { IfOk result (λ f. (frame_by self.new page ≡ Some f) × (referenced_at self.new f ≡ true)) }
         ensures visited { Visited page pinned known self.old self.new touched.old touched.new (is_ok result) }
+        ensures placed { OnOk result (places self.new ≡ after_visit page pinned (places self.old)) }
+        ensures stopped { OnErr result (StopsAt page pinned (places self.old) (places self.new)) }
     {
         match known {
             Some(frame) => {

@@ -7,6 +7,7 @@ ghost use Rattle.shm_frames.specs.Frame.{IsFrameBlank};
 ghost use Rattle.shm_fault.specs.Segs.{with_seg_lock, new_seg};
 ghost use Rattle.shm_fault.specs.Store.{fresh_store, held, frame_of, Still, resident, dirty, used};
 ghost use Rattle.shm_fault.specs.Sound.{IsStoreSound};
+ghost use Rattle.shm_fault.specs.Placing.{places, IsTallyOf};
 
 use crate::page_tables::PageTables;
 use crate::touched::PageTally;
@@ -115,6 +116,7 @@ impl<P: Pager> PageStore<P> {
         ensures dirty { result.dirty ≡ dirty self.now }
         ensures slots { result.slots ≡ swap_slots self.now.swap }
         ensures used { result.used ≡ used self.now }
+        ensures places { IsTallyOf (places self.now) result }
         ensures ins { result.ins ≡ self.now.ins }
         ensures outs { result.outs ≡ self.now.outs }
         ensures failures { result.failures ≡ min (total self.now.swap) (2 ^ 64 - 1) }

@@ -1,6 +1,8 @@
 use Rattle.shm_fault.proofs.Names.{◌∙◌, Some, IsSwap, with_slot_owner, with_slot_page}
 use Rattle.shm_fault.proofs.Sound.{GoesOn-trans}
 use Rattle.shm_fault.proofs.Areas.{relocated, relocated-not, cause-within}
+use Rattle.shm_fault.proofs.Placed.{found-free}
+use Rattle.shm_fault.proofs.Moves.{owners-moved, owners-back}
 use Rattle.shm_fault.proofs.moving.write_outside.Goals as goal
 
 pub returns-in-Ok-clause-ok : goal.returns-in-Ok-clause-ok
@@ -31,3 +33,16 @@ returns-in-Ok-clause-sizes g c = c.give_slot.ensures.steady.same_sizes ∙ c.wri
 
 pub returns-in-Err-clause-sizes : goal.returns-in-Err-clause-sizes
 returns-in-Err-clause-sizes g c = c.give_slot-in-Err.ensures.steady.same_sizes ∙ c.write_slot.ensures.sizes ∙ c.take_outside.ensures.steady.same_sizes
+
+pub returns-in-Ok-clause-found : goal.returns-in-Ok-clause-found
+returns-in-Ok-clause-found g c = found-free c.args.swap.now (Some c.args.from.area) c.in-Some.to c.requires.sound.each c.in-Some.ensures.found
+
+pub returns-in-Ok-clause-owners : goal.returns-in-Ok-clause-owners
+returns-in-Ok-clause-owners g c =
+    rw (c.give_slot.ensures.given, c.in-Ok.ensures.ok, c.in-Some.ensures.taken) (owners-moved c.args.swap.now c.args.page c.args.from c.in-Some.to c.args.bytes.now _)
+
+pub returns-in-Err-clause-same : goal.returns-in-Err-clause-same
+returns-in-Err-clause-same g c =
+    rw c.give_slot-in-Err.ensures.given
+    (owners-back c.args.swap.now c.write_slot.new.self c.args.page (Some c.args.from.area) c.in-Some.to _ c.requires.sound.each c.in-Some.ensures.found
+    (rw c.in-Some.ensures.taken at c.write_slot.ensures.others) (rw c.in-Some.ensures.taken at c.in-Err.ensures.err))

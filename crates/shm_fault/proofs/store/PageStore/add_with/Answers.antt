@@ -1,5 +1,6 @@
 use Rattle.std.proofs.Common.{refl}
 use Rattle.shm_fault.proofs.Bringing.{accessed, accessed-not}
+use Rattle.shm_fault.proofs.Dirtied.{none-in, none-stopped, dirtied-after}
 use Rattle.shm_fault.proofs.store.PageStore.add_with.Goals as goal
 
 pub returns-in-Err-clause-access : goal.returns-in-Err-clause-access
@@ -13,3 +14,13 @@ returns-clause-access g c =
 pub returns-clause-written : goal.returns-clause-written
 returns-clause-written g c =
     rw (c.store_spans.ensures.written, c.to_le_bytes.ensures, c.from_le_bytes.ensures, c.copy_spans.ensures, c.in-Ok.ensures.brings.goes.bytes) refl
+
+pub returns-clause-places : goal.returns-clause-places
+returns-clause-places g c = rw (← c.in-Ok.ensures.placed) c.store_spans.ensures.placed
+
+pub returns-in-Err-clause-clean : goal.returns-in-Err-clause-clean
+returns-in-Err-clause-clean g c = none-stopped c.args.spans.now c.args.self.now c.bring_spans.new.self c.in-Err.ensures.stopped
+
+pub returns-clause-dirtied : goal.returns-clause-dirtied
+returns-clause-dirtied g c =
+    dirtied-after c.args.spans.now c.args.self.now c.bring_spans.new.self c.store_spans.new.self (none-in c.args.spans.now c.args.self.now c.bring_spans.new.self c.in-Ok.ensures.placed) c.store_spans.ensures.dirtied

@@ -1,5 +1,8 @@
+use Rattle.std.proofs.lemmas.Result.{MatchResult-from_err}
 use Rattle.shm_fault.proofs.Names.{◌≡◌, Bool, [], ◌∷◌, None, Some, true, false, is_ok, rules, ref_of, frame_by, Visited, Brings}
 use Rattle.shm_fault.proofs.Bringing.{brings-two, brings-not, unmoved}
+use Rattle.shm_fault.specs.Placing.{places, after_visit}
+use Rattle.shm_fault.proofs.Places.{access-two, stops-first, stops-second}
 use Rattle.shm_fault.proofs.store.PageStore.bring_two.Given as given
 use Rattle.shm_fault.proofs.store.PageStore.bring_two.Goals as goal
 use Rattle.shm_fault.proofs.store.PageStore.bring_two.Goals.{After-visit, After-visit-2}
@@ -44,3 +47,21 @@ returns-in_err-far-clause-brings g c =
 
 pub returns-clause-brings : goal.returns-clause-brings
 returns-clause-brings g c = far g (goal.at.returns-clause-brings g c).After-visit-2 true c.in_ok-far.ensures.visited
+
+-- the places once the first page is in, and the frame that it is in
+first : (g : given.Over) (c : After-visit-2 g) → (places c.visit.new.self ≡ after_visit (ref_of c.args.first.now) None (places c.args.self.now)) × (frame_by c.visit.new.self (ref_of c.args.first.now) ≡ Some c.in_ok-near.near)
+first g c = (rw c.page_at-page.ensures.page at c.in_ok-near.ensures.placed, rw c.page_at-page.ensures.page at c.in_ok-near.ensures.here.0)
+
+pub returns-clause-placed : goal.returns-clause-placed
+returns-clause-placed g c =
+    let one = first g (goal.at.returns-clause-placed g c).After-visit-2 in
+    access-two c.args.first.now c.args.second.now c.args.self.now c.visit.new.self c.visit-2.new.self c.in_ok-near.near one.0 one.1 (rw c.page_at-page-2.ensures.page at c.in_ok-far.ensures.placed)
+
+pub returns-in_err-near-clause-stopped : goal.returns-in_err-near-clause-stopped
+returns-in_err-near-clause-stopped g c = MatchResult-from_err _ _ _ c.from_residual.ensures.0 λ _.
+    stops-first c.args.first.now c.args.second.now c.args.self.now c.visit.new.self (rw c.page_at-page.ensures.page at c.in_err-near.ensures.stopped)
+
+pub returns-in_err-far-clause-stopped : goal.returns-in_err-far-clause-stopped
+returns-in_err-far-clause-stopped g c = MatchResult-from_err _ _ _ c.from_residual-in_err-far.ensures.0 λ _.
+    let one = first g (goal.at.returns-in_err-far-clause-stopped g c).After-visit-2 in
+    stops-second c.args.first.now c.args.second.now c.args.self.now c.visit.new.self c.visit-2.new.self c.in_ok-near.near one.0 one.1 (rw c.page_at-page-2.ensures.page at c.in_err-far.ensures.stopped)

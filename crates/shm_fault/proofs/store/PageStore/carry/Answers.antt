@@ -1,3 +1,4 @@
+use Rattle.std.proofs.lemmas.Result.{MatchResult-from_err}
 use Rattle.shm_fault.proofs.Names.{◌≡◌, None, Some, refl, ap, sym, HasSlot, owner_of, PageRec, rec_by, HasPage, SameOwned, with_rec}
 use Rattle.shm_fault.specs.Store.{frame_of}
 use Rattle.shm_fault.proofs.Seen.{seen}
@@ -5,6 +6,8 @@ use Rattle.shm_fault.proofs.Sound.{slot-own}
 use Rattle.shm_fault.proofs.Pages.{by-still, has-slot, still-with}
 use Rattle.shm_fault.proofs.Changes.{Keeps}
 use Rattle.shm_fault.proofs.Areas.{has-room, keeps-carried, keeps-owned, cleared-relocated}
+use Rattle.shm_fault.proofs.Moves.{moved-away}
+use Rattle.shm_fault.proofs.Moves.{places-swap}
 use Rattle.shm_fault.proofs.store.PageStore.carry.Given as given
 use Rattle.shm_fault.proofs.store.PageStore.carry.Goals as goal
 use Rattle.shm_fault.proofs.store.PageStore.carry.Goals.{After-self, After-relocate, After-set_page}
@@ -71,3 +74,12 @@ returns-in_err-to-clause-sound g c = (failed g (goal.at.returns-in_err-to-clause
 pub returns-in_err-to-clause-still : goal.returns-in_err-to-clause-still
 unfolding frame_of
 returns-in_err-to-clause-still g c = rw (← c.self.view_is) (λ seg page. refl)
+
+pub returns-clause-placed : goal.returns-clause-placed
+returns-clause-placed g c =
+    rw (c.set_page.ensures, ← c.self.view_is)
+    (moved-away (seen c.self.inside) c.args.page c.args.slot c.in_ok-to.to c.relocate.new.swap c.in_ok-to.ensures.found c.in_ok-to.ensures.owners)
+
+pub returns-in_err-to-clause-stopped : goal.returns-in_err-to-clause-stopped
+returns-in_err-to-clause-stopped g c = MatchResult-from_err _ _ _ c.from_residual.ensures.0 λ _.
+    rw (← c.self.view_is) (places-swap (seen c.self.inside) c.relocate.new.swap c.in_err-to.ensures.same)

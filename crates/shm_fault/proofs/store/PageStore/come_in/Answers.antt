@@ -58,3 +58,6 @@ settle-requires-clause-bytes g c = rw (c.in_ok-load.ensures.bytes, c.in_ok-load.
 
 pub returns-clause-hand : goal.returns-clause-hand
 returns-clause-hand g c = ap (λ (v : StoreView). v.hand) c.settle.ensures.rest ∙ ap (λ (v : StoreView). v.hand) c.load.ensures.rest
+
+pub returns-clause-placed : goal.returns-clause-placed
+returns-clause-placed g c = rw (← c.load.ensures.placed) c.settle.ensures.placed

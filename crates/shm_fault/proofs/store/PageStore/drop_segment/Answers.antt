@@ -3,7 +3,8 @@ use Rattle.shm_fault.specs.Store.{frame_of}
 use Rattle.shm_fault.proofs.Seen.{seen}
 use Rattle.shm_fault.proofs.Pages.{count-same}
 use Rattle.shm_fault.proofs.Spans.{few_pages}
-use Rattle.shm_fault.proofs.Drops.{dropped-more, IsDropped, drops}
+use Rattle.shm_fault.proofs.Drops.{dropped-none, dropped-more, IsDropped, drops}
+use Rattle.shm_fault.proofs.Forgets.{segment-gone}
 use Rattle.shm_fault.proofs.store.PageStore.drop_segment.Given as given
 use Rattle.shm_fault.proofs.store.PageStore.drop_segment.Goals as goal
 use Rattle.shm_fault.proofs.store.PageStore.drop_segment.Goals.{In-loop-page, After-remove}
@@ -29,7 +30,7 @@ pub loop-page-preserved : goal.loop-page-preserved
 loop-page-preserved g c =
     let there = has g (goal.at.loop-page-preserved g c).In-loop-page in
     let e = c.forget.ensures in
-    dropped-more c.args.seg c.loop-page.page c.args.self.now c.loop-page.self c.forget.new.self c.loop-page.invariant there e.segs e.held e.frames e.slots e.size e.steady e.rest e.nowhere
+    dropped-more c.args.seg c.loop-page.page c.args.self.now c.loop-page.self c.forget.new.self c.loop-page.invariant there e.segs e.held e.frames e.slots e.size e.steady e.rest e.nowhere e.placed
 
 pub invariant_of-self : goal.invariant_of-self
 invariant_of-self g c = (done g c).sound
@@ -49,3 +50,15 @@ returns-clause-slots g c = λ area slot. (done g c).slots (record { area = area;
 pub returns-clause-still : goal.returns-clause-still
 unfolding frame_of
 returns-clause-still g c = λ seg page ne. ap (λ (p : PageRec). p.frame) ((done g c).still (record { seg = seg; page = page }) ne)
+
+pub loop-page-init : goal.loop-page-init
+loop-page-init g c = rw (← c.self.view_is) (dropped-none c.args.seg (seen c.self.inside))
+
+pub returns-clause-places : goal.returns-clause-places
+returns-clause-places g c =
+    let s = c.args.self.now in
+    let t = seen c.self-2.inside in
+    let d : Dropped c.args.seg c.loop-page.page s t = rw (← c.self-2.view_is) at c.loop-page.invariant in
+    let count : c.count-count.result ≡ count_by_id s.segs c.args.seg = rw (← c.self.view_is) c.count-count.ensures in
+    let all : c.loop-page.page ≡ count_by_id s.segs c.args.seg = omega (arith, count, c.loop-page-test.false, c.loop-page.auto.page-end) in
+    rw (← all, c.remove.ensures) (segment-gone c.args.seg c.loop-page.page s t d.placed)

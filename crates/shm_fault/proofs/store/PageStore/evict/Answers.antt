@@ -1,7 +1,10 @@
 use Rattle.std.proofs.lemmas.Result.{MatchResult-from_err}
 use Rattle.shm_fault.proofs.Names.{arith, common_steps, ◌≡◌, Some, false, length-set, rec_by, List, ap, sym, ◌∙◌, get_or-set_same, Frame, no_frame, frame_at, StoreView}
+use Rattle.shm_frames.specs.Frame.{is_free}
+use Rattle.shm_frames.proofs.First.{position-none}
 use Rattle.shm_fault.proofs.Pages.{by-still, still-by}
 use Rattle.shm_fault.proofs.Visits.{evicted-gone, evicted-visits}
+use Rattle.shm_fault.proofs.Places.{eviction-is, stops-write}
 use Rattle.shm_fault.proofs.store.PageStore.evict.Goals as goal
 
 pub returns-clause-gone : goal.returns-clause-gone
@@ -37,3 +40,12 @@ returns-in_err-written-clause-visits g c = let still = still-by _ _ c.clean.ensu
 
 pub returns-in_err-written-clause-err : goal.returns-in_err-written-clause-err
 returns-in_err-written-clause-err g c = MatchResult-from_err _ _ _ c.from_residual.ensures.0 λ _. by-still _ _ λ r. still-by _ _ c.clean.ensures.still r ∙ ap (λ (v : StoreView). (rec_by v.segs r).frame) c.turn-frame.ensures.rest
+
+pub returns-clause-placed : goal.returns-clause-placed
+returns-clause-placed g c =
+    eviction-is c.args.self.now c.turn-frame.new.self c.clean.new.self c.vacate-page.new.self c.args.pinned c.turn-frame.result c.turn-frame.ensures.chosen c.turn-frame.ensures.placed c.in_ok-written.ensures.placed c.vacate-page.ensures.placed
+
+pub returns-in_err-written-clause-stopped : goal.returns-in_err-written-clause-stopped
+returns-in_err-written-clause-stopped g c = MatchResult-from_err _ _ _ c.from_residual.ensures.0 λ _.
+    stops-write c.args.self.now c.turn-frame.new.self c.clean.new.self c.args.pinned c.turn-frame.result c.turn-frame.ensures.chosen c.turn-frame.ensures.placed c.in_err-written.ensures.stopped
+    (position-none is_free c.args.self.now.frames no_frame c.requires.full) (sym (c.turn-frame.ensures.alike c.turn-frame.result).dirty ∙ c.in_err-written.ensures.dirty)

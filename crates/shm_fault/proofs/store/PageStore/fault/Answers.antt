@@ -1,4 +1,4 @@
-use Rattle.std.proofs.lemmas.Result.{err_from_is_err_and}
+use Rattle.std.proofs.lemmas.Result.{err_from_is_err_and, MatchResult-from_err}
 use Rattle.shm_fault.proofs.Names.{ap, ◌∙◌, arith, false, is_ok, None, PageRec, Visited, Visits, MovesOn}
 use Rattle.shm_fault.proofs.Pages.{has-same}
 use Rattle.shm_fault.proofs.Sound.{cause-after}
@@ -6,6 +6,8 @@ use Rattle.shm_fault.proofs.Failures.{OnErr-map}
 use Rattle.shm_fault.proofs.Bringing.{err_of}
 use Rattle.shm_fault.proofs.Visiting.{visited-fault}
 use Rattle.shm_fault.proofs.Visits.{Visits-trans, moves-trans, visits-away}
+use Rattle.shm_fault.specs.Placing.{places}
+use Rattle.shm_fault.proofs.Places.{visit-fault, stops-at-read, stops-at-write}
 use Rattle.shm_fault.proofs.store.PageStore.fault.Given as given
 use Rattle.shm_fault.proofs.store.PageStore.fault.Goals as goal
 use Rattle.shm_fault.proofs.store.PageStore.fault.Goals.{After-come_in}
@@ -51,3 +53,16 @@ returns-in_err-frame-clause-visited g c =
     rw (err_from_is_err_and c.from_residual.result c.from_residual.ensures.1).1
     (visited-fault c.args.page c.args.pinned c.args.self.now c.take_frame.new.self c.args.touched.now c.take_frame.new.touched false c.requires.away (took.visits c.args.page) took.moves
     (omega (arith, took.few)) (omega (arith, took.ins)) took.outs took.counts took.hand (λ e. c.in_err-frame.ensures.cause))
+
+pub returns-clause-placed : goal.returns-clause-placed
+returns-clause-placed g c =
+    visit-fault c.args.self.now (places c.come_in.new.self) c.args.page c.args.pinned c.requires.away (rw (← c.in_ok-frame.ensures.chosen, ← c.in_ok-frame.ensures.placed) c.in_ok-come_in.ensures.placed)
+
+pub returns-in_err-frame-clause-stopped : goal.returns-in_err-frame-clause-stopped
+returns-in_err-frame-clause-stopped g c = MatchResult-from_err _ _ _ c.from_residual.ensures.0 λ _.
+    stops-at-write c.args.self.now c.take_frame.new.self c.args.page c.args.pinned c.requires.away c.in_err-frame.ensures.stopped
+
+pub returns-in_err-come_in-clause-stopped : goal.returns-in_err-come_in-clause-stopped
+returns-in_err-come_in-clause-stopped g c = MatchResult-from_err _ _ _ c.from_residual-in_err-come_in.ensures.0 λ _.
+    let same = visits-away c.args.pinned c.args.self.now c.take_frame.new.self c.take_frame.ensures.visits c.args.page c.requires.away in
+    stops-at-read c.args.self.now c.come_in.new.self c.args.page c.args.pinned c.requires.away (rw same at c.in_err-come_in.ensures.slot) (c.in_err-come_in.ensures.stopped ∙ c.in_ok-frame.ensures.placed)

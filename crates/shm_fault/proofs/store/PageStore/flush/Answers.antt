@@ -1,11 +1,12 @@
 use Rattle.shm_fault.proofs.Names.{◌≡◌, ◌<◌, ◌+◌, true, length, sym, ◌∙◌, arith, may_flush, common_steps, nat_tests}
 use Rattle.shm_fault.proofs.Bringing.{kept-locked}
 use Rattle.shm_fault.proofs.Flushes.{flushed-none, flushed-enough, flushed-not, flushed-more, flushed-all}
+use Rattle.shm_fault.proofs.Seen.{seen}
 use Rattle.shm_fault.proofs.store.PageStore.flush.Goals.{then-report-n+then-is_flushable, else-report-n, else-report-n-via-then-report-n+else-is_flushable, else-report-n-via-else-report-n}
 use Rattle.shm_fault.proofs.store.PageStore.flush.Goals as goal
 
 pub loop-frame-init : goal.loop-frame-init
-loop-frame-init g c = grind (arith, nat_tests, common_steps, c.self.inside, c.args.self.now, c.self.view_is, c.self.invariant, flushed-none, c.args.n)
+loop-frame-init g c = rw (← c.self.view_is) (flushed-none c.args.n (seen c.self.inside) c.self.invariant)
 
 pub loop-frame-preserved : goal.loop-frame-preserved
 loop-frame-preserved g c =
@@ -20,7 +21,7 @@ loop-frame-preserved g c =
           let lt : c.loop-frame.report.written + c.loop-frame.report.failed < c.args.n = w.if-report-n.true in
           let may : may_flush t i ≡ true = sym w.is_flushable.ensures ∙ w.if-is_flushable.true in
           let e = w.flush_frame.ensures in
-          rw (w.self-is, w.report-is) (flushed-more c.args.n s i t c.loop-frame.report.written c.loop-frame.report.failed d w.flush_frame.new.self w.flush_frame.new.report.written w.flush_frame.new.report.failed lt may there e.frames e.goes e.still e.sound e.sum e.failed e.counted e.written_out e.rest)
+          rw (w.self-is, w.report-is) (flushed-more c.args.n s i t c.loop-frame.report.written c.loop-frame.report.failed d w.flush_frame.new.self w.flush_frame.new.report.written w.flush_frame.new.report.failed lt may there e.frames e.goes e.still e.sound e.sum e.failed e.counted e.written_out e.rest e.placed)
       | else-report-n w ↦ rw (w.self-is, w.report-is) (elim w.else-report-n.branch [
         | else-report-n-via-then-report-n+else-is_flushable v ↦
             flushed-not c.args.n s i t c.loop-frame.report.written c.loop-frame.report.failed d (sym v.is_flushable.ensures ∙ v.if-is_flushable.false)

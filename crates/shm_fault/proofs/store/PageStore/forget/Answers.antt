@@ -2,6 +2,7 @@ use Rattle.shm_fault.proofs.Names.{arith, rec_by, Given}
 use Rattle.shm_fault.proofs.Seen.{seen}
 use Rattle.shm_fault.proofs.Sound.{frame-own, slot-own}
 use Rattle.shm_fault.proofs.Drops.{with-same, Forgets, forgets}
+use Rattle.shm_fault.proofs.Forgets.{forget-is}
 use Rattle.shm_fault.proofs.store.PageStore.forget.Given as given
 use Rattle.shm_fault.proofs.store.PageStore.forget.Goals as goal
 use Rattle.shm_fault.proofs.store.PageStore.forget.Goals.{After-set_page}
@@ -29,3 +30,9 @@ returns-clause-held g c = rw (← c.self.view_is) (done g c).bytes
 
 pub returns-clause-nowhere : goal.returns-clause-nowhere
 returns-clause-nowhere g c = grind (arith, with-same)
+
+pub returns-clause-placed : goal.returns-clause-placed
+returns-clause-placed g c =
+    let i = c.self.inside in
+    let slot : Given i.swap (rec_by i.segs c.args.page).slot c.free_slot.new.swap = rw c.page-place.ensures at c.free_slot.ensures.given in
+    rw (c.set_page.ensures, c.empty_frame.ensures, c.page-place.ensures, ← c.self.view_is) (forget-is (seen i) c.args.page c.free_slot.new.swap slot)

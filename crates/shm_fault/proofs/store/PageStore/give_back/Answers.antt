@@ -4,6 +4,7 @@ use Rattle.shm_fault.proofs.Sound.{frame-own, slot-own}
 use Rattle.shm_fault.proofs.Pages.{by-still, has-slot, still-with}
 use Rattle.shm_fault.proofs.Changes.{Keeps}
 use Rattle.shm_fault.proofs.Areas.{keeps-back}
+use Rattle.shm_fault.proofs.Moves.{moved-back}
 use Rattle.shm_fault.proofs.store.PageStore.give_back.Given as given
 use Rattle.shm_fault.proofs.store.PageStore.give_back.Goals as goal
 use Rattle.shm_fault.proofs.store.PageStore.give_back.Goals.{After-self, After-set_page}
@@ -48,3 +49,8 @@ returns-clause-sound g c = (kept g c).sound
 
 pub give_slot-requires : goal.give_slot-requires
 give_slot-requires g c = (slot-own (seen c.self.inside) c.self.invariant c.args.page c.args.slot (ap (λ (p : PageRec). p.slot) (place g (goal.at.give_slot-requires g c).After-self))).0
+
+pub returns-clause-placed : goal.returns-clause-placed
+returns-clause-placed g c =
+    rw (c.set_page.ensures, c.set_dirty.ensures, ← c.self.view_is)
+    (moved-back (seen c.self.inside) c.args.page c.args.frame c.args.slot c.give_slot.new.self _ c.give_slot.ensures.given)

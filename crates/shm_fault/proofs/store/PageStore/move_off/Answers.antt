@@ -1,9 +1,11 @@
-use Rattle.shm_fault.proofs.Names.{◌≡◌, List, Option, None, ℕ, set, ap, length, ◌∙◌, arith, area_at, held, IsStoreSound, Still, common_steps, nat_tests}
+use Rattle.shm_fault.proofs.Names.{◌≡◌, refl, List, Option, None, ℕ, set, ap, length, ◌∙◌, arith, area_at, held, IsStoreSound, Still, common_steps, nat_tests}
 use Rattle.shm_fault.specs.Store.{frame_of}
 use Rattle.shm_fault.proofs.Seen.{seen}
 use Rattle.shm_fault.proofs.Sound.{GoesOn-trans, cause-after}
 use Rattle.shm_fault.proofs.Bringing.{kept-locked}
 use Rattle.shm_fault.proofs.Areas.{IsCleaned, cleaned-more, cleaned-there, cleaned-room, cleaned-free, cleaned-off}
+use Rattle.shm_fault.proofs.Moves.{area-gone, stops-moving}
+use Rattle.shm_fault.proofs.Areas.{cleaned-none}
 use Rattle.shm_fault.proofs.store.PageStore.move_off.Given as given
 use Rattle.shm_fault.proofs.store.PageStore.move_off.Goals as goal
 use Rattle.shm_fault.proofs.store.PageStore.move_off.Goals.{After-unwrap_or-count, After-self-2, In-Err, After-turn_off}
@@ -41,7 +43,7 @@ clear_slot-requires-clause-room g c =
 pub loop-slot-preserved : goal.loop-slot-preserved
 loop-slot-preserved g c =
     let e = c.clear_slot.ensures in
-    cleaned-more c.args.area c.loop-slot.slot c.args.self.now c.loop-slot.self c.clear_slot.new.self c.loop-slot.invariant e.sound e.goes e.still e.rest c.in-Ok.ensures.cleared
+    cleaned-more c.args.area c.loop-slot.slot c.args.self.now c.loop-slot.self c.clear_slot.new.self c.loop-slot.invariant e.sound e.goes e.still e.rest c.in-Ok.ensures.cleared c.in-Ok.ensures.placed
 
 pub returns-in-Err-clause-cause : goal.returns-in-Err-clause-cause
 returns-in-Err-clause-cause g c =
@@ -94,3 +96,20 @@ pub returns-clause-rest : goal.returns-clause-rest
 returns-clause-rest g c =
     let rest = (cleaned g (goal.at.returns-clause-rest g c).After-self-2).rest in
     record { hand = rest.hand; ins = rest.ins; outs = rest.outs }
+
+pub returns-in-Err-clause-stopped : goal.returns-in-Err-clause-stopped
+returns-in-Err-clause-stopped g c =
+    let all = count g (goal.at.returns-in-Err-clause-stopped g c).After-unwrap_or-count in
+    let owned : length (area_at c.args.self.now.swap c.args.area).owners ≡ length (area_at c.args.self.now.swap c.args.area).pages = rw (← c.self.view_is) (c.self.invariant.swap.each c.args.area).owned in
+    stops-moving c.args.area c.loop-slot.slot c.args.self.now c.loop-slot.self c.clear_slot.new.self (omega (arith, all, owned, c.loop-slot-test.true)) c.loop-slot.invariant.placed c.in-Err.ensures.stopped
+
+pub loop-slot-init : goal.loop-slot-init
+loop-slot-init g c = rw (← c.self.view_is) (cleaned-none c.args.area (seen c.self.inside) c.self.invariant)
+
+pub returns-clause-places : goal.returns-clause-places
+returns-clause-places g c =
+    let o = goal.at.returns-clause-places g c in
+    let all = count g o.After-unwrap_or-count in
+    let last : c.loop-slot.slot ≡ length (area_at c.args.self.now.swap c.args.area).pages = omega (arith, all, c.loop-slot-test.false, c.loop-slot.auto.slot-end) in
+    let t = seen c.self-2.inside in
+    rw (← last) (area-gone c.args.self.now t (record t { swap = c.turn_off.new.self }) c.args.area c.loop-slot.slot (rw c.turn_off.ensures.gone refl) (cleaned g o.After-self-2).placed)

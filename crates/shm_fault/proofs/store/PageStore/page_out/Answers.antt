@@ -1,4 +1,5 @@
 use Rattle.shm_fault.proofs.Names.{ap, ◌∙◌, PageRef, StoreView, rec_by}
+use Rattle.shm_fault.specs.Placing.{after_page_out}
 use Rattle.shm_fault.proofs.Failures.{OnErr-map}
 use Rattle.shm_fault.proofs.Sound.{cause-after}
 use Rattle.shm_fault.proofs.Pages.{by-still, still-by}
@@ -12,3 +13,7 @@ returns-clause-cause g c =
 pub returns-clause-still : goal.returns-clause-still
 returns-clause-still g c =
     by-still _ _ λ (r : PageRef). ap (λ (v : StoreView). (rec_by v.segs r).frame) c.write_back.ensures.rest ∙ still-by _ _ c.slot_for-slot.ensures.still r
+
+pub returns-clause-placed : goal.returns-clause-placed
+unfolding after_page_out
+returns-clause-placed g c = rw (← c.slot_for-slot.ensures.placed) c.write_back.ensures.placed

@@ -1,7 +1,8 @@
-use Rattle.shm_fault.proofs.Names.{true, Some, Frame, frame_at}
+use Rattle.shm_fault.proofs.Names.{true, refl, Some, Frame, frame_at}
 use Rattle.shm_fault.proofs.Seen.{seen}
 use Rattle.shm_fault.proofs.Changes.{set-twice}
 use Rattle.shm_fault.proofs.Visits.{Settles, settles}
+use Rattle.shm_fault.proofs.Places.{settled-is}
 use Rattle.shm_fault.proofs.store.PageStore.settle.Given as given
 use Rattle.shm_fault.proofs.store.PageStore.settle.Goals as goal
 use Rattle.shm_fault.proofs.store.PageStore.settle.Goals.{After-set_page}
@@ -26,3 +27,14 @@ returns-clause-came g c = rw (← c.self.view_is) (done g c).came
 
 pub returns-clause-visits : goal.returns-clause-visits
 returns-clause-visits g c = rw (← c.self.view_is) (done g c).visits
+
+pub returns-clause-placed : goal.returns-clause-placed
+returns-clause-placed g c =
+    let s = seen c.self.inside in
+    let there = rw (← c.self.view_is) at c.requires.there in
+    let slot = rw (← c.self.view_is) at c.requires.slot in
+    let x : Frame = record (frame_at s.frames c.args.frame) { owner = Some c.args.page } in
+    rw (← c.self.view_is)
+    (settled-is s (record s { segs = c.set_page.new.self; frames = c.set_referenced.new.self }) c.args.page c.args.frame (c.self.invariant.tied.free c.args.frame (rw (← c.self.view_is) at c.requires.free)) refl refl
+    (rw (c.set_page.ensures, slot) refl)
+    (set-twice s.frames c.args.frame x (λ y. record y { referenced = true }) there c.fill.ensures c.set_referenced.ensures))

@@ -3,6 +3,8 @@ use Rattle.shm_fault.proofs.Seen.{seen}
 use Rattle.shm_fault.proofs.Tally.{used-slots, some_slotless}
 use Rattle.shm_fault.proofs.Pages.{by-still}
 use Rattle.shm_fault.proofs.Changes.{Takes, takes}
+use Rattle.shm_fault.proofs.Placed.{found-free}
+use Rattle.shm_fault.proofs.Places.{slotted-own, slotted-took}
 use Rattle.shm_fault.proofs.store.PageStore.slot_for.Given as given
 use Rattle.shm_fault.proofs.store.PageStore.slot_for.Goals as goal
 use Rattle.shm_fault.proofs.store.PageStore.slot_for.Goals.{After-set_page}
@@ -50,3 +52,31 @@ invariant_of-self g c = (done g c).sound
 
 pub returns-clause-sound : goal.returns-clause-sound
 returns-clause-sound g c = (done g c).sound
+
+pub returns-clause-placed : goal.returns-clause-placed
+returns-clause-placed g c =
+    let s = seen c.self.inside in
+    let page = c.resident_page-page.result in
+    let slot = c.in-Some-take_slot.slot in
+    let none : (rec_by s.segs page).slot ≡ None = ap (λ (p : PageRec). p.slot) (sym c.page-place.ensures) ∙ c.in_default.is in
+    let u : c.take_slot.new.self ≡ with_slot_owner s.swap slot (Some page) = c.in-Some-take_slot.ensures.taken in
+    rw (← c.self.view_is)
+    (rw (c.set_page.ensures, u, c.page-place.ensures)
+    (slotted-took s c.args.frame page slot c.resident_page-page.ensures none (found-free s.swap None slot c.self.invariant.swap.each c.in-Some-take_slot.ensures.found)))
+
+pub returns-in-Some-clause-placed : goal.returns-in-Some-clause-placed
+returns-in-Some-clause-placed g c =
+    let s = seen c.self.inside in
+    rw (← c.self.view_is)
+    (slotted-own s c.args.frame c.resident_page-page.result c.in-Some.slot c.resident_page-page.ensures (ap (λ (p : PageRec). p.slot) (sym c.page-place.ensures) ∙ c.in-Some.is))
+
+pub returns-clause-free : goal.returns-clause-free
+returns-clause-free g c = λ page owner none. rw (← c.self.view_is) c.in-Some-take_slot.ensures.found
+
+pub returns-in-Some-clause-free : goal.returns-in-Some-clause-free
+returns-in-Some-clause-free g c = λ page owner none.
+    let i = c.self.inside in
+    let has : (rec_by i.segs c.resident_page-page.result).slot ≡ Some c.in-Some.slot = ap (λ (p : PageRec). p.slot) (sym c.page-place.ensures) ∙ c.in-Some.is in
+    let owner₁ : (frame_at i.frames c.args.frame).owner ≡ Some page = rw (← c.self.view_is) at owner in
+    let none₁ : (rec_by i.segs page).slot ≡ None = rw (← c.self.view_is) at none in
+    cc (owner₁, none₁, has, c.resident_page-page.ensures)

@@ -1,8 +1,10 @@
-use Rattle.shm_fault.proofs.Names.{◌≡◌, ◌<◌, ◌%◌, length, Some, true, refl, length-set, get_or-set_same, paste, Frame, no_frame, frame_at, ref_of}
+use Rattle.shm_fault.proofs.Names.{◌≡◌, ◌<◌, ◌%◌, length, Some, true, refl, sym, ◌∙◌, length-set, get_or-set_same, paste, Frame, no_frame, frame_at, ref_of}
 use Rattle.shm_fault.proofs.Seen.{seen}
 use Rattle.shm_fault.proofs.Sound.{frame-own}
 use Rattle.shm_fault.proofs.Changes.{set-twice}
 use Rattle.shm_fault.proofs.Puts.{Puts, puts}
+use Rattle.shm_fault.proofs.Placed.{bare-set}
+use Rattle.shm_fault.proofs.Places.{bit-set}
 use Rattle.shm_fault.proofs.store.PageStore.store.Given as given
 use Rattle.shm_fault.proofs.store.PageStore.store.Goals as goal
 use Rattle.shm_fault.proofs.store.PageStore.store.Goals.{After-self, After-set_dirty}
@@ -46,3 +48,12 @@ returns-clause-written g c = rw (← c.self.view_is) (done g c).bytes
 
 pub returns-clause-fits : goal.returns-clause-fits
 returns-clause-fits g c = rw (← c.self.view_is) (done g c).fits
+
+pub returns-clause-placed : goal.returns-clause-placed
+returns-clause-placed g c =
+    let o = (goal.at.returns-clause-placed g c).After-self in
+    let s = seen c.self.inside in
+    let frames = set-twice s.frames c.args.frame (pasted_in g o) (λ y. record y { dirty = true }) (own g o).0 c.paste_into.ensures c.set_dirty.ensures in
+    rw (← c.self.view_is)
+    (bit-set s (record s { frames = c.set_dirty.new.self }) c.args.frame true refl refl refl
+    (rw frames (bare-set s.frames c.args.frame (record (pasted_in g o) { dirty = true }) ∙ sym (bare-set s.frames c.args.frame (record (frame_at s.frames c.args.frame) { dirty = true })))))

@@ -1,8 +1,10 @@
-use Rattle.shm_fault.proofs.Names.{Gone, refl, ap, ◌+◌, ◌∙◌, arith, one_if}
+use Rattle.std.proofs.lemmas.Result.{MatchResult-from_err}
+use Rattle.shm_fault.proofs.Names.{Gone, refl, sym, ap, ◌+◌, ◌∙◌, arith, one_if}
 use Rattle.shm_fault.specs.Store.{frame_of}
 use Rattle.shm_fault.proofs.Seen.{seen}
 use Rattle.shm_fault.proofs.Visits.{moves-more, moves-still}
 use Rattle.shm_fault.proofs.Counting.{byte-one, counts-still, counts-more}
+use Rattle.shm_fault.proofs.Places.{room-free, room-made}
 use Rattle.shm_fault.proofs.store.PageStore.take_frame.Goals as goal
 
 pub returns-clause-visits : goal.returns-clause-visits
@@ -45,3 +47,28 @@ returns-in_err-evicted-clause-hand g c = rw (← c.self.view_is, ← c.in_defaul
 
 pub returns-in_err-evicted-clause-counts : goal.returns-in_err-evicted-clause-counts
 returns-in_err-evicted-clause-counts g c = rw (← c.self.view_is) (counts-still c.args.touched.now _ _ c.evict.ensures.ins c.in_err-evicted.ensures.outs)
+
+pub returns-in-Some-clause-placed : goal.returns-in-Some-clause-placed
+returns-in-Some-clause-placed g c =
+    let s = seen c.self.inside in
+    rw (c.free_frame.ensures.same, ← c.self.view_is) (room-free s c.args.pinned c.in-Some.frame (sym c.in-Some.ensures.value)).0
+
+pub returns-in-Some-clause-chosen : goal.returns-in-Some-clause-chosen
+returns-in-Some-clause-chosen g c =
+    let s = seen c.self.inside in
+    rw (← c.self.view_is) (room-free s c.args.pinned c.in-Some.frame (sym c.in-Some.ensures.value)).1
+
+pub returns-clause-placed : goal.returns-clause-placed
+returns-clause-placed g c =
+    let s = seen c.self.inside in
+    rw (← c.self.view_is)
+    (room-made s c.evict.new.self c.args.pinned c.in_ok-evicted.evicted.frame (sym c.in_default.ensures.value) (rw c.free_frame.ensures.same at c.in_ok-evicted.ensures.placed) (rw c.free_frame.ensures.same at c.in_ok-evicted.ensures.chosen)).0
+
+pub returns-clause-chosen : goal.returns-clause-chosen
+returns-clause-chosen g c =
+    let s = seen c.self.inside in
+    rw (← c.self.view_is)
+    (room-made s c.evict.new.self c.args.pinned c.in_ok-evicted.evicted.frame (sym c.in_default.ensures.value) (rw c.free_frame.ensures.same at c.in_ok-evicted.ensures.placed) (rw c.free_frame.ensures.same at c.in_ok-evicted.ensures.chosen)).1
+
+pub returns-in_err-evicted-clause-stopped : goal.returns-in_err-evicted-clause-stopped
+returns-in_err-evicted-clause-stopped g c = MatchResult-from_err _ _ _ c.from_residual.ensures.0 λ _. rw (← c.self.view_is) (rw c.free_frame.ensures.same at c.in_err-evicted.ensures.stopped)

@@ -1,7 +1,8 @@
-use Rattle.shm_fault.proofs.Names.{◌≡◌, ◌<◌, length, Some, get_or-set_same, arith, frame_at, common_steps, nat_tests}
+use Rattle.shm_fault.proofs.Names.{◌≡◌, ◌<◌, length, refl, Some, get_or-set_same, arith, frame_at, common_steps, nat_tests}
 use Rattle.shm_fault.proofs.Seen.{seen}
 use Rattle.shm_fault.proofs.Sound.{frame-own}
 use Rattle.shm_fault.proofs.Visits.{IsStep, step-touch}
+use Rattle.shm_fault.proofs.Places.{referenced-set}
 use Rattle.shm_fault.proofs.store.PageStore.touch.Given as given
 use Rattle.shm_fault.proofs.store.PageStore.touch.Goals as goal
 use Rattle.shm_fault.proofs.store.PageStore.touch.Goals.{After-self, After-set_referenced}
@@ -22,3 +23,8 @@ returns-clause-bit g c = grind (arith, nat_tests, common_steps, c.self.inside.fr
 
 pub returns-clause-visits : goal.returns-clause-visits
 returns-clause-visits g c = rw (← c.self.view_is) ((step g c).visits c.args.page)
+
+pub returns-clause-placed : goal.returns-clause-placed
+returns-clause-placed g c =
+    let s = seen c.self.inside in
+    rw (← c.self.view_is) (referenced-set s (record s { frames = c.set_referenced.new.self }) c.args.frame refl c.set_referenced.ensures)

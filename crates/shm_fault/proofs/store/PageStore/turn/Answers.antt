@@ -1,7 +1,8 @@
-use Rattle.shm_fault.proofs.Names.{length, may_go, two_eligible, OwnedBelow, unlocked}
+use Rattle.shm_fault.proofs.Names.{◌∙◌, refl, length, may_go, two_eligible, OwnedBelow, unlocked}
 use Rattle.shm_fault.proofs.Seen.{seen}
 use Rattle.shm_fault.proofs.Clock.{clock-alike, next-lt, two_unlocked}
 use Rattle.shm_fault.proofs.Changes.{Keeps, keeps-alike}
+use Rattle.shm_fault.proofs.Places.{turn-is, victim-place}
 use Rattle.shm_fault.proofs.store.PageStore.turn.Given as given
 use Rattle.shm_fault.proofs.store.PageStore.turn.Goals as goal
 use Rattle.shm_fault.proofs.store.PageStore.turn.Goals.{After-choose}
@@ -36,3 +37,12 @@ invariant_of-self g c = (kept g c).sound
 
 pub returns-clause-goes : goal.returns-clause-goes
 returns-clause-goes g c = rw (← c.self.view_is) (kept g c).goes
+
+pub returns-clause-placed : goal.returns-clause-placed
+returns-clause-placed g c =
+    let s = seen c.self.inside in
+    rw (← c.self.view_is)
+    (turn-is s (record s { frames = c.choose.new.frames; hand = c.choose.new.hand }) c.args.pinned refl refl c.choose.ensures.bits (rw (← c.choose.ensures.victim) c.choose.ensures.hand))
+
+pub returns-clause-chosen : goal.returns-clause-chosen
+returns-clause-chosen g c = rw (← c.self.view_is) (c.choose.ensures.victim ∙ victim-place (seen c.self.inside) c.args.pinned)

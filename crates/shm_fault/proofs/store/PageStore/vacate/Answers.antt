@@ -1,6 +1,7 @@
-use Rattle.shm_fault.proofs.Names.{◌≡◌, Some, arith, frame_at, common_steps, nat_tests}
+use Rattle.shm_fault.proofs.Names.{◌≡◌, refl, Some, arith, frame_at, common_steps, nat_tests}
 use Rattle.shm_fault.proofs.Seen.{seen}
 use Rattle.shm_fault.proofs.Changes.{Keeps, keeps-vacate}
+use Rattle.shm_fault.proofs.Places.{vacated-is}
 use Rattle.shm_fault.proofs.store.PageStore.vacate.Given as given
 use Rattle.shm_fault.proofs.store.PageStore.vacate.Goals as goal
 use Rattle.shm_fault.proofs.store.PageStore.vacate.Goals.{After-set_page}
@@ -25,3 +26,10 @@ returns-clause-sound g c = (kept g c).sound
 
 pub returns-clause-was : goal.returns-clause-was
 returns-clause-was g c = grind (arith, nat_tests, common_steps, c.self.invariant.tied, c.self.view_is, c.resident_page-page.result, c.args.frame, owned)
+
+pub returns-clause-placed : goal.returns-clause-placed
+returns-clause-placed g c =
+    let s = seen c.self.inside in
+    rw (← c.self.view_is)
+    (vacated-is s (record s { segs = c.set_page.new.self; frames = c.empty.new.self }) c.args.frame c.resident_page-page.result (frame_at s.frames c.args.frame).bytes c.resident_page-page.ensures refl refl
+    (rw (c.set_page.ensures, c.page-place.ensures) refl) c.empty.ensures)

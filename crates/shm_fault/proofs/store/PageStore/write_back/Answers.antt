@@ -3,7 +3,9 @@ use Rattle.shm_fault.proofs.Names.{◌≡◌, ℕ, Some, true, false, set, refl,
 use Rattle.shm_fault.proofs.Seen.{seen}
 use Rattle.shm_fault.proofs.Slots.{OnlySlot-page, OnlySlot-fault, owner-written, owner-fault, page-written}
 use Rattle.shm_fault.proofs.Failures.{total-written, total-fault}
-use Rattle.shm_fault.proofs.Changes.{Own, own, Keeps, keeps-write}
+use Rattle.shm_fault.proofs.Changes.{Own, own, Keeps, keeps-write, dirty-same}
+use Rattle.shm_fault.proofs.Placed.{owners-page, owners-fault}
+use Rattle.shm_fault.proofs.Places.{bit-set}
 use Rattle.shm_fault.proofs.store.PageStore.write_back.Given as given
 use Rattle.shm_fault.proofs.store.PageStore.write_back.Goals as goal
 use Rattle.shm_fault.proofs.store.PageStore.write_back.Goals.{After-self, After-saturating_add-self-inside, After-from_residual}
@@ -85,3 +87,18 @@ pub returns-in_err-write_slot-clause-counted : goal.returns-in_err-write_slot-cl
 returns-in_err-write_slot-clause-counted g c =
     let at = there g (goal.at.returns-in_err-write_slot-clause-counted g c).After-self in
     λ unspent. rw ((err_from_is_err_and c.from_residual.result c.from_residual.ensures.1).1, ← c.self.view_is) (total-fault c.self.inside.swap c.write_slot.new.self c.args.slot c.self.invariant.swap at c.write_slot.ensures.others c.in_err-write_slot.ensures.err unspent)
+
+pub returns-clause-placed : goal.returns-clause-placed
+returns-clause-placed g c =
+    let s = seen c.self.inside in
+    rw (← c.self.view_is)
+    (bit-set s (record s { frames = c.set_dirty.new.self; swap = c.write_slot.new.self; outs = c.saturating_add-self-inside.result }) c.args.frame false refl refl
+    (rw c.in_ok-write_slot.ensures.ok (owners-page s.swap c.args.slot c.bytes.result.now)) (rw c.set_dirty.ensures refl))
+
+pub returns-in_err-write_slot-clause-placed : goal.returns-in_err-write_slot-clause-placed
+returns-in_err-write_slot-clause-placed g c =
+    let s = seen c.self.inside in
+    rw ((err_from_is_err_and c.from_residual.result c.from_residual.ensures.1).1, ← c.self.view_is)
+    (bit-set s (record s { swap = c.write_slot.new.self }) c.args.frame true refl refl
+    (owners-fault s.swap c.write_slot.new.self c.args.slot c.write_slot.ensures.others c.in_err-write_slot.ensures.err)
+    (rw (dirty-same s.frames c.args.frame true (rw (← c.self.view_is) at c.requires.dirty)) refl))

@@ -1,4 +1,5 @@
 use Rattle.shm_fault.proofs.Bringing.{accessed, accessed-not}
+use Rattle.shm_fault.proofs.Dirtied.{none-in, none-stopped, dirtied-after}
 use Rattle.shm_fault.proofs.store.PageStore.write_with.Goals as goal
 
 pub returns-in-Err-clause-access : goal.returns-in-Err-clause-access
@@ -8,3 +9,13 @@ pub returns-clause-access : goal.returns-clause-access
 returns-clause-access g c =
     let e = c.store_spans.ensures in
     rw e.rest (accessed c.args.self.now c.bring_spans.new.self c.store_spans.new.self.frames e.count e.bits (rw e.rest at e.sound) c.args.spans.now c.in-Ok.here c.bring_spans.new.touched c.requires.spans.few c.in-Ok.ensures.brings c.in-Ok.ensures.here)
+
+pub returns-clause-places : goal.returns-clause-places
+returns-clause-places g c = rw (← c.in-Ok.ensures.placed) c.store_spans.ensures.placed
+
+pub returns-in-Err-clause-clean : goal.returns-in-Err-clause-clean
+returns-in-Err-clause-clean g c = none-stopped c.args.spans.now c.args.self.now c.bring_spans.new.self c.in-Err.ensures.stopped
+
+pub returns-clause-dirtied : goal.returns-clause-dirtied
+returns-clause-dirtied g c =
+    dirtied-after c.args.spans.now c.args.self.now c.bring_spans.new.self c.store_spans.new.self (none-in c.args.spans.now c.args.self.now c.bring_spans.new.self c.in-Ok.ensures.placed) c.store_spans.ensures.dirtied

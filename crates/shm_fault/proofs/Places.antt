@@ -1,0 +1,181 @@
+-- What each step of paging makes of the places.
+use Rattle.shm_fault.proofs.Names.{◌≡◌, ℕ, Bool, true, false, List, [], ◌∷◌, map, set, Option, Some, None, is_some, refl, sym, ap, ◌∙◌, inl, inr, PageRef, Slot, Span, with_slot_owner, Frame, no_frame, frame_at, rec_by, with_rec, StoreView, unlocked, ref_of, frame_by}
+use Rattle.std.proofs.lemmas.List.{length-map}
+use Rattle.std.proofs.Math.Seq.{map-set_same}
+use Rattle.std.specs.Prelude.{position}
+use Rattle.shm_frames.specs.Frame.{is_free}
+use Rattle.shm_clock.specs.Clock.{candidates, passed_by, unset_all}
+use Rattle.shm_fault.specs.Counting.{victim_by, turned}
+use Rattle.shm_fault.specs.Placing.{Places, bare, slot_owners, places, free_slot, slotted, with_bit, after_page_out, victim_in, after_turn, vacated, after_clean, after_eviction, after_room, frame_for, settled, referenced, after_visit, after_access, with_dirty, StopsAtWrite, StopsAt, Stops}
+use Rattle.shm_fault.proofs.Placed.{bare-at, bare-set, candidates-bare, victim-bare, passed-bare, unset-bare, position-bare, owners-set}
+
+-- a page that has a slot keeps it
+pub slotted-own : (s : StoreView) (f : ℕ) (r : PageRef) (k : Slot) → (frame_at s.frames f).owner ≡ Some r → (rec_by s.segs r).slot ≡ Some k → places s ≡ slotted f (places s)
+unfolding places
+slotted-own s f r k owner slot = rw (bare-at s.frames f, owner, slot) refl
+
+-- any other takes a free one
+pub slotted-took : (s : StoreView) (f : ℕ) (r : PageRef) (k : Slot) → (frame_at s.frames f).owner ≡ Some r → (rec_by s.segs r).slot ≡ None → free_slot None (slot_owners s.swap) ≡ Some k
+    → places (record s { segs = with_rec s.segs r (record { frame = (rec_by s.segs r).frame; slot = Some k }); swap = with_slot_owner s.swap k (Some r) }) ≡ slotted f (places s)
+unfolding places
+slotted-took s f r k owner slot free = rw (bare-at s.frames f, owner, slot, free, owners-set s.swap k (Some r)) refl
+
+-- a frame's dirty bit
+pub bit-set : (s t : StoreView) (f : ℕ) (b : Bool) → t.segs ≡ s.segs → t.hand ≡ s.hand → slot_owners t.swap ≡ slot_owners s.swap
+    → map bare t.frames ≡ map bare (set s.frames f (record (frame_at s.frames f) { dirty = b })) → places t ≡ with_bit f b (places s)
+unfolding places
+bit-set s t f b segs hand slots frames =
+    let x : Frame = record (frame_at s.frames f) { dirty = b } in
+    rw (segs, hand, slots, frames, bare-at s.frames f) (rw (bare-set s.frames f x) refl)
+
+-- and its referenced bit
+pub referenced-set : (s t : StoreView) (f : ℕ) → t ≡ record s { frames = t.frames } → t.frames ≡ set s.frames f (record (frame_at s.frames f) { referenced = true }) → places t ≡ referenced f (places s)
+unfolding places referenced
+referenced-set s t f rest frames =
+    let x : Frame = record (frame_at s.frames f) { referenced = true } in
+    rw (rest, frames, bare-at s.frames f) (rw (bare-set s.frames f x) refl)
+
+-- a page leaves its frame
+pub vacated-is : (s t : StoreView) (f : ℕ) (r : PageRef) (bytes : List ℕ) → (frame_at s.frames f).owner ≡ Some r → t.hand ≡ s.hand → t.swap ≡ s.swap
+    → t.segs ≡ with_rec s.segs r (record (rec_by s.segs r) { frame = None }) → t.frames ≡ set s.frames f (record no_frame { bytes = bytes }) → places t ≡ vacated f (places s)
+unfolding places vacated
+vacated-is s t f r bytes owner hand swap segs frames = rw (hand, swap, segs, frames, bare-at s.frames f, owner) (rw (bare-set s.frames f (record no_frame { bytes = bytes })) refl)
+
+-- the clock turns
+pub victim-place : (s : StoreView) (pinned : Option ℕ) → victim_by s pinned ≡ victim_in pinned (places s)
+unfolding places
+victim-place s pinned = rw (candidates-bare (unlocked s.segs) pinned s.frames s.hand) (sym (victim-bare s.frames (candidates (unlocked s.segs) pinned s.frames s.hand)))
+
+pub turn-is : (s t : StoreView) (pinned : Option ℕ) → t.segs ≡ s.segs → t.swap ≡ s.swap → t.frames ≡ unset_all s.frames (passed_by s.frames (candidates (unlocked s.segs) pinned s.frames s.hand)) → t.hand ≡ turned s pinned
+    → places t ≡ after_turn pinned (places s)
+unfolding places after_turn
+turn-is s t pinned segs swap frames hand =
+    let list = candidates (unlocked s.segs) pinned s.frames s.hand in
+    rw (segs, swap, frames, hand, candidates-bare (unlocked s.segs) pinned s.frames s.hand, victim-bare s.frames list, passed-bare s.frames list, unset-bare s.frames (passed_by s.frames list), length-map s.frames bare) refl
+
+-- a clean frame is left, a dirty one is written
+pub clean-is : (s : StoreView) (f : ℕ) → (frame_at s.frames f).dirty ≡ false → places s ≡ after_clean f (places s)
+unfolding places after_clean
+clean-is s f clean = rw (bare-at s.frames f, clean) refl
+
+pub dirty-is : (s t : StoreView) (f : ℕ) → (frame_at s.frames f).dirty ≡ true → places t ≡ after_page_out f true (places s) → places t ≡ after_clean f (places s)
+unfolding places after_clean
+dirty-is s t f dirty out = rw (bare-at s.frames f, dirty) out
+
+-- the page that had to go goes
+pub eviction-is : (s t₁ t₂ t₃ : StoreView) (pinned : Option ℕ) (f : ℕ) → f ≡ victim_in pinned (places s) → places t₁ ≡ after_turn pinned (places s) → places t₂ ≡ after_clean f (places t₁) → places t₃ ≡ vacated f (places t₂)
+    → places t₃ ≡ after_eviction pinned (places s)
+unfolding after_eviction
+eviction-is s t₁ t₂ t₃ pinned f victim turn clean gone = rw (← victim, ← turn, ← clean) gone
+
+full-place : (s : StoreView) → position is_free s.frames ≡ None → is_some (position is_free (places s).frames) ≡ false
+unfolding places
+full-place s e = rw (position-bare s.frames, e) refl
+
+dirty-place : (s : StoreView) (f : ℕ) → (frame_at s.frames f).dirty ≡ true → (frame_at (places s).frames f).dirty ≡ true
+unfolding places
+dirty-place s f e = rw (bare-at s.frames f) e
+
+-- or its write fails
+pub stops-write : (s t₁ t₂ : StoreView) (pinned : Option ℕ) (f : ℕ) → f ≡ victim_in pinned (places s) → places t₁ ≡ after_turn pinned (places s) → places t₂ ≡ after_page_out f false (places t₁)
+    → position is_free s.frames ≡ None → (frame_at s.frames f).dirty ≡ true → StopsAtWrite pinned (places s) (places t₂)
+stops-write s t₁ t₂ pinned f victim turn out full dirty = record {
+  full = full-place s full;
+  dirty = rw victim at (dirty-place s f dirty);
+  places = rw (← victim, ← turn) out;
+}
+
+-- a free frame is there, or the page that had to go leaves one
+pub room-free : (s : StoreView) (pinned : Option ℕ) (f : ℕ) → position is_free s.frames ≡ Some f → (places s ≡ after_room pinned (places s)) × (f ≡ frame_for pinned (places s))
+unfolding places after_room frame_for
+room-free s pinned f free = rw (position-bare s.frames, free) (refl, refl)
+
+room-evicted : (s : StoreView) (q : Places) (pinned : Option ℕ) → position is_free s.frames ≡ None → q ≡ after_eviction pinned (places s) → q ≡ after_room pinned (places s)
+unfolding places after_room
+room-evicted s q pinned free e = rw (position-bare s.frames, free) e
+
+frame-evicted : (s : StoreView) (f : ℕ) (pinned : Option ℕ) → position is_free s.frames ≡ None → f ≡ victim_in pinned (places s) → f ≡ frame_for pinned (places s)
+unfolding places frame_for
+frame-evicted s f pinned free e = rw (position-bare s.frames, free) e
+
+pub room-made : (s t : StoreView) (pinned : Option ℕ) (f : ℕ) → position is_free s.frames ≡ None → places t ≡ after_eviction pinned (places s) → f ≡ victim_in pinned (places s)
+    → (places t ≡ after_room pinned (places s)) × (f ≡ frame_for pinned (places s))
+room-made s t pinned f free out victim = (room-evicted s (places t) pinned free out, frame-evicted s f pinned free victim)
+
+-- a page comes into a free frame
+pub settled-is : (s t : StoreView) (r : PageRef) (f : ℕ) → (frame_at s.frames f).dirty ≡ false → t.hand ≡ s.hand → t.swap ≡ s.swap
+    → t.segs ≡ with_rec s.segs r (record { frame = Some f; slot = (rec_by s.segs r).slot }) → t.frames ≡ set s.frames f (record (frame_at s.frames f) { owner = Some r; referenced = true }) → places t ≡ settled r f (places s)
+unfolding places settled
+settled-is s t r f clean hand swap segs frames =
+    let x : Frame = record (frame_at s.frames f) { owner = Some r; referenced = true } in
+    rw (hand, swap, segs, frames, bare-set s.frames f x, clean) refl
+
+-- bytes that come into a frame are no place
+pub same-places : (s t : StoreView) (f : ℕ) (bytes : List ℕ) → t.segs ≡ s.segs → t.hand ≡ s.hand → slot_owners t.swap ≡ slot_owners s.swap → t.frames ≡ set s.frames f (record (frame_at s.frames f) { bytes = bytes }) → places t ≡ places s
+unfolding places
+same-places s t f bytes segs hand slots frames = rw (segs, hand, slots, frames, map-set_same bare s.frames f (record (frame_at s.frames f) { bytes = bytes }) no_frame refl) refl
+
+-- where a page is, by the places
+pub place-by : (s : StoreView) (r : PageRef) → rec_by (places s).segs r ≡ rec_by s.segs r
+unfolding places
+place-by s r = refl
+
+-- a page is visited
+pub visit-known : (s : StoreView) (q : Places) (r : PageRef) (pinned : Option ℕ) (f : ℕ) → frame_by s r ≡ Some f → q ≡ referenced f (places s) → q ≡ after_visit r pinned (places s)
+unfolding places after_visit
+visit-known s q r pinned f known is = rw known is
+
+pub visit-fault : (s : StoreView) (q : Places) (r : PageRef) (pinned : Option ℕ) → frame_by s r ≡ None → q ≡ settled r (frame_for pinned (places s)) (after_room pinned (places s)) → q ≡ after_visit r pinned (places s)
+unfolding places after_visit
+visit-fault s q r pinned away is = rw away is
+
+module _ (s t : StoreView) (r : PageRef) (pinned : Option ℕ) where
+  pub stops-at-write : frame_by s r ≡ None → StopsAtWrite pinned (places s) (places t) → StopsAt r pinned (places s) (places t)
+  stops-at-write away how = record { away = rw (place-by s r) away; how = inl how }
+
+  pub stops-at-read : frame_by s r ≡ None → is_some (rec_by s.segs r).slot ≡ true → places t ≡ after_room pinned (places s) → StopsAt r pinned (places s) (places t)
+  stops-at-read away slot is = record { away = rw (place-by s r) away; how = inr (record { slot = rw (place-by s r) slot; places = is }) }
+
+-- and the pages of spans, one after another
+module _ (p : Span) (s t : StoreView) where
+  pub access-one : places t ≡ after_visit (ref_of p) None (places s) → places t ≡ after_access (p ∷ []) (places s)
+  unfolding after_access
+  access-one is = is
+
+  pub stops-one : StopsAt (ref_of p) None (places s) (places t) → Stops (p ∷ []) (places s) (places t)
+  unfolding Stops
+  stops-one is = is
+
+module _ (p q : Span) (s t z : StoreView) (f : ℕ) (first : places t ≡ after_visit (ref_of p) None (places s)) (at : frame_by t (ref_of p) ≡ Some f) where
+  pub access-two : places z ≡ after_visit (ref_of q) (Some f) (places t) → places z ≡ after_access (p ∷ q ∷ []) (places s)
+  unfolding after_access
+  access-two second = let known : (rec_by (places t).segs (ref_of p)).frame ≡ Some f = rw (place-by t (ref_of p)) at in rw (← first, known) second
+
+  pub stops-second : StopsAt (ref_of q) (Some f) (places t) (places z) → Stops (p ∷ q ∷ []) (places s) (places z)
+  unfolding Stops
+  stops-second second = let known : (rec_by (places t).segs (ref_of p)).frame ≡ Some f = rw (place-by t (ref_of p)) at in inr (rw (← first, known) second)
+
+pub stops-first : (p q : Span) (s t : StoreView) → StopsAt (ref_of p) None (places s) (places t) → Stops (p ∷ q ∷ []) (places s) (places t)
+unfolding Stops
+stops-first p q s t is = inl is
+
+pub access-none : (s : StoreView) → places s ≡ after_access [] (places s)
+unfolding after_access
+access-none s = refl
+
+-- frames become dirty, one after another
+pub dirty-none : (s : StoreView) → places s ≡ with_dirty [] (places s)
+unfolding with_dirty
+dirty-none s = refl
+
+pub dirty-one : (p : Span) (s t : StoreView) (f : ℕ) → frame_by s (ref_of p) ≡ Some f → places t ≡ with_bit f true (places s) → places t ≡ with_dirty (p ∷ []) (places s)
+unfolding with_dirty
+dirty-one p s t f at is = let known : (rec_by (places s).segs (ref_of p)).frame ≡ Some f = rw (place-by s (ref_of p)) at in rw known is
+
+pub dirty-two : (p q : Span) (s t z : StoreView) (f g : ℕ) → frame_by s (ref_of p) ≡ Some f → places t ≡ with_bit f true (places s) → frame_by t (ref_of q) ≡ Some g → places z ≡ with_bit g true (places t) → places z ≡ with_dirty (p ∷ q ∷ []) (places s)
+unfolding with_dirty
+dirty-two p q s t z f g at is at₂ is₂ =
+    let known : (rec_by (places s).segs (ref_of p)).frame ≡ Some f = rw (place-by s (ref_of p)) at in
+    let known₂ : (rec_by (places s).segs (ref_of q)).frame ≡ Some g = ap (λ (x : Places). (rec_by x.segs (ref_of q)).frame) (sym is) ∙ rw (place-by t (ref_of q)) at₂ in
+    let out : places z ≡ with_bit g true (with_bit f true (places s)) = is₂ ∙ ap (with_bit g true) is in
+    rw (known, known₂) out
