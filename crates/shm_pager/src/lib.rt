@@ -13,3 +13,6 @@ pub use mirror::{MirrorCause, MirrorPager, MirrorRefused};
 pub use pager::{AnyPager, Pager, PagerFault, try_read, try_write, zeros};
 pub use ram::RamPager;
 pub use sparse::SparsePager;
+
+#[cfg(test)]
+mod tests;
