@@ -1,4 +1,3 @@
 mod Fitting
-mod Mirrored
 mod Sizes
 mod Stretching

@@ -9,9 +9,9 @@ use Rattle.shm_slots.specs.View.{fresh}
 use Rattle.shm_life.specs.Start.{IsFirstError, start_error}
 use Rattle.shm_life.specs.declared.start.StartError.{StartError}
 use Rattle.shm_life.specs.declared.start.StartError.TheVariants.{HostMemory}
-use Rattle.shm_machine.specs.declared.area.AreaPager.{AreaPager}
+use Rattle.shm_pager.specs.declared.area.AreaPager.{AreaPager}
 use Rattle.shm_machine.specs.declared.opening.AreaConfig.{AreaConfig}
-use Rattle.shm_machine.specs.Areas.{blank, area_pages, failed_in}
+use Rattle.shm_pager.specs.Areas.{blank, area_pages, failed_in}
 use Rattle.shm_machine.specs.Opened.{sizes_of}
 
 abbrev blanks : List AreaConfig → List PagerView

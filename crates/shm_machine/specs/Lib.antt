@@ -1,4 +1,3 @@
-pub mod Areas
 pub mod Answered
 pub mod Opened
 pub mod Stretched

@@ -8,7 +8,7 @@ use Rattle.shm_machine.specs.declared.opening.AreaConfig.{AreaConfig}
 use Rattle.shm_machine.specs.declared.opening.Failure.{Failure}
 use Rattle.shm_machine.specs.declared.opening.Side.{Side}
 use Rattle.shm_machine.specs.declared.opening.Side.TheVariants.{Left, Right}
-use Rattle.shm_machine.specs.Areas.{blank}
+use Rattle.shm_pager.specs.Areas.{blank}
 
 abbrev pub same_side : Side → Side → Bool
 same_side Left Left = true

@@ -2,14 +2,12 @@
 //! No history is kept: a machine answers calls in memory that does not grow with their number.
 #![tactic(auto)]
 
-mod area;
 mod calls;
 mod machine;
 mod opening;
 mod refusal;
 mod stretch;
 
-pub use area::{AreaKind, AreaPager, Failing};
 pub use machine::Machine;
 pub use opening::{AreaConfig, Failure, Side};
 pub use refusal::Refusal;

@@ -7,11 +7,11 @@ ghost use Rattle.shm_base.specs.declared.call.Reply.TheVariants as replies;
 ghost use Rattle.shm_base.specs.History.{is_refusal};
 ghost use Rattle.shm_machine.specs.Answered.{Answered, as_reply, done, fits};
 
-use crate::area::AreaPager;
 use crate::opening::{AreaConfig, Failure, pagers_for};
 use crate::refusal::Refusal;
 use shm_base::{Call, Errno, HostMemory, Limits, Process, Reply};
 use shm_life::{StartError, System, first_area_error};
+use shm_pager::AreaPager;
 use std::alloc::Global;
 
 /// A machine over swap areas of the kinds that there are. What is counted and listed of it, and flushing, are its system's.

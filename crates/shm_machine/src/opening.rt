@@ -1,11 +1,11 @@
 //! From what a machine is opened.
 ghost use Rattle.std.specs.Prelude.{◌≡◌, ◌==◌, ◌≤◌, IfOk, map, length, true, false};
 ghost use Rattle.shm_pager.specs.Pages.{pager_seen};
-ghost use Rattle.shm_machine.specs.Areas.{blank, area_pages, failed_in, IsOfKind};
+ghost use Rattle.shm_pager.specs.Areas.{blank, area_pages, failed_in, IsOfKind};
 ghost use Rattle.shm_machine.specs.Opened.{is_at, calls_at};
 
-use crate::area::{AreaKind, AreaPager, Failing};
 use shm_base::HostMemory;
+use shm_pager::{AreaKind, AreaPager, Failing};
 use std::alloc::Global;
 
 /// A swap area: its kind, and how many slots it has. Each side of a mirror has as many.

@@ -1,2 +1,3 @@
 pub mod Merged
+mod Mirrored
 pub mod Rooms

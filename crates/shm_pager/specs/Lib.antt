@@ -2,3 +2,4 @@ pub mod Pages
 pub mod Sparse
 pub mod Fuse
 pub mod Mirror
+pub mod Areas

@@ -26,7 +26,8 @@ pub enum MirrorCause {
 }
 
 /// A mirror was refused; both sides come back.
-#[derive(Debug, Drop)]
+#[derive(Debug, Drop, Error)]
+#[error("{cause}")]
 pub struct MirrorRefused<L, R> {
     pub left: L,
     pub right: R,

@@ -2,7 +2,8 @@
 ghost use Rattle.std.specs.Prelude.{Some};
 ghost use Rattle.shm_text.specs.Fault.{kind_text};
 
-use std::fmt;
+use std::{error, fmt};
+use thiserror::Error;
 
 /// What is wrong with a line, in the order in which a line is looked at. `TooLong`: the script has more
 /// than 1,048,576 bytes. `BadByte`: a byte that is no tab and not 0x20 to 0x7e. `NoLimits`: the first line
@@ -42,17 +43,22 @@ impl fmt::Display for FaultKind {
     }
 }
 
+impl error::Error for FaultKind {}
+
 /// The first fault of a script: its line, counted from 1, and what is wrong with it. Line 0 is the script
 /// as a whole.
-#[derive(Clone, Copy, Debug, PartialEq, Eq)]
+#[derive(Clone, Copy, Debug, PartialEq, Eq, Error)]
+#[error("line {line}: {kind}")]
 pub struct ScriptFault {
     pub line: u32,
     pub kind: FaultKind,
 }
 
 /// Why no script was read: its fault, or out of memory where it has none.
-#[derive(Debug, Drop)]
+#[derive(Debug, Drop, Error)]
 pub enum ReadRefused {
+    #[error("out of memory")]
     HostMemory,
+    #[error(transparent)]
     Fault(ScriptFault),
 }

@@ -1,10 +1,14 @@
 //! A swap area of one of the kinds, as one type.
 ghost use Rattle.std.specs.Prelude.{◌≡◌, IfOk, replicate};
 ghost use Rattle.shm_pager.specs.Pages.{zero_page};
-ghost use Rattle.shm_machine.specs.Areas.{area_pages, failed_in, FailsWhere, IsOfKind};
+ghost use Rattle.shm_pager.specs.Areas.{area_pages, failed_in, FailsWhere, IsOfKind};
 
+use crate::fuse::FusePager;
+use crate::mirror::MirrorPager;
+use crate::pager::{Pager, PagerFault};
+use crate::ram::RamPager;
+use crate::sparse::SparsePager;
 use shm_base::{HostMemory, PAGE_BYTES};
-use shm_pager::{FusePager, MirrorPager, Pager, PagerFault, RamPager, SparsePager};
 use std::alloc::Global;
 
 /// A kind of swap area: a page of memory for each slot; memory only for slots that hold other bytes than zeros;

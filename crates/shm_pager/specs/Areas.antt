@@ -3,10 +3,10 @@ use Rattle.std.specs.Prelude.{ℕ, ◌≡◌, List, replicate}
 use Rattle.shm_pager.specs.Pages.{PagerView, zero_page}
 use Rattle.shm_pager.specs.Fuse.{FuseView, new_fuse}
 use Rattle.shm_pager.specs.Mirror.{pages_shown}
-use Rattle.shm_machine.specs.declared.area.AreaPager.{AreaPager}
-use Rattle.shm_machine.specs.declared.area.AreaPager.TheVariants.{Ram, Sparse, Mirror}
-use Rattle.shm_machine.specs.declared.area.AreaKind.{AreaKind}
-use Rattle.shm_machine.specs.declared.area.AreaKind.TheVariants as kinds
+use Rattle.shm_pager.specs.declared.area.AreaPager.{AreaPager}
+use Rattle.shm_pager.specs.declared.area.AreaPager.TheVariants.{Ram, Sparse, Mirror}
+use Rattle.shm_pager.specs.declared.area.AreaKind.{AreaKind}
+use Rattle.shm_pager.specs.declared.area.AreaKind.TheVariants as kinds
 
 -- the page in each slot
 abbrev pub area_pages : AreaPager → List (List ℕ)
