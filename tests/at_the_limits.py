@@ -150,6 +150,37 @@ def most_pieces(folder):
     script.write(folder, "most_pieces", "ram:64", rows, (1, 1, 0, 1, 2, 1, 0, 64, 0, 0, 0))
 
 
+def many_attaches(folder):
+    """Five processes attach a segment 256 times each, by calls of their own: it has 1,280 attachments, all to the same page."""
+    script = Script("4096 16 64 2 0", *(f"process {pid} 100 100" for pid in range(1, 6)))
+    script.call("1 shmget 7 4096 600,creat", "shmget 0x00000007 4096 600,creat", 0)
+    for pid in range(1, 6):
+        for piece in range(256):
+            script.call(f"{pid} shmat 0 null -", "shmat 0 null -", f"0x{BASE + PAGE * piece:x}")
+        script.call(f"{pid} xadd {BASE + PAGE * 255} 1", f"xadd 0x{BASE + PAGE * 255:x} 1", pid - 1)
+    rows = [row(7, 0, 4096, 5 * 256)]
+    script.write(folder, "many_attaches", "ram:64", rows, (1, 1, 0, 1, 2, 1, 0, 64, 0, 0, 0))
+
+
+def largest_twice(folder):
+    """A segment of 4096 pages is attached twice by each of two processes. What one stores at the last page the other reads.
+
+    The two pages that are touched take the two frames.
+    """
+    size = SEGMENT_PAGES * PAGE
+    script = Script("16777216 16 65536 2 0", "process 1 100 100", "process 2 100 100")
+    script.call(f"1 shmget 7 {size} 600,creat", f"shmget 0x00000007 {size} 600,creat", 0)
+    for pid in (1, 2):
+        for place in (BASE, BASE + size):
+            script.call(f"{pid} shmat 0 null -", "shmat 0 null -", f"0x{place:x}")
+    script.call(f"1 store {BASE + size - 1} 2a", f"store 0x{BASE + size - 1:x} 2a", "ok")
+    script.call(f"2 load {BASE + 2 * size - 1} 1", f"load 0x{BASE + 2 * size - 1:x} 1", "2a")
+    script.call(f"2 store {BASE + size} 2b", f"store 0x{BASE + size:x} 2b", "ok")
+    script.call(f"1 load {BASE} 1", f"load 0x{BASE:x} 1", "2b")
+    rows = [row(7, 0, size, 4)]
+    script.write(folder, "largest_twice", "sparse:4096", rows, (1, SEGMENT_PAGES, 0, 2, 2, 2, 0, 4096, 0, 0, 0))
+
+
 def most_locked(folder):
     """MEMLOCK to its last page: 4094 pages of a locked segment stay in 4096 frames, and all others share two.
 
@@ -193,6 +224,15 @@ def most_lines(folder):
     script.write(folder, "most_lines", "ram:1", [], (0, 0, 0, 0, 2, 0, 0, 1, 0, 0, 0))
 
 
+def most_events(folder):
+    """100,000 commands, each with its event: the last one has the number 100000."""
+    script = Script("4096 16 64 2 0", "process 1 100 100")
+    script.call("1 exit", "exit", "ok")
+    for _ in range(MOST_LINES - 1):
+        script.call("1 exit", "exit", "ESRCH")
+    script.write(folder, "most_events", "ram:1", [], (0, 0, 0, 0, 2, 0, 0, 1, 0, 0, 0))
+
+
 def main(folder):
     every_page(folder, "every_slot", f"sparse:{ALL_PAGES}", ALL_PAGES)
     every_page(folder, "every_slot_of_a_mirror", f"mirror:{ALL_PAGES}", ALL_PAGES)
@@ -200,7 +240,10 @@ def main(folder):
     most_segments(folder)
     most_pieces(folder)
     most_locked(folder)
+    many_attaches(folder)
+    largest_twice(folder)
     most_lines(folder)
+    most_events(folder)
 
 
 if __name__ == "__main__":

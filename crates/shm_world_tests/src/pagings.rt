@@ -224,15 +224,31 @@ fn asks(
     }
 }
 
-fn asks_over_two(rt: &impl Abort, alloc: Global, rows: &[Asking]) -> Result<(), Fail> {
-    let (first, other) = (Asked::new(alloc)?, Asked::new(alloc)?);
+fn pagers(alloc: Global, first: &Asked, other: &Asked) -> Result<Vec<AskedPager>, AllocError> {
     let mut pagers = Vec::with_capacity(alloc, 2)?;
     pagers.push(first.pager(alloc, 1)?)?;
     pagers.push(other.pager(alloc, 8)?)?;
+    Ok(pagers)
+}
+
+fn asks_over(
+    rt: &impl Abort,
+    alloc: Global,
+    pagers: Vec<AskedPager>,
+    rows: &[Asking],
+    first: &Asked,
+    other: &Asked,
+) -> Result<(), Fail> {
     let limits = Limits::new(65536, 16, 8, 2, 0).ok().ok_or("they hold")?;
     let mut world = opened_by(alloc, 0, limits, pagers)?;
-    asks(rt, &mut world, rows, &first, &other);
+    asks(rt, &mut world, rows, first, other);
     Ok(())
+}
+
+fn asks_over_two(rt: &impl Abort, alloc: Global, rows: &[Asking]) -> Result<(), Fail> {
+    let (first, other) = (Asked::new(alloc)?, Asked::new(alloc)?);
+    let pagers = pagers(alloc, &first, &other)?;
+    asks_over(rt, alloc, pagers, rows, &first, &other)
 }
 
 #[test]
