@@ -4,8 +4,8 @@
    with status 3: an output that a refused call wrote, a count of calls that is not the place, an unexpected code. */
 #define _POSIX_C_SOURCE 200809L
 #include <stdarg.h>
-#include "../conformance/script.h"
-#include "../include/nogcuvema.h"
+#include "../../conformance/script.h"
+#include "../../bindings/c/nogcuvema.h"
 
 enum { AREAS = 8 };
 

@@ -1,8 +1,8 @@
 #!/usr/bin/env python3
 """Puts what each step changed beside the record of a run.
 
-    viewer/show.py page < RECORD    one HTML page, which needs nothing else
-    viewer/show.py text < RECORD    the record for a terminal
+    tools/viewer/show.py page < RECORD    one HTML page, which needs nothing else
+    tools/viewer/show.py text < RECORD    the record for a terminal
 
 All is there before the first byte is written.
 """
