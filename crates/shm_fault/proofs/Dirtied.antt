@@ -1,11 +1,11 @@
 -- Which frames become dirty: none where pages come in, and those of the pages that are written.
-use Rattle.shm_fault.proofs.Names.{◌≡◌, ℕ, Bool, true, false, not, cond, false≢true, List, [], ◌∷◌, map, set, Option, Some, None, is_some, refl, sym, ap, ◌∙◌, inl, inr, ◌<◌, ◌≢◌, length, length-map, get_or-set_same, get_or-set_other, cases_eq, frame_by, PageRef, Slot, Span, Frame, no_frame, frame_at, unlocked, SegRec, rec_by, StoreView, ref_of}
+use Rattle.shm_fault.proofs.Names.{◌≡◌, ℕ, Bool, true, false, not, cond, false≢true, List, [], ◌∷◌, map, set, Option, Some, None, is_some, refl, sym, ap, ◌∙◌, inl, inr, ◌<◌, ◌≢◌, length, length-map, get_or-set_same, get_or-set_other, cases_eq, frame_by, PageRef, Slot, Span, Frame, no_frame, frame_at, unlocked, rec_by, StoreView, ref_of}
 use Rattle.std.specs.Prelude.{position}
 use Rattle.shm_frames.specs.Frame.{is_free}
-use Rattle.shm_clock.specs.Clock.{candidates, passed_by, unset_all}
+use Rattle.shm_clock.specs.Clock.{candidates, passed_by}
 use Rattle.shm_clock.proofs.Bits.{unset_all-at}
 use Rattle.shm_fault.proofs.Slots.{set-cases}
-use Rattle.shm_fault.specs.Placing.{Places, bare, places, takes, keeps_or_takes, slotted_for, slotted, with_bit, after_page_out, victim_in, after_turn, vacated_for, vacated, after_clean, after_eviction, after_room, frame_for, settled, referenced, visited_in, after_visit, after_access, StopsAtWrite, StopsAtRead, StopsAt, Stops, free_slot, NoneDirtied, AreDirtied}
+use Rattle.shm_fault.specs.Placing.{Places, bare, places, takes, keeps_or_takes, slotted_for, slotted, with_bit, after_page_out, victim_in, after_turn, vacated_for, vacated, after_clean, after_eviction, after_room, frame_for, settled, referenced, visited_in, after_visit, after_access, StopsAtWrite, StopsAt, Stops, free_slot, NoneDirtied, AreDirtied}
 use Rattle.shm_fault.proofs.Placed.{bare-at}
 
 -- a frame that is set to one that is clean, or was dirty
