@@ -329,6 +329,49 @@ static void test_flushes(nog_machine *m) {
     TEST(t.dirty == 0 && t.used == 3 && t.outs == 3 && t.failures == 1);
 }
 
+/* ---- failing calls ---- */
+
+/* stores in three pages over two frames, so that the first goes out; then loads the first two, each of which comes in: what
+   the third store and both loads answered, and a byte that was loaded is the one that was stored */
+static void test_paging(nog_machine *m, const nog_area *area, const nog_failure *failures, size_t count, const uint32_t codes[3]) {
+    static const nog_limits two_frames = {65536, 1, 3, 2, 0};
+    uint64_t at = 0;
+    int32_t id = -1;
+    ANSWER(nog_open(m, &two_frames, area, 1, failures, count, processes, 3), NOG_DONE);
+    ANSWER(nog_get(m, USER, NOG_PRIVATE, 3 * PAGE, 0600, 0, &id), NOG_DONE);
+    ANSWER(nog_attach(m, USER, id, 0, 0, &at), NOG_DONE);
+    for (uint64_t i = 0; i < 3; i++)
+        ANSWER(nog_store(m, USER, at + i * PAGE, (const uint8_t *)"abc" + i, 1), i < 2 ? (uint32_t)NOG_DONE : codes[0]);
+    for (uint64_t i = 0; i < 2; i++) {
+        uint8_t byte = 0;
+        ANSWER(nog_load(m, USER, at + i * PAGE, &byte, 1), codes[1 + i]);
+        TEST(byte == (codes[1 + i] == NOG_DONE ? "ab"[i] : 0));
+    }
+}
+
+/* a mirror fails where both sides do: each side in its own calls, reads apart from writes */
+static void test_mirror(nog_machine *m) {
+    static const nog_area mirror = {NOG_MIRROR, 3};
+    static const struct { nog_failure failures[2]; uint32_t codes[3]; } table[] = {
+        {{{.side = 0, .call = 1}, {.side = 1, .call = 2}}, {NOG_DONE, NOG_DONE, NOG_DONE}},
+        {{{.side = 0, .call = 1}, {.side = 1, .call = 1}}, {NOG_DONE, NOG_SIGBUS, NOG_DONE}},
+        {{{.side = 0, .call = 2}, {.side = 1, .call = 1}}, {NOG_DONE, NOG_DONE, NOG_SIGBUS}},
+        {{{.side = 0, .is_write = 1, .call = 1}, {.side = 1, .is_write = 1, .call = 1}}, {NOG_SIGBUS, NOG_DONE, NOG_DONE}},
+        {{{.side = 0, .is_write = 1, .call = 1}, {.side = 1, .call = 1}}, {NOG_DONE, NOG_SIGBUS, NOG_DONE}},
+        {{{.side = 0, .call = 1}, {.side = 1, .is_write = 1, .call = 1}}, {NOG_DONE, NOG_SIGBUS, NOG_DONE}} };
+    for (size_t i = 0; i < sizeof table / sizeof *table; i++) test_paging(m, &mirror, table[i].failures, 2, table[i].codes);
+}
+
+/* any number of failures may be listed, and each counts */
+static void test_many_failures(nog_machine *m) {
+    static const nog_area areas[] = {{NOG_RAM, 3}, {NOG_SPARSE, 3}};
+    static const uint32_t codes[] = {NOG_DONE, NOG_SIGBUS, NOG_DONE};
+    nog_failure many[40];
+    for (uint64_t i = 0; i < 40; i++) many[i] = (nog_failure){.is_write = 1, .call = 1000 + i};
+    many[39] = (nog_failure){.call = 1};
+    for (size_t i = 0; i < 2; i++) test_paging(m, &areas[i], many, 40, codes);
+}
+
 static void test_table(nog_machine *m) {
     nog_segment s;
     uint32_t indexes = 9;
@@ -410,6 +453,8 @@ int main(void) {
     test_out_of_range(&machine);
     test_long_accesses(&machine);
     test_flushes(&machine);
+    test_mirror(&machine);
+    test_many_failures(&machine);
     test_table(&machine);
     ANSWER(nog_close(&machine), NOG_DONE);
     test_closed(&machine);

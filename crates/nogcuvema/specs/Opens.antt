@@ -6,8 +6,8 @@ use Rattle.shm_base.specs.declared.limits.BadLimits.{BadLimits}
 use Rattle.shm_base.specs.declared.call.Process.{Process}
 use Rattle.shm_life.specs.Start.{start_error, error_number}
 use Rattle.shm_life.specs.declared.start.StartError.{StartError}
-use Rattle.shm_machine.specs.declared.area.AreaKind.{AreaKind}
-use Rattle.shm_machine.specs.declared.area.AreaKind.TheVariants.{Ram, Sparse, Mirror}
+use Rattle.shm_pager.specs.declared.area.AreaKind.{AreaKind}
+use Rattle.shm_pager.specs.declared.area.AreaKind.TheVariants.{Ram, Sparse, Mirror}
 use Rattle.shm_machine.specs.declared.machine.Machine.{Machine}
 use Rattle.shm_machine.specs.declared.opening.AreaConfig.{AreaConfig}
 use Rattle.shm_machine.specs.declared.opening.Failure.{Failure}

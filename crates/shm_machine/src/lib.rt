@@ -11,4 +11,5 @@ mod stretch;
 pub use machine::Machine;
 pub use opening::{AreaConfig, Failure, Side};
 pub use refusal::Refusal;
+pub use shm_pager::AreaKind;
 pub use stretch::Progress;

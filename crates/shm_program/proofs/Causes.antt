@@ -10,6 +10,7 @@ use Rattle.shm_text.specs.declared.fault.ReadRefused.{ReadRefused}
 use Rattle.shm_text.specs.declared.fault.ReadRefused.TheVariants as refused
 use Rattle.shm_text.proofs.ItemSteps.{same_fault}
 use Rattle.shm_life.specs.declared.start.StartError.{StartError}
+use Rattle.shm_program.specs.Ends.{is_reading}
 use Rattle.shm_program.specs.Faults.{refused_as}
 use Rattle.shm_program.specs.Runs.{IsCause, IsCauseIn, IsSilent, IsStop, is_serial}
 use Rattle.shm_program.specs.declared.fault.RunFault.{RunFault}
@@ -54,6 +55,25 @@ stop_cause ThreadRefused areas script stop = absurd stop
 no_cause : (fault : RunFault) (areas : List ℕ) (script : ScriptView) → (fault ≡ HostMemory) ⊎ (fault ≡ WriteFailed) → IsCauseIn fault areas script
 no_cause fault areas script (inl e) = λ input read. subst (λ f. IsCause f areas input) (sym e) tt
 no_cause fault areas script (inr e) = λ input read. subst (λ f. IsCause f areas input) (sym e) tt
+
+-- input that was not read says nothing of itself
+pub unread_cause : (fault : RunFault) (input : Option (List ℕ)) → (fault ≡ HostMemory) ⊎ (fault ≡ ReadFailed) → IfSome input (λ bytes. (areas : List ℕ) → IsCause fault areas bytes)
+unread_cause fault None e = tt
+unread_cause fault (Some input) (inl e) = λ areas. subst (λ f. IsCause f areas input) (sym e) tt
+unread_cause fault (Some input) (inr e) = λ areas. subst (λ f. IsCause f areas input) (sym e) tt
+
+pub unread_serial : (fault : RunFault) → (fault ≡ HostMemory) ⊎ (fault ≡ ReadFailed) → is_serial fault ≡ true
+unread_serial fault (inl e) = ap is_serial e
+unread_serial fault (inr e) = ap is_serial e
+
+-- reading ends in three ways without a script
+pub unread_reading : (fault : RunFault) → (fault ≡ HostMemory) ⊎ (fault ≡ ReadFailed) → is_reading fault ≡ true
+unread_reading fault (inl e) = ap is_reading e
+unread_reading fault (inr e) = ap is_reading e
+
+pub refused_reading : (refusal : ReadRefused) → is_reading (refused_as refusal) ≡ true
+refused_reading refused.HostMemory = refl
+refused_reading (refused.Fault fault) = refl
 
 -- without threads no fault is one of theirs
 pub refused_serial : (refusal : ReadRefused) → is_serial (refused_as refusal) ≡ true

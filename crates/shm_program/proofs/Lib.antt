@@ -1,3 +1,4 @@
 pub mod Holders
 pub mod Causes
 pub mod Texts
+pub mod Zipped

@@ -2,3 +2,5 @@ pub mod Values
 pub mod Runs
 pub mod Options
 pub mod Faults
+pub mod Areas
+pub mod Ends

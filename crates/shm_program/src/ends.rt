@@ -1,14 +1,17 @@
 //! The whole input, which is a script, and the whole output.
-ghost use Rattle.std.specs.Prelude.{◌≡◌, ◌<◌, ◌≤◌, ◌+◌, ◌-◌, List, ℕ, Ok, true, length, OnOk, IfOk, IfErr, IfSome};
+ghost use Rattle.std.specs.Prelude.{◌≡◌, ◌⊎◌, ◌++◌, ◌<◌, ◌≤◌, ◌+◌, ◌-◌, List, ℕ, Ok, true, length, OnOk, IfOk, IfErr, IfSome};
 ghost use Rattle.std.specs.Io.KnownBytes.{Appends, Consumes, IsAtEnd};
 ghost use Rattle.shm_text.specs.Reading.{script_of};
 ghost use Rattle.shm_program.specs.Runs.{IsCause, is_serial};
+ghost use Rattle.shm_program.specs.Ends.{is_asked_again, is_reading};
+ghost use Rattle.shm_program.specs.declared.fault.RunFault.TheVariants as faults;
 
 use crate::fault::{RunFault, refused};
 use shm_base::LONGEST_SCRIPT;
 use shm_text::{Script, read_script};
 use std::alloc::Global;
 use std::io::{ErrorKind, Read, Write};
+use thiserror::Error;
 
 /// How often a reader is asked at most, interruptions included.
 const ASKS: u32 = 2_097_152;
@@ -16,18 +19,28 @@ const ASKS: u32 = 2_097_152;
 // How many bytes are asked for at once.
 const BUFFER: usize = 4096;
 
-/// Why the input was not read: the host refused memory, or the reader failed or was asked too often.
-#[derive(Clone, Copy, Debug, PartialEq, Eq)]
-enum ReadFault {
-    Memory,
-    Failed,
+// Whether a reader that failed so is asked again: an interruption alone. A reader that does not wait answers
+// `WouldBlock` where it has nothing yet; that is a failure, since to ask it again at once would keep a processor busy.
+fn is_asked_again(kind: ErrorKind) -> bool
+    ensures { result ≡ is_asked_again kind }
+{
+    kind == ErrorKind::Interrupted
+}
+
+// Puts bytes behind those that were read.
+fn keep(input: &mut Vec<u8>, bytes: &[u8]) -> Result<(), RunFault>
+    ensures kept { OnOk result (input.new.items ≡ input.old.items ++ bytes.now) }
+    ensures err { IfErr result (λ f. f ≡ RunFault.HostMemory) }
+{
+    Ok(input.extend_from_slice(bytes)?)
 }
 
 /// Reads all there is, up to one byte more than the longest script.
-fn read_input<R: Read>(alloc: Global, reader: &mut R) -> Result<Vec<u8>, ReadFault>
+fn read_input<R: Read>(alloc: Global, reader: &mut R) -> Result<Vec<u8>, RunFault>
     ensures taken { IfOk result (λ v. Consumes (R.remaining reader.old) (R.remaining reader.new) v.items) }
     ensures whole { IfOk result (λ v. length v.items ≤ LONGEST_SCRIPT → IsAtEnd (R.remaining reader.new)) }
     ensures bound { IfOk result (λ v. length v.items ≤ LONGEST_SCRIPT + 1) }
+    ensures err { IfErr result (λ f. (f ≡ RunFault.HostMemory) ⊎ (f ≡ RunFault.ReadFailed)) }
 {
     let mut input = Vec::new(alloc);
     let mut buffer = [0u8; BUFFER];
@@ -36,34 +49,33 @@ fn read_input<R: Read>(alloc: Global, reader: &mut R) -> Result<Vec<u8>, ReadFau
         match reader.read(&mut buffer[..room]) {
             Ok(0) => return Ok(input),
             Ok(count) => {
-                if input.extend_from_slice(&buffer[..count]).is_err() {
-                    return Err(ReadFault::Memory);
-                }
+                keep(&mut input, &buffer[..count])?;
                 if input.len() == LONGEST_SCRIPT + 1 {
                     return Ok(input);
                 }
             }
             Err(error) => {
-                if error.kind() != ErrorKind::Interrupted {
-                    return Err(ReadFault::Failed);
+                if !is_asked_again(error.kind()) {
+                    return Err(RunFault::ReadFailed);
                 }
             }
         }
     }
-    Err(ReadFault::Failed)
+    Err(RunFault::ReadFailed)
 }
 
-/// The script that the whole input is.
+/// The script that the whole input is. It fails by the script's first fault, or where the reader failed or the host
+/// refused memory.
 pub fn whole_script<R: Read>(alloc: Global, reader: &mut R) -> Result<Script, RunFault>
     ensures read { IfOk result (λ script. IfSome (R.remaining reader.old) (λ input. script_of input ≡ Ok script)) }
     ensures whole { OnOk result (IsAtEnd (R.remaining reader.new)) }
     ensures cause { IfErr result (λ f. IfSome (R.remaining reader.old) (λ input. (areas : List ℕ) → IsCause f areas input)) }
     ensures serial { IfErr result (λ f. is_serial f ≡ true) }
+    ensures which { IfErr result (λ f. is_reading f ≡ true) }
 {
     let input = match read_input(alloc, reader) {
         Ok(input) => input,
-        Err(ReadFault::Memory) => return Err(RunFault::HostMemory),
-        Err(ReadFault::Failed) => return Err(RunFault::ReadFailed),
+        Err(fault) => return Err(fault),
     };
     match read_script(alloc, &input) {
         Ok(script) => Ok(script),
@@ -72,8 +84,17 @@ pub fn whole_script<R: Read>(alloc: Global, reader: &mut R) -> Result<Script, Ru
 }
 
 /// The writer took less than all.
-#[derive(Clone, Copy, Debug, PartialEq, Eq)]
+#[derive(Clone, Copy, Debug, PartialEq, Eq, Error)]
+#[error("write failed")]
 pub struct WriteFault;
+
+impl From<WriteFault> for RunFault {
+    ghost from_gives = { λ _ r. r ≡ faults.WriteFailed };
+
+    fn from(_e: WriteFault) -> RunFault {
+        RunFault::WriteFailed
+    }
+}
 
 /// Writes the bytes, each once. Any fault of the writer ends it, an interruption and a write of no byte
 /// too.

@@ -1,10 +1,13 @@
 //! Why a run ends without its whole output, and how the program says so.
 ghost use Rattle.std.specs.Prelude.{◌≡◌};
 ghost use Rattle.shm_program.specs.Faults.{refused_as, stopped_as};
+ghost use Rattle.shm_program.specs.declared.fault.RunFault.TheVariants as faults;
 
+use shm_base::HostMemory;
 use shm_history::StartError;
 use shm_text::{ReadRefused, ScriptFault};
-use std::fmt;
+use std::alloc::AllocError;
+use std::{error, fmt};
 
 /// Why a run ended without its whole output. `Script`: the input is no script, by its first fault.
 /// `StartRefused`: the first start error that holds, by its number. `ReadFailed`: the reader failed, or was
@@ -64,6 +67,25 @@ impl fmt::Display for RunFault {
             RunFault::ThreadRefused => f.write_str("thread refused"),
             RunFault::HostMemory => f.write_str("out of memory"),
         }
+    }
+}
+
+impl error::Error for RunFault {}
+
+// Where the host refuses memory, a run is out of memory, whatever it was doing.
+impl From<AllocError> for RunFault {
+    ghost from_gives = { λ _ r. r ≡ faults.HostMemory };
+
+    fn from(_e: AllocError) -> RunFault {
+        RunFault::HostMemory
+    }
+}
+
+impl From<HostMemory> for RunFault {
+    ghost from_gives = { λ _ r. r ≡ faults.HostMemory };
+
+    fn from(_e: HostMemory) -> RunFault {
+        RunFault::HostMemory
     }
 }
 

@@ -2,12 +2,14 @@
 //! that it opens, the variables of its processes, the output, and the faults with their texts and statuses.
 #![tactic(auto)]
 
+mod areas;
 mod ends;
 mod fault;
 mod opening;
 mod options;
 mod values;
 
+pub use areas::areas_of;
 pub use ends::{WriteFault, whole_script, write_output};
 pub use fault::RunFault;
 pub use opening::open_world;

@@ -1,10 +1,13 @@
 -- Why the program stops: its text, its exit status, and what that says of its input.
 use Rattle.std.specs.Prelude.{ℕ, ◌≡◌, ◌<◌, true, List, ◌++◌, codes, length, Option, None, Ok}
 use Rattle.std.specs.Fmt.{decimal}
+use Rattle.std.specs.declared.io.ErrorKind.{ErrorKind}
+use Rattle.std.specs.declared.io.ErrorKind.TheVariants.{OutOfMemory}
 use Rattle.shm_text.specs.Script.{ScriptView}
 use Rattle.shm_text.specs.Reading.{script_of}
 use Rattle.shm_program.specs.Faults.{fault_text, exit_status}
 use Rattle.shm_program.specs.Runs.{IsCause, IsSilent, is_serial}
+use Rattle.shm_program.specs.declared.fault.RunFault.TheVariants.{HostMemory}
 use Rattle.std.specs.Io.KnownBytes.{Keeps}
 use Rattle.shmview.specs.declared.steps.Steps.{Steps}
 use Rattle.shmview.specs.declared.stop.Stop.{Stop}
@@ -19,6 +22,11 @@ abbrev pub stop_status : Stop → ℕ
 stop_status Usage = 2
 stop_status (TooLong steps) = 2
 stop_status (Fault fault) = exit_status fault
+
+-- words that were not read: the host refused memory, or a word is no text
+abbrev pub io_stop : ErrorKind → Stop
+io_stop OutOfMemory = Fault HostMemory
+io_stop _ = Usage
 
 -- the script has so many lines, more than 2,000, and no steps were asked for
 pub record IsTooLong (asked : Option Steps) (script : ScriptView) (n : ℕ) : Type 0 where

@@ -5,21 +5,20 @@ mod command;
 mod lines;
 mod steps;
 mod stop;
-mod swap;
 mod view;
 
 use command::read_command;
+use shm_program::areas_of;
 use std::io;
 use std::process::ExitCode;
 use std::rt::Env;
 use stop::Stop;
-use swap::areas;
 use view::view;
 
 fn run<R: Env + Input + Print + AllocGlobal>(rt: &R) -> Result<(), Stop> {
     let alloc = rt.alloc();
     let (steps, words) = read_command(rt, alloc)?;
-    let pagers = areas(alloc, &words)?;
+    let pagers = areas_of(alloc, &words)?;
     let (mut reader, mut writer) = (rt.reader(), io::writer(rt));
     view(alloc, &mut reader, &mut writer, pagers, steps)
 }

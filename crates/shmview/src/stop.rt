@@ -1,6 +1,9 @@
 //! Why the program stops.
 ghost use Rattle.std.specs.Prelude.{◌≡◌, Some};
-ghost use Rattle.shmview.specs.Stop.{stop_text, stop_status};
+ghost use Rattle.std.specs.IoError.{error_kind};
+ghost use Rattle.shm_program.specs.declared.fault.RunFault.TheVariants as faults;
+ghost use Rattle.shmview.specs.declared.stop.Stop.TheVariants as stops;
+ghost use Rattle.shmview.specs.Stop.{stop_text, stop_status, io_stop};
 
 use shm_base::HostMemory;
 use shm_program::RunFault;
@@ -44,18 +47,24 @@ impl fmt::Display for Stop {
 }
 
 impl From<AllocError> for Stop {
+    ghost from_gives = { λ _ r. r ≡ stops.Fault faults.HostMemory };
+
     fn from(_e: AllocError) -> Stop {
         Stop::Fault(RunFault::HostMemory)
     }
 }
 
 impl<T: Drop> From<AllocFailed<T>> for Stop {
+    ghost from_gives = { λ _ r. r ≡ stops.Fault faults.HostMemory };
+
     fn from(_e: AllocFailed<T>) -> Stop {
         Stop::Fault(RunFault::HostMemory)
     }
 }
 
 impl From<HostMemory> for Stop {
+    ghost from_gives = { λ _ r. r ≡ stops.Fault faults.HostMemory };
+
     fn from(_e: HostMemory) -> Stop {
         Stop::Fault(RunFault::HostMemory)
     }
@@ -63,6 +72,8 @@ impl From<HostMemory> for Stop {
 
 // A word that is no text is a usage fault.
 impl From<io::Error> for Stop {
+    ghost from_gives = { λ e r. r ≡ io_stop (error_kind e) };
+
     fn from(e: io::Error) -> Stop {
         match e.kind() {
             io::ErrorKind::OutOfMemory => Stop::Fault(RunFault::HostMemory),

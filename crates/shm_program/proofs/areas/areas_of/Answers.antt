@@ -1,0 +1,9 @@
+use Rattle.std.proofs.Common.{arith}
+use Rattle.shm_program.specs.Areas.{IsAreaOf}
+use Rattle.shm_program.proofs.Zipped.{zipped-more}
+use Rattle.shm_program.proofs.areas.areas_of.Goals as goal
+
+pub loop-swap-preserved : goal.loop-swap-preserved
+loop-swap-preserved c =
+    let at = c.loop-swap in
+    rw c.in_ok-push.ensures.items (zipped-more IsAreaOf c.args.swaps.now at.pagers.items at.swap-index _ _ (omega arith) at.invariant c.in_ok-area_of.ensures)
