@@ -111,9 +111,7 @@ impl<P: Pager> Kernel<P> {
                 }
                 Err(errno) => Err(errno),
             },
-            Call::Set { id, uid, gid, mode } => {
-                self.set(time, caller, *id, *uid, *gid, *mode)
-            }
+            Call::Set { id, uid, gid, mode } => { self.set(time, caller, *id, *uid, *gid, *mode) }
             Call::Rmid { id } => self.rmid(caller, *id),
             Call::Lock { id } => self.lock(caller, *id),
             Call::Unlock { id } => self.unlock(caller, *id),

@@ -10,7 +10,10 @@ const CALLS: usize = 70_000;
 fn a_history_grows_with_its_calls(rt: HostRuntime) -> Result<(), Fail> {
     let mut world = world(rt.alloc(), 65536)?;
     for at in 0..CALLS {
-        assert!(rt; world.call(1, &Call::Exec).ok() == Some(Reply::Done), "at call {at}");
+        assert!(rt;
+            world.call(1, &Call::Exec).ok() == Some(Reply::Done),
+            "at call {at}"
+        );
     }
     assert_eq!(rt; world.history().len(), CALLS);
     Ok(())

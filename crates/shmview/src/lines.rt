@@ -11,8 +11,8 @@ use shm_history::World;
 use shm_laws::lawful;
 use shm_pager::Pager;
 use shm_program::Values;
-use shm_text::{Line, Script};
 use shm_report::{Action, push_step};
+use shm_text::{Line, Script};
 use std::alloc::Global;
 
 // Runs a line with the variables of its process.
