@@ -7,8 +7,8 @@ use Rattle.shm_program.specs.Runs.{handed_in}
 use Rattle.shm_program.proofs.Causes.{stop_cause, silent_kept}
 use Rattle.shm_runner.proofs.threaded.run_script.Goals as goal
 
-pub requires-run_in-untouched : goal.requires-run_in-untouched
-requires-run_in-untouched g c =
+pub run_in-requires-clause-untouched : goal.run_in-requires-clause-untouched
+run_in-requires-clause-untouched g c = λ _ _.
     let swap = ap (λ (m : StoreView). m.swap) c.in-Ok.ensures.memory in
     subst AreUntouched (sym swap) (untouched_new (pager_seen g.P.Pager.content g.P.Pager.failed) c.args.pagers.items)
 
