@@ -1,16 +1,16 @@
 //! The command line, and why the program stops.
 ghost use Rattle.std.specs.Prelude.{◌≡◌, Some};
 ghost use Rattle.std.specs.IoError.{error_kind};
-ghost use Rattle.shm_program.specs.declared.fault.RunFault.TheVariants.{HostMemory};
-ghost use Rattle.shmsim.specs.Stop.{stop_text, stop_status, io_stop};
-ghost use Rattle.shmsim.specs.declared.command.Stop.TheVariants.{Fault};
+ghost use Rattle.clap.specs.Values.{kind_of};
+ghost use Rattle.shm_program.specs.declared.fault.RunFault.TheVariants as faults;
+ghost use Rattle.shmsim.specs.declared.command.Stop.TheVariants as stops;
+ghost use Rattle.shmsim.specs.Stop.{stop_text, stop_status, io_stop, clap_stop};
 
 use clap::error::ErrorKind;
 use clap::{Arg, ArgAction, ArgMatches, Command, Error};
-use shm_base::MOST_AREAS;
-use shm_pager::{MirrorRefused, Pager};
+use shm_base::{HostMemory, MOST_AREAS};
 use shm_program::{RunFault, SwapWord, read_swaps};
-use std::alloc::{AllocError, AllocFailed, Global};
+use std::alloc::{AllocError, Global};
 use std::rt::Env;
 use std::{env, fmt, io};
 
@@ -45,26 +45,17 @@ impl fmt::Display for Stop {
 }
 
 impl From<AllocError> for Stop {
-    ghost from_gives = { λ _ r. r ≡ Fault HostMemory };
+    ghost from_gives = { λ _ r. r ≡ stops.Fault faults.HostMemory };
 
     fn from(_e: AllocError) -> Stop {
         Stop::Fault(RunFault::HostMemory)
     }
 }
 
-impl<T: Drop> From<AllocFailed<T>> for Stop {
-    ghost from_gives = { λ _ r. r ≡ Fault HostMemory };
+impl From<HostMemory> for Stop {
+    ghost from_gives = { λ _ r. r ≡ stops.Fault faults.HostMemory };
 
-    fn from(_e: AllocFailed<T>) -> Stop {
-        Stop::Fault(RunFault::HostMemory)
-    }
-}
-
-// The two sides have one size, so memory is out.
-impl<L: Pager, R: Pager> From<MirrorRefused<L, R>> for Stop {
-    ghost from_gives = { λ _ r. r ≡ Fault HostMemory };
-
-    fn from(_e: MirrorRefused<L, R>) -> Stop {
+    fn from(_e: HostMemory) -> Stop {
         Stop::Fault(RunFault::HostMemory)
     }
 }
@@ -81,7 +72,10 @@ impl From<io::Error> for Stop {
     }
 }
 
+// Words that `clap` refuses are a usage fault.
 impl From<Error> for Stop {
+    ghost from_gives = { λ e r. r ≡ clap_stop (kind_of e) };
+
     fn from(e: Error) -> Stop {
         match e.kind() {
             ErrorKind::OutOfMemory => Stop::Fault(RunFault::HostMemory),
