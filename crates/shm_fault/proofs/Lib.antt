@@ -1,3 +1,7 @@
+pub mod Kept
+pub mod Found
+pub mod Pasted
+pub mod Written
 pub mod Names
 pub mod Entries
 pub mod Pages

@@ -18,8 +18,8 @@ pub use Rattle.shm_clock.proofs.Eligible.{page_may_go, two_eligible}
 pub use Rattle.shm_clock.specs.Clock.{IsClockVictim, is_pinned, may_go, next, owner_passes}
 pub use Rattle.shm_frames.specs.Frame.{Frame, IsFrameBlank, OwnedBelow, dirty_of, frame_at, is_dirty, is_owned, no_frame, resident_of}
 pub use Rattle.shm_pager.specs.Pages.{last_count, next_count}
-pub use Rattle.shm_plain.proofs.Pasted.{length-paste}
-pub use Rattle.shm_plain.specs.Held.{FitsPage, Held, bytes_of, find_held, is_held, holds_locked, pages_in_store, pages_if_locked, held_pages, locked_pages_in_store, paste, pasted, span_bytes, with_lock, with_zeros, without}
+pub use Rattle.shm_fault.proofs.Pasted.{length-paste}
+pub use Rattle.shm_fault.specs.Held.{FitsPage, Held, bytes_of, find_held, is_held, holds_locked, pages_in_store, pages_if_locked, held_pages, locked_pages_in_store, paste, pasted, span_bytes, with_lock, with_zeros, without}
 pub use Rattle.shm_slots.proofs.Causes.{rises-le, total-le}
 pub use Rattle.shm_slots.specs.Cause.{GoesOn, IsSteady, had_cause, some_spent, total}
 pub use Rattle.shm_slots.specs.Owners.{used_count}

@@ -2,7 +2,7 @@
 use Rattle.std.specs.Prelude.{ℕ, ◌+◌, ◌%◌, ◌^◌, List}
 use Rattle.std.specs.Int.{w64, from_le_bytes, to_le_bytes}
 use Rattle.shm_base.specs.declared.paging.Span.{Span}
-use Rattle.shm_plain.specs.Held.{Held, read_from, written}
+use Rattle.shm_fault.specs.Held.{Held, read_from, written}
 
 -- the number in the bytes of the spans
 abbrev pub number_in : List Held → List Span → ℕ

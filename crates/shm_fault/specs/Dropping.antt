@@ -2,7 +2,7 @@
 use Rattle.std.specs.Prelude.{ℕ, ◌≡◌, ◌<◌, List, Option, Some, None, length, set, MatchOption}
 use Rattle.shm_base.specs.declared.paging.PageRef.{PageRef}
 use Rattle.shm_base.specs.declared.paging.Slot.{Slot}
-use Rattle.shm_plain.specs.Held.{without}
+use Rattle.shm_fault.specs.Held.{without}
 use Rattle.shm_slots.specs.View.{SwapView, HasSlot, owner_of, page_in, without_slot}
 use Rattle.shm_slots.specs.Cause.{IsSteady}
 use Rattle.shm_frames.specs.Frame.{Frame, no_frame, frame_at}

@@ -3,7 +3,7 @@ use Rattle.std.specs.Prelude.{ℕ, ◌≡◌, ◌+◌, Bool, false, not, ◌&&�
 use Rattle.std.specs.List.{range_with_len}
 use Rattle.shm_base.specs.declared.paging.PageRef.{PageRef}
 use Rattle.shm_base.specs.declared.paging.FlushReport.{FlushReport}
-use Rattle.shm_plain.specs.Held.{holds_locked}
+use Rattle.shm_fault.specs.Held.{holds_locked}
 use Rattle.shm_slots.specs.Cause.{total, some_spent}
 use Rattle.shm_frames.specs.Frame.{frame_at}
 use Rattle.shm_clock.specs.Clock.{owner_passes}

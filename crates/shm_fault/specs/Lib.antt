@@ -1,3 +1,6 @@
+pub mod Held
+pub mod Apart
+pub mod Allowed
 pub mod Segs
 pub mod Entries
 pub mod Store

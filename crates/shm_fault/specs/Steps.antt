@@ -1,6 +1,6 @@
 -- What a call leaves of the residency and of the swap.
 use Rattle.std.specs.Prelude.{ℕ, ◌≡◌, true, if◌then◌else◌, List, [], ◌∷◌, Option, Some, None, is_some}
-use Rattle.shm_plain.specs.Held.{holds_locked}
+use Rattle.shm_fault.specs.Held.{holds_locked}
 use Rattle.shm_fault.specs.declared.touched.PageMove.{PageMove}
 use Rattle.shm_fault.specs.declared.touched.PageMove.TheVariants.{Gone, Came}
 pub use Rattle.shm_fault.specs.Store.{is_page}

@@ -4,8 +4,8 @@
 //! comes in is clean; a write makes the frames of its pages dirty, whatever bytes it puts there.
 ghost use Rattle.std.specs.Prelude.{◌≡◌, ℕ, ◌+◌, ◌<◌, ◌≤◌, [], ◌∷◌, length, map, set, true, Some, is_ok, IfOk, OnOk, OnErr, All};
 ghost use Rattle.shm_base.specs.declared.paging.Span.{Span as SpanValue};
-ghost use Rattle.shm_plain.specs.Held.{FitsPage, read_from, written, pasted, paste, span_bytes};
-ghost use Rattle.shm_plain.specs.Access.{IsAccess};
+ghost use Rattle.shm_fault.specs.Held.{FitsPage, read_from, written, pasted, paste, span_bytes};
+ghost use Rattle.shm_fault.specs.Allowed.{IsAccess};
 ghost use Rattle.shm_frames.specs.Frame.{frame_at};
 ghost use Rattle.shm_fault.specs.Segs.{HasPage};
 ghost use Rattle.shm_fault.specs.Store.{held, ref_of};

@@ -1,7 +1,7 @@
 //! Segments that go, with their frames and slots.
 ghost use Rattle.std.specs.Prelude.{◌≡◌, ◌≢◌, ℕ, true, length};
 ghost use Rattle.shm_base.specs.declared.paging.Slot.{Slot as SlotValue};
-ghost use Rattle.shm_plain.specs.Held.{is_held, without};
+ghost use Rattle.shm_fault.specs.Held.{is_held, without};
 ghost use Rattle.shm_slots.specs.View.{owner_of, sizes, IsSwap};
 ghost use Rattle.shm_slots.specs.Cause.{GoesOn, IsSteady, total};
 ghost use Rattle.shm_frames.specs.Frame.{frame_at};

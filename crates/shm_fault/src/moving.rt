@@ -1,6 +1,6 @@
 //! Swap areas that go, whose pages move to the other areas.
 ghost use Rattle.std.specs.Prelude.{◌≡◌, ◌+◌, ◌<◌, ◌≤◌, true, [], length, set, Some, None, IfOk, IfErr, OnOk, OnErr};
-ghost use Rattle.shm_plain.specs.Held.{pages_in_store};
+ghost use Rattle.shm_fault.specs.Held.{pages_in_store};
 ghost use Rattle.shm_slots.specs.View.{HasSlot, IsSwap, area_at, page_in, sizes, swap_slots, used_in, used_slots};
 ghost use Rattle.shm_slots.specs.Cause.{GoesOn, had_cause};
 ghost use Rattle.shm_fault.specs.Segs.{rec_by};

@@ -1,6 +1,6 @@
 //! The store, made and looked at.
 ghost use Rattle.std.specs.Prelude.{◌≡◌, ℕ, [], ◌∷◌, ◌++◌, ◌+◌, ◌-◌, ◌≤◌, ◌^◌, true, false, length, map, min, None, IfOk, OnOk, OnErr};
-ghost use Rattle.shm_plain.specs.Held.{is_held, pages_in_store, locked_pages_in_store, with_zeros, with_lock};
+ghost use Rattle.shm_fault.specs.Held.{is_held, pages_in_store, locked_pages_in_store, with_zeros, with_lock};
 ghost use Rattle.shm_slots.specs.View.{swap_slots, owner_of, AreCountsOf};
 ghost use Rattle.shm_slots.specs.Cause.{total};
 ghost use Rattle.shm_frames.specs.Frame.{IsFrameBlank};

@@ -10,4 +10,5 @@ pub mod Permission
 pub mod Writing
 pub mod Isolation
 pub mod Lawful
+pub mod Worlds
 pub mod Worked

@@ -48,10 +48,10 @@ pub use Rattle.shm_fault.specs.declared.touched.PageMove.{PageMove}
 pub use Rattle.shm_fault.specs.declared.touched.Touched.{Touched}
 pub use Rattle.shm_ids.proofs.Flat.{change-index}
 pub use Rattle.shm_pager.specs.Pages.{pager_seen}
-pub use Rattle.shm_plain.proofs.Found.{find-without_other}
-pub use Rattle.shm_plain.specs.Access.{IsAccess}
-pub use Rattle.shm_plain.specs.Apart.{AreHeldApart}
-pub use Rattle.shm_plain.specs.Held.{Held, find_held, is_held, without}
+pub use Rattle.shm_fault.proofs.Found.{find-without_other}
+pub use Rattle.shm_fault.specs.Allowed.{IsAccess}
+pub use Rattle.shm_fault.specs.Apart.{AreHeldApart}
+pub use Rattle.shm_fault.specs.Held.{Held, find_held, is_held, without}
 pub use Rattle.shm_segments.proofs.Entries.{get-set_other, get-set_same, length-slice_set, sum-set}
 pub use Rattle.shm_segments.proofs.Finding.{live-found}
 pub use Rattle.shm_segments.proofs.Held.{sum-without}

@@ -3,7 +3,7 @@ use Rattle.shm_life.proofs.Names.{◌≡◌, ◌≢◌, ℕ, zero, suc, ◌+◌,
 use Rattle.std.proofs.Common.{map, slice_get, slice_set, Option}
 use Rattle.std.specs.Prelude.{is_some}
 use Rattle.shm_slots.specs.View.{swap_slots}
-use Rattle.shm_plain.specs.Held.{held_pages, pages_in_store}
+use Rattle.shm_fault.specs.Held.{held_pages, pages_in_store}
 use Rattle.shm_fault.specs.Segs as segs
 use Rattle.shm_fault.specs.Store.{held}
 

@@ -3,7 +3,7 @@ use Rattle.shm_life.proofs.Names.{◌≡◌, ◌<◌, ◌+◌, ℕ, Bool, true, 
 use Rattle.std.proofs.Common.{map, is_some, ap, true≢false}
 use Rattle.shm_fault.specs.Store.{held, Still}
 use Rattle.shm_fault.specs.Segs.{with_seg_lock}
-use Rattle.shm_plain.specs.Held.{holds_locked}
+use Rattle.shm_fault.specs.Held.{holds_locked}
 use Rattle.shm_segments.proofs.Remembered.{memory-refl}
 use Rattle.shm_base.specs.Step.{Outcome}
 use Rattle.shm_base.specs.History.{is_refusal}

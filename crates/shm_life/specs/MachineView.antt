@@ -10,7 +10,7 @@ use Rattle.shm_base.specs.State.{Machine}
 use Rattle.shm_base.specs.Step.{Outcome, acts}
 use Rattle.shm_base.specs.History.{is_failure, is_refusal}
 use Rattle.shm_base.specs.Segments as flat
-use Rattle.shm_plain.specs.Held.{holds_locked}
+use Rattle.shm_fault.specs.Held.{holds_locked}
 use Rattle.shm_slots.specs.View.{sizes, swap_slots}
 use Rattle.shm_slots.specs.Cause.{GoesOn, had_cause}
 use Rattle.shm_fault.specs.Store.{StoreView, held, used}

@@ -7,7 +7,7 @@ use Rattle.std.proofs.lemmas.List.{length-append, length-take-le, map-append, dr
 use Rattle.std.proofs.lemmas.Slice.{take-put_mid, drop-put_mid}
 use Rattle.shm_base.specs.declared.call.Call.{Call}
 use Rattle.shm_base.specs.declared.call.Reply.{Reply}
-use Rattle.shm_plain.proofs.Spans.{length-put_mid}
+use Rattle.shm_fault.proofs.Written.{length-put_mid}
 use Rattle.shm_life.specs.SystemState.{SystemState}
 use Rattle.shm_life.specs.SystemState.{Replied}
 use Rattle.shm_fault.specs.Steps.{LockedPagesStay}

@@ -5,12 +5,9 @@ use Rattle.shm_base.specs.State.{Opening}
 use Rattle.shm_pager.specs.Pages.{pager_seen}
 use Rattle.shm_slots.specs.View.{SwapView, fresh, new_swap}
 use Rattle.shm_fault.specs.Store.{StoreView, fresh_store}
-use Rattle.shm_base.specs.History.{IsHistory}
 use Rattle.shm_life.specs.declared.start.StartError.{StartError}
 use Rattle.shm_life.specs.Start.{start_error, error_number}
-use Rattle.shm_life.specs.MachineView.{IsExactly}
-use Rattle.shm_history.specs.WorldState.{WorldState, AreCounted}
-use Rattle.shm_laws.specs.Lawful.{IsLawful}
+use Rattle.shm_history.specs.WorldState.{WorldState}
 use Rattle.shm_text.specs.Script.{ScriptView}
 use Rattle.shm_text.specs.Reading.{script_of}
 use Rattle.shm_program.specs.declared.fault.RunFault.{RunFault}
@@ -18,14 +15,6 @@ use Rattle.shm_program.specs.declared.fault.RunFault.TheVariants.{Script, StartR
 
 abbrev pub opening_of : ScriptView → List ℕ → Opening
 opening_of script areas = record { limits = script.limits; areas = areas; processes = script.processes }
-
--- the history of a world is legal and keeps all laws, its memory shows the machine at its end exactly, and the failures
--- that it names were counted
-pub record IsWorldSound (w : WorldState) : Type 0 where
-  pub legal : IsHistory w.opening w.events w.machine
-  pub counted : AreCounted w.events w.memory.swap
-  pub exact : IsExactly w.machine w.memory
-  pub laws : IsLawful w.opening w.events w.machine
 
 -- a world as a script opens it: its start was not refused
 pub record IsOpening (script : ScriptView) (opening : Opening) : Type 0 where
@@ -40,11 +29,11 @@ handed_in content failed pagers = new_swap (map (λ p. fresh (pager_seen content
 abbrev pub IsFresh : SwapView → StoreView → Type 0
 IsFresh swap memory = memory ≡ fresh_store memory.frames swap
 
--- a world over these areas as a script opens it
-pub record IsWorldOf (script : ScriptView) (areas : List ℕ) (w : WorldState) : Type 0 where
+-- a world over these areas as a script opens it, of which this holds
+pub record IsWorldOf (Holds : WorldState → Type 0) (script : ScriptView) (areas : List ℕ) (w : WorldState) : Type 0 where
   pub opened : IsOpening script w.opening
   pub over : w.opening.areas ≡ areas
-  pub sound : IsWorldSound w
+  pub sound : Holds w
 
 -- such a text was written, and nothing else
 abbrev pub IsWritten : (List ℕ → Type 0) → Option (List ℕ) → Option (List ℕ) → Type 0

@@ -4,6 +4,8 @@
 #[cfg(test)]
 mod behind;
 #[cfg(test)]
+mod disagreements;
+#[cfg(test)]
 mod gates;
 #[cfg(test)]
 mod gauged;

@@ -18,6 +18,7 @@ use Rattle.shm_text.specs.declared.script.Line.TheVariants.{Command, Flush}
 use Rattle.shm_history.proofs.Clear.{clear_step, first_clear, rest_clear}
 use Rattle.shm_program.specs.Values.{HolderView, fresh_holder, values_of, with_answer}
 use Rattle.shm_program.specs.Runs.{IsWorldOf, opening_of}
+use Rattle.shm_laws.specs.Worlds.{IsWorldSound}
 use Rattle.shm_runner.specs.Output.{NeverFails, RunsInOrder, world_text}
 use Rattle.shm_runner.specs.Flat.{line_step, flat_events, flat_end, flat_text}
 
@@ -38,12 +39,12 @@ is_flat n s hs (Command c ∷ ls) (e ∷ es) t follows leads none =
     let rest = rw (state, reply) at more in
     ((λ i. first i ∷ rest.0 i), rest.1)
 
-no_failures : {script : ScriptView} {areas : List ℕ} (w : WorldState) → IsWorldOf script areas w → w.memory.swap.never_spent ≡ true → failures_in w.events ≤ total w.memory.swap
+no_failures : {script : ScriptView} {areas : List ℕ} (w : WorldState) → IsWorldOf IsWorldSound script areas w → w.memory.swap.never_spent ≡ true → failures_in w.events ≤ total w.memory.swap
 unfolding AreCounted
 no_failures w is unspent = is.sound.counted unspent
 
 -- what is printed of a world over which no pager failed
-pub flat_printed : (script : ScriptView) (areas : List ℕ) (w : WorldState) → IsWorldOf script areas w → RunsInOrder (map fresh_holder script.processes) script.lines w.events
+pub flat_printed : (script : ScriptView) (areas : List ℕ) (w : WorldState) → IsWorldOf IsWorldSound script areas w → RunsInOrder (map fresh_holder script.processes) script.lines w.events
     → w.memory.swap.never_spent ≡ true → total w.memory.swap ≡ 0 → world_text w ≡ flat_text script areas ++ usage_text (tally_of w)
 flat_printed script areas w is follows unspent clear =
     let none : failures_in w.events ≡ 0 = let few = no_failures w is unspent in omega (arith, few, clear) in
@@ -56,19 +57,19 @@ flat_printed script areas w is follows unspent clear =
     ∙ ap (λ (m : Machine). events_text 1 (flat_events 1 (start_of (opening_of script areas)) hs script.lines) ++ listing_of m ++ usage) flat.1
 
 -- over pagers that never fail no failure was counted, and no area was spent
-clear_counts : {P : Type 0} (failed : P → ℕ) {script : ScriptView} {areas : List ℕ} (w : WorldState) → IsWorldOf script areas w → AreCountsOf failed w.memory.swap → NeverFails failed
+clear_counts : {P : Type 0} (failed : P → ℕ) {script : ScriptView} {areas : List ℕ} (w : WorldState) → IsWorldOf IsWorldSound script areas w → AreCountsOf failed w.memory.swap → NeverFails failed
     → (w.memory.swap.never_spent ≡ true) × (total w.memory.swap ≡ 0)
 clear_counts failed w is counted never = unfailing failed w.memory.swap is.sound.exact.sound.swap counted never
 
 -- what is printed of a world over pagers that never fail
-pub flat_unfailing : {P : Type 0} (failed : P → ℕ) (script : ScriptView) (areas : List ℕ) (w : WorldState) → IsWorldOf script areas w → AreCountsOf failed w.memory.swap → RunsInOrder (map fresh_holder script.processes) script.lines w.events
+pub flat_unfailing : {P : Type 0} (failed : P → ℕ) (script : ScriptView) (areas : List ℕ) (w : WorldState) → IsWorldOf IsWorldSound script areas w → AreCountsOf failed w.memory.swap → RunsInOrder (map fresh_holder script.processes) script.lines w.events
     → NeverFails failed → world_text w ≡ flat_text script areas ++ usage_text (tally_of w)
 flat_unfailing failed script areas w is counted follows never =
     let clear = clear_counts failed w is counted never in
     flat_printed script areas w is follows clear.0 clear.1
 
 -- and its history names no failure
-pub none_unfailing : {P : Type 0} (failed : P → ℕ) (script : ScriptView) (areas : List ℕ) (w : WorldState) → IsWorldOf script areas w → AreCountsOf failed w.memory.swap → NeverFails failed → failures_in w.events ≡ 0
+pub none_unfailing : {P : Type 0} (failed : P → ℕ) (script : ScriptView) (areas : List ℕ) (w : WorldState) → IsWorldOf IsWorldSound script areas w → AreCountsOf failed w.memory.swap → NeverFails failed → failures_in w.events ≡ 0
 none_unfailing failed script areas w is counted never =
     let clear = clear_counts failed w is counted never in
     omega (arith, no_failures w is clear.0, clear.1)

@@ -8,19 +8,20 @@ use Rattle.shm_slots.proofs.Starts.{goes_on_from}
 use Rattle.shm_history.specs.WorldState.{WorldState}
 use Rattle.shm_text.specs.Script.{ScriptView}
 use Rattle.shm_text.specs.Reading.{script_of}
-use Rattle.shm_transcripts.specs.declared.transcript.Transcript.{Transcript}
+use Rattle.shm_threads.specs.declared.transcript.Transcript.{Transcript}
 use Rattle.shm_program.specs.Values.{fresh_holder}
-use Rattle.shm_program.specs.Runs.{IsWorldOf, IsWorldSound, IsWritten, Prints}
+use Rattle.shm_program.specs.Runs.{IsWorldOf, IsWritten, Prints}
+use Rattle.shm_laws.specs.Worlds.{IsWorldSound}
 use Rattle.shm_runner.specs.Output.{IsOutput, RunsInOrder, world_text}
 use Rattle.shm_runner.proofs.Flatness.{flat_printed, flat_unfailing, none_unfailing}
 use Rattle.shm_program.proofs.Texts.{shown}
-use Rattle.shm_transcripts.specs.Transcripts.{AreTranscripts}
+use Rattle.shm_threads.specs.Transcripts.{AreTranscripts}
 use Rattle.shm_runner.specs.Threaded.{IsThreadedOutput, IsAllOrNothing, have_mark}
 use Rattle.shm_program.specs.declared.fault.RunFault.{RunFault}
 
 -- what is known of a world that is printed, beside the order of its history
 pub record Known {P : Type 0} (failed : P → ℕ) (script : ScriptView) (areas : List ℕ) (w : WorldState) : Type 0 where
-  pub is_world : IsWorldOf script areas w
+  pub is_world : IsWorldOf IsWorldSound script areas w
   pub counted : AreCountsOf failed w.memory.swap
 
 pub serial_text : {P : Type 0} (failed : P → ℕ) (swap : SwapView) (result : Result (Unit {0}) RunFault) (script : ScriptView) (areas : List ℕ) (w : WorldState) (old new : Option (List ℕ))

@@ -13,6 +13,7 @@ use Rattle.shm_text.specs.declared.script.Line.{Line}
 use Rattle.shm_text.specs.declared.script.Line.TheVariants.{Command, Flush}
 use Rattle.shm_program.specs.Values.{HolderView, fresh_holder, values_of, with_answer}
 use Rattle.shm_program.specs.Runs.{IsWorldOf}
+use Rattle.shm_laws.specs.Worlds.{IsWorldSound}
 use Rattle.shm_runner.specs.Flat.{flat_text}
 
 -- the events are the calls of these lines in file order, each with the variables of its process
@@ -37,7 +38,7 @@ NeverFails {P = P} failed = (p : P) → failed p ≡ 0
 -- those of the flat machine, which the script and the areas' sizes determine; so they are over pagers that never fail
 pub record IsOutput {P : Type 0} (failed : P → ℕ) (swap : SwapView) (script : ScriptView) (areas : List ℕ) (text : List ℕ) : Type 0 where
   pub world : WorldState
-  pub is_world : IsWorldOf script areas world
+  pub is_world : IsWorldOf IsWorldSound script areas world
   pub began : GoesOn swap world.memory.swap
   pub counted : AreCountsOf failed world.memory.swap
   pub follows : RunsInOrder (map fresh_holder script.processes) script.lines world.events

@@ -6,12 +6,13 @@ use Rattle.shm_slots.specs.View.{SwapView, AreCountsOf}
 use Rattle.shm_slots.specs.Cause.{GoesOn}
 use Rattle.shm_history.specs.WorldState.{WorldState, failures_in}
 use Rattle.shm_text.specs.Script.{ScriptView}
-use Rattle.shm_transcripts.specs.Transcripts.{AreTranscripts}
-use Rattle.shm_transcripts.specs.declared.transcript.Answer.{Answer}
-use Rattle.shm_transcripts.specs.declared.transcript.Answer.TheVariants as answers
-use Rattle.shm_transcripts.specs.declared.transcript.Entry.{Entry}
-use Rattle.shm_transcripts.specs.declared.transcript.Transcript.{Transcript}
+use Rattle.shm_threads.specs.Transcripts.{AreTranscripts}
+use Rattle.shm_threads.specs.declared.transcript.Answer.{Answer}
+use Rattle.shm_threads.specs.declared.transcript.Answer.TheVariants as answers
+use Rattle.shm_threads.specs.declared.transcript.Entry.{Entry}
+use Rattle.shm_threads.specs.declared.transcript.Transcript.{Transcript}
 use Rattle.shm_program.specs.Runs.{IsWorldOf, IsSilent, IsCause, Prints}
+use Rattle.shm_laws.specs.Worlds.{IsWorldSound}
 use Rattle.shm_runner.specs.Output.{NeverFails, world_text}
 use Rattle.shm_program.specs.declared.fault.RunFault.{RunFault}
 use Rattle.shm_program.specs.declared.fault.RunFault.TheVariants.{HostMemory}
@@ -33,7 +34,7 @@ have_mark transcripts = list_any (λ (t : Transcript). has_mark t.entries.items)
 pub record IsThreadedOutput {P : Type 0} (failed : P → ℕ) (swap : SwapView) (marked : Bool) (script : ScriptView) (areas : List ℕ) (text : List ℕ) : Type 0 where
   pub world : WorldState
   pub transcripts : List Transcript
-  pub is_world : IsWorldOf script areas world
+  pub is_world : IsWorldOf IsWorldSound script areas world
   pub began : GoesOn swap world.memory.swap
   pub counted : AreCountsOf failed world.memory.swap
   pub unfailing : NeverFails failed → failures_in world.events ≡ 0

@@ -3,7 +3,8 @@
 ghost use Rattle.std.specs.Prelude.{◌≡◌, ◌⊎◌, true, false, length, map, OnOk, IfErr};
 ghost use Rattle.std.specs.Io.KnownBytes.{Appends};
 ghost use Rattle.shm_slots.specs.View.{AreCountsOf, AreUntouched};
-ghost use Rattle.shm_program.specs.Runs.{IsCauseIn, IsOpening, IsWorldSound, IsWritten, handed_in};
+ghost use Rattle.shm_program.specs.Runs.{IsCauseIn, IsOpening, IsWritten, handed_in};
+ghost use Rattle.shm_laws.specs.Worlds.{IsWorldSound};
 ghost use Rattle.shm_runner.specs.Output.{world_text};
 ghost use Rattle.shm_runner.specs.Threaded.{is_marked, has_mark, have_mark, IsThreadedOutput, IsThreadedRun, IsAllOrNothing};
 

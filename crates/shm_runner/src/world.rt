@@ -3,7 +3,8 @@ ghost use Rattle.std.specs.Prelude.{◌≡◌, ◌⊎◌, OnOk, IfErr, IfOk, str
 ghost use Rattle.std.specs.Io.KnownBytes.{Appends};
 ghost use Rattle.shm_print.specs.Text.{events_text};
 ghost use Rattle.shm_slots.specs.View.{AreCountsOf};
-ghost use Rattle.shm_program.specs.Runs.{IsSilent, IsWorldSound};
+ghost use Rattle.shm_program.specs.Runs.{IsSilent};
+ghost use Rattle.shm_laws.specs.Worlds.{IsWorldSound};
 ghost use Rattle.shm_runner.specs.Output.{world_text};
 
 use shm_base::Event;

@@ -1,6 +1,6 @@
 -- The pages of the segments that are held.
 use Rattle.shm_segments.proofs.Names.{◌≡◌, ◌≢◌, ℕ, ◌+◌, ◌*◌, ◌/◌, ◌≤◌, Bool, false, if◌then◌else◌, List, [], ◌∷◌, length, map, Some, refl, ◌∙◌, arith, ne_eqb, not, ◌==◌, none-some, common_steps, length-replicate, sum_by-cons, sum_by-append, sum_by, All, Span, AreHeldApart, Held, find_held, is_held, held_pages, pages_if_locked, with_zeros, without, with_lock, pasted, written, FitsPage, find_held-id, apart-pasted, sum_by-filter_both, nat_tests, replicate}
-use Rattle.shm_plain.specs.Held.{pages_in_store, locked_pages_in_store, lock_changed}
+use Rattle.shm_fault.specs.Held.{pages_in_store, locked_pages_in_store, lock_changed}
 use Rattle.shm_segments.proofs.Bytes.{each, written-keeps}
 
 -- ZEROS

@@ -6,7 +6,7 @@ use Rattle.shm_ids.specs.declared.table.Row.{Row}
 use Rattle.shm_ids.specs.Table.{identifier, entry_at}
 use Rattle.shm_ids.specs.Flat.{flat_table}
 use Rattle.shm_segments.specs.declared.head.Head.{Head}
-use Rattle.shm_plain.specs.Held.{Held, find_held, bytes_of}
+use Rattle.shm_fault.specs.Held.{Held, find_held, bytes_of}
 
 -- the segment of a row that has these bytes
 abbrev pub segment_of : Row Head → List ℕ → Segment

@@ -2,8 +2,8 @@
 use Rattle.std.specs.Prelude.{◌≡◌, ◌≤◌, ℕ, List, Some}
 use Rattle.shm_ids.specs.declared.table.Entry.{Entry}
 use Rattle.shm_ids.specs.declared.table.Row.{Row}
-use Rattle.shm_plain.specs.Apart.{AreHeldApart}
-use Rattle.shm_plain.specs.Held.{Held, pages_in_store, locked_pages_in_store}
+use Rattle.shm_fault.specs.Apart.{AreHeldApart}
+use Rattle.shm_fault.specs.Held.{Held, pages_in_store, locked_pages_in_store}
 use Rattle.shm_fault.specs.Store.{StoreView, held}
 use Rattle.shm_fault.specs.Sound.{IsStoreSound}
 use Rattle.shm_segments.specs.declared.head.Head.{Head}

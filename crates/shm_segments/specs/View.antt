@@ -1,7 +1,7 @@
 -- What contracts see of the segments: the flat machine's table, and the memory that its bytes lie in.
 use Rattle.std.specs.Prelude.{ℕ, ◌≡◌, true, List, option_map, length}
 use Rattle.shm_base.specs.State.{Segment, Entry}
-use Rattle.shm_plain.specs.Held.{Held, find_held, holds_locked}
+use Rattle.shm_fault.specs.Held.{Held, find_held, holds_locked}
 use Rattle.shm_slots.specs.Cause.{GoesOn}
 use Rattle.shm_fault.specs.Store.{StoreView, held}
 use Rattle.shm_fault.specs.Steps.{LockedPagesStay}

@@ -1,8 +1,8 @@
 -- What the tests keep true of the stores that they make.
 use Rattle.std.specs.Prelude.{ℕ, ◌≡◌, ◌==◌, ◌||◌, Bool, false, if◌then◌else◌, List, [], ◌∷◌, Option, Some, None, map, length, sum_by}
 use Rattle.shm_base.specs.declared.paging.Span.{Span}
-use Rattle.shm_plain.specs.Held.{Held, held_pages}
-use Rattle.shm_plain.specs.Apart.{AreHeldApart}
+use Rattle.shm_fault.specs.Held.{Held, held_pages}
+use Rattle.shm_fault.specs.Apart.{AreHeldApart}
 use Rattle.shm_fault.specs.Store.{StoreView, held, frame_of, page_of}
 
 -- what a run of calls knows of a segment by itself

@@ -1,4 +1,5 @@
-//! Tests of pagers, swap, frames, the clock, plain lists and the page store, through what each crate makes public.
+//! Tests of pagers, swap, frames, the clock and the page store, through what each crate makes public. The store has a twin here,
+//! which keeps segments as plain lists of bytes and pages nothing out: each answers the same calls by the same clauses.
 #![tactic(auto)]
 
 #[cfg(test)]
@@ -15,5 +16,9 @@ mod paging;
 mod plain;
 #[cfg(test)]
 mod runs;
+#[cfg(test)]
+mod segment;
+#[cfg(test)]
+mod store;
 #[cfg(test)]
 mod swap;

@@ -1,6 +1,6 @@
 //! Pages in and out, flushed and moved, with their pagers, seen by their bytes and by the tally.
 ghost use Rattle.std.specs.Prelude.{◌≡◌, ◌+◌, ◌≤◌, false, length, IfOk, OnOk, IsTrue};
-ghost use Rattle.shm_plain.specs.Held.{FitsPage, is_held, pages_in_store, with_zeros};
+ghost use Rattle.shm_fault.specs.Held.{FitsPage, is_held, pages_in_store, with_zeros};
 ghost use Rattle.shm_slots.specs.View.{IsAreaSize, swap_slots};
 ghost use Rattle.shm_fault.specs.Store.{held, frame_of, page_of};
 ghost use Rattle.shm_store_tests.specs.Trial.{HasThree};

@@ -1,8 +1,8 @@
 ghost use Rattle.std.specs.Prelude.{◌≡◌, ◌≤◌, [], None, IfOk};
-ghost use Rattle.shm_plain.specs.Held.{with_zeros};
+ghost use Rattle.shm_fault.specs.Held.{with_zeros};
 
 use shm_base::{HostMemory, Span};
-use shm_twin::PlainStore;
+use crate::store::PlainStore;
 use std::alloc::Global;
 
 fn stretch(seg: u32, at: u64, len: u64) -> Span

@@ -1,8 +1,8 @@
 //! Long runs of calls, each made of the paged store and of plain lists side by side. After each call
 //! every byte of every segment is the same in both, whichever pagers failed.
 ghost use Rattle.std.specs.Prelude.{◌≡◌, ◌+◌, ◌<◌, ◌==◌, ◌||◌, length, map, filter, not, IfOk, IfSome, OnOk};
-ghost use Rattle.shm_plain.specs.Held.{FitsPage, is_held};
-ghost use Rattle.shm_plain.specs.Access.{IsAccess};
+ghost use Rattle.shm_fault.specs.Held.{FitsPage, is_held};
+ghost use Rattle.shm_fault.specs.Allowed.{IsAccess};
 ghost use Rattle.shm_fault.specs.Store.{held};
 ghost use Rattle.shm_store_tests.specs.Trial.{Row as Told, row_pages, row_with_lock, pages_all, pages_pinned, frame_named, AreAlike};
 
@@ -12,7 +12,7 @@ use shm_base::{HostMemory, Span};
 use shm_fault::{PageStore, Touched};
 use shm_pager::{FusePager, MirrorPager, Pager, RamPager};
 use shm_slots::Swap;
-use shm_twin::PlainStore;
+use crate::store::PlainStore;
 use std::alloc::Global;
 use std::marker::Model;
 use std::process::Abort;

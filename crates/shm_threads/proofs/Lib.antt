@@ -1,2 +1,6 @@
 mod Noting
 mod Steps
+mod Following
+mod Found
+mod LeastWrong
+mod Own

@@ -8,8 +8,8 @@ use Rattle.shm_text.specs.declared.script.Line.{Line}
 use Rattle.shm_text.specs.declared.script.Line.TheVariants.{Command, Flush}
 use Rattle.shm_text.specs.Form.{CommandView}
 use Rattle.shm_text.specs.Variables.{call_of, values_after}
-use Rattle.shm_transcripts.specs.Transcripts.{commands_of, reply_in, is_end}
-use Rattle.shm_transcripts.specs.declared.transcript.Entry.{Entry}
+use Rattle.shm_threads.specs.Transcripts.{commands_of, reply_in, is_end}
+use Rattle.shm_threads.specs.declared.transcript.Entry.{Entry}
 use Rattle.shm_threads.specs.Asked.{Asked, Before, Called, After, Adds, asks_of, FollowsTo, RoundAsked, May, Round, Made, rounds_of, asks_of_rounds}
 
 pub adds_none : {X : Type 0} → (A : List X → Type 0) → Adds A [] A

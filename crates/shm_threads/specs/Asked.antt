@@ -5,8 +5,8 @@ use Rattle.shm_text.specs.Form.{CommandView}
 use Rattle.shm_text.specs.Variables.{no_values, call_of, values_after}
 use Rattle.shm_text.specs.declared.script.Line.{Line}
 use Rattle.shm_text.specs.declared.script.Line.TheVariants.{Command, Flush}
-use Rattle.shm_transcripts.specs.Transcripts.{reply_in, is_end}
-use Rattle.shm_transcripts.specs.declared.transcript.Entry.{Entry}
+use Rattle.shm_threads.specs.Transcripts.{reply_in, is_end}
+use Rattle.shm_threads.specs.declared.transcript.Entry.{Entry}
 
 -- What a worker asks for, with the answer, or tells: whether its process is born, whether it may make its n-th call, the
 -- call of a command line with these variables, that the n-th call was answered, that the process has left

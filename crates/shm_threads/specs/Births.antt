@@ -5,8 +5,8 @@ use Rattle.shm_base.specs.declared.call.Call.{Call}
 use Rattle.shm_base.specs.declared.call.Call.TheVariants.{Fork}
 use Rattle.shm_base.specs.declared.call.Reply.TheVariants.{Done}
 use Rattle.shm_threads.specs.declared.births.ProcessState.{ProcessState}
-use Rattle.shm_transcripts.specs.declared.transcript.Answer.{Answer}
-use Rattle.shm_transcripts.specs.declared.transcript.Answer.TheVariants.{Reply as Replied}
+use Rattle.shm_threads.specs.declared.transcript.Answer.{Answer}
+use Rattle.shm_threads.specs.declared.transcript.Answer.TheVariants.{Reply as Replied}
 
 abbrev pub with_birth : ℕ → ProcessState → ProcessState
 with_birth pid p = if p.pid == pid then record p { is_born = true } else p

@@ -4,3 +4,4 @@ pub mod Ends
 pub mod Keepers
 pub mod Outcomes
 pub mod Plans
+pub mod Transcripts

@@ -5,8 +5,8 @@ use Rattle.shm_base.specs.State.{Opening}
 use Rattle.shm_slots.specs.View.{first_counts}
 use Rattle.shm_history.specs.WorldState.{WorldState}
 use Rattle.shm_text.specs.Script.{ScriptView}
-use Rattle.shm_transcripts.specs.Transcripts.{AreTranscripts, AreListed, IsLeastWrong}
-use Rattle.shm_transcripts.specs.declared.transcript.Transcript.{Transcript}
+use Rattle.shm_threads.specs.Transcripts.{AreTranscripts, AreListed, IsLeastWrong}
+use Rattle.shm_threads.specs.declared.transcript.Transcript.{Transcript}
 
 -- The world started from this opening, over areas whose pagers had these counts of failures when they were handed in
 pub record StartedFrom (opened : Opening) (counts : List ℕ) (world : WorldState) : Type 0 where

@@ -4,8 +4,8 @@ use Rattle.std.specs.declared.alloc.Global.{Global}
 use Rattle.std.specs.declared.thread.JoinHandle.{JoinHandle}
 use Rattle.shm_text.specs.declared.script.Line.{Line}
 use Rattle.shm_text.specs.declared.script.Line.TheVariants.{Command, Flush}
-use Rattle.shm_transcripts.specs.Transcripts.{commands_of}
-use Rattle.shm_transcripts.specs.declared.transcript.Transcript.{Transcript}
+use Rattle.shm_threads.specs.Transcripts.{commands_of}
+use Rattle.shm_threads.specs.declared.transcript.Transcript.{Transcript}
 use Rattle.shm_threads.specs.declared.worker.Ended.{Ended}
 
 -- the transcript is empty and has room for its process's lines

@@ -10,7 +10,7 @@ use crate::worker::{Caller, Ended, work};
 use shm_history::Keeper;
 use shm_pager::Pager;
 use shm_text::{Command, Line, Vars};
-use shm_transcripts::{Entry, Transcript};
+use crate::transcript::{Entry, Transcript};
 use std::sync::Wait;
 
 #[derive(Drop)]

@@ -3,6 +3,7 @@
 
 mod births;
 mod callers;
+mod compare;
 mod flusher;
 mod gate;
 mod mismatch;
@@ -10,9 +11,11 @@ mod outcome;
 mod plan;
 mod run;
 mod shared;
+mod transcript;
 mod worker;
 
+pub use compare::disagreement;
 pub use gate::{Gate, OpenGate};
 pub use outcome::{Outcome, RunError};
 pub use run::{run_threads, run_threads_gauged};
-pub use shm_transcripts::{Answer, Entry, Transcript};
+pub use transcript::{Answer, Entry, Transcript};

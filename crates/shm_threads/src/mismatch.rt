@@ -8,7 +8,8 @@ use shm_history::{Opening, World};
 use shm_pager::Pager;
 use shm_slots::Swap;
 use shm_text::Script;
-use shm_transcripts::{Transcript, disagreement};
+use crate::compare::disagreement;
+use crate::transcript::Transcript;
 use std::alloc::Global;
 
 /// What a world started from.

@@ -2,7 +2,7 @@
 use shm_base::HostMemory;
 use shm_history::World;
 use shm_pager::Pager;
-use shm_transcripts::Transcript;
+use crate::transcript::Transcript;
 use thiserror::Error;
 
 /// The world after a run, and a transcript for each process of the script, in the script's order.

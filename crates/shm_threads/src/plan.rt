@@ -1,11 +1,11 @@
 //! The transcripts of a run before it starts.
 ghost use Rattle.std.specs.Prelude.{◌≡◌, IfOk, All, length};
 ghost use Rattle.shm_threads.specs.Plans.{HasRoom, is_line_of};
-ghost use Rattle.shm_transcripts.specs.Transcripts.{commands_of};
+ghost use Rattle.shm_threads.specs.Transcripts.{commands_of};
 
 use shm_base::HostMemory;
 use shm_text::{Line, Script};
-use shm_transcripts::Transcript;
+use crate::transcript::Transcript;
 use std::alloc::Global;
 
 /// An empty transcript for each process, with room for its lines.

@@ -7,14 +7,14 @@ ghost use Rattle.shm_history.specs.WorldState.{IsRound};
 ghost use Rattle.shm_text.specs.Variables.{call_of};
 ghost use Rattle.shm_threads.specs.Births.{births_after, is_birth, with_end};
 ghost use Rattle.shm_threads.specs.Keepers.{cell_of, HasPublished};
-ghost use Rattle.shm_transcripts.specs.Transcripts.{events_of};
+ghost use Rattle.shm_threads.specs.Transcripts.{events_of};
 
 use crate::births::{News, ProcessState, is_born, may_fork, note_birth, note_end};
 use shm_base::{Call, FlushReport, HostMemory, Reply};
 use shm_history::{Keeper, World};
 use shm_pager::Pager;
 use shm_text::{Command, Vars};
-use shm_transcripts::{Answer, Entry};
+use crate::transcript::{Answer, Entry};
 use std::sync::{Condvar, Mutex, Wait};
 
 #[derive(Drop)]

@@ -6,10 +6,10 @@ ghost use Rattle.std.specs.Prelude.{◌≡◌, [], ◌∷◌, List, not};
 ghost use Rattle.shm_text.specs.Variables.{call_of};
 ghost use Rattle.shm_threads.specs.Asked.{Asked, Adds, Born, Before, Called, After, Left, RunsLines, Works};
 ghost use Rattle.shm_threads.specs.Plans.{HasRoom};
-ghost use Rattle.shm_transcripts.specs.Transcripts.{commands_of};
+ghost use Rattle.shm_threads.specs.Transcripts.{commands_of};
 
 use shm_text::{Command, Line, Vars};
-use shm_transcripts::{Entry, Transcript};
+use crate::transcript::{Entry, Transcript};
 
 /// What makes a process's calls for its worker.
 pub(crate) trait Caller {

@@ -13,7 +13,8 @@ use Rattle.shm_report.specs.declared.action.Action.{Action}
 use Rattle.shm_report.specs.declared.action.Action.TheVariants as actions
 use Rattle.shm_report.specs.Record.{step_text}
 use Rattle.shm_slots.specs.View.{SwapView}
-use Rattle.shm_program.specs.Runs.{IsWorldSound, IsWorldOf, IsFresh}
+use Rattle.shm_program.specs.Runs.{IsWorldOf, IsFresh}
+use Rattle.shm_laws.specs.Worlds.{IsWorldSound}
 use Rattle.shm_program.specs.Values.{HolderView, fresh_holder, values_of, with_answer}
 use Rattle.shmview.specs.Steps.{has_step, steps_asked}
 use Rattle.shmview.specs.declared.steps.Steps.{Steps}
@@ -44,7 +45,7 @@ Leads steps hs n w (line ∷ lines) text =
 -- in, and each line is a step. Where no steps are asked for the script has at most 2,000 lines
 pub record IsRecord (swap : SwapView) (asked : Option Steps) (script : ScriptView) (areas : List ℕ) (text : List ℕ) : Type 0 where
   pub world : WorldState
-  pub is_world : IsWorldOf script areas world
+  pub is_world : IsWorldOf IsWorldSound script areas world
   pub fresh : world.events ≡ []
   pub memory : IsFresh swap world.memory
   pub few : asked ≡ None → length script.lines ≤ 2000

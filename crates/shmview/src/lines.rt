@@ -1,7 +1,7 @@
 //! The lines of a script are run, and the record of each step is put behind a text.
 ghost use Rattle.std.specs.Prelude.{◌≡◌, ◌++◌, List, ℕ, map, IfOk, OnOk, string_bytes};
 ghost use Rattle.shm_report.specs.declared.action.Action.TheVariants.{Start};
-ghost use Rattle.shm_program.specs.Runs.{IsWorldSound};
+ghost use Rattle.shm_laws.specs.Worlds.{IsWorldSound};
 ghost use Rattle.shm_program.specs.Values.{fresh_holder};
 ghost use Rattle.shmview.specs.Record.{HasRun, Leads, shown_text};
 

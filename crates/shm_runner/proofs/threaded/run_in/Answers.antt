@@ -1,6 +1,7 @@
 use Rattle.std.proofs.Common.{ap, subst, sym, inl}
 use Rattle.shm_base.specs.State.{Opening}
 use Rattle.shm_program.specs.Runs.{IsOpening, IsWorldOf}
+use Rattle.shm_laws.specs.Worlds.{IsWorldSound}
 use Rattle.shm_program.proofs.Causes.{world_causes, silent_kept}
 use Rattle.shm_runner.proofs.Causes.{ended_cause}
 use Rattle.shm_runner.proofs.Texts.{began_from, threaded_text, marked_text}
@@ -9,7 +10,7 @@ use Rattle.shm_runner.proofs.threaded.run_in.Goals as goal
 pub returns-in-Ok-clause-ok : goal.returns-in-Ok-clause-ok
 returns-in-Ok-clause-ok g c =
     let o = c.in-Ok.ensures in
-    let is : IsWorldOf c.args.script.now c.args.world.opening.areas c.in-Ok.outcome.world = record { opened = subst (IsOpening c.args.script.now) (sym o.started.opening) c.requires.opened; over = ap (λ (o : Opening). o.areas) o.started.opening; sound = c.write_outcome.ensures.sound } in
+    let is : IsWorldOf IsWorldSound c.args.script.now c.args.world.opening.areas c.in-Ok.outcome.world = record { opened = subst (IsOpening c.args.script.now) (sym o.started.opening) c.requires.opened; over = ap (λ (o : Opening). o.areas) o.started.opening; sound = c.write_outcome.ensures.sound } in
     let began = began_from c.args.world.memory.swap c.in-Ok.outcome.world c.requires.untouched c.write_outcome.ensures.sound o.started.began in
     threaded_text g.P.Pager.failed c.args.world.memory.swap c.args.script.now c.args.world.opening.areas c.write_outcome.result c.in-Ok.outcome.world c.in-Ok.outcome.transcripts.items (g.W.Write.contents c.args.writer.now) (g.W.Write.contents c.write_outcome.new.writer) (record { is_world = is; counted = c.write_outcome.ensures.counted }) began o.transcripts c.write_outcome.ensures.ok
 
@@ -19,7 +20,7 @@ returns-in-Ok-clause-cause g c = world_causes c.write_outcome.result c.args.worl
 pub returns-in-Ok-clause-written : goal.returns-in-Ok-clause-written
 returns-in-Ok-clause-written g c =
     let o = c.in-Ok.ensures in
-    let is : IsWorldOf c.args.script.now c.args.world.opening.areas c.in-Ok.outcome.world = record { opened = subst (IsOpening c.args.script.now) (sym o.started.opening) c.requires.opened; over = ap (λ (o : Opening). o.areas) o.started.opening; sound = c.write_outcome.ensures.sound } in
+    let is : IsWorldOf IsWorldSound c.args.script.now c.args.world.opening.areas c.in-Ok.outcome.world = record { opened = subst (IsOpening c.args.script.now) (sym o.started.opening) c.requires.opened; over = ap (λ (o : Opening). o.areas) o.started.opening; sound = c.write_outcome.ensures.sound } in
     let began = began_from c.args.world.memory.swap c.in-Ok.outcome.world c.requires.untouched c.write_outcome.ensures.sound o.started.began in
     marked_text g.P.Pager.failed c.args.world.memory.swap c.args.script.now c.args.world.opening.areas c.write_outcome.result c.in-Ok.outcome.world c.in-Ok.outcome.transcripts.items (g.W.Write.contents c.args.writer.now) (g.W.Write.contents c.write_outcome.new.writer) (record { is_world = is; counted = c.write_outcome.ensures.counted }) began o.transcripts c.write_outcome.ensures.written
 

@@ -1,5 +1,5 @@
 use Rattle.std.proofs.Common.{◌≡◌, ◌+◌, ◌≤◌, length, drop}
-use Rattle.shm_transcripts.specs.Transcripts.{commands_of}
+use Rattle.shm_threads.specs.Transcripts.{commands_of}
 use Rattle.shm_threads.proofs.plan.line_count.Given as goal
 
 abbrev pub invariant-loop-line : goal.invariant-loop-line

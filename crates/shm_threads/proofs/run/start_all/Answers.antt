@@ -2,7 +2,7 @@ use Rattle.std.proofs.Common.{rules}
 use Rattle.std.proofs.lemmas.List.Elements.{All-rest}
 use Rattle.std.specs.Vec.Iter.{into_iter_items}
 use Rattle.shm_threads.specs.Plans.{HasRoom}
-use Rattle.shm_transcripts.specs.declared.transcript.Transcript.{Transcript}
+use Rattle.shm_threads.specs.declared.transcript.Transcript.{Transcript}
 use Rattle.shm_threads.proofs.run.start_all.Goals as goal
 
 -- the jobs that are left have room, as all had

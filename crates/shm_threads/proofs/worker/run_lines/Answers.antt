@@ -1,8 +1,8 @@
 use Rattle.std.proofs.Common.{◌≡◌, ◌+◌, ◌++◌, ◌∷◌, [], ℕ, Bool, true, false, List, Option, length, drop, subst, sym, ap, ◌∙◌, refl, arith, rules, append_assoc, append-nil}
 use Rattle.shm_text.specs.Form.{CommandView}
 use Rattle.shm_text.specs.Variables.{no_values, values_after}
-use Rattle.shm_transcripts.specs.Transcripts.{commands_of, reply_in, is_end}
-use Rattle.shm_transcripts.specs.declared.transcript.Entry.{Entry}
+use Rattle.shm_threads.specs.Transcripts.{commands_of, reply_in, is_end}
+use Rattle.shm_threads.specs.declared.transcript.Entry.{Entry}
 use Rattle.shm_threads.specs.Asked.{Asked, Before, Adds, asks_of, FollowsTo, RunsLines}
 use Rattle.shm_threads.proofs.Steps.{adds_none, line_asked, exit_asked, line_follows, exit_follows, next_command, no_command}
 use Rattle.shm_threads.proofs.worker.run_lines.Goals as goal

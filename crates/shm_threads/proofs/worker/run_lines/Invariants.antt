@@ -1,7 +1,7 @@
 use Rattle.std.proofs.Common.{◌≡◌, ◌+◌, ◌++◌, ◌≤◌, Bool, List, length, drop, vec_len, vec_capacity}
 use Rattle.shm_text.specs.Variables.{no_values}
-use Rattle.shm_transcripts.specs.Transcripts.{commands_of}
-use Rattle.shm_transcripts.specs.declared.transcript.Entry.{Entry}
+use Rattle.shm_threads.specs.Transcripts.{commands_of}
+use Rattle.shm_threads.specs.declared.transcript.Entry.{Entry}
 use Rattle.shm_threads.specs.Asked.{Adds, asks_of, FollowsTo}
 use Rattle.shm_threads.proofs.worker.run_lines.Given as goal
 

@@ -1,5 +1,5 @@
 use Rattle.shm_fault.proofs.Names.{◌≡◌, ◌∷◌, [], get_or, arith, ap, ◌∙◌, Span, StoreView, rec_by, ref_of}
-use Rattle.shm_plain.proofs.Spans.{no_span}
+use Rattle.shm_fault.proofs.Written.{no_span}
 use Rattle.shm_fault.proofs.Places.{dirty-none, dirty-one, dirty-two}
 use Rattle.shm_fault.proofs.Dirtied.{dirtied-none, dirtied-one, dirtied-two}
 use Rattle.shm_fault.proofs.Sound.{frame-own}

@@ -1,0 +1,16 @@
+//! Tests of the parts beside the page store, through what each makes public: the script that is read, what is printed, identifiers,
+//! address spaces and the texts of errors.
+#![tactic(auto)]
+
+#[cfg(test)]
+mod areas;
+#[cfg(test)]
+mod attaching;
+#[cfg(test)]
+mod identifiers;
+#[cfg(test)]
+mod printing;
+#[cfg(test)]
+mod reading;
+#[cfg(test)]
+mod texts;

@@ -1,4 +1,0 @@
-pub mod Kept
-pub mod Found
-pub mod Pasted
-pub mod Spans

@@ -1,0 +1,10 @@
+use Rattle.std.proofs.Common.{◌≤◌, ◌↔◌, length, drop}
+use Rattle.shm_text.specs.Variables.{no_values}
+use Rattle.shm_threads.specs.Transcripts.{Follows, commands_of}
+use Rattle.shm_threads.proofs.compare.follow.Given as goal
+
+-- what is left follows just where the whole does
+abbrev pub invariant-loop-line : goal.invariant-loop-line
+invariant-loop-line l =
+    (l.next ≤ length l.entries)
+    × (Follows l.vars (commands_of l.pid (drop l.line-index l.lines)) (drop l.next l.entries) ↔ Follows no_values (commands_of l.pid l.lines) l.entries)

@@ -1,0 +1,10 @@
+use Rattle.std.proofs.Common.{◌≡◌, ◌≤◌, ◌↔◌, length, drop}
+use Rattle.shm_base.specs.History.{own_part}
+use Rattle.shm_threads.specs.Transcripts.{transcript_events}
+use Rattle.shm_threads.proofs.compare.is_own.Given as goal
+
+-- what is left agrees just where the whole does
+abbrev pub invariant-loop-event : goal.invariant-loop-event
+invariant-loop-event l =
+    (l.next ≤ length l.entries)
+    × (transcript_events l.pid (drop l.next l.entries) ≡ own_part l.pid (drop l.event-index l.history) ↔ transcript_events l.pid l.entries ≡ own_part l.pid l.history)

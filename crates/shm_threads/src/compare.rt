@@ -1,0 +1,222 @@
+//! The comparison of transcripts with a history. It ties what the workers of a run with threads did to the one history
+//! that the lock kept: each worker promises what it asked for, and this finds that the history has just those calls.
+ghost use Rattle.std.specs.Prelude.{◌≡◌, ℕ, ◌↔◌, ◌<◌, ◌≤◌, IsTrue, All, map, length, drop, true, slice_get};
+ghost use Rattle.shm_base.specs.History.{own_part};
+ghost use Rattle.shm_text.specs.Variables.{no_values};
+ghost use Rattle.shm_threads.specs.Transcripts.{commands_of, Follows, transcript_events, is_fork_of, is_forked, is_child, pid_in, pid_of, HasLines, IsMarkAllowed, IsTranscript, IsAdmitted, is_answered, least_of, pid_at, IsFound, IsLeastOf};
+
+use crate::transcript::{Answer, Entry, Transcript};
+use shm_base::{Call, Errno, Event, Process, Reply, has_pid};
+use shm_text::{Line, Script, Vars};
+
+/// The least pid that disagrees: its transcript is not its process's, or the history has an event of it though it is
+/// no declared process or was not live. 0 where there is not one transcript for each process of the script, in its
+/// order. None exactly where the transcripts are those of the script's processes in this history.
+pub fn disagreement(
+    script: &Script,
+    history: &[Event],
+    transcripts: &Vec<Transcript>,
+) -> Option<u32>
+    ensures { IsFound script.now history.now transcripts.now.items result }
+{
+    if !has_each(&script.processes, transcripts) {
+        return Some(0);
+    }
+    let stranger = first_stranger(&script.processes, history);
+    let broken = first_broken(script, history, transcripts);
+    match broken {
+        Some(pid) => Some(least(stranger, pid)),
+        None => stranger,
+    }
+}
+
+// Whether there is one transcript for each process, in order.
+fn has_each(processes: &[Process], transcripts: &[Transcript]) -> bool
+    ensures { IsTrue result ↔ map pid_of transcripts.now ≡ map pid_in processes.now }
+{
+    if processes.len() != transcripts.len() {
+        return false;
+    }
+    for (index, process) in processes.iter().enumerate() {
+        if process.pid != transcripts[index].pid {
+            return false;
+        }
+    }
+    true
+}
+
+// The least pid of an event that is of no declared process, or of one that was not live.
+fn first_stranger(processes: &[Process], history: &[Event]) -> Option<u32>
+    ensures { IsLeastOf pid_at (IsAdmitted processes.now) history.now result }
+{
+    let mut found = None;
+    for event in history {
+        if !is_admitted(processes, event) {
+            found = Some(least(found, event.pid));
+        }
+    }
+    found
+}
+
+fn is_admitted(processes: &[Process], event: &Event) -> bool
+    ensures { IsTrue result ↔ IsAdmitted processes.now event.now }
+{
+    has_pid(processes, event.pid) && event.reply != Reply::Refused(Errno::Esrch)
+}
+
+/// The lesser of the least pid so far and another.
+pub fn least(so_far: Option<u32>, pid: u32) -> u32
+    ensures { result ≡ least_of so_far pid }
+{
+    so_far.map_or(pid, |other| other.min(pid))
+}
+
+// The least pid whose transcript is not its process's.
+fn first_broken(script: &Script, history: &[Event], transcripts: &[Transcript]) -> Option<u32>
+    ensures { IsLeastOf pid_of (IsTranscript script.now history.now) transcripts.now result }
+{
+    let mut found = None;
+    for transcript in transcripts {
+        if !is_whole(script, history, transcript) {
+            found = Some(least(found, transcript.pid));
+        }
+    }
+    found
+}
+
+fn is_whole(script: &Script, history: &[Event], transcript: &Transcript) -> bool
+    ensures { IsTrue result ↔ IsTranscript script.now history.now transcript.now }
+{
+    has_lines(script, history, transcript)
+        && is_own(history, transcript.pid, &transcript.entries)
+        && are_marks_allowed(&transcript.entries)
+}
+
+fn has_lines(script: &Script, history: &[Event], transcript: &Transcript) -> bool
+    ensures { IsTrue result ↔ HasLines script.now history.now transcript.now }
+{
+    if follow(&script.lines, transcript.pid, &transcript.entries) {
+        return true;
+    }
+    is_child(&script.processes, transcript.pid)
+        && transcript.entries.is_empty()
+        && !is_forked(history, transcript.pid)
+}
+
+fn is_child(processes: &[Process], pid: u32) -> bool
+    ensures { result ≡ is_child pid processes.now }
+{
+    processes
+        .iter()
+        .any(|process| process.pid == pid && process.born.is_none())
+}
+
+fn is_forked(history: &[Event], child: u32) -> bool
+    ensures { result ≡ is_forked child history.now }
+{
+    history.iter().any(|event| is_fork_of(event, child))
+}
+
+fn is_fork_of(event: &Event, child: u32) -> bool
+    ensures { result ≡ is_fork_of child event.now.call event.now.reply }
+{
+    match (&event.call, &event.reply) {
+        (Call::Fork { child: forked }, Reply::Done) => *forked == child,
+        _ => false,
+    }
+}
+
+// Whether only calls that may take memory are marked.
+fn are_marks_allowed(entries: &[Entry]) -> bool
+    ensures { IsTrue result ↔ All IsMarkAllowed entries.now }
+{
+    entries.iter().all(|entry| is_mark_allowed(entry))
+}
+
+fn is_mark_allowed(entry: &Entry) -> bool
+    ensures { IsTrue result ↔ IsMarkAllowed entry.now }
+{
+    match (&entry.call, &entry.answer) {
+        (_, Answer::Reply(_)) => true,
+        (Call::Shmget { .. } | Call::Shmat { .. }, Answer::HostMemory) => true,
+        _ => false,
+    }
+}
+
+// Whether the entries follow the lines of the process.
+fn follow(lines: &[Line], pid: u32, entries: &[Entry]) -> bool
+    ensures { IsTrue result ↔ Follows no_values (commands_of pid lines.now) entries.now }
+{
+    let mut vars = Vars::new();
+    let mut next = 0;
+    for line in lines {
+        let Line::Command(command) = line else {
+            continue;
+        };
+        if command.pid() != pid {
+            continue;
+        }
+        if next >= entries.len() {
+            return false;
+        }
+        let entry = &entries[next];
+        let call = vars.call(command);
+        if !has_call(entry, &call) {
+            return false;
+        }
+        next += 1;
+        if entry.is_end() {
+            return next == entries.len();
+        }
+        vars.took(command, entry.answer.reply());
+    }
+    next == entries.len()
+}
+
+fn has_call(entry: &Entry, call: &Call) -> bool
+    ensures { IsTrue result ↔ entry.now.call ≡ call.now }
+{
+    entry.call == *call
+}
+
+// Whether the answered entries are the process's own part of the history.
+fn is_own(history: &[Event], pid: u32, entries: &[Entry]) -> bool
+    ensures { IsTrue result ↔ transcript_events pid entries.now ≡ own_part pid history.now }
+{
+    let mut next = 0;
+    for event in history {
+        if event.pid != pid {
+            continue;
+        }
+        next = next_answered(entries, next);
+        if next >= entries.len() || !is_event(&entries[next], event) {
+            return false;
+        }
+        next += 1;
+    }
+    next_answered(entries, next) >= entries.len()
+}
+
+// Whether the entry is the event's call with its reply.
+fn is_event(entry: &Entry, event: &Event) -> bool
+    ensures { IsTrue result ↔ (entry.now.call ≡ event.now.call) × (entry.now.answer ≡ Answer.Reply event.now.reply) }
+{
+    match &entry.answer {
+        Answer::Reply(reply) => entry.call == event.call && *reply == event.reply,
+        Answer::HostMemory => false,
+    }
+}
+
+// The first entry from a place on that is not marked.
+fn next_answered(entries: &[Entry], from: usize) -> usize
+    requires { from ≤ length entries.now }
+    ensures bound { result ≤ length entries.now }
+    ensures same { (pid : ℕ) → transcript_events pid (drop from entries.now) ≡ transcript_events pid (drop result entries.now) }
+    ensures answered { result < length entries.now → is_answered (slice_get entries.now result) ≡ true }
+{
+    let mut next = from;
+    while next < entries.len() && entries[next].answer == Answer::HostMemory {
+        next += 1;
+    }
+    next
+}

@@ -1,4 +1,0 @@
-mod Following
-mod Found
-mod LeastWrong
-mod Own
