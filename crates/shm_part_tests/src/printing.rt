@@ -195,8 +195,10 @@ fn printed_usage(rt: HostRuntime) -> Result<(), Fail> {
         outs: 6,
         failures: 7,
     };
-    let text =
-        "usage events 4 segments 1 reserved 2 locked 0\nusage frames 3/4 dirty 2 slots 5/64\nusage in 18446744073709551615 out 6 failures 7\n";
+    let text = "\
+usage events 4 segments 1 reserved 2 locked 0\n\
+usage frames 3/4 dirty 2 slots 5/64\n\
+usage in 18446744073709551615 out 6 failures 7\n";
     assert!(rt; usage_text(alloc, &tally)?.as_str() == text);
     Ok(())
 }

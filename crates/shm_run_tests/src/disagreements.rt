@@ -72,8 +72,14 @@ fn history(alloc: Global, all: &[(u32, Made)]) -> Result<Vec<Event>, Fail> {
     Ok(events)
 }
 
-const MADE_UP: &[u8] =
-    b"limits 65536 16 64 4 1\nchild 1\nprocess 2 100 100\n1 exit\n2 store 4096 2a\n2 exit\n2 exit\n";
+const MADE_UP: &[u8] = b"\
+limits 65536 16 64 4 1\n\
+child 1\n\
+process 2 100 100\n\
+1 exit\n\
+2 store 4096 2a\n\
+2 exit\n\
+2 exit\n";
 
 /// What a run might have kept: of the child 1, of process 2, and of all.
 struct Kept {
@@ -214,8 +220,11 @@ fn transcripts_in_order(rt: HostRuntime) -> Result<(), Fail> {
     Ok(())
 }
 
-const MARKED: &[u8] =
-    b"limits 65536 16 64 4 1\nprocess 1 100 100\n1 s = shmget private 1 600\n1 rmid s\n";
+const MARKED: &[u8] = b"\
+limits 65536 16 64 4 1\n\
+process 1 100 100\n\
+1 s = shmget private 1 600\n\
+1 rmid s\n";
 
 /// A shmget for which the host refused memory, and the removal of what its variable names.
 fn marked(alloc: Global, id: ShmId) -> Result<Vec<Transcript>, Fail> {

@@ -5,8 +5,18 @@ use shm_base::Reply;
 use shm_threads::RunError;
 use std::test::Fail;
 
-const ROUNDS: &[u8] =
-    b"limits 65536 16 64 4 1\nprocess 1 100 100\nprocess 2 100 100\n1 exec\n2 exec\n0 flush 1\n1 exec\n2 exec\n0 flush 1\n1 exit\n2 exit\n";
+const ROUNDS: &[u8] = b"\
+limits 65536 16 64 4 1\n\
+process 1 100 100\n\
+process 2 100 100\n\
+1 exec\n\
+2 exec\n\
+0 flush 1\n\
+1 exec\n\
+2 exec\n\
+0 flush 1\n\
+1 exit\n\
+2 exit\n";
 
 #[test]
 fn a_gate_is_asked_before_and_told_after_each(rt: HostRuntime) -> Result<(), Fail> {
@@ -19,8 +29,12 @@ fn a_gate_is_asked_before_and_told_after_each(rt: HostRuntime) -> Result<(), Fai
 }
 
 /// The second process looks for what the first has made.
-const LOOK: &[u8] =
-    b"limits 65536 16 64 4 1\nprocess 1 100 100\nprocess 2 100 100\n1 shmget 5 4096 600,creat\n2 shmget 5 0 600\n";
+const LOOK: &[u8] = b"\
+limits 65536 16 64 4 1\n\
+process 1 100 100\n\
+process 2 100 100\n\
+1 shmget 5 4096 600,creat\n\
+2 shmget 5 0 600\n";
 
 #[test]
 fn a_gate_is_told_behind_the_answer(rt: HostRuntime) -> Result<(), Fail> {

@@ -293,8 +293,15 @@ impl Drop for WaitingPager<'_> {
 }
 
 /// Three pages in two frames: the last but one call writes a page out.
-const SHORT: &[u8] =
-    b"limits 65536 16 64 2 0\nprocess 1 100 100\n1 s = shmget private 12288 600\n1 a = shmat s null -\n1 store a 2a\n1 load a+4096 1\n1 load a+8192 1\n1 load a 1\n";
+const SHORT: &[u8] = b"\
+limits 65536 16 64 2 0\n\
+process 1 100 100\n\
+1 s = shmget private 12288 600\n\
+1 a = shmat s null -\n\
+1 store a 2a\n\
+1 load a+4096 1\n\
+1 load a+8192 1\n\
+1 load a 1\n";
 
 fn over_a_waiting_pager<R: Threads + Wait + Sync>(
     rt: &R,

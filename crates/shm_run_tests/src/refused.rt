@@ -11,8 +11,19 @@ use std::test::Fail;
 use std::thread::Threads;
 
 /// A child, which waits, its parent, and another process. Four of the eight lines take memory.
-const TAKERS: &[u8] =
-    b"limits 65536 16 64 4 1\nchild 3\nprocess 1 100 100\nprocess 2 100 100\n1 s = shmget private 4096 600\n1 a = shmat s null -\n1 store a 2a\n1 fork 3\n3 load 0x40000000 1\n2 t = shmget private 4096 600\n2 b = shmat t null -\n2 store b 2b\n";
+const TAKERS: &[u8] = b"\
+limits 65536 16 64 4 1\n\
+child 3\n\
+process 1 100 100\n\
+process 2 100 100\n\
+1 s = shmget private 4096 600\n\
+1 a = shmat s null -\n\
+1 store a 2a\n\
+1 fork 3\n\
+3 load 0x40000000 1\n\
+2 t = shmget private 4096 600\n\
+2 b = shmat t null -\n\
+2 store b 2b\n";
 
 // Whether the run ended as it may: with an event of each call but a marked one, or before any call, or, where a thread
 // was refused, with no call of a process that is declared behind that one.

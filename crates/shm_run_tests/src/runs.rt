@@ -8,29 +8,74 @@ use std::sync::Wait;
 use std::test::Fail;
 use std::thread::Threads;
 
-pub(crate) const TWO: &[u8] =
-    b"limits 65536 16 64 4 1\nprocess 1 100 100\nprocess 2 100 100\n1 shmget private 1 600\n1 shmget private 1 600\n2 shmget private 1 600\n2 shmget private 1 600\n";
+pub(crate) const TWO: &[u8] = b"\
+limits 65536 16 64 4 1\n\
+process 1 100 100\n\
+process 2 100 100\n\
+1 shmget private 1 600\n\
+1 shmget private 1 600\n\
+2 shmget private 1 600\n\
+2 shmget private 1 600\n";
 
 /// The second process is declared first.
-pub(crate) const TURNED: &[u8] =
-    b"limits 65536 16 64 4 1\nprocess 2 100 100\nprocess 1 100 100\n1 exec\n2 exec\n";
+pub(crate) const TURNED: &[u8] = b"\
+limits 65536 16 64 4 1\n\
+process 2 100 100\n\
+process 1 100 100\n\
+1 exec\n\
+2 exec\n";
 
-const CHILD: &[u8] =
-    b"limits 65536 16 64 4 1\nprocess 1 100 100\nchild 2\n1 exit\n2 exit\n1 exit\n";
+const CHILD: &[u8] = b"\
+limits 65536 16 64 4 1\n\
+process 1 100 100\n\
+child 2\n\
+1 exit\n\
+2 exit\n\
+1 exit\n";
 
 /// A parent and its child, which is declared first.
-pub(crate) const FAMILY: &[u8] =
-    b"limits 65536 16 64 4 1\nchild 2\nprocess 1 100 100\n1 fork 2\n2 exec\n1 exit\n";
+pub(crate) const FAMILY: &[u8] = b"\
+limits 65536 16 64 4 1\n\
+child 2\n\
+process 1 100 100\n\
+1 fork 2\n\
+2 exec\n\
+1 exit\n";
 
 /// A child forks another, and one is never born.
-const TREE: &[u8] =
-    b"limits 65536 16 64 4 1\nprocess 1 100 100\nchild 2\nchild 3\nchild 4\nchild 5\n5 exit\n2 fork 4\n1 fork 2\n1 fork 3\n";
+const TREE: &[u8] = b"\
+limits 65536 16 64 4 1\n\
+process 1 100 100\n\
+child 2\n\
+child 3\n\
+child 4\n\
+child 5\n\
+5 exit\n\
+2 fork 4\n\
+1 fork 2\n\
+1 fork 3\n";
 
 /// Eight children wait. One of them is born, and the others never are.
-const WAITERS: &[u8] =
-    b"limits 65536 16 64 4 1\nchild 2\nchild 3\nchild 4\nchild 5\nchild 6\nchild 7\nchild 8\nchild 9\nprocess 1 100 100\n1 exec\n1 fork 8\n8 exec\n1 exec\n";
+const WAITERS: &[u8] = b"\
+limits 65536 16 64 4 1\n\
+child 2\n\
+child 3\n\
+child 4\n\
+child 5\n\
+child 6\n\
+child 7\n\
+child 8\n\
+child 9\n\
+process 1 100 100\n\
+1 exec\n\
+1 fork 8\n\
+8 exec\n\
+1 exec\n";
 
-const PAIR: &[u8] = b"limits 65536 16 64 4 1\nprocess 1 100 100\nprocess 2 100 100\n";
+const PAIR: &[u8] = b"\
+limits 65536 16 64 4 1\n\
+process 1 100 100\n\
+process 2 100 100\n";
 
 /// A head with lines that come so often behind it, the rule of the run, and what is seen behind it: so many events, and
 /// so many calls of each process.
@@ -122,11 +167,35 @@ pub(crate) fn repeated(
 }
 
 /// Process 1 lets three children share its page, and then wants frames for another segment.
-pub(crate) const COUNTER: &[u8] =
-    b"limits 65536 16 64 2 0\nprocess 1 100 100\nchild 2\nchild 3\nchild 4\n1 shmget private 4096 600\n1 shmat 0 null -\n1 fork 2\n1 fork 3\n1 fork 4\n1 t = shmget private 12288 600\n1 b = shmat t null -\n1 store b 01\n1 store b+4096 02\n1 store b+8192 03\n1 rmid t\n1 shmdt b\n";
+pub(crate) const COUNTER: &[u8] = b"\
+limits 65536 16 64 2 0\n\
+process 1 100 100\n\
+child 2\n\
+child 3\n\
+child 4\n\
+1 shmget private 4096 600\n\
+1 shmat 0 null -\n\
+1 fork 2\n\
+1 fork 3\n\
+1 fork 4\n\
+1 t = shmget private 12288 600\n\
+1 b = shmat t null -\n\
+1 store b 01\n\
+1 store b+4096 02\n\
+1 store b+8192 03\n\
+1 rmid t\n\
+1 shmdt b\n";
 
-pub(crate) const COUNTS: &[u8] =
-    b"1 xadd 0x40000000 1\n2 xadd 0x40000000 1\n3 xadd 0x40000000 1\n4 xadd 0x40000000 1\n1 xadd 0x40000000 1\n2 xadd 0x40000000 1\n3 xadd 0x40000000 1\n4 xadd 0x40000000 1\n0 flush 2\n";
+pub(crate) const COUNTS: &[u8] = b"\
+1 xadd 0x40000000 1\n\
+2 xadd 0x40000000 1\n\
+3 xadd 0x40000000 1\n\
+4 xadd 0x40000000 1\n\
+1 xadd 0x40000000 1\n\
+2 xadd 0x40000000 1\n\
+3 xadd 0x40000000 1\n\
+4 xadd 0x40000000 1\n\
+0 flush 2\n";
 
 #[test]
 fn four_count_together(rt: HostRuntime) -> Result<(), Fail> {
@@ -168,8 +237,13 @@ fn as_many_processes_as_there_may_be(rt: HostRuntime) -> Result<(), Fail> {
     Ok(())
 }
 
-const THREE_CALLS: &[u8] =
-    b"limits 65536 16 64 4 1\nprocess 1 100 100\nprocess 2 100 100\n1 exec\n2 exec\n1 exit\n";
+const THREE_CALLS: &[u8] = b"\
+limits 65536 16 64 4 1\n\
+process 1 100 100\n\
+process 2 100 100\n\
+1 exec\n\
+2 exec\n\
+1 exit\n";
 
 // Adds three rounds, of one page to three.
 fn push_rounds(script: &mut Script) -> Result<(), Fail> {
@@ -211,8 +285,13 @@ fn the_flusher_makes_its_rounds(rt: HostRuntime) -> Result<(), Fail> {
     Ok(())
 }
 
-const FOUR_CALLS: &[u8] =
-    b"limits 65536 16 64 4 1\nprocess 1 100 100\n1 s = shmget private 8192 600\n1 a = shmat s null -\n1 store a+4094 01020304\n1 load a+4093 6\n";
+const FOUR_CALLS: &[u8] = b"\
+limits 65536 16 64 4 1\n\
+process 1 100 100\n\
+1 s = shmget private 8192 600\n\
+1 a = shmat s null -\n\
+1 store a+4094 01020304\n\
+1 load a+4093 6\n";
 
 /// Four calls that leave two pages dirty, and flush rounds of so many pages at most.
 pub(crate) fn late(alloc: Global, rounds: &[u64]) -> Result<Vec<u8>, Fail> {
@@ -274,8 +353,11 @@ fn a_round_behind_the_last_call(rt: HostRuntime) -> Result<(), Fail> {
     Ok(())
 }
 
-const WIDE: &[u8] =
-    b"limits 524288 16 128 128 0\nprocess 1 100 100\n1 s = shmget private 266240 600\n1 a = shmat s null -\n";
+const WIDE: &[u8] = b"\
+limits 524288 16 128 128 0\n\
+process 1 100 100\n\
+1 s = shmget private 266240 600\n\
+1 a = shmat s null -\n";
 
 // A byte is stored in each of 65 pages, and a round asks for all of them.
 fn wide(alloc: Global) -> Result<Vec<u8>, Fail> {

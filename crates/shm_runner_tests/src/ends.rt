@@ -10,11 +10,24 @@ use std::io::{ErrorKind, Read, Write};
 use std::test::Fail;
 use std::{fmt, io};
 
-pub(crate) const SCRIPT: &[u8] =
-    b"limits 65536 16 64 4 1\nprocess 1 100 100\n1 s = shmget private 8192 600\n1 a = shmat s null -\n1 store a+4094 01020304\n1 load a+4093 6\n";
+pub(crate) const SCRIPT: &[u8] = b"\
+limits 65536 16 64 4 1\n\
+process 1 100 100\n\
+1 s = shmget private 8192 600\n\
+1 a = shmat s null -\n\
+1 store a+4094 01020304\n\
+1 load a+4093 6\n";
 
-pub(crate) const OUTPUT: &[u8] =
-    b"1 1 shmget 0x00000000 8192 600 = 0\n2 1 shmat 0 null - = 0x40000000\n3 1 store 0x40000ffe 01020304 = ok\n4 1 load 0x40000ffd 6 = 000102030400\nkey        shmid      owner      perms      bytes      nattch     status\n0x00000000 0          100        600        8192       1          -\nusage events 4 segments 1 reserved 2 locked 0\nusage frames 2/4 dirty 2 slots 0/64\nusage in 0 out 0 failures 0\n";
+pub(crate) const OUTPUT: &[u8] = b"\
+1 1 shmget 0x00000000 8192 600 = 0\n\
+2 1 shmat 0 null - = 0x40000000\n\
+3 1 store 0x40000ffe 01020304 = ok\n\
+4 1 load 0x40000ffd 6 = 000102030400\n\
+key        shmid      owner      perms      bytes      nattch     status\n\
+0x00000000 0          100        600        8192       1          -\n\
+usage events 4 segments 1 reserved 2 locked 0\n\
+usage frames 2/4 dirty 2 slots 0/64\n\
+usage in 0 out 0 failures 0\n";
 
 /// Gives so many bytes at each ask, and fails at one of them, from 1 on.
 #[derive(Drop)]

@@ -24,12 +24,69 @@ const SHMMNI: u32 = 16;
 const MOST_PLACES: u64 = 1000;
 
 /// Twelve pages in three frames, two processes that map them all, and a child.
-const HEAD: &[u8] =
-    b"limits 65536 16 64 3 1\nprocess 1 0 0\nprocess 2 0 0\nchild 3\n1 a = shmget 10 20480 666,creat\n2 a = shmget 10 20480 666,creat\n1 b = shmget 11 16384 666,creat\n2 b = shmget 11 16384 666,creat\n1 c = shmget 12 8192 666,creat\n2 c = shmget 12 8192 666,creat\n1 d = shmget 13 4096 666,creat\n2 d = shmget 13 4096 666,creat\n1 p = shmat a null -\n2 p = shmat a null -\n0 flush 1\n1 q = shmat b null -\n2 q = shmat b null -\n1 r = shmat c null -\n2 r = shmat c null -\n1 s = shmat d null -\n2 s = shmat d null rdonly\n1 fork 3\n1 store p ffffffffffffffffff\n2 store q ff\n1 stat a\n0 flush 2\n";
+const HEAD: &[u8] = b"\
+limits 65536 16 64 3 1\n\
+process 1 0 0\n\
+process 2 0 0\n\
+child 3\n\
+1 a = shmget 10 20480 666,creat\n\
+2 a = shmget 10 20480 666,creat\n\
+1 b = shmget 11 16384 666,creat\n\
+2 b = shmget 11 16384 666,creat\n\
+1 c = shmget 12 8192 666,creat\n\
+2 c = shmget 12 8192 666,creat\n\
+1 d = shmget 13 4096 666,creat\n\
+2 d = shmget 13 4096 666,creat\n\
+1 p = shmat a null -\n\
+2 p = shmat a null -\n\
+0 flush 1\n\
+1 q = shmat b null -\n\
+2 q = shmat b null -\n\
+1 r = shmat c null -\n\
+2 r = shmat c null -\n\
+1 s = shmat d null -\n\
+2 s = shmat d null rdonly\n\
+1 fork 3\n\
+1 store p ffffffffffffffffff\n\
+2 store q ff\n\
+1 stat a\n\
+0 flush 2\n";
 
 /// Thirty commands, which leave other bytes behind each time.
-const ROUND: &[u8] =
-    b"1 xadd p 72340172838076673\n2 xadd p+4090 578437695752307201\n1 store p+8190 01020304\n1 xadd p+8191 506381209866536711\n2 xadd q+4093 1234567890123456789\n1 lock d\n1 xadd q+12280 81985529216486895\n2 load p+16350 64\n3 xadd 0x40000ffc 1311768467463790320\n2 xadd r+4090 1229782938247303441\n0 flush 2\n1 xadd s+100 1229782938247303442\n1 t = shmget private 4096 600\n1 u = shmat t null -\n1 xadd u+8 1085102592571150095\n1 rmid t\n1 xadd u+12 4294967297\n1 load u 64\n1 shmdt u\n3 load 0x40003ff0 64\n2 unlock d\n0 flush 1\n2 xadd p+20472 72340172838076674\n1 xadd q 6510615555426900570\n3 xadd 0x40007ff8 3617008641903833650\n2 xadd r+8184 289360691352306692\n1 load r 64\n1 xadd p+12284 8608480567731124087\n2 load q+8130 64\n3 store 0x40005ffe 0102030405\n2 xadd q+8192 7378697629483820646\n1 load p+4064 64\n0 flush 3\n";
+const ROUND: &[u8] = b"\
+1 xadd p 72340172838076673\n\
+2 xadd p+4090 578437695752307201\n\
+1 store p+8190 01020304\n\
+1 xadd p+8191 506381209866536711\n\
+2 xadd q+4093 1234567890123456789\n\
+1 lock d\n\
+1 xadd q+12280 81985529216486895\n\
+2 load p+16350 64\n\
+3 xadd 0x40000ffc 1311768467463790320\n\
+2 xadd r+4090 1229782938247303441\n\
+0 flush 2\n\
+1 xadd s+100 1229782938247303442\n\
+1 t = shmget private 4096 600\n\
+1 u = shmat t null -\n\
+1 xadd u+8 1085102592571150095\n\
+1 rmid t\n\
+1 xadd u+12 4294967297\n\
+1 load u 64\n\
+1 shmdt u\n\
+3 load 0x40003ff0 64\n\
+2 unlock d\n\
+0 flush 1\n\
+2 xadd p+20472 72340172838076674\n\
+1 xadd q 6510615555426900570\n\
+3 xadd 0x40007ff8 3617008641903833650\n\
+2 xadd r+8184 289360691352306692\n\
+1 load r 64\n\
+1 xadd p+12284 8608480567731124087\n\
+2 load q+8130 64\n\
+3 store 0x40005ffe 0102030405\n\
+2 xadd q+8192 7378697629483820646\n\
+1 load p+4064 64\n\
+0 flush 3\n";
 
 // Twelve rounds; where asked, an area is taken away in their middle.
 fn script(alloc: Global, swapoff: bool) -> Result<Script, Fail> {

@@ -1,8 +1,8 @@
 ghost use Rattle.std.specs.Prelude.{◌≡◌, ◌≤◌, [], None, IfOk};
 ghost use Rattle.shm_fault.specs.Held.{with_zeros};
 
-use shm_base::{HostMemory, Span};
 use crate::store::PlainStore;
+use shm_base::{HostMemory, Span};
 use std::alloc::Global;
 
 fn stretch(seg: u32, at: u64, len: u64) -> Span

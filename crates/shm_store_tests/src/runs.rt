@@ -8,11 +8,11 @@ ghost use Rattle.shm_store_tests.specs.Trial.{Row as Told, row_pages, row_with_l
 
 use crate::pagers::{fuse, mirror};
 use crate::paging::{add_segment, is_area};
+use crate::store::PlainStore;
 use shm_base::{HostMemory, Span};
 use shm_fault::{PageStore, Touched};
 use shm_pager::{FusePager, MirrorPager, Pager, RamPager};
 use shm_slots::Swap;
-use crate::store::PlainStore;
 use std::alloc::Global;
 use std::marker::Model;
 use std::process::Abort;

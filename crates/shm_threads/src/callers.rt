@@ -6,11 +6,11 @@ ghost use Rattle.shm_threads.specs.Plans.{HasRoom};
 use crate::flusher::{Flusher, flush_all};
 use crate::gate::Gate;
 use crate::shared::Shared;
+use crate::transcript::{Entry, Transcript};
 use crate::worker::{Caller, Ended, work};
 use shm_history::Keeper;
 use shm_pager::Pager;
 use shm_text::{Command, Line, Vars};
-use crate::transcript::{Entry, Transcript};
 use std::sync::Wait;
 
 #[derive(Drop)]

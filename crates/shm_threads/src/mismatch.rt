@@ -3,13 +3,13 @@ ghost use Rattle.std.specs.Prelude.{◌≡◌, ◌↔◌, IfOk, IsTrue};
 ghost use Rattle.shm_slots.specs.View.{first_counts};
 ghost use Rattle.shm_threads.specs.Outcomes.{IsMismatch, StartedFrom};
 
+use crate::compare::disagreement;
+use crate::transcript::Transcript;
 use shm_base::{HostMemory, Process};
 use shm_history::{Opening, World};
 use shm_pager::Pager;
 use shm_slots::Swap;
 use shm_text::Script;
-use crate::compare::disagreement;
-use crate::transcript::Transcript;
 use std::alloc::Global;
 
 /// What a world started from.

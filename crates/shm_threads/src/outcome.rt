@@ -1,8 +1,8 @@
 //! What a run gives, and why it gives nothing.
+use crate::transcript::Transcript;
 use shm_base::HostMemory;
 use shm_history::World;
 use shm_pager::Pager;
-use crate::transcript::Transcript;
 use thiserror::Error;
 
 /// The world after a run, and a transcript for each process of the script, in the script's order.

@@ -3,9 +3,9 @@ ghost use Rattle.std.specs.Prelude.{◌≡◌, IfOk, All, length};
 ghost use Rattle.shm_threads.specs.Plans.{HasRoom, is_line_of};
 ghost use Rattle.shm_threads.specs.Transcripts.{commands_of};
 
+use crate::transcript::Transcript;
 use shm_base::HostMemory;
 use shm_text::{Line, Script};
-use crate::transcript::Transcript;
 use std::alloc::Global;
 
 /// An empty transcript for each process, with room for its lines.

@@ -10,11 +10,11 @@ ghost use Rattle.shm_threads.specs.Keepers.{cell_of, HasPublished};
 ghost use Rattle.shm_threads.specs.Transcripts.{events_of};
 
 use crate::births::{News, ProcessState, is_born, may_fork, note_birth, note_end};
+use crate::transcript::{Answer, Entry};
 use shm_base::{Call, FlushReport, HostMemory, Reply};
 use shm_history::{Keeper, World};
 use shm_pager::Pager;
 use shm_text::{Command, Vars};
-use crate::transcript::{Answer, Entry};
 use std::sync::{Condvar, Mutex, Wait};
 
 #[derive(Drop)]

@@ -8,8 +8,8 @@ ghost use Rattle.shm_threads.specs.Asked.{Asked, Adds, Born, Before, Called, Aft
 ghost use Rattle.shm_threads.specs.Plans.{HasRoom};
 ghost use Rattle.shm_threads.specs.Transcripts.{commands_of};
 
-use shm_text::{Command, Line, Vars};
 use crate::transcript::{Entry, Transcript};
+use shm_text::{Command, Line, Vars};
 
 /// What makes a process's calls for its worker.
 pub(crate) trait Caller {
