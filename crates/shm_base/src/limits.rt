@@ -1,6 +1,8 @@
 ghost use Rattle.std.specs.Prelude.{◌≡◌, ◌+◌, ◌≤◌, ◌<◌};
 
-use crate::bounds::{MOST_FRAMES, MOST_SHMALL, MOST_SHMMAX, MOST_SHMMNI};
+use crate::bounds::{
+    MOST_FRAMES, MOST_PIECES, MOST_PROCESSES, MOST_SHMALL, MOST_SHMMAX, MOST_SHMMNI, MOST_SLOTS,
+};
 use std::marker::Model;
 use thiserror::Error;
 
@@ -12,7 +14,7 @@ pub struct BadLimits(pub u8);
 /// The limits of a machine, within their ranges (this project's profile): SHMMAX is the most bytes of a
 /// segment, 1 to 2^24; SHMMNI the most segments, 1 to 4096; SHMALL the most pages of all segments, 1 to
 /// 65536; the number of frames, 2 to 4096; MEMLOCK the most pages of locked segments, at least 2 less
-/// than the frames.
+/// than the frames. A process has at most 256 pieces, a machine 64 processes, a swap area 65536 slots.
 #[derive(Clone, Copy, Debug, PartialEq, Eq)]
 pub struct Limits {
     shmmax: u64,
@@ -20,6 +22,9 @@ pub struct Limits {
     shmall: u64,
     frames: u64,
     memlock: u64,
+    most_pieces: u32,
+    most_processes: u32,
+    most_slots: u32,
 }
 
 impl Model for Limits {
@@ -27,11 +32,11 @@ impl Model for Limits {
 
     ghost Value = { Bounds };
 
-    ghost view = { λ l. record { shmmax = l.shmmax; shmmni = l.shmmni; shmall = l.shmall; frames = l.frames; memlock = l.memlock } };
+    ghost view = { λ l. record { shmmax = l.shmmax; shmmni = l.shmmni; shmall = l.shmall; frames = l.frames; memlock = l.memlock; most_pieces = l.most_pieces; most_processes = l.most_processes; most_slots = l.most_slots } };
 
-    ghost inverse = { λ b. record { shmmax = b.shmmax; shmmni = b.shmmni; shmall = b.shmall; frames = b.frames; memlock = b.memlock } };
+    ghost inverse = { λ b. record { shmmax = b.shmmax; shmmni = b.shmmni; shmall = b.shmall; frames = b.frames; memlock = b.memlock; most_pieces = b.most_pieces; most_processes = b.most_processes; most_slots = b.most_slots } };
 
-    ghost invariant = { λ l. AreBounds (record { shmmax = l.shmmax; shmmni = l.shmmni; shmall = l.shmall; frames = l.frames; memlock = l.memlock }) };
+    ghost invariant = { λ l. AreBounds (record { shmmax = l.shmmax; shmmni = l.shmmni; shmall = l.shmall; frames = l.frames; memlock = l.memlock; most_pieces = l.most_pieces; most_processes = l.most_processes; most_slots = l.most_slots }) };
 }
 
 impl Limits {
@@ -69,6 +74,9 @@ impl Limits {
             shmall,
             frames,
             memlock,
+            most_pieces: MOST_PIECES as u32,
+            most_processes: MOST_PROCESSES as u32,
+            most_slots: MOST_SLOTS,
         })
     }
 
@@ -111,5 +119,29 @@ impl Limits {
         ensures room { result + 2 ≤ self.now.frames }
     {
         self.memlock
+    }
+
+    /// The most pieces of a process.
+    pub fn most_pieces(&self) -> u32
+        ensures value { result ≡ self.now.most_pieces }
+        ensures range { (1 ≤ result) × (result ≤ 256) }
+    {
+        self.most_pieces
+    }
+
+    /// The most processes.
+    pub fn most_processes(&self) -> u32
+        ensures value { result ≡ self.now.most_processes }
+        ensures range { (1 ≤ result) × (result ≤ 64) }
+    {
+        self.most_processes
+    }
+
+    /// The most slots of a swap area.
+    pub fn most_slots(&self) -> u32
+        ensures value { result ≡ self.now.most_slots }
+        ensures range { (1 ≤ result) × (result ≤ 65536) }
+    {
+        self.most_slots
     }
 }
