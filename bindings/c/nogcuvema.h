@@ -184,7 +184,7 @@ enum nog_key { NOG_PRIVATE = 0 };
    NOG_BAD_SHMMAX to NOG_BAD_MEMLOCK: the first limit that is out of its range.
    NOG_OUT_OF_RANGE: a kind is none; a failure's area or side is not there, or its call is 0.
    NOG_BAD_AREAS, NOG_BAD_AREA_SIZE, NOG_BAD_PROCESSES, NOG_BAD_PID: the first of these.
-   NOG_NO_MEMORY: the heap gave none; it comes only in place of 0 and of the last four. */
+   NOG_NO_MEMORY: the heap gave none; it comes only in place of 0 and of the last two. */
 uint32_t nog_open(nog_machine *machine, const nog_limits *limits, const nog_area *areas, size_t area_count,
                   const nog_failure *failures, size_t failure_count, const nog_process *processes, size_t process_count);
 

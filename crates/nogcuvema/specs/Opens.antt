@@ -68,9 +68,10 @@ pub record Opens (l : NogLimits) (areas : List NogArea) (failures : List NogFail
   pub sound : opening_code l areas failures processes ≡ 0
   pub opened : IsOpened (bounds_of l) (map area_of areas) (map process_of processes) m.system
 
--- out of memory comes in place of 0 and of a start error alone: limits and numbers are looked at before memory is taken
+-- out of memory comes in place of 0 and of an error of the processes alone: limits, numbers and areas are looked at before
+-- memory is taken
 abbrev pub may_want_memory : ℕ → Bool
-may_want_memory code = (code == 0) || nat_lt 2020 code
+may_want_memory code = (code == 0) || nat_lt 2022 code
 
 -- why nothing was opened: the first refusal, or out of memory where that may come
 abbrev pub IsRefusedBy : NogLimits → List NogArea → List NogFailure → List NogProcess → ℕ → Type 0

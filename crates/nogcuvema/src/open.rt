@@ -1,5 +1,7 @@
 //! Opening and closing.
-ghost use Rattle.std.specs.Prelude.{◌≡◌, ◌≢◌, map, IfOk, IfErr, None, is_some, if◌then◌else◌};
+ghost use Rattle.std.specs.Prelude.{◌≡◌, ◌≢◌, [], map, IfOk, IfErr, None, is_some, if◌then◌else◌};
+ghost use Rattle.shm_life.specs.Start.{start_error};
+ghost use Rattle.shm_machine.specs.Opened.{sizes_of};
 ghost use Rattle.nogcuvema.specs.Answers.{closed};
 ghost use Rattle.nogcuvema.specs.Opens.{kind_of, area_of, failure_of, process_of, are_kinds, is_there, are_there, Opens, OpenedTo, IsRefusedBy};
 
@@ -7,7 +9,7 @@ use crate::code::{CLOSED, DONE, NO_MEMORY, OUT_OF_RANGE};
 use crate::handle::Handle;
 use crate::structs::{NogArea, NogFailure, NogLimits, NogProcess};
 use shm_base::{Cred, Limits, Process};
-use shm_life::StartError;
+use shm_life::{StartError, first_area_error};
 use shm_machine::{AreaConfig, AreaKind, Failure, Machine, Side};
 use std::alloc::{AllocError, Global};
 
@@ -107,7 +109,15 @@ fn are_there(areas: &[NogArea], failures: &[NogFailure]) -> bool
     true
 }
 
+// The first start error of the areas that holds.
+fn area_error(areas: &[NogArea]) -> Option<StartError>
+    ensures { result ≡ start_error (sizes_of (map area_of areas.now)) [] }
+{
+    first_area_error(areas, |area| area.slots)
+}
+
 // The machine, or the code of the first refusal.
+#[tactic(auto, using(crate::proofs::Standing::memory_wanted))]
 fn machine_of(
     alloc: Global,
     limits: &NogLimits,
@@ -131,6 +141,9 @@ fn machine_of(
     };
     if !are_kinds(areas) || !are_there(areas, failures) {
         return Err(OUT_OF_RANGE);
+    }
+    if let Some(error) = area_error(areas) {
+        return Err(START_REFUSED + u32::from(error.number()));
     }
     let Ok(areas) = areas_of(alloc, areas) else {
         return Err(NO_MEMORY);

@@ -56,11 +56,7 @@ pub(crate) fn write_world<W: Write, P: Pager>(
     ensures fault { IfErr result (λ f. (f ≡ RunFault.HostMemory) ⊎ (f ≡ RunFault.WriteFailed)) }
     ensures silent { IfErr result (λ f. IsSilent f (W.contents writer.old) (W.contents writer.new)) }
 {
-    match world_text(alloc, world) {
-        Ok(text) => match write_output(writer, text.as_bytes()) {
-            Ok(()) => Ok(()),
-            Err(_) => Err(RunFault::WriteFailed),
-        },
-        Err(_) => Err(RunFault::HostMemory),
-    }
+    let text = world_text(alloc, world)?;
+    write_output(writer, text.as_bytes())?;
+    Ok(())
 }

@@ -151,6 +151,13 @@ fn failing_reads(rt: HostRuntime) -> Result<(), Fail> {
     }
     let mut taker = writer(alloc, 4096, 0, ErrorKind::Other);
     assert!(rt; run(alloc, &mut reader(25, 8), &mut taker, 1)?.is_none());
+    let mut would_block = Source {
+        kind: ErrorKind::WouldBlock,
+        ..reader(25, 2)
+    };
+    let fault = run(alloc, &mut would_block, &mut taker, 1)?;
+    assert!(rt; fault == Some(RunFault::ReadFailed), "a reader that would block");
+    assert!(rt; would_block.asks == 2, "asked once more");
     Ok(())
 }
 
