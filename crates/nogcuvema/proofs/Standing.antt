@@ -20,9 +20,9 @@ bounds-are l x h =
 
 pub opens : (l : NogLimits) (areas : List NogArea) (failures : List NogFailure) (processes : List NogProcess) (x : Bounds) (given : List AreaConfig) (ps : List Process) (m : Machine)
     → limits_of l.shmmax l.shmmni l.shmall l.frames l.memlock ≡ Ok x → are_kinds areas ≡ true → are_there areas failures ≡ true
-    → given ≡ map area_of areas → ps ≡ map process_of processes → start_error (sizes_of given) ps ≡ None → IsOpened x given ps m.system → Opens l areas failures processes m
+    → given ≡ map area_of areas → ps ≡ map process_of processes → start_error x (sizes_of given) ps ≡ None → IsOpened x given ps m.system → Opens l areas failures processes m
 opens l areas failures processes x given ps m limits kinds there same-areas same-processes start opened =
-    let none : start_error (sizes_of (map area_of areas)) (map process_of processes) ≡ None = rw (← same-areas, ← same-processes) start in
+    let none : start_error x (sizes_of (map area_of areas)) (map process_of processes) ≡ None = rw (← same-areas, ← same-processes) start in
     let bounds = bounds-are l x limits in
     record {
       sound = rw (limits, kinds, there, none) refl;
@@ -35,21 +35,21 @@ sizes-given [] = refl
 sizes-given (a ∷ areas) = ap (λ ns. a.slots ∷ ns) (sizes-given areas)
 
 -- an error of the areas is the first, whatever the processes are
-areas-first : (sizes : List ℕ) (ps : List Process) (e : StartError) → start_error sizes [] ≡ Some e → start_error sizes ps ≡ Some e
-areas-first sizes ps e first = grind (arith, common_steps)
+areas-first : (limits : Bounds) (sizes : List ℕ) (ps : List Process) (e : StartError) → start_error limits sizes [] ≡ Some e → start_error limits sizes ps ≡ Some e
+areas-first limits sizes ps e first = grind (arith, common_steps)
 
 -- where the areas have none, memory is taken
-areas-then : (sizes : List ℕ) (ps : List Process) → start_error sizes [] ≡ None → may_want_memory (start_code (start_error sizes ps)) ≡ true
-areas-then sizes ps none = grind (arith, common_steps, nat_tests)
+areas-then : (limits : Bounds) (sizes : List ℕ) (ps : List Process) → start_error limits sizes [] ≡ None → may_want_memory (start_code (start_error limits sizes ps)) ≡ true
+areas-then limits sizes ps none = grind (arith, common_steps, nat_tests)
 
 module _ (l : NogLimits) (areas : List NogArea) (failures : List NogFailure) (processes : List NogProcess) (x : Bounds) (limits : limits_of l.shmmax l.shmmni l.shmall l.frames l.memlock ≡ Ok x) (kinds : are_kinds areas ≡ true) (there : are_there areas failures ≡ true) where
-  coded : opening_code l areas failures processes ≡ start_code (start_error (sizes_of (map area_of areas)) (map process_of processes))
+  coded : opening_code l areas failures processes ≡ start_code (start_error x (sizes_of (map area_of areas)) (map process_of processes))
   coded = rw (limits, kinds, there) refl
 
   -- the code of an error of the areas
-  pub area-refused : (e : StartError) → Some e ≡ start_error (sizes_of (map area_of areas)) [] → 2020 + error_number e ≡ opening_code l areas failures processes
-  area-refused e first = rw (coded, areas-first (sizes_of (map area_of areas)) (map process_of processes) e (sym first)) refl
+  pub area-refused : (e : StartError) → Some e ≡ start_error x (sizes_of (map area_of areas)) [] → 2020 + error_number e ≡ opening_code l areas failures processes
+  area-refused e first = rw (coded, areas-first x (sizes_of (map area_of areas)) (map process_of processes) e (sym first)) refl
 
   -- memory may be wanted where there is none
-  pub memory_wanted : None ≡ start_error (sizes_of (map area_of areas)) [] → may_want_memory (opening_code l areas failures processes) ≡ true
-  memory_wanted none = rw coded (areas-then (sizes_of (map area_of areas)) (map process_of processes) (sym none))
+  pub memory_wanted : None ≡ start_error x (sizes_of (map area_of areas)) [] → may_want_memory (opening_code l areas failures processes) ≡ true
+  memory_wanted none = rw coded (areas-then x (sizes_of (map area_of areas)) (map process_of processes) (sym none))

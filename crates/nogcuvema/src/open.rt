@@ -110,10 +110,10 @@ fn are_there(areas: &[NogArea], failures: &[NogFailure]) -> bool
 }
 
 // The first start error of the areas that holds.
-fn area_error(areas: &[NogArea]) -> Option<StartError>
-    ensures { result ≡ start_error (sizes_of (map area_of areas.now)) [] }
+fn area_error(limits: &Limits, areas: &[NogArea]) -> Option<StartError>
+    ensures { result ≡ start_error limits.now (sizes_of (map area_of areas.now)) [] }
 {
-    first_area_error(areas, |area| area.slots)
+    first_area_error(limits, areas, |area| area.slots)
 }
 
 // The machine, or the code of the first refusal.
@@ -142,7 +142,7 @@ fn machine_of(
     if !are_kinds(areas) || !are_there(areas, failures) {
         return Err(OUT_OF_RANGE);
     }
-    if let Some(error) = area_error(areas) {
+    if let Some(error) = area_error(&bounds, areas) {
         return Err(START_REFUSED + u32::from(error.number()));
     }
     let Ok(areas) = areas_of(alloc, areas) else {

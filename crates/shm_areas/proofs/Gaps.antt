@@ -1,22 +1,22 @@
 -- Walking up the pieces finds the least gap, which is the definition's.
-use Rattle.shm_areas.proofs.Names.{Option, ◌≡◌, ℕ, ◌+◌, ◌*◌, ◌%◌, ◌<◌, ◌≤◌, ◌⊎◌, inl, inr, Bool, true, false, List, [], ◌∷◌, length, get_or, map, find, max, MatchOption, refl, ◌∙◌, arith, drop, drop-cons, add-one, common_steps, le-leb, lt-leb, cases_lt, false_from_ne_true, and_right, both_ways, end_of, lowest_address, first_chosen, last_address, occupied, is_gap, choose, Stored, bare, bare_all, Arranged, gap_from, IsLeastGap, HasNoGap}
+use Rattle.shm_areas.proofs.Names.{Option, ◌≡◌, ℕ, ◌+◌, ◌*◌, ◌%◌, ◌<◌, ◌≤◌, ◌⊎◌, inl, inr, Bool, true, false, List, [], ◌∷◌, length, get_or, map, find, max, MatchOption, refl, ◌∙◌, arith, drop, drop-cons, add-one, common_steps, le-leb, lt-leb, cases_lt, false_from_ne_true, and_right, both_ways, end_of, lowest_address, first_chosen, end_address, occupied, is_gap, choose, Stored, bare, bare_all, Arranged, gap_from, IsLeastGap, HasNoGap}
 use Rattle.shm_base.specs.State.{Piece}
 
 pub free_below : (low from to : ℕ) (ps : List Piece) → Arranged low ps → to ≤ low → occupied ps from to ≡ false
 free_below low from to [] ar le = refl
 free_below low from to (p ∷ ps) ar le = grind (arith, common_steps, free_below (end_of p) from to ps ar.1.1)
 
-pub gap_here : (all ps : List Piece) (pages c : ℕ) → first_chosen ≤ c → c + 4096 * pages ≤ last_address
+pub gap_here : (all ps : List Piece) (pages c : ℕ) → first_chosen ≤ c → c + 4096 * pages ≤ end_address
     → occupied all c (c + 4096 * pages) ≡ false → is_gap all pages c ≡ true
-gap_here all ps pages c low high free = rw (le-leb first_chosen c low, le-leb (c + 4096 * pages) last_address high, free) refl
+gap_here all ps pages c low high free = rw (le-leb first_chosen c low, le-leb (c + 4096 * pages) end_address high, free) refl
 
 -- a piece that begins below the end of a range and ends above its beginning is in the way
 pub met : (all ps : List Piece) (p : Piece) (pages b : ℕ) → occupied all b (b + 4096 * pages) ≡ occupied (p ∷ ps) b (b + 4096 * pages)
     → p.base < b + 4096 * pages → b < end_of p → is_gap all pages b ≡ false
 met all ps p pages b same below above = grind (arith, common_steps)
 
-pub too_high : (all : List Piece) (pages b : ℕ) → last_address < b + 4096 * pages → is_gap all pages b ≡ false
-too_high all pages b high = rw (lt-leb (b + 4096 * pages) last_address high) (grind arith)
+pub too_high : (all : List Piece) (pages b : ℕ) → end_address < b + 4096 * pages → is_gap all pages b ≡ false
+too_high all pages b high = rw (lt-leb (b + 4096 * pages) end_address high) (grind arith)
 
 pub too_low : (all : List Piece) (pages b : ℕ) → b < first_chosen → is_gap all pages b ≡ false
 too_low all pages b low = rw (lt-leb first_chosen b low) refl
@@ -64,7 +64,7 @@ past_or_low all pages c e h le (inr ge) = inl (omega (arith, le, ge))
 pub fits_here : (all ps : List Piece) (p : Piece) (pages c low : ℕ) → Walk all pages c low (p ∷ ps) → c + 4096 * pages ≤ p.base → is_gap all pages c ≡ true
 fits_here all ps p pages c low w fits = grind (arith, common_steps, gap_here, free_below)
 
-pub none_left : (all : List Piece) (pages c : ℕ) → ((b : ℕ) → is_gap all pages b ≡ true → c ≤ b) → last_address < c + 4096 * pages → HasNoGap all pages
+pub none_left : (all : List Piece) (pages c : ℕ) → ((b : ℕ) → is_gap all pages b ≡ true → c ≤ b) → end_address < c + 4096 * pages → HasNoGap all pages
 none_left all pages c least high b = grind (arith, common_steps, false_from_ne_true, too_high)
 
 -- the walk finds what the definition does, and that is the least gap

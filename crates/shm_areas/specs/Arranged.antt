@@ -2,8 +2,9 @@
 use Rattle.std.specs.Prelude.{◌≡◌, ℕ, ◌+◌, ◌%◌, ◌≤◌, ◌<◌, List, [], ◌∷◌, map, find, Option, ⊤}
 use Rattle.shm_base.specs.State as flat
 use Rattle.shm_base.specs.Access.{end_of, covers}
-use Rattle.shm_base.specs.Space.{last_address}
+use Rattle.shm_base.specs.Space.{end_address}
 use Rattle.shm_areas.specs.declared.piece.Piece.{Piece}
+use Rattle.shm_base.specs.declared.paging.TheConstants.{PAGE_SIZE}
 
 -- a piece without its key
 abbrev pub bare : Piece → flat.Piece
@@ -14,10 +15,10 @@ bare_all ps = map bare ps
 
 -- whole pages of the address range, of a segment of at most 4096 pages
 pub record IsFit (p : flat.Piece) : Type 0 where
-  pub aligned : p.base % 4096 ≡ 0
+  pub aligned : p.base % PAGE_SIZE ≡ 0
   pub some : 1 ≤ p.pages
   pub few : p.first_page + p.pages ≤ 4096
-  pub within : end_of p ≤ last_address
+  pub within : end_of p ≤ end_address
 
 -- fit pieces by rising base, the first not below an address, that never overlap
 abbrev pub Arranged : ℕ → List flat.Piece → Type 0

@@ -6,6 +6,7 @@ use Rattle.shm_base.specs.Space.{meets, is_named}
 use Rattle.shm_areas.specs.declared.piece.Piece.{Piece}
 use Rattle.shm_areas.specs.declared.cut.Cut.{Cut}
 use Rattle.shm_areas.specs.Arranged.{bare}
+use Rattle.shm_base.specs.declared.paging.TheConstants.{PAGE_SIZE}
 
 -- the pieces with one more, by rising base
 abbrev pub stored_inserted : Piece → List Piece → List Piece
@@ -14,7 +15,7 @@ stored_inserted p (q ∷ qs) = if nat_lt p.base q.base then p ∷ q ∷ qs else 
 
 -- the part below an address keeps the key
 abbrev pub stored_below : ℕ → Piece → List Piece
-stored_below from p = if nat_lt p.base from then record p { pages = (from - p.base) / 4096 } ∷ [] else []
+stored_below from p = if nat_lt p.base from then record p { pages = (from - p.base) / PAGE_SIZE } ∷ [] else []
 
 -- the part above an address keeps the key too
 abbrev pub stored_above : ℕ → Piece → List Piece
@@ -24,8 +25,8 @@ stored_above to p =
     record {
       base = to;
       seg = p.seg;
-      first_page = p.first_page + (to - p.base) / 4096;
-      pages = (end_of (bare p) - to) / 4096;
+      first_page = p.first_page + (to - p.base) / PAGE_SIZE;
+      pages = (end_of (bare p) - to) / PAGE_SIZE;
       writable = p.writable;
       key = p.key;
     } ∷ []

@@ -1,5 +1,5 @@
 -- The counts stay exact, and no process gets too many pieces.
-use Rattle.shm_attach.proofs.Names.{◌≡◌, ◌≢◌, ℕ, zero, suc, ◌+◌, ◌*◌, ◌<◌, ◌≤◌, false, ◌==◌, List, [], ◌∷◌, ◌++◌, length, get_or, set, take, refl, ap, sym, ◌∙◌, arith, length-take, common_steps, cases_eq, slice_get-get_or, gets, set-set, get_or-map, set-get_or, sum_by-cons, sum_by-set, count_by-le-length, end_of, lowest_address, last_address, without_named, inserted, occupied, cut, parts, part_below, part_above, pieces_of, attach_count, bare, bare_all, IsFit, Arranged, lower, Tables, counted, with_own, with_pieces_at, with_other_life, with_life_at, pieces_at, life_at, AreCountsExact, IsPlaceFor, Unborn, Stored}
+use Rattle.shm_attach.proofs.Names.{◌≡◌, ◌≢◌, ℕ, zero, suc, ◌+◌, ◌*◌, ◌<◌, ◌≤◌, false, ◌==◌, List, [], ◌∷◌, ◌++◌, length, get_or, set, take, refl, ap, sym, ◌∙◌, arith, length-take, common_steps, cases_eq, slice_get-get_or, gets, set-set, get_or-map, set-get_or, sum_by-cons, sum_by-set, count_by-le-length, end_of, lowest_address, end_address, without_named, inserted, occupied, cut, parts, part_below, part_above, pieces_of, attach_count, bare, bare_all, IsFit, Arranged, lower, Tables, counted, with_own, with_pieces_at, with_other_life, with_life_at, pieces_at, life_at, AreCountsExact, IsPlaceFor, Unborn, Stored}
 use Rattle.shm_base.specs.State.{Piece, Life, Runner}
 use Rattle.shm_attach.proofs.Processes.{first_runner, attach_count-changed, one_more}
 
@@ -111,7 +111,7 @@ occupied-cut from to (p ∷ ps) = occupied-append (parts from to p) (cut from to
 -- ALL PIECES, AND THOSE OF ONE ATTACH
 
 -- the addresses hold every piece
-pub cut-all : (low : ℕ) (ps : List Piece) → lowest_address ≤ low → Arranged low ps → cut lowest_address last_address ps ≡ []
+pub cut-all : (low : ℕ) (ps : List Piece) → lowest_address ≤ low → Arranged low ps → cut lowest_address end_address ps ≡ []
 cut-all low [] le ar = refl
 cut-all low (p ∷ ps) le ar = grind (arith, common_steps, cut-all (end_of p) ps)
 

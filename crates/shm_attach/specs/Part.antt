@@ -4,6 +4,8 @@ use Rattle.shm_base.specs.State.{Piece}
 use Rattle.shm_base.specs.Space.{cut, without_named}
 use Rattle.shm_attach.specs.declared.changes.Part.{Part}
 use Rattle.shm_attach.specs.declared.changes.Part.TheVariants.{Range, Attach}
+use Rattle.shm_base.specs.declared.bounds.TheConstants.{MOST_PIECES}
+use Rattle.shm_base.specs.declared.paging.TheConstants.{PAGE_SIZE}
 
 abbrev pub left : Part → List Piece → List Piece
 left (Range from to) ps = cut from to ps
@@ -11,10 +13,10 @@ left (Attach addr seg) ps = without_named addr seg ps
 
 -- a range of whole pages that leaves no more pieces than a process may have
 pub record IsCuttable (from to : ℕ) (ps : List Piece) : Type 0 where
-  pub from_page : from % 4096 ≡ 0
-  pub to_page : to % 4096 ≡ 0
+  pub from_page : from % PAGE_SIZE ≡ 0
+  pub to_page : to % PAGE_SIZE ≡ 0
   pub order : from < to
-  pub few : length (cut from to ps) ≤ 256
+  pub few : length (cut from to ps) ≤ MOST_PIECES
 
 abbrev pub CanGo : Part → List Piece → Type 0
 CanGo (Range from to) ps = IsCuttable from to ps

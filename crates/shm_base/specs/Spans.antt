@@ -2,6 +2,7 @@
 use Rattle.std.specs.Prelude.{ℕ, zero, suc, ◌+◌, ◌*◌, ◌/◌, ◌<◌, ◌≤◌, Bool, List, [], ◌∷◌, ◌++◌}
 use Rattle.shm_base.specs.declared.paging.Span.{Span}
 use Rattle.shm_base.specs.Access.{Place}
+use Rattle.shm_base.specs.declared.paging.TheConstants.{PAGE_SIZE}
 
 -- the places from byte `at` of a segment on
 abbrev pub run : ℕ → ℕ → ℕ → Bool → List Place
@@ -15,8 +16,8 @@ span_places w (p ∷ ps) = run p.seg p.at p.len w ++ span_places w ps
 
 -- the page of its segment in which a span lies
 abbrev pub page_of : Span → ℕ
-page_of s = s.at / 4096
+page_of s = s.at / PAGE_SIZE
 
 -- a span is not empty and stays within a page
 abbrev pub InPage : Span → Type 0
-InPage s = (0 < s.len) × (s.at + s.len ≤ 4096 * page_of s + 4096)
+InPage s = (0 < s.len) × (s.at + s.len ≤ PAGE_SIZE * page_of s + PAGE_SIZE)

@@ -6,6 +6,7 @@ use Rattle.atomic_table.specs.Seated.{TableId}
 use Rattle.shm_base.specs.declared.paging.Tally.{Tally}
 use Rattle.shm_history.specs.declared.cell.Reading.{Reading}
 use Rattle.shm_history.specs.declared.cell.SeatView.{SeatView}
+use Rattle.shm_base.specs.declared.bounds.TheConstants.{MOST_FRAMES, MOST_SHMALL}
 
 -- the name of one gauge's cell
 abbrev pub CellName : Type 0
@@ -31,7 +32,7 @@ numbers_of ws = record { events = slice_index ws 0; resident = slice_index ws 1;
 
 -- the bounds that a world's counts keep
 abbrev pub IsReading : Reading → Type 0
-IsReading r = (r.dirty ≤ r.resident) × (r.resident ≤ 4096) × (r.used ≤ 65536)
+IsReading r = (r.dirty ≤ r.resident) × (r.resident ≤ MOST_FRAMES) × (r.used ≤ MOST_SHMALL)
 
 -- what the keeper's seat knows, and what a reader's
 abbrev pub keeping : Reading → SeatView

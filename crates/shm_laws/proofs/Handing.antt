@@ -1,5 +1,5 @@
 -- What each call does to the pieces of processes: nothing, or the caller attaches a segment, or loses pieces, or has a child.
-use Rattle.shm_laws.proofs.Names.{◌≡◌, ◌⊎◌, ℕ, suc, ◌+◌, ◌-◌, ◌*◌, ◌%◌, ◌≤◌, ◌==◌, ◌&&◌, ℤ, pos, negsuc, Bool, true, false, not, nat_lt, List, [], ◌∷◌, length, map, get_or, Option, Some, None, slice_get, slice_set, refl, sym, ap, ◌∙◌, inl, inr, arith, ne_eqb, common_steps, All, filter, find, cases_eq, not-false, none-some, All-map, Errno, Call, Shmget, Shmat, Shmdt, Load, Fork, Exec, Exit, Addr, Done, AtFlags, end_of, grants, Segment, Piece, Life, Live, Ended, Runner, Machine, pages_in, Look, Found, Removed, Invalid, identifier, destroyed_at, look, inside, occupied, choose, is_gap, first_chosen, lowest_address, last_address, origin_of, is_named, is_refusal, refuses, creates, Caller, Outcome, caller_from, acts, at_wish, is_rnd, is_remap, pieces_with, with_pieces, attaches, attaches_chosen, attaches_fixed, attaches_found, shmat, detaches, forks, unborn_from, all-cons, all-head, all-tail, Stands, hands_pieces}
+use Rattle.shm_laws.proofs.Names.{◌≡◌, ◌⊎◌, ℕ, suc, ◌+◌, ◌-◌, ◌*◌, ◌%◌, ◌≤◌, ◌==◌, ◌&&◌, ℤ, pos, negsuc, Bool, true, false, not, nat_lt, List, [], ◌∷◌, length, map, get_or, Option, Some, None, slice_get, slice_set, refl, sym, ap, ◌∙◌, inl, inr, arith, ne_eqb, common_steps, All, filter, find, cases_eq, not-false, none-some, All-map, Errno, Call, Shmget, Shmat, Shmdt, Load, Fork, Exec, Exit, Addr, Done, AtFlags, end_of, grants, Segment, Piece, Life, Live, Ended, Runner, Machine, pages_in, Look, Found, Removed, Invalid, identifier, destroyed_at, look, inside, occupied, choose, is_gap, first_chosen, lowest_address, end_address, origin_of, is_named, is_refusal, refuses, creates, Caller, Outcome, caller_from, acts, at_wish, is_rnd, is_remap, pieces_with, with_pieces, attaches, attaches_chosen, attaches_fixed, attaches_found, shmat, detaches, forks, unborn_from, all-cons, all-head, all-tail, Stands, hands_pieces}
 use Rattle.shm_laws.proofs.Looks.{found-own}
 use Rattle.shm_laws.proofs.Stepping.{pick, pick_by}
 
@@ -38,8 +38,8 @@ pub record Attaches (s : Machine) (c : Caller) (call : Call) (o : Outcome) : Typ
   pub permitted : grants c.cred segment.perm (at_wish flags) ≡ true
   pub page : All IsAligned c.pieces → base % 4096 ≡ 0
   pub from : lowest_address ≤ base
-  pub to : base + 4096 * pages_in segment ≤ last_address
-  pub few : length (pieces_with c seg segment flags base) ≤ 256
+  pub to : base + 4096 * pages_in segment ≤ end_address
+  pub few : length (pieces_with c seg segment flags base) ≤ s.limits.most_pieces
   pub free : is_remap flags ≡ false → occupied c.pieces base (base + 4096 * pages_in segment) ≡ false
   pub answer : o.reply ≡ Addr base
   pub runners : o.state.runners ≡ with_pieces s.runners c (pieces_with c seg segment flags base)
@@ -102,7 +102,7 @@ chosen-free ps pages base found = grind (arith, common_steps, find-passes, map, 
 -- from the lowest address up to the last
 pub record IsInside (base end : ℕ) : Type 0 where
   pub from : lowest_address ≤ base
-  pub to : end ≤ last_address
+  pub to : end ≤ end_address
 
 chosen-inside : (ps : List Piece) (pages base : ℕ) → choose ps pages ≡ Some base → IsInside base (base + 4096 * pages)
 chosen-inside ps pages base found = by (find-passes (is_gap ps pages) (first_chosen ∷ map end_of ps) base found)
@@ -113,8 +113,8 @@ chosen-inside ps pages base found = by (find-passes (is_gap ps pages) (first_cho
 fixed-inside : (base pages : ℕ) → not (inside base pages) ≡ false → IsInside base (base + 4096 * pages)
 fixed-inside base pages h = grind (arith, common_steps)
 
-few-enough : (n : ℕ) → nat_lt 256 n ≡ false → n ≤ 256
-few-enough n h = grind (arith, common_steps)
+few-enough : (most n : ℕ) → nat_lt most n ≡ false → n ≤ most
+few-enough most n h = grind (arith, common_steps)
 
 pub none-stay : (ps : List Piece) → [] ≡ filter (λ (p : Piece). false) ps
 none-stay [] = refl
@@ -134,7 +134,7 @@ module _ (s : Machine) (n : ℕ) (c : Caller) where
     hands-attaches : (base : ℕ) → (All IsAligned c.pieces → base % 4096 ≡ 0) → IsInside base (base + 4096 * pages_in x) → (is_remap flags ≡ false → occupied c.pieces base (base + 4096 * pages_in x) ≡ false)
         → Hands s c call (attaches s n c seg x flags base)
     hands-attaches base page inside free =
-        pick_by (Hands s c call) (nat_lt 256 (length (pieces_with c seg x flags base))) _ _ (λ h. refused call _)
+        pick_by (Hands s c call) (nat_lt s.limits.most_pieces (length (pieces_with c seg x flags base))) _ _ (λ h. refused call _)
         (λ h. inr (inl (record {
           seg = seg;
           addr = at;
@@ -147,7 +147,7 @@ module _ (s : Machine) (n : ℕ) (c : Caller) where
           page = page;
           from = inside.from;
           to = inside.to;
-          few = few-enough (length (pieces_with c seg x flags base)) h;
+          few = few-enough s.limits.most_pieces (length (pieces_with c seg x flags base)) h;
           free = free;
           answer = refl;
           runners = refl;

@@ -61,7 +61,7 @@ module _ (hidden : ℕ → Bool) (s : Machine) (n : ℕ) (c : Caller) where
   out-attaches : (b : Bool) (id : ℕ) (x : Segment) (flags : AtFlags) (base : ℕ) → attaches B n c id (veiled b x) flags base ≡ out hidden (attaches s n c id x flags base)
   out-attaches b id x flags base =
       rw (veiled-pages b x)
-      (tests Emfile (nat_lt 256 (length (pieces_with c id x flags base))) _ _ _ refl (λ j. record { reply = Addr base; state = record s { table = table j; runners = rs } }))
+      (tests Emfile (nat_lt s.limits.most_pieces (length (pieces_with c id x flags base))) _ _ _ refl (λ j. record { reply = Addr base; state = record s { table = table j; runners = rs } }))
     where
       rs : List Runner
       rs = with_pieces s.runners c (pieces_with c id x flags base)

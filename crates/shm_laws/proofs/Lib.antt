@@ -12,6 +12,7 @@ pub mod Marking
 pub mod Getting
 pub mod Keying
 pub mod Sizing
+pub mod Limiting
 pub mod Spacing
 pub mod Crediting
 pub mod Piecing

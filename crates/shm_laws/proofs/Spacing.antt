@@ -1,5 +1,7 @@
 -- The pieces of a process lie apart, inside the addresses, and are few.
-use Rattle.shm_laws.proofs.Names.{◌≡◌, ◌⊎◌, ℕ, zero, suc, ◌+◌, ◌-◌, ◌*◌, ◌/◌, ◌%◌, ◌≤◌, ◌<◌, Bool, true, false, not, List, [], ◌∷◌, ◌++◌, length, Some, slice_get, slice_set, refl, ap, subst, inl, inr, arith, common_steps, All, All-contains, All-map, All-nil, All-weaker, filter, none-some, or_parts, both_ways, ⊤, Call, Event, Segment, Piece, Live, Runner, Machine, Opening, start_of, runner_at_start, pages_in, end_of, covers, meets, occupied, parts, cut, inserted, lowest_address, last_address, occupied-cut, shorter_filter, all-cons, all-slice_set, Caller, Outcome, caller_of, acts, is_rdonly, pieces_with, IsMove, IsHistory, FillsPages, LieApart, LiesInside, AreLaidOut, SpacesAreLaidOut}
+use Rattle.shm_laws.proofs.Names.{◌≡◌, ◌⊎◌, ℕ, zero, suc, ◌+◌, ◌-◌, ◌*◌, ◌/◌, ◌%◌, ◌≤◌, ◌<◌, Bool, true, false, not, List, [], ◌∷◌, ◌++◌, length, Some, slice_get, slice_set, refl, ap, subst, inl, inr, arith, common_steps, All, All-contains, All-map, All-nil, All-weaker, filter, none-some, or_parts, both_ways, ⊤, Call, Event, Segment, Piece, Live, Runner, Machine, Opening, start_of, runner_at_start, pages_in, end_of, covers, meets, occupied, parts, cut, inserted, lowest_address, end_address, occupied-cut, shorter_filter, all-cons, all-slice_set, Caller, Outcome, caller_of, acts, is_rdonly, pieces_with, IsMove, IsHistory, FillsPages, LieApart, LiesInside, AreLaidOut, SpacesAreLaidOut, sym, ◌∙◌}
+use Rattle.shm_base.specs.Bounds.{Bounds}
+use Rattle.shm_laws.proofs.Limiting.{limits-stay}
 use Rattle.shm_laws.proofs.Inducting.{Keeps, held_always}
 use Rattle.shm_laws.proofs.Handing.{IsAligned, Attaches, Hands, hands-acts}
 use Rattle.shm_laws.proofs.Granting.{me-is}
@@ -12,7 +14,7 @@ use Rattle.shm_laws.proofs.Sizing.{IsFilled, filled-move, filled-start}
 record IsSet (p : Piece) : Type 0 where
   page : p.base % 4096 ≡ 0
   some : 1 ≤ p.pages
-  to : end_of p ≤ last_address
+  to : end_of p ≤ end_address
 
 -- by rising base from an address on, each after the end of the one before
 abbrev Laid : ℕ → List Piece → Type 0
@@ -105,25 +107,25 @@ laid-inside low (p ∷ ps) le laid =
 
 -- WHAT EACH CALL LEAVES
 
-record IsSpace (ps : List Piece) : Type 0 where
+record IsSpace (most : ℕ) (ps : List Piece) : Type 0 where
   laid : Laid lowest_address ps
-  few : length ps ≤ 256
+  few : length ps ≤ most
 
-abbrev Spaces : List Runner → Type 0
-Spaces rs = All (λ (r : Runner). IsSpace r.pieces) rs
+abbrev Spaces : ℕ → List Runner → Type 0
+Spaces most rs = All (λ (r : Runner). IsSpace most r.pieces) rs
 
-laid-out : (ps : List Piece) → IsSpace ps → AreLaidOut ps
-laid-out ps s = record { apart = laid-apart lowest_address ps s.laid; inside = laid-inside lowest_address ps (omega arith) s.laid; few = s.few }
+laid-out : (most : ℕ) (ps : List Piece) → IsSpace most ps → AreLaidOut most ps
+laid-out most ps s = record { apart = laid-apart lowest_address ps s.laid; inside = laid-inside lowest_address ps (omega arith) s.laid; few = s.few }
 
 some-pages : (x : Segment) → FillsPages x → 1 ≤ pages_in x
 some-pages x f = omega (arith, f.some, f.whole, f.enough)
 
-module _ (s : Machine) (pid : ℕ) (c : Caller) (is : caller_of s pid ≡ Some c) (filled : IsFilled s) (spaces : Spaces s.runners) where
-  own : IsSpace c.pieces
-  own = All-contains (λ (r : Runner). IsSpace r.pieces) s.runners (record { pid = pid; life = Live c.cred; pieces = c.pieces }) spaces (me-is s pid c is)
+module _ (s : Machine) (pid : ℕ) (c : Caller) (is : caller_of s pid ≡ Some c) (filled : IsFilled s) (spaces : Spaces s.limits.most_pieces s.runners) where
+  own : IsSpace s.limits.most_pieces c.pieces
+  own = All-contains (λ (r : Runner). IsSpace s.limits.most_pieces r.pieces) s.runners (record { pid = pid; life = Live c.cred; pieces = c.pieces }) spaces (me-is s pid c is)
 
-  set-one : (i : ℕ) (r : Runner) → IsSpace r.pieces → Spaces (slice_set s.runners i r)
-  set-one i r h = all-slice_set (λ (q : Runner). IsSpace q.pieces) s.runners i r spaces h
+  set-one : (i : ℕ) (r : Runner) → IsSpace s.limits.most_pieces r.pieces → Spaces s.limits.most_pieces (slice_set s.runners i r)
+  set-one i r h = all-slice_set (λ (q : Runner). IsSpace s.limits.most_pieces q.pieces) s.runners i r spaces h
 
   module _ (call : Call) (o : Outcome) (k : Attaches s c call o) where
     abbrev new : Piece
@@ -141,7 +143,7 @@ module _ (s : Machine) (pid : ℕ) (c : Caller) (is : caller_of s pid ≡ Some c
     set : IsSet new
     set = record { page = page; some = some-pages k.segment (filled.filled k.seg k.segment k.stands); to = k.to }
 
-    attaches-space : IsSpace (pieces_with c k.seg k.segment k.flags k.base)
+    attaches-space : IsSpace s.limits.most_pieces (pieces_with c k.seg k.segment k.flags k.base)
     attaches-space =
         record {
           laid =
@@ -150,7 +152,7 @@ module _ (s : Machine) (pid : ℕ) (c : Caller) (is : caller_of s pid ≡ Some c
           few = k.few;
         }
 
-  hands-spaces : (call : Call) (o : Outcome) → Hands s c call o → Spaces o.state.runners
+  hands-spaces : (call : Call) (o : Outcome) → Hands s c call o → Spaces s.limits.most_pieces o.state.runners
   hands-spaces call o (inl k) = rw k.runners spaces
   hands-spaces call o (inr (inl k)) =
       rw k.runners (set-one c.index (record { pid = c.pid; life = Live c.cred; pieces = pieces_with c k.seg k.segment k.flags k.base }) (attaches-space call o k))
@@ -160,33 +162,38 @@ module _ (s : Machine) (pid : ℕ) (c : Caller) (is : caller_of s pid ≡ Some c
       (record { laid = laid-filter k.stays lowest_address c.pieces own.laid; few = let le = shorter_filter k.stays c.pieces in omega (arith, le, own.few) }))
   hands-spaces call o (inr (inr (inr k))) = rw k.runners (set-one k.index (record { pid = k.child; life = Live c.cred; pieces = c.pieces }) own)
 
-spaces-move : (s : Machine) (n : ℕ) (e : Event) (t : Machine) → IsFilled s → Spaces s.runners → IsMove s n e t → Spaces t.runners
+spaces-move : (s : Machine) (n : ℕ) (e : Event) (t : Machine) → IsFilled s → Spaces s.limits.most_pieces s.runners → IsMove s n e t → Spaces s.limits.most_pieces t.runners
 spaces-move s n e t filled spaces =
-    by-move s n e t (λ r u. Spaces u.runners) (λ c is. hands-spaces s e.pid c is filled spaces e.call (acts s n c e.call) (hands-acts s n c e.call)) (λ r no. spaces)
+    by-move s n e t (λ r u. Spaces s.limits.most_pieces u.runners) (λ c is. hands-spaces s e.pid c is filled spaces e.call (acts s n c e.call) (hands-acts s n c e.call)) (λ r no. spaces)
 
 -- WHOLE HISTORIES
 
-record AreInOrder (s : Machine) : Type 0 where
+record AreInOrder (limits : Bounds) (s : Machine) : Type 0 where
   filled : IsFilled s
-  spaces : Spaces s.runners
+  same : s.limits ≡ limits
+  spaces : Spaces limits.most_pieces s.runners
 
-in-order-move : Keeps AreInOrder (λ s e t. Spaces t.runners)
-in-order-move s n e t now m =
-    let next = spaces-move s n e t now.filled now.spaces m in
-    (record { filled = (filled-move s n e t now.filled m).0; spaces = next }, next)
+in-order-move : (limits : Bounds) → Keeps (AreInOrder limits) (λ s e t. Spaces limits.most_pieces t.runners)
+in-order-move limits s n e t now m =
+    let before : Spaces s.limits.most_pieces s.runners = subst (λ (b : Bounds). Spaces b.most_pieces s.runners) (sym now.same) now.spaces in
+    let after = spaces-move s n e t now.filled before m in
+    let next : Spaces limits.most_pieces t.runners = subst (λ (b : Bounds). Spaces b.most_pieces t.runners) now.same after in
+    (record { filled = (filled-move s n e t now.filled m).0; same = limits-stay s n e t m ∙ now.same; spaces = next }, next)
 
-in-order-start : (o : Opening) → AreInOrder (start_of o)
+in-order-start : (o : Opening) → AreInOrder o.limits (start_of o)
 in-order-start o =
     record {
       filled = filled-start o;
-      spaces = All-map (λ (r : Runner). IsSpace r.pieces) runner_at_start o.processes (λ k d lt. record { laid = tt; few = omega arith });
+      same = refl;
+      spaces = All-map (λ (r : Runner). IsSpace o.limits.most_pieces r.pieces) runner_at_start o.processes (λ k d lt. record { laid = tt; few = omega arith });
     }
 
 -- of every legal history
 pub spaces_are_laid_out : (o : Opening) (events : List Event) (end : Machine) → IsHistory o events end → SpacesAreLaidOut o events end
 spaces_are_laid_out o events end h =
+    let most = o.limits.most_pieces in
     record {
       spaces = λ before s m.
-          All-weaker (λ (r : Runner). IsSpace r.pieces) (λ (r : Runner). AreLaidOut r.pieces) (λ r space. laid-out r.pieces space) s.runners
-          (held_always AreInOrder (λ s e t. Spaces t.runners) in-order-move o (in-order-start o) events before s m).spaces;
+          All-weaker (λ (r : Runner). IsSpace most r.pieces) (λ (r : Runner). AreLaidOut most r.pieces) (λ r space. laid-out most r.pieces space) s.runners
+          (held_always (AreInOrder o.limits) (λ s e t. Spaces most t.runners) (in-order-move o.limits) o (in-order-start o) events before s m).spaces;
     }

@@ -186,7 +186,7 @@ module _ (like : Segment → Type 0) (s : Machine) (n : ℕ) (c : Caller) where
       let old : List Entry = detach_all n c.pid s.table lost in
       let rs : List Runner = with_pieces s.runners c (pieces_with c id x flags base) in
       let after : Machine = record s { table = swept rs (change old id (attached n c.pid)); runners = rs } in
-      pick (Plain s) (nat_lt 256 (length (pieces_with c id x flags base))) (refuses s Emfile) (gives after (Addr base)) (still like s _)
+      pick (Plain s) (nat_lt s.limits.most_pieces (length (pieces_with c id x flags base))) (refuses s Emfile) (gives after (Addr base)) (still like s _)
       (sweeps like s (Addr base) after (change old id (attached n c.pid))
       (λ i. turned-trans unchanged unchanged s.table old (change old id (attached n c.pid)) i (turned-detach n c.pid lost s.table i) (turned-change (attached n c.pid) (λ y. same_head y (attached n c.pid y) refl refl refl refl) (λ y. record { key = refl; dest = refl }) (λ y. refl) old id i))
       refl (living c (pieces_with c id x flags base) s.runners))

@@ -18,12 +18,13 @@ use Rattle.shm_base.specs.Access.{end_of, covers}
 use Rattle.shm_base.specs.Step.{Caller, caller_of, is_rdonly}
 use Rattle.shm_base.specs.History.{is_refusal, IsHistory}
 use Rattle.shm_laws.specs.Standing.{Stands, HasPiece, EachPiece, EachMove, Always}
+use Rattle.shm_base.specs.declared.paging.TheConstants.{PAGE_SIZE}
 
 -- p is a part of q: it has at each of its addresses the page that q has there, and is as writable
 pub record IsPart (p q : Piece) : Type 0 where
   pub seg : p.seg ≡ q.seg
   pub writable : p.writable ≡ q.writable
-  pub pages : p.base + 4096 * q.first_page ≡ q.base + 4096 * p.first_page
+  pub pages : p.base + PAGE_SIZE * q.first_page ≡ q.base + PAGE_SIZE * p.first_page
   pub from : q.base ≤ p.base
   pub to : end_of p ≤ end_of q
 
@@ -41,7 +42,7 @@ pub record IsGranted (s : Machine) (e : Event) (pid : ℕ) (p : Piece) : Type 0 
   pub segment : Segment
   pub stands : Stands s p.seg segment
   pub permitted : grants caller.cred segment.perm (record { read = true; write = p.writable }) ≡ true
-  pub page : p.base % 4096 ≡ 0
+  pub page : p.base % PAGE_SIZE ≡ 0
   pub whole : (p.first_page ≡ 0) × (p.pages ≡ pages_in segment)
 
 -- the event is a fork that made the process a child, and its parent had the piece

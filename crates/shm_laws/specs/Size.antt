@@ -3,13 +3,14 @@ use Rattle.std.specs.Prelude.{◌≡◌, ◌≤◌, ◌<◌, ℕ, ◌+◌, ◌%�
 use Rattle.shm_base.specs.declared.call.Event.{Event}
 use Rattle.shm_base.specs.State.{Segment, Machine, Opening}
 use Rattle.shm_laws.specs.Standing.{Stands, EachMove, Always}
+use Rattle.shm_base.specs.declared.paging.TheConstants.{PAGE_SIZE}
 
 -- it has a size, and the fewest whole pages of bytes that hold it
 pub record FillsPages (x : Segment) : Type 0 where
   pub some : 1 ≤ x.size
-  pub whole : length x.bytes % 4096 ≡ 0
+  pub whole : length x.bytes % PAGE_SIZE ≡ 0
   pub enough : x.size ≤ length x.bytes
-  pub least : length x.bytes < x.size + 4096
+  pub least : length x.bytes < x.size + PAGE_SIZE
 
 -- so it is with each segment that exists
 abbrev pub AllFillPages : Machine → Type 0

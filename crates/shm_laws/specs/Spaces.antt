@@ -3,8 +3,9 @@ use Rattle.std.specs.Prelude.{◌≡◌, ◌≤◌, ℕ, ◌%◌, true, List, le
 use Rattle.shm_base.specs.declared.call.Event.{Event}
 use Rattle.shm_base.specs.State.{Piece, Runner, Machine, Opening}
 use Rattle.shm_base.specs.Access.{end_of, covers}
-use Rattle.shm_base.specs.Space.{lowest_address, last_address}
+use Rattle.shm_base.specs.Space.{lowest_address, end_address}
 use Rattle.shm_laws.specs.Standing.{Always}
+use Rattle.shm_base.specs.declared.paging.TheConstants.{PAGE_SIZE}
 
 -- no address lies in two of them
 abbrev pub LieApart : List Piece → Type 0
@@ -14,17 +15,17 @@ LieApart ps =
 
 -- it is of whole pages, one at least, from the lowest address up to the last
 pub record LiesInside (p : Piece) : Type 0 where
-  pub page : p.base % 4096 ≡ 0
+  pub page : p.base % PAGE_SIZE ≡ 0
   pub some : 1 ≤ p.pages
   pub from : lowest_address ≤ p.base
-  pub to : end_of p ≤ last_address
+  pub to : end_of p ≤ end_address
 
--- pieces that one process may have
-pub record AreLaidOut (ps : List Piece) : Type 0 where
+-- pieces that one process may have, where so many are the most
+pub record AreLaidOut (most : ℕ) (ps : List Piece) : Type 0 where
   pub apart : LieApart ps
   pub inside : All LiesInside ps
-  pub few : length ps ≤ 256
+  pub few : length ps ≤ most
 
 -- THE LAW. At each moment the pieces of each process are laid out so
 pub record SpacesAreLaidOut (o : Opening) (events : List Event) (end : Machine) : Type 0 where
-  pub spaces : Always (λ before s. All (λ (r : Runner). AreLaidOut r.pieces) s.runners) o events
+  pub spaces : Always (λ before s. All (λ (r : Runner). AreLaidOut o.limits.most_pieces r.pieces) s.runners) o events

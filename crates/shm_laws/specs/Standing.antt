@@ -4,10 +4,11 @@ use Rattle.shm_base.specs.declared.call.Event.{Event}
 use Rattle.shm_base.specs.State.{Segment, Piece, Runner, Machine, Opening, start_of}
 use Rattle.shm_base.specs.Identifier.{Found, Removed, look}
 use Rattle.shm_base.specs.History.{IsMove, IsHistory}
+use Rattle.shm_base.specs.declared.bounds.TheConstants.{INDEXES}
 
 -- the segment stands under the identifier
 abbrev pub Stands : Machine → ℕ → Segment → Type 0
-Stands s id x = look s.table (pos id) ≡ Found (id % 32768) x
+Stands s id x = look s.table (pos id) ≡ Found (id % INDEXES) x
 
 -- the identifier is a destroyed segment's
 abbrev pub IsGone : Machine → ℕ → Type 0

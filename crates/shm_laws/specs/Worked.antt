@@ -4,6 +4,7 @@ use Rattle.shm_base.specs.declared.errno.Errno.TheVariants.{Eperm, Enoent, Eacce
 use Rattle.shm_base.specs.declared.call.Call.TheVariants.{Shmdt, Set, Rmid, Load, Store, Xadd, Fork, Exec}
 use Rattle.shm_base.specs.declared.call.Reply.TheVariants.{Addr, Bytes, Number, Done, Refused}
 use Rattle.shm_base.specs.declared.call.Event.{Event}
+use Rattle.shm_base.specs.Bounds.{profile}
 use Rattle.shm_base.specs.State.{Segment, Entry, Piece, Runner, Machine, Opening, start_of}
 use Rattle.shm_base.specs.History.{IsHistory, own_part}
 use Rattle.shm_base.specs.Rows.{Answers, does, id, mode, creat, rdonly, remap, shmget, shmat, stat, process, child}
@@ -30,7 +31,7 @@ is_found Invalid = false
 abbrev pub opening : Opening
 opening =
     record {
-      limits = record { shmmax = 65536; shmmni = 16; shmall = 64; frames = 4; memlock = 1 };
+      limits = profile 65536 16 64 4 1;
       areas = 64 ∷ [];
       processes = process 1 100 100 ∷ process 2 100 100 ∷ [];
     }

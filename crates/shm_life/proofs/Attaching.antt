@@ -8,21 +8,21 @@ use Rattle.shm_segments.specs.declared.head.Found.{Found as Live}
 
 module _ (s : Machine) (n : ℕ) (c : Caller) (flags : AtFlags) where
   few-outcome : (id : ℕ) (x : Segment) (base : ℕ)
-      → attaches s n c id x flags base ≡ placed_outcome s n c flags (placed_at id (pages_in x) (if_few c.pieces (pages_in x) (Ok base)))
+      → attaches s n c id x flags base ≡ placed_outcome s n c flags (placed_at id (pages_in x) (if_few s.limits.most_pieces c.pieces (pages_in x) (Ok base)))
   few-outcome id x base = grind (arith, length-inserted)
 
   chosen-outcome : (id : ℕ) (x : Segment) (o : Option ℕ)
-      → attaches_chosen s n c id x flags o ≡ placed_outcome s n c flags (placed_at id (pages_in x) (if_few c.pieces (pages_in x) (gap_found o)))
+      → attaches_chosen s n c id x flags o ≡ placed_outcome s n c flags (placed_at id (pages_in x) (if_few s.limits.most_pieces c.pieces (pages_in x) (gap_found o)))
   chosen-outcome id x None = refl
   chosen-outcome id x (Some base) = few-outcome id x base
 
   fixed-outcome : (id : ℕ) (x : Segment) (base : ℕ)
-      → attaches_fixed s n c id x flags base ≡ placed_outcome s n c flags (placed_at id (pages_in x) (if_few c.pieces (pages_in x) (fixed_at c.pieces base (pages_in x) flags)))
+      → attaches_fixed s n c id x flags base ≡ placed_outcome s n c flags (placed_at id (pages_in x) (if_few s.limits.most_pieces c.pieces (pages_in x) (fixed_at c.pieces base (pages_in x) flags)))
   fixed-outcome id x base = grind (arith, nat_tests, few-outcome id x base)
 
   base-outcome : (id : ℕ) (x : Segment) (addr : ℕ)
       → (if addr == 0 then attaches_chosen s n c id x flags (choose c.pieces (pages_in x)) else attaches_fixed s n c id x flags (addr - addr % 4096))
-      ≡ placed_outcome s n c flags (placed_at id (pages_in x) (base_for c.pieces (pages_in x) flags addr))
+      ≡ placed_outcome s n c flags (placed_at id (pages_in x) (base_for s.limits.most_pieces c.pieces (pages_in x) flags addr))
   base-outcome id x addr = grind (arith, nat_tests, chosen-outcome id x (choose c.pieces (pages_in x)), fixed-outcome id x (addr - addr % 4096))
 
   found-outcome : (addr : ℕ) (o : Look) → attaches_found s n c flags addr o ≡ placed_outcome s n c flags (placed_found s c flags addr o)
@@ -37,14 +37,14 @@ module _ (s : Machine) (n : ℕ) (c : Caller) (flags : AtFlags) where
 -- behind the tests it is where the pages go
 pub placed-found : (s : Machine) (c : Caller) (id : ℤ) (addr : ℕ) (flags : AtFlags) (f : Live) → IsFound s.table f → misplaced addr flags ≡ false
     → look s.table id ≡ look_of s.table f → grants c.cred f.head.perm (at_wish flags) ≡ true
-    → placed s c id addr flags ≡ placed_at f.seg (pages_of f.head.size) (base_for c.pieces (pages_of f.head.size) flags addr)
+    → placed s c id addr flags ≡ placed_at f.seg (pages_of f.head.size) (base_for s.limits.most_pieces c.pieces (pages_of f.head.size) flags addr)
 placed-found s c id addr flags f found h is granted = grind (arith, nat_tests)
 
-pub if_few-under : (ps : List Piece) (pages base : ℕ) → length (cut base (base + 4096 * pages) ps) < 256 → if_few ps pages (Ok base) ≡ Ok base
-if_few-under ps pages base few = rw (le-ltb 256 (length (cut base (base + 4096 * pages) ps) + 1) (omega (arith, few))) refl
+pub if_few-under : (most : ℕ) (ps : List Piece) (pages base : ℕ) → length (cut base (base + 4096 * pages) ps) < most → if_few most ps pages (Ok base) ≡ Ok base
+if_few-under most ps pages base few = rw (le-ltb most (length (cut base (base + 4096 * pages) ps) + 1) (omega (arith, few))) refl
 
-pub if_few-over : (ps : List Piece) (pages base : ℕ) → 256 ≤ length (cut base (base + 4096 * pages) ps) → if_few ps pages (Ok base) ≡ Err Emfile
-if_few-over ps pages base many = rw (lt-ltb 256 (length (cut base (base + 4096 * pages) ps) + 1) (omega (arith, many))) refl
+pub if_few-over : (most : ℕ) (ps : List Piece) (pages base : ℕ) → most ≤ length (cut base (base + 4096 * pages) ps) → if_few most ps pages (Ok base) ≡ Err Emfile
+if_few-over most ps pages base many = rw (lt-ltb most (length (cut base (base + 4096 * pages) ps) + 1) (omega (arith, many))) refl
 
 pub on-err : {T E X : Type 0} (r : Result T E) → X → OnErr r X
 on-err (Ok t) x = tt

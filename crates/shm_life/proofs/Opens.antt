@@ -1,6 +1,7 @@
 -- Where no start error holds, swap areas and processes are as their crates ask.
 use Rattle.shm_life.proofs.Names.{◌≡◌, ◌≢◌, ℕ, zero, suc, ◌≤◌, ◌&&◌, Bool, true, false, not, if◌then◌else◌, List, [], ◌∷◌, length, get_or, replicate, Some, None, refl, sym, ap, arith, common_steps, All-nil, All-map, length-replicate, get_or-replicate, get_or_past, AllPairs-cons, All, AllPairs, Bounds, within, Runner, runner_at_start, PieceFits, IsTableSound, Process, PageRef, pager_seen, IsAreaSize, owner_of, sizes, new_swap, fresh, are_sizes, has_pid, are_pids, start_error, nat_tests}
 use Rattle.std.proofs.Common.{map, Option, true≢false}
+use Rattle.shm_base.specs.Bounds.{Bounds}
 use Rattle.shm_life.proofs.Pieces.{all-cons}
 
 both : (a b : Bool) → a && b ≡ true → (a ≡ true) × (b ≡ true)
@@ -13,11 +14,11 @@ sound : {X : Type 0} (a b c d : Bool) (x y z w : X) → (if not a then Some x el
     → (a ≡ true) × (b ≡ true) × (c ≡ false) × (d ≡ true)
 sound a b c d x y z w is = grind (arith, nat_tests)
 
-all-sizes : {X : Type 0} (f : X → ℕ) (xs : List X) → are_sizes (map f xs) ≡ true → All (λ x. IsAreaSize (f x)) xs
-all-sizes f [] is = All-nil (λ x. IsAreaSize (f x))
-all-sizes f (x ∷ xs) is =
-    let parts : IsAreaSize (f x) × (are_sizes (map f xs) ≡ true) = grind (arith, nat_tests, common_steps, is) in
-    all-cons (λ y. IsAreaSize (f y)) x xs parts.0 (all-sizes f xs parts.1)
+all-sizes : {X : Type 0} (most : ℕ) (f : X → ℕ) (xs : List X) → most ≤ 65536 → are_sizes most (map f xs) ≡ true → All (λ x. IsAreaSize (f x)) xs
+all-sizes most f [] le is = All-nil (λ x. IsAreaSize (f x))
+all-sizes most f (x ∷ xs) le is =
+    let parts : IsAreaSize (f x) × (are_sizes most (map f xs) ≡ true) = grind (arith, nat_tests, common_steps, is) in
+    all-cons (λ y. IsAreaSize (f y)) x xs parts.0 (all-sizes most f xs le parts.1)
 
 not_there : (pid : ℕ) (ps : List Process) → has_pid pid ps ≡ false → All (λ (q : Process). pid ≢ q.pid) ps
 not_there pid [] is = All-nil (λ (q : Process). pid ≢ q.pid)
@@ -36,8 +37,9 @@ pub record IsOpen {X : Type 0} (size : X → ℕ) (pagers : List X) (ps : List P
   pub few : length ps ≤ 64
   pub apart : AllPairs (λ (p q : Process). p.pid ≢ q.pid) ps
 
-pub is_open : {X : Type 0} (size : X → ℕ) (pagers : List X) (ps : List Process) → start_error (map size pagers) ps ≡ None → IsOpen size pagers ps
-is_open size pagers ps is = grind (arith, common_steps, pids-apart, all-sizes)
+pub is_open : {X : Type 0} (limits : Bounds) (size : X → ℕ) (pagers : List X) (ps : List Process) → limits.most_processes ≤ 64 → limits.most_slots ≤ 65536
+    → start_error limits (map size pagers) ps ≡ None → IsOpen size pagers ps
+is_open limits size pagers ps processes slots is = grind (arith, common_steps, pids-apart, all-sizes)
 
 -- the areas as they are handed in have the pagers' sizes
 pub sizes-new : {X : Type 0} (content : X → List (List ℕ)) (failed : X → ℕ) (pagers : List X)

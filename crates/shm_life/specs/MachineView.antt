@@ -19,6 +19,7 @@ use Rattle.shm_fault.specs.Sound.{IsStoreSound}
 use Rattle.shm_attach.specs.Spaces.{caller_seen}
 use Rattle.shm_attach.specs.declared.process.Caller.{Caller}
 use Rattle.shm_segments.specs.View.{ShowsTable}
+use Rattle.shm_base.specs.declared.bounds.TheConstants.{MOST_SHMALL}
 
 pub record MachineView : Type 0 where
   pub flat : Machine
@@ -95,5 +96,5 @@ pub record IsExactly (m : Machine) (memory : StoreView) : Type 0 where
   pub used : used memory ≤ flat.reserved m.table
   pub room : flat.reserved m.table ≤ swap_slots memory.swap
   pub reserved : flat.reserved m.table ≤ m.limits.shmall
-  pub shmall : m.limits.shmall ≤ 65536
+  pub shmall : m.limits.shmall ≤ MOST_SHMALL
   pub locked : flat.locked m.table ≤ m.limits.memlock

@@ -8,13 +8,14 @@ use Rattle.shm_fault.specs.Store.{StoreView}
 use Rattle.shm_attach.specs.Spaces.{Translation, AreTrue}
 use Rattle.shm_life.specs.Tied.{PiecesFit}
 use Rattle.shm_life.specs.Orphans.{OrphansAmong}
+use Rattle.shm_base.specs.declared.bounds.TheConstants.{INDEXES, MOST_FRAMES, MOST_SHMALL}
 
 pub record IsTableSoundBut (lost : List ℕ) (limits : Bounds) (table : List Entry) (rs : List Runner) : Type 0 where
-  pub few : length table ≤ 32768
+  pub few : length table ≤ INDEXES
   pub reserved : reserved table ≤ limits.shmall
-  pub shmall : limits.shmall ≤ 65536
+  pub shmall : limits.shmall ≤ MOST_SHMALL
   pub locked : locked table ≤ limits.memlock
-  pub memlock : limits.memlock ≤ 4096
+  pub memlock : limits.memlock ≤ MOST_FRAMES
   pub pieces : PiecesFit table rs
   pub orphans : OrphansAmong lost rs table
 

@@ -1,27 +1,28 @@
 -- When a system starts: the first error that holds of its areas and processes.
 use Rattle.std.specs.Prelude.{ℕ, ◌≡◌, Bool, true, not, ◌&&◌, nat_lt, ◌⊎◌, if◌then◌else◌, List, [], ◌∷◌, length, Option, Some, None}
 use Rattle.std.specs.List.{list_all}
-use Rattle.shm_base.specs.Bounds.{within}
+use Rattle.shm_base.specs.Bounds.{Bounds, within}
 use Rattle.shm_base.specs.Processes.{has_pid}
 use Rattle.shm_base.specs.declared.call.Process.{Process}
 use Rattle.shm_life.specs.declared.start.StartError.{StartError}
 use Rattle.shm_life.specs.declared.start.StartError.TheVariants.{Areas, AreaSize, Processes, Pid, HostMemory}
+use Rattle.shm_base.specs.declared.bounds.TheConstants.{LAST_PID, MOST_AREAS}
 
--- each area has 1 to 65536 slots
-abbrev pub are_sizes : List ℕ → Bool
-are_sizes areas = list_all (within 1 65536) areas
+-- each area has a slot, and no more than the most
+abbrev pub are_sizes : ℕ → List ℕ → Bool
+are_sizes most areas = list_all (within 1 most) areas
 
 -- each pid is in its range, and none stands twice
 abbrev pub are_pids : List Process → Bool
 are_pids [] = true
-are_pids (p ∷ ps) = within 1 2147483647 p.pid && not (has_pid p.pid ps) && are_pids ps
+are_pids (p ∷ ps) = within 1 LAST_PID p.pid && not (has_pid p.pid ps) && are_pids ps
 
 -- the first error, out of memory aside
-abbrev pub start_error : List ℕ → List Process → Option StartError
-start_error areas processes =
-    if not (within 1 8 (length areas)) then Some Areas else
-    if not (are_sizes areas) then Some AreaSize else
-    if nat_lt 64 (length processes) then Some Processes else
+abbrev pub start_error : Bounds → List ℕ → List Process → Option StartError
+start_error limits areas processes =
+    if not (within 1 MOST_AREAS (length areas)) then Some Areas else
+    if not (are_sizes limits.most_slots areas) then Some AreaSize else
+    if nat_lt limits.most_processes (length processes) then Some Processes else
     if not (are_pids processes) then Some Pid else
     None
 

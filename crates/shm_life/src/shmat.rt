@@ -15,7 +15,7 @@ use crate::kernel::Kernel;
 use crate::sweep::after_detach;
 use bitflags::Flags;
 use shm_attach::Caller;
-use shm_base::{AtFlags, Errno, HostMemory, MOST_PIECES, PAGE_SIZE, ShmId, Want, grants};
+use shm_base::{AtFlags, Errno, HostMemory, PAGE_SIZE, ShmId, Want, grants};
 use shm_pager::Pager;
 
 /// Whether a null address comes with SHM_REMAP, or another is unaligned without SHM_RND (shmop(2)).
@@ -41,7 +41,7 @@ impl<P: Pager> Kernel<P> {
     /// The refusals of shmat in their order, and where the new piece goes (shmop(2); the order is this
     /// profile's). Einval where a null address comes with SHM_REMAP or another is unaligned without SHM_RND;
     /// Einval or Eidrm for the identifier; Eacces; Einval where the range leaves the addresses, or is occupied
-    /// without SHM_REMAP; Enomem where no gap is left for a null address; Emfile for more than 256 pieces.
+    /// without SHM_REMAP; Enomem where no gap is left for a null address; Emfile for more pieces than the most.
     fn place_for(
         &self,
         caller: &Caller,
@@ -75,7 +75,8 @@ impl<P: Pager> Kernel<P> {
             space.check_fixed(addr, pages, flags)
         };
         let base = wish?;
-        if space.count_outside(base, base + PAGE_SIZE * pages as u64) >= MOST_PIECES {
+        let most = self.limits.most_pieces() as usize;
+        if space.count_outside(base, base + PAGE_SIZE * pages as u64) >= most {
             return Err(Errno::Emfile);
         }
         Ok(Placed { seg, pages, base })

@@ -1,9 +1,10 @@
 //! What a system starts from, and why a start is refused.
 ghost use Rattle.std.specs.Prelude.{◌≡◌, ℕ, [], length, map};
 ghost use Rattle.std.specs.Fn.{FnReturnsAt};
+ghost use Rattle.shm_base.specs.Bounds.{within};
 ghost use Rattle.shm_life.specs.Start.{start_error, are_pids, error_number};
 
-use shm_base::{LAST_PID, MOST_AREAS, MOST_PROCESSES, Process, has_pid, is_slot_count};
+use shm_base::{LAST_PID, Limits, MOST_AREAS, Process, has_pid};
 use shm_pager::Pager;
 use thiserror::Error;
 
@@ -40,17 +41,29 @@ impl StartError {
     }
 }
 
+// Whether an area may have so many slots.
+fn is_area_size(limits: &Limits, slots: u32) -> bool
+    ensures { result ≡ within 1 limits.now.most_slots slots }
+{
+    slots >= 1 && slots <= limits.most_slots()
+}
+
 /// The first start error of swap areas that holds, where `slots` gives an area's slots: `Areas` where there are not 1
-/// to 8, else `AreaSize` where one has not 1 to 65536 slots. It takes no memory.
-pub fn first_area_error<A, F: Fn(&A) -> u32>(areas: &[A], slots: F) -> Option<StartError>
+/// to 8, else `AreaSize` where one has no slot, or more than the most. It takes no memory.
+pub fn first_area_error<A, F: Fn(&A) -> u32>(
+    limits: &Limits,
+    areas: &[A],
+    slots: F,
+) -> Option<StartError>
     requires { F.IsAlwaysCallable slots }
-    ensures { (size : A → ℕ) → ((a : A) (n : ℕ) → FnReturnsAt F.Fn slots a n → n ≡ size a) → result ≡ start_error (map size areas.now) [] }
+    ensures { (size : A → ℕ) → ((a : A) (n : ℕ) → FnReturnsAt F.Fn slots a n → n ≡ size a)
+        → result ≡ start_error limits.now (map size areas.now) [] }
 {
     if areas.is_empty() || areas.len() > MOST_AREAS {
         return Some(StartError::Areas);
     }
     for area in areas {
-        if !is_slot_count(u64::from(slots(area))) {
+        if !is_area_size(limits, slots(area)) {
             return Some(StartError::AreaSize);
         }
     }
@@ -72,13 +85,17 @@ fn are_pids_sound(processes: &[Process]) -> bool
 }
 
 /// The first start error that holds, out of memory aside. It takes no memory.
-pub(crate) fn first_error<P: Pager>(pagers: &[P], processes: &[Process]) -> Option<StartError>
-    ensures { result ≡ start_error (map (λ p. length (P.content p)) pagers.now) processes.now }
+pub(crate) fn first_error<P: Pager>(
+    limits: &Limits,
+    pagers: &[P],
+    processes: &[Process],
+) -> Option<StartError>
+    ensures { result ≡ start_error limits.now (map (λ p. length (P.content p)) pagers.now) processes.now }
 {
-    if let Some(error) = first_area_error(pagers, |pager| pager.slots()) {
+    if let Some(error) = first_area_error(limits, pagers, |pager| pager.slots()) {
         return Some(error);
     }
-    if processes.len() > MOST_PROCESSES {
+    if processes.len() > limits.most_processes() as usize {
         return Some(StartError::Processes);
     }
     if !are_pids_sound(processes) {

@@ -96,10 +96,10 @@ impl<P: Pager> System<P> {
         processes: &[Process],
     ) -> Result<System<P>, StartError>
         ensures started { IfOk result (λ s. IsStarted limits (map (λ p. length (P.content p)) pagers.items) (map (λ p. fresh (pager_seen P.content P.failed p)) pagers.items) processes.now s) }
-        ensures ok { OnOk result (start_error (map (λ p. length (P.content p)) pagers.items) processes.now ≡ None) }
-        ensures err { IfErr result (λ e. IsFirstError e (start_error (map (λ p. length (P.content p)) pagers.items) processes.now)) }
+        ensures ok { OnOk result (start_error limits (map (λ p. length (P.content p)) pagers.items) processes.now ≡ None) }
+        ensures err { IfErr result (λ e. IsFirstError e (start_error limits (map (λ p. length (P.content p)) pagers.items) processes.now)) }
     {
-        if let Some(error) = first_error(&pagers, processes) {
+        if let Some(error) = first_error(&limits, &pagers, processes) {
             return Err(error);
         }
         match System::open(alloc, limits, pagers, processes) {
@@ -115,11 +115,12 @@ impl<P: Pager> System<P> {
         pagers: Vec<P>,
         processes: &[Process],
     ) -> Result<System<P>, HostMemory>
-        requires none { start_error (map (λ p. length (P.content p)) pagers.items) processes.now ≡ None }
+        requires none { start_error limits (map (λ p. length (P.content p)) pagers.items) processes.now ≡ None }
         ensures { IfOk result (λ s. IsStarted limits (map (λ p. length (P.content p)) pagers.items) (map (λ p. fresh (pager_seen P.content P.failed p)) pagers.items) processes.now s) }
     {
         // What is read has a proof know its range.
         let (_, _) = (limits.shmall(), limits.memlock());
+        let (_, _) = (limits.most_processes(), limits.most_slots());
         let opening = Opening {
             limits,
             areas: sizes_of(alloc, &pagers)?,

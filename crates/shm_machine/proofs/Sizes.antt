@@ -3,6 +3,7 @@ use Rattle.std.proofs.Common.{◌≡◌, ◌≤◌, ◌⊎◌, ℕ, List, [], �
 use Rattle.std.proofs.lemmas.Bool.Decides.{nat_tests}
 use Rattle.std.proofs.lemmas.Grind.{common_steps}
 use Rattle.std.proofs.lemmas.List.{length-map}
+use Rattle.shm_base.specs.Bounds.{Bounds}
 use Rattle.shm_base.specs.declared.call.Process.{Process}
 use Rattle.shm_pager.specs.Pages.{PagerView, pager_seen}
 use Rattle.shm_slots.specs.View.{fresh}
@@ -34,10 +35,10 @@ pub pager-areas : (ps : List AreaPager) (areas : List AreaConfig) → map (pager
 pager-areas ps areas is =
     map-after fresh (pager_seen area_pages failed_in) ps ∙ (ap (λ vs. map fresh vs) is ∙ sym (map-after fresh (λ (a : AreaConfig). blank a.slots) areas))
 
-pub first-error : (e : StartError) (sizes known : List ℕ) (processes : List Process) → sizes ≡ known → IsFirstError e (start_error sizes processes) → (e ≡ HostMemory) ⊎ (start_error known processes ≡ Some e)
-first-error e sizes known processes same (inl is) = inr (ap (λ ns. start_error ns processes) (sym same) ∙ is)
-first-error e sizes known processes same (inr none) = inl none.0
+pub first-error : (limits : Bounds) (e : StartError) (sizes known : List ℕ) (processes : List Process) → sizes ≡ known → IsFirstError e (start_error limits sizes processes) → (e ≡ HostMemory) ⊎ (start_error limits known processes ≡ Some e)
+first-error limits e sizes known processes same (inl is) = inr (ap (λ ns. start_error limits ns processes) (sym same) ∙ is)
+first-error limits e sizes known processes same (inr none) = inl none.0
 
 -- areas without an error are few
-pub few-areas : (areas : List AreaConfig) → start_error (sizes_of areas) [] ≡ None → length areas ≤ 8
-few-areas areas none = grind (arith, common_steps, length-map, nat_tests)
+pub few-areas : (limits : Bounds) (areas : List AreaConfig) → start_error limits (sizes_of areas) [] ≡ None → length areas ≤ 8
+few-areas limits areas none = grind (arith, common_steps, length-map, nat_tests)

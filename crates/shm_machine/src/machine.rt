@@ -47,10 +47,10 @@ impl Machine {
         processes: &[Process],
     ) -> Result<Machine, StartError>
         ensures opened { IfOk result (λ m. IsOpened limits areas.now processes.now m.system) }
-        ensures ok { OnOk result (start_error (sizes_of areas.now) processes.now ≡ None) }
-        ensures err { IfErr result (λ e. (e ≡ start.HostMemory) ⊎ (start_error (sizes_of areas.now) processes.now ≡ Some e)) }
+        ensures ok { OnOk result (start_error limits (sizes_of areas.now) processes.now ≡ None) }
+        ensures err { IfErr result (λ e. (e ≡ start.HostMemory) ⊎ (start_error limits (sizes_of areas.now) processes.now ≡ Some e)) }
     {
-        if let Some(error) = first_area_error(areas, |area| area.slots) {
+        if let Some(error) = first_area_error(&limits, areas, |area| area.slots) {
             return Err(error);
         }
         let Ok(pagers) = pagers_for(alloc, areas, failures) else {

@@ -2,6 +2,7 @@
 use Rattle.std.specs.Prelude.{ℕ, Bool, ◌==◌, List, replicate}
 use Rattle.std.specs.List.{list_any}
 use Rattle.shm_pager.specs.Pages.{PagerView, next_count}
+use Rattle.shm_base.specs.declared.paging.TheConstants.{PAGE_SIZE}
 
 pub record FuseView : Type 0 where
   pub inner : PagerView
@@ -32,4 +33,4 @@ write_is_bad f = is_listed f.bad_writes (next_count f.writes)
 
 -- the page that a write which fails on purpose puts into its slot
 abbrev pub scorched_page : List ℕ
-scorched_page = replicate 4096 0xa5
+scorched_page = replicate PAGE_SIZE 0xa5

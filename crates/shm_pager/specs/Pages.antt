@@ -1,9 +1,10 @@
 -- Pages by slot, counts of failures, and what a call leaves of a pager.
 use Rattle.std.specs.Prelude.{ℕ, ◌≡◌, ◌+◌, ◌-◌, ◌^◌, ◌≤◌, ◌⊎◌, Bool, true, ◌==◌, ◌&&◌, nat_lt, List, [], get_or, min, replicate, set, Result, MatchResult}
+use Rattle.shm_base.specs.declared.paging.TheConstants.{PAGE_SIZE}
 
 -- a page of zeros
 unfoldable pub zero_page : List ℕ
-zero_page = replicate 4096 0
+zero_page = replicate PAGE_SIZE 0
 
 -- where a count stays
 abbrev pub last_count : ℕ

@@ -41,7 +41,7 @@ silent_kept ThreadRefused kept = Keeps-refl kept
 silent_kept HostMemory kept = Keeps-refl kept
 
 -- why a world was not opened
-pub stop_cause : (fault : RunFault) (areas : List ℕ) (script : ScriptView) → IsStop fault (start_error areas script.processes) → IsCauseIn fault areas script
+pub stop_cause : (fault : RunFault) (areas : List ℕ) (script : ScriptView) → IsStop fault (start_error script.limits areas script.processes) → IsCauseIn fault areas script
 stop_cause (StartRefused n) areas script stop = λ input read. (script, read, stop)
 stop_cause HostMemory areas script stop = λ input read. tt
 stop_cause (Script fault) areas script stop = absurd stop

@@ -18,7 +18,7 @@ opening_of script areas = record { limits = script.limits; areas = areas; proces
 
 -- a world as a script opens it: its start was not refused
 pub record IsOpening (script : ScriptView) (opening : Opening) : Type 0 where
-  pub started : start_error opening.areas script.processes ≡ None
+  pub started : start_error script.limits opening.areas script.processes ≡ None
   pub is : opening ≡ opening_of script opening.areas
 
 -- the swap areas as these pagers are handed in
@@ -48,7 +48,7 @@ Prints IsText old new areas input =
 abbrev pub IsCause : RunFault → List ℕ → List ℕ → Type 0
 IsCause (Script fault) areas input = script_of input ≡ Err fault
 IsCause (StartRefused n) areas input =
-    (script : ScriptView) × (script_of input ≡ Ok script) × ((e : StartError) × (start_error areas script.processes ≡ Some e) × (error_number e ≡ n))
+    (script : ScriptView) × (script_of input ≡ Ok script) × ((e : StartError) × (start_error script.limits areas script.processes ≡ Some e) × (error_number e ≡ n))
 IsCause _ areas input = Unit {0}
 
 -- a fault once the input was read as this script

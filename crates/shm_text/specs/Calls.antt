@@ -13,6 +13,7 @@ use Rattle.shm_text.specs.declared.script.LineCall.{LineCall}
 use Rattle.shm_text.specs.declared.script.LineCall.TheVariants.{Shmget, Shmat, Shmdt, Stat, Set, Rmid, Lock, Unlock, Load, Store, Xadd, Fork, Exec, Exit, Swapoff}
 use Rattle.shm_text.specs.Operand.{◌>>=◌, required_number, ranged, within_64_bits, key_word, id_word, ranged_id, addr_word, ranged_addr, mode_word, get_flags_word, at_flags_word, chunk_word}
 use Rattle.shm_text.specs.Words.{word_at}
+use Rattle.shm_base.specs.declared.bounds.TheConstants.{LAST_PID}
 
 -- the words of calls that name no segment
 unfoldable pub process_verb_of : List ℕ → Option Verb
@@ -138,7 +139,7 @@ set_call ws i = do
 unfoldable pub fork_call : List (List ℕ) → ℕ → Result LineCall FaultKind
 fork_call ws i = do
   child ← required_number (word_at ws i)
-  child ← ranged 1 2147483647 child
+  child ← ranged 1 LAST_PID child
   Ok (Fork child)
 
 unfoldable pub swapoff_call : List (List ℕ) → ℕ → Result LineCall FaultKind

@@ -7,6 +7,7 @@ use Rattle.shm_text.specs.declared.script.LineId.{LineId}
 use Rattle.shm_text.specs.declared.script.LineId.TheVariants as ids
 use Rattle.shm_text.specs.declared.script.LineCall.{LineCall}
 use Rattle.shm_text.specs.declared.script.LineCall.TheVariants.{Shmget, Shmat, Shmdt, Stat, Set, Rmid, Lock, Unlock, Load, Store, Xadd, Fork, Exec, Exit, Swapoff}
+use Rattle.shm_base.specs.declared.bounds.TheConstants.{LAST_ID, LAST_PID, MODES}
 
 -- a command line
 pub record CommandView : Type 0 where
@@ -16,11 +17,11 @@ pub record CommandView : Type 0 where
 
 -- a pid
 abbrev pub is_pid : ℕ → Bool
-is_pid pid = within 1 2147483647 pid
+is_pid pid = within 1 LAST_PID pid
 
 -- an identifier that a script may name
 abbrev pub is_id : LineId → Bool
-is_id (ids.Number n) = nat_le n 2147483647
+is_id (ids.Number n) = nat_le n LAST_ID
 is_id (ids.Var v) = true
 
 -- no other flags than those of shmget
@@ -33,11 +34,11 @@ is_at_flags flags = bit_and flags.0 28672 == flags.0
 
 -- what the words of each call may hold
 abbrev pub is_call : LineCall → Bool
-is_call (Shmget key size mode flags) = nat_lt mode 512 && is_get_flags flags
+is_call (Shmget key size mode flags) = nat_lt mode MODES && is_get_flags flags
 is_call (Shmat id addr flags) = is_id id && is_at_flags flags
 is_call (Shmdt addr) = true
 is_call (Stat id) = is_id id
-is_call (Set id uid gid mode) = is_id id && nat_lt mode 512
+is_call (Set id uid gid mode) = is_id id && nat_lt mode MODES
 is_call (Rmid id) = is_id id
 is_call (Lock id) = is_id id
 is_call (Unlock id) = is_id id

@@ -21,6 +21,7 @@ use Rattle.shm_text.specs.declared.operand.IdWord.TheVariants as id_words
 use Rattle.shm_text.specs.declared.operand.AddrWord.{AddrWord}
 use Rattle.shm_text.specs.declared.operand.AddrWord.TheVariants as addr_words
 use Rattle.shm_text.specs.Number.{number_of}
+use Rattle.shm_base.specs.declared.bounds.TheConstants.{LAST_ID}
 
 infixl 10 ◌>>=◌
 abbrev pub ◌>>=◌ : {E A B : Type 0} → Result A E → (A → Result B E) → Result B E
@@ -57,7 +58,7 @@ abbrev pub id_word : List ℕ → Result IdWord FaultKind
 id_word w = id_by w (letter_of w)
 
 abbrev pub ranged_id : IdWord → Result LineId FaultKind
-ranged_id (id_words.Literal n) = ranged 0 2147483647 n >>= λ n. Ok (ids.Number n)
+ranged_id (id_words.Literal n) = ranged 0 LAST_ID n >>= λ n. Ok (ids.Number n)
 ranged_id (id_words.Letter v) = Ok (ids.Var v)
 
 -- an address: `null`, one letter, a letter and a number behind `+`, or a number

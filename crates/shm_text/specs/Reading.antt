@@ -21,6 +21,7 @@ use Rattle.shm_text.specs.declared.number.Number.{Number}
 use Rattle.shm_text.specs.Calls.{call_words}
 use Rattle.shm_text.specs.Operand.{◌>>=◌, required_number, ranged, within_64_bits, letter_of}
 use Rattle.shm_text.specs.Words.{is_allowed, words_of, lines_of, word_at}
+use Rattle.shm_base.specs.declared.bounds.TheConstants.{LAST_PID, LONGEST_SCRIPT, MOST_COMMANDS, MOST_FLUSHED}
 
 -- what the lines above a line said
 pub record SeenView : Type 0 where
@@ -67,7 +68,7 @@ process_item seen ws = if length ws == 4 then (do
   pid ← required_number (word_at ws 1)
   uid ← required_number (word_at ws 2)
   gid ← required_number (word_at ws 3)
-  pid ← ranged 1 2147483647 pid
+  pid ← ranged 1 LAST_PID pid
   uid ← ranged 0 4294967295 uid
   gid ← ranged 0 4294967295 gid
   declared seen (record { pid = pid; born = Some (record { uid = uid; gid = gid }) })) else Err BadLine
@@ -75,7 +76,7 @@ process_item seen ws = if length ws == 4 then (do
 unfoldable pub child_item : SeenView → List (List ℕ) → Result Item FaultKind
 child_item seen ws = if length ws == 2 then (do
   pid ← required_number (word_at ws 1)
-  pid ← ranged 1 2147483647 pid
+  pid ← ranged 1 LAST_PID pid
   declared seen (record { pid = pid; born = None })) else Err BadLine
 
 -- a line with these first words declares a process, and stands above the commands
@@ -105,7 +106,7 @@ known_child seen _ = Ok tt
 
 abbrev pub declared_pid : SeenView → Number → LineCall → Result ℕ FaultKind
 declared_pid seen pid call = do
-  pid ← ranged 1 2147483647 pid
+  pid ← ranged 1 LAST_PID pid
   there ← known seen pid
   child ← known_child seen call
   Ok pid
@@ -120,7 +121,7 @@ command seen pid var ws = do
 unfoldable pub flush_item : List (List ℕ) → Result Item FaultKind
 flush_item ws = if (length ws == 3) && word_at_is ws 1 (codes "flush") then (do
   pages ← required_number (word_at ws 2)
-  pages ← ranged 1 4096 pages
+  pages ← ranged 1 MOST_FLUSHED pages
   Ok (items.Line (lines.Flush pages))) else Err BadLine
 
 -- the word `0` is no pid, and stands before `flush` alone
@@ -133,7 +134,7 @@ command_item seen ws = if word_at_is ws 0 (codes "0") then flush_item ws else (d
 
 -- where there may be one more command or flush line
 abbrev pub with_room : SeenView → Result Item FaultKind → Result Item FaultKind
-with_room seen said = said >>= λ item. if nat_lt seen.commands 100000 then Ok item else Err TooMany
+with_room seen said = said >>= λ item. if nat_lt seen.commands MOST_COMMANDS then Ok item else Err TooMany
 
 -- a line behind the limits
 unfoldable pub body_item : SeenView → List (List ℕ) → Result Item FaultKind
@@ -248,7 +249,7 @@ said text_lines = if list_all is_wordless text_lines then Err (without_words tex
 
 -- what a script says, or its first fault
 unfoldable pub script_of : List ℕ → Result ScriptView ScriptFault
-script_of bytes = if nat_lt 1048576 (length bytes) then Err (record { line = 0; kind = TooLong }) else said (lines_of bytes)
+script_of bytes = if nat_lt LONGEST_SCRIPT (length bytes) then Err (record { line = 0; kind = TooLong }) else said (lines_of bytes)
 
 -- a fault that was found is that of what was read
 abbrev pub FaultStands : ReadRefused → Result ScriptView ScriptFault → Type 0

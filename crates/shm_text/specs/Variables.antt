@@ -10,6 +10,7 @@ use Rattle.shm_text.specs.declared.script.LineAddr.{LineAddr}
 use Rattle.shm_text.specs.declared.script.LineAddr.TheVariants as addrs
 use Rattle.shm_text.specs.declared.script.LineCall.{LineCall}
 use Rattle.shm_text.specs.declared.script.LineCall.TheVariants.{Shmget, Shmat, Shmdt, Stat, Set, Rmid, Lock, Unlock, Load, Store, Xadd, Fork, Exec, Exit, Swapoff}
+use Rattle.shm_base.specs.declared.bounds.TheConstants.{LAST_ID}
 
 -- a variable is a number, or -1, which is none
 abbrev pub no_values : List (Option ℕ)
@@ -21,7 +22,7 @@ value_at values letter = get_or values (letter - 97) (Some 0)
 -- an identifier outside 0 to 2147483647 is -1, which was never issued
 abbrev pub id_from : Option ℕ → ℤ
 id_from None = negsuc 0
-id_from (Some n) = if nat_le n 2147483647 then pos n else negsuc 0
+id_from (Some n) = if nat_le n LAST_ID then pos n else negsuc 0
 
 abbrev pub id_of : List (Option ℕ) → LineId → ℤ
 id_of values (ids.Number n) = pos n

@@ -41,7 +41,7 @@ early_stop fault None asked areas cause serial = tt
 early_stop fault (Some bytes) asked areas cause serial = (cause areas, serial)
 
 -- the world was not opened
-pub open_stop : (fault : RunFault) (asked : Option Steps) (areas : List ℕ) (script : ScriptView) → IsStop fault (start_error areas script.processes) → IsStopIn (Fault fault) asked areas script
+pub open_stop : (fault : RunFault) (asked : Option Steps) (areas : List ℕ) (script : ScriptView) → IsStop fault (start_error script.limits areas script.processes) → IsStopIn (Fault fault) asked areas script
 open_stop fault asked areas script stop = (stop_cause fault areas script stop, stop_serial fault _ stop)
 
 -- the world was opened: out of memory and a writer that fails say nothing of the script

@@ -6,4 +6,4 @@ use Rattle.nogcuvema.proofs.open.area_error.Goals as goal
 pub returns : goal.returns
 returns c =
     c.first_area_error.ensures (λ area. area.slots) (λ area slots gives. search rules)
-    ∙ ap (λ (ns : List ℕ). start_error ns []) (sizes-given c.args.areas.now)
+    ∙ ap (λ (ns : List ℕ). start_error c.args.limits.now ns []) (sizes-given c.args.areas.now)

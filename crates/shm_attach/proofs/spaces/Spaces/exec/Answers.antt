@@ -1,4 +1,4 @@
-use Rattle.shm_attach.proofs.Names.{◌≡◌, ◌<◌, ap, refl, arith, [], length, common_steps, map-map, lowest_address, last_address, cut, runners_view, SpacesView, pieces_at, no_reservations}
+use Rattle.shm_attach.proofs.Names.{◌≡◌, ◌<◌, ap, refl, arith, [], length, common_steps, map-map, lowest_address, end_address, cut, runners_view, SpacesView, pieces_at, no_reservations}
 use Rattle.shm_attach.proofs.Callers.{caller_within, with_pieces-of}
 use Rattle.shm_attach.proofs.Keeping.{cut-all}
 use Rattle.shm_attach.proofs.Translations.{keeps}
@@ -8,7 +8,7 @@ use Rattle.shm_attach.proofs.spaces.Spaces.exec.Goals as goal
 within : (c : After-self) → c.args.caller.now.index < length c.self.inside.processes.entries
 within c = caller_within c.args.caller.now c.self.inside.processes.entries (rw (← c.self.view_is) at c.requires)
 
-all_go : (c : After-self) → cut lowest_address last_address (pieces_at (runners_view c.self.inside.processes.entries) c.args.caller.now.index) ≡ []
+all_go : (c : After-self) → cut lowest_address end_address (pieces_at (runners_view c.self.inside.processes.entries) c.args.caller.now.index) ≡ []
 all_go c = cut-all lowest_address (pieces_at (runners_view c.self.inside.processes.entries) c.args.caller.now.index) (omega arith) (c.self.invariant.exact.arranged c.args.caller.now.index)
 
 pub space_at-requires : goal.space_at-requires

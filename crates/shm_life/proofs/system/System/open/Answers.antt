@@ -3,16 +3,16 @@ use Rattle.shm_life.proofs.Opens.{is_open, sizes-new, owners-new, fresh-kept}
 use Rattle.shm_life.proofs.system.System.open.Goals as goal
 
 pub new-requires-clause-areas : goal.new-requires-clause-areas
-new-requires-clause-areas g c = (is_open (λ p. length (g.P.Pager.content p)) c.args.pagers.items c.args.processes.now c.requires.none).areas
+new-requires-clause-areas g c = (is_open c.args.limits (λ p. length (g.P.Pager.content p)) c.args.pagers.items c.args.processes.now (rw c.most_processes.ensures.value at c.most_processes.ensures.range.1) (rw c.most_slots.ensures.value at c.most_slots.ensures.range.1) c.requires.none).areas
 
 pub new-requires-clause-sizes : goal.new-requires-clause-sizes
-new-requires-clause-sizes g c = (is_open (λ p. length (g.P.Pager.content p)) c.args.pagers.items c.args.processes.now c.requires.none).sizes
+new-requires-clause-sizes g c = (is_open c.args.limits (λ p. length (g.P.Pager.content p)) c.args.pagers.items c.args.processes.now (rw c.most_processes.ensures.value at c.most_processes.ensures.range.1) (rw c.most_slots.ensures.value at c.most_slots.ensures.range.1) c.requires.none).sizes
 
 pub new-requires-2-clause-free : goal.new-requires-2-clause-free
 new-requires-2-clause-free g c = λ area slot. rw c.in_ok-new.ensures (owners-new g.P.Pager.content g.P.Pager.failed c.args.pagers.items area slot)
 
 pub new-requires-3-clause-apart : goal.new-requires-3-clause-apart
-new-requires-3-clause-apart g c = (is_open (λ p. length (g.P.Pager.content p)) c.args.pagers.items c.args.processes.now c.requires.none).apart
+new-requires-3-clause-apart g c = (is_open c.args.limits (λ p. length (g.P.Pager.content p)) c.args.pagers.items c.args.processes.now (rw c.most_processes.ensures.value at c.most_processes.ensures.range.1) (rw c.most_slots.ensures.value at c.most_slots.ensures.range.1) c.requires.none).apart
 
 pub invariant_of-kernel : goal.invariant_of-kernel
 invariant_of-kernel g c = record {
@@ -36,4 +36,4 @@ returns g c = record {
 }
 
 pub new-requires-3-clause-few : goal.new-requires-3-clause-few
-new-requires-3-clause-few g c = (is_open (λ p. length (g.P.Pager.content p)) c.args.pagers.items c.args.processes.now c.requires.none).few
+new-requires-3-clause-few g c = (is_open c.args.limits (λ p. length (g.P.Pager.content p)) c.args.pagers.items c.args.processes.now (rw c.most_processes.ensures.value at c.most_processes.ensures.range.1) (rw c.most_slots.ensures.value at c.most_slots.ensures.range.1) c.requires.none).few
