@@ -1,9 +1,10 @@
 -- What the stored pieces of a process show, and how they lie.
-use Rattle.std.specs.Prelude.{◌≡◌, ℕ, ◌+◌, ◌%◌, ◌≤◌, ◌<◌, List, [], ◌∷◌, map, find, Option, ⊤}
+use Rattle.std.specs.Prelude.{◌≡◌, ℕ, ◌+◌, ◌%◌, ◌≤◌, ◌<◌, List, [], ◌∷◌, length, map, find, Option, ⊤}
 use Rattle.shm_base.specs.State as flat
 use Rattle.shm_base.specs.Access.{end_of, covers}
-use Rattle.shm_base.specs.Space.{end_address}
+use Rattle.shm_base.specs.Space.{lowest_address, end_address}
 use Rattle.shm_areas.specs.declared.piece.Piece.{Piece}
+use Rattle.shm_base.specs.declared.bounds.TheConstants.{MOST_PIECES}
 use Rattle.shm_base.specs.declared.paging.TheConstants.{PAGE_SIZE}
 
 -- a piece without its key
@@ -24,6 +25,17 @@ pub record IsFit (p : flat.Piece) : Type 0 where
 abbrev pub Arranged : ℕ → List flat.Piece → Type 0
 Arranged low [] = ⊤
 Arranged low (p ∷ ps) = (low ≤ p.base) × (IsFit p × Arranged (end_of p) ps)
+
+-- what contracts see of a space: its pieces, and the most that it may have
+pub record SpaceView : Type 0 where
+  pub pieces : List Piece
+  pub most : ℕ
+
+-- the pieces lie in order, and are few enough
+pub record IsSpace (s : SpaceView) : Type 0 where
+  pub arranged : Arranged lowest_address (bare_all s.pieces)
+  pub few : length s.pieces ≤ s.most
+  pub bound : s.most ≤ MOST_PIECES
 
 -- the piece that an address lies in
 abbrev pub covering : ℕ → List flat.Piece → Option flat.Piece

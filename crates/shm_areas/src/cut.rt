@@ -5,6 +5,7 @@ ghost use Rattle.shm_base.specs.Access as access;
 ghost use Rattle.shm_base.specs.Space as flat;
 ghost use Rattle.shm_areas.specs.Arranged.{bare, bare_all, Arranged, IsFit};
 ghost use Rattle.shm_areas.specs.Edit.{stored_below, stored_above, stored_cut, IsCut, left_by};
+ghost use Rattle.shm_base.specs.declared.bounds.TheConstants.{MOST_PIECES};
 
 use crate::piece::Piece;
 use crate::search::run_in;
@@ -89,7 +90,7 @@ fn count_of(part: Option<Piece>) -> usize
 pub(crate) fn count_left(pieces: &[Piece], cut: Cut) -> usize
     requires order { cut.first ≤ cut.last }
     requires bound { cut.last ≤ length pieces.now }
-    requires few { length pieces.now ≤ 256 }
+    requires few { length pieces.now ≤ MOST_PIECES }
     ensures { result ≡ length (left_by pieces.now cut) }
 {
     cut.first + count_of(cut.below) + count_of(cut.above) + (pieces.len() - cut.last)

@@ -8,56 +8,58 @@ ghost use Rattle.shm_areas.specs.Fixed.{fixed};
 ghost use Rattle.shm_areas.specs.Gap.{HasNoGap, IsLeastGap};
 ghost use Rattle.shm_areas.specs.Met.{met};
 ghost use Rattle.shm_areas.specs.declared.piece.Piece.{Piece as Stored};
+ghost use Rattle.shm_base.specs.declared.bounds.TheConstants.{MOST_PIECES};
 
 use crate::cut::{count_left, cut_of, replace};
 use crate::piece::{Piece, Place};
 use crate::search::{count_below, count_to, least_gap, run_in};
 use bitflags::Flags;
-use shm_base::{AtFlags, END_ADDRESS, Errno, HostMemory, LOWEST_ADDRESS, MOST_PIECES, PAGE_SIZE};
+use shm_base::{AtFlags, END_ADDRESS, Errno, HostMemory, LOWEST_ADDRESS, PAGE_SIZE};
 use std::alloc::Global;
 use std::marker::Model;
 
-/// The pieces of a process by rising base. There is room for 256, the most that a process may have,
-/// from the beginning, so that no change takes memory.
+/// The pieces of a process by rising base. There is room from the beginning for the most that the process may
+/// have, so that no change takes memory.
 pub struct Space {
     pieces: Vec<Piece>,
+    most: u32,
 }
 
 impl Drop for Space {
     fn drop(self) {
-        let Space { pieces: _ } = self;
+        let Space { pieces: _, most: _ } = self;
     }
 }
 
 impl Model for Space {
-    ghost use Rattle.std.specs.Prelude.{List, ◌≤◌, length, vec_capacity};
-    ghost use Rattle.shm_base.specs.Space.{lowest_address};
-    ghost use Rattle.shm_areas.specs.declared.piece.Piece.{Piece as Stored};
-    ghost use Rattle.shm_areas.specs.Arranged.{bare_all, Arranged};
+    ghost use Rattle.std.specs.Prelude.{◌≤◌, vec_capacity};
+    ghost use Rattle.shm_areas.specs.Arranged.{SpaceView, IsSpace};
 
-    ghost Value = { List Stored };
+    ghost Value = { SpaceView };
 
-    ghost view = { λ s. s.pieces.items };
+    ghost view = { λ s. record { pieces = s.pieces.items; most = s.most } };
 
-    ghost invariant = { λ s. Arranged lowest_address (bare_all s.pieces.items) × (length s.pieces.items ≤ 256) × (256 ≤ vec_capacity s.pieces) };
+    ghost invariant = { λ s. IsSpace (record { pieces = s.pieces.items; most = s.most }) × (s.most ≤ vec_capacity s.pieces) };
 }
 
 impl Space {
     ghost use Rattle.std.specs.Prelude.{[], MatchOption};
 
-    /// No pieces. It takes the room for 256.
-    pub fn new(alloc: Global) -> Result<Space, HostMemory>
-        ensures { IfOk result (λ s. s ≡ []) }
+    /// No pieces. It takes the room for so many, which is at most 256.
+    pub fn new(alloc: Global, most: u32) -> Result<Space, HostMemory>
+        requires { most ≤ MOST_PIECES }
+        ensures { IfOk result (λ s. s ≡ record { pieces = []; most = most }) }
     {
-        let pieces = Vec::with_capacity(alloc, MOST_PIECES)?;
-        Ok(Space { pieces })
+        let pieces = Vec::with_capacity(alloc, most as usize)?;
+        Ok(Space { pieces, most })
     }
 
     /// The pieces by rising base.
     pub fn pieces(&self) -> &[Piece]
-        ensures value { result.now ≡ self.now }
-        ensures arranged { Arranged flat.lowest_address (bare_all self.now) }
-        ensures count { length self.now ≤ 256 }
+        ensures value { result.now ≡ self.now.pieces }
+        ensures arranged { Arranged flat.lowest_address (bare_all self.now.pieces) }
+        ensures count { length self.now.pieces ≤ self.now.most }
+        ensures most { self.now.most ≤ MOST_PIECES }
     {
         self.pieces.as_slice()
     }
@@ -65,10 +67,10 @@ impl Space {
     /// The piece that an address lies in, as it is stored. Every address of it lies in it alone.
     #[inline(always)]
     pub fn piece_at(&self, addr: u64) -> Option<Piece>
-        ensures value { option_map bare result ≡ covering addr (bare_all self.now) }
+        ensures value { option_map bare result ≡ covering addr (bare_all self.now.pieces) }
         ensures within { IfSome result (λ p. IsCovering addr p) }
-        ensures whole { IfSome result (λ p. (b : ℕ) → p.base ≤ b → b < access.end_of (bare p) → covering b (bare_all self.now) ≡ Some (bare p)) }
-        ensures among { (test : Stored → Bool) → All (λ (p : Stored). test p ≡ true) self.now → IfSome result (λ p. test p ≡ true) }
+        ensures whole { IfSome result (λ p. (b : ℕ) → p.base ≤ b → b < access.end_of (bare p) → covering b (bare_all self.now.pieces) ≡ Some (bare p)) }
+        ensures among { (test : Stored → Bool) → All (λ (p : Stored). test p ≡ true) self.now.pieces → IfSome result (λ p. test p ≡ true) }
     {
         let count = count_to(&self.pieces, addr);
         if count == 0 {
@@ -85,7 +87,7 @@ impl Space {
     /// The byte that an address denotes.
     #[tactic(auto, using(crate::proofs::Placing::place_covering))]
     pub fn place(&self, addr: u64) -> Option<Place>
-        ensures { result ≡ access.place (bare_all self.now) addr }
+        ensures { result ≡ access.place (bare_all self.now.pieces) addr }
     {
         let Some(piece) = self.piece_at(addr) else {
             return None;
@@ -102,8 +104,8 @@ impl Space {
     #[tactic(auto, using(crate::proofs::Gaps::free_below))]
     pub fn choose(&self, pages: u32) -> Option<u64>
         requires { (1 ≤ pages) × (pages ≤ 4096) }
-        ensures value { result ≡ flat.choose (bare_all self.now) pages }
-        ensures least { MatchOption result (HasNoGap (bare_all self.now) pages) (λ base. IsLeastGap (bare_all self.now) pages base) }
+        ensures value { result ≡ flat.choose (bare_all self.now.pieces) pages }
+        ensures least { MatchOption result (HasNoGap (bare_all self.now.pieces) pages) (λ base. IsLeastGap (bare_all self.now.pieces) pages base) }
     {
         least_gap(&self.pieces, pages)
     }
@@ -113,7 +115,7 @@ impl Space {
     /// to 0x7ffffffff000, and where a piece lies there that is not to be replaced (SHM_REMAP).
     pub fn check_fixed(&self, addr: u64, pages: u32, flags: AtFlags) -> Result<u64, Errno>
         requires { (1 ≤ pages) × (pages ≤ 4096) }
-        ensures { result ≡ fixed (bare_all self.now) addr pages flags }
+        ensures { result ≡ fixed (bare_all self.now.pieces) addr pages flags }
     {
         let base = addr - addr % PAGE_SIZE;
         if base < LOWEST_ADDRESS || base > END_ADDRESS {
@@ -132,10 +134,11 @@ impl Space {
     /// The pieces with a page in a range.
     pub fn met(&self, from: u64, to: u64) -> &[Piece]
         requires order { from < to }
-        ensures value { result.now ≡ met from to self.now }
-        ensures arranged { Arranged flat.lowest_address (bare_all self.now) }
-        ensures count { length result.now ≤ 256 }
-        ensures occupied { flat.occupied (bare_all self.now) from to ≡ nat_lt 0 (length result.now) }
+        ensures value { result.now ≡ met from to self.now.pieces }
+        ensures arranged { Arranged flat.lowest_address (bare_all self.now.pieces) }
+        ensures count { length result.now ≤ self.now.most }
+        ensures most { self.now.most ≤ MOST_PIECES }
+        ensures occupied { flat.occupied (bare_all self.now.pieces) from to ≡ nat_lt 0 (length result.now) }
     {
         let run = run_in(&self.pieces, from, to);
         &self.pieces[run.first..run.last]
@@ -144,7 +147,7 @@ impl Space {
     // Whether a piece has a page in a range.
     fn is_occupied(&self, from: u64, to: u64) -> bool
         requires order { from < to }
-        ensures { result ≡ flat.occupied (bare_all self.now) from to }
+        ensures { result ≡ flat.occupied (bare_all self.now.pieces) from to }
     {
         let run = run_in(&self.pieces, from, to);
         run.first < run.last
@@ -153,19 +156,19 @@ impl Space {
     /// How many pieces there would be once a range is taken out.
     pub fn count_outside(&self, from: u64, to: u64) -> usize
         requires order { from < to }
-        ensures { result ≡ length (flat.cut from to (bare_all self.now)) }
+        ensures { result ≡ length (flat.cut from to (bare_all self.now.pieces)) }
     {
         count_left(&self.pieces, cut_of(&self.pieces, from, to))
     }
 
     /// Puts a piece where no other piece lies.
     pub fn insert(&mut self, piece: Piece)
-        requires room { length self.old < 256 }
+        requires room { length self.old.pieces < self.old.most }
         requires low { flat.lowest_address ≤ piece.base }
         requires fit { IsFit (bare piece) }
-        requires free { flat.occupied (bare_all self.old) piece.base (access.end_of (bare piece)) ≡ false }
-        ensures kept { self.new ≡ stored_inserted piece self.old }
-        ensures flat { bare_all self.new ≡ flat.inserted (bare piece) (bare_all self.old) }
+        requires free { flat.occupied (bare_all self.old.pieces) piece.base (access.end_of (bare piece)) ≡ false }
+        ensures kept { self.new ≡ record self.old { pieces = stored_inserted piece self.old.pieces } }
+        ensures flat { bare_all self.new.pieces ≡ flat.inserted (bare piece) (bare_all self.old.pieces) }
     {
         let at = count_to(&self.pieces, piece.base);
         let put = self.pieces.insert(at, piece);
@@ -178,9 +181,9 @@ impl Space {
         requires from { from % 4096 ≡ 0 }
         requires to { to % 4096 ≡ 0 }
         requires order { from < to }
-        requires few { length (flat.cut from to (bare_all self.old)) ≤ 256 }
-        ensures kept { self.new ≡ stored_cut from to self.old }
-        ensures flat { bare_all self.new ≡ flat.cut from to (bare_all self.old) }
+        requires few { length (flat.cut from to (bare_all self.old.pieces)) ≤ self.old.most }
+        ensures kept { self.new ≡ record self.old { pieces = stored_cut from to self.old.pieces } }
+        ensures flat { bare_all self.new.pieces ≡ flat.cut from to (bare_all self.old.pieces) }
     {
         let cut = cut_of(&self.pieces, from, to);
         replace(&mut self.pieces, cut);
@@ -188,8 +191,8 @@ impl Space {
 
     /// The lowest piece whose segment would begin at the address, as it is stored.
     pub fn origin_of(&self, addr: u64) -> Option<Piece>
-        ensures stored { result ≡ find (λ (p : Stored). flat.has_origin addr (bare p)) self.now }
-        ensures flat { option_map bare result ≡ flat.origin_of addr (bare_all self.now) }
+        ensures stored { result ≡ find (λ (p : Stored). flat.has_origin addr (bare p)) self.now.pieces }
+        ensures flat { option_map bare result ≡ flat.origin_of addr (bare_all self.now.pieces) }
     {
         let start = count_below(&self.pieces, addr);
         for piece in &self.pieces[start..] {
@@ -202,8 +205,8 @@ impl Space {
 
     /// Takes out the pieces of a segment that would begin at the address.
     pub fn take_at(&mut self, addr: u64, seg: u32)
-        ensures kept { self.new ≡ stored_without addr seg self.old }
-        ensures flat { bare_all self.new ≡ flat.without_named addr seg (bare_all self.old) }
+        ensures kept { self.new ≡ record self.old { pieces = stored_without addr seg self.old.pieces } }
+        ensures flat { bare_all self.new.pieces ≡ flat.without_named addr seg (bare_all self.old.pieces) }
     {
         self.pieces
             .retain(|p| !(p.has_origin(addr) && p.seg == seg));

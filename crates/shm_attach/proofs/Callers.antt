@@ -8,7 +8,7 @@ pub use Rattle.shm_attach.proofs.Processes.{first_runner}
 
 -- what a list of entries answers past its end
 abbrev pub nobody : ℕ × Runner
-nobody = (0, record { life = Ended; space = [] })
+nobody = (0, record { life = Ended; space = record { pieces = []; most = 0 } })
 
 -- WHAT IS SAID OF THE FIRST PROCESS WITH A PID
 
@@ -103,7 +103,7 @@ first-position f pid i es e found at =
     grind (arith, common_steps, first-found)
 
 pub caller_from-position : (pid i : ℕ) (es : List (ℕ × Runner)) (e : ℕ × Runner) → position (nat_eq pid) (keys_of es) ≡ Some i → slice_get es i ≡ Some e
-    → caller_from 0 pid (runners_view es) ≡ caller_by i pid (bare_all e.1.space) (life_view e.1.life)
+    → caller_from 0 pid (runners_view es) ≡ caller_by i pid (bare_all e.1.space.pieces) (life_view e.1.life)
 caller_from-position pid i es e found at = caller_from-first 0 pid (runners_view es) ∙ first-position (as_caller pid) pid i es e found at
 
 pub caller_from-absent : (pid : ℕ) (es : List (ℕ × Runner)) → None ≡ position (nat_eq pid) (keys_of es) → caller_from 0 pid (runners_view es) ≡ None

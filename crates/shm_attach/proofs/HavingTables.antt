@@ -1,15 +1,15 @@
 -- The table of each piece: what a change of the pieces and of the tables leaves.
-use Rattle.shm_attach.proofs.Names.{values_of, gets, slice_get-map, ◌≡◌, ◌≢◌, inl, inr, ℕ, zero, suc, ◌+◌, ◌<◌, ◌≤◌, ◌==◌, ◌&&◌, Bool, true, false, nat_lt, List, [], ◌∷◌, length, filter, get_or, slice_get, Option, Some, None, refl, ap, sym, subst, ◌∙◌, arith, common_steps, All, cases_Bool, cases_eq, slice_get_cases, All-append, All-cons, All-head, All-tail, All-filter, length-map, set_value_at, Slab, get, pieces_of, bare, bare_all, stored_inserted, stored_parts, stored_cut, Tables, runner_view, runners_view, pieces_at, seg_in, size_in, frame_in, TrueSlot, counted, stored_in, stored_at, HasTable, AllHaveTables, AreCountsExact, Piece, Runner, TableView}
+use Rattle.shm_attach.proofs.Names.{HaveRoom, most_at, values_of, gets, slice_get-map, ◌≡◌, ◌≢◌, inl, inr, ℕ, zero, suc, ◌+◌, ◌<◌, ◌≤◌, ◌==◌, ◌&&◌, Bool, true, false, nat_lt, List, [], ◌∷◌, length, filter, get_or, slice_get, Option, Some, None, refl, ap, sym, subst, ◌∙◌, arith, common_steps, All, cases_Bool, cases_eq, slice_get_cases, All-append, All-cons, All-head, All-tail, All-filter, length-map, set_value_at, Slab, get, pieces_of, bare, bare_all, stored_inserted, stored_parts, stored_cut, Tables, runner_view, runners_view, pieces_at, seg_in, size_in, frame_in, TrueSlot, counted, stored_in, stored_at, HasTable, AllHaveTables, AreCountsExact, Piece, Runner, TableView}
 use Rattle.shm_base.specs.State as flat
 use Rattle.shm_attach.proofs.Processes.{entry_there, entries_set}
 use Rattle.shm_attach.proofs.Keeping.{own_counted, pieces_of-there, bare-get_or}
 
 -- WHERE THE PIECES STAND
 
-pub stored_at-value : (es : List (ℕ × Runner)) (i : ℕ) (w : Runner) → Some w ≡ slice_get (values_of es) i → stored_at es i ≡ w.space
+pub stored_at-value : (es : List (ℕ × Runner)) (i : ℕ) (w : Runner) → Some w ≡ slice_get (values_of es) i → stored_at es i ≡ w.space.pieces
 stored_at-value es i w at = grind (arith, common_steps, entry_there es i w at)
 
-pub stored_at-set : (es : List (ℕ × Runner)) (i : ℕ) (w v : Runner) → Some w ≡ slice_get (values_of es) i → stored_at (set_value_at es i v) i ≡ v.space
+pub stored_at-set : (es : List (ℕ × Runner)) (i : ℕ) (w v : Runner) → Some w ≡ slice_get (values_of es) i → stored_at (set_value_at es i v) i ≡ v.space.pieces
 stored_at-set es i w v at =
     let t = entry_there es i w at in
     rw (entries_set es i (t.0, w) v t.1) (grind (arith, common_steps, gets, t.1))
@@ -21,14 +21,28 @@ stored_at-other (e ∷ es) zero (suc j) v other = refl
 stored_at-other (e ∷ es) (suc i) zero v other = refl
 stored_at-other (e ∷ es) (suc i) (suc j) v other = stored_at-other es i j v (λ same. other (ap suc same))
 
+pub most_at-set : (es : List (ℕ × Runner)) (i : ℕ) (w v : Runner) → Some w ≡ slice_get (values_of es) i → v.space.most ≡ w.space.most → (j : ℕ) → most_at (set_value_at es i v) j ≡ most_at es j
+most_at-set [] i w v at same j = refl
+most_at-set (e ∷ es) zero w v at same zero = grind (arith, common_steps)
+most_at-set (e ∷ es) zero w v at same (suc j) = refl
+most_at-set (e ∷ es) (suc i) w v at same zero = refl
+most_at-set (e ∷ es) (suc i) w v at same (suc j) = most_at-set es i w v at same j
+
+-- the most pieces of a process, as it is stored
+pub most_at-value : (es : List (ℕ × Runner)) (i : ℕ) (w : Runner) → Some w ≡ slice_get (values_of es) i → most_at es i ≡ w.space.most
+most_at-value es i w at = grind (arith, common_steps, entry_there es i w at)
+
+pub room_kept : (most : ℕ) (es fs : List (ℕ × Runner)) → HaveRoom most es → length fs ≡ length es → ((j : ℕ) → most_at fs j ≡ most_at es j) → HaveRoom most fs
+room_kept most es fs room count same = record { bound = room.bound; each = λ i lt. same i ∙ room.each i (omega (arith, lt, count)) }
+
 pub pieces_at-bare : (es : List (ℕ × Runner)) (i : ℕ) → pieces_at (runners_view es) i ≡ bare_all (stored_at es i)
 pieces_at-bare es i = grind (arith, common_steps, slice_get-map)
 
 -- the pieces of a process are shown as they are stored
-pub pieces_at-stored : (es : List (ℕ × Runner)) (i : ℕ) (w : Runner) → Some w ≡ slice_get (values_of es) i → pieces_at (runners_view es) i ≡ bare_all w.space
+pub pieces_at-stored : (es : List (ℕ × Runner)) (i : ℕ) (w : Runner) → Some w ≡ slice_get (values_of es) i → pieces_at (runners_view es) i ≡ bare_all w.space.pieces
 pieces_at-stored es i w at = pieces_at-bare es i ∙ ap bare_all (stored_at-value es i w at)
 
-pub pieces_at-entry : (es : List (ℕ × Runner)) (i : ℕ) (e : ℕ × Runner) → slice_get es i ≡ Some e → pieces_at (runners_view es) i ≡ bare_all e.1.space
+pub pieces_at-entry : (es : List (ℕ × Runner)) (i : ℕ) (e : ℕ × Runner) → slice_get es i ≡ Some e → pieces_at (runners_view es) i ≡ bare_all e.1.space.pieces
 pieces_at-entry es i e at = pieces_at-bare es i ∙ ap (λ o. bare_all (stored_in o)) at
 
 stored_at-within : (es : List (ℕ × Runner)) (i k : ℕ) → k < length (stored_at es i) → i < length es

@@ -16,7 +16,7 @@ pub use Rattle.indexmap.specs.IndexMap.{insert_entry, set_value_at}
 pub use Rattle.indexmap.specs.Layout.{length-set_value_at}
 pub use Rattle.shm_areas.proofs.Edits.{arranged_cut, arranged_filter, arranged_inserted, bare_filter, lower}
 pub use Rattle.shm_areas.proofs.Placing.{fit_at, nothing, place_covering}
-pub use Rattle.shm_areas.specs.Arranged.{Arranged, IsCovering, IsFit, bare, bare_all, covering}
+pub use Rattle.shm_areas.specs.Arranged.{Arranged, IsCovering, IsFit, SpaceView, bare, bare_all, covering}
 pub use Rattle.shm_areas.specs.Edit.{stored_cut, stored_inserted, stored_named, stored_parts, stored_without}
 pub use Rattle.shm_areas.specs.Met.{met}
 pub use Rattle.shm_base.specs.Processes.{pieces_of_caller}
@@ -38,12 +38,12 @@ pub use Rattle.shm_fault.specs.declared.touched.PageMove.TheVariants.{Gone}
 pub use Rattle.slab.specs.Slab.{Slab, Updates, get, with_value}
 pub use Rattle.shm_attach.specs.Table.{AllTrue, TrueTable, TrueSlot, count_in, frame_in, seg_in, size_in, translations_from, translations_in, translations_of, with_frame, TableView}
 pub use Rattle.shm_attach.specs.Exact.{AreCountsExact, AreTablesSound, HasReservations, no_reservations}
-pub use Rattle.shm_attach.specs.Part.{IsCuttable}
+pub use Rattle.shm_attach.specs.Part.{IsCuttable, LeavesRoom}
 pub use Rattle.shm_attach.specs.Place.{IsPlaceFor, IsRange}
 pub use Rattle.shm_attach.specs.Spaces.{AreTrue, IsCaller, SpacesView, Translation, caller_seen, life_at, pieces_at}
 pub use Rattle.shm_attach.specs.Spans.{pieces_by, unmarked, wanted_in}
 pub use Rattle.shm_attach.specs.Tables.{AllHaveTables, HasTable, OneTableEach, counted, counted_under, key_of, stored_at, stored_in}
-pub use Rattle.shm_attach.specs.Views.{life_view, runner_view, runners_view, some_if, with_life_at, with_other_life, with_own, with_pieces_at}
+pub use Rattle.shm_attach.specs.Views.{HaveRoom, life_view, most_at, runner_view, runners_view, some_if, with_life_at, with_other_life, with_own, with_pieces_at}
 pub use Rattle.shm_attach.specs.declared.process.Life.TheVariants.{Ended, Live}
 pub use Rattle.shm_attach.specs.declared.tables.Tables.{Tables}
 pub use Rattle.shm_attach.specs.declared.process.Life.{Life}

@@ -38,7 +38,7 @@ entry_there es i w at =
     grind (arith, common_steps, slice_get-map, slice_get_cases)
 
 pub runners_set : (f : List flat.Piece → List flat.Piece) (es : List (ℕ × Runner)) (i : ℕ) (w v : Runner) → Some w ≡ slice_get (values_of es) i
-    → v.life ≡ w.life → bare_all v.space ≡ f (bare_all w.space) → runners_view (set_value_at es i v) ≡ with_pieces_at (runners_view es) i f
+    → v.life ≡ w.life → bare_all v.space.pieces ≡ f (bare_all w.space.pieces) → runners_view (set_value_at es i v) ≡ with_pieces_at (runners_view es) i f
 runners_set f es i w v at life space =
     let t = entry_there es i w at in
     rw (entries_set es i (t.0, w) v t.1) (grind (arith, common_steps, map-set, slice_get-map, t.1, life, space))
@@ -109,7 +109,7 @@ pub drop-bare : (ps : List Stored) (i : ℕ) (d : Stored) → i < length ps → 
 drop-bare ps i d lt = rw (add-one, drop-cons ps i d lt) refl
 
 -- another state of one process
-pub runners_live : (l : Life) (es : List (ℕ × Runner)) (i : ℕ) (w v : Runner) → Some w ≡ slice_get (values_of es) i → v.life ≡ l → v.space ≡ w.space
+pub runners_live : (l : Life) (es : List (ℕ × Runner)) (i : ℕ) (w v : Runner) → Some w ≡ slice_get (values_of es) i → v.life ≡ l → v.space.pieces ≡ w.space.pieces
     → runners_view (set_value_at es i v) ≡ with_life_at (runners_view es) i (life_view l)
 runners_live l es i w v at life space =
     let t = entry_there es i w at in

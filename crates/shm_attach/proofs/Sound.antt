@@ -1,9 +1,9 @@
 -- The counts stay exact, and each piece has its segment's table, where one process changes.
-use Rattle.shm_attach.proofs.Names.{length-set_value_at, values_of, ◌≡◌, ◌≢◌, ℕ, ◌+◌, ◌<◌, ◌≤◌, List, [], length, Some, slice_get, sym, subst, arith, common_steps, All, length-map, set_value_at, lowest_address, inserted, cut, without_named, pieces_of, bare_all, Arranged, arranged_cut, arranged_inserted, Tables, runner_view, runners_view, with_pieces_at, with_life_at, pieces_at, life_at, counted, stored_at, HasTable, OneTableEach, AllHaveTables, IsPlaceFor, IsCuttable, AreCountsExact, AreTablesSound, HasReservations, no_reservations, Unborn, Piece, Runner}
+use Rattle.shm_attach.proofs.Names.{most_at, length-set_value_at, values_of, ◌≡◌, ◌≢◌, ℕ, ◌+◌, ◌<◌, ◌≤◌, List, [], length, Some, slice_get, sym, subst, arith, common_steps, All, length-map, set_value_at, lowest_address, inserted, cut, without_named, pieces_of, bare_all, Arranged, arranged_cut, arranged_inserted, Tables, runner_view, runners_view, with_pieces_at, with_life_at, pieces_at, life_at, counted, stored_at, HasTable, OneTableEach, AllHaveTables, IsPlaceFor, IsCuttable, AreCountsExact, AreTablesSound, HasReservations, no_reservations, Unborn, Piece, Runner}
 use Rattle.shm_base.specs.State as flat
 use Rattle.shm_attach.proofs.Processes.{runners_set, length-inserted, shorter_filter}
 use Rattle.shm_attach.proofs.Keeping.{IsExact-changed, IsExact-life, arranged-without, small_counts, own_counted}
-use Rattle.shm_attach.proofs.HavingTables.{stored_at-value, pieces_at-stored, stored_at-set, stored_at-other, tables-changed, tables-all}
+use Rattle.shm_attach.proofs.HavingTables.{most_at-set, stored_at-value, pieces_at-stored, stored_at-set, stored_at-other, tables-changed, tables-all}
 
 -- ONE PROCESS
 
@@ -13,10 +13,11 @@ pub record IsChanged (es fs : List (ℕ × Runner)) (i : ℕ) (f : List flat.Pie
   pub count : length fs ≡ length es
   pub own : stored_at fs i ≡ stored
   pub others : (j : ℕ) → j ≢ i → stored_at fs j ≡ stored_at es j
+  pub most : (j : ℕ) → most_at fs j ≡ most_at es j
 
 pub changed : (es : List (ℕ × Runner)) (i : ℕ) (w v : Runner) (f : List flat.Piece → List flat.Piece) → Some w ≡ slice_get (values_of es) i → v.life ≡ w.life
-    → bare_all v.space ≡ f (bare_all w.space) → IsChanged es (set_value_at es i v) i f v.space
-changed es i w v f at life space = grind (arith, common_steps, runners_set, length-set_value_at, stored_at-set, stored_at-other)
+    → bare_all v.space.pieces ≡ f (bare_all w.space.pieces) → v.space.most ≡ w.space.most → IsChanged es (set_value_at es i v) i f v.space.pieces
+changed es i w v f at life space most = grind (arith, common_steps, runners_set, length-set_value_at, stored_at-set, stored_at-other, (most_at-set es i w v at most))
 
 -- the tables follow pieces that give way to others
 pub record IsRecounted (t u : Tables) (before after : List flat.Piece) : Type 0 where
@@ -46,13 +47,13 @@ pub fit-without : (extra : ℕ → ℕ) (es : List (ℕ × Runner)) (t : Tables)
 fit-without extra es t i addr seg sound = grind (arith, common_steps, shorter_filter, arranged-without)
 
 pub sound-changed : (extra : ℕ → ℕ) (es : List (ℕ × Runner)) (t u : Tables) (i : ℕ) (w v : Runner) (f : List flat.Piece → List flat.Piece) → i < length es
-    → Some w ≡ slice_get (values_of es) i → v.life ≡ w.life → bare_all v.space ≡ f (bare_all w.space) → AreTablesSound extra es t
-    → AreFit (runners_view es) i (f (pieces_at (runners_view es) i)) → (All (HasTable t.slab) w.space → All (HasTable t.slab) v.space)
-    → IsRecounted t u (bare_all w.space) (f (bare_all w.space)) → AreTablesSound extra (set_value_at es i v) u
-sound-changed extra es t u i w v f lt at life space sound fit table re =
+    → Some w ≡ slice_get (values_of es) i → v.life ≡ w.life → bare_all v.space.pieces ≡ f (bare_all w.space.pieces) → v.space.most ≡ w.space.most → AreTablesSound extra es t
+    → AreFit (runners_view es) i (f (pieces_at (runners_view es) i)) → (All (HasTable t.slab) w.space.pieces → All (HasTable t.slab) v.space.pieces)
+    → IsRecounted t u (bare_all w.space.pieces) (f (bare_all w.space.pieces)) → AreTablesSound extra (set_value_at es i v) u
+sound-changed extra es t u i w v f lt at life space most sound fit table re =
     let rs = runners_view es in
     let fs = set_value_at es i v in
-    let ch = changed es i w v f at life space in
+    let ch = changed es i w v f at life space most in
     let within : i < length rs = omega (arith, lt, length-map es runner_view) in
     let exact : AreCountsExact extra (runners_view fs) u =
     rw ch.runners (IsExact-changed extra rs i f t u sound.exact within fit.few fit.order fit.unborn (rw (pieces_at-stored es i w at) re.counts)) in

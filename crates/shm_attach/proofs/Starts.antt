@@ -1,5 +1,5 @@
 -- The processes as they are declared.
-use Rattle.shm_attach.proofs.Names.{◌≡◌, ◌≢◌, ℕ, zero, suc, ◌+◌, ◌<◌, ◌≤◌, nat_eq, List, [], ◌∷◌, ◌++◌, length, map, get_or, take, refl, ap, sym, ◌∙◌, arith, ne_eqb, length-take, common_steps, length-map, get_or-take, take_more, map-append, sum_by-cons, insert_entry, runner_at_start, pieces_of, attach_count, Process, Tables, runner_view, runners_view, pieces_at, AreCountsExact, no_reservations, Slab, bare, bare_all, counted, stored_at, AllHaveTables, Runner, TableView}
+use Rattle.shm_attach.proofs.Names.{most_at, ◌≡◌, ◌≢◌, ℕ, zero, suc, ◌+◌, ◌<◌, ◌≤◌, nat_eq, List, [], ◌∷◌, ◌++◌, length, map, get_or, take, refl, ap, sym, ◌∙◌, arith, ne_eqb, length-take, common_steps, length-map, get_or-take, take_more, map-append, sum_by-cons, insert_entry, runner_at_start, pieces_of, attach_count, Process, Tables, runner_view, runners_view, pieces_at, AreCountsExact, no_reservations, Slab, bare, bare_all, counted, stored_at, AllHaveTables, Runner, TableView}
 use Rattle.shm_base.specs.State as flat
 use Rattle.shm_attach.proofs.HavingTables.{pieces_at-bare}
 use Rattle.shm_attach.proofs.Callers.{nobody}
@@ -50,3 +50,11 @@ pub AllHaveTables-start : (es : List (ℕ × Runner)) (ps : List Process) (t : S
 AllHaveTables-start es ps t same i k d lt =
     let none : bare_all (stored_at es i) ≡ [] = sym (pieces_at-bare es i) ∙ ap (λ (rs : List flat.Runner). pieces_at rs i) same ∙ pieces_at-start ps i in
     absurd (omega (arith, lt, length-map (stored_at es i) bare, ap length none))
+
+-- a process more has its room
+pub room-more : (most : ℕ) (es : List (ℕ × Runner)) (k : ℕ) (r : Runner) → ((i : ℕ) → i < length es → most_at es i ≡ most) → r.space.most ≡ most
+    → (i : ℕ) → i < length (insert_entry nat_eq es k r) → most_at (insert_entry nat_eq es k r) i ≡ most
+room-more most [] k r each own zero lt = own
+room-more most [] k r each own (suc i) lt = absurd (omega (arith, lt))
+room-more most (e ∷ es) k r each own zero lt = grind (arith, common_steps, each 0)
+room-more most (e ∷ es) k r each own (suc i) lt = grind (arith, common_steps, each (suc i), (room-more most es k r (λ j within. each (suc j) (omega (arith, within))) own i))

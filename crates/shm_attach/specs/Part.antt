@@ -21,3 +21,8 @@ pub record IsCuttable (from to : ℕ) (ps : List Piece) : Type 0 where
 abbrev pub CanGo : Part → List Piece → Type 0
 CanGo (Range from to) ps = IsCuttable from to ps
 CanGo (Attach addr seg) ps = ⊤
+
+-- what is left has room, where so many pieces are the most
+abbrev pub LeavesRoom : ℕ → Part → List Piece → Type 0
+LeavesRoom most (Range from to) ps = length (cut from to ps) ≤ most
+LeavesRoom most (Attach addr seg) ps = ⊤

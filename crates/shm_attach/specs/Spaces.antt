@@ -11,9 +11,11 @@ pub record Translation : Type 0 where
   pub page : ℕ
   pub frame : Option ℕ
 
+-- `most` are the most pieces of a process
 pub record SpacesView : Type 0 where
   pub runners : List Runner
   pub translations : List Translation
+  pub most : ℕ
 
 -- each translation is what the residency says
 abbrev pub AreTrue : List Translation → StoreView → Type 0

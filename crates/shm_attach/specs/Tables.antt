@@ -32,7 +32,7 @@ pub record HasTable (t : Slab TableView) (p : Piece) : Type 0 where
 
 abbrev pub stored_in : Option (ℕ × Runner) → List Piece
 stored_in None = []
-stored_in (Some e) = e.1.space
+stored_in (Some e) = e.1.space.pieces
 
 -- the pieces of the process at a place, with their keys
 abbrev pub stored_at : List (ℕ × Runner) → ℕ → List Piece

@@ -1,7 +1,8 @@
 -- What the stored processes show of the flat machine.
-use Rattle.std.specs.Prelude.{ℕ, List, map, Option, Some, None, if◌then◌else◌, ◌==◌, slice_get, slice_set}
+use Rattle.std.specs.Prelude.{ℕ, ◌≡◌, ◌<◌, ◌≤◌, length, List, map, Option, Some, None, if◌then◌else◌, ◌==◌, slice_get, slice_set}
 use Rattle.shm_base.specs.State as flat
 use Rattle.shm_areas.specs.Arranged.{bare_all}
+use Rattle.shm_base.specs.declared.bounds.TheConstants.{MOST_PIECES}
 use Rattle.shm_attach.specs.declared.process.Life.{Life}
 use Rattle.shm_attach.specs.declared.process.Life.TheVariants.{Unborn, Live, Ended}
 use Rattle.shm_attach.specs.declared.process.Runner.{Runner}
@@ -12,7 +13,7 @@ life_view (Live cred) = flat.Live cred
 life_view Ended = flat.Ended
 
 abbrev pub runner_view : ℕ × Runner → flat.Runner
-runner_view e = record { pid = e.0; life = life_view e.1.life; pieces = bare_all e.1.space }
+runner_view e = record { pid = e.0; life = life_view e.1.life; pieces = bare_all e.1.space.pieces }
 
 abbrev pub runners_view : List (ℕ × Runner) → List flat.Runner
 runners_view es = map runner_view es
@@ -36,3 +37,16 @@ with_other_life rs i l (Some r) = slice_set rs i (record r { life = l })
 -- the processes with another state of one of them
 abbrev pub with_life_at : List flat.Runner → ℕ → flat.Life → List flat.Runner
 with_life_at rs i l = with_other_life rs i l (slice_get rs i)
+
+abbrev pub most_in : Option (ℕ × Runner) → ℕ
+most_in None = 0
+most_in (Some e) = e.1.space.most
+
+-- the most pieces that the process at a place may have
+abbrev pub most_at : List (ℕ × Runner) → ℕ → ℕ
+most_at es i = most_in (slice_get es i)
+
+-- each process has room for so many pieces
+pub record HaveRoom (most : ℕ) (es : List (ℕ × Runner)) : Type 0 where
+  pub bound : most ≤ MOST_PIECES
+  pub each : (i : ℕ) → i < length es → most_at es i ≡ most

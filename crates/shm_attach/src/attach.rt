@@ -31,9 +31,10 @@ impl Spaces {
         requires live { IsCaller caller.now self.old.runners }
         requires pages { (1 ≤ pages) × (pages ≤ 4096) }
         requires range { IsRange pages base }
-        requires room { length (cut base (base + 4096 * pages) (pieces_at self.old.runners caller.now.index)) + 1 ≤ 256 }
+        requires room { length (cut base (base + 4096 * pages) (pieces_at self.old.runners caller.now.index)) + 1 ≤ self.old.most }
         ensures lost { IfOk result (λ l. l ≡ cut_segments base (base + 4096 * pages) (pieces_at self.old.runners caller.now.index)) }
         ensures runners { OnOk result (self.new.runners ≡ with_pieces self.old.runners (caller_seen caller.now self.old.runners) (inserted (new_piece seg base pages writable) (cut base (base + 4096 * pages) (pieces_at self.old.runners caller.now.index)))) }
+        ensures most { self.new.most ≡ self.old.most }
         ensures translated { AreTrue self.old.translations store.now → AreTrue self.new.translations store.now }
         ensures err { OnErr result (self.new ≡ self.old) }
     {

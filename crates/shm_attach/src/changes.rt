@@ -6,13 +6,14 @@ ghost use Rattle.std.specs.Prelude.{◌≡◌, ◌≢◌, ℕ, Option, ◌<◌, 
 ghost use Rattle.shm_base.specs.State.{Unborn};
 ghost use Rattle.shm_base.specs.Space.{lowest_address, inserted, cut, meets, pieces_of};
 ghost use Rattle.shm_areas.specs.declared.piece.Piece.{Piece as Stored};
+ghost use Rattle.shm_base.specs.declared.bounds.TheConstants.{MOST_PIECES};
 ghost use Rattle.shm_areas.specs.Arranged.{bare, bare_all, Arranged};
-ghost use Rattle.shm_attach.specs.Views.{life_view, with_pieces_at, with_life_at, runners_view};
+ghost use Rattle.shm_attach.specs.Views.{life_view, with_pieces_at, with_life_at, runners_view, most_at};
 ghost use Rattle.shm_attach.specs.Spaces.{pieces_at, life_at};
 ghost use Rattle.shm_attach.specs.Table.{AllTrue};
 ghost use Rattle.shm_attach.specs.Tables.{counted, stored_at, HasTable, OneTableEach};
 ghost use Rattle.shm_attach.specs.Place.{IsPlaceFor};
-ghost use Rattle.shm_attach.specs.Part.{left, CanGo};
+ghost use Rattle.shm_attach.specs.Part.{left, CanGo, LeavesRoom};
 ghost use Rattle.shm_attach.specs.Exact.{AreTablesSound, HasReservations};
 
 use crate::process::{Life, Runner};
@@ -33,8 +34,9 @@ pub(crate) enum Part {
 #[inline(always)]
 pub(crate) fn space_at(processes: &IndexMap<u32, Runner>, index: usize) -> &Space
     requires { index < length processes.now.entries }
-    ensures flat { bare_all result.now ≡ pieces_at (runners_view processes.now.entries) index }
-    ensures stored { result.now ≡ stored_at processes.now.entries index }
+    ensures flat { bare_all result.now.pieces ≡ pieces_at (runners_view processes.now.entries) index }
+    ensures stored { result.now.pieces ≡ stored_at processes.now.entries index }
+    ensures most { result.now.most ≡ most_at processes.now.entries index }
 {
     &processes[index].space
 }
@@ -49,11 +51,13 @@ pub(crate) fn put(
     requires there { index < length processes.old.entries }
     requires born { life_at (runners_view processes.old.entries) index ≢ Unborn }
     requires place { IsPlaceFor (bare piece) (pieces_at (runners_view processes.old.entries) index) }
+    requires room { length (pieces_at (runners_view processes.old.entries) index) < most_at processes.old.entries index }
     requires table { HasTable tables.old.slab piece }
     requires reservations { HasReservations processes.old.entries tables.old }
     ensures runners { runners_view processes.new.entries ≡ with_pieces_at (runners_view processes.old.entries) index (inserted (bare piece)) }
     ensures count { length processes.new.entries ≡ length processes.old.entries }
     ensures others { (j : ℕ) → j ≢ index → stored_at processes.new.entries j ≡ stored_at processes.old.entries j }
+    ensures most { (j : ℕ) → most_at processes.new.entries j ≡ most_at processes.old.entries j }
     ensures sound { (extra : ℕ → ℕ) → AreTablesSound extra processes.old.entries tables.old → AreTablesSound extra processes.new.entries tables.new }
     ensures tables { (p : Stored) → HasTable tables.old.slab p → HasTable tables.new.slab p }
     ensures translated { (at : ℕ → ℕ → Option ℕ) → AllTrue at tables.old.slab → AllTrue at tables.new.slab }
@@ -69,7 +73,7 @@ fn recount(tables: &mut Tables, met: &[Piece], from: u64, to: u64)
     requires tables { All (HasTable tables.old.slab) met.now }
     requires counted { (id : ℕ) → pieces_of id (bare_all met.now) ≤ counted tables.old id }
     requires small { (id : ℕ) → counted tables.old id ≤ 65536 }
-    requires few { length met.now ≤ 256 }
+    requires few { length met.now ≤ MOST_PIECES }
     requires tied { OneTableEach tables.old }
     ensures counts { (id : ℕ) → counted tables.new id + pieces_of id (bare_all met.now) ≡ counted tables.old id + pieces_of id (cut from to (bare_all met.now)) }
     ensures tables { (p : Stored) → HasTable tables.old.slab p → 0 < counted tables.new p.seg → HasTable tables.new.slab p }
@@ -91,9 +95,11 @@ pub(crate) fn take(
 )
     requires there { index < length processes.old.entries }
     requires part { CanGo part (pieces_at (runners_view processes.old.entries) index) }
+    requires room { LeavesRoom (most_at processes.old.entries index) part (pieces_at (runners_view processes.old.entries) index) }
     requires reservations { HasReservations processes.old.entries tables.old }
     ensures runners { runners_view processes.new.entries ≡ with_pieces_at (runners_view processes.old.entries) index (left part) }
     ensures count { length processes.new.entries ≡ length processes.old.entries }
+    ensures most { (j : ℕ) → most_at processes.new.entries j ≡ most_at processes.old.entries j }
     ensures sound { (extra : ℕ → ℕ) → AreTablesSound extra processes.old.entries tables.old → AreTablesSound extra processes.new.entries tables.new }
     ensures tables { (p : Stored) → HasTable tables.old.slab p → 0 < counted tables.new p.seg → HasTable tables.new.slab p }
     ensures translated { (at : ℕ → ℕ → Option ℕ) → AllTrue at tables.old.slab → AllTrue at tables.new.slab }
@@ -119,6 +125,7 @@ pub(crate) fn set_life_at(processes: &mut IndexMap<u32, Runner>, index: usize, l
     ensures runners { runners_view processes.new.entries ≡ with_life_at (runners_view processes.old.entries) index (life_view life) }
     ensures count { length processes.new.entries ≡ length processes.old.entries }
     ensures stored { (j : ℕ) → stored_at processes.new.entries j ≡ stored_at processes.old.entries j }
+    ensures most { (j : ℕ) → most_at processes.new.entries j ≡ most_at processes.old.entries j }
 {
     processes[index].life = life;
 }

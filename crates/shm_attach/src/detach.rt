@@ -17,6 +17,7 @@ impl Spaces {
     pub fn detach(&mut self, caller: &Caller, addr: u64, seg: u32)
         requires { IsCaller caller.now self.old.runners }
         ensures gone { self.new.runners ≡ with_pieces self.old.runners (caller_seen caller.now self.old.runners) (without_named addr seg (pieces_at self.old.runners caller.now.index)) }
+        ensures most { self.new.most ≡ self.old.most }
         ensures translated { (m : StoreView) → AreTrue self.old.translations m → AreTrue self.new.translations m }
     {
         take(
@@ -33,6 +34,7 @@ impl Spaces {
         requires { IsCaller caller.now self.old.runners }
         ensures lost { result ≡ segments_of (caller_seen caller.now self.old.runners) }
         ensures runners { self.new.runners ≡ with_pieces self.old.runners (caller_seen caller.now self.old.runners) [] }
+        ensures most { self.new.most ≡ self.old.most }
         ensures translated { (m : StoreView) → AreTrue self.old.translations m → AreTrue self.new.translations m }
     {
         let lost = Lost::of(space_at(&self.processes, caller.index).pieces());
@@ -53,6 +55,7 @@ impl Spaces {
         requires { IsCaller caller.now self.old.runners }
         ensures lost { result ≡ segments_of (caller_seen caller.now self.old.runners) }
         ensures runners { self.new.runners ≡ with_end self.old.runners (caller_seen caller.now self.old.runners) }
+        ensures most { self.new.most ≡ self.old.most }
         ensures translated { (m : StoreView) → AreTrue self.old.translations m → AreTrue self.new.translations m }
     {
         let lost = self.exec(caller);

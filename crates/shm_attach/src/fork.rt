@@ -3,7 +3,7 @@ ghost use Rattle.std.specs.Prelude.{◌≡◌, ◌≢◌, ℕ, ◌<◌, ◌≤�
 ghost use Rattle.shm_base.specs.State.{Unborn};
 ghost use Rattle.shm_base.specs.Segments.{attach_count};
 ghost use Rattle.shm_base.specs.Step.{unborn_from};
-ghost use Rattle.shm_attach.specs.Views.{with_pieces_at, runners_view};
+ghost use Rattle.shm_attach.specs.Views.{with_pieces_at, runners_view, most_at};
 ghost use Rattle.shm_fault.specs.Store.{StoreView};
 ghost use Rattle.shm_attach.specs.Table.{AllTrue};
 ghost use Rattle.shm_attach.specs.Spaces.{pieces_at, life_at, caller_seen, IsCaller, AreTrue};
@@ -28,8 +28,11 @@ fn copy_pieces(
     requires apart { parent ≢ child }
     requires born { life_at (runners_view processes.old.entries) child ≢ Unborn }
     requires none { pieces_at (runners_view processes.old.entries) child ≡ [] }
+    requires room { most_at processes.old.entries parent ≤ most_at processes.old.entries child }
     requires sound { AreTablesSound no_reservations processes.old.entries tables.old }
     ensures runners { runners_view processes.new.entries ≡ with_pieces_at (runners_view processes.old.entries) child (λ _. pieces_at (runners_view processes.old.entries) parent) }
+    ensures count { length processes.new.entries ≡ length processes.old.entries }
+    ensures most { (j : ℕ) → most_at processes.new.entries j ≡ most_at processes.old.entries j }
     ensures sound { AreTablesSound no_reservations processes.new.entries tables.new }
     ensures translated { (at : ℕ → ℕ → Option ℕ) → AllTrue at tables.old.slab → AllTrue at tables.new.slab }
 {
@@ -47,6 +50,7 @@ impl Spaces {
         requires live { IsCaller caller.now self.old.runners }
         requires unborn { unborn_from 0 child.now.pid self.old.runners ≡ Some child.now.index }
         ensures born { self.new.runners ≡ born_child self.old.runners (caller_seen caller.now self.old.runners) child.now }
+        ensures most { self.new.most ≡ self.old.most }
         ensures more { (id : ℕ) → attach_count self.old.runners id ≤ attach_count self.new.runners id }
         ensures translated { (m : StoreView) → AreTrue self.old.translations m → AreTrue self.new.translations m }
     {

@@ -1,6 +1,7 @@
 //! The segments that lost pieces.
 ghost use Rattle.std.specs.Prelude.{◌≡◌, ◌≤◌, length, map};
 ghost use Rattle.shm_areas.specs.declared.piece.Piece.{Piece as Stored};
+ghost use Rattle.shm_base.specs.declared.bounds.TheConstants.{MOST_PIECES};
 
 use arrayvec::ArrayVec;
 use shm_areas::Piece;
@@ -22,18 +23,19 @@ impl Drop for Lost {
 
 impl Model for Lost {
     ghost use Rattle.std.specs.Prelude.{ℕ, List, ◌≤◌, length};
+    ghost use Rattle.shm_base.specs.declared.bounds.TheConstants.{MOST_PIECES};
 
     ghost Value = { List ℕ };
 
     ghost view = { λ l. l.segments.items };
 
-    ghost invariant = { λ l. length l.segments.items ≤ 256 };
+    ghost invariant = { λ l. length l.segments.items ≤ MOST_PIECES };
 }
 
 impl Lost {
     /// The segments of these pieces.
     pub(crate) fn of(pieces: &[Piece]) -> Lost
-        requires { length pieces.now ≤ 256 }
+        requires { length pieces.now ≤ MOST_PIECES }
         ensures { result ≡ map (λ (p : Stored). p.seg) pieces.now }
     {
         let mut segments = ArrayVec::new();
@@ -46,7 +48,7 @@ impl Lost {
     /// The segments.
     pub fn as_slice(&self) -> &[u32]
         ensures value { result.now ≡ self.now }
-        ensures few { length result.now ≤ 256 }
+        ensures few { length result.now ≤ MOST_PIECES }
     {
         self.segments.as_slice()
     }

@@ -4,6 +4,7 @@ ghost use Rattle.shm_base.specs.State.{life_at_start, runner_at_start};
 ghost use Rattle.shm_base.specs.Segments.{attach_count};
 ghost use Rattle.shm_base.specs.Step.{caller_from, unborn_from};
 ghost use Rattle.shm_base.specs.declared.call.Process.{Process as Declared};
+ghost use Rattle.shm_base.specs.declared.bounds.TheConstants.{MOST_PIECES};
 ghost use Rattle.shm_attach.specs.Views.{life_view};
 ghost use Rattle.shm_fault.specs.Store.{StoreView};
 ghost use Rattle.shm_fault.specs.Access.{NameFrames};
@@ -28,6 +29,8 @@ use std::marker::Model;
 pub struct Spaces {
     pub(crate) processes: IndexMap<u32, Runner>,
     pub(crate) tables: Tables,
+    // The most pieces of a process.
+    most: u32,
 }
 
 impl Drop for Spaces {
@@ -35,21 +38,22 @@ impl Drop for Spaces {
         let Spaces {
             processes: _,
             tables: _,
+            most: _,
         } = self;
     }
 }
 
 impl Model for Spaces {
-    ghost use Rattle.shm_attach.specs.Views.{runners_view};
+    ghost use Rattle.shm_attach.specs.Views.{runners_view, HaveRoom};
     ghost use Rattle.shm_attach.specs.Spaces.{SpacesView};
     ghost use Rattle.shm_attach.specs.Exact.{AreTablesSound, no_reservations};
     ghost use Rattle.shm_attach.specs.Table.{translations_of};
 
     ghost Value = { SpacesView };
 
-    ghost view = { λ s. record { runners = runners_view s.processes.entries; translations = translations_of s.tables.slab } };
+    ghost view = { λ s. record { runners = runners_view s.processes.entries; translations = translations_of s.tables.slab; most = s.most } };
 
-    ghost invariant = { λ s. AreTablesSound no_reservations s.processes.entries s.tables };
+    ghost invariant = { λ s. AreTablesSound no_reservations s.processes.entries s.tables × HaveRoom s.most s.processes.entries };
 }
 
 fn born(process: &Process) -> Life
@@ -62,22 +66,25 @@ fn born(process: &Process) -> Life
 }
 
 impl Spaces {
-    /// The processes as they are declared, none with a piece. It takes their room.
-    pub fn new(alloc: Global, processes: &[Process]) -> Result<Spaces, HostMemory>
+    /// The processes as they are declared, none with a piece. It takes their room, of so many pieces each.
+    pub fn new(alloc: Global, processes: &[Process], most: u32) -> Result<Spaces, HostMemory>
+        requires most { most ≤ MOST_PIECES }
         requires few { length processes.now ≤ 64 }
         requires apart { AllPairs (λ (p q : Declared). p.pid ≢ q.pid) processes.now }
         ensures runners { IfOk result (λ s. s.runners ≡ map runner_at_start processes.now) }
         ensures translations { IfOk result (λ s. s.translations ≡ []) }
+        ensures most { IfOk result (λ s. s.most ≡ most) }
     {
         let mut by_pid = IndexMap::new(alloc);
         for process in processes {
-            let space = Space::new(alloc)?;
+            let space = Space::new(alloc, most)?;
             let life = born(process);
             by_pid.insert(process.pid, Runner { life, space })?;
         }
         Ok(Spaces {
             processes: by_pid,
             tables: Tables::new(alloc),
+            most,
         })
     }
 
@@ -111,7 +118,8 @@ impl Spaces {
     /// The address space of a live process.
     pub fn space(&self, caller: &Caller) -> &Space
         requires { IsCaller caller.now self.now.runners }
-        ensures { bare_all result.now ≡ pieces_at self.now.runners caller.now.index }
+        ensures pieces { bare_all result.now.pieces ≡ pieces_at self.now.runners caller.now.index }
+        ensures most { result.now.most ≡ self.now.most }
     {
         space_at(&self.processes, caller.index)
     }
@@ -156,6 +164,7 @@ impl Spaces {
     #[inline(always)]
     pub fn note(&mut self, moved: &[PageMove])
         ensures runners { self.new.runners ≡ self.old.runners }
+        ensures most { self.new.most ≡ self.old.most }
         ensures translated { (m n : StoreView) → AreTrue self.old.translations m → MovesLead moved.now m n → AreTrue self.new.translations n }
     {
         self.tables.note(moved);

@@ -79,14 +79,14 @@ impl Spans {
 #[inline(always)]
 fn span_in(space: &Space, tables: &Tables, addr: u64, len: u64, write: bool) -> Option<Span>
     requires some { 1 ≤ len }
-    requires tables { All (HasTable tables.now.slab) space.now }
+    requires tables { All (HasTable tables.now.slab) space.now.pieces }
     requires page { addr % 4096 + len ≤ 4096 }
-    ensures places { IfSome result (λ s. wanted_in write (bare_all space.now) addr len ≡ Some (run s.seg s.at s.len false)) }
-    ensures none { IfNone result (wanted_in write (bare_all space.now) addr len ≡ None) }
+    ensures places { IfSome result (λ s. wanted_in write (bare_all space.now.pieces) addr len ≡ Some (run s.seg s.at s.len false)) }
+    ensures none { IfNone result (wanted_in write (bare_all space.now.pieces) addr len ≡ None) }
     ensures within { IfSome result InPage }
     ensures size { IfSome result (λ s. s.len ≡ len) }
     ensures low { IfSome result (λ _. addr < 2 ^ 48) }
-    ensures pages { IfSome result (λ s. (test : ℕ → ℕ → Bool) → PassPages test (bare_all space.now) → test s.seg (page_of s) ≡ true) }
+    ensures pages { IfSome result (λ s. (test : ℕ → ℕ → Bool) → PassPages test (bare_all space.now.pieces) → test s.seg (page_of s) ≡ true) }
     ensures frames { IfSome result (λ s. (at : ℕ → ℕ → Option ℕ) → AllTrue at tables.now.slab → s.frame ≡ at s.seg (page_of s)) }
 {
     let piece = space.piece_at(addr)?;
@@ -112,9 +112,9 @@ pub(crate) fn spans_in(
     write: bool,
 ) -> Result<Spans, Segv>
     requires size { (1 ≤ len) × (len ≤ 64) }
-    requires tables { All (HasTable tables.now.slab) space.now }
-    ensures spans { IfOk result (λ s. AreSpans write (bare_all space.now) addr len s) }
-    ensures none { OnErr result (wanted_in write (bare_all space.now) addr len ≡ None) }
+    requires tables { All (HasTable tables.now.slab) space.now.pieces }
+    ensures spans { IfOk result (λ s. AreSpans write (bare_all space.now.pieces) addr len s) }
+    ensures none { OnErr result (wanted_in write (bare_all space.now.pieces) addr len ≡ None) }
     ensures frames { IfOk result (λ s. (at : ℕ → ℕ → Option ℕ) → AllTrue at tables.now.slab → All (λ (p : SpanValue). p.frame ≡ at p.seg (page_of p)) s) }
 {
     let room = PAGE_SIZE - addr % PAGE_SIZE;

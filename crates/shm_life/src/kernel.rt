@@ -30,6 +30,7 @@ impl<P: Pager> Drop for Kernel<P> {
 }
 
 impl<P: Pager> Model for Kernel<P> {
+    ghost use Rattle.std.specs.Prelude.{◌≡◌};
     ghost use Rattle.shm_slots.specs.View.{sizes};
     ghost use Rattle.shm_life.specs.Sound.{IsWell};
     ghost use Rattle.shm_life.specs.MachineView.{MachineView};
@@ -38,7 +39,7 @@ impl<P: Pager> Model for Kernel<P> {
 
     ghost view = { λ m. record { flat = record { limits = m.limits; areas = sizes m.segments.memory.swap; table = m.segments.table; runners = m.spaces.runners }; memory = m.segments.memory } };
 
-    ghost invariant = { λ m. IsWell m.limits m.segments.table m.spaces.runners m.spaces.translations m.segments.memory };
+    ghost invariant = { λ m. IsWell m.limits m.segments.table m.spaces.runners m.spaces.translations m.segments.memory × (m.spaces.most ≡ m.limits.most_pieces) };
 }
 
 impl<P: Pager> Kernel<P> {

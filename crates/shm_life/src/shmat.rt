@@ -54,7 +54,7 @@ impl<P: Pager> Kernel<P> {
         ensures fits { IfOk result (λ p. PieceFits self.now.flat.table (piece_for flags p)) }
         ensures pages { IfOk result (λ p. (1 ≤ p.pages) × (p.pages ≤ 4096)) }
         ensures range { IfOk result (λ p. IsRange p.pages p.base) }
-        ensures room { IfOk result (λ p. length (cut p.base (p.base + 4096 * p.pages) (pieces_at self.now.flat.runners caller.now.index)) + 1 ≤ 256) }
+        ensures room { IfOk result (λ p. length (cut p.base (p.base + 4096 * p.pages) (pieces_at self.now.flat.runners caller.now.index)) + 1 ≤ self.now.flat.limits.most_pieces) }
     {
         if is_misplaced(addr, flags) {
             return Err(Errno::Einval);

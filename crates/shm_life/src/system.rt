@@ -129,7 +129,7 @@ impl<P: Pager> System<P> {
         let kernel = Kernel {
             limits,
             segments: Segments::new(alloc, limits.frames() as u32, Swap::new(alloc, pagers)?)?,
-            spaces: Spaces::new(alloc, processes)?,
+            spaces: Spaces::new(alloc, processes, limits.most_pieces())?,
         };
         Ok(System {
             opening,

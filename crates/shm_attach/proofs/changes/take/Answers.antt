@@ -1,6 +1,6 @@
-use Rattle.shm_attach.proofs.Names.{values_of, ◌≡◌, ℕ, ◌+◌, ◌-◌, ◌≤◌, ◌∙◌, not, ap, sym, refl, arith, eq-eqb, List, Some, slice_get, length, filter, common_steps, All, length-map, meets, cut, without_named, pieces_of, bare, bare_all, stored_named, stored_without, arranged_filter, bare_filter, some_if, runners_view, pieces_at, IsCuttable, counted, stored_at, HasTable, Piece, Runner}
+use Rattle.shm_attach.proofs.Names.{SpaceView, values_of, ◌≡◌, ℕ, ◌+◌, ◌-◌, ◌≤◌, ◌∙◌, not, ap, sym, refl, arith, eq-eqb, List, Some, slice_get, length, filter, common_steps, All, length-map, meets, cut, without_named, pieces_of, bare, bare_all, stored_named, stored_without, arranged_filter, bare_filter, some_if, runners_view, pieces_at, IsCuttable, counted, stored_at, HasTable, Piece, Runner}
 use Rattle.shm_attach.proofs.Processes.{bare-met, met-meets, pieces_of-filter, pieces_of-cut_met, pieces_of-without, shorter_filter}
-use Rattle.shm_attach.proofs.HavingTables.{pieces_at-stored, stored_at-value, tables-cut, tables-filter}
+use Rattle.shm_attach.proofs.HavingTables.{most_at-value, pieces_at-stored, stored_at-value, tables-cut, tables-filter}
 use Rattle.shm_attach.proofs.Sound.{changed, fit-cut, fit-without, sound-changed, counts-small, counts-own}
 use Rattle.shm_attach.proofs.changes.take.Goals.{After-index_mut, In-Range, After-pieces}
 use Rattle.shm_attach.proofs.changes.take.Goals as goal
@@ -8,13 +8,13 @@ use Rattle.shm_attach.proofs.changes.take.Goals as goal
 stands : (c : After-index_mut) → Some c.index_mut.result.now ≡ slice_get (values_of c.args.processes.now.entries) c.args.index
 stands c = sym c.index_mut.ensures.value
 
-shown : (c : After-index_mut) → pieces_at (runners_view c.args.processes.now.entries) c.args.index ≡ bare_all c.index_mut.result.now.space
+shown : (c : After-index_mut) → pieces_at (runners_view c.args.processes.now.entries) c.args.index ≡ bare_all c.index_mut.result.now.space.pieces
 shown c = pieces_at-stored c.args.processes.now.entries c.args.index c.index_mut.result.now (stands c)
 
-own : (c : After-index_mut) → stored_at c.args.processes.now.entries c.args.index ≡ c.index_mut.result.now.space
+own : (c : After-index_mut) → stored_at c.args.processes.now.entries c.args.index ≡ c.index_mut.result.now.space.pieces
 own c = stored_at-value c.args.processes.now.entries c.args.index c.index_mut.result.now (stands c)
 
-mine : (c : After-index_mut) (id : ℕ) → pieces_of id (bare_all c.index_mut.result.now.space) ≤ counted c.args.tables.now id
+mine : (c : After-index_mut) (id : ℕ) → pieces_of id (bare_all c.index_mut.result.now.space.pieces) ≤ counted c.args.tables.now id
 mine c id = rw (← shown c) (counts-own c.args.processes.now.entries c.args.tables.now c.args.index c.requires.reservations c.requires.there id)
 
 -- A RANGE
@@ -26,27 +26,30 @@ pub recount-requires-clause-fit : goal.recount-requires-clause-fit
 recount-requires-clause-fit c = grind (arith, common_steps, arranged_filter)
 
 pub recount-requires-clause-meets : goal.recount-requires-clause-meets
-recount-requires-clause-meets c = rw c.met.ensures.value (met-meets c.in-Range.from c.in-Range.to c.index_mut.result.now.space)
+recount-requires-clause-meets c = rw c.met.ensures.value (met-meets c.in-Range.from c.in-Range.to c.index_mut.result.now.space.pieces)
 
 pub recount-requires-clause-tables : goal.recount-requires-clause-tables
 recount-requires-clause-tables c =
     let t = c.args.tables.now.slab in
-    let all : All (HasTable t) c.index_mut.result.now.space =
+    let all : All (HasTable t) c.index_mut.result.now.space.pieces =
     rw (own (goal.at.recount-requires-clause-tables c).After-index_mut) at (c.requires.reservations.sound.tables c.args.index) in
-    rw c.met.ensures.value (tables-filter t (λ (p : Piece). meets c.in-Range.from c.in-Range.to (bare p)) c.index_mut.result.now.space all)
+    rw c.met.ensures.value (tables-filter t (λ (p : Piece). meets c.in-Range.from c.in-Range.to (bare p)) c.index_mut.result.now.space.pieces all)
 
 pub recount-requires-clause-counted : goal.recount-requires-clause-counted
 recount-requires-clause-counted c = λ id.
-    let ps = bare_all c.index_mut.result.now.space in
+    let ps = bare_all c.index_mut.result.now.space.pieces in
     let all = mine (goal.at.recount-requires-clause-counted c).After-index_mut id in
-    rw (c.met.ensures.value, bare-met c.in-Range.from c.in-Range.to c.index_mut.result.now.space)
+    rw (c.met.ensures.value, bare-met c.in-Range.from c.in-Range.to c.index_mut.result.now.space.pieces)
     (omega (arith, all, pieces_of-filter id (meets c.in-Range.from c.in-Range.to) ps))
 
 pub recount-requires-clause-small : goal.recount-requires-clause-small
 recount-requires-clause-small c = λ id. omega (arith, counts-small c.args.processes.now.entries c.args.tables.now c.requires.reservations id)
 
 pub cut-requires-clause-few : goal.cut-requires-clause-few
-cut-requires-clause-few c = grind (arith, common_steps, can, shown)
+cut-requires-clause-few c =
+    let at = (goal.at.cut-requires-clause-few c).After-index_mut in
+    let room = rw c.in-Range.is at c.requires.room in
+    rw (shown at, most_at-value c.args.processes.now.entries c.args.index c.index_mut.result.now (stands at)) at room
 
 -- what the met pieces are recounted to is what all are
 cut_counts : (from to a b id : ℕ) (met own : List Piece) → bare_all met ≡ filter (meets from to) (bare_all own)
@@ -65,15 +68,16 @@ returns-in-Range c =
     let w = c.index_mut.result.now in
     let v : Runner = record { life = w.life; space = c.cut.new.self } in
     let b = goal.at.returns-in-Range c in
-    let ch = changed es i w v (cut from to) (stands b.After-index_mut) refl c.cut.ensures.flat in
-    let same = ap bare_all c.met.ensures.value ∙ bare-met from to w.space in
+    let ch = changed es i w v (cut from to) (stands b.After-index_mut) refl c.cut.ensures.flat (ap (λ (s : SpaceView). s.most) c.cut.ensures.kept) in
+    let same = ap bare_all c.met.ensures.value ∙ bare-met from to w.space.pieces in
     record {
       runners = rw c.in-Range.is ch.runners;
       count = ch.count;
+      most = ch.most;
       sound = λ extra s.
-          let counts = λ (id : ℕ). cut_counts from to (counted t id) (counted c.recount.new.tables id) id c.met.result.now w.space same (c.recount.ensures.counts id) in
-          sound-changed extra es t c.recount.new.tables i w v (cut from to) c.requires.there (stands b.After-index_mut) refl c.cut.ensures.flat s
-          (fit-cut extra es t i from to s (can b.In-Range)) (λ all. rw c.cut.ensures.kept (tables-cut t.slab from to w.space all))
+          let counts = λ (id : ℕ). cut_counts from to (counted t id) (counted c.recount.new.tables id) id c.met.result.now w.space.pieces same (c.recount.ensures.counts id) in
+          sound-changed extra es t c.recount.new.tables i w v (cut from to) c.requires.there (stands b.After-index_mut) refl c.cut.ensures.flat (ap (λ (s : SpaceView). s.most) c.cut.ensures.kept) s
+          (fit-cut extra es t i from to s (can b.In-Range)) (λ all. rw (ap (λ (s : SpaceView). s.pieces) c.cut.ensures.kept) (tables-cut t.slab from to w.space.pieces all))
           (record { counts = counts; tables = c.recount.ensures.tables; tied = c.recount.ensures.tied });
       tables = c.recount.ensures.tables;
       translated = c.recount.ensures.translated;
@@ -89,17 +93,17 @@ gone_by : (addr seg b a : ℕ) (own left : List Piece) → left ≡ stored_witho
 gone_by addr seg b a own left kept before after = grind (arith, common_steps, fewer, bare_filter, length-map)
 
 gone : (c : After-pieces)
-    → length (without_named c.in-Attach.addr c.in-Attach.seg (bare_all c.index_mut.result.now.space)) + (length c.pieces-before.result.now - length c.pieces.result.now)
-    ≡ length (bare_all c.index_mut.result.now.space)
+    → length (without_named c.in-Attach.addr c.in-Attach.seg (bare_all c.index_mut.result.now.space.pieces)) + (length c.pieces-before.result.now - length c.pieces.result.now)
+    ≡ length (bare_all c.index_mut.result.now.space.pieces)
 gone c = grind (arith, common_steps, gone_by)
 
 pub overflow_sub-gone : goal.overflow_sub-gone
 overflow_sub-gone c = grind (arith, common_steps, fewer)
 
 named : (c : After-pieces) (id : ℕ)
-    → pieces_of id (without_named c.in-Attach.addr c.in-Attach.seg (bare_all c.index_mut.result.now.space))
+    → pieces_of id (without_named c.in-Attach.addr c.in-Attach.seg (bare_all c.index_mut.result.now.space.pieces))
     + some_if id c.in-Attach.seg (length c.pieces-before.result.now - length c.pieces.result.now)
-    ≡ pieces_of id (bare_all c.index_mut.result.now.space)
+    ≡ pieces_of id (bare_all c.index_mut.result.now.space.pieces)
 named c id = grind (arith, common_steps, pieces_of-without, gone)
 
 pub release-requires-clause-gone : goal.release-requires-clause-gone
@@ -118,14 +122,15 @@ returns-in-Attach c =
     let w = c.index_mut.result.now in
     let v : Runner = record { life = w.life; space = c.take_at.new.self } in
     let b = goal.at.returns-in-Attach c in
-    let ch = changed es i w v f (stands b.After-index_mut) refl c.take_at.ensures.flat in
+    let ch = changed es i w v f (stands b.After-index_mut) refl c.take_at.ensures.flat (ap (λ (s : SpaceView). s.most) c.take_at.ensures.kept) in
     record {
       runners = rw c.in-Attach.is ch.runners;
       count = ch.count;
+      most = ch.most;
       sound = λ extra s.
-          sound-changed extra es t c.release.new.self i w v f c.requires.there (stands b.After-index_mut) refl c.take_at.ensures.flat s
+          sound-changed extra es t c.release.new.self i w v f c.requires.there (stands b.After-index_mut) refl c.take_at.ensures.flat (ap (λ (s : SpaceView). s.most) c.take_at.ensures.kept) s
           (fit-without extra es t i c.in-Attach.addr c.in-Attach.seg s)
-          (λ all. rw c.take_at.ensures.kept (tables-filter t.slab (λ (p : Piece). not (stored_named c.in-Attach.addr c.in-Attach.seg p)) w.space all))
+          (λ all. rw (ap (λ (s : SpaceView). s.pieces) c.take_at.ensures.kept) (tables-filter t.slab (λ (p : Piece). not (stored_named c.in-Attach.addr c.in-Attach.seg p)) w.space.pieces all))
           (record {
             counts = λ id. omega (arith, named b.After-pieces id, c.release.ensures.counts id);
             tables = c.release.ensures.tables;

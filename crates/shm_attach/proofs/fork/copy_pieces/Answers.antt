@@ -1,4 +1,4 @@
-use Rattle.shm_attach.proofs.Names.{◌≡◌, ◌+◌, ◌<◌, ◌∙◌, ap, arith, List, length, get_or, take, common_steps, length-map, lowest_address, inserted, bare, nothing, runner_view, runners_view, with_pieces_at, pieces_at, stored_at, no_reservations}
+use Rattle.shm_attach.proofs.Names.{length-take, ◌≡◌, ◌+◌, ◌<◌, ◌∙◌, ap, arith, List, length, get_or, take, common_steps, length-map, lowest_address, inserted, bare, nothing, runner_view, runners_view, with_pieces_at, pieces_at, stored_at, no_reservations}
 use Rattle.shm_base.specs.State.{Piece}
 use Rattle.shm_attach.proofs.HavingTables.{pieces_at-bare}
 use Rattle.shm_attach.proofs.Keeping.{with_pieces_at-same, with_pieces_at-twice, pieces_at-changed, bare-get_or, inserted_next, place_next}
@@ -26,6 +26,13 @@ next c = grind (arith, common_steps, bare-get_or, within, pieces_at-bare)
 pub put-requires-clause-place : goal.put-requires-clause-place
 put-requires-clause-place c = grind (arith, common_steps, pieces_at-changed, stands, next, place_next, within_all)
 
+pub put-requires-clause-room : goal.put-requires-clause-room
+put-requires-clause-room c =
+    let rs = runners_view c.args.processes.now.entries in
+    let b = goal.at.put-requires-clause-room c in
+    let own : pieces_at (runners_view c.loop-k.processes.entries) c.args.child ≡ take c.loop-k.k (pieces_at rs c.args.parent) = grind (arith, common_steps, pieces_at-changed, (stands b.Start), c.loop-k.invariant.runners) in
+    rw (own, c.loop-k.invariant.most c.args.child) (omega (arith, length-take c.loop-k.k (pieces_at rs c.args.parent), c.loop-k-test.true, c.pieces-count.ensures.count, c.space_at.ensures.most, ap length c.pieces-count.ensures.value, c.requires.room))
+
 pub loop-k-preserved : goal.loop-k-preserved
 loop-k-preserved c =
     let rs = runners_view c.args.processes.now.entries in
@@ -46,5 +53,6 @@ loop-k-preserved c =
       count = c.put.ensures.count ∙ kept.count;
       own = c.put.ensures.others c.args.parent c.requires.apart ∙ kept.own;
       sound = c.put.ensures.sound no_reservations kept.sound;
+      most = λ j. c.put.ensures.most j ∙ kept.most j;
       translated = λ at all. c.put.ensures.translated at (kept.translated at all);
     }

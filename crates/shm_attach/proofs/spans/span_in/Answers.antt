@@ -21,7 +21,7 @@ returns-clause-places c =
       | else-write-via-else-write w ↦ λ writes. absurd (true≢false (sym writes ∙ w.if-write.false))
     ] in
     rw c.byte_at-at.ensures
-    (wanted_in-run c.args.write (bare_all c.args.space.now) p c.args.addr c.args.len may within.from
+    (wanted_in-run c.args.write (bare_all c.args.space.now.pieces) p c.args.addr c.args.len may within.from
     (λ b from to.
     c.in_ok-piece.ensures.whole b (omega (arith, within.from, from))
     (in_page p.base p.pages c.args.addr b c.args.len within.fit.aligned within.from within.to c.requires.page to)))
@@ -33,14 +33,14 @@ returns-clause-pages c = λ test all.
     let page : c.byte_at-at.result / 4096 ≡ p.first_page + (c.args.addr - p.base) / 4096 = omega arith in
     let inside : (c.args.addr - p.base) / 4096 < p.pages = omega (arith, within.from, within.to) in
     rw page
-    (covering-passes (λ (q : Piece). (j : ℕ) → j < q.pages → test q.seg (q.first_page + j) ≡ true) c.args.addr (bare_all c.args.space.now) p all
+    (covering-passes (λ (q : Piece). (j : ℕ) → j < q.pages → test q.seg (q.first_page + j) ≡ true) c.args.addr (bare_all c.args.space.now.pieces) p all
     (sym c.in_ok-piece.ensures.value) ((c.args.addr - p.base) / 4096) inside)
 
 pub returns-clause-frames : goal.returns-clause-frames
 returns-clause-frames c = λ at all.
     let p = c.in_ok-piece.piece in
     let t = c.args.tables.now.slab in
-    let ps = c.args.space.now in
+    let ps = c.args.space.now.pieces in
     let within : IsCovering c.args.addr p = c.in_ok-piece.ensures.within in
     let own : HasTable t p = tables-passed t p (c.in_ok-piece.ensures.among (has_table t) (λ k d lt. tables-passes t (get_or ps k d) (c.requires.tables k d lt))) in
     let page = c.byte_at-at.result / 4096 in

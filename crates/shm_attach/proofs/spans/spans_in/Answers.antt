@@ -5,7 +5,7 @@ use Rattle.shm_attach.proofs.spans.spans_in.Goals as goal
 pub returns-in_default-clause-none : goal.returns-in_default-clause-none
 returns-in_default-clause-none c =
     let n = c.min.result in
-    wanted_in-first c.args.write (bare_all c.args.space.now) c.args.addr n (c.args.len - n) c.args.len (omega (arith, c.min.ensures)) c.in_default.ensures.none
+    wanted_in-first c.args.write (bare_all c.args.space.now.pieces) c.args.addr n (c.args.len - n) c.args.len (omega (arith, c.min.ensures)) c.in_default.ensures.none
 
 pub returns-in_default-span_in-clause-none : goal.returns-in_default-span_in-clause-none
 returns-in_default-span_in-clause-none c = grind (arith, common_steps, wanted_in-second)

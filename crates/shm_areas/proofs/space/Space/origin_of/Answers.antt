@@ -6,7 +6,7 @@ pub loop-piece-init : goal.loop-piece-init
 loop-piece-init c =
     let n = c.count_below-start.result in
     let ps = c.deref-2.result.now in
-    let own : ps ≡ c.args.self.now = cc in
+    let own : ps ≡ c.args.self.now.pieces = cc in
     let other : c.deref.result.now ≡ ps = cc in
     let rest : take (length ps - n) (drop n ps) ≡ drop n ps = take_all (length ps - n) (drop n ps) (omega (arith, length-drop n ps)) in
     rw rest

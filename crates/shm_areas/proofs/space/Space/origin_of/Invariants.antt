@@ -4,5 +4,5 @@ use Rattle.shm_areas.proofs.space.Space.origin_of.Given as goal
 -- the pieces that were passed have another origin, as they are stored and as they are shown
 abbrev pub invariant-loop-piece : goal.invariant-loop-piece
 invariant-loop-piece l =
-    (find (λ (p : Piece). has_origin l.addr (bare p)) l.self ≡ find (λ (p : Piece). has_origin l.addr (bare p)) (drop l.piece-index l.piece-items))
-    × (origin_of l.addr (bare_all l.self) ≡ origin_of l.addr (bare_all (drop l.piece-index l.piece-items)))
+    (find (λ (p : Piece). has_origin l.addr (bare p)) l.self.pieces ≡ find (λ (p : Piece). has_origin l.addr (bare p)) (drop l.piece-index l.piece-items))
+    × (origin_of l.addr (bare_all l.self.pieces) ≡ origin_of l.addr (bare_all (drop l.piece-index l.piece-items)))

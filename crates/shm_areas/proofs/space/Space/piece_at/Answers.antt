@@ -20,19 +20,19 @@ is_last a n ps p ar some bound below above is =
       covers = rw is (covering_last a lowest_address (n - 1) ps p ar (omega arith) (λ k d l. below k d (omega arith)) (λ k d g l. above k d (omega arith) l));
     }
 
-last : (c : After-index-piece) → IsLast c.args.addr c.index-piece.result.now c.args.self.now
+last : (c : After-index-piece) → IsLast c.args.addr c.index-piece.result.now c.args.self.now.pieces
 last c =
-    let own : c.deref.result.now ≡ c.args.self.now = cc in
-    let shown : c.self.inside.pieces.items ≡ c.args.self.now = cc in
-    is_last c.args.addr c.count_to-count.result c.args.self.now c.index-piece.result.now (rw (← c.self.view_is) c.self.invariant.0) (omega arith)
+    let own : c.deref.result.now ≡ c.args.self.now.pieces = cc in
+    let shown : c.self.inside.pieces.items ≡ c.args.self.now.pieces = cc in
+    is_last c.args.addr c.count_to-count.result c.args.self.now.pieces c.index-piece.result.now (rw (← c.self.view_is) c.self.invariant.0.arranged) (omega arith)
     (rw own at c.count_to-count.ensures.bound) (rw own at c.count_to-count.ensures.below) (rw own at c.count_to-count.ensures.above)
     (rw shown at c.index-piece.ensures)
 
 pub returns-then-count-eq0-clause-value : goal.returns-then-count-eq0-clause-value
 returns-then-count-eq0-clause-value c =
-    let own : c.deref.result.now ≡ c.args.self.now = cc in
+    let own : c.deref.result.now ≡ c.args.self.now.pieces = cc in
     let none : c.count_to-count.result ≡ 0 = c.if-count-eq0.true in
-    sym (none_at c.args.addr lowest_address c.args.self.now (rw (← c.self.view_is) c.self.invariant.0)
+    sym (none_at c.args.addr lowest_address c.args.self.now.pieces (rw (← c.self.view_is) c.self.invariant.0.arranged)
     (λ k d l. (rw own at c.count_to-count.ensures.above) k d (omega arith) l))
 
 pub end-requires : goal.end-requires
@@ -51,7 +51,7 @@ returns-then-addr-end-clause-within c =
 pub returns-then-addr-end-clause-whole : goal.returns-then-addr-end-clause-whole
 returns-then-addr-end-clause-whole c =
     let l = last (goal.at.returns-then-addr-end-clause-whole c).After-index-piece in
-    whole_of c.args.addr lowest_address c.args.self.now (Some c.index-piece.result.now) (rw (← c.self.view_is) c.self.invariant.0) (grind (arith, common_steps, l.covers))
+    whole_of c.args.addr lowest_address c.args.self.now.pieces (Some c.index-piece.result.now) (rw (← c.self.view_is) c.self.invariant.0.arranged) (grind (arith, common_steps, l.covers))
 
 pub returns-else-addr-end-clause-value : goal.returns-else-addr-end-clause-value
 returns-else-addr-end-clause-value c =

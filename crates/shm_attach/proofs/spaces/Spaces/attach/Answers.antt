@@ -2,6 +2,7 @@ use Rattle.shm_attach.proofs.Names.{◌≡◌, ℕ, ◌+◌, ◌*◌, ◌<◌, �
 use Rattle.shm_attach.proofs.Processes.{some_if-le, seg-met}
 use Rattle.shm_attach.proofs.Callers.{caller_within, caller_born, with_pieces-of}
 use Rattle.shm_attach.proofs.Keeping.{pieces_at-changed, life_at-changed, with_pieces_at-twice}
+use Rattle.shm_attach.proofs.HavingTables.{room_kept}
 use Rattle.shm_attach.proofs.Bases.{place-range}
 use Rattle.shm_attach.proofs.Sound.{none_reserved, sound-reserved, counts-small}
 use Rattle.shm_attach.proofs.Translations.{all-true, true-all}
@@ -20,7 +21,7 @@ stands g c = caller_within c.args.caller.now c.self.inside.processes.entries (li
 pub reserve-requires-clause-fits : goal.reserve-requires-clause-fits
 reserve-requires-clause-fits g c =
     let es = c.self.inside.processes.entries in
-    omega (arith, counts-small es c.self.inside.tables (none_reserved es c.self.inside.tables c.self.invariant) c.args.seg)
+    omega (arith, counts-small es c.self.inside.tables (none_reserved es c.self.inside.tables c.self.invariant.0) c.args.seg)
 
 pub space_at-requires : goal.space_at-requires
 space_at-requires g c = stands g (goal.at.space_at-requires g c).After-self
@@ -32,6 +33,13 @@ reserved g c = grind (arith, common_steps, sound-reserved)
 
 pub take-requires-clause-there : goal.take-requires-clause-there
 take-requires-clause-there g c = stands g (goal.at.take-requires-clause-there g c).After-self
+
+pub take-requires-clause-room : goal.take-requires-clause-room
+take-requires-clause-room g c =
+    let i = c.args.caller.now.index in
+    let most : length (cut c.args.base (c.args.base + 4096 * c.args.pages) (pieces_at (runners_view c.self.inside.processes.entries) i)) + 1 ≤ c.self.inside.most =
+    rw (← c.self.view_is) at c.requires.room in
+    rw (c.self.invariant.1.each i (stands g (goal.at.take-requires-clause-room g c).After-self)) (omega (arith, most))
 
 pub take-requires-clause-reservations : goal.take-requires-clause-reservations
 take-requires-clause-reservations g c = record { extra = λ id. some_if id c.args.seg 1; few = λ id. some_if-le id c.args.seg 1; sound = reserved g (goal.at.take-requires-clause-reservations g c).In_ok-key }
@@ -59,13 +67,15 @@ put-requires g c =
     let within = stands g b.After-self in
     let lt : i < length rs = omega (arith, within, length-map es runner_view) in
     let sound = c.take.ensures.sound (λ id. some_if id seg 1) (reserved g b.In_ok-key) in
-    let few : length (f (pieces_at rs i)) + 1 ≤ 256 = rw (← c.self.view_is) at c.requires.room in
+    let most : length (f (pieces_at rs i)) + 1 ≤ c.self.inside.most = rw (← c.self.view_is) at c.requires.room in
+    let few : length (f (pieces_at rs i)) + 1 ≤ 256 = omega (arith, most, c.self.invariant.1.bound) in
     let place = place-range (bare (new g b.In_ok-key)) (pieces_at rs i) c.requires.pages.0 (omega (arith, c.requires.pages.1)) c.requires.range few in
     record {
       there = omega (arith, c.take.ensures.count, within);
       born = λ none.
           caller_born c.args.caller.now rs (live g b.After-self) (sym (life_at-changed rs i f lt) ∙ ap (λ xs. life_at xs i) (sym c.take.ensures.runners) ∙ none);
       place = rw (c.take.ensures.runners, pieces_at-changed rs i f lt) place;
+      room = rw (c.take.ensures.runners, pieces_at-changed rs i f lt, c.take.ensures.most i, c.self.invariant.1.each i within) (omega (arith, most));
       table = c.take.ensures.tables (new g b.In_ok-key) (knows g b.In_ok-key) (counts_reserved seg c.take.new.processes.entries c.take.new.tables sound);
       reservations = record { extra = λ id. some_if id seg 1; few = λ id. some_if-le id seg 1; sound = sound };
     }
@@ -97,8 +107,9 @@ pub invariant_of-self-2 : goal.invariant_of-self-2
 invariant_of-self-2 g c =
     let seg = c.args.seg in
     let b = goal.at.invariant_of-self-2 g c in
-    sound-reserved (λ id. some_if id seg 1) no_reservations c.put.new.processes.entries c.put.new.tables c.replace.new.self (placed g b.After-put (reserved g b.In_ok-key))
-    (λ id. omega (arith, c.replace.ensures.counts id, some_if-le id seg 0)) c.replace.ensures.tied c.replace.ensures.tables
+    let sound = sound-reserved (λ id. some_if id seg 1) no_reservations c.put.new.processes.entries c.put.new.tables c.replace.new.self (placed g b.After-put (reserved g b.In_ok-key))
+    (λ id. omega (arith, c.replace.ensures.counts id, some_if-le id seg 0)) c.replace.ensures.tied c.replace.ensures.tables in
+    (sound, room_kept c.self.inside.most c.self.inside.processes.entries c.put.new.processes.entries c.self.invariant.1 (c.put.ensures.count ∙ c.take.ensures.count) (λ j. c.put.ensures.most j ∙ c.take.ensures.most j))
 
 -- WHAT IT ENSURES
 

@@ -6,7 +6,7 @@ use Rattle.shm_attach.proofs.spaces.Spaces.caller.Goals as goal
 
 from : (c : In_ok-index)
     → caller_from 0 c.args.pid (runners_view c.self.inside.processes.entries)
-    ≡ caller_by c.in_ok-index.index c.args.pid (bare_all c.in_ok-index.runner.now.space) (life_view c.in_ok-index.runner.now.life)
+    ≡ caller_by c.in_ok-index.index c.args.pid (bare_all c.in_ok-index.runner.now.space.pieces) (life_view c.in_ok-index.runner.now.life)
 from c =
     caller_from-position c.args.pid c.in_ok-index.index c.self.inside.processes.entries (c.in_ok-index.field-0-1.now, c.in_ok-index.runner.now) (sym c.in_ok-index.ensures.index)
     c.in_ok-index.ensures.entry

@@ -3,13 +3,14 @@ use Rattle.shm_attach.proofs.Callers.{caller_within, with_pieces-of}
 use Rattle.shm_attach.proofs.Keeping.{cut-all}
 use Rattle.shm_attach.proofs.Translations.{keeps}
 use Rattle.shm_attach.proofs.spaces.Spaces.exec.Goals.{After-self}
+use Rattle.shm_attach.proofs.HavingTables.{room_kept}
 use Rattle.shm_attach.proofs.spaces.Spaces.exec.Goals as goal
 
 within : (c : After-self) → c.args.caller.now.index < length c.self.inside.processes.entries
 within c = caller_within c.args.caller.now c.self.inside.processes.entries (rw (← c.self.view_is) at c.requires)
 
 all_go : (c : After-self) → cut lowest_address end_address (pieces_at (runners_view c.self.inside.processes.entries) c.args.caller.now.index) ≡ []
-all_go c = cut-all lowest_address (pieces_at (runners_view c.self.inside.processes.entries) c.args.caller.now.index) (omega arith) (c.self.invariant.exact.arranged c.args.caller.now.index)
+all_go c = cut-all lowest_address (pieces_at (runners_view c.self.inside.processes.entries) c.args.caller.now.index) (omega arith) (c.self.invariant.0.exact.arranged c.args.caller.now.index)
 
 pub space_at-requires : goal.space_at-requires
 space_at-requires c = within (goal.at.space_at-requires c).After-self
@@ -20,8 +21,15 @@ take-requires-clause-there c = within (goal.at.take-requires-clause-there c).Aft
 pub take-requires-clause-part : goal.take-requires-clause-part
 take-requires-clause-part c = record { from_page = refl; to_page = refl; order = omega arith; few = omega (arith, ap length (all_go (goal.at.take-requires-clause-part c).After-self)) }
 
+pub take-requires-clause-room : goal.take-requires-clause-room
+take-requires-clause-room c = rw (all_go (goal.at.take-requires-clause-room c).After-self) (omega arith)
+
 pub invariant_of-self : goal.invariant_of-self
-invariant_of-self c = c.take.ensures.sound no_reservations c.self.invariant
+invariant_of-self c =
+    (
+      c.take.ensures.sound no_reservations c.self.invariant.0,
+      room_kept c.self.inside.most c.self.inside.processes.entries c.take.new.processes.entries c.self.invariant.1 c.take.ensures.count c.take.ensures.most,
+    )
 
 pub returns-clause-lost : goal.returns-clause-lost
 returns-clause-lost c = grind (arith, common_steps, map-map)

@@ -2,6 +2,8 @@ use Rattle.shm_attach.proofs.Names.{◌≡◌, ◌<◌, ◌∙◌, ap, arith, []
 use Rattle.shm_attach.proofs.Callers.{caller_there, with_end-at, length-with_pieces}
 use Rattle.shm_attach.proofs.Sound.{sound-life}
 use Rattle.shm_attach.proofs.spaces.Spaces.exit.Goals.{After-self}
+use Rattle.shm_attach.proofs.HavingTables.{room_kept}
+use Rattle.shm_attach.specs.Exact.{AreTablesSound, no_reservations}
 use Rattle.shm_attach.proofs.spaces.Spaces.exit.Goals as goal
 
 after : (c : After-self) → runners_view c.self.inside.processes.entries ≡ with_pieces c.args.self.now.runners (caller_seen c.args.caller.now c.args.self.now.runners) []
@@ -14,7 +16,9 @@ pub set_life_at-requires : goal.set_life_at-requires
 set_life_at-requires c = within (goal.at.set_life_at-requires c).After-self
 
 pub invariant_of-self : goal.invariant_of-self
-invariant_of-self c = grind (arith, common_steps, sound-life, within)
+invariant_of-self c =
+    let sound : AreTablesSound no_reservations c.set_life_at.new.processes.entries c.self.inside.tables = grind (arith, common_steps, sound-life, within) in
+    (sound, room_kept c.self.inside.most c.self.inside.processes.entries c.set_life_at.new.processes.entries c.self.invariant.1 c.set_life_at.ensures.count c.set_life_at.ensures.most)
 
 pub returns-clause-runners : goal.returns-clause-runners
 returns-clause-runners c = grind (arith, common_steps, after, with_end-at)

@@ -6,6 +6,7 @@ use Rattle.shm_attach.proofs.Keeping.{life_at-born, pieces_at-born, runners-born
 use Rattle.shm_attach.proofs.Sound.{sound-life}
 use Rattle.shm_attach.proofs.Translations.{keeps}
 use Rattle.shm_attach.proofs.spaces.Spaces.fork.Goals.{After-self, After-copy_pieces}
+use Rattle.shm_attach.proofs.HavingTables.{room_kept}
 use Rattle.shm_attach.proofs.spaces.Spaces.fork.Goals as goal
 
 child : (c : After-self) → ChildAt c.args.child.now.pid c.args.child.now.index (runners_view c.self.inside.processes.entries)
@@ -34,12 +35,18 @@ copy_pieces-requires c =
       child = omega (arith, lt, c.set_life_at.ensures.count);
       apart = apart b;
       born = λ none. awake (sym (life_at-born rs 0 j l ch.within) ∙ ap (λ (xs : List Runner). life_at xs j) (sym after) ∙ none);
-      none = ap (λ (xs : List Runner). pieces_at xs j) after ∙ pieces_at-born rs 0 j l ch.within ∙ c.self.invariant.exact.unborn j ch.unborn;
-      sound = sound-life es c.set_life_at.new.processes.entries c.self.inside.tables j l lt awake c.self.invariant after c.set_life_at.ensures.stored;
+      room = rw (c.set_life_at.ensures.most c.args.caller.now.index, c.set_life_at.ensures.most j, c.self.invariant.1.each c.args.caller.now.index parent, c.self.invariant.1.each j lt) (omega arith);
+      none = ap (λ (xs : List Runner). pieces_at xs j) after ∙ pieces_at-born rs 0 j l ch.within ∙ c.self.invariant.0.exact.unborn j ch.unborn;
+      sound = sound-life es c.set_life_at.new.processes.entries c.self.inside.tables j l lt awake c.self.invariant.0 after c.set_life_at.ensures.stored;
     }
 
 pub invariant_of-self : goal.invariant_of-self
-invariant_of-self c = c.copy_pieces.ensures.sound
+invariant_of-self c =
+    (
+      c.copy_pieces.ensures.sound,
+      room_kept c.self.inside.most c.self.inside.processes.entries c.copy_pieces.new.processes.entries c.self.invariant.1 (c.copy_pieces.ensures.count ∙ c.set_life_at.ensures.count)
+      (λ j. c.copy_pieces.ensures.most j ∙ c.set_life_at.ensures.most j),
+    )
 
 after : (c : After-copy_pieces)
     → runners_view c.copy_pieces.new.processes.entries

@@ -8,7 +8,7 @@ space_at-space-requires c = caller_within c.args.caller.now c.self.inside.proces
 
 pub returns-clause-spans : goal.returns-clause-spans
 returns-clause-spans c =
-    let own : bare_all c.space_at-space.result.now ≡ pieces_by c.args.caller.now.pid c.args.self.now.runners = grind (arith, common_steps) in
+    let own : bare_all c.space_at-space.result.now.pieces ≡ pieces_by c.args.caller.now.pid c.args.self.now.runners = grind (arith, common_steps) in
     rw own at c.spans_in.ensures.spans
 
 pub returns-clause-frames : goal.returns-clause-frames

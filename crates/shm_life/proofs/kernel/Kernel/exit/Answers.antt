@@ -1,5 +1,5 @@
 use Rattle.shm_base.specs.State.{Ended}
-use Rattle.shm_life.proofs.Names.{All, IsLive, IsWellBut}
+use Rattle.shm_life.proofs.Names.{◌∙◌, All, IsLive, IsWellBut}
 use Rattle.shm_life.proofs.Going.{all-gone}
 use Rattle.shm_life.proofs.kernel.Kernel.exit.Given.{Over}
 use Rattle.shm_life.proofs.kernel.Kernel.exit.Goals as goal
@@ -11,7 +11,7 @@ left : (g : Over) (c : After-as_slice g) → All (IsLive c.self.inside.segments.
 left g c =
     let e = c.exit-lost.ensures in
     rw (c.as_slice.ensures.value, e.lost, e.runners)
-    (all-gone _ _ _ c.args.caller.now _ _ c.self.invariant (rw (← c.self.view_is) at c.requires) Ended _ (e.translated _ c.self.invariant.translated))
+    (all-gone _ _ _ c.args.caller.now _ _ c.self.invariant.0 (rw (← c.self.view_is) at c.requires) Ended _ (e.translated _ c.self.invariant.0.translated))
 
 pub after_detach-requires-clause-live : goal.after_detach-requires-clause-live
 after_detach-requires-clause-live g c = (left g (goal.at.after_detach-requires-clause-live g c).After-as_slice).0
@@ -20,4 +20,8 @@ pub after_detach-requires-clause-orphans : goal.after_detach-requires-clause-orp
 after_detach-requires-clause-orphans g c = (left g (goal.at.after_detach-requires-clause-orphans g c).After-as_slice).1.kept.orphans
 
 pub invariant_of-self : goal.invariant_of-self
-invariant_of-self g c = c.after_detach.ensures.well _ (left g (goal.at.invariant_of-self g c).After-as_slice).1
+invariant_of-self g c =
+    (
+      (c.after_detach.ensures.well _ (left g (goal.at.invariant_of-self g c).After-as_slice).1),
+      c.exit-lost.ensures.most ∙ c.self.invariant.1,
+    )

@@ -10,7 +10,7 @@ use Rattle.shm_life.proofs.kernel.Kernel.load.Goals.{After-note}
 
 pub read-read-requires-clause-spans : goal.read-read-requires-clause-spans
 read-read-requires-clause-spans g c =
-    rw c.as_slice.ensures.value (spans-there _ _ c.args.caller.now c.in-Ok.spans _ (rw (← c.self.view_is) at c.requires) c.self.invariant.kept.pieces (rw c.as_slice.ensures.value at c.as_slice.ensures.few.1) c.in-Ok.ensures.spans.within (grind (arith, common_steps, c.in-Ok.ensures.spans.sum)) c.in-Ok.ensures.spans.pages)
+    rw c.as_slice.ensures.value (spans-there _ _ c.args.caller.now c.in-Ok.spans _ (rw (← c.self.view_is) at c.requires) c.self.invariant.0.kept.pieces (rw c.as_slice.ensures.value at c.as_slice.ensures.few.1) c.in-Ok.ensures.spans.within (grind (arith, common_steps, c.in-Ok.ensures.spans.sum)) c.in-Ok.ensures.spans.pages)
 
 -- as many bytes were read as were asked for
 size : (g : Over) (c : After-note g) → c.args.len ≡ length c.read-read.new.out
@@ -40,10 +40,18 @@ returns g c = λ n.
 well : (g : Over) (c : After-note g) → IsWell c.self.inside.limits c.read-read.new.self.table c.note.new.self.runners c.note.new.self.translations c.read-read.new.self.memory
 well g c =
     let same : SameTable c.self.inside.segments.table c.read-read.new.self.table = rw c.read-read.ensures.table (same-refl _) in
-    noted-well _ _ _ _ _ _ _ _ _ c.read-read.new.touched.moved.items c.self.invariant same c.read-read.ensures.keeps.frames c.note.ensures.runners (rw c.as_slice-2.ensures.value at c.note.ensures.translated) (moved-by _ _ _ _ c.read-read.result c.read-read.ensures.access)
+    noted-well _ _ _ _ _ _ _ _ _ c.read-read.new.touched.moved.items c.self.invariant.0 same c.read-read.ensures.keeps.frames c.note.ensures.runners (rw c.as_slice-2.ensures.value at c.note.ensures.translated) (moved-by _ _ _ _ c.read-read.result c.read-read.ensures.access)
 
 pub invariant_of-self : goal.invariant_of-self
-invariant_of-self g c = well g (goal.at.invariant_of-self g c).After-note
+invariant_of-self g c =
+    (
+      (well g (goal.at.invariant_of-self g c).After-note),
+      c.note.ensures.most ∙ c.self.invariant.1,
+    )
 
 pub invariant_of-self-2 : goal.invariant_of-self-2
-invariant_of-self-2 g c = well g (goal.at.invariant_of-self-2 g c).After-note
+invariant_of-self-2 g c =
+    (
+      (well g (goal.at.invariant_of-self-2 g c).After-note),
+      c.note.ensures.most ∙ c.self.invariant.1,
+    )

@@ -10,17 +10,20 @@ few : (g : Over) (c : Else-exceeds_memlock g) → locked (change c.self.inside.s
 few g c =
     let t = c.self.inside.segments.table in
     let found : IsFound t c.in_ok-found.found = rw (← c.self.view_is) at c.in_ok-found.ensures.found in
-    lock-few t c.in_ok-found.found c.self.inside.limits.memlock found c.self.invariant.kept.locked (rw (← c.self.view_is) at (sym c.exceeds_memlock.ensures ∙ c.if-exceeds_memlock.false))
+    lock-few t c.in_ok-found.found c.self.inside.limits.memlock found c.self.invariant.0.kept.locked (rw (← c.self.view_is) at (sym c.exceeds_memlock.ensures ∙ c.if-exceeds_memlock.false))
 
 pub set_locked-requires-clause-few : goal.set_locked-requires-clause-few
 set_locked-requires-clause-few g c = λ _.
     let few = few g (goal.at.set_locked-requires-clause-few g c).Else-exceeds_memlock in
-    omega (arith, few, c.self.invariant.frames, c.self.invariant.room)
+    omega (arith, few, c.self.invariant.0.frames, c.self.invariant.0.room)
 
 pub invariant_of-self : goal.invariant_of-self
 invariant_of-self g c =
-    let few = few g (goal.at.invariant_of-self g c).Else-exceeds_memlock in
-    rw c.set_locked.ensures.table (relocked-well _ _ _ _ _ _ c.in_ok-found.found.seg true c.self.invariant few (ap (λ (m : StoreView). length m.frames) c.set_locked.ensures.only) c.set_locked.ensures.still)
+    (
+      (let few = few g (goal.at.invariant_of-self g c).Else-exceeds_memlock in
+    rw c.set_locked.ensures.table (relocked-well _ _ _ _ _ _ c.in_ok-found.found.seg true c.self.invariant.0 few (ap (λ (m : StoreView). length m.frames) c.set_locked.ensures.only) c.set_locked.ensures.still)),
+      c.self.invariant.1,
+    )
 
 pub returns : goal.returns
 returns g c = λ n.

@@ -6,7 +6,7 @@ use Rattle.shm_life.proofs.kernel.Kernel.place_for.Given.{Over}
 use Rattle.shm_life.proofs.kernel.Kernel.place_for.Goals as goal
 use Rattle.shm_life.proofs.kernel.Kernel.place_for.Goals.{After-branch-base, then-addr-eq0, else-addr-eq0}
 
-wish : (g : Over) (c : After-branch-base g) → c.if-addr-eq0.wish ≡ wished (bare_all c.space-space.result.now) c.pages-pages.result c.args.flags c.args.addr
+wish : (g : Over) (c : After-branch-base g) → c.if-addr-eq0.wish ≡ wished (bare_all c.space-space.result.now.pieces) c.pages-pages.result c.args.flags c.args.addr
 wish g c = elim c.if-addr-eq0.branch [ then-addr-eq0 w ↦ search rules | else-addr-eq0 w ↦ search rules ]
 
 ranged : (g : Over) (c : After-branch-base g) → IfOk c.if-addr-eq0.wish (IsRange c.pages-pages.result)
@@ -15,7 +15,7 @@ ranged g c = elim c.if-addr-eq0.branch [ then-addr-eq0 w ↦ search rules | else
 -- behind the first tests it is as the wish for a base comes out
 asked : (g : Over) (c : After-branch-base g)
     → placed c.args.self.now.flat (caller_seen c.args.caller.now c.args.self.now.flat.runners) c.args.id c.args.addr c.args.flags
-    ≡ placed_at c.in_ok-found.found.seg c.pages-pages.result (if_few c.self.inside.limits.most_pieces (bare_all c.space-space.result.now) c.pages-pages.result c.if-addr-eq0.wish)
+    ≡ placed_at c.in_ok-found.found.seg c.pages-pages.result (if_few c.self.inside.limits.most_pieces (bare_all c.space-space.result.now.pieces) c.pages-pages.result c.if-addr-eq0.wish)
 asked g c =
     let t = c.self.inside.segments.table in
     let rs = c.self.inside.spaces.runners in
@@ -26,23 +26,23 @@ asked g c =
     let looked : look t c.args.id ≡ look_of t f = rw signed at c.in_ok-found.ensures.ok in
     let granted : grants c.args.caller.now.cred f.head.perm (at_wish c.args.flags) ≡ true = search rules in
     let at = placed-found m (caller_seen c.args.caller.now rs) c.args.id c.args.addr c.args.flags f c.in_ok-found.ensures.found well looked granted in
-    let own : bare_all c.space-space.result.now ≡ pieces_at rs c.args.caller.now.index = c.space-space.ensures in
+    let own : bare_all c.space-space.result.now.pieces ≡ pieces_at rs c.args.caller.now.index = c.space-space.ensures.pieces in
     let pages : c.pages-pages.result ≡ pages_of f.head.size = c.pages-pages.ensures.value in
     let wish = wish g c in
     rw (← c.self.view_is)
     (at ∙ ap (λ k. placed_at f.seg k (base_for c.self.inside.limits.most_pieces (pieces_at rs c.args.caller.now.index) k c.args.flags c.args.addr)) (sym pages)
     ∙ ap (λ (ps : List Piece). placed_at f.seg c.pages-pages.result (base_for c.self.inside.limits.most_pieces ps c.pages-pages.result c.args.flags c.args.addr)) (sym own)
-    ∙ ap (λ r. placed_at f.seg c.pages-pages.result (if_few c.self.inside.limits.most_pieces (bare_all c.space-space.result.now) c.pages-pages.result r)) (sym wish))
+    ∙ ap (λ r. placed_at f.seg c.pages-pages.result (if_few c.self.inside.limits.most_pieces (bare_all c.space-space.result.now.pieces) c.pages-pages.result r)) (sym wish))
 
 pub returns-clause-value : goal.returns-clause-value
 returns-clause-value g c =
-    let few = if_few-under c.self.inside.limits.most_pieces (bare_all c.space-space.result.now) c.pages-pages.result c.in_ok-base.base (omega (arith, c.most_pieces-most.ensures.value, c.count_outside.ensures, c.if-count_outside-ge-most.false)) in
+    let few = if_few-under c.self.inside.limits.most_pieces (bare_all c.space-space.result.now.pieces) c.pages-pages.result c.in_ok-base.base (omega (arith, c.most_pieces-most.ensures.value, c.count_outside.ensures, c.if-count_outside-most.false)) in
     sym (rw (c.in_ok-base.was, few) at (asked g (goal.at.returns-clause-value g c).After-branch-base))
 
-pub returns-then-count_outside-ge-most-clause-value : goal.returns-then-count_outside-ge-most-clause-value
-returns-then-count_outside-ge-most-clause-value g c =
-    let many = if_few-over c.self.inside.limits.most_pieces (bare_all c.space-space.result.now) c.pages-pages.result c.in_ok-base.base (omega (arith, c.most_pieces-most.ensures.value, c.count_outside.ensures, c.if-count_outside-ge-most.true)) in
-    sym (rw (c.in_ok-base.was, many) at (asked g (goal.at.returns-then-count_outside-ge-most-clause-value g c).After-branch-base))
+pub returns-then-count_outside-most-clause-value : goal.returns-then-count_outside-most-clause-value
+returns-then-count_outside-most-clause-value g c =
+    let many = if_few-over c.self.inside.limits.most_pieces (bare_all c.space-space.result.now.pieces) c.pages-pages.result c.in_ok-base.base (omega (arith, c.most_pieces-most.ensures.value, c.count_outside.ensures, c.if-count_outside-most.true)) in
+    sym (rw (c.in_ok-base.was, many) at (asked g (goal.at.returns-then-count_outside-most-clause-value g c).After-branch-base))
 
 pub returns-in_err-base-clause-value : goal.returns-in_err-base-clause-value
 returns-in_err-base-clause-value g c =

@@ -14,7 +14,7 @@ goes g c =
     let is : IsCaller caller rs = rw (← c.self.view_is) at c.requires in
     let fits : PieceFits c.self.inside.segments.table (piece_for c.args.flags p) = rw (← c.self.view_is) at c.in-Ok.ensures.fits in
     rw (c.attached.ensures, c.as_slice.ensures.value, c.in_ok-lost.ensures.lost, c.in_ok-lost.ensures.runners, c.contains-writable.ensures tt)
-    (attached-goes c.self.inside.limits c.self.inside.segments.table rs caller c.args.time c.args.flags p c.self.invariant.kept is fits)
+    (attached-goes c.self.inside.limits c.self.inside.segments.table rs caller c.args.time c.args.flags p c.self.invariant.0.kept is fits)
 
 pub attached-requires : goal.attached-requires
 attached-requires g c =
@@ -32,11 +32,14 @@ after_detach-requires-clause-orphans g c = (goes g c).kept.orphans
 
 pub invariant_of-self-2 : goal.invariant_of-self-2
 invariant_of-self-2 g c =
-    let m = c.self.inside.segments.memory in
+    (
+      (let m = c.self.inside.segments.memory in
     let store = c.store-store.ensures.value in
-    let translated : AreTrue c.attach.new.self.translations m = rw store at (c.attach.ensures.translated (rw store c.self.invariant.translated)) in
+    let translated : AreTrue c.attach.new.self.translations m = rw store at (c.attach.ensures.translated (rw store c.self.invariant.0.translated)) in
     let same : c.attached.new.self.memory ≡ m = ap (λ (v : SegmentsView). v.memory) c.attached.ensures in
-    c.after_detach.ensures.well c.self.inside.limits (rw same (well-gone _ _ _ _ _ _ _ _ c.self.invariant (goes g (goal.at.invariant_of-self-2 g c).After-as_slice) translated))
+    c.after_detach.ensures.well c.self.inside.limits (rw same (well-gone _ _ _ _ _ _ _ _ c.self.invariant.0 (goes g (goal.at.invariant_of-self-2 g c).After-as_slice) translated))),
+      c.attach.ensures.most ∙ c.self.invariant.1,
+    )
 
 -- what the flat machine does
 outcome : (g : Over) (c : After-place_for g)

@@ -7,14 +7,14 @@ use Rattle.shm_life.proofs.kernel.Kernel.shmdt.Goals as goal
 use Rattle.shm_life.proofs.kernel.Kernel.shmdt.Goals.{After-detach}
 
 named : (g : Over) (c : After-detach g) → option_map (λ (p : Piece). p.seg) (origin_of c.args.addr (pieces_at c.self.inside.spaces.runners c.args.caller.now.index)) ≡ Some c.in-Some.origin.seg
-named g c = ap (option_map (λ (p : Piece). p.seg)) (sym (ap (origin_of c.args.addr) c.space.ensures) ∙ sym c.in-Some.ensures.flat)
+named g c = ap (option_map (λ (p : Piece). p.seg)) (sym (ap (origin_of c.args.addr) c.space.ensures.pieces) ∙ sym c.in-Some.ensures.flat)
 
 goes : (g : Over) (c : After-detach g) → Goes c.self.inside.limits c.self.inside.segments.table c.detach.new.self.runners (c.in-Some.origin.seg ∷ [])
 goes g c =
     let caller = c.args.caller.now in
     let rs = c.self.inside.spaces.runners in
     let is : IsCaller caller rs = rw (← c.self.view_is) at c.requires in
-    rw c.detach.ensures.gone (named-go c.self.inside.limits c.self.inside.segments.table rs caller c.self.invariant.kept is c.args.addr c.in-Some.origin.seg (named g c))
+    rw c.detach.ensures.gone (named-go c.self.inside.limits c.self.inside.segments.table rs caller c.self.invariant.0.kept is c.args.addr c.in-Some.origin.seg (named g c))
 
 pub after_detach-requires-clause-live : goal.after_detach-requires-clause-live
 after_detach-requires-clause-live g c = (goes g (goal.at.after_detach-requires-clause-live g c).After-detach).live
@@ -24,8 +24,11 @@ after_detach-requires-clause-orphans g c = (goes g (goal.at.after_detach-require
 
 pub invariant_of-self : goal.invariant_of-self
 invariant_of-self g c =
-    let translated = c.detach.ensures.translated c.self.inside.segments.memory c.self.invariant.translated in
-    c.after_detach.ensures.well c.self.inside.limits (well-gone _ _ _ _ _ _ _ _ c.self.invariant (goes g (goal.at.invariant_of-self g c).After-detach) translated)
+    (
+      (let translated = c.detach.ensures.translated c.self.inside.segments.memory c.self.invariant.0.translated in
+    c.after_detach.ensures.well c.self.inside.limits (well-gone _ _ _ _ _ _ _ _ c.self.invariant.0 (goes g (goal.at.invariant_of-self g c).After-detach) translated)),
+      c.detach.ensures.most ∙ c.self.invariant.1,
+    )
 
 pub returns : goal.returns
 returns g c =

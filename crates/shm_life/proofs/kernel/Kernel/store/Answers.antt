@@ -8,20 +8,28 @@ use Rattle.shm_life.proofs.kernel.Kernel.store.Goals.{After-note}
 
 pub write-written-requires-clause-spans : goal.write-written-requires-clause-spans
 write-written-requires-clause-spans g c =
-    rw c.as_slice.ensures.value (spans-there _ _ c.args.caller.now c.in-Ok.spans _ (rw (← c.self.view_is) at c.requires) c.self.invariant.kept.pieces (rw c.as_slice.ensures.value at c.as_slice.ensures.few.1) c.in-Ok.ensures.spans.within (grind (arith, common_steps, c.in-Ok.ensures.spans.sum)) c.in-Ok.ensures.spans.pages)
+    rw c.as_slice.ensures.value (spans-there _ _ c.args.caller.now c.in-Ok.spans _ (rw (← c.self.view_is) at c.requires) c.self.invariant.0.kept.pieces (rw c.as_slice.ensures.value at c.as_slice.ensures.few.1) c.in-Ok.ensures.spans.within (grind (arith, common_steps, c.in-Ok.ensures.spans.sum)) c.in-Ok.ensures.spans.pages)
 
 -- done or not
 well : (g : Over) (c : After-note g) → IsWell c.self.inside.limits c.write-written.new.self.table c.note.new.self.runners c.note.new.self.translations c.write-written.new.self.memory
 well g c =
     let t = c.self.inside.segments.table in
     let same : SameTable t c.write-written.new.self.table = either-same c.write-written.result t _ _ c.write-written.ensures.written c.write-written.ensures.same (stored-same (span_places false c.as_slice.result.now) c.as_slice-bytes.result.now t) in
-    noted-well _ _ _ _ _ _ _ _ _ c.write-written.new.touched.moved.items c.self.invariant same c.write-written.ensures.keeps.frames c.note.ensures.runners (rw c.as_slice-2.ensures.value at c.note.ensures.translated) (moved-by _ _ _ _ c.write-written.result c.write-written.ensures.access)
+    noted-well _ _ _ _ _ _ _ _ _ c.write-written.new.touched.moved.items c.self.invariant.0 same c.write-written.ensures.keeps.frames c.note.ensures.runners (rw c.as_slice-2.ensures.value at c.note.ensures.translated) (moved-by _ _ _ _ c.write-written.result c.write-written.ensures.access)
 
 pub invariant_of-self : goal.invariant_of-self
-invariant_of-self g c = well g (goal.at.invariant_of-self g c).After-note
+invariant_of-self g c =
+    (
+      (well g (goal.at.invariant_of-self g c).After-note),
+      c.note.ensures.most ∙ c.self.invariant.1,
+    )
 
 pub invariant_of-self-2 : goal.invariant_of-self-2
-invariant_of-self-2 g c = well g (goal.at.invariant_of-self-2 g c).After-note
+invariant_of-self-2 g c =
+    (
+      (well g (goal.at.invariant_of-self-2 g c).After-note),
+      c.note.ensures.most ∙ c.self.invariant.1,
+    )
 
 pub returns : goal.returns
 returns g c = λ n.

@@ -1,4 +1,4 @@
-use Rattle.shm_life.proofs.Names.{arith, common_steps, false, span_places, SameTable, stored-same, IsWell}
+use Rattle.shm_life.proofs.Names.{◌∙◌, arith, common_steps, false, span_places, SameTable, stored-same, IsWell}
 use Rattle.shm_life.proofs.Settled.{noted-well, moved-by}
 use Rattle.shm_life.proofs.Changed.{spans-there, either-same}
 use Rattle.shm_life.proofs.kernel.Kernel.xadd.Given.{Over}
@@ -7,17 +7,25 @@ use Rattle.shm_life.proofs.kernel.Kernel.xadd.Goals.{After-note}
 
 pub add-added-requires-clause-spans : goal.add-added-requires-clause-spans
 add-added-requires-clause-spans g c =
-    rw c.as_slice.ensures.value (spans-there _ _ c.args.caller.now c.in-Ok.spans _ (rw (← c.self.view_is) at c.requires) c.self.invariant.kept.pieces (rw c.as_slice.ensures.value at c.as_slice.ensures.few.1) c.in-Ok.ensures.spans.within (grind (arith, common_steps, c.in-Ok.ensures.spans.sum)) c.in-Ok.ensures.spans.pages)
+    rw c.as_slice.ensures.value (spans-there _ _ c.args.caller.now c.in-Ok.spans _ (rw (← c.self.view_is) at c.requires) c.self.invariant.0.kept.pieces (rw c.as_slice.ensures.value at c.as_slice.ensures.few.1) c.in-Ok.ensures.spans.within (grind (arith, common_steps, c.in-Ok.ensures.spans.sum)) c.in-Ok.ensures.spans.pages)
 
 -- done or not
 well : (g : Over) (c : After-note g) → IsWell c.self.inside.limits c.add-added.new.self.table c.note.new.self.runners c.note.new.self.translations c.add-added.new.self.memory
 well g c =
     let t = c.self.inside.segments.table in
     let same : SameTable t c.add-added.new.self.table = either-same c.add-added.result t _ _ c.add-added.ensures.written c.add-added.ensures.same (stored-same (span_places false c.as_slice.result.now) _ t) in
-    noted-well _ _ _ _ _ _ _ _ _ c.add-added.new.touched.moved.items c.self.invariant same c.add-added.ensures.keeps.frames c.note.ensures.runners (rw c.as_slice-2.ensures.value at c.note.ensures.translated) (moved-by _ _ _ _ c.add-added.result c.add-added.ensures.access)
+    noted-well _ _ _ _ _ _ _ _ _ c.add-added.new.touched.moved.items c.self.invariant.0 same c.add-added.ensures.keeps.frames c.note.ensures.runners (rw c.as_slice-2.ensures.value at c.note.ensures.translated) (moved-by _ _ _ _ c.add-added.result c.add-added.ensures.access)
 
 pub invariant_of-self : goal.invariant_of-self
-invariant_of-self g c = well g (goal.at.invariant_of-self g c).After-note
+invariant_of-self g c =
+    (
+      (well g (goal.at.invariant_of-self g c).After-note),
+      c.note.ensures.most ∙ c.self.invariant.1,
+    )
 
 pub invariant_of-self-2 : goal.invariant_of-self-2
-invariant_of-self-2 g c = well g (goal.at.invariant_of-self-2 g c).After-note
+invariant_of-self-2 g c =
+    (
+      (well g (goal.at.invariant_of-self-2 g c).After-note),
+      c.note.ensures.most ∙ c.self.invariant.1,
+    )

@@ -6,14 +6,14 @@ pub returns-clause-exact : goal.returns-clause-exact
 returns-clause-exact g c =
     let t = c.kernel.inside.segments.table in
     let m = c.kernel.inside.segments.memory in
-    let k = c.kernel.invariant.kept in
+    let k = c.kernel.invariant.0.kept in
     let e = c.store.ensures.exact in
     rw (← c.self.view_is, ← c.kernel.view_is)
     record {
       sound = e.sound;
       shows = e.shows;
       areas = search rules;
-      frames = c.kernel.invariant.frames;
+      frames = c.kernel.invariant.0.frames;
       used = few-used t m e.sound e.shows;
       room = few-reserved t m e.sound e.shows k.few;
       reserved = k.reserved;
