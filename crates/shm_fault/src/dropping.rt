@@ -56,10 +56,11 @@ impl<P: Pager> PageStore<P> {
         ensures placed { places self.new ≡ after_forget page (places self.old) }
         ensures nowhere { rec_by self.old.segs page ≡ no_page → self.new ≡ self.old }
     {
-        let place = self.segs.page(page);
+        let table = self.segs.table_of(page);
+        let place = self.segs.page_in(table, page);
         empty_frame(&mut self.frames, place.frame);
         free_slot(&mut self.swap, place.slot);
-        self.segs.set_page(page, PageRec::NOWHERE);
+        self.segs.set_page(table, page, PageRec::NOWHERE);
     }
 
     /// Takes a segment out, and its pages out of their frames and slots, which are free then. No pager is

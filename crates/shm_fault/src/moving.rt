@@ -3,7 +3,7 @@ ghost use Rattle.std.specs.Prelude.{◌≡◌, ◌+◌, ◌<◌, ◌≤◌, true
 ghost use Rattle.shm_fault.specs.Held.{pages_in_store};
 ghost use Rattle.shm_slots.specs.View.{HasSlot, IsSwap, area_at, page_in, sizes, swap_slots, used_in, used_slots};
 ghost use Rattle.shm_slots.specs.Cause.{GoesOn, had_cause};
-ghost use Rattle.shm_fault.specs.Segs.{rec_by};
+ghost use Rattle.shm_fault.specs.Segs.{IsAt, rec_by};
 ghost use Rattle.shm_fault.specs.Store.{held, Still};
 ghost use Rattle.shm_fault.specs.Sound.{IsStoreSound};
 ghost use Rattle.shm_fault.specs.Steps.{LockedPagesStay};
@@ -81,7 +81,8 @@ fn relocate<P: Pager>(swap: &mut Swap<P>, page: PageRef, from: Slot) -> Result<S
 
 impl<P: Pager> PageStore<P> {
     // A resident page gives its slot back, and is dirty.
-    fn give_back(&mut self, page: PageRef, frame: FrameNo, slot: Slot)
+    fn give_back(&mut self, page: PageRef, table: usize, frame: FrameNo, slot: Slot)
+        requires at { IsAt self.old.segs table page.seg }
         requires place { rec_by self.old.segs page ≡ record { frame = Some frame; slot = Some slot } }
         ensures goes { Goes self.old self.new }
         ensures still { Still self.old self.new }
@@ -93,6 +94,7 @@ impl<P: Pager> PageStore<P> {
         self.swap.give_slot(slot);
         self.frames.set_dirty(frame, true);
         self.segs.set_page(
+            table,
             page,
             PageRec {
                 frame: Some(frame),
@@ -102,7 +104,8 @@ impl<P: Pager> PageStore<P> {
     }
 
     // A page that is not resident moves to another area.
-    fn carry(&mut self, page: PageRef, slot: Slot) -> Result<(), PagerFault>
+    fn carry(&mut self, page: PageRef, table: usize, slot: Slot) -> Result<(), PagerFault>
+        requires at { IsAt self.old.segs table page.seg }
         requires place { rec_by self.old.segs page ≡ record { frame = None; slot = Some slot } }
         requires room { pages_in_store (held self.old) + length (area_at self.old.swap slot.area).pages ≤ swap_slots self.old.swap }
         ensures goes { Goes self.old self.new }
@@ -117,6 +120,7 @@ impl<P: Pager> PageStore<P> {
     {
         let to = relocate(&mut self.swap, page, slot)?;
         self.segs.set_page(
+            table,
             page,
             PageRec {
                 frame: None,
@@ -142,12 +146,13 @@ impl<P: Pager> PageStore<P> {
         let Some(page) = self.swap.owner(slot) else {
             return Ok(());
         };
-        match self.segs.page(page).frame {
+        let table = self.segs.table_of(page);
+        match self.segs.page_in(table, page).frame {
             Some(frame) => {
-                self.give_back(page, frame, slot);
+                self.give_back(page, table, frame, slot);
                 Ok(())
             }
-            None => self.carry(page, slot),
+            None => self.carry(page, table, slot),
         }
     }
 
@@ -176,14 +181,11 @@ impl<P: Pager> PageStore<P> {
     {
         let count = self.swap.size(area).unwrap_or(0);
         for slot in 0..count {
-            match self.clear_slot(Slot { area, slot }) {
-                Ok(()) => {}
-                Err(_) => {
-                    return Err(PagerFailed {
-                        touched: Touched::none(),
-                    });
-                }
-            }
+            let Ok(()) = self.clear_slot(Slot { area, slot }) else {
+                return Err(PagerFailed {
+                    touched: Touched::none(),
+                });
+            };
         }
         self.swap.turn_off(area);
         Ok(())

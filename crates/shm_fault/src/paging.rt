@@ -5,7 +5,7 @@ ghost use Rattle.shm_slots.specs.View.{SameSlots, HasSlot, IsFirstFree, IsSwap, 
 ghost use Rattle.shm_slots.specs.Cause.{had_cause, total, some_spent, GoesOn};
 ghost use Rattle.shm_frames.specs.Frame.{frame_at, no_frame, OwnedBelow};
 ghost use Rattle.shm_clock.specs.Clock.{may_go, candidates, victim_of, passed_by, unset_all, next, IsClockVictim};
-ghost use Rattle.shm_fault.specs.Segs.{rec_by, HasPage, with_rec};
+ghost use Rattle.shm_fault.specs.Segs.{rec_by, HasPage, IsAt, with_rec};
 ghost use Rattle.shm_fault.specs.Store.{Still, is_page, slot_bytes};
 ghost use Rattle.shm_fault.specs.Sound.{IsStoreSound};
 ghost use Rattle.shm_fault.specs.Counting.{raised, one_if, CountsOn, victim_by, turned, hand_for_frame};
@@ -97,7 +97,8 @@ impl<P: Pager> PageStore<P> {
         ensures sound { IsStoreSound self.new }
     {
         let page = self.frames.resident_page(frame);
-        let place = self.segs.page(page);
+        let table = self.segs.table_of(page);
+        let place = self.segs.page_in(table, page);
         if let Some(slot) = place.slot {
             return slot;
         }
@@ -105,6 +106,7 @@ impl<P: Pager> PageStore<P> {
             unreachable!();
         };
         self.segs.set_page(
+            table,
             page,
             PageRec {
                 frame: place.frame,
@@ -171,9 +173,11 @@ impl<P: Pager> PageStore<P> {
         ensures sound { IsStoreSound self.new }
     {
         let page = self.frames.resident_page(frame);
-        let place = self.segs.page(page);
+        let table = self.segs.table_of(page);
+        let place = self.segs.page_in(table, page);
         self.frames.empty(frame);
         self.segs.set_page(
+            table,
             page,
             PageRec {
                 frame: None,
@@ -271,14 +275,14 @@ impl<P: Pager> PageStore<P> {
         Ok(())
     }
 
-    // Gives a free frame that has a page's bytes to the page, whose slot is handed in.
-    fn settle(&mut self, frame: FrameNo, page: PageRef, slot: Option<Slot>)
+    // Gives a free frame that has a page's bytes to the page, which keeps its slot or none.
+    fn settle(&mut self, frame: FrameNo, page: PageRef, table: usize)
         requires there { frame < length self.old.frames }
         requires free { (frame_at self.old.frames frame).owner ≡ None }
         requires has { HasPage self.old.segs page }
         requires away { frame_by self.old page ≡ None }
-        requires slot { slot ≡ (rec_by self.old.segs page).slot }
-        requires bytes { (frame_at self.old.frames frame).bytes ≡ slot_bytes self.old.swap slot }
+        requires at { IsAt self.old.segs table page.seg }
+        requires bytes { (frame_at self.old.frames frame).bytes ≡ slot_bytes self.old.swap (rec_by self.old.segs page).slot }
         ensures came { (s : Ref) → frame_by self.new s ≡ (if is_page page s.seg s.page then Some frame else frame_by self.old s) }
         ensures bit { (frame_at self.new.frames frame).referenced ≡ true }
         ensures placed { places self.new ≡ settled page frame (places self.old) }
@@ -287,11 +291,13 @@ impl<P: Pager> PageStore<P> {
     {
         self.frames.fill(frame, page);
         self.frames.set_referenced(frame, true);
+        let place = self.segs.page_in(table, page);
         self.segs.set_page(
+            table,
             page,
             PageRec {
                 frame: Some(frame),
-                slot,
+                slot: place.slot,
             },
         );
     }
@@ -323,9 +329,10 @@ impl<P: Pager> PageStore<P> {
         ensures slot { OnErr result (is_some (rec_by self.old.segs page).slot ≡ true) }
         ensures cause { OnErr result (had_cause self.old.swap self.new.swap ≡ true) }
     {
-        let slot = self.segs.page(page).slot;
+        let table = self.segs.table_of(page);
+        let slot = self.segs.page_in(table, page).slot;
         self.load(frame, slot)?;
-        self.settle(frame, page, slot);
+        self.settle(frame, page, table);
         touched.ins += u64::from(slot.is_some());
         touched.moved.push(PageMove::Came(page, frame));
         Ok(())

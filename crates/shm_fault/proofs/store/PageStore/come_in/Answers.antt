@@ -12,7 +12,7 @@ slot_there s r has (Some k) e = has k e
 
 pub load-requires-clause-slot : goal.load-requires-clause-slot
 load-requires-clause-slot g c =
-    rw (c.page-slot.ensures, ← c.self.view_is)
+    rw (c.page_in-slot.ensures, ← c.self.view_is)
     (slot_there (seen c.self.inside) c.args.page (λ k e. (slot-own (seen c.self.inside) c.self.invariant c.args.page k e).0) (rec_by c.self.inside.segs c.args.page).slot refl)
 
 pub returns-clause-visits : goal.returns-clause-visits
@@ -37,7 +37,7 @@ returns-in_err-load-clause-moves g c =
 
 pub returns-clause-counts : goal.returns-clause-counts
 returns-clause-counts g c =
-    counts-more c.args.touched.now _ c.args.self.now c.settle.new.self (one_if (is_some c.page-slot.result.slot)) 0
+    counts-more c.args.touched.now _ c.args.self.now c.settle.new.self (one_if (is_some c.page_in-slot.result.slot)) 0
     (ap (λ n. c.args.touched.now.ins + n) (c.from.ensures ∙ byte-one _ ∙ ap one_if c.is_some.ensures)) (ap (λ (v : StoreView). v.ins) c.settle.ensures.rest ∙ c.in_ok-load.ensures.ins)
     (omega arith) (ap (λ (v : StoreView). v.outs) c.settle.ensures.rest ∙ ap (λ (v : StoreView). v.outs) c.load.ensures.rest)
 
@@ -50,11 +50,12 @@ settle-requires-clause-has g c = rw c.load.ensures.rest c.requires.has
 pub settle-requires-clause-away : goal.settle-requires-clause-away
 settle-requires-clause-away g c = rw c.load.ensures.rest c.requires.away
 
-pub settle-requires-clause-slot : goal.settle-requires-clause-slot
-settle-requires-clause-slot g c = rw (ap (λ (v : StoreView). v.segs) c.load.ensures.rest, c.page-slot.ensures, ← c.self.view_is) refl
+pub settle-requires-clause-at : goal.settle-requires-clause-at
+settle-requires-clause-at g c = rw (c.load.ensures.rest, ← c.self.view_is) c.table_of-table.ensures
 
 pub settle-requires-clause-bytes : goal.settle-requires-clause-bytes
-settle-requires-clause-bytes g c = rw (c.in_ok-load.ensures.bytes, c.in_ok-load.ensures.swap) refl
+settle-requires-clause-bytes g c =
+    rw (c.in_ok-load.ensures.bytes, c.in_ok-load.ensures.swap, c.page_in-slot.ensures, ap (λ (v : StoreView). v.segs) c.load.ensures.rest, ← c.self.view_is) refl
 
 pub returns-clause-hand : goal.returns-clause-hand
 returns-clause-hand g c = ap (λ (v : StoreView). v.hand) c.settle.ensures.rest ∙ ap (λ (v : StoreView). v.hand) c.load.ensures.rest

@@ -8,7 +8,7 @@ use Rattle.shm_fault.proofs.Moves.{area-gone, stops-moving}
 use Rattle.shm_fault.proofs.Areas.{cleaned-none}
 use Rattle.shm_fault.proofs.store.PageStore.move_off.Given as given
 use Rattle.shm_fault.proofs.store.PageStore.move_off.Goals as goal
-use Rattle.shm_fault.proofs.store.PageStore.move_off.Goals.{After-unwrap_or-count, After-self-2, In-Err, After-turn_off}
+use Rattle.shm_fault.proofs.store.PageStore.move_off.Goals.{After-unwrap_or-count, After-self-2, In_default, After-turn_off}
 
 -- the slots that are looked at are all that the area has
 count : (g : given.Over) (c : After-unwrap_or-count g) → c.unwrap_or-count.result ≡ length (area_at c.args.self.now.swap c.args.area).pages
@@ -28,7 +28,7 @@ done g c =
     c.turn_off.new.self e.gone e.sound e.sizes c.requires.room
 
 -- a write that failed moved no page's frame
-still-err : (g : given.Over) (c : In-Err g) → Still c.args.self.now c.clear_slot.new.self
+still-err : (g : given.Over) (c : In_default g) → Still c.args.self.now c.clear_slot.new.self
 still-err g c seg page = c.clear_slot.ensures.still seg page ∙ c.loop-slot.invariant.still seg page
 
 pub clear_slot-requires-clause-there : goal.clear_slot-requires-clause-there
@@ -45,15 +45,15 @@ loop-slot-preserved g c =
     let e = c.clear_slot.ensures in
     cleaned-more c.args.area c.loop-slot.slot c.args.self.now c.loop-slot.self c.clear_slot.new.self c.loop-slot.invariant e.sound e.goes e.still e.rest c.in-Ok.ensures.cleared c.in-Ok.ensures.placed
 
-pub returns-in-Err-clause-cause : goal.returns-in-Err-clause-cause
-returns-in-Err-clause-cause g c =
-    cause-after c.args.self.now c.loop-slot.self c.clear_slot.new.self c.loop-slot.invariant.goes c.clear_slot.ensures.goes c.in-Err.ensures.cause
+pub returns-in_default-clause-cause : goal.returns-in_default-clause-cause
+returns-in_default-clause-cause g c =
+    cause-after c.args.self.now c.loop-slot.self c.clear_slot.new.self c.loop-slot.invariant.goes c.clear_slot.ensures.goes c.in_default.ensures.cause
 
-pub returns-in-Err-clause-still : goal.returns-in-Err-clause-still
-returns-in-Err-clause-still g c = still-err g (goal.at.returns-in-Err-clause-still g c).In-Err
+pub returns-in_default-clause-still : goal.returns-in_default-clause-still
+returns-in_default-clause-still g c = still-err g (goal.at.returns-in_default-clause-still g c).In_default
 
-pub returns-in-Err-clause-kept : goal.returns-in-Err-clause-kept
-returns-in-Err-clause-kept g c = grind (arith, nat_tests, common_steps, still-err, kept-locked, c.args.self.now, c.clear_slot.new.self)
+pub returns-in_default-clause-kept : goal.returns-in_default-clause-kept
+returns-in_default-clause-kept g c = grind (arith, nat_tests, common_steps, still-err, kept-locked, c.args.self.now, c.clear_slot.new.self)
 
 pub turn_off-requires-clause-free : goal.turn_off-requires-clause-free
 turn_off-requires-clause-free g c =
@@ -77,14 +77,14 @@ returns-clause-still g c = λ seg page. (cleaned g (goal.at.returns-clause-still
 pub returns-clause-kept : goal.returns-clause-kept
 returns-clause-kept g c = grind (arith, nat_tests, common_steps, seen, c.self-2.inside, c.turn_off.new.self, kept-locked, c.args.self.now, cleaned)
 
-pub returns-in-Err-clause-held : goal.returns-in-Err-clause-held
-returns-in-Err-clause-held g c = c.clear_slot.ensures.goes.bytes ∙ c.loop-slot.invariant.goes.bytes
+pub returns-in_default-clause-held : goal.returns-in_default-clause-held
+returns-in_default-clause-held g c = c.clear_slot.ensures.goes.bytes ∙ c.loop-slot.invariant.goes.bytes
 
-pub returns-in-Err-clause-sizes : goal.returns-in-Err-clause-sizes
-returns-in-Err-clause-sizes g c = c.clear_slot.ensures.goes.same_sizes ∙ c.loop-slot.invariant.goes.same_sizes
+pub returns-in_default-clause-sizes : goal.returns-in_default-clause-sizes
+returns-in_default-clause-sizes g c = c.clear_slot.ensures.goes.same_sizes ∙ c.loop-slot.invariant.goes.same_sizes
 
-pub returns-in-Err-clause-counts : goal.returns-in-Err-clause-counts
-returns-in-Err-clause-counts g c = GoesOn-trans _ _ _ c.loop-slot.invariant.goes.goes_on c.clear_slot.ensures.goes.goes_on
+pub returns-in_default-clause-counts : goal.returns-in_default-clause-counts
+returns-in_default-clause-counts g c = GoesOn-trans _ _ _ c.loop-slot.invariant.goes.goes_on c.clear_slot.ensures.goes.goes_on
 
 pub returns-clause-gone : goal.returns-clause-gone
 returns-clause-gone g c = c.turn_off.ensures.sizes ∙ ap (λ (xs : List (Option ℕ)). set xs c.args.area None) (cleaned g (goal.at.returns-clause-gone g c).After-self-2).goes.same_sizes
@@ -97,11 +97,11 @@ returns-clause-rest g c =
     let rest = (cleaned g (goal.at.returns-clause-rest g c).After-self-2).rest in
     record { hand = rest.hand; ins = rest.ins; outs = rest.outs }
 
-pub returns-in-Err-clause-stopped : goal.returns-in-Err-clause-stopped
-returns-in-Err-clause-stopped g c =
-    let all = count g (goal.at.returns-in-Err-clause-stopped g c).After-unwrap_or-count in
+pub returns-in_default-clause-stopped : goal.returns-in_default-clause-stopped
+returns-in_default-clause-stopped g c =
+    let all = count g (goal.at.returns-in_default-clause-stopped g c).After-unwrap_or-count in
     let owned : length (area_at c.args.self.now.swap c.args.area).owners ≡ length (area_at c.args.self.now.swap c.args.area).pages = rw (← c.self.view_is) (c.self.invariant.swap.each c.args.area).owned in
-    stops-moving c.args.area c.loop-slot.slot c.args.self.now c.loop-slot.self c.clear_slot.new.self (omega (arith, all, owned, c.loop-slot-test.true)) c.loop-slot.invariant.placed c.in-Err.ensures.stopped
+    stops-moving c.args.area c.loop-slot.slot c.args.self.now c.loop-slot.self c.clear_slot.new.self (omega (arith, all, owned, c.loop-slot-test.true)) c.loop-slot.invariant.placed c.in_default.ensures.stopped
 
 pub loop-slot-init : goal.loop-slot-init
 loop-slot-init g c = rw (← c.self.view_is) (cleaned-none c.args.area (seen c.self.inside) c.self.invariant)
