@@ -1,5 +1,6 @@
 -- What an access leaves, put together from the visits to its pages.
 use Rattle.shm_fault.proofs.Names.{◌≡◌, ◌≢◌, ℕ, map, ◌≤◌, ◌+◌, Bool, true, false, ◌&&◌, cond, List, [], ◌∷◌, length, get_or, Option, Some, None, is_some, Result, Ok, Err, is_ok, OnErr, refl, sym, ap, ◌∙◌, arith, All, IsSome, false≢true, PageRef, Span, holds_locked, SwapView, Frame, frame_at, PageRec, Touched, SegRec, rec_by, locked_by, StoreView, held_by, page_of, ref_of, is_swapped, IsResident, pages_among, swapped_among, same_page, LockedPagesStay, KeepsLocked, Visits, frame_by, referenced_at, InFrames, PagerFailed, IsStoreSound, raised, one_if, hand_after, Visited, AreIn, Brings, Accessed, IsUntouched, nat_tests, common_steps}
+use Rattle.shm_fault.specs.Access.{answer_of}
 use Rattle.shm_fault.proofs.Written.{no_span}
 use Rattle.shm_fault.specs.Store.{held, frame_of}
 use Rattle.shm_fault.proofs.Sound.{Goes-trans, KeepsLocked-trans, cause-after}
@@ -184,6 +185,11 @@ module _ (s t : StoreView) (frames : List Frame) (count : length frames ≡ leng
 -- and one that was not
 pub accessed-not : (ps : List Span) (s t : StoreView) (e : PagerFailed) → IsStoreSound t → Brings ps s t e.touched false → Accessed ps s t (Err e)
 accessed-not ps s t e sound b = grind (arith, kept-locked)
+
+-- the same, by what its caller was answered
+pub accessed-failed : {A E : Type 0} (ps : List Span) (s t : StoreView) (u : Touched) (r : Result A E) → is_ok r ≡ false → IsStoreSound t → Brings ps s t u false → Accessed ps s t (answer_of u r)
+accessed-failed ps s t u (Ok a) failed sound b = absurd (false≢true (sym failed))
+accessed-failed ps s t u (Err e) failed sound b = accessed-not ps s t (record { touched = u }) sound b
 
 -- the spans of a list of none, of one, and of two
 pub none-of : (ps : List Span) → length ps ≡ 0 → [] ≡ ps

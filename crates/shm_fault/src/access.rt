@@ -245,10 +245,7 @@ impl<P: Pager> PageStore<P> {
         ensures places { OnOk result (places self.new ≡ after_access spans.now (places self.old)) }
         ensures stopped { OnErr result (Stops spans.now (places self.old) (places self.new)) }
     {
-        let here = match self.bring_spans(spans, touched) {
-            Ok(here) => here,
-            Err(fault) => return Err(fault),
-        };
+        let here = self.bring_spans(spans, touched)?;
         self.copy_spans(spans, here, out);
         Ok(())
     }
@@ -292,10 +289,7 @@ impl<P: Pager> PageStore<P> {
         ensures places { OnOk result (places self.new ≡ with_dirty spans.now (after_access spans.now (places self.old))) }
         ensures stopped { OnErr result (Stops spans.now (places self.old) (places self.new)) }
     {
-        let here = match self.bring_spans(spans, touched) {
-            Ok(here) => here,
-            Err(fault) => return Err(fault),
-        };
+        let here = self.bring_spans(spans, touched)?;
         self.store_spans(spans, here, bytes);
         Ok(())
     }
@@ -342,10 +336,7 @@ impl<P: Pager> PageStore<P> {
         ensures places { OnOk result (places self.new ≡ with_dirty spans.now (after_access spans.now (places self.old))) }
         ensures stopped { OnErr result (Stops spans.now (places self.old) (places self.new)) }
     {
-        let here = match self.bring_spans(spans, touched) {
-            Ok(here) => here,
-            Err(fault) => return Err(fault),
-        };
+        let here = self.bring_spans(spans, touched)?;
         let mut bytes = [0; 8];
         self.copy_spans(spans, here, &mut bytes);
         *old = u64::from_le_bytes(bytes);
