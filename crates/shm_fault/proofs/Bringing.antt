@@ -47,19 +47,21 @@ module _ (p : Span) (s t : StoreView) (u v : Touched) (ok : Bool) (none : IsUnto
   brings-one = record {
     goes = w.visits.goes;
     kept = w.visits.kept;
-    moves = w.moves s (λ seg page. rw none.0 refl);
-    few = few-one;
-    ins_few = omega (arith, ins-one);
-    outs_few = omega (arith, w.outs, none.2);
-    read_in = read-in-one;
-    written_out = written-out-one;
-    turns = record {
-      still = λ all. w.hand ∙ hand-known s None (frame_by s (ref_of p)) (resident-at s p (all 0 p (omega arith)));
-      one = λ q e. let same : p ≡ q = cc in rw (← same) w.hand;
+    paged = record {
+      moves = w.moves s (λ seg page. rw none.0 refl);
+      few = few-one;
+      ins_few = omega (arith, ins-one);
+      outs_few = omega (arith, w.outs, none.2);
+      read_in = read-in-one;
+      written_out = written-out-one;
+      turns = record {
+        still = λ all. w.hand ∙ hand-known s None (frame_by s (ref_of p)) (resident-at s p (all 0 p (omega arith)));
+        one = λ q e. let same : p ≡ q = cc in rw (← same) w.hand;
+      };
+      swapped = λ e. grind (arith, nat_tests, e, w.ins);
+      quiet = λ all. quiet-one (resident-at s p (all 0 p (omega arith)));
+      cause = w.cause;
     };
-    swapped = λ e. grind (arith, nat_tests, e, w.ins);
-    quiet = λ all. quiet-one (resident-at s p (all 0 p (omega arith)));
-    cause = w.cause;
   }
 
 same_page-ref : (p q : Span) → same_page p q ≡ true → ref_of q ≡ ref_of p
@@ -130,16 +132,18 @@ module _ (p q : Span) (s t z : StoreView) (f : ℕ) (u v w : Touched) (ok : Bool
   brings-two = record {
     goes = Goes-trans s t z one.visits.goes two.visits.goes;
     kept = KeepsLocked-trans s t z one.visits.goes.shape one.visits.kept two.visits.kept;
-    moves = moves-trans u.moved.items v.moved.items w.moved.items s t z one.moves two.moves s (λ seg page. rw none.0 refl);
-    few = let a = one.few in let b = two.few in let y : length u.moved.items ≡ 0 = rw none.0 refl in omega (arith, a, b, y);
-    ins_few = ins-le;
-    outs_few = outs-le;
-    read_in = two.counts.ins s.ins (read-in-one p s t u v true none one);
-    written_out = two.counts.outs s.outs (written-out-one p s t u v true none one);
-    turns = record { still = both-still; one = λ r e. cc };
-    swapped = swapped-le;
-    quiet = both-quiet;
-    cause = λ e. cause-after s t z one.visits.goes two.visits.goes (two.cause e);
+    paged = record {
+      moves = moves-trans u.moved.items v.moved.items w.moved.items s t z one.moves two.moves s (λ seg page. rw none.0 refl);
+      few = let a = one.few in let b = two.few in let y : length u.moved.items ≡ 0 = rw none.0 refl in omega (arith, a, b, y);
+      ins_few = ins-le;
+      outs_few = outs-le;
+      read_in = two.counts.ins s.ins (read-in-one p s t u v true none one);
+      written_out = two.counts.outs s.outs (written-out-one p s t u v true none one);
+      turns = record { still = both-still; one = λ r e. cc };
+      swapped = swapped-le;
+      quiet = both-quiet;
+      cause = λ e. cause-after s t z one.visits.goes two.visits.goes (two.cause e);
+    };
   }
 
 -- the first of two pages was not brought in
@@ -152,16 +156,18 @@ brings-not p q s t u v none w =
     record {
       goes = one.goes;
       kept = one.kept;
-      moves = one.moves;
-      few = one.few;
-      ins_few = omega (arith, ins-one p s t u v false none w, least);
-      outs_few = omega (arith, w.outs, none.2, least);
-      read_in = one.read_in;
-      written_out = one.written_out;
-      turns = record { still = λ all. absurd (false≢true (never all)); one = λ r e. cc };
-      swapped = λ e. absurd (false≢true e);
-      quiet = λ all. absurd (false≢true (never all));
-      cause = w.cause;
+      paged = record {
+        moves = one.paged.moves;
+        few = one.paged.few;
+        ins_few = omega (arith, ins-one p s t u v false none w, least);
+        outs_few = omega (arith, w.outs, none.2, least);
+        read_in = one.paged.read_in;
+        written_out = one.paged.written_out;
+        turns = record { still = λ all. absurd (false≢true (never all)); one = λ r e. cc };
+        swapped = λ e. absurd (false≢true e);
+        quiet = λ all. absurd (false≢true (never all));
+        cause = w.cause;
+      };
     }
 
 lock-held : (frames : List Frame) (swap : SwapView) (gs : List SegRec) (id : ℕ) → holds_locked (map (held_by frames swap) gs) id ≡ locked_by gs id

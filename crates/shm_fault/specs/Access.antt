@@ -1,5 +1,5 @@
 -- What an access is asked for, and what it leaves beside the bytes that it reads or writes.
-use Rattle.std.specs.Prelude.{ℕ, ◌≡◌, ◌≤◌, ◌+◌, ◌&&◌, Bool, true, false, List, [], ◌∷◌, Option, Some, None, Result, Ok, Err, length, OnOk, OnErr, IsOk, IsSome, All, ⊤}
+use Rattle.std.specs.Prelude.{ℕ, ◌≡◌, ◌≤◌, ◌+◌, ◌&&◌, Bool, true, false, List, [], ◌∷◌, Option, Some, None, Result, Ok, Err, length, is_ok, OnOk, IsSome, All, ⊤}
 use Rattle.shm_base.specs.declared.paging.PageRef.{PageRef}
 use Rattle.shm_base.specs.declared.paging.Span.{Span}
 use Rattle.shm_slots.specs.View.{sizes}
@@ -18,12 +18,17 @@ use Rattle.shm_fault.specs.Sound.{IsStoreSound}
 abbrev pub NameFrames : StoreView → List Span → Type 0
 NameFrames s ps = All (λ (p : Span). p.frame ≡ frame_of s p.seg (page_of p)) ps
 
+-- the same of one span, by the page that it lies in
+abbrev pub NamesFrame : StoreView → Span → Type 0
+NamesFrame s p = p.frame ≡ frame_by s (ref_of p)
+
 -- nothing was counted or named yet
 abbrev pub IsUntouched : Touched → Type 0
 IsUntouched u = (u.moved.items ≡ []) × (u.ins ≡ 0) × (u.outs ≡ 0)
 
 -- what a visit to a page leaves, whose frame was known where it had one
-pub record Visited (r : PageRef) (pinned known : Option ℕ) (s t : StoreView) (u v : Touched) (ok : Bool) : Type 0 where
+pub record Visited
+    (r : PageRef) (pinned known : Option ℕ) (s t : StoreView) (u v : Touched) (ok : Bool) : Type 0 where
   pub visits : Visits r pinned s t
   pub moves : MovesOn u.moved.items v.moved.items s t
   pub few : length v.moved.items ≤ length u.moved.items + 2
@@ -45,15 +50,14 @@ AreIn t [] here = ⊤
 AreIn t (p ∷ []) here = IsIn t p here.first
 AreIn t (p ∷ q ∷ ps) here = IsIn t p here.first × IsIn t q here.second
 
--- where the pages of spans were in frames the hand stays; for one span it is where the visit to its page leaves it
+-- The hand stays where the pages of spans were in frames. For one span it is where the visit to its page leaves it.
 pub record Turns (ps : List Span) (s t : StoreView) : Type 0 where
   pub still : All (IsResident s) ps → t.hand ≡ s.hand
   pub one : (p : Span) → ps ≡ p ∷ [] → t.hand ≡ hand_after s (frame_by s (ref_of p)) None
 
--- the pages of spans were brought in, or one of them was not
-pub record Brings (ps : List Span) (s t : StoreView) (u : Touched) (ok : Bool) : Type 0 where
-  pub goes : Goes s t
-  pub kept : KeepsLocked s t
+-- What paging for spans leaves, done or not. A pager was asked for no more than the pages had to have: a read for each
+-- page that was in a slot, a write for each that had to go. Each is counted, in what the caller has and in the store.
+pub record Paged (ps : List Span) (s t : StoreView) (u : Touched) (ok : Bool) : Type 0 where
   pub moves : MovesLead u.moved.items s t
   pub few : length u.moved.items ≤ 4
   pub ins_few : u.ins ≤ pages_among ps
@@ -65,6 +69,12 @@ pub record Brings (ps : List Span) (s t : StoreView) (u : Touched) (ok : Bool) :
   pub quiet : All (IsResident s) ps → (ok ≡ true) × (t.swap ≡ s.swap) × (u.ins ≡ 0) × (u.outs ≡ 0)
   pub cause : ok ≡ false → had_cause s.swap t.swap ≡ true
 
+-- the pages of spans were brought in, or one of them was not
+pub record Brings (ps : List Span) (s t : StoreView) (u : Touched) (ok : Bool) : Type 0 where
+  pub goes : Goes s t
+  pub kept : KeepsLocked s t
+  pub paged : Paged ps s t u ok
+
 -- what was counted and named, also by an access that failed
 abbrev pub touched_of : Result Touched PagerFailed → Touched
 touched_of (Ok u) = u
@@ -75,20 +85,10 @@ abbrev pub answer_of : {A E : Type 0} → Touched → Result A E → Result Touc
 answer_of u (Ok a) = Ok u
 answer_of u (Err e) = Err (record { touched = u })
 
--- What an access leaves. A pager was asked for no more than the pages had to have: a read for each page that was in
--- a slot, a write for each that had to go, and each is counted, in the answer and in the store.
+-- what an access leaves, besides bytes
 pub record Accessed (ps : List Span) (s t : StoreView) (result : Result Touched PagerFailed) : Type 0 where
-  pub cause : OnErr result (had_cause s.swap t.swap ≡ true)
-  pub quiet : All (IsResident s) ps → IsOk result × (t.swap ≡ s.swap) × ((touched_of result).ins ≡ 0) × ((touched_of result).outs ≡ 0)
-  pub ins_few : (touched_of result).ins ≤ pages_among ps
-  pub outs_few : (touched_of result).outs ≤ pages_among ps
-  pub swapped : OnOk result (swapped_among s ps ≤ (touched_of result).ins)
-  pub read_in : t.ins ≡ raised s.ins (touched_of result).ins
-  pub written_out : t.outs ≡ raised s.outs (touched_of result).outs
-  pub turns : Turns ps s t
+  pub paged : Paged ps s t (touched_of result) (is_ok result)
   pub resident : OnOk result (All (IsReferenced t) ps)
-  pub moved : MovesLead (touched_of result).moved.items s t
-  pub few_moved : length (touched_of result).moved.items ≤ 4
   pub kept : LockedPagesStay s t
   pub counts : GoesOn s.swap t.swap
   pub same_sizes : sizes t.swap ≡ sizes s.swap

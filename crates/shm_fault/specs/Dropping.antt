@@ -31,12 +31,28 @@ SlotThere swap slot = (k : Slot) → slot ≡ Some k → HasSlot swap k.area k.s
 abbrev pub IsBlank : ℕ → StoreView → Type 0
 IsBlank seg s = (page : ℕ) → rec_by s.segs (record { seg = seg; page = page }) ≡ no_page
 
+-- frames and slots have the same pages, but for those of a segment
+abbrev pub SameInFrames : ℕ → List Frame → List Frame → Type 0
+SameInFrames seg before after =
+    (f : ℕ) → disowned seg (frame_at after f).owner ≡ disowned seg (frame_at before f).owner
+
+abbrev pub SameInSlots : ℕ → SwapView → SwapView → Type 0
+SameInSlots seg before after =
+    (k : Slot) → disowned seg (owner_of after k.area k.slot) ≡ disowned seg (owner_of before k.area k.slot)
+
+-- they have no page of the segment, and the others as before
+abbrev pub LeavesFrames : ℕ → List Frame → List Frame → Type 0
+LeavesFrames seg before after = (f : ℕ) → (frame_at after f).owner ≡ disowned seg (frame_at before f).owner
+
+abbrev pub LeavesSlots : ℕ → SwapView → SwapView → Type 0
+LeavesSlots seg before after = (area slot : ℕ) → owner_of after area slot ≡ disowned seg (owner_of before area slot)
+
 -- the first pages of a segment are nowhere, and all else is as it was
 pub record Dropped (seg n : ℕ) (s t : StoreView) : Type 0 where
   pub shape : outlines t.segs ≡ outlines s.segs
   pub bytes : without (held t) seg ≡ without (held s) seg
-  pub frames : (f : ℕ) → disowned seg (frame_at t.frames f).owner ≡ disowned seg (frame_at s.frames f).owner
-  pub slots : (k : Slot) → disowned seg (owner_of t.swap k.area k.slot) ≡ disowned seg (owner_of s.swap k.area k.slot)
+  pub frames : SameInFrames seg s.frames t.frames
+  pub slots : SameInSlots seg s.swap t.swap
   pub size : length t.frames ≡ length s.frames
   pub steady : IsSteady s.swap t.swap
   pub still : (q : PageRef) → (q.seg ≡ seg → ⊥) → rec_by t.segs q ≡ rec_by s.segs q

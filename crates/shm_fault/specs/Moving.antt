@@ -1,14 +1,26 @@
 -- A slot that its page leaves.
-use Rattle.std.specs.Prelude.{ℕ, ◌≡◌, ◌≢◌, Some, None}
+use Rattle.std.specs.Prelude.{ℕ, ◌≡◌, ◌≢◌, ◌+◌, ◌<◌, ◌≤◌, Some, None, length}
 use Rattle.shm_base.specs.declared.paging.PageRef.{PageRef}
 use Rattle.shm_base.specs.declared.paging.Slot.{Slot}
-use Rattle.shm_slots.specs.View.{SwapView, HasSlot, owner_of, page_in, IsFirstFree}
+use Rattle.shm_slots.specs.View.{SwapView, HasSlot, IsFirstFree, area_at, owner_of, page_in, swap_slots, used_in, used_slots}
+use Rattle.shm_fault.specs.Held.{pages_in_store}
+use Rattle.shm_fault.specs.Store.{StoreView, held}
+
+-- another area has a free slot, for a page of this one
+abbrev pub HasFreeOutside : SwapView → ℕ → Type 0
+HasFreeOutside swap area =
+    used_slots swap + length (area_at swap area).pages < swap_slots swap + used_in (area_at swap area)
+
+-- the other areas have a slot for each page of each segment
+abbrev pub FitOutside : StoreView → ℕ → Type 0
+FitOutside s area = pages_in_store (held s) + length (area_at s.swap area).pages ≤ swap_slots s.swap
 
 -- no slot has another owner, and each that is owned holds what it held
 pub record SameOwned (before after : SwapView) : Type 0 where
   pub has : (k : Slot) → HasSlot before k.area k.slot → HasSlot after k.area k.slot
   pub owners : (k : Slot) → owner_of after k.area k.slot ≡ owner_of before k.area k.slot
-  pub pages : (k : Slot) (q : PageRef) → owner_of before k.area k.slot ≡ Some q → page_in after k.area k.slot ≡ page_in before k.area k.slot
+  pub pages : (k : Slot) (q : PageRef) → owner_of before k.area k.slot ≡ Some q
+      → page_in after k.area k.slot ≡ page_in before k.area k.slot
 
 -- a page has the least free slot of the lowest-numbered other area that had one, with what its old slot
 -- held, which is free

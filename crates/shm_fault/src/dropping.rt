@@ -1,16 +1,14 @@
 //! Segments that go, with their frames and slots.
 ghost use Rattle.std.specs.Prelude.{◌≡◌, ◌≢◌, ℕ, true, length};
-ghost use Rattle.shm_base.specs.declared.paging.Slot.{Slot as SlotValue};
 ghost use Rattle.shm_fault.specs.Held.{is_held, without};
-ghost use Rattle.shm_slots.specs.View.{owner_of, sizes, IsSwap};
+ghost use Rattle.shm_slots.specs.View.{sizes, IsSwap};
 ghost use Rattle.shm_slots.specs.Cause.{GoesOn, IsSteady, total};
-ghost use Rattle.shm_frames.specs.Frame.{frame_at};
 ghost use Rattle.shm_fault.specs.Segs.{HasPage, with_rec, no_page, rec_by, but, count_by_id};
-ghost use Rattle.shm_fault.specs.Store.{held, frame_of, disowned};
+ghost use Rattle.shm_fault.specs.Store.{held, frame_of};
 ghost use Rattle.shm_fault.specs.Sound.{IsStoreSound};
 ghost use Rattle.shm_fault.specs.Counting.{AtRest};
 ghost use Rattle.shm_fault.specs.Placing.{places, after_forget, after_forgets, without_segment};
-ghost use Rattle.shm_fault.specs.Dropping.{emptied, Given, FrameThere, SlotThere, IsBlank};
+ghost use Rattle.shm_fault.specs.Dropping.{emptied, Given, FrameThere, SlotThere, IsBlank, SameInFrames, SameInSlots, LeavesFrames, LeavesSlots};
 
 use crate::page_tables::PageRec;
 use crate::store::PageStore;
@@ -48,8 +46,8 @@ impl<P: Pager> PageStore<P> {
         requires { HasPage self.old.segs page }
         ensures segs { self.new.segs ≡ with_rec self.old.segs page no_page }
         ensures held { without (held self.new) page.seg ≡ without (held self.old) page.seg }
-        ensures frames { (f : ℕ) → disowned page.seg (frame_at self.new.frames f).owner ≡ disowned page.seg (frame_at self.old.frames f).owner }
-        ensures slots { (k : SlotValue) → disowned page.seg (owner_of self.new.swap k.area k.slot) ≡ disowned page.seg (owner_of self.old.swap k.area k.slot) }
+        ensures frames { SameInFrames page.seg self.old.frames self.new.frames }
+        ensures slots { SameInSlots page.seg self.old.swap self.new.swap }
         ensures size { length self.new.frames ≡ length self.old.frames }
         ensures steady { IsSteady self.old.swap self.new.swap }
         ensures rest { AtRest self.old self.new }
@@ -69,8 +67,8 @@ impl<P: Pager> PageStore<P> {
     pub fn drop_segment(&mut self, seg: u32)
         requires there { is_held (held self.old) seg ≡ true }
         ensures held { held self.new ≡ without (held self.old) seg }
-        ensures frames { (f : ℕ) → (frame_at self.new.frames f).owner ≡ disowned seg (frame_at self.old.frames f).owner }
-        ensures slots { (area slot : ℕ) → owner_of self.new.swap area slot ≡ disowned seg (owner_of self.old.swap area slot) }
+        ensures frames { LeavesFrames seg self.old.frames self.new.frames }
+        ensures slots { LeavesSlots seg self.old.swap self.new.swap }
         ensures still { (s page : ℕ) → s ≢ seg → frame_of self.new s page ≡ frame_of self.old s page }
         ensures counts { (total self.new.swap ≡ total self.old.swap) × GoesOn self.old.swap self.new.swap }
         ensures sizes { sizes self.new.swap ≡ sizes self.old.swap }

@@ -1,7 +1,6 @@
 //! Swap areas that go, whose pages move to the other areas.
-ghost use Rattle.std.specs.Prelude.{◌≡◌, ◌+◌, ◌<◌, ◌≤◌, true, [], length, set, Some, None, IfOk, IfErr, OnOk, OnErr};
-ghost use Rattle.shm_fault.specs.Held.{pages_in_store};
-ghost use Rattle.shm_slots.specs.View.{HasSlot, IsSwap, area_at, page_in, sizes, swap_slots, used_in, used_slots};
+ghost use Rattle.std.specs.Prelude.{◌≡◌, true, [], length, set, Some, None, IfOk, IfErr, OnOk, OnErr};
+ghost use Rattle.shm_slots.specs.View.{HasSlot, IsSwap, area_at, page_in, sizes};
 ghost use Rattle.shm_slots.specs.Cause.{GoesOn, had_cause};
 ghost use Rattle.shm_fault.specs.Segs.{IsAt, rec_by};
 ghost use Rattle.shm_fault.specs.Store.{held, Still};
@@ -10,7 +9,7 @@ ghost use Rattle.shm_fault.specs.Steps.{LockedPagesStay};
 ghost use Rattle.shm_fault.specs.Goes.{Goes};
 ghost use Rattle.shm_fault.specs.Counting.{AtRest};
 ghost use Rattle.shm_fault.specs.Placing.{places, slot_owners, free_slot, own_slot, moves_page, after_move, after_moves, without_area, StopsAtMove, StopsMoving};
-ghost use Rattle.shm_fault.specs.Moving.{SameOwned, IsRelocated, IsCleared};
+ghost use Rattle.shm_fault.specs.Moving.{HasFreeOutside, FitOutside, SameOwned, IsRelocated, IsCleared};
 
 use crate::page_tables::PageRec;
 use crate::store::PageStore;
@@ -28,7 +27,7 @@ fn write_outside<P: Pager>(
     bytes: &[u8; PAGE_BYTES],
 ) -> Result<Slot, PagerFault>
     requires there { HasSlot swap.old from.area from.slot }
-    requires room { used_slots swap.old + length (area_at swap.old from.area).pages < swap_slots swap.old + used_in (area_at swap.old from.area) }
+    requires room { HasFreeOutside swap.old from.area }
     requires bytes { page_in swap.old from.area from.slot ≡ bytes.now }
     requires sound { IsSwap swap.old }
     ensures ok { IfOk result (λ to. IsRelocated page from to swap.old swap.new) }
@@ -61,7 +60,7 @@ fn write_outside<P: Pager>(
 #[inline(never)]
 fn relocate<P: Pager>(swap: &mut Swap<P>, page: PageRef, from: Slot) -> Result<Slot, PagerFault>
     requires there { HasSlot swap.old from.area from.slot }
-    requires room { used_slots swap.old + length (area_at swap.old from.area).pages < swap_slots swap.old + used_in (area_at swap.old from.area) }
+    requires room { HasFreeOutside swap.old from.area }
     requires sound { IsSwap swap.old }
     ensures ok { IfOk result (λ to. IsRelocated page from to swap.old swap.new) }
     ensures err { OnErr result (SameOwned swap.old swap.new) }
@@ -107,7 +106,7 @@ impl<P: Pager> PageStore<P> {
     fn carry(&mut self, page: PageRef, table: usize, slot: Slot) -> Result<(), PagerFault>
         requires at { IsAt self.old.segs table page.seg }
         requires place { rec_by self.old.segs page ≡ record { frame = None; slot = Some slot } }
-        requires room { pages_in_store (held self.old) + length (area_at self.old.swap slot.area).pages ≤ swap_slots self.old.swap }
+        requires room { FitOutside self.old slot.area }
         ensures goes { Goes self.old self.new }
         ensures still { Still self.old self.new }
         ensures cleared { OnOk result (IsCleared slot self.old.swap self.new.swap) }
@@ -133,7 +132,7 @@ impl<P: Pager> PageStore<P> {
     // Makes a slot free, whose page goes elsewhere.
     fn clear_slot(&mut self, slot: Slot) -> Result<(), PagerFault>
         requires there { HasSlot self.old.swap slot.area slot.slot }
-        requires room { pages_in_store (held self.old) + length (area_at self.old.swap slot.area).pages ≤ swap_slots self.old.swap }
+        requires room { FitOutside self.old slot.area }
         ensures goes { Goes self.old self.new }
         ensures still { Still self.old self.new }
         ensures cleared { OnOk result (IsCleared slot self.old.swap self.new.swap) }
@@ -163,7 +162,7 @@ impl<P: Pager> PageStore<P> {
     /// for each page of each segment.
     pub fn move_off(&mut self, area: u32) -> Result<(), PagerFailed>
         requires there { (area_at self.old.swap area).here ≡ true }
-        requires room { pages_in_store (held self.old) + length (area_at self.old.swap area).pages ≤ swap_slots self.old.swap }
+        requires room { FitOutside self.old area }
         ensures held { held self.new ≡ held self.old }
         ensures gone { OnOk result (sizes self.new.swap ≡ set (sizes self.old.swap) area None) }
         ensures sizes { OnErr result (sizes self.new.swap ≡ sizes self.old.swap) }
