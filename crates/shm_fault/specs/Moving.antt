@@ -1,10 +1,13 @@
 -- A slot that its page leaves.
-use Rattle.std.specs.Prelude.{ℕ, ◌≡◌, ◌≢◌, ◌+◌, ◌<◌, ◌≤◌, Some, None, length}
+use Rattle.std.specs.Prelude.{ℕ, ◌≡◌, ◌≢◌, ◌+◌, ◌<◌, ◌≤◌, true, Some, None, Result, IfOk, OnErr, length}
 use Rattle.shm_base.specs.declared.paging.PageRef.{PageRef}
 use Rattle.shm_base.specs.declared.paging.Slot.{Slot}
-use Rattle.shm_slots.specs.View.{SwapView, HasSlot, IsFirstFree, area_at, owner_of, page_in, swap_slots, used_in, used_slots}
+use Rattle.shm_slots.specs.View.{SwapView, HasSlot, IsFirstFree, IsSwap, area_at, owner_of, page_in, sizes, swap_slots, used_in, used_slots}
+use Rattle.shm_slots.specs.Cause.{GoesOn, had_cause}
+use Rattle.shm_pager.specs.declared.pager.PagerFault.{PagerFault}
 use Rattle.shm_fault.specs.Held.{pages_in_store}
 use Rattle.shm_fault.specs.Store.{StoreView, held}
+use Rattle.shm_fault.specs.Placing.{free_slot, own_slot, slot_owners}
 
 -- another area has a free slot, for a page of this one
 abbrev pub HasFreeOutside : SwapView → ℕ → Type 0
@@ -32,6 +35,18 @@ pub record IsRelocated (page : PageRef) (from to : Slot) (before after : SwapVie
   pub gone : owner_of after from.area from.slot ≡ None
   pub owners : (k : Slot) → k ≢ from → k ≢ to → owner_of after k.area k.slot ≡ owner_of before k.area k.slot
   pub pages : (k : Slot) → k ≢ from → k ≢ to → page_in after k.area k.slot ≡ page_in before k.area k.slot
+
+-- what is left where a page was to move from its slot to another area: where a pager failed, all slots as they were
+pub record Relocates (page : PageRef) (from : Slot) (before after : SwapView) (result : Result Slot PagerFault) : Type 0 where
+  pub ok : IfOk result (λ to. IsRelocated page from to before after)
+  pub found : IfOk result (λ to. free_slot (Some from.area) (slot_owners before) ≡ Some to)
+  pub owners : IfOk result (λ to. slot_owners after ≡ own_slot (own_slot (slot_owners before) to (Some page)) from None)
+  pub err : OnErr result (SameOwned before after)
+  pub same : OnErr result (slot_owners after ≡ slot_owners before)
+  pub cause : OnErr result (had_cause before after ≡ true)
+  pub goes_on : GoesOn before after
+  pub same_sizes : sizes after ≡ sizes before
+  pub sound : IsSwap after
 
 -- the slot is free, and those of its area that were free are so still
 pub record IsCleared (k : Slot) (before after : SwapView) : Type 0 where

@@ -8,8 +8,8 @@ ghost use Rattle.shm_fault.specs.Sound.{IsStoreSound};
 ghost use Rattle.shm_fault.specs.Steps.{LockedPagesStay};
 ghost use Rattle.shm_fault.specs.Goes.{Goes};
 ghost use Rattle.shm_fault.specs.Counting.{AtRest};
-ghost use Rattle.shm_fault.specs.Placing.{places, slot_owners, free_slot, own_slot, moves_page, after_move, after_moves, without_area, StopsAtMove, StopsMoving};
-ghost use Rattle.shm_fault.specs.Moving.{HasFreeOutside, FitOutside, SameOwned, IsRelocated, IsCleared};
+ghost use Rattle.shm_fault.specs.Placing.{places, slot_owners, free_slot, moves_page, after_move, after_moves, without_area, StopsAtMove, StopsMoving};
+ghost use Rattle.shm_fault.specs.Moving.{HasFreeOutside, FitOutside, Relocates, IsCleared};
 
 use crate::page_tables::PageRec;
 use crate::store::PageStore;
@@ -30,16 +30,7 @@ fn write_outside<P: Pager>(
     requires room { HasFreeOutside swap.old from.area }
     requires bytes { page_in swap.old from.area from.slot ≡ bytes.now }
     requires sound { IsSwap swap.old }
-    ensures ok { IfOk result (λ to. IsRelocated page from to swap.old swap.new) }
-    ensures err { OnErr result (SameOwned swap.old swap.new) }
-    ensures found { IfOk result (λ to. free_slot (Some from.area) (slot_owners swap.old) ≡ Some to) }
-    ensures owners { let free = slot_owners swap.old in
-        IfOk result (λ to. slot_owners swap.new ≡ own_slot (own_slot free to (Some page)) from None) }
-    ensures same { OnErr result (slot_owners swap.new ≡ slot_owners swap.old) }
-    ensures cause { OnErr result (had_cause swap.old swap.new ≡ true) }
-    ensures goes_on { GoesOn swap.old swap.new }
-    ensures sizes { sizes swap.new ≡ sizes swap.old }
-    ensures sound { IsSwap swap.new }
+    ensures { Relocates page from swap.old swap.new result }
 {
     let Some(to) = swap.take_outside(page, from.area) else {
         unreachable!();
@@ -62,16 +53,7 @@ fn relocate<P: Pager>(swap: &mut Swap<P>, page: PageRef, from: Slot) -> Result<S
     requires there { HasSlot swap.old from.area from.slot }
     requires room { HasFreeOutside swap.old from.area }
     requires sound { IsSwap swap.old }
-    ensures ok { IfOk result (λ to. IsRelocated page from to swap.old swap.new) }
-    ensures err { OnErr result (SameOwned swap.old swap.new) }
-    ensures found { IfOk result (λ to. free_slot (Some from.area) (slot_owners swap.old) ≡ Some to) }
-    ensures owners { let free = slot_owners swap.old in
-        IfOk result (λ to. slot_owners swap.new ≡ own_slot (own_slot free to (Some page)) from None) }
-    ensures same { OnErr result (slot_owners swap.new ≡ slot_owners swap.old) }
-    ensures cause { OnErr result (had_cause swap.old swap.new ≡ true) }
-    ensures goes_on { GoesOn swap.old swap.new }
-    ensures sizes { sizes swap.new ≡ sizes swap.old }
-    ensures sound { IsSwap swap.new }
+    ensures { Relocates page from swap.old swap.new result }
 {
     let mut bytes = zeros();
     swap.read_slot(from, &mut bytes)?;
