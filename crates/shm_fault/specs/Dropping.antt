@@ -1,16 +1,17 @@
 -- A page that is taken out of its frame and its slot.
-use Rattle.std.specs.Prelude.{ℕ, ◌≡◌, ◌<◌, List, Option, Some, None, length, set, MatchOption}
+use Rattle.std.specs.Prelude.{ℕ, ◌≡◌, ◌≢◌, ◌<◌, List, Option, Some, None, length, set, MatchOption}
 use Rattle.shm_base.specs.declared.paging.PageRef.{PageRef}
 use Rattle.shm_base.specs.declared.paging.Slot.{Slot}
 use Rattle.shm_fault.specs.Held.{without}
-use Rattle.shm_slots.specs.View.{SwapView, HasSlot, owner_of, page_in, without_slot}
-use Rattle.shm_slots.specs.Cause.{IsSteady}
+use Rattle.shm_slots.specs.View.{SwapView, HasSlot, owner_of, page_in, sizes, without_slot}
+use Rattle.shm_slots.specs.Cause.{GoesOn, IsSteady, total}
 use Rattle.shm_frames.specs.Frame.{Frame, no_frame, frame_at}
-use Rattle.shm_fault.specs.Segs.{rec_by, no_page}
-use Rattle.shm_fault.specs.Store.{StoreView, held, disowned}
+use Rattle.shm_fault.specs.Segs.{but, count_by_id, rec_by, no_page, with_rec}
+use Rattle.shm_fault.specs.Store.{StoreView, held, frame_of, disowned}
+use Rattle.shm_fault.specs.Sound.{IsStoreSound}
 use Rattle.shm_fault.specs.Goes.{outlines}
 use Rattle.shm_fault.specs.Counting.{AtRest}
-use Rattle.shm_fault.specs.Placing.{places, after_forgets}
+use Rattle.shm_fault.specs.Placing.{places, after_forget, after_forgets, without_segment}
 
 -- the frames with one of them made free
 abbrev pub emptied : List Frame → Option ℕ → List Frame
@@ -60,3 +61,29 @@ pub record Dropped (seg n : ℕ) (s t : StoreView) : Type 0 where
   pub rest : AtRest s t
   pub nothing : IsBlank seg s → t ≡ s
   pub placed : places t ≡ after_forgets seg n (places s)
+
+-- one page is nowhere from now on
+pub record Forgets (page : PageRef) (s t : StoreView) : Type 0 where
+  pub segs : t.segs ≡ with_rec s.segs page no_page
+  pub held : without (held t) page.seg ≡ without (held s) page.seg
+  pub frames : SameInFrames page.seg s.frames t.frames
+  pub slots : SameInSlots page.seg s.swap t.swap
+  pub size : length t.frames ≡ length s.frames
+  pub steady : IsSteady s.swap t.swap
+  pub rest : AtRest s t
+  pub placed : places t ≡ after_forget page (places s)
+  pub nowhere : rec_by s.segs page ≡ no_page → t ≡ s
+
+-- a segment was dropped: nothing has a page of it, and the other segments are as they were
+pub record Drops (seg : ℕ) (s t : StoreView) : Type 0 where
+  pub held : held t ≡ without (held s) seg
+  pub frames : LeavesFrames seg s.frames t.frames
+  pub slots : LeavesSlots seg s.swap t.swap
+  pub still : (other page : ℕ) → other ≢ seg → frame_of t other page ≡ frame_of s other page
+  pub counts : (total t.swap ≡ total s.swap) × GoesOn s.swap t.swap
+  pub sizes : sizes t.swap ≡ sizes s.swap
+  pub count : length t.frames ≡ length s.frames
+  pub rest : AtRest s t
+  pub places : places t ≡ without_segment seg (after_forgets seg (count_by_id s.segs seg) (places s))
+  pub blank : IsBlank seg s → t ≡ record s { segs = but seg s.segs }
+  pub sound : IsStoreSound t

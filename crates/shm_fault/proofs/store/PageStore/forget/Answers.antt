@@ -1,4 +1,4 @@
-use Rattle.shm_fault.proofs.Names.{arith, rec_by, Given}
+use Rattle.shm_fault.proofs.Names.{◌≡◌, arith, common_steps, refl, rec_by, Given}
 use Rattle.shm_fault.proofs.Seen.{seen}
 use Rattle.shm_fault.proofs.Sound.{frame-own, slot-own}
 use Rattle.shm_fault.proofs.Drops.{with-same, Forgets, forgets}
@@ -25,14 +25,19 @@ free_slot-requires-clause-there g c = λ k e. (slot-own (seen c.self.inside) c.s
 pub invariant_of-self : goal.invariant_of-self
 invariant_of-self g c = (done g c).sound
 
-pub returns-clause-held : goal.returns-clause-held
-returns-clause-held g c = rw (← c.self.view_is) (done g c).bytes
-
-pub returns-clause-nowhere : goal.returns-clause-nowhere
-returns-clause-nowhere g c = grind (arith, with-same)
-
-pub returns-clause-placed : goal.returns-clause-placed
-returns-clause-placed g c =
+pub returns : goal.returns
+returns g c =
     let i = c.self.inside in
+    let d = done g (goal.at.returns g c).After-set_page in
     let slot : Given i.swap (rec_by i.segs c.args.page).slot c.free_slot.new.swap = rw c.page_in-place.ensures at c.free_slot.ensures.given in
-    rw (c.set_page.ensures, c.empty_frame.ensures, c.page_in-place.ensures, ← c.self.view_is) (forget-is (seen i) c.args.page c.free_slot.new.swap slot)
+    rw (← c.self.view_is) (record {
+      segs = c.set_page.ensures;
+      held = d.bytes;
+      frames = d.frames;
+      slots = d.slots;
+      size = d.size;
+      steady = c.free_slot.ensures.steady;
+      rest = record { hand = refl; ins = refl; outs = refl };
+      placed = rw (c.set_page.ensures, c.empty_frame.ensures, c.page_in-place.ensures) (forget-is (seen i) c.args.page c.free_slot.new.swap slot);
+      nowhere = grind (arith, common_steps, with-same);
+    })
