@@ -1,13 +1,17 @@
 -- A slot that its page leaves.
-use Rattle.std.specs.Prelude.{ℕ, ◌≡◌, ◌≢◌, ◌+◌, ◌<◌, ◌≤◌, true, Some, None, Result, IfOk, OnErr, length}
+use Rattle.std.specs.Prelude.{ℕ, ◌≡◌, ◌≢◌, ◌+◌, ◌<◌, ◌≤◌, true, [], Some, None, Result, IfOk, IfErr, OnOk, OnErr, length, set}
 use Rattle.shm_base.specs.declared.paging.PageRef.{PageRef}
 use Rattle.shm_base.specs.declared.paging.Slot.{Slot}
 use Rattle.shm_slots.specs.View.{SwapView, HasSlot, IsFirstFree, IsSwap, area_at, owner_of, page_in, sizes, swap_slots, used_in, used_slots}
 use Rattle.shm_slots.specs.Cause.{GoesOn, had_cause}
 use Rattle.shm_pager.specs.declared.pager.PagerFault.{PagerFault}
 use Rattle.shm_fault.specs.Held.{pages_in_store}
-use Rattle.shm_fault.specs.Store.{StoreView, held}
-use Rattle.shm_fault.specs.Placing.{free_slot, own_slot, slot_owners}
+use Rattle.shm_fault.specs.Store.{StoreView, Still, held}
+use Rattle.shm_fault.specs.Placing.{places, after_moves, free_slot, own_slot, slot_owners, without_area, StopsMoving}
+use Rattle.shm_fault.specs.declared.touched.PagerFailed.{PagerFailed}
+use Rattle.shm_fault.specs.Counting.{AtRest}
+use Rattle.shm_fault.specs.Sound.{IsStoreSound}
+use Rattle.shm_fault.specs.Steps.{LockedPagesStay}
 
 -- another area has a free slot, for a page of this one
 abbrev pub HasFreeOutside : SwapView → ℕ → Type 0
@@ -52,3 +56,20 @@ pub record Relocates (page : PageRef) (from : Slot) (before after : SwapView) (r
 pub record IsCleared (k : Slot) (before after : SwapView) : Type 0 where
   pub free : owner_of after k.area k.slot ≡ None
   pub rest : (slot : ℕ) → owner_of before k.area slot ≡ None → owner_of after k.area slot ≡ None
+
+-- An area was turned off once its pages had moved, by rising slot number; or a pager failed, and the area stays with
+-- the pages that had not moved yet. No byte of a segment changes, and no page comes into a frame or leaves it.
+pub record MovesOff {A : Type 0} (area : ℕ) (s t : StoreView) (result : Result A PagerFailed) : Type 0 where
+  pub held : held t ≡ held s
+  pub gone : OnOk result (sizes t.swap ≡ set (sizes s.swap) area None)
+  pub kept_sizes : OnErr result (sizes t.swap ≡ sizes s.swap)
+  pub count : length t.frames ≡ length s.frames
+  pub cause : OnErr result (had_cause s.swap t.swap ≡ true)
+  pub moved : IfErr result (λ e. e.touched.moved.items ≡ [])
+  pub rest : AtRest s t
+  pub moves : OnOk result (places t ≡ without_area area (after_moves area (length (area_at s.swap area).pages) (places s)))
+  pub stopped : OnErr result (StopsMoving area (places s) (places t))
+  pub still : Still s t
+  pub kept : LockedPagesStay s t
+  pub counts : GoesOn s.swap t.swap
+  pub sound : IsStoreSound t

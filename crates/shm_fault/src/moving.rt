@@ -9,7 +9,7 @@ ghost use Rattle.shm_fault.specs.Steps.{LockedPagesStay};
 ghost use Rattle.shm_fault.specs.Goes.{Goes};
 ghost use Rattle.shm_fault.specs.Counting.{AtRest};
 ghost use Rattle.shm_fault.specs.Placing.{places, slot_owners, free_slot, moves_page, after_move, after_moves, without_area, StopsAtMove, StopsMoving};
-ghost use Rattle.shm_fault.specs.Moving.{HasFreeOutside, FitOutside, Relocates, IsCleared};
+ghost use Rattle.shm_fault.specs.Moving.{HasFreeOutside, FitOutside, Relocates, MovesOff, IsCleared};
 
 use crate::page_tables::PageRec;
 use crate::store::PageStore;
@@ -145,20 +145,7 @@ impl<P: Pager> PageStore<P> {
     pub fn move_off(&mut self, area: u32) -> Result<(), PagerFailed>
         requires there { (area_at self.old.swap area).here ≡ true }
         requires room { FitOutside self.old area }
-        ensures held { held self.new ≡ held self.old }
-        ensures gone { OnOk result (sizes self.new.swap ≡ set (sizes self.old.swap) area None) }
-        ensures sizes { OnErr result (sizes self.new.swap ≡ sizes self.old.swap) }
-        ensures count { length self.new.frames ≡ length self.old.frames }
-        ensures cause { OnErr result (had_cause self.old.swap self.new.swap ≡ true) }
-        ensures moved { IfErr result (λ e. e.touched.moved.items ≡ []) }
-        ensures rest { AtRest self.old self.new }
-        ensures places { let size = length (area_at self.old.swap area).pages in
-            OnOk result (places self.new ≡ without_area area (after_moves area size (places self.old))) }
-        ensures stopped { OnErr result (StopsMoving area (places self.old) (places self.new)) }
-        ensures still { Still self.old self.new }
-        ensures kept { LockedPagesStay self.old self.new }
-        ensures counts { GoesOn self.old.swap self.new.swap }
-        ensures sound { IsStoreSound self.new }
+        ensures { MovesOff area self.old self.new result }
     {
         let count = self.swap.size(area).unwrap_or(0);
         for slot in 0..count {
