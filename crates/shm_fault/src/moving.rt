@@ -1,14 +1,13 @@
 //! Swap areas that go, whose pages move to the other areas.
-ghost use Rattle.std.specs.Prelude.{◌≡◌, true, [], length, set, Some, None, IfOk, IfErr, OnOk, OnErr};
-ghost use Rattle.shm_slots.specs.View.{HasSlot, IsSwap, area_at, page_in, sizes};
-ghost use Rattle.shm_slots.specs.Cause.{GoesOn, had_cause};
+ghost use Rattle.std.specs.Prelude.{◌≡◌, true, Some, None, OnOk, OnErr};
+ghost use Rattle.shm_slots.specs.View.{HasSlot, IsSwap, area_at, page_in};
+ghost use Rattle.shm_slots.specs.Cause.{had_cause};
 ghost use Rattle.shm_fault.specs.Segs.{IsAt, rec_by};
-ghost use Rattle.shm_fault.specs.Store.{held, Still};
+ghost use Rattle.shm_fault.specs.Store.{Still};
 ghost use Rattle.shm_fault.specs.Sound.{IsStoreSound};
-ghost use Rattle.shm_fault.specs.Steps.{LockedPagesStay};
 ghost use Rattle.shm_fault.specs.Goes.{Goes};
 ghost use Rattle.shm_fault.specs.Counting.{AtRest};
-ghost use Rattle.shm_fault.specs.Placing.{places, slot_owners, free_slot, moves_page, after_move, after_moves, without_area, StopsAtMove, StopsMoving};
+ghost use Rattle.shm_fault.specs.Placing.{places, slot_owners, free_slot, moves_page, after_move, StopsAtMove};
 ghost use Rattle.shm_fault.specs.Moving.{HasFreeOutside, FitOutside, Relocates, MovesOff, IsCleared};
 
 use crate::page_tables::PageRec;

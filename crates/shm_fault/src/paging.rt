@@ -1,17 +1,18 @@
 //! Pages that come into a frame and leave it. Each step here keeps all bytes of all segments.
-ghost use Rattle.std.specs.Prelude.{◌≡◌, ◌≢◌, ℕ, ◌+◌, ◌<◌, ◌≤◌, ◌^◌, true, false, not, [], length, set, Option, Some, None, ◌&&◌, is_ok, is_some, IfOk, OnOk, OnErr, IsSome, MatchOption, MatchResult};
+ghost use Rattle.std.specs.Prelude.{◌≡◌, ◌≢◌, ℕ, ◌+◌, ◌<◌, ◌≤◌, ◌^◌, true, false, not, [], length, set, Option, Some, None, ◌&&◌, is_ok, is_some, IfOk, OnOk, OnErr, IsSome, MatchOption};
 ghost use Rattle.shm_base.specs.declared.paging.PageRef.{PageRef as Ref};
 ghost use Rattle.shm_slots.specs.View.{SameSlots, HasSlot, IsFirstFree, IsSwap, sizes};
 ghost use Rattle.shm_slots.specs.Cause.{had_cause, total, GoesOn};
 ghost use Rattle.shm_frames.specs.Frame.{frame_at, no_frame, OwnedBelow};
 ghost use Rattle.shm_clock.specs.Clock.{may_go, candidates, victim_of, passed_by, unset_all, next, IsClockVictim};
 ghost use Rattle.shm_fault.specs.Segs.{rec_by, HasPage, IsAt, with_rec};
-ghost use Rattle.shm_fault.specs.Store.{Still, IsFreeFrame, marked, slot_bytes};
+ghost use Rattle.shm_fault.specs.Store.{Still, marked, slot_bytes};
 ghost use Rattle.shm_fault.specs.Sound.{IsStoreSound};
-ghost use Rattle.shm_fault.specs.Counting.{raised, one_if, CountsOn, victim_by, turned, hand_for_frame};
-ghost use Rattle.shm_fault.specs.Placing.{places, slotted, with_bit, after_page_out, vacated, after_turn, victim_in, after_clean, after_eviction, after_room, frame_for, settled, referenced, after_visit, StopsAt, StopsAtWrite};
+ghost use Rattle.shm_fault.specs.Counting.{raised, one_if, victim_by, turned};
+ghost use Rattle.shm_fault.specs.Placing.{places, slotted, with_bit, vacated, after_turn, victim_in, settled, referenced, after_visit, StopsAt};
 ghost use Rattle.shm_fault.specs.Access.{Visited};
-ghost use Rattle.shm_fault.specs.Goes.{Goes, StaysAway, Alike, Visits, MovesOn, IsSeenIn, OnlyMoves, IsSlotOf, OnlyWrites, CountsWrite, referenced_at, unlocked, frame_by};
+ghost use Rattle.shm_fault.specs.Paging.{PagesOut, Cleans, Evicts, MakesRoom, ComesIn};
+ghost use Rattle.shm_fault.specs.Goes.{Goes, StaysAway, Alike, Visits, IsSeenIn, OnlyMoves, IsSlotOf, CountsWrite, referenced_at, unlocked, frame_by};
 
 use crate::page_tables::{PageRec, PageTables};
 use crate::store::PageStore;
@@ -149,16 +150,7 @@ impl<P: Pager> PageStore<P> {
         requires there { frame < length self.old.frames }
         requires owned { IsSome (frame_at self.old.frames frame).owner }
         requires dirty { (frame_at self.old.frames frame).dirty ≡ true }
-        ensures frames { self.new.frames ≡ marked self.old.frames frame (not (is_ok result)) }
-        ensures rest { OnlyWrites self.old self.new }
-        ensures outs { self.new.outs ≡ raised self.old.outs (one_if (is_ok result)) }
-        ensures still { Still self.old self.new }
-        ensures away { StaysAway self.old self.new }
-        ensures goes { Goes self.old self.new }
-        ensures cause { OnErr result (had_cause self.old.swap self.new.swap ≡ true) }
-        ensures counted { CountsWrite (is_ok result) self.old self.new }
-        ensures placed { places self.new ≡ after_page_out frame (is_ok result) (places self.old) }
-        ensures sound { IsStoreSound self.new }
+        ensures { PagesOut frame self.old self.new result }
     {
         let slot = self.slot_for(frame);
         self.write_back(frame, slot)
@@ -217,19 +209,7 @@ impl<P: Pager> PageStore<P> {
     fn clean(&mut self, frame: FrameNo) -> Result<bool, PagerFault>
         requires there { frame < length self.old.frames }
         requires owned { IsSome (frame_at self.old.frames frame).owner }
-        ensures ok { OnOk result (self.new.frames ≡ marked self.old.frames frame false) }
-        ensures err { OnErr result (self.new.frames ≡ self.old.frames) }
-        ensures written { IfOk result (λ w. w ≡ (frame_at self.old.frames frame).dirty) }
-        ensures rest { OnlyWrites self.old self.new }
-        ensures outs { let written = is_ok result && (frame_at self.old.frames frame).dirty in
-            self.new.outs ≡ raised self.old.outs (one_if written) }
-        ensures placed { OnOk result (places self.new ≡ after_clean frame (places self.old)) }
-        ensures stopped { OnErr result (places self.new ≡ after_page_out frame false (places self.old)) }
-        ensures dirty { OnErr result ((frame_at self.old.frames frame).dirty ≡ true) }
-        ensures still { Still self.old self.new }
-        ensures away { StaysAway self.old self.new }
-        ensures goes { Goes self.old self.new }
-        ensures cause { OnErr result (had_cause self.old.swap self.new.swap ≡ true) }
+        ensures { Cleans frame self.old self.new result }
     {
         if !self.frames.is_dirty(frame) {
             return Ok(false);
@@ -242,18 +222,7 @@ impl<P: Pager> PageStore<P> {
     // stands behind that frame then, also after a failure.
     fn evict(&mut self, pinned: Option<FrameNo>) -> Result<Evicted, PagerFault>
         requires full { OwnedBelow self.old.frames (length self.old.frames) }
-        ensures visits { (r : Ref) → Visits r pinned self.old self.new }
-        ensures gone { IfOk result (λ e. OnlyMoves e.page None self.old self.new) }
-        ensures free { IfOk result (λ e. IsFreeFrame self.new.frames e.frame) }
-        ensures err { OnErr result (Still self.old self.new) }
-        ensures hand { self.new.hand ≡ turned self.old pinned }
-        ensures ins { self.new.ins ≡ self.old.ins }
-        ensures outs { let outs = self.old.outs in
-            MatchResult result (λ e. self.new.outs ≡ raised outs (one_if e.written)) (λ _. self.new.outs ≡ outs) }
-        ensures placed { OnOk result (places self.new ≡ after_eviction pinned (places self.old)) }
-        ensures chosen { IfOk result (λ e. e.frame ≡ victim_in pinned (places self.old)) }
-        ensures stopped { OnErr result (StopsAtWrite pinned (places self.old) (places self.new)) }
-        ensures cause { OnErr result (had_cause self.old.swap self.new.swap ≡ true) }
+        ensures { Evicts pinned self.old self.new result }
     {
         let frame = self.turn(pinned);
         let written = self.clean(frame)?;
@@ -327,20 +296,7 @@ impl<P: Pager> PageStore<P> {
         requires away { frame_by self.old page ≡ None }
         requires room { length touched.old.moved.items < 4 }
         requires small { touched.old.ins < 2 ^ 32 }
-        ensures here { OnOk result (frame_by self.new page ≡ Some frame) }
-        ensures bit { OnOk result (referenced_at self.new frame ≡ true) }
-        ensures visits { (pinned : Option ℕ) → Visits page pinned self.old self.new }
-        ensures moves { MovesOn touched.old.moved.items touched.new.moved.items self.old self.new }
-        ensures few { length touched.new.moved.items ≤ length touched.old.moved.items + 1 }
-        ensures ins { let read = is_ok result && is_some (rec_by self.old.segs page).slot in
-            touched.new.ins ≡ touched.old.ins + one_if read }
-        ensures outs { touched.new.outs ≡ touched.old.outs }
-        ensures counts { CountsOn touched.old touched.new self.old self.new }
-        ensures hand { self.new.hand ≡ self.old.hand }
-        ensures placed { OnOk result (places self.new ≡ settled page frame (places self.old)) }
-        ensures stopped { OnErr result (places self.new ≡ places self.old) }
-        ensures slot { OnErr result (is_some (rec_by self.old.segs page).slot ≡ true) }
-        ensures cause { OnErr result (had_cause self.old.swap self.new.swap ≡ true) }
+        ensures { ComesIn frame page self.old self.new touched.old touched.new result }
     {
         let table = self.segs.table_of(page);
         let slot = self.segs.page_in(table, page).slot;
@@ -359,18 +315,7 @@ impl<P: Pager> PageStore<P> {
     ) -> Result<FrameNo, PagerFault>
         requires room { length touched.old.moved.items < 4 }
         requires small { touched.old.outs < 2 ^ 32 }
-        ensures free { IfOk result (IsFreeFrame self.new.frames) }
-        ensures visits { (page : Ref) → Visits page pinned self.old self.new }
-        ensures moves { MovesOn touched.old.moved.items touched.new.moved.items self.old self.new }
-        ensures few { length touched.new.moved.items ≤ length touched.old.moved.items + 1 }
-        ensures ins { touched.new.ins ≡ touched.old.ins }
-        ensures outs { touched.new.outs ≤ touched.old.outs + 1 }
-        ensures counts { CountsOn touched.old touched.new self.old self.new }
-        ensures hand { self.new.hand ≡ hand_for_frame self.old pinned }
-        ensures placed { OnOk result (places self.new ≡ after_room pinned (places self.old)) }
-        ensures chosen { IfOk result (λ f. f ≡ frame_for pinned (places self.old)) }
-        ensures stopped { OnErr result (StopsAtWrite pinned (places self.old) (places self.new)) }
-        ensures cause { OnErr result (had_cause self.old.swap self.new.swap ≡ true) }
+        ensures { MakesRoom pinned self.old self.new touched.old touched.new result }
     {
         if let Some(frame) = self.frames.free_frame() {
             return Ok(frame);

@@ -1,4 +1,4 @@
-use Rattle.shm_fault.proofs.Names.{◌≡◌, arith, common_steps, refl, rec_by, Given}
+use Rattle.shm_fault.proofs.Names.{arith, common_steps, refl, rec_by, Given}
 use Rattle.shm_fault.proofs.Seen.{seen}
 use Rattle.shm_fault.proofs.Sound.{frame-own, slot-own}
 use Rattle.shm_fault.proofs.Drops.{with-same, Forgets, forgets}
