@@ -20,7 +20,8 @@ emptied frames (Some f) = set frames f (record no_frame { bytes = (frame_at fram
 
 -- the slot was given back, where there is one
 abbrev pub Given : SwapView → Option Slot → SwapView → Type 0
-Given before slot after = MatchOption slot (after ≡ before) (λ k. after ≡ without_slot before k (page_in after k.area k.slot))
+Given before slot after =
+    MatchOption slot (after ≡ before) (λ k. after ≡ without_slot before k (page_in after k.area k.slot))
 
 abbrev pub FrameThere : List Frame → Option ℕ → Type 0
 FrameThere frames frame = (f : ℕ) → frame ≡ Some f → f < length frames
@@ -46,7 +47,8 @@ abbrev pub LeavesFrames : ℕ → List Frame → List Frame → Type 0
 LeavesFrames seg before after = (f : ℕ) → (frame_at after f).owner ≡ disowned seg (frame_at before f).owner
 
 abbrev pub LeavesSlots : ℕ → SwapView → SwapView → Type 0
-LeavesSlots seg before after = (area slot : ℕ) → owner_of after area slot ≡ disowned seg (owner_of before area slot)
+LeavesSlots seg before after =
+    (area slot : ℕ) → owner_of after area slot ≡ disowned seg (owner_of before area slot)
 
 -- the first pages of a segment are nowhere, and all else is as it was
 pub record Dropped (seg n : ℕ) (s t : StoreView) : Type 0 where

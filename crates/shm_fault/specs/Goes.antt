@@ -40,7 +40,8 @@ pub record Alike (x y : Frame) : Type 0 where
 
 -- pages of locked segments stay resident
 abbrev pub KeepsLocked : StoreView → StoreView → Type 0
-KeepsLocked s t = (r : PageRef) → locked_by s.segs r.seg ≡ true → is_some (rec_by s.segs r).frame ≡ true → is_some (rec_by t.segs r).frame ≡ true
+KeepsLocked s t = (r : PageRef) → locked_by s.segs r.seg ≡ true
+    → is_some (rec_by s.segs r).frame ≡ true → is_some (rec_by t.segs r).frame ≡ true
 
 -- the page's segment is not locked
 abbrev pub unlocked : List SegRec → PageRef → Bool

@@ -40,11 +40,13 @@ pub record IsRelocated (page : PageRef) (from to : Slot) (before after : SwapVie
   pub owners : (k : Slot) → k ≢ from → k ≢ to → owner_of after k.area k.slot ≡ owner_of before k.area k.slot
   pub pages : (k : Slot) → k ≢ from → k ≢ to → page_in after k.area k.slot ≡ page_in before k.area k.slot
 
--- what is left where a page was to move from its slot to another area: where a pager failed, all slots as they were
-pub record Relocates (page : PageRef) (from : Slot) (before after : SwapView) (result : Result Slot PagerFault) : Type 0 where
+-- what moving a page from its slot to another area leaves; where a pager failed, all slots are as they were
+pub record Relocates
+    (page : PageRef) (from : Slot) (before after : SwapView) (result : Result Slot PagerFault) : Type 0 where
   pub ok : IfOk result (λ to. IsRelocated page from to before after)
   pub found : IfOk result (λ to. free_slot (Some from.area) (slot_owners before) ≡ Some to)
-  pub owners : IfOk result (λ to. slot_owners after ≡ own_slot (own_slot (slot_owners before) to (Some page)) from None)
+  pub owners : IfOk result (λ to.
+      slot_owners after ≡ own_slot (own_slot (slot_owners before) to (Some page)) from None)
   pub err : OnErr result (SameOwned before after)
   pub same : OnErr result (slot_owners after ≡ slot_owners before)
   pub cause : OnErr result (had_cause before after ≡ true)
@@ -57,8 +59,8 @@ pub record IsCleared (k : Slot) (before after : SwapView) : Type 0 where
   pub free : owner_of after k.area k.slot ≡ None
   pub rest : (slot : ℕ) → owner_of before k.area slot ≡ None → owner_of after k.area slot ≡ None
 
--- An area was turned off once its pages had moved, by rising slot number; or a pager failed, and the area stays with
--- the pages that had not moved yet. No byte of a segment changes, and no page comes into a frame or leaves it.
+-- An area is turned off once its pages have moved, by rising slot number. Where a pager failed the area stays,
+-- with the pages that had not moved yet. No byte of a segment changes, and no page enters or leaves a frame.
 pub record MovesOff {A : Type 0} (area : ℕ) (s t : StoreView) (result : Result A PagerFailed) : Type 0 where
   pub held : held t ≡ held s
   pub gone : OnOk result (sizes t.swap ≡ set (sizes s.swap) area None)
@@ -67,7 +69,8 @@ pub record MovesOff {A : Type 0} (area : ℕ) (s t : StoreView) (result : Result
   pub cause : OnErr result (had_cause s.swap t.swap ≡ true)
   pub moved : IfErr result (λ e. e.touched.moved.items ≡ [])
   pub rest : AtRest s t
-  pub moves : OnOk result (places t ≡ without_area area (after_moves area (length (area_at s.swap area).pages) (places s)))
+  pub moves : OnOk result
+      (places t ≡ without_area area (after_moves area (length (area_at s.swap area).pages) (places s)))
   pub stopped : OnErr result (StopsMoving area (places s) (places t))
   pub still : Still s t
   pub kept : LockedPagesStay s t

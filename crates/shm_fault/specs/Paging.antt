@@ -41,7 +41,8 @@ pub record Cleans {E : Type 0} (frame : ℕ) (s t : StoreView) (result : Result 
   pub cause : OnErr result (had_cause s.swap t.swap ≡ true)
 
 -- the page that had to go left its frame
-pub record Evicts {E : Type 0} (pinned : Option ℕ) (s t : StoreView) (result : Result Evicted E) : Type 0 where
+pub record Evicts
+    {E : Type 0} (pinned : Option ℕ) (s t : StoreView) (result : Result Evicted E) : Type 0 where
   pub visits : (r : PageRef) → Visits r pinned s t
   pub gone : IfOk result (λ e. OnlyMoves e.page None s t)
   pub free : IfOk result (λ e. IsFreeFrame t.frames e.frame)
@@ -55,7 +56,8 @@ pub record Evicts {E : Type 0} (pinned : Option ℕ) (s t : StoreView) (result :
   pub cause : OnErr result (had_cause s.swap t.swap ≡ true)
 
 -- a frame is free
-pub record MakesRoom {E : Type 0} (pinned : Option ℕ) (s t : StoreView) (u v : Touched) (result : Result ℕ E) : Type 0 where
+pub record MakesRoom
+    {E : Type 0} (pinned : Option ℕ) (s t : StoreView) (u v : Touched) (result : Result ℕ E) : Type 0 where
   pub free : IfOk result (IsFreeFrame t.frames)
   pub visits : (page : PageRef) → Visits page pinned s t
   pub moves : MovesOn u.moved.items v.moved.items s t
@@ -70,7 +72,9 @@ pub record MakesRoom {E : Type 0} (pinned : Option ℕ) (s t : StoreView) (u v :
   pub cause : OnErr result (had_cause s.swap t.swap ≡ true)
 
 -- a page came into a free frame
-pub record ComesIn {A E : Type 0} (frame : ℕ) (page : PageRef) (s t : StoreView) (u v : Touched) (result : Result A E) : Type 0 where
+pub record ComesIn
+    {A E : Type 0} (frame : ℕ) (page : PageRef) (s t : StoreView) (u v : Touched)
+    (result : Result A E) : Type 0 where
   pub here : OnOk result (frame_by t page ≡ Some frame)
   pub bit : OnOk result (referenced_at t frame ≡ true)
   pub visits : (pinned : Option ℕ) → Visits page pinned s t

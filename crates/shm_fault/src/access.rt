@@ -12,7 +12,7 @@ ghost use Rattle.shm_fault.specs.Store.{held, ref_of};
 ghost use Rattle.shm_fault.specs.Sound.{IsStoreSound};
 ghost use Rattle.shm_fault.specs.Goes.{frame_by, referenced_at};
 ghost use Rattle.shm_fault.specs.Placing.{places, with_bit, with_dirty, after_access, Stops, NoneDirtied, AreDirtied};
-ghost use Rattle.shm_fault.specs.Access.{NameFrames, NamesFrame, IsUntouched, AreIn, Brings, Accessed, answer_of};
+ghost use Rattle.shm_fault.specs.Access.{NameFrames, NamesFrame, IsUntouched, AreIn, Brings, Reads, Writes, answer_of};
 ghost use Rattle.shm_fault.specs.Adding.{number_in, added};
 
 use crate::store::PageStore;
@@ -241,12 +241,7 @@ impl<P: Pager> PageStore<P> {
         requires spans { IsAccess (FitsPage (held self.old)) spans.now (length out.old) }
         requires frames { NameFrames self.old spans.now }
         requires none { IsUntouched touched.old }
-        ensures bytes { OnOk result (out.new ≡ read_from (held self.old) spans.now) }
-        ensures held { held self.new ≡ held self.old }
-        ensures access { Accessed spans.now self.old self.new (answer_of touched.new result) }
-        ensures clean { NoneDirtied self.old.frames self.new.frames }
-        ensures places { OnOk result (places self.new ≡ after_access spans.now (places self.old)) }
-        ensures stopped { OnErr result (Stops spans.now (places self.old) (places self.new)) }
+        ensures { Reads spans.now self.old self.new out.new result (answer_of touched.new result) }
     {
         let here = self.bring_spans(spans, touched)?;
         self.copy_spans(spans, here, out);
@@ -257,12 +252,7 @@ impl<P: Pager> PageStore<P> {
     pub fn read(&mut self, spans: &[Span], out: &mut [u8]) -> Result<Touched, PagerFailed>
         requires spans { IsAccess (FitsPage (held self.old)) spans.now (length out.old) }
         requires frames { NameFrames self.old spans.now }
-        ensures bytes { OnOk result (out.new ≡ read_from (held self.old) spans.now) }
-        ensures held { held self.new ≡ held self.old }
-        ensures access { Accessed spans.now self.old self.new result }
-        ensures clean { NoneDirtied self.old.frames self.new.frames }
-        ensures places { OnOk result (places self.new ≡ after_access spans.now (places self.old)) }
-        ensures stopped { OnErr result (Stops spans.now (places self.old) (places self.new)) }
+        ensures { Reads spans.now self.old self.new out.new result result }
     {
         let mut touched = Touched::none();
         match self.read_with(spans, out, &mut touched) {
@@ -284,14 +274,8 @@ impl<P: Pager> PageStore<P> {
         requires spans { IsAccess (FitsPage (held self.old)) spans.now (length bytes.now) }
         requires frames { NameFrames self.old spans.now }
         requires none { IsUntouched touched.old }
-        ensures written { OnOk result (held self.new ≡ written (held self.old) spans.now bytes.now) }
-        ensures same { OnErr result (held self.new ≡ held self.old) }
-        ensures access { Accessed spans.now self.old self.new (answer_of touched.new result) }
-        ensures dirtied { OnOk result (AreDirtied spans.now self.old self.new) }
-        ensures clean { OnErr result (NoneDirtied self.old.frames self.new.frames) }
-        ensures places { let came = after_access spans.now (places self.old) in
-            OnOk result (places self.new ≡ with_dirty spans.now came) }
-        ensures stopped { OnErr result (Stops spans.now (places self.old) (places self.new)) }
+        ensures { let after = written (held self.old) spans.now bytes.now in
+            Writes spans.now self.old self.new after result (answer_of touched.new result) }
     {
         let here = self.bring_spans(spans, touched)?;
         self.store_spans(spans, here, bytes);
@@ -302,14 +286,8 @@ impl<P: Pager> PageStore<P> {
     pub fn write(&mut self, spans: &[Span], bytes: &[u8]) -> Result<Touched, PagerFailed>
         requires spans { IsAccess (FitsPage (held self.old)) spans.now (length bytes.now) }
         requires frames { NameFrames self.old spans.now }
-        ensures written { OnOk result (held self.new ≡ written (held self.old) spans.now bytes.now) }
-        ensures same { OnErr result (held self.new ≡ held self.old) }
-        ensures access { Accessed spans.now self.old self.new result }
-        ensures dirtied { OnOk result (AreDirtied spans.now self.old self.new) }
-        ensures clean { OnErr result (NoneDirtied self.old.frames self.new.frames) }
-        ensures places { let came = after_access spans.now (places self.old) in
-            OnOk result (places self.new ≡ with_dirty spans.now came) }
-        ensures stopped { OnErr result (Stops spans.now (places self.old) (places self.new)) }
+        ensures { let after = written (held self.old) spans.now bytes.now in
+            Writes spans.now self.old self.new after result result }
     {
         let mut touched = Touched::none();
         match self.write_with(spans, bytes, &mut touched) {
@@ -319,8 +297,8 @@ impl<P: Pager> PageStore<P> {
     }
 
     /// Adds to the eight little-endian bytes of at most two spans, modulo 2^64, once all their pages are
-    /// resident; `old` is then the number before the addition, and unknown after an error. Pages come in once,
-    /// as for [`PageStore::read_with`], and on an error no byte of any segment has changed.
+    /// resident; `old` is then the number before the addition, and unknown after an error. Pages come in
+    /// once, as for [`PageStore::read_with`], and on an error no byte of any segment has changed.
     #[inline(always)]
     pub fn add_with(
         &mut self,
@@ -333,14 +311,8 @@ impl<P: Pager> PageStore<P> {
         requires frames { NameFrames self.old spans.now }
         requires none { IsUntouched touched.old }
         ensures number { OnOk result (old.new ≡ number_in (held self.old) spans.now) }
-        ensures written { OnOk result (held self.new ≡ added (held self.old) spans.now more) }
-        ensures same { OnErr result (held self.new ≡ held self.old) }
-        ensures access { Accessed spans.now self.old self.new (answer_of touched.new result) }
-        ensures dirtied { OnOk result (AreDirtied spans.now self.old self.new) }
-        ensures clean { OnErr result (NoneDirtied self.old.frames self.new.frames) }
-        ensures places { let came = after_access spans.now (places self.old) in
-            OnOk result (places self.new ≡ with_dirty spans.now came) }
-        ensures stopped { OnErr result (Stops spans.now (places self.old) (places self.new)) }
+        ensures stored { let after = added (held self.old) spans.now more in
+            Writes spans.now self.old self.new after result (answer_of touched.new result) }
     {
         let here = self.bring_spans(spans, touched)?;
         let mut bytes = [0; 8];

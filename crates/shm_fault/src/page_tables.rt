@@ -166,8 +166,8 @@ impl PageTables {
         }
     }
 
-    /// The number of a page's table, which stays until a segment comes or goes. A caller that keeps it need not
-    /// look for the segment again.
+    /// The number of a page's table, which stays until a segment comes or goes. A caller that keeps it need
+    /// not look for the segment again.
     pub(crate) fn table_of(&self, page: PageRef) -> usize
         requires { HasPage self.now page }
         ensures { IsAt self.now result page.seg }

@@ -43,10 +43,10 @@ fn choose(
     requires one { candidates (unlocked segs.now) pinned frames.old hand.old ≢ [] }
     ensures clock { let may = may_go (unlocked segs.now) pinned frames.old in
         IsClockVictim may hand.old frames.old result frames.new }
-    ensures victim { let frame_numbers = candidates (unlocked segs.now) pinned frames.old hand.old in
-        result ≡ victim_of frames.old frame_numbers }
-    ensures bits { let frame_numbers = candidates (unlocked segs.now) pinned frames.old hand.old in
-        frames.new ≡ unset_all frames.old (passed_by frames.old frame_numbers) }
+    ensures victim { let going = candidates (unlocked segs.now) pinned frames.old hand.old in
+        result ≡ victim_of frames.old going }
+    ensures bits { let going = candidates (unlocked segs.now) pinned frames.old hand.old in
+        frames.new ≡ unset_all frames.old (passed_by frames.old going) }
     ensures hand { hand.new ≡ next (length frames.old) result }
 {
     let eligible = |page: PageRef| !segs.is_locked(page.seg);
