@@ -64,22 +64,29 @@ distance hand n i = if nat_lt i hand then n - hand + i else i - hand
 -- whether the hand passes a frame before it stops at the victim
 abbrev pub is_passed : ℕ → List Frame → ℕ → ℕ → Bool
 is_passed hand frames victim i =
-    nat_lt (distance hand (length frames) i) (distance hand (length frames) victim) || is_referenced frames victim
+    nat_lt (distance hand (length frames) i) (distance hand (length frames) victim)
+    || is_referenced frames victim
 
 -- what the rule says of the victim and of each frame, where `may` tests whether a frame may be taken
-pub record IsClockVictim (may : ℕ → Bool) (hand : ℕ) (before : List Frame) (victim : ℕ) (after : List Frame) : Type 0 where
+pub record IsClockVictim
+    (may : ℕ → Bool) (hand : ℕ) (before : List Frame) (victim : ℕ) (after : List Frame) : Type 0 where
   pub there : victim < length before
   pub eligible : may victim ≡ true
   -- no eligible frame before it had a clear bit
   pub passed :
-      (i : ℕ) → i < length before → may i ≡ true → distance hand (length before) i < distance hand (length before) victim
+      (i : ℕ) → i < length before → may i ≡ true
+      → distance hand (length before) i < distance hand (length before) victim
       → is_referenced before i ≡ true
   -- if its own bit was set, so was every eligible frame's, and no eligible frame stands before it
   pub last_resort :
       is_referenced before victim ≡ true → (i : ℕ) → i < length before → may i ≡ true
-      → (is_referenced before i ≡ true) × (distance hand (length before) victim ≤ distance hand (length before) i)
+      → (is_referenced before i ≡ true)
+      × (distance hand (length before) victim ≤ distance hand (length before) i)
   -- the bits of eligible frames that were passed become clear, and nothing else changes
   pub bits :
       (i : ℕ) → i < length before
-      → frame_at after i ≡ record (frame_at before i) { referenced = is_referenced before i && not (may i && is_passed hand before victim i) }
+      → frame_at after i
+      ≡ record (frame_at before i) {
+        referenced = is_referenced before i && not (may i && is_passed hand before victim i);
+      }
   pub size : length after ≡ length before

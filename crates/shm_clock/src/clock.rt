@@ -35,7 +35,8 @@ fn may_go<E: Fn(PageRef) -> bool>(
     ghost passes: { PageRef → Bool }
     requires there { frame < length frames.now }
     requires callable { E.IsAlwaysCallable eligible.now }
-    requires answers { (page : PageRef) (answer : Bool) → E.post eligible.now page answer → answer ≡ passes page }
+    requires answers { (page : PageRef) (answer : Bool)
+        → E.post eligible.now page answer → answer ≡ passes page }
     ensures { result ≡ may_go passes pinned frames.now frame }
 {
     let is_pinned = match pinned {
@@ -60,14 +61,17 @@ fn turn<E: Fn(PageRef) -> bool>(
     ghost passes: { PageRef → Bool }
     requires hand { hand < length frames.old }
     requires callable { E.IsAlwaysCallable eligible.now }
-    requires answers { (page : PageRef) (answer : Bool) → E.post eligible.now page answer → answer ≡ passes page }
+    requires answers { (page : PageRef) (answer : Bool)
+        → E.post eligible.now page answer → answer ≡ passes page }
     requires one { candidates passes pinned frames.old hand ≢ [] }
     requires countable { looks.old + length frames.old < 2 ^ 64 }
     ensures victim { result ≡ victim_of frames.old (candidates passes pinned frames.old hand) }
-    ensures bits { frames.new ≡ unset_all frames.old (passed_by frames.old (candidates passes pinned frames.old hand)) }
+    ensures bits { let going = candidates passes pinned frames.old hand in
+        frames.new ≡ unset_all frames.old (passed_by frames.old going) }
     ensures there { result < length frames.old }
     ensures looks { looks.new ≤ looks.old + length frames.old }
-    ensures counted { looks.new ≡ looks.old + looked_at frames.old (candidates passes pinned frames.old hand) result }
+    ensures counted { let going = candidates passes pinned frames.old hand in
+        looks.new ≡ looks.old + looked_at frames.old going result }
 {
     let count = frames.count();
     let mut first = None;
@@ -102,20 +106,23 @@ pub fn victim<E: Fn(PageRef) -> bool>(
     ghost passes: { PageRef → Bool }
     requires hand { hand.old < length frames.old }
     requires callable { E.IsAlwaysCallable eligible.now }
-    requires answers { (page : PageRef) (answer : Bool) → E.post eligible.now page answer → answer ≡ passes page }
+    requires answers { (page : PageRef) (answer : Bool)
+        → E.post eligible.now page answer → answer ≡ passes page }
     requires one { candidates passes pinned frames.old hand.old ≢ [] }
     requires countable { looks.old + length frames.old < 2 ^ 64 }
 
     // The rule as a list of frames: who is taken, which bits become clear, and where the hand stands.
     ensures victim { result ≡ victim_of frames.old (candidates passes pinned frames.old hand.old) }
-    ensures bits { frames.new ≡ unset_all frames.old (passed_by frames.old (candidates passes pinned frames.old hand.old)) }
+    ensures bits { let going = candidates passes pinned frames.old hand.old in
+        frames.new ≡ unset_all frames.old (passed_by frames.old going) }
     ensures hand { hand.new ≡ next (length frames.old) result }
 
     // The same, frame by frame.
     ensures clock { IsClockVictim (may_go passes pinned frames.old) hand.old frames.old result frames.new }
 
     ensures looks { looks.new ≤ looks.old + length frames.old }
-    ensures counted { looks.new ≡ looks.old + looked_at frames.old (candidates passes pinned frames.old hand.old) result }
+    ensures counted { let going = candidates passes pinned frames.old hand.old in
+        looks.new ≡ looks.old + looked_at frames.old going result }
 {
     let count = frames.count();
     let frame = turn(frames, *hand, eligible, pinned, looks);

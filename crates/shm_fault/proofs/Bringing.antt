@@ -1,5 +1,6 @@
 -- What an access leaves, put together from the visits to its pages.
 use Rattle.shm_fault.proofs.Names.{◌≡◌, ◌≢◌, ℕ, map, ◌≤◌, ◌+◌, Bool, true, false, ◌&&◌, cond, List, [], ◌∷◌, length, get_or, Option, Some, None, is_some, Result, Ok, Err, is_ok, OnErr, refl, sym, ap, ◌∙◌, arith, All, IsSome, false≢true, PageRef, Span, holds_locked, SwapView, Frame, frame_at, PageRec, Touched, SegRec, rec_by, locked_by, StoreView, held_by, page_of, ref_of, is_swapped, IsResident, pages_among, swapped_among, same_page, LockedPagesStay, KeepsLocked, Visits, frame_by, referenced_at, InFrames, PagerFailed, IsStoreSound, raised, one_if, hand_after, Visited, AreIn, Brings, Accessed, IsUntouched, nat_tests, common_steps}
+use Rattle.shm_fault.specs.Access.{answer_of}
 use Rattle.shm_fault.proofs.Written.{no_span}
 use Rattle.shm_fault.specs.Store.{held, frame_of}
 use Rattle.shm_fault.proofs.Sound.{Goes-trans, KeepsLocked-trans, cause-after}
@@ -46,19 +47,21 @@ module _ (p : Span) (s t : StoreView) (u v : Touched) (ok : Bool) (none : IsUnto
   brings-one = record {
     goes = w.visits.goes;
     kept = w.visits.kept;
-    moves = w.moves s (λ seg page. rw none.0 refl);
-    few = few-one;
-    ins_few = omega (arith, ins-one);
-    outs_few = omega (arith, w.outs, none.2);
-    read_in = read-in-one;
-    written_out = written-out-one;
-    turns = record {
-      still = λ all. w.hand ∙ hand-known s None (frame_by s (ref_of p)) (resident-at s p (all 0 p (omega arith)));
-      one = λ q e. let same : p ≡ q = cc in rw (← same) w.hand;
+    paged = record {
+      moves = w.moves s (λ seg page. rw none.0 refl);
+      few = few-one;
+      ins_few = omega (arith, ins-one);
+      outs_few = omega (arith, w.outs, none.2);
+      read_in = read-in-one;
+      written_out = written-out-one;
+      turns = record {
+        still = λ all. w.hand ∙ hand-known s None (frame_by s (ref_of p)) (resident-at s p (all 0 p (omega arith)));
+        one = λ q e. let same : p ≡ q = cc in rw (← same) w.hand;
+      };
+      swapped = λ e. grind (arith, nat_tests, e, w.ins);
+      quiet = λ all. quiet-one (resident-at s p (all 0 p (omega arith)));
+      cause = w.cause;
     };
-    swapped = λ e. grind (arith, nat_tests, e, w.ins);
-    quiet = λ all. quiet-one (resident-at s p (all 0 p (omega arith)));
-    cause = w.cause;
   }
 
 same_page-ref : (p q : Span) → same_page p q ≡ true → ref_of q ≡ ref_of p
@@ -129,16 +132,18 @@ module _ (p q : Span) (s t z : StoreView) (f : ℕ) (u v w : Touched) (ok : Bool
   brings-two = record {
     goes = Goes-trans s t z one.visits.goes two.visits.goes;
     kept = KeepsLocked-trans s t z one.visits.goes.shape one.visits.kept two.visits.kept;
-    moves = moves-trans u.moved.items v.moved.items w.moved.items s t z one.moves two.moves s (λ seg page. rw none.0 refl);
-    few = let a = one.few in let b = two.few in let y : length u.moved.items ≡ 0 = rw none.0 refl in omega (arith, a, b, y);
-    ins_few = ins-le;
-    outs_few = outs-le;
-    read_in = two.counts.ins s.ins (read-in-one p s t u v true none one);
-    written_out = two.counts.outs s.outs (written-out-one p s t u v true none one);
-    turns = record { still = both-still; one = λ r e. cc };
-    swapped = swapped-le;
-    quiet = both-quiet;
-    cause = λ e. cause-after s t z one.visits.goes two.visits.goes (two.cause e);
+    paged = record {
+      moves = moves-trans u.moved.items v.moved.items w.moved.items s t z one.moves two.moves s (λ seg page. rw none.0 refl);
+      few = let a = one.few in let b = two.few in let y : length u.moved.items ≡ 0 = rw none.0 refl in omega (arith, a, b, y);
+      ins_few = ins-le;
+      outs_few = outs-le;
+      read_in = two.counts.ins s.ins (read-in-one p s t u v true none one);
+      written_out = two.counts.outs s.outs (written-out-one p s t u v true none one);
+      turns = record { still = both-still; one = λ r e. cc };
+      swapped = swapped-le;
+      quiet = both-quiet;
+      cause = λ e. cause-after s t z one.visits.goes two.visits.goes (two.cause e);
+    };
   }
 
 -- the first of two pages was not brought in
@@ -151,16 +156,18 @@ brings-not p q s t u v none w =
     record {
       goes = one.goes;
       kept = one.kept;
-      moves = one.moves;
-      few = one.few;
-      ins_few = omega (arith, ins-one p s t u v false none w, least);
-      outs_few = omega (arith, w.outs, none.2, least);
-      read_in = one.read_in;
-      written_out = one.written_out;
-      turns = record { still = λ all. absurd (false≢true (never all)); one = λ r e. cc };
-      swapped = λ e. absurd (false≢true e);
-      quiet = λ all. absurd (false≢true (never all));
-      cause = w.cause;
+      paged = record {
+        moves = one.paged.moves;
+        few = one.paged.few;
+        ins_few = omega (arith, ins-one p s t u v false none w, least);
+        outs_few = omega (arith, w.outs, none.2, least);
+        read_in = one.paged.read_in;
+        written_out = one.paged.written_out;
+        turns = record { still = λ all. absurd (false≢true (never all)); one = λ r e. cc };
+        swapped = λ e. absurd (false≢true e);
+        quiet = λ all. absurd (false≢true (never all));
+        cause = w.cause;
+      };
     }
 
 lock-held : (frames : List Frame) (swap : SwapView) (gs : List SegRec) (id : ℕ) → holds_locked (map (held_by frames swap) gs) id ≡ locked_by gs id
@@ -184,6 +191,11 @@ module _ (s t : StoreView) (frames : List Frame) (count : length frames ≡ leng
 -- and one that was not
 pub accessed-not : (ps : List Span) (s t : StoreView) (e : PagerFailed) → IsStoreSound t → Brings ps s t e.touched false → Accessed ps s t (Err e)
 accessed-not ps s t e sound b = grind (arith, kept-locked)
+
+-- the same, by what its caller was answered
+pub accessed-failed : {A E : Type 0} (ps : List Span) (s t : StoreView) (u : Touched) (r : Result A E) → is_ok r ≡ false → IsStoreSound t → Brings ps s t u false → Accessed ps s t (answer_of u r)
+accessed-failed ps s t u (Ok a) failed sound b = absurd (false≢true (sym failed))
+accessed-failed ps s t u (Err e) failed sound b = accessed-not ps s t (record { touched = u }) sound b
 
 -- the spans of a list of none, of one, and of two
 pub none-of : (ps : List Span) → length ps ≡ 0 → [] ≡ ps

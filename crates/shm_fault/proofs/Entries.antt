@@ -94,6 +94,12 @@ find-entry [] i id w apart at = cc
 find-entry (e ∷ es) zero id w apart at = let q : e ≡ (id, w) = cc in rw (q, eq-eqb id id refl) refl
 find-entry (e ∷ es) (suc i) id w apart at = grind (arith, nat_tests, find-there es i id w at, apart.0, find-entry es i id w apart.1 at)
 
+-- an index of a segment is one of its entry
+pub at-view : (es : List (ℕ × PageTable)) (i : ℕ) → option_map (λ (g : SegRec). g.id) (slice_get (segs_view es) i) ≡ seg_at es i
+at-view [] i = refl
+at-view (e ∷ es) zero = refl
+at-view (e ∷ es) (suc i) = at-view es i
+
 -- the segment at a place was edited
 pub record IsEdited (f : SegRec → SegRec) (id : ℕ) (es fs : List (ℕ × PageTable)) : Type 0 where
   pub view : segs_view fs ≡ map (edit_at id f) (segs_view es)

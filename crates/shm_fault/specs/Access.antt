@@ -1,5 +1,5 @@
 -- What an access is asked for, and what it leaves beside the bytes that it reads or writes.
-use Rattle.std.specs.Prelude.{ℕ, ◌≡◌, ◌≤◌, ◌+◌, ◌&&◌, Bool, true, false, List, [], ◌∷◌, Option, Some, None, Result, Ok, Err, length, OnOk, OnErr, IsOk, IsSome, All, ⊤}
+use Rattle.std.specs.Prelude.{ℕ, ◌≡◌, ◌≤◌, ◌+◌, ◌&&◌, Bool, true, false, List, [], ◌∷◌, Option, Some, None, Result, Ok, Err, length, is_ok, OnOk, OnErr, IsSome, All, ⊤}
 use Rattle.shm_base.specs.declared.paging.PageRef.{PageRef}
 use Rattle.shm_base.specs.declared.paging.Span.{Span}
 use Rattle.shm_slots.specs.View.{sizes}
@@ -7,23 +7,30 @@ use Rattle.shm_slots.specs.Cause.{GoesOn, had_cause}
 use Rattle.shm_fault.specs.declared.access.InFrames.{InFrames}
 use Rattle.shm_fault.specs.declared.touched.Touched.{Touched}
 use Rattle.shm_fault.specs.declared.touched.PagerFailed.{PagerFailed}
+use Rattle.shm_fault.specs.Held.{Held, read_from}
 use Rattle.shm_fault.specs.Segs.{rec_by}
-use Rattle.shm_fault.specs.Store.{StoreView, frame_of, page_of, ref_of, is_swapped, IsResident, IsReferenced, pages_among, swapped_among}
+use Rattle.shm_fault.specs.Store.{StoreView, held, frame_of, page_of, ref_of, is_swapped, IsResident, IsReferenced, pages_among, swapped_among}
 use Rattle.shm_fault.specs.Steps.{MovesLead, LockedPagesStay}
 use Rattle.shm_fault.specs.Goes.{Goes, KeepsLocked, Visits, MovesOn, frame_by, referenced_at}
 use Rattle.shm_fault.specs.Counting.{raised, one_if, CountsOn, hand_after}
+use Rattle.shm_fault.specs.Placing.{places, after_access, with_dirty, Stops, NoneDirtied, AreDirtied}
 use Rattle.shm_fault.specs.Sound.{IsStoreSound}
 
 -- each span names the frame that its page is in
 abbrev pub NameFrames : StoreView → List Span → Type 0
 NameFrames s ps = All (λ (p : Span). p.frame ≡ frame_of s p.seg (page_of p)) ps
 
+-- the same of one span, by the page that it lies in
+abbrev pub NamesFrame : StoreView → Span → Type 0
+NamesFrame s p = p.frame ≡ frame_by s (ref_of p)
+
 -- nothing was counted or named yet
 abbrev pub IsUntouched : Touched → Type 0
 IsUntouched u = (u.moved.items ≡ []) × (u.ins ≡ 0) × (u.outs ≡ 0)
 
 -- what a visit to a page leaves, whose frame was known where it had one
-pub record Visited (r : PageRef) (pinned known : Option ℕ) (s t : StoreView) (u v : Touched) (ok : Bool) : Type 0 where
+pub record Visited
+    (r : PageRef) (pinned known : Option ℕ) (s t : StoreView) (u v : Touched) (ok : Bool) : Type 0 where
   pub visits : Visits r pinned s t
   pub moves : MovesOn u.moved.items v.moved.items s t
   pub few : length v.moved.items ≤ length u.moved.items + 2
@@ -45,15 +52,15 @@ AreIn t [] here = ⊤
 AreIn t (p ∷ []) here = IsIn t p here.first
 AreIn t (p ∷ q ∷ ps) here = IsIn t p here.first × IsIn t q here.second
 
--- where the pages of spans were in frames the hand stays; for one span it is where the visit to its page leaves it
+-- The hand stays where the pages of spans were in frames. For one span it is where the visit to its page
+-- leaves it.
 pub record Turns (ps : List Span) (s t : StoreView) : Type 0 where
   pub still : All (IsResident s) ps → t.hand ≡ s.hand
   pub one : (p : Span) → ps ≡ p ∷ [] → t.hand ≡ hand_after s (frame_by s (ref_of p)) None
 
--- the pages of spans were brought in, or one of them was not
-pub record Brings (ps : List Span) (s t : StoreView) (u : Touched) (ok : Bool) : Type 0 where
-  pub goes : Goes s t
-  pub kept : KeepsLocked s t
+-- What paging for spans leaves, done or not. A pager is asked for no more than the pages need: one read for each
+-- page that was in a slot, one write for each page that had to go. The caller's counts and the store's have each.
+pub record Paged (ps : List Span) (s t : StoreView) (u : Touched) (ok : Bool) : Type 0 where
   pub moves : MovesLead u.moved.items s t
   pub few : length u.moved.items ≤ 4
   pub ins_few : u.ins ≤ pages_among ps
@@ -65,6 +72,12 @@ pub record Brings (ps : List Span) (s t : StoreView) (u : Touched) (ok : Bool) :
   pub quiet : All (IsResident s) ps → (ok ≡ true) × (t.swap ≡ s.swap) × (u.ins ≡ 0) × (u.outs ≡ 0)
   pub cause : ok ≡ false → had_cause s.swap t.swap ≡ true
 
+-- the pages of spans were brought in, or one of them was not
+pub record Brings (ps : List Span) (s t : StoreView) (u : Touched) (ok : Bool) : Type 0 where
+  pub goes : Goes s t
+  pub kept : KeepsLocked s t
+  pub paged : Paged ps s t u ok
+
 -- what was counted and named, also by an access that failed
 abbrev pub touched_of : Result Touched PagerFailed → Touched
 touched_of (Ok u) = u
@@ -75,22 +88,35 @@ abbrev pub answer_of : {A E : Type 0} → Touched → Result A E → Result Touc
 answer_of u (Ok a) = Ok u
 answer_of u (Err e) = Err (record { touched = u })
 
--- What an access leaves. A pager was asked for no more than the pages had to have: a read for each page that was in
--- a slot, a write for each that had to go, and each is counted, in the answer and in the store.
+-- what an access leaves, besides bytes
 pub record Accessed (ps : List Span) (s t : StoreView) (result : Result Touched PagerFailed) : Type 0 where
-  pub cause : OnErr result (had_cause s.swap t.swap ≡ true)
-  pub quiet : All (IsResident s) ps → IsOk result × (t.swap ≡ s.swap) × ((touched_of result).ins ≡ 0) × ((touched_of result).outs ≡ 0)
-  pub ins_few : (touched_of result).ins ≤ pages_among ps
-  pub outs_few : (touched_of result).outs ≤ pages_among ps
-  pub swapped : OnOk result (swapped_among s ps ≤ (touched_of result).ins)
-  pub read_in : t.ins ≡ raised s.ins (touched_of result).ins
-  pub written_out : t.outs ≡ raised s.outs (touched_of result).outs
-  pub turns : Turns ps s t
+  pub paged : Paged ps s t (touched_of result) (is_ok result)
   pub resident : OnOk result (All (IsReferenced t) ps)
-  pub moved : MovesLead (touched_of result).moved.items s t
-  pub few_moved : length (touched_of result).moved.items ≤ 4
   pub kept : LockedPagesStay s t
   pub counts : GoesOn s.swap t.swap
   pub same_sizes : sizes t.swap ≡ sizes s.swap
   pub size : length t.frames ≡ length s.frames
   pub sound : IsStoreSound t
+
+-- a read of spans
+pub record Reads
+    {A E : Type 0} (ps : List Span) (s t : StoreView) (out : List ℕ)
+    (result : Result A E) (answer : Result Touched PagerFailed) : Type 0 where
+  pub bytes : OnOk result (out ≡ read_from (held s) ps)
+  pub held : held t ≡ held s
+  pub access : Accessed ps s t answer
+  pub clean : NoneDirtied s.frames t.frames
+  pub stopped : OnErr result (Stops ps (places s) (places t))
+  pub places : OnOk result (places t ≡ after_access ps (places s))
+
+-- bytes of spans replaced, so that the segments are as `after` says; where a pager failed they are as before
+pub record Writes
+    {A E : Type 0} (ps : List Span) (s t : StoreView) (after : List Held)
+    (result : Result A E) (answer : Result Touched PagerFailed) : Type 0 where
+  pub written : OnOk result (held t ≡ after)
+  pub same : OnErr result (held t ≡ held s)
+  pub access : Accessed ps s t answer
+  pub dirtied : OnOk result (AreDirtied ps s t)
+  pub clean : OnErr result (NoneDirtied s.frames t.frames)
+  pub stopped : OnErr result (Stops ps (places s) (places t))
+  pub places : OnOk result (places t ≡ with_dirty ps (after_access ps (places s)))

@@ -1,16 +1,17 @@
 -- A page that is taken out of its frame and its slot.
-use Rattle.std.specs.Prelude.{ℕ, ◌≡◌, ◌<◌, List, Option, Some, None, length, set, MatchOption}
+use Rattle.std.specs.Prelude.{ℕ, ◌≡◌, ◌≢◌, ◌<◌, List, Option, Some, None, length, set, MatchOption}
 use Rattle.shm_base.specs.declared.paging.PageRef.{PageRef}
 use Rattle.shm_base.specs.declared.paging.Slot.{Slot}
 use Rattle.shm_fault.specs.Held.{without}
-use Rattle.shm_slots.specs.View.{SwapView, HasSlot, owner_of, page_in, without_slot}
-use Rattle.shm_slots.specs.Cause.{IsSteady}
+use Rattle.shm_slots.specs.View.{SwapView, HasSlot, owner_of, page_in, sizes, without_slot}
+use Rattle.shm_slots.specs.Cause.{GoesOn, IsSteady, total}
 use Rattle.shm_frames.specs.Frame.{Frame, no_frame, frame_at}
-use Rattle.shm_fault.specs.Segs.{rec_by, no_page}
-use Rattle.shm_fault.specs.Store.{StoreView, held, disowned}
+use Rattle.shm_fault.specs.Segs.{but, count_by_id, rec_by, no_page, with_rec}
+use Rattle.shm_fault.specs.Store.{StoreView, held, frame_of, disowned}
+use Rattle.shm_fault.specs.Sound.{IsStoreSound}
 use Rattle.shm_fault.specs.Goes.{outlines}
 use Rattle.shm_fault.specs.Counting.{AtRest}
-use Rattle.shm_fault.specs.Placing.{places, after_forgets}
+use Rattle.shm_fault.specs.Placing.{places, after_forget, after_forgets, without_segment}
 
 -- the frames with one of them made free
 abbrev pub emptied : List Frame → Option ℕ → List Frame
@@ -19,7 +20,8 @@ emptied frames (Some f) = set frames f (record no_frame { bytes = (frame_at fram
 
 -- the slot was given back, where there is one
 abbrev pub Given : SwapView → Option Slot → SwapView → Type 0
-Given before slot after = MatchOption slot (after ≡ before) (λ k. after ≡ without_slot before k (page_in after k.area k.slot))
+Given before slot after =
+    MatchOption slot (after ≡ before) (λ k. after ≡ without_slot before k (page_in after k.area k.slot))
 
 abbrev pub FrameThere : List Frame → Option ℕ → Type 0
 FrameThere frames frame = (f : ℕ) → frame ≡ Some f → f < length frames
@@ -31,12 +33,29 @@ SlotThere swap slot = (k : Slot) → slot ≡ Some k → HasSlot swap k.area k.s
 abbrev pub IsBlank : ℕ → StoreView → Type 0
 IsBlank seg s = (page : ℕ) → rec_by s.segs (record { seg = seg; page = page }) ≡ no_page
 
+-- frames and slots have the same pages, but for those of a segment
+abbrev pub SameInFrames : ℕ → List Frame → List Frame → Type 0
+SameInFrames seg before after =
+    (f : ℕ) → disowned seg (frame_at after f).owner ≡ disowned seg (frame_at before f).owner
+
+abbrev pub SameInSlots : ℕ → SwapView → SwapView → Type 0
+SameInSlots seg before after =
+    (k : Slot) → disowned seg (owner_of after k.area k.slot) ≡ disowned seg (owner_of before k.area k.slot)
+
+-- they have no page of the segment, and the others as before
+abbrev pub LeavesFrames : ℕ → List Frame → List Frame → Type 0
+LeavesFrames seg before after = (f : ℕ) → (frame_at after f).owner ≡ disowned seg (frame_at before f).owner
+
+abbrev pub LeavesSlots : ℕ → SwapView → SwapView → Type 0
+LeavesSlots seg before after =
+    (area slot : ℕ) → owner_of after area slot ≡ disowned seg (owner_of before area slot)
+
 -- the first pages of a segment are nowhere, and all else is as it was
 pub record Dropped (seg n : ℕ) (s t : StoreView) : Type 0 where
   pub shape : outlines t.segs ≡ outlines s.segs
   pub bytes : without (held t) seg ≡ without (held s) seg
-  pub frames : (f : ℕ) → disowned seg (frame_at t.frames f).owner ≡ disowned seg (frame_at s.frames f).owner
-  pub slots : (k : Slot) → disowned seg (owner_of t.swap k.area k.slot) ≡ disowned seg (owner_of s.swap k.area k.slot)
+  pub frames : SameInFrames seg s.frames t.frames
+  pub slots : SameInSlots seg s.swap t.swap
   pub size : length t.frames ≡ length s.frames
   pub steady : IsSteady s.swap t.swap
   pub still : (q : PageRef) → (q.seg ≡ seg → ⊥) → rec_by t.segs q ≡ rec_by s.segs q
@@ -44,3 +63,29 @@ pub record Dropped (seg n : ℕ) (s t : StoreView) : Type 0 where
   pub rest : AtRest s t
   pub nothing : IsBlank seg s → t ≡ s
   pub placed : places t ≡ after_forgets seg n (places s)
+
+-- one page is nowhere from now on
+pub record Forgets (page : PageRef) (s t : StoreView) : Type 0 where
+  pub segs : t.segs ≡ with_rec s.segs page no_page
+  pub held : without (held t) page.seg ≡ without (held s) page.seg
+  pub frames : SameInFrames page.seg s.frames t.frames
+  pub slots : SameInSlots page.seg s.swap t.swap
+  pub size : length t.frames ≡ length s.frames
+  pub steady : IsSteady s.swap t.swap
+  pub rest : AtRest s t
+  pub placed : places t ≡ after_forget page (places s)
+  pub nowhere : rec_by s.segs page ≡ no_page → t ≡ s
+
+-- a segment was dropped: nothing has a page of it, and the other segments are as they were
+pub record Drops (seg : ℕ) (s t : StoreView) : Type 0 where
+  pub held : held t ≡ without (held s) seg
+  pub frames : LeavesFrames seg s.frames t.frames
+  pub slots : LeavesSlots seg s.swap t.swap
+  pub still : (other page : ℕ) → other ≢ seg → frame_of t other page ≡ frame_of s other page
+  pub counts : (total t.swap ≡ total s.swap) × GoesOn s.swap t.swap
+  pub sizes : sizes t.swap ≡ sizes s.swap
+  pub count : length t.frames ≡ length s.frames
+  pub rest : AtRest s t
+  pub places : places t ≡ without_segment seg (after_forgets seg (count_by_id s.segs seg) (places s))
+  pub blank : IsBlank seg s → t ≡ record s { segs = but seg s.segs }
+  pub sound : IsStoreSound t

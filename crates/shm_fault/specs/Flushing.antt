@@ -13,7 +13,9 @@ use Rattle.shm_fault.specs.Placing.{places, after_flush}
 
 -- the frame is dirty, and its segment is not locked
 abbrev pub may_flush : StoreView → ℕ → Bool
-may_flush s f = (frame_at s.frames f).dirty && owner_passes (λ (r : PageRef). not (holds_locked (held s) r.seg)) (frame_at s.frames f).owner
+may_flush s f =
+    let frame = frame_at s.frames f in
+    frame.dirty && owner_passes (λ (r : PageRef). not (holds_locked (held s) r.seg)) frame.owner
 
 -- the dirty frames of segments that are not locked, by rising number
 abbrev pub dirty_list : StoreView → List ℕ
@@ -29,8 +31,10 @@ dirty_after s f = (frame_at s.frames f).dirty
 pub record IsFlushed (before after : StoreView) (n : ℕ) (report : FlushReport) : Type 0 where
   pub sum : report.written + report.failed ≡ min n (length (dirty_list before))
   pub failed : count_by (dirty_after after) (chosen before n) ≡ report.failed
-  pub frames : (f : ℕ) → frame_at after.frames f ≡ record (frame_at before.frames f) { dirty = (frame_at after.frames f).dirty }
-  pub others : (f : ℕ) → (Contains (chosen before n) f → ⊥) → frame_at after.frames f ≡ frame_at before.frames f
+  pub frames : (f : ℕ)
+      → frame_at after.frames f ≡ record (frame_at before.frames f) { dirty = (frame_at after.frames f).dirty }
+  pub others : (f : ℕ) → (Contains (chosen before n) f → ⊥)
+      → frame_at after.frames f ≡ frame_at before.frames f
   pub counted : some_spent after.swap ≡ false → total after.swap ≡ total before.swap + report.failed
   -- what was written is counted, nothing is read, and the hand stays
   pub written_out : after.outs ≡ raised before.outs report.written

@@ -1,13 +1,14 @@
 -- What each step of an access, of a flush and of a move to another area keeps.
-use Rattle.std.specs.Prelude.{ℕ, ◌≡◌, ◌≢◌, Bool, true, not, Option, Some, None, length, List, map, is_some}
+use Rattle.std.specs.Prelude.{ℕ, ◌≡◌, ◌≢◌, ◌+◌, Bool, true, false, not, if◌then◌else◌, Option, Some, None, length, List, map, is_some}
 use Rattle.shm_base.specs.declared.paging.PageRef.{PageRef}
+use Rattle.shm_base.specs.declared.paging.Slot.{Slot}
 use Rattle.shm_slots.specs.View.{sizes}
-use Rattle.shm_slots.specs.Cause.{GoesOn, some_spent, had_cause}
+use Rattle.shm_slots.specs.Cause.{GoesOn, some_spent, had_cause, total}
 use Rattle.shm_frames.specs.Frame.{Frame, frame_at}
 use Rattle.shm_fault.specs.declared.touched.PageMove.{PageMove}
 use Rattle.shm_fault.specs.Steps.{MovesLead}
 use Rattle.shm_fault.specs.Segs.{SegRec, rec_by, locked_by}
-use Rattle.shm_fault.specs.Store.{StoreView, held}
+use Rattle.shm_fault.specs.Store.{StoreView, held, is_page}
 
 -- what of a segment does not change where its pages move
 pub record Outline : Type 0 where
@@ -39,7 +40,8 @@ pub record Alike (x y : Frame) : Type 0 where
 
 -- pages of locked segments stay resident
 abbrev pub KeepsLocked : StoreView → StoreView → Type 0
-KeepsLocked s t = (r : PageRef) → locked_by s.segs r.seg ≡ true → is_some (rec_by s.segs r).frame ≡ true → is_some (rec_by t.segs r).frame ≡ true
+KeepsLocked s t = (r : PageRef) → locked_by s.segs r.seg ≡ true
+    → is_some (rec_by s.segs r).frame ≡ true → is_some (rec_by t.segs r).frame ≡ true
 
 -- the page's segment is not locked
 abbrev pub unlocked : List SegRec → PageRef → Bool
@@ -75,3 +77,23 @@ MovesOn ms more s t = (b : StoreView) → MovesLead ms b s → MovesLead more b 
 
 abbrev pub frame_by : StoreView → PageRef → Option ℕ
 frame_by s r = (rec_by s.segs r).frame
+
+-- a page is in a frame, whose referenced bit is set
+abbrev pub IsSeenIn : StoreView → PageRef → ℕ → Type 0
+IsSeenIn s r f = (frame_by s r ≡ Some f) × (referenced_at s f ≡ true)
+
+-- one page came into a frame or left its own; the others are where they were
+abbrev pub OnlyMoves : PageRef → Option ℕ → StoreView → StoreView → Type 0
+OnlyMoves r to s t = (q : PageRef) → frame_by t q ≡ (if is_page r q.seg q.page then to else frame_by s q)
+
+-- the slot is that of a frame's page
+abbrev pub IsSlotOf : Option PageRef → List SegRec → Slot → Type 0
+IsSlotOf owner gs k = (r : PageRef) → owner ≡ Some r → (rec_by gs r).slot ≡ Some k
+
+-- pages may have got slots, frames may be clean, and the swap and the count of what was written may differ
+abbrev pub OnlyWrites : StoreView → StoreView → Type 0
+OnlyWrites s t = t ≡ record s { segs = t.segs; frames = t.frames; swap = t.swap; outs = t.outs }
+
+-- a write that failed was counted, as long as no area has counted its last failure
+abbrev pub CountsWrite : Bool → StoreView → StoreView → Type 0
+CountsWrite ok s t = some_spent t.swap ≡ false → total t.swap ≡ total s.swap + (if ok then 0 else 1)

@@ -14,3 +14,4 @@ pub mod Access
 pub mod Adding
 pub mod Dropping
 pub mod Moving
+pub mod Paging

@@ -1,14 +1,33 @@
 -- A slot that its page leaves.
-use Rattle.std.specs.Prelude.{ℕ, ◌≡◌, ◌≢◌, Some, None}
+use Rattle.std.specs.Prelude.{ℕ, ◌≡◌, ◌≢◌, ◌+◌, ◌<◌, ◌≤◌, true, [], Some, None, Result, IfOk, IfErr, OnOk, OnErr, length, set}
 use Rattle.shm_base.specs.declared.paging.PageRef.{PageRef}
 use Rattle.shm_base.specs.declared.paging.Slot.{Slot}
-use Rattle.shm_slots.specs.View.{SwapView, HasSlot, owner_of, page_in, IsFirstFree}
+use Rattle.shm_slots.specs.View.{SwapView, HasSlot, IsFirstFree, IsSwap, area_at, owner_of, page_in, sizes, swap_slots, used_in, used_slots}
+use Rattle.shm_slots.specs.Cause.{GoesOn, had_cause}
+use Rattle.shm_pager.specs.declared.pager.PagerFault.{PagerFault}
+use Rattle.shm_fault.specs.Held.{pages_in_store}
+use Rattle.shm_fault.specs.Store.{StoreView, Still, held}
+use Rattle.shm_fault.specs.Placing.{places, after_moves, free_slot, own_slot, slot_owners, without_area, StopsMoving}
+use Rattle.shm_fault.specs.declared.touched.PagerFailed.{PagerFailed}
+use Rattle.shm_fault.specs.Counting.{AtRest}
+use Rattle.shm_fault.specs.Sound.{IsStoreSound}
+use Rattle.shm_fault.specs.Steps.{LockedPagesStay}
+
+-- another area has a free slot, for a page of this one
+abbrev pub HasFreeOutside : SwapView → ℕ → Type 0
+HasFreeOutside swap area =
+    used_slots swap + length (area_at swap area).pages < swap_slots swap + used_in (area_at swap area)
+
+-- the other areas have a slot for each page of each segment
+abbrev pub FitOutside : StoreView → ℕ → Type 0
+FitOutside s area = pages_in_store (held s) + length (area_at s.swap area).pages ≤ swap_slots s.swap
 
 -- no slot has another owner, and each that is owned holds what it held
 pub record SameOwned (before after : SwapView) : Type 0 where
   pub has : (k : Slot) → HasSlot before k.area k.slot → HasSlot after k.area k.slot
   pub owners : (k : Slot) → owner_of after k.area k.slot ≡ owner_of before k.area k.slot
-  pub pages : (k : Slot) (q : PageRef) → owner_of before k.area k.slot ≡ Some q → page_in after k.area k.slot ≡ page_in before k.area k.slot
+  pub pages : (k : Slot) (q : PageRef) → owner_of before k.area k.slot ≡ Some q
+      → page_in after k.area k.slot ≡ page_in before k.area k.slot
 
 -- a page has the least free slot of the lowest-numbered other area that had one, with what its old slot
 -- held, which is free
@@ -21,7 +40,39 @@ pub record IsRelocated (page : PageRef) (from to : Slot) (before after : SwapVie
   pub owners : (k : Slot) → k ≢ from → k ≢ to → owner_of after k.area k.slot ≡ owner_of before k.area k.slot
   pub pages : (k : Slot) → k ≢ from → k ≢ to → page_in after k.area k.slot ≡ page_in before k.area k.slot
 
+-- what moving a page from its slot to another area leaves; where a pager failed, all slots are as they were
+pub record Relocates
+    (page : PageRef) (from : Slot) (before after : SwapView) (result : Result Slot PagerFault) : Type 0 where
+  pub ok : IfOk result (λ to. IsRelocated page from to before after)
+  pub found : IfOk result (λ to. free_slot (Some from.area) (slot_owners before) ≡ Some to)
+  pub owners : IfOk result (λ to.
+      slot_owners after ≡ own_slot (own_slot (slot_owners before) to (Some page)) from None)
+  pub err : OnErr result (SameOwned before after)
+  pub same : OnErr result (slot_owners after ≡ slot_owners before)
+  pub cause : OnErr result (had_cause before after ≡ true)
+  pub goes_on : GoesOn before after
+  pub same_sizes : sizes after ≡ sizes before
+  pub sound : IsSwap after
+
 -- the slot is free, and those of its area that were free are so still
 pub record IsCleared (k : Slot) (before after : SwapView) : Type 0 where
   pub free : owner_of after k.area k.slot ≡ None
   pub rest : (slot : ℕ) → owner_of before k.area slot ≡ None → owner_of after k.area slot ≡ None
+
+-- An area is turned off once its pages have moved, by rising slot number. Where a pager failed the area stays,
+-- with the pages that had not moved yet. No byte of a segment changes, and no page enters or leaves a frame.
+pub record MovesOff {A : Type 0} (area : ℕ) (s t : StoreView) (result : Result A PagerFailed) : Type 0 where
+  pub held : held t ≡ held s
+  pub gone : OnOk result (sizes t.swap ≡ set (sizes s.swap) area None)
+  pub kept_sizes : OnErr result (sizes t.swap ≡ sizes s.swap)
+  pub count : length t.frames ≡ length s.frames
+  pub cause : OnErr result (had_cause s.swap t.swap ≡ true)
+  pub moved : IfErr result (λ e. e.touched.moved.items ≡ [])
+  pub rest : AtRest s t
+  pub moves : OnOk result
+      (places t ≡ without_area area (after_moves area (length (area_at s.swap area).pages) (places s)))
+  pub stopped : OnErr result (StopsMoving area (places s) (places t))
+  pub still : Still s t
+  pub kept : LockedPagesStay s t
+  pub counts : GoesOn s.swap t.swap
+  pub sound : IsStoreSound t

@@ -38,7 +38,8 @@ abbrev pub is_left_out : Option ℕ → ℕ → Bool
 is_left_out None area = false
 is_left_out (Some other) area = nat_eq other area
 
--- the least free slot of the lowest-numbered area that has one; areas are numbered from `area` on, and one may be left out
+-- the least free slot of the lowest-numbered area that has one; areas are numbered from `area` on, and one may be
+-- left out
 abbrev pub free_from : ℕ → Option ℕ → List (List (Option PageRef)) → Option Slot
 free_from area left_out [] = None
 free_from area left_out (owners ∷ rest) =
@@ -60,7 +61,10 @@ own_slot slots k owner = set slots k.area (set (get_or slots k.area []) k.slot o
 abbrev pub takes : PageRef → Option Slot → Places → Places
 takes r None s = s
 takes r (Some k) s =
-    record s { segs = with_rec s.segs r (record { frame = (rec_by s.segs r).frame; slot = Some k }); slots = own_slot s.slots k (Some r) }
+    record s {
+      segs = with_rec s.segs r (record { frame = (rec_by s.segs r).frame; slot = Some k });
+      slots = own_slot s.slots k (Some r);
+    }
 
 abbrev pub keeps_or_takes : PageRef → Option Slot → Places → Places
 keeps_or_takes r (Some k) s = s
@@ -76,8 +80,8 @@ slotted f s = slotted_for (frame_at s.frames f).owner s
 abbrev pub with_bit : ℕ → Bool → Places → Places
 with_bit f dirty s = record s { frames = set s.frames f (record (frame_at s.frames f) { dirty = dirty }) }
 
--- a dirty frame's page was written to its slot, the least free one of the lowest-numbered area where it has none, or
--- that failed: the page keeps the slot, and its frame stays dirty
+-- a dirty frame's page was written to its slot, the least free one of the lowest-numbered area where it has none;
+-- or that failed: the page keeps the slot, and its frame stays dirty
 unfoldable pub after_page_out : ℕ → Bool → Places → Places
 after_page_out f ok s = with_bit f (not ok) (slotted f s)
 
@@ -142,7 +146,8 @@ unfoldable pub after_access : List Span → Places → Places
 after_access [] s = s
 after_access (p ∷ []) s = after_visit (ref_of p) None s
 after_access (p ∷ q ∷ ps) s =
-    let first = after_visit (ref_of p) None s in after_visit (ref_of q) (rec_by first.segs (ref_of p)).frame first
+    let first = after_visit (ref_of p) None s in
+    after_visit (ref_of q) (rec_by first.segs (ref_of p)).frame first
 
 -- the frames of the pages of spans are dirty
 abbrev pub dirtied : Option ℕ → Places → Places
@@ -250,7 +255,7 @@ after_forgets seg (suc n) s = after_forget (record { seg = seg; page = n }) (aft
 unfoldable pub without_segment : ℕ → Places → Places
 without_segment seg s = record s { segs = but seg s.segs }
 
--- the counts are those of the frames that have a page, of those that are dirty, and of the slots that have a page
+-- the counts are of the frames that have a page, of those that are dirty, and of the slots that have a page
 pub record IsTallyOf (s : Places) (tally : PageTally) : Type 0 where
   pub resident : tally.resident ≡ resident_of s.frames
   pub dirty : tally.dirty ≡ dirty_of s.frames
@@ -273,4 +278,5 @@ HasNone t (p ∷ ps) f = (frame_by t (ref_of p) ≢ Some f) × HasNone t ps f
 -- the frames of these pages became dirty, and no other
 pub record AreDirtied (ps : List Span) (s t : StoreView) : Type 0 where
   pub dirty : AreDirty t ps
-  pub others : (f : ℕ) → HasNone t ps f → (frame_at t.frames f).dirty ≡ true → (frame_at s.frames f).dirty ≡ true
+  pub others : (f : ℕ) → HasNone t ps f → (frame_at t.frames f).dirty ≡ true
+      → (frame_at s.frames f).dirty ≡ true

@@ -1,5 +1,5 @@
 -- Segments by identifier, and where each of their pages is.
-use Rattle.std.specs.Prelude.{ℕ, ◌≡◌, ◌==◌, ◌<◌, Bool, false, if◌then◌else◌, List, [], ◌∷◌, Option, Some, None, map, length, get_or, set, replicate, filter, not}
+use Rattle.std.specs.Prelude.{ℕ, ◌≡◌, ◌==◌, ◌<◌, Bool, false, if◌then◌else◌, List, [], ◌∷◌, Option, Some, None, map, length, get_or, set, replicate, filter, not, slice_get, option_map}
 use Rattle.shm_base.specs.declared.paging.PageRef.{PageRef}
 use Rattle.shm_fault.specs.declared.page_tables.PageRec.{PageRec}
 
@@ -51,6 +51,10 @@ lock_in (Some g) = g.locked
 
 abbrev pub locked_by : List SegRec → ℕ → Bool
 locked_by gs id = lock_in (find_seg gs id)
+
+-- the segment at an index
+abbrev pub IsAt : List SegRec → ℕ → ℕ → Type 0
+IsAt gs index id = option_map (λ (g : SegRec). g.id) (slice_get gs index) ≡ Some id
 
 -- where one page is, set
 abbrev pub seg_with : PageRef → PageRec → SegRec → SegRec

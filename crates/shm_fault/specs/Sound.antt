@@ -9,11 +9,14 @@ use Rattle.shm_fault.specs.Store.{StoreView, slot_bytes, page_bytes, resident, d
 
 -- a page and its frame, and a page and its slot, name one another, and a clean page is what is stored of it
 pub record IsTied (s : StoreView) (r : PageRef) : Type 0 where
-  pub frame_owned : (f : ℕ) → (rec_by s.segs r).frame ≡ Some f → (f < length s.frames) × ((frame_at s.frames f).owner ≡ Some r)
+  pub frame_owned : (f : ℕ) → (rec_by s.segs r).frame ≡ Some f
+      → (f < length s.frames) × ((frame_at s.frames f).owner ≡ Some r)
   pub owner_resident : (f : ℕ) → (frame_at s.frames f).owner ≡ Some r → (rec_by s.segs r).frame ≡ Some f
-  pub slot_owned : (k : Slot) → (rec_by s.segs r).slot ≡ Some k → HasSlot s.swap k.area k.slot × (owner_of s.swap k.area k.slot ≡ Some r)
+  pub slot_owned : (k : Slot) → (rec_by s.segs r).slot ≡ Some k
+      → HasSlot s.swap k.area k.slot × (owner_of s.swap k.area k.slot ≡ Some r)
   pub owner_stored : (k : Slot) → owner_of s.swap k.area k.slot ≡ Some r → (rec_by s.segs r).slot ≡ Some k
-  pub clean : (f : ℕ) → (rec_by s.segs r).frame ≡ Some f → (frame_at s.frames f).dirty ≡ false → (frame_at s.frames f).bytes ≡ slot_bytes s.swap (rec_by s.segs r).slot
+  pub clean : (f : ℕ) → (rec_by s.segs r).frame ≡ Some f → (frame_at s.frames f).dirty ≡ false
+      → (frame_at s.frames f).bytes ≡ slot_bytes s.swap (rec_by s.segs r).slot
   pub whole : length (page_bytes s.frames s.swap (rec_by s.segs r)) ≡ 4096
 
 -- that is so of every page, and frames and slots have no other owners

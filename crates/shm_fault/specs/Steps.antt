@@ -14,7 +14,8 @@ moved (Came r k ∷ ms) seg page f = moved ms seg page (if is_page r seg page th
 
 -- the moves lead from one residency to the other
 abbrev pub MovesLead : List PageMove → StoreView → StoreView → Type 0
-MovesLead ms before after = (seg page : ℕ) → frame_of after seg page ≡ moved ms seg page (frame_of before seg page)
+MovesLead ms before after =
+    (seg page : ℕ) → frame_of after seg page ≡ moved ms seg page (frame_of before seg page)
 
 -- every page of a locked segment that is resident before is resident after
 abbrev pub LockedPagesStay : StoreView → StoreView → Type 0

@@ -1,5 +1,5 @@
 -- What contracts see of the page store: where each page of each segment is, and what its bytes are.
-use Rattle.std.specs.Prelude.{ℕ, ◌≡◌, ◌+◌, Bool, true, false, not, ◌==◌, ◌&&◌, if◌then◌else◌, List, [], ◌∷◌, Option, Some, None, map, is_some, sum_by, count_by}
+use Rattle.std.specs.Prelude.{ℕ, ◌≡◌, ◌+◌, Bool, true, false, not, ◌==◌, ◌&&◌, if◌then◌else◌, List, [], ◌∷◌, Option, Some, None, map, is_some, sum_by, count_by, set, length, ◌<◌}
 use Rattle.std.specs.List.{flat_map, list_any}
 use Rattle.shm_base.specs.declared.paging.PageRef.{PageRef}
 use Rattle.shm_base.specs.declared.paging.Slot.{Slot}
@@ -34,7 +34,8 @@ abbrev pub page_bytes : List Frame → SwapView → PageRec → List ℕ
 page_bytes frames swap p = bytes_by frames swap p.frame p.slot
 
 abbrev pub held_by : List Frame → SwapView → SegRec → Held
-held_by frames swap g = record { id = g.id; locked = g.locked; bytes = flat_map (page_bytes frames swap) g.pages }
+held_by frames swap g =
+    record { id = g.id; locked = g.locked; bytes = flat_map (page_bytes frames swap) g.pages }
 
 -- the segments with their bytes
 unfoldable pub held : StoreView → List Held
@@ -108,7 +109,16 @@ pages_among (p ∷ ps) = (if list_any (same_page p) ps then 0 else 1) + pages_am
 abbrev pub swapped_among : StoreView → List Span → ℕ
 swapped_among s [] = 0
 swapped_among s (p ∷ ps) =
-    (if is_swapped (rec_of s p.seg (page_of p)) && not (list_any (same_page p) ps) then 1 else 0) + swapped_among s ps
+    (if is_swapped (rec_of s p.seg (page_of p)) && not (list_any (same_page p) ps) then 1 else 0)
+    + swapped_among s ps
+
+-- the frames with one of them marked as dirty or clean
+abbrev pub marked : List Frame → ℕ → Bool → List Frame
+marked frames f dirty = set frames f (record (frame_at frames f) { dirty = dirty })
+
+-- a frame that has no page
+abbrev pub IsFreeFrame : List Frame → ℕ → Type 0
+IsFreeFrame frames f = (f < length frames) × ((frame_at frames f).owner ≡ None)
 
 -- a store as it is made
 abbrev pub fresh_store : List Frame → SwapView → StoreView

@@ -12,7 +12,7 @@ ghost use Rattle.shm_fault.specs.Store.{held, ref_of};
 ghost use Rattle.shm_fault.specs.Sound.{IsStoreSound};
 ghost use Rattle.shm_fault.specs.Goes.{frame_by, referenced_at};
 ghost use Rattle.shm_fault.specs.Placing.{places, with_bit, with_dirty, after_access, Stops, NoneDirtied, AreDirtied};
-ghost use Rattle.shm_fault.specs.Access.{NameFrames, IsUntouched, AreIn, Brings, Accessed, answer_of};
+ghost use Rattle.shm_fault.specs.Access.{NameFrames, NamesFrame, IsUntouched, AreIn, Brings, Reads, Writes, answer_of};
 ghost use Rattle.shm_fault.specs.Adding.{number_in, added};
 
 use crate::store::PageStore;
@@ -41,7 +41,8 @@ impl InFrames {
 fn paste_into(frames: &mut Frames, frame: FrameNo, from: usize, bytes: &[u8])
     requires there { frame < length frames.old }
     requires fit { from + length bytes.now ≤ 4096 }
-    ensures { frames.new ≡ set frames.old frame (record (frame_at frames.old frame) { bytes = paste (frame_at frames.old frame).bytes from bytes.now }) }
+    ensures { let before = frame_at frames.old frame in
+        frames.new ≡ set frames.old frame (record before { bytes = paste before.bytes from bytes.now }) }
 {
     let page = frames.bytes_mut(frame);
     page[from..from + bytes.len()].copy_from_slice(bytes);
@@ -66,7 +67,7 @@ impl<P: Pager> PageStore<P> {
     // The frame that the page of a span is in: the one that the span names, as long as nothing moved.
     fn frame_now(&self, span: &Span, page: PageRef, touched: &Touched) -> Option<FrameNo>
         requires page { page ≡ ref_of span.now }
-        requires still { touched.now.moved.items ≡ [] → span.now.frame ≡ frame_by self.now (ref_of span.now) }
+        requires still { touched.now.moved.items ≡ [] → NamesFrame self.now span.now }
         ensures { result ≡ frame_by self.now page }
     {
         if touched.moved.is_empty() {
@@ -79,7 +80,7 @@ impl<P: Pager> PageStore<P> {
     #[inline(always)]
     fn bring_one(&mut self, first: &Span, touched: &mut Touched) -> Result<InFrames, PagerFault>
         requires fit { FitsPage (held self.old) first.now }
-        requires frame { first.now.frame ≡ frame_by self.old (ref_of first.now) }
+        requires frame { NamesFrame self.old first.now }
         requires none { IsUntouched touched.old }
         ensures here { IfOk result (AreIn self.new (first.now ∷ [])) }
         ensures brings { Brings (first.now ∷ []) self.old self.new touched.new (is_ok result) }
@@ -103,12 +104,15 @@ impl<P: Pager> PageStore<P> {
         touched: &mut Touched,
     ) -> Result<InFrames, PagerFault>
         requires fit { FitsPage (held self.old) first.now × FitsPage (held self.old) second.now }
-        requires frames { (first.now.frame ≡ frame_by self.old (ref_of first.now)) × (second.now.frame ≡ frame_by self.old (ref_of second.now)) }
+        requires frames { NamesFrame self.old first.now × NamesFrame self.old second.now }
         requires none { IsUntouched touched.old }
         ensures here { IfOk result (AreIn self.new (first.now ∷ second.now ∷ [])) }
-        ensures brings { Brings (first.now ∷ second.now ∷ []) self.old self.new touched.new (is_ok result) }
-        ensures placed { OnOk result (places self.new ≡ after_access (first.now ∷ second.now ∷ []) (places self.old)) }
-        ensures stopped { OnErr result (Stops (first.now ∷ second.now ∷ []) (places self.old) (places self.new)) }
+        ensures brings { let spans = first.now ∷ second.now ∷ [] in
+            Brings spans self.old self.new touched.new (is_ok result) }
+        ensures placed { let spans = first.now ∷ second.now ∷ [] in
+            OnOk result (places self.new ≡ after_access spans (places self.old)) }
+        ensures stopped { let spans = first.now ∷ second.now ∷ [] in
+            OnErr result (Stops spans (places self.old) (places self.new)) }
     {
         let page = self.page_at(first);
         let near = self.visit(page, first.frame, None, touched)?;
@@ -121,8 +125,7 @@ impl<P: Pager> PageStore<P> {
         })
     }
 
-    // Brings in the pages of at most two spans, the first page first, and answers their frames. The store is sound
-    // then.
+    // Brings in the pages of at most two spans, the first page first, and answers their frames.
     #[inline(always)]
     fn bring_spans(&mut self, spans: &[Span], touched: &mut Touched) -> Result<InFrames, PagerFault>
         requires few { length spans.now ≤ 2 }
@@ -238,17 +241,9 @@ impl<P: Pager> PageStore<P> {
         requires spans { IsAccess (FitsPage (held self.old)) spans.now (length out.old) }
         requires frames { NameFrames self.old spans.now }
         requires none { IsUntouched touched.old }
-        ensures bytes { OnOk result (out.new ≡ read_from (held self.old) spans.now) }
-        ensures held { held self.new ≡ held self.old }
-        ensures access { Accessed spans.now self.old self.new (answer_of touched.new result) }
-        ensures clean { NoneDirtied self.old.frames self.new.frames }
-        ensures places { OnOk result (places self.new ≡ after_access spans.now (places self.old)) }
-        ensures stopped { OnErr result (Stops spans.now (places self.old) (places self.new)) }
+        ensures { Reads spans.now self.old self.new out.new result (answer_of touched.new result) }
     {
-        let here = match self.bring_spans(spans, touched) {
-            Ok(here) => here,
-            Err(fault) => return Err(fault),
-        };
+        let here = self.bring_spans(spans, touched)?;
         self.copy_spans(spans, here, out);
         Ok(())
     }
@@ -257,12 +252,7 @@ impl<P: Pager> PageStore<P> {
     pub fn read(&mut self, spans: &[Span], out: &mut [u8]) -> Result<Touched, PagerFailed>
         requires spans { IsAccess (FitsPage (held self.old)) spans.now (length out.old) }
         requires frames { NameFrames self.old spans.now }
-        ensures bytes { OnOk result (out.new ≡ read_from (held self.old) spans.now) }
-        ensures held { held self.new ≡ held self.old }
-        ensures access { Accessed spans.now self.old self.new result }
-        ensures clean { NoneDirtied self.old.frames self.new.frames }
-        ensures places { OnOk result (places self.new ≡ after_access spans.now (places self.old)) }
-        ensures stopped { OnErr result (Stops spans.now (places self.old) (places self.new)) }
+        ensures { Reads spans.now self.old self.new out.new result result }
     {
         let mut touched = Touched::none();
         match self.read_with(spans, out, &mut touched) {
@@ -284,18 +274,10 @@ impl<P: Pager> PageStore<P> {
         requires spans { IsAccess (FitsPage (held self.old)) spans.now (length bytes.now) }
         requires frames { NameFrames self.old spans.now }
         requires none { IsUntouched touched.old }
-        ensures written { OnOk result (held self.new ≡ written (held self.old) spans.now bytes.now) }
-        ensures same { OnErr result (held self.new ≡ held self.old) }
-        ensures access { Accessed spans.now self.old self.new (answer_of touched.new result) }
-        ensures dirtied { OnOk result (AreDirtied spans.now self.old self.new) }
-        ensures clean { OnErr result (NoneDirtied self.old.frames self.new.frames) }
-        ensures places { OnOk result (places self.new ≡ with_dirty spans.now (after_access spans.now (places self.old))) }
-        ensures stopped { OnErr result (Stops spans.now (places self.old) (places self.new)) }
+        ensures { let after = written (held self.old) spans.now bytes.now in
+            Writes spans.now self.old self.new after result (answer_of touched.new result) }
     {
-        let here = match self.bring_spans(spans, touched) {
-            Ok(here) => here,
-            Err(fault) => return Err(fault),
-        };
+        let here = self.bring_spans(spans, touched)?;
         self.store_spans(spans, here, bytes);
         Ok(())
     }
@@ -304,13 +286,8 @@ impl<P: Pager> PageStore<P> {
     pub fn write(&mut self, spans: &[Span], bytes: &[u8]) -> Result<Touched, PagerFailed>
         requires spans { IsAccess (FitsPage (held self.old)) spans.now (length bytes.now) }
         requires frames { NameFrames self.old spans.now }
-        ensures written { OnOk result (held self.new ≡ written (held self.old) spans.now bytes.now) }
-        ensures same { OnErr result (held self.new ≡ held self.old) }
-        ensures access { Accessed spans.now self.old self.new result }
-        ensures dirtied { OnOk result (AreDirtied spans.now self.old self.new) }
-        ensures clean { OnErr result (NoneDirtied self.old.frames self.new.frames) }
-        ensures places { OnOk result (places self.new ≡ with_dirty spans.now (after_access spans.now (places self.old))) }
-        ensures stopped { OnErr result (Stops spans.now (places self.old) (places self.new)) }
+        ensures { let after = written (held self.old) spans.now bytes.now in
+            Writes spans.now self.old self.new after result result }
     {
         let mut touched = Touched::none();
         match self.write_with(spans, bytes, &mut touched) {
@@ -320,8 +297,8 @@ impl<P: Pager> PageStore<P> {
     }
 
     /// Adds to the eight little-endian bytes of at most two spans, modulo 2^64, once all their pages are
-    /// resident; `old` is then the number that stood there, and unknown after an error. Pages come in once, as
-    /// for [`PageStore::read_with`], and on an error no byte of any segment has changed.
+    /// resident; `old` is then the number before the addition, and unknown after an error. Pages come in
+    /// once, as for [`PageStore::read_with`], and on an error no byte of any segment has changed.
     #[inline(always)]
     pub fn add_with(
         &mut self,
@@ -334,18 +311,10 @@ impl<P: Pager> PageStore<P> {
         requires frames { NameFrames self.old spans.now }
         requires none { IsUntouched touched.old }
         ensures number { OnOk result (old.new ≡ number_in (held self.old) spans.now) }
-        ensures written { OnOk result (held self.new ≡ added (held self.old) spans.now more) }
-        ensures same { OnErr result (held self.new ≡ held self.old) }
-        ensures access { Accessed spans.now self.old self.new (answer_of touched.new result) }
-        ensures dirtied { OnOk result (AreDirtied spans.now self.old self.new) }
-        ensures clean { OnErr result (NoneDirtied self.old.frames self.new.frames) }
-        ensures places { OnOk result (places self.new ≡ with_dirty spans.now (after_access spans.now (places self.old))) }
-        ensures stopped { OnErr result (Stops spans.now (places self.old) (places self.new)) }
+        ensures stored { let after = added (held self.old) spans.now more in
+            Writes spans.now self.old self.new after result (answer_of touched.new result) }
     {
-        let here = match self.bring_spans(spans, touched) {
-            Ok(here) => here,
-            Err(fault) => return Err(fault),
-        };
+        let here = self.bring_spans(spans, touched)?;
         let mut bytes = [0; 8];
         self.copy_spans(spans, here, &mut bytes);
         *old = u64::from_le_bytes(bytes);

@@ -1,16 +1,11 @@
 //! Segments that go, with their frames and slots.
-ghost use Rattle.std.specs.Prelude.{◌≡◌, ◌≢◌, ℕ, true, length};
-ghost use Rattle.shm_base.specs.declared.paging.Slot.{Slot as SlotValue};
-ghost use Rattle.shm_fault.specs.Held.{is_held, without};
-ghost use Rattle.shm_slots.specs.View.{owner_of, sizes, IsSwap};
-ghost use Rattle.shm_slots.specs.Cause.{GoesOn, IsSteady, total};
-ghost use Rattle.shm_frames.specs.Frame.{frame_at};
-ghost use Rattle.shm_fault.specs.Segs.{HasPage, with_rec, no_page, rec_by, but, count_by_id};
-ghost use Rattle.shm_fault.specs.Store.{held, frame_of, disowned};
-ghost use Rattle.shm_fault.specs.Sound.{IsStoreSound};
-ghost use Rattle.shm_fault.specs.Counting.{AtRest};
-ghost use Rattle.shm_fault.specs.Placing.{places, after_forget, after_forgets, without_segment};
-ghost use Rattle.shm_fault.specs.Dropping.{emptied, Given, FrameThere, SlotThere, IsBlank};
+ghost use Rattle.std.specs.Prelude.{◌≡◌, true};
+ghost use Rattle.shm_fault.specs.Held.{is_held};
+ghost use Rattle.shm_slots.specs.View.{IsSwap};
+ghost use Rattle.shm_slots.specs.Cause.{IsSteady};
+ghost use Rattle.shm_fault.specs.Segs.{HasPage};
+ghost use Rattle.shm_fault.specs.Store.{held};
+ghost use Rattle.shm_fault.specs.Dropping.{emptied, Given, FrameThere, SlotThere, Forgets, Drops};
 
 use crate::page_tables::PageRec;
 use crate::store::PageStore;
@@ -46,20 +41,13 @@ impl<P: Pager> PageStore<P> {
     // Takes a page out of its frame and its slot. Its bytes are zeros then.
     fn forget(&mut self, page: PageRef)
         requires { HasPage self.old.segs page }
-        ensures segs { self.new.segs ≡ with_rec self.old.segs page no_page }
-        ensures held { without (held self.new) page.seg ≡ without (held self.old) page.seg }
-        ensures frames { (f : ℕ) → disowned page.seg (frame_at self.new.frames f).owner ≡ disowned page.seg (frame_at self.old.frames f).owner }
-        ensures slots { (k : SlotValue) → disowned page.seg (owner_of self.new.swap k.area k.slot) ≡ disowned page.seg (owner_of self.old.swap k.area k.slot) }
-        ensures size { length self.new.frames ≡ length self.old.frames }
-        ensures steady { IsSteady self.old.swap self.new.swap }
-        ensures rest { AtRest self.old self.new }
-        ensures placed { places self.new ≡ after_forget page (places self.old) }
-        ensures nowhere { rec_by self.old.segs page ≡ no_page → self.new ≡ self.old }
+        ensures { Forgets page self.old self.new }
     {
-        let place = self.segs.page(page);
+        let table = self.segs.table_of(page);
+        let place = self.segs.page_in(table, page);
         empty_frame(&mut self.frames, place.frame);
         free_slot(&mut self.swap, place.slot);
-        self.segs.set_page(page, PageRec::NOWHERE);
+        self.segs.set_page(table, page, PageRec::NOWHERE);
     }
 
     /// Takes a segment out, and its pages out of their frames and slots, which are free then. No pager is
@@ -67,18 +55,7 @@ impl<P: Pager> PageStore<P> {
     /// pages was anywhere, so does all else. The segment is held.
     pub fn drop_segment(&mut self, seg: u32)
         requires there { is_held (held self.old) seg ≡ true }
-        ensures held { held self.new ≡ without (held self.old) seg }
-        ensures frames { (f : ℕ) → (frame_at self.new.frames f).owner ≡ disowned seg (frame_at self.old.frames f).owner }
-        ensures slots { (area slot : ℕ) → owner_of self.new.swap area slot ≡ disowned seg (owner_of self.old.swap area slot) }
-        ensures still { (s page : ℕ) → s ≢ seg → frame_of self.new s page ≡ frame_of self.old s page }
-        ensures counts { (total self.new.swap ≡ total self.old.swap) × GoesOn self.old.swap self.new.swap }
-        ensures sizes { sizes self.new.swap ≡ sizes self.old.swap }
-        ensures count { length self.new.frames ≡ length self.old.frames }
-        ensures rest { AtRest self.old self.new }
-        ensures places { let pages = count_by_id self.old.segs seg in
-            places self.new ≡ without_segment seg (after_forgets seg pages (places self.old)) }
-        ensures blank { IsBlank seg self.old → self.new ≡ record self.old { segs = but seg self.old.segs } }
-        ensures sound { IsStoreSound self.new }
+        ensures { Drops seg self.old self.new }
     {
         let count = self.segs.count(seg) as u32;
         for page in 0..count {

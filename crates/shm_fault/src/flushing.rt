@@ -1,13 +1,13 @@
 //! Dirty frames written out before their pages have to go.
-ghost use Rattle.std.specs.Prelude.{◌≡◌, ℕ, ◌+◌, ◌-◌, ◌<◌, ◌^◌, true, false, not, if◌then◌else◌, length, set, IsSome};
+ghost use Rattle.std.specs.Prelude.{◌≡◌, ℕ, ◌+◌, ◌-◌, ◌<◌, ◌^◌, true, false, not, length, IsSome};
 ghost use Rattle.shm_slots.specs.View.{sizes};
 ghost use Rattle.shm_slots.specs.Cause.{GoesOn, total, some_spent};
 ghost use Rattle.shm_frames.specs.Frame.{frame_at};
-ghost use Rattle.shm_fault.specs.Store.{held, Still};
+ghost use Rattle.shm_fault.specs.Store.{held, Still, marked};
 ghost use Rattle.shm_fault.specs.Sound.{IsStoreSound};
 ghost use Rattle.shm_fault.specs.Steps.{LockedPagesStay};
-ghost use Rattle.shm_fault.specs.Goes.{Goes};
-ghost use Rattle.shm_fault.specs.Counting.{raised};
+ghost use Rattle.shm_fault.specs.Goes.{Goes, OnlyWrites};
+ghost use Rattle.shm_fault.specs.Counting.{one_if, raised};
 ghost use Rattle.shm_fault.specs.Placing.{places, after_page_out};
 ghost use Rattle.shm_fault.specs.Flushing.{IsFlushed, may_flush, dirty_after};
 
@@ -33,15 +33,18 @@ impl<P: Pager> PageStore<P> {
         requires owned { IsSome (frame_at self.old.frames frame).owner }
         requires dirty { (frame_at self.old.frames frame).dirty ≡ true }
         requires small { report.old.written + report.old.failed < 2 ^ 64 - 1 }
-        ensures frames { self.new.frames ≡ set self.old.frames frame (record (frame_at self.old.frames frame) { dirty = dirty_after self.new frame }) }
+        ensures frames { self.new.frames ≡ marked self.old.frames frame (dirty_after self.new frame) }
         ensures still { Still self.old self.new }
         ensures goes { Goes self.old self.new }
         ensures sum { report.new.written + report.new.failed ≡ report.old.written + report.old.failed + 1 }
-        ensures failed { report.new.failed ≡ report.old.failed + (if dirty_after self.new frame then 1 else 0) }
-        ensures counted { some_spent self.new.swap ≡ false → total self.new.swap ≡ total self.old.swap + (if dirty_after self.new frame then 1 else 0) }
-        ensures written_out { (n : ℕ) → self.old.outs ≡ raised n report.old.written → self.new.outs ≡ raised n report.new.written }
-        ensures rest { self.new ≡ record self.old { segs = self.new.segs; frames = self.new.frames; swap = self.new.swap; outs = self.new.outs } }
-        ensures placed { places self.new ≡ after_page_out frame (not (dirty_after self.new frame)) (places self.old) }
+        ensures failed { report.new.failed ≡ report.old.failed + one_if (dirty_after self.new frame) }
+        ensures counted { let failed = one_if (dirty_after self.new frame) in
+            some_spent self.new.swap ≡ false → total self.new.swap ≡ total self.old.swap + failed }
+        ensures written_out { (n : ℕ) → self.old.outs ≡ raised n report.old.written
+            → self.new.outs ≡ raised n report.new.written }
+        ensures rest { OnlyWrites self.old self.new }
+        ensures placed { let written = not (dirty_after self.new frame) in
+            places self.new ≡ after_page_out frame written (places self.old) }
         ensures sound { IsStoreSound self.new }
     {
         match self.page_out(frame) {

@@ -1,16 +1,14 @@
 //! Swap areas that go, whose pages move to the other areas.
-ghost use Rattle.std.specs.Prelude.{◌≡◌, ◌+◌, ◌<◌, ◌≤◌, true, [], length, set, Some, None, IfOk, IfErr, OnOk, OnErr};
-ghost use Rattle.shm_fault.specs.Held.{pages_in_store};
-ghost use Rattle.shm_slots.specs.View.{HasSlot, IsSwap, area_at, page_in, sizes, swap_slots, used_in, used_slots};
-ghost use Rattle.shm_slots.specs.Cause.{GoesOn, had_cause};
-ghost use Rattle.shm_fault.specs.Segs.{rec_by};
-ghost use Rattle.shm_fault.specs.Store.{held, Still};
+ghost use Rattle.std.specs.Prelude.{◌≡◌, true, Some, None, OnOk, OnErr};
+ghost use Rattle.shm_slots.specs.View.{HasSlot, IsSwap, area_at, page_in};
+ghost use Rattle.shm_slots.specs.Cause.{had_cause};
+ghost use Rattle.shm_fault.specs.Segs.{IsAt, rec_by};
+ghost use Rattle.shm_fault.specs.Store.{Still};
 ghost use Rattle.shm_fault.specs.Sound.{IsStoreSound};
-ghost use Rattle.shm_fault.specs.Steps.{LockedPagesStay};
 ghost use Rattle.shm_fault.specs.Goes.{Goes};
 ghost use Rattle.shm_fault.specs.Counting.{AtRest};
-ghost use Rattle.shm_fault.specs.Placing.{places, slot_owners, free_slot, own_slot, moves_page, after_move, after_moves, without_area, StopsAtMove, StopsMoving};
-ghost use Rattle.shm_fault.specs.Moving.{SameOwned, IsRelocated, IsCleared};
+ghost use Rattle.shm_fault.specs.Placing.{places, slot_owners, free_slot, moves_page, after_move, StopsAtMove};
+ghost use Rattle.shm_fault.specs.Moving.{HasFreeOutside, FitOutside, Relocates, MovesOff, IsCleared};
 
 use crate::page_tables::PageRec;
 use crate::store::PageStore;
@@ -28,19 +26,10 @@ fn write_outside<P: Pager>(
     bytes: &[u8; PAGE_BYTES],
 ) -> Result<Slot, PagerFault>
     requires there { HasSlot swap.old from.area from.slot }
-    requires room { used_slots swap.old + length (area_at swap.old from.area).pages < swap_slots swap.old + used_in (area_at swap.old from.area) }
+    requires room { HasFreeOutside swap.old from.area }
     requires bytes { page_in swap.old from.area from.slot ≡ bytes.now }
     requires sound { IsSwap swap.old }
-    ensures ok { IfOk result (λ to. IsRelocated page from to swap.old swap.new) }
-    ensures err { OnErr result (SameOwned swap.old swap.new) }
-    ensures found { IfOk result (λ to. free_slot (Some from.area) (slot_owners swap.old) ≡ Some to) }
-    ensures owners { let free = slot_owners swap.old in
-        IfOk result (λ to. slot_owners swap.new ≡ own_slot (own_slot free to (Some page)) from None) }
-    ensures same { OnErr result (slot_owners swap.new ≡ slot_owners swap.old) }
-    ensures cause { OnErr result (had_cause swap.old swap.new ≡ true) }
-    ensures goes_on { GoesOn swap.old swap.new }
-    ensures sizes { sizes swap.new ≡ sizes swap.old }
-    ensures sound { IsSwap swap.new }
+    ensures { Relocates page from swap.old swap.new result }
 {
     let Some(to) = swap.take_outside(page, from.area) else {
         unreachable!();
@@ -61,18 +50,9 @@ fn write_outside<P: Pager>(
 #[inline(never)]
 fn relocate<P: Pager>(swap: &mut Swap<P>, page: PageRef, from: Slot) -> Result<Slot, PagerFault>
     requires there { HasSlot swap.old from.area from.slot }
-    requires room { used_slots swap.old + length (area_at swap.old from.area).pages < swap_slots swap.old + used_in (area_at swap.old from.area) }
+    requires room { HasFreeOutside swap.old from.area }
     requires sound { IsSwap swap.old }
-    ensures ok { IfOk result (λ to. IsRelocated page from to swap.old swap.new) }
-    ensures err { OnErr result (SameOwned swap.old swap.new) }
-    ensures found { IfOk result (λ to. free_slot (Some from.area) (slot_owners swap.old) ≡ Some to) }
-    ensures owners { let free = slot_owners swap.old in
-        IfOk result (λ to. slot_owners swap.new ≡ own_slot (own_slot free to (Some page)) from None) }
-    ensures same { OnErr result (slot_owners swap.new ≡ slot_owners swap.old) }
-    ensures cause { OnErr result (had_cause swap.old swap.new ≡ true) }
-    ensures goes_on { GoesOn swap.old swap.new }
-    ensures sizes { sizes swap.new ≡ sizes swap.old }
-    ensures sound { IsSwap swap.new }
+    ensures { Relocates page from swap.old swap.new result }
 {
     let mut bytes = zeros();
     swap.read_slot(from, &mut bytes)?;
@@ -81,7 +61,8 @@ fn relocate<P: Pager>(swap: &mut Swap<P>, page: PageRef, from: Slot) -> Result<S
 
 impl<P: Pager> PageStore<P> {
     // A resident page gives its slot back, and is dirty.
-    fn give_back(&mut self, page: PageRef, frame: FrameNo, slot: Slot)
+    fn give_back(&mut self, page: PageRef, table: usize, frame: FrameNo, slot: Slot)
+        requires at { IsAt self.old.segs table page.seg }
         requires place { rec_by self.old.segs page ≡ record { frame = Some frame; slot = Some slot } }
         ensures goes { Goes self.old self.new }
         ensures still { Still self.old self.new }
@@ -93,6 +74,7 @@ impl<P: Pager> PageStore<P> {
         self.swap.give_slot(slot);
         self.frames.set_dirty(frame, true);
         self.segs.set_page(
+            table,
             page,
             PageRec {
                 frame: Some(frame),
@@ -102,9 +84,10 @@ impl<P: Pager> PageStore<P> {
     }
 
     // A page that is not resident moves to another area.
-    fn carry(&mut self, page: PageRef, slot: Slot) -> Result<(), PagerFault>
+    fn carry(&mut self, page: PageRef, table: usize, slot: Slot) -> Result<(), PagerFault>
+        requires at { IsAt self.old.segs table page.seg }
         requires place { rec_by self.old.segs page ≡ record { frame = None; slot = Some slot } }
-        requires room { pages_in_store (held self.old) + length (area_at self.old.swap slot.area).pages ≤ swap_slots self.old.swap }
+        requires room { FitOutside self.old slot.area }
         ensures goes { Goes self.old self.new }
         ensures still { Still self.old self.new }
         ensures cleared { OnOk result (IsCleared slot self.old.swap self.new.swap) }
@@ -117,6 +100,7 @@ impl<P: Pager> PageStore<P> {
     {
         let to = relocate(&mut self.swap, page, slot)?;
         self.segs.set_page(
+            table,
             page,
             PageRec {
                 frame: None,
@@ -129,7 +113,7 @@ impl<P: Pager> PageStore<P> {
     // Makes a slot free, whose page goes elsewhere.
     fn clear_slot(&mut self, slot: Slot) -> Result<(), PagerFault>
         requires there { HasSlot self.old.swap slot.area slot.slot }
-        requires room { pages_in_store (held self.old) + length (area_at self.old.swap slot.area).pages ≤ swap_slots self.old.swap }
+        requires room { FitOutside self.old slot.area }
         ensures goes { Goes self.old self.new }
         ensures still { Still self.old self.new }
         ensures cleared { OnOk result (IsCleared slot self.old.swap self.new.swap) }
@@ -142,12 +126,13 @@ impl<P: Pager> PageStore<P> {
         let Some(page) = self.swap.owner(slot) else {
             return Ok(());
         };
-        match self.segs.page(page).frame {
+        let table = self.segs.table_of(page);
+        match self.segs.page_in(table, page).frame {
             Some(frame) => {
-                self.give_back(page, frame, slot);
+                self.give_back(page, table, frame, slot);
                 Ok(())
             }
-            None => self.carry(page, slot),
+            None => self.carry(page, table, slot),
         }
     }
 
@@ -158,32 +143,16 @@ impl<P: Pager> PageStore<P> {
     /// for each page of each segment.
     pub fn move_off(&mut self, area: u32) -> Result<(), PagerFailed>
         requires there { (area_at self.old.swap area).here ≡ true }
-        requires room { pages_in_store (held self.old) + length (area_at self.old.swap area).pages ≤ swap_slots self.old.swap }
-        ensures held { held self.new ≡ held self.old }
-        ensures gone { OnOk result (sizes self.new.swap ≡ set (sizes self.old.swap) area None) }
-        ensures sizes { OnErr result (sizes self.new.swap ≡ sizes self.old.swap) }
-        ensures count { length self.new.frames ≡ length self.old.frames }
-        ensures cause { OnErr result (had_cause self.old.swap self.new.swap ≡ true) }
-        ensures moved { IfErr result (λ e. e.touched.moved.items ≡ []) }
-        ensures rest { AtRest self.old self.new }
-        ensures places { let size = length (area_at self.old.swap area).pages in
-            OnOk result (places self.new ≡ without_area area (after_moves area size (places self.old))) }
-        ensures stopped { OnErr result (StopsMoving area (places self.old) (places self.new)) }
-        ensures still { Still self.old self.new }
-        ensures kept { LockedPagesStay self.old self.new }
-        ensures counts { GoesOn self.old.swap self.new.swap }
-        ensures sound { IsStoreSound self.new }
+        requires room { FitOutside self.old area }
+        ensures { MovesOff area self.old self.new result }
     {
         let count = self.swap.size(area).unwrap_or(0);
         for slot in 0..count {
-            match self.clear_slot(Slot { area, slot }) {
-                Ok(()) => {}
-                Err(_) => {
-                    return Err(PagerFailed {
-                        touched: Touched::none(),
-                    });
-                }
-            }
+            let Ok(()) = self.clear_slot(Slot { area, slot }) else {
+                return Err(PagerFailed {
+                    touched: Touched::none(),
+                });
+            };
         }
         self.swap.turn_off(area);
         Ok(())

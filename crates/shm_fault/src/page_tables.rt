@@ -1,6 +1,6 @@
 //! The page tables of the segments that the store holds: where each of their pages is.
 ghost use Rattle.std.specs.Prelude.{◌≡◌, ◌<◌, [], ◌∷◌, ◌++◌, length, set, map, filter, not, ◌==◌, None, Some, IfSome, IfNone, IfOk, OnOk, OnErr, replicate};
-ghost use Rattle.shm_fault.specs.Segs.{SegRec, find_seg, rec_at, rec_by, count_by_id, locked_by, HasPage, with_rec, with_seg_lock, no_page, new_seg};
+ghost use Rattle.shm_fault.specs.Segs.{SegRec, find_seg, rec_at, rec_by, count_by_id, locked_by, HasPage, IsAt, with_rec, with_seg_lock, no_page, new_seg};
 ghost use Rattle.shm_fault.specs.Entries.{segs_view, seg_at};
 
 use indexmap::IndexMap;
@@ -166,14 +166,33 @@ impl PageTables {
         }
     }
 
-    /// Notes where a page is.
-    pub(crate) fn set_page(&mut self, page: PageRef, rec: PageRec)
-        requires { HasPage self.old page }
+    /// The number of a page's table, which stays until a segment comes or goes. A caller that keeps it need
+    /// not look for the segment again.
+    pub(crate) fn table_of(&self, page: PageRef) -> usize
+        requires { HasPage self.now page }
+        ensures { IsAt self.now result page.seg }
+    {
+        let Some(table) = index_of(&self.by_id, page.seg) else {
+            unreachable!();
+        };
+        table
+    }
+
+    /// Where a page is, by the number of its table.
+    pub(crate) fn page_in(&self, table: usize, page: PageRef) -> PageRec
+        requires { IsAt self.now table page.seg }
+        ensures { result ≡ rec_by self.now page }
+    {
+        page_at(&self.by_id[table].pages, page.page)
+    }
+
+    /// Notes where a page is, by the number of its table.
+    pub(crate) fn set_page(&mut self, table: usize, page: PageRef, rec: PageRec)
+        requires at { IsAt self.old table page.seg }
+        requires has { HasPage self.old page }
         ensures { self.new ≡ with_rec self.old page rec }
     {
-        if let Some(index) = index_of(&self.by_id, page.seg) {
-            set_page_at(&mut self.by_id[index].pages, page.page, rec);
-        }
+        set_page_at(&mut self.by_id[table].pages, page.page, rec);
     }
 
     /// Locks or unlocks a segment.

@@ -1,17 +1,18 @@
 //! Pages that come into a frame and leave it. Each step here keeps all bytes of all segments.
-ghost use Rattle.std.specs.Prelude.{◌≡◌, ◌≢◌, ℕ, ◌+◌, ◌<◌, ◌≤◌, ◌^◌, true, false, not, if◌then◌else◌, [], length, set, Option, Some, None, ◌&&◌, is_ok, is_some, IfOk, OnOk, OnErr, IsSome, MatchOption, MatchResult};
+ghost use Rattle.std.specs.Prelude.{◌≡◌, ◌≢◌, ℕ, ◌+◌, ◌<◌, ◌≤◌, ◌^◌, true, false, not, [], length, set, Option, Some, None, ◌&&◌, is_ok, is_some, IfOk, OnOk, OnErr, IsSome, MatchOption};
 ghost use Rattle.shm_base.specs.declared.paging.PageRef.{PageRef as Ref};
 ghost use Rattle.shm_slots.specs.View.{SameSlots, HasSlot, IsFirstFree, IsSwap, sizes};
-ghost use Rattle.shm_slots.specs.Cause.{had_cause, total, some_spent, GoesOn};
+ghost use Rattle.shm_slots.specs.Cause.{had_cause, total, GoesOn};
 ghost use Rattle.shm_frames.specs.Frame.{frame_at, no_frame, OwnedBelow};
 ghost use Rattle.shm_clock.specs.Clock.{may_go, candidates, victim_of, passed_by, unset_all, next, IsClockVictim};
-ghost use Rattle.shm_fault.specs.Segs.{rec_by, HasPage, with_rec};
-ghost use Rattle.shm_fault.specs.Store.{Still, is_page, slot_bytes};
+ghost use Rattle.shm_fault.specs.Segs.{rec_by, HasPage, IsAt, with_rec};
+ghost use Rattle.shm_fault.specs.Store.{Still, marked, slot_bytes};
 ghost use Rattle.shm_fault.specs.Sound.{IsStoreSound};
-ghost use Rattle.shm_fault.specs.Counting.{raised, one_if, CountsOn, victim_by, turned, hand_for_frame};
-ghost use Rattle.shm_fault.specs.Placing.{places, slotted, with_bit, after_page_out, vacated, after_turn, victim_in, after_clean, after_eviction, after_room, frame_for, settled, referenced, after_visit, StopsAt, StopsAtWrite};
+ghost use Rattle.shm_fault.specs.Counting.{raised, one_if, victim_by, turned};
+ghost use Rattle.shm_fault.specs.Placing.{places, slotted, with_bit, vacated, after_turn, victim_in, settled, referenced, after_visit, StopsAt};
 ghost use Rattle.shm_fault.specs.Access.{Visited};
-ghost use Rattle.shm_fault.specs.Goes.{Goes, StaysAway, Alike, Visits, MovesOn, referenced_at, unlocked, frame_by};
+ghost use Rattle.shm_fault.specs.Paging.{PagesOut, Cleans, Evicts, MakesRoom, ComesIn};
+ghost use Rattle.shm_fault.specs.Goes.{Goes, StaysAway, Alike, Visits, IsSeenIn, OnlyMoves, IsSlotOf, CountsWrite, referenced_at, unlocked, frame_by};
 
 use crate::page_tables::{PageRec, PageTables};
 use crate::store::PageStore;
@@ -40,9 +41,12 @@ fn choose(
     requires hand { hand.old < length frames.old }
     requires few { length frames.old ≤ 4096 }
     requires one { candidates (unlocked segs.now) pinned frames.old hand.old ≢ [] }
-    ensures clock { IsClockVictim (may_go (unlocked segs.now) pinned frames.old) hand.old frames.old result frames.new }
-    ensures victim { result ≡ victim_of frames.old (candidates (unlocked segs.now) pinned frames.old hand.old) }
-    ensures bits { frames.new ≡ unset_all frames.old (passed_by frames.old (candidates (unlocked segs.now) pinned frames.old hand.old)) }
+    ensures clock { let may = may_go (unlocked segs.now) pinned frames.old in
+        IsClockVictim may hand.old frames.old result frames.new }
+    ensures victim { let going = candidates (unlocked segs.now) pinned frames.old hand.old in
+        result ≡ victim_of frames.old going }
+    ensures bits { let going = candidates (unlocked segs.now) pinned frames.old hand.old in
+        frames.new ≡ unset_all frames.old (passed_by frames.old going) }
     ensures hand { hand.new ≡ next (length frames.old) result }
 {
     let eligible = |page: PageRef| !segs.is_locked(page.seg);
@@ -58,7 +62,8 @@ fn fill_from<P: Pager>(
 ) -> Result<(), PagerFault>
     requires there { frame < length frames.old }
     requires slot { MatchOption slot (Unit {0}) (λ k. HasSlot swap.old k.area k.slot) }
-    ensures frames { frames.new ≡ set frames.old frame (record (frame_at frames.old frame) { bytes = (frame_at frames.new frame).bytes }) }
+    ensures frames { let bytes = (frame_at frames.new frame).bytes in
+        frames.new ≡ set frames.old frame (record (frame_at frames.old frame) { bytes = bytes }) }
     ensures bytes { OnOk result ((frame_at frames.new frame).bytes ≡ slot_bytes swap.old slot) }
     ensures swap { OnOk result (swap.new ≡ swap.old) }
     ensures kept { SameSlots swap.old swap.new }
@@ -85,9 +90,10 @@ impl<P: Pager> PageStore<P> {
         requires there { frame < length self.old.frames }
         requires owned { IsSome (frame_at self.old.frames frame).owner }
         requires dirty { (frame_at self.old.frames frame).dirty ≡ true }
-        ensures slot { (page : Ref) → (frame_at self.old.frames frame).owner ≡ Some page → (rec_by self.new.segs page).slot ≡ Some result }
-        ensures free { let owner = (frame_at self.old.frames frame).owner in (page : Ref)
-            → owner ≡ Some page → (rec_by self.old.segs page).slot ≡ None → IsFirstFree self.old.swap None result }
+        ensures slot { IsSlotOf (frame_at self.old.frames frame).owner self.new.segs result }
+        ensures free { let owner = (frame_at self.old.frames frame).owner in
+            (page : Ref) → owner ≡ Some page → (rec_by self.old.segs page).slot ≡ None
+            → IsFirstFree self.old.swap None result }
         ensures rest { self.new ≡ record self.old { segs = self.new.segs; swap = self.new.swap } }
         ensures still { Still self.old self.new }
         ensures away { StaysAway self.old self.new }
@@ -97,7 +103,8 @@ impl<P: Pager> PageStore<P> {
         ensures sound { IsStoreSound self.new }
     {
         let page = self.frames.resident_page(frame);
-        let place = self.segs.page(page);
+        let table = self.segs.table_of(page);
+        let place = self.segs.page_in(table, page);
         if let Some(slot) = place.slot {
             return slot;
         }
@@ -105,6 +112,7 @@ impl<P: Pager> PageStore<P> {
             unreachable!();
         };
         self.segs.set_page(
+            table,
             page,
             PageRec {
                 frame: place.frame,
@@ -119,13 +127,14 @@ impl<P: Pager> PageStore<P> {
         requires there { frame < length self.old.frames }
         requires owned { IsSome (frame_at self.old.frames frame).owner }
         requires dirty { (frame_at self.old.frames frame).dirty ≡ true }
-        requires slot { (page : Ref) → (frame_at self.old.frames frame).owner ≡ Some page → (rec_by self.old.segs page).slot ≡ Some slot }
-        ensures frames { self.new.frames ≡ set self.old.frames frame (record (frame_at self.old.frames frame) { dirty = not (is_ok result) }) }
-        ensures rest { self.new ≡ record self.old { frames = self.new.frames; swap = self.new.swap; outs = self.new.outs } }
+        requires slot { IsSlotOf (frame_at self.old.frames frame).owner self.old.segs slot }
+        ensures frames { self.new.frames ≡ marked self.old.frames frame (not (is_ok result)) }
+        ensures rest { let t = self.new in
+            t ≡ record self.old { frames = t.frames; swap = t.swap; outs = t.outs } }
         ensures outs { self.new.outs ≡ raised self.old.outs (one_if (is_ok result)) }
         ensures goes { Goes self.old self.new }
         ensures cause { OnErr result (had_cause self.old.swap self.new.swap ≡ true) }
-        ensures counted { some_spent self.new.swap ≡ false → total self.new.swap ≡ total self.old.swap + (if is_ok result then 0 else 1) }
+        ensures counted { CountsWrite (is_ok result) self.old self.new }
         ensures placed { places self.new ≡ with_bit frame (not (is_ok result)) (places self.old) }
         ensures sound { IsStoreSound self.new }
     {
@@ -141,16 +150,7 @@ impl<P: Pager> PageStore<P> {
         requires there { frame < length self.old.frames }
         requires owned { IsSome (frame_at self.old.frames frame).owner }
         requires dirty { (frame_at self.old.frames frame).dirty ≡ true }
-        ensures frames { self.new.frames ≡ set self.old.frames frame (record (frame_at self.old.frames frame) { dirty = not (is_ok result) }) }
-        ensures rest { self.new ≡ record self.old { segs = self.new.segs; frames = self.new.frames; swap = self.new.swap; outs = self.new.outs } }
-        ensures outs { self.new.outs ≡ raised self.old.outs (one_if (is_ok result)) }
-        ensures still { Still self.old self.new }
-        ensures away { StaysAway self.old self.new }
-        ensures goes { Goes self.old self.new }
-        ensures cause { OnErr result (had_cause self.old.swap self.new.swap ≡ true) }
-        ensures counted { some_spent self.new.swap ≡ false → total self.new.swap ≡ total self.old.swap + (if is_ok result then 0 else 1) }
-        ensures placed { places self.new ≡ after_page_out frame (is_ok result) (places self.old) }
-        ensures sound { IsStoreSound self.new }
+        ensures { PagesOut frame self.old self.new result }
     {
         let slot = self.slot_for(frame);
         self.write_back(frame, slot)
@@ -163,17 +163,21 @@ impl<P: Pager> PageStore<P> {
         requires clean { (frame_at self.old.frames frame).dirty ≡ false }
         ensures page { (frame_at self.old.frames frame).owner ≡ Some result }
         ensures was { (rec_by self.old.segs result).frame ≡ Some frame }
-        ensures frames { self.new.frames ≡ set self.old.frames frame (record no_frame { bytes = (frame_at self.old.frames frame).bytes }) }
-        ensures segs { self.new.segs ≡ with_rec self.old.segs result (record (rec_by self.old.segs result) { frame = None }) }
+        ensures frames { let bytes = (frame_at self.old.frames frame).bytes in
+            self.new.frames ≡ set self.old.frames frame (record no_frame { bytes = bytes }) }
+        ensures segs { let place = record (rec_by self.old.segs result) { frame = None } in
+            self.new.segs ≡ with_rec self.old.segs result place }
         ensures rest { self.new ≡ record self.old { segs = self.new.segs; frames = self.new.frames } }
         ensures placed { places self.new ≡ vacated frame (places self.old) }
         ensures goes { Goes self.old self.new }
         ensures sound { IsStoreSound self.new }
     {
         let page = self.frames.resident_page(frame);
-        let place = self.segs.page(page);
+        let table = self.segs.table_of(page);
+        let place = self.segs.page_in(table, page);
         self.frames.empty(frame);
         self.segs.set_page(
+            table,
             page,
             PageRec {
                 frame: None,
@@ -205,18 +209,7 @@ impl<P: Pager> PageStore<P> {
     fn clean(&mut self, frame: FrameNo) -> Result<bool, PagerFault>
         requires there { frame < length self.old.frames }
         requires owned { IsSome (frame_at self.old.frames frame).owner }
-        ensures ok { OnOk result (self.new.frames ≡ set self.old.frames frame (record (frame_at self.old.frames frame) { dirty = false })) }
-        ensures err { OnErr result (self.new.frames ≡ self.old.frames) }
-        ensures written { IfOk result (λ w. w ≡ (frame_at self.old.frames frame).dirty) }
-        ensures rest { self.new ≡ record self.old { segs = self.new.segs; frames = self.new.frames; swap = self.new.swap; outs = self.new.outs } }
-        ensures outs { self.new.outs ≡ raised self.old.outs (one_if (is_ok result && (frame_at self.old.frames frame).dirty)) }
-        ensures placed { OnOk result (places self.new ≡ after_clean frame (places self.old)) }
-        ensures stopped { OnErr result (places self.new ≡ after_page_out frame false (places self.old)) }
-        ensures dirty { OnErr result ((frame_at self.old.frames frame).dirty ≡ true) }
-        ensures still { Still self.old self.new }
-        ensures away { StaysAway self.old self.new }
-        ensures goes { Goes self.old self.new }
-        ensures cause { OnErr result (had_cause self.old.swap self.new.swap ≡ true) }
+        ensures { Cleans frame self.old self.new result }
     {
         if !self.frames.is_dirty(frame) {
             return Ok(false);
@@ -229,17 +222,7 @@ impl<P: Pager> PageStore<P> {
     // stands behind that frame then, also after a failure.
     fn evict(&mut self, pinned: Option<FrameNo>) -> Result<Evicted, PagerFault>
         requires full { OwnedBelow self.old.frames (length self.old.frames) }
-        ensures visits { (r : Ref) → Visits r pinned self.old self.new }
-        ensures gone { IfOk result (λ e. (s : Ref) → frame_by self.new s ≡ (if is_page e.page s.seg s.page then None else frame_by self.old s)) }
-        ensures free { IfOk result (λ e. (e.frame < length self.new.frames) × ((frame_at self.new.frames e.frame).owner ≡ None)) }
-        ensures err { OnErr result (Still self.old self.new) }
-        ensures hand { self.new.hand ≡ turned self.old pinned }
-        ensures ins { self.new.ins ≡ self.old.ins }
-        ensures outs { MatchResult result (λ e. self.new.outs ≡ raised self.old.outs (one_if e.written)) (λ _. self.new.outs ≡ self.old.outs) }
-        ensures placed { OnOk result (places self.new ≡ after_eviction pinned (places self.old)) }
-        ensures chosen { IfOk result (λ e. e.frame ≡ victim_in pinned (places self.old)) }
-        ensures stopped { OnErr result (StopsAtWrite pinned (places self.old) (places self.new)) }
-        ensures cause { OnErr result (had_cause self.old.swap self.new.swap ≡ true) }
+        ensures { Evicts pinned self.old self.new result }
     {
         let frame = self.turn(pinned);
         let written = self.clean(frame)?;
@@ -258,7 +241,8 @@ impl<P: Pager> PageStore<P> {
         requires slot { MatchOption slot (Unit {0}) (λ k. HasSlot self.old.swap k.area k.slot) }
         ensures bytes { OnOk result ((frame_at self.new.frames frame).bytes ≡ slot_bytes self.old.swap slot) }
         ensures swap { OnOk result (self.new.swap ≡ self.old.swap) }
-        ensures rest { self.new ≡ record self.old { frames = self.new.frames; swap = self.new.swap; ins = self.new.ins } }
+        ensures rest { let t = self.new in
+            t ≡ record self.old { frames = t.frames; swap = t.swap; ins = t.ins } }
         ensures ins { self.new.ins ≡ raised self.old.ins (one_if (is_ok result && is_some slot)) }
         ensures free { (frame_at self.new.frames frame).owner ≡ None }
         ensures placed { places self.new ≡ places self.old }
@@ -271,15 +255,16 @@ impl<P: Pager> PageStore<P> {
         Ok(())
     }
 
-    // Gives a free frame that has a page's bytes to the page, whose slot is handed in.
-    fn settle(&mut self, frame: FrameNo, page: PageRef, slot: Option<Slot>)
+    // Gives a free frame that has a page's bytes to the page, which keeps its slot or none.
+    fn settle(&mut self, frame: FrameNo, page: PageRef, table: usize)
         requires there { frame < length self.old.frames }
         requires free { (frame_at self.old.frames frame).owner ≡ None }
         requires has { HasPage self.old.segs page }
         requires away { frame_by self.old page ≡ None }
-        requires slot { slot ≡ (rec_by self.old.segs page).slot }
-        requires bytes { (frame_at self.old.frames frame).bytes ≡ slot_bytes self.old.swap slot }
-        ensures came { (s : Ref) → frame_by self.new s ≡ (if is_page page s.seg s.page then Some frame else frame_by self.old s) }
+        requires at { IsAt self.old.segs table page.seg }
+        requires bytes { let slot = (rec_by self.old.segs page).slot in
+            (frame_at self.old.frames frame).bytes ≡ slot_bytes self.old.swap slot }
+        ensures came { OnlyMoves page (Some frame) self.old self.new }
         ensures bit { (frame_at self.new.frames frame).referenced ≡ true }
         ensures placed { places self.new ≡ settled page frame (places self.old) }
         ensures rest { self.new ≡ record self.old { segs = self.new.segs; frames = self.new.frames } }
@@ -287,11 +272,13 @@ impl<P: Pager> PageStore<P> {
     {
         self.frames.fill(frame, page);
         self.frames.set_referenced(frame, true);
+        let place = self.segs.page_in(table, page);
         self.segs.set_page(
+            table,
             page,
             PageRec {
                 frame: Some(frame),
-                slot,
+                slot: place.slot,
             },
         );
     }
@@ -309,23 +296,12 @@ impl<P: Pager> PageStore<P> {
         requires away { frame_by self.old page ≡ None }
         requires room { length touched.old.moved.items < 4 }
         requires small { touched.old.ins < 2 ^ 32 }
-        ensures here { OnOk result (frame_by self.new page ≡ Some frame) }
-        ensures bit { OnOk result (referenced_at self.new frame ≡ true) }
-        ensures visits { (pinned : Option ℕ) → Visits page pinned self.old self.new }
-        ensures moves { MovesOn touched.old.moved.items touched.new.moved.items self.old self.new }
-        ensures few { length touched.new.moved.items ≤ length touched.old.moved.items + 1 }
-        ensures ins { touched.new.ins ≡ touched.old.ins + one_if (is_ok result && is_some (rec_by self.old.segs page).slot) }
-        ensures outs { touched.new.outs ≡ touched.old.outs }
-        ensures counts { CountsOn touched.old touched.new self.old self.new }
-        ensures hand { self.new.hand ≡ self.old.hand }
-        ensures placed { OnOk result (places self.new ≡ settled page frame (places self.old)) }
-        ensures stopped { OnErr result (places self.new ≡ places self.old) }
-        ensures slot { OnErr result (is_some (rec_by self.old.segs page).slot ≡ true) }
-        ensures cause { OnErr result (had_cause self.old.swap self.new.swap ≡ true) }
+        ensures { ComesIn frame page self.old self.new touched.old touched.new result }
     {
-        let slot = self.segs.page(page).slot;
+        let table = self.segs.table_of(page);
+        let slot = self.segs.page_in(table, page).slot;
         self.load(frame, slot)?;
-        self.settle(frame, page, slot);
+        self.settle(frame, page, table);
         touched.ins += u64::from(slot.is_some());
         touched.moved.push(PageMove::Came(page, frame));
         Ok(())
@@ -339,18 +315,7 @@ impl<P: Pager> PageStore<P> {
     ) -> Result<FrameNo, PagerFault>
         requires room { length touched.old.moved.items < 4 }
         requires small { touched.old.outs < 2 ^ 32 }
-        ensures free { IfOk result (λ f. (f < length self.new.frames) × ((frame_at self.new.frames f).owner ≡ None)) }
-        ensures visits { (page : Ref) → Visits page pinned self.old self.new }
-        ensures moves { MovesOn touched.old.moved.items touched.new.moved.items self.old self.new }
-        ensures few { length touched.new.moved.items ≤ length touched.old.moved.items + 1 }
-        ensures ins { touched.new.ins ≡ touched.old.ins }
-        ensures outs { touched.new.outs ≤ touched.old.outs + 1 }
-        ensures counts { CountsOn touched.old touched.new self.old self.new }
-        ensures hand { self.new.hand ≡ hand_for_frame self.old pinned }
-        ensures placed { OnOk result (places self.new ≡ after_room pinned (places self.old)) }
-        ensures chosen { IfOk result (λ f. f ≡ frame_for pinned (places self.old)) }
-        ensures stopped { OnErr result (StopsAtWrite pinned (places self.old) (places self.new)) }
-        ensures cause { OnErr result (had_cause self.old.swap self.new.swap ≡ true) }
+        ensures { MakesRoom pinned self.old self.new touched.old touched.new result }
     {
         if let Some(frame) = self.frames.free_frame() {
             return Ok(frame);
@@ -373,7 +338,7 @@ impl<P: Pager> PageStore<P> {
         requires away { frame_by self.old page ≡ None }
         requires room { length touched.old.moved.items ≤ 2 }
         requires small { (touched.old.ins < 2 ^ 32) × (touched.old.outs < 2 ^ 32) }
-        ensures here { IfOk result (λ f. (frame_by self.new page ≡ Some f) × (referenced_at self.new f ≡ true)) }
+        ensures here { IfOk result (IsSeenIn self.new page) }
         ensures visited { Visited page pinned None self.old self.new touched.old touched.new (is_ok result) }
         ensures placed { OnOk result (places self.new ≡ after_visit page pinned (places self.old)) }
         ensures stopped { OnErr result (StopsAt page pinned (places self.old) (places self.new)) }
@@ -409,7 +374,7 @@ impl<P: Pager> PageStore<P> {
         requires known { known ≡ frame_by self.old page }
         requires room { length touched.old.moved.items ≤ 2 }
         requires small { (touched.old.ins < 2 ^ 32) × (touched.old.outs < 2 ^ 32) }
-        ensures here { IfOk result (λ f. (frame_by self.new page ≡ Some f) × (referenced_at self.new f ≡ true)) }
+        ensures here { IfOk result (IsSeenIn self.new page) }
         ensures visited { Visited page pinned known self.old self.new touched.old touched.new (is_ok result) }
         ensures placed { OnOk result (places self.new ≡ after_visit page pinned (places self.old)) }
         ensures stopped { OnErr result (StopsAt page pinned (places self.old) (places self.new)) }

@@ -8,8 +8,8 @@ use shm_pager::Pager;
 use shm_slots::Swap;
 
 impl<P: Pager> PageStore<P> {
-    /// The frames with their owners and bits. A look at a referenced bit that is none of the clock's counts in
-    /// a counter of its own.
+    /// The frames with their owners and bits. Looks at referenced bits other than the clock's have a counter
+    /// of their own.
     pub fn frames(&self) -> &Frames
         ensures { result.now ≡ self.now.frames }
     {

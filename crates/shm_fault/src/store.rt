@@ -89,7 +89,8 @@ impl<P: Pager> PageStore<P> {
         requires new { is_held (held self.old) seg ≡ false }
         requires room { pages_in_store (held self.old) + pages ≤ swap_slots self.old.swap }
         ensures held { OnOk result (held self.new ≡ with_zeros (held self.old) seg pages) }
-        ensures rest { OnOk result (self.new ≡ record self.old { segs = self.old.segs ++ new_seg seg pages ∷ [] }) }
+        ensures rest { let segs = self.old.segs ++ new_seg seg pages ∷ [] in
+            OnOk result (self.new ≡ record self.old { segs = segs }) }
         ensures still { Still self.old self.new }
         ensures err { OnErr result (self.new ≡ self.old) }
         ensures sound { IsStoreSound self.new }
@@ -101,7 +102,8 @@ impl<P: Pager> PageStore<P> {
     /// The pages of locked segments and 2 are at most the frames.
     pub fn set_locked(&mut self, seg: u32, locked: bool)
         requires there { is_held (held self.old) seg ≡ true }
-        requires few { locked ≡ true → locked_pages_in_store (with_lock (held self.old) seg true) + 2 ≤ length self.old.frames }
+        requires few { let after = with_lock (held self.old) seg true in
+            locked ≡ true → locked_pages_in_store after + 2 ≤ length self.old.frames }
         ensures only { self.new ≡ record self.old { segs = map (with_seg_lock seg locked) self.old.segs } }
         ensures held { held self.new ≡ with_lock (held self.old) seg locked }
         ensures still { Still self.old self.new }

@@ -3,6 +3,7 @@ ghost use Rattle.shm_fault.specs.Access.{IsUntouched};
 
 use arrayvec::ArrayVec;
 use shm_base::{FrameNo, PageRef};
+use thiserror::Error;
 
 /// A page left its frame, or came into one.
 #[derive(Clone, Copy, Debug, PartialEq, Eq)]
@@ -36,7 +37,8 @@ impl Drop for Touched {
 }
 
 /// A pager failed. What was read and written before is counted, and the pages that moved are named.
-#[derive(Debug)]
+#[derive(Debug, Error)]
+#[error("a pager failed")]
 pub struct PagerFailed {
     pub touched: Touched,
 }

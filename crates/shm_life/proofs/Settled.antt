@@ -26,8 +26,8 @@ noted-well limits t u rs after ts us m n ms w same frames runners noted moved = 
 
 -- what an access names has moved, whether it was done or not
 pub moved-by : {A E : Type 0} (ps : List Span) (m n : StoreView) (u : Touched) (r : Result A E) → Accessed ps m n (answer_of u r) → MovesLead u.moved.items m n
-moved-by ps m n u (Ok a) accessed = accessed.moved
-moved-by ps m n u (Err e) accessed = accessed.moved
+moved-by ps m n u (Ok a) accessed = accessed.paged.moves
+moved-by ps m n u (Err e) accessed = accessed.paged.moves
 
 -- WHAT PIECES NAME IS LIVE
 

@@ -1,6 +1,6 @@
-//! Pagers: stores of pages by slot, any of whose reads and writes may fail. Behind one trait stand
-//! pages in memory, sparse pages, a pager that fails where it is told to, and two pagers kept alike; and
-//! [`AreaPager`], which is a swap area of any of these kinds.
+//! Pagers: stores of pages by slot, any of whose reads and writes may fail. One trait has four kinds:
+//! pages in memory, sparse pages, a pager that fails at chosen operations, and a mirror that keeps each page
+//! in two pagers. [`AreaPager`] is a swap area of any of these kinds.
 #![tactic(auto)]
 
 mod area;

@@ -58,7 +58,7 @@ impl Drop for CountedPager {
     }
 }
 
-// A fuse round such a pager of one slot that has counted so many failures.
+// A fuse around a counted pager of one slot, whose failure counter is `failures`.
 fn fuse_round(
     alloc: Global,
     failures: u64,

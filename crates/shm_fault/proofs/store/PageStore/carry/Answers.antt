@@ -22,7 +22,7 @@ kept : (g : given.Over) (c : After-set_page g) → Keeps (seen c.self.inside) (r
 kept g c =
     let e = c.relocate.ensures in
     rw c.set_page.ensures
-    (keeps-carried (seen c.self.inside) c.self.invariant c.args.page c.args.slot c.in_ok-to.to c.relocate.new.swap (rw (← c.self.view_is) at c.requires.place) c.in_ok-to.ensures.ok e.sound e.sizes e.goes_on)
+    (keeps-carried (seen c.self.inside) c.self.invariant c.args.page c.args.slot c.in_ok-to.to c.relocate.new.swap (rw (← c.self.view_is) at c.requires.place) c.in_ok-to.ensures.ok e.sound e.same_sizes e.goes_on)
 
 own : (g : given.Over) (c : After-self g) → HasSlot c.self.inside.swap c.args.slot.area c.args.slot.slot × (owner_of c.self.inside.swap c.args.slot.area c.args.slot.slot ≡ Some c.args.page)
 own g c = slot-own (seen c.self.inside) c.self.invariant c.args.page c.args.slot (ap (λ (p : PageRec). p.slot) (place g c))
@@ -31,7 +31,7 @@ own g c = slot-own (seen c.self.inside) c.self.invariant c.args.page c.args.slot
 failed : (g : given.Over) (c : After-relocate g) → SameOwned c.self.inside.swap c.relocate.new.swap → Keeps (seen c.self.inside) (record (seen c.self.inside) { swap = c.relocate.new.swap })
 failed g c same =
     let e = c.relocate.ensures in
-    keeps-owned (seen c.self.inside) c.self.invariant c.relocate.new.swap same e.sound e.sizes e.goes_on
+    keeps-owned (seen c.self.inside) c.self.invariant c.relocate.new.swap same e.sound e.same_sizes e.goes_on
 
 pub relocate-requires-clause-there : goal.relocate-requires-clause-there
 relocate-requires-clause-there g c = (own g (goal.at.relocate-requires-clause-there g c).After-self).0
@@ -40,8 +40,8 @@ pub relocate-requires-clause-room : goal.relocate-requires-clause-room
 relocate-requires-clause-room g c =
     has-room (seen c.self.inside) c.self.invariant c.args.slot c.args.page (own g (goal.at.relocate-requires-clause-room g c).After-self).1 (rw (← c.self.view_is) at c.requires.room)
 
-pub set_page-requires : goal.set_page-requires
-set_page-requires g c = has g (goal.at.set_page-requires g c).After-self
+pub set_page-requires-clause-has : goal.set_page-requires-clause-has
+set_page-requires-clause-has g c = has g (goal.at.set_page-requires-clause-has g c).After-self
 
 pub invariant_of-self-2 : goal.invariant_of-self-2
 invariant_of-self-2 g c = (kept g c).sound

@@ -1,28 +1,73 @@
 use Rattle.std.proofs.lemmas.Result.{MatchResult-from_err}
-use Rattle.shm_fault.proofs.Names.{◌∙◌, true, false, sym}
+use Rattle.shm_fault.proofs.Names.{◌≡◌, ◌∙◌, arith, common_steps, true, false, refl, sym, frame_at}
 use Rattle.shm_fault.proofs.Changes.{dirty-same}
 use Rattle.shm_fault.proofs.Places.{clean-is, dirty-is}
+use Rattle.shm_fault.specs.Store.{frame_of}
 use Rattle.shm_fault.proofs.store.PageStore.clean.Goals as goal
-
-pub returns-then-not-is_dirty-clause-ok : goal.returns-then-not-is_dirty-clause-ok
-returns-then-not-is_dirty-clause-ok g c = rw (← c.self.view_is) (sym (dirty-same c.self.inside.frames c.args.frame false (sym c.is_dirty.ensures ∙ c.if-not-is_dirty.true)))
 
 pub page_out-requires-clause-dirty : goal.page_out-requires-clause-dirty
 page_out-requires-clause-dirty g c = rw (← c.self.view_is) (sym c.is_dirty.ensures ∙ c.if-not-is_dirty.false)
 
-pub returns-in_err-page_out-clause-err : goal.returns-in_err-page_out-clause-err
-returns-in_err-page_out-clause-err g c =
-    MatchResult-from_err _ _ _ c.from_residual.ensures.0 λ _. c.in_err-page_out.ensures.frames ∙ dirty-same c.args.self.now.frames c.args.frame true (rw (← c.self.view_is) (sym c.is_dirty.ensures ∙ c.if-not-is_dirty.false))
+pub returns-then-not-is_dirty : goal.returns-then-not-is_dirty
+unfolding frame_of
+returns-then-not-is_dirty g c =
+    let s = c.args.self.now in
+    let f = c.args.frame in
+    let not_dirty : (frame_at s.frames f).dirty ≡ false = rw (← c.self.view_is) (sym c.is_dirty.ensures ∙ c.if-not-is_dirty.true) in
+    record {
+      ok = sym (dirty-same s.frames f false not_dirty);
+      err = tt;
+      written = sym not_dirty;
+      rest = refl;
+      outs = rw not_dirty refl;
+      placed = clean-is s f not_dirty;
+      stopped = tt;
+      dirty = tt;
+      still = λ seg page. refl;
+      away = λ q e. refl;
+      goes = grind (arith, common_steps);
+      cause = tt;
+    }
 
-pub returns-then-not-is_dirty-clause-placed : goal.returns-then-not-is_dirty-clause-placed
-returns-then-not-is_dirty-clause-placed g c = clean-is c.args.self.now c.args.frame (rw (← c.self.view_is) (sym c.is_dirty.ensures ∙ c.if-not-is_dirty.true))
+pub returns : goal.returns
+returns g c =
+    let s = c.args.self.now in
+    let f = c.args.frame in
+    let dirty : (frame_at s.frames f).dirty ≡ true = rw (← c.self.view_is) (sym c.is_dirty.ensures ∙ c.if-not-is_dirty.false) in
+    let e = c.in_ok-page_out.ensures in
+    record {
+      ok = e.frames;
+      err = tt;
+      written = sym dirty;
+      rest = e.rest;
+      outs = rw dirty e.outs;
+      placed = dirty-is s c.page_out.new.self f dirty e.placed;
+      stopped = tt;
+      dirty = tt;
+      still = e.still;
+      away = e.away;
+      goes = e.goes;
+      cause = tt;
+    }
 
-pub returns-clause-placed : goal.returns-clause-placed
-returns-clause-placed g c =
-    dirty-is c.args.self.now c.page_out.new.self c.args.frame (rw (← c.self.view_is) (sym c.is_dirty.ensures ∙ c.if-not-is_dirty.false)) c.in_ok-page_out.ensures.placed
-
-pub returns-in_err-page_out-clause-stopped : goal.returns-in_err-page_out-clause-stopped
-returns-in_err-page_out-clause-stopped g c = MatchResult-from_err _ _ _ c.from_residual.ensures.0 λ _. c.in_err-page_out.ensures.placed
-
-pub returns-in_err-page_out-clause-dirty : goal.returns-in_err-page_out-clause-dirty
-returns-in_err-page_out-clause-dirty g c = MatchResult-from_err _ _ _ c.from_residual.ensures.0 λ _. rw (← c.self.view_is) (sym c.is_dirty.ensures ∙ c.if-not-is_dirty.false)
+pub returns-in_err-page_out : goal.returns-in_err-page_out
+returns-in_err-page_out g c =
+    let s = c.args.self.now in
+    let f = c.args.frame in
+    let dirty : (frame_at s.frames f).dirty ≡ true = rw (← c.self.view_is) (sym c.is_dirty.ensures ∙ c.if-not-is_dirty.false) in
+    let e = c.in_err-page_out.ensures in
+    let from = c.from_residual.ensures.0 in
+    record {
+      ok = grind (arith, common_steps);
+      err = MatchResult-from_err _ _ _ from λ _. e.frames ∙ dirty-same s.frames f true dirty;
+      written = grind (arith, common_steps);
+      rest = e.rest;
+      outs = grind (arith, common_steps);
+      placed = grind (arith, common_steps);
+      stopped = MatchResult-from_err _ _ _ from λ _. e.placed;
+      dirty = MatchResult-from_err _ _ _ from λ _. dirty;
+      still = e.still;
+      away = e.away;
+      goes = e.goes;
+      cause = MatchResult-from_err _ _ _ from λ _. e.cause;
+    }

@@ -1,4 +1,4 @@
-use Rattle.shm_fault.proofs.Names.{◌≡◌, ap, arith, PageRec, count_by_id, HasPage, Dropped}
+use Rattle.shm_fault.proofs.Names.{◌≡◌, ◌≢◌, ℕ, ap, arith, PageRec, PageRef, StoreView, count_by_id, rec_by, HasPage, Dropped}
 use Rattle.shm_fault.specs.Store.{frame_of}
 use Rattle.shm_fault.proofs.Seen.{seen}
 use Rattle.shm_fault.proofs.Pages.{count-same}
@@ -35,30 +35,31 @@ loop-page-preserved g c =
 pub invariant_of-self : goal.invariant_of-self
 invariant_of-self g c = (done g c).sound
 
-pub returns-clause-sound : goal.returns-clause-sound
-returns-clause-sound g c = (done g c).sound
-
-pub returns-clause-held : goal.returns-clause-held
-returns-clause-held g c = (done g c).bytes
-
-pub returns-clause-frames : goal.returns-clause-frames
-returns-clause-frames g c = (done g c).frames
-
-pub returns-clause-slots : goal.returns-clause-slots
-returns-clause-slots g c = λ area slot. (done g c).slots (record { area = area; slot = slot })
-
-pub returns-clause-still : goal.returns-clause-still
-unfolding frame_of
-returns-clause-still g c = λ seg page ne. ap (λ (p : PageRec). p.frame) ((done g c).still (record { seg = seg; page = page }) ne)
-
 pub loop-page-init : goal.loop-page-init
 loop-page-init g c = rw (← c.self.view_is) (dropped-none c.args.seg (seen c.self.inside))
 
-pub returns-clause-places : goal.returns-clause-places
-returns-clause-places g c =
+still : (seg : ℕ) (s t : StoreView) → ((q : PageRef) → q.seg ≢ seg → rec_by t.segs q ≡ rec_by s.segs q) → (other page : ℕ) → other ≢ seg → frame_of t other page ≡ frame_of s other page
+unfolding frame_of
+still seg s t same other page ne = ap (λ (p : PageRec). p.frame) (same (record { seg = other; page = page }) ne)
+
+pub returns : goal.returns
+returns g c =
     let s = c.args.self.now in
     let t = seen c.self-2.inside in
+    let is = done g (goal.at.returns g c).After-remove in
     let d : Dropped c.args.seg c.loop-page.page s t = rw (← c.self-2.view_is) at c.loop-page.invariant in
     let count : c.count-count.result ≡ count_by_id s.segs c.args.seg = rw (← c.self.view_is) c.count-count.ensures in
     let all : c.loop-page.page ≡ count_by_id s.segs c.args.seg = omega (arith, count, c.loop-page-test.false, c.loop-page.auto.page-end) in
-    rw (← all, c.remove.ensures) (segment-gone c.args.seg c.loop-page.page s t d.placed)
+    record {
+      held = is.bytes;
+      frames = is.frames;
+      slots = λ area slot. is.slots (record { area = area; slot = slot });
+      still = still c.args.seg s (record t { segs = c.remove.new.self }) is.still;
+      counts = (d.steady.failures, d.steady.goes_on);
+      sizes = d.steady.same_sizes;
+      count = d.size;
+      rest = record { hand = d.rest.hand; ins = d.rest.ins; outs = d.rest.outs };
+      places = rw (← all, c.remove.ensures) (segment-gone c.args.seg c.loop-page.page s t d.placed);
+      blank = is.blank;
+      sound = is.sound;
+    }

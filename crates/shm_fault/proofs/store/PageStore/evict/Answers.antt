@@ -3,49 +3,64 @@ use Rattle.shm_fault.proofs.Names.{arith, common_steps, ◌≡◌, Some, false, 
 use Rattle.shm_frames.specs.Frame.{is_free}
 use Rattle.shm_frames.proofs.First.{position-none}
 use Rattle.shm_fault.proofs.Pages.{by-still, still-by}
+use Rattle.shm_fault.proofs.Sound.{cause-after}
 use Rattle.shm_fault.proofs.Visits.{evicted-gone, evicted-visits}
 use Rattle.shm_fault.proofs.Places.{eviction-is, stops-write}
 use Rattle.shm_fault.proofs.store.PageStore.evict.Goals as goal
 
-pub returns-clause-gone : goal.returns-clause-gone
-returns-clause-gone g c =
-    let s = c.args.self.now in
-    let segs = ap (λ (v : StoreView). v.segs) c.turn-frame.ensures.rest in
-    evicted-gone s c.turn-frame.new.self c.clean.new.self c.vacate-page.new.self c.turn-frame.result c.vacate-page.result c.args.pinned no_frame no_frame
-    segs c.clean.ensures.still c.clean.ensures.away c.vacate-page.ensures.was c.vacate-page.ensures.segs
-
-pub returns-clause-visits : goal.returns-clause-visits
-returns-clause-visits g c =
-    let s = c.args.self.now in
-    let t₁ = c.turn-frame.new.self in
-    let f = c.turn-frame.result in
-    let segs = ap (λ (v : StoreView). v.segs) c.turn-frame.ensures.rest in
-    let set_at = get_or-set_same t₁.frames f (record (frame_at t₁.frames f) { dirty = false }) no_frame (rw c.turn-frame.ensures.goes.size c.turn-frame.ensures.there) in
-    let owner : (frame_at s.frames f).owner ≡ Some c.vacate-page.result = sym (c.turn-frame.ensures.alike f).owner ∙ (sym (ap (λ (fs : List Frame). (frame_at fs f).owner) c.in_ok-written.ensures.ok ∙ ap (λ (x : Frame). x.owner) set_at) ∙ c.vacate-page.ensures.page) in
-    evicted-visits s t₁ c.clean.new.self c.vacate-page.new.self f c.vacate-page.result c.args.pinned (record (frame_at t₁.frames f) { dirty = false }) (record no_frame { bytes = (frame_at c.clean.new.self.frames f).bytes })
-    segs c.clean.ensures.still c.clean.ensures.away c.vacate-page.ensures.was c.vacate-page.ensures.segs
-    c.turn-frame.ensures.goes c.clean.ensures.goes c.vacate-page.ensures.goes c.turn-frame.ensures.pin c.in_ok-written.ensures.ok c.vacate-page.ensures.frames c.turn-frame.ensures.may owner
-
 pub vacate-page-requires-clause-there : goal.vacate-page-requires-clause-there
 vacate-page-requires-clause-there g c = rw (c.in_ok-written.ensures.ok, length-set, c.turn-frame.ensures.goes.size) c.turn-frame.ensures.there
 
-pub returns-clause-hand : goal.returns-clause-hand
-returns-clause-hand g c = ap (λ (v : StoreView). v.hand) c.vacate-page.ensures.rest ∙ ap (λ (v : StoreView). v.hand) c.clean.ensures.rest ∙ c.turn-frame.ensures.hand
+pub returns : goal.returns
+returns g c =
+    let s = c.args.self.now in
+    let t₁ = c.turn-frame.new.self in
+    let t₂ = c.clean.new.self in
+    let t₃ = c.vacate-page.new.self in
+    let f = c.turn-frame.result in
+    let turned = c.turn-frame.ensures in
+    let cleaned = c.clean.ensures in
+    let left = c.vacate-page.ensures in
+    let segs = ap (λ (v : StoreView). v.segs) turned.rest in
+    let set_at = get_or-set_same t₁.frames f (record (frame_at t₁.frames f) { dirty = false }) no_frame (rw turned.goes.size turned.there) in
+    let owner : (frame_at s.frames f).owner ≡ Some c.vacate-page.result = sym (turned.alike f).owner ∙ (sym (ap (λ (fs : List Frame). (frame_at fs f).owner) c.in_ok-written.ensures.ok ∙ ap (λ (x : Frame). x.owner) set_at) ∙ left.page) in
+    record {
+      visits =
+          evicted-visits s t₁ t₂ t₃ f c.vacate-page.result c.args.pinned (record (frame_at t₁.frames f) { dirty = false }) (record no_frame { bytes = (frame_at t₂.frames f).bytes })
+          segs cleaned.still cleaned.away left.was left.segs turned.goes cleaned.goes left.goes turned.pin c.in_ok-written.ensures.ok left.frames turned.may owner;
+      gone = evicted-gone s t₁ t₂ t₃ f c.vacate-page.result c.args.pinned no_frame no_frame segs cleaned.still cleaned.away left.was left.segs;
+      free = grind (arith, common_steps, length-set, get_or-set_same);
+      err = tt;
+      hand = ap (λ (v : StoreView). v.hand) left.rest ∙ ap (λ (v : StoreView). v.hand) cleaned.rest ∙ turned.hand;
+      ins = ap (λ (v : StoreView). v.ins) left.rest ∙ ap (λ (v : StoreView). v.ins) cleaned.rest ∙ ap (λ (v : StoreView). v.ins) turned.rest;
+      outs = grind (arith, common_steps);
+      placed = eviction-is s t₁ t₂ t₃ c.args.pinned f turned.chosen turned.placed c.in_ok-written.ensures.placed left.placed;
+      chosen = turned.chosen;
+      stopped = tt;
+      cause = tt;
+    }
 
-pub returns-in_err-written-clause-hand : goal.returns-in_err-written-clause-hand
-returns-in_err-written-clause-hand g c = ap (λ (v : StoreView). v.hand) c.clean.ensures.rest ∙ c.turn-frame.ensures.hand
-
-pub returns-in_err-written-clause-visits : goal.returns-in_err-written-clause-visits
-returns-in_err-written-clause-visits g c = let still = still-by _ _ c.clean.ensures.still in grind (arith, common_steps, still)
-
-pub returns-in_err-written-clause-err : goal.returns-in_err-written-clause-err
-returns-in_err-written-clause-err g c = MatchResult-from_err _ _ _ c.from_residual.ensures.0 λ _. by-still _ _ λ r. still-by _ _ c.clean.ensures.still r ∙ ap (λ (v : StoreView). (rec_by v.segs r).frame) c.turn-frame.ensures.rest
-
-pub returns-clause-placed : goal.returns-clause-placed
-returns-clause-placed g c =
-    eviction-is c.args.self.now c.turn-frame.new.self c.clean.new.self c.vacate-page.new.self c.args.pinned c.turn-frame.result c.turn-frame.ensures.chosen c.turn-frame.ensures.placed c.in_ok-written.ensures.placed c.vacate-page.ensures.placed
-
-pub returns-in_err-written-clause-stopped : goal.returns-in_err-written-clause-stopped
-returns-in_err-written-clause-stopped g c = MatchResult-from_err _ _ _ c.from_residual.ensures.0 λ _.
-    stops-write c.args.self.now c.turn-frame.new.self c.clean.new.self c.args.pinned c.turn-frame.result c.turn-frame.ensures.chosen c.turn-frame.ensures.placed c.in_err-written.ensures.stopped
-    (position-none is_free c.args.self.now.frames no_frame c.requires.full) (sym (c.turn-frame.ensures.alike c.turn-frame.result).dirty ∙ c.in_err-written.ensures.dirty)
+pub returns-in_err-written : goal.returns-in_err-written
+returns-in_err-written g c =
+    let s = c.args.self.now in
+    let t₁ = c.turn-frame.new.self in
+    let t₂ = c.clean.new.self in
+    let turned = c.turn-frame.ensures in
+    let cleaned = c.clean.ensures in
+    let from = c.from_residual.ensures.0 in
+    let still = still-by _ _ cleaned.still in
+    record {
+      visits = grind (arith, common_steps, still);
+      gone = grind (arith, common_steps);
+      free = grind (arith, common_steps);
+      err = MatchResult-from_err _ _ _ from λ _. by-still _ _ λ r. still r ∙ ap (λ (v : StoreView). (rec_by v.segs r).frame) turned.rest;
+      hand = ap (λ (v : StoreView). v.hand) cleaned.rest ∙ turned.hand;
+      ins = ap (λ (v : StoreView). v.ins) cleaned.rest ∙ ap (λ (v : StoreView). v.ins) turned.rest;
+      outs = grind (arith, common_steps);
+      placed = grind (arith, common_steps);
+      chosen = grind (arith, common_steps);
+      stopped = MatchResult-from_err _ _ _ from λ _.
+          stops-write s t₁ t₂ c.args.pinned c.turn-frame.result turned.chosen turned.placed c.in_err-written.ensures.stopped
+          (position-none is_free s.frames no_frame c.requires.full) (sym (turned.alike c.turn-frame.result).dirty ∙ c.in_err-written.ensures.dirty);
+      cause = MatchResult-from_err _ _ _ from λ _. cause-after s t₁ t₂ turned.goes cleaned.goes c.in_err-written.ensures.cause;
+    }

@@ -1,4 +1,4 @@
-use Rattle.shm_fault.proofs.Names.{arith, rec_by, Given}
+use Rattle.shm_fault.proofs.Names.{arith, common_steps, refl, rec_by, Given}
 use Rattle.shm_fault.proofs.Seen.{seen}
 use Rattle.shm_fault.proofs.Sound.{frame-own, slot-own}
 use Rattle.shm_fault.proofs.Drops.{with-same, Forgets, forgets}
@@ -12,27 +12,32 @@ done : (g : given.Over) (c : After-set_page g)
 done g c =
     let i = c.self.inside in
     let e = c.free_slot.ensures in
-    let slot : Given i.swap (rec_by i.segs c.args.page).slot c.free_slot.new.swap = rw c.page-place.ensures at e.given in
-    rw (c.set_page.ensures, c.empty_frame.ensures, c.page-place.ensures)
+    let slot : Given i.swap (rec_by i.segs c.args.page).slot c.free_slot.new.swap = rw c.page_in-place.ensures at e.given in
+    rw (c.set_page.ensures, c.empty_frame.ensures, c.page_in-place.ensures)
     (forgets (seen i) c.self.invariant c.args.page (rw (← c.self.view_is) at c.requires) c.free_slot.new.swap slot e.sound e.steady)
 
 pub empty_frame-requires : goal.empty_frame-requires
-empty_frame-requires g c = λ f e. (frame-own (seen c.self.inside) c.self.invariant c.args.page f (rw c.page-place.ensures at e)).0
+empty_frame-requires g c = λ f e. (frame-own (seen c.self.inside) c.self.invariant c.args.page f (rw c.page_in-place.ensures at e)).0
 
 pub free_slot-requires-clause-there : goal.free_slot-requires-clause-there
-free_slot-requires-clause-there g c = λ k e. (slot-own (seen c.self.inside) c.self.invariant c.args.page k (rw c.page-place.ensures at e)).0
+free_slot-requires-clause-there g c = λ k e. (slot-own (seen c.self.inside) c.self.invariant c.args.page k (rw c.page_in-place.ensures at e)).0
 
 pub invariant_of-self : goal.invariant_of-self
 invariant_of-self g c = (done g c).sound
 
-pub returns-clause-held : goal.returns-clause-held
-returns-clause-held g c = rw (← c.self.view_is) (done g c).bytes
-
-pub returns-clause-nowhere : goal.returns-clause-nowhere
-returns-clause-nowhere g c = grind (arith, with-same)
-
-pub returns-clause-placed : goal.returns-clause-placed
-returns-clause-placed g c =
+pub returns : goal.returns
+returns g c =
     let i = c.self.inside in
-    let slot : Given i.swap (rec_by i.segs c.args.page).slot c.free_slot.new.swap = rw c.page-place.ensures at c.free_slot.ensures.given in
-    rw (c.set_page.ensures, c.empty_frame.ensures, c.page-place.ensures, ← c.self.view_is) (forget-is (seen i) c.args.page c.free_slot.new.swap slot)
+    let d = done g (goal.at.returns g c).After-set_page in
+    let slot : Given i.swap (rec_by i.segs c.args.page).slot c.free_slot.new.swap = rw c.page_in-place.ensures at c.free_slot.ensures.given in
+    rw (← c.self.view_is) (record {
+      segs = c.set_page.ensures;
+      held = d.bytes;
+      frames = d.frames;
+      slots = d.slots;
+      size = d.size;
+      steady = c.free_slot.ensures.steady;
+      rest = record { hand = refl; ins = refl; outs = refl };
+      placed = rw (c.set_page.ensures, c.empty_frame.ensures, c.page_in-place.ensures) (forget-is (seen i) c.args.page c.free_slot.new.swap slot);
+      nowhere = grind (arith, common_steps, with-same);
+    })

@@ -1,4 +1,5 @@
-use Rattle.shm_fault.proofs.Names.{◌≡◌, refl, List, Option, None, ℕ, set, ap, length, ◌∙◌, arith, area_at, held, IsStoreSound, Still, common_steps, nat_tests}
+use Rattle.shm_fault.proofs.Names.{◌≡◌, refl, List, Option, None, ℕ, set, ap, length, ◌∙◌, arith, area_at, held, IsStoreSound, Still, StoreView, SwapView, common_steps, nat_tests}
+use Rattle.shm_fault.proofs.Counting.{AtRest-trans}
 use Rattle.shm_fault.specs.Store.{frame_of}
 use Rattle.shm_fault.proofs.Seen.{seen}
 use Rattle.shm_fault.proofs.Sound.{GoesOn-trans, cause-after}
@@ -8,7 +9,7 @@ use Rattle.shm_fault.proofs.Moves.{area-gone, stops-moving}
 use Rattle.shm_fault.proofs.Areas.{cleaned-none}
 use Rattle.shm_fault.proofs.store.PageStore.move_off.Given as given
 use Rattle.shm_fault.proofs.store.PageStore.move_off.Goals as goal
-use Rattle.shm_fault.proofs.store.PageStore.move_off.Goals.{After-unwrap_or-count, After-self-2, In-Err, After-turn_off}
+use Rattle.shm_fault.proofs.store.PageStore.move_off.Goals.{After-unwrap_or-count, After-self-2, In_default, After-turn_off}
 
 -- the slots that are looked at are all that the area has
 count : (g : given.Over) (c : After-unwrap_or-count g) → c.unwrap_or-count.result ≡ length (area_at c.args.self.now.swap c.args.area).pages
@@ -27,8 +28,12 @@ done g c =
     cleaned-off c.args.area c.loop-slot.slot c.args.self.now (seen c.self-2.inside) (cleaned g o.After-self-2) c.requires.there (omega (arith, all, c.loop-slot-test.false))
     c.turn_off.new.self e.gone e.sound e.sizes c.requires.room
 
+still-off : (s t : StoreView) (u : SwapView) → Still s t → Still s (record t { swap = u })
+unfolding frame_of
+still-off s t u still seg page = still seg page
+
 -- a write that failed moved no page's frame
-still-err : (g : given.Over) (c : In-Err g) → Still c.args.self.now c.clear_slot.new.self
+still-err : (g : given.Over) (c : In_default g) → Still c.args.self.now c.clear_slot.new.self
 still-err g c seg page = c.clear_slot.ensures.still seg page ∙ c.loop-slot.invariant.still seg page
 
 pub clear_slot-requires-clause-there : goal.clear_slot-requires-clause-there
@@ -45,16 +50,6 @@ loop-slot-preserved g c =
     let e = c.clear_slot.ensures in
     cleaned-more c.args.area c.loop-slot.slot c.args.self.now c.loop-slot.self c.clear_slot.new.self c.loop-slot.invariant e.sound e.goes e.still e.rest c.in-Ok.ensures.cleared c.in-Ok.ensures.placed
 
-pub returns-in-Err-clause-cause : goal.returns-in-Err-clause-cause
-returns-in-Err-clause-cause g c =
-    cause-after c.args.self.now c.loop-slot.self c.clear_slot.new.self c.loop-slot.invariant.goes c.clear_slot.ensures.goes c.in-Err.ensures.cause
-
-pub returns-in-Err-clause-still : goal.returns-in-Err-clause-still
-returns-in-Err-clause-still g c = still-err g (goal.at.returns-in-Err-clause-still g c).In-Err
-
-pub returns-in-Err-clause-kept : goal.returns-in-Err-clause-kept
-returns-in-Err-clause-kept g c = grind (arith, nat_tests, common_steps, still-err, kept-locked, c.args.self.now, c.clear_slot.new.self)
-
 pub turn_off-requires-clause-free : goal.turn_off-requires-clause-free
 turn_off-requires-clause-free g c =
     let o = goal.at.turn_off-requires-clause-free g c in
@@ -64,52 +59,58 @@ turn_off-requires-clause-free g c =
 pub invariant_of-self : goal.invariant_of-self
 invariant_of-self g c = (done g c).0
 
-pub returns-clause-sound : goal.returns-clause-sound
-returns-clause-sound g c = (done g c).0
-
-pub returns-clause-held : goal.returns-clause-held
-returns-clause-held g c = (done g c).1
-
-pub returns-clause-still : goal.returns-clause-still
-unfolding frame_of
-returns-clause-still g c = λ seg page. (cleaned g (goal.at.returns-clause-still g c).After-self-2).still seg page
-
-pub returns-clause-kept : goal.returns-clause-kept
-returns-clause-kept g c = grind (arith, nat_tests, common_steps, seen, c.self-2.inside, c.turn_off.new.self, kept-locked, c.args.self.now, cleaned)
-
-pub returns-in-Err-clause-held : goal.returns-in-Err-clause-held
-returns-in-Err-clause-held g c = c.clear_slot.ensures.goes.bytes ∙ c.loop-slot.invariant.goes.bytes
-
-pub returns-in-Err-clause-sizes : goal.returns-in-Err-clause-sizes
-returns-in-Err-clause-sizes g c = c.clear_slot.ensures.goes.same_sizes ∙ c.loop-slot.invariant.goes.same_sizes
-
-pub returns-in-Err-clause-counts : goal.returns-in-Err-clause-counts
-returns-in-Err-clause-counts g c = GoesOn-trans _ _ _ c.loop-slot.invariant.goes.goes_on c.clear_slot.ensures.goes.goes_on
-
-pub returns-clause-gone : goal.returns-clause-gone
-returns-clause-gone g c = c.turn_off.ensures.sizes ∙ ap (λ (xs : List (Option ℕ)). set xs c.args.area None) (cleaned g (goal.at.returns-clause-gone g c).After-self-2).goes.same_sizes
-
-pub returns-clause-counts : goal.returns-clause-counts
-returns-clause-counts g c = GoesOn-trans _ _ _ (cleaned g (goal.at.returns-clause-counts g c).After-self-2).goes.goes_on c.turn_off.ensures.goes_on
-
-pub returns-clause-rest : goal.returns-clause-rest
-returns-clause-rest g c =
-    let rest = (cleaned g (goal.at.returns-clause-rest g c).After-self-2).rest in
-    record { hand = rest.hand; ins = rest.ins; outs = rest.outs }
-
-pub returns-in-Err-clause-stopped : goal.returns-in-Err-clause-stopped
-returns-in-Err-clause-stopped g c =
-    let all = count g (goal.at.returns-in-Err-clause-stopped g c).After-unwrap_or-count in
-    let owned : length (area_at c.args.self.now.swap c.args.area).owners ≡ length (area_at c.args.self.now.swap c.args.area).pages = rw (← c.self.view_is) (c.self.invariant.swap.each c.args.area).owned in
-    stops-moving c.args.area c.loop-slot.slot c.args.self.now c.loop-slot.self c.clear_slot.new.self (omega (arith, all, owned, c.loop-slot-test.true)) c.loop-slot.invariant.placed c.in-Err.ensures.stopped
-
 pub loop-slot-init : goal.loop-slot-init
 loop-slot-init g c = rw (← c.self.view_is) (cleaned-none c.args.area (seen c.self.inside) c.self.invariant)
 
-pub returns-clause-places : goal.returns-clause-places
-returns-clause-places g c =
-    let o = goal.at.returns-clause-places g c in
+pub returns-in_default : goal.returns-in_default
+returns-in_default g c =
+    let o = goal.at.returns-in_default g c in
+    let s = c.args.self.now in
+    let t = c.clear_slot.new.self in
+    let e = c.clear_slot.ensures in
+    let before = c.loop-slot.invariant in
     let all = count g o.After-unwrap_or-count in
-    let last : c.loop-slot.slot ≡ length (area_at c.args.self.now.swap c.args.area).pages = omega (arith, all, c.loop-slot-test.false, c.loop-slot.auto.slot-end) in
+    let owned : length (area_at s.swap c.args.area).owners ≡ length (area_at s.swap c.args.area).pages = rw (← c.self.view_is) (c.self.invariant.swap.each c.args.area).owned in
+    let still = still-err g o.In_default in
+    record {
+      held = e.goes.bytes ∙ before.goes.bytes;
+      gone = tt;
+      kept_sizes = e.goes.same_sizes ∙ before.goes.same_sizes;
+      count = e.goes.size ∙ before.goes.size;
+      cause = cause-after s c.loop-slot.self t before.goes e.goes c.in_default.ensures.cause;
+      moved = c.none.ensures.0;
+      rest = AtRest-trans s c.loop-slot.self t before.rest e.rest;
+      moves = tt;
+      stopped = stops-moving c.args.area c.loop-slot.slot s c.loop-slot.self t (omega (arith, all, owned, c.loop-slot-test.true)) before.placed c.in_default.ensures.stopped;
+      still = still;
+      kept = grind (arith, nat_tests, common_steps, still, kept-locked, s, t);
+      counts = GoesOn-trans _ _ _ before.goes.goes_on e.goes.goes_on;
+      sound = e.sound;
+    }
+
+pub returns : goal.returns
+returns g c =
+    let o = goal.at.returns g c in
+    let s = c.args.self.now in
     let t = seen c.self-2.inside in
-    rw (← last) (area-gone c.args.self.now t (record t { swap = c.turn_off.new.self }) c.args.area c.loop-slot.slot (rw c.turn_off.ensures.gone refl) (cleaned g o.After-self-2).placed)
+    let u : StoreView = record t { swap = c.turn_off.new.self } in
+    let is = cleaned g o.After-self-2 in
+    let e = c.turn_off.ensures in
+    let ok = done g o.After-turn_off in
+    let all = count g o.After-unwrap_or-count in
+    let last : c.loop-slot.slot ≡ length (area_at s.swap c.args.area).pages = omega (arith, all, c.loop-slot-test.false, c.loop-slot.auto.slot-end) in
+    record {
+      held = ok.1;
+      gone = e.sizes ∙ ap (λ (xs : List (Option ℕ)). set xs c.args.area None) is.goes.same_sizes;
+      kept_sizes = tt;
+      count = is.goes.size;
+      cause = tt;
+      moved = tt;
+      rest = record { hand = is.rest.hand; ins = is.rest.ins; outs = is.rest.outs };
+      moves = rw (← last) (area-gone s t u c.args.area c.loop-slot.slot (rw e.gone refl) is.placed);
+      stopped = tt;
+      still = still-off s t c.turn_off.new.self is.still;
+      kept = grind (arith, nat_tests, common_steps, u, s, kept-locked, is);
+      counts = GoesOn-trans _ _ _ is.goes.goes_on e.goes_on;
+      sound = ok.0;
+    }

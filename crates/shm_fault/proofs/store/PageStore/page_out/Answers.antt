@@ -1,19 +1,25 @@
-use Rattle.shm_fault.proofs.Names.{ap, ◌∙◌, PageRef, StoreView, rec_by}
+use Rattle.shm_fault.proofs.Names.{arith, common_steps, ap, ◌∙◌, PageRef, StoreView, rec_by}
 use Rattle.shm_fault.specs.Placing.{after_page_out}
 use Rattle.shm_fault.proofs.Failures.{OnErr-map}
-use Rattle.shm_fault.proofs.Sound.{cause-after}
+use Rattle.shm_fault.proofs.Sound.{Goes-trans, cause-after}
 use Rattle.shm_fault.proofs.Pages.{by-still, still-by}
 use Rattle.shm_fault.proofs.store.PageStore.page_out.Goals as goal
 
-pub returns-clause-cause : goal.returns-clause-cause
-returns-clause-cause g c =
-    OnErr-map c.write_back.result _ _ c.write_back.ensures.cause
-    (cause-after c.args.self.now c.slot_for-slot.new.self c.write_back.new.self c.slot_for-slot.ensures.goes c.write_back.ensures.goes)
-
-pub returns-clause-still : goal.returns-clause-still
-returns-clause-still g c =
-    by-still _ _ λ (r : PageRef). ap (λ (v : StoreView). (rec_by v.segs r).frame) c.write_back.ensures.rest ∙ still-by _ _ c.slot_for-slot.ensures.still r
-
-pub returns-clause-placed : goal.returns-clause-placed
+pub returns : goal.returns
 unfolding after_page_out
-returns-clause-placed g c = rw (← c.slot_for-slot.ensures.placed) c.write_back.ensures.placed
+returns g c =
+    let s = c.args.self.now in
+    let slotted = c.slot_for-slot.ensures in
+    let wrote = c.write_back.ensures in
+    record {
+      frames = grind (arith, common_steps);
+      rest = grind (arith, common_steps);
+      outs = grind (arith, common_steps);
+      still = by-still _ _ λ (r : PageRef). ap (λ (v : StoreView). (rec_by v.segs r).frame) wrote.rest ∙ still-by _ _ slotted.still r;
+      away = grind (arith, common_steps);
+      goes = Goes-trans s c.slot_for-slot.new.self c.write_back.new.self slotted.goes wrote.goes;
+      cause = OnErr-map c.write_back.result _ _ wrote.cause (cause-after s c.slot_for-slot.new.self c.write_back.new.self slotted.goes wrote.goes);
+      counted = grind (arith, common_steps);
+      placed = rw (← slotted.placed) wrote.placed;
+      sound = wrote.sound;
+    }

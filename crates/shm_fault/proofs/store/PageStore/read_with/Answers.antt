@@ -1,20 +1,36 @@
-use Rattle.std.proofs.Common.{refl}
-use Rattle.shm_fault.proofs.Bringing.{accessed, accessed-not}
+use Rattle.std.proofs.lemmas.Result.{MatchResult-from_err}
+use Rattle.shm_fault.proofs.Names.{Held, List, ◌≡◌, ◌∙◌, ap, arith, common_steps, false, is_ok, refl, rules}
+use Rattle.shm_fault.specs.Held.{read_from}
+use Rattle.shm_fault.proofs.Bringing.{accessed, accessed-failed}
 use Rattle.shm_fault.proofs.Dirtied.{none-in, none-stopped}
 use Rattle.shm_fault.proofs.store.PageStore.read_with.Goals as goal
 
-pub returns-in-Err-clause-access : goal.returns-in-Err-clause-access
-returns-in-Err-clause-access g c = accessed-not c.args.spans.now c.args.self.now c.bring_spans.new.self _ c.bring_spans.ensures.sound c.in-Err.ensures.brings
+pub returns : goal.returns
+returns g c =
+    let s = c.args.self.now in
+    let t = c.bring_spans.new.self in
+    let e = c.in_ok-here.ensures in
+    record {
+      bytes = c.copy_spans.ensures ∙ ap (λ (hs : List Held). read_from hs c.args.spans.now) e.brings.goes.bytes;
+      held = e.brings.goes.bytes;
+      access = accessed s t t.frames refl (λ f. refl) c.bring_spans.ensures.sound c.args.spans.now c.in_ok-here.here c.bring_spans.new.touched c.requires.spans.few e.brings e.here;
+      clean = none-in c.args.spans.now s t e.placed;
+      stopped = tt;
+      places = e.placed;
+    }
 
-pub returns-clause-access : goal.returns-clause-access
-returns-clause-access g c =
-    accessed c.args.self.now c.bring_spans.new.self c.bring_spans.new.self.frames refl (λ f. refl) c.bring_spans.ensures.sound c.args.spans.now c.in-Ok.here c.bring_spans.new.touched c.requires.spans.few c.in-Ok.ensures.brings c.in-Ok.ensures.here
-
-pub returns-clause-places : goal.returns-clause-places
-returns-clause-places g c = c.in-Ok.ensures.placed
-
-pub returns-clause-clean : goal.returns-clause-clean
-returns-clause-clean g c = none-in c.args.spans.now c.args.self.now c.bring_spans.new.self c.in-Ok.ensures.placed
-
-pub returns-in-Err-clause-clean : goal.returns-in-Err-clause-clean
-returns-in-Err-clause-clean g c = none-stopped c.args.spans.now c.args.self.now c.bring_spans.new.self c.in-Err.ensures.stopped
+pub returns-in_err-here : goal.returns-in_err-here
+returns-in_err-here g c =
+    let s = c.args.self.now in
+    let t = c.bring_spans.new.self in
+    let failed : is_ok c.from_residual.result ≡ false = search rules in
+    let from = c.from_residual.ensures.0 in
+    let e = c.in_err-here.ensures in
+    record {
+      bytes = grind (arith, common_steps);
+      held = e.brings.goes.bytes;
+      access = accessed-failed c.args.spans.now s t c.bring_spans.new.touched c.from_residual.result failed c.bring_spans.ensures.sound e.brings;
+      clean = none-stopped c.args.spans.now s t e.stopped;
+      stopped = MatchResult-from_err _ _ _ from λ _. e.stopped;
+      places = grind (arith, common_steps);
+    }

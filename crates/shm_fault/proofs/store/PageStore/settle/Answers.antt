@@ -12,10 +12,9 @@ done : (g : given.Over) (c : After-set_page g)
 done g c =
     let i = c.self.inside in
     let there = rw (← c.self.view_is) at c.requires.there in
-    let slot = rw (← c.self.view_is) at c.requires.slot in
-    let bytes = rw (← c.self.view_is, slot) at c.requires.bytes in
+    let bytes = rw (← c.self.view_is) at c.requires.bytes in
     let x : Frame = record (frame_at i.frames c.args.frame) { owner = Some c.args.page } in
-    rw (set-twice i.frames c.args.frame x (λ y. record y { referenced = true }) there c.fill.ensures c.set_referenced.ensures, c.set_page.ensures, slot)
+    rw (set-twice i.frames c.args.frame x (λ y. record y { referenced = true }) there c.fill.ensures c.set_referenced.ensures, c.set_page.ensures, c.page_in-place.ensures)
     (settles (seen i) c.self.invariant c.args.page c.args.frame (rw (← c.self.view_is) at c.requires.has) there
     (rw (← c.self.view_is) at c.requires.free) (rw (← c.self.view_is) at c.requires.away) bytes)
 
@@ -32,9 +31,8 @@ pub returns-clause-placed : goal.returns-clause-placed
 returns-clause-placed g c =
     let s = seen c.self.inside in
     let there = rw (← c.self.view_is) at c.requires.there in
-    let slot = rw (← c.self.view_is) at c.requires.slot in
     let x : Frame = record (frame_at s.frames c.args.frame) { owner = Some c.args.page } in
     rw (← c.self.view_is)
     (settled-is s (record s { segs = c.set_page.new.self; frames = c.set_referenced.new.self }) c.args.page c.args.frame (c.self.invariant.tied.free c.args.frame (rw (← c.self.view_is) at c.requires.free)) refl refl
-    (rw (c.set_page.ensures, slot) refl)
+    (rw (c.set_page.ensures, c.page_in-place.ensures) refl)
     (set-twice s.frames c.args.frame x (λ y. record y { referenced = true }) there c.fill.ensures c.set_referenced.ensures))

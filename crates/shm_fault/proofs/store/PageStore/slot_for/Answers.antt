@@ -15,7 +15,7 @@ unreachable-requires g c =
     let sound = c.self.invariant in
     let page = c.resident_page-page.result in
     let owned : (frame_at i.frames c.args.frame).owner ≡ Some page = c.resident_page-page.ensures in
-    let none : (rec_by i.segs page).slot ≡ None = ap (λ (p : PageRec). p.slot) (sym c.page-place.ensures) ∙ c.in_default.is in
+    let none : (rec_by i.segs page).slot ≡ None = ap (λ (p : PageRec). p.slot) (sym c.page_in-place.ensures) ∙ c.in_default.is in
     let full : used_slots i.swap ≡ swap_slots i.swap = c.in_default-take_slot.ensures.full in
     let few = some_slotless (seen i) sound.apart page (sound.tied.owners c.args.frame page owned) none in
     let same = used-slots (seen i) sound.apart sound.tied in
@@ -27,11 +27,11 @@ done g c =
     let i = c.self.inside in
     let page = c.resident_page-page.result in
     let slot = c.in-Some-take_slot.slot in
-    let none : (rec_by i.segs page).slot ≡ None = ap (λ (p : PageRec). p.slot) (sym c.page-place.ensures) ∙ c.in_default.is in
+    let none : (rec_by i.segs page).slot ≡ None = ap (λ (p : PageRec). p.slot) (sym c.page_in-place.ensures) ∙ c.in_default.is in
     let first = c.in-Some-take_slot.ensures.found in
     let u : c.take_slot.new.self ≡ with_slot_owner i.swap slot (Some page) = c.in-Some-take_slot.ensures.taken in
     let e = c.take_slot.ensures in
-    rw (c.set_page.ensures, u, c.page-place.ensures)
+    rw (c.set_page.ensures, u, c.page_in-place.ensures)
     (takes (seen i) c.self.invariant page c.args.frame slot c.resident_page-page.ensures (rw (← c.self.view_is) at c.requires.dirty) none
     first.there first.free (rw u at e.sound) (rw u at e.steady.same_sizes) (rw u at e.steady.goes_on))
 
@@ -58,17 +58,17 @@ returns-clause-placed g c =
     let s = seen c.self.inside in
     let page = c.resident_page-page.result in
     let slot = c.in-Some-take_slot.slot in
-    let none : (rec_by s.segs page).slot ≡ None = ap (λ (p : PageRec). p.slot) (sym c.page-place.ensures) ∙ c.in_default.is in
+    let none : (rec_by s.segs page).slot ≡ None = ap (λ (p : PageRec). p.slot) (sym c.page_in-place.ensures) ∙ c.in_default.is in
     let u : c.take_slot.new.self ≡ with_slot_owner s.swap slot (Some page) = c.in-Some-take_slot.ensures.taken in
     rw (← c.self.view_is)
-    (rw (c.set_page.ensures, u, c.page-place.ensures)
+    (rw (c.set_page.ensures, u, c.page_in-place.ensures)
     (slotted-took s c.args.frame page slot c.resident_page-page.ensures none (found-free s.swap None slot c.self.invariant.swap.each c.in-Some-take_slot.ensures.found)))
 
 pub returns-in-Some-clause-placed : goal.returns-in-Some-clause-placed
 returns-in-Some-clause-placed g c =
     let s = seen c.self.inside in
     rw (← c.self.view_is)
-    (slotted-own s c.args.frame c.resident_page-page.result c.in-Some.slot c.resident_page-page.ensures (ap (λ (p : PageRec). p.slot) (sym c.page-place.ensures) ∙ c.in-Some.is))
+    (slotted-own s c.args.frame c.resident_page-page.result c.in-Some.slot c.resident_page-page.ensures (ap (λ (p : PageRec). p.slot) (sym c.page_in-place.ensures) ∙ c.in-Some.is))
 
 pub returns-clause-free : goal.returns-clause-free
 returns-clause-free g c = λ page owner none. rw (← c.self.view_is) c.in-Some-take_slot.ensures.found
@@ -76,7 +76,7 @@ returns-clause-free g c = λ page owner none. rw (← c.self.view_is) c.in-Some-
 pub returns-in-Some-clause-free : goal.returns-in-Some-clause-free
 returns-in-Some-clause-free g c = λ page owner none.
     let i = c.self.inside in
-    let has : (rec_by i.segs c.resident_page-page.result).slot ≡ Some c.in-Some.slot = ap (λ (p : PageRec). p.slot) (sym c.page-place.ensures) ∙ c.in-Some.is in
+    let has : (rec_by i.segs c.resident_page-page.result).slot ≡ Some c.in-Some.slot = ap (λ (p : PageRec). p.slot) (sym c.page_in-place.ensures) ∙ c.in-Some.is in
     let owner₁ : (frame_at i.frames c.args.frame).owner ≡ Some page = rw (← c.self.view_is) at owner in
     let none₁ : (rec_by i.segs page).slot ≡ None = rw (← c.self.view_is) at none in
     cc (owner₁, none₁, has, c.resident_page-page.ensures)

@@ -12,7 +12,7 @@ owned g c = c.resident_page-page.ensures
 kept : (g : given.Over) (c : After-set_page g) → Keeps (seen c.self.inside) (record (seen c.self.inside) { segs = c.set_page.new.self; frames = c.empty.new.self })
 kept g c =
     let bytes = (frame_at c.self.inside.frames c.args.frame).bytes in
-    rw (c.set_page.ensures, c.empty.ensures, c.page-place.ensures)
+    rw (c.set_page.ensures, c.empty.ensures, c.page_in-place.ensures)
     (keeps-vacate (seen c.self.inside) c.self.invariant c.resident_page-page.result c.args.frame bytes (owned g c) (rw (← c.self.view_is) at c.requires.clean))
 
 pub invariant_of-self : goal.invariant_of-self
@@ -32,4 +32,4 @@ returns-clause-placed g c =
     let s = seen c.self.inside in
     rw (← c.self.view_is)
     (vacated-is s (record s { segs = c.set_page.new.self; frames = c.empty.new.self }) c.args.frame c.resident_page-page.result (frame_at s.frames c.args.frame).bytes c.resident_page-page.ensures refl refl
-    (rw (c.set_page.ensures, c.page-place.ensures) refl) c.empty.ensures)
+    (rw (c.set_page.ensures, c.page_in-place.ensures) refl) c.empty.ensures)

@@ -1,21 +1,39 @@
-use Rattle.shm_fault.proofs.Bringing.{accessed, accessed-not}
+use Rattle.std.proofs.lemmas.Result.{MatchResult-from_err}
+use Rattle.shm_fault.proofs.Names.{◌≡◌, arith, common_steps, false, is_ok, rules}
+use Rattle.shm_fault.proofs.Bringing.{accessed, accessed-failed}
 use Rattle.shm_fault.proofs.Dirtied.{none-in, none-stopped, dirtied-after}
 use Rattle.shm_fault.proofs.store.PageStore.write_with.Goals as goal
 
-pub returns-in-Err-clause-access : goal.returns-in-Err-clause-access
-returns-in-Err-clause-access g c = accessed-not c.args.spans.now c.args.self.now c.bring_spans.new.self _ c.bring_spans.ensures.sound c.in-Err.ensures.brings
+pub returns : goal.returns
+returns g c =
+    let s = c.args.self.now in
+    let t = c.bring_spans.new.self in
+    let z = c.store_spans.new.self in
+    let e = c.in_ok-here.ensures in
+    let stored = c.store_spans.ensures in
+    record {
+      written = rw e.brings.goes.bytes at stored.written;
+      same = tt;
+      access = rw stored.rest (accessed s t z.frames stored.count stored.bits (rw stored.rest at stored.sound) c.args.spans.now c.in_ok-here.here c.bring_spans.new.touched c.requires.spans.few e.brings e.here);
+      dirtied = dirtied-after c.args.spans.now s t z (none-in c.args.spans.now s t e.placed) stored.dirtied;
+      clean = tt;
+      stopped = tt;
+      places = rw (← e.placed) stored.placed;
+    }
 
-pub returns-clause-access : goal.returns-clause-access
-returns-clause-access g c =
-    let e = c.store_spans.ensures in
-    rw e.rest (accessed c.args.self.now c.bring_spans.new.self c.store_spans.new.self.frames e.count e.bits (rw e.rest at e.sound) c.args.spans.now c.in-Ok.here c.bring_spans.new.touched c.requires.spans.few c.in-Ok.ensures.brings c.in-Ok.ensures.here)
-
-pub returns-clause-places : goal.returns-clause-places
-returns-clause-places g c = rw (← c.in-Ok.ensures.placed) c.store_spans.ensures.placed
-
-pub returns-in-Err-clause-clean : goal.returns-in-Err-clause-clean
-returns-in-Err-clause-clean g c = none-stopped c.args.spans.now c.args.self.now c.bring_spans.new.self c.in-Err.ensures.stopped
-
-pub returns-clause-dirtied : goal.returns-clause-dirtied
-returns-clause-dirtied g c =
-    dirtied-after c.args.spans.now c.args.self.now c.bring_spans.new.self c.store_spans.new.self (none-in c.args.spans.now c.args.self.now c.bring_spans.new.self c.in-Ok.ensures.placed) c.store_spans.ensures.dirtied
+pub returns-in_err-here : goal.returns-in_err-here
+returns-in_err-here g c =
+    let s = c.args.self.now in
+    let t = c.bring_spans.new.self in
+    let failed : is_ok c.from_residual.result ≡ false = search rules in
+    let from = c.from_residual.ensures.0 in
+    let e = c.in_err-here.ensures in
+    record {
+      written = grind (arith, common_steps);
+      same = MatchResult-from_err _ _ _ from λ _. e.brings.goes.bytes;
+      access = accessed-failed c.args.spans.now s t c.bring_spans.new.touched c.from_residual.result failed c.bring_spans.ensures.sound e.brings;
+      dirtied = grind (arith, common_steps);
+      clean = MatchResult-from_err _ _ _ from λ _. none-stopped c.args.spans.now s t e.stopped;
+      stopped = MatchResult-from_err _ _ _ from λ _. e.stopped;
+      places = grind (arith, common_steps);
+    }

@@ -20,7 +20,7 @@ returns-clause-number g c = rw (← c.self.view_is, number g (goal.at.returns-cl
 done : (g : Over) (c : After-add_with g)
     → Wrote c.add_with.result c.self.inside.store c.add_with.new.self c.self.inside.table c.self.inside.reserved c.self.inside.locked c.args.spans.now (to_le_bytes w64 ((number_in (held c.self.inside.store) c.args.spans.now + c.args.more) % 2 ^ 64))
 done g c =
-    let e = c.add_with.ensures in
+    let e = c.add_with.ensures.stored in
     wrote c.add_with.result _ _ _ _ _ _ _ c.self.invariant (rw (← c.self.view_is) at c.requires.spans.fit) c.requires.spans.sum e.written e.same e.access.sound e.access.kept e.access.counts e.access.size
 
 pub invariant_of-self : goal.invariant_of-self
