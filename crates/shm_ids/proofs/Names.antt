@@ -7,7 +7,7 @@ pub use Rattle.shm_ids.specs.declared.table.Row.{Row}
 pub use Rattle.shm_ids.specs.Table.{entry_at, with_row, with_key, with_value, without_row, row_count, unused, filled, blank_entry, free_index, blank_segment, IsFree, identifier, index_of, row_key, index_found, find_key, looked, look, look_entry, key_at, look_row, id_at}
 pub use Rattle.std.proofs.lemmas.List.{get_or-set_same, get_or-set_other, get_or_past, set-set, drop_more, get_or_read}
 pub use Rattle.std.specs.Option.{unwrap_or}
-pub use Rattle.std.proofs.lemmas.Option.{slice_get-map, unwrap_or-slice_get}
+pub use Rattle.std.proofs.lemmas.Option.{none-some, slice_get-map, unwrap_or-slice_get}
 pub use Rattle.std.proofs.lemmas.Bool.{cases_eq}
 pub use Rattle.shm_ids.specs.Flat.{flat_entry, flat_from, flat_table, flat_answer, flat_look, flat_found, ShowsKeys, natural_of}
 pub use Rattle.shm_ids.specs.Sound.{HaveIdentifiers, UsedBelow, Keyed, rows_in, Sound}

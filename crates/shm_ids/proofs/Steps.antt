@@ -1,10 +1,11 @@
 -- What each change of a table keeps.
-use Rattle.shm_ids.proofs.Names.{◌≡◌, ◌≢◌, ◌⊎◌, ℕ, ◌+◌, ◌<◌, ◌≤◌, nat_eq, not, ◌&&◌, List, length, drop, set, Some, None, if◌then◌else◌, refl, sym, ap, ◌∙◌, inl, inr, arith, length-set, common_steps, IndexMap, get, Entry, Row, entry_at, key_at, row_key, find_key, IsFree, map, blank_entry, filled, with_row, with_key, without_row, with_value, rows_in, UsedBelow, Keyed, Sound}
+use Rattle.shm_ids.proofs.Names.{ℤ, Option, option_map, none-some, free_index, id_at, index_of, ◌≡◌, ◌≢◌, ◌⊎◌, ℕ, ◌+◌, ◌<◌, ◌≤◌, nat_eq, not, ◌&&◌, List, length, drop, set, Some, None, if◌then◌else◌, refl, sym, ap, ◌∙◌, inl, inr, arith, length-set, common_steps, IndexMap, get, Entry, Row, entry_at, key_at, row_key, find_key, IsFree, map, blank_entry, filled, with_row, with_key, without_row, with_value, rows_in, UsedBelow, Keyed, Sound}
 use Rattle.shm_base.specs.Identifier as flat
 use Rattle.shm_ids.proofs.Entries.{at_past, at_row, at_row_other, at_set, at_set_other, with_row-few}
 use Rattle.shm_ids.proofs.Free.{skip, free_found}
 use Rattle.shm_ids.proofs.Keys.{Keyed-put, Keyed-drop}
 use Rattle.shm_ids.proofs.Rest.{few_entries}
+use Rattle.shm_ids.proofs.Look.{identifier-mod}
 
 module _ {T : Type 0} where
   -- the map may be another one that answers the same
@@ -27,6 +28,24 @@ module _ {T : Type 0} where
       let f = free_found 0 i t (skip t first s.used ∙ h) in
       let at : f.place ≡ i = omega (arith, f.at) in
       grind (arith, common_steps)
+
+  -- the identifier that the next row gets, and the index in it
+  pub record Next (t : List (Entry T)) (id : ℤ) (i : ℕ) : Type 0 where
+    pub found : free_index t ≡ Some i
+    pub is : id ≡ id_at t i
+    pub own : index_of id ≡ i
+    pub fresh : Fresh t i
+
+  pub next : {S : Type 0} (t : List (Entry T)) (first : ℕ) (id : ℤ) (keys : IndexMap ℕ ℕ S) → Sound t first keys → option_map (id_at t) (free_index t) ≡ Some id → Next t id (index_of id)
+  next t first id keys s is = by (free_index t) refl is
+    where
+      by : (o : Option ℕ) → free_index t ≡ o → option_map (id_at t) o ≡ Some id → Next t id (index_of id)
+      by None found z = absurd (none-some id z)
+      by (Some i) found z =
+          let f = fresh t first i keys s (sym (skip t first s.used) ∙ found) in
+          let same : id_at t i ≡ id = cc z in
+          let own : index_of id ≡ i = rw (← same) (identifier-mod i (entry_at t i).destroyed f.small) in
+          rw own (record { found = found; is = sym same; own = own; fresh = f })
 
   pub Sound-put : {S : Type 0} (t : List (Entry T)) (first i key : ℕ) (v : T) (keys after : IndexMap ℕ ℕ S)
       → Sound t first keys → Fresh t i → find_key t key ≡ None

@@ -1,4 +1,4 @@
-use Rattle.shm_ids.proofs.Names.{◌≡◌, ◌∙◌, ap, arith, rules, to_z, of_z, w32, common_steps, index_of}
+use Rattle.shm_ids.proofs.Names.{pos, arith, common_steps}
 use Rattle.shm_ids.proofs.Look.{live_at}
 use Rattle.shm_ids.proofs.Steps.{Sound-destroy}
 use Rattle.shm_ids.proofs.Counts.{row_count-without_row}
@@ -6,10 +6,9 @@ use Rattle.shm_ids.proofs.table.IdTable.destroy.Goals as goal
 
 pub invariant_of-self : goal.invariant_of-self
 invariant_of-self g c =
-    let l = live_at _ c.args.id (rw (← c.self.view_is) at c.requires.live) in
-    let signed : to_z w32 (of_z w32 c.args.id) ≡ c.args.id = search rules in
-    let i : c.index_in-index.result ≡ index_of c.args.id = c.index_in-index.ensures ∙ ap index_of signed in
-    let gone = row_count-without_row c.self.inside.entries.items c.index_in-index.result c.take_row-row.result (rw i l.within) c.take_row-row.ensures.row in
+    let l = live_at _ (pos c.args.number) (rw (← c.self.view_is) at c.requires.live) in
+    let i = c.place_of-index.ensures in
+    let gone = row_count-without_row c.self.inside.entries.items c.place_of-index.result c.take_row-row.result (rw i l.within) c.take_row-row.ensures.row in
     rw c.take_row-row.ensures.items (
       Sound-destroy _ _ _ _ c.take_row-row.result c.self.inside.keys _ c.self.invariant.0 (rw i l.within) c.take_row-row.ensures.row (omega (arith, c.min-self-inside.ensures)) (omega (arith, c.min-self-inside.ensures)) c.drop_key.ensures,
       omega (arith, gone, c.self.invariant.1),
