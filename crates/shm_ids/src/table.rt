@@ -7,14 +7,14 @@
 //!
 //! An identifier is not stored: it is the place of an entry and the count of what was destroyed
 //! there. The entries are the indexes that were ever used, and the table grows by one at its end.
-//! It keeps a bound below which no index is free, the number of its rows, and the index of each live
-//! key other than 0, in the order in which the keys came.
-ghost use Rattle.std.specs.Prelude.{◌≡◌, ℕ, ◌+◌, ◌*◌, ◌<◌, ◌≤◌, ◌%◌, ◌==◌, pos, [], length, map, drop, Option, Some, None, option_map, IfOk, IfErr, OnOk, IsOk, Ok, Err, IfSome, IsSome};
+//! It keeps which indexes are held or worn out, the number of its rows, and the index of each live key other
+//! than 0.
+ghost use Rattle.std.specs.Prelude.{◌≡◌, ℕ, ◌+◌, ◌*◌, ◌<◌, ◌≤◌, ◌%◌, ◌==◌, pos, [], length, Option, Some, None, option_map, IfOk, IfErr, OnOk, IsOk, Ok, Err, IfSome, IsSome};
 ghost use Rattle.std.specs.Borrow.{sem};
 
 use crate::rows::Rows;
 use indexmap::IndexMap;
-use shm_base::{INDEXES, SEQUENCES, ShmId, index_of};
+use shm_base::{INDEXES, Numbers, SEQUENCES, ShmId, index_of};
 use std::alloc::{AllocError, AllocFailed, Global};
 use std::marker::Model;
 use thiserror::Error;
@@ -54,11 +54,11 @@ impl<T: Drop> Drop for Entry<T> {
 /// Rows under identifiers. It is seen as the list of its entries.
 pub struct IdTable<T> {
     entries: Vec<Entry<T>>,
-    // No index below this one is free.
-    first_free: usize,
+    // The indexes that a row holds or that are worn out are taken.
+    indexes: Numbers,
     // How many entries have a row.
     rows: usize,
-    // The index of each live key but 0, in order of creation.
+    // The index of each live key but 0.
     keys: IndexMap<u32, u32>,
 }
 
@@ -66,7 +66,7 @@ impl<T: Drop> Drop for IdTable<T> {
     fn drop(self) {
         let IdTable {
             entries: _,
-            first_free: _,
+            indexes: _,
             rows: _,
             keys: _,
         } = self;
@@ -85,32 +85,14 @@ impl<T> Model for IdTable<T> {
 
     ghost view = { λ t. t.entries.items };
 
-    ghost invariant = { λ t. Sound t.entries.items t.first_free t.keys × (t.rows ≡ row_count t.entries.items) };
+    ghost invariant = { λ t. Sound t.entries.items t.indexes t.keys × (t.rows ≡ row_count t.entries.items) };
 }
 
-ghost use Rattle.std.specs.Prelude.{◌≢◌, vec_capacity, nat_eq, ◌&&◌, not, if◌then◌else◌};
+ghost use Rattle.std.specs.Prelude.{◌≢◌, vec_capacity, nat_eq, nat_lt, true, ◌&&◌, not, if◌then◌else◌};
 ghost use Rattle.indexmap.specs.IndexMap.{get, spare};
-ghost use Rattle.shm_base.specs.Identifier as flat;
-ghost use Rattle.shm_ids.specs.Table.{free_index, blank_entry, find_key, look, id_at, identifier, index_of, row_inserted, with_row, with_key, without_row, entry_at, key_at, look_row};
-
-// The least free index from `first` on.
-fn free_from<T>(entries: &Vec<Entry<T>>, first: usize) -> Option<usize>
-    requires { first ≤ length entries.now.items }
-    ensures { result ≡ flat.free_from first (map blank_entry (drop first entries.now.items)) }
-{
-    for i in first..entries.len() {
-        let entry = &entries[i];
-        if entry.row.is_none() && entry.destroyed < SEQUENCES {
-            return Some(i);
-        }
-    }
-    let len = entries.len();
-    if len < INDEXES as usize {
-        Some(len)
-    } else {
-        None
-    }
-}
+ghost use Rattle.shm_base.specs.Numbers.{is_taken};
+ghost use Rattle.shm_ids.specs.Sound.{TakenAs};
+ghost use Rattle.shm_ids.specs.Table.{free_index, find_key, look, id_at, identifier, index_of, row_inserted, with_row, with_key, without_row, entry_at, key_at, look_row};
 
 pub(crate) fn id_of(index: usize, sequence: u32) -> ShmId
     requires index { index < 32768 }
@@ -233,6 +215,17 @@ fn take_row<T>(entries: &mut Vec<Entry<T>>, index: usize) -> Row<T>
     entry.row.take().unwrap()
 }
 
+// Gives an index back at which so many rows were destroyed, unless it is worn out.
+fn give_back(indexes: &mut Numbers, index: u32, destroyed: u32)
+    requires { is_taken indexes.old index ≡ true }
+    ensures given { TakenAs indexes.old indexes.new index (nat_lt destroyed 65536) }
+    ensures room { indexes.new.room ≡ indexes.old.room }
+{
+    if destroyed < SEQUENCES {
+        indexes.give(index);
+    }
+}
+
 impl<T> Entry<T> {
     ghost use Rattle.shm_ids.specs.Table.{look_entry, row_key};
     ghost use Rattle.shm_ids.specs.Lends.{lends_entry};
@@ -288,7 +281,7 @@ impl<T: Drop> IdTable<T> {
     {
         IdTable {
             entries: Vec::new(alloc),
-            first_free: 0,
+            indexes: Numbers::new(alloc),
             rows: 0,
             keys: IndexMap::new(alloc),
         }
@@ -310,18 +303,16 @@ impl<T: Drop> IdTable<T> {
     }
 
     /// The identifier that the next row gets: that of the least index that no row holds and that is not worn
-    /// out. None where there is no such index. The table remembers how far it looked, so that the insert that
-    /// follows looks no further.
-    pub fn next_id(&mut self) -> Option<ShmId>
-        ensures value { result ≡ option_map (id_at self.old) (free_index self.old) }
-        ensures index { IfSome result (λ id. free_index self.old ≡ Some (index_of id)) }
-        ensures same { self.new ≡ self.old }
+    /// out. None where there is no such index.
+    pub fn next_id(&self) -> Option<ShmId>
+        ensures value { result ≡ option_map (id_at self.now) (free_index self.now) }
+        ensures index { IfSome result (λ id. free_index self.now ≡ Some (index_of id)) }
     {
-        let Some(index) = free_from(&self.entries, self.first_free) else {
+        let index = self.indexes.least();
+        if index >= INDEXES {
             return None;
-        };
-        self.first_free = index;
-        Some(id_of(index, sequence_at(&self.entries, index)))
+        }
+        Some(id_of(index as usize, sequence_at(&self.entries, index as usize)))
     }
 
     /// Puts a row under the next identifier. A key of 0 is none. Where the host refuses memory the value comes
@@ -336,12 +327,15 @@ impl<T: Drop> IdTable<T> {
         ensures no_memory { key ≡ 0 → index_of id < length self.old → IsOk result }
     {
         let index = index_in(id);
-        if room_at(&mut self.entries, index).is_err() || room_for(&mut self.keys, key).is_err() {
+        if self.indexes.reserve(index as u32 + 1).is_err()
+            || room_at(&mut self.entries, index).is_err()
+            || room_for(&mut self.keys, key).is_err()
+        {
             return Err(AllocFailed { value });
         }
         put_key(&mut self.keys, key, index);
         put_row(&mut self.entries, index, key, value);
-        self.first_free = index + 1;
+        self.indexes.take();
         self.rows += 1;
         Ok(())
     }
@@ -428,7 +422,11 @@ impl<T: Drop> IdTable<T> {
         let index = place_of(number);
         let row = take_row(&mut self.entries, index);
         drop_key(&mut self.keys, row.key);
-        self.first_free = self.first_free.min(index);
+        give_back(
+            &mut self.indexes,
+            index as u32,
+            sequence_at(&self.entries, index),
+        );
         self.rows -= 1;
         row.value
     }

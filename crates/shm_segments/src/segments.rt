@@ -181,9 +181,8 @@ impl<P: Pager> Segments<P> {
 
     /// The identifier that the next segment gets: that of the least free index. None where each is held or worn
     /// out.
-    pub fn next_id(&mut self) -> Option<ShmId>
-        ensures value { result ≡ next_id self.old.table }
-        ensures same { self.new ≡ self.old }
+    pub fn next_id(&self) -> Option<ShmId>
+        ensures { result ≡ next_id self.now.table }
     {
         self.table.next_id()
     }

@@ -1,4 +1,4 @@
-use Rattle.shm_ids.proofs.Names.{◌≡◌, ◌∙◌, ◌<◌, length, pos, sym, get_or_read, unused}
+use Rattle.shm_ids.proofs.Names.{◌∙◌, ◌<◌, length, pos, sym, get_or_read, unused}
 use Rattle.shm_ids.proofs.Look.{live_at}
 use Rattle.shm_ids.proofs.Steps.{Sound-value}
 use Rattle.shm_ids.proofs.Counts.{row_count-with_value}

@@ -10,11 +10,10 @@ invariant_of-self-2 g c =
     let size : h.size ≡ c.args.size = ap (λ x. x.size) c.new_head-head.ensures in
     let room : reserved c.self.inside.segments.table + pages_of h.size ≤ c.self.inside.limits.shmall =
     rw (size, ← c.reserved.ensures, ← c.pages_of.ensures.value, ← c.shmall.ensures.value) c.if-reserved-shmall.false in
-    let same = c.next_id.ensures.same in
     let signed : to_z w32 (of_z w32 c.in-Some.id) ≡ c.in-Some.id = search rules in
-    let ok : made c.self.inside.segments.table c.args.key h ≡ Some (c.in-Some.id, c.create.new.self.table) = rw (signed, same) at c.in_ok-create.ensures.ok in
-    let keeps : KeepsMemory c.self.inside.segments.memory c.create.new.self.memory = rw same at c.in_ok-create.ensures.keeps in
-    let still : (s page : ℕ) → frame_of c.create.new.self.memory s page ≡ frame_of c.self.inside.segments.memory s page = rw same at c.create.ensures.still in
+    let ok : made c.self.inside.segments.table c.args.key h ≡ Some (c.in-Some.id, c.create.new.self.table) = rw signed at c.in_ok-create.ensures.ok in
+    let keeps : KeepsMemory c.self.inside.segments.memory c.create.new.self.memory = c.in_ok-create.ensures.keeps in
+    let still : (s page : ℕ) → frame_of c.create.new.self.memory s page ≡ frame_of c.self.inside.segments.memory s page = c.create.ensures.still in
     record {
       kept = created-kept c.self.inside.limits c.self.inside.segments.table c.create.new.self.table c.self.inside.spaces.runners c.args.key h c.in-Some.id c.self.invariant.kept ok
           room (ap (λ x. x.dest) c.new_head-head.ensures) (ap (λ x. x.locked) c.new_head-head.ensures);
