@@ -10,6 +10,7 @@ mod errno;
 mod flags;
 mod limits;
 mod memory;
+mod numbers;
 mod owner;
 mod paging;
 mod rows;
@@ -25,6 +26,7 @@ pub use errno::Errno;
 pub use flags::{AtFlags, GetFlags, Status};
 pub use limits::{BadLimits, Limits};
 pub use memory::HostMemory;
+pub use numbers::Numbers;
 pub use owner::{Cred, Perm, Want, grants};
 pub use paging::{
     FlushReport, FrameNo, PAGE_BYTES, PAGE_SIZE, PageRef, Slot, Span, Tally, is_slot_count,

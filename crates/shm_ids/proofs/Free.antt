@@ -1,9 +1,13 @@
 -- The least free index.
-use Rattle.shm_ids.proofs.Names.{◌≡◌, ◌⊎◌, ℕ, zero, suc, ◌+◌, ◌<◌, ◌≤◌, List, [], ◌∷◌, length, map, drop, Some, None, refl, inl, inr, arith, common_steps, drop_more, Entry, unused, blank_entry, entry_at, IsFree, free_index, UsedBelow}
+use Rattle.shm_ids.proofs.Names.{◌≡◌, ◌⊎◌, ℕ, zero, suc, ◌+◌, ◌<◌, ◌≤◌, List, [], ◌∷◌, length, map, drop, Some, None, refl, inl, inr, arith, common_steps, drop_more, drop_all, nat_tests, Entry, unused, blank_entry, entry_at, IsFree, free_index, AreIndexesKnown, is_open, true, if◌then◌else◌, nat_lt, ◌∙◌, cases_lt, NumbersView, IsLeastNumber}
 use Rattle.shm_base.specs.Identifier as flat
 use Rattle.shm_ids.proofs.Entries.{at_past}
 
 module _ {T : Type 0} where
+  -- no index below is free
+  abbrev pub UsedBelow : ℕ → List (Entry T) → Type 0
+  UsedBelow first t = (i : ℕ) → i < first → IsFree (entry_at t i) → ⊥
+
   -- an index below which none is free lies in the table
   pub used_within : (t : List (Entry T)) (first : ℕ) → UsedBelow first t → first ≤ length t
   used_within t first used = let past = used (length t) in grind (arith, common_steps, at_past)
@@ -41,4 +45,26 @@ module _ {T : Type 0} where
             let rest = free_found (n + 1) j es (rw b.1 at h) in
             let used = rest.used in
             record { place = suc rest.place; at = omega arith; within = omega arith; row = rest.row; wear = rest.wear; small = λ (z : suc rest.place ≡ suc (length es)). rest.small (omega arith); used = elim [ zero ↦ λ _. b.0 | suc k ↦ λ l. used k (omega arith) ] }
+      ]
+
+  -- the search stops at the least number that is not taken
+  open_free : (e : Entry T) → IsFree e → is_open e ≡ true
+  open_free e free = grind (arith, common_steps, nat_tests)
+
+  used_below : (t : List (Entry T)) (v : NumbersView) (n : ℕ) → AreIndexesKnown t v → IsLeastNumber v n → UsedBelow n t
+  used_below t v n known least i l free = let o = open_free (entry_at t i) free in let k = known.taken i in let b = least.below i l in grind (arith, nat_tests, o, k, b)
+
+  pub least_free : (t : List (Entry T)) (v : NumbersView) (n : ℕ) → AreIndexesKnown t v → IsLeastNumber v n → length t ≤ 32768 → free_index t ≡ (if nat_lt n 32768 then Some n else None)
+  least_free t v n known least few =
+      let used = used_below t v n known least in
+      let within = used_within t n used in
+      let here : is_open (entry_at t n) ≡ true = let k = known.taken n in let f = least.free in grind (arith, nat_tests, k, f) in
+      skip t n used ∙ elim (cases_lt n (length t)) [
+        | inl lt ↦
+            let more : drop n t ≡ entry_at t n ∷ drop (n + 1) t = drop_more t n unused lt in
+            let small : nat_lt n 32768 ≡ true = grind (arith, nat_tests) in
+            rw (more, small) (grind (arith, common_steps, nat_tests, here))
+        | inr past ↦
+            let none : drop n t ≡ [] = drop_all n t past in
+            rw none (grind (arith, common_steps, nat_tests))
       ]

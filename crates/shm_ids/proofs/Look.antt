@@ -1,5 +1,5 @@
 -- What a live identifier has.
-use Rattle.shm_ids.proofs.Names.{◌≡◌, ℕ, ◌∙◌, ◌/◌, ◌%◌, ◌<◌, ℤ, pos, negsuc, nat_eq, List, length, Option, Some, None, Ok, IsOk, refl, sym, arith, true≢false, common_steps, slice_get-map, unwrap_or, unwrap_or-slice_get, slice_get, blank_entry, option_map, unused, looked, Entry, Row, IndexMap, get, entry_at, key_at, look, look_entry, look_row, index_of, identifier, id_at, natural_of, Sound}
+use Rattle.shm_ids.proofs.Names.{◌≡◌, ℕ, ◌∙◌, ◌/◌, ◌%◌, ◌<◌, ℤ, pos, negsuc, nat_eq, List, length, Option, Some, None, Ok, IsOk, refl, sym, arith, true≢false, common_steps, slice_get-map, unwrap_or, unwrap_or-slice_get, slice_get, blank_entry, option_map, unused, looked, Entry, Row, IndexMap, get, entry_at, key_at, look, look_entry, look_row, index_of, identifier, id_at, natural_of, NumbersView, Sound}
 use Rattle.shm_base.specs.Identifier as flat
 use Rattle.shm_ids.proofs.Entries.{at_past}
 
@@ -39,8 +39,8 @@ module _ {T : Type 0} where
   look-id_at t i small = grind (arith, common_steps, look-entry)
 
   -- a row that is found by its key is live
-  pub look-found : {S : Type 0} (t : List (Entry T)) (first key i : ℕ) (keys : IndexMap ℕ ℕ S) → Sound t first keys → get nat_eq keys key ≡ Some i → IsOk (look t (id_at t i))
-  look-found t first key i keys s got = grind (arith, common_steps, look-id_at)
+  pub look-found : {S : Type 0} (t : List (Entry T)) (n : NumbersView) (key i : ℕ) (keys : IndexMap ℕ ℕ S) → Sound t n keys → get nat_eq keys key ≡ Some i → IsOk (look t (id_at t i))
+  look-found t n key i keys s got = grind (arith, common_steps, look-id_at)
 
   -- a live identifier is that of its index
   pub live_number : (t : List (Entry T)) (id : ℤ) → IsOk (look t id) → identifier (index_of id) (entry_at t (index_of id)).destroyed ≡ natural_of id

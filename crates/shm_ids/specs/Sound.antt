@@ -1,9 +1,14 @@
 -- What is kept between the parts of an identifier table.
-use Rattle.std.specs.Prelude.{◌≡◌, ◌≢◌, ℕ, ◌+◌, ◌<◌, ◌≤◌, List, length, Option, Some, None, nat_eq}
+use Rattle.std.specs.Prelude.{◌≡◌, ◌≢◌, ℕ, ◌+◌, ◌≤◌, ◌&&◌, Bool, not, if◌then◌else◌, is_none, nat_lt, List, length, Option, Some, None, nat_eq}
 use Rattle.indexmap.specs.IndexMap.{IndexMap, get}
 use Rattle.shm_ids.specs.declared.table.Entry.{Entry}
 use Rattle.shm_ids.specs.declared.table.Row.{Row}
-use Rattle.shm_ids.specs.Table.{IsFree, entry_at, key_at}
+use Rattle.shm_base.specs.Numbers.{NumbersView, is_taken}
+use Rattle.shm_ids.specs.Table.{entry_at, key_at}
+
+-- a number is taken unless it is free now, and no other changed
+abbrev pub TakenAs : NumbersView → NumbersView → ℕ → Bool → Type 0
+TakenAs before after i free = (j : ℕ) → is_taken after j ≡ (if nat_eq j i then not free else is_taken before j)
 
 module _ {T : Type 0} where
   -- how many rows stand at an index: one or none
@@ -17,9 +22,14 @@ module _ {T : Type 0} where
     pub indexes : first + length es ≤ 32768
     pub sequences : (k : ℕ) → (entry_at es k).destroyed + rows_in (entry_at es k).row ≤ 65536
 
-  -- no index below is free
-  abbrev pub UsedBelow : ℕ → List (Entry T) → Type 0
-  UsedBelow first table = (i : ℕ) → i < first → IsFree (entry_at table i) → ⊥
+  -- the index of an entry is free: no row holds it, and it is not worn out
+  abbrev pub is_open : Entry T → Bool
+  is_open e = is_none e.row && nat_lt e.destroyed 65536
+
+  -- the other indexes are taken, and there is room to give each back
+  pub record AreIndexesKnown (table : List (Entry T)) (indexes : NumbersView) : Type 0 where
+    pub taken : (i : ℕ) → is_taken indexes i ≡ not (is_open (entry_at table i))
+    pub room : length table ≤ indexes.room
 
   -- the map has the index of each live key, and nothing else
   pub record Keyed {S : Type 0} (table : List (Entry T)) (keys : IndexMap ℕ ℕ S) : Type 0 where
@@ -27,7 +37,7 @@ module _ {T : Type 0} where
     pub live : (i : ℕ) → key_at table i ≢ 0 → get nat_eq keys (key_at table i) ≡ Some i
 
   -- what is kept
-  pub record Sound {S : Type 0} (table : List (Entry T)) (first : ℕ) (keys : IndexMap ℕ ℕ S) : Type 0 where
+  pub record Sound {S : Type 0} (table : List (Entry T)) (indexes : NumbersView) (keys : IndexMap ℕ ℕ S) : Type 0 where
     pub identifiers : HaveIdentifiers 0 table
-    pub used : UsedBelow first table
+    pub known : AreIndexesKnown table indexes
     pub keyed : Keyed table keys

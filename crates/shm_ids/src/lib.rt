@@ -6,4 +6,4 @@ mod rows;
 mod table;
 
 pub use rows::Rows;
-pub use table::{Entry, IdTable, InsertRefused, LookRefused, Row};
+pub use table::{Entry, IdTable, LookRefused, Row};

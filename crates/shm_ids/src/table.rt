@@ -7,26 +7,17 @@
 //!
 //! An identifier is not stored: it is the place of an entry and the count of what was destroyed
 //! there. The entries are the indexes that were ever used, and the table grows by one at its end.
-//! It keeps a bound below which no index is free, the number of its rows, and the index of each live
-//! key other than 0, in the order in which the keys came.
-ghost use Rattle.std.specs.Prelude.{◌≡◌, ℕ, ◌+◌, ◌*◌, ◌<◌, ◌≤◌, ◌==◌, pos, [], length, map, drop, Option, Some, None, option_map, IfOk, IfErr, OnOk, IsOk, Ok, Err, IfSome, IsSome};
+//! It keeps which indexes are held or worn out, the number of its rows, and the index of each live key other
+//! than 0.
+ghost use Rattle.std.specs.Prelude.{◌≡◌, ℕ, ◌+◌, ◌*◌, ◌<◌, ◌≤◌, ◌%◌, ◌==◌, pos, [], length, Option, Some, None, option_map, IfOk, IfErr, OnOk, IsOk, Ok, Err, IfSome, IsSome};
 ghost use Rattle.std.specs.Borrow.{sem};
 
 use crate::rows::Rows;
 use indexmap::IndexMap;
-use shm_base::{INDEXES, SEQUENCES, ShmId, index_of};
-use std::alloc::{AllocError, Global};
+use shm_base::{INDEXES, Numbers, SEQUENCES, ShmId, index_of};
+use std::alloc::{AllocError, AllocFailed, Global};
 use std::marker::Model;
 use thiserror::Error;
-
-/// Why an insert was refused: no index is free, or the host refused memory.
-#[derive(Clone, Copy, Debug, PartialEq, Eq, Error)]
-pub enum InsertRefused {
-    #[error("every identifier is in use or worn out")]
-    IdFull,
-    #[error("out of memory")]
-    HostMemory,
-}
 
 /// Why nothing stands under an identifier: its row was destroyed (shmctl(2) has EIDRM), or it was never
 /// issued (EINVAL).
@@ -63,11 +54,11 @@ impl<T: Drop> Drop for Entry<T> {
 /// Rows under identifiers. It is seen as the list of its entries.
 pub struct IdTable<T> {
     entries: Vec<Entry<T>>,
-    // No index below this one is free.
-    first_free: usize,
+    // The indexes that a row holds or that are worn out are taken.
+    indexes: Numbers,
     // How many entries have a row.
     rows: usize,
-    // The index of each live key but 0, in order of creation.
+    // The index of each live key but 0.
     keys: IndexMap<u32, u32>,
 }
 
@@ -75,7 +66,7 @@ impl<T: Drop> Drop for IdTable<T> {
     fn drop(self) {
         let IdTable {
             entries: _,
-            first_free: _,
+            indexes: _,
             rows: _,
             keys: _,
         } = self;
@@ -94,32 +85,14 @@ impl<T> Model for IdTable<T> {
 
     ghost view = { λ t. t.entries.items };
 
-    ghost invariant = { λ t. Sound t.entries.items t.first_free t.keys × (t.rows ≡ row_count t.entries.items) };
+    ghost invariant = { λ t. Sound t.entries.items t.indexes t.keys × (t.rows ≡ row_count t.entries.items) };
 }
 
-ghost use Rattle.std.specs.Prelude.{◌≢◌, vec_capacity, nat_eq, ◌&&◌, not, if◌then◌else◌};
+ghost use Rattle.std.specs.Prelude.{◌≢◌, vec_capacity, nat_eq, nat_lt, true, ◌&&◌, not, if◌then◌else◌};
 ghost use Rattle.indexmap.specs.IndexMap.{get, spare};
-ghost use Rattle.shm_base.specs.Identifier as flat;
-ghost use Rattle.shm_ids.specs.Table.{free_index, blank_entry, find_key, look, id_at, identifier, index_of, row_inserted, with_row, with_key, without_row, entry_at, key_at, look_row};
-
-// The least free index from `first` on.
-fn free_from<T>(entries: &Vec<Entry<T>>, first: usize) -> Option<usize>
-    requires { first ≤ length entries.now.items }
-    ensures { result ≡ flat.free_from first (map blank_entry (drop first entries.now.items)) }
-{
-    for i in first..entries.len() {
-        let entry = &entries[i];
-        if entry.row.is_none() && entry.destroyed < SEQUENCES {
-            return Some(i);
-        }
-    }
-    let len = entries.len();
-    if len < INDEXES as usize {
-        Some(len)
-    } else {
-        None
-    }
-}
+ghost use Rattle.shm_base.specs.Numbers.{is_taken};
+ghost use Rattle.shm_ids.specs.Sound.{TakenAs};
+ghost use Rattle.shm_ids.specs.Table.{free_index, find_key, look, id_at, identifier, index_of, row_inserted, with_row, with_key, without_row, entry_at, key_at, look_row};
 
 pub(crate) fn id_of(index: usize, sequence: u32) -> ShmId
     requires index { index < 32768 }
@@ -154,21 +127,17 @@ fn room_for(keys: &mut IndexMap<u32, u32>, key: u32) -> Result<(), AllocError>
 }
 
 // Puts a row at a free index.
-fn put_row<T: Drop>(entries: &mut Vec<Entry<T>>, index: usize, key: u32, value: T) -> ShmId
-    requires within { (index ≤ length entries.old.items) × (index < 32768) }
+fn put_row<T: Drop>(entries: &mut Vec<Entry<T>>, index: usize, key: u32, value: T)
+    requires within { index ≤ length entries.old.items }
     requires room { index ≡ length entries.old.items → length entries.old.items < vec_capacity entries.old }
-    requires wear { (entry_at entries.old.items index).destroyed < 65536 }
     ensures items { entries.new.items ≡ with_row entries.old.items index key value }
-    ensures id { result ≡ id_at entries.old.items index }
 {
     let row = Some(Row { key, value });
     if index == entries.len() {
         entries.push_reserved(Entry { destroyed: 0, row });
-        return id_of(index, 0);
+    } else {
+        entries[index].row = row;
     }
-    let entry = &mut entries[index];
-    entry.row = row;
-    id_of(index, entry.destroyed)
 }
 
 // Notes the index of a key, but not of 0.
@@ -188,7 +157,7 @@ fn drop_key(keys: &mut IndexMap<u32, u32>, key: u32)
     ensures { (q : ℕ) → get nat_eq keys.new q ≡ (if not (nat_eq key 0) && nat_eq key q then None else get nat_eq keys.old q) }
 {
     if key != 0 {
-        keys.shift_remove(&key);
+        keys.swap_remove(&key);
     }
 }
 
@@ -207,6 +176,13 @@ fn index_in(id: ShmId) -> usize
     ensures { result ≡ index_of id }
 {
     index_of(id) as usize
+}
+
+// The index in a live row's number, as the place of an entry.
+fn place_of(number: u32) -> usize
+    ensures { result ≡ number % 32768 }
+{
+    (number % INDEXES) as usize
 }
 
 // Sets the key at an index to 0, and returns the one that was there.
@@ -237,6 +213,17 @@ fn take_row<T>(entries: &mut Vec<Entry<T>>, index: usize) -> Row<T>
     let entry = &mut entries[index];
     entry.destroyed += 1;
     entry.row.take().unwrap()
+}
+
+// Gives an index back at which so many rows were destroyed, unless it is worn out.
+fn give_back(indexes: &mut Numbers, index: u32, destroyed: u32)
+    requires { is_taken indexes.old index ≡ true }
+    ensures given { TakenAs indexes.old indexes.new index (nat_lt destroyed 65536) }
+    ensures room { indexes.new.room ≡ indexes.old.room }
+{
+    if destroyed < SEQUENCES {
+        indexes.give(index);
+    }
 }
 
 impl<T> Entry<T> {
@@ -284,7 +271,7 @@ impl<T> Entry<T> {
 }
 
 impl<T: Drop> IdTable<T> {
-    ghost use Rattle.shm_ids.specs.TableLends.{lends_at, lends_look};
+    ghost use Rattle.shm_ids.specs.TableLends.{lends_at};
     ghost use Rattle.shm_ids.specs.Rows.{rows_from, row_listed};
     ghost use Rattle.shm_ids.specs.Table.{row_count};
 
@@ -294,7 +281,7 @@ impl<T: Drop> IdTable<T> {
     {
         IdTable {
             entries: Vec::new(alloc),
-            first_free: 0,
+            indexes: Numbers::new(alloc),
             rows: 0,
             keys: IndexMap::new(alloc),
         }
@@ -316,46 +303,41 @@ impl<T: Drop> IdTable<T> {
     }
 
     /// The identifier that the next row gets: that of the least index that no row holds and that is not worn
-    /// out. None where there is no such index. The table remembers how far it looked, so that the insert that
-    /// follows looks no further.
-    pub fn next_id(&mut self) -> Option<ShmId>
-        ensures value { result ≡ option_map (id_at self.old) (free_index self.old) }
-        ensures index { IfSome result (λ id. free_index self.old ≡ Some (index_of id)) }
-        ensures same { self.new ≡ self.old }
+    /// out. None where there is no such index.
+    pub fn next_id(&self) -> Option<ShmId>
+        ensures value { result ≡ option_map (id_at self.now) (free_index self.now) }
+        ensures index { IfSome result (λ id. free_index self.now ≡ Some (index_of id)) }
     {
-        let Some(index) = free_from(&self.entries, self.first_free) else {
+        let index = self.indexes.least();
+        if index >= INDEXES {
             return None;
-        };
-        self.first_free = index;
-        Some(id_of(index, sequence_at(&self.entries, index)))
+        }
+        Some(id_of(index as usize, sequence_at(&self.entries, index as usize)))
     }
 
-    /// Puts a row under a fresh identifier: that of the least index that no row holds and that is not
-    /// worn out. A key of 0 is none. A refusal hands the value back and changes nothing: `IdFull` where
-    /// no index is free, then `HostMemory` where a growth was refused; with no key and at an index that was used
-    /// before, nothing grows.
-    pub fn insert(&mut self, key: u32, value: T) -> Result<ShmId, (T, InsertRefused)>
+    /// Puts a row under the next identifier. A key of 0 is none. Where the host refuses memory the value comes
+    /// back and nothing has changed; with no key and at an index that was used before, nothing grows.
+    pub fn insert_at(&mut self, id: ShmId, key: u32, value: T) -> Result<(), AllocFailed<T>>
+        requires next { option_map (id_at self.old) (free_index self.old) ≡ Some id }
         requires absent { find_key self.old key ≡ None }
-        ensures ok { IfOk result (λ id. row_inserted self.old key value ≡ Some (id, self.new)) }
-        ensures index { IfOk result (λ id. free_index self.old ≡ Some (index_of id)) }
-        ensures fresh { IfOk result (λ id. look self.old id ≡ Err LookRefused.Invalid) }
+        ensures ok { OnOk result (row_inserted self.old key value ≡ Some (id, self.new)) }
+        ensures fresh { look self.old id ≡ Err LookRefused.Invalid }
         ensures few { OnOk result (length self.new ≤ 32768) }
-        ensures kept { IfErr result (λ e. (e.0 ≡ value) × (self.new ≡ self.old)) }
-        ensures full { IfErr result (λ e. e.1 ≡ InsertRefused.IdFull → free_index self.old ≡ None) }
-        ensures memory { IfErr result (λ e. e.1 ≡ InsertRefused.HostMemory → IsSome (free_index self.old)) }
-        ensures no_memory { key ≡ 0 → IfSome (free_index self.old) (λ i. i < length self.old → IsOk result) }
+        ensures kept { IfErr result (λ e. (e.value ≡ value) × (self.new ≡ self.old)) }
+        ensures no_memory { key ≡ 0 → index_of id < length self.old → IsOk result }
     {
-        let Some(index) = free_from(&self.entries, self.first_free) else {
-            return Err((value, InsertRefused::IdFull));
-        };
-        if room_at(&mut self.entries, index).is_err() || room_for(&mut self.keys, key).is_err() {
-            return Err((value, InsertRefused::HostMemory));
+        let index = index_in(id);
+        if self.indexes.reserve(index as u32 + 1).is_err()
+            || room_at(&mut self.entries, index).is_err()
+            || room_for(&mut self.keys, key).is_err()
+        {
+            return Err(AllocFailed { value });
         }
         put_key(&mut self.keys, key, index);
-        let id = put_row(&mut self.entries, index, key, value);
-        self.first_free = index + 1;
+        put_row(&mut self.entries, index, key, value);
+        self.indexes.take();
         self.rows += 1;
-        Ok(id)
+        Ok(())
     }
 
     /// The identifier of the live row with a key; none is found under 0.
@@ -413,56 +395,38 @@ impl<T: Drop> IdTable<T> {
         Ok(&self.row_of(id)?.value)
     }
 
-    /// A live row's number as its identifier. Each such number is below 2^31.
-    pub fn live_id(&self, number: u32) -> ShmId
-        requires live { IsOk (look self.now (pos number)) }
-        ensures { result ≡ pos number }
+    /// The value of a live row, to be changed.
+    pub fn value_mut(&mut self, number: u32) -> &mut T
+        requires live { IsOk (look self.old (pos number)) }
+        ensures* lends { sem 𝓛 (lends_at T.row self.entry (number % 32768) result) }
+        ensures value { look self.old (pos number) ≡ Ok result.now }
     {
-        // A field is named, so that the bound that the table keeps is known here.
-        let _ = &self.entries;
-        number as ShmId
-    }
-
-    /// The value of a live row, for writing. A write changes that row's value alone.
-    pub fn value_mut(&mut self, id: ShmId) -> &mut T
-        requires live { IsOk (look self.old id) }
-        ensures* lends { sem 𝓛 (lends_at T.row self.entry (index_of id) result) }
-        ensures value { look self.old id ≡ Ok result.now }
-    {
-        self.entries[index_in(id)].value_mut()
-    }
-
-    /// The value of the row that `look` finds, for writing. A write changes that row's value alone.
-    pub fn look_mut(&mut self, id: ShmId) -> Result<&mut T, LookRefused>
-        ensures* lends { sem 𝓛 (lends_look T.row self.entry id result) }
-        ensures ok { IfOk result (λ v. look self.old id ≡ Ok v.now) }
-        ensures err { IfErr result (λ e. look self.old id ≡ Err e) }
-    {
-        if let Err(refused) = self.look(id) {
-            return Err(refused);
-        }
-        Ok(self.value_mut(id))
+        self.entries[place_of(number)].value_mut()
     }
 
     /// Makes a live row's key 0, so that it is found no more.
-    pub fn hide_key(&mut self, id: ShmId)
-        requires live { IsOk (look self.old id) }
-        ensures { self.new ≡ with_key self.old (index_of id) 0 }
+    pub fn hide_key(&mut self, number: u32)
+        requires live { IsOk (look self.old (pos number)) }
+        ensures { self.new ≡ with_key self.old (number % 32768) 0 }
     {
-        let key = clear_key(&mut self.entries, index_in(id));
+        let key = clear_key(&mut self.entries, place_of(number));
         drop_key(&mut self.keys, key);
     }
 
     /// Destroys a live row and hands its value out. Its identifier never comes again. Takes no memory.
-    pub fn destroy(&mut self, id: ShmId) -> T
-        requires live { IsOk (look self.old id) }
-        ensures value { look self.old id ≡ Ok result }
-        ensures after { self.new ≡ without_row self.old (index_of id) }
+    pub fn destroy(&mut self, number: u32) -> T
+        requires live { IsOk (look self.old (pos number)) }
+        ensures value { look self.old (pos number) ≡ Ok result }
+        ensures after { self.new ≡ without_row self.old (number % 32768) }
     {
-        let index = index_in(id);
+        let index = place_of(number);
         let row = take_row(&mut self.entries, index);
         drop_key(&mut self.keys, row.key);
-        self.first_free = self.first_free.min(index);
+        give_back(
+            &mut self.indexes,
+            index as u32,
+            sequence_at(&self.entries, index),
+        );
         self.rows -= 1;
         row.value
     }

@@ -123,17 +123,17 @@ impl<P: Pager> Kernel<P> {
             return Ok(Err(Errno::Einval));
         }
         let reserved = self.segments.reserved() + pages_of(size);
-        if reserved > self.limits.shmall()
-            || self.segments.count() >= self.limits.shmmni()
-            || self.segments.is_full()
-        {
+        if reserved > self.limits.shmall() || self.segments.count() >= self.limits.shmmni() {
             return Ok(Err(Errno::Enospc));
         }
+        let Some(id) = self.segments.next_id() else {
+            return Ok(Err(Errno::Enospc));
+        };
         if reserved > self.segments.store().swap().capacity() {
             return Ok(Err(Errno::Enomem));
         }
         let head = new_head(time, caller, size, mode);
-        let id = self.segments.create(key, head)?;
+        self.segments.create(id, key, head)?;
         Ok(Ok(id))
     }
 }

@@ -1,4 +1,4 @@
-use shm_ids::{IdTable, InsertRefused, LookRefused};
+use shm_ids::{IdTable, LookRefused};
 use std::alloc::Global;
 use std::process::Abort;
 
@@ -9,8 +9,8 @@ type Row = (i32, u32, u8);
 enum Act {
     /// A value is put under a key, which is 0 for none: its identifier.
     Put(u32, u8, i32),
-    /// A value cannot be put.
-    Full(u8),
+    /// No index is free.
+    Full,
     /// A live row is destroyed.
     Destroy(i32),
     /// The value under an identifier.
@@ -30,39 +30,39 @@ enum Act {
     Rows(&'static [Row]),
 }
 
-/// What comes of a value under a key that no row has.
-fn put(table: &mut IdTable<u8>, key: u32, value: u8) -> Option<Result<i32, (u8, InsertRefused)>> {
+/// Puts a value under a key that no row has: its identifier, or none where no index is free.
+fn put(table: &mut IdTable<u8>, key: u32, value: u8) -> Option<i32> {
     if table.find_key(key).is_some() {
         return None;
     }
-    Some(table.insert(key, value))
+    let id = table.next_id()?;
+    table.insert_at(id, key, value).ok()?;
+    Some(id)
 }
 
 /// Destroys a row; whether it was live.
 fn destroy(table: &mut IdTable<u8>, id: i32) -> bool {
     let live = table.look(id).is_ok();
     if live {
-        table.destroy(id);
+        table.destroy(id as u32);
     }
     live
 }
 
 /// Writes a value; whether its row is live.
 fn write(table: &mut IdTable<u8>, id: i32, value: u8) -> bool {
-    match table.look_mut(id) {
-        Ok(place) => {
-            *place = value;
-            true
-        }
-        Err(_) => false,
+    let live = table.look(id).is_ok();
+    if live {
+        *table.value_mut(id as u32) = value;
     }
+    live
 }
 
 /// Hides a key; whether its row is live.
 fn hide_key(table: &mut IdTable<u8>, id: i32) -> bool {
     let live = table.look(id).is_ok();
     if live {
-        table.hide_key(id);
+        table.hide_key(id as u32);
     }
     live
 }
@@ -86,8 +86,8 @@ fn row_at(table: &IdTable<u8>, index: usize) -> Option<Row> {
 /// Does an act; whether its answer is the wanted one.
 fn answers(table: &mut IdTable<u8>, act: &Act) -> bool {
     match *act {
-        Act::Put(key, value, id) => put(table, key, value) == Some(Ok(id)),
-        Act::Full(value) => put(table, 0, value) == Some(Err((value, InsertRefused::IdFull))),
+        Act::Put(key, value, id) => put(table, key, value) == Some(id),
+        Act::Full => table.next_id().is_none(),
         Act::Destroy(id) => destroy(table, id),
         Act::Look(id, value) => table.look(id).copied() == value,
         Act::Write(id, value) => write(table, id, value),
@@ -139,7 +139,7 @@ const WORN_OUT: &[Act] = &[
 fn wears_out(rt: &impl Abort, table: &mut IdTable<u8>) {
     for round in 0..65536u32 {
         let id = (round * 32768) as i32;
-        assert!(rt; put(table, 0, 1) == Some(Ok(id)), "at {id}");
+        assert!(rt; put(table, 0, 1) == Some(id), "at {id}");
         assert!(rt; destroy(table, id), "at {id}");
     }
     answers_all(rt, table, WORN_OUT);
@@ -151,11 +151,11 @@ fn an_index_wears_out(rt: HostRuntime) {
     wears_out(&rt, &mut table);
 }
 
-const FULL: &[Act] = &[Act::Full(9)];
+const FULL: &[Act] = &[Act::Full];
 
 fn takes_all(rt: &impl Abort, table: &mut IdTable<u8>) {
     for index in 0..32768i32 {
-        assert!(rt; put(table, 0, 3) == Some(Ok(index)), "at {index}");
+        assert!(rt; put(table, 0, 3) == Some(index), "at {index}");
     }
     answers_all(rt, table, FULL);
 }

@@ -1,6 +1,6 @@
 //! The texts of errors, as each type tells them.
 use shm_attach::Segv;
-use shm_ids::{InsertRefused, LookRefused};
+use shm_ids::LookRefused;
 use shm_pager::{MirrorCause, PagerFault};
 use std::alloc::Global;
 use std::fmt::Display;
@@ -12,9 +12,6 @@ fn tells(alloc: Global, error: &impl Display, wanted: &str) -> bool {
 #[test]
 fn errors_are_told(rt: HostRuntime) {
     let alloc = rt.alloc();
-    let full = "every identifier is in use or worn out";
-    assert!(rt; tells(alloc, &InsertRefused::IdFull, full));
-    assert!(rt; tells(alloc, &InsertRefused::HostMemory, "out of memory"));
     assert!(rt; tells(alloc, &LookRefused::Removed, "the identifier was removed"));
     assert!(rt;
         tells(

@@ -1,6 +1,6 @@
 -- A row that the table has is a segment that was found.
-use Rattle.shm_segments.proofs.Names.{◌≡◌, ℕ, pos, ◌/◌, ◌%◌, ◌<◌, List, length, slice_get, Option, Some, None, ℤ, ◌==◌, true, if◌then◌else◌, refl, ap, ◌∙◌, arith, cases_lt, none-some, bytes_at, bytes_at_entry, Row, entry_at, identifier, flat_entry, row_shown, row_listed, at_past, at-table, past-flat, Held, bytes_of, Head, Found, segment_of, whole, joined_table, Agree, SizesFit, IsFound, segment_seen, nat_tests, common_steps, is_some, option_map, FlatEntry, Entry, live_row}
-use Rattle.shm_segments.proofs.Joins.{at-live, held-as}
+use Rattle.shm_segments.proofs.Names.{live_looked, with_value, StoreView, held, is_held, Ok, IsOk, look, look-entry, ◌≡◌, ℕ, pos, ◌/◌, ◌%◌, ◌<◌, List, length, slice_get, Option, Some, None, ℤ, ◌==◌, true, if◌then◌else◌, refl, ap, ◌∙◌, arith, cases_lt, none-some, bytes_at, bytes_at_entry, Row, entry_at, identifier, flat_entry, row_shown, row_listed, at_past, at-table, past-flat, Held, bytes_of, Head, Found, segment_of, whole, joined_table, Agree, SizesFit, IsFound, segment_seen, nat_tests, common_steps, is_some, option_map, FlatEntry, Entry, live_row}
+use Rattle.shm_segments.proofs.Joins.{at-live, held-as, same-held}
 use Rattle.shm_segments.specs.Table as table
 
 pub index-of : (i d : ℕ) → i < 32768 → identifier i d % 32768 ≡ i
@@ -64,6 +64,18 @@ live-joined hs rows id = grind (arith, common_steps, at-table, in-flat, past-fla
 
 pub is_live-row : (hs : List Held) (rows : List (Entry Head)) (id : ℕ) → table.IsLive (joined_table hs rows) id → is_some (live_row rows id) ≡ true
 is_live-row hs rows id is = grind (arith, live-joined hs rows id, is)
+
+-- its row is found under its identifier
+pub is_live-look : (hs : List Held) (rows : List (Entry Head)) (id : ℕ) → table.IsLive (joined_table hs rows) id → IsOk (look rows (pos id))
+is_live-look hs rows id is = let lives = is_live-row hs rows id is in grind (arith, common_steps, look-entry, lives)
+
+-- and so it is when its value was changed
+pub look-with_value : (rows : List (Entry Head)) (id : ℕ) (v w : Head) → look rows (pos id) ≡ Ok v → IsOk (look (with_value rows (id % 32768) w) (pos id))
+look-with_value rows id v w looked = let l = live_looked rows id v looked in grind (arith, common_steps, look-entry, l.within, l.there, l.own)
+
+-- it is held
+pub live-held : (m : StoreView) (rows : List (Entry Head)) (id : ℕ) → Agree (held m) rows → table.IsLive (joined_table (held m) rows) id → is_held (held m) id ≡ true
+live-held m rows id agree is = same-held (held m) rows id agree ∙ is_live-row (held m) rows id is
 
 -- WHAT IS NOT LIVE
 

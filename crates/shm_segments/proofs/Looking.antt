@@ -1,5 +1,5 @@
 -- What is found under an identifier, and what the flat machine says of it.
-use Rattle.shm_segments.proofs.Names.{◌≡◌, ◌≢◌, ℕ, pos, ℤ, ◌%◌, List, Option, Some, None, IsOk, is_none, Bool, not, refl, sym, ap, ◌∙◌, arith, Eidrm, Einval, bytes_at, Removed, Invalid, entry_at, key_at, find_key, index_of, look, flat_answer, flat_found, natural_of, look-flat, find_key-flat, find_key-look, free_index-flat, Held, bytes_of, Head, Found, segment_of, whole, joined_table, Agree, SizesFit, IsFound, look_of, refused_look, nat_tests, Ok, Err, is_some, option_map, Entry, Row, free_index, id_at, live_row}
+use Rattle.shm_segments.proofs.Names.{common_steps, destroyed_at-flat, next_id, ◌≡◌, ◌≢◌, ℕ, pos, ℤ, ◌%◌, List, Option, Some, None, IsOk, is_none, Bool, not, refl, sym, ap, ◌∙◌, arith, Eidrm, Einval, bytes_at, Removed, Invalid, entry_at, key_at, find_key, index_of, look, flat_answer, flat_found, natural_of, look-flat, find_key-flat, find_key-look, free_index-flat, Held, bytes_of, Head, Found, segment_of, whole, joined_table, Agree, SizesFit, IsFound, look_of, refused_look, nat_tests, Ok, Err, is_some, option_map, Entry, Row, free_index, id_at, live_row}
 use Rattle.shm_base.specs.Identifier as flat
 use Rattle.shm_segments.proofs.Joins.{live-at}
 use Rattle.shm_segments.proofs.Edits.{look-live}
@@ -42,17 +42,12 @@ key-some hs rows key id some found ok = find_key-look (whole hs) (λ n r. refl) 
 
 -- INDEXES
 
-mapped-none : {X Y : Type 0} (f : X → Y) (o : Option X) → is_none (option_map f o) ≡ is_none o
-mapped-none f o = grind arith
-
 pub none-mapped : {X Y : Type 0} (f : X → Y) (o : Option X) → option_map f o ≡ None → o ≡ None
 none-mapped f o is = grind arith
 
-pub none-not_some : {X : Type 0} (o : Option X) (b : Bool) → is_some o ≡ not b → b ≡ is_none o
-none-not_some o b is = grind (arith, nat_tests)
-
-pub full-joined : (hs : List Held) (rows : List (Entry Head)) (o : Option ℤ) → o ≡ option_map (id_at rows) (free_index rows) → is_none o ≡ is_none (flat.free_index (joined_table hs rows))
-full-joined hs rows o is = ap is_none is ∙ mapped-none (id_at rows) (free_index rows) ∙ ap is_none (sym (free_index-flat (whole hs) rows))
+-- the identifier that comes next is the one that the rows have for it
+pub next-joined : (hs : List Held) (rows : List (Entry Head)) → next_id (joined_table hs rows) ≡ option_map (id_at rows) (free_index rows)
+next-joined hs rows = rw (free_index-flat (whole hs) rows) (grind (arith, common_steps, destroyed_at-flat (whole hs) rows))
 
 -- WHAT A LOOK ANSWERS
 

@@ -111,9 +111,7 @@ kept-made hs rows pages locks i key v k found loose range =
             rw (← same) range
         by id q is (inr n) = k.sizes id q (sym (live-with_row_other rows i id key v free n) ∙ is)
 
--- the free index
-pub free-some : (hs : List Held) (rows : List (Entry Head)) → is_none (flat.free_index (joined_table hs rows)) ≡ false → is_some (free_index rows) ≡ true
-free-some hs rows some = grind (arith, nat_tests, free_index-flat (whole hs) rows, some)
+-- THE NEXT ONE
 
 -- what is made is what the flat table makes
 pub made-joined : (hs : List Held) (rows : List (Entry Head)) (i key : ℕ) (v : Head) → free_index rows ≡ Some i

@@ -1,5 +1,5 @@
 -- The names that the proofs cite, from below and from the words of this crate.
-pub use Rattle.std.proofs.Common.{Bool, IsOk, List, None, Option, Some, [], ap, append-nil, append_assoc, arith, drop, eq-eqb, false, get_or, get_or-set_same, if◌then◌else◌, inl, inr, is_none, length, length-set, map, ne_eqb, not, of_z, pos, refl, rules, set, slice_get, suc, sym, take, to_z, true, w32, zero, ℕ, ℤ, ◌%◌, ◌*◌, ◌++◌, ◌+◌, ◌-◌, ◌/◌, ◌<◌, ◌==◌, ◌^◌, ◌∙◌, ◌∷◌, ◌≡◌, ◌≢◌, ◌≤◌, ◌⊎◌, option_map, Ok, is_some, replicate, Err}
+pub use Rattle.std.proofs.Common.{Bool, IsOk, List, None, Option, Some, [], ap, append-nil, append_assoc, arith, drop, eq-eqb, false, get_or, get_or-set_same, if◌then◌else◌, inl, inr, is_none, length, length-set, map, ne_eqb, not, of_z, pos, refl, rules, set, slice_get, subst, suc, sym, take, to_z, true, w32, zero, ℕ, ℤ, ◌%◌, ◌*◌, ◌++◌, ◌+◌, ◌-◌, ◌/◌, ◌<◌, ◌==◌, ◌^◌, ◌∙◌, ◌∷◌, ◌≡◌, ◌≢◌, ◌≤◌, ◌⊎◌, option_map, Ok, is_some, replicate, Err}
 pub use Rattle.std.proofs.lemmas.Bool.{cases_eq, cases_lt, ltb-true}
 pub use Rattle.std.proofs.lemmas.Bool.Decides.{eqb_tells, nat_tests}
 pub use Rattle.std.proofs.lemmas.Grind.{common_steps, take-set_at}
@@ -46,7 +46,7 @@ pub use Rattle.shm_slots.specs.View.{SwapView}
 pub use Rattle.shm_segments.specs.Joined.{Agree, Shape, joined_table, locked_in_row, locked_of_rows, pages_in_row, pages_of_rows, segment_of, shape_held, shape_row, whole, live_row}
 pub use Rattle.shm_segments.specs.Sound.{AreSegmentsSound, IsWhole, SizesFit}
 pub use Rattle.shm_segments.specs.Orphan.{id_in, is_orphan, orphan, orphan_in}
-pub use Rattle.shm_segments.specs.Table.{IsFound, SpanFits, created, destroyed, live_in, look_of, made, loaded_number, pages_at, refused_look, reowned, segment_seen, relocked}
+pub use Rattle.shm_segments.specs.Table.{IsFound, SpanFits, created, destroyed, live_in, look_of, made, loaded_number, next_id, pages_at, refused_look, reowned, segment_seen, relocked}
 pub use Rattle.shm_segments.specs.View.{KeepsMemory, SegmentsView, ShowsTable}
 pub use Rattle.shm_segments.specs.declared.head.Found.{Found}
 pub use Rattle.shm_segments.specs.declared.head.Head.{Head}

@@ -3,4 +3,3 @@ pub mod Table
 pub mod Sound
 pub mod Orphan
 pub mod View
-pub mod Lends

@@ -61,6 +61,10 @@ page_there table id page = nat_lt page (pages_at table id)
 abbrev pub SpanFits : List Entry → Span → Type 0
 SpanFits table p = InPage p × (page_there table p.seg (page_of p) ≡ true)
 
+-- the identifier that the next segment gets; nothing where no index is free
+abbrev pub next_id : List Entry → Option ℤ
+next_id table = option_map (λ i. pos (flat.identifier i (flat.destroyed_at table i))) (flat.free_index table)
+
 -- a segment that is made at an index
 abbrev pub created : List Entry → ℕ → ℕ → Head → List Entry
 created table i key h = flat.with_segment table i (segment_of (record { key = key; value = h }) (replicate (4096 * pages_of h.size) 0))

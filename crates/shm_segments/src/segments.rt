@@ -8,9 +8,7 @@ ghost use Rattle.shm_slots.specs.View.{swap_slots, sizes, owner_of};
 ghost use Rattle.shm_fault.specs.Segs.{with_seg_lock};
 ghost use Rattle.shm_fault.specs.Store.{Still, fresh_store, frame_of};
 ghost use Rattle.shm_segments.specs.View.{KeepsMemory};
-ghost use Rattle.shm_segments.specs.Lends.{lends_head};
-ghost use Rattle.std.specs.Borrow.{sem};
-ghost use Rattle.shm_segments.specs.Table.{IsFound, IsLive, look_of, refused_look, live, segment_in, made, destroyed, reowned, relocked};
+ghost use Rattle.shm_segments.specs.Table.{IsFound, IsLive, look_of, refused_look, live, segment_in, next_id, made, destroyed, reowned, relocked};
 
 use crate::head::{Found, Head};
 use shm_base::{Errno, HostMemory, INDEXES, MODES, ShmId, pages_of};
@@ -54,17 +52,7 @@ impl<P: Pager> Model for Segments<P> {
     ghost invariant = { λ s. IsWhole s.store s.table s.reserved s.locked };
 }
 
-ghost use Rattle.shm_ids.specs.Table.{look, find_key, free_index, with_key, with_row, without_row, index_of, key_at};
-ghost use Rattle.shm_segments.specs.Joined.{live_row};
-
-// The identifier of a live segment, as the table has it.
-fn id_of(table: &IdTable<Head>, seg: u32) -> ShmId
-    requires { is_some (live_row table.now seg) ≡ true }
-    ensures id { result ≡ pos seg }
-    ensures live { IsOk (look table.now (pos seg)) }
-{
-    table.live_id(seg)
-}
+ghost use Rattle.shm_ids.specs.Table.{look, index_of, key_at};
 
 // The pages of a segment, if it is locked.
 fn pages_locked(head: &Head) -> u64
@@ -88,48 +76,6 @@ fn found_under(table: &IdTable<Head>, id: ShmId) -> Result<Found, LookRefused>
         key: row.key,
         head: row.value,
     })
-}
-
-// The head of a live segment, to be changed.
-fn head_mut(table: &mut IdTable<Head>, seg: u32) -> &mut Head
-    requires { is_some (live_row table.old seg) ≡ true }
-    ensures* lends { sem 𝓛 (lends_head table.entry seg result) }
-    ensures value { look table.old (pos seg) ≡ Ok result.now }
-{
-    let id = id_of(table, seg);
-    table.value_mut(id)
-}
-
-// Hides the key of a live segment.
-fn hide(table: &mut IdTable<Head>, seg: u32)
-    requires { is_some (live_row table.old seg) ≡ true }
-    ensures { table.new ≡ with_key table.old (seg % 32768) 0 }
-{
-    let id = id_of(table, seg);
-    table.hide_key(id);
-}
-
-// Takes the row of a live segment out.
-fn take(table: &mut IdTable<Head>, seg: u32) -> Head
-    requires { is_some (live_row table.old seg) ≡ true }
-    ensures value { look table.old (pos seg) ≡ Ok result }
-    ensures after { table.new ≡ without_row table.old (seg % 32768) }
-{
-    let id = id_of(table, seg);
-    table.destroy(id)
-}
-
-// Makes a row under the next identifier.
-fn put(table: &mut IdTable<Head>, key: u32, head: Head) -> Result<(), HostMemory>
-    requires absent { find_key table.old key ≡ None }
-    requires free { is_some (free_index table.old) ≡ true }
-    ensures ok { OnOk result (option_map (λ i. with_row table.old i key head) (free_index table.old) ≡ Some table.new) }
-    ensures err { OnErr result (table.new ≡ table.old) }
-{
-    match table.insert(key, head) {
-        Ok(_) => Ok(()),
-        Err(_) => Err(HostMemory),
-    }
 }
 
 impl<P: Pager> Segments<P> {
@@ -233,43 +179,38 @@ impl<P: Pager> Segments<P> {
         found_under(&self.table, id).ok()
     }
 
-    /// Whether no index is free for another segment: each is held or worn out. Where one is free the table
-    /// remembers it, and a creation looks no further.
-    pub fn is_full(&mut self) -> bool
-        ensures value { result ≡ is_none (flat_ids.free_index self.old.table) }
-        ensures same { self.new ≡ self.old }
+    /// The identifier that the next segment gets: that of the least free index. None where each is held or worn
+    /// out.
+    pub fn next_id(&self) -> Option<ShmId>
+        ensures { result ≡ next_id self.now.table }
     {
-        self.table.next_id().is_none()
+        self.table.next_id()
     }
 
-    /// Makes a segment of zeros at the least free index, and answers its identifier. Its key is that of no
-    /// other segment, or 0.
-    pub fn create(&mut self, key: u32, head: Head) -> Result<ShmId, HostMemory>
-        requires free { is_none (flat_ids.free_index self.old.table) ≡ false }
+    /// Makes a segment of zeros under the next identifier. Its key is that of no other segment, or 0.
+    pub fn create(&mut self, id: ShmId, key: u32, head: Head) -> Result<(), HostMemory>
+        requires next { next_id self.old.table ≡ Some id }
         requires absent { key ≢ 0 → flat_ids.find_key self.old.table key ≡ flat_ids.Invalid }
         requires size { (1 ≤ head.size) × (head.size ≤ 16777216) }
         requires loose { head.locked ≡ false }
         requires few { reserved self.old.table ≤ 65536 }
         requires room { reserved self.old.table + flat.pages_of head.size ≤ swap_slots self.old.memory.swap }
-        ensures ok { IfOk result (λ id. made self.old.table key head ≡ Some (id, self.new.table)) }
+        ensures ok { OnOk result (made self.old.table key head ≡ Some (id, self.new.table)) }
         ensures keeps { OnOk result (KeepsMemory self.old.memory self.new.memory) }
         ensures swap { OnOk result (self.new.memory.swap ≡ self.old.memory.swap) }
         ensures still { Still self.old.memory self.new.memory }
         ensures err { OnErr result (self.new ≡ self.old) }
     {
-        let Some(id) = self.table.next_id() else {
-            unreachable!()
-        };
         let pages = pages_of(head.size);
         self.store.add_segment(id as u32, pages as u32)?;
-        match put(&mut self.table, key, head) {
+        match self.table.insert_at(id, key, head) {
             Ok(()) => {
                 self.reserved += pages;
-                Ok(id)
+                Ok(())
             }
             Err(refused) => {
                 self.store.drop_segment(id as u32);
-                Err(refused)
+                Err(HostMemory::from(refused))
             }
         }
     }
@@ -282,7 +223,7 @@ impl<P: Pager> Segments<P> {
         ensures sizes { sizes self.new.memory.swap ≡ sizes self.old.memory.swap }
         ensures still { (s page : ℕ) → s ≢ seg → frame_of self.new.memory s page ≡ frame_of self.old.memory s page }
     {
-        let head = take(&mut self.table, seg);
+        let head = self.table.destroy(seg);
         self.store.drop_segment(seg);
         self.reserved -= pages_of(head.size);
         self.locked -= pages_locked(&head);
@@ -293,7 +234,7 @@ impl<P: Pager> Segments<P> {
         requires { IsLive self.old.table seg }
         ensures { self.new ≡ record self.old { table = change self.old.table seg (attached time pid) } }
     {
-        let head = head_mut(&mut self.table, seg);
+        let head = self.table.value_mut(seg);
         head.atime = time;
         head.lpid = pid;
     }
@@ -303,7 +244,7 @@ impl<P: Pager> Segments<P> {
         requires { IsLive self.old.table seg }
         ensures { self.new ≡ record self.old { table = change self.old.table seg (detached time pid) } }
     {
-        let head = head_mut(&mut self.table, seg);
+        let head = self.table.value_mut(seg);
         head.dtime = time;
         head.lpid = pid;
     }
@@ -313,7 +254,7 @@ impl<P: Pager> Segments<P> {
         requires { IsLive self.old.table seg }
         ensures { self.new ≡ record self.old { table = change self.old.table seg (reowned time uid gid mode) } }
     {
-        let head = head_mut(&mut self.table, seg);
+        let head = self.table.value_mut(seg);
         head.perm.uid = uid;
         head.perm.gid = gid;
         head.perm.mode = mode % MODES;
@@ -325,8 +266,8 @@ impl<P: Pager> Segments<P> {
         requires { IsLive self.old.table seg }
         ensures { self.new ≡ record self.old { table = change self.old.table seg marked } }
     {
-        head_mut(&mut self.table, seg).dest = true;
-        hide(&mut self.table, seg);
+        self.table.value_mut(seg).dest = true;
+        self.table.hide_key(seg);
     }
 
     /// Locks or unlocks the segment's pages (SHM_LOCKED).
@@ -338,7 +279,7 @@ impl<P: Pager> Segments<P> {
         ensures only { self.new.memory ≡ record self.old.memory { segs = map (with_seg_lock seg locked) self.old.memory.segs } }
         ensures still { Still self.old.memory self.new.memory }
     {
-        let head = head_mut(&mut self.table, seg);
+        let head = self.table.value_mut(seg);
         let unlocked = self.locked - pages_locked(head);
         head.locked = locked;
         self.locked = unlocked + pages_locked(head);

@@ -1,5 +1,6 @@
 -- Numbers that are free or owned.
 use Rattle.std.specs.Prelude.{◌≡◌, ℕ, ◌<◌, ◌≤◌, true, is_some, List, length, Option, None, get_or, count_by, MatchOption}
+use Rattle.shm_base.specs.Numbers.{NumbersView, is_taken}
 
 module _ {X : Type 0} where
   -- no number below is free
@@ -20,8 +21,8 @@ module _ {X : Type 0} where
   abbrev pub used_count : List (Option X) → ℕ
   used_count owners = count_by is_some owners
 
-  -- what stands beside the owners: a bound below which none is free, and how many are owned
-  pub record AreOwnersSound (owners : List (Option X)) (first_free used : ℕ) : Type 0 where
-    pub bound : first_free ≤ length owners
-    pub used_below : UsedBelow first_free owners
+  -- what stands beside the owners: the owned numbers are taken, and there is room to give each back; how many are owned
+  pub record AreOwnersSound (owners : List (Option X)) (numbers : NumbersView) (used : ℕ) : Type 0 where
+    pub taken : (i : ℕ) → is_taken numbers i ≡ is_some (get_or owners i None)
+    pub room : length owners ≤ numbers.room
     pub counted : used ≡ used_count owners

@@ -1,16 +1,16 @@
-//! Who owns each slot of an area. The least free slot is found without a walk from slot 0: below a bound
-//! that is kept no slot is free, and a full area is told by its count.
-ghost use Rattle.std.specs.Prelude.{◌≡◌, ◌<◌, ◌≤◌, [], length, set, get_or, replicate, Some, None, IfOk};
-ghost use Rattle.shm_slots.specs.Owners.{UsedBelow, IsLeastFree, FoundLeast, used_count};
+//! Who owns each slot of an area, and which slot is the least that is free.
+ghost use Rattle.std.specs.Prelude.{◌≡◌, ◌<◌, [], length, set, get_or, replicate, Some, None, IfOk};
+ghost use Rattle.shm_slots.specs.Owners.{IsLeastFree, FoundLeast, used_count};
 
-use shm_base::PageRef;
+use shm_base::{Numbers, PageRef};
 use std::alloc::{AllocError, Global};
 use std::marker::Model;
 
 /// The owners of an area's slots.
 pub(crate) struct Owners {
     slots: Vec<Option<PageRef>>,
-    first_free: usize,
+    // The slots that are owned are taken.
+    numbers: Numbers,
     used: usize,
 }
 
@@ -18,7 +18,7 @@ impl Drop for Owners {
     fn drop(self) {
         let Owners {
             slots: _,
-            first_free: _,
+            numbers: _,
             used: _,
         } = self;
     }
@@ -33,21 +33,7 @@ impl Model for Owners {
 
     ghost view = { λ o. o.slots.items };
 
-    ghost invariant = { λ o. (length o.slots.items < 2 ^ 32) × AreOwnersSound o.slots.items o.first_free o.used };
-}
-
-// The least free slot, where none below the first is free.
-fn least_free_from(slots: &Vec<Option<PageRef>>, first: usize) -> Option<usize>
-    requires bound { first ≤ length slots.now.items }
-    requires used_below { UsedBelow first slots.now.items }
-    ensures { FoundLeast slots.now.items result }
-{
-    for slot in first..slots.len() {
-        if slots[slot].is_none() {
-            return Some(slot);
-        }
-    }
-    None
+    ghost invariant = { λ o. (length o.slots.items < 2 ^ 32) × AreOwnersSound o.slots.items o.numbers o.used };
 }
 
 impl Owners {
@@ -55,13 +41,15 @@ impl Owners {
     pub(crate) fn new(alloc: Global, count: u32) -> Result<Owners, AllocError>
         ensures { IfOk result (λ o. o ≡ replicate count None) }
     {
+        let mut numbers = Numbers::new(alloc);
+        numbers.reserve(count)?;
         let mut slots = Vec::with_capacity(alloc, count as usize)?;
         for _i in 0..count {
             slots.push(None)?;
         }
         Ok(Owners {
             slots,
-            first_free: 0,
+            numbers,
             used: 0,
         })
     }
@@ -92,11 +80,11 @@ impl Owners {
     pub(crate) fn least_free(&self) -> Option<u32>
         ensures { FoundLeast self.now result }
     {
-        if self.used == self.slots.len() {
+        let slot = self.numbers.least();
+        if slot as usize >= self.slots.len() {
             return None;
         }
-        let slot = least_free_from(&self.slots, self.first_free)?;
-        Some(slot as u32)
+        Some(slot)
     }
 
     /// Gives the least free slot an owner.
@@ -105,7 +93,7 @@ impl Owners {
         ensures { self.new ≡ set self.old slot (Some owner) }
     {
         self.slots[slot as usize] = Some(owner);
-        self.first_free = slot as usize + 1;
+        self.numbers.take();
         self.used += 1;
     }
 
@@ -114,11 +102,10 @@ impl Owners {
         requires { slot < length self.old }
         ensures { self.new ≡ set self.old slot None }
     {
-        let slot = slot as usize;
-        if self.slots[slot].is_some() {
-            self.slots[slot] = None;
+        if self.slots[slot as usize].is_some() {
+            self.slots[slot as usize] = None;
             self.used -= 1;
-            self.first_free = self.first_free.min(slot);
+            self.numbers.give(slot);
         }
     }
 
@@ -127,7 +114,7 @@ impl Owners {
         ensures { self.new ≡ [] }
     {
         self.slots.clear();
-        self.first_free = 0;
+        self.numbers.clear();
         self.used = 0;
     }
 }

@@ -1,4 +1,4 @@
-use Rattle.shm_life.proofs.Names.{rules, ◌∙◌, ◌≡◌, ◌+◌, ◌≤◌, ℕ, Some, ap, pages_of, reserved, frame_of, made, KeepsMemory}
+use Rattle.shm_life.proofs.Names.{to_z, of_z, w32, rules, ◌∙◌, ◌≡◌, ◌+◌, ◌≤◌, ℕ, Some, ap, pages_of, reserved, frame_of, made, KeepsMemory}
 use Rattle.shm_life.proofs.Created.{created-kept}
 use Rattle.shm_life.proofs.Attaching.{on-err}
 use Rattle.shm_life.proofs.Running.{true_still}
@@ -11,12 +11,12 @@ invariant_of-self-2 g c =
     let size : h.size ≡ c.args.size = ap (λ x. x.size) c.new_head-head.ensures in
     let room : reserved c.self.inside.segments.table + pages_of h.size ≤ c.self.inside.limits.shmall =
     rw (size, ← c.reserved.ensures, ← c.pages_of.ensures.value, ← c.shmall.ensures.value) c.if-reserved-shmall.false in
-    let same = c.is_full.ensures.same in
-    let ok : made c.self.inside.segments.table c.args.key h ≡ Some (c.in_ok-id.id, c.create.new.self.table) = rw same at c.in_ok-id.ensures.ok in
-    let keeps : KeepsMemory c.self.inside.segments.memory c.create.new.self.memory = rw same at c.in_ok-id.ensures.keeps in
-    let still : (s page : ℕ) → frame_of c.create.new.self.memory s page ≡ frame_of c.self.inside.segments.memory s page = rw same at c.create.ensures.still in
+    let signed : to_z w32 (of_z w32 c.in-Some.id) ≡ c.in-Some.id = search rules in
+    let ok : made c.self.inside.segments.table c.args.key h ≡ Some (c.in-Some.id, c.create.new.self.table) = rw signed at c.in_ok-create.ensures.ok in
+    let keeps : KeepsMemory c.self.inside.segments.memory c.create.new.self.memory = c.in_ok-create.ensures.keeps in
+    let still : (s page : ℕ) → frame_of c.create.new.self.memory s page ≡ frame_of c.self.inside.segments.memory s page = c.create.ensures.still in
     record {
-      kept = created-kept c.self.inside.limits c.self.inside.segments.table c.create.new.self.table c.self.inside.spaces.runners c.args.key h c.in_ok-id.id c.self.invariant.0.kept ok
+      kept = created-kept c.self.inside.limits c.self.inside.segments.table c.create.new.self.table c.self.inside.spaces.runners c.args.key h c.in-Some.id c.self.invariant.0.kept ok
           room (ap (λ x. x.dest) c.new_head-head.ensures) (ap (λ x. x.locked) c.new_head-head.ensures);
       frames = keeps.frames ∙ c.self.invariant.0.frames;
       room = c.self.invariant.0.room;
@@ -25,5 +25,5 @@ invariant_of-self-2 g c =
       c.self.invariant.1,
     )
 
-pub returns-in_err-id-clause-memory : goal.returns-in_err-id-clause-memory
-returns-in_err-id-clause-memory g c = on-err c.from_residual.result (record { unchanged = search rules; instead = search rules })
+pub returns-in_err-create-clause-memory : goal.returns-in_err-create-clause-memory
+returns-in_err-create-clause-memory g c = on-err c.from_residual.result (record { unchanged = search rules; instead = search rules })
