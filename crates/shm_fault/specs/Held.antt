@@ -3,6 +3,7 @@ use Rattle.std.specs.Prelude.{ℕ, ◌≡◌, ◌≤◌, ◌+◌, ◌*◌, ◌/�
 use Rattle.std.specs.List.{flat_map}
 use Rattle.shm_base.specs.declared.paging.Span.{Span}
 use Rattle.shm_base.specs.Spans.{InPage}
+use Rattle.shm_base.specs.declared.paging.TheConstants.{PAGE_SIZE}
 
 -- a segment that the store holds
 pub record Held : Type 0 where
@@ -34,7 +35,7 @@ abbrev pub holds_locked : List Held → ℕ → Bool
 holds_locked hs id = held_lock (find_held hs id)
 
 abbrev pub held_pages : Held → ℕ
-held_pages g = length g.bytes / 4096
+held_pages g = length g.bytes / PAGE_SIZE
 
 -- the pages of all segments
 abbrev pub pages_in_store : List Held → ℕ
@@ -49,7 +50,7 @@ locked_pages_in_store hs = sum_by pages_if_locked hs
 
 -- one more segment, of zeros
 abbrev pub with_zeros : List Held → ℕ → ℕ → List Held
-with_zeros hs id pages = hs ++ record { id = id; locked = false; bytes = replicate (4096 * pages) 0 } ∷ []
+with_zeros hs id pages = hs ++ record { id = id; locked = false; bytes = replicate (PAGE_SIZE * pages) 0 } ∷ []
 
 -- all segments but one
 abbrev pub without : List Held → ℕ → List Held

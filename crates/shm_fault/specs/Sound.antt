@@ -6,6 +6,8 @@ use Rattle.shm_slots.specs.View.{HasSlot, owner_of, swap_slots, IsSwap}
 use Rattle.shm_frames.specs.Frame.{frame_at}
 use Rattle.shm_fault.specs.Segs.{rec_by, HasPage, AreApart, page_count, locked_pages}
 use Rattle.shm_fault.specs.Store.{StoreView, slot_bytes, page_bytes, resident, dirty, used}
+use Rattle.shm_base.specs.declared.bounds.TheConstants.{MOST_FRAMES}
+use Rattle.shm_base.specs.declared.paging.TheConstants.{PAGE_SIZE}
 
 -- a page and its frame, and a page and its slot, name one another, and a clean page is what is stored of it
 pub record IsTied (s : StoreView) (r : PageRef) : Type 0 where
@@ -17,7 +19,7 @@ pub record IsTied (s : StoreView) (r : PageRef) : Type 0 where
   pub owner_stored : (k : Slot) → owner_of s.swap k.area k.slot ≡ Some r → (rec_by s.segs r).slot ≡ Some k
   pub clean : (f : ℕ) → (rec_by s.segs r).frame ≡ Some f → (frame_at s.frames f).dirty ≡ false
       → (frame_at s.frames f).bytes ≡ slot_bytes s.swap (rec_by s.segs r).slot
-  pub whole : length (page_bytes s.frames s.swap (rec_by s.segs r)) ≡ 4096
+  pub whole : length (page_bytes s.frames s.swap (rec_by s.segs r)) ≡ PAGE_SIZE
 
 -- that is so of every page, and frames and slots have no other owners
 pub record Tied (s : StoreView) : Type 0 where
@@ -29,7 +31,7 @@ pub record Tied (s : StoreView) : Type 0 where
 pub record IsStoreSound (s : StoreView) : Type 0 where
   pub tied : Tied s
   pub apart : AreApart s.segs
-  pub frames : (2 ≤ length s.frames) × (length s.frames ≤ 4096)
+  pub frames : (2 ≤ length s.frames) × (length s.frames ≤ MOST_FRAMES)
   pub swap : IsSwap s.swap
   pub hand : s.hand < length s.frames
   pub capacity : sum_by page_count s.segs ≤ swap_slots s.swap

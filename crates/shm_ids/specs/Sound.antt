@@ -5,6 +5,7 @@ use Rattle.shm_ids.specs.declared.table.Entry.{Entry}
 use Rattle.shm_ids.specs.declared.table.Row.{Row}
 use Rattle.shm_base.specs.Numbers.{NumbersView, is_taken}
 use Rattle.shm_ids.specs.Table.{entry_at, key_at}
+use Rattle.shm_base.specs.declared.bounds.TheConstants.{INDEXES, SEQUENCES}
 
 -- a number is taken unless it is free now, and no other changed
 abbrev pub TakenAs : NumbersView → NumbersView → ℕ → Bool → Type 0
@@ -16,15 +17,15 @@ module _ {T : Type 0} where
   rows_in None = 0
   rows_in (Some r) = 1
 
-  -- the entries, the first of which stands at this index, have identifiers that fit: sequences stay below 65536, and so
-  -- do indexes below 32768
+  -- the entries, the first of which stands at this index, have identifiers that fit: sequences stay below SEQUENCES, and so
+  -- do indexes below INDEXES
   pub record HaveIdentifiers (first : ℕ) (es : List (Entry T)) : Type 0 where
-    pub indexes : first + length es ≤ 32768
-    pub sequences : (k : ℕ) → (entry_at es k).destroyed + rows_in (entry_at es k).row ≤ 65536
+    pub indexes : first + length es ≤ INDEXES
+    pub sequences : (k : ℕ) → (entry_at es k).destroyed + rows_in (entry_at es k).row ≤ SEQUENCES
 
   -- the index of an entry is free: no row holds it, and it is not worn out
   abbrev pub is_open : Entry T → Bool
-  is_open e = is_none e.row && nat_lt e.destroyed 65536
+  is_open e = is_none e.row && nat_lt e.destroyed SEQUENCES
 
   -- the other indexes are taken, and there is room to give each back
   pub record AreIndexesKnown (table : List (Entry T)) (indexes : NumbersView) : Type 0 where

@@ -7,6 +7,8 @@ use Rattle.shm_ids.specs.Table.{identifier, entry_at}
 use Rattle.shm_ids.specs.Flat.{flat_table}
 use Rattle.shm_segments.specs.declared.head.Head.{Head}
 use Rattle.shm_fault.specs.Held.{Held, find_held, bytes_of}
+use Rattle.shm_base.specs.declared.bounds.TheConstants.{INDEXES}
+use Rattle.shm_base.specs.declared.paging.TheConstants.{PAGE_SIZE}
 
 -- the segment of a row that has these bytes
 abbrev pub segment_of : Row Head → List ℕ → Segment
@@ -50,7 +52,7 @@ joined_table hs rows = flat_table (whole hs) rows
 
 -- the row of the live segment with an identifier
 abbrev pub live_row : List (Entry Head) → ℕ → Option (Row Head)
-live_row rows id = if identifier (id % 32768) (entry_at rows (id % 32768)).destroyed == id then (entry_at rows (id % 32768)).row else None
+live_row rows id = if identifier (id % INDEXES) (entry_at rows (id % INDEXES)).destroyed == id then (entry_at rows (id % INDEXES)).row else None
 
 abbrev pub pages_in_row : Option (Row Head) → ℕ
 pages_in_row None = 0
@@ -76,9 +78,9 @@ abbrev pub shape_held : Held → Shape
 shape_held g = record { locked = g.locked; size = length g.bytes }
 
 abbrev pub shape_row : Row Head → Shape
-shape_row r = record { locked = r.value.locked; size = 4096 * pages_of r.value.size }
+shape_row r = record { locked = r.value.locked; size = PAGE_SIZE * pages_of r.value.size }
 
 -- a segment is held where it is live, with its row's lock and pages, and nothing else is held
 pub record Agree (hs : List Held) (rows : List (Entry Head)) : Type 0 where
-  pub few : length rows ≤ 32768
+  pub few : length rows ≤ INDEXES
   pub same : (id : ℕ) → option_map shape_held (find_held hs id) ≡ option_map shape_row (live_row rows id)

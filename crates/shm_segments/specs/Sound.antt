@@ -8,10 +8,11 @@ use Rattle.shm_fault.specs.Store.{StoreView, held}
 use Rattle.shm_fault.specs.Sound.{IsStoreSound}
 use Rattle.shm_segments.specs.declared.head.Head.{Head}
 use Rattle.shm_segments.specs.Joined.{live_row, pages_of_rows, locked_of_rows, Agree}
+use Rattle.shm_base.specs.declared.bounds.TheConstants.{MOST_SHMMAX}
 
 -- a segment has 1 to 2^24 bytes
 abbrev pub SizesFit : List (Entry Head) → Type 0
-SizesFit rows = (id : ℕ) (r : Row Head) → live_row rows id ≡ Some r → (1 ≤ r.value.size) × (r.value.size ≤ 16777216)
+SizesFit rows = (id : ℕ) (r : Row Head) → live_row rows id ≡ Some r → (1 ≤ r.value.size) × (r.value.size ≤ MOST_SHMMAX)
 
 -- heads and bytes are of the same segments, and their pages are counted
 pub record AreSegmentsSound (hs : List Held) (rows : List (Entry Head)) (pages locks : ℕ) : Type 0 where

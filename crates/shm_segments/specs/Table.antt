@@ -12,6 +12,8 @@ use Rattle.shm_base.specs.Segments.{pages_held}
 use Rattle.shm_segments.specs.Joined.{segment_of}
 use Rattle.shm_segments.specs.declared.head.Head.{Head}
 use Rattle.shm_segments.specs.declared.head.Found.{Found}
+use Rattle.shm_base.specs.declared.bounds.TheConstants.{INDEXES, MOST_SHMMAX}
+use Rattle.shm_base.specs.declared.paging.TheConstants.{PAGE_SIZE}
 
 -- the segment that was found in a table
 abbrev pub segment_seen : List Entry → Found → Segment
@@ -19,14 +21,14 @@ segment_seen table f = segment_of (record { key = f.key; value = f.head }) (byte
 
 -- it is live there, under its identifier
 pub record IsFound (table : List Entry) (f : Found) : Type 0 where
-  pub entry : slice_get table (f.seg % 32768) ≡ Some (record { destroyed = f.seg / 32768; segment = Some (segment_seen table f) })
+  pub entry : slice_get table (f.seg % INDEXES) ≡ Some (record { destroyed = f.seg / INDEXES; segment = Some (segment_seen table f) })
   pub id : f.id ≡ pos f.seg
-  pub long : length (bytes_at table f.seg) ≡ 4096 * pages_of f.head.size
-  pub size : (1 ≤ f.head.size) × (f.head.size ≤ 16777216)
+  pub long : length (bytes_at table f.seg) ≡ PAGE_SIZE * pages_of f.head.size
+  pub size : (1 ≤ f.head.size) × (f.head.size ≤ MOST_SHMMAX)
 
 -- what the flat machine says of an identifier or a key that was found
 abbrev pub look_of : List Entry → Found → flat.Look
-look_of table f = flat.Found (f.seg % 32768) (segment_seen table f)
+look_of table f = flat.Found (f.seg % INDEXES) (segment_seen table f)
 
 -- with which number a look that finds nothing is refused
 abbrev pub refused_look : flat.Look → Option Errno
@@ -36,11 +38,11 @@ refused_look flat.Invalid = Some Einval
 
 abbrev pub live_in : ℕ → Option Entry → Option Segment
 live_in id None = None
-live_in id (Some e) = if e.destroyed == id / 32768 then e.segment else None
+live_in id (Some e) = if e.destroyed == id / INDEXES then e.segment else None
 
 -- the segment under an identifier
 abbrev pub live : List Entry → ℕ → Option Segment
-live table id = live_in id (slice_get table (id % 32768))
+live table id = live_in id (slice_get table (id % INDEXES))
 
 abbrev pub IsLive : List Entry → ℕ → Type 0
 IsLive table id = is_some (live table id) ≡ true
@@ -67,7 +69,7 @@ next_id table = option_map (λ i. pos (flat.identifier i (flat.destroyed_at tabl
 
 -- a segment that is made at an index
 abbrev pub created : List Entry → ℕ → ℕ → Head → List Entry
-created table i key h = flat.with_segment table i (segment_of (record { key = key; value = h }) (replicate (4096 * pages_of h.size) 0))
+created table i key h = flat.with_segment table i (segment_of (record { key = key; value = h }) (replicate (PAGE_SIZE * pages_of h.size) 0))
 
 -- what making a segment answers, and the table that it leaves; nothing where no index is free
 abbrev pub made : List Entry → ℕ → Head → Option (ℤ × List Entry)
@@ -75,7 +77,7 @@ made table key h = option_map (λ i. (pos (flat.identifier i (flat.destroyed_at 
 
 -- a segment that is gone
 abbrev pub destroyed : List Entry → ℕ → List Entry
-destroyed table id = slice_set table (id % 32768) (record { destroyed = id / 32768 + 1; segment = None })
+destroyed table id = slice_set table (id % INDEXES) (record { destroyed = id / INDEXES + 1; segment = None })
 
 -- a segment with other owners, and another mode, as the step's `sets` makes it
 abbrev pub reowned : ℕ → ℕ → ℕ → ℕ → Segment → Segment

@@ -7,6 +7,7 @@ pub use Rattle.shm_base.specs.Segments.{slots_in}
 use Rattle.shm_base.specs.Segments.{slots}
 use Rattle.shm_pager.specs.Pages.{PagerView, SlotUnknown, last_count}
 use Rattle.shm_slots.specs.Owners.{used_count}
+use Rattle.shm_base.specs.declared.bounds.TheConstants.{MOST_SLOTS}
 
 -- a swap area: whether it is there, the page and the owner of each slot, and its pager's count of
 -- failures as it was handed in and as it stands
@@ -196,11 +197,11 @@ AreCountsOf failed s = All (IsCounted failed) s.areas
 
 -- how many slots an area may have
 abbrev pub IsAreaSize : ℕ → Type 0
-IsAreaSize n = (1 ≤ n) × (n ≤ 65536)
+IsAreaSize n = (1 ≤ n) × (n ≤ MOST_SLOTS)
 
 -- what is true of every area
 pub record IsArea (a : AreaView) : Type 0 where
-  pub small : length a.pages ≤ 65536
+  pub small : length a.pages ≤ MOST_SLOTS
   pub owned : length a.owners ≡ length a.pages
   pub gone : a.here ≡ false → a.pages ≡ []
   pub begun : a.start ≤ a.failed

@@ -1,7 +1,7 @@
 -- What is asked for one after the other, and what that makes of a line, a round, a start.
 use Prim.Native.Nat.{suc}
 use Rattle.std.specs.Prelude.{◌≡◌, ◌<◌, ◌≤◌, ◌+◌, ◌++◌, ℕ, Bool, true, false, List, [], ◌∷◌, Option, length, drop}
-use Rattle.std.proofs.Common.{subst, sym, ap, ◌∙◌, refl, append_assoc, append-nil, eq-eqb}
+use Rattle.std.proofs.Common.{subst, sym, ap, ◌∙◌, refl, append_assoc, append-nil, eq-eqb, ne_eqb, ◌≢◌}
 use Rattle.std.proofs.Math.ListN.{get_or}
 use Rattle.std.proofs.lemmas.List.{drop_more, drop_all}
 use Rattle.shm_text.specs.declared.script.Line.{Line}
@@ -59,6 +59,12 @@ pub next_command : (pid i : ℕ) (ls : List Line) (l : Line) (c : CommandView) �
 next_command pid i ls l c lt is command same =
     let first : drop i ls ≡ Command c ∷ drop (i + 1) ls = drop_more ls i l lt ∙ ap (λ x. x ∷ drop (i + 1) ls) (sym is ∙ command) in
     rw (first, eq-eqb c.pid pid same) refl
+
+pub other_command : (pid i : ℕ) (ls : List Line) (l : Line) (c : CommandView) → i < length ls → l ≡ get_or ls i l → l ≡ Command c → c.pid ≢ pid
+    → commands_of pid (drop i ls) ≡ commands_of pid (drop (i + 1) ls)
+other_command pid i ls l c lt at is other =
+    let first : drop i ls ≡ Command c ∷ drop (i + 1) ls = drop_more ls i l lt ∙ ap (λ x. x ∷ drop (i + 1) ls) (sym at ∙ is) in
+    rw (first, ne_eqb c.pid pid other) refl
 
 pub no_command : (pid i : ℕ) (ls : List Line) → length ls ≤ i → commands_of pid (drop i ls) ≡ []
 no_command pid i ls end = rw (drop_all i ls end) refl

@@ -4,7 +4,7 @@ use Rattle.shm_text.specs.Variables.{no_values, values_after}
 use Rattle.shm_threads.specs.Transcripts.{commands_of, reply_in, is_end}
 use Rattle.shm_threads.specs.declared.transcript.Entry.{Entry}
 use Rattle.shm_threads.specs.Asked.{Asked, Before, Adds, asks_of, FollowsTo, RunsLines}
-use Rattle.shm_threads.proofs.Steps.{adds_none, line_asked, exit_asked, line_follows, exit_follows, next_command, no_command}
+use Rattle.shm_threads.proofs.Steps.{adds_none, line_asked, exit_asked, line_follows, exit_follows, next_command, other_command, no_command}
 use Rattle.shm_threads.proofs.worker.run_lines.Goals as goal
 
 -- the whole, once nothing is left
@@ -47,6 +47,19 @@ returns-then-has_ended-clause-runs g c =
     let Follow : List Entry → Type 0 = λ es. FollowsTo no_values all es true in
     let Ask : List Entry → Type 0 = λ es. Adds (g.C.Caller.asked c.args.caller.now) (asks_of no_values 1 all es) (g.C.Caller.asked c.after.new.self) in
     record { follows = subst Follow (sym c.push_reserved.ensures.items) follows; asked = subst Ask (sym c.push_reserved.ensures.items) asked }
+
+-- a line of another process
+pub loop-line-preserved-then-pid : goal.loop-line-preserved-then-pid
+loop-line-preserved-then-pid g c =
+    let inv = c.loop-line.invariant in
+    let rest = other_command c.args.transcript.now.pid c.loop-line.line-index c.args.lines.now c.line-item.result c.in-Command.command c.loop-line-test.true c.line-item.is c.in-Command.is (search rules) in
+    record {
+      counted = omega (arith, inv.counted);
+      room = rw (← rest) inv.room;
+      pid = inv.pid;
+      follows = λ es whole. rw (← rest) (inv.follows es whole);
+      asked = λ es end. rw (← rest) (inv.asked es end);
+    }
 
 pub loop-line-preserved : goal.loop-line-preserved
 loop-line-preserved g c =
