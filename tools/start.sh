@@ -1,8 +1,46 @@
-# What the start scripts share; each sets `name`, its program, and `top`, the repository.
+# What the start scripts share; each sets `name`, its program, and `top`, the repository. The words are checked here, before
+# anything is built: a wrong word is answered within a second.
 program=$top/crates/$name/out/$name
 
 version() {
     sed -n 's/^## \([0-9][0-9.]*\).*/\1/p' "$top/CHANGELOG.md" | head -n 1
+}
+
+# refuse_words USAGE CAUSE: usage, what is wrong, and what SWAP is, with status 2
+refuse_words() {
+    echo "$name: usage: $1" >&2
+    echo "$name: $2" >&2
+    echo "$name: SWAP is ram:N, sparse:N, mirror:N, fuse:N:rK or fuse:N:wK, N slots from 1 to 65536; ./$name --help tells more" >&2
+    exit 2
+}
+
+# is_number TEXT MOST: decimal digits, from 1 to MOST
+is_number() {
+    case $1 in '' | *[!0-9]*) return 1 ;; esac
+    digits=$1
+    while [ "${digits#0}" != "$digits" ]; do digits=${digits#0}; done
+    [ -n "$digits" ] && [ ${#digits} -le ${#2} ] && { [ ${#digits} -lt ${#2} ] || ! [ "$digits" \> "$2" ]; }
+}
+
+# is_swap WORD: the word names a swap area
+is_swap() {
+    slots=${1#*:}
+    case $1 in
+    ram:* | sparse:* | mirror:*) is_number "$slots" 65536 ;;
+    fuse:*:r* | fuse:*:w*) is_number "${slots%%:*}" 65536 && is_number "${slots#*:[rw]}" 18446744073709551615 ;;
+    *) false ;;
+    esac
+}
+
+# check_swaps USAGE WORD...: one to eight words for swap areas
+check_swaps() {
+    usage=$1
+    shift
+    for word in "$@"; do
+        is_swap "$word" || refuse_words "$usage" "no swap area: $word"
+    done
+    [ $# -gt 0 ] || refuse_words "$usage" "there is no swap area"
+    [ $# -le 8 ] || refuse_words "$usage" "there are $# swap areas, and 8 at most"
 }
 
 has_toolchain() {
@@ -44,7 +82,7 @@ run_unproved() {
 build_current() {
     is_current && return
     has_toolchain
-    echo "$name: proving and building, once; --unproved in front of the words gives an answer sooner" >&2
+    echo "$name: proving and building, once; --unproved gives an answer sooner" >&2
     if ! "$top/tools/build" "$name"; then
         echo "$name: not built" >&2
         exit 125
