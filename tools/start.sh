@@ -1,8 +1,54 @@
-# What the start scripts share; each sets `name`, its program, and `top`, the repository.
+# What the start scripts share; each sets `name`, its program, and `top`, the repository. The words are checked here, before
+# anything is built: a wrong word is answered within a second.
 program=$top/crates/$name/out/$name
+docs=$top/docs
+# what ./install put in place is there as it was built, without sources, and this file has its version
+installed=$top/installed
+if [ -f "$installed" ]; then
+    program=$top/bin/$name
+    docs=$(dirname "$(dirname "$top")")/share/doc/nogcuvema
+fi
 
 version() {
+    if [ -f "$installed" ]; then cat "$installed"; return; fi
     sed -n 's/^## \([0-9][0-9.]*\).*/\1/p' "$top/CHANGELOG.md" | head -n 1
+}
+
+# refuse_words USAGE CAUSE: usage, what is wrong, and what SWAP is, with status 2
+refuse_words() {
+    echo "$name: usage: $1" >&2
+    echo "$name: $2" >&2
+    echo "$name: SWAP is ram:N, sparse:N, mirror:N, fuse:N:rK or fuse:N:wK, N slots from 1 to 65536; $name --help tells more" >&2
+    exit 2
+}
+
+# is_number TEXT MOST: decimal digits, from 1 to MOST
+is_number() {
+    case $1 in '' | *[!0-9]*) return 1 ;; esac
+    digits=$1
+    while [ "${digits#0}" != "$digits" ]; do digits=${digits#0}; done
+    [ -n "$digits" ] && [ ${#digits} -le ${#2} ] && { [ ${#digits} -lt ${#2} ] || ! [ "$digits" \> "$2" ]; }
+}
+
+# is_swap WORD: the word names a swap area
+is_swap() {
+    slots=${1#*:}
+    case $1 in
+    ram:* | sparse:* | mirror:*) is_number "$slots" 65536 ;;
+    fuse:*:r* | fuse:*:w*) is_number "${slots%%:*}" 65536 && is_number "${slots#*:[rw]}" 18446744073709551615 ;;
+    *) false ;;
+    esac
+}
+
+# check_swaps USAGE WORD...: one to eight words for swap areas
+check_swaps() {
+    usage=$1
+    shift
+    for word in "$@"; do
+        is_swap "$word" || refuse_words "$usage" "no swap area: $word"
+    done
+    [ $# -gt 0 ] || refuse_words "$usage" "there is no swap area"
+    [ $# -le 8 ] || refuse_words "$usage" "there are $# swap areas, and 8 at most"
 }
 
 has_toolchain() {
@@ -11,20 +57,28 @@ has_toolchain() {
     exit 125
 }
 
+# is_current PROGRAM: it is there, and no source is newer
 is_current() {
-    [ -x "$program" ] || return 1
+    [ -x "$1" ] || return 1
     newer=$(find "$top/crates" "$top/crates.txt" -path '*/out' -prune -o \
-        \( -name '*.rt' -o -name '*.antt' -o -name crates.txt \) -newer "$program" -print | head -n 1)
+        \( -name '*.rt' -o -name '*.antt' -o -name crates.txt \) -newer "$1" -print | head -n 1)
     [ -z "$newer" ]
 }
 
-# The toolchain's quick run of the program: its own last lines come behind what the program said.
+# Runs the sources without any proof: by the program that an earlier such run kept, where no source is newer, and else by the
+# toolchain's quick run, whose own last lines come behind what the program said.
 run_unproved() {
+    if [ -f "$installed" ]; then
+        echo "$name: --unproved runs the sources, and is for the repository: this program is installed" >&2
+        exit 2
+    fi
+    kept=$top/build/unproved/$name
+    echo "$name: nothing is proved on this machine by this run" >&2
+    if is_current "$kept"; then exec "$kept" "$@"; fi
     has_toolchain
     said=$(mktemp) || exit 125
     trap 'rm -f "$said"' EXIT
-    echo "$name: nothing is proved on this machine by this run" >&2
-    (cd "$top/crates/$name" && exec rt try -- "$@") 2> "$said"
+    "$top/tools/unproved" "$name" "$kept" "$@" 2> "$said"
     tried=$?
     status=$(sed -n 's/^run=ended status=\([0-9]*\) .*/\1/p' "$said" | tail -n 1)
     if [ -z "$status" ]; then
@@ -42,9 +96,10 @@ run_unproved() {
 
 # Proves and builds the program where it is missing, or older than a source.
 build_current() {
-    is_current && return
+    [ ! -f "$installed" ] || return 0
+    is_current "$program" && return
     has_toolchain
-    echo "$name: proving and building, once; --unproved in front of the words gives an answer sooner" >&2
+    echo "$name: proving and building, once; --unproved gives an answer sooner" >&2
     if ! "$top/tools/build" "$name"; then
         echo "$name: not built" >&2
         exit 125

@@ -1,0 +1,116 @@
+"""What a call raises where its answer is not 0.
+
+    Refused            an OSError: an errno of the rules, as EINVAL; also PermissionError, FileNotFoundError and others
+                       where Python has a class of its own for the errno
+    Fault              a signal that the process would get: SegmentationFault or BusError
+    MachineError       a mistake of the caller's, or memory is out: the call changed nothing
+"""
+import errno
+from typing import Dict, Optional, Type
+
+# the codes of the library that are no errno
+SIGBUS, SIGSEGV = 1007, 1011
+NO_MEMORY, CLOSED, OUT_OF_RANGE, SPENT = 2001, 2002, 2003, 2004
+
+
+class Refused(OSError):
+    """A call that the rules refuse. `errno` is the code, by Linux's numbers; `name` its name; `call` the function."""
+
+    def __init__(self, code: int, name: str, call: str) -> None:
+        super().__init__(code, f"{call}: {name}")
+        self.name = name
+        self.call = call
+
+
+class NotPermitted(Refused, PermissionError):
+    """EPERM or EACCES."""
+
+
+class NoSuchKey(Refused, FileNotFoundError):
+    """ENOENT: no segment has the key, and none was to be made."""
+
+
+class NoSuchProcess(Refused, ProcessLookupError):
+    """ESRCH: no live process has the pid."""
+
+
+class KeyTaken(Refused, FileExistsError):
+    """EEXIST: a segment has the key already."""
+
+
+class NoSuchChild(Refused, BlockingIOError):
+    """EAGAIN: no unborn child has the pid."""
+
+
+class Fault(Exception):
+    """An access that ends in a signal. `name` is that of the signal; `call` the function."""
+
+    def __init__(self, name: str, call: str) -> None:
+        super().__init__(f"{call}: {name}")
+        self.name = name
+        self.call = call
+
+
+class SegmentationFault(Fault):
+    """SIGSEGV: a byte is not attached, or not for writing. Nothing was changed."""
+
+
+class BusError(Fault):
+    """SIGBUS: a swap area failed. No byte of any segment was changed."""
+
+
+class MachineError(Exception):
+    """The call was not made: it changed nothing, and may be made again. `code` is the library's."""
+
+    def __init__(self, code: int, text: str, call: str) -> None:
+        super().__init__(f"{call}: {text}")
+        self.code = code
+        self.call = call
+
+
+class NoMemory(MachineError, MemoryError):
+    """The heap gave no memory."""
+
+
+class ClosedMachine(MachineError, ValueError):
+    """The machine is closed."""
+
+
+class OutOfRange(MachineError, ValueError):
+    """A number that no call can carry."""
+
+
+class Spent(MachineError):
+    """The machine has answered 2^64 - 1 calls."""
+
+
+class BadOpening(MachineError, ValueError):
+    """Limits, areas or processes of which no machine can be opened."""
+
+
+class Incomplete(Exception):
+    """A read or a write of any length that was refused on its way. `done` bytes were read or written; `data` are the bytes
+    that were read; `__cause__` is what the access that was refused would have raised."""
+
+    def __init__(self, done: int, data: bytes, cause: BaseException) -> None:
+        super().__init__(f"{cause} after {done} bytes")
+        self.done = done
+        self.data = data
+
+
+_BY_ERRNO: Dict[int, Type[Refused]] = {errno.EPERM: NotPermitted, errno.EACCES: NotPermitted, errno.ENOENT: NoSuchKey,
+                                       errno.ESRCH: NoSuchProcess, errno.EEXIST: KeyTaken, errno.EAGAIN: NoSuchChild}
+_BY_CODE: Dict[int, Type[MachineError]] = {NO_MEMORY: NoMemory, CLOSED: ClosedMachine, OUT_OF_RANGE: OutOfRange, SPENT: Spent}
+
+
+def error_of(code: int, text: str, call: str) -> Optional[Exception]:
+    """The exception for a code of the library, None for 0."""
+    if code == 0:
+        return None
+    if code == SIGSEGV:
+        return SegmentationFault(text, call)
+    if code == SIGBUS:
+        return BusError(text, call)
+    if code < 1000:
+        return _BY_ERRNO.get(code, Refused)(code, text, call)
+    return _BY_CODE.get(code, BadOpening)(code, text, call)

@@ -1,0 +1,345 @@
+"""A machine and its calls. docs/MACHINE.md has the rules; each method names what it refuses only where Python differs."""
+import enum
+import operator
+from ctypes import byref, c_int32, c_uint8, c_uint32, c_uint64
+from dataclasses import dataclass
+from types import TracebackType
+from typing import Any, Iterable, List, Optional, Sequence, Type, Union
+
+from . import _library as low
+from .errors import Incomplete, OUT_OF_RANGE, OutOfRange
+
+Buffer = Union[bytes, bytearray, memoryview]
+PRIVATE = 0
+U32, U64, I32 = 2 ** 32 - 1, 2 ** 64 - 1, 2 ** 31 - 1
+DEST, LOCKED = 512, 1024
+
+
+class Flag(enum.IntFlag):
+    """Flags, by Linux's numbers: CREAT and EXCL for `get`, the others for `attach`."""
+    CREAT = 512
+    EXCL = 1024
+    RDONLY = 4096
+    RND = 8192
+    REMAP = 16384
+
+
+@dataclass(frozen=True)
+class Limits:
+    """The limits of a machine; a page has 4096 bytes."""
+    shmmax: int = 65536   # the most bytes of a segment, 1 to 2^24
+    shmmni: int = 16      # the most segments, 1 to 4096
+    shmall: int = 64      # the most pages of all segments together, 1 to 65536
+    frames: int = 16      # page frames, 2 to 4096: so many pages are in memory at once
+    memlock: int = 1      # the most pages of locked segments, 0 to frames - 2
+
+
+@dataclass(frozen=True)
+class Failure:
+    """The read or write of an area, number `call` from 1, that fails. `side` 1 is a mirror's right side."""
+    call: int
+    is_write: bool = False
+    side: int = 0
+
+
+@dataclass(frozen=True)
+class Area:
+    """A swap area of 1 to 65536 slots: make it by `ram`, `sparse` or `mirror`."""
+    kind: int
+    slots: int
+    failures: Sequence[Failure] = ()
+
+    @classmethod
+    def ram(cls, slots: int, failures: Sequence[Failure] = ()) -> "Area":
+        """A page of memory for each slot."""
+        return cls(1, slots, failures)
+
+    @classmethod
+    def sparse(cls, slots: int, failures: Sequence[Failure] = ()) -> "Area":
+        """Memory for those slots only that hold other bytes than zeros."""
+        return cls(2, slots, failures)
+
+    @classmethod
+    def mirror(cls, slots: int, failures: Sequence[Failure] = ()) -> "Area":
+        """Two sides with the same pages."""
+        return cls(3, slots, failures)
+
+
+@dataclass(frozen=True)
+class Process:
+    """A process that the machine may have; a child that is not born gets its user and group from who forks it."""
+    pid: int
+    uid: int = 0
+    gid: int = 0
+    is_born: bool = True
+
+
+def child(pid: int) -> Process:
+    """A process that a fork may begin."""
+    return Process(pid, is_born=False)
+
+
+@dataclass(frozen=True)
+class Segment:
+    """A segment as IPC_STAT shows it. A time is the place of a call among all calls, from 1; 0 is never."""
+    id: int
+    key: int       # 0: it is private, or marked for removal
+    size: int      # in bytes, as it was asked for
+    uid: int
+    gid: int
+    cuid: int
+    cgid: int
+    mode: int
+    is_marked: bool
+    is_locked: bool
+    cpid: int
+    lpid: int      # the process of the last attach or detach; 0: none
+    nattch: int
+    atime: int
+    dtime: int
+    ctime: int
+    index: int     # its place in the table of segments
+
+
+@dataclass(frozen=True)
+class Tally:
+    """Counts of a machine and of its memory."""
+    events: int
+    segments: int
+    reserved: int
+    locked: int
+    frames: int
+    resident: int
+    dirty: int
+    slots: int
+    used: int
+    ins: int
+    outs: int
+    failures: int
+
+
+@dataclass(frozen=True)
+class Flushed:
+    """What a flush round did: pages that were written out, and pages whose write failed."""
+    written: int
+    failed: int
+
+
+def _number(value: Any, most: int, what: str, least: int = 0) -> int:
+    """The number, where C's type carries it: ctypes would cut it silently."""
+    value = operator.index(value)
+    if not least <= value <= most:
+        raise OutOfRange(OUT_OF_RANGE, f"{what} {value} is not from {least} to {most}", "nogcuvema")
+    return int(value)
+
+
+def _segment(struct: low.SegmentStruct) -> Segment:
+    values = {name: getattr(struct, name) for name, _ in struct._fields_ if name != "status"}
+    return Segment(is_marked=bool(struct.status & DEST), is_locked=bool(struct.status & LOCKED), **values)
+
+
+class Machine:
+    """A machine, open from its making to `close` or the end of its `with` block. One thread at a time calls for it.
+
+    Every call takes the pid of the process that makes it. A refused call raises `Refused`, `SegmentationFault`,
+    `BusError` or a `MachineError`, and changed nothing that a process can see.
+    """
+
+    def __init__(self, limits: Optional[Limits] = None, areas: Iterable[Area] = (Area(2, 65536),),
+                 processes: Iterable[Process] = (Process(1),)) -> None:
+        self._library = low.load_library()
+        self._machine = low.MachineStruct()
+        limits, areas, processes = limits or Limits(), list(areas), list(processes)
+        failures = [(place, failure) for place, area in enumerate(areas) for failure in area.failures]
+        # no pointer is null: an empty list has room for one
+        their_areas = (low.AreaStruct * max(1, len(areas)))(
+            *((_number(it.kind, U32, "kind"), _number(it.slots, U32, "slots")) for it in areas))
+        their_failures = (low.FailureStruct * max(1, len(failures)))(
+            *((place, _number(it.side, U32, "side"), int(it.is_write), 0, _number(it.call, U64, "call"))
+              for place, it in failures))
+        their_processes = (low.ProcessStruct * max(1, len(processes)))(
+            *((_number(it.pid, U32, "pid"), int(it.is_born), _number(it.uid, U32, "uid"), _number(it.gid, U32, "gid"))
+              for it in processes))
+        their_limits = low.LimitsStruct(*(_number(getattr(limits, name), U64, name) for name, _ in low.LimitsStruct._fields_))
+        self._call("nog_open", byref(their_limits), their_areas, len(areas), their_failures, len(failures),
+                   their_processes, len(processes))
+
+    @classmethod
+    def from_script(cls, text: str, swap: Union[str, Sequence[str]] = "ram:64") -> "Machine":
+        """Opens the machine that a script declares, over the swap areas that `swap` names, and makes its calls in the
+        order of its lines. A refused call of the script raises nothing: `nogcuvema.script.run` has the replies."""
+        from .script import Run, areas_of, read_script
+        script = read_script(text)
+        run = Run.open(script, areas_of(swap))
+        for _ in run.steps():
+            pass
+        return run.machine
+
+    def _call(self, name: str, *operands: Any) -> None:
+        code = getattr(self._library.functions, name)(byref(self._machine), *operands)
+        if code:
+            raise self._library.error(code, name)  # type: ignore[misc]
+
+    def __enter__(self) -> "Machine":
+        return self
+
+    def __exit__(self, kind: Optional[Type[BaseException]], value: Optional[BaseException],
+                 trace: Optional[TracebackType]) -> None:
+        self.close()
+
+    def __del__(self) -> None:
+        if hasattr(self, "_machine"):
+            self.close()
+
+    @property
+    def is_open(self) -> bool:
+        return bool(self._machine.is_open)
+
+    def close(self) -> None:
+        """Frees all that the machine had; a closed machine may be closed again."""
+        if self.is_open:
+            self._library.functions.nog_close(byref(self._machine))
+
+    # ---- the calls of a process ----
+
+    def get(self, pid: int, key: int, size: int, mode: int = 0o600, flags: int = 0) -> int:
+        """shmget: the identifier of the segment with this key, or of a new one."""
+        found = c_int32()
+        self._call("nog_get", _number(pid, U32, "pid"), _number(key, U32, "key"), _number(size, U64, "size"),
+                   _number(mode, U32, "mode"), _number(flags, U32, "flags"), byref(found))
+        return found.value
+
+    def attach(self, pid: int, segment: int, addr: Optional[int] = None, flags: int = 0) -> int:
+        """shmat: the address of the attachment; None lets the machine choose it."""
+        at = c_uint64()
+        self._call("nog_attach", _number(pid, U32, "pid"), _identifier(segment), _number(addr or 0, U64, "addr"),
+                   _number(flags, U32, "flags"), byref(at))
+        return at.value
+
+    def detach(self, pid: int, addr: int) -> None:
+        """shmdt."""
+        self._call("nog_detach", _number(pid, U32, "pid"), _number(addr, U64, "addr"))
+
+    def stat(self, pid: int, segment: int) -> Segment:
+        """shmctl, IPC_STAT."""
+        struct = low.SegmentStruct()
+        self._call("nog_stat", _number(pid, U32, "pid"), _identifier(segment), byref(struct))
+        return _segment(struct)
+
+    def set(self, pid: int, segment: int, uid: int, gid: int, mode: int) -> None:
+        """shmctl, IPC_SET: another owner, and other permission bits."""
+        self._call("nog_set", _number(pid, U32, "pid"), _identifier(segment), _number(uid, U32, "uid"),
+                   _number(gid, U32, "gid"), _number(mode, U32, "mode"))
+
+    def remove(self, pid: int, segment: int) -> None:
+        """shmctl, IPC_RMID."""
+        self._call("nog_remove", _number(pid, U32, "pid"), _identifier(segment))
+
+    def lock(self, pid: int, segment: int) -> None:
+        """shmctl, SHM_LOCK."""
+        self._call("nog_lock", _number(pid, U32, "pid"), _identifier(segment))
+
+    def unlock(self, pid: int, segment: int) -> None:
+        """shmctl, SHM_UNLOCK."""
+        self._call("nog_unlock", _number(pid, U32, "pid"), _identifier(segment))
+
+    def load(self, pid: int, addr: int, length: int) -> bytes:
+        """Reads 1 to 64 bytes in one step."""
+        room = (c_uint8 * max(1, min(64, _number(length, U64, "length"))))()
+        self._call("nog_load", _number(pid, U32, "pid"), _number(addr, U64, "addr"), room, length)
+        return bytes(room)
+
+    def store(self, pid: int, addr: int, data: Buffer) -> None:
+        """Writes 1 to 64 bytes in one step."""
+        held = bytes(data)
+        room = (c_uint8 * max(1, len(held))).from_buffer_copy(held or b"\0")
+        self._call("nog_store", _number(pid, U32, "pid"), _number(addr, U64, "addr"), room, len(held))
+
+    def add(self, pid: int, addr: int, number: int) -> int:
+        """Adds to eight bytes, lowest first, modulo 2^64, in one step. Returns the number that was there before."""
+        before = c_uint64()
+        self._call("nog_add", _number(pid, U32, "pid"), _number(addr, U64, "addr"), _number(number, U64, "number"), byref(before))
+        return before.value
+
+    def fork(self, pid: int, new: int) -> None:
+        """fork: a declared child is born with the caller's user, group and attachments."""
+        self._call("nog_fork", _number(pid, U32, "pid"), _number(new, U32, "child"))
+
+    def exec(self, pid: int) -> None:
+        """execve: every attachment of the caller is detached."""
+        self._call("nog_exec", _number(pid, U32, "pid"))
+
+    def exit(self, pid: int) -> None:
+        """exit: the process ends; its pid does not come back."""
+        self._call("nog_exit", _number(pid, U32, "pid"))
+
+    def swapoff(self, pid: int, area: int) -> None:
+        """swapoff: moves the pages of an area elsewhere and takes the area away."""
+        self._call("nog_swapoff", _number(pid, U32, "pid"), _number(area, U32, "area"))
+
+    # ---- accesses of any length ----
+
+    def read(self, pid: int, addr: int, length: int) -> bytes:
+        """Reads bytes by loads of 64. Raises `Incomplete` where a load after the first is refused."""
+        data = bytearray(_number(length, U64, "length"))
+        self.read_into(pid, addr, data)
+        return bytes(data)
+
+    def read_into(self, pid: int, addr: int, buffer: Union[bytearray, memoryview]) -> int:
+        """Fills a writable buffer by loads of 64 bytes. Returns its length in bytes."""
+        view = memoryview(buffer).cast("B")
+        room = (c_uint8 * len(view)).from_buffer(view) if len(view) else (c_uint8 * 1)()
+        return self._access("nog_read", pid, addr, room, len(view))
+
+    def write(self, pid: int, addr: int, data: Buffer) -> int:
+        """Writes bytes by stores of 64. Raises `Incomplete` where a store after the first is refused; those before it stay."""
+        held = bytes(data)
+        room = (c_uint8 * max(1, len(held))).from_buffer_copy(held or b"\0")
+        return self._access("nog_write", pid, addr, room, len(held))
+
+    def _access(self, name: str, pid: int, addr: int, room: Any, length: int) -> int:
+        done = c_uint64()
+        try:
+            self._call(name, _number(pid, U32, "pid"), _number(addr, U64, "addr"), room, length, byref(done))
+        except Exception as error:
+            if not done.value:
+                raise
+            raise Incomplete(done.value, bytes(room)[:done.value], error) from error
+        return done.value
+
+    # ---- the machine's memory, and its state ----
+
+    def flush(self, pages: int) -> Flushed:
+        """A flush round: at most so many dirty pages are written out to swap."""
+        struct = low.FlushedStruct()
+        self._call("nog_flush", _number(pages, U64, "pages"), byref(struct))
+        return Flushed(struct.written, struct.failed)
+
+    def tally(self) -> Tally:
+        """The counts as they are."""
+        struct = low.TallyStruct()
+        self._call("nog_tally_of", byref(struct))
+        return Tally(**{name: getattr(struct, name) for name, _ in struct._fields_})
+
+    def segments(self) -> List[Segment]:
+        """All segments by rising index, those marked for removal included, whoever may read them."""
+        indexes, found = c_uint32(), []
+        self._call("nog_indexes", byref(indexes))
+        for index in range(indexes.value):
+            struct = low.SegmentStruct()
+            try:
+                self._call("nog_segment_at", index, byref(struct))
+            except OutOfRange:
+                continue
+            found.append(_segment(struct))
+        return found
+
+    def calls(self) -> int:
+        """How many calls of processes were answered."""
+        count = c_uint64()
+        self._call("nog_calls", byref(count))
+        return count.value
+
+
+def _identifier(value: Any) -> int:
+    return _number(value, I32, "identifier", -I32 - 1)

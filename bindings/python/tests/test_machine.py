@@ -1,0 +1,293 @@
+"""Calls of a machine. Each wanted value is that of a rule of docs/MACHINE.md."""
+import ctypes
+import errno
+import gc
+import os
+import re
+import threading
+import unittest
+
+import nogcuvema
+from nogcuvema import (PRIVATE, Area, BadOpening, BusError, ClosedMachine, Failure, Flag, Flushed, Incomplete, Limits, Machine,
+                       OutOfRange, Process, Refused, SegmentationFault, child)
+from nogcuvema import _library as low
+
+FIRST = 0x40000000
+PAGE = 4096
+HEADER = os.path.join(os.path.dirname(os.path.dirname(os.path.dirname(os.path.abspath(__file__)))), "c", "nogcuvema.h")
+PEOPLE = [Process(1, 100, 100), Process(2, 200, 200), child(3), Process(4, 0, 0)]
+
+
+def machine(**more):
+    return Machine(more.pop("limits", Limits()), more.pop("areas", [Area.ram(64)]), more.pop("processes", PEOPLE), **more)
+
+
+class Calls(unittest.TestCase):
+    def setUp(self):
+        self.machine = machine()
+        self.addCleanup(self.machine.close)
+
+    def assert_refused(self, code, call, *operands, kind=OSError):
+        with self.assertRaises(kind) as caught:
+            call(*operands)
+        self.assertIsInstance(caught.exception, Refused)
+        self.assertEqual(caught.exception.errno, code)
+        self.assertEqual(caught.exception.name, errno.errorcode[code])
+
+    def test_bytes_over_the_seam_of_two_pages(self):
+        at = self.machine.attach(1, self.machine.get(1, PRIVATE, 2 * PAGE))
+        self.assertEqual(at, FIRST)
+        self.machine.store(1, at + PAGE - 2, b"\1\2\3\4")
+        self.assertEqual(self.machine.load(1, at + PAGE - 3, 6), b"\0\1\2\3\4\0")
+
+    def test_identifiers_are_never_used_twice(self):
+        first = self.machine.get(1, PRIVATE, 1)
+        self.machine.remove(1, first)
+        self.assertEqual(self.machine.get(1, PRIVATE, 1), first + 32768)
+        self.assert_refused(errno.EIDRM, self.machine.stat, 1, first)
+        self.assert_refused(errno.EINVAL, self.machine.stat, 1, 9)
+        self.assert_refused(errno.EINVAL, self.machine.stat, 1, -1)
+
+    def test_each_errno_has_the_class_that_python_has_for_it(self):
+        segment = self.machine.get(1, 7, PAGE, 0o600, Flag.CREAT)
+        self.assert_refused(errno.EACCES, self.machine.attach, 2, segment, kind=PermissionError)
+        self.assert_refused(errno.EPERM, self.machine.remove, 2, segment, kind=PermissionError)
+        self.assert_refused(errno.ENOENT, self.machine.get, 1, 8, PAGE, kind=FileNotFoundError)
+        self.assert_refused(errno.EEXIST, self.machine.get, 1, 7, PAGE, 0o600, Flag.CREAT | Flag.EXCL, kind=FileExistsError)
+        self.assert_refused(errno.ESRCH, self.machine.exec, 9, kind=ProcessLookupError)
+        self.assert_refused(errno.EAGAIN, self.machine.fork, 1, 2, kind=BlockingIOError)
+        self.assert_refused(errno.EINVAL, self.machine.get, 1, PRIVATE, 0)
+        self.assert_refused(errno.EINVAL, self.machine.attach, 1, segment, FIRST + 1)
+
+    def test_no_space_and_no_memory(self):
+        self.machine.close()
+        self.machine = machine(limits=Limits(shmmax=65536, shmmni=16, shmall=4), areas=[Area.ram(2)])
+        self.assert_refused(errno.ENOSPC, self.machine.get, 1, PRIVATE, 5 * PAGE)
+        self.assert_refused(errno.ENOMEM, self.machine.get, 1, PRIVATE, 3 * PAGE)
+
+    def test_signals_have_classes_of_their_own(self):
+        at = self.machine.attach(1, self.machine.get(1, PRIVATE, PAGE), flags=Flag.RDONLY)
+        for call, operands in ((self.machine.store, (1, at, b"x")), (self.machine.load, (1, at + PAGE - 1, 2)),
+                               (self.machine.add, (1, at, 1)), (self.machine.load, (1, 0, 1))):
+            with self.assertRaises(SegmentationFault) as caught:
+                call(*operands)
+            self.assertEqual(caught.exception.name, "SIGSEGV")
+            self.assertNotIsInstance(caught.exception, OSError)
+
+    def test_what_stat_shows(self):
+        segment = self.machine.get(1, 7, PAGE + 1, 0o640, Flag.CREAT)
+        at = self.machine.attach(1, segment)
+        self.machine.set(1, segment, 300, 400, 0o777)
+        it = self.machine.stat(1, segment)
+        wanted = {"id": segment, "key": 7, "size": PAGE + 1, "uid": 300, "gid": 400, "cuid": 100, "cgid": 100, "mode": 0o777,
+                  "is_marked": False, "is_locked": False, "cpid": 1, "lpid": 1, "nattch": 1, "atime": 2, "dtime": 0,
+                  "ctime": 3, "index": 0}
+        self.assertEqual(vars(it), wanted)
+        self.machine.lock(4, self.machine.get(1, PRIVATE, PAGE))
+        self.machine.remove(4, segment)
+        both = self.machine.segments()
+        self.assertEqual([(s.is_marked, s.is_locked, s.key) for s in both], [(True, False, 0), (False, True, 0)])
+        self.machine.detach(1, at)
+        self.assertEqual([s.is_locked for s in self.machine.segments()], [True])
+
+    def test_add_counts_modulo_2_to_the_64(self):
+        at = self.machine.attach(1, self.machine.get(1, PRIVATE, PAGE))
+        self.assertEqual(self.machine.add(1, at + 3, 2 ** 64 - 1), 0)
+        self.assertEqual(self.machine.add(1, at + 3, 2), 2 ** 64 - 1)
+        self.assertEqual(self.machine.load(1, at + 3, 8), b"\1" + bytes(7))
+
+    def test_fork_exec_and_exit(self):
+        segment = self.machine.get(1, PRIVATE, PAGE)
+        at = self.machine.attach(1, segment)
+        self.machine.fork(1, 3)
+        self.machine.store(3, at, b"c")
+        self.assertEqual(self.machine.load(1, at, 1), b"c")
+        self.assertEqual(self.machine.stat(1, segment).nattch, 2)
+        self.machine.exec(3)
+        self.assertEqual(self.machine.stat(1, segment).nattch, 1)
+        self.machine.exit(3)
+        self.assert_refused(errno.ESRCH, self.machine.exec, 3)
+
+    def test_bytes_like_objects(self):
+        at = self.machine.attach(1, self.machine.get(1, PRIVATE, 2 * PAGE))
+        for data in (b"\1\2", bytearray(b"\3\4"), memoryview(b"-\5\6-")[1:3], memoryview(b"\7-\x08-")[::2]):
+            self.machine.store(1, at, data)
+            self.assertEqual(self.machine.load(1, at, 2), bytes(data))
+            self.assertEqual(self.machine.write(1, at + 100, data), 2)
+            self.assertEqual(self.machine.read(1, at + 100, 2), bytes(data))
+        into = bytearray(5)
+        self.machine.write(1, at, bytes(range(200)))
+        self.assertEqual(self.machine.read_into(1, at + 10, memoryview(into)[1:4]), 3)
+        self.assertEqual(into, b"\0\x0a\x0b\x0c\0")
+        self.assertEqual(self.machine.read(1, at, 0), b"")
+        self.assertEqual(self.machine.write(1, at, b""), 0)
+
+    def test_a_read_or_write_that_leaves_the_attachment(self):
+        at = self.machine.attach(1, self.machine.get(1, PRIVATE, PAGE))
+        self.machine.store(1, at + PAGE - 64, b"e" * 64)
+        with self.assertRaises(Incomplete) as caught:
+            self.machine.read(1, at + PAGE - 64, 65)
+        self.assertEqual((caught.exception.done, caught.exception.data), (64, b"e" * 64))
+        self.assertIsInstance(caught.exception.__cause__, SegmentationFault)
+        with self.assertRaises(Incomplete) as caught:
+            self.machine.write(1, at + PAGE - 64, b"w" * 100)
+        self.assertEqual(caught.exception.done, 64)
+        self.assertEqual(self.machine.load(1, at + PAGE - 64, 64), b"w" * 64)
+        with self.assertRaises(SegmentationFault):
+            self.machine.read(1, at + PAGE - 1, 2)
+
+    def test_numbers_that_no_call_carries(self):
+        at = self.machine.attach(1, self.machine.get(1, PRIVATE, PAGE))
+        before = self.machine.calls()
+        for call, operands in (
+                (self.machine.get, (2 ** 32 + 1, 0, 1)), (self.machine.get, (1, 2 ** 32, 1)), (self.machine.get, (1, 0, -1)),
+                (self.machine.get, (1, 0, 2 ** 64)), (self.machine.get, (1, 0, 1, 65536)), (self.machine.attach, (1, 2 ** 31)),
+                (self.machine.load, (1, at, 0)), (self.machine.load, (1, at, 65)), (self.machine.load, (1, at, 2 ** 64 - 1)),
+                (self.machine.store, (1, at, b"")), (self.machine.store, (1, at, bytes(65))), (self.machine.add, (1, at, -1)),
+                (self.machine.load, (1, -1, 1)), (self.machine.swapoff, (4, -1))):
+            with self.assertRaises(OutOfRange, msg=f"{call.__name__}{operands}") as caught:
+                call(*operands)
+            self.assertIsInstance(caught.exception, ValueError)
+        self.assertRaises(TypeError, self.machine.get, 1.5, 0, 1)
+        self.assertEqual(self.machine.calls(), before)
+
+    def test_counts(self):
+        at = self.machine.attach(1, self.machine.get(1, PRIVATE, 2 * PAGE))
+        self.machine.store(1, at, b"x")
+        it = self.machine.tally()
+        self.assertEqual((it.events, it.segments, it.reserved, it.resident, it.dirty, it.slots, it.frames), (3, 1, 2, 1, 1, 64, 16))
+        self.assertEqual(self.machine.flush(8), Flushed(1, 0))
+        self.assertEqual(self.machine.tally().dirty, 0)
+        self.assertEqual(self.machine.tally().outs, 1)
+
+
+class Swap(unittest.TestCase):
+    def test_a_read_of_the_area_that_fails(self):
+        with machine(limits=Limits(frames=2, memlock=0), areas=[Area.ram(64, [Failure(1)])]) as it:
+            at = it.attach(1, it.get(1, PRIVATE, 3 * PAGE))
+            it.store(1, at, b"\x2a")
+            it.load(1, at + PAGE, 1), it.load(1, at + 2 * PAGE, 1)
+            with self.assertRaises(BusError) as caught:
+                it.load(1, at, 1)
+            self.assertEqual(caught.exception.name, "SIGBUS")
+            self.assertEqual(it.load(1, at, 1), b"\x2a")
+            self.assertEqual(it.tally().failures, 1)
+
+    def test_a_write_of_the_area_that_fails(self):
+        with machine(areas=[Area.sparse(64, [Failure(1, is_write=True)])]) as it:
+            at = it.attach(1, it.get(1, PRIVATE, PAGE))
+            it.store(1, at, b"\x2a")
+            self.assertEqual(it.flush(1), Flushed(0, 1))
+            self.assertEqual(it.tally().dirty, 1)
+            self.assertEqual(it.flush(1), Flushed(1, 0))
+            self.assertEqual(it.load(1, at, 1), b"\x2a")
+
+    def test_a_swapoff_whose_read_fails(self):
+        with machine(limits=Limits(frames=2, memlock=0), areas=[Area.ram(8, [Failure(1)]), Area.ram(64)]) as it:
+            at = it.attach(1, it.get(1, PRIVATE, 3 * PAGE))
+            it.store(1, at, b"\x2a")
+            it.load(1, at + PAGE, 1), it.load(1, at + 2 * PAGE, 1)
+            with self.assertRaises(OSError) as caught:
+                it.swapoff(4, 0)
+            self.assertEqual(caught.exception.errno, errno.EIO)
+            it.swapoff(4, 0)
+            self.assertEqual(it.load(1, at, 1), b"\x2a")
+
+    def test_an_area_is_taken_away(self):
+        with machine(areas=[Area.ram(4), Area.mirror(8)], limits=Limits(shmall=8)) as it:
+            self.assertEqual(it.tally().slots, 12)
+            self.assertRaises(PermissionError, it.swapoff, 1, 0)
+            it.swapoff(4, 0)
+            self.assertEqual(it.tally().slots, 8)
+            with self.assertRaises(OSError) as caught:
+                it.swapoff(4, 0)
+            self.assertEqual(caught.exception.errno, errno.EINVAL)
+
+
+class Opening(unittest.TestCase):
+    def test_a_closed_machine(self):
+        with machine() as it:
+            self.assertTrue(it.is_open)
+        self.assertFalse(it.is_open)
+        it.close()
+        for call, operands in ((it.get, (1, 0, 1)), (it.tally, ()), (it.segments, ()), (it.read, (1, FIRST, 1))):
+            self.assertRaises(ClosedMachine, call, *operands)
+
+    def test_machines_that_can_not_be_opened(self):
+        area, person = Area.ram(1), Process(1)
+        for limits, areas, processes in (
+                (Limits(shmmax=0), [area], [person]), (Limits(shmmax=2 ** 24 + 1), [area], [person]),
+                (Limits(shmmni=4097), [area], [person]), (Limits(shmall=65537), [area], [person]),
+                (Limits(frames=1), [area], [person]), (Limits(frames=4, memlock=3), [area], [person]),
+                (Limits(), [], [person]), (Limits(), [area] * 9, [person]), (Limits(), [Area.ram(0)], [person]),
+                (Limits(), [Area.ram(65537)], [person]), (Limits(), [area], [person] * 2), (Limits(), [area], [Process(0)]),
+                (Limits(), [area], [Process(2 ** 31)]), (Limits(), [area], [Process(n + 1) for n in range(65)])):
+            self.assertRaises(BadOpening, Machine, limits, areas, processes)
+        for areas in ([Area(9, 1)], [Area.ram(1, [Failure(0)])], [Area.ram(1, [Failure(1, side=1)])], [Area.ram(2 ** 32)]):
+            self.assertRaises(OutOfRange, Machine, Limits(), areas, [person])
+
+    def test_a_machine_without_processes(self):
+        with machine(processes=[]) as it:
+            self.assertRaises(ProcessLookupError, it.exec, 1)
+
+    def test_machines_that_nobody_closes_leave_no_memory(self):
+        # 1,000 machines of 2 MB each
+        for _ in range(1000):
+            machine(areas=[Area.ram(512)])
+        gc.collect()
+        with open("/proc/self/statm", encoding="ascii") as file:
+            self.assertLess(int(file.read().split()[1]) * PAGE, 400_000_000)
+
+    def test_two_machines_by_two_threads(self):
+        found = []
+
+        def run(number):
+            with machine() as it:
+                at = it.attach(1, it.get(1, PRIVATE, PAGE))
+                for _ in range(1000):
+                    it.add(1, at, number)
+                found.append(it.load(1, at, 8))
+        threads = [threading.Thread(target=run, args=(number,)) for number in (1, 2)]
+        for thread in threads:
+            thread.start()
+        for thread in threads:
+            thread.join()
+        self.assertEqual(sorted(found), sorted((1000 * number).to_bytes(8, "little") for number in (1, 2)))
+
+
+class Binding(unittest.TestCase):
+    def setUp(self):
+        try:
+            with open(HEADER, encoding="ascii") as file:
+                self.header = re.sub(r"/\*.*?\*/", "", file.read(), flags=re.S)
+        except FileNotFoundError:
+            self.skipTest("the header is not beside the package")
+
+    def test_functions_are_those_of_the_header(self):
+        self.assertEqual(sorted(re.findall(r"^uint32_t (nog_\w+)\(", self.header, re.M)), sorted({**low.FUNCTIONS, **low.OTHERS}))
+
+    def test_fields_are_those_of_the_header(self):
+        structs = re.findall(r"typedef struct nog_\w+ \{(.*?)\}", self.header, re.S)
+        fields = [re.findall(r"(\w+);", struct) for struct in structs]
+        self.assertEqual(fields, [[name for name, _ in struct._fields_] for struct in low.STRUCTS])
+
+    def test_parameters_are_those_of_the_header(self):
+        kinds = {"uint32_t": ctypes.c_uint32, "int32_t": ctypes.c_int32, "uint64_t": ctypes.c_uint64, "size_t": ctypes.c_size_t,
+                 "uint8_t": ctypes.c_uint8, **{f"nog_{n}": s for n, s in zip(
+                     ("machine", "limits", "area", "failure", "process", "segment", "tally", "flushed"), low.STRUCTS)}}
+        for name, text in re.findall(r"^uint32_t (nog_\w+)\((.*?)\);", self.header, re.S | re.M):
+            wanted = []
+            for word in text.split(","):
+                found = re.fullmatch(r"\s*(?:const )?(\w+) (\*?)\w+\s*", word)
+                if found:
+                    wanted.append(ctypes.POINTER(kinds[found[1]]) if found[2] else kinds[found[1]])
+            told = low.OTHERS[name] if name in low.OTHERS else [ctypes.POINTER(low.MachineStruct), *low.FUNCTIONS[name]]
+            self.assertEqual(told, wanted, name)
+
+    def test_versions_are_the_header_s(self):
+        [text] = re.findall('NOG_VERSION_TEXT "(.*)"', self.header)
+        self.assertEqual((nogcuvema.__version__, nogcuvema.library_version()), (text, text))
+
+
+if __name__ == "__main__":
+    unittest.main()

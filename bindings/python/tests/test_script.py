@@ -1,0 +1,95 @@
+"""Scripts: faults and transcripts are those that are stored for the program; a fault's word, column and what is allowed."""
+import glob
+import os
+import unittest
+
+from nogcuvema import Machine, ScriptFault, areas_of, read_script
+from nogcuvema.script import transcript
+
+TOP = os.path.dirname(os.path.dirname(os.path.dirname(os.path.dirname(os.path.abspath(__file__)))))
+HEAD = "limits 65536 16 64 4 1\nprocess 1 100 100\n"
+# a line behind the two of HEAD: the kind of its fault, its word, the word's column, and what is said to be allowed
+FAULTS = (
+    ("1 s = shmgt private 4096 600", "bad line", "shmgt", 7, "shmget"),
+    ("1 s = shmget private 4096 0600", "bad line", "0600", 27, "three octal digits"),
+    ("1 exit\r", "bad byte", "\r", 7, "carriage return"),
+    ("1 load 0x40000000 65", "bad number", "65", 19, "1 to 64"),
+    ("1 load 0x40000000", "bad line", "0x40000000", 8, "load ADDRESS LENGTH"),
+    ("1 load 0x40000000 1 2", "bad line", "2", 21, "load ADDRESS LENGTH"),
+    ("1 load a+18446744073709551616 1", "bad number", "a+18446744073709551616", 8, "18446744073709551615"),
+    ("1 load ab 1", "bad line", "ab", 8, "variable"),
+    ("1 store a+z 00", "bad line", "a+z", 9, "variable"),
+    ("1 store a 0", "bad line", "0", 11, "hexadecimal digits"),
+    ("1 shmat 0 null rnd,rnd", "bad line", "rnd,rnd", 16, "at most once"),
+    ("1 s = exit", "bad line", "exit", 7, "shmget, shmat or xadd"),
+    ("2 exit", "unknown process", "2", 1, "1"),
+    ("1 fork 7", "unknown process", "7", 8, "1"),
+    ("0 flush 0", "bad number", "0", 9, "1 to 4096"),
+    ("process 1 0 0", "process declared twice", "1", 9, "not declared"),
+)
+
+
+class Scripts(unittest.TestCase):
+    def stored(self):
+        paths = sorted(glob.glob(os.path.join(TOP, "tests", "scripts", "*", "*.shm")) + glob.glob(os.path.join(TOP, "examples", "*.shm")))
+        if not paths:
+            self.skipTest("there are no stored scripts beside the package")
+        for path in paths:
+            with open(path, "rb") as file:
+                yield path[:-4], file.read()
+
+    def text_of(self, path, missing=""):
+        try:
+            with open(path, encoding="ascii") as file:
+                return file.read()
+        except FileNotFoundError:
+            return missing
+
+    def test_stored_faults(self):
+        for name, script in self.stored():
+            said = ""
+            try:
+                read_script(script)
+            except ScriptFault as fault:
+                said = f"shmsim: {fault}\n"
+            with self.subTest(name):
+                self.assertEqual(said, self.text_of(name + ".err"))
+
+    def test_stored_transcripts(self):
+        seen = 0
+        for name, script in self.stored():
+            if os.path.exists(name + ".status") or "/threads/" in name:
+                continue
+            seen += 1
+            with self.subTest(name):
+                wanted = self.text_of(name + ".out")
+                self.assertEqual(transcript(script.decode(), self.text_of(name + ".swap", "ram:64")), wanted)
+        self.assertGreater(seen, 50)
+
+    def test_the_word_of_a_fault(self):
+        for line, kind, word, column, allowed in FAULTS:
+            with self.subTest(line), self.assertRaises(ScriptFault) as caught:
+                read_script(HEAD + line + "\n")
+            fault = caught.exception
+            self.assertEqual((fault.line, fault.kind, fault.word, fault.column), (3, kind, word, column))
+            self.assertIn(allowed, fault.allowed)
+
+    def test_a_machine_from_a_script(self):
+        script = HEAD + "1 s = shmget private 8192 600\n1 a = shmat s null -\n1 store a 2a\n0 flush 1\n1 load 0 1\n"
+        with Machine.from_script(script, ["sparse:8", "ram:1"]) as machine:
+            self.assertEqual(machine.load(1, 0x40000000, 1), b"\x2a")
+            self.assertEqual((machine.calls(), machine.tally().outs, machine.tally().slots), (5, 1, 9))
+        self.assertRaises(ScriptFault, Machine.from_script, "limits\n")
+        self.assertRaises(ValueError, Machine.from_script, HEAD, "ram:0")
+
+    def test_words_for_swap_areas(self):
+        [area] = areas_of("fuse:3:w7")
+        self.assertEqual((area.slots, [(it.call, it.is_write) for it in area.failures]), (3, [(7, True)]))
+        for words in ("", "ram", "ram:0", "ram:65537", "ram:+1", "disk:1", "fuse:1", "fuse:1:r0", "fuse:1:x1", "mirror:1:r1",
+                      "fuse:1:w18446744073709551616", "ram:1 " * 9):
+            self.assertRaises(ValueError, areas_of, words)
+        self.assertEqual(len(areas_of("ram:1 " * 8)), 8)
+
+
+if __name__ == "__main__":
+    unittest.main()

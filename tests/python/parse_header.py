@@ -1,0 +1,61 @@
+"""Reads the header with a parser of C in Python, cffi or else pycparser: parse_header.py HEADER LIBRARY
+
+The header is taken as it is, but for comments and the preprocessor's lines, as bindgen, cgo and cffi take it. By cffi the sizes
+of the structs are compared with what the shared object says of itself, and two functions are called. Prints what was read:
+parser, functions and structs. Ends with status 77 where there is no parser.
+"""
+import re
+import sys
+
+NAMES = ("machine", "limits", "area", "failure", "process", "segment", "tally", "flushed")
+TYPES = "typedef unsigned char uint8_t; typedef unsigned int uint32_t; typedef int int32_t;" \
+    "typedef unsigned long uint64_t; typedef unsigned long size_t;"
+
+
+def declarations(path):
+    with open(path, encoding="ascii") as file:
+        text = re.sub(r"/\*.*?\*/", "", file.read(), flags=re.S)
+    text = re.sub(r"#ifdef __cplusplus\n.*?#endif\n", "", text, flags=re.S)
+    return "".join(line + "\n" for line in text.splitlines() if not line.startswith("#"))
+
+
+def by_cffi(cffi, text, library):
+    ffi = cffi.FFI()
+    ffi.cdef(text)
+    shared = ffi.dlopen(library)
+    sizes = ffi.new("size_t *")
+    for which, name in enumerate(NAMES):
+        if shared.nog_layout(which, 0, sizes) != 0 or sizes[0] != ffi.sizeof(f"nog_{name}"):
+            sys.exit(f"nog_{name} has {sizes[0]} bytes in the library, and {ffi.sizeof(f'nog_{name}')} by cffi")
+    if shared.nog_version() < 900 or shared.nog_close(ffi.new("nog_machine *")) != shared.NOG_CLOSED:
+        sys.exit("a function is answered wrongly")
+
+
+def by_pycparser(pycparser, text):
+    nodes = pycparser.CParser().parse(TYPES + text)
+    functions = [node for node in nodes.ext if type(getattr(node, "type", None)).__name__ == "FuncDecl"]
+    if len(functions) != len(re.findall(r"\bnog_\w+\(", text)):
+        sys.exit(f"{len(functions)} functions were read")
+
+
+def main(header, library):
+    text, parser = declarations(header), None
+    try:
+        import cffi
+        by_cffi(cffi, text, library)
+        parser = "cffi"
+    except ImportError:
+        pass
+    try:
+        import pycparser
+        by_pycparser(pycparser, text)
+        parser = f"{parser} and pycparser" if parser else "pycparser"
+    except ImportError:
+        pass
+    if parser is None:
+        sys.exit(77)
+    print(parser)
+
+
+if __name__ == "__main__":
+    main(*sys.argv[1:])
