@@ -1,7 +1,8 @@
-//! The least free of the numbers 0, 1, 2 and so on, in a time that is the logarithm of how many are free.
+//! Numbers that are taken and given back: the least free of 0, 1, 2 and so on, in logarithmic time.
 //!
-//! The least free number is the one that is taken. So the numbers that were ever taken are those below a bound, and
-//! of these the free ones lie in a heap. Room for them is taken before they are, so that giving one back cannot fail.
+//! A number is taken when it is the least free one. So the numbers that were ever taken are those below a bound,
+//! and the free ones among them lie in a heap. Room in the heap is reserved before a number is taken, so giving a
+//! number back takes no memory and cannot fail.
 ghost use Rattle.std.specs.Prelude.{◌≡◌, ◌<◌, ◌≤◌, ℕ, true, false, IsOk, OnOk};
 ghost use Rattle.shm_base.specs.Numbers.{is_taken, IsLeastNumber, WithTaken, WithReturned};
 

@@ -105,7 +105,8 @@ pub(crate) fn id_of(index: usize, sequence: u32) -> ShmId
 // Makes room for a row at `index`.
 fn room_at<T>(entries: &mut Vec<Entry<T>>, index: usize) -> Result<(), AllocError>
     ensures items { entries.new.items ≡ entries.old.items }
-    ensures room { OnOk result (index ≡ length entries.old.items → length entries.old.items < vec_capacity entries.new) }
+    ensures room { OnOk result
+        (index ≡ length entries.old.items → length entries.old.items < vec_capacity entries.new) }
     ensures no_memory { index < length entries.old.items → IsOk result }
 {
     if index == entries.len() {
@@ -144,7 +145,8 @@ fn put_row<T: Drop>(entries: &mut Vec<Entry<T>>, index: usize, key: u32, value: 
 fn put_key(keys: &mut IndexMap<u32, u32>, key: u32, index: usize)
     requires room { key ≢ 0 → 0 < spare keys.old }
     requires small { index < 32768 }
-    ensures { (q : ℕ) → get nat_eq keys.new q ≡ (if not (nat_eq key 0) && nat_eq key q then Some index else get nat_eq keys.old q) }
+    ensures { (q : ℕ) → get nat_eq keys.new q ≡
+        (if not (nat_eq key 0) && nat_eq key q then Some index else get nat_eq keys.old q) }
 {
     if key != 0 {
         let put = keys.insert(key, index as u32);
@@ -154,7 +156,8 @@ fn put_key(keys: &mut IndexMap<u32, u32>, key: u32, index: usize)
 
 // Forgets a key, but not 0.
 fn drop_key(keys: &mut IndexMap<u32, u32>, key: u32)
-    ensures { (q : ℕ) → get nat_eq keys.new q ≡ (if not (nat_eq key 0) && nat_eq key q then None else get nat_eq keys.old q) }
+    ensures { (q : ℕ) → get nat_eq keys.new q ≡
+        (if not (nat_eq key 0) && nat_eq key q then None else get nat_eq keys.old q) }
 {
     if key != 0 {
         keys.swap_remove(&key);
@@ -315,8 +318,8 @@ impl<T: Drop> IdTable<T> {
         Some(id_of(index as usize, sequence_at(&self.entries, index as usize)))
     }
 
-    /// Puts a row under the next identifier. A key of 0 is none. Where the host refuses memory the value comes
-    /// back and nothing has changed; with no key and at an index that was used before, nothing grows.
+    /// Puts a row under the next identifier. A key of 0 is none. If the host refuses memory, the value comes back
+    /// and nothing has changed. A row without a key, at an index that was used before, takes no memory.
     pub fn insert_at(&mut self, id: ShmId, key: u32, value: T) -> Result<(), AllocFailed<T>>
         requires next { option_map (id_at self.old) (free_index self.old) ≡ Some id }
         requires absent { find_key self.old key ≡ None }
@@ -371,8 +374,8 @@ impl<T: Drop> IdTable<T> {
         }
     }
 
-    /// The row under an identifier, with its key: `Removed` where it was destroyed, `Invalid` where the identifier was
-    /// never issued.
+    /// The row under an identifier, with its key: `Removed` where it was destroyed, `Invalid` where the identifier
+    /// was never issued.
     pub fn row_of(&self, id: ShmId) -> Result<&Row<T>, LookRefused>
         ensures ok { IfOk result (λ r. look self.now id ≡ Ok r.now.value) }
         ensures key { IfOk result (λ r. r.now.key ≡ key_at self.now (index_of id)) }

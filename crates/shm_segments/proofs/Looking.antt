@@ -1,5 +1,5 @@
 -- What is found under an identifier, and what the flat machine says of it.
-use Rattle.shm_segments.proofs.Names.{common_steps, destroyed_at-flat, next_id, ◌≡◌, ◌≢◌, ℕ, pos, ℤ, ◌%◌, List, Option, Some, None, IsOk, is_none, Bool, not, refl, sym, ap, ◌∙◌, arith, Eidrm, Einval, bytes_at, Removed, Invalid, entry_at, key_at, find_key, index_of, look, flat_answer, flat_found, natural_of, look-flat, find_key-flat, find_key-look, free_index-flat, Held, bytes_of, Head, Found, segment_of, whole, joined_table, Agree, SizesFit, IsFound, look_of, refused_look, nat_tests, Ok, Err, is_some, option_map, Entry, Row, free_index, id_at, live_row}
+use Rattle.shm_segments.proofs.Names.{common_steps, destroyed_at-flat, next_id, ◌≡◌, ◌≢◌, ℕ, pos, ℤ, ◌%◌, List, Option, Some, None, IsOk, refl, sym, ap, ◌∙◌, arith, Eidrm, Einval, bytes_at, Removed, Invalid, entry_at, key_at, find_key, index_of, look, flat_answer, flat_found, natural_of, look-flat, find_key-flat, find_key-look, free_index-flat, Held, bytes_of, Head, Found, segment_of, whole, joined_table, Agree, SizesFit, IsFound, look_of, refused_look, Ok, Err, is_some, option_map, Entry, Row, free_index, id_at, live_row}
 use Rattle.shm_base.specs.Identifier as flat
 use Rattle.shm_segments.proofs.Joins.{live-at}
 use Rattle.shm_segments.proofs.Edits.{look-live}

@@ -58,7 +58,8 @@ impl<P: Pager> Segments<P> {
         requires spans { IsAccess (SpanFits self.old.table) spans.now (length bytes.now) }
         requires frames { NameFrames self.old.memory spans.now }
         requires none { IsUntouched touched.old }
-        ensures written { OnOk result (self.new.table ≡ stored self.old.table (span_places false spans.now) bytes.now) }
+        ensures written { OnOk result
+            (self.new.table ≡ stored self.old.table (span_places false spans.now) bytes.now) }
         ensures same { OnErr result (self.new.table ≡ self.old.table) }
         ensures access { Accessed spans.now self.old.memory self.new.memory (answer_of touched.new result) }
         ensures keeps { KeepsMemory self.old.memory self.new.memory }
@@ -80,7 +81,8 @@ impl<P: Pager> Segments<P> {
         requires frames { NameFrames self.old.memory spans.now }
         requires none { IsUntouched touched.old }
         ensures number { OnOk result (old.new ≡ loaded_number self.old.table (span_places false spans.now)) }
-        ensures written { OnOk result (self.new.table ≡ added_at self.old.table (span_places false spans.now) more) }
+        ensures written { OnOk result
+            (self.new.table ≡ added_at self.old.table (span_places false spans.now) more) }
         ensures same { OnErr result (self.new.table ≡ self.old.table) }
         ensures access { Accessed spans.now self.old.memory self.new.memory (answer_of touched.new result) }
         ensures keeps { KeepsMemory self.old.memory self.new.memory }
@@ -103,7 +105,8 @@ impl<P: Pager> Segments<P> {
     /// each segment. Where a pager fails it stays.
     pub fn move_off(&mut self, area: u32) -> Result<(), PagerFailed>
         requires there { (area_at self.old.memory.swap area).here ≡ true }
-        requires room { reserved self.old.table + length (area_at self.old.memory.swap area).pages ≤ swap_slots self.old.memory.swap }
+        requires room { reserved self.old.table + length (area_at self.old.memory.swap area).pages
+            ≤ swap_slots self.old.memory.swap }
         ensures table { self.new.table ≡ self.old.table }
         ensures gone { OnOk result (sizes self.new.memory.swap ≡ set (sizes self.old.memory.swap) area None) }
         ensures still { Still self.old.memory self.new.memory }

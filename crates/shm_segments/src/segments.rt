@@ -154,8 +154,8 @@ impl<P: Pager> Segments<P> {
         }
     }
 
-    /// The segment under an identifier that a process names: Eidrm where it was destroyed, Einval where it was
-    /// never issued (shmctl(2)).
+    /// The segment under an identifier that a process names: Eidrm where it was destroyed, Einval where the
+    /// identifier was never issued (shmctl(2)).
     pub fn look(&self, id: ShmId) -> Result<Found, Errno>
         ensures found { IfOk result (IsFound self.now.table) }
         ensures ok { IfOk result (λ f. flat_ids.look self.now.table id ≡ look_of self.now.table f) }
@@ -179,8 +179,8 @@ impl<P: Pager> Segments<P> {
         found_under(&self.table, id).ok()
     }
 
-    /// The identifier that the next segment gets: that of the least free index. None where each is held or worn
-    /// out.
+    /// The identifier that the next segment gets: that of the least free index. None where each index is held
+    /// or worn out.
     pub fn next_id(&self) -> Option<ShmId>
         ensures { result ≡ next_id self.now.table }
     {
@@ -221,7 +221,8 @@ impl<P: Pager> Segments<P> {
         ensures table { self.new.table ≡ destroyed self.old.table seg }
         ensures keeps { KeepsMemory self.old.memory self.new.memory }
         ensures sizes { sizes self.new.memory.swap ≡ sizes self.old.memory.swap }
-        ensures still { (s page : ℕ) → s ≢ seg → frame_of self.new.memory s page ≡ frame_of self.old.memory s page }
+        ensures still { (s page : ℕ) → s ≢ seg →
+            frame_of self.new.memory s page ≡ frame_of self.old.memory s page }
     {
         let head = self.table.destroy(seg);
         self.store.drop_segment(seg);
@@ -252,7 +253,8 @@ impl<P: Pager> Segments<P> {
     /// Gives the segment another owner and other permission bits, the low nine of a mode.
     pub fn set_owner(&mut self, seg: u32, time: u64, uid: u32, gid: u32, mode: u16)
         requires { IsLive self.old.table seg }
-        ensures { self.new ≡ record self.old { table = change self.old.table seg (reowned time uid gid mode) } }
+        ensures { self.new ≡
+            record self.old { table = change self.old.table seg (reowned time uid gid mode) } }
     {
         let head = self.table.value_mut(seg);
         head.perm.uid = uid;
@@ -274,9 +276,11 @@ impl<P: Pager> Segments<P> {
     pub fn set_locked(&mut self, seg: u32, locked: bool)
         requires live { IsLive self.old.table seg }
         requires small { locked_pages self.old.table ≤ 65536 }
-        requires few { locked ≡ true → locked_pages (change self.old.table seg (relocked true)) + 2 ≤ length self.old.memory.frames }
+        requires few { locked ≡ true →
+            locked_pages (change self.old.table seg (relocked true)) + 2 ≤ length self.old.memory.frames }
         ensures table { self.new.table ≡ change self.old.table seg (relocked locked) }
-        ensures only { self.new.memory ≡ record self.old.memory { segs = map (with_seg_lock seg locked) self.old.memory.segs } }
+        ensures only { self.new.memory ≡
+            record self.old.memory { segs = map (with_seg_lock seg locked) self.old.memory.segs } }
         ensures still { Still self.old.memory self.new.memory }
     {
         let head = self.table.value_mut(seg);

@@ -1,11 +1,11 @@
 -- Areas that began with the counts that they were handed in with.
-use Rattle.std.proofs.Common.{◌≡◌, ℕ, zero, suc, ◌<◌, ◌≤◌, Bool, true, false, not, List, [], ◌∷◌, All, length, get_or, map, refl, sym, ap, ◌∙◌, arith}
+use Rattle.std.proofs.Common.{◌≡◌, ℕ, zero, suc, ◌≤◌, true, false, List, [], ◌∷◌, All, length, get_or, map, refl, sym, ap, ◌∙◌, arith}
 use Rattle.std.specs.List.{list_any}
 use Rattle.std.proofs.Math.ListN.{get_or-map, length-map}
 use Rattle.std.proofs.lemmas.List.Elements.{All-head, All-tail, All-nil, All-cons}
 use Rattle.std.proofs.lemmas.Grind.{common_steps}
-use Rattle.shm_pager.specs.Pages.{PagerView, last_count}
-use Rattle.shm_slots.specs.View.{AreaView, SwapView, area_at, no_area, fresh, new_swap, is_spent, first_counts, IsUntouched, AreUntouched, IsArea, IsSwap}
+use Rattle.shm_pager.specs.Pages.{PagerView}
+use Rattle.shm_slots.specs.View.{AreaView, SwapView, area_at, no_area, fresh, new_swap, is_spent, first_counts, IsUntouched, AreUntouched, IsSwap}
 use Rattle.shm_slots.specs.Cause.{GoesOn}
 
 each_untouched : {A : Type 0} (f : A → PagerView) (ps : List A) → All IsUntouched (map (λ p. fresh (f p)) ps)
