@@ -2,10 +2,12 @@
 # anything is built: a wrong word is answered within a second.
 program=$top/crates/$name/out/$name
 docs=$top/docs
+packages=$top/bindings/python
 # what ./install put in place is there as it was built, without sources, and this file has its version
 installed=$top/installed
 if [ -f "$installed" ]; then
     program=$top/bin/$name
+    packages=$top/python
     docs=$(dirname "$(dirname "$top")")/share/doc/nogcuvema
 fi
 
@@ -49,6 +51,15 @@ check_swaps() {
     done
     [ $# -gt 0 ] || refuse_words "$usage" "there is no swap area"
     [ $# -le 8 ] || refuse_words "$usage" "there are $# swap areas, and 8 at most"
+}
+
+# Says what is wrong with the script on standard input, by the Python package.
+explain_script() {
+    if ! command -v python3 > /dev/null; then
+        echo "$name: there is no command python3 on the path, which --explain needs" >&2
+        exit 125
+    fi
+    PYTHONPATH=$packages exec python3 -B -m nogcuvema.explain
 }
 
 has_toolchain() {

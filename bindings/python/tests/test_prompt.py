@@ -1,0 +1,119 @@
+"""The prompt: what it answers to lines, what it saves, and that its help names the refusals that the header names."""
+import os
+import re
+import subprocess
+import sys
+import tempfile
+import unittest
+
+import nogcuvema
+from nogcuvema import read_script
+from nogcuvema.__main__ import HEAD, Prompt
+from nogcuvema.calls import RULES
+from nogcuvema.script import CALLS, transcript
+
+HEADER = os.path.join(os.path.dirname(os.path.dirname(os.path.dirname(os.path.abspath(__file__)))), "c", "nogcuvema.h")
+FUNCTIONS = {"shmget": "nog_get", "shmat": "nog_attach", "shmdt": "nog_detach", "load": "nog_load", "store": "nog_store",
+             "xadd": "nog_add", "stat": "nog_stat", "set": "nog_set", "rmid": "nog_remove", "lock": "nog_lock", "unlock": "nog_unlock",
+             "fork": "nog_fork", "exec": "nog_exec", "exit": "nog_exit", "swapoff": "nog_swapoff"}
+LINES = (
+    ("1 s = shmget private 8192 600", ["1 1 shmget 0x00000000 8192 600 = 0"]),
+    ("1 a = shmat s null -", ["2 1 shmat 0 null - = 0x40000000"]),
+    ("# a comment", []),
+    ("1 store a+4094 01020304", ["3 1 store 0x40000ffe 01020304 = ok"]),
+    ("1 load a+4093 6", ["4 1 load 0x40000ffd 6 = 000102030400"]),
+    ("1 load 0x50000000 1", ["5 1 load 0x50000000 1 = SIGSEGV"]),
+    ("0 flush 8", ["flush: 2 written, 0 failed"]),
+    ("1 fork 2", ["6 1 fork 2 = ok"]),
+    ("2 load 0x40000fff 1", ["7 2 load 0x40000fff 1 = 02"]),
+)
+
+
+class Prompts(unittest.TestCase):
+    def setUp(self):
+        self.prompt = Prompt(["ram:64"])
+        self.addCleanup(lambda: self.prompt.is_open and self.prompt.run.machine.close())
+
+    def say_all(self):
+        for line, wanted in LINES:
+            self.assertEqual(self.prompt.answer(line), wanted, line)
+
+    def test_answers(self):
+        self.say_all()
+
+    def test_a_line_with_a_fault_is_not_taken(self):
+        self.say_all()
+        before = list(self.prompt.taken)
+        told = self.prompt.answer("1 laod a 1")
+        self.assertEqual((told[0], told[-1]), (f"line {len(before) + 1}, column 3: bad line", "    nearest form: load"))
+        self.assertIn("above the first command", self.prompt.answer("process 4 0 0")[-1])
+        self.assertEqual(self.prompt.taken, before)
+        self.assertEqual(self.prompt.answer("1 load a 1"), ["8 1 load 0x40000000 1 = 00"])
+
+    def test_limits_and_processes_of_one_s_own(self):
+        for line in ("limits 4096 1 1 2 0", "process 7 0 0"):
+            self.assertEqual(self.prompt.answer(line), [])
+        self.assertEqual(self.prompt.answer("7 shmget private 4096 600"), ["1 7 shmget 0x00000000 4096 600 = 0"])
+        self.assertEqual(self.prompt.answer("7 shmget private 4096 600"), ["2 7 shmget 0x00000000 4096 600 = ENOSPC"])
+
+    def test_a_warning(self):
+        warned, answer = self.prompt.answer("1 stat s")
+        self.assertIn("variable s of process 1 is used before it is set", warned)
+        self.assertEqual(answer, "1 1 stat 0 = EINVAL")
+
+    def test_show_has_the_segments_and_counts(self):
+        self.assertEqual(self.prompt.answer("show"), ["nothing was called yet"])
+        self.say_all()
+        told = "\n".join(self.prompt.answer("show"))
+        self.assertIn("0x00000000 0          100        600        8192       2          -", told)
+        self.assertIn("usage events 7 segments 1 reserved 2 locked 0", told)
+
+    def test_save(self):
+        self.say_all()
+        with tempfile.TemporaryDirectory() as folder:
+            path = os.path.join(folder, "saved.shm")
+            self.assertIn("saved 12 lines", self.prompt.answer(f"save {path}")[0])
+            with open(path, encoding="ascii") as file:
+                text = file.read()
+            self.assertIn("already", self.prompt.answer(f"save {path}")[0])
+            self.assertIn("nothing was saved", self.prompt.answer(f"save {folder}/none/saved.shm")[0])
+            self.assertIn("takes the name", self.prompt.answer("save")[0])
+        self.assertEqual(text.splitlines()[:4], list(HEAD))
+        self.assertEqual(len(read_script(text).lines), 8)
+        answers = [answer for _, told in LINES for answer in told if " = " in answer]
+        self.assertEqual(transcript(text).splitlines()[:7], answers)
+
+    def test_help(self):
+        self.assertIn("Calls: shmget, shmat", self.prompt.answer("help")[0])
+        self.assertIn("no call nosuch", self.prompt.answer("help nosuch")[0])
+        self.assertEqual(list(RULES), [call for call in RULES if self.prompt.answer(f"help {call}")[0].startswith("PID ")])
+        self.assertEqual(sorted(RULES), sorted(CALLS))
+
+    def test_help_names_the_refusals_of_the_header(self):
+        try:
+            with open(HEADER, encoding="ascii") as file:
+                found = re.findall(r"/\* ((?:(?!\*/).)*?) ?\*/\nuint32_t (nog_\w+)\(", file.read(), re.S)
+        except FileNotFoundError:
+            self.skipTest("the header is not beside the package")
+        told = {name: comment for comment, name in found}
+
+        def codes(name):
+            named = set(re.findall(r"\bNOG_(E[A-Z]+|SIG[A-Z]+)\b", told[name])) - {"EXCL"}
+            for other in re.findall(r"as (nog_\w+)[.:;]", told[name]):
+                listed = re.search(r"((?:NOG_\w+, )*NOG_\w+): as " + other, told[name])
+                named |= set(re.findall("NOG_(E[A-Z]+|SIG[A-Z]+)", listed[1])) if listed else set()
+            return named
+        for call, (_, refusals) in RULES.items():
+            self.assertEqual({name for name, _ in refusals}, codes(FUNCTIONS[call]), call)
+
+    def test_as_a_program(self):
+        package = os.path.dirname(os.path.dirname(nogcuvema.__file__))
+        env = {**os.environ, "PYTHONPATH": package}
+        for words, given, wanted in (([], "1 exec\nquit\n1 exec\n", (0, "1 1 exec = ok\n")), (["ram:0"], "", (2, ""))):
+            done = subprocess.run([sys.executable, "-B", "-m", "nogcuvema", *words], input=given, capture_output=True, text=True,
+                                  check=False, env=env)
+            self.assertEqual((done.returncode, done.stdout), wanted, done.stderr)
+
+
+if __name__ == "__main__":
+    unittest.main()
