@@ -156,7 +156,10 @@ fn failing_reads(rt: HostRuntime) -> Result<(), Fail> {
         ..reader(25, 2)
     };
     let fault = run(alloc, &mut would_block, &mut taker, 1)?;
-    assert!(rt; fault == Some(RunFault::ReadFailed), "a reader that would block");
+    assert!(rt;
+        fault == Some(RunFault::ReadFailed),
+        "a reader that would block"
+    );
     assert!(rt; would_block.asks == 2, "asked once more");
     Ok(())
 }

@@ -16,8 +16,7 @@ pub invariant_of-self : goal.invariant_of-self
 invariant_of-self c =
     let ar : Arranged lowest_address (bare_all c.args.self.now.pieces) = rw (← c.self.view_is) c.self.invariant.0.arranged in
     let more = arranged_filter (λ (p : Piece). not (stored_named c.args.addr c.args.seg p)) lowest_address c.args.self.now.pieces ar in
-    let kept = ap (λ (s : SpaceView). s.pieces) (returns-clause-kept c) in
-    (
+    let kept = ap (λ (s : SpaceView). s.pieces) (returns-clause-kept c) in (
       record {
         arranged = rw kept more;
         few = omega (arith, c.retain.ensures.bound, c.self.invariant.0.few);

@@ -8,11 +8,10 @@ pub take-requires-clause-there : goal.take-requires-clause-there
 take-requires-clause-there c = caller_within c.args.caller.now c.self.inside.processes.entries (rw (← c.self.view_is) at c.requires)
 
 pub invariant_of-self : goal.invariant_of-self
-invariant_of-self c =
-    (
-      c.take.ensures.sound no_reservations c.self.invariant.0,
-      room_kept c.self.inside.most c.self.inside.processes.entries c.take.new.processes.entries c.self.invariant.1 c.take.ensures.count c.take.ensures.most,
-    )
+invariant_of-self c = (
+  c.take.ensures.sound no_reservations c.self.invariant.0,
+  room_kept c.self.inside.most c.self.inside.processes.entries c.take.new.processes.entries c.self.invariant.1 c.take.ensures.count c.take.ensures.most,
+)
 
 pub returns-clause-gone : goal.returns-clause-gone
 returns-clause-gone c = grind (arith, common_steps, with_pieces-of)

@@ -25,11 +25,10 @@ pub take-requires-clause-room : goal.take-requires-clause-room
 take-requires-clause-room c = rw (all_go (goal.at.take-requires-clause-room c).After-self) (omega arith)
 
 pub invariant_of-self : goal.invariant_of-self
-invariant_of-self c =
-    (
-      c.take.ensures.sound no_reservations c.self.invariant.0,
-      room_kept c.self.inside.most c.self.inside.processes.entries c.take.new.processes.entries c.self.invariant.1 c.take.ensures.count c.take.ensures.most,
-    )
+invariant_of-self c = (
+  c.take.ensures.sound no_reservations c.self.invariant.0,
+  room_kept c.self.inside.most c.self.inside.processes.entries c.take.new.processes.entries c.self.invariant.1 c.take.ensures.count c.take.ensures.most,
+)
 
 pub returns-clause-lost : goal.returns-clause-lost
 returns-clause-lost c = grind (arith, common_steps, map-map)

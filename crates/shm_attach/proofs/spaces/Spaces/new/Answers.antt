@@ -5,8 +5,7 @@ use Rattle.shm_attach.proofs.spaces.Spaces.new.Goals as goal
 pub invariant_of-result : goal.invariant_of-result
 invariant_of-result c =
     let all : take c.loop-process.process-index c.args.processes.now ≡ c.args.processes.now = take_all c.loop-process.process-index c.args.processes.now c.loop-process-test.false in
-    let same : runners_view c.loop-process.by_pid.entries ≡ map runner_at_start c.args.processes.now = rw all at c.loop-process.invariant.shown in
-    (
+    let same : runners_view c.loop-process.by_pid.entries ≡ map runner_at_start c.args.processes.now = rw all at c.loop-process.invariant.shown in (
       record {
         exact = rw same (IsExact-start c.args.processes.now c.new-2.result c.requires.few c.new-2.ensures.none);
         tied = c.new-2.ensures.tied;

@@ -20,8 +20,7 @@ pub after_detach-requires-clause-orphans : goal.after_detach-requires-clause-orp
 after_detach-requires-clause-orphans g c = (left g (goal.at.after_detach-requires-clause-orphans g c).After-as_slice).1.kept.orphans
 
 pub invariant_of-self : goal.invariant_of-self
-invariant_of-self g c =
-    (
-      (c.after_detach.ensures.well _ (left g (goal.at.invariant_of-self g c).After-as_slice).1),
-      c.exec-lost.ensures.most ∙ c.self.invariant.1,
-    )
+invariant_of-self g c = (
+  (c.after_detach.ensures.well _ (left g (goal.at.invariant_of-self g c).After-as_slice).1),
+  c.exec-lost.ensures.most ∙ c.self.invariant.1,
+)

@@ -43,15 +43,13 @@ well g c =
     noted-well _ _ _ _ _ _ _ _ _ c.read-read.new.touched.moved.items c.self.invariant.0 same c.read-read.ensures.keeps.frames c.note.ensures.runners (rw c.as_slice-2.ensures.value at c.note.ensures.translated) (moved-by _ _ _ _ c.read-read.result c.read-read.ensures.access)
 
 pub invariant_of-self : goal.invariant_of-self
-invariant_of-self g c =
-    (
-      (well g (goal.at.invariant_of-self g c).After-note),
-      c.note.ensures.most ∙ c.self.invariant.1,
-    )
+invariant_of-self g c = (
+  (well g (goal.at.invariant_of-self g c).After-note),
+  c.note.ensures.most ∙ c.self.invariant.1,
+)
 
 pub invariant_of-self-2 : goal.invariant_of-self-2
-invariant_of-self-2 g c =
-    (
-      (well g (goal.at.invariant_of-self-2 g c).After-note),
-      c.note.ensures.most ∙ c.self.invariant.1,
-    )
+invariant_of-self-2 g c = (
+  (well g (goal.at.invariant_of-self-2 g c).After-note),
+  c.note.ensures.most ∙ c.self.invariant.1,
+)

@@ -18,12 +18,11 @@ set_locked-requires-clause-few g c = λ _.
     omega (arith, few, c.self.invariant.0.frames, c.self.invariant.0.room)
 
 pub invariant_of-self : goal.invariant_of-self
-invariant_of-self g c =
-    (
-      (let few = few g (goal.at.invariant_of-self g c).Else-exceeds_memlock in
-    rw c.set_locked.ensures.table (relocked-well _ _ _ _ _ _ c.in_ok-found.found.seg true c.self.invariant.0 few (ap (λ (m : StoreView). length m.frames) c.set_locked.ensures.only) c.set_locked.ensures.still)),
-      c.self.invariant.1,
-    )
+invariant_of-self g c = (
+  (let few = few g (goal.at.invariant_of-self g c).Else-exceeds_memlock in
+      rw c.set_locked.ensures.table (relocked-well _ _ _ _ _ _ c.in_ok-found.found.seg true c.self.invariant.0 few (ap (λ (m : StoreView). length m.frames) c.set_locked.ensures.only) c.set_locked.ensures.still)),
+  c.self.invariant.1,
+)
 
 pub returns : goal.returns
 returns g c = λ n.

@@ -31,15 +31,14 @@ pub after_detach-requires-clause-orphans : goal.after_detach-requires-clause-orp
 after_detach-requires-clause-orphans g c = (goes g c).kept.orphans
 
 pub invariant_of-self-2 : goal.invariant_of-self-2
-invariant_of-self-2 g c =
-    (
-      (let m = c.self.inside.segments.memory in
-    let store = c.store-store.ensures.value in
-    let translated : AreTrue c.attach.new.self.translations m = rw store at (c.attach.ensures.translated (rw store c.self.invariant.0.translated)) in
-    let same : c.attached.new.self.memory ≡ m = ap (λ (v : SegmentsView). v.memory) c.attached.ensures in
-    c.after_detach.ensures.well c.self.inside.limits (rw same (well-gone _ _ _ _ _ _ _ _ c.self.invariant.0 (goes g (goal.at.invariant_of-self-2 g c).After-as_slice) translated))),
-      c.attach.ensures.most ∙ c.self.invariant.1,
-    )
+invariant_of-self-2 g c = (
+  (let m = c.self.inside.segments.memory in
+      let store = c.store-store.ensures.value in
+      let translated : AreTrue c.attach.new.self.translations m = rw store at (c.attach.ensures.translated (rw store c.self.invariant.0.translated)) in
+      let same : c.attached.new.self.memory ≡ m = ap (λ (v : SegmentsView). v.memory) c.attached.ensures in
+      c.after_detach.ensures.well c.self.inside.limits (rw same (well-gone _ _ _ _ _ _ _ _ c.self.invariant.0 (goes g (goal.at.invariant_of-self-2 g c).After-as_slice) translated))),
+  c.attach.ensures.most ∙ c.self.invariant.1,
+)
 
 -- what the flat machine does
 outcome : (g : Over) (c : After-place_for g)

@@ -23,12 +23,11 @@ pub after_detach-requires-clause-orphans : goal.after_detach-requires-clause-orp
 after_detach-requires-clause-orphans g c = (goes g (goal.at.after_detach-requires-clause-orphans g c).After-detach).kept.orphans
 
 pub invariant_of-self : goal.invariant_of-self
-invariant_of-self g c =
-    (
-      (let translated = c.detach.ensures.translated c.self.inside.segments.memory c.self.invariant.0.translated in
-    c.after_detach.ensures.well c.self.inside.limits (well-gone _ _ _ _ _ _ _ _ c.self.invariant.0 (goes g (goal.at.invariant_of-self g c).After-detach) translated)),
-      c.detach.ensures.most ∙ c.self.invariant.1,
-    )
+invariant_of-self g c = (
+  (let translated = c.detach.ensures.translated c.self.inside.segments.memory c.self.invariant.0.translated in
+      c.after_detach.ensures.well c.self.inside.limits (well-gone _ _ _ _ _ _ _ _ c.self.invariant.0 (goes g (goal.at.invariant_of-self g c).After-detach) translated)),
+  c.detach.ensures.most ∙ c.self.invariant.1,
+)
 
 pub returns : goal.returns
 returns g c =

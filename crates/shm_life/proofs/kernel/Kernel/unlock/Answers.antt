@@ -5,14 +5,13 @@ use Rattle.shm_life.proofs.Changed.{relocked-well, unlock-few}
 use Rattle.shm_life.proofs.kernel.Kernel.unlock.Goals as goal
 
 pub invariant_of-self : goal.invariant_of-self
-invariant_of-self g c =
-    (
-      (let t = c.self.inside.segments.table in
-    let found : IsFound t c.in_ok-found.found = rw (← c.self.view_is) at c.in_ok-found.ensures.found in
-    let few = unlock-few t c.in_ok-found.found c.self.inside.limits.memlock found c.self.invariant.0.kept.locked in
-    rw c.set_locked.ensures.table (relocked-well _ _ _ _ _ _ c.in_ok-found.found.seg false c.self.invariant.0 few (ap (λ (m : StoreView). length m.frames) c.set_locked.ensures.only) c.set_locked.ensures.still)),
-      c.self.invariant.1,
-    )
+invariant_of-self g c = (
+  (let t = c.self.inside.segments.table in
+      let found : IsFound t c.in_ok-found.found = rw (← c.self.view_is) at c.in_ok-found.ensures.found in
+      let few = unlock-few t c.in_ok-found.found c.self.inside.limits.memlock found c.self.invariant.0.kept.locked in
+      rw c.set_locked.ensures.table (relocked-well _ _ _ _ _ _ c.in_ok-found.found.seg false c.self.invariant.0 few (ap (λ (m : StoreView). length m.frames) c.set_locked.ensures.only) c.set_locked.ensures.still)),
+  c.self.invariant.1,
+)
 
 pub returns : goal.returns
 returns g c = λ n.

@@ -17,15 +17,13 @@ well g c =
     noted-well _ _ _ _ _ _ _ _ _ c.add-added.new.touched.moved.items c.self.invariant.0 same c.add-added.ensures.keeps.frames c.note.ensures.runners (rw c.as_slice-2.ensures.value at c.note.ensures.translated) (moved-by _ _ _ _ c.add-added.result c.add-added.ensures.access)
 
 pub invariant_of-self : goal.invariant_of-self
-invariant_of-self g c =
-    (
-      (well g (goal.at.invariant_of-self g c).After-note),
-      c.note.ensures.most ∙ c.self.invariant.1,
-    )
+invariant_of-self g c = (
+  (well g (goal.at.invariant_of-self g c).After-note),
+  c.note.ensures.most ∙ c.self.invariant.1,
+)
 
 pub invariant_of-self-2 : goal.invariant_of-self-2
-invariant_of-self-2 g c =
-    (
-      (well g (goal.at.invariant_of-self-2 g c).After-note),
-      c.note.ensures.most ∙ c.self.invariant.1,
-    )
+invariant_of-self-2 g c = (
+  (well g (goal.at.invariant_of-self-2 g c).After-note),
+  c.note.ensures.most ∙ c.self.invariant.1,
+)
