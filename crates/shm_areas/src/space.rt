@@ -54,6 +54,13 @@ impl Space {
         Ok(Space { pieces, most })
     }
 
+    /// The most pieces that it may have.
+    pub fn most(&self) -> u32
+        ensures { result ≡ self.now.most }
+    {
+        self.most
+    }
+
     /// The pieces by rising base.
     pub fn pieces(&self) -> &[Piece]
         ensures value { result.now ≡ self.now.pieces }

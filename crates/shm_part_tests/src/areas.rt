@@ -33,7 +33,9 @@ fn put(space: &mut Space, base: u64, seg: u32, pages: u32) -> bool {
     if pages < 1 || pages > 4096 || base % PAGE_SIZE != 0 || base < LOWEST_ADDRESS {
         return false;
     }
-    if base > END_ADDRESS - PAGE_SIZE * pages as u64 || space.pieces().len() >= 256 {
+    if base > END_ADDRESS - PAGE_SIZE * pages as u64
+        || space.pieces().len() >= space.most() as usize
+    {
         return false;
     }
     if !space.met(base, base + PAGE_SIZE * pages as u64).is_empty() {
@@ -55,7 +57,7 @@ fn cut(space: &mut Space, from: u64, to: u64) -> bool {
     if from % PAGE_SIZE != 0 || to % PAGE_SIZE != 0 || from >= to {
         return false;
     }
-    if space.count_outside(from, to) > 256 {
+    if space.count_outside(from, to) > space.most() as usize {
         return false;
     }
     space.cut(from, to);
@@ -96,7 +98,7 @@ fn answers_all(rt: &impl Abort, space: &mut Space, acts: &[Act]) {
 
 /// As `answers_all`, in a space that begins with no piece.
 fn in_a_space(rt: &impl Abort, alloc: Global, acts: &[Act]) -> Result<(), HostMemory> {
-    let mut space = Space::new(alloc)?;
+    let mut space = Space::new(alloc, 256)?;
     answers_all(rt, &mut space, acts);
     Ok(())
 }
@@ -142,8 +144,19 @@ fn puts_side_by_side(rt: &impl Abort, space: &mut Space) {
 
 #[test]
 fn pieces_are_put_side_by_side(rt: HostRuntime) -> Result<(), HostMemory> {
-    let mut space = Space::new(rt.alloc())?;
+    let mut space = Space::new(rt.alloc(), 256)?;
     puts_side_by_side(&rt, &mut space);
+    Ok(())
+}
+
+#[test]
+fn a_space_has_room_for_its_most(rt: HostRuntime) -> Result<(), HostMemory> {
+    let mut space = Space::new(rt.alloc(), 2)?;
+    assert!(rt; space.most() == 2);
+    assert!(rt; put(&mut space, 0x50000000, 0, 3), "the first piece");
+    assert!(rt; cut(&mut space, 0x50001000, 0x50002000), "two parts of it");
+    assert!(rt; !cut(&mut space, 0x50000000, 0x50000000), "an empty range");
+    assert!(rt; !put(&mut space, 0x60000000, 0, 1), "a third piece");
     Ok(())
 }
 
@@ -166,7 +179,7 @@ fn checks_fixed(rt: &impl Abort, space: &mut Space) {
 
 #[test]
 fn fixed_addresses_are_checked(rt: HostRuntime) -> Result<(), HostMemory> {
-    let mut space = Space::new(rt.alloc())?;
+    let mut space = Space::new(rt.alloc(), 256)?;
     checks_fixed(&rt, &mut space);
     Ok(())
 }

@@ -45,7 +45,7 @@ fn family(alloc: Global) -> Result<Spaces, HostMemory> {
         born: Some(cred),
     };
     let child = Process { pid: 2, born: None };
-    Spaces::new(alloc, &[parent, child])
+    Spaces::new(alloc, &[parent, child], 256)
 }
 
 /// A store that holds no segment, over one area of one slot: no page is resident.
@@ -82,10 +82,9 @@ fn attach(
     let Some(caller) = spaces.caller(1) else {
         return false;
     };
-    let left = spaces
-        .space(&caller)
-        .count_outside(base, base + PAGE_SIZE * pages as u64);
-    if left >= 256 {
+    let space = spaces.space(&caller);
+    let left = space.count_outside(base, base + PAGE_SIZE * pages as u64);
+    if left >= space.most() as usize {
         return false;
     }
     spaces
