@@ -7,6 +7,7 @@ import xml.etree.ElementTree as xml
 from dataclasses import replace
 
 import near_misses
+import running
 from running import HERE
 from script import BadInput, read_case
 
@@ -113,7 +114,8 @@ def check_results(count, folder, conform):
     wanted = [("right", "agree"), ("bad", "MALFORMED"), ("other", "FAILS"), ("missing", "STOPPED"), ("undone", "skipped")]
     count.take(status == 3 and order == wanted, f"five cases: status {status}, {said}")
     status, said = conform(*words, paths[1], paths[0])
-    is_right = status == 2 and "\nright: agree\ncases: MALFORMED 1, agree 1\n" in said and said.startswith(f"bad: MALFORMED: {paths[1]}: ")
+    is_right = status == 2 and said.startswith(f"bad: MALFORMED: {paths[1]}: ")
+    is_right = is_right and "\nright: agree\ncases: MALFORMED 1, agree 1\n" in said
     count.take(is_right, f"a malformed case and a right one: status {status}, {said}")
     file = os.path.join(folder, "results.xml")
     status, said = conform("--tap", "--junit", file, *words, *paths)
@@ -137,6 +139,31 @@ def check_junit(count, file):
     count.take(is_told, f"--junit: a failure has no text: {xml.tostring(suite)}")
 
 
+def check_own_program(count, folder):
+    """The project's own program is started once before the first case, so that a build of it is under no limit of time; another
+    one is not."""
+    log, top = os.path.join(folder, "log"), running.TOP
+    own = write_file(folder, "shmsim", f"#!/bin/sh\necho \"$@\" >> {log}\nexit $(cat {folder}/status)\n", 0o755)
+    other = write_file(folder, "other", f"#!/bin/sh\necho other >> {log}\n", 0o755)
+    running.TOP = folder
+    try:
+        for words, status, wanted, told in (
+                ([own, "--unproved"], 0, "--unproved serial ram:1\n", ""), ([other], 0, "", ""),
+                ([own], 5, "serial ram:1\n", "the program ended with status 5 over a script without commands")):
+            write_file(folder, "log", "")
+            write_file(folder, "status", str(status))
+            said = ""
+            try:
+                running.start_own_program(words)
+            except running.Stopped as error:
+                said = str(error)
+            with open(log, encoding="ascii") as file:
+                ran = file.read()
+            count.take((ran, said) == (wanted, told), f"the first start of {words}: ran {ran!r}, said {said!r}")
+    finally:
+        running.TOP = top
+
+
 def check_kit(count, folder, conform):
     check_malformed(count)
     check_odd_replies(count)
@@ -144,6 +171,7 @@ def check_kit(count, folder, conform):
     check_results(count, folder, conform)
     check_said_once(count, folder, conform)
     check_list(count, folder, conform)
+    check_own_program(count, folder)
 
 
 def check_said_once(count, folder, conform):

@@ -20,6 +20,26 @@
 #ifndef SEGMENTS
 #define SEGMENTS 100
 #endif
+/* what a kernel lacks: commands with it are skipped, and stat does not show it */
+#ifndef SHM_RDONLY
+#define SHM_RDONLY 0
+#endif
+#ifndef SHM_RND
+#define SHM_RND 0
+#endif
+#ifndef SHM_REMAP
+#define SHM_REMAP 0
+#endif
+#ifndef SHM_LOCK
+#define SHM_LOCK -1
+#define SHM_UNLOCK -1
+#endif
+#ifndef SHM_DEST
+#define SHM_DEST 0
+#endif
+#ifndef SHM_LOCKED
+#define SHM_LOCKED 0
+#endif
 enum { PAGE = 4096, BYTES = 64, OPERANDS = 4 };
 #define LOWEST_CHOSEN 0x40000000UL
 #define LOW_BITS 0xffffffffUL
@@ -210,24 +230,13 @@ static void settle(struct answer *a, long value) {
     if (value == -1) copy_error(a);
 }
 
-/* script_flags to the kernel's: those that a kernel lacks were skipped by the director */
+/* a script's flags as the kernel has them */
 static int get_flags(int flags) {
     return (flags & 0777) | (flags & CREAT ? IPC_CREAT : 0) | (flags & EXCL ? IPC_EXCL : 0);
 }
 
 static int attach_flags(int flags) {
-    int found = 0;
-#ifdef SHM_RDONLY
-    if (flags & RDONLY) found |= SHM_RDONLY;
-#endif
-#ifdef SHM_RND
-    if (flags & RND) found |= SHM_RND;
-#endif
-#ifdef SHM_REMAP
-    if (flags & REMAP) found |= SHM_REMAP;
-#endif
-    (void)flags; /* where the kernel has none of them */
-    return found;
+    return (flags & RDONLY ? SHM_RDONLY : 0) | (flags & RND ? SHM_RND : 0) | (flags & REMAP ? SHM_REMAP : 0);
 }
 
 static void control(const struct request *q, struct answer *a) {
@@ -374,10 +383,7 @@ static unsigned long chosen_name(struct process *p, unsigned long size) {
     int i;
     for (i = 0; i < p->piece_count; i++) {
         struct piece *q = &p->pieces[i];
-        if (at < q->base + q->size && q->base < at + size) {
-            at = q->base + q->size;
-            i = -1;
-        }
+        if (at < q->base + q->size && q->base < at + size) at = q->base + q->size, i = -1;
     }
     return at;
 }
@@ -463,16 +469,7 @@ static void run_get(int index, const struct number *v, struct number *result) {
 }
 
 static int has_attach_flags(unsigned long flags) {
-#ifndef SHM_RDONLY
-    if (flags & RDONLY) return 0;
-#endif
-#ifndef SHM_RND
-    if (flags & RND) return 0;
-#endif
-#ifndef SHM_REMAP
-    if (flags & REMAP) return 0;
-#endif
-    return flags != ~0UL;
+    return (SHM_RDONLY || !(flags & RDONLY)) && (SHM_RND || !(flags & RND)) && (SHM_REMAP || !(flags & REMAP));
 }
 
 /* the port tells which addresses are free: elsewhere the peer's own memory may be */
@@ -549,13 +546,9 @@ static void put_time(const char *name, unsigned long time) {
 
 static void put_status(unsigned long mode) {
     int is_first = 1;
-#ifdef SHM_DEST
     if (mode & SHM_DEST) put_flag(&is_first, "dest");
-#endif
-#ifdef SHM_LOCKED
     if (mode & SHM_LOCKED) put_flag(&is_first, "locked");
-#endif
-    if (is_first || mode == ~0UL) put_char('-');
+    if (is_first) put_char('-');
 }
 
 static void put_segment(const struct shmid_ds *s) {
@@ -579,29 +572,14 @@ static void put_segment(const struct shmid_ds *s) {
     put_time(" ctime=", (unsigned long)s->shm_ctime);
 }
 
-/* shmctl's command for a call; -1: this system has none */
-static int control_command(int call) {
-    switch (call) {
-    case STAT: return IPC_STAT;
-    case SET: return IPC_SET;
-    case REMOVE: return IPC_RMID;
-#ifdef SHM_LOCK
-    case LOCK: return SHM_LOCK;
-#endif
-#ifdef SHM_UNLOCK
-    case UNLOCK: return SHM_UNLOCK;
-#endif
-    default: return -1;
-    }
-}
-
 static void run_control(int index, int call, const struct number *v) {
+    static const int commands[] = { IPC_STAT, IPC_SET, IPC_RMID, SHM_LOCK, SHM_UNLOCK };
     const struct declared *user = &script->processes[0];
     struct request q;
     struct answer a;
     clear(&q, sizeof q);
     q.task = DO_CONTROL;
-    q.flags = control_command(call);
+    q.flags = commands[call - STAT];
     q.id = real_identifier(v[0]);
     q.uid = own_uid;
     q.gid = own_gid;
