@@ -31,6 +31,9 @@ child 2147483647
 1 n = xadd a+4092 18446744073709551615
 1 xadd a+4092 18374686479671623679
 1 load a+4092 9
+1 h = shmat s 0x1ffffffff000 -
+1 load h+4099 1
+1 shmdt h
 1 load 0x50000ffc 3
 1 store 0x50000000 00
 1 load n 1
@@ -60,25 +63,40 @@ FORMS_SAID = """1 1 shmget 0x00000abc 8193 640,creat,excl = 0
 8 1 xadd 0x40000ffc 18446744073709551615 = 18374686479671623679
 9 1 xadd 0x40000ffc 18374686479671623679 = 18374686479671623678
 10 1 load 0x40000ffc 9 = fdfffffffffffffd00
-11 1 load 0x50000ffc 3 = fdffff
-12 1 store 0x50000000 00 = skipped: the access may end its process
-13 1 load 0xfeffffffffffffff 1 = skipped: the access may end its process
-14 1 shmat -1 null - = EINVAL
-15 1 fork 2147483647 = ok
-16 2147483647 exec = skipped: this peer makes no exec
-17 2147483647 exit = ok
-18 1 stat 0 = key=0x00000abc uid={0} gid={1} cuid={0} cgid={1} mode=640 status=- size=8193 cpid=1 lpid=2147483647 nattch=3 atime=set dtime=set ctime=set
-19 1 set 0 {0} {1} 007 = ok
-20 1 rmid 0 = ok
-21 1 shmdt 0x40000000 = ok
-22 1 shmget 0x00000000 1 000 = 1
-23 1 shmdt 0x50000000 = ok
-24 1 shmdt 0x50010000 = ok
-25 1 shmget 0x00000000 1 777 = 32768
-26 1 swapoff 0 = skipped: no swap area is the script's
-27 1 exit = ok
-28 1 stat 0 = skipped: no process makes this call
+11 1 shmat 0 0x1ffffffff000 - = 0x1ffffffff000
+12 1 load 0x200000000003 1 = fd
+13 1 shmdt 0x1ffffffff000 = ok
+14 1 load 0x50000ffc 3 = fdffff
+15 1 store 0x50000000 00 = skipped: the access may end its process
+16 1 load 0xfeffffffffffffff 1 = skipped: the access may end its process
+17 1 shmat -1 null - = EINVAL
+18 1 fork 2147483647 = ok
+19 2147483647 exec = skipped: this peer makes no exec
+20 2147483647 exit = ok
+21 1 stat 0 = key=0x00000abc uid={0} gid={1} cuid={0} cgid={1} mode=640 status=- size=8193 cpid=1 lpid=2147483647 nattch=3 \
+atime=set dtime=set ctime=set
+22 1 set 0 {0} {1} 007 = ok
+23 1 rmid 0 = ok
+24 1 shmdt 0x40000000 = ok
+25 1 shmget 0x00000000 1 000 = 1
+26 1 shmdt 0x50000000 = ok
+27 1 shmdt 0x50010000 = ok
+28 1 shmget 0x00000000 1 777 = 32768
+29 1 swapoff 0 = skipped: no swap area is the script's
+30 1 exit = ok
+31 1 stat 0 = skipped: no process makes this call
 """
+# a peer and a system with little room: what goes beyond it is skipped
+FULL = """limits 65536 16 64 16 4
+process 1 100 110
+1 shmget private 4096 600
+1 shmget private 4096 600
+1 shmat 0 null -
+1 shmat 0 null -
+1 shmat 0 null -
+"""
+FULL_SAID = ["0", "skipped: more segments than SEGMENTS", "0x40000000", "0x40001000", "skipped: more pieces than PIECES"]
+TWO = "limits 65536 16 64 16 4\nprocess 1 100 110\nprocess 2 100 110\n2 s = shmget private 1 600\n1 stat 0\n"
 DATA = """/* made by tools/small_peer from scripts */
 static const struct declared processes_0[] = {
     { 7UL, 100UL, 4294967295UL, 0 },
@@ -162,15 +180,15 @@ def has_words():
     return os.geteuid() == 0 and all(map(shutil.which, ("unshare", "prlimit", "setpriv")))
 
 
-def run_small(folder, paths, limits, is_root):
-    """What the small peer prints for each of these scripts, by its name."""
-    program, said = build(folder, paths)
+def run_small(folder, paths, limits, is_root, words=(), files=64):
+    """What the small peer prints for each of these scripts, by its name; it may have so many open files."""
+    program, said = build(folder, paths, words=words)
     if not program:
         return {}, said
     os.chmod(program, 0o755)
     record, replies = os.path.join(folder, "record"), os.path.join(os.path.dirname(folder), "replies")
     with only_one(), open(record, "wb") as file:
-        status = subprocess.run([*words_for(limits, is_root), program], stdout=file, timeout=60, check=False).returncode
+        status = subprocess.run([*words_for(limits, is_root), "prlimit", f"--nofile={files}", program], stdout=file, timeout=60, check=False).returncode
     done = run_tool("replies", record, replies)
     found = {}
     for path in paths:
@@ -257,6 +275,19 @@ def check_forms(count, folder):
         count.take(got == wanted and not said, f"the small peer's forms, {name}: {first}, {said}")
 
 
+def check_room(count, folder):
+    """What the peer or the system has no room for is skipped, and the rest is made."""
+    limits, words = [16777216, 16, 64, 0, 4], ["-DPROCESSES=1", "-DPIECES=3", "-DSEGMENTS=1"]
+    full, two = write_file(os.path.join(folder, "full.shm"), FULL), write_file(os.path.join(folder, "two.shm"), TWO)
+    few = "skipped: there are too few pipes for the script's processes"
+    for name, given, files, wanted in (
+            ("little room", words, 64, {"full": FULL_SAID, "two": ["skipped: more processes than PROCESSES"] * 2}),
+            ("few pipes", (), 8, {"full": [*FULL_SAID[:1], "1", *FULL_SAID[2:4], "0x40002000"], "two": [few] * 2})):
+        found, said = run_small(os.path.join(folder, name.replace(" ", "_")), [two, full], limits, False, given, files)
+        got = {name: [line.partition(" = ")[2] for line in lines] for name, lines in found.items()}
+        count.take(got == wanted and not said, f"the small peer with {name}: {got}, {said}")
+
+
 def check_tool(count, folder):
     """What tools/small_peer makes of a script, of a console's record, and of bad words."""
     path = write_file(os.path.join(folder, "data.shm"), DATA_SCRIPT)
@@ -282,7 +313,7 @@ def check_tool(count, folder):
 
 
 def check_small_peer(count, peer, folder, conform):
-    folder = os.path.join(folder, "small")
+    folder, failed = os.path.join(folder, "small"), count.failed
     os.mkdir(folder)
     check_tool(count, folder)
     check_alone(count, folder)
@@ -290,4 +321,7 @@ def check_small_peer(count, peer, folder, conform):
         count.skip(1, "the small peer on this system: this is not root, or unshare, setpriv and prlimit are not here")
         return
     check_forms(count, folder)
-    check_same_replies(count, peer, folder, conform)
+    check_room(count, folder)
+    # the cases take longest, and tell nothing more of a peer that is wrong already
+    if count.failed == failed:
+        check_same_replies(count, peer, folder, conform)

@@ -302,6 +302,7 @@ static struct number variables[PROCESSES][26];
 static struct segment segments[SEGMENTS];
 static int segment_count;
 static unsigned long own_uid, own_gid;
+static const char *why_none;  /* why no command of the script can be made; 0: some can */
 
 static void skip(const char *why) {
     put_text("skipped: ");
@@ -403,7 +404,6 @@ static void drop_piece(struct process *p, int i) { copy_piece(&p->pieces[i], &p-
 static void add_part(struct process *p, const struct piece *of, unsigned long begin, unsigned long end) {
     struct piece *part = &p->pieces[p->piece_count];
     if (begin >= end) return;
-    if (p->piece_count == PIECES) stop("more pieces than PIECES");
     copy_piece(part, of);
     part->base = begin;
     part->size = end - begin;
@@ -483,6 +483,7 @@ static void run_attach(int index, const struct number *v, struct number *result)
     struct answer a;
     struct piece piece;
     unsigned long address = value_of(v[1]), page = address - address % PAGE;
+    if (p->piece_count + 2 > PIECES) { skip("more pieces than PIECES"); return; }
     piece.segment = segment_named(v[0]);
     piece.size = piece.segment >= 0 ? segments[piece.segment].size : PAGE;
     if (!has_attach_flags(v[2].low)) { skip("this system has no such flag"); return; }
@@ -678,9 +679,10 @@ static void run_exit(int index) {
 }
 
 static void run(const struct command *c, const struct number *v, struct number *result) {
-    int index = c->process, life = processes[index].life;
+    int index = c->process, life = why_none ? ENDED : processes[index].life;
     if (((c->call == GET || c->call == ATTACH) && is_too_large(v[1])) ||
         ((c->call == DETACH || (c->call >= LOAD && c->call <= ADD)) && is_too_large(v[0]))) skip("this system has no such number");
+    else if (why_none) skip(why_none);
     else if (life == OTHER_USER) skip("no right to be this user");
     else if (life != LIVE) skip("no process makes this call");
     else if (c->call == GET) run_get(index, v, result);
@@ -706,13 +708,13 @@ static void run_command(int place) {
     for (i = 0; i < OPERANDS; i++) {
         v[i].high = c->operands[i].number.high;
         v[i].low = c->operands[i].number.low;
-        if (c->operands[i].variable >= 0) v[i] = sum_of(v[i], variables[c->process][c->operands[i].variable]);
+        if (c->operands[i].variable >= 0 && !why_none) v[i] = sum_of(v[i], variables[c->process][c->operands[i].variable]);
     }
     for (i = 0; kinds[c->call][i]; i++) put_operand(c, kinds[c->call][i], v[i]);
     put_text(" = ");
     run(c, v, &result);
     put_char('\n');
-    if (c->variable >= 0) variables[c->process][c->variable] = result;
+    if (c->variable >= 0 && !why_none) variables[c->process][c->variable] = result;
 }
 
 /* ---- a script ---- */
@@ -760,22 +762,22 @@ static void end_script(void) {
     for (i = 0; i < segment_count; i++) shmctl(segments[i].real, IPC_RMID, &ignored);
 }
 
-static int open_pipes(void) {
+/* why the script can't be run here, or 0 */
+static const char *open_script(void) {
     int i;
     for (i = 0; i < script->process_count; i++)
-        if (pipe(requests[i]) < 0) return 0;
-    return pipe(answers) >= 0;
+        if (pipe(requests[i]) < 0) return "there are too few pipes for the script's processes";
+    if (pipe(answers) < 0) return "there are too few pipes for the script's processes";
+    return learn_user() ? 0 : "no segment can be made and looked at";
 }
 
 /* in a process of its own, so that its pipes go with it */
 static void run_script(void) {
     int i;
-    if (script->process_count > PROCESSES) stop("the script has more processes than PROCESSES");
-    if (!open_pipes()) stop("there are too few pipes for the script's processes");
-    if (!learn_user()) stop("no segment can be made and looked at, so the user is not known");
-    for (i = 0; i < script->process_count; i++) start_worker(i);
+    why_none = script->process_count > PROCESSES ? "more processes than PROCESSES" : open_script();
+    for (i = 0; i < script->process_count && !why_none; i++) start_worker(i);
     for (i = 0; i < script->command_count; i++) run_command(i);
-    end_script();
+    if (!why_none) end_script();
     exit(0);
 }
 
