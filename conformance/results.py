@@ -1,7 +1,6 @@
 """How each case went, as text for people, as TAP or as JUnit XML for the CI of a test bench."""
 
 import re
-import sys
 import time
 import xml.etree.ElementTree as xml
 from dataclasses import dataclass, field
@@ -23,7 +22,8 @@ class Outcome:
 
     @property
     def line(self):
-        return f"{self.name}: {self.word}" + (f": {self.told}" if self.word not in PASSED and self.told else f"{self.told and ' ' + self.told}")
+        between = "" if not self.told else " " if self.word in PASSED else ": "
+        return f"{self.name}: {self.word}{between}{self.told}"
 
 
 class Results:
@@ -51,7 +51,8 @@ class Results:
     def print_tap(self, outcome):
         is_right = outcome.word in PASSED + ("skipped",)
         line = f"{'ok' if is_right else 'not ok'} {len(self.outcomes)} - "
-        line += f"{outcome.name} # SKIP no command can be made there" if outcome.word == "skipped" else outcome.line.replace("#", "\\#")
+        skipped = f"{outcome.name} # SKIP no command can be made there"
+        line += skipped if outcome.word == "skipped" else outcome.line.replace("#", "\\#")
         print("\n".join([line, *("# " + it for text in outcome.lines for it in text.splitlines())]), flush=True)
 
     def note(self, text):
@@ -101,5 +102,4 @@ def open_junit(path):
 
 def print_list(cases):
     for name, count, title in cases:
-        print(f"{name}: {count} commands: {title}")
-    sys.stdout.flush()
+        print(f"{name}: {count} commands: {title}", flush=True)

@@ -4,6 +4,7 @@ may make, and what tools/small_peer makes of scripts and of a console's record."
 import os
 import re
 import shutil
+import signal
 import subprocess
 import sys
 
@@ -15,6 +16,7 @@ SOURCE = os.path.join(HERE, "small_peer.c")
 TOOL = os.path.join(TOP, "tools", "small_peer")
 C89 = ["-std=c89", "-pedantic", "-Wall", "-Wextra", "-Werror"]
 NOBODY = 65534
+SECONDS = 20
 # what both peers make of the cases: fewer would be a peer that skips what it can make
 LEAST_COMPARED = 540
 # every form of an operand and of a reply, and numbers of more than 32 bits
@@ -49,6 +51,7 @@ child 2147483647
 1 shmdt 0x50000000
 1 shmdt 0x50010000
 1 shmget private 1 777
+1 shmget private 1 777
 1 swapoff 0
 1 exit
 1 stat s
@@ -82,9 +85,10 @@ atime=set dtime=set ctime=set
 26 1 shmdt 0x50000000 = ok
 27 1 shmdt 0x50010000 = ok
 28 1 shmget 0x00000000 1 777 = 32768
-29 1 swapoff 0 = skipped: no swap area is the script's
-30 1 exit = ok
-31 1 stat 0 = skipped: no process makes this call
+29 1 shmget 0x00000000 1 777 = 2
+30 1 swapoff 0 = skipped: no swap area is the script's
+31 1 exit = ok
+32 1 stat 0 = skipped: no process makes this call
 """
 # a peer and a system with little room: what goes beyond it is skipped
 FULL = """limits 65536 16 64 16 4
@@ -180,6 +184,21 @@ def has_words():
     return os.geteuid() == 0 and all(map(shutil.which, ("unshare", "prlimit", "setpriv")))
 
 
+def run_group(words, file):
+    """The status of a program, of which no process is left; one that hangs is ended."""
+    process = subprocess.Popen(words, stdout=file, start_new_session=True)
+    try:
+        return process.wait(SECONDS)
+    except subprocess.TimeoutExpired:
+        return f"no end in {SECONDS} seconds"
+    finally:
+        try:
+            os.killpg(process.pid, signal.SIGKILL)
+        except ProcessLookupError:
+            pass
+        process.wait()
+
+
 def run_small(folder, paths, limits, is_root, words=(), files=64):
     """What the small peer prints for each of these scripts, by its name; it may have so many open files."""
     program, said = build(folder, paths, words=words)
@@ -188,11 +207,13 @@ def run_small(folder, paths, limits, is_root, words=(), files=64):
     os.chmod(program, 0o755)
     record, replies = os.path.join(folder, "record"), os.path.join(os.path.dirname(folder), "replies")
     with only_one(), open(record, "wb") as file:
-        status = subprocess.run([*words_for(limits, is_root), "prlimit", f"--nofile={files}", program], stdout=file, timeout=60, check=False).returncode
+        status = run_group([*words_for(limits, is_root), "prlimit", f"--nofile={files}", program], file)
     done = run_tool("replies", record, replies)
     found = {}
     for path in paths:
         name = os.path.splitext(os.path.basename(path))[0]
+        if not os.path.exists(os.path.join(replies, name + ".out")):
+            continue
         with open(os.path.join(replies, name + ".out"), encoding="ascii") as file:
             found[name] = [line for line in file.read().splitlines() if not line.startswith("note: ")]
     return found, "" if status == 0 and done.returncode == 0 else f"status {status}, {done.stderr}"
