@@ -3,7 +3,7 @@
 from dataclasses import dataclass, field
 
 from rules import Machine, classify
-from script import is_expected, without_clock
+from script import has_form, is_expected, without_clock
 
 # calls that change nothing though they are answered with more than a refusal
 READS = ("load", "stat", "swapoff")
@@ -86,7 +86,7 @@ def compare_one(result, machine, command, event, other):
     if event.call == other.call and ours == other.reply:
         result.agree += 1
         return True
-    known = classify(machine, event, other, command) if event.call == other.call else None
+    known = classify(machine, event, other, command) if event.call == other.call and has_form(other) else None
     if known is None:
         result.different.append(Difference(command, event.call, event.reply, other.reply))
         return event.is_refused and other.is_refused

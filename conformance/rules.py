@@ -357,7 +357,7 @@ def fits_limit(machine, segment, uid):
 
 
 def of_load(machine, event, other, _command):
-    if event.is_refused or other.is_refused:
+    if event.is_refused or other.is_refused or len(event.reply) != len(other.reply):
         return None
     address, rules = number_of(event.operands[0]), []
     for i, (ours, theirs) in enumerate(zip(bytes.fromhex(event.reply), bytes.fromhex(other.reply))):

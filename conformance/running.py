@@ -22,6 +22,21 @@ class Stopped(Exception):
     """A tool died, hung, or printed what is no event line."""
 
 
+def require_command(words, whose):
+    """Says once what would be said of each case."""
+    if not words or shutil.which(words[0]) is None:
+        raise Stopped(f"{whose} was not started: no such command: {words[0] if words else 'nothing'}")
+
+
+def start_own_program(words):
+    """This project's own program is built first where that is needed: no limit of time is on that, and its progress is seen."""
+    if not words or os.path.realpath(words[0]) != os.path.realpath(os.path.join(TOP, "shmsim")):
+        return
+    done = subprocess.run(words + ["serial", "ram:1"], input=b"limits 1 1 1 2 0\n", stdout=subprocess.DEVNULL, check=False)
+    if done.returncode != 0:
+        raise Stopped(f"the program ended with status {done.returncode} over a script without commands")
+
+
 def run_program(words, case, limit):
     """The program's events for a case."""
     command = words + ["serial"] + case.swap

@@ -6,20 +6,42 @@ A case is a script in which each command has a comment above it, with the rule a
 
 from __future__ import annotations
 
+import os
 import re
+import sys
 from dataclasses import dataclass, field
+
+sys.path.append(os.path.join(os.path.dirname(os.path.dirname(os.path.abspath(__file__))), "bindings", "python"))
+
+from nogcuvema.explain import nearest  # noqa: E402
+from nogcuvema.script import ScriptFault, number_of, read_script  # noqa: E402
 
 ERRORS = ("EPERM ENOENT ESRCH EIO EAGAIN ENOMEM EACCES EEXIST EINVAL EMFILE ENOSPC EIDRM SIGBUS SIGSEGV "
           "ENFILE ENOSYS EFAULT EOVERFLOW").split()
 DECLARATIONS = ("limits", "process", "child")
 EVENT = re.compile(r"(\d+) (\d+) (\S+)((?: \S+)*) = (\S.*)")
-SOURCE = re.compile(r"POSIX [\w<]|\(\d\)|profile")
+SOURCE = re.compile(r"POSIX(\.1-\d{4})?,? [\w<]|\(\d\)|profile")
+SOURCES = "POSIX shmat(), POSIX.1-2017, page 1384, shmop(2) or profile"
 SWAP = ["sparse:65536"]
+AREA = re.compile(r"(ram|sparse|mirror):(\d{1,9})|fuse:(\d{1,9}):[rw][1-9]\d*")
+AREAS, SLOTS = 8, 65536
 TIMES = ("atime", "dtime", "ctime")
+STAT = re.compile(r"key=0x[0-9a-f]{8} uid=\d+ gid=\d+ cuid=\d+ cgid=\d+ mode=[0-7]{3} status=(-|dest|locked|dest,locked) "
+                  r"size=\d+ cpid=\d+ lpid=\d+ nattch=\d+ atime=\w+ dtime=\w+ ctime=\w+")
+REPLY = {"shmget": re.compile(r"\d{1,10}"), "shmat": re.compile(r"null|0x[0-9a-f]{1,16}"), "load": re.compile("([0-9a-f]{2}){1,64}"),
+         "xadd": re.compile(r"\d{1,20}"), "stat": STAT}
 
 
 class BadInput(Exception):
     """Something that was handed in has no form that is read."""
+
+
+class BadCase(BadInput):
+    """A case that can't be run: its file, the line (0: the whole file), the word (nothing: the line) and what is wrong."""
+
+    def __init__(self, path, line, word, cause):
+        place = f"{path}: line {line}: " if line else f"{path}: "
+        super().__init__(place + (f"{word!r}: " if word else "") + cause)
 
 
 @dataclass
@@ -42,6 +64,7 @@ class Case:
     swap: list = field(default_factory=lambda: list(SWAP))
     limits: list = field(default_factory=list)
     users: dict = field(default_factory=dict)
+    title: str = ""
 
 
 @dataclass
@@ -87,45 +110,84 @@ def read_events(text, whose):
     return events
 
 
-def read_case(name, text, is_strict=True):
+def read_case(path, text, is_strict=True):
     """A case; a strict one has a rule and a reply for each command."""
-    case = Case(name, text)
+    case = Case(os.path.splitext(os.path.basename(path))[0], text)
+    require_language(path, text)
     comment = []
-    for number, line in enumerate(text.splitlines(), 1):
+    for number, line in enumerate(text.split("\n"), 1):
         words = line.split()
         if line.startswith("#="):
-            if not case.commands or case.commands[-1].expected is not None:
-                raise BadInput(f"{name}: line {number}: a reply without a command")
-            case.commands[-1].expected = line[2:].strip()
+            take_reply(path, case, number, line)
             comment = []
-        elif line.startswith("#swap "):
-            case.swap = line.split()[1:]
+        elif line.startswith("#swap"):
+            case.swap = read_swap(path, number, line)
         elif line.startswith("#"):
             comment.append(line.lstrip("# "))
-        elif words and not read_declaration(case, words) and words[:2] != ["0", "flush"]:
+            case.title = case.title or comment[0]
+        elif words and not read_declaration(case, words) and words[0] != "0":
             case.commands.append(Command(number, " ".join(words), " ".join(comment)))
             comment = []
     if is_strict:
-        require_rules(case)
+        require_rules(path, case)
     return case
 
 
-def require_rules(case):
+def require_language(path, text):
+    """The case is a script; the fault of one that is none is told as ./shmsim --explain tells it."""
+    try:
+        read_script(text)
+    except ScriptFault as fault:
+        lines = text.split("\n")
+        near = nearest(fault, lines[fault.line - 1]) if 0 < fault.line <= len(lines) else ""
+        cause = fault.kind + f", allowed here: {fault.allowed}" * bool(fault.allowed) + f"; nearest form: {near}" * bool(near)
+        raise BadCase(path, fault.line, fault.word, cause) from None
+
+
+def take_reply(path, case, number, line):
+    if not case.commands or case.commands[-1].expected is not None:
+        raise BadCase(path, number, "#=", "a reply without a command of its own above it")
+    case.commands[-1].expected = line[2:].strip()
+    if not case.commands[-1].expected:
+        raise BadCase(path, number, "#=", "no reply is told behind it")
+
+
+def read_swap(path, number, line):
+    """The words of a line `#swap`."""
+    first, *words = line.split()
+    if first != "#swap" or not 1 <= len(words) <= AREAS:
+        raise BadCase(path, number, first, "the line is #swap and 1 to 8 areas, as #swap ram:64 sparse:65536")
+    for word in words:
+        form = AREA.fullmatch(word)
+        if form is None or not 1 <= int(form[2] or form[3]) <= SLOTS:
+            raise BadCase(path, number, word, "no swap area: ram:N, sparse:N, mirror:N, fuse:N:rK or fuse:N:wK, N from 1 to 65536")
+    return words
+
+
+def require_rules(path, case):
     for command in case.commands:
         if not SOURCE.search(command.rule):
-            raise BadInput(f"{case.name}: line {command.line}: no comment names the rule and its source")
+            raise BadCase(path, command.line, command.text, f"no comment above it names the rule and its source, as {SOURCES}")
         if not command.expected:
-            raise BadInput(f"{case.name}: line {command.line}: no reply is told")
+            raise BadCase(path, command.line, command.text, "no reply is told below it, as #= ok")
     if not case.commands:
-        raise BadInput(f"{case.name}: no command")
+        raise BadCase(path, 0, "", "no command")
 
 
 def read_declaration(case, words):
     if words[0] == "limits":
-        case.limits = [int(word, 0) for word in words[1:]]
-    elif words[0] == "process" and len(words) == 4:
-        case.users[int(words[1], 0)] = (int(words[2], 0), int(words[3], 0))
+        case.limits = [number_of(word) for word in words[1:]]
+    elif words[0] == "process":
+        case.users[number_of(words[1])] = (number_of(words[2]), number_of(words[3]))
     return words[0] in DECLARATIONS
+
+
+def has_form(event):
+    """Whether an event's reply is one that its call can have."""
+    if event.is_refused:
+        return True
+    is_in_range = event.word != "xadd" or not event.reply.isdigit() or int(event.reply) < 2 ** 64
+    return is_in_range and REPLY.get(event.word, re.compile("ok")).fullmatch(event.reply) is not None
 
 
 def stat_words(reply):

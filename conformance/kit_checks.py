@@ -1,0 +1,218 @@
+"""What conformance/check asks of the kit itself: malformed cases, citations, the list, TAP and JUnit XML, and odd replies.
+No program of the project is run: a small script answers in its place."""
+
+import os
+import re
+import xml.etree.ElementTree as xml
+from dataclasses import replace
+
+import near_misses
+import running
+from running import HERE
+from script import BadInput, read_case
+
+HEAD = "limits 4096 1 1 2 0\nprocess 1 1 1\n"
+RULE = "# A segment. profile\n"
+RIGHT = HEAD + RULE + "1 shmget private 1 600\n#= 0\n"
+EVENT = "1 1 shmget 0x00000000 1 600 = 0"
+AREAS = "no swap area: ram:N, sparse:N, mirror:N, fuse:N:rK or fuse:N:wK, N from 1 to 65536"
+SWAP = "the line is #swap and 1 to 8 areas, as #swap ram:64 sparse:65536"
+NO_RULE = ("no comment above it names the rule and its source, as POSIX shmat(), POSIX.1-2017, page 1384, shmop(2) or profile")
+# what is wrong with a case, and all that is said of it
+MALFORMED = (
+    ("limits 4096 x 1 2 0\n", "c.shm: line 1: 'x': bad line, allowed here: a number"),
+    ("limits 4096 1 1 2\n", "c.shm: line 1: "),
+    ("", "c.shm: line 1: no limits line"),
+    (HEAD + RULE + "1 shmgt private 1 600\n#= 0\n", "c.shm: line 4: 'shmgt': bad line, allowed here: a call: "),
+    (HEAD + RULE + "1 shmgt private 1 600\n#= 0\n", "; nearest form: shmget"),
+    (HEAD + RULE + "2 exit\n#= ok\n", "c.shm: line 4: '2': unknown process"),
+    (HEAD + "# \xe9\n", "c.shm: line 3: '\xe9': bad byte"),
+    (RIGHT + "#= 0\n", "c.shm: line 6: '#=': a reply without a command of its own above it"),
+    (HEAD + "#= 0\n", "c.shm: line 3: '#=': a reply without a command of its own above it"),
+    (HEAD + RULE + "1 exit\n#=\n", "c.shm: line 5: '#=': no reply is told behind it"),
+    (HEAD + RULE + "1 exit\n", "c.shm: line 4: '1 exit': no reply is told below it, as #= ok"),
+    (HEAD + "1 exit\n#= ok\n", "c.shm: line 3: '1 exit': " + NO_RULE),
+    (HEAD + "# A rule. page 12\n1 exit\n#= ok\n", "c.shm: line 4: '1 exit': " + NO_RULE),
+    (HEAD + "# A rule. POSIX.1-2017\n1 exit\n#= ok\n", "c.shm: line 4: '1 exit': " + NO_RULE),
+    (HEAD, "c.shm: no command"),
+    ("#swap disk\n" + RIGHT, "c.shm: line 1: 'disk': " + AREAS),
+    ("#swap ram:0\n" + RIGHT, "c.shm: line 1: 'ram:0': " + AREAS),
+    ("#swap ram:1 ram:65537\n" + RIGHT, "c.shm: line 1: 'ram:65537': " + AREAS),
+    ("#swap fuse:4\n" + RIGHT, "c.shm: line 1: 'fuse:4': " + AREAS),
+    ("#swap fuse:4:r0\n" + RIGHT, "c.shm: line 1: 'fuse:4:r0': " + AREAS),
+    ("#swap\n" + RIGHT, "c.shm: line 1: '#swap': " + SWAP),
+    ("#swap" + 9 * " ram:1" + "\n" + RIGHT, "c.shm: line 1: '#swap': " + SWAP),
+    ("#swaps ram:1\n" + RIGHT, "c.shm: line 1: '#swaps': " + SWAP),
+)
+CITED = ("POSIX.1-2017, page 1384", "POSIX.1-2017 page 1384", "POSIX shmget()", "POSIX.1-2017, shmget()", "POSIX <sys/shm.h>",
+         "shmop(2), ERRORS", "profile")
+TAP = """TAP version 13
+1..5
+ok 1 - right: agree
+not ok 2 - bad: MALFORMED: {0}/bad.shm: line 3: '1 exit': {1}
+not ok 3 - other: FAILS: the program gives another reply than the rule
+#     line 4: 1 1 shmget 0x00000000 1 600
+#         here  0
+#         told  1
+#         rule  A # segment. profile
+not ok 4 - missing: STOPPED: {0}/missing.out: can't be read: No such file or directory
+ok 5 - undone # SKIP no command can be made there
+# cases: FAILS 1, MALFORMED 1, STOPPED 1, agree 1, skipped 1
+# commands: 2 compared, agree 1, profile 0, DIFFER 0, skipped 1
+#   skipped: none: 1
+"""
+JUNIT = (("right", None, ""), ("bad", "error", "MALFORMED"), ("other", "failure", "FAILS"), ("missing", "error", "STOPPED"),
+         ("undone", "skipped", None))
+# replies that no call can have, and some that one can
+NO_FORM = ("0x", "0xzz", "key=1", "key=0x00000011 uid=x", "EINVALL", "abc", "=", "-1", "\ufffd")
+OTHER_FORM = ("ok", "null", "0x40000000", "7", "18446744073709551616", "99999999999999999999999", "00", "EIDRM", "errno75")
+
+
+def write_file(folder, name, text, mode=0o644):
+    path = os.path.join(folder, name)
+    with open(path, "w", encoding="latin-1") as file:
+        file.write(text)
+    os.chmod(path, mode)
+    return path
+
+
+def said_of(text):
+    try:
+        read_case("c.shm", text)
+    except BadInput as error:
+        return str(error)
+    return ""
+
+
+def check_malformed(count):
+    for text, wanted in MALFORMED:
+        said = said_of(text)
+        count.take(wanted in said, f"a malformed case: {text[-60:]!r}: {said!r} where {wanted!r} is wanted")
+    for source in CITED:
+        said = said_of(RIGHT.replace("profile", source))
+        count.take(said == "", f"the source {source!r} is not taken: {said}")
+
+
+def write_cases(folder):
+    """A right case and four that are not, with a program that gives one reply and a folder of the peer's."""
+    program = write_file(folder, "one_reply", f"#!/bin/sh\necho '{EVENT}'\n", 0o755)
+    paths = [write_file(folder, "right.shm", RIGHT), write_file(folder, "bad.shm", HEAD + "1 exit\n"),
+             write_file(folder, "other.shm", RIGHT.replace("= 0", "= 1").replace("A seg", "A # seg")),
+             write_file(folder, "missing.shm", RIGHT), write_file(folder, "undone.shm", RIGHT)]
+    write_file(folder, "right.out", EVENT + "\n")
+    write_file(folder, "other.out", EVENT + "\n")
+    write_file(folder, "undone.out", "1 1 shmget 0x00000000 1 600 = skipped: none\n")
+    return ["--program", program, "--replies", folder], paths
+
+
+def check_results(count, folder, conform):
+    """Malformed cases do not keep the others from running, whatever form the results have."""
+    os.mkdir(folder)
+    words, paths = write_cases(folder)
+    status, said = conform(*words, *paths)
+    order = re.findall(r"^(\w+): (agree|MALFORMED|FAILS|STOPPED|skipped)(?:$|: )", said, re.M)
+    wanted = [("right", "agree"), ("bad", "MALFORMED"), ("other", "FAILS"), ("missing", "STOPPED"), ("undone", "skipped")]
+    count.take(status == 3 and order == wanted, f"five cases: status {status}, {said}")
+    status, said = conform(*words, paths[1], paths[0])
+    is_right = status == 2 and said.startswith(f"bad: MALFORMED: {paths[1]}: ")
+    is_right = is_right and "\nright: agree\ncases: MALFORMED 1, agree 1\n" in said
+    count.take(is_right, f"a malformed case and a right one: status {status}, {said}")
+    file = os.path.join(folder, "results.xml")
+    status, said = conform("--tap", "--junit", file, *words, *paths)
+    wanted = TAP.format(folder, NO_RULE)
+    count.take(status == 3 and said == wanted, f"--tap: status {status}, {said} where {wanted} is wanted")
+    check_junit(count, file)
+    count.take(conform("--tap", *words, paths[0])[0] == 0, "--tap over a right case does not end with status 0")
+
+
+def check_junit(count, file):
+    suite = xml.parse(file).getroot().find("testsuite")
+    wanted = {"name": "conformance", "tests": "5", "failures": "1", "errors": "2", "skipped": "1"}
+    count.take({**suite.attrib, "time": ""} == {**wanted, "time": ""}, f"--junit: {suite.attrib}")
+    got = []
+    for test in suite.findall("testcase"):
+        below = next((it for it in test if it.tag != "system-out"), None)
+        got.append((test.get("name"), None, "") if below is None else (test.get("name"), below.tag, below.get("type")))
+    count.take(tuple(got) == JUNIT, f"--junit: {got}")
+    text = suite.find("testcase[@name='other']/failure")
+    is_told = text is not None and "told  1" in (text.text or "") and text.get("message", "").startswith("other: FAILS")
+    count.take(is_told, f"--junit: a failure has no text: {xml.tostring(suite)}")
+
+
+def check_own_program(count, folder):
+    """The project's own program is started once before the first case, so that a build of it is under no limit of time; another
+    one is not."""
+    log, top = os.path.join(folder, "log"), running.TOP
+    own = write_file(folder, "shmsim", f"#!/bin/sh\necho \"$@\" >> {log}\nexit $(cat {folder}/status)\n", 0o755)
+    other = write_file(folder, "other", f"#!/bin/sh\necho other >> {log}\n", 0o755)
+    running.TOP = folder
+    try:
+        for words, status, wanted, told in (
+                ([own, "--unproved"], 0, "--unproved serial ram:1\n", ""), ([other], 0, "", ""),
+                ([own], 5, "serial ram:1\n", "the program ended with status 5 over a script without commands")):
+            write_file(folder, "log", "")
+            write_file(folder, "status", str(status))
+            said = ""
+            try:
+                running.start_own_program(words)
+            except running.Stopped as error:
+                said = str(error)
+            with open(log, encoding="ascii") as file:
+                ran = file.read()
+            count.take((ran, said) == (wanted, told), f"the first start of {words}: ran {ran!r}, said {said!r}")
+    finally:
+        running.TOP = top
+
+
+def check_kit(count, folder, conform):
+    check_malformed(count)
+    check_odd_replies(count)
+    folder = os.path.join(folder, "kit")
+    check_results(count, folder, conform)
+    check_said_once(count, folder, conform)
+    check_list(count, folder, conform)
+    check_own_program(count, folder)
+
+
+def check_said_once(count, folder, conform):
+    """What is missing for every case is said once, before the first."""
+    words, paths = write_cases(folder)
+    for name, given, wanted, text in (
+            ("peer", [*words[:2], *paths, "--peer", "/nosuch/peer"], 3, "the peer was not started: no such command: /nosuch/peer"),
+            ("program", ["--program", "/nosuch/program", *paths], 3, "the program was not started: no such command: /nosuch/program"),
+            ("folder", ["--replies", "/nosuch", *paths], 2, "--replies takes a folder, and there is none: /nosuch"),
+            ("file", ["--junit", "/nosuch/x.xml", *paths], 2, "--junit: /nosuch/x.xml can't be written: No such file or directory"),
+            ("case", [*words, *paths, "nosuch"], 2, "no such case: nosuch"),
+            ("peer, as TAP", ["--tap", *words[:2], *paths, "--peer", "/nosuch/peer"], 3, None),
+            ("case, in a list", ["--list", "nosuch"], 2, "no such case: nosuch")):
+        status, said = conform(*given)
+        told = "Bail out! the peer was not started: no such command: /nosuch/peer\n" \
+            "conform: the peer was not started: no such command: /nosuch/peer\n" if text is None else f"conform: {text}\n"
+        is_right = status == wanted and sorted(said.splitlines()) == sorted(told.splitlines())
+        count.take(is_right, f"a missing {name}: status {status}, {said!r}")
+
+
+def check_list(count, folder, conform):
+    words, paths = write_cases(folder)
+    status, said = conform("--list", paths[1], paths[0])
+    wanted = f"right: 1 commands: A segment. profile\nconform: {paths[1]}: line 3: '1 exit': {NO_RULE}\n"
+    count.take(status == 2 and said == wanted, f"--list: status {status}, {said!r}")
+    status, said = conform("--list")
+    names = sorted(name[:-4] for name in os.listdir(os.path.join(HERE, "cases")) if name.endswith(".shm"))
+    count.take(status == 0 and re.findall(r"^(\w+): \d+ commands: \S", said, re.M) == names, f"--list: status {status}, {said[:500]}")
+
+
+def check_odd_replies(count):
+    """A reply of no form is a difference, and one of another call's form ends no run."""
+    for table, line, _said in near_misses.judged():
+        history = [it for it in table.lines if not it.is_tried and it.number < line.number]
+        for odd in NO_FORM + OTHER_FORM:
+            try:
+                found = near_misses.compare(table, [*history, replace(line, theirs=odd)])["DIFFER"]
+            except (ValueError, KeyError, IndexError, TypeError, OverflowError) as error:
+                found, odd = -1, f"{odd}: {error!r}"
+            is_right = found > 0 or found == 0 and odd in OTHER_FORM
+            if not is_right:
+                count.take(False, f"near_misses.txt, line {line.number}: the odd reply {odd!r} is no difference")
+                return
+    count.take(True, "")

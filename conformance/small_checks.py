@@ -1,0 +1,348 @@
+"""What conformance/check asks of the peer for small kernels: the same replies as the full peer gives, no call but those that it
+may make, and what tools/small_peer makes of scripts and of a console's record."""
+
+import os
+import re
+import shutil
+import signal
+import subprocess
+import sys
+
+from compare import READS
+from running import HERE, TOP, Peer, only_one
+from script import read_case, read_event
+
+SOURCE = os.path.join(HERE, "small_peer.c")
+TOOL = os.path.join(TOP, "tools", "small_peer")
+C89 = ["-std=c89", "-pedantic", "-Wall", "-Wextra", "-Werror"]
+NOBODY = 65534
+SECONDS = 20
+# what both peers make of the cases: fewer would be a peer that skips what it can make
+LEAST_COMPARED = 540
+# every form of an operand and of a reply, and numbers of more than 32 bits
+FORMS = """limits 16777216 16 64 16 4
+process 1 {0} {1}
+child 2147483647
+1 s = shmget 0xabc 8193 640,creat,excl
+1 shmget 0xabc 18446744073709551615 000
+1 rmid 77
+1 a = shmat s null -
+1 shmat s 0x50000000 rdonly
+1 shmat s 0x50010001 rnd,remap
+1 store a+4092 fffffffffffffffe00
+1 n = xadd a+4092 18446744073709551615
+1 xadd a+4092 18374686479671623679
+1 load a+4092 9
+1 h = shmat s 0x1ffffffff000 -
+1 load h+4099 1
+1 shmdt h
+1 load 0x50000ffc 3
+1 store 0x50000000 00
+1 load n 1
+1 shmat n null -
+1 fork 2147483647
+2147483647 exec
+2147483647 exit
+1 stat s
+1 set s {0} {1} 007
+1 rmid s
+1 shmdt a
+1 t = shmget private 1 000
+1 shmdt 0x50000000
+1 shmdt 0x50010000
+1 shmget private 1 777
+1 shmget private 1 777
+1 swapoff 0
+1 exit
+1 stat s
+"""
+FORMS_SAID = """1 1 shmget 0x00000abc 8193 640,creat,excl = 0
+2 1 shmget 0x00000abc 18446744073709551615 000 = EINVAL
+3 1 rmid 77 = EINVAL
+4 1 shmat 0 null - = 0x40000000
+5 1 shmat 0 0x50000000 rdonly = 0x50000000
+6 1 shmat 0 0x50010001 rnd,remap = 0x50010000
+7 1 store 0x40000ffc fffffffffffffffe00 = ok
+8 1 xadd 0x40000ffc 18446744073709551615 = 18374686479671623679
+9 1 xadd 0x40000ffc 18374686479671623679 = 18374686479671623678
+10 1 load 0x40000ffc 9 = fdfffffffffffffd00
+11 1 shmat 0 0x1ffffffff000 - = 0x1ffffffff000
+12 1 load 0x200000000003 1 = fd
+13 1 shmdt 0x1ffffffff000 = ok
+14 1 load 0x50000ffc 3 = fdffff
+15 1 store 0x50000000 00 = skipped: the access may end its process
+16 1 load 0xfeffffffffffffff 1 = skipped: the access may end its process
+17 1 shmat -1 null - = EINVAL
+18 1 fork 2147483647 = ok
+19 2147483647 exec = skipped: this peer makes no exec
+20 2147483647 exit = ok
+21 1 stat 0 = key=0x00000abc uid={0} gid={1} cuid={0} cgid={1} mode=640 status=- size=8193 cpid=1 lpid=2147483647 nattch=3 \
+atime=set dtime=set ctime=set
+22 1 set 0 {0} {1} 007 = ok
+23 1 rmid 0 = ok
+24 1 shmdt 0x40000000 = ok
+25 1 shmget 0x00000000 1 000 = 1
+26 1 shmdt 0x50000000 = ok
+27 1 shmdt 0x50010000 = ok
+28 1 shmget 0x00000000 1 777 = 32768
+29 1 shmget 0x00000000 1 777 = 2
+30 1 swapoff 0 = skipped: no swap area is the script's
+31 1 exit = ok
+32 1 stat 0 = skipped: no process makes this call
+"""
+# a peer and a system with little room: what goes beyond it is skipped
+FULL = """limits 65536 16 64 16 4
+process 1 100 110
+1 shmget private 4096 600
+1 shmget private 4096 600
+1 shmat 0 null -
+1 shmat 0 null -
+1 shmat 0 null -
+"""
+FULL_SAID = ["0", "skipped: more segments than SEGMENTS", "0x40000000", "0x40001000", "skipped: more pieces than PIECES"]
+TWO = "limits 65536 16 64 16 4\nprocess 1 100 110\nprocess 2 100 110\n2 s = shmget private 1 600\n1 stat 0\n"
+DATA = """/* made by tools/small_peer from scripts */
+static const struct declared processes_0[] = {
+    { 7UL, 100UL, 4294967295UL, 0 },
+    { 8UL, 0UL, 0UL, 1 }
+};
+static const struct command commands_0[] = {
+    { 0, 18, 0, { { -1, { 0x0UL, 0x11UL } }, { -1, { 0x1UL, 0x2UL } }, { -1, { 0x0UL, 0x7a0UL } }, { -1, { 0x0UL, 0x0UL } } }, 0, "" },
+    { 0, -1, 1, { { 18, { 0x0UL, 0x0UL } }, { -1, { 0x0UL, 0x0UL } }, { -1, { 0x0UL, 0x7000UL } }, { -1, { 0x0UL, 0x0UL } } }, 0, "" },
+    { 0, -1, 4, { { 0, { 0x0UL, 0x1000UL } }, { -1, { 0x0UL, 0x0UL } }, { -1, { 0x0UL, 0x0UL } }, { -1, { 0x0UL, 0x0UL } } }, 2, "\\001\\377" },
+    { 0, -1, 7, { { -1, { 0x0UL, 0x0UL } }, { -1, { 0x0UL, 0x1UL } }, { -1, { 0x0UL, 0x2UL } }, { -1, { 0x0UL, 0x1c0UL } } }, 0, "" },
+    { 0, -1, 11, { { -1, { 0x0UL, 0x8UL } }, { -1, { 0x0UL, 0x0UL } }, { -1, { 0x0UL, 0x0UL } }, { -1, { 0x0UL, 0x0UL } } }, 0, "" },
+    { 1, -1, 13, { { -1, { 0x0UL, 0x0UL } }, { -1, { 0x0UL, 0x0UL } }, { -1, { 0x0UL, 0x0UL } }, { -1, { 0x0UL, 0x0UL } } }, 0, "" }
+};
+static const struct script scripts[] = {
+    { "data", processes_0, 2, commands_0, 6 }
+};
+"""
+DATA_SCRIPT = """limits 4096 1 1 2 0
+process 7 100 4294967295
+child 8
+7 s = shmget 0x11 4294967298 640,creat,excl
+7 shmat s null rnd,remap,rdonly
+0 flush 1
+7 store a+4096 01ff
+7 set 0 1 2 700
+7 fork 8
+8 exit
+"""
+# more than SHMMAX
+WIDE = "limits 1 1 1 2 0\nprocess 1 1 1\n# Too large. shmget(2), ERRORS\n1 shmget private 2 600\n#= EINVAL\n"
+RECORD = "boot: hello\r\nscript one\r\nnote: under the limits of this system\r\n1 1 exit = ok\r\ninit: noise\r\nend one\r\n" \
+    "script two\r\n1 1 stat 0 = EINVAL\r\n2 1 load 0x0 1 = panic: trap\r\n"
+
+
+def run_tool(*words):
+    return subprocess.run([sys.executable, "-B", TOOL, *words], capture_output=True, text=True, check=False)
+
+
+def write_file(path, text):
+    with open(path, "w", encoding="utf-8") as file:
+        file.write(text)
+    return path
+
+
+def build(folder, paths, compiler="cc", port="port_of_linux", words=()):
+    """The small peer with these scripts; its path, or what the compiler said."""
+    os.makedirs(folder, exist_ok=True)
+    done = run_tool("data", *paths)
+    if done.returncode != 0:
+        return "", done.stderr
+    write_file(os.path.join(folder, "small_script.h"), done.stdout)
+    program = os.path.join(folder, "small_peer")
+    done = subprocess.run([compiler, *C89, *words, "-I", os.path.join(HERE, port), "-I", folder, SOURCE, "-o", program],
+                          capture_output=True, text=True, check=False)
+    return (program, "") if done.returncode == 0 else ("", done.stderr[:1000])
+
+
+def check_alone(count, folder):
+    """It is compiled and linked with the calls that it may make and nothing else, by each compiler that is here."""
+    calls = os.path.join(HERE, "port_of_nothing", "calls.c")
+    case = os.path.join(HERE, "cases", "fork.shm")
+    for compiler in filter(shutil.which, ("gcc", "clang")):
+        for level in ("-O0", "-O1"):
+            alone = [level, "-ffreestanding", "-nostdinc", "-fno-stack-protector", "-nostdlib", "-static", "-Wl,-e,main", calls]
+            program, said = build(os.path.join(folder, "alone"), [case], compiler, "port_of_nothing", alone)
+            count.take(program, f"the small peer with its calls alone, {compiler} {level}: {said}")
+        small = ["-m32", "-O1", "-ffreestanding", "-nostdinc", "-c"]
+        program, said = build(os.path.join(folder, "alone"), [case], compiler, "port_of_nothing", small)
+        count.take(program, f"the small peer where numbers have 32 bits, {compiler}: {said}")
+
+
+def words_for(limits, is_root):
+    """Words that run a program in an IPC namespace with a script's limits, as root or as an ordinary user."""
+    text = "; ".join(f"echo {value} > /proc/sys/kernel/{name}" for name, value in zip(("shmmax", "shmmni", "shmall"), limits))
+    user = [] if is_root else ["setpriv", f"--reuid={NOBODY}", f"--regid={NOBODY}", "--clear-groups"]
+    locked = f"--memlock={4096 * limits[4]}:{4096 * limits[4]}"
+    return ["unshare", "--ipc", "sh", "-c", f"{text}; exec \"$@\"", "sh", "prlimit", locked, *user]
+
+
+def has_words():
+    return os.geteuid() == 0 and all(map(shutil.which, ("unshare", "prlimit", "setpriv")))
+
+
+def run_group(words, file):
+    """The status of a program, of which no process is left; one that hangs is ended."""
+    process = subprocess.Popen(words, stdout=file, start_new_session=True)
+    try:
+        return process.wait(SECONDS)
+    except subprocess.TimeoutExpired:
+        return f"no end in {SECONDS} seconds"
+    finally:
+        try:
+            os.killpg(process.pid, signal.SIGKILL)
+        except ProcessLookupError:
+            pass
+        process.wait()
+
+
+def run_small(folder, paths, limits, is_root, words=(), files=64):
+    """What the small peer prints for each of these scripts, by its name; it may have so many open files."""
+    program, said = build(folder, paths, words=words)
+    if not program:
+        return {}, said
+    os.chmod(program, 0o755)
+    record, replies = os.path.join(folder, "record"), os.path.join(os.path.dirname(folder), "replies")
+    with only_one(), open(record, "wb") as file:
+        status = run_group([*words_for(limits, is_root), "prlimit", f"--nofile={files}", program], file)
+    done = run_tool("replies", record, replies)
+    found = {}
+    for path in paths:
+        name = os.path.splitext(os.path.basename(path))[0]
+        if not os.path.exists(os.path.join(replies, name + ".out")):
+            continue
+        with open(os.path.join(replies, name + ".out"), encoding="ascii") as file:
+            found[name] = [line for line in file.read().splitlines() if not line.startswith("note: ")]
+    return found, "" if status == 0 and done.returncode == 0 else f"status {status}, {done.stderr}"
+
+
+def compare_case(case, small, full):
+    """How many commands both made, and the first one that they answer in different ways."""
+    made = 0
+    for line, other in zip(small, full):
+        event = read_event(line)
+        if event is None:
+            return made, f"no event line: {line!r}"
+        theirs = f"{other.call} = {other.reply}"
+        if event.is_skipped:
+            # both are in like states as long as the full peer was refused, or only looked
+            if event.call != other.call:
+                return made, f"{line} where the full peer has {theirs}"
+            is_partly_done = other.word in ("store", "xadd") and not other.is_skipped
+            if is_partly_done or not (other.is_skipped or other.is_refused or other.word in READS):
+                return made, "" if len(small) == len(case.commands) else f"{len(small)} lines"
+        elif not other.is_skipped:
+            if line != theirs:
+                return made, f"{line} where the full peer has {theirs}"
+            made += 1
+    return made, "" if len(small) == len(case.commands) else f"{len(small)} lines for {len(case.commands)} commands"
+
+
+def groups_of_cases():
+    """The cases by their limits and by whether their user is 0."""
+    groups = {}
+    for name in sorted(os.listdir(os.path.join(HERE, "cases"))):
+        path = os.path.join(HERE, "cases", name)
+        with open(path, encoding="ascii") as file:
+            case = read_case(path, file.read())
+        is_root = next(iter(case.users.values()))[0] == 0
+        groups.setdefault((tuple(case.limits[:3] + [0, case.limits[4]]), is_root), []).append((path, case))
+    return groups
+
+
+def check_compared(count, replies, conform):
+    """The kit compares what the small peer printed as it does with any other peer, and says under which limits that was."""
+    status, said = conform("--replies", replies)
+    is_right = status == 0 and re.search("^cases: agree \\d+, profile \\d+, skipped \\d+$", said, re.M)
+    is_right = is_right and "\nnote: under the limits of this system\n" in said
+    count.take(is_right, f"the small peer's replies, compared: status {status}, {said}")
+    path = write_file(os.path.join(replies, "wide.shm"), WIDE)
+    for note, word in (("note: under the limits of this system\n", "profile (limits of the system 1)"), ("", "DIFFER")):
+        write_file(os.path.join(replies, "wide.out"), note + "1 1 shmget 0x00000000 2 600 = 0\n")
+        status, said = conform("--replies", replies, path)
+        count.take(f"wide: {word}\n" in said, f"replies with {note!r}: status {status}, {said}")
+
+
+def check_same_replies(count, peer, folder, conform):
+    """Each command that both peers make has the same reply of both."""
+    made = 0
+    for number, ((limits, is_root), cases) in enumerate(groups_of_cases().items()):
+        small, said = run_small(os.path.join(folder, f"group{number}"), [path for path, _ in cases], limits, is_root)
+        count.take(not said, f"the small peer: {said}")
+        for _path, case in cases:
+            full = Peer([peer]).run(case.text, len(case.commands))
+            both, said = compare_case(case, small.get(case.name, []), full)
+            made += both
+            count.take(not said, f"the small peer: {case.name}: {said}")
+    check_compared(count, os.path.join(folder, "replies"), conform)
+    count.take(made >= LEAST_COMPARED, f"the small peer: {made} commands were made by both peers, at least {LEAST_COMPARED} can be")
+
+
+def check_forms(count, folder):
+    """Every form of an operand and a reply, as written by hand; and who is not user 0 is not taken for it."""
+    limits = [16777216, 16, 64, 0, 4]
+    for name, uid, is_root in (("ordinary", 100, False), ("root", 0, True), ("other", 0, False)):
+        gid = uid and uid + 10
+        path = write_file(os.path.join(folder, f"{name}.shm"), FORMS.format(uid, gid))
+        found, said = run_small(os.path.join(folder, name), [path], limits, is_root)
+        got, wanted = found.get(name, []), FORMS_SAID.format(uid, gid).splitlines()
+        if name == "other":
+            got = sorted({line.partition(" = ")[2] for line in got})
+            wanted = ["skipped: no process makes this call", "skipped: no right to be this user"]
+        first = next((pair for pair in zip(got, wanted) if pair[0] != pair[1]), (len(got), len(wanted)))
+        count.take(got == wanted and not said, f"the small peer's forms, {name}: {first}, {said}")
+
+
+def check_room(count, folder):
+    """What the peer or the system has no room for is skipped, and the rest is made."""
+    limits, words = [16777216, 16, 64, 0, 4], ["-DPROCESSES=1", "-DPIECES=3", "-DSEGMENTS=1"]
+    full, two = write_file(os.path.join(folder, "full.shm"), FULL), write_file(os.path.join(folder, "two.shm"), TWO)
+    few = "skipped: there are too few pipes for the script's processes"
+    for name, given, files, wanted in (
+            ("little room", words, 64, {"full": FULL_SAID, "two": ["skipped: more processes than PROCESSES"] * 2}),
+            ("few pipes", (), 8, {"full": [*FULL_SAID[:1], "1", *FULL_SAID[2:4], "0x40002000"], "two": [few] * 2})):
+        found, said = run_small(os.path.join(folder, name.replace(" ", "_")), [two, full], limits, False, given, files)
+        got = {name: [line.partition(" = ")[2] for line in lines] for name, lines in found.items()}
+        count.take(got == wanted and not said, f"the small peer with {name}: {got}, {said}")
+
+
+def check_tool(count, folder):
+    """What tools/small_peer makes of a script, of a console's record, and of bad words."""
+    path = write_file(os.path.join(folder, "data.shm"), DATA_SCRIPT)
+    done = run_tool("data", path)
+    count.take((done.returncode, done.stdout) == (0, DATA), f"tools/small_peer data: {done.stdout}{done.stderr}")
+    record, replies = write_file(os.path.join(folder, "record"), RECORD), os.path.join(folder, "told")
+    done = run_tool("replies", record, replies)
+    told = "small_peer: two has no end; its last line: 2 1 load 0x0 1 = panic: trap\n"
+    count.take((done.returncode, done.stderr) == (1, told), f"a record that breaks off: {done.returncode}, {done.stderr}")
+    for name, wanted in (("one", "note: under the limits of this system\n1 1 exit = ok\n"),
+                         ("two", "1 1 stat 0 = EINVAL\n2 1 load 0x0 1 = panic: trap\n")):
+        with open(os.path.join(replies, name + ".out"), encoding="ascii") as file:
+            said = file.read()
+        count.take(said == wanted, f"tools/small_peer replies: {name}: {said!r}")
+    bad = write_file(os.path.join(folder, "bad.shm"), "limits 1 1 1 2 0\nprocess 1 1 1\n1 nosuch\n")
+    for words, status, text in (
+            ((), 2, "tools/small_peer data"), (("data", "--nosuch"), 2, "tools/small_peer data"), (("data", "/nosuch"), 1, "can't be read"),
+            (("data", bad), 1, f"small_peer: {bad}: line 3: bad line: nosuch, allowed here: a call"),
+            (("replies", "/nosuch", replies), 2, "small_peer: /nosuch: No such file"),
+            (("replies", path, replies), 1, "has no line 'script NAME'")):
+        done = run_tool(*words)
+        count.take(done.returncode == status and text in done.stderr, f"tools/small_peer {words}: {done.returncode}, {done.stderr}")
+
+
+def check_small_peer(count, peer, folder, conform):
+    folder, failed = os.path.join(folder, "small"), count.failed
+    os.mkdir(folder)
+    check_tool(count, folder)
+    check_alone(count, folder)
+    if not has_words():
+        count.skip(1, "the small peer on this system: this is not root, or unshare, setpriv and prlimit are not here")
+        return
+    check_forms(count, folder)
+    check_room(count, folder)
+    # the cases take longest, and tell nothing more of a peer that is wrong already
+    if count.failed == failed:
+        check_same_replies(count, peer, folder, conform)
