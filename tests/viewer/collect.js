@@ -14,36 +14,36 @@
   const isFilled = (row) => style(row).backgroundColor !== "rgba(0, 0, 0, 0)";
   const colour = (it) => style(it).backgroundColor;
 
-  const cell = (it) => [text(it, ".number"), text(it, ".owner"), text(it, ".marks") || "", isFramed(it)];
-  const piece = (row) => {
-    const boxes = all(row, ".page");
-    const hatched = boxes.filter((it) => style(it).backgroundImage.startsWith("repeating-linear-gradient"));
-    return [text(row, ".base"), texts(row, ".page"), boxes.map(isFramed), hatched.length, text(row, ".rights")];
-  };
+  const struck = (it) => all(it, ".was").filter((was) => style(was).textDecorationLine === "line-through").map((was) => was.innerText.trim());
+  const isReached = (it) => style(it).outlineStyle === "solid";
+  // a box: its number, its owner, what is struck out, its marks, and whether it is framed and reached
+  const cell = (it) => [text(it, ".number"), text(it, ".owner"), ...struck(it), text(it, ".marks") || "", isFramed(it), isReached(it)];
+  const isHatched = (it) => style(it).backgroundImage.startsWith("repeating-linear-gradient");
+  const page = (it) => [...cell(it), isHatched(it), style(it).borderLeftWidth === "5px", it.title];
   const state = (it) => [text(it, ".state"), isFramed(it.querySelector(".state"))];
-  const process = (it) => [text(it, ".name"), ...state(it), all(it, ".piece").map(piece)];
-  // an area that is gone has no slots; a text after the slots says how many more there are
-  const area = (it) => [text(it, ".name"), all(it, ".cell").map(cell), texts(it, ".grid .key")];
+  const process = (it) => [text(it, ".name"), ...state(it), all(it, ".page, .gap").map((box) => box.className === "gap" ? "gap" : page(box))];
+  // a text after the slots says how many more there are
+  const area = (it) => [text(it, ".name"), all(it, ".cell").map(cell), texts(it, ".rest")];
   const hasBar = (it) => style(it.querySelector(".marks"), "::after").borderBottomStyle === "solid";
-  const segment = (row) => text(row, ".rights").split(/[ ,]/)[1];
+  const row = (it) => [texts(it, "td"), all(it, "td").map(isFilled), style(it.cells[0]).textDecorationLine === "line-through"];
   const coloured = () => [
-    ...all(document, ".piece").flatMap((row) => all(row, ".page").map((it) => [segment(row), colour(it)])),
-    ...all(document, ".cell").filter((it) => text(it, ".owner")).map((it) => [text(it, ".owner").split("·")[0], colour(it)]),
-    ...all(document, "#segments tr").map((row) => [texts(row, "td")[1], colour(row.querySelector(".swatch"))]),
+    ...all(document, "#live .cell").filter((it) => text(it, ".owner")).map((it) => [text(it, ".owner").split("·")[0], colour(it)]),
+    ...all(document, "#segments tr").filter((it) => text(it, "td")).map((it) => [texts(it, "td")[1], colour(it.querySelector(".swatch"))]),
   ];
   const number = (it, name) => Number(it.getAttribute(name));
-  const chart = () => {
-    const lines = all(byId("chart"), "line:not(#here)");
-    const here = byId("here");
+  const chart = (kind) => {
+    const lines = all(byId("chart-" + kind), "line:not(.here)");
+    const here = byId("chart-" + kind).querySelector(".here");
     return {
-      paths: all(byId("chart"), "path").map((it) => [style(it).stroke, it.getAttribute("d")]),
+      paths: all(byId("chart-" + kind), "path").map((it) => [style(it).stroke, it.getAttribute("d")]),
       axis: lines.map((it) => [it.previousElementSibling.textContent, number(it, "y1"), number(it, "x1"), number(it, "x2")]),
       here: here && [number(here, "x1"), number(here, "x2"), here.nextElementSibling.textContent],
-      legend: all(byId("legend"), "li").map((it) => [it.innerText.trim(), style(it.querySelector("i")).borderTopColor]),
+      legend: all(byId("legend-" + kind), "li").map((it) => [it.innerText.trim(), style(it.querySelector("i")).borderTopColor]),
     };
   };
   const replyStyle = () => all(byId("call"), ".reply").map((it) => [style(it).color === accent, style(it).fontWeight]);
   const shown = () => ({
+    heading: text(document, "#title"),
     where: text(document, "#where"),
     link: byId("where").getAttribute("href"),
     title: document.title,
@@ -51,15 +51,17 @@
     disabled: ["back", "on"].map((id) => byId(id).disabled),
     call: text(document, "#call"),
     reply: replyStyle(),
-    changes: texts(document, "#changes li:not(.none)"),
-    none: texts(document, "#changes li.none"),
+    changes: texts(document, "#changes li:not(.notice)"),
+    notice: texts(document, "#changes li.notice"),
+    script: byId("script").hidden ? [] : all(byId("lines"), "li").map((it) => it.textContent.trim()),
+    current: all(byId("lines"), "li").flatMap((it, at) => isFilled(it) ? [at] : []),
     processes: all(document, ".process").map(process),
     frames: all(byId("frames"), ".cell").map(cell),
     hands: all(byId("frames"), ".cell").filter(hasBar).map((it) => text(it, ".number")),
     areas: all(document, ".area").map(area),
-    segments: all(document, "#segments tr").map((row) => [...texts(row, "td"), isFilled(row)]),
+    segments: all(document, "#segments tr").map(row),
     coloured: coloured(),
-    chart: chart(),
+    charts: [chart("now"), chart("sum")],
   });
 
   // a name of a move is a key, with what is held beside it; a button; the slider's value; or what the address ends with
@@ -72,11 +74,19 @@
     history.replaceState(null, "", hash);
     dispatchEvent(new Event("hashchange"));
   };
+  // the middle of a step on a chart, by the chart's own axis
+  const clickAt = (kind, part) => {
+    const [svg] = all(byId("chart-" + kind), "svg");
+    const box = svg.querySelector("line:not(.here)").getBoundingClientRect();
+    svg.dispatchEvent(new MouseEvent("click", { clientX: box.left + box.width * part }));
+  };
   const move = (name) => {
     const [kind, what] = name.split(" ");
     if (kind === "button") byId(what).click();
     else if (kind === "slider") slide(what);
     else if (kind === "address") follow(what);
+    else if (kind === "line") all(byId("lines"), "li")[what].querySelector("button").click();
+    else if (kind === "chart") clickAt(...what.split(":"));
     else return press(kind, what);
     return null;
   };

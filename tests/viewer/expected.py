@@ -10,9 +10,9 @@ HERE = os.path.dirname(os.path.abspath(__file__))
 # of an area this many slots are drawn, if it has them, and each that a page has at some step
 FEWEST_SLOTS = 8
 REFUSALS = ("EPERM ENOENT ESRCH EIO EAGAIN ENOMEM EACCES EEXIST EINVAL EMFILE ENOSPC EIDRM SIGBUS SIGSEGV").split()
-# the lines of the chart, in the order of the legend, and the words of usage that they show
-LINES = (("pages in frames", "frames"), ("dirty", "dirty"), ("slots in use", "slots"), ("read from swap", "in"),
-         ("written to swap", "out"), ("failures", "failures"))
+# the lines of the charts, in the order of their legends, and the words of usage that they show: what is, and what adds up
+CHARTS = ((("pages in frames", "frames"), ("dirty", "dirty"), ("slots in use", "slots")),
+          (("read from swap", "in"), ("written to swap", "out"), ("failures", "failures")))
 KEYS = ("ArrowLeft", "ArrowRight", "Home", "End")
 # the lines of the chart lie beside each other where their counts are alike: by no more than this
 NUDGE = 5
@@ -70,26 +70,63 @@ def pieces_of(block):
     return found
 
 
-def piece(block, before, line, is_new):
-    _, base, seg, first, count, rights = line
-    pages = [[seg, str(int(first) + at)] for at in range(int(count))]
-    boxes = [f"{page} {where_is(block, [seg, page])}" for _, page in pages]
-    framed = [is_new or bool(before) and where_is(block, page) != where_is(before, page) for page in pages]
-    is_read_only = rights == "ro"
-    told = f"segment {seg}, {'read-only' if is_read_only else 'read and write'}"
-    return [base, boxes, framed, len(boxes) if is_read_only else 0, told]
+def boxes_of(pieces):
+    """Returns what a process has at each of its addresses: the page, the rights, and whether a piece begins there."""
+    found = {}
+    for _, base, seg, first, count, rights in pieces:
+        for at in range(int(count)):
+            found[int(base, 16) + 4096 * at] = [seg, str(int(first) + at)], rights, at == 0
+    return found
 
 
-def processes(block, before):
-    """Returns for each process its name, its state and whether that is framed, and its pieces."""
+def access_of(block):
+    """Returns the process of an access and the addresses of its bytes, page by page, none where there is no access."""
+    words = block[1]
+    if words[0] != "call" or words[3] not in ("load", "store", "xadd"):
+        return "", []
+    count = int(words[5]) if words[3] == "load" else len(words[5]) // 2 if words[3] == "store" else 8
+    first = int(words[4], 16)
+    return words[2], sorted({at - at % 4096 for at in range(first, first + count)})
+
+
+def page_box(block, before, address, has, had, is_reached):
+    """Returns what the box of an address is to show."""
+    def looks(it, box):
+        return [*box[0], box[1], where_is(it, box[0])] if box else []
+    name = f"0x{address:08x}"
+    owner, was = ("·".join(it[0]) if it else "" for it in (has, had))
+    struck = [was] * (before is not None and was not in ("", owner))
+    told = f"page {has[0][1]} of segment {has[0][0]}, {'read-only' if has[1] == 'ro' else 'read and write'}" if has else "no attachment"
+    framed = before is not None and looks(block, has) != looks(before, had)
+    return [name, owner, *struck, where_is(block, has[0]) if has else "", framed, is_reached,
+            bool(has) and has[1] == "ro", bool(has) and has[2], f"{name}: {told}"]
+
+
+def processes(block, before, blocks):
+    """Returns for each process its name, its state and whether that is framed, and a box for each address that it ever has."""
     shown = []
     earlier = pieces_of(before) if before else None
+    caller, named = access_of(block)
     for at, (line, pieces) in enumerate(pieces_of(block)):
         state = {"unborn": "not born yet", "ended": "ended"}.get(line[2]) or f"uid {line[3]} gid {line[4]}"
-        was, had = earlier[at] if earlier else (line, pieces)
-        rows = [piece(block, before, its, its not in had) for its in pieces]
-        shown.append([f"process {line[1]}", state, line != was, rows])
+        was, had = earlier[at] if earlier else (line, [])
+        has, had = boxes_of(pieces), boxes_of(had)
+        row, last = [], None
+        for address in sorted({it for each in blocks for it in boxes_of(pieces_of(each)[at][1])}):
+            row += ["gap"] * (last is not None and address != last + 4096)
+            is_reached = line[1] == caller and address in named and address in has
+            row.append(page_box(block, before, address, has.get(address), had.get(address), is_reached))
+            last = address
+        shown.append([f"process {line[1]}", state, line != was, row])
     return shown
+
+
+def reached_frames(block):
+    """Returns the frames of the pages that an access reached; it reaches none where it is answered SIGSEGV."""
+    caller, named = access_of(block)
+    has = {line[1]: boxes_of(pieces) for line, pieces in pieces_of(block)}.get(caller, {})
+    places = [where_is(block, has[address][0]) for address in named if address in has]
+    return [place[1:] for place in places if place[0] == "f" and block[1][-1] != "SIGSEGV"]
 
 
 def frames(block):
@@ -113,21 +150,25 @@ def areas(block, blocks):
     """Returns for each area its name, its slots, and the text after them. Each step shows the same number of slots."""
     shown = []
     for at, line in enumerate(lines_of(block, "area")):
-        if line[2] == "gone":
-            shown.append([f"swap area {at} is gone", [], []])
-            continue
-        owned, size = slots_of(block, at), int(line[2])
+        is_gone = line[2] == "gone"
+        size = max(int(it[2]) for each in blocks for it in [lines_of(each, "area")[at]] if it[2] != "gone")
+        owned = slots_of(block, at)
         ever = [slot + 1 for it in blocks for slot in slots_of(it, at)]
         drawn = min(size, max([FEWEST_SLOTS, *ever]))
         cells = [[str(slot), owned.get(slot, ""), ""] for slot in range(drawn)]
-        rest = [f"and {size - drawn} more, free"] if drawn < size else []
-        shown.append([f"swap area {at}: {len(owned)} of {size} slots", cells, rest])
+        rest = [f"and {size - drawn} more" + ", free" * (not is_gone)] if drawn < size else []
+        shown.append([f"swap area {at} was taken away" if is_gone else f"swap area {at}: {len(owned)} of {size} slots", cells, rest])
     return shown
 
 
-def with_frames(cells, before):
-    """Returns the cells, each with whether it is framed: it is where anything in it changed."""
-    return [[*cell, before is not None and cell not in before] for cell in cells]
+def with_frames(cells, before, reached=()):
+    """Returns the cells, each with the owner that is struck out, and whether it is framed and reached."""
+    shown = []
+    for at, (number, owner, marks) in enumerate(cells):
+        was = before[at][1] if before else owner
+        is_changed = before is not None and before[at] != [number, owner, marks]
+        shown.append([number, owner, *[was] * (was not in ("", owner)), marks, is_changed, number in reached])
+    return shown
 
 
 def call(block):
@@ -135,8 +176,8 @@ def call(block):
     if words[0] == "start":
         return "the machine as it opens"
     if words[0] == "flush":
-        return f"flush round for at most {words[1]}: {words[3]} written, {words[5]} failed"
-    return f"{words[1]}. process {words[2]} {' '.join(words[3:])}"
+        return f"flush round, at most {words[1]} page{'s' * (words[1] != '1')}: {words[3]} written, {words[5]} failed"
+    return f"process {words[2]}: {' '.join(words[3:])} call {words[1]} of the history"
 
 
 def count_of(block, word):
@@ -144,37 +185,50 @@ def count_of(block, word):
     return int(usage[usage.index(word) + 1])
 
 
-def segments(block, before):
-    """Returns the lines of the segments, each with whether its row is filled with colour: where the line is new."""
-    old = segments_of(before) if before else None
-    return [[*line, old is not None and line not in old] for line in segments_of(block)]
+def segments(block, before, blocks):
+    """Returns a row for each index that a segment ever has: its words, which of them are filled, and whether it is struck out."""
+    rows = []
+    for index in sorted({int(it[1]) % 32768 for each in blocks for it in segments_of(each)}):
+        has, had = ([it for it in segments_of(each) if int(it[1]) % 32768 == index] for each in (block, before or []))
+        words = (has or had or [[""] * 7])[0]
+        filled = [bool(before) and bool(has) and not (bool(had) and had[0][at] == word) for at, word in enumerate(words)]
+        rows.append([words, filled, bool(had) and not has])
+    return rows
 
 
-def shown_at(blocks, at, told):
-    """Returns what is to be seen at a place of a page, but for the chart and the colours of segments."""
+def step_lines(script):
+    """Returns the numbers of a script's lines, from 0, that are commands and flush lines: step 1 is the first of them."""
+    return [at for at, line in enumerate(script) if re.match(r"\s*[0-9]", line)]
+
+
+def shown_at(blocks, at, told, skipped=0, script=()):
+    """Returns what is to be seen at a place of the record, but for the charts and the colours of segments. The first blocks,
+    if some are skipped, are no steps of the page."""
     block, before = blocks[at], blocks[at - 1] if at else None
     number, last = number_of(block), number_of(blocks[-1])
     drawn = areas(block, blocks)
     drawn_before = areas(before, blocks) if before else [[None, None, None] for _ in drawn]
-    changes = told.get(number, []) if before else []
     is_refused = block[1][-1] in REFUSALS and block[1][0] == "call"
     [[_, _, _, hand]] = lines_of(block, "frames")
-    return {
+    title = script[0].lstrip("# ") if script else ""
+    want = {
+        "heading": title,
         "where": f"step {number} of {last}",
         "link": f"#step-{number}",
-        "title": f"step {number} of a run of shared memory",
-        "slider": [str(len(blocks) - 1), str(at)],
-        "disabled": [at == 0, at == len(blocks) - 1],
+        "title": f"step {number}: {title}" if title else f"step {number} of a run of shared memory",
+        "slider": [str(len(blocks) - 1 - skipped), str(at - skipped)],
+        "disabled": [at == skipped, at == len(blocks) - 1],
         "call": call(block),
         "reply": [[is_refused, "700"]],
-        "changes": changes,
-        "none": [] if changes else ["nothing moved" if before else "the first step shown"],
-        "processes": processes(block, before),
-        "frames": with_frames(frames(block), frames(before) if before else None),
+        "script": [line.strip() for line in script],
+        "current": [step_lines(script)[number - 1]] if script and number else [],
+        "processes": processes(block, before, blocks),
+        "frames": with_frames(frames(block), frames(before) if before else None, reached_frames(block)),
         "hands": [hand],
         "areas": [[name, with_frames(cells, old), rest] for (name, cells, rest), (_, old, _) in zip(drawn, drawn_before)],
-        "segments": segments(block, before),
+        "segments": segments(block, before, blocks),
     }
+    return want if told is None else {**want, "changes": told.get(number, [])}
 
 
 def wrong_parts(seen, want):
@@ -213,21 +267,21 @@ def wrong_line(path, counts, axis, most):
     return "" if is_even and is_high else f"{path} where {counts} is wanted"
 
 
-def wrong_chart(chart, blocks, at):
+def wrong_chart(chart, lines, blocks, at):
     """What is wrong with a chart: its two marks, the place of the step, the legend, or a line."""
-    counts = {word: [count_of(block, word) for block in blocks] for _, word in LINES}
+    counts = {word: [count_of(block, word) for block in blocks] for _, word in lines}
     most = max(1, *(max(it) for it in counts.values()))
     axis, here = chart["axis"], chart["here"]
     if [it[0] for it in axis] != ["0", str(most)]:
         return [f"marks of the chart: {axis}"]
     wrong = []
-    legend = [f"{name} {counts[word][at]}" for name, word in LINES]
+    legend = [f"{name} {counts[word][at]}" for name, word in lines]
     if [told for told, _ in chart["legend"]] != legend:
         wrong.append(f"legend: {chart['legend']} where {legend} is wanted")
     strokes = [stroke for stroke, _ in chart["paths"]]
-    if strokes != [colour for _, colour in chart["legend"]] or len({*strokes}) != len(LINES):
+    if strokes != [colour for _, colour in chart["legend"]] or len({*strokes}) != len(lines):
         wrong.append(f"colours of the chart: {strokes} and {chart['legend']}")
-    for (name, word), (_, path) in zip(LINES, chart["paths"]):
+    for (name, word), (_, path) in zip(lines, chart["paths"]):
         fault = wrong_line(path, counts[word], axis, most)
         wrong += [f"chart of {name}: {fault}"] * bool(fault)
     place = axis[0][2] + (axis[0][3] - axis[0][2]) * at / max(1, len(blocks) - 1)
@@ -235,23 +289,31 @@ def wrong_chart(chart, blocks, at):
     return wrong if is_here else [*wrong, f"place in the chart: {here} where {place} is wanted"]
 
 
-def moves_of(blocks):
+def moves_of(blocks, script=()):
     """Returns the moves that are tried on a page."""
     if not blocks:
         return ["no End", "no ArrowLeft", "button on", "button back", "slider 1", "address #step-1"]
     slides = [f"slider {at}" for at in reversed(range(len(blocks)))]
     named = [f"address #step-{number_of(blocks[at])}" for at in (len(blocks) // 2, -1)]
+    last = max(1, len(blocks) - 1)
+    clicks = [f"chart {kind}:{(at + off) / last}" for kind, off in (("now", .3), ("sum", -.3)) for at in range(last + 1)
+              if 0 <= at + off <= last]
+    lines = [f"line {step_lines(script)[number_of(block) - 1]}" for block in blocks if script and number_of(block)]
     return ["no End", "no ArrowRight", "no ArrowLeft", "button back", "no Home", "no ArrowLeft", "button back", "button on",
-            "no ArrowRight", "ctrl ArrowRight", "alt ArrowRight", "meta End", "no x", *slides, *named,
+            "no ArrowRight", "ctrl ArrowRight", "alt ArrowRight", "meta End", "no x", *slides, *named, *clicks, *lines,
             "address #step-99999", *named[:1], "address #steps", "no End", "button on"]
 
 
-def place_after(name, at, blocks):
+def place_after(name, at, blocks, script=()):
     """Returns the place that a page is at after a move, by docs/SCRIPT.md: at its ends it stays."""
     kind, what = name.split(" ")
     last = len(blocks) - 1
     if kind == "slider":
         return int(what)
+    if kind == "chart":
+        return round(float(what.split(":")[1]) * last)
+    if kind == "line":
+        return [number_of(block) for block in blocks].index(step_lines(script).index(int(what)) + 1)
     if kind == "address":
         numbers = [f"#step-{number_of(block)}" for block in blocks]
         return numbers.index(what) if what in numbers else 0
@@ -261,18 +323,28 @@ def place_after(name, at, blocks):
     return at
 
 
-def wrong_moves(moved, steps, blocks):
+def notice_of(address, blocks):
+    """What is said of an address that names a step which the page has not."""
+    named = re.fullmatch(r"#step-(\d+)", address)
+    numbers = [number_of(block) for block in blocks]
+    if not named or int(named[1]) in numbers:
+        return []
+    return [f"there is no step {named[1]} here: the steps are {numbers[0]} to {numbers[-1]}"]
+
+
+def wrong_moves(moved, steps, blocks, script=()):
     """Returns what is wrong after each move: another step than the one named, another address, or a key that is not taken."""
     at, address, wrong = len(blocks) - 1, steps[-1]["link"], []
     for name, was_taken, was_address, seen in moved:
         kind, what = name.split(" ")
-        at = place_after(name, at, blocks)
+        at = place_after(name, at, blocks, script)
         is_taken = {"no": what in KEYS, "ctrl": False, "alt": False, "meta": False}.get(kind)
         if kind == "address":
             address = what
         elif is_taken is not False:
             address = steps[at]["link"]
-        wrong += [f"after {name}: {seen['where']}, not as at step {number_of(blocks[at])}"] * (seen != steps[at])
+        want = {**steps[at], "notice": notice_of(what, blocks) if kind == "address" else []}
+        wrong += [f"after {name}: {seen['where']}, not as at step {number_of(blocks[at])}"] * (seen != want)
         wrong += [f"{name} is taken: {was_taken}"] * (was_taken != is_taken)
         wrong += [f"address after {name}: {was_address} where {address} is wanted"] * (was_address != address)
     return wrong

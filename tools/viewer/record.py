@@ -1,5 +1,6 @@
 """Reads the record of a run, as `shmview` writes it, and says what each step changed."""
 
+import re
 from dataclasses import dataclass, field
 from functools import cached_property
 
@@ -10,13 +11,29 @@ class Step:
 
     number: int
     action: str = ""
-    segments: dict = field(default_factory=dict)    # identifier: (pages, status)
+    segments: dict = field(default_factory=dict)    # identifier: (pages, status, owner and permissions)
     processes: dict = field(default_factory=dict)   # pid: (state, set of pieces)
     frames: dict = field(default_factory=dict)      # frame: (page, referenced, dirty)
+    frame_count: int = 0
     hand: str = ""
-    areas: list = field(default_factory=list)       # for each area whether it is there
+    areas: list = field(default_factory=list)       # for each area its slots, none where it was taken away
     slots: dict = field(default_factory=dict)       # (area, slot): page
     failures: int = 0
+
+    @property
+    def words(self):
+        return self.action.split()
+
+    @property
+    def reply(self):
+        return self.words[-1] if self.words[:1] == ["call"] else ""
+
+    def page_at(self, pid, address):
+        """Returns the page that a process has at an address, with its rights, and none where it has none."""
+        for base, seg, first, pages, rights in self.processes.get(pid, ("", ()))[1]:
+            if 0 <= address - int(base, 16) < 4096 * int(pages):
+                return (seg, str(int(first) + (address - int(base, 16)) // 4096)), rights
+        return None, ""
 
     @cached_property
     def frame_of(self):
@@ -37,17 +54,17 @@ def read_line(step, line):
         [*_, (_, pieces)] = step.processes.values()
         pieces.add(tuple(words[1:]))
     elif words[0] == "frames":
-        step.hand = words[3]
+        step.frame_count, step.hand = int(words[1]), words[3]
     elif words[0] == "frame":
         step.frames[words[1]] = ((words[2], words[3]), words[4][0] == "r", words[4][1] == "d")
     elif words[0] == "area":
-        step.areas.append(words[2] != "gone")
+        step.areas.append(None if words[2] == "gone" else int(words[2]))
     elif words[0] == "slot":
         step.slots[words[1], words[2]] = (words[3], words[4])
     elif words[:2] == ["usage", "in"]:
         step.failures = int(words[6])
     elif words[0].startswith("0x"):
-        step.segments[words[1]] = ((int(words[4]) + 4095) // 4096, words[6])
+        step.segments[words[1]] = ((int(words[4]) + 4095) // 4096, words[6], f"owner {words[2]} and permissions {words[3]}")
 
 
 def read_record(text):
@@ -78,21 +95,27 @@ def span(piece):
     return f"{which} of segment {seg}" + (", read-only" if rights == "ro" else "")
 
 
+def counted(number, name):
+    return f"{number} {name}{'' if number == 1 else 's'}"
+
+
 def say_segments(before, after):
-    for seg, (pages, status) in after.segments.items():
+    for seg, (pages, status, held) in after.segments.items():
         if seg not in before.segments:
-            yield f"segment {seg} was made, with {pages} page{'' if pages == 1 else 's'} of zeros"
+            yield f"segment {seg} was made, with {counted(pages, 'page')} of zeros"
             continue
         had, has = before.segments[seg][1].split(","), status.split(",")
         if "dest" in has and "dest" not in had:
-            yield f"segment {seg} is marked: it goes at its last detach"
+            yield f"segment {seg} is marked for removal: its last detach destroys it"
         if "locked" in has and "locked" not in had:
             yield f"segment {seg} is locked: its pages stay in their frames"
         if "locked" in had and "locked" not in has:
             yield f"segment {seg} is unlocked"
+        if held != before.segments[seg][2]:
+            yield f"segment {seg} has {held}"
     for seg in before.segments:
         if seg not in after.segments:
-            yield f"segment {seg} is gone, with its bytes, frames and slots"
+            yield f"segment {seg} is destroyed, with its bytes, frames and slots"
 
 
 def say_processes(before, after):
@@ -101,9 +124,9 @@ def say_processes(before, after):
         if state != was:
             yield f"process {pid} was born" if state == "live" else f"process {pid} has ended"
         for piece in sorted(had - pieces, key=lambda it: int(it[0], 16)):
-            yield f"process {pid} lost the piece at {piece[0]}: {span(piece)}"
+            yield f"process {pid} lost its attachment at {piece[0]}: {span(piece)}"
         for piece in sorted(pieces - had, key=lambda it: int(it[0], 16)):
-            yield f"process {pid} has a piece at {piece[0]}: {span(piece)}"
+            yield f"process {pid} has an attachment at {piece[0]}: {span(piece)}"
 
 
 def left(page, before, after):
@@ -120,7 +143,7 @@ def came(page, frame, other, before):
     """A page in a frame; its segment is not named again behind a page of the same."""
     slot = before.slot_of.get(page)
     name = f"page {page[1]}" if other and other[0] == page[0] else named(page)
-    return f"frame {frame} taken for {name}" + (f", read from {placed(slot, before)}" if slot else "")
+    return f"{name} came into frame {frame}" + (f", read from {placed(slot, before)}" if slot else "")
 
 
 def say_frames(before, after):
@@ -134,7 +157,7 @@ def say_frames(before, after):
         if new:
             told.append(came(new, frame, goes, before))
         if told:
-            yield ", ".join(told)
+            yield ", and ".join(told)
 
 
 def say_bits(before, after):
@@ -158,13 +181,13 @@ def say_clock(before, after):
     if passed:
         yield f"the hand passed frame{'s' if len(passed) > 1 else ''} {', '.join(passed)}"
     if after.hand != before.hand:
-        yield f"the hand stands at frame {after.hand}"
+        yield f"the hand is now at frame {after.hand}"
 
 
 def say_areas(before, after):
     for at, (was, is_there) in enumerate(zip(before.areas, after.areas)):
         if was and not is_there:
-            yield f"swap area {at} is gone"
+            yield f"swap area {at} was taken away"
     now = after.slot_of
     for page, slot in before.slot_of.items():
         if page in now and now[page] != slot:
@@ -172,16 +195,157 @@ def say_areas(before, after):
         elif page not in now and page[0] in after.segments:
             yield f"{named(page)} gave back {placed(slot, before)}"
     if after.failures > before.failures:
-        yield "a pager failed, and no byte changed"
+        yield "a swap area failed, and no byte changed"
+
+
+def access_of(step):
+    """Returns the process of a load, a store or an xadd, its address and how many bytes it names, and none for another step."""
+    words = step.words
+    if words[:1] != ["call"] or words[3] not in ("load", "store", "xadd") or step.reply == "ESRCH":
+        return None
+    count = {"load": lambda: int(words[5]), "store": lambda: len(words[5]) // 2, "xadd": lambda: 8}[words[3]]()
+    return words[2], int(words[4], 16), count
+
+
+def parts_of(access):
+    """Returns the first and the last address of an access in each page that it names."""
+    _pid, address, count = access
+    while count > 0:
+        here = min(count, 4096 - address % 4096)
+        yield address, address + here - 1
+        address, count = address + here, count - here
+
+
+def bytes_of(first, last):
+    """Names the addresses and their places in the page."""
+    if first == last:
+        return f"0x{first:08x} is byte {first % 4096}"
+    return f"0x{first:08x} to 0x{last:08x} are bytes {first % 4096} to {last % 4096}"
+
+
+def placed_now(page, step):
+    if page in step.frame_of:
+        return f"in frame {step.frame_of[page]}"
+    return f"in {placed(step.slot_of[page], step)}" if page in step.slot_of else "with zeros alone"
+
+
+def say_access(_before, after):
+    """For each page that an access names, which one it is and where it is after the access."""
+    access = access_of(after)
+    for first, last in parts_of(access) if access else ():
+        page, rights = after.page_at(access[0], first)
+        if page is None:
+            yield f"process {access[0]} has no attachment at 0x{first:08x}"
+            return
+        yield f"{bytes_of(first, last)} of {named(page)}, {placed_now(page, after)}"
+        if rights == "ro" and after.words[3] != "load":
+            yield f"process {access[0]} may only read {named(page)}"
+
+
+def reached(step):
+    """Returns the pages that an access reached: for each its process, its address and its frame, none where it has none."""
+    access, found = access_of(step), []
+    for first, _last in parts_of(access) if access else ():
+        page, _rights = step.page_at(access[0], first)
+        if page is not None:
+            frame = None if step.reply == "SIGSEGV" else step.frame_of.get(page)
+            found.append([access[0], f"0x{first - first % 4096:08x}", frame])
+    return found
+
+
+# why a call was refused: by the call, and else by the refusal alone
+REASONS = {
+    ("shmget", "EINVAL"): "the size is not allowed, or the segment with this key is smaller",
+    ("shmget", "ENOMEM"): "swap space for its pages is not left",
+    ("shmat", "EINVAL"): "there is no such segment, or this address may not be used",
+    ("shmat", "ENOMEM"): "no gap between the attachments is large enough",
+    ("shmdt", "EINVAL"): "no attachment begins at this address",
+    ("lock", "ENOMEM"): "more pages would be locked than the limit allows",
+    ("swapoff", "EINVAL"): "there is no such swap area",
+    ("swapoff", "ENOMEM"): "the other areas have fewer slots than the segments have pages",
+    ("swapoff", "EPERM"): "only user 0 may take a swap area away",
+    "EPERM": "only the owner, the creator and user 0 may do this",
+    "ENOENT": "no segment has this key",
+    "ESRCH": "the process is not alive",
+    "EIO": "a swap area failed",
+    "EAGAIN": "no process of this number waits to be born",
+    "EACCES": "the permissions of the segment do not allow it",
+    "EEXIST": "a segment has this key already",
+    "EINVAL": "there was never a segment with this identifier",
+    "EMFILE": "the process would have more than 256 attachments",
+    "ENOSPC": "there are as many segments, or pages of segments, as the limits allow",
+    "EIDRM": "the segment with this identifier was destroyed",
+}
+# what a call answered that changed nothing
+UNCHANGED = {
+    "shmget": "the key names segment {reply}, and nothing changed",
+    "stat": "stat shows segment {of} and changes nothing",
+    "rmid": "segment {of} was marked for removal before",
+    "lock": "segment {of} was locked before",
+    "unlock": "segment {of} was not locked",
+    "exec": "process {pid} had no attachment",
+}
+
+
+def say_refusal(_before, after):
+    words = after.words
+    reason = REASONS.get((*words[3:4], after.reply), REASONS.get(after.reply))
+    if reason and words[0] == "call":
+        yield f"{after.reply}: {reason}"
+
+
+def unchanged(before, after):
+    """What a step did that changed nothing."""
+    words = after.words
+    if words[0] == "flush":
+        is_dirty = any(dirty for _, _, dirty in before.frames.values())
+        return "nothing was written: each dirty page is of a locked segment" if is_dirty else "nothing was written: no page is dirty"
+    of = words[4] if len(words) > 5 else ""
+    return UNCHANGED.get(words[3], "nothing changed").format(of=of, reply=after.reply, pid=words[2])
+
+
+def replaced(before, pid, base, count):
+    """Returns the segments that had pages where an attachment took their place."""
+    pages = [before.page_at(pid, base + 4096 * at)[0] for at in range(count)]
+    return {page[0] for page in pages if page}
+
+
+def say_times(before, after):
+    """The times and last pids that a call set, by the rules of docs/MACHINE.md: the time is its place in the history."""
+    words = after.words
+    if words[:1] != ["call"] or re.fullmatch("E[A-Z]+", after.reply):
+        return
+    _, time, pid, name, *rest = words
+    lost = {piece[1] for piece in before.processes[pid][1] - after.processes[pid][1]} if name in ("shmdt", "exec", "exit") else set()
+    if name == "shmget" and after.reply not in before.segments or name == "set":
+        yield f"segment {after.reply if name == 'shmget' else rest[0]} has change time {time}"
+    if name == "shmat":
+        yield f"segment {rest[0]} has attach time {time} and last pid {pid}"
+        lost = replaced(before, pid, int(after.reply, 16), after.segments[rest[0]][0])
+    for seg in sorted(lost & after.segments.keys(), key=int):
+        yield f"segment {seg} has detach time {time} and last pid {pid}"
+
+
+def say_start(step):
+    """What the machine is like as it opens."""
+    if step.frame_count:
+        areas = ", ".join(f"swap area {at} has {counted(slots, 'slot')}" for at, slots in enumerate(step.areas))
+        live = [pid for pid, (state, _) in step.processes.items() if state == "live"]
+        alive = f"process{'es' if len(live) > 1 else ''} {', '.join(live)} {'are' if len(live) > 1 else 'is'} alive"
+        yield f"{counted(step.frame_count, 'frame')} {'is' if step.frame_count == 1 else 'are'} free, and {areas}"
+        yield f"no segment is there; {alive}" if live else "no segment is there"
 
 
 def sentences(before, after):
-    """Says what changed from one step to the next: a list of sentences without a full stop."""
-    parts = (say_segments, say_processes, say_areas, say_frames, say_bits, say_clock)
-    return [said for part in parts for said in part(before, after)]
+    """Says what changed from one step to the next: at least one sentence, without a full stop."""
+    parts = (say_refusal, say_access, say_segments, say_processes, say_areas, say_frames, say_bits, say_clock, say_times)
+    return [said for part in parts for said in part(before, after)] or [unchanged(before, after)]
 
 
-def all_sentences(steps):
-    """Returns for each step its number and its sentences; the first has none."""
+def all_sentences(steps, first=0):
+    """Returns for each step from the first its number and its sentences; a step before it is what it is compared with."""
     told = [(step.number, sentences(before, step)) for before, step in zip(steps, steps[1:])]
-    return [(steps[0].number, [])] + told if steps else []
+    if steps and steps[0].number >= first:
+        opening = [*say_start(steps[0])] if steps[0].action == "start" else []
+        told = [(steps[0].number, opening), *told]
+    return told

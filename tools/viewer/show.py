@@ -1,12 +1,14 @@
 #!/usr/bin/env python3
 """Puts what each step changed beside the record of a run.
 
-    tools/viewer/show.py page < RECORD    one HTML page, which needs nothing else
-    tools/viewer/show.py text < RECORD    the record for a terminal
+    tools/viewer/show.py page [SCRIPT [STEPS]] < RECORD    one HTML page, which needs nothing else
+    tools/viewer/show.py text [SCRIPT [STEPS]] < RECORD    the record for a terminal
 
-All is there before the first byte is written.
+SCRIPT is the file of the script, and STEPS are those that were asked for, as in 3-12. The record may begin one step earlier:
+the first step is then compared with that one. All is there before the first byte is written.
 """
 
+import json
 import os
 import sys
 
@@ -14,39 +16,84 @@ sys.dont_write_bytecode = True
 HERE = os.path.dirname(os.path.abspath(__file__))
 sys.path.insert(0, HERE)
 
-from record import all_sentences, read_record  # noqa: E402
+from record import all_sentences, reached, read_record  # noqa: E402
 
 
-def page(text, told):
-    """The record and the sentences have no character that HTML reads as its own."""
+def lines_of(script):
+    """Returns the lines of a script, each with the number of its step: commands and flush lines begin with a number."""
+    lines, step = [], 0
+    for line in script.rstrip("\n").split("\n"):
+        is_step = line.strip()[:1].isdigit()
+        step += is_step
+        lines.append([line, step if is_step else None])
+    return lines
+
+
+def title_of(lines):
+    """Returns the first comment of a script."""
+    comments = (line.strip().lstrip("#").strip() for line, _step in lines if line.strip().startswith("#"))
+    return next(filter(None, comments), "")
+
+
+def range_of(steps):
+    """Returns the first and the last number of the steps that were asked for; all where none were."""
+    first, last = steps.split("-") if steps else ("0", "")
+    return int(first), int(last) if last else None
+
+
+def page(text, script="", asked=""):
+    """The record has no character that HTML reads as its own; all else is JSON, in which `<` is written as an escape."""
     with open(os.path.join(HERE, "page.html"), encoding="utf-8") as file:
         template = file.read()
-    said = "\n".join("\n".join([f"step {number}", *lines, ""]) for number, lines in told)
+    first, last = range_of(asked)
+    steps, lines = read_record(text), lines_of(script) if script else []
+    told = {
+        "title": title_of(lines),
+        "script": lines,
+        "first": first,
+        "last": last,
+        "said": dict(all_sentences(steps, first)),
+        "reached": {step.number: reached(step) for step in steps},
+    }
     head, rest = template.split("@RECORD@")
-    middle, tail = rest.split("@SENTENCES@")
-    return head + text + middle + said + tail
+    middle, tail = rest.split("@TOLD@")
+    return head + text + middle + json.dumps(told).replace("<", "\\u003c") + tail
 
 
-def terminal(text, told):
+def terminal(text, _script="", asked=""):
     """Each block with what changed behind its second line, which says what was done."""
     blocks = []
-    for block, (_number, said) in zip(text.split("\n\n"), told):
+    first, _last = range_of(asked)
+    chosen = [block for block in text.split("\n\n") if block and int(block.split()[1]) >= first]
+    for block, (_number, said) in zip(chosen, all_sentences(read_record(text), first)):
         step, action, *lines = block.split("\n")
         blocks.append("\n".join([step, action, *(f"    {line}" for line in said), *lines]))
     return "".join(block + "\n\n" for block in blocks)
 
 
-def main(how):
-    text = sys.stdin.read()
-    told = all_sentences(read_record(text))
-    out = (page if how == "page" else terminal)(text, told).encode()
+def say_outside(text, script, asked):
+    """Says on standard error that a run has none of the steps that were asked for."""
+    first, last = range_of(asked)
+    if not any(step.number >= first for step in read_record(text)):
+        most = sum(step is not None for _line, step in lines_of(script))
+        print(f"shmview: the run has no step from {first} to {last}: its last is step {most}", file=sys.stderr)
+
+
+def main(how, path=None, asked=""):
+    text, script = sys.stdin.read(), ""
+    if path:
+        with open(path, encoding="utf-8", errors="replace") as file:
+            script = file.read()
+    out = (page if how == "page" else terminal)(text, script, asked).encode()
     with open(sys.stdout.fileno(), "wb", closefd=False) as writer:
         writer.write(out)
+    if asked:
+        say_outside(text, script, asked)
 
 
 if __name__ == "__main__":
     try:
-        main(sys.argv[1])
+        main(*sys.argv[1:])
     except MemoryError:
         print("shmview: out of memory", file=sys.stderr)
         sys.exit(4)
