@@ -24,6 +24,7 @@
     boxes: all("#bar, #live section, #live .cell, #segments tr, #live svg, .legend li").map(box),
     wide: document.documentElement.scrollWidth,
     lowest: bottom("#processes .cell, #frames .cell"),
+    script: document.getElementById("script").getBoundingClientRect().top,
     scrolls: table.scrollWidth <= table.clientWidth || style.overflowX === "auto" && style.backgroundImage.includes("gradient"),
     isTold: lines.every(isWithin) || !more.hidden,
     meanings,
