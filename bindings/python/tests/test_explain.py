@@ -8,7 +8,7 @@ import nogcuvema
 from nogcuvema.explain import explain
 
 HEAD = "limits 65536 16 64 4 1\nprocess 1 100 100\nchild 2\n"
-# a line behind the three of HEAD, the column of its fault, and the nearest form that is told
+# each row is a line that follows the three of HEAD, the column of its fault, and the nearest right form
 NEAREST = (
     ("1 s = shmgt private 4096 600", 7, "shmget"),
     ("1 sMmdt a", 3, "shmdt"),

@@ -8,7 +8,7 @@ from nogcuvema.script import transcript
 
 TOP = os.path.dirname(os.path.dirname(os.path.dirname(os.path.dirname(os.path.abspath(__file__)))))
 HEAD = "limits 65536 16 64 4 1\nprocess 1 100 100\n"
-# a line behind the two of HEAD: the kind of its fault, its word, the word's column, and what is said to be allowed
+# each row is a line that follows the two of HEAD, the kind of its fault, the faulty word, its column, and what is allowed there
 FAULTS = (
     ("1 s = shmgt private 4096 600", "bad line", "shmgt", 7, "shmget"),
     ("1 s = shmget private 4096 0600", "bad line", "0600", 27, "three octal digits"),
