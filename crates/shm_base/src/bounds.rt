@@ -1,4 +1,4 @@
-//! The bounds of the profile, each in one place.
+//! The bounds, each in one place: those of any machine, and, where it has lower ones, those of the profile.
 
 /// The lowest address at which a piece may be attached.
 pub const LOWEST_ADDRESS: u64 = 0x10000;
@@ -22,16 +22,25 @@ pub const LAST_ID: u32 = 2_147_483_647;
 pub const LAST_PID: u32 = 2_147_483_647;
 
 /// The most processes of a machine.
-pub const MOST_PROCESSES: usize = 64;
+pub const MOST_PROCESSES: usize = 32768;
+
+/// The most processes of a machine of the profile.
+pub const PROFILE_PROCESSES: usize = 64;
 
 /// The most pieces of a process.
-pub const MOST_PIECES: usize = 256;
+pub const MOST_PIECES: usize = 65530;
+
+/// The most pieces of a process of the profile.
+pub const PROFILE_PIECES: usize = 256;
 
 /// The most swap areas of a machine.
 pub const MOST_AREAS: usize = 8;
 
 /// The most slots of a swap area.
-pub const MOST_SLOTS: u32 = 65536;
+pub const MOST_SLOTS: u32 = 268_435_456;
+
+/// The most slots of a swap area of the profile.
+pub const PROFILE_SLOTS: u32 = 65536;
 
 /// How many modes there are: of a mode the low nine bits count.
 pub const MODES: u16 = 512;
@@ -40,16 +49,28 @@ pub const MODES: u16 = 512;
 pub const LONGEST_ACCESS: usize = 64;
 
 /// The largest SHMMAX: the most bytes of a segment.
-pub const MOST_SHMMAX: u64 = 16_777_216;
+pub const MOST_SHMMAX: u64 = 1_099_511_627_776;
+
+/// The largest SHMMAX of the profile.
+pub const PROFILE_SHMMAX: u64 = 16_777_216;
 
 /// The largest SHMMNI: the most segments of a machine.
-pub const MOST_SHMMNI: u64 = 4096;
+pub const MOST_SHMMNI: u64 = 32768;
+
+/// The largest SHMMNI of the profile.
+pub const PROFILE_SHMMNI: u64 = 4096;
 
 /// The largest SHMALL: the most pages of all segments.
-pub const MOST_SHMALL: u64 = 65536;
+pub const MOST_SHMALL: u64 = 268_435_456;
+
+/// The largest SHMALL of the profile.
+pub const PROFILE_SHMALL: u64 = 65536;
 
 /// The most frames of a machine.
-pub const MOST_FRAMES: u64 = 4096;
+pub const MOST_FRAMES: u64 = 16_777_216;
+
+/// The most frames of a machine of the profile.
+pub const PROFILE_FRAMES: u64 = 4096;
 
 /// The most pages that a flush line of a script asks for.
 pub const MOST_FLUSHED: u32 = 4096;

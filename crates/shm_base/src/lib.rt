@@ -19,12 +19,14 @@ pub use access::{AccessLen, Chunk};
 pub use bounds::{
     END_ADDRESS, FIRST_GAP, INDEXES, LAST_ID, LAST_PID, LONGEST_ACCESS, LONGEST_SCRIPT,
     LOWEST_ADDRESS, MODES, MOST_AREAS, MOST_COMMANDS, MOST_FLUSHED, MOST_FRAMES, MOST_PIECES,
-    MOST_PROCESSES, MOST_SHMALL, MOST_SHMMAX, MOST_SHMMNI, MOST_SLOTS, SEQUENCES,
+    MOST_PROCESSES, MOST_SHMALL, MOST_SHMMAX, MOST_SHMMNI, MOST_SLOTS, PROFILE_FRAMES,
+    PROFILE_PIECES, PROFILE_PROCESSES, PROFILE_SHMALL, PROFILE_SHMMAX, PROFILE_SHMMNI,
+    PROFILE_SLOTS, SEQUENCES,
 };
 pub use call::{Call, Event, Process, Reply, ShmId, ShmidDs, Step, has_pid, index_of};
 pub use errno::Errno;
 pub use flags::{AtFlags, GetFlags, Status};
-pub use limits::{BadLimits, Limits};
+pub use limits::{BadLimits, Limits, Sizes};
 pub use memory::HostMemory;
 pub use numbers::Numbers;
 pub use owner::{Cred, Perm, Want, grants};

@@ -1,20 +1,67 @@
 ghost use Rattle.std.specs.Prelude.{◌≡◌, ◌+◌, ◌≤◌, ◌<◌};
+ghost use Rattle.shm_base.specs.declared.bounds.TheConstants.{MOST_FRAMES, MOST_PIECES, MOST_PROCESSES, MOST_SHMALL, MOST_SHMMAX, MOST_SHMMNI, MOST_SLOTS};
 
 use crate::bounds::{
     MOST_FRAMES, MOST_PIECES, MOST_PROCESSES, MOST_SHMALL, MOST_SHMMAX, MOST_SHMMNI, MOST_SLOTS,
+    PROFILE_FRAMES, PROFILE_PIECES, PROFILE_PROCESSES, PROFILE_SHMALL, PROFILE_SHMMAX,
+    PROFILE_SHMMNI, PROFILE_SLOTS,
 };
 use std::marker::Model;
 use thiserror::Error;
 
-/// The first limit that is out of its range: 1 SHMMAX, 2 SHMMNI, 3 SHMALL, 4 frames, 5 MEMLOCK.
+/// The first limit that is out of its range: 1 SHMMAX, 2 SHMMNI, 3 SHMALL, 4 frames, 5 MEMLOCK, 6 the most
+/// pieces of a process, 7 the most processes, 8 the most slots of a swap area.
 #[derive(Clone, Copy, Debug, PartialEq, Eq, Error)]
 #[error("bad limits {0}")]
 pub struct BadLimits(pub u8);
 
-/// The limits of a machine, within their ranges (this project's profile): SHMMAX is the most bytes of a
-/// segment, 1 to 2^24; SHMMNI the most segments, 1 to 4096; SHMALL the most pages of all segments, 1 to
-/// 65536; the number of frames, 2 to 4096; MEMLOCK the most pages of locked segments, at least 2 less
-/// than the frames. A process has at most 256 pieces, a machine 64 processes, a swap area 65536 slots.
+/// The numbers that a machine's limits are made of, in any range.
+#[derive(Clone, Copy, Debug, PartialEq, Eq)]
+pub struct Sizes {
+    /// SHMMAX: the most bytes of a segment.
+    pub shmmax: u64,
+    /// SHMMNI: the most segments.
+    pub shmmni: u64,
+    /// SHMALL: the most pages of all segments.
+    pub shmall: u64,
+    /// The number of page frames.
+    pub frames: u64,
+    /// MEMLOCK: the most pages of locked segments.
+    pub memlock: u64,
+    /// The most pieces of a process.
+    pub most_pieces: u64,
+    /// The most processes that there are at a time.
+    pub most_processes: u64,
+    /// The most slots of a swap area.
+    pub most_slots: u64,
+}
+
+impl Sizes {
+    const LARGEST_OF_PROFILE: Sizes = Sizes {
+        shmmax: PROFILE_SHMMAX,
+        shmmni: PROFILE_SHMMNI,
+        shmall: PROFILE_SHMALL,
+        frames: PROFILE_FRAMES,
+        memlock: PROFILE_FRAMES - 2,
+        most_pieces: PROFILE_PIECES as u64,
+        most_processes: PROFILE_PROCESSES as u64,
+        most_slots: PROFILE_SLOTS as u64,
+    };
+
+    const LARGEST: Sizes = Sizes {
+        shmmax: MOST_SHMMAX,
+        shmmni: MOST_SHMMNI,
+        shmall: MOST_SHMALL,
+        frames: MOST_FRAMES,
+        memlock: MOST_FRAMES - 2,
+        most_pieces: MOST_PIECES as u64,
+        most_processes: MOST_PROCESSES as u64,
+        most_slots: MOST_SLOTS as u64,
+    };
+}
+
+/// The limits of a machine, each within its range. [`Limits::new`] makes those of this project's profile,
+/// [`Limits::of`] those of a larger machine.
 #[derive(Clone, Copy, Debug, PartialEq, Eq)]
 pub struct Limits {
     shmmax: u64,
@@ -41,9 +88,12 @@ impl Model for Limits {
 
 impl Limits {
     ghost use Rattle.std.specs.Prelude.{Ok, Err};
-    ghost use Rattle.shm_base.specs.Bounds.{limits_of};
+    ghost use Rattle.shm_base.specs.Bounds.{limits_of, machine_limits_of, limits_within, bounds_of, AreBounds};
 
-    /// The limits, or which is the first that is out of range, in the order of the arguments.
+    /// The limits of a machine of the profile, or which is the first that is out of range, in the order of the
+    /// arguments: SHMMAX is 1 to 2^24 bytes, SHMMNI 1 to 4096 segments, SHMALL 1 to 65536 pages, frames are 2 to
+    /// 4096, MEMLOCK is at least 2 less than the frames. A process has at most 256 pieces, a machine 64
+    /// processes, a swap area 65536 slots.
     pub fn new(
         shmmax: u64,
         shmmni: u64,
@@ -53,37 +103,72 @@ impl Limits {
     ) -> Result<Limits, BadLimits>
         ensures { result ≡ limits_of shmmax shmmni shmall frames memlock }
     {
-        if shmmax < 1 || shmmax > MOST_SHMMAX {
-            return Err(BadLimits(1));
-        }
-        if shmmni < 1 || shmmni > MOST_SHMMNI {
-            return Err(BadLimits(2));
-        }
-        if shmall < 1 || shmall > MOST_SHMALL {
-            return Err(BadLimits(3));
-        }
-        if frames < 2 || frames > MOST_FRAMES {
-            return Err(BadLimits(4));
-        }
-        if memlock > frames - 2 {
-            return Err(BadLimits(5));
-        }
-        Ok(Limits {
+        let sizes = Sizes {
             shmmax,
             shmmni,
             shmall,
             frames,
             memlock,
-            most_pieces: MOST_PIECES as u32,
-            most_processes: MOST_PROCESSES as u32,
-            most_slots: MOST_SLOTS,
+            ..Sizes::LARGEST_OF_PROFILE
+        };
+        Limits::within(&Sizes::LARGEST_OF_PROFILE, &sizes)
+    }
+
+    /// The limits of a machine that may be larger than one of the profile, or which is the first that is out of
+    /// range, in the order of the fields: SHMMAX is 1 to 2^40 bytes, SHMMNI 1 to 32768 segments, SHMALL 1 to 2^28
+    /// pages, frames are 2 to 2^24, MEMLOCK is at least 2 less than the frames, pieces are 1 to 65530, processes 1
+    /// to 32768, slots 1 to 2^28.
+    pub fn of(sizes: &Sizes) -> Result<Limits, BadLimits>
+        ensures { result ≡ machine_limits_of (bounds_of sizes.now) }
+    {
+        Limits::within(&Sizes::LARGEST, sizes)
+    }
+
+    // The limits, or which is the first that is out of its range, where these are the largest.
+    fn within(most: &Sizes, sizes: &Sizes) -> Result<Limits, BadLimits>
+        requires { AreBounds (bounds_of most.now) }
+        ensures { result ≡ limits_within (bounds_of most.now) (bounds_of sizes.now) }
+    {
+        if sizes.shmmax < 1 || sizes.shmmax > most.shmmax {
+            return Err(BadLimits(1));
+        }
+        if sizes.shmmni < 1 || sizes.shmmni > most.shmmni {
+            return Err(BadLimits(2));
+        }
+        if sizes.shmall < 1 || sizes.shmall > most.shmall {
+            return Err(BadLimits(3));
+        }
+        if sizes.frames < 2 || sizes.frames > most.frames {
+            return Err(BadLimits(4));
+        }
+        if sizes.memlock > sizes.frames - 2 {
+            return Err(BadLimits(5));
+        }
+        if sizes.most_pieces < 1 || sizes.most_pieces > most.most_pieces {
+            return Err(BadLimits(6));
+        }
+        if sizes.most_processes < 1 || sizes.most_processes > most.most_processes {
+            return Err(BadLimits(7));
+        }
+        if sizes.most_slots < 1 || sizes.most_slots > most.most_slots {
+            return Err(BadLimits(8));
+        }
+        Ok(Limits {
+            shmmax: sizes.shmmax,
+            shmmni: sizes.shmmni,
+            shmall: sizes.shmall,
+            frames: sizes.frames,
+            memlock: sizes.memlock,
+            most_pieces: sizes.most_pieces as u32,
+            most_processes: sizes.most_processes as u32,
+            most_slots: sizes.most_slots as u32,
         })
     }
 
     /// The most bytes of a segment.
     pub fn shmmax(&self) -> u64
         ensures value { result ≡ self.now.shmmax }
-        ensures range { result ≤ 16777216 }
+        ensures range { result ≤ MOST_SHMMAX }
     {
         self.shmmax
     }
@@ -91,7 +176,7 @@ impl Limits {
     /// The most segments.
     pub fn shmmni(&self) -> u64
         ensures value { result ≡ self.now.shmmni }
-        ensures range { result ≤ 4096 }
+        ensures range { result ≤ MOST_SHMMNI }
     {
         self.shmmni
     }
@@ -99,7 +184,7 @@ impl Limits {
     /// The most pages of all segments.
     pub fn shmall(&self) -> u64
         ensures value { result ≡ self.now.shmall }
-        ensures range { result ≤ 65536 }
+        ensures range { result ≤ MOST_SHMALL }
     {
         self.shmall
     }
@@ -107,7 +192,7 @@ impl Limits {
     /// The number of frames.
     pub fn frames(&self) -> u64
         ensures value { result ≡ self.now.frames }
-        ensures range { (2 ≤ result) × (result ≤ 4096) }
+        ensures range { (2 ≤ result) × (result ≤ MOST_FRAMES) }
     {
         self.frames
     }
@@ -115,7 +200,7 @@ impl Limits {
     /// The most pages of locked segments.
     pub fn memlock(&self) -> u64
         ensures value { result ≡ self.now.memlock }
-        ensures range { result ≤ 4096 }
+        ensures range { result ≤ MOST_FRAMES }
         ensures room { result + 2 ≤ self.now.frames }
     {
         self.memlock
@@ -124,7 +209,7 @@ impl Limits {
     /// The most pieces of a process.
     pub fn most_pieces(&self) -> u32
         ensures value { result ≡ self.now.most_pieces }
-        ensures range { (1 ≤ result) × (result ≤ 256) }
+        ensures range { (1 ≤ result) × (result ≤ MOST_PIECES) }
     {
         self.most_pieces
     }
@@ -132,7 +217,7 @@ impl Limits {
     /// The most processes.
     pub fn most_processes(&self) -> u32
         ensures value { result ≡ self.now.most_processes }
-        ensures range { (1 ≤ result) × (result ≤ 64) }
+        ensures range { (1 ≤ result) × (result ≤ MOST_PROCESSES) }
     {
         self.most_processes
     }
@@ -140,7 +225,7 @@ impl Limits {
     /// The most slots of a swap area.
     pub fn most_slots(&self) -> u32
         ensures value { result ≡ self.now.most_slots }
-        ensures range { (1 ≤ result) × (result ≤ 65536) }
+        ensures range { (1 ≤ result) × (result ≤ MOST_SLOTS) }
     {
         self.most_slots
     }

@@ -2,8 +2,9 @@
 ghost use Rattle.std.specs.Prelude.{◌≡◌, ◌≤◌, ◌^◌, ◌<◌};
 ghost use Rattle.shm_base.specs.State as flat;
 ghost use Rattle.shm_base.specs.Bounds.{within};
+ghost use Rattle.shm_base.specs.declared.bounds.TheConstants.{PROFILE_SLOTS};
 
-use crate::bounds::MOST_SLOTS;
+use crate::bounds::PROFILE_SLOTS;
 
 /// The bytes of a page. SHMLBA, the unit of attach addresses, is the same.
 pub const PAGE_SIZE: u64 = 4096;
@@ -64,11 +65,11 @@ pub struct Tally {
     pub failures: u64,
 }
 
-/// Whether a swap area may have so many slots: 1 to 65536 (this project's profile).
+/// Whether a swap area of the profile may have this many slots: 1 to 65536.
 pub fn is_slot_count(slots: u64) -> bool
-    ensures { result ≡ within 1 65536 slots }
+    ensures { result ≡ within 1 PROFILE_SLOTS slots }
 {
-    1 <= slots && slots <= u64::from(MOST_SLOTS)
+    1 <= slots && slots <= u64::from(PROFILE_SLOTS)
 }
 
 /// How many pages hold so many bytes.
