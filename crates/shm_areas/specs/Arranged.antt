@@ -4,7 +4,7 @@ use Rattle.shm_base.specs.State as flat
 use Rattle.shm_base.specs.Access.{end_of, covers}
 use Rattle.shm_base.specs.Space.{lowest_address, end_address}
 use Rattle.shm_areas.specs.declared.piece.Piece.{Piece}
-use Rattle.shm_base.specs.declared.bounds.TheConstants.{MOST_PIECES}
+use Rattle.shm_base.specs.declared.bounds.TheConstants.{MOST_PIECES, MOST_SHMALL}
 use Rattle.shm_base.specs.declared.paging.TheConstants.{PAGE_SIZE}
 
 -- a piece without its key
@@ -14,11 +14,11 @@ bare p = record { base = p.base; seg = p.seg; first_page = p.first_page; pages =
 abbrev pub bare_all : List Piece → List flat.Piece
 bare_all ps = map bare ps
 
--- whole pages of the address range, of a segment of at most 4096 pages
+-- whole pages of the address range, of a segment with no more pages than all segments may have
 pub record IsFit (p : flat.Piece) : Type 0 where
   pub aligned : p.base % PAGE_SIZE ≡ 0
   pub some : 1 ≤ p.pages
-  pub few : p.first_page + p.pages ≤ 4096
+  pub few : p.first_page + p.pages ≤ MOST_SHMALL
   pub within : end_of p ≤ end_address
 
 -- fit pieces by rising base, the first not below an address, that never overlap

@@ -1,6 +1,7 @@
 //! Where an address or a range lies among pieces in order. Each search is binary.
 ghost use Rattle.std.specs.Prelude.{◌≡◌, ◌+◌, ◌*◌, ◌<◌, ◌≤◌, ℕ, length, slice_index_or};
 ghost use Rattle.shm_base.specs.Space as flat;
+ghost use Rattle.shm_base.specs.declared.bounds.TheConstants.{MOST_SHMALL};
 ghost use Rattle.shm_areas.specs.Arranged.{bare_all, Arranged};
 ghost use Rattle.shm_areas.specs.Gap.{gap_from};
 ghost use Rattle.shm_areas.specs.Met.{IsPieceRange};
@@ -64,7 +65,7 @@ pub(crate) fn run_in(pieces: &[Piece], from: u64, to: u64) -> PieceRange
 
 /// The least gap for so many pages at or above 0x40000000, walking up the pieces.
 pub(crate) fn least_gap(pieces: &[Piece], pages: u32) -> Option<u64>
-    requires pages { (1 ≤ pages) × (pages ≤ 4096) }
+    requires pages { (1 ≤ pages) × (pages ≤ MOST_SHMALL) }
     requires arranged { Arranged flat.lowest_address (bare_all pieces.now) }
     ensures { result ≡ gap_from pages flat.first_chosen (bare_all pieces.now) }
 {

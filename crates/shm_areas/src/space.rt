@@ -8,7 +8,7 @@ ghost use Rattle.shm_areas.specs.Fixed.{fixed};
 ghost use Rattle.shm_areas.specs.Gap.{HasNoGap, IsLeastGap};
 ghost use Rattle.shm_areas.specs.Met.{met};
 ghost use Rattle.shm_areas.specs.declared.piece.Piece.{Piece as Stored};
-ghost use Rattle.shm_base.specs.declared.bounds.TheConstants.{MOST_PIECES};
+ghost use Rattle.shm_base.specs.declared.bounds.TheConstants.{MOST_PIECES, MOST_SHMALL};
 
 use crate::cut::{count_left, cut_of, replace};
 use crate::piece::{Piece, Place};
@@ -45,7 +45,7 @@ impl Model for Space {
 impl Space {
     ghost use Rattle.std.specs.Prelude.{[], MatchOption};
 
-    /// No pieces. It takes the room for so many, which is at most 256.
+    /// No pieces. It takes the room for the most that there may be, at most 65530.
     pub fn new(alloc: Global, most: u32) -> Result<Space, HostMemory>
         requires { most ≤ MOST_PIECES }
         ensures { IfOk result (λ s. s ≡ record { pieces = []; most = most }) }
@@ -110,7 +110,7 @@ impl Space {
     /// leaves the choice to the system).
     #[tactic(auto, using(crate::proofs::Gaps::free_below))]
     pub fn choose(&self, pages: u32) -> Option<u64>
-        requires { (1 ≤ pages) × (pages ≤ 4096) }
+        requires { (1 ≤ pages) × (pages ≤ MOST_SHMALL) }
         ensures value { result ≡ flat.choose (bare_all self.now.pieces) pages }
         ensures least { MatchOption result (HasNoGap (bare_all self.now.pieces) pages) (λ base. IsLeastGap (bare_all self.now.pieces) pages base) }
     {
@@ -121,7 +121,7 @@ impl Space {
     /// multiple of 4096 (SHM_RND). Einval where the range does not lie within the addresses, 0x10000 up
     /// to 0x7ffffffff000, and where a piece lies there that is not to be replaced (SHM_REMAP).
     pub fn check_fixed(&self, addr: u64, pages: u32, flags: AtFlags) -> Result<u64, Errno>
-        requires { (1 ≤ pages) × (pages ≤ 4096) }
+        requires { (1 ≤ pages) × (pages ≤ MOST_SHMALL) }
         ensures { result ≡ fixed (bare_all self.now.pieces) addr pages flags }
     {
         let base = addr - addr % PAGE_SIZE;
