@@ -1,5 +1,5 @@
 -- The counts stay exact, and no process gets too many pieces.
-use Rattle.shm_attach.proofs.Names.{◌≡◌, ◌≢◌, ℕ, zero, suc, ◌+◌, ◌*◌, ◌<◌, ◌≤◌, false, ◌==◌, List, [], ◌∷◌, ◌++◌, length, get_or, set, take, refl, ap, sym, ◌∙◌, arith, length-take, common_steps, cases_eq, slice_get-get_or, gets, set-set, get_or-map, set-get_or, sum_by-cons, sum_by-set, count_by-le-length, end_of, lowest_address, end_address, without_named, inserted, occupied, cut, parts, part_below, part_above, pieces_of, attach_count, bare, bare_all, IsFit, Arranged, lower, Tables, counted, with_own, with_pieces_at, with_other_life, with_life_at, pieces_at, life_at, AreCountsExact, IsPlaceFor, Unborn, Stored}
+use Rattle.shm_attach.proofs.Names.{◌≡◌, ◌≢◌, ℕ, zero, suc, ◌+◌, ◌*◌, ◌<◌, ◌≤◌, false, ◌==◌, List, [], ◌∷◌, ◌++◌, length, get_or, set, take, refl, ap, sym, ◌∙◌, arith, length-take, common_steps, cases_eq, slice_get-get_or, gets, set-set, get_or-map, set-get_or, sum_by-cons, sum_by-set, count_by-le-length, end_of, lowest_address, end_address, without_named, inserted, occupied, cut, parts, part_below, part_above, pieces_of, attach_count, bare, bare_all, IsFit, Arranged, lower, Tables, counted, with_own, with_pieces_at, with_other_life, with_life_at, pieces_at, life_at, AreCountsExact, IsPlaceFor, Unborn, Stored, MOST_PIECES, most_of_segment}
 use Rattle.shm_base.specs.State.{Piece, Life, Runner}
 use Rattle.shm_attach.proofs.Processes.{first_runner, attach_count-changed, one_more}
 
@@ -48,13 +48,13 @@ pub attach_count-more : (rs : List Runner) (j id : ℕ) (r : Runner) → j < len
 attach_count-more rs j id r lt none = grind (arith, common_steps, sum_by-set, pieces_at-get_or)
 
 -- one process is replaced by another, and the counts follow
-pub IsExact-set : (extra : ℕ → ℕ) (rs : List Runner) (i : ℕ) (r : Runner) (c d : Tables) → AreCountsExact extra rs c → i < length rs → length r.pieces ≤ 256
+pub IsExact-set : (extra : ℕ → ℕ) (rs : List Runner) (i : ℕ) (r : Runner) (c d : Tables) → AreCountsExact extra rs c → i < length rs → length r.pieces ≤ MOST_PIECES
     → Arranged lowest_address r.pieces → (r.life ≡ Unborn → r.pieces ≡ [])
     → ((id : ℕ) → counted d id + pieces_of id (pieces_at rs i) ≡ counted c id + pieces_of id r.pieces)
     → AreCountsExact extra (set rs i r) d
 IsExact-set extra rs i r c d exact lt few order asleep counts = grind (arith, common_steps, gets, sum_by-set, pieces_at-get_or, life_at-get_or, cases_eq)
 
-pub IsExact-changed : (extra : ℕ → ℕ) (rs : List Runner) (i : ℕ) (f : List Piece → List Piece) (c d : Tables) → AreCountsExact extra rs c → i < length rs → length (f (pieces_at rs i)) ≤ 256
+pub IsExact-changed : (extra : ℕ → ℕ) (rs : List Runner) (i : ℕ) (f : List Piece → List Piece) (c d : Tables) → AreCountsExact extra rs c → i < length rs → length (f (pieces_at rs i)) ≤ MOST_PIECES
     → Arranged lowest_address (f (pieces_at rs i)) → (life_at rs i ≡ Unborn → f (pieces_at rs i) ≡ [])
     → ((id : ℕ) → counted d id + pieces_of id (pieces_at rs i) ≡ counted c id + pieces_of id (f (pieces_at rs i)))
     → AreCountsExact extra (with_pieces_at rs i f) d
@@ -73,17 +73,17 @@ IsExact-life extra rs i l c exact lt awake =
     (IsExact-set extra rs i (record r { life = l }) c c exact lt (rw same at (exact.pieces i)) (rw same at (exact.arranged i)) (λ none. absurd (awake none))
     (λ id. ap (λ ps. counted c id + pieces_of id ps) same))
 
--- a segment has at most 256 pieces for each process
-pub attach_count-few : (id : ℕ) (rs : List Runner) → ((i : ℕ) → length (pieces_at rs i) ≤ 256) → attach_count rs id ≤ 256 * length rs
+-- a segment has at most 65530 pieces for each process
+pub attach_count-few : (id : ℕ) (rs : List Runner) → ((i : ℕ) → length (pieces_at rs i) ≤ MOST_PIECES) → attach_count rs id ≤ MOST_PIECES * length rs
 attach_count-few id [] few = omega arith
 attach_count-few id (r ∷ rs) few =
-    let first : length r.pieces ≤ 256 = few 0 in
+    let first : length r.pieces ≤ MOST_PIECES = few 0 in
     let own = count_by-le-length (λ (p : Piece). p.seg == id) r.pieces in
     let rest = attach_count-few id rs (λ i. few (suc i)) in
     let all = sum_by-cons (λ (x : Runner). pieces_of id x.pieces) r rs in
     omega (arith, first, own, rest, all)
 
-pub small_counts : (extra : ℕ → ℕ) (rs : List Runner) (c : Tables) → AreCountsExact extra rs c → (id : ℕ) → counted c id ≤ 16384 + extra id
+pub small_counts : (extra : ℕ → ℕ) (rs : List Runner) (c : Tables) → AreCountsExact extra rs c → (id : ℕ) → counted c id ≤ most_of_segment + extra id
 small_counts extra rs c exact id = omega (arith, exact.counts id, attach_count-few id rs exact.pieces, exact.processes)
 
 pub own_counted : (extra : ℕ → ℕ) (rs : List Runner) (c : Tables) (i : ℕ) → AreCountsExact extra rs c → i < length rs → (id : ℕ) → pieces_of id (pieces_at rs i) ≤ counted c id
@@ -154,7 +154,7 @@ inserted_next low k [] d ar lt = absurd (omega arith)
 inserted_next low zero (p ∷ ps) d ar lt = refl
 inserted_next low (suc k) (p ∷ ps) d ar lt = grind (arith, common_steps, base_behind, inserted_next (end_of p) k ps d ar.1.1)
 
-pub place_next : (k : ℕ) (ps : List Piece) (d : Piece) → Arranged lowest_address ps → length ps ≤ 256 → k < length ps → IsPlaceFor (get_or ps k d) (take k ps)
+pub place_next : (k : ℕ) (ps : List Piece) (d : Piece) → Arranged lowest_address ps → length ps ≤ MOST_PIECES → k < length ps → IsPlaceFor (get_or ps k d) (take k ps)
 place_next k ps d ar few lt =
     record {
       room = omega (arith, length-take k ps, lt, few);

@@ -1,5 +1,5 @@
 -- The counts stay exact, and each piece has its segment's table, where one process changes.
-use Rattle.shm_attach.proofs.Names.{most_at, length-set_value_at, values_of, ◌≡◌, ◌≢◌, ℕ, ◌+◌, ◌<◌, ◌≤◌, List, [], length, Some, slice_get, sym, subst, arith, common_steps, All, length-map, set_value_at, lowest_address, inserted, cut, without_named, pieces_of, bare_all, Arranged, arranged_cut, arranged_inserted, Tables, runner_view, runners_view, with_pieces_at, with_life_at, pieces_at, life_at, counted, stored_at, HasTable, OneTableEach, AllHaveTables, IsPlaceFor, IsCuttable, AreCountsExact, AreTablesSound, HasReservations, no_reservations, Unborn, Piece, Runner}
+use Rattle.shm_attach.proofs.Names.{most_at, length-set_value_at, values_of, ◌≡◌, ◌≢◌, ℕ, ◌+◌, ◌<◌, ◌≤◌, List, [], length, Some, slice_get, sym, subst, arith, common_steps, All, length-map, set_value_at, lowest_address, inserted, cut, without_named, pieces_of, bare_all, Arranged, arranged_cut, arranged_inserted, Tables, runner_view, runners_view, with_pieces_at, with_life_at, pieces_at, life_at, counted, stored_at, HasTable, OneTableEach, AllHaveTables, IsPlaceFor, IsCuttable, AreCountsExact, AreTablesSound, HasReservations, no_reservations, Unborn, Piece, Runner, MOST_PIECES, most_of_segment}
 use Rattle.shm_base.specs.State as flat
 use Rattle.shm_attach.proofs.Processes.{runners_set, length-inserted, shorter_filter}
 use Rattle.shm_attach.proofs.Keeping.{IsExact-changed, IsExact-life, arranged-without, small_counts, own_counted}
@@ -27,7 +27,7 @@ pub record IsRecounted (t u : Tables) (before after : List flat.Piece) : Type 0 
 
 -- other pieces that are few and in order
 pub record AreFit (rs : List flat.Runner) (i : ℕ) (ps : List flat.Piece) : Type 0 where
-  pub few : length ps ≤ 256
+  pub few : length ps ≤ MOST_PIECES
   pub order : Arranged lowest_address ps
   pub unborn : life_at rs i ≡ Unborn → ps ≡ []
 
@@ -92,7 +92,7 @@ none_reserved es t sound = record { extra = no_reservations; few = λ id. omega 
 
 -- THE COUNTS
 
-pub counts-small : (es : List (ℕ × Runner)) (t : Tables) → HasReservations es t → (id : ℕ) → counted t id ≤ 16385
+pub counts-small : (es : List (ℕ × Runner)) (t : Tables) → HasReservations es t → (id : ℕ) → counted t id ≤ most_of_segment + 1
 counts-small es t h id = omega (arith, small_counts h.extra (runners_view es) t h.sound.exact id, h.few id)
 
 pub counts-own : (es : List (ℕ × Runner)) (t : Tables) (i : ℕ) → HasReservations es t → i < length es → (id : ℕ) → pieces_of id (pieces_at (runners_view es) i) ≤ counted t id

@@ -1,5 +1,5 @@
 -- The processes as they are declared.
-use Rattle.shm_attach.proofs.Names.{most_at, ◌≡◌, ◌≢◌, ℕ, zero, suc, ◌+◌, ◌<◌, ◌≤◌, nat_eq, List, [], ◌∷◌, ◌++◌, length, map, get_or, take, refl, ap, sym, ◌∙◌, arith, ne_eqb, length-take, common_steps, length-map, get_or-take, take_more, map-append, sum_by-cons, insert_entry, runner_at_start, pieces_of, attach_count, Process, Tables, runner_view, runners_view, pieces_at, AreCountsExact, no_reservations, Slab, bare, bare_all, counted, stored_at, AllHaveTables, Runner, TableView}
+use Rattle.shm_attach.proofs.Names.{most_at, ◌≡◌, ◌≢◌, ℕ, zero, suc, ◌+◌, ◌<◌, ◌≤◌, nat_eq, List, [], ◌∷◌, ◌++◌, length, map, get_or, take, refl, ap, sym, ◌∙◌, arith, ne_eqb, length-take, common_steps, length-map, get_or-take, take_more, map-append, sum_by-cons, insert_entry, runner_at_start, pieces_of, attach_count, Process, Tables, runner_view, runners_view, pieces_at, AreCountsExact, no_reservations, Slab, bare, bare_all, counted, stored_at, AllHaveTables, Runner, TableView, MOST_PROCESSES}
 use Rattle.shm_base.specs.State as flat
 use Rattle.shm_attach.proofs.HavingTables.{pieces_at-bare}
 use Rattle.shm_attach.proofs.Callers.{nobody}
@@ -42,7 +42,7 @@ pieces_at-start [] i = refl
 pieces_at-start (p ∷ ps) zero = refl
 pieces_at-start (p ∷ ps) (suc i) = pieces_at-start ps i
 
-pub IsExact-start : (ps : List Process) (c : Tables) → length ps ≤ 64 → ((id : ℕ) → counted c id ≡ 0) → AreCountsExact no_reservations (map runner_at_start ps) c
+pub IsExact-start : (ps : List Process) (c : Tables) → length ps ≤ MOST_PROCESSES → ((id : ℕ) → counted c id ≡ 0) → AreCountsExact no_reservations (map runner_at_start ps) c
 IsExact-start ps c few none = grind (arith, common_steps, attach_count-start, length-map, pieces_at-start)
 
 -- no piece has a table yet

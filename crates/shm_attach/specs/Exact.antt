@@ -9,13 +9,17 @@ use Rattle.shm_attach.specs.declared.tables.Tables.{Tables}
 use Rattle.shm_attach.specs.Views.{runners_view}
 use Rattle.shm_attach.specs.Tables.{counted, OneTableEach, AllHaveTables}
 use Rattle.shm_attach.specs.Spaces.{pieces_at, life_at}
-use Rattle.shm_base.specs.declared.bounds.TheConstants.{MOST_PIECES}
+use Rattle.shm_base.specs.declared.bounds.TheConstants.{MOST_PIECES, MOST_PROCESSES}
+
+-- the most pieces that a segment has: 65530 in each of 32768 processes
+abbrev pub most_of_segment : ℕ
+most_of_segment = 2147287040
 
 -- each count is that of the pieces and of the reservations beside them; the pieces are few and in order in each
 -- process; a process that is not born has none
 pub record AreCountsExact (extra : ℕ → ℕ) (rs : List flat.Runner) (t : Tables) : Type 0 where
   pub counts : (id : ℕ) → counted t id ≡ attach_count rs id + extra id
-  pub processes : length rs ≤ 64
+  pub processes : length rs ≤ MOST_PROCESSES
   pub pieces : (i : ℕ) → length (pieces_at rs i) ≤ MOST_PIECES
   pub unborn : (i : ℕ) → life_at rs i ≡ flat.Unborn → pieces_at rs i ≡ []
   pub arranged : (i : ℕ) → Arranged lowest_address (pieces_at rs i)

@@ -7,3 +7,4 @@ pub mod Part
 pub mod Place
 pub mod Spans
 pub mod Fork
+pub mod Lost

@@ -11,11 +11,12 @@ pub record Translation : Type 0 where
   pub page : ℕ
   pub frame : Option ℕ
 
--- `most` are the most pieces of a process
+-- `most` are the most pieces of a process, `lost` the segments that lost pieces in the last call that took some
 pub record SpacesView : Type 0 where
   pub runners : List Runner
   pub translations : List Translation
   pub most : ℕ
+  pub lost : List ℕ
 
 -- each translation is what the residency says
 abbrev pub AreTrue : List Translation → StoreView → Type 0

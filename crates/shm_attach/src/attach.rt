@@ -1,12 +1,13 @@
 //! Attaching pages of a segment.
-ghost use Rattle.std.specs.Prelude.{◌≡◌, ◌+◌, ◌*◌, ◌≤◌, length, IfOk, OnOk, OnErr};
+ghost use Rattle.std.specs.Prelude.{◌≡◌, ◌+◌, ◌*◌, ◌≤◌, length, OnOk, OnErr};
 ghost use Rattle.shm_base.specs.Space.{inserted, cut, cut_segments};
 ghost use Rattle.shm_base.specs.Step.{with_pieces};
 ghost use Rattle.shm_attach.specs.Spaces.{pieces_at, caller_seen, IsCaller, AreTrue};
 ghost use Rattle.shm_attach.specs.Place.{IsRange, new_piece};
+ghost use Rattle.shm_base.specs.declared.bounds.TheConstants.{MOST_SHMALL};
+ghost use Rattle.shm_base.specs.declared.paging.TheConstants.{PAGE_SIZE};
 
 use crate::changes::{Part, put, space_at, take};
-use crate::lost::Lost;
 use crate::process::Caller;
 use crate::spaces::Spaces;
 use shm_areas::Piece;
@@ -15,10 +16,10 @@ use shm_fault::PageStore;
 use shm_pager::Pager;
 
 impl Spaces {
-    /// Attaches the first so many pages of a segment, all of them, at a base. Pieces in the range give way to
-    /// the new one, and those that reach beyond it are cut; the answer names the segments that lost pages so.
-    /// Where the piece is its segment's first, the translations are what the store's pages are then. The
-    /// growths come first, and reserve the segment's table while pieces go that may be its last.
+    /// Attaches all pages of a segment at a base. Pieces in the range give way to the new one, and those that
+    /// reach beyond it are cut: the segments that lost pages so are noted. Where the piece is its segment's
+    /// first, the translations are what the store's pages are then. The growths come first, and reserve the
+    /// segment's table while pieces go that may be its last.
     pub fn attach<P: Pager>(
         &mut self,
         caller: &Caller,
@@ -27,20 +28,21 @@ impl Spaces {
         pages: u32,
         writable: bool,
         store: &PageStore<P>,
-    ) -> Result<Lost, HostMemory>
+    ) -> Result<(), HostMemory>
         requires live { IsCaller caller.now self.old.runners }
-        requires pages { (1 ≤ pages) × (pages ≤ 4096) }
+        requires pages { (1 ≤ pages) × (pages ≤ MOST_SHMALL) }
         requires range { IsRange pages base }
-        requires room { length (cut base (base + 4096 * pages) (pieces_at self.old.runners caller.now.index)) + 1 ≤ self.old.most }
-        ensures lost { IfOk result (λ l. l ≡ cut_segments base (base + 4096 * pages) (pieces_at self.old.runners caller.now.index)) }
-        ensures runners { OnOk result (self.new.runners ≡ with_pieces self.old.runners (caller_seen caller.now self.old.runners) (inserted (new_piece seg base pages writable) (cut base (base + 4096 * pages) (pieces_at self.old.runners caller.now.index)))) }
+        requires room { length (cut base (base + PAGE_SIZE * pages) (pieces_at self.old.runners caller.now.index)) + 1 ≤ self.old.most }
+        ensures lost { OnOk result (self.new.lost ≡ cut_segments base (base + PAGE_SIZE * pages) (pieces_at self.old.runners caller.now.index)) }
+        ensures runners { OnOk result (self.new.runners ≡ with_pieces self.old.runners (caller_seen caller.now self.old.runners) (inserted (new_piece seg base pages writable) (cut base (base + PAGE_SIZE * pages) (pieces_at self.old.runners caller.now.index)))) }
         ensures most { self.new.most ≡ self.old.most }
         ensures translated { AreTrue self.old.translations store.now → AreTrue self.new.translations store.now }
         ensures err { OnErr result (self.new ≡ self.old) }
     {
         let end = base + PAGE_SIZE * pages as u64;
         let key = self.tables.reserve(store, seg, pages)?;
-        let lost = Lost::of(space_at(&self.processes, caller.index).met(base, end));
+        self.lost
+            .note(space_at(&self.processes, caller.index).met(base, end));
         take(
             &mut self.processes,
             &mut self.tables,
@@ -60,6 +62,6 @@ impl Spaces {
         };
         put(&mut self.processes, &mut self.tables, caller.index, piece);
         self.tables.replace(seg, key, 1, 0);
-        Ok(lost)
+        Ok(())
     }
 }

@@ -7,6 +7,7 @@ ghost use Rattle.shm_base.specs.State.{Unborn};
 ghost use Rattle.shm_base.specs.Space.{lowest_address, inserted, cut, meets, pieces_of};
 ghost use Rattle.shm_areas.specs.declared.piece.Piece.{Piece as Stored};
 ghost use Rattle.shm_base.specs.declared.bounds.TheConstants.{MOST_PIECES};
+ghost use Rattle.shm_attach.specs.Exact.{most_of_segment};
 ghost use Rattle.shm_areas.specs.Arranged.{bare, bare_all, Arranged};
 ghost use Rattle.shm_attach.specs.Views.{life_view, with_pieces_at, with_life_at, runners_view, most_at};
 ghost use Rattle.shm_attach.specs.Spaces.{pieces_at, life_at};
@@ -72,7 +73,7 @@ fn recount(tables: &mut Tables, met: &[Piece], from: u64, to: u64)
     requires meets { All (λ (p : Stored). meets from to (bare p) ≡ true) met.now }
     requires tables { All (HasTable tables.old.slab) met.now }
     requires counted { (id : ℕ) → pieces_of id (bare_all met.now) ≤ counted tables.old id }
-    requires small { (id : ℕ) → counted tables.old id ≤ 65536 }
+    requires small { (id : ℕ) → counted tables.old id ≤ most_of_segment + 1 }
     requires few { length met.now ≤ MOST_PIECES }
     requires tied { OneTableEach tables.old }
     ensures counts { (id : ℕ) → counted tables.new id + pieces_of id (bare_all met.now) ≡ counted tables.old id + pieces_of id (cut from to (bare_all met.now)) }

@@ -6,7 +6,6 @@ ghost use Rattle.shm_fault.specs.Store.{StoreView};
 ghost use Rattle.shm_attach.specs.Spaces.{pieces_at, caller_seen, IsCaller, AreTrue};
 
 use crate::changes::{Part, set_life_at, space_at, take};
-use crate::lost::Lost;
 use crate::process::{Caller, Life};
 use crate::spaces::Spaces;
 use shm_base::{END_ADDRESS, LOWEST_ADDRESS};
@@ -28,16 +27,16 @@ impl Spaces {
         );
     }
 
-    /// Takes all pieces of a process out, and answers the segments that they named, by rising base. It takes no
-    /// memory.
-    pub fn exec(&mut self, caller: &Caller) -> Lost
+    /// Takes all pieces of a process out, and notes the segments that they named. It takes no memory.
+    pub fn exec(&mut self, caller: &Caller)
         requires { IsCaller caller.now self.old.runners }
-        ensures lost { result ≡ segments_of (caller_seen caller.now self.old.runners) }
+        ensures lost { self.new.lost ≡ segments_of (caller_seen caller.now self.old.runners) }
         ensures runners { self.new.runners ≡ with_pieces self.old.runners (caller_seen caller.now self.old.runners) [] }
         ensures most { self.new.most ≡ self.old.most }
         ensures translated { (m : StoreView) → AreTrue self.old.translations m → AreTrue self.new.translations m }
     {
-        let lost = Lost::of(space_at(&self.processes, caller.index).pieces());
+        self.lost
+            .note(space_at(&self.processes, caller.index).pieces());
         take(
             &mut self.processes,
             &mut self.tables,
@@ -47,19 +46,17 @@ impl Spaces {
                 to: END_ADDRESS,
             },
         );
-        lost
     }
 
     /// Ends a process: as `exec`, and it is live no more. It takes no memory.
-    pub fn exit(&mut self, caller: &Caller) -> Lost
+    pub fn exit(&mut self, caller: &Caller)
         requires { IsCaller caller.now self.old.runners }
-        ensures lost { result ≡ segments_of (caller_seen caller.now self.old.runners) }
+        ensures lost { self.new.lost ≡ segments_of (caller_seen caller.now self.old.runners) }
         ensures runners { self.new.runners ≡ with_end self.old.runners (caller_seen caller.now self.old.runners) }
         ensures most { self.new.most ≡ self.old.most }
         ensures translated { (m : StoreView) → AreTrue self.old.translations m → AreTrue self.new.translations m }
     {
-        let lost = self.exec(caller);
+        self.exec(caller);
         set_life_at(&mut self.processes, caller.index, Life::Ended);
-        lost
     }
 }

@@ -13,7 +13,6 @@ mod spans;
 mod table;
 mod tables;
 
-pub use lost::Lost;
 pub use process::{Caller, Child};
 pub use spaces::Spaces;
 pub use spans::{Segv, Spans};

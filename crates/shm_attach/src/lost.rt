@@ -1,54 +1,63 @@
 //! The segments that lost pieces.
-ghost use Rattle.std.specs.Prelude.{◌≡◌, ◌≤◌, length, map};
+ghost use Rattle.std.specs.Prelude.{◌≡◌, ◌≤◌, [], length, map, IfOk};
 ghost use Rattle.shm_areas.specs.declared.piece.Piece.{Piece as Stored};
-ghost use Rattle.shm_base.specs.declared.bounds.TheConstants.{MOST_PIECES};
 
-use arrayvec::ArrayVec;
 use shm_areas::Piece;
-use shm_base::MOST_PIECES;
+use shm_base::HostMemory;
+use std::alloc::Global;
 use std::marker::Model;
 
-/// The segments that lost pieces in one call, by rising base: a segment stands here once for each piece
-/// that went or was cut. There are at most 256.
-#[derive(Debug)]
-pub struct Lost {
-    segments: ArrayVec<u32, MOST_PIECES>,
+/// The segments that lost pieces in a call, by rising base: a segment is here once for each piece that went or
+/// was cut. There is room for the most pieces of a process, so noting them takes no memory.
+pub(crate) struct Lost {
+    segments: Vec<u32>,
+    most: u32,
 }
 
 impl Drop for Lost {
     fn drop(self) {
-        let Lost { segments: _ } = self;
+        let Lost {
+            segments: _,
+            most: _,
+        } = self;
     }
 }
 
 impl Model for Lost {
-    ghost use Rattle.std.specs.Prelude.{ℕ, List, ◌≤◌, length};
-    ghost use Rattle.shm_base.specs.declared.bounds.TheConstants.{MOST_PIECES};
+    ghost use Rattle.std.specs.Prelude.{◌≤◌, length, vec_capacity};
+    ghost use Rattle.shm_attach.specs.Lost.{LostView};
 
-    ghost Value = { List ℕ };
+    ghost Value = { LostView };
 
-    ghost view = { λ l. l.segments.items };
+    ghost view = { λ l. record { segments = l.segments.items; most = l.most } };
 
-    ghost invariant = { λ l. length l.segments.items ≤ MOST_PIECES };
+    ghost invariant = { λ l. (length l.segments.items ≤ l.most) × (l.most ≤ vec_capacity l.segments) };
 }
 
 impl Lost {
-    /// The segments of these pieces.
-    pub(crate) fn of(pieces: &[Piece]) -> Lost
-        requires { length pieces.now ≤ MOST_PIECES }
-        ensures { result ≡ map (λ (p : Stored). p.seg) pieces.now }
+    /// No segment. It takes the room for the most that there may be.
+    pub(crate) fn new(alloc: Global, most: u32) -> Result<Lost, HostMemory>
+        ensures { IfOk result (λ l. l ≡ record { segments = []; most = most }) }
     {
-        let mut segments = ArrayVec::new();
+        let segments = Vec::with_capacity(alloc, most as usize)?;
+        Ok(Lost { segments, most })
+    }
+
+    /// Notes the segments of these pieces in place of those of an earlier call.
+    pub(crate) fn note(&mut self, pieces: &[Piece])
+        requires { length pieces.now ≤ self.old.most }
+        ensures { self.new ≡ record self.old { segments = map (λ (p : Stored). p.seg) pieces.now } }
+    {
+        self.segments.clear();
         for piece in pieces {
-            segments.push(piece.seg);
+            self.segments.push_reserved(piece.seg);
         }
-        Lost { segments }
     }
 
     /// The segments.
-    pub fn as_slice(&self) -> &[u32]
-        ensures value { result.now ≡ self.now }
-        ensures few { length result.now ≤ MOST_PIECES }
+    pub(crate) fn segments(&self) -> &[u32]
+        ensures value { result.now ≡ self.now.segments }
+        ensures few { length result.now ≤ self.now.most }
     {
         self.segments.as_slice()
     }

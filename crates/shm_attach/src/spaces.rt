@@ -4,7 +4,7 @@ ghost use Rattle.shm_base.specs.State.{life_at_start, runner_at_start};
 ghost use Rattle.shm_base.specs.Segments.{attach_count};
 ghost use Rattle.shm_base.specs.Step.{caller_from, unborn_from};
 ghost use Rattle.shm_base.specs.declared.call.Process.{Process as Declared};
-ghost use Rattle.shm_base.specs.declared.bounds.TheConstants.{MOST_PIECES};
+ghost use Rattle.shm_base.specs.declared.bounds.TheConstants.{MOST_PIECES, MOST_PROCESSES};
 ghost use Rattle.shm_attach.specs.Views.{life_view};
 ghost use Rattle.shm_fault.specs.Store.{StoreView};
 ghost use Rattle.shm_fault.specs.Access.{NameFrames};
@@ -14,6 +14,7 @@ ghost use Rattle.shm_attach.specs.Spaces.{IsCaller, Translation, AreTrue, pieces
 ghost use Rattle.shm_attach.specs.Spans.{wanted, pieces_by, AreSpans};
 
 use crate::changes::space_at;
+use crate::lost::Lost;
 use crate::process::{Caller, Child, Life, Runner};
 use crate::spans::{Segv, Spans, spans_in};
 use crate::tables::Tables;
@@ -29,6 +30,7 @@ use std::marker::Model;
 pub struct Spaces {
     pub(crate) processes: IndexMap<u32, Runner>,
     pub(crate) tables: Tables,
+    pub(crate) lost: Lost,
     // The most pieces of a process.
     most: u32,
 }
@@ -38,6 +40,7 @@ impl Drop for Spaces {
         let Spaces {
             processes: _,
             tables: _,
+            lost: _,
             most: _,
         } = self;
     }
@@ -51,9 +54,9 @@ impl Model for Spaces {
 
     ghost Value = { SpacesView };
 
-    ghost view = { λ s. record { runners = runners_view s.processes.entries; translations = translations_of s.tables.slab; most = s.most } };
+    ghost view = { λ s. record { runners = runners_view s.processes.entries; translations = translations_of s.tables.slab; most = s.most; lost = s.lost.segments } };
 
-    ghost invariant = { λ s. AreTablesSound no_reservations s.processes.entries s.tables × HaveRoom s.most s.processes.entries };
+    ghost invariant = { λ s. AreTablesSound no_reservations s.processes.entries s.tables × HaveRoom s.most s.processes.entries × (s.lost.most ≡ s.most) };
 }
 
 fn born(process: &Process) -> Life
@@ -69,7 +72,7 @@ impl Spaces {
     /// The processes as they are declared, none with a piece. It takes their room, of so many pieces each.
     pub fn new(alloc: Global, processes: &[Process], most: u32) -> Result<Spaces, HostMemory>
         requires most { most ≤ MOST_PIECES }
-        requires few { length processes.now ≤ 64 }
+        requires few { length processes.now ≤ MOST_PROCESSES }
         requires apart { AllPairs (λ (p q : Declared). p.pid ≢ q.pid) processes.now }
         ensures runners { IfOk result (λ s. s.runners ≡ map runner_at_start processes.now) }
         ensures translations { IfOk result (λ s. s.translations ≡ []) }
@@ -84,6 +87,7 @@ impl Spaces {
         Ok(Spaces {
             processes: by_pid,
             tables: Tables::new(alloc),
+            lost: Lost::new(alloc, most)?,
             most,
         })
     }
@@ -158,6 +162,15 @@ impl Spaces {
     {
         let space = space_at(&self.processes, caller.index);
         spans_in(space, &self.tables, addr, len, write)
+    }
+
+    /// The segments that lost pieces in the last call that took some, by rising base: a segment is here once for
+    /// each piece that went or was cut.
+    pub fn lost(&self) -> &[u32]
+        ensures value { result.now ≡ self.now.lost }
+        ensures few { length result.now ≤ MOST_PIECES }
+    {
+        self.lost.segments()
     }
 
     /// Notes which pages moved, one after another, for all pieces at once. It takes no memory.

@@ -1,12 +1,13 @@
 -- The gauge's four words, what each seat knows of them, and what each kind of step does to it.
-use Rattle.std.specs.Prelude.{◌≡◌, ℕ, ◌≤◌, List, [], ◌∷◌, slice_index, true, false}
+use Rattle.std.specs.Prelude.{◌≡◌, ℕ, ◌≤◌, nat_le, Bool, ◌&&◌, List, [], ◌∷◌, slice_index, true, false}
 use mathlib.Core.Option.{some}
 use lib.ListN.{get_elem?}
 use Rattle.atomic_table.specs.Seated.{TableId}
+use Rattle.shm_base.specs.Bounds.{Bounds}
 use Rattle.shm_base.specs.declared.paging.Tally.{Tally}
 use Rattle.shm_history.specs.declared.cell.Reading.{Reading}
 use Rattle.shm_history.specs.declared.cell.SeatView.{SeatView}
-use Rattle.shm_base.specs.declared.bounds.TheConstants.{MOST_FRAMES, MOST_SHMALL}
+use Rattle.shm_base.specs.declared.bounds.TheConstants.{PROFILE_FRAMES, PROFILE_SHMALL}
 
 -- the name of one gauge's cell
 abbrev pub CellName : Type 0
@@ -30,9 +31,13 @@ cell_words r = r.events ∷ r.resident ∷ r.dirty ∷ r.used ∷ []
 abbrev pub numbers_of : List ℕ → Reading
 numbers_of ws = record { events = slice_index ws 0; resident = slice_index ws 1; dirty = slice_index ws 2; used = slice_index ws 3 }
 
--- the bounds that a world's counts keep
+-- the bounds that a world's counts keep, where it is of the profile's size
 abbrev pub IsReading : Reading → Type 0
-IsReading r = (r.dirty ≤ r.resident) × (r.resident ≤ MOST_FRAMES) × (r.used ≤ MOST_SHMALL)
+IsReading r = (r.dirty ≤ r.resident) × (r.resident ≤ PROFILE_FRAMES) × (r.used ≤ PROFILE_SHMALL)
+
+-- a machine of that size: others have no gauge
+abbrev pub has_gauge : Bounds → Bool
+has_gauge limits = nat_le limits.frames PROFILE_FRAMES && nat_le limits.shmall PROFILE_SHMALL
 
 -- what the keeper's seat knows, and what a reader's
 abbrev pub keeping : Reading → SeatView

@@ -8,6 +8,6 @@ mod world;
 
 pub use cell::Reading;
 pub use gauges::{Gauge, Keeper, ReaderSeat};
-pub use publish::gauge;
+pub use publish::{GaugeRefused, gauge};
 pub use shm_life::{Opening, StartError, System};
 pub use world::World;

@@ -2,6 +2,7 @@
 use Rattle.shm_life.proofs.Names.{◌≡◌, ◌≢◌, ℕ, zero, suc, ◌≤◌, ◌&&◌, Bool, true, false, not, if◌then◌else◌, List, [], ◌∷◌, length, get_or, replicate, Some, None, refl, sym, ap, arith, common_steps, All-nil, All-map, length-replicate, get_or-replicate, get_or_past, AllPairs-cons, All, AllPairs, Bounds, within, Runner, runner_at_start, PieceFits, IsTableSound, Process, PageRef, pager_seen, IsAreaSize, owner_of, sizes, new_swap, fresh, are_sizes, has_pid, are_pids, start_error, nat_tests}
 use Rattle.std.proofs.Common.{map, Option, true≢false}
 use Rattle.shm_base.specs.Bounds.{Bounds}
+use Rattle.shm_base.specs.declared.bounds.TheConstants.{MOST_FRAMES, MOST_PROCESSES, MOST_SHMALL, MOST_SLOTS}
 use Rattle.shm_life.proofs.Pieces.{all-cons}
 
 both : (a b : Bool) → a && b ≡ true → (a ≡ true) × (b ≡ true)
@@ -14,7 +15,7 @@ sound : {X : Type 0} (a b c d : Bool) (x y z w : X) → (if not a then Some x el
     → (a ≡ true) × (b ≡ true) × (c ≡ false) × (d ≡ true)
 sound a b c d x y z w is = grind (arith, nat_tests)
 
-all-sizes : {X : Type 0} (most : ℕ) (f : X → ℕ) (xs : List X) → most ≤ 65536 → are_sizes most (map f xs) ≡ true → All (λ x. IsAreaSize (f x)) xs
+all-sizes : {X : Type 0} (most : ℕ) (f : X → ℕ) (xs : List X) → most ≤ MOST_SLOTS → are_sizes most (map f xs) ≡ true → All (λ x. IsAreaSize (f x)) xs
 all-sizes most f [] le is = All-nil (λ x. IsAreaSize (f x))
 all-sizes most f (x ∷ xs) le is =
     let parts : IsAreaSize (f x) × (are_sizes most (map f xs) ≡ true) = grind (arith, nat_tests, common_steps, is) in
@@ -34,10 +35,10 @@ pids-apart (p ∷ ps) is =
 pub record IsOpen {X : Type 0} (size : X → ℕ) (pagers : List X) (ps : List Process) : Type 0 where
   pub areas : (1 ≤ length pagers) × (length pagers ≤ 8)
   pub sizes : All (λ p. IsAreaSize (size p)) pagers
-  pub few : length ps ≤ 64
+  pub few : length ps ≤ MOST_PROCESSES
   pub apart : AllPairs (λ (p q : Process). p.pid ≢ q.pid) ps
 
-pub is_open : {X : Type 0} (limits : Bounds) (size : X → ℕ) (pagers : List X) (ps : List Process) → limits.most_processes ≤ 64 → limits.most_slots ≤ 65536
+pub is_open : {X : Type 0} (limits : Bounds) (size : X → ℕ) (pagers : List X) (ps : List Process) → limits.most_processes ≤ MOST_PROCESSES → limits.most_slots ≤ MOST_SLOTS
     → start_error limits (map size pagers) ps ≡ None → IsOpen size pagers ps
 is_open limits size pagers ps processes slots is = grind (arith, common_steps, pids-apart, all-sizes)
 
@@ -61,7 +62,7 @@ owners-new content failed (p ∷ ps) zero slot = none-owned (length (content p))
 owners-new content failed (p ∷ ps) (suc area) slot = owners-new content failed ps area slot
 
 -- without segments and pieces nothing is owed
-pub fresh-kept : (limits : Bounds) (ps : List Process) → limits.shmall ≤ 65536 → limits.memlock ≤ 4096 → IsTableSound limits [] (map runner_at_start ps)
+pub fresh-kept : (limits : Bounds) (ps : List Process) → limits.shmall ≤ MOST_SHMALL → limits.memlock ≤ MOST_FRAMES → IsTableSound limits [] (map runner_at_start ps)
 fresh-kept limits ps shmall memlock =
     record {
       few = omega arith;

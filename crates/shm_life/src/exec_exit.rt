@@ -17,11 +17,11 @@ impl<P: Pager> Kernel<P> {
         requires { IsCaller caller.now self.old.flat.runners }
         ensures { Served self.old time caller.now call.Exec Done self.new }
     {
-        let lost = self.spaces.exec(caller);
+        self.spaces.exec(caller);
         after_detach(
             &mut self.segments,
             &self.spaces,
-            lost.as_slice(),
+            self.spaces.lost(),
             time,
             caller.pid,
         );
@@ -34,11 +34,11 @@ impl<P: Pager> Kernel<P> {
         requires { IsCaller caller.now self.old.flat.runners }
         ensures { Served self.old time caller.now call.Exit Done self.new }
     {
-        let lost = self.spaces.exit(caller);
+        self.spaces.exit(caller);
         after_detach(
             &mut self.segments,
             &self.spaces,
-            lost.as_slice(),
+            self.spaces.lost(),
             time,
             caller.pid,
         );

@@ -2,6 +2,8 @@
 ghost use Rattle.std.specs.Prelude.{◌≡◌, ◌+◌, ◌*◌, ◌≤◌, length, IfOk, OnErr};
 ghost use Rattle.shm_base.specs.Space.{cut};
 ghost use Rattle.shm_base.specs.Step as flat;
+ghost use Rattle.shm_base.specs.declared.bounds.TheConstants.{MOST_SHMALL};
+ghost use Rattle.shm_base.specs.declared.paging.TheConstants.{PAGE_SIZE};
 ghost use Rattle.shm_base.specs.declared.call.Call.TheVariants as call;
 ghost use Rattle.shm_base.specs.declared.call.Reply.TheVariants.{Addr};
 ghost use Rattle.shm_attach.specs.Place.{IsRange};
@@ -52,9 +54,9 @@ impl<P: Pager> Kernel<P> {
         requires { IsCaller caller.now self.now.flat.runners }
         ensures value { result ≡ placed self.now.flat (caller_seen caller.now self.now.flat.runners) id addr flags }
         ensures fits { IfOk result (λ p. PieceFits self.now.flat.table (piece_for flags p)) }
-        ensures pages { IfOk result (λ p. (1 ≤ p.pages) × (p.pages ≤ 4096)) }
+        ensures pages { IfOk result (λ p. (1 ≤ p.pages) × (p.pages ≤ MOST_SHMALL)) }
         ensures range { IfOk result (λ p. IsRange p.pages p.base) }
-        ensures room { IfOk result (λ p. length (cut p.base (p.base + 4096 * p.pages) (pieces_at self.now.flat.runners caller.now.index)) + 1 ≤ self.now.flat.limits.most_pieces) }
+        ensures room { IfOk result (λ p. length (cut p.base (p.base + PAGE_SIZE * p.pages) (pieces_at self.now.flat.runners caller.now.index)) + 1 ≤ self.now.flat.limits.most_pieces) }
     {
         if is_misplaced(addr, flags) {
             return Err(Errno::Einval);
@@ -104,14 +106,13 @@ impl<P: Pager> Kernel<P> {
         };
         let writable = !flags.contains(AtFlags::RDONLY);
         let store = self.segments.store();
-        let lost = self
-            .spaces
+        self.spaces
             .attach(caller, seg, base, pages, writable, store)?;
         self.segments.attached(seg, time, caller.pid);
         after_detach(
             &mut self.segments,
             &self.spaces,
-            lost.as_slice(),
+            self.spaces.lost(),
             time,
             caller.pid,
         );

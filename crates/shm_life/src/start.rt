@@ -9,16 +9,16 @@ use shm_pager::Pager;
 use thiserror::Error;
 
 /// Why a system did not start: the first of these that holds, in this order (this project's profile).
-/// `Areas`: there are not 1 to 8 swap areas. `AreaSize`: an area has not 1 to 65536 slots. `Processes`:
-/// there are more than 64 processes. `Pid`: a pid is 0, above 2147483647, or stands twice. `HostMemory`:
-/// the host refused memory.
+/// `Areas`: there are not 1 to 8 swap areas. `AreaSize`: an area has no slot, or more than the limits allow
+/// (65536 in the profile). `Processes`: there are more than the limits allow (64 in the profile). `Pid`: a pid
+/// is 0, above 2147483647, or is there twice. `HostMemory`: the host refused memory.
 #[derive(Clone, Copy, Debug, PartialEq, Eq, Error)]
 pub enum StartError {
     #[error("not 1 to 8 swap areas")]
     Areas,
-    #[error("a swap area without 1 to 65536 slots")]
+    #[error("a swap area without slots, or with too many")]
     AreaSize,
-    #[error("more than 64 processes")]
+    #[error("too many processes")]
     Processes,
     #[error("a pid out of range, or twice")]
     Pid,

@@ -1,6 +1,7 @@
 //! What pieces that went leave behind: times and pids, and segments that go with their last piece.
 ghost use Rattle.std.specs.Prelude.{◌≡◌, ◌≢◌, true, ◌≤◌, ◌==◌, ◌&&◌, ℕ, List, ◌∷◌, length, All};
 ghost use Rattle.shm_base.specs.Bounds.{Bounds};
+ghost use Rattle.shm_base.specs.declared.bounds.TheConstants.{INDEXES};
 ghost use Rattle.shm_base.specs.Segments.{attach_count, detach_all, swept};
 ghost use Rattle.shm_attach.specs.Spaces.{Translation, AreTrue};
 ghost use Rattle.shm_slots.specs.View.{sizes};
@@ -33,7 +34,7 @@ fn is_orphan(spaces: &Spaces, found: &Found) -> bool
 
 // Destroys a segment if it is marked and no piece names it.
 fn sweep_one<P: Pager>(segments: &mut Segments<P>, spaces: &Spaces, seg: u32)
-    requires { length segments.old.table ≤ 32768 }
+    requires { length segments.old.table ≤ INDEXES }
     ensures sweeps { Sweeps spaces.now.runners segments.old.table segments.new.table }
     ensures fewer { (rest : List ℕ) → OrphansAmong (seg ∷ rest) spaces.now.runners segments.old.table → OrphansAmong rest spaces.now.runners segments.new.table }
     ensures keeps { KeepsMemory segments.old.memory segments.new.memory }
@@ -50,7 +51,7 @@ fn sweep_one<P: Pager>(segments: &mut Segments<P>, spaces: &Spaces, seg: u32)
 
 /// Destroys those of these segments that are marked and that no piece names. No other segment is such.
 pub(crate) fn sweep<P: Pager>(segments: &mut Segments<P>, spaces: &Spaces, lost: &[u32])
-    requires few { length segments.old.table ≤ 32768 }
+    requires few { length segments.old.table ≤ INDEXES }
     requires orphans { OrphansAmong lost.now spaces.now.runners segments.old.table }
     ensures swept { segments.new.table ≡ swept spaces.now.runners segments.old.table }
     ensures well { (limits : Bounds) → IsWellBut lost.now limits segments.old.table spaces.now.runners spaces.now.translations segments.old.memory → IsWell limits segments.new.table spaces.now.runners spaces.now.translations segments.new.memory }
@@ -72,7 +73,7 @@ pub(crate) fn after_detach<P: Pager>(
     pid: u32,
 )
     requires live { All (IsLive segments.old.table) lost.now }
-    requires few { length segments.old.table ≤ 32768 }
+    requires few { length segments.old.table ≤ INDEXES }
     requires orphans { OrphansAmong lost.now spaces.now.runners segments.old.table }
     ensures table { segments.new.table ≡ swept spaces.now.runners (detach_all time pid segments.old.table lost.now) }
     ensures well { (limits : Bounds) → IsWellBut lost.now limits segments.old.table spaces.now.runners spaces.now.translations segments.old.memory → IsWell limits segments.new.table spaces.now.runners spaces.now.translations segments.new.memory }

@@ -145,6 +145,13 @@ impl<P: Pager> System<P> {
         self.calls
     }
 
+    /// The machine's limits.
+    pub fn limits(&self) -> Limits
+        ensures { result ≡ self.now.machine.limits }
+    {
+        self.kernel.limits
+    }
+
     /// What the machine started from.
     pub fn opening(&self) -> &Opening
         ensures { result.now ≡ self.now.opening }

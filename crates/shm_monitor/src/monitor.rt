@@ -1,7 +1,7 @@
 //! The run, and the monitor beside it.
 ghost use Rattle.std.specs.Prelude.{◌≡◌};
 
-use shm_base::{HostMemory, MOST_SLOTS};
+use shm_base::{HostMemory, PROFILE_SLOTS};
 use shm_history::{Gauge, Keeper, ReaderSeat, System, World, gauge};
 use shm_pager::SparsePager;
 use shm_text::{Script, read_script};
@@ -68,7 +68,7 @@ impl From<RunError> for NoRun {
 
 fn start(alloc: Global, script: &Script) -> Result<World<SparsePager>, NoRun> {
     let mut pagers = Vec::new(alloc);
-    pagers.push(SparsePager::new(alloc, MOST_SLOTS)?)?;
+    pagers.push(SparsePager::new(alloc, PROFILE_SLOTS)?)?;
     match System::start(alloc, script.limits, pagers, &script.processes) {
         Ok(system) => Ok(World::new(alloc, system)),
         Err(_) => Err(NoRun::Start),

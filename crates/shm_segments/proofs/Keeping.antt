@@ -1,10 +1,10 @@
 -- What is kept where a head changes.
-use Rattle.shm_segments.proofs.Names.{◌≡◌, ℕ, pos, ◌%◌, ◌≤◌, List, Some, sym, ◌∙◌, arith, Segment, change, Row, key_at, look, with_value, with_key, Held, bytes_of, Head, segment_of, whole, joined_table, SizesFit, AreSegmentsSound, common_steps, Ok, FlatEntry, Entry, live_row}
+use Rattle.shm_segments.proofs.Names.{◌≡◌, ℕ, pos, ◌%◌, ◌≤◌, List, Some, sym, ◌∙◌, arith, Segment, change, Row, key_at, look, with_value, with_key, Held, bytes_of, Head, segment_of, whole, joined_table, SizesFit, AreSegmentsSound, common_steps, Ok, FlatEntry, Entry, live_row, MOST_SHMMAX}
 use Rattle.shm_segments.proofs.Sums.{pages-with_other, locked-other_same}
 use Rattle.shm_segments.proofs.Edits.{look-live, with_other, other-value, other-both, live-other_same, live-other, joined-other, agree-other}
 
 -- another row of a size in range
-pub sizes-other : (rows : List (Entry Head)) (id : ℕ) (r s : Row Head) → live_row rows id ≡ Some r → SizesFit rows → (1 ≤ s.value.size) × (s.value.size ≤ 16777216) → SizesFit (with_other rows id s)
+pub sizes-other : (rows : List (Entry Head)) (id : ℕ) (r s : Row Head) → live_row rows id ≡ Some r → SizesFit rows → (1 ≤ s.value.size) × (s.value.size ≤ MOST_SHMMAX) → SizesFit (with_other rows id s)
 sizes-other rows id r s lives sizes range = grind (arith, common_steps, with_other, live-other_same, live-other)
 
 -- what rows and bytes keep, and what they show

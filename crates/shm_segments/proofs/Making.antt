@@ -1,5 +1,5 @@
 -- What is kept where a segment is made, destroyed, locked or written.
-use Rattle.shm_segments.proofs.Names.{locked_in_row, pages_in_row, ◌≡◌, ◌≢◌, ◌⊎◌, ℕ, pos, ℤ, ◌+◌, ◌-◌, ◌*◌, ◌/◌, ◌%◌, ◌<◌, ◌≤◌, Bool, false, if◌then◌else◌, List, Option, Some, None, refl, sym, ap, ◌∙◌, inl, inr, arith, cases_eq, none-some, pages_of, change, Row, entry_at, identifier, key_at, look, with_value, with_row, without_row, free_index-flat, destroyed_at-flat, Held, find_held, is_held, held_pages, pages_if_locked, with_zeros, without, with_lock, apart-push, apart-without, apart-lock, Head, joined_table, Agree, SizesFit, AreSegmentsSound, made, created, destroyed, nat_tests, common_steps, replicate, slice_set, Ok, option_map, Entry, free_index, id_at, live_row, relocked}
+use Rattle.shm_segments.proofs.Names.{locked_in_row, pages_in_row, ◌≡◌, ◌≢◌, ◌⊎◌, ℕ, pos, ℤ, ◌+◌, ◌-◌, ◌*◌, ◌/◌, ◌%◌, ◌<◌, ◌≤◌, Bool, false, if◌then◌else◌, List, Option, Some, None, refl, sym, ap, ◌∙◌, inl, inr, arith, cases_eq, none-some, pages_of, change, Row, entry_at, identifier, key_at, look, with_value, with_row, without_row, free_index-flat, destroyed_at-flat, Held, find_held, is_held, held_pages, pages_if_locked, with_zeros, without, with_lock, apart-push, apart-without, apart-lock, Head, joined_table, Agree, SizesFit, AreSegmentsSound, made, created, destroyed, nat_tests, common_steps, replicate, slice_set, Ok, option_map, Entry, free_index, id_at, live_row, relocked, MOST_SHMMAX, MOST_SHMALL}
 use Rattle.shm_base.specs.Identifier as flat
 use Rattle.shm_segments.proofs.Joins.{LiveAt, live-at, held-as}
 use Rattle.shm_segments.proofs.Edits.{look-live, other-value, agree-lock, joined-locked}
@@ -82,7 +82,7 @@ kept-locked hs rows pages locks seg v b k looked =
 -- MADE
 
 pub kept-made : (hs : List Held) (rows : List (Entry Head)) (pages locks i key : ℕ) (v : Head) → AreSegmentsSound hs rows pages locks → free_index rows ≡ Some i → v.locked ≡ false
-    → (1 ≤ v.size) × (v.size ≤ 16777216)
+    → (1 ≤ v.size) × (v.size ≤ MOST_SHMMAX)
     → KeptAs (with_zeros hs (id_of rows i) (pages_of v.size)) (with_row rows i key v) (pages + pages_of v.size) locks (created (joined_table hs rows) i key v)
 kept-made hs rows pages locks i key v k found loose range =
     let free = index-free rows i k.agree.few found in
@@ -104,7 +104,7 @@ kept-made hs rows pages locks i key v k found loose range =
     sizes : IsFree rows i → SizesFit (with_row rows i key v)
     sizes free = λ id q is. by id q is (cases_eq id (id_of rows i))
       where
-        by : (id : ℕ) (q : Row Head) → live_row (with_row rows i key v) id ≡ Some q → (id ≡ id_of rows i) ⊎ (id ≢ id_of rows i) → (1 ≤ q.value.size) × (q.value.size ≤ 16777216)
+        by : (id : ℕ) (q : Row Head) → live_row (with_row rows i key v) id ≡ Some q → (id ≡ id_of rows i) ⊎ (id ≢ id_of rows i) → (1 ≤ q.value.size) × (q.value.size ≤ MOST_SHMMAX)
         by id q is (inl e) =
             let own : live_row (with_row rows i key v) (id_of rows i) ≡ Some q = rw e at is in
             let same : record { key = key; value = v } ≡ q = cc (sym (live-with_row_same rows i key v free) ∙ own) in
@@ -133,5 +133,5 @@ next-free hs rows id agree is = by (free_index rows) refl is
     by (Some i) found z = record { i = i; found = found; is = cc z; new = free-new hs rows i agree (index-free rows i agree.few found) }
 
 -- a segment's pages are few
-pub few-pages : (b : Bool) (size : ℕ) → size ≤ 16777216 → (if b then pages_of size else 0) ≤ 4096
+pub few-pages : (b : Bool) (size : ℕ) → size ≤ MOST_SHMMAX → (if b then pages_of size else 0) ≤ MOST_SHMALL
 few-pages b size range = grind (arith, nat_tests)

@@ -15,6 +15,7 @@ pub use Rattle.shm_base.specs.Identifier.{with_segment}
 pub use Rattle.shm_base.specs.Segments.{attached, change, detach_all, detached, locked, marked, reserved, segment_count, with_entry, pages_held, pages_locked}
 pub use Rattle.shm_base.specs.Spans.{run, span_places}
 pub use Rattle.shm_base.specs.State.{Runner, Segment, pages_of, Entry as FlatEntry}
+pub use Rattle.shm_base.specs.declared.bounds.TheConstants.{MOST_SHMALL, MOST_SHMMAX}
 pub use Rattle.shm_base.specs.declared.errno.Errno.TheVariants.{Eidrm, Einval}
 pub use Rattle.shm_base.specs.declared.paging.Span.{Span}
 pub use Rattle.shm_fault.proofs.Entries.{filter-none}

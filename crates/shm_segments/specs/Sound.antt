@@ -10,7 +10,7 @@ use Rattle.shm_segments.specs.declared.head.Head.{Head}
 use Rattle.shm_segments.specs.Joined.{live_row, pages_of_rows, locked_of_rows, Agree}
 use Rattle.shm_base.specs.declared.bounds.TheConstants.{MOST_SHMMAX}
 
--- a segment has 1 to 2^24 bytes
+-- a segment has at least 1 byte, and no more than the largest limit
 abbrev pub SizesFit : List (Entry Head) → Type 0
 SizesFit rows = (id : ℕ) (r : Row Head) → live_row rows id ≡ Some r → (1 ≤ r.value.size) × (r.value.size ≤ MOST_SHMMAX)
 

@@ -1,5 +1,6 @@
 //! What is kept of a segment beside its bytes.
 ghost use Rattle.std.specs.Prelude.{◌≡◌, ◌≤◌};
+ghost use Rattle.shm_base.specs.declared.bounds.TheConstants.{MOST_SHMALL, MOST_SHMMAX};
 ghost use Rattle.shm_base.specs.State as flat;
 
 use shm_base::{Perm, ShmId, pages_of};
@@ -31,9 +32,9 @@ pub struct Found {
 impl Found {
     /// How many pages the segment has.
     pub fn pages(&self) -> u32
-        requires size { self.now.head.size ≤ 16777216 }
+        requires size { self.now.head.size ≤ MOST_SHMMAX }
         ensures value { result ≡ flat.pages_of self.now.head.size }
-        ensures few { result ≤ 4096 }
+        ensures few { result ≤ MOST_SHMALL }
     {
         pages_of(self.head.size) as u32
     }

@@ -1,5 +1,6 @@
 //! The table of segments with their bytes.
 ghost use Rattle.std.specs.Prelude.{is_none, is_some, option_map, OnOk, if◌then◌else◌, IsOk, Ok, true, false, ◌≡◌, ◌≢◌, ℕ, ◌+◌, ◌*◌, ◌%◌, ◌≤◌, [], length, pos, IfOk, OnErr, IfErr, IfSome, IfNone, Some, None, map, slice_get};
+ghost use Rattle.shm_base.specs.declared.bounds.TheConstants.{MOST_FRAMES, MOST_SHMALL, MOST_SHMMAX};
 ghost use Rattle.shm_base.specs.State as flat;
 ghost use Rattle.shm_base.specs.Identifier as flat_ids;
 ghost use Rattle.shm_base.specs.Segments.{reserved, segment_count, change, attached, detached, marked};
@@ -82,7 +83,7 @@ impl<P: Pager> Segments<P> {
     /// No segment, over so many frames and the swap, none of whose slots is owned. The memory of the frames
     /// is taken here.
     pub fn new(alloc: Global, frames: u32, swap: Swap<P>) -> Result<Segments<P>, HostMemory>
-        requires frames { (2 ≤ frames) × (frames ≤ 4096) }
+        requires frames { (2 ≤ frames) × (frames ≤ MOST_FRAMES) }
         requires free { (area slot : ℕ) → owner_of swap area slot ≡ None }
         ensures table { IfOk result (λ s. s.table ≡ []) }
         ensures memory { IfOk result (λ s. s.memory ≡ fresh_store s.memory.frames swap) }
@@ -191,9 +192,9 @@ impl<P: Pager> Segments<P> {
     pub fn create(&mut self, id: ShmId, key: u32, head: Head) -> Result<(), HostMemory>
         requires next { next_id self.old.table ≡ Some id }
         requires absent { key ≢ 0 → flat_ids.find_key self.old.table key ≡ flat_ids.Invalid }
-        requires size { (1 ≤ head.size) × (head.size ≤ 16777216) }
+        requires size { (1 ≤ head.size) × (head.size ≤ MOST_SHMMAX) }
         requires loose { head.locked ≡ false }
-        requires few { reserved self.old.table ≤ 65536 }
+        requires few { reserved self.old.table ≤ MOST_SHMALL }
         requires room { reserved self.old.table + flat.pages_of head.size ≤ swap_slots self.old.memory.swap }
         ensures ok { OnOk result (made self.old.table key head ≡ Some (id, self.new.table)) }
         ensures keeps { OnOk result (KeepsMemory self.old.memory self.new.memory) }
@@ -275,7 +276,7 @@ impl<P: Pager> Segments<P> {
     /// Locks or unlocks the segment's pages (SHM_LOCKED).
     pub fn set_locked(&mut self, seg: u32, locked: bool)
         requires live { IsLive self.old.table seg }
-        requires small { locked_pages self.old.table ≤ 65536 }
+        requires small { locked_pages self.old.table ≤ MOST_SHMALL }
         requires few { locked ≡ true →
             locked_pages (change self.old.table seg (relocked true)) + 2 ≤ length self.old.memory.frames }
         ensures table { self.new.table ≡ change self.old.table seg (relocked locked) }

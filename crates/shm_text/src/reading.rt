@@ -9,7 +9,7 @@ use crate::forms::{is_skipped, line_item};
 use crate::lines::Lines;
 use crate::script::{Item, Line, Script};
 use arrayvec::ArrayVec;
-use shm_base::{LONGEST_SCRIPT, Limits, MOST_COMMANDS, MOST_PROCESSES, Process};
+use shm_base::{LONGEST_SCRIPT, Limits, MOST_COMMANDS, PROFILE_PROCESSES, Process};
 use std::alloc::{AllocError, Global};
 use std::marker::Model;
 
@@ -18,7 +18,7 @@ use std::marker::Model;
 #[derive(Drop)]
 pub(crate) struct Seen {
     limits: Option<Limits>,
-    pids: ArrayVec<u32, MOST_PROCESSES>,
+    pids: ArrayVec<u32, PROFILE_PROCESSES>,
     commands: u32,
 }
 
@@ -63,7 +63,7 @@ impl Seen {
     pub(crate) fn is_full(&self) -> bool
         ensures { result ≡ nat_le 64 (length self.now.pids) }
     {
-        self.pids.len() >= MOST_PROCESSES
+        self.pids.len() >= PROFILE_PROCESSES
     }
 
     /// Takes what a line said.

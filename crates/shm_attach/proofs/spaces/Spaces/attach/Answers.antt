@@ -1,4 +1,4 @@
-use Rattle.shm_attach.proofs.Names.{◌≡◌, ℕ, ◌+◌, ◌*◌, ◌<◌, ◌≤◌, ◌∙◌, ap, sym, subst, arith, List, length, common_steps, cut, bare, frame_of, Tables, some_if, runner_view, runners_view, SpacesView, Translation, AreTrue, IsCaller, pieces_at, life_at, AreTablesSound, no_reservations, AllTrue, translations_of, counted, HasTable, length-map, Piece, Runner}
+use Rattle.shm_attach.proofs.Names.{◌≡◌, ℕ, ◌+◌, ◌*◌, ◌<◌, ◌≤◌, ◌∙◌, ap, sym, subst, arith, List, length, common_steps, cut, bare, frame_of, Tables, some_if, runner_view, runners_view, SpacesView, Translation, AreTrue, IsCaller, pieces_at, life_at, AreTablesSound, no_reservations, AllTrue, translations_of, counted, HasTable, length-map, Piece, Runner, MOST_PIECES}
 use Rattle.shm_attach.proofs.Processes.{some_if-le, seg-met}
 use Rattle.shm_attach.proofs.Callers.{caller_within, caller_born, with_pieces-of}
 use Rattle.shm_attach.proofs.Keeping.{pieces_at-changed, life_at-changed, with_pieces_at-twice}
@@ -68,7 +68,7 @@ put-requires g c =
     let lt : i < length rs = omega (arith, within, length-map es runner_view) in
     let sound = c.take.ensures.sound (λ id. some_if id seg 1) (reserved g b.In_ok-key) in
     let most : length (f (pieces_at rs i)) + 1 ≤ c.self.inside.most = rw (← c.self.view_is) at c.requires.room in
-    let few : length (f (pieces_at rs i)) + 1 ≤ 256 = omega (arith, most, c.self.invariant.1.bound) in
+    let few : length (f (pieces_at rs i)) + 1 ≤ MOST_PIECES = omega (arith, most, c.self.invariant.1.bound) in
     let place = place-range (bare (new g b.In_ok-key)) (pieces_at rs i) c.requires.pages.0 (omega (arith, c.requires.pages.1)) c.requires.range few in
     record {
       there = omega (arith, c.take.ensures.count, within);

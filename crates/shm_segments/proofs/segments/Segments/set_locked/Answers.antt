@@ -1,4 +1,4 @@
-use Rattle.shm_segments.proofs.Names.{◌≡◌, ◌≤◌, ◌+◌, ◌%◌, length, true, sym, ap, ◌∙◌, arith, with_value, with_lock, joined_table, locked_of_rows, change, locked, held, SegmentsView, relocked}
+use Rattle.shm_segments.proofs.Names.{◌≡◌, ◌≤◌, ◌+◌, ◌%◌, length, true, sym, ap, ◌∙◌, arith, with_value, with_lock, joined_table, locked_of_rows, change, locked, held, SegmentsView, relocked, MOST_SHMALL}
 use Rattle.shm_segments.proofs.Edits.{look-live}
 use Rattle.shm_segments.proofs.Finding.{is_live-look, live-held}
 use Rattle.shm_segments.proofs.Making.{kept-locked, few-pages}
@@ -25,8 +25,8 @@ pub overflow_add-self : goal.overflow_add-self
 overflow_add-self g c =
     let lives = look-live c.self.inside.table c.args.seg c.value_mut-head.result.now c.value_mut-head.ensures.value in
     let range = c.self.invariant.kept.sizes c.args.seg _ lives in
-    let more : c.pages_locked-2.result ≤ 4096 = rw c.pages_locked-2.ensures (few-pages c.args.locked c.value_mut-head.result.now.size range.1) in
-    let few : locked c.args.self.now.table ≤ 65536 = c.requires.small in
+    let more : c.pages_locked-2.result ≤ MOST_SHMALL = rw c.pages_locked-2.ensures (few-pages c.args.locked c.value_mut-head.result.now.size range.1) in
+    let few : locked c.args.self.now.table ≤ MOST_SHMALL = c.requires.small in
     let own : c.self.inside.locked ≡ locked c.args.self.now.table =
     c.self.invariant.kept.locked ∙ sym (locked-joined (held c.self.inside.store) c.self.inside.table c.self.invariant.kept.agree) ∙ ap (λ (v : SegmentsView). locked v.table) c.self.view_is in
     omega (arith, more, few, own)

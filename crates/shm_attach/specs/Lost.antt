@@ -1,0 +1,7 @@
+-- What contracts see of the segments that lost pieces.
+use Rattle.std.specs.Prelude.{ℕ, List}
+
+-- the segments, and the most that there may be
+pub record LostView : Type 0 where
+  pub segments : List ℕ
+  pub most : ℕ
