@@ -1,5 +1,6 @@
 -- What is true of every store, kept by a change that touches few pages.
 use Rattle.shm_fault.proofs.Names.{◌≡◌, ℕ, ◌<◌, ◌≤◌, ◌+◌, Bool, true, false, cond, length, sum_by, Some, is_some, refl, ap, ◌∙◌, arith, sum_by-le-sum_by, count_by-le-length, PageRef, Slot, SwapView, IsSwap, swap_slots, sizes, slots_in, owner_of, HasSlot, GoesOn, had_cause, frame_at, rec_by, HasPage, AreApart, page_count, locked_pages, StoreView, IsTied, Tied, IsStoreSound, outlines, Goes, KeepsLocked, nat_tests, common_steps}
+use Rattle.shm_base.specs.declared.bounds.TheConstants.{MOST_FRAMES}
 use Rattle.shm_fault.proofs.Pages.{has-frame, apart-same, sum_pages-same, sum_locked-same, locked-same, has-slot}
 use Rattle.shm_fault.proofs.Ties.{Touches, tied_touched, bytes_touched}
 use Rattle.shm_fault.proofs.Tally.{resident-frames}
@@ -15,7 +16,7 @@ pub slot-own : (s : StoreView) → IsStoreSound s → (r : PageRef) (k : Slot) �
 slot-own s sound r k at = (sound.tied.pages r (has-slot s.segs r k at)).slot_owned k at
 
 -- the counts follow from the rest
-pub IsSound-from : (s : StoreView) → Tied s → AreApart s.segs → (2 ≤ length s.frames) × (length s.frames ≤ 4096) → IsSwap s.swap → s.hand < length s.frames
+pub IsSound-from : (s : StoreView) → Tied s → AreApart s.segs → (2 ≤ length s.frames) × (length s.frames ≤ MOST_FRAMES) → IsSwap s.swap → s.hand < length s.frames
     → sum_by page_count s.segs ≤ swap_slots s.swap → sum_by locked_pages s.segs + 2 ≤ length s.frames → IsStoreSound s
 IsSound-from s tied apart frames swap hand capacity locked = grind (arith, nat_tests, common_steps, resident-frames, count_by-le-length, is_some, s.frames, sum_by-le-sum_by, s.segs, cond)
 

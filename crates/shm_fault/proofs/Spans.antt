@@ -1,5 +1,7 @@
 -- Spans of pages, in the bytes of segments and in frames.
 use Rattle.shm_fault.proofs.Names.{◌≡◌, ◌≢◌, ℕ, suc, ◌<◌, ◌≤◌, ◌+◌, ◌-◌, ◌*◌, ◌/◌, ◌%◌, List, [], ◌∷◌, map, length, get_or, take, drop, sum_by, Some, None, is_some, refl, sym, ap, ◌∙◌, inl, inr, arith, option_map, cases_eq, eq-eqb, ne_eqb, sum_by-cons, PageRef, Span, find_held, bytes_of, is_held, FitsPage, span_bytes, paste, pasted, AreaView, IsArea, slots_in, size_of, no_area, frame_at, SegRec, find_seg, AreApart, count_by_id, HasPage, page_count, StoreView, held, ref_of, IsStoreSound, outline, outlines, frame_by, nat_tests, common_steps}
+use Rattle.shm_base.specs.declared.bounds.TheConstants.{MOST_SLOTS}
+use Rattle.shm_slots.specs.View.{most_swap_slots}
 use Rattle.shm_fault.proofs.Pages.{find-id, has-tail}
 use Rattle.shm_fault.proofs.Bytes.{joined, held_one, held_of, bytes_at, held-is, joined-read, joined-paste, joined-ext, length-joined}
 
@@ -78,7 +80,7 @@ held-pasted s t sound apart shape r off new has fits here others =
     ∙ ap (map (pasted r.seg (4096 * r.page + off) new)) (sym (held-is s sound.apart))
 
 -- no segment has 2^32 pages
-sum-slots : (areas : List AreaView) → ((i : ℕ) → IsArea (get_or areas i no_area)) → sum_by slots_in (map size_of areas) ≤ 65536 * length areas
+sum-slots : (areas : List AreaView) → ((i : ℕ) → IsArea (get_or areas i no_area)) → sum_by slots_in (map size_of areas) ≤ MOST_SLOTS * length areas
 sum-slots [] each = omega arith
 sum-slots (a ∷ areas) each = grind (arith, nat_tests, sum-slots areas (λ i. each (suc i)), (each 0).small, sum_by-cons slots_in (size_of a) (map size_of areas))
 
@@ -86,5 +88,5 @@ count-le-sum : (gs : List SegRec) (id : ℕ) → count_by_id gs id ≤ sum_by pa
 count-le-sum [] id = omega arith
 count-le-sum (g ∷ gs) id = grind (arith, nat_tests, count-le-sum gs id, sum_by-cons page_count g gs)
 
-pub few_pages : (s : StoreView) → IsStoreSound s → (id : ℕ) → count_by_id s.segs id ≤ 524288
+pub few_pages : (s : StoreView) → IsStoreSound s → (id : ℕ) → count_by_id s.segs id ≤ most_swap_slots
 few_pages s sound id = grind (arith, nat_tests, common_steps, count-le-sum, s.segs, sum-slots, s.swap.areas, sound.swap.each, sound.capacity, sound.swap.few)

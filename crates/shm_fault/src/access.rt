@@ -4,6 +4,7 @@
 //! comes in is clean; a write makes the frames of its pages dirty, whatever bytes it puts there.
 ghost use Rattle.std.specs.Prelude.{◌≡◌, ℕ, ◌+◌, ◌<◌, ◌≤◌, [], ◌∷◌, length, map, set, true, Some, is_ok, IfOk, OnOk, OnErr, All};
 ghost use Rattle.shm_base.specs.declared.paging.Span.{Span as SpanValue};
+ghost use Rattle.shm_base.specs.declared.paging.TheConstants.{PAGE_BYTES};
 ghost use Rattle.shm_fault.specs.Held.{FitsPage, read_from, written, pasted, paste, span_bytes};
 ghost use Rattle.shm_fault.specs.Allowed.{IsAccess};
 ghost use Rattle.shm_frames.specs.Frame.{frame_at};
@@ -40,7 +41,7 @@ impl InFrames {
 #[inline(always)]
 fn paste_into(frames: &mut Frames, frame: FrameNo, from: usize, bytes: &[u8])
     requires there { frame < length frames.old }
-    requires fit { from + length bytes.now ≤ 4096 }
+    requires fit { from + length bytes.now ≤ PAGE_BYTES }
     ensures { let before = frame_at frames.old frame in
         frames.new ≡ set frames.old frame (record before { bytes = paste before.bytes from bytes.now }) }
 {

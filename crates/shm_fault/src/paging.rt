@@ -1,5 +1,6 @@
 //! Pages that come into a frame and leave it. Each step here keeps all bytes of all segments.
 ghost use Rattle.std.specs.Prelude.{◌≡◌, ◌≢◌, ℕ, ◌+◌, ◌<◌, ◌≤◌, ◌^◌, true, false, not, [], length, set, Option, Some, None, ◌&&◌, is_ok, is_some, IfOk, OnOk, OnErr, IsSome, MatchOption};
+ghost use Rattle.shm_base.specs.declared.bounds.TheConstants.{MOST_FRAMES};
 ghost use Rattle.shm_base.specs.declared.paging.PageRef.{PageRef as Ref};
 ghost use Rattle.shm_slots.specs.View.{SameSlots, HasSlot, IsFirstFree, IsSwap, sizes};
 ghost use Rattle.shm_slots.specs.Cause.{had_cause, total, GoesOn};
@@ -39,7 +40,7 @@ fn choose(
     pinned: Option<FrameNo>,
 ) -> FrameNo
     requires hand { hand.old < length frames.old }
-    requires few { length frames.old ≤ 4096 }
+    requires few { length frames.old ≤ MOST_FRAMES }
     requires one { candidates (unlocked segs.now) pinned frames.old hand.old ≢ [] }
     ensures clock { let may = may_go (unlocked segs.now) pinned frames.old in
         IsClockVictim may hand.old frames.old result frames.new }

@@ -6,6 +6,7 @@ ghost use Rattle.shm_slots.specs.Cause.{total};
 ghost use Rattle.shm_frames.specs.Frame.{IsFrameBlank};
 ghost use Rattle.shm_fault.specs.Segs.{with_seg_lock, new_seg};
 ghost use Rattle.shm_fault.specs.Store.{fresh_store, held, frame_of, Still, resident, dirty, used};
+ghost use Rattle.shm_base.specs.declared.bounds.TheConstants.{MOST_FRAMES};
 ghost use Rattle.shm_fault.specs.Sound.{IsStoreSound};
 ghost use Rattle.shm_fault.specs.Placing.{places, IsTallyOf};
 
@@ -58,7 +59,7 @@ impl<P: Pager> PageStore<P> {
     /// A store that holds no segment, over so many frames and the swap, none of whose slots is owned. The
     /// memory of the frames is taken here.
     pub fn new(alloc: Global, frames: u32, swap: Swap<P>) -> Result<PageStore<P>, HostMemory>
-        requires frames { (2 ≤ frames) × (frames ≤ 4096) }
+        requires frames { (2 ≤ frames) × (frames ≤ MOST_FRAMES) }
         requires free { (area slot : ℕ) → owner_of swap area slot ≡ None }
         ensures fresh { IfOk result (λ s. s ≡ fresh_store s.frames swap) }
         ensures frames { IfOk result (λ s. (length s.frames ≡ frames) × ((f : ℕ) → IsFrameBlank s.frames f)) }

@@ -83,6 +83,7 @@ fn free_from(table: &Vec<FrameState>, first: FrameNo) -> Option<FrameNo>
 impl Frames {
     ghost use Rattle.shm_frames.specs.Frame.{frame_at, no_frame, is_free, resident_of, dirty_of, FreeAreClear, OwnedBelow, IsLeastFree, IsFrameBlank};
     ghost use Rattle.shm_frames.specs.Lends.{lends_bytes};
+    ghost use Rattle.shm_base.specs.declared.paging.TheConstants.{PAGE_BYTES};
 
     /// So many free frames, in memory that is taken here once and for all.
     pub fn new(alloc: Global, count: u32) -> Result<Frames, HostMemory>
@@ -192,7 +193,7 @@ impl Frames {
     pub fn bytes(&self, frame: FrameNo) -> &[u8; PAGE_BYTES]
         requires { frame < length self.now }
         ensures value { result.now ≡ (frame_at self.now frame).bytes }
-        ensures whole { length result.now ≡ 4096 }
+        ensures whole { length result.now ≡ PAGE_BYTES }
     {
         let page = &self.pages[frame as usize];
         // What is read has a proof know its length.

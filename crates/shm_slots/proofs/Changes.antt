@@ -6,6 +6,7 @@ use Rattle.std.proofs.lemmas.Result.{IfErr-weaker}
 use Rattle.std.proofs.lemmas.List.{set_past, get_or_default, get_or_read, map-set, set-get_or}
 use Rattle.std.proofs.lemmas.Grind.{common_steps}
 use Rattle.shm_base.specs.declared.paging.PageRef.{PageRef}
+use Rattle.shm_base.specs.declared.bounds.TheConstants.{MOST_AREAS}
 use Rattle.shm_slots.specs.View.{AreaView, SwapView, area_at, no_area, is_spent, size_of, sizes, with_area, with_page, with_owner, off, HasSlot, CountedFault, IsArea, IsSwap, SameSlots}
 use Rattle.shm_slots.specs.Cause.{some_spent, total, had_cause, GoesOn, IsSteady}
 
@@ -49,7 +50,7 @@ flag-push [] a = grind (arith, common_steps)
 flag-push (x ∷ xs) a = grind (arith, common_steps, (flag-push xs a))
 
 -- a swap as it is made
-pub IsSwap-new : (xs : List AreaView) (flag : Bool) → length xs ≤ 8 → ((k : ℕ) → IsArea (get_or xs k no_area)) → flag ≡ not (list_any is_spent xs) → IsSwap (record { areas = xs; never_spent = flag })
+pub IsSwap-new : (xs : List AreaView) (flag : Bool) → length xs ≤ MOST_AREAS → ((k : ℕ) → IsArea (get_or xs k no_area)) → flag ≡ not (list_any is_spent xs) → IsSwap (record { areas = xs; never_spent = flag })
 IsSwap-new xs flag few each is = grind (arith, common_steps)
 
 -- a function of each area, where that of the changed one stays

@@ -1,5 +1,5 @@
 -- What contracts see of swap areas, and what the calls change of them.
-use Rattle.std.specs.Prelude.{ℕ, ◌≡◌, ◌≢◌, ◌<◌, ◌≤◌, ◌+◌, ◌-◌, ◌⊎◌, ◌==◌, ◌&&◌, Bool, true, false, not, if◌then◌else◌, List, [], Option, Some, None, set, get_or, map, replicate, length, is_some, sum_by, All, MatchOption}
+use Rattle.std.specs.Prelude.{ℕ, ◌≡◌, ◌≢◌, ◌<◌, ◌≤◌, ◌+◌, ◌-◌, ◌*◌, ◌⊎◌, ◌==◌, ◌&&◌, Bool, true, false, not, if◌then◌else◌, List, [], Option, Some, None, set, get_or, map, replicate, length, is_some, sum_by, All, MatchOption}
 use Rattle.std.specs.List.{list_any}
 use Rattle.shm_base.specs.declared.paging.PageRef.{PageRef}
 use Rattle.shm_base.specs.declared.paging.Slot.{Slot}
@@ -7,7 +7,7 @@ pub use Rattle.shm_base.specs.Segments.{slots_in}
 use Rattle.shm_base.specs.Segments.{slots}
 use Rattle.shm_pager.specs.Pages.{PagerView, SlotUnknown, last_count}
 use Rattle.shm_slots.specs.Owners.{used_count}
-use Rattle.shm_base.specs.declared.bounds.TheConstants.{MOST_SLOTS}
+use Rattle.shm_base.specs.declared.bounds.TheConstants.{MOST_AREAS, MOST_SLOTS}
 
 -- a swap area: whether it is there, the page and the owner of each slot, and its pager's count of
 -- failures as it was handed in and as it stands
@@ -195,6 +195,10 @@ pub record IsCounted {P : Type 0} (failed : P → ℕ) (a : AreaView) : Type 0 w
 abbrev pub AreCountsOf : {P : Type 0} → (P → ℕ) → SwapView → Type 0
 AreCountsOf failed s = All (IsCounted failed) s.areas
 
+-- the most slots of all areas
+abbrev pub most_swap_slots : ℕ
+most_swap_slots = MOST_AREAS * MOST_SLOTS
+
 -- how many slots an area may have
 abbrev pub IsAreaSize : ℕ → Type 0
 IsAreaSize n = (1 ≤ n) × (n ≤ MOST_SLOTS)
@@ -209,6 +213,6 @@ pub record IsArea (a : AreaView) : Type 0 where
 
 -- what is true of every swap; it was never spent exactly when no area's count has its last value
 pub record IsSwap (s : SwapView) : Type 0 where
-  pub few : length s.areas ≤ 8
+  pub few : length s.areas ≤ MOST_AREAS
   pub each : (area : ℕ) → IsArea (area_at s area)
   pub unspent : s.never_spent ≡ not (was_spent s)

@@ -53,11 +53,12 @@ impl<P: Pager> Model for Area<P> {
 }
 
 impl<P: Pager> Area<P> {
+    ghost use Rattle.shm_base.specs.declared.bounds.TheConstants.{MOST_SLOTS};
     ghost use Rattle.shm_slots.specs.View.{with_page, with_owner, AfterReadFault, AfterWriteFault, is_spent, rise, off, fresh, size_of, IsArea, IsCounted};
 
     /// An area with no slot owned.
     pub(crate) fn new(alloc: Global, pager: P) -> Result<Area<P>, AllocError>
-        requires { length (P.content pager) ≤ 65536 }
+        requires { length (P.content pager) ≤ MOST_SLOTS }
         ensures made { IfOk result (λ a. a ≡ fresh (pager_seen P.content P.failed pager)) }
         ensures sound { IfOk result IsArea }
     {

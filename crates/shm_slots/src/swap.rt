@@ -10,7 +10,7 @@ use shm_pager::{Pager, PagerFault};
 use std::alloc::Global;
 use std::marker::Model;
 
-/// Up to eight swap areas, each of up to 65536 slots.
+/// Up to eight swap areas, each of up to 2^28 slots.
 #[derive(Drop)]
 pub struct Swap<P: Pager> {
     areas: Vec<Area<P>>,
@@ -37,11 +37,12 @@ fn stays_unspent<P: Pager>(never_spent: bool, area: &Area<P>) -> bool
 impl<P: Pager> Swap<P> {
     ghost use Rattle.shm_slots.specs.View.{SwapView, new_swap, fresh, area_at, with_area, off, HasSlot, owner_of, page_in, with_slot_page, without_slot, FoundFree, Takes, OneArea, SameSlots, AfterReadFault, AfterWriteFault, size_of, sizes, swap_slots, used_in, used_slots, IsAreaSize, IsSwap, AreCountsOf};
     ghost use Rattle.shm_slots.specs.Cause.{total, had_cause, GoesOn, IsSteady};
+    ghost use Rattle.shm_base.specs.declared.bounds.TheConstants.{MOST_AREAS};
 
     /// Swap over these pagers, which become the areas 0, 1 and so on. No slot is owned. A pager that is
     /// spent when it is handed in counts as an area that was spent.
     pub fn new(alloc: Global, pagers: Vec<P>) -> Result<Swap<P>, HostMemory>
-        requires areas { (1 ≤ length pagers.items) × (length pagers.items ≤ 8) }
+        requires areas { (1 ≤ length pagers.items) × (length pagers.items ≤ MOST_AREAS) }
         requires sizes { All (λ p. IsAreaSize (length (P.content p))) pagers.items }
         ensures { IfOk result (λ s.
             s ≡ new_swap (map (λ p. fresh (pager_seen P.content P.failed p)) pagers.items)) }

@@ -1,6 +1,7 @@
 use Rattle.std.proofs.Common.{rules, ◌≡◌, ◌≤◌, List, ◌++◌, ◌∷◌, All, length, refl, arith, ap, ◌∙◌, length-append}
 use Rattle.std.proofs.lemmas.List.{length-map, get_or_at, nil_from_length, append-nil}
 use Rattle.std.proofs.lemmas.Grind.{common_steps}
+use Rattle.shm_base.specs.declared.bounds.TheConstants.{MOST_AREAS}
 use Rattle.shm_slots.specs.View.{AreaView, IsAreaSize}
 use Rattle.shm_slots.proofs.Changes.{areas-push, flag-push, IsSwap-new}
 use Rattle.shm_slots.proofs.swap.Swap.new.Goals as goal
@@ -17,7 +18,7 @@ pub invariant_of-result : goal.invariant_of-result
 invariant_of-result g c =
     let areas = c.loop-pager.areas.items in
     let made : length areas ≡ length c.loop-pager.yielded = ap (λ (xs : List AreaView). length xs) c.loop-pager.invariant.made ∙ length-map c.loop-pager.yielded _ in
-    let few : length areas ≤ 8 = omega (arith, made, c.requires.areas, ap length c.loop-pager.invariant.all, length-append c.loop-pager.yielded c.loop-pager.pager-iterator.rest.items) in
+    let few : length areas ≤ MOST_AREAS = omega (arith, made, c.requires.areas, ap length c.loop-pager.invariant.all, length-append c.loop-pager.yielded c.loop-pager.pager-iterator.rest.items) in
     IsSwap-new areas c.loop-pager.never_spent few c.loop-pager.invariant.each c.loop-pager.invariant.flag
 
 pub loop-pager-init : goal.loop-pager-init
