@@ -11,7 +11,7 @@ pub use Rattle.std.proofs.lemmas.Result.{IfOk-weaker}
 pub use Rattle.std.proofs.lemmas.Simd.{map-map}
 pub use Rattle.std.specs.List.{flat_map, position_or_len}
 pub use Rattle.std.specs.Map.{keys_of, values_of}
-pub use Rattle.std.specs.Prelude.{All, position, vec_capacity, ⊤, ◌×◌}
+pub use Rattle.std.specs.Prelude.{All, position, vec_capacity, ⊤}
 pub use Rattle.indexmap.specs.IndexMap.{insert_entry, set_value_at}
 pub use Rattle.indexmap.specs.Layout.{length-set_value_at}
 pub use Rattle.shm_areas.proofs.Edits.{arranged_cut, arranged_filter, arranged_inserted, bare_filter, lower}
@@ -39,6 +39,7 @@ pub use Rattle.shm_fault.specs.declared.touched.PageMove.TheVariants.{Gone}
 pub use Rattle.slab.specs.Slab.{Slab, Updates, get, with_value}
 pub use Rattle.shm_attach.specs.Table.{AllTrue, TrueTable, TrueSlot, count_in, frame_in, seg_in, size_in, translations_from, translations_in, translations_of, with_frame, TableView}
 pub use Rattle.shm_attach.specs.Exact.{AreCountsExact, AreTablesSound, HasReservations, most_of_segment, no_reservations}
+pub use Rattle.shm_attach.specs.Lost.{LostView}
 pub use Rattle.shm_attach.specs.Part.{IsCuttable, LeavesRoom}
 pub use Rattle.shm_attach.specs.Place.{IsPlaceFor, IsRange}
 pub use Rattle.shm_attach.specs.Spaces.{AreTrue, IsCaller, SpacesView, Translation, caller_seen, life_at, pieces_at}

@@ -47,6 +47,7 @@ impl Drop for Spaces {
 }
 
 impl Model for Spaces {
+    ghost use Rattle.std.specs.Prelude.{◌≡◌};
     ghost use Rattle.shm_attach.specs.Views.{runners_view, HaveRoom};
     ghost use Rattle.shm_attach.specs.Spaces.{SpacesView};
     ghost use Rattle.shm_attach.specs.Exact.{AreTablesSound, no_reservations};
@@ -78,6 +79,7 @@ impl Spaces {
         ensures translations { IfOk result (λ s. s.translations ≡ []) }
         ensures most { IfOk result (λ s. s.most ≡ most) }
     {
+        let lost = Lost::new(alloc, most)?;
         let mut by_pid = IndexMap::new(alloc);
         for process in processes {
             let space = Space::new(alloc, most)?;
@@ -87,7 +89,7 @@ impl Spaces {
         Ok(Spaces {
             processes: by_pid,
             tables: Tables::new(alloc),
-            lost: Lost::new(alloc, most)?,
+            lost,
             most,
         })
     }

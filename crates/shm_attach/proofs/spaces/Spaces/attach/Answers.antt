@@ -1,4 +1,4 @@
-use Rattle.shm_attach.proofs.Names.{◌≡◌, ℕ, ◌+◌, ◌*◌, ◌<◌, ◌≤◌, ◌∙◌, ap, sym, subst, arith, List, length, common_steps, cut, bare, frame_of, Tables, some_if, runner_view, runners_view, SpacesView, Translation, AreTrue, IsCaller, pieces_at, life_at, AreTablesSound, no_reservations, AllTrue, translations_of, counted, HasTable, length-map, Piece, Runner, MOST_PIECES}
+use Rattle.shm_attach.proofs.Names.{LostView, ◌≡◌, ℕ, ◌+◌, ◌*◌, ◌<◌, ◌≤◌, ◌∙◌, ap, sym, subst, arith, List, length, common_steps, cut, bare, frame_of, Tables, some_if, runner_view, runners_view, SpacesView, Translation, AreTrue, IsCaller, pieces_at, life_at, AreTablesSound, no_reservations, AllTrue, translations_of, counted, HasTable, length-map, Piece, Runner, MOST_PIECES}
 use Rattle.shm_attach.proofs.Processes.{some_if-le, seg-met}
 use Rattle.shm_attach.proofs.Callers.{caller_within, caller_born, with_pieces-of}
 use Rattle.shm_attach.proofs.Keeping.{pieces_at-changed, life_at-changed, with_pieces_at-twice}
@@ -109,7 +109,7 @@ invariant_of-self-2 g c =
     let b = goal.at.invariant_of-self-2 g c in
     let sound = sound-reserved (λ id. some_if id seg 1) no_reservations c.put.new.processes.entries c.put.new.tables c.replace.new.self (placed g b.After-put (reserved g b.In_ok-key))
     (λ id. omega (arith, c.replace.ensures.counts id, some_if-le id seg 0)) c.replace.ensures.tied c.replace.ensures.tables in
-    (sound, room_kept c.self.inside.most c.self.inside.processes.entries c.put.new.processes.entries c.self.invariant.1 (c.put.ensures.count ∙ c.take.ensures.count) (λ j. c.put.ensures.most j ∙ c.take.ensures.most j))
+    (sound, room_kept c.self.inside.most c.self.inside.processes.entries c.put.new.processes.entries c.self.invariant.1 (c.put.ensures.count ∙ c.take.ensures.count) (λ j. c.put.ensures.most j ∙ c.take.ensures.most j), ap (λ (l : LostView). l.most) c.note.ensures ∙ c.self.invariant.2)
 
 -- WHAT IT ENSURES
 

@@ -11,6 +11,7 @@ pub invariant_of-self : goal.invariant_of-self
 invariant_of-self c = (
   c.take.ensures.sound no_reservations c.self.invariant.0,
   room_kept c.self.inside.most c.self.inside.processes.entries c.take.new.processes.entries c.self.invariant.1 c.take.ensures.count c.take.ensures.most,
+  c.self.invariant.2,
 )
 
 pub returns-clause-gone : goal.returns-clause-gone

@@ -1,4 +1,4 @@
-use Rattle.shm_attach.proofs.Names.{◌≡◌, ◌<◌, ap, refl, arith, [], length, common_steps, map-map, lowest_address, end_address, cut, runners_view, SpacesView, pieces_at, no_reservations}
+use Rattle.shm_attach.proofs.Names.{LostView, ◌∙◌, ◌≡◌, ◌<◌, ap, refl, arith, [], length, common_steps, map-map, lowest_address, end_address, cut, runners_view, SpacesView, pieces_at, no_reservations}
 use Rattle.shm_attach.proofs.Callers.{caller_within, with_pieces-of}
 use Rattle.shm_attach.proofs.Keeping.{cut-all}
 use Rattle.shm_attach.proofs.Translations.{keeps}
@@ -28,6 +28,7 @@ pub invariant_of-self : goal.invariant_of-self
 invariant_of-self c = (
   c.take.ensures.sound no_reservations c.self.invariant.0,
   room_kept c.self.inside.most c.self.inside.processes.entries c.take.new.processes.entries c.self.invariant.1 c.take.ensures.count c.take.ensures.most,
+  ap (λ (l : LostView). l.most) c.note.ensures ∙ c.self.invariant.2,
 )
 
 pub returns-clause-lost : goal.returns-clause-lost

@@ -45,6 +45,7 @@ invariant_of-self c = (
   c.copy_pieces.ensures.sound,
   room_kept c.self.inside.most c.self.inside.processes.entries c.copy_pieces.new.processes.entries c.self.invariant.1 (c.copy_pieces.ensures.count ∙ c.set_life_at.ensures.count)
       (λ j. c.copy_pieces.ensures.most j ∙ c.set_life_at.ensures.most j),
+  c.self.invariant.2,
 )
 
 after : (c : After-copy_pieces)

@@ -1,4 +1,4 @@
-use Rattle.shm_attach.proofs.Names.{◌≡◌, take, map, arith, common_steps, take_all, runner_at_start, runners_view}
+use Rattle.shm_attach.proofs.Names.{LostView, ap, ◌≡◌, take, map, arith, common_steps, take_all, runner_at_start, runners_view}
 use Rattle.shm_attach.proofs.Starts.{room-more, IsExact-start, view-more, AllHaveTables-start}
 use Rattle.shm_attach.proofs.spaces.Spaces.new.Goals as goal
 
@@ -12,6 +12,7 @@ invariant_of-result c =
         tables = AllHaveTables-start c.loop-process.by_pid.entries c.args.processes.now c.new-2.result.slab same;
       },
       record { bound = c.requires.most; each = c.loop-process.invariant.room },
+      ap (λ (l : LostView). l.most) c.in_ok-lost.ensures,
     )
 
 pub loop-process-preserved : goal.loop-process-preserved
