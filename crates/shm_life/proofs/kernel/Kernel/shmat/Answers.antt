@@ -4,16 +4,16 @@ use Rattle.shm_life.proofs.Attaching.{shmat-placed, on-err}
 use Rattle.shm_life.proofs.Running.{granted, kept_refl, answered_as}
 use Rattle.shm_life.proofs.kernel.Kernel.shmat.Given.{Over}
 use Rattle.shm_life.proofs.kernel.Kernel.shmat.Goals as goal
-use Rattle.shm_life.proofs.kernel.Kernel.shmat.Goals.{After-place_for, After-as_slice}
+use Rattle.shm_life.proofs.kernel.Kernel.shmat.Goals.{After-place_for, After-lost}
 
-goes : (g : Over) (c : After-as_slice g) → Goes c.self.inside.limits c.attached.new.self.table c.attach.new.self.runners c.as_slice.result.now
+goes : (g : Over) (c : After-lost g) → Goes c.self.inside.limits c.attached.new.self.table c.attach.new.self.runners c.lost.result.now
 goes g c =
     let caller = c.args.caller.now in
     let rs = c.self.inside.spaces.runners in
     let p = c.in-Ok.placed in
     let is : IsCaller caller rs = rw (← c.self.view_is) at c.requires in
     let fits : PieceFits c.self.inside.segments.table (piece_for c.args.flags p) = rw (← c.self.view_is) at c.in-Ok.ensures.fits in
-    rw (c.attached.ensures, c.as_slice.ensures.value, c.in_ok-lost.ensures.lost, c.in_ok-lost.ensures.runners, c.contains-writable.ensures tt)
+    rw (c.attached.ensures, c.lost.ensures.value, c.in_ok-attach.ensures.lost, c.in_ok-attach.ensures.runners, c.contains-writable.ensures tt)
     (attached-goes c.self.inside.limits c.self.inside.segments.table rs caller c.args.time c.args.flags p c.self.invariant.0.kept is fits)
 
 pub attached-requires : goal.attached-requires
@@ -36,7 +36,7 @@ invariant_of-self-2 g c = (
       let store = c.store-store.ensures.value in
       let translated : AreTrue c.attach.new.self.translations m = rw store at (c.attach.ensures.translated (rw store c.self.invariant.0.translated)) in
       let same : c.attached.new.self.memory ≡ m = ap (λ (v : SegmentsView). v.memory) c.attached.ensures in
-      c.after_detach.ensures.well c.self.inside.limits (rw same (well-gone _ _ _ _ _ _ _ _ c.self.invariant.0 (goes g (goal.at.invariant_of-self-2 g c).After-as_slice) translated))),
+      c.after_detach.ensures.well c.self.inside.limits (rw same (well-gone _ _ _ _ _ _ _ _ c.self.invariant.0 (goes g (goal.at.invariant_of-self-2 g c).After-lost) translated))),
   c.attach.ensures.most ∙ c.self.invariant.1,
 )
 
@@ -53,13 +53,13 @@ outcome g c =
 pub returns-clause-served : goal.returns-clause-served
 returns-clause-served g c =
     let step = rw (c.in-Ok.is, ← c.self.view_is) at (outcome g (goal.at.returns-clause-served g c).After-place_for) in
-    let gone = rw (c.as_slice.ensures.value, c.in_ok-lost.ensures.lost, c.in_ok-lost.ensures.runners, c.contains-writable.ensures tt) at c.after_detach.ensures.table in
-    granted _ _ _ _ _ (rw (← c.self.view_is) (step ∙ rw (c.after_detach.ensures.sizes, gone, c.attached.ensures, attached-first, c.in_ok-lost.ensures.runners, c.contains-writable.ensures tt) refl)) refl (search (rules, kept_refl))
+    let gone = rw (c.lost.ensures.value, c.in_ok-attach.ensures.lost, c.in_ok-attach.ensures.runners, c.contains-writable.ensures tt) at c.after_detach.ensures.table in
+    granted _ _ _ _ _ (rw (← c.self.view_is) (step ∙ rw (c.after_detach.ensures.sizes, gone, c.attached.ensures, attached-first, c.in_ok-attach.ensures.runners, c.contains-writable.ensures tt) refl)) refl (search (rules, kept_refl))
 
 pub returns-in-Err-clause-served : goal.returns-in-Err-clause-served
 returns-in-Err-clause-served g c = answered_as _ _ _ _ (rw c.in-Err.is at (outcome g (goal.at.returns-in-Err-clause-served g c).After-place_for))
 
-pub returns-in_err-lost-clause-memory : goal.returns-in_err-lost-clause-memory
-returns-in_err-lost-clause-memory g c =
-    let step = rw c.in-Ok.is at (outcome g (goal.at.returns-in_err-lost-clause-memory g c).After-place_for) in
+pub returns-in_err-attach-clause-memory : goal.returns-in_err-attach-clause-memory
+returns-in_err-attach-clause-memory g c =
+    let step = rw c.in-Ok.is at (outcome g (goal.at.returns-in_err-attach-clause-memory g c).After-place_for) in
     on-err c.from_residual.result (record { unchanged = search rules; instead = ap (λ (o : Outcome). is_refusal o.reply) step })
