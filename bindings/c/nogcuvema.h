@@ -68,29 +68,36 @@ enum nog_code {
     NOG_CLOSED = 2002,         /* there is no machine in the handle */
     NOG_OUT_OF_RANGE = 2003,   /* a number that no call can carry */
     NOG_SPENT = 2004,          /* 2^64 - 1 calls were answered */
-    NOG_BAD_LIMITS = 2010,     /* never answered itself; 2011 to 2015: limit 1 to 5 of nog_limits is out of its range */
+    NOG_BAD_LIMITS = 2010,     /* never answered itself; 2011 to 2018: limit 1 to 8 of nog_limits is out of its range */
     NOG_BAD_SHMMAX = 2011,
     NOG_BAD_SHMMNI = 2012,
     NOG_BAD_SHMALL = 2013,
     NOG_BAD_FRAMES = 2014,
     NOG_BAD_MEMLOCK = 2015,
+    NOG_BAD_MOST_PIECES = 2016,
+    NOG_BAD_MOST_PROCESSES = 2017,
+    NOG_BAD_MOST_SLOTS = 2018,
     NOG_START_REFUSED = 2020,  /* never answered itself */
     NOG_BAD_AREAS = 2021,      /* there are not 1 to 8 swap areas */
-    NOG_BAD_AREA_SIZE = 2022,  /* an area has not 1 to 65536 slots */
-    NOG_BAD_PROCESSES = 2023,  /* there are more than 64 processes */
+    NOG_BAD_AREA_SIZE = 2022,  /* an area has no slot, or more than the limits allow */
+    NOG_BAD_PROCESSES = 2023,  /* there are more processes than the limits allow */
     NOG_BAD_PID = 2024         /* a pid is 0, above 2147483647, or stands twice */
 };
 
-/* The limits of a machine. A page has 4096 bytes. */
+/* The limits of a machine. A page has 4096 bytes. Where the last three are 0, the machine is of the profile: they stand
+   for 256, 64 and 65536, and the first five have the narrower of the ranges below. Else each has the wider one. */
 typedef struct nog_limits {
-    uint64_t shmmax;   /* the most bytes of a segment, 1 to 2^24 */
-    uint64_t shmmni;   /* the most segments, 1 to 4096 */
-    uint64_t shmall;   /* the most pages of all segments together, 1 to 65536 */
-    uint64_t frames;   /* page frames, 2 to 4096: so many pages are in memory, the others in swap areas */
-    uint64_t memlock;  /* the most pages of locked segments, 0 to frames - 2 */
+    uint64_t shmmax;          /* the most bytes of a segment, 1 to 2^24, or to 2^40 */
+    uint64_t shmmni;          /* the most segments, 1 to 4096, or to 32768 */
+    uint64_t shmall;          /* the most pages of all segments together, 1 to 65536, or to 2^28 */
+    uint64_t frames;          /* page frames, 2 to 4096, or to 2^24: so many pages are in memory, the others in swap areas */
+    uint64_t memlock;         /* the most pages of locked segments, 0 to frames - 2 */
+    uint64_t most_pieces;     /* the most pieces of a process, 1 to 65530 */
+    uint64_t most_processes;  /* the most processes, 1 to 32768 */
+    uint64_t most_slots;      /* the most slots of a swap area, 1 to 2^28 */
 } nog_limits;
 
-/* A swap area: its kind and how many pages it takes, 1 to 65536. */
+/* A swap area: its kind and how many pages it takes, 1 to what the limits allow. */
 enum nog_kind {
     NOG_RAM = 1,     /* a page of memory for each slot, taken when the machine is opened */
     NOG_SPARSE = 2,  /* memory for those slots only that hold other bytes than zeros; a write fails where there is none */
@@ -178,10 +185,11 @@ enum nog_key { NOG_PRIVATE = 0 };
 
 /* ---- a machine ---- */
 
-/* Opens a machine: with 1 to 8 swap areas, numbered from 0 in their order, the calls of them that fail, and up to 64
-   processes, children included. A handle that is open is opened anew: its machine before is closed where the new one
+/* Opens a machine: with 1 to 8 swap areas, numbered from 0 in their order, the calls of them that fail, and as many
+   processes as the limits allow, children included. What is not used yet takes no memory of the host but for the room that
+   is kept for it. A handle that is open is opened anew: its machine before is closed where the new one
    stands, and stays where it does not. The first of these that holds is answered:
-   NOG_BAD_SHMMAX to NOG_BAD_MEMLOCK: the first limit that is out of its range.
+   NOG_BAD_SHMMAX to NOG_BAD_MOST_SLOTS: the first limit that is out of its range.
    NOG_OUT_OF_RANGE: a kind is none; a failure's area or side is not there, or its call is 0.
    NOG_BAD_AREAS, NOG_BAD_AREA_SIZE, NOG_BAD_PROCESSES, NOG_BAD_PID: the first of these.
    NOG_NO_MEMORY: the heap gave none; it comes only in place of 0 and of the last two. */
@@ -211,7 +219,7 @@ uint32_t nog_get(nog_machine *machine, uint32_t pid, uint32_t key, uint64_t size
    NOG_EINVAL: the address is 0 with NOG_REMAP, or is no multiple of 4096 without NOG_RND; no segment had the identifier.
    NOG_EIDRM: its segment is destroyed. NOG_EACCES: reading, or without NOG_RDONLY writing, is not permitted.
    NOG_EINVAL: the range is not within 0x10000 to 0x7ffffffff000, or holds a piece and NOG_REMAP is not set. NOG_ENOMEM: no
-   range is left. NOG_EMFILE: the process would have more than 256 pieces. NOG_NO_MEMORY: the heap gave none. */
+   range is left. NOG_EMFILE: the process would have more pieces than the limits allow. NOG_NO_MEMORY: the heap gave none. */
 uint32_t nog_attach(nog_machine *machine, uint32_t pid, int32_t id, uint64_t addr, uint32_t flags, uint64_t *at);
 
 /* shmdt(2): detaches the segment that was attached at `addr`. The last detach of a marked segment destroys it.

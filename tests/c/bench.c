@@ -70,6 +70,27 @@ static uint32_t start(struct bench *b) {
     return code;
 }
 
+/* milliseconds and kilobytes that the opening of a large machine takes: 2^20 frames and 2^20 slots, none of them used yet */
+static uint32_t print_opening(void) {
+    const nog_limits limits = {.shmmax = 1u << 30, .shmmni = 32768, .shmall = 1u << 20, .frames = 1u << 20, .memlock = 1,
+                               .most_pieces = 65530, .most_processes = 32768, .most_slots = 1u << 20};
+    const nog_area swap = {NOG_SPARSE, 1u << 20};
+    const nog_failure none = {.call = 1};
+    const nog_process process = {.pid = PID, .is_born = 1, .uid = 100, .gid = 100};
+    nog_machine machine = NOG_MACHINE_INITIALIZER;
+    struct timespec began, ended;
+    resident();
+    long before = resident();
+    clock_gettime(CLOCK_MONOTONIC, &began);
+    uint32_t code = nog_open(&machine, &limits, &swap, 1, &none, 0, &process, 1);
+    clock_gettime(CLOCK_MONOTONIC, &ended);
+    double took = (double)(ended.tv_sec - began.tv_sec) * 1e3 + (double)(ended.tv_nsec - began.tv_nsec) / 1e6;
+    printf("%-44s %9.1f %9ld\n", "ms and kB of opening 2^20 frames and slots", took, resident() - before);
+    fflush(stdout);
+    nog_close(&machine);
+    return code;
+}
+
 static void print_row(struct bench *b, const char *name, call make, uint32_t calls) {
     measure(b, make, WARMING);
     printf("%-44s %9.0f\n", name, calls / measure(b, make, calls));
@@ -78,7 +99,7 @@ static void print_row(struct bench *b, const char *name, call make, uint32_t cal
 
 int main(void) {
     struct bench b = {.machine = NOG_MACHINE_INITIALIZER};
-    if (start(&b) != NOG_DONE) return 1;
+    if (print_opening() != NOG_DONE || start(&b) != NOG_DONE) return 1;
     printf("%-44s %9s\n", "calls a second from C", "");
     print_row(&b, "resident loads of 8 bytes", load, ACCESSES);
     print_row(&b, "resident stores of 8 bytes", store, ACCESSES);

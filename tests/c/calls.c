@@ -80,14 +80,49 @@ static void test_no_such_process(nog_machine *m) {
 
 static void test_limits(nog_machine *m) {
     static const struct { nog_limits limits; uint32_t code; } table[] = {
-        {{1, 1, 1, 2, 0}, NOG_DONE}, {{16777216, 4096, 65536, 4096, 4094}, NOG_DONE},
-        {{0, 0, 0, 0, 9}, NOG_BAD_SHMMAX}, {{16777217, 1, 1, 2, 0}, NOG_BAD_SHMMAX},
-        {{1, 0, 0, 0, 9}, NOG_BAD_SHMMNI}, {{1, 4097, 1, 2, 0}, NOG_BAD_SHMMNI},
-        {{1, 1, 0, 0, 9}, NOG_BAD_SHMALL}, {{1, 1, 65537, 2, 0}, NOG_BAD_SHMALL},
-        {{1, 1, 1, 1, 9}, NOG_BAD_FRAMES}, {{1, 1, 1, 4097, 0}, NOG_BAD_FRAMES},
-        {{1, 1, 1, 2, 1}, NOG_BAD_MEMLOCK}, {{1, 1, 1, 4096, UINT64_MAX}, NOG_BAD_MEMLOCK} };
+        {{1, 1, 1, 2, 0, 0, 0, 0}, NOG_DONE}, {{16777216, 4096, 65536, 4096, 4094, 0, 0, 0}, NOG_DONE},
+        {{0, 0, 0, 0, 9, 0, 0, 0}, NOG_BAD_SHMMAX}, {{16777217, 1, 1, 2, 0, 0, 0, 0}, NOG_BAD_SHMMAX},
+        {{1, 0, 0, 0, 9, 0, 0, 0}, NOG_BAD_SHMMNI}, {{1, 4097, 1, 2, 0, 0, 0, 0}, NOG_BAD_SHMMNI},
+        {{1, 1, 0, 0, 9, 0, 0, 0}, NOG_BAD_SHMALL}, {{1, 1, 65537, 2, 0, 0, 0, 0}, NOG_BAD_SHMALL},
+        {{1, 1, 1, 1, 9, 0, 0, 0}, NOG_BAD_FRAMES}, {{1, 1, 1, 4097, 0, 0, 0, 0}, NOG_BAD_FRAMES},
+        {{1, 1, 1, 2, 1, 0, 0, 0}, NOG_BAD_MEMLOCK}, {{1, 1, 1, 4096, UINT64_MAX, 0, 0, 0}, NOG_BAD_MEMLOCK},
+        {{1, 1, 1, 2, 0, 1, 3, 1}, NOG_DONE}, {{0, 0, 0, 0, 9, 0, 0, 1}, NOG_BAD_SHMMAX},
+        {{1, 0, 0, 0, 9, 0, 0, 1}, NOG_BAD_SHMMNI}, {{1, 1, 0, 0, 9, 0, 0, 1}, NOG_BAD_SHMALL},
+        {{1, 1, 1, 1, 9, 0, 0, 1}, NOG_BAD_FRAMES}, {{1, 1, 1, 2, 1, 0, 0, 1}, NOG_BAD_MEMLOCK},
+        {{1, 1, 1, 2, 0, 0, 0, 1}, NOG_BAD_MOST_PIECES}, {{1, 1, 1, 2, 0, 1, 0, 0}, NOG_BAD_MOST_PROCESSES},
+        {{1, 1, 1, 2, 0, 1, 1, 0}, NOG_BAD_MOST_SLOTS} };
     for (size_t i = 0; i < sizeof table / sizeof *table; i++)
         ANSWER(nog_open(m, &table[i].limits, &ram, 1, &none, 0, processes, 3), table[i].code);
+}
+
+/* the largest limits, and one more of each */
+static void test_largest(nog_machine *m) {
+    static const nog_limits largest = {(uint64_t)1 << 40, 32768, 1 << 28, 1 << 24, (1 << 24) - 2, 65530, 32768, 1 << 28};
+    static const uint32_t codes[] = {NOG_BAD_SHMMAX, NOG_BAD_SHMMNI, NOG_BAD_SHMALL, NOG_BAD_FRAMES, NOG_BAD_MEMLOCK,
+                                     NOG_BAD_MOST_PIECES, NOG_BAD_MOST_PROCESSES, NOG_BAD_MOST_SLOTS};
+    nog_limits mine = largest;
+    /* 2^24 frames have 2^36 bytes, which a host may not lend */
+    mine.frames = 1024;
+    mine.memlock = 1022;
+    ANSWER(nog_open(m, &mine, &ram, 1, &none, 0, processes, 3), NOG_DONE);
+    for (int i = 0; i < 8; i++) {
+        mine = largest;
+        uint64_t *numbers[] = {&mine.shmmax, &mine.shmmni, &mine.shmall, &mine.frames,
+                               &mine.memlock, &mine.most_pieces, &mine.most_processes, &mine.most_slots};
+        *numbers[i] += 1;
+        ANSWER(nog_open(m, &mine, &ram, 1, &none, 0, processes, 3), codes[i]);
+    }
+}
+
+/* the limits of slots and of processes are the machine's own */
+static void test_own_limits(nog_machine *m) {
+    static const nog_limits mine = {65536, 16, 64, 8, 1, 4, 3, 70000};
+    static const nog_area slots = {NOG_SPARSE, 70000}, more = {NOG_SPARSE, 70001};
+    nog_process four[4];
+    for (uint32_t i = 0; i < 4; i++) four[i] = (nog_process){i + 1, i == 0, 0, 0};
+    ANSWER(nog_open(m, &mine, &slots, 1, &none, 0, four, 3), NOG_DONE);
+    ANSWER(nog_open(m, &mine, &more, 1, &none, 0, four, 3), NOG_BAD_AREA_SIZE);
+    ANSWER(nog_open(m, &mine, &slots, 1, &none, 0, four, 4), NOG_BAD_PROCESSES);
 }
 
 static void test_areas(nog_machine *m) {
@@ -130,7 +165,7 @@ static void test_processes(nog_machine *m) {
 
 /* of several faults the first is answered: limits, what is out of range, then areas and processes */
 static void test_first_fault(nog_machine *m) {
-    static const nog_limits no_frames = {1, 1, 1, 1, 0};
+    static const nog_limits no_frames = {1, 1, 1, 1, 0, 0, 0, 0};
     static const nog_area strange = {4, 8}, large = {NOG_RAM, 65537};
     static const nog_failure far = {.area = 2, .call = 1};
     nog_process many[65];
@@ -334,7 +369,7 @@ static void test_flushes(nog_machine *m) {
 /* stores in three pages over two frames, so that the first goes out; then loads the first two, each of which comes in: what
    the third store and both loads answered, and a byte that was loaded is the one that was stored */
 static void test_paging(nog_machine *m, const nog_area *area, const nog_failure *failures, size_t count, const uint32_t codes[3]) {
-    static const nog_limits two_frames = {65536, 1, 3, 2, 0};
+    static const nog_limits two_frames = {65536, 1, 3, 2, 0, 0, 0, 0};
     uint64_t at = 0;
     int32_t id = -1;
     ANSWER(nog_open(m, &two_frames, area, 1, failures, count, processes, 3), NOG_DONE);
@@ -441,6 +476,8 @@ int main(void) {
     test_closed(&machine);
     test_no_such_process(&machine);
     test_limits(&machine);
+    test_largest(&machine);
+    test_own_limits(&machine);
     test_areas(&machine);
     test_failures(&machine);
     test_processes(&machine);

@@ -63,7 +63,7 @@ static void read_swap(struct swap *swap, const char *word) {
 
 static void open_machine(nog_machine *machine, const struct swap *swap) {
     const uint64_t *l = script.limits;
-    nog_limits limits = {l[0], l[1], l[2], l[3], l[4]};
+    nog_limits limits = {l[0], l[1], l[2], l[3], l[4], 0, 0, 0};
     nog_process processes[PROCESSES];
     for (int i = 0; i < script.process_count; i++) {
         const struct declared *p = &script.processes[i];

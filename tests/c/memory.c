@@ -172,7 +172,7 @@ static uint32_t end(nog_machine *m) { return nog_exit(m, CHILD); }
 
 /* three pages in two frames: the third needs one, whose page a sparse area has no memory to take */
 static void fail_write(nog_machine *m) {
-    static const nog_limits two_frames = {65536, 1, 3, 2, 0};
+    static const nog_limits two_frames = {65536, 1, 3, 2, 0, 0, 0, 0};
     static const nog_area sparse = {NOG_SPARSE, 3};
     nog_tally t;
     uint8_t byte = 0;
@@ -194,7 +194,7 @@ static void fail_write(nog_machine *m) {
 
 /* a sparse area has memory for the pages that it holds, and none once their segment is destroyed */
 static void give_back(nog_machine *m) {
-    static const nog_limits two_frames = {65536, 1, 6, 2, 0};
+    static const nog_limits two_frames = {65536, 1, 6, 2, 0, 0, 0, 0};
     static const nog_area sparse = {NOG_SPARSE, 6};
     nog_tally t;
     int32_t id;

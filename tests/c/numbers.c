@@ -15,9 +15,11 @@ static const struct { uint32_t code; const char *text; } texts[] = {
     {NOG_OUT_OF_RANGE, "a number that no call can carry"}, {NOG_SPENT, "no more calls can be counted"},
     {NOG_BAD_SHMMAX, "bad limits: SHMMAX"}, {NOG_BAD_SHMMNI, "bad limits: SHMMNI"}, {NOG_BAD_SHMALL, "bad limits: SHMALL"},
     {NOG_BAD_FRAMES, "bad limits: frames"}, {NOG_BAD_MEMLOCK, "bad limits: MEMLOCK"},
+    {NOG_BAD_MOST_PIECES, "bad limits: the most pieces of a process"}, {NOG_BAD_MOST_PROCESSES, "bad limits: the most processes"},
+    {NOG_BAD_MOST_SLOTS, "bad limits: the most slots of a swap area"},
     {NOG_BAD_AREAS, "start refused: not 1 to 8 swap areas"},
-    {NOG_BAD_AREA_SIZE, "start refused: a swap area without 1 to 65536 slots"},
-    {NOG_BAD_PROCESSES, "start refused: more than 64 processes"}, {NOG_BAD_PID, "start refused: a pid out of range, or twice"} };
+    {NOG_BAD_AREA_SIZE, "start refused: a swap area without slots, or with too many"},
+    {NOG_BAD_PROCESSES, "start refused: too many processes"}, {NOG_BAD_PID, "start refused: a pid out of range, or twice"} };
 
 static const struct { uint32_t here, there; } same[] = {
     {NOG_EPERM, EPERM}, {NOG_ENOENT, ENOENT}, {NOG_ESRCH, ESRCH}, {NOG_EIO, EIO}, {NOG_EAGAIN, EAGAIN}, {NOG_ENOMEM, ENOMEM},

@@ -19,7 +19,8 @@ class MachineStruct(Structure):
 
 
 class LimitsStruct(Structure):
-    _fields_ = [(name, c_uint64) for name in ("shmmax", "shmmni", "shmall", "frames", "memlock")]
+    _fields_ = [(name, c_uint64) for name in ("shmmax", "shmmni", "shmall", "frames", "memlock", "most_pieces",
+                                               "most_processes", "most_slots")]
 
 
 class AreaStruct(Structure):

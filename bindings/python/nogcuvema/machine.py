@@ -26,12 +26,18 @@ class Flag(enum.IntFlag):
 
 @dataclass(frozen=True)
 class Limits:
-    """The limits of a machine; a page has 4096 bytes."""
-    shmmax: int = 65536   # the most bytes of a segment, 1 to 2^24
-    shmmni: int = 16      # the most segments, 1 to 4096
-    shmall: int = 64      # the most pages of all segments together, 1 to 65536
-    frames: int = 16      # page frames, 2 to 4096: so many pages are in memory at once
-    memlock: int = 1      # the most pages of locked segments, 0 to frames - 2
+    """The limits of a machine; a page has 4096 bytes.
+
+    Where the last three are 0, the machine is of the profile: they stand for 256, 64 and 65536, and the first five have the
+    narrower of the ranges below. Else each has the wider one."""
+    shmmax: int = 65536      # the most bytes of a segment, 1 to 2^24, or to 2^40
+    shmmni: int = 16         # the most segments, 1 to 4096, or to 32768
+    shmall: int = 64         # the most pages of all segments together, 1 to 65536, or to 2^28
+    frames: int = 16         # page frames, 2 to 4096, or to 2^24: so many pages are in memory at once
+    memlock: int = 1         # the most pages of locked segments, 0 to frames - 2
+    most_pieces: int = 0     # the most pieces of a process, 1 to 65530
+    most_processes: int = 0  # the most processes, 1 to 32768
+    most_slots: int = 0      # the most slots of a swap area, 1 to 2^28
 
 
 @dataclass(frozen=True)

@@ -5,21 +5,38 @@ use Rattle.std.proofs.lemmas.Bool.Decides.{nat_tests}
 use Rattle.std.proofs.lemmas.Grind.{common_steps}
 use Rattle.shm_life.specs.declared.start.StartError.{StartError}
 use Rattle.shm_life.specs.Start.{error_number}
-use Rattle.nogcuvema.specs.Opens.{start_code, may_want_memory, opening_code}
-use Rattle.shm_base.specs.Bounds.{within}
+use Rattle.nogcuvema.specs.Opens.{start_code, may_want_memory, opening_code, is_of_profile, numbers_of, limits_by}
+use Rattle.shm_base.specs.Bounds.{within, limits_within, machine_limits_of, largest, largest_profile, profile}
 
 past : (b : Bool) (n : ℕ) (r : Result Bounds BadLimits) (x : Bounds) → (if b then bad n else r) ≡ Ok x → r ≡ Ok x
 past true n r x h = absurd (cc h)
 past false n r x h = h
 
-bounds-are : (l : NogLimits) (x : Bounds) → limits_of l.shmmax l.shmmni l.shmall l.frames l.memlock ≡ Ok x → x ≡ bounds_of l
-bounds-are l x h =
-    let ok : Ok (bounds_of l) ≡ Ok x = past (nat_lt l.frames (l.memlock + 2)) 5 _ x (past (not (within 2 4096 l.frames)) 4 _ x (past (not (within 1 65536 l.shmall)) 3 _ x (past (not (within 1 4096 l.shmmni)) 2 _ x (past (not (within 1 16777216 l.shmmax)) 1 _ x h)))) in
-    let same : bounds_of l ≡ x = cc ok in
+-- limits that are granted are as they were asked for
+granted : (most b x : Bounds) → limits_within most b ≡ Ok x → x ≡ b
+granted most b x h =
+    let ok : Ok b ≡ Ok x =
+    past (not (within 1 most.most_slots b.most_slots)) 8 _ x
+    (past (not (within 1 most.most_processes b.most_processes)) 7 _ x
+    (past (not (within 1 most.most_pieces b.most_pieces)) 6 _ x
+    (past (nat_lt b.frames (b.memlock + 2)) 5 _ x
+    (past (not (within 2 most.frames b.frames)) 4 _ x
+    (past (not (within 1 most.shmall b.shmall)) 3 _ x
+    (past (not (within 1 most.shmmni b.shmmni)) 2 _ x (past (not (within 1 most.shmmax b.shmmax)) 1 _ x h)))))))
+    in
+    let same : b ≡ x = cc ok in
     sym same
 
+bounds-are : (l : NogLimits) (x : Bounds) → limits_by l ≡ Ok x → x ≡ bounds_of l
+bounds-are l x h = by (is_of_profile l) refl h
+  where
+    by : (b : Bool) → is_of_profile l ≡ b → (if b then limits_of l.shmmax l.shmmni l.shmall l.frames l.memlock else machine_limits_of (numbers_of l)) ≡ Ok x
+        → x ≡ (if b then profile l.shmmax l.shmmni l.shmall l.frames l.memlock else numbers_of l)
+    by true is h = granted largest_profile (profile l.shmmax l.shmmni l.shmall l.frames l.memlock) x h
+    by false is h = granted largest (numbers_of l) x h
+
 pub opens : (l : NogLimits) (areas : List NogArea) (failures : List NogFailure) (processes : List NogProcess) (x : Bounds) (given : List AreaConfig) (ps : List Process) (m : Machine)
-    → limits_of l.shmmax l.shmmni l.shmall l.frames l.memlock ≡ Ok x → are_kinds areas ≡ true → are_there areas failures ≡ true
+    → limits_by l ≡ Ok x → are_kinds areas ≡ true → are_there areas failures ≡ true
     → given ≡ map area_of areas → ps ≡ map process_of processes → start_error x (sizes_of given) ps ≡ None → IsOpened x given ps m.system → Opens l areas failures processes m
 opens l areas failures processes x given ps m limits kinds there same-areas same-processes start opened =
     let none : start_error x (sizes_of (map area_of areas)) (map process_of processes) ≡ None = rw (← same-areas, ← same-processes) start in
@@ -42,7 +59,7 @@ areas-first limits sizes ps e first = grind (arith, common_steps)
 areas-then : (limits : Bounds) (sizes : List ℕ) (ps : List Process) → start_error limits sizes [] ≡ None → may_want_memory (start_code (start_error limits sizes ps)) ≡ true
 areas-then limits sizes ps none = grind (arith, common_steps, nat_tests)
 
-module _ (l : NogLimits) (areas : List NogArea) (failures : List NogFailure) (processes : List NogProcess) (x : Bounds) (limits : limits_of l.shmmax l.shmmni l.shmall l.frames l.memlock ≡ Ok x) (kinds : are_kinds areas ≡ true) (there : are_there areas failures ≡ true) where
+module _ (l : NogLimits) (areas : List NogArea) (failures : List NogFailure) (processes : List NogProcess) (x : Bounds) (limits : limits_by l ≡ Ok x) (kinds : are_kinds areas ≡ true) (there : are_there areas failures ≡ true) where
   coded : opening_code l areas failures processes ≡ start_code (start_error x (sizes_of (map area_of areas)) (map process_of processes))
   coded = rw (limits, kinds, there) refl
 

@@ -1,7 +1,7 @@
 -- What nog_open answers, and which machine it opens.
 use Rattle.std.specs.Prelude.{ℕ, ◌≡◌, ◌≢◌, ◌+◌, ◌⊎◌, Bool, true, false, not, ◌&&◌, ◌||◌, ◌==◌, nat_le, nat_lt, if◌then◌else◌, List, map, Option, Some, None, Result, Ok, Err, slice_get, IsSomeAnd}
 use Rattle.std.specs.List.{list_all}
-use Rattle.shm_base.specs.Bounds.{Bounds, within, limits_of, profile}
+use Rattle.shm_base.specs.Bounds.{Bounds, within, limits_of, machine_limits_of, profile}
 use Rattle.shm_base.specs.declared.limits.BadLimits.{BadLimits}
 use Rattle.shm_base.specs.declared.call.Process.{Process}
 use Rattle.shm_life.specs.Start.{start_error, error_number}
@@ -56,12 +56,33 @@ code_by (Ok limits) areas failures processes =
     if not (are_kinds areas && are_there areas failures) then out_of_range else
     start_code (start_error limits (sizes_of (map area_of areas)) (map process_of processes))
 
--- the first refusal that holds, 0 where none does: a limit, a number that nothing can carry, a start error
-abbrev pub opening_code : NogLimits → List NogArea → List NogFailure → List NogProcess → ℕ
-opening_code l areas failures processes = code_by (limits_of l.shmmax l.shmmni l.shmall l.frames l.memlock) areas failures processes
+-- whether the numbers that the profile fixes are left out
+abbrev pub is_of_profile : NogLimits → Bool
+is_of_profile l = (l.most_pieces == 0) && (l.most_processes == 0) && (l.most_slots == 0)
+
+-- all eight numbers as they are given
+abbrev pub numbers_of : NogLimits → Bounds
+numbers_of l =
+    record {
+      shmmax = l.shmmax;
+      shmmni = l.shmmni;
+      shmall = l.shmall;
+      frames = l.frames;
+      memlock = l.memlock;
+      most_pieces = l.most_pieces;
+      most_processes = l.most_processes;
+      most_slots = l.most_slots;
+    }
+
+abbrev pub limits_by : NogLimits → Result Bounds BadLimits
+limits_by l = if is_of_profile l then limits_of l.shmmax l.shmmni l.shmall l.frames l.memlock else machine_limits_of (numbers_of l)
 
 abbrev pub bounds_of : NogLimits → Bounds
-bounds_of l = profile l.shmmax l.shmmni l.shmall l.frames l.memlock
+bounds_of l = if is_of_profile l then profile l.shmmax l.shmmni l.shmall l.frames l.memlock else numbers_of l
+
+-- the first refusal that holds, 0 where none does: a limit, a number that nothing can carry, a start error
+abbrev pub opening_code : NogLimits → List NogArea → List NogFailure → List NogProcess → ℕ
+opening_code l areas failures processes = code_by (limits_by l) areas failures processes
 
 -- such a machine stands, and nothing is refused
 pub record Opens (l : NogLimits) (areas : List NogArea) (failures : List NogFailure) (processes : List NogProcess) (m : Machine) : Type 0 where

@@ -36,9 +36,12 @@ fn text_of(code: u32) -> Option<&'static str>
         2013 => Some("bad limits: SHMALL"),
         2014 => Some("bad limits: frames"),
         2015 => Some("bad limits: MEMLOCK"),
+        2016 => Some("bad limits: the most pieces of a process"),
+        2017 => Some("bad limits: the most processes"),
+        2018 => Some("bad limits: the most slots of a swap area"),
         2021 => Some("start refused: not 1 to 8 swap areas"),
-        2022 => Some("start refused: a swap area without 1 to 65536 slots"),
-        2023 => Some("start refused: more than 64 processes"),
+        2022 => Some("start refused: a swap area without slots, or with too many"),
+        2023 => Some("start refused: too many processes"),
         2024 => Some("start refused: a pid out of range, or twice"),
         _ => None,
     }
@@ -80,7 +83,7 @@ pub extern "C" fn nog_version() -> u32
 
 const MACHINE: [usize; 3] = [size_of::<Handle>(), 0, 8];
 
-const LIMITS: [usize; 6] = [size_of::<NogLimits>(), 0, 8, 16, 24, 32];
+const LIMITS: [usize; 9] = [size_of::<NogLimits>(), 0, 8, 16, 24, 32, 40, 48, 56];
 
 const AREA: [usize; 3] = [size_of::<NogArea>(), 0, 4];
 

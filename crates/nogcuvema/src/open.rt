@@ -3,12 +3,12 @@ ghost use Rattle.std.specs.Prelude.{◌≡◌, ◌≢◌, [], map, IfOk, IfErr, 
 ghost use Rattle.shm_life.specs.Start.{start_error};
 ghost use Rattle.shm_machine.specs.Opened.{sizes_of};
 ghost use Rattle.nogcuvema.specs.Answers.{closed};
-ghost use Rattle.nogcuvema.specs.Opens.{kind_of, area_of, failure_of, process_of, are_kinds, is_there, are_there, Opens, OpenedTo, IsRefusedBy};
+ghost use Rattle.nogcuvema.specs.Opens.{kind_of, area_of, failure_of, limits_by, process_of, are_kinds, is_there, are_there, Opens, OpenedTo, IsRefusedBy};
 
 use crate::code::{CLOSED, DONE, NO_MEMORY, OUT_OF_RANGE};
 use crate::handle::Handle;
 use crate::structs::{NogArea, NogFailure, NogLimits, NogProcess};
-use shm_base::{Cred, Limits, Process};
+use shm_base::{BadLimits, Cred, Limits, Process, Sizes};
 use shm_life::{StartError, first_area_error};
 use shm_machine::{AreaConfig, AreaKind, Failure, Machine, Side};
 use std::alloc::{AllocError, Global};
@@ -109,6 +109,35 @@ fn are_there(areas: &[NogArea], failures: &[NogFailure]) -> bool
     true
 }
 
+// The limits, or which is the first that is out of its range: the profile's where the last three numbers are 0.
+fn limits_by(limits: &NogLimits) -> Result<Limits, BadLimits>
+    ensures { result ≡ limits_by limits.now }
+{
+    let NogLimits {
+        shmmax,
+        shmmni,
+        shmall,
+        frames,
+        memlock,
+        most_pieces,
+        most_processes,
+        most_slots,
+    } = *limits;
+    if most_pieces == 0 && most_processes == 0 && most_slots == 0 {
+        return Limits::new(shmmax, shmmni, shmall, frames, memlock);
+    }
+    Limits::of(&Sizes {
+        shmmax,
+        shmmni,
+        shmall,
+        frames,
+        memlock,
+        most_pieces,
+        most_processes,
+        most_slots,
+    })
+}
+
 // The first start error of the areas that holds.
 fn area_error(limits: &Limits, areas: &[NogArea]) -> Option<StartError>
     ensures { result ≡ start_error limits.now (sizes_of (map area_of areas.now)) [] }
@@ -129,13 +158,7 @@ fn machine_of(
     ensures err { IfErr result (λ code.
         (code ≢ 0) × IsRefusedBy limits.now areas.now failures.now processes.now code) }
 {
-    let bounds = match Limits::new(
-        limits.shmmax,
-        limits.shmmni,
-        limits.shmall,
-        limits.frames,
-        limits.memlock,
-    ) {
+    let bounds = match limits_by(limits) {
         Ok(bounds) => bounds,
         Err(bad) => return Err(BAD_LIMITS + u32::from(bad.0)),
     };

@@ -5,7 +5,8 @@ ghost use Rattle.nogcuvema.specs.Shown.{shown_by, tally_by, report_by};
 use bitflags::Flags;
 use shm_base::{FlushReport, ShmidDs, Tally};
 
-/// The limits of a machine.
+/// The limits of a machine. Where the last three are 0 they are the profile's (256 pieces, 64 processes, 65536 slots),
+/// and the first five have the profile's ranges; else all eight have the ranges of [`Limits::of`](shm_base::Limits::of).
 #[repr(C)]
 #[derive(Clone, Copy)]
 pub struct NogLimits {
@@ -14,6 +15,9 @@ pub struct NogLimits {
     pub shmall: u64,
     pub frames: u64,
     pub memlock: u64,
+    pub most_pieces: u64,
+    pub most_processes: u64,
+    pub most_slots: u64,
 }
 
 /// A swap area: its kind, 1 ram, 2 sparse, 3 a mirror, and how many slots it has, or each side of a mirror.

@@ -1,6 +1,6 @@
 -- What comes back of a gauge's keeper that was handed to a run.
-use Rattle.std.specs.Prelude.{◌≡◌, ◌<◌, ◌⊎◌, Option, Some, None, length}
-use Rattle.shm_history.specs.Gauges.{CellName, Seat, reading_of}
+use Rattle.std.specs.Prelude.{◌≡◌, ◌<◌, ◌⊎◌, false, Option, Some, None, length}
+use Rattle.shm_history.specs.Gauges.{CellName, Seat, has_gauge, reading_of}
 use Rattle.shm_history.specs.WorldState.{WorldState, tally_of}
 use Rattle.shm_history.specs.declared.cell.Reading.{Reading}
 
@@ -9,9 +9,9 @@ abbrev pub cell_of : Option Seat → Option CellName
 cell_of None = None
 cell_of (Some k) = Some k.cell
 
--- the counts are the world's, or have more events than its history
+-- the counts are the world's, or have more events than its history, or the world is too large for a gauge
 abbrev pub IsCaughtUp : WorldState → Reading → Type 0
-IsCaughtUp world counts = (counts ≡ reading_of (tally_of world)) ⊎ (length world.events < counts.events)
+IsCaughtUp world counts = (counts ≡ reading_of (tally_of world)) ⊎ (length world.events < counts.events) ⊎ (has_gauge world.machine.limits ≡ false)
 
 -- so it is with the keeper, if there is one
 abbrev pub HasPublished : WorldState → Option Seat → Type 0

@@ -1,0 +1,543 @@
+//! System V shared memory as a library: `shmget`, `shmat`, `shmdt` and `shmctl` over simulated processes, page frames and
+//! swap areas, each call with the exact answer of POSIX.1-2017 and the Linux manual pages.
+//!
+//! This crate is a thin cover of the C library, whose functions are proved. The cover itself is tested, not proved.
+//!
+//! ```no_run
+//! use nogcuvema::{Area, Limits, Machine, Process};
+//!
+//! let mut machine = Machine::open(&Limits::default(), &[Area::ram(64)], &[Process::live(1, 100, 100)])?;
+//! let id = machine.get(1, nogcuvema::PRIVATE, 8192, 0o600, 0)?;
+//! let at = machine.attach(1, id, 0, 0)?;
+//! machine.store(1, at + 4094, b"seam")?;
+//! # Ok::<(), nogcuvema::Error>(())
+//! ```
+#![warn(missing_docs)]
+pub mod raw;
+
+use std::fmt;
+use std::marker::PhantomData;
+use std::ptr::null_mut;
+
+pub use raw::{Flushed, Segment, Tally};
+
+/// `IPC_PRIVATE`: [`Machine::get`] always makes a segment.
+pub const PRIVATE: u32 = 0;
+/// `IPC_CREAT`, for [`Machine::get`].
+pub const CREAT: u32 = 512;
+/// `IPC_EXCL`, for [`Machine::get`].
+pub const EXCL: u32 = 1024;
+/// `SHM_RDONLY`, for [`Machine::attach`].
+pub const RDONLY: u32 = 4096;
+/// `SHM_RND`, for [`Machine::attach`].
+pub const RND: u32 = 8192;
+/// `SHM_REMAP`, for [`Machine::attach`].
+pub const REMAP: u32 = 16384;
+/// In [`Segment::status`]: the segment is marked, and goes with its last piece.
+pub const DEST: u32 = 512;
+/// In [`Segment::status`]: the segment's pages stay in their frames.
+pub const LOCKED: u32 = 1024;
+
+/// Why a call was not done. The number is that of the C header: errno(3)'s by Linux's numbers, 1007 for SIGBUS, 1011 for
+/// SIGSEGV, and from 2001 on what is no answer to a guest.
+#[derive(Clone, Copy, PartialEq, Eq, Hash)]
+pub struct Errno(pub u32);
+
+/// The same, by the name that is usual in Rust.
+pub type Error = Errno;
+
+macro_rules! codes {
+    ($($(#[$about:meta])* $name:ident = $number:literal;)*) => {
+        impl Errno {
+            $($(#[$about])* pub const $name: Errno = Errno($number);)*
+        }
+    };
+}
+
+codes! {
+    /// The caller may not do this.
+    EPERM = 1;
+    /// No segment has the key.
+    ENOENT = 2;
+    /// The caller is no live process.
+    ESRCH = 3;
+    /// A swap area failed at [`Machine::swapoff`].
+    EIO = 5;
+    /// No unborn child has the pid.
+    EAGAIN = 11;
+    /// There is no room for the pages, or for the lock.
+    ENOMEM = 12;
+    /// The permission bits say no.
+    EACCES = 13;
+    /// A segment has the key.
+    EEXIST = 17;
+    /// An argument is out of what the call takes.
+    EINVAL = 22;
+    /// The process has too many pieces.
+    EMFILE = 24;
+    /// There are too many segments, or pages.
+    ENOSPC = 28;
+    /// The segment was removed.
+    EIDRM = 43;
+    /// A swap area failed while a page was brought in.
+    SIGBUS = 1007;
+    /// Nothing is attached there, or it may not be written.
+    SIGSEGV = 1011;
+    /// The program's heap gave no memory.
+    NO_MEMORY = 2001;
+    /// A number that no call can carry.
+    OUT_OF_RANGE = 2003;
+    /// 2^64 - 1 calls were answered.
+    SPENT = 2004;
+}
+
+impl Errno {
+    /// The text of the code, as `EINVAL`.
+    pub fn text(self) -> String {
+        let mut bytes = [0_u8; 128];
+        let mut len = 0;
+        // SAFETY: the buffer has the length that is handed in, and `len` is a place for a number.
+        match unsafe { raw::nog_text(self.0, bytes.as_mut_ptr(), bytes.len(), &mut len) } {
+            0 => String::from_utf8_lossy(&bytes[..len.min(bytes.len() - 1)]).into_owned(),
+            _ => format!("code {}", self.0),
+        }
+    }
+}
+
+impl fmt::Display for Errno {
+    fn fmt(&self, out: &mut fmt::Formatter<'_>) -> fmt::Result {
+        out.write_str(&self.text())
+    }
+}
+
+impl fmt::Debug for Errno {
+    fn fmt(&self, out: &mut fmt::Formatter<'_>) -> fmt::Result {
+        write!(out, "Errno({}, {})", self.0, self.text())
+    }
+}
+
+impl std::error::Error for Errno {}
+
+/// An answer, or why there is none.
+pub type Answer<T> = Result<T, Errno>;
+
+fn done(code: u32) -> Answer<()> {
+    match code {
+        0 => Ok(()),
+        code => Err(Errno(code)),
+    }
+}
+
+/// The limits of a machine; a page has 4096 bytes. Where the last three are 0 the machine is of the profile: they stand for
+/// 256, 64 and 65536, and the first five have the narrower of the ranges below. Else each has the wider one.
+#[derive(Clone, Copy, Debug, PartialEq, Eq)]
+pub struct Limits {
+    /// The most bytes of a segment, 1 to 2^24, or to 2^40.
+    pub shmmax: u64,
+    /// The most segments, 1 to 4096, or to 32768.
+    pub shmmni: u64,
+    /// The most pages of all segments together, 1 to 65536, or to 2^28.
+    pub shmall: u64,
+    /// Page frames, 2 to 4096, or to 2^24.
+    pub frames: u64,
+    /// The most pages of locked segments, 0 to `frames` - 2.
+    pub memlock: u64,
+    /// The most pieces of a process, 1 to 65530.
+    pub most_pieces: u64,
+    /// The most processes, 1 to 32768.
+    pub most_processes: u64,
+    /// The most slots of a swap area, 1 to 2^28.
+    pub most_slots: u64,
+}
+
+impl Default for Limits {
+    /// A small machine of the profile: 16 segments, 64 pages, 16 frames.
+    fn default() -> Limits {
+        Limits {
+            shmmax: 65536,
+            shmmni: 16,
+            shmall: 64,
+            frames: 16,
+            memlock: 1,
+            most_pieces: 0,
+            most_processes: 0,
+            most_slots: 0,
+        }
+    }
+}
+
+/// A read or a write of a swap area that fails.
+#[derive(Clone, Copy, Debug, PartialEq, Eq)]
+pub struct Failure {
+    /// Its number among the reads, or the writes, from 1.
+    pub call: u64,
+    /// Whether it is a write.
+    pub is_write: bool,
+    /// 1 for a mirror's right side, else 0.
+    pub side: u32,
+}
+
+/// A swap area.
+#[derive(Clone, Debug, PartialEq, Eq)]
+pub struct Area {
+    kind: u32,
+    slots: u32,
+    failures: Vec<Failure>,
+}
+
+impl Area {
+    fn of(kind: u32, slots: u32) -> Area {
+        Area {
+            kind,
+            slots,
+            failures: Vec::new(),
+        }
+    }
+
+    /// A page of memory for each slot.
+    pub fn ram(slots: u32) -> Area {
+        Area::of(1, slots)
+    }
+
+    /// Memory for those slots only that hold other bytes than zeros.
+    pub fn sparse(slots: u32) -> Area {
+        Area::of(2, slots)
+    }
+
+    /// Two sides in memory, kept alike: a page is read from the left one, or else from the right.
+    pub fn mirror(slots: u32) -> Area {
+        Area::of(3, slots)
+    }
+
+    /// The same, with one more read or write that fails.
+    pub fn failing(mut self, failure: Failure) -> Area {
+        self.failures.push(failure);
+        self
+    }
+}
+
+/// A process that a machine may have.
+#[derive(Clone, Copy, Debug, PartialEq, Eq)]
+pub struct Process {
+    pid: u32,
+    born: Option<(u32, u32)>,
+}
+
+impl Process {
+    /// One that is there from the beginning, with its effective user and group. User 0 passes each test of permission.
+    pub fn live(pid: u32, uid: u32, gid: u32) -> Process {
+        Process {
+            pid,
+            born: Some((uid, gid)),
+        }
+    }
+
+    /// A child that a fork may begin.
+    pub fn child(pid: u32) -> Process {
+        Process { pid, born: None }
+    }
+
+    fn raw(&self) -> raw::Process {
+        let (uid, gid) = self.born.unwrap_or((0, 0));
+        raw::Process {
+            pid: self.pid,
+            is_born: u32::from(self.born.is_some()),
+            uid,
+            gid,
+        }
+    }
+}
+
+/// An access that was ended midway: why, and how many bytes were read or written before.
+#[derive(Clone, Copy, Debug, PartialEq, Eq)]
+pub struct Stopped {
+    /// Why it ended.
+    pub errno: Errno,
+    /// How many bytes were done.
+    pub done: u64,
+}
+
+impl fmt::Display for Stopped {
+    fn fmt(&self, out: &mut fmt::Formatter<'_>) -> fmt::Result {
+        write!(out, "{} behind {} bytes", self.errno, self.done)
+    }
+}
+
+impl std::error::Error for Stopped {}
+
+/// What one guest system shares: its processes, segments, page frames and swap areas. It may go to another thread, and is
+/// used by one at a time.
+pub struct Machine {
+    handle: raw::Handle,
+    // the handle's memory is this machine's own
+    owns: PhantomData<Box<[u8]>>,
+}
+
+// SAFETY: the library has no state but its machines, and a machine is used by one thread at a time.
+unsafe impl Send for Machine {}
+
+impl Drop for Machine {
+    fn drop(&mut self) {
+        // SAFETY: the handle is open, and is not used again.
+        unsafe { raw::nog_close(&mut self.handle) };
+    }
+}
+
+fn stopped(code: u32, done_bytes: u64) -> Result<(), Stopped> {
+    done(code).map_err(|errno| Stopped {
+        errno,
+        done: done_bytes,
+    })
+}
+
+// SAFETY of each call below: the handle is open and borrowed for writing, every pointer is to a place or a slice that lives
+// through the call, with the slice's length beside it, and no two overlap.
+impl Machine {
+    /// Opens a machine with 1 to 8 swap areas. Its processes are declared here, children included.
+    ///
+    /// # Errors
+    /// 2011 to 2018 for the first limit that is out of its range; [`Errno::OUT_OF_RANGE`] for a failure of a side that is
+    /// not there, or of call 0; 2021 to 2024 for areas and processes, as the C header says; [`Errno::NO_MEMORY`].
+    pub fn open(limits: &Limits, areas: &[Area], processes: &[Process]) -> Answer<Machine> {
+        let limits = raw::Limits {
+            shmmax: limits.shmmax,
+            shmmni: limits.shmmni,
+            shmall: limits.shmall,
+            frames: limits.frames,
+            memlock: limits.memlock,
+            most_pieces: limits.most_pieces,
+            most_processes: limits.most_processes,
+            most_slots: limits.most_slots,
+        };
+        let failures: Vec<raw::Failure> = (0_u32..)
+            .zip(areas)
+            .flat_map(|(area, it)| it.failures.iter().map(move |failure| (area, failure)))
+            .map(|(area, failure)| raw::Failure {
+                area,
+                side: failure.side,
+                is_write: u32::from(failure.is_write),
+                unused: 0,
+                call: failure.call,
+            })
+            .collect();
+        let areas: Vec<raw::Area> = areas
+            .iter()
+            .map(|area| raw::Area {
+                kind: area.kind,
+                slots: area.slots,
+            })
+            .collect();
+        let processes: Vec<raw::Process> = processes.iter().map(Process::raw).collect();
+        let mut handle = raw::Handle {
+            is_open: 0,
+            kept: null_mut(),
+        };
+        // SAFETY: the handle is closed; each list is as long as is said.
+        done(unsafe {
+            raw::nog_open(
+                &mut handle,
+                &limits,
+                areas.as_ptr(),
+                areas.len(),
+                failures.as_ptr(),
+                failures.len(),
+                processes.as_ptr(),
+                processes.len(),
+            )
+        })?;
+        Ok(Machine {
+            handle,
+            owns: PhantomData,
+        })
+    }
+
+    /// shmget(2): the identifier of the segment with this key, or of a new one.
+    ///
+    /// # Errors
+    /// EEXIST, EINVAL, EACCES, ENOENT, ENOSPC, ENOMEM, ESRCH.
+    pub fn get(&mut self, pid: u32, key: u32, size: u64, mode: u32, flags: u32) -> Answer<i32> {
+        let mut id = 0;
+        done(unsafe { raw::nog_get(&mut self.handle, pid, key, size, mode, flags, &mut id) })?;
+        Ok(id)
+    }
+
+    /// shmat(2): the address at which the segment is attached; where `addr` is 0 the machine chooses it.
+    ///
+    /// # Errors
+    /// EINVAL, EIDRM, EACCES, ENOMEM, EMFILE, ESRCH.
+    pub fn attach(&mut self, pid: u32, id: i32, addr: u64, flags: u32) -> Answer<u64> {
+        let mut at = 0;
+        done(unsafe { raw::nog_attach(&mut self.handle, pid, id, addr, flags, &mut at) })?;
+        Ok(at)
+    }
+
+    /// shmdt(2).
+    ///
+    /// # Errors
+    /// EINVAL, ESRCH.
+    pub fn detach(&mut self, pid: u32, addr: u64) -> Answer<()> {
+        done(unsafe { raw::nog_detach(&mut self.handle, pid, addr) })
+    }
+
+    /// shmctl(2), IPC_STAT.
+    ///
+    /// # Errors
+    /// EINVAL, EIDRM, EACCES, ESRCH.
+    pub fn stat(&mut self, pid: u32, id: i32) -> Answer<Segment> {
+        let mut segment = Segment::default();
+        done(unsafe { raw::nog_stat(&mut self.handle, pid, id, &mut segment) })?;
+        Ok(segment)
+    }
+
+    /// shmctl(2), IPC_SET.
+    ///
+    /// # Errors
+    /// EINVAL, EIDRM, EPERM, ESRCH.
+    pub fn set(&mut self, pid: u32, id: i32, uid: u32, gid: u32, mode: u32) -> Answer<()> {
+        done(unsafe { raw::nog_set(&mut self.handle, pid, id, uid, gid, mode) })
+    }
+
+    /// shmctl(2), IPC_RMID.
+    ///
+    /// # Errors
+    /// EINVAL, EIDRM, EPERM, ESRCH.
+    pub fn remove(&mut self, pid: u32, id: i32) -> Answer<()> {
+        done(unsafe { raw::nog_remove(&mut self.handle, pid, id) })
+    }
+
+    /// shmctl(2), SHM_LOCK.
+    ///
+    /// # Errors
+    /// EINVAL, EIDRM, EPERM, ENOMEM, ESRCH.
+    pub fn lock(&mut self, pid: u32, id: i32) -> Answer<()> {
+        done(unsafe { raw::nog_lock(&mut self.handle, pid, id) })
+    }
+
+    /// shmctl(2), SHM_UNLOCK.
+    ///
+    /// # Errors
+    /// EINVAL, EIDRM, EPERM, ESRCH.
+    pub fn unlock(&mut self, pid: u32, id: i32) -> Answer<()> {
+        done(unsafe { raw::nog_unlock(&mut self.handle, pid, id) })
+    }
+
+    /// Reads 1 to 64 bytes in one step.
+    ///
+    /// # Errors
+    /// SIGSEGV, SIGBUS, ESRCH, and OUT_OF_RANGE for another length.
+    pub fn load(&mut self, pid: u32, addr: u64, bytes: &mut [u8]) -> Answer<()> {
+        done(unsafe { raw::nog_load(&mut self.handle, pid, addr, bytes.as_mut_ptr(), bytes.len()) })
+    }
+
+    /// Writes 1 to 64 bytes in one step.
+    ///
+    /// # Errors
+    /// SIGSEGV, SIGBUS, ESRCH, and OUT_OF_RANGE for another length.
+    pub fn store(&mut self, pid: u32, addr: u64, bytes: &[u8]) -> Answer<()> {
+        done(unsafe { raw::nog_store(&mut self.handle, pid, addr, bytes.as_ptr(), bytes.len()) })
+    }
+
+    /// Adds to a little-endian number of eight bytes in one step, modulo 2^64, and answers what it was.
+    ///
+    /// # Errors
+    /// SIGSEGV, SIGBUS, ESRCH.
+    pub fn add(&mut self, pid: u32, addr: u64, add: u64) -> Answer<u64> {
+        let mut before = 0;
+        done(unsafe { raw::nog_add(&mut self.handle, pid, addr, add, &mut before) })?;
+        Ok(before)
+    }
+
+    /// fork(2): a declared child is born, with the caller's user, group and pieces.
+    ///
+    /// # Errors
+    /// EAGAIN, ESRCH.
+    pub fn fork(&mut self, pid: u32, child: u32) -> Answer<()> {
+        done(unsafe { raw::nog_fork(&mut self.handle, pid, child) })
+    }
+
+    /// execve(2): every piece of the caller is detached.
+    ///
+    /// # Errors
+    /// ESRCH.
+    pub fn exec(&mut self, pid: u32) -> Answer<()> {
+        done(unsafe { raw::nog_exec(&mut self.handle, pid) })
+    }
+
+    /// exit(2): every piece of the caller is detached, and it is no process any more.
+    ///
+    /// # Errors
+    /// ESRCH.
+    pub fn exit(&mut self, pid: u32) -> Answer<()> {
+        done(unsafe { raw::nog_exit(&mut self.handle, pid) })
+    }
+
+    /// swapoff(2).
+    ///
+    /// # Errors
+    /// EPERM, EINVAL, ENOMEM, EIO, ESRCH.
+    pub fn swapoff(&mut self, pid: u32, area: u32) -> Answer<()> {
+        done(unsafe { raw::nog_swapoff(&mut self.handle, pid, area) })
+    }
+
+    /// Reads bytes of any length, by loads of 64 bytes.
+    ///
+    /// # Errors
+    /// As [`Machine::load`], with how many bytes were read before.
+    pub fn read(&mut self, pid: u32, addr: u64, bytes: &mut [u8]) -> Result<(), Stopped> {
+        let mut count = 0;
+        let code = unsafe { raw::nog_read(&mut self.handle, pid, addr, bytes.as_mut_ptr(), bytes.len(), &mut count) };
+        stopped(code, count)
+    }
+
+    /// Writes bytes of any length, by stores of 64 bytes.
+    ///
+    /// # Errors
+    /// As [`Machine::store`], with how many bytes were written before: they stay written.
+    pub fn write(&mut self, pid: u32, addr: u64, bytes: &[u8]) -> Result<(), Stopped> {
+        let mut count = 0;
+        let code = unsafe { raw::nog_write(&mut self.handle, pid, addr, bytes.as_ptr(), bytes.len(), &mut count) };
+        stopped(code, count)
+    }
+
+    /// A flush round: writes at most this many dirty pages out to swap.
+    pub fn flush(&mut self, pages: u64) -> Flushed {
+        let mut flushed = Flushed::default();
+        // An open machine answers 0.
+        unsafe { raw::nog_flush(&mut self.handle, pages, &mut flushed) };
+        flushed
+    }
+
+    /// The counts as they are.
+    pub fn tally(&mut self) -> Tally {
+        let mut tally = Tally::default();
+        unsafe { raw::nog_tally_of(&mut self.handle, &mut tally) };
+        tally
+    }
+
+    /// The live segments, by their place in the table, whoever may read them.
+    pub fn segments(&mut self) -> Vec<Segment> {
+        let mut indexes = 0;
+        unsafe { raw::nog_indexes(&mut self.handle, &mut indexes) };
+        (0..indexes).filter_map(|index| self.segment_at(index)).collect()
+    }
+
+    /// The segment at an index of the table, or none.
+    pub fn segment_at(&mut self, index: u32) -> Option<Segment> {
+        let mut segment = Segment::default();
+        let code = unsafe { raw::nog_segment_at(&mut self.handle, index, &mut segment) };
+        (code == 0).then_some(segment)
+    }
+
+    /// How many calls were answered.
+    pub fn calls(&mut self) -> u64 {
+        let mut calls = 0;
+        unsafe { raw::nog_calls(&mut self.handle, &mut calls) };
+        calls
+    }
+}
+
+/// The version of the library: 10000 for the first number, 100 for the second, 1 for the third.
+pub fn version() -> u32 {
+    // SAFETY: it has no arguments.
+    unsafe { raw::nog_version() }
+}

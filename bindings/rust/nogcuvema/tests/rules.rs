@@ -1,0 +1,188 @@
+//! What the cover hands on, by the rules; and that its structs are the library's.
+use nogcuvema::{raw, Area, Errno, Failure, Limits, Machine, Process, Segment, CREAT, EXCL, LOCKED, PRIVATE, RDONLY};
+use std::mem::size_of;
+
+fn machine() -> Machine {
+    let processes = [Process::live(1, 100, 200), Process::live(2, 0, 0), Process::child(3)];
+    Machine::open(&Limits::default(), &[Area::ram(64), Area::sparse(8)], &processes).expect("such a machine opens")
+}
+
+fn layout(which: u32, field: u32) -> Option<usize> {
+    let mut value = 0;
+    // SAFETY: `value` is a place for a number.
+    (unsafe { raw::nog_layout(which, field, &mut value) } == 0).then_some(value)
+}
+
+macro_rules! offset_of {
+    ($kind:ty, $field:ident) => {{
+        let it = std::mem::MaybeUninit::<$kind>::uninit();
+        let start = it.as_ptr();
+        // SAFETY: the address of a field is made, and nothing is read.
+        unsafe { std::ptr::addr_of!((*start).$field) as usize - start as usize }
+    }};
+}
+
+macro_rules! same {
+    ($which:literal, $kind:ty, $($field:ident)*) => {{
+        assert_eq!(layout($which, 0), Some(size_of::<$kind>()), stringify!($kind));
+        let offsets = [$((stringify!($field), offset_of!($kind, $field))),*];
+        for (place, (name, offset)) in (1..).zip(offsets) {
+            assert_eq!(layout($which, place), Some(offset), "{}.{name}", stringify!($kind));
+        }
+        assert_eq!(layout($which, offsets.len() as u32 + 1), None, "more fields of {}", stringify!($kind));
+    }};
+}
+
+#[test]
+fn the_structs_are_the_librarys() {
+    same!(0, raw::Handle, is_open kept);
+    same!(1, raw::Limits, shmmax shmmni shmall frames memlock most_pieces most_processes most_slots);
+    same!(2, raw::Area, kind slots);
+    same!(3, raw::Failure, area side is_write unused call);
+    same!(4, raw::Process, pid is_born uid gid);
+    same!(5, raw::Segment, size atime dtime ctime id key uid gid cuid cgid mode status cpid lpid nattch index);
+    same!(6, raw::Tally, events segments reserved locked frames resident dirty slots used ins outs failures);
+    same!(7, raw::Flushed, written failed);
+}
+
+#[test]
+fn a_segment_has_what_it_was_made_with() {
+    let mut machine = machine();
+    let id = machine.get(1, 77, 5000, 0o640, CREAT).unwrap();
+    let at = machine.attach(1, id, 0, 0).unwrap();
+    assert_eq!(at, 0x4000_0000);
+    assert_eq!(machine.attach(1, id, 0x5000_0000, RDONLY), Ok(0x5000_0000));
+    assert_eq!(machine.fork(1, 3), Ok(()));
+    assert_eq!(machine.lock(1, id), Err(Errno::ENOMEM));
+    let is = Segment {
+        size: 5000,
+        atime: 3,
+        dtime: 0,
+        ctime: 1,
+        id,
+        key: 77,
+        uid: 100,
+        gid: 200,
+        cuid: 100,
+        cgid: 200,
+        mode: 0o640,
+        status: 0,
+        cpid: 1,
+        lpid: 1,
+        nattch: 4,
+        index: 0,
+    };
+    assert_eq!(machine.stat(1, id), Ok(is));
+    assert_eq!(machine.segments(), [is]);
+    assert_eq!(machine.calls(), 6);
+}
+
+#[test]
+fn a_lock_is_shown() {
+    let mut machine = machine();
+    let id = machine.get(1, PRIVATE, 4096, 0o600, 0).unwrap();
+    assert_eq!(machine.lock(1, id), Ok(()));
+    assert_eq!(machine.stat(1, id).unwrap().status, LOCKED);
+    assert_eq!(machine.tally().locked, 1);
+    assert_eq!(machine.unlock(1, id), Ok(()));
+    assert_eq!(machine.set(1, id, 5, 6, 0o444), Ok(()));
+    let is = machine.stat(2, id).unwrap();
+    assert_eq!((is.uid, is.gid, is.mode, is.status, is.ctime), (5, 6, 0o444, 0, 5));
+}
+
+#[test]
+fn bytes_are_those_that_were_stored() {
+    let mut machine = machine();
+    let id = machine.get(1, PRIVATE, 8192, 0o600, 0).unwrap();
+    let at = machine.attach(1, id, 0, 0).unwrap();
+    machine.write(1, at + 4000, &[7; 200]).unwrap();
+    let mut bytes = [1; 202];
+    machine.read(1, at + 3999, &mut bytes).unwrap();
+    assert_eq!((bytes[0], bytes[1], bytes[200], bytes[201]), (0, 7, 7, 0));
+    assert_eq!(machine.add(1, at, 258), Ok(0));
+    let mut number = [9; 3];
+    machine.load(1, at, &mut number).unwrap();
+    assert_eq!(number, [2, 1, 0]);
+    machine.store(1, at + 1, &[0xff]).unwrap();
+    assert_eq!(machine.add(1, at, 0), Ok(0xff02));
+    let stopped = machine.write(1, at + 8192 - 70, &[1; 100]).unwrap_err();
+    assert_eq!((stopped.errno, stopped.done), (Errno::SIGSEGV, 64));
+    assert_eq!(machine.load(1, at, &mut [0; 65]), Err(Errno::OUT_OF_RANGE));
+}
+
+#[test]
+fn refusals_are_named() {
+    let mut machine = machine();
+    assert_eq!(machine.get(9, PRIVATE, 1, 0o600, 0), Err(Errno::ESRCH));
+    assert_eq!(machine.get(1, 5, 1, 0o600, 0), Err(Errno::ENOENT));
+    let id = machine.get(1, 5, 1, 0o600, CREAT).unwrap();
+    assert_eq!(machine.get(1, 5, 1, 0o600, CREAT | EXCL), Err(Errno::EEXIST));
+    assert_eq!(machine.remove(1, id), Ok(()));
+    assert_eq!(machine.attach(1, id, 0, 0), Err(Errno::EIDRM));
+    assert_eq!(machine.detach(1, 4096), Err(Errno::EINVAL));
+    assert_eq!(machine.swapoff(1, 0), Err(Errno::EPERM));
+    assert_eq!(machine.swapoff(2, 1), Ok(()));
+    assert_eq!(machine.swapoff(2, 1), Err(Errno::EINVAL));
+    assert_eq!(machine.exit(1), Ok(()));
+    assert_eq!(machine.exec(1), Err(Errno::ESRCH));
+    assert_eq!(Errno::EIDRM.to_string(), "EIDRM");
+    assert_eq!(format!("{:?}", Errno::SIGBUS), "Errno(1007, SIGBUS)");
+}
+
+#[test]
+fn an_area_fails_where_it_was_told_to() {
+    let failing = Area::ram(16).failing(Failure {
+        call: 1,
+        is_write: false,
+        side: 0,
+    });
+    let limits = Limits {
+        frames: 2,
+        memlock: 0,
+        ..Limits::default()
+    };
+    let mut machine = Machine::open(&limits, &[failing], &[Process::live(1, 0, 0)]).unwrap();
+    let id = machine.get(1, PRIVATE, 3 * 4096, 0o600, 0).unwrap();
+    let at = machine.attach(1, id, 0, 0).unwrap();
+    for page in 0..3 {
+        machine.store(1, at + page * 4096, &[1 + page as u8]).unwrap();
+    }
+    let mut byte = [0];
+    assert_eq!(machine.load(1, at, &mut byte), Err(Errno::SIGBUS));
+    assert_eq!(machine.load(1, at, &mut byte), Ok(()));
+    assert_eq!(byte, [1]);
+    assert_eq!(machine.tally().failures, 1);
+    assert_eq!(machine.flush(9).failed, 0);
+}
+
+#[test]
+fn what_does_not_open_says_why() {
+    let open = |limits: &Limits, areas: &[Area], processes: &[Process]| Machine::open(limits, areas, processes).err().map(|e| e.0);
+    let usual = Limits::default();
+    let area = [Area::ram(1)];
+    let bad = [
+        (Limits { shmmax: 0, ..usual }, 2011),
+        (Limits { shmmni: 0, ..usual }, 2012),
+        (Limits { shmall: 0, ..usual }, 2013),
+        (Limits { frames: 1, ..usual }, 2014),
+        (Limits { memlock: 15, ..usual }, 2015),
+        (Limits { most_slots: 1, ..usual }, 2016),
+        (Limits { most_pieces: 1, ..usual }, 2017),
+        (Limits { most_pieces: 1, most_processes: 1, ..usual }, 2018),
+    ];
+    for (limits, code) in bad {
+        assert_eq!(open(&limits, &area, &[]), Some(code));
+    }
+    assert_eq!(open(&usual, &[], &[]), Some(2021));
+    assert_eq!(open(&usual, &[Area::mirror(0)], &[]), Some(2022));
+    let two = [Process::live(1, 0, 0), Process::child(1)];
+    assert_eq!(open(&usual, &area, &two), Some(2024));
+    assert_eq!(open(&Limits { most_pieces: 1, most_processes: 1, most_slots: 1, ..usual }, &area, &two), Some(2023));
+    assert_eq!(open(&usual, &area, &two[1..]), None);
+}
+
+#[test]
+fn the_version_is_the_librarys() {
+    let numbers = env!("CARGO_PKG_VERSION").split('.').map(|number| number.parse::<u32>().expect("a number"));
+    assert_eq!(nogcuvema::version(), numbers.fold(0, |sum, number| 100 * sum + number));
+}
