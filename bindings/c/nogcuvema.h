@@ -81,7 +81,12 @@ enum nog_code {
     NOG_BAD_AREAS = 2021,      /* there are not 1 to 8 swap areas */
     NOG_BAD_AREA_SIZE = 2022,  /* an area has no slot, or more than the limits allow */
     NOG_BAD_PROCESSES = 2023,  /* there are more processes than the limits allow */
-    NOG_BAD_PID = 2024         /* a pid is 0, above 2147483647, or stands twice */
+    NOG_BAD_PID = 2024,        /* a pid is 0, above 2147483647, or stands twice */
+    NOG_ADMIT_BAD_PID = 2031,  /* the pid is 0, or above 2147483647 */
+    NOG_ADMIT_TAKEN = 2032,    /* the pid is that of a live process, or of a child that is not born */
+    NOG_ADMIT_MANY = 2033,     /* as many processes are there as the limits allow */
+    NOG_DISMISS_NONE = 2041,   /* no process has the pid */
+    NOG_DISMISS_LIVE = 2042    /* the process is live */
 };
 
 /* The limits of a machine. A page has 4096 bytes. Where the last three are 0, the machine is of the profile: they stand
@@ -126,7 +131,8 @@ typedef struct nog_process {
     uint32_t gid;      /* the effective group */
 } nog_process;
 
-/* A segment as shmctl(2) with IPC_STAT shows it. A time is the place of a call among all calls, counted from 1; 0: never. */
+/* A segment as shmctl(2) with IPC_STAT shows it. A time is the place of a call among all calls, counted from 1, or what
+   nog_set_time gave; 0: never. */
 typedef struct nog_segment {
     uint64_t size;    /* in bytes, as it was asked for */
     uint64_t atime;   /* the last attach */
@@ -266,13 +272,35 @@ uint32_t nog_fork(nog_machine *machine, uint32_t pid, uint32_t child);
 /* execve(2): every piece of the caller is detached. */
 uint32_t nog_exec(nog_machine *machine, uint32_t pid);
 
-/* exit(2): every piece of the caller is detached, and it is no process any more: its pid does not come back. */
+/* exit(2): every piece of the caller is detached, and it is no live process any more. Its pid may be admitted again. */
 uint32_t nog_exit(nog_machine *machine, uint32_t pid);
 
 /* swapoff(2): moves the pages of an area elsewhere and takes the area away.
    NOG_EPERM: the caller is not user 0. NOG_EINVAL: the area is not there, or not any more. NOG_ENOMEM: the others have not
    as many slots as all segments have pages. NOG_EIO: a swap area failed; the area stays, and no byte was changed. */
 uint32_t nog_swapoff(nog_machine *machine, uint32_t pid, uint32_t area);
+
+/* ---- what happens to a process besides ---- */
+
+/* None of these is a call of a process: none is counted, and none moves a page. */
+
+/* A process joins that was not declared when the machine was opened: live with its user and group, or a child that a fork
+   may begin. An ended process that has its pid gives its place to it; else room for its pieces is taken.
+   The first of these that holds: NOG_ADMIT_BAD_PID, NOG_ADMIT_TAKEN, NOG_ADMIT_MANY (an ended process counts until it is
+   dismissed). NOG_NO_MEMORY: the heap gave none; it comes only in place of 0. */
+uint32_t nog_admit(nog_machine *machine, const nog_process *process);
+
+/* An ended process leaves, or a child that is not born: its pid may be admitted again, and its room is free.
+   NOG_DISMISS_NONE, NOG_DISMISS_LIVE: the first of these. */
+uint32_t nog_dismiss(nog_machine *machine, uint32_t pid);
+
+/* A live process has this effective user and group from now on, as behind setuid(2), setgid(2) or the exec of a set-user-ID
+   program. Its pieces stay, and later calls are tested by the new ones. NOG_ESRCH: there is no such live process. */
+uint32_t nog_set_user(nog_machine *machine, uint32_t pid, uint32_t uid, uint32_t gid);
+
+/* The times that calls set (nog_segment) are this number from now on, until it is set again. Before the first
+   nog_set_time they are the places of the calls. */
+uint32_t nog_set_time(nog_machine *machine, uint64_t time);
 
 /* ---- accesses of any length ---- */
 

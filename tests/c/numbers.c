@@ -19,7 +19,10 @@ static const struct { uint32_t code; const char *text; } texts[] = {
     {NOG_BAD_MOST_SLOTS, "bad limits: the most slots of a swap area"},
     {NOG_BAD_AREAS, "start refused: not 1 to 8 swap areas"},
     {NOG_BAD_AREA_SIZE, "start refused: a swap area without slots, or with too many"},
-    {NOG_BAD_PROCESSES, "start refused: too many processes"}, {NOG_BAD_PID, "start refused: a pid out of range, or twice"} };
+    {NOG_BAD_PROCESSES, "start refused: too many processes"}, {NOG_BAD_PID, "start refused: a pid out of range, or twice"},
+    {NOG_ADMIT_BAD_PID, "admission refused: a pid out of range"}, {NOG_ADMIT_TAKEN, "admission refused: a pid that is taken"},
+    {NOG_ADMIT_MANY, "admission refused: too many processes"}, {NOG_DISMISS_NONE, "dismissal refused: no process has the pid"},
+    {NOG_DISMISS_LIVE, "dismissal refused: the process is live"} };
 
 static const struct { uint32_t here, there; } same[] = {
     {NOG_EPERM, EPERM}, {NOG_ENOENT, ENOENT}, {NOG_ESRCH, ESRCH}, {NOG_EIO, EIO}, {NOG_EAGAIN, EAGAIN}, {NOG_ENOMEM, ENOMEM},

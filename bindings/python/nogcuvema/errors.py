@@ -88,6 +88,14 @@ class BadOpening(MachineError, ValueError):
     """Limits, areas or processes of which no machine can be opened."""
 
 
+class NotAdmitted(MachineError, ValueError):
+    """A process that can't join: its pid is out of range or taken, or as many are there as the limits allow."""
+
+
+class NotDismissed(MachineError, ValueError):
+    """A process that can't leave: no process has the pid, or it is live."""
+
+
 class Incomplete(Exception):
     """A read or a write of any length that was refused on its way. `done` bytes were read or written; `data` are the bytes
     that were read; `__cause__` is what the access that was refused would have raised."""
@@ -100,7 +108,9 @@ class Incomplete(Exception):
 
 _BY_ERRNO: Dict[int, Type[Refused]] = {errno.EPERM: NotPermitted, errno.EACCES: NotPermitted, errno.ENOENT: NoSuchKey,
                                        errno.ESRCH: NoSuchProcess, errno.EEXIST: KeyTaken, errno.EAGAIN: NoSuchChild}
-_BY_CODE: Dict[int, Type[MachineError]] = {NO_MEMORY: NoMemory, CLOSED: ClosedMachine, OUT_OF_RANGE: OutOfRange, SPENT: Spent}
+_BY_CODE: Dict[int, Type[MachineError]] = {NO_MEMORY: NoMemory, CLOSED: ClosedMachine, OUT_OF_RANGE: OutOfRange, SPENT: Spent,
+                                           **dict.fromkeys((2031, 2032, 2033), NotAdmitted),
+                                           **dict.fromkeys((2041, 2042), NotDismissed)}
 
 
 def error_of(code: int, text: str, call: str) -> Optional[Exception]:

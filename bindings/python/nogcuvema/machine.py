@@ -283,6 +283,26 @@ class Machine:
         """swapoff: moves the pages of an area elsewhere and takes the area away."""
         self._call("nog_swapoff", _number(pid, U32, "pid"), _number(area, U32, "area"))
 
+    # ---- what happens to a process besides: no call, and none is counted ----
+
+    def admit(self, process: Process) -> None:
+        """A process joins that was not declared. An ended process with its pid gives its place to it."""
+        struct = low.ProcessStruct(_number(process.pid, U32, "pid"), int(process.is_born), _number(process.uid, U32, "uid"),
+                                   _number(process.gid, U32, "gid"))
+        self._call("nog_admit", byref(struct))
+
+    def dismiss(self, pid: int) -> None:
+        """An ended process leaves, or a child that is not born: its pid may be admitted again."""
+        self._call("nog_dismiss", _number(pid, U32, "pid"))
+
+    def set_user(self, pid: int, uid: int, gid: int) -> None:
+        """A live process has another effective user and group from now on, as behind setuid(2). Its pieces stay."""
+        self._call("nog_set_user", _number(pid, U32, "pid"), _number(uid, U32, "uid"), _number(gid, U32, "gid"))
+
+    def set_time(self, time: int) -> None:
+        """The times that calls set are this number from now on. Before the first time they are the places of calls."""
+        self._call("nog_set_time", _number(time, U64, "time"))
+
     # ---- accesses of any length ----
 
     def read(self, pid: int, addr: int, length: int) -> bytes:

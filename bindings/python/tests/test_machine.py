@@ -9,7 +9,7 @@ import unittest
 
 import nogcuvema
 from nogcuvema import (PRIVATE, Area, BadOpening, BusError, ClosedMachine, Failure, Flag, Flushed, Incomplete, Limits, Machine,
-                       OutOfRange, Process, Refused, SegmentationFault, child)
+                       NotAdmitted, NotDismissed, OutOfRange, Process, Refused, SegmentationFault, child)
 from nogcuvema import _library as low
 
 FIRST = 0x40000000
@@ -204,6 +204,39 @@ class Swap(unittest.TestCase):
             self.assertEqual(caught.exception.errno, errno.EINVAL)
 
 
+class Guests(unittest.TestCase):
+    def test_processes_come_and_go(self):
+        with machine(processes=[Process(1, 7, 8)]) as it:
+            self.assertRaises(NotDismissed, it.dismiss, 1)
+            self.assertRaises(NotDismissed, it.dismiss, 2)
+            for bad in (Process(0), Process(2 ** 31), Process(1)):
+                self.assertRaises(NotAdmitted, it.admit, bad)
+            it.admit(child(2))
+            it.fork(1, 2)
+            it.exit(2)
+            it.dismiss(2)
+            self.assertRaises(BlockingIOError, it.fork, 1, 2)
+            it.admit(Process(2, 3, 4))
+            found = it.stat(2, it.get(2, PRIVATE, 1))
+            self.assertEqual((found.uid, found.gid, found.cpid), (3, 4, 2))
+
+    def test_a_user_changes(self):
+        with machine(processes=[Process(1, 7, 8), Process(2, 9, 9)]) as it:
+            segment = it.get(1, PRIVATE, 1, 0o600)
+            self.assertRaises(PermissionError, it.stat, 2, segment)
+            it.set_user(2, 7, 9)
+            self.assertEqual(it.stat(2, segment).uid, 7)
+            self.assertRaises(ProcessLookupError, it.set_user, 3, 7, 9)
+
+    def test_the_time_is_given(self):
+        with machine(processes=[Process(1)]) as it:
+            segment = it.get(1, PRIVATE, 1)
+            it.set_time(1700000000)
+            it.attach(1, segment)
+            found = it.stat(1, segment)
+            self.assertEqual((found.ctime, found.atime), (1, 1700000000))
+
+
 class Opening(unittest.TestCase):
     def test_a_closed_machine(self):
         with machine() as it:
@@ -225,6 +258,14 @@ class Opening(unittest.TestCase):
             self.assertRaises(BadOpening, Machine, limits, areas, processes)
         for areas in ([Area(9, 1)], [Area.ram(1, [Failure(0)])], [Area.ram(1, [Failure(1, side=1)])], [Area.ram(2 ** 32)]):
             self.assertRaises(OutOfRange, Machine, Limits(), areas, [person])
+
+    def test_larger_machines(self):
+        large = Limits(2 ** 40, 32768, 2 ** 28, 64, 62, 65530, 32768, 2 ** 28)
+        with machine(limits=large, processes=[Process(n + 1) for n in range(65)]) as it:
+            self.assertEqual(it.tally().frames, 64)
+        for limits in (Limits(most_slots=1), Limits(most_pieces=1), Limits(most_pieces=1, most_processes=1),
+                       Limits(2 ** 40 + 1, 1, 1, 2, 0, 1, 1, 1)):
+            self.assertRaises(BadOpening, Machine, limits, [Area.ram(1)], [Process(1)])
 
     def test_a_machine_without_processes(self):
         with machine(processes=[]) as it:

@@ -34,6 +34,11 @@ own_texts =
     ∷ record { code = 2022; text = codes "start refused: a swap area without slots, or with too many" }
     ∷ record { code = 2023; text = codes "start refused: too many processes" }
     ∷ record { code = 2024; text = codes "start refused: a pid out of range, or twice" }
+    ∷ record { code = 2031; text = codes "admission refused: a pid out of range" }
+    ∷ record { code = 2032; text = codes "admission refused: a pid that is taken" }
+    ∷ record { code = 2033; text = codes "admission refused: too many processes" }
+    ∷ record { code = 2041; text = codes "dismissal refused: no process has the pid" }
+    ∷ record { code = 2042; text = codes "dismissal refused: the process is live" }
     ∷ []
 
 abbrev pub text_in : List Text → ℕ → Option (List ℕ)

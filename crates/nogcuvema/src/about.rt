@@ -43,6 +43,11 @@ fn text_of(code: u32) -> Option<&'static str>
         2022 => Some("start refused: a swap area without slots, or with too many"),
         2023 => Some("start refused: too many processes"),
         2024 => Some("start refused: a pid out of range, or twice"),
+        2031 => Some("admission refused: a pid out of range"),
+        2032 => Some("admission refused: a pid that is taken"),
+        2033 => Some("admission refused: too many processes"),
+        2041 => Some("dismissal refused: no process has the pid"),
+        2042 => Some("dismissal refused: the process is live"),
         _ => None,
     }
 }

@@ -61,23 +61,29 @@ fn failures_of(alloc: Global, failures: &[NogFailure]) -> Result<Vec<Failure>, A
     Ok(all)
 }
 
+pub(crate) fn process_of(process: &NogProcess) -> Process
+    ensures { result ≡ process_of process.now }
+{
+    let NogProcess {
+        pid,
+        is_born,
+        uid,
+        gid,
+    } = *process;
+    let born = if is_born == 0 {
+        None
+    } else {
+        Some(Cred { uid, gid })
+    };
+    Process { pid, born }
+}
+
 fn processes_of(alloc: Global, processes: &[NogProcess]) -> Result<Vec<Process>, AllocError>
     ensures { IfOk result (λ v. v.items ≡ map process_of processes.now) }
 {
     let mut all = Vec::new(alloc);
     for process in processes {
-        let born = if process.is_born == 0 {
-            None
-        } else {
-            Some(Cred {
-                uid: process.uid,
-                gid: process.gid,
-            })
-        };
-        all.push(Process {
-            pid: process.pid,
-            born,
-        })?;
+        all.push(process_of(process))?;
     }
     Ok(all)
 }

@@ -89,6 +89,16 @@ codes! {
     OUT_OF_RANGE = 2003;
     /// 2^64 - 1 calls were answered.
     SPENT = 2004;
+    /// [`Machine::admit`]: the pid is 0, or above 2147483647.
+    ADMIT_BAD_PID = 2031;
+    /// [`Machine::admit`]: the pid is that of a live process, or of a child that is not born.
+    ADMIT_TAKEN = 2032;
+    /// [`Machine::admit`]: as many processes are there as the limits allow.
+    ADMIT_MANY = 2033;
+    /// [`Machine::dismiss`]: no process has the pid.
+    DISMISS_NONE = 2041;
+    /// [`Machine::dismiss`]: the process is live.
+    DISMISS_LIVE = 2042;
 }
 
 impl Errno {
@@ -477,6 +487,36 @@ impl Machine {
     /// EPERM, EINVAL, ENOMEM, EIO, ESRCH.
     pub fn swapoff(&mut self, pid: u32, area: u32) -> Answer<()> {
         done(unsafe { raw::nog_swapoff(&mut self.handle, pid, area) })
+    }
+
+    /// A process joins that was not declared. An ended process with its pid gives its place to it. It is no call.
+    ///
+    /// # Errors
+    /// ADMIT_BAD_PID, ADMIT_TAKEN, ADMIT_MANY, NO_MEMORY.
+    pub fn admit(&mut self, process: Process) -> Answer<()> {
+        done(unsafe { raw::nog_admit(&mut self.handle, &process.raw()) })
+    }
+
+    /// An ended process leaves, or a child that is not born: its pid may be admitted again. It is no call.
+    ///
+    /// # Errors
+    /// DISMISS_NONE, DISMISS_LIVE.
+    pub fn dismiss(&mut self, pid: u32) -> Answer<()> {
+        done(unsafe { raw::nog_dismiss(&mut self.handle, pid) })
+    }
+
+    /// A live process has another effective user and group from now on, as behind setuid(2). Its pieces stay. It is no call.
+    ///
+    /// # Errors
+    /// ESRCH.
+    pub fn set_user(&mut self, pid: u32, uid: u32, gid: u32) -> Answer<()> {
+        done(unsafe { raw::nog_set_user(&mut self.handle, pid, uid, gid) })
+    }
+
+    /// The times that calls set are this number from now on. Before the first time they are the places of calls.
+    pub fn set_time(&mut self, time: u64) {
+        // An open machine answers 0.
+        unsafe { raw::nog_set_time(&mut self.handle, time) };
     }
 
     /// Reads bytes of any length, by loads of 64 bytes.

@@ -119,6 +119,10 @@ extern "C" {
     pub fn nog_exec(machine: *mut Handle, pid: u32) -> u32;
     pub fn nog_exit(machine: *mut Handle, pid: u32) -> u32;
     pub fn nog_swapoff(machine: *mut Handle, pid: u32, area: u32) -> u32;
+    pub fn nog_admit(machine: *mut Handle, process: *const Process) -> u32;
+    pub fn nog_dismiss(machine: *mut Handle, pid: u32) -> u32;
+    pub fn nog_set_user(machine: *mut Handle, pid: u32, uid: u32, gid: u32) -> u32;
+    pub fn nog_set_time(machine: *mut Handle, time: u64) -> u32;
     pub fn nog_read(machine: *mut Handle, pid: u32, addr: u64, bytes: *mut u8, len: usize, done: *mut u64) -> u32;
     pub fn nog_write(machine: *mut Handle, pid: u32, addr: u64, bytes: *const u8, len: usize, done: *mut u64) -> u32;
     pub fn nog_flush(machine: *mut Handle, pages: u64, flushed: *mut Flushed) -> u32;

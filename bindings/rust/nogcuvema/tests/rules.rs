@@ -186,3 +186,24 @@ fn the_version_is_the_librarys() {
     let numbers = env!("CARGO_PKG_VERSION").split('.').map(|number| number.parse::<u32>().expect("a number"));
     assert_eq!(nogcuvema::version(), numbers.fold(0, |sum, number| 100 * sum + number));
 }
+
+#[test]
+fn processes_come_and_go() {
+    let mut machine = machine();
+    assert_eq!(machine.admit(Process::live(0, 1, 1)), Err(Errno::ADMIT_BAD_PID));
+    assert_eq!(machine.admit(Process::child(1)), Err(Errno::ADMIT_TAKEN));
+    assert_eq!(machine.dismiss(1), Err(Errno::DISMISS_LIVE));
+    assert_eq!(machine.dismiss(4), Err(Errno::DISMISS_NONE));
+    assert_eq!(machine.admit(Process::live(4, 300, 301)), Ok(()));
+    machine.set_time(1_700_000_000);
+    let id = machine.get(4, PRIVATE, 1, 0o600, 0).unwrap();
+    let is = machine.stat(4, id).unwrap();
+    assert_eq!((is.uid, is.gid, is.ctime), (300, 301, 1_700_000_000));
+    assert_eq!(machine.stat(1, id), Err(Errno::EACCES));
+    assert_eq!(machine.set_user(1, 300, 200), Ok(()));
+    assert_eq!(machine.stat(1, id), Ok(is));
+    assert_eq!(machine.set_user(9, 300, 200), Err(Errno::ESRCH));
+    assert_eq!(machine.exit(4), Ok(()));
+    assert_eq!(machine.dismiss(4), Ok(()));
+    assert_eq!(machine.calls(), 5);
+}

@@ -1,0 +1,51 @@
+-- What the host of a guest does besides calls, through a handle.
+use Rattle.std.specs.Prelude.{ℕ, ◌≡◌, ◌+◌, ◌⊎◌, false, Option, Some, None, Result, Ok, Err}
+use Rattle.shm_base.specs.Codes.{code_of}
+use Rattle.shm_base.specs.declared.call.Process.{Process}
+use Rattle.shm_base.specs.declared.errno.Errno.{Errno}
+use Rattle.shm_base.specs.declared.guest.AdmitRefusal.{AdmitRefusal}
+use Rattle.shm_base.specs.declared.guest.AdmitRefusal.TheVariants.{BadPid, PidTaken, TooManyProcesses}
+use Rattle.shm_base.specs.declared.guest.DismissRefusal.{DismissRefusal}
+use Rattle.shm_base.specs.declared.guest.DismissRefusal.TheVariants.{NoProcess, StillLive}
+use Rattle.shm_base.specs.declared.owner.Cred.{Cred}
+use Rattle.shm_life.specs.Guest.{Admitted, Dismissed, Recredited, IsNotAdmitted}
+use Rattle.shm_machine.specs.declared.machine.Machine.{Machine}
+use Rattle.nogcuvema.specs.Answers.{closed, no_memory, Unchanged}
+
+abbrev pub admit_code : AdmitRefusal → ℕ
+admit_code BadPid = 2031
+admit_code PidTaken = 2032
+admit_code TooManyProcesses = 2033
+
+abbrev pub dismiss_code : DismissRefusal → ℕ
+dismiss_code NoProcess = 2041
+dismiss_code StillLive = 2042
+
+-- a change of the machine in the handle
+abbrev pub HostedThrough : (Machine → ℕ → Machine → Type 0) → Option Machine → ℕ → Option Machine → Type 0
+HostedThrough does None code after = Unchanged closed None code after
+HostedThrough does (Some before) code None = ⊥
+HostedThrough does (Some before) code (Some after) = does before code after
+
+-- the process joined, or the code says why not
+abbrev pub AdmitsBy : Process → Machine → ℕ → Machine → Type 0
+AdmitsBy process before code after =
+    ((code ≡ 0) × Admitted before.system process (Ok tt) after.system)
+    ⊎ ((refusal : AdmitRefusal) × (code ≡ admit_code refusal) × Admitted before.system process (Err refusal) after.system)
+    ⊎ ((code ≡ no_memory) × IsNotAdmitted before.system process after.system)
+
+-- the process left, or the code says why not
+abbrev pub DismissesBy : ℕ → Machine → ℕ → Machine → Type 0
+DismissesBy pid before code after =
+    ((code ≡ 0) × Dismissed before.system pid (Ok tt) after.system)
+    ⊎ ((refusal : DismissRefusal) × (code ≡ dismiss_code refusal) × Dismissed before.system pid (Err refusal) after.system)
+
+-- the process has these credentials, or the code is the errno
+abbrev pub RecreditsBy : ℕ → Cred → Machine → ℕ → Machine → Type 0
+RecreditsBy pid cred before code after =
+    ((code ≡ 0) × Recredited before.system pid cred (Ok tt) after.system)
+    ⊎ ((errno : Errno) × (code ≡ code_of errno) × Recredited before.system pid cred (Err errno) after.system)
+
+-- calls set this time from now on
+abbrev pub TellsTime : ℕ → Machine → ℕ → Machine → Type 0
+TellsTime time before code after = (code ≡ 0) × (after.system ≡ record before.system { clock = Some time; only_calls = false })

@@ -1,0 +1,118 @@
+//! What the host of a guest does besides calls: processes join and leave, credentials change, and the time is given.
+ghost use Rattle.std.specs.Prelude.{◌≡◌};
+ghost use Rattle.nogcuvema.specs.Hosting.{admit_code, dismiss_code, HostedThrough, AdmitsBy, DismissesBy, RecreditsBy, TellsTime};
+ghost use Rattle.nogcuvema.specs.Opens.{process_of};
+
+use crate::code::{CLOSED, DONE, NO_MEMORY};
+use crate::handle::Handle;
+use crate::open::process_of;
+use crate::structs::NogProcess;
+use shm_base::{AdmitRefusal, Cred, DismissRefusal, Process};
+use shm_machine::Machine;
+use std::alloc::Global;
+
+fn admit_code(refusal: AdmitRefusal) -> u32
+    ensures { result ≡ admit_code refusal }
+{
+    match refusal {
+        AdmitRefusal::BadPid => 2031,
+        AdmitRefusal::PidTaken => 2032,
+        AdmitRefusal::TooManyProcesses => 2033,
+    }
+}
+
+fn dismiss_code(refusal: DismissRefusal) -> u32
+    ensures { result ≡ dismiss_code refusal }
+{
+    match refusal {
+        DismissRefusal::NoProcess => 2041,
+        DismissRefusal::StillLive => 2042,
+    }
+}
+
+fn admitted(alloc: Global, machine: &mut Machine, process: &Process) -> u32
+    ensures { AdmitsBy process.now machine.old result machine.new }
+{
+    match machine.system.admit(alloc, process) {
+        Ok(Ok(())) => DONE,
+        Ok(Err(refusal)) => admit_code(refusal),
+        Err(_) => NO_MEMORY,
+    }
+}
+
+fn dismissed(machine: &mut Machine, pid: u32) -> u32
+    ensures { DismissesBy pid machine.old result machine.new }
+{
+    match machine.system.dismiss(pid) {
+        Ok(()) => DONE,
+        Err(refusal) => dismiss_code(refusal),
+    }
+}
+
+fn recredited(machine: &mut Machine, pid: u32, cred: Cred) -> u32
+    ensures { RecreditsBy pid cred machine.old result machine.new }
+{
+    match machine.system.set_cred(pid, cred) {
+        Ok(()) => DONE,
+        Err(errno) => errno.code(),
+    }
+}
+
+/// A process joins: live with its user and group, or a child to be forked. An ended process with its pid gives its place
+/// to it. It is no call.
+#[unsafe(no_mangle)]
+pub extern "C" fn nog_admit(alloc: Global, handle: &mut Handle, process: &NogProcess) -> u32
+    ensures { HostedThrough (AdmitsBy (process_of process.now)) handle.old.kept.value result handle.new.kept.value }
+{
+    let Some(mut machine) = handle.take(alloc) else {
+        return CLOSED;
+    };
+    let code = admitted(alloc, &mut machine, &process_of(process));
+    handle.put(machine);
+    code
+}
+
+/// A process that ended leaves, or a child that is not born: its pid may come back. It is no call.
+#[unsafe(no_mangle)]
+pub extern "C" fn nog_dismiss(alloc: Global, handle: &mut Handle, pid: u32) -> u32
+    ensures { HostedThrough (DismissesBy pid) handle.old.kept.value result handle.new.kept.value }
+{
+    let Some(mut machine) = handle.take(alloc) else {
+        return CLOSED;
+    };
+    let code = dismissed(&mut machine, pid);
+    handle.put(machine);
+    code
+}
+
+/// A live process has another effective user and group from now on. Its pieces stay. It is no call.
+#[unsafe(no_mangle)]
+pub extern "C" fn nog_set_user(
+    alloc: Global,
+    handle: &mut Handle,
+    pid: u32,
+    uid: u32,
+    gid: u32,
+) -> u32
+    ensures { HostedThrough (RecreditsBy pid (record { uid = uid; gid = gid })) handle.old.kept.value result handle.new.kept.value }
+{
+    let Some(mut machine) = handle.take(alloc) else {
+        return CLOSED;
+    };
+    let code = recredited(&mut machine, pid, Cred { uid, gid });
+    handle.put(machine);
+    code
+}
+
+/// The times that calls set are this number from now on, until it is set again. It is no call.
+#[unsafe(no_mangle)]
+pub extern "C" fn nog_set_time(alloc: Global, handle: &mut Handle, time: u64) -> u32
+    ensures { HostedThrough (TellsTime time) handle.old.kept.value result handle.new.kept.value }
+{
+    let Some(mut machine) = handle.take(alloc) else {
+        return CLOSED;
+    };
+    machine.system.set_time(Some(time));
+    handle.put(machine);
+    DONE
+}
