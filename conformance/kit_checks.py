@@ -1,6 +1,8 @@
 """What conformance/check asks of the kit itself: malformed cases, citations, the list, TAP and JUnit XML, and odd replies.
 No program of the project is run: a small script answers in its place."""
 
+import contextlib
+import io
 import os
 import re
 import xml.etree.ElementTree as xml
@@ -8,6 +10,7 @@ from dataclasses import replace
 
 import near_misses
 import running
+from results import Outcome, Results, junit_of
 from running import HERE
 from script import BadInput, read_case
 
@@ -139,6 +142,28 @@ def check_junit(count, file):
     count.take(is_told, f"--junit: a failure has no text: {xml.tostring(suite)}")
 
 
+def check_odd_text(count, folder, conform):
+    """Marks of TAP, and what is no character of XML, do not break the results; and the time of a case is there."""
+    file, path = os.path.join(folder, "odd.xml"), write_file(folder, "odd#1.shm", HEAD + "1 sh\x01\n")
+    status, said = conform("--tap", "--junit", file, path)
+    line = next((it for it in said.splitlines() if it.startswith("not ok")), "")
+    count.take(status == 2 and "odd\\#1: MALFORMED" in line and not re.search(r"(?<!\\)#", line), f"--tap: status {status}, {line!r}")
+    count.take(xml.parse(file).getroot().find("testsuite/testcase").get("name") == "odd#1", "--junit: a case has another name")
+    results, outcome = Results(), Outcome("odd", "STOPPED", "half a line: \x01 <&>")
+    results.began -= 5
+    with contextlib.redirect_stdout(io.StringIO()):
+        results.take(outcome)
+    try:
+        suite = xml.fromstring(junit_of(results.outcomes).partition("\n")[2]).find("testsuite")
+    except xml.ParseError as error:
+        count.take(False, f"--junit: what is no character of XML: {error}")
+        return
+    message = suite.find("testcase/error").get("message")
+    count.take(message == "odd: STOPPED: half a line: ? <&>", f"--junit: {message!r}")
+    times = [float(it.get("time")) for it in (suite, suite.find("testcase"))]
+    count.take(all(5 <= it < 3600 for it in times), f"--junit: a case of 5 seconds took {times}")
+
+
 def check_own_program(count, folder):
     """The project's own program is started once before the first case, so that a build of it is under no limit of time; another
     one is not."""
@@ -171,6 +196,7 @@ def check_kit(count, folder, conform):
     check_results(count, folder, conform)
     check_said_once(count, folder, conform)
     check_list(count, folder, conform)
+    check_odd_text(count, folder, conform)
     check_own_program(count, folder)
 
 

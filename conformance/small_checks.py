@@ -19,6 +19,7 @@ NOBODY = 65534
 SECONDS = 20
 # what both peers make of the cases: fewer would be a peer that skips what it can make
 LEAST_COMPARED = 540
+MAY_END = "skipped: the access may end its process"
 # every form of an operand and of a reply, and numbers of more than 32 bits
 FORMS = """limits 16777216 16 64 16 4
 process 1 {0} {1}
@@ -36,6 +37,10 @@ child 2147483647
 1 h = shmat s 0x1ffffffff000 -
 1 load h+4099 1
 1 shmdt h
+1 shmat s 0x40004000 -
+1 shmat s null -
+1 shmdt 0x40004000
+1 shmdt 0x40007000
 1 load 0x50000ffc 3
 1 store 0x50000000 00
 1 load n 1
@@ -69,26 +74,30 @@ FORMS_SAID = """1 1 shmget 0x00000abc 8193 640,creat,excl = 0
 11 1 shmat 0 0x1ffffffff000 - = 0x1ffffffff000
 12 1 load 0x200000000003 1 = fd
 13 1 shmdt 0x1ffffffff000 = ok
-14 1 load 0x50000ffc 3 = fdffff
-15 1 store 0x50000000 00 = skipped: the access may end its process
-16 1 load 0xfeffffffffffffff 1 = skipped: the access may end its process
-17 1 shmat -1 null - = EINVAL
-18 1 fork 2147483647 = ok
-19 2147483647 exec = skipped: this peer makes no exec
-20 2147483647 exit = ok
-21 1 stat 0 = key=0x00000abc uid={0} gid={1} cuid={0} cgid={1} mode=640 status=- size=8193 cpid=1 lpid=2147483647 nattch=3 \
+14 1 shmat 0 0x40004000 - = 0x40004000
+15 1 shmat 0 null - = 0x40007000
+16 1 shmdt 0x40004000 = ok
+17 1 shmdt 0x40007000 = ok
+18 1 load 0x50000ffc 3 = fdffff
+19 1 store 0x50000000 00 = skipped: the access may end its process
+20 1 load 0xfeffffffffffffff 1 = skipped: the access may end its process
+21 1 shmat -1 null - = EINVAL
+22 1 fork 2147483647 = ok
+23 2147483647 exec = skipped: this peer makes no exec
+24 2147483647 exit = ok
+25 1 stat 0 = key=0x00000abc uid={0} gid={1} cuid={0} cgid={1} mode=640 status=- size=8193 cpid=1 lpid=2147483647 nattch=3 \
 atime=set dtime=set ctime=set
-22 1 set 0 {0} {1} 007 = ok
-23 1 rmid 0 = ok
-24 1 shmdt 0x40000000 = ok
-25 1 shmget 0x00000000 1 000 = 1
-26 1 shmdt 0x50000000 = ok
-27 1 shmdt 0x50010000 = ok
-28 1 shmget 0x00000000 1 777 = 32768
-29 1 shmget 0x00000000 1 777 = 2
-30 1 swapoff 0 = skipped: no swap area is the script's
-31 1 exit = ok
-32 1 stat 0 = skipped: no process makes this call
+26 1 set 0 {0} {1} 007 = ok
+27 1 rmid 0 = ok
+28 1 shmdt 0x40000000 = ok
+29 1 shmget 0x00000000 1 000 = 1
+30 1 shmdt 0x50000000 = ok
+31 1 shmdt 0x50010000 = ok
+32 1 shmget 0x00000000 1 777 = 32768
+33 1 shmget 0x00000000 1 777 = 2
+34 1 swapoff 0 = skipped: no swap area is the script's
+35 1 exit = ok
+36 1 stat 0 = skipped: no process makes this call
 """
 # a peer and a system with little room: what goes beyond it is skipped
 FULL = """limits 65536 16 64 16 4
@@ -100,6 +109,8 @@ process 1 100 110
 1 shmat 0 null -
 """
 FULL_SAID = ["0", "skipped: more segments than SEGMENTS", "0x40000000", "0x40001000", "skipped: more pieces than PIECES"]
+# the second pipe that a script makes is refused, and no other
+NO_SECOND_PIPE = "#define _GNU_SOURCE\n#include <unistd.h>\nstatic int pipes_made = 0;\n#define pipe(ends) (pipes_made++ == 1 ? -1 : pipe(ends))\n"
 TWO = "limits 65536 16 64 16 4\nprocess 1 100 110\nprocess 2 100 110\n2 s = shmget private 1 600\n1 stat 0\n"
 DATA = """/* made by tools/small_peer from scripts */
 static const struct declared processes_0[] = {
@@ -229,7 +240,8 @@ def compare_case(case, small, full):
         theirs = f"{other.call} = {other.reply}"
         if event.is_skipped:
             # both are in like states as long as the full peer was refused, or only looked
-            if event.call != other.call:
+            is_made = not (other.is_skipped or other.is_refused)
+            if event.call != other.call or (event.reply == MAY_END and is_made):
                 return made, f"{line} where the full peer has {theirs}"
             is_partly_done = other.word in ("store", "xadd") and not other.is_skipped
             if is_partly_done or not (other.is_skipped or other.is_refused or other.word in READS):
@@ -301,9 +313,11 @@ def check_room(count, folder):
     limits, words = [16777216, 16, 64, 0, 4], ["-DPROCESSES=1", "-DPIECES=3", "-DSEGMENTS=1"]
     full, two = write_file(os.path.join(folder, "full.shm"), FULL), write_file(os.path.join(folder, "two.shm"), TWO)
     few = "skipped: there are too few pipes for the script's processes"
+    no_pipe = ["-include", write_file(os.path.join(folder, "no_second_pipe.h"), NO_SECOND_PIPE)]
     for name, given, files, wanted in (
             ("little room", words, 64, {"full": FULL_SAID, "two": ["skipped: more processes than PROCESSES"] * 2}),
-            ("few pipes", (), 8, {"full": [*FULL_SAID[:1], "1", *FULL_SAID[2:4], "0x40002000"], "two": [few] * 2})):
+            ("few pipes", (), 8, {"full": [*FULL_SAID[:1], "1", *FULL_SAID[2:4], "0x40002000"], "two": [few] * 2}),
+            ("no second pipe", no_pipe, 64, {"full": [few] * 5, "two": [few] * 2})):
         found, said = run_small(os.path.join(folder, name.replace(" ", "_")), [two, full], limits, False, given, files)
         got = {name: [line.partition(" = ")[2] for line in lines] for name, lines in found.items()}
         count.take(got == wanted and not said, f"the small peer with {name}: {got}, {said}")

@@ -1,4 +1,9 @@
 """The counts of a part of ./test."""
+import os
+import sys
+
+# set by tests/breaks, which asks only whether anything fails
+STOPS = bool(os.environ.get("STOP_AT_FAILURE"))
 
 
 class Count:
@@ -14,6 +19,8 @@ class Count:
         else:
             self.failed += 1
             print(f"{self.part}: FAILED: {name}")
+            if STOPS:
+                sys.exit(self.finish())
 
     def skip(self, count, reason):
         self.skipped += count
