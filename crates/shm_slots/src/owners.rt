@@ -29,7 +29,7 @@ impl Drop for Owners {
 }
 
 impl Model for Owners {
-    ghost use Rattle.std.specs.Prelude.{◌≤◌, List, Option, None, length, vec_capacity};
+    ghost use Rattle.std.specs.Prelude.{◌<◌, ◌≤◌, ◌^◌, List, Option, None, length, vec_capacity};
     ghost use Rattle.shm_base.specs.declared.paging.PageRef.{PageRef};
     ghost use Rattle.shm_pager.specs.Padded.{padded};
     ghost use Rattle.shm_slots.specs.Owners.{AreOwnersSound};
@@ -38,7 +38,7 @@ impl Model for Owners {
 
     ghost view = { λ o. padded o.slots.items o.count None };
 
-    ghost invariant = { λ o. (length o.slots.items ≤ o.count) × (o.count ≤ vec_capacity o.slots)
+    ghost invariant = { λ o. (length o.slots.items ≤ o.count) × (o.count ≤ vec_capacity o.slots) × (o.count < 2 ^ 32)
         × AreOwnersSound (padded o.slots.items o.count None) o.numbers o.used };
 }
 
