@@ -6,7 +6,7 @@ use Rattle.shm_pager.specs.Padded.{padded}
 
 module _ {X : Type 0} where
   -- how many are stored once all below a number are
-  size-padded : (xs : List X) (m : ℕ) (d : X) → length (padded xs m d) ≡ length xs + (m - length xs)
+  pub size-padded : (xs : List X) (m : ℕ) (d : X) → length (padded xs m d) ≡ length xs + (m - length xs)
   size-padded xs m d = length-append xs (replicate (m - length xs) d) ∙ ap (λ k. length xs + k) (length-replicate (m - length xs) d)
 
   pub within-padded : (xs : List X) (m i : ℕ) (d : X) → i < m → i < length (padded xs m d)
