@@ -278,6 +278,18 @@ impl Frames {
         &mut self.pages[frame as usize]
     }
 
+    /// Has the bytes of a frame be zeros. One that was never used is written once, and not twice.
+    pub fn clear(&mut self, frame: FrameNo)
+        requires { frame < length self.old }
+        ensures { self.new ≡ set self.old frame (record (frame_at self.old frame) { bytes = zero_page }) }
+    {
+        if frame as usize >= self.pages.len() {
+            reach(&mut self.table, &mut self.pages, frame);
+            return;
+        }
+        self.pages[frame as usize] = zeros();
+    }
+
     /// The referenced bit of a frame. Each look at one is counted.
     pub fn referenced(&self, frame: FrameNo, looks: &mut Looks) -> bool
         requires there { frame < length self.now }
