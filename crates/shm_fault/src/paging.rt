@@ -21,7 +21,7 @@ use crate::touched::{PageMove, Touched};
 use shm_base::{FrameNo, PageRef, Slot};
 use shm_clock::victim;
 use shm_frames::{Frames, Looks};
-use shm_pager::{Pager, PagerFault, zeros};
+use shm_pager::{Pager, PagerFault};
 use shm_slots::Swap;
 
 // A frame that its page has left, and whether the page was written for that.
@@ -74,11 +74,10 @@ fn fill_from<P: Pager>(
     ensures sizes { sizes swap.new ≡ sizes swap.old }
     ensures sound { IsSwap swap.old → IsSwap swap.new }
 {
-    let page = frames.bytes_mut(frame);
     match slot {
-        Some(slot) => swap.read_slot(slot, page),
+        Some(slot) => swap.read_slot(slot, frames.bytes_mut(frame)),
         None => {
-            *page = zeros();
+            frames.clear(frame);
             Ok(())
         }
     }

@@ -57,7 +57,7 @@ impl<P: Pager> Model for PageStore<P> {
 
 impl<P: Pager> PageStore<P> {
     /// A store that holds no segment, over so many frames and the swap, none of whose slots is owned. The
-    /// memory of the frames is taken here.
+    /// memory of the frames is reserved here, and touched when a frame is first used.
     pub fn new(alloc: Global, frames: u32, swap: Swap<P>) -> Result<PageStore<P>, HostMemory>
         requires frames { (2 ≤ frames) × (frames ≤ MOST_FRAMES) }
         requires free { (area slot : ℕ) → owner_of swap area slot ≡ None }

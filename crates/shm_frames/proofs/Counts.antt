@@ -1,5 +1,5 @@
 -- What is counted of the table.
-use Rattle.std.proofs.Common.{◌≡◌, ◌≢◌, ℕ, zero, suc, ◌+◌, ◌-◌, ◌<◌, ◌≤◌, Bool, true, false, cond, List, [], ◌∷◌, length, get_or, set, replicate, ◌^◌, None, Some, is_some, refl, sym, ◌∙◌, add-one, arith, rules, length-set}
+use Rattle.std.proofs.Common.{◌≡◌, ◌≢◌, ℕ, zero, suc, ◌+◌, ◌-◌, ◌<◌, ◌≤◌, Bool, true, false, cond, List, [], ◌∷◌, length, get_or, set, replicate, ◌^◌, None, Some, is_some, refl, sym, ap, ◌∙◌, add-one, arith, rules, length-set}
 use Rattle.std.proofs.lemmas.Grind.{common_steps}
 use Rattle.std.specs.Prelude.{count_by}
 use Rattle.std.specs.Int.{from_bool}
@@ -7,6 +7,9 @@ use Rattle.std.proofs.lemmas.List.{get_or-set_other, length-replicate}
 use Rattle.std.proofs.lemmas.List.Folds.{sum_by-replicate}
 use Rattle.std.proofs.lemmas.List.Sums.{sum_by-cons, sum_by-set, count_by-le-length}
 use Rattle.shm_base.specs.declared.paging.PageRef.{PageRef}
+use Rattle.shm_pager.specs.Padded.{padded}
+use Rattle.shm_pager.proofs.Padded.{size-padded, get_or-padded}
+use Rattle.shm_frames.proofs.Shown.{count-padded}
 use Rattle.shm_frames.specs.declared.frames.FrameState.{FrameState}
 use Rattle.shm_frames.specs.Table.{free_entry, state_at, has_owner, has_no_owner, has_changed, UsedBelow, IsFrameTable}
 
@@ -82,20 +85,21 @@ module _ {table : List FrameState} {first owned changed i : ℕ} {was : FrameSta
   pub kept-empty : (later : ℕ) → later ≤ first → later ≤ i → IsFrameTable (set table i free_entry) later (owned - from_bool (has_owner was)) (changed - from_bool was.dirty)
   kept-empty later below past = grind (arith, common_steps, length-set, get_or-set_other, owned-set, changed-set, clear-set)
 
--- so many entries that are free, and as many pages
-pub record AreNew (table : List FrameState) (pages : List (List ℕ)) (n : ℕ) : Type 0 where
-  pub entries : table ≡ replicate n free_entry
-  pub beside : length pages ≡ n
+-- before any frame was used
+pub kept-new : IsFrameTable [] 0 0 0
+kept-new = record { bound = omega arith; used = λ i l. absurd (omega arith); resident = refl; dirty = refl; clear = λ i free. refl }
 
-free-entries : (n i : ℕ) → state_at (replicate n free_entry) i ≡ free_entry
-free-entries n i = grind (arith, common_steps)
-
--- a table of free entries
-pub new-entry : (table : List FrameState) (n i : ℕ) → table ≡ replicate n free_entry → state_at table i ≡ free_entry
-new-entry table n i e = rw e (free-entries n i)
-
-pub kept-new : (table : List FrameState) (n : ℕ) → table ≡ replicate n free_entry → n < 2 ^ 32 → IsFrameTable table 0 0 0
-kept-new table n e few = grind (arith, common_steps, length-replicate, sum_by-replicate, free-entries)
+-- more frames are used, and are free
+pub kept-reach : (table : List FrameState) (first owned changed n : ℕ) → IsFrameTable table first owned changed → IsFrameTable (padded table n free_entry) first owned changed
+kept-reach table first owned changed n k =
+    let same = λ (i : ℕ). get_or-padded table n i free_entry in
+    record {
+      bound = let size = size-padded table n free_entry in omega (arith, size, k.bound);
+      used = λ i l. ap has_no_owner (same i) ∙ k.used i l;
+      resident = k.resident ∙ sym (count-padded has_owner table n refl);
+      dirty = k.dirty ∙ sym (count-padded has_changed table n refl);
+      clear = λ i free. same i ∙ k.clear i (sym (ap (λ (e : FrameState). e.owner) (same i)) ∙ free);
+    }
 
 all-counted : {X : Type 0} (p : X → Bool) (d : X) (xs : List X) → count_by p xs ≡ length xs → (i : ℕ) → i < length xs → p (get_or xs i d) ≡ true
 all-counted p d [] e i l = absurd (omega arith)
@@ -109,10 +113,10 @@ all-counted p d (x ∷ xs) e i l =
     by (suc j) lt true h few sum rest = rest (omega arith) j (omega arith)
     by j lt false h few sum rest = absurd (omega arith)
 
--- where as many are owned as there are, none is free
-pub none-free : (table : List FrameState) (first owned changed : ℕ) → IsFrameTable table first owned changed → owned ≡ length table → UsedBelow table (length table)
-none-free table first owned changed k e i l = rw (all-counted has_owner free_entry table (sym k.resident ∙ e) i l) refl
+-- where as many are owned as were used, none of those is free
+pub none-free : (table : List FrameState) (owned : ℕ) → owned ≡ count_by has_owner table → owned ≡ length table → UsedBelow table (length table)
+none-free table owned resident e i l = rw (all-counted has_owner free_entry table (sym resident ∙ e) i l) refl
 
 -- where the next search begins
 pub kept-later : (table : List FrameState) (first owned changed later : ℕ) → IsFrameTable table first owned changed → later ≤ length table → UsedBelow table later → IsFrameTable table later owned changed
-kept-later table first owned changed later k bound used = record { few = k.few; bound = bound; used = used; resident = k.resident; dirty = k.dirty; clear = k.clear }
+kept-later table first owned changed later k bound used = record { bound = bound; used = used; resident = k.resident; dirty = k.dirty; clear = k.clear }

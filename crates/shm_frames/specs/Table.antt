@@ -1,6 +1,8 @@
 -- The entries of the table and the bytes beside them, seen as frames, and what the table keeps of them.
 use Rattle.std.specs.Prelude.{◌≡◌, ℕ, ◌<◌, ◌≤◌, ◌^◌, Bool, false, None, is_none, is_some, List, [], ◌∷◌, length, get_or, count_by}
 use Rattle.shm_frames.specs.declared.frames.FrameState.{FrameState}
+use Rattle.shm_pager.specs.Padded.{padded}
+use Rattle.shm_pager.specs.Pages.{zero_page}
 use Rattle.shm_frames.specs.Frame.{Frame}
 
 abbrev pub frame_shown : FrameState → List ℕ → Frame
@@ -14,6 +16,16 @@ frames_of (e ∷ es) (bytes ∷ pages) = frame_shown e bytes ∷ frames_of es pa
 
 abbrev pub free_entry : FrameState
 free_entry = record { owner = None; referenced = false; dirty = false }
+
+-- the frames that were used, and after them the others, each free and zeros
+abbrev pub all_frames : List FrameState → List (List ℕ) → ℕ → List Frame
+all_frames table pages count = frames_of (padded table count free_entry) (padded pages count zero_page)
+
+-- each frame that was used has an entry and bytes
+pub record AreUsed (table : List FrameState) (pages : List (List ℕ)) (count : ℕ) : Type 0 where
+  pub beside : length pages ≡ length table
+  pub within : length table ≤ count
+  pub few : count < 2 ^ 32
 
 abbrev pub state_at : List FrameState → ℕ → FrameState
 state_at table i = get_or table i free_entry
@@ -33,7 +45,6 @@ UsedBelow table n = (i : ℕ) → i < n → has_no_owner (state_at table i) ≡ 
 
 -- what is kept beside the table
 pub record IsFrameTable (table : List FrameState) (first_free owned changed : ℕ) : Type 0 where
-  pub few : length table < 2 ^ 32
   pub bound : first_free ≤ length table
   pub used : UsedBelow table first_free
   pub resident : owned ≡ count_by has_owner table

@@ -1,14 +1,18 @@
 //! The frames, their owners and their bits.
 //!
 //! A table has an entry for each frame, and the bytes of the frames lie apart from it, so that a walk
-//! over owners and bits reads no page. The table keeps a bound below which no frame is free, and
+//! over owners and bits reads no page. Entries and bytes are made when a frame is first used: memory that was
+//! reserved for other frames is not touched. The table keeps a bound below which no frame is free, and
 //! counts the frames that are owned and those that are dirty. A frame that is free has both bits
 //! clear; what its bytes are is nobody's concern.
-ghost use Rattle.std.specs.Prelude.{◌≡◌, ℕ, ◌+◌, ◌-◌, ◌<◌, ◌≤◌, ◌^◌, length, set, position, None, Some, IfOk, IsSome, MatchOption, false};
+ghost use Rattle.std.specs.Prelude.{◌≡◌, ℕ, ◌+◌, ◌-◌, ◌<◌, ◌≤◌, ◌^◌, [], ◌∷◌, ◌++◌, length, get_or, set, position, count_by, vec_capacity, None, Some, IfOk, IsSome, MatchOption, false};
 ghost use Rattle.std.specs.Borrow.{sem};
+ghost use Rattle.shm_pager.specs.Padded.{padded};
+ghost use Rattle.shm_pager.specs.Pages.{zero_page};
 
 use crate::looks::Looks;
 use shm_base::{FrameNo, HostMemory, PAGE_BYTES, PageRef};
+use shm_pager::zeros;
 use std::alloc::Global;
 use std::marker::Model;
 
@@ -22,8 +26,10 @@ struct FrameState {
 
 /// The frames of a machine. They are seen as a list, each with its owner, its bytes and its two bits.
 pub struct Frames {
+    // The frames that were ever used, a beginning of all frames. The others are free, and zeros.
     table: Vec<FrameState>,
     pages: Vec<[u8; PAGE_BYTES]>,
+    count: u32,
     // No frame below this one is free.
     first_free: FrameNo,
     // How many frames are owned, and how many are dirty.
@@ -36,6 +42,7 @@ impl Drop for Frames {
         let Frames {
             table: _,
             pages: _,
+            count: _,
             first_free: _,
             resident: _,
             dirty: _,
@@ -44,16 +51,18 @@ impl Drop for Frames {
 }
 
 impl Model for Frames {
-    ghost use Rattle.std.specs.Prelude.{◌≡◌, List, length};
+    ghost use Rattle.std.specs.Prelude.{◌≤◌, List, vec_capacity};
     ghost use Rattle.shm_frames.specs.Frame.{Frame};
 
     ghost Value = { List Frame };
 
-    ghost use Rattle.shm_frames.specs.Table.{frames_of, IsFrameTable};
+    ghost use Rattle.shm_frames.specs.Table.{all_frames, AreUsed, IsFrameTable};
 
-    ghost view = { λ a. frames_of a.table.items a.pages.items };
+    ghost view = { λ a. all_frames a.table.items a.pages.items a.count };
 
-    ghost invariant = { λ a. (length a.pages.items ≡ length a.table.items) × IsFrameTable a.table.items a.first_free a.resident a.dirty };
+    ghost invariant = { λ a. AreUsed a.table.items a.pages.items a.count
+        × (a.count ≤ vec_capacity a.table) × (a.count ≤ vec_capacity a.pages)
+        × IsFrameTable a.table.items a.first_free a.resident a.dirty };
 }
 
 impl FrameState {
@@ -64,20 +73,80 @@ impl FrameState {
     };
 }
 
-ghost use Rattle.shm_frames.specs.Table.{has_no_owner, UsedBelow};
+ghost use Rattle.shm_frames.specs.Table.{free_entry, state_at, has_owner, UsedBelow};
 
-// The entry of least number, from `first` on, that nobody owns.
-fn free_from(table: &Vec<FrameState>, first: FrameNo) -> Option<FrameNo>
+// What the table has of a frame. One that was never used is free.
+fn state_of(table: &Vec<FrameState>, frame: FrameNo) -> FrameState
+    ensures { result ≡ state_at table.now.items frame }
+{
+    table
+        .get(frame as usize)
+        .copied()
+        .unwrap_or(FrameState::FREE)
+}
+
+// The bytes of a frame that was never used.
+const ZEROS: [u8; PAGE_BYTES] = [0; PAGE_BYTES];
+
+// The bytes of a frame.
+fn page_at(pages: &Vec<[u8; PAGE_BYTES]>, frame: FrameNo) -> &[u8; PAGE_BYTES]
+    ensures { result.now ≡ get_or pages.now.items frame zero_page }
+{
+    match pages.get(frame as usize) {
+        Some(page) => page,
+        None => &ZEROS,
+    }
+}
+
+// One more frame is used, and zeros. The page that it puts down is on no other call's stack.
+#[inline(never)]
+fn push_blank(table: &mut Vec<FrameState>, pages: &mut Vec<[u8; PAGE_BYTES]>)
+    requires entry { length table.old.items < vec_capacity table.old }
+    requires bytes { length pages.old.items < vec_capacity pages.old }
+    ensures table { table.new.items ≡ table.old.items ++ free_entry ∷ [] }
+    ensures pages { pages.new.items ≡ pages.old.items ++ zero_page ∷ [] }
+    ensures entries { vec_capacity table.new ≡ vec_capacity table.old }
+    ensures rooms { vec_capacity pages.new ≡ vec_capacity pages.old }
+{
+    table.push_reserved(FrameState::FREE);
+    pages.push_reserved(zeros());
+}
+
+// Has the frames up to this one in the table.
+fn reach(table: &mut Vec<FrameState>, pages: &mut Vec<[u8; PAGE_BYTES]>, frame: FrameNo)
+    requires beside { length pages.old.items ≡ length table.old.items }
+    requires entries { frame < vec_capacity table.old }
+    requires bytes { frame < vec_capacity pages.old }
+    ensures table { table.new.items ≡ padded table.old.items (frame + 1) free_entry }
+    ensures pages { pages.new.items ≡ padded pages.old.items (frame + 1) zero_page }
+    ensures entries { vec_capacity table.new ≡ vec_capacity table.old }
+    ensures rooms { vec_capacity pages.new ≡ vec_capacity pages.old }
+{
+    for _frame in table.len()..frame as usize + 1 {
+        push_blank(table, pages);
+    }
+}
+
+// The least frame that is free: one of the table, or else the first that was never used. No frame below `first`
+// is free.
+fn least_free(table: &Vec<FrameState>, first: FrameNo, resident: u32) -> FrameNo
     requires few { length table.now.items < 2 ^ 32 }
     requires used { UsedBelow table.now.items first }
-    ensures { result ≡ position has_no_owner table.now.items }
+    requires resident { resident ≡ count_by has_owner table.now.items }
+    ensures within { result ≤ length table.now.items }
+    ensures free { (state_at table.now.items result).owner ≡ None }
+    ensures used { UsedBelow table.now.items result }
 {
-    for frame in first as usize..table.len() {
+    let used = table.len();
+    if resident as usize == used {
+        return used as FrameNo;
+    }
+    for frame in first as usize..used {
         if table[frame].owner.is_none() {
-            return Some(frame as FrameNo);
+            return frame as FrameNo;
         }
     }
-    None
+    used as FrameNo
 }
 
 impl Frames {
@@ -85,20 +154,15 @@ impl Frames {
     ghost use Rattle.shm_frames.specs.Lends.{lends_bytes};
     ghost use Rattle.shm_base.specs.declared.paging.TheConstants.{PAGE_BYTES};
 
-    /// So many free frames, in memory that is taken here once and for all.
+    /// So many free frames. Memory for all of them is reserved here, once and for all, and none of it is touched.
     pub fn new(alloc: Global, count: u32) -> Result<Frames, HostMemory>
         ensures size { IfOk result (λ frames. length frames ≡ count) }
         ensures free { IfOk result (λ frames. (i : ℕ) → IsFrameBlank frames i) }
     {
-        let mut table = Vec::with_capacity(alloc, count as usize)?;
-        let mut pages = Vec::with_capacity(alloc, count as usize)?;
-        for _frame in 0..count {
-            table.push(FrameState::FREE)?;
-            pages.push([0; PAGE_BYTES])?;
-        }
         Ok(Frames {
-            table,
-            pages,
+            table: Vec::with_capacity(alloc, count as usize)?,
+            pages: Vec::with_capacity(alloc, count as usize)?,
+            count,
             first_free: 0,
             resident: 0,
             dirty: 0,
@@ -110,7 +174,7 @@ impl Frames {
         ensures size { result ≡ length self.now }
         ensures clear { FreeAreClear self.now }
     {
-        self.table.len() as u32
+        self.count
     }
 
     /// How many frames are owned.
@@ -136,13 +200,12 @@ impl Frames {
         ensures least { MatchOption result (OwnedBelow self.old (length self.old)) (IsLeastFree self.old) }
         ensures same { self.new ≡ self.old }
     {
-        let count = self.table.len() as u32;
-        if self.resident == count {
+        let least = least_free(&self.table, self.first_free, self.resident);
+        self.first_free = least;
+        if least >= self.count {
             return None;
         }
-        let found = free_from(&self.table, self.first_free);
-        self.first_free = found.unwrap_or(count);
-        found
+        Some(least)
     }
 
     /// Whose a frame is, or none where it is free.
@@ -150,7 +213,7 @@ impl Frames {
         requires { frame < length self.now }
         ensures { result ≡ (frame_at self.now frame).owner }
     {
-        self.table[frame as usize].owner
+        state_of(&self.table, frame).owner
     }
 
     /// The page in an owned frame.
@@ -169,6 +232,7 @@ impl Frames {
         requires free { (frame_at self.old frame).owner ≡ None }
         ensures { self.new ≡ set self.old frame (record (frame_at self.old frame) { owner = Some owner }) }
     {
+        reach(&mut self.table, &mut self.pages, frame);
         let entry = &mut self.table[frame as usize];
         entry.owner = Some(owner);
         self.resident += 1;
@@ -182,9 +246,12 @@ impl Frames {
         requires { frame < length self.old }
         ensures { self.new ≡ set self.old frame (record no_frame { bytes = (frame_at self.old frame).bytes }) }
     {
-        let was = self.table[frame as usize];
+        let was = state_of(&self.table, frame);
+        if was.owner.is_none() {
+            return;
+        }
         self.table[frame as usize] = FrameState::FREE;
-        self.resident -= u32::from(was.owner.is_some());
+        self.resident -= 1;
         self.dirty -= u32::from(was.dirty);
         self.first_free = self.first_free.min(frame);
     }
@@ -195,7 +262,7 @@ impl Frames {
         ensures value { result.now ≡ (frame_at self.now frame).bytes }
         ensures whole { length result.now ≡ PAGE_BYTES }
     {
-        let page = &self.pages[frame as usize];
+        let page = page_at(&self.pages, frame);
         // What is read has a proof know its length.
         let _first = page[0];
         page
@@ -207,7 +274,20 @@ impl Frames {
         ensures* writes_back { sem 𝓛 (lends_bytes self.entry frame result) }
         ensures value { result.now ≡ (frame_at self.old frame).bytes }
     {
+        reach(&mut self.table, &mut self.pages, frame);
         &mut self.pages[frame as usize]
+    }
+
+    /// Has the bytes of a frame be zeros. One that was never used is written once, and not twice.
+    pub fn clear(&mut self, frame: FrameNo)
+        requires { frame < length self.old }
+        ensures { self.new ≡ set self.old frame (record (frame_at self.old frame) { bytes = zero_page }) }
+    {
+        if frame as usize >= self.pages.len() {
+            reach(&mut self.table, &mut self.pages, frame);
+            return;
+        }
+        self.pages[frame as usize] = zeros();
     }
 
     /// The referenced bit of a frame. Each look at one is counted.
@@ -218,7 +298,7 @@ impl Frames {
         ensures counted { looks.new ≡ looks.old + 1 }
     {
         looks.add();
-        self.table[frame as usize].referenced
+        state_of(&self.table, frame).referenced
     }
 
     /// Sets or clears the referenced bit of an owned frame.
@@ -236,7 +316,7 @@ impl Frames {
         requires { frame < length self.now }
         ensures { result ≡ (frame_at self.now frame).dirty }
     {
-        self.table[frame as usize].dirty
+        state_of(&self.table, frame).dirty
     }
 
     /// Sets or clears the dirty bit of an owned frame.

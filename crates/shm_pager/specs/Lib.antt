@@ -1,5 +1,6 @@
 pub mod Pages
 pub mod Sparse
+pub mod Padded
 pub mod Fuse
 pub mod Mirror
 pub mod Areas

@@ -1,6 +1,7 @@
-//! Pages in memory, but no room for zeros.
-ghost use Rattle.std.specs.Prelude.{◌≡◌, ◌≢◌, ◌+◌, ◌<◌, ◌↔◌, [], length, set, get_or, replicate, IsTrue, IsOk, IfOk, OnErr};
+//! Pages in memory, but no room for zeros. A slot that was never written costs no memory at all.
+ghost use Rattle.std.specs.Prelude.{◌≡◌, ◌≢◌, ◌+◌, ◌<◌, ◌↔◌, [], length, set, get_or, replicate, vec_capacity, None, Some, IsTrue, IsOk, IfOk, MatchOption, OnErr};
 ghost use Rattle.shm_pager.specs.Pages.{zero_page, last_count};
+ghost use Rattle.shm_pager.specs.Padded.{padded};
 
 use crate::pager::{Pager, PagerFault, zeros};
 use shm_base::PAGE_BYTES;
@@ -54,20 +55,23 @@ impl Drop for Room {
 /// only where it needs room and the allocator has none. A page of zeros written gives its room back.
 pub struct SparsePager {
     alloc: Global,
+    // The slots up to the last that was written; those after it hold zeros.
     pages: Vec<Option<Room>>,
+    slots: u32,
     failed: u64,
 }
 
 impl Model for SparsePager {
-    ghost use Rattle.std.specs.Prelude.{◌<◌, ◌^◌, length, map};
-    ghost use Rattle.shm_pager.specs.Pages.{PagerView};
+    ghost use Rattle.std.specs.Prelude.{◌≤◌, length, map, vec_capacity};
+    ghost use Rattle.shm_pager.specs.Pages.{PagerView, zero_page};
+    ghost use Rattle.shm_pager.specs.Padded.{padded};
     ghost use Rattle.shm_pager.specs.Sparse.{page_behind, NoZeros};
 
     ghost Value = { PagerView };
 
-    ghost view = { λ s. record { pages = map page_behind s.pages.items; failed = s.failed } };
+    ghost view = { λ s. record { pages = padded (map page_behind s.pages.items) s.slots zero_page; failed = s.failed } };
 
-    ghost invariant = { λ s. (length s.pages.items < 2 ^ 32) × NoZeros s.pages.items };
+    ghost invariant = { λ s. (length s.pages.items ≤ s.slots) × (s.slots ≤ vec_capacity s.pages) × NoZeros s.pages.items };
 }
 
 fn is_zero(page: &[u8; PAGE_BYTES]) -> bool
@@ -76,19 +80,45 @@ fn is_zero(page: &[u8; PAGE_BYTES]) -> bool
     page.iter().all(|&byte| byte == 0)
 }
 
+// Has the slots up to this one in the table.
+fn reach(pages: &mut Vec<Option<Room>>, slot: u32)
+    requires { slot < vec_capacity pages.old }
+    ensures items { pages.new.items ≡ padded pages.old.items (slot + 1) None }
+    ensures capacity { vec_capacity pages.new ≡ vec_capacity pages.old }
+{
+    for _i in pages.len()..slot as usize + 1 {
+        pages.push_reserved(None);
+    }
+}
+
+// What a slot holds, if it is not zeros.
+fn room_at(pages: &Vec<Option<Room>>, slot: u32) -> Option<&Room>
+    ensures { let held = get_or pages.now.items slot None in
+        MatchOption result (held ≡ None) (λ room. held ≡ Some room.now) }
+{
+    pages.get(slot as usize)?.as_ref()
+}
+
+// Has a slot hold zeros.
+fn clear(pages: &mut Vec<Option<Room>>, slot: u32)
+    ensures items { pages.new.items ≡ set pages.old.items slot None }
+    ensures capacity { vec_capacity pages.new ≡ vec_capacity pages.old }
+{
+    if let Some(place) = pages.get_mut(slot as usize) {
+        *place = None;
+    }
+}
+
 #[tactic(auto, using(crate::proofs::Rooms::rooms))]
 impl SparsePager {
-    /// A pager with zeros in each slot.
+    /// A pager with zeros in each slot. It reserves a place for each, and touches none.
     pub fn new(alloc: Global, slots: u32) -> Result<SparsePager, AllocError>
         ensures { IfOk result (λ p. p ≡ record { pages = replicate slots zero_page; failed = 0 }) }
     {
-        let mut pages = Vec::with_capacity(alloc, slots as usize)?;
-        for _i in 0..slots {
-            pages.push(None)?;
-        }
         Ok(SparsePager {
             alloc,
-            pages,
+            pages: Vec::with_capacity(alloc, slots as usize)?,
+            slots,
             failed: 0,
         })
     }
@@ -100,6 +130,7 @@ impl SparsePager {
         let SparsePager {
             alloc: _,
             pages: _,
+            slots: _,
             failed: _,
         } = self;
     }
@@ -112,7 +143,7 @@ impl Pager for SparsePager {
     ghost failed = { λ p. p.failed };
 
     fn slots(&self) -> u32 {
-        self.pages.len() as u32
+        self.slots
     }
 
     fn failures(&self) -> u64 {
@@ -130,11 +161,12 @@ impl Pager for SparsePager {
         ensures cause { OnErr result
             ((get_or self.old.pages slot [] ≡ zero_page) × (page.now ≢ zero_page)) }
     {
-        let place = &mut self.pages[slot as usize];
         if is_zero(page) {
-            *place = None;
+            clear(&mut self.pages, slot);
             return Ok(());
         }
+        reach(&mut self.pages, slot);
+        let place = &mut self.pages[slot as usize];
         if let Some(room) = place {
             room.fill(page);
             return Ok(());
@@ -157,7 +189,7 @@ impl Pager for SparsePager {
         ensures content { self.new ≡ self.old }
         ensures page { get_or self.old.pages slot [] ≡ page.new }
     {
-        match &self.pages[slot as usize] {
+        match room_at(&self.pages, slot) {
             Some(room) => *page = *room.page,
             None => *page = zeros(),
         }
@@ -169,7 +201,7 @@ impl Pager for SparsePager {
         requires { slot < length self.old.pages }
         ensures { self.new ≡ record self.old { pages = set self.old.pages slot zero_page } }
     {
-        self.pages[slot as usize] = None;
+        clear(&mut self.pages, slot);
     }
 
     fn wipe(&mut self)

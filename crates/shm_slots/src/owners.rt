@@ -1,14 +1,17 @@
 //! Who owns each slot of an area, and which slot is the least that is free.
-ghost use Rattle.std.specs.Prelude.{◌≡◌, ◌<◌, [], length, set, get_or, replicate, Some, None, IfOk};
+ghost use Rattle.std.specs.Prelude.{◌≡◌, ◌<◌, ◌≤◌, ℕ, [], length, set, get_or, replicate, vec_capacity, Some, None, IfOk};
+ghost use Rattle.shm_pager.specs.Padded.{padded};
 ghost use Rattle.shm_slots.specs.Owners.{IsLeastFree, FoundLeast, used_count};
 
 use shm_base::{Numbers, PageRef};
 use std::alloc::{AllocError, Global};
 use std::marker::Model;
 
-/// The owners of an area's slots.
+/// The owners of an area's slots. A slot that was never owned has no entry.
 pub(crate) struct Owners {
+    // The least free slot is taken first, so these are a beginning of all slots.
     slots: Vec<Option<PageRef>>,
+    count: u32,
     // The slots that are owned are taken.
     numbers: Numbers,
     used: usize,
@@ -18,6 +21,7 @@ impl Drop for Owners {
     fn drop(self) {
         let Owners {
             slots: _,
+            count: _,
             numbers: _,
             used: _,
         } = self;
@@ -25,30 +29,46 @@ impl Drop for Owners {
 }
 
 impl Model for Owners {
-    ghost use Rattle.std.specs.Prelude.{◌<◌, ◌^◌, List, Option, length};
+    ghost use Rattle.std.specs.Prelude.{◌<◌, ◌≤◌, ◌^◌, List, Option, None, length, vec_capacity};
     ghost use Rattle.shm_base.specs.declared.paging.PageRef.{PageRef};
+    ghost use Rattle.shm_pager.specs.Padded.{padded};
     ghost use Rattle.shm_slots.specs.Owners.{AreOwnersSound};
 
     ghost Value = { List (Option PageRef) };
 
-    ghost view = { λ o. o.slots.items };
+    ghost view = { λ o. padded o.slots.items o.count None };
 
-    ghost invariant = { λ o. (length o.slots.items < 2 ^ 32) × AreOwnersSound o.slots.items o.numbers o.used };
+    ghost invariant = { λ o. (length o.slots.items ≤ o.count) × (o.count ≤ vec_capacity o.slots) × (o.count < 2 ^ 32)
+        × AreOwnersSound (padded o.slots.items o.count None) o.numbers o.used };
+}
+
+// Gives a slot an owner, the first without an entry or one that has one.
+fn put_owner(slots: &mut Vec<Option<PageRef>>, slot: u32, owner: PageRef)
+    requires within { slot ≤ length slots.old.items }
+    requires room { slot < vec_capacity slots.old }
+    ensures items { (count : ℕ) → slot < count → length slots.old.items ≤ count
+        → padded slots.new.items count None ≡ set (padded slots.old.items count None) slot (Some owner) }
+    ensures fit { (count : ℕ) → slot < count → length slots.old.items ≤ count
+        → length slots.new.items ≤ count }
+    ensures capacity { vec_capacity slots.new ≡ vec_capacity slots.old }
+{
+    if slot as usize == slots.len() {
+        slots.push_reserved(Some(owner));
+    } else {
+        slots[slot as usize] = Some(owner);
+    }
 }
 
 impl Owners {
-    /// So many free slots.
+    /// So many free slots. Room for each owner is reserved, and none of it is touched.
     pub(crate) fn new(alloc: Global, count: u32) -> Result<Owners, AllocError>
         ensures { IfOk result (λ o. o ≡ replicate count None) }
     {
         let mut numbers = Numbers::new(alloc);
         numbers.reserve(count)?;
-        let mut slots = Vec::with_capacity(alloc, count as usize)?;
-        for _i in 0..count {
-            slots.push(None)?;
-        }
         Ok(Owners {
-            slots,
+            slots: Vec::with_capacity(alloc, count as usize)?,
+            count,
             numbers,
             used: 0,
         })
@@ -66,12 +86,13 @@ impl Owners {
         requires { slot < length self.now }
         ensures { result ≡ get_or self.now slot None }
     {
-        self.slots[slot as usize]
+        self.slots.get(slot as usize).copied().flatten()
     }
 
-    /// The owners of all slots, by rising number.
-    pub(crate) fn as_slice(&self) -> &[Option<PageRef>]
-        ensures { result.now ≡ self.now }
+    /// The owners of the slots that were ever owned, by rising number. The slots after them are free.
+    pub(crate) fn entries(&self) -> &[Option<PageRef>]
+        ensures few { length result.now ≤ length self.now }
+        ensures owners { self.now ≡ padded result.now (length self.now) None }
     {
         self.slots.as_slice()
     }
@@ -81,7 +102,7 @@ impl Owners {
         ensures { FoundLeast self.now result }
     {
         let slot = self.numbers.least();
-        if slot as usize >= self.slots.len() {
+        if slot >= self.count {
             return None;
         }
         Some(slot)
@@ -92,7 +113,7 @@ impl Owners {
         requires { IsLeastFree self.old slot }
         ensures { self.new ≡ set self.old slot (Some owner) }
     {
-        self.slots[slot as usize] = Some(owner);
+        put_owner(&mut self.slots, slot, owner);
         self.numbers.take();
         self.used += 1;
     }
@@ -102,7 +123,7 @@ impl Owners {
         requires { slot < length self.old }
         ensures { self.new ≡ set self.old slot None }
     {
-        if self.slots[slot as usize].is_some() {
+        if self.get(slot).is_some() {
             self.slots[slot as usize] = None;
             self.used -= 1;
             self.numbers.give(slot);
@@ -114,6 +135,7 @@ impl Owners {
         ensures { self.new ≡ [] }
     {
         self.slots.clear();
+        self.count = 0;
         self.numbers.clear();
         self.used = 0;
     }

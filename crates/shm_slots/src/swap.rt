@@ -38,6 +38,7 @@ impl<P: Pager> Swap<P> {
     ghost use Rattle.shm_slots.specs.View.{SwapView, new_swap, fresh, area_at, with_area, off, HasSlot, owner_of, page_in, with_slot_page, without_slot, FoundFree, Takes, OneArea, SameSlots, AfterReadFault, AfterWriteFault, size_of, sizes, swap_slots, used_in, used_slots, IsAreaSize, IsSwap, AreCountsOf};
     ghost use Rattle.shm_slots.specs.Cause.{total, had_cause, GoesOn, IsSteady};
     ghost use Rattle.shm_base.specs.declared.bounds.TheConstants.{MOST_AREAS};
+    ghost use Rattle.shm_pager.specs.Padded.{padded};
 
     /// Swap over these pagers, which become the areas 0, 1 and so on. No slot is owned. A pager that is
     /// spent when it is handed in counts as an area that was spent.
@@ -93,12 +94,15 @@ impl<P: Pager> Swap<P> {
         self.areas.len() as u32
     }
 
-    /// Who owns the slots of an area, by rising number. An area that is gone has none.
+    /// Who owns the slots of an area that were ever owned, by rising number. The slots after them are free. An
+    /// area that is gone has none.
     pub fn owners(&self, area: u32) -> &[Option<PageRef>]
-        ensures { result.now ≡ (area_at self.now area).owners }
+        ensures few { length result.now ≤ length (area_at self.now area).owners }
+        ensures owners { let owners = (area_at self.now area).owners in
+            owners ≡ padded result.now (length owners) None }
     {
         match self.areas.get(area as usize) {
-            Some(area) => area.owners().as_slice(),
+            Some(area) => area.owners().entries(),
             None => &[],
         }
     }

@@ -1,34 +1,22 @@
-use Rattle.std.proofs.Common.{arith, refl, ◌≡◌, ◌<◌, length, length-set}
-use Rattle.std.proofs.lemmas.Grind.{common_steps}
-use Rattle.shm_frames.specs.Table.{state_at, free_entry}
-use Rattle.shm_frames.specs.Frame.{no_frame}
-use Rattle.shm_frames.proofs.Shown.{shown, length-shown, edit-shown, entry-is}
-use Rattle.shm_frames.proofs.Counts.{kept-empty, owned-there, changed-there}
+use Rattle.std.proofs.Common.{◌≡◌, ◌<◌, Option, Some, None, is_some, false, true≢false, length, set, refl, sym, ap, ◌∙◌, arith}
+use Rattle.shm_base.specs.declared.paging.PageRef.{PageRef}
+use Rattle.std.proofs.lemmas.List.{set-get_or}
+use Rattle.shm_frames.specs.Frame.{no_frame, frame_at}
+use Rattle.shm_frames.specs.Table.{free_entry}
+use Rattle.shm_frames.proofs.Shown.{shown, clear-shown, edit-shown, entry-there, frame-shown}
 use Rattle.shm_frames.proofs.frames.Frames.empty.Goals as goal
-use Rattle.shm_frames.proofs.frames.Frames.empty.Goals.{After-self, After-index}
 
-there : (c : After-self) → c.args.frame < length c.self.inside.table.items
-there c = omega (arith, c.requires, length-shown (shown c.self.inside c.self.invariant c.self.view_is))
+none_from : (o : Option PageRef) → is_some o ≡ false → o ≡ None
+none_from None e = refl
+none_from (Some r) e = absurd (true≢false e)
 
-at : (c : After-index) → c.index.result.now ≡ state_at c.self.inside.table.items c.args.frame
-at c = entry-is (shown c.self.inside c.self.invariant c.self.view_is) c.args.frame c.index.result.now c.requires c.index.ensures
-
-pub index-requires : goal.index-requires
-index-requires c = omega (arith, there (goal.at.index-requires c).After-self)
-
-pub index_mut-requires : goal.index_mut-requires
-index_mut-requires c = omega (arith, there (goal.at.index_mut-requires c).After-self)
-
-pub overflow_sub-self : goal.overflow_sub-self
-overflow_sub-self c = grind (arith, common_steps, owned-there, there)
-
-pub overflow_sub-self-2 : goal.overflow_sub-self-2
-overflow_sub-self-2 c = grind (arith, common_steps, changed-there, there)
-
-pub invariant_of-self : goal.invariant_of-self
-invariant_of-self c = grind (arith, common_steps, length-set, kept-empty, there)
+pub returns-then-is_none : goal.returns-then-is_none
+returns-then-is_none c =
+    let s = shown c.self.inside c.self.invariant.0 c.self.view_is in
+    let free : (frame_at c.args.self.now c.args.frame).owner ≡ None = none_from (frame_at c.args.self.now c.args.frame).owner (rw (frame-shown s c.args.frame, ← c.state_of-was.ensures) (c.if-is_none.ensures)) in
+    sym (ap (λ f. set c.args.self.now c.args.frame f) (sym (clear-shown s c.self.invariant.3.clear c.args.frame free)) ∙ set-get_or c.args.self.now c.args.frame no_frame)
 
 pub returns : goal.returns
 returns c =
-    let s = shown c.self.inside c.self.invariant c.self.view_is in
-    edit-shown s c.args.frame c.index.result.now (λ x. free_entry) (λ f. record no_frame { bytes = f.bytes }) (λ x b. refl) c.requires c.index.ensures
+    let s = shown c.self.inside c.self.invariant.0 c.self.view_is in
+    edit-shown s c.args.frame c.state_of-was.result (λ x. free_entry) (λ f. record no_frame { bytes = f.bytes }) (λ x b. refl) (entry-there c.self.inside.table.items c.args.frame (rw (← c.state_of-was.ensures) c.if-is_none.ensures)) c.state_of-was.ensures

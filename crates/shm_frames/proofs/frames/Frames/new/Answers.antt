@@ -1,19 +1,17 @@
-use Rattle.std.proofs.Common.{◌≡◌, ◌∙◌, length, refl, sym, arith}
-use Rattle.std.proofs.lemmas.Grind.{common_steps}
-use Rattle.std.proofs.lemmas.List.{length-replicate}
-use Rattle.shm_frames.specs.Table.{frames_of}
+use Rattle.std.proofs.Common.{refl, arith}
+use Rattle.shm_frames.specs.Table.{all_frames}
 use Rattle.shm_frames.proofs.Shown.{AreFramesShown, length-shown, frame-shown}
-use Rattle.shm_frames.proofs.Counts.{new-entry, kept-new}
 use Rattle.shm_frames.proofs.frames.Frames.new.Goals as goal
+use Rattle.shm_frames.proofs.frames.Frames.new.Goals.{In_ok-with_capacity-2}
 
-pub invariant_of-result : goal.invariant_of-result
-invariant_of-result c = grind (arith, common_steps, length-replicate, kept-new)
+none : (c : In_ok-with_capacity-2) → AreFramesShown c.in_ok-with_capacity.field-0.items c.in_ok-with_capacity-2.field-0.items c.args.count (all_frames c.in_ok-with_capacity.field-0.items c.in_ok-with_capacity-2.field-0.items c.args.count)
+none c = record {
+  used = rw (c.in_ok-with_capacity.ensures.items, c.in_ok-with_capacity-2.ensures.items) (record { beside = refl; within = omega arith; few = omega (arith, c.ranges.count) });
+  is = refl;
+}
 
 pub returns-clause-size : goal.returns-clause-size
-returns-clause-size c = grind (arith, common_steps, length-replicate, length-shown)
+returns-clause-size c = let o = goal.at.returns-clause-size c in length-shown (none o.In_ok-with_capacity-2)
 
 pub returns-clause-free : goal.returns-clause-free
-returns-clause-free c i =
-    let n : length c.loop-frame.table.items ≡ c.loop-frame._frame = rw c.loop-frame.invariant.entries (length-replicate _ _) in
-    let s : AreFramesShown c.loop-frame.table.items c.loop-frame.pages.items (frames_of c.loop-frame.table.items c.loop-frame.pages.items) = record { beside = c.loop-frame.invariant.beside ∙ sym n; is = refl } in
-    rw (frame-shown s i, new-entry c.loop-frame.table.items c.loop-frame._frame i c.loop-frame.invariant.entries) refl
+returns-clause-free c = let o = goal.at.returns-clause-free c in λ i. rw (frame-shown (none o.In_ok-with_capacity-2) i, c.in_ok-with_capacity.ensures.items) refl

@@ -1,10 +1,6 @@
-use Rattle.std.proofs.Common.{arith}
-use Rattle.std.proofs.lemmas.Grind.{common_steps}
-use Rattle.shm_frames.proofs.Shown.{length-shown, entry-read}
+use Rattle.std.proofs.Common.{refl}
+use Rattle.shm_frames.proofs.Shown.{shown, frame-shown}
 use Rattle.shm_frames.proofs.frames.Frames.owner.Goals as goal
 
-pub index-requires : goal.index-requires
-index-requires c = grind (arith, common_steps, length-shown)
-
 pub returns : goal.returns
-returns c = grind (arith, common_steps, entry-read)
+returns c = rw (frame-shown (shown c.self.inside c.self.invariant.0 c.self.view_is) c.args.frame, c.state_of.ensures) refl
