@@ -1,5 +1,5 @@
 -- Which process a pid names, and what changes of its pieces are for the flat machine.
-use Rattle.shm_attach.proofs.Names.{keys_of, ◌≡◌, ◌≢◌, ◌⊎◌, inl, inr, ℕ, zero, suc, ◌+◌, ◌<◌, ◌≤◌, false, nat_eq, ◌==◌, if◌then◌else◌, List, [], ◌∷◌, length, get_or, Option, Some, None, slice_get, refl, ap, sym, ◌∙◌, arith, eq-eqb, ne_eqb, length-set, common_steps, position, position_or_len, cases_eq, cases_lt, lt-ltb, eqb-true, eqb-false, length-map, set-set, get_or-map, position-Some, fails_before_first, none-some, slice_get-get_or, slice_get_within, get_or_from_slice_get, gets, Cred, caller_by, caller_from, is_unborn, unborn_from, with_pieces, with_end, bare_all, Ended, life_view, runner_view, runners_view, with_own, with_pieces_at, with_life_at, pieces_at, life_at, caller_seen, IsCaller, FlatCaller, Life, Live, Runner}
+use Rattle.shm_attach.proofs.Names.{is_live, true, keys_of, ◌≡◌, ◌≢◌, ◌⊎◌, inl, inr, ℕ, zero, suc, ◌+◌, ◌<◌, ◌≤◌, false, nat_eq, ◌==◌, if◌then◌else◌, List, [], ◌∷◌, length, get_or, Option, Some, None, slice_get, refl, ap, sym, ◌∙◌, arith, eq-eqb, ne_eqb, length-set, common_steps, position, position_or_len, cases_eq, cases_lt, lt-ltb, eqb-true, eqb-false, length-map, set-set, get_or-map, position-Some, fails_before_first, none-some, slice_get-get_or, slice_get_within, get_or_from_slice_get, gets, Cred, caller_by, caller_from, is_unborn, unborn_from, with_pieces, with_end, bare_all, Ended, life_view, runner_view, runners_view, with_own, with_pieces_at, with_life_at, pieces_at, life_at, caller_seen, IsCaller, FlatCaller, Life, Live, Runner}
 use Rattle.shm_base.specs.State as flat
 use Rattle.shm_attach.specs.declared.process.Caller.{Caller}
 use Rattle.shm_attach.specs.declared.process.Life.TheVariants.{Unborn}
@@ -12,7 +12,7 @@ nobody = (0, record { life = Ended; space = record { pieces = []; most = 0 } })
 
 -- WHAT IS SAID OF THE FIRST PROCESS WITH A PID
 
-abbrev first : {X : Type 0} → (ℕ → flat.Runner → Option X) → ℕ → ℕ → List flat.Runner → Option X
+abbrev pub first : {X : Type 0} → (ℕ → flat.Runner → Option X) → ℕ → ℕ → List flat.Runner → Option X
 first f n pid [] = None
 first f n pid (r ∷ rs) = if r.pid == pid then f n r else first f (n + 1) pid rs
 
@@ -38,7 +38,7 @@ first-found f n pid (suc i) (e ∷ es) lt own others =
     let next : n + suc i ≡ (n + 1) + i = omega arith in
     rw (ne_eqb e.0 pid (others 0 (omega arith)), next) (first-found f (n + 1) pid i es (omega arith) own (λ k l. others (suc k) (omega arith)))
 
-first-none : {X : Type 0} (f : ℕ → flat.Runner → Option X) (n pid : ℕ) (es : List (ℕ × Runner)) → ((k : ℕ) → k < length es → (get_or es k nobody).0 ≢ pid)
+pub first-none : {X : Type 0} (f : ℕ → flat.Runner → Option X) (n pid : ℕ) (es : List (ℕ × Runner)) → ((k : ℕ) → k < length es → (get_or es k nobody).0 ≢ pid)
     → first f n pid (runners_view es) ≡ None
 first-none f n pid [] others = refl
 first-none f n pid (e ∷ es) others = rw (ne_eqb e.0 pid (others 0 (omega arith))) (first-none f (n + 1) pid es (λ k l. others (suc k) (omega arith)))
@@ -84,7 +84,7 @@ first_place pid i es e found at =
       others = λ k l same. eqb-false pid (get_or es k nobody).0 (rw (← key-at es k (omega arith)) (p.2 k l)) (sym same);
     }
 
-no_place : (pid : ℕ) (es : List (ℕ × Runner)) → None ≡ position (nat_eq pid) (keys_of es) → (k : ℕ) → k < length es → (get_or es k nobody).0 ≢ pid
+pub no_place : (pid : ℕ) (es : List (ℕ × Runner)) → None ≡ position (nat_eq pid) (keys_of es) → (k : ℕ) → k < length es → (get_or es k nobody).0 ≢ pid
 no_place pid es none = by (cases_lt (position_or_len (nat_eq pid) (keys_of es)) (length (keys_of es)))
   where
     by : (position_or_len (nat_eq pid) (keys_of es) < length (keys_of es)) ⊎ (length (keys_of es) ≤ position_or_len (nat_eq pid) (keys_of es))
@@ -95,7 +95,7 @@ no_place pid es none = by (cases_lt (position_or_len (nat_eq pid) (keys_of es)) 
         (rw (← key-at es k l) (fails_before_first (nat_eq pid) (keys_of es) k 0 (omega (arith, le, length-map es (λ (e : ℕ × Runner). e.0)))))
         (sym same)
 
-first-position : {X : Type 0} (f : ℕ → flat.Runner → Option X) (pid i : ℕ) (es : List (ℕ × Runner)) (e : ℕ × Runner) → position (nat_eq pid) (keys_of es) ≡ Some i
+pub first-position : {X : Type 0} (f : ℕ → flat.Runner → Option X) (pid i : ℕ) (es : List (ℕ × Runner)) (e : ℕ × Runner) → position (nat_eq pid) (keys_of es) ≡ Some i
     → slice_get es i ≡ Some e → first f 0 pid (runners_view es) ≡ f i (runner_view e)
 first-position f pid i es e found at =
     let p = first_place pid i es e found at in
@@ -159,9 +159,15 @@ with_end-at c rs is = let there = caller_there c rs is in grind (arith, common_s
 pub length-with_pieces : (c : Caller) (rs : List flat.Runner) (ps : List flat.Piece) → length (with_pieces rs (caller_seen c rs) ps) ≡ length rs
 length-with_pieces c rs ps = length-set rs c.index (record { pid = c.pid; life = flat.Live c.cred; pieces = ps })
 
+pub pieces_at-left : (c : Caller) (rs : List flat.Runner) (ps : List flat.Piece) → IsCaller c rs → pieces_at (with_pieces rs (caller_seen c rs) ps) c.index ≡ ps
+pieces_at-left c rs ps is = let within = slice_get_within rs c.index _ (caller_there c rs is) in grind (arith, common_steps, gets)
+
 -- it was born
 pub caller_born : (c : Caller) (rs : List flat.Runner) → IsCaller c rs → life_at rs c.index ≢ flat.Unborn
 caller_born c rs is none = let live = caller_there c rs is in absurd (grind arith)
+
+pub caller_lives : (c : Caller) (rs : List flat.Runner) → IsCaller c rs → is_live (life_at rs c.index) ≡ true
+caller_lives c rs is = let live = caller_there c rs is in grind arith
 
 -- A CHILD THAT IS NOT BORN
 

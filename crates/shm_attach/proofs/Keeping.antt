@@ -1,5 +1,5 @@
 -- The counts stay exact, and no process gets too many pieces.
-use Rattle.shm_attach.proofs.Names.{◌≡◌, ◌≢◌, ℕ, zero, suc, ◌+◌, ◌*◌, ◌<◌, ◌≤◌, false, ◌==◌, List, [], ◌∷◌, ◌++◌, length, get_or, set, take, refl, ap, sym, ◌∙◌, arith, length-take, common_steps, cases_eq, slice_get-get_or, gets, set-set, get_or-map, set-get_or, sum_by-cons, sum_by-set, count_by-le-length, end_of, lowest_address, end_address, without_named, inserted, occupied, cut, parts, part_below, part_above, pieces_of, attach_count, bare, bare_all, IsFit, Arranged, lower, Tables, counted, with_own, with_pieces_at, with_other_life, with_life_at, pieces_at, life_at, AreCountsExact, IsPlaceFor, Unborn, Stored, MOST_PIECES, most_of_segment}
+use Rattle.shm_attach.proofs.Names.{is_live, ◌≡◌, ◌≢◌, ℕ, zero, suc, ◌+◌, ◌*◌, ◌<◌, ◌≤◌, false, ◌==◌, List, [], ◌∷◌, ◌++◌, length, get_or, set, take, refl, ap, sym, ◌∙◌, arith, length-take, common_steps, cases_eq, slice_get-get_or, gets, set-set, get_or-map, set-get_or, sum_by-cons, sum_by-set, count_by-le-length, end_of, lowest_address, end_address, without_named, inserted, occupied, cut, parts, part_below, part_above, pieces_of, attach_count, bare, bare_all, IsFit, Arranged, lower, Tables, counted, with_own, with_pieces_at, with_other_life, with_life_at, pieces_at, life_at, AreCountsExact, IsPlaceFor, Unborn, Stored, MOST_PIECES, most_of_segment}
 use Rattle.shm_base.specs.State.{Piece, Life, Runner}
 use Rattle.shm_attach.proofs.Processes.{first_runner, attach_count-changed, one_more}
 
@@ -49,13 +49,13 @@ attach_count-more rs j id r lt none = grind (arith, common_steps, sum_by-set, pi
 
 -- one process is replaced by another, and the counts follow
 pub IsExact-set : (extra : ℕ → ℕ) (rs : List Runner) (i : ℕ) (r : Runner) (c d : Tables) → AreCountsExact extra rs c → i < length rs → length r.pieces ≤ MOST_PIECES
-    → Arranged lowest_address r.pieces → (r.life ≡ Unborn → r.pieces ≡ [])
+    → Arranged lowest_address r.pieces → (is_live r.life ≡ false → r.pieces ≡ [])
     → ((id : ℕ) → counted d id + pieces_of id (pieces_at rs i) ≡ counted c id + pieces_of id r.pieces)
     → AreCountsExact extra (set rs i r) d
 IsExact-set extra rs i r c d exact lt few order asleep counts = grind (arith, common_steps, gets, sum_by-set, pieces_at-get_or, life_at-get_or, cases_eq)
 
 pub IsExact-changed : (extra : ℕ → ℕ) (rs : List Runner) (i : ℕ) (f : List Piece → List Piece) (c d : Tables) → AreCountsExact extra rs c → i < length rs → length (f (pieces_at rs i)) ≤ MOST_PIECES
-    → Arranged lowest_address (f (pieces_at rs i)) → (life_at rs i ≡ Unborn → f (pieces_at rs i) ≡ [])
+    → Arranged lowest_address (f (pieces_at rs i)) → (is_live (life_at rs i) ≡ false → f (pieces_at rs i) ≡ [])
     → ((id : ℕ) → counted d id + pieces_of id (pieces_at rs i) ≡ counted c id + pieces_of id (f (pieces_at rs i)))
     → AreCountsExact extra (with_pieces_at rs i f) d
 IsExact-changed extra rs i f c d exact lt few order asleep counts =
@@ -63,14 +63,14 @@ IsExact-changed extra rs i f c d exact lt few order asleep counts =
     let same : f (pieces_at rs i) ≡ f r.pieces = ap f (pieces_at-get_or rs i) in
     rw (with_pieces_at-within rs i f lt)
     (IsExact-set extra rs i (record r { pieces = f r.pieces }) c d exact lt (rw same at few) (rw same at order)
-    (λ none. sym same ∙ asleep (life_at-get_or rs i ∙ none)) (λ id. rw same at (counts id)))
+    (λ none. sym same ∙ asleep (ap is_live (life_at-get_or rs i) ∙ none)) (λ id. rw same at (counts id)))
 
-pub IsExact-life : (extra : ℕ → ℕ) (rs : List Runner) (i : ℕ) (l : Life) (c : Tables) → AreCountsExact extra rs c → i < length rs → l ≢ Unborn → AreCountsExact extra (with_life_at rs i l) c
-IsExact-life extra rs i l c exact lt awake =
+pub IsExact-life : (extra : ℕ → ℕ) (rs : List Runner) (i : ℕ) (l : Life) (c : Tables) → AreCountsExact extra rs c → i < length rs → (is_live l ≡ false → pieces_at rs i ≡ []) → AreCountsExact extra (with_life_at rs i l) c
+IsExact-life extra rs i l c exact lt idle =
     let r = get_or rs i first_runner in
     let same : pieces_at rs i ≡ r.pieces = pieces_at-get_or rs i in
     rw (with_life_at-within rs i l lt)
-    (IsExact-set extra rs i (record r { life = l }) c c exact lt (rw same at (exact.pieces i)) (rw same at (exact.arranged i)) (λ none. absurd (awake none))
+    (IsExact-set extra rs i (record r { life = l }) c c exact lt (rw same at (exact.pieces i)) (rw same at (exact.arranged i)) (λ none. sym same ∙ idle none)
     (λ id. ap (λ ps. counted c id + pieces_of id ps) same))
 
 -- a segment has at most 65530 pieces for each process

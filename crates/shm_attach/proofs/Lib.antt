@@ -11,3 +11,4 @@ pub mod Tied
 pub mod Translations
 pub mod Starts
 pub mod FlatSteps
+pub mod Joining

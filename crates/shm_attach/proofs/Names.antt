@@ -20,6 +20,7 @@ pub use Rattle.shm_areas.specs.Arranged.{Arranged, IsCovering, IsFit, SpaceView,
 pub use Rattle.shm_areas.specs.Edit.{stored_cut, stored_inserted, stored_named, stored_parts, stored_without}
 pub use Rattle.shm_areas.specs.Met.{met}
 pub use Rattle.shm_base.specs.Processes.{pieces_of_caller}
+pub use Rattle.shm_base.specs.Guest.{is_live}
 pub use Rattle.shm_base.specs.Access.{Place, all_writable, byte_at, covers, end_of, joined, loaded, only_writable, places, stored, with_byte, writable_places}
 pub use Rattle.shm_base.specs.Segments.{after_detach, attach_count}
 pub use Rattle.shm_base.specs.Space.{cut, cut_segments, inserted, end_address, lowest_address, meets, occupied, origin_of, part_above, part_below, parts, pieces_of, without_named}

@@ -1,5 +1,5 @@
 -- The counts stay exact, and each piece has its segment's table, where one process changes.
-use Rattle.shm_attach.proofs.Names.{most_at, length-set_value_at, values_of, ◌≡◌, ◌≢◌, ℕ, ◌+◌, ◌<◌, ◌≤◌, List, [], length, Some, slice_get, sym, subst, arith, common_steps, All, length-map, set_value_at, lowest_address, inserted, cut, without_named, pieces_of, bare_all, Arranged, arranged_cut, arranged_inserted, Tables, runner_view, runners_view, with_pieces_at, with_life_at, pieces_at, life_at, counted, stored_at, HasTable, OneTableEach, AllHaveTables, IsPlaceFor, IsCuttable, AreCountsExact, AreTablesSound, HasReservations, no_reservations, Unborn, Piece, Runner, MOST_PIECES, most_of_segment}
+use Rattle.shm_attach.proofs.Names.{is_live, true, false, true≢false, most_at, length-set_value_at, values_of, ◌≡◌, ◌≢◌, ℕ, ◌+◌, ◌<◌, ◌≤◌, List, [], length, Some, slice_get, sym, subst, arith, common_steps, All, length-map, set_value_at, lowest_address, inserted, cut, without_named, pieces_of, bare_all, Arranged, arranged_cut, arranged_inserted, Tables, runner_view, runners_view, with_pieces_at, with_life_at, pieces_at, life_at, counted, stored_at, HasTable, OneTableEach, AllHaveTables, IsPlaceFor, IsCuttable, AreCountsExact, AreTablesSound, HasReservations, no_reservations, Unborn, Piece, Runner, MOST_PIECES, most_of_segment}
 use Rattle.shm_base.specs.State as flat
 use Rattle.shm_attach.proofs.Processes.{runners_set, length-inserted, shorter_filter}
 use Rattle.shm_attach.proofs.Keeping.{IsExact-changed, IsExact-life, arranged-without, small_counts, own_counted}
@@ -29,12 +29,12 @@ pub record IsRecounted (t u : Tables) (before after : List flat.Piece) : Type 0 
 pub record AreFit (rs : List flat.Runner) (i : ℕ) (ps : List flat.Piece) : Type 0 where
   pub few : length ps ≤ MOST_PIECES
   pub order : Arranged lowest_address ps
-  pub unborn : life_at rs i ≡ Unborn → ps ≡ []
+  pub idle : is_live (life_at rs i) ≡ false → ps ≡ []
 
 -- one more piece, where there is a place for it
 pub fit-inserted : (extra : ℕ → ℕ) (es : List (ℕ × Runner)) (t : Tables) (i : ℕ) (p : flat.Piece) → AreTablesSound extra es t → IsPlaceFor p (pieces_at (runners_view es) i)
-    → life_at (runners_view es) i ≢ Unborn → AreFit (runners_view es) i (inserted p (pieces_at (runners_view es) i))
-fit-inserted extra es t i p sound place born = grind (arith, common_steps, length-inserted, arranged_inserted)
+    → is_live (life_at (runners_view es) i) ≡ true → AreFit (runners_view es) i (inserted p (pieces_at (runners_view es) i))
+fit-inserted extra es t i p sound place live = grind (arith, common_steps, length-inserted, arranged_inserted, true≢false)
 
 -- a range of whole pages is cut out
 pub fit-cut : (extra : ℕ → ℕ) (es : List (ℕ × Runner)) (t : Tables) (i from to : ℕ) → AreTablesSound extra es t → IsCuttable from to (pieces_at (runners_view es) i)
@@ -56,17 +56,17 @@ sound-changed extra es t u i w v f lt at life space most sound fit table re =
     let ch = changed es i w v f at life space most in
     let within : i < length rs = omega (arith, lt, length-map es runner_view) in
     let exact : AreCountsExact extra (runners_view fs) u =
-    rw ch.runners (IsExact-changed extra rs i f t u sound.exact within fit.few fit.order fit.unborn (rw (pieces_at-stored es i w at) re.counts)) in
+    rw ch.runners (IsExact-changed extra rs i f t u sound.exact within fit.few fit.order fit.idle (rw (pieces_at-stored es i w at) re.counts)) in
     let here : All (HasTable t.slab) (stored_at fs i) = rw ch.own (table (rw (stored_at-value es i w at) at (sound.tables i))) in
     let left : AllHaveTables fs t.slab = tables-changed es fs t.slab i sound.tables here ch.others in
     record { exact = exact; tied = re.tied; tables = tables-all extra fs t.slab u exact left re.tables }
 
-pub sound-life : (es fs : List (ℕ × Runner)) (t : Tables) (i : ℕ) (l : flat.Life) → i < length es → l ≢ Unborn → AreTablesSound no_reservations es t
+pub sound-life : (es fs : List (ℕ × Runner)) (t : Tables) (i : ℕ) (l : flat.Life) → i < length es → (is_live l ≡ false → pieces_at (runners_view es) i ≡ []) → AreTablesSound no_reservations es t
     → runners_view fs ≡ with_life_at (runners_view es) i l → ((j : ℕ) → stored_at fs j ≡ stored_at es j) → AreTablesSound no_reservations fs t
-sound-life es fs t i l lt awake sound life same =
+sound-life es fs t i l lt idle sound life same =
     let within : i < length (runners_view es) = omega (arith, lt, length-map es runner_view) in
     record {
-      exact = rw life (IsExact-life no_reservations (runners_view es) i l t sound.exact within awake);
+      exact = rw life (IsExact-life no_reservations (runners_view es) i l t sound.exact within idle);
       tied = sound.tied;
       tables = λ j. subst (λ (ps : List Piece). All (HasTable t.slab) ps) (sym (same j)) (sound.tables j);
     }
@@ -82,7 +82,7 @@ sound-reserved e f es t u sound counts tied step =
       counts = λ id. omega (arith, counts id, sound.exact.counts id);
       processes = sound.exact.processes;
       pieces = sound.exact.pieces;
-      unborn = sound.exact.unborn;
+      idle = sound.exact.idle;
       arranged = sound.exact.arranged;
     } in
     record { exact = exact; tied = tied; tables = tables-all f es t.slab u exact sound.tables step }

@@ -1,6 +1,7 @@
 -- What the processes, the stored counts and the tables keep.
-use Rattle.std.specs.Prelude.{◌≡◌, ℕ, ◌+◌, ◌≤◌, List, [], length}
+use Rattle.std.specs.Prelude.{◌≡◌, ℕ, ◌+◌, ◌≤◌, false, List, [], length}
 use Rattle.shm_base.specs.State as flat
+use Rattle.shm_base.specs.Guest.{is_live}
 use Rattle.shm_base.specs.Space.{lowest_address}
 use Rattle.shm_base.specs.Segments.{attach_count}
 use Rattle.shm_areas.specs.Arranged.{Arranged}
@@ -16,12 +17,12 @@ abbrev pub most_of_segment : ℕ
 most_of_segment = 2147287040
 
 -- each count is that of the pieces and of the reservations beside them; the pieces are few and in order in each
--- process; a process that is not born has none
+-- process; a process that is not live has none
 pub record AreCountsExact (extra : ℕ → ℕ) (rs : List flat.Runner) (t : Tables) : Type 0 where
   pub counts : (id : ℕ) → counted t id ≡ attach_count rs id + extra id
   pub processes : length rs ≤ MOST_PROCESSES
   pub pieces : (i : ℕ) → length (pieces_at rs i) ≤ MOST_PIECES
-  pub unborn : (i : ℕ) → life_at rs i ≡ flat.Unborn → pieces_at rs i ≡ []
+  pub idle : (i : ℕ) → is_live (life_at rs i) ≡ false → pieces_at rs i ≡ []
   pub arranged : (i : ℕ) → Arranged lowest_address (pieces_at rs i)
 
 -- the counts are exact, and each piece has its segment's table

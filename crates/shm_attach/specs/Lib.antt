@@ -8,3 +8,4 @@ pub mod Place
 pub mod Spans
 pub mod Fork
 pub mod Lost
+pub mod Guest

@@ -3,7 +3,7 @@
 //! translations change together, so that the counts stay exact and each piece has its segment's table. A shmat reserves
 //! that table by one count more until its piece stands.
 ghost use Rattle.std.specs.Prelude.{◌≡◌, ◌≢◌, ℕ, Option, ◌<◌, ◌≤◌, ◌+◌, length, true, All};
-ghost use Rattle.shm_base.specs.State.{Unborn};
+ghost use Rattle.shm_base.specs.Guest.{is_live};
 ghost use Rattle.shm_base.specs.Space.{lowest_address, inserted, cut, meets, pieces_of};
 ghost use Rattle.shm_areas.specs.declared.piece.Piece.{Piece as Stored};
 ghost use Rattle.shm_base.specs.declared.bounds.TheConstants.{MOST_PIECES};
@@ -50,7 +50,7 @@ pub(crate) fn put(
     piece: Piece,
 )
     requires there { index < length processes.old.entries }
-    requires born { life_at (runners_view processes.old.entries) index ≢ Unborn }
+    requires live { is_live (life_at (runners_view processes.old.entries) index) ≡ true }
     requires place { IsPlaceFor (bare piece) (pieces_at (runners_view processes.old.entries) index) }
     requires room { length (pieces_at (runners_view processes.old.entries) index) < most_at processes.old.entries index }
     requires table { HasTable tables.old.slab piece }

@@ -1,6 +1,6 @@
 //! A child is born with its parent's credentials and pieces.
-ghost use Rattle.std.specs.Prelude.{◌≡◌, ◌≢◌, ℕ, ◌<◌, ◌≤◌, [], length, Option, Some};
-ghost use Rattle.shm_base.specs.State.{Unborn};
+ghost use Rattle.std.specs.Prelude.{◌≡◌, ◌≢◌, ℕ, ◌<◌, ◌≤◌, [], length, Option, Some, true};
+ghost use Rattle.shm_base.specs.Guest.{is_live};
 ghost use Rattle.shm_base.specs.Segments.{attach_count};
 ghost use Rattle.shm_base.specs.Step.{unborn_from};
 ghost use Rattle.shm_attach.specs.Views.{with_pieces_at, runners_view, most_at};
@@ -26,7 +26,7 @@ fn copy_pieces(
     requires parent { parent < length processes.old.entries }
     requires child { child < length processes.old.entries }
     requires apart { parent ≢ child }
-    requires born { life_at (runners_view processes.old.entries) child ≢ Unborn }
+    requires live { is_live (life_at (runners_view processes.old.entries) child) ≡ true }
     requires none { pieces_at (runners_view processes.old.entries) child ≡ [] }
     requires room { most_at processes.old.entries parent ≤ most_at processes.old.entries child }
     requires sound { AreTablesSound no_reservations processes.old.entries tables.old }

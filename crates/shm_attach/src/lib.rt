@@ -6,6 +6,7 @@ mod attach;
 mod changes;
 mod detach;
 mod fork;
+mod guest;
 mod lost;
 mod process;
 mod spaces;

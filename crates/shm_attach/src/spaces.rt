@@ -32,7 +32,7 @@ pub struct Spaces {
     pub(crate) tables: Tables,
     pub(crate) lost: Lost,
     // The most pieces of a process.
-    most: u32,
+    pub(crate) most: u32,
 }
 
 impl Drop for Spaces {
@@ -60,7 +60,8 @@ impl Model for Spaces {
     ghost invariant = { λ s. AreTablesSound no_reservations s.processes.entries s.tables × HaveRoom s.most s.processes.entries × (s.lost.most ≡ s.most) };
 }
 
-fn born(process: &Process) -> Life
+/// The state in which a process begins.
+pub(crate) fn born(process: &Process) -> Life
     ensures { life_view result ≡ life_at_start process.now.born }
 {
     match process.born {

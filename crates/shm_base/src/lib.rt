@@ -8,6 +8,7 @@ mod bounds;
 mod call;
 mod errno;
 mod flags;
+mod guest;
 mod limits;
 mod memory;
 mod numbers;
@@ -26,6 +27,7 @@ pub use bounds::{
 pub use call::{Call, Event, Process, Reply, ShmId, ShmidDs, Step, has_pid, index_of};
 pub use errno::Errno;
 pub use flags::{AtFlags, GetFlags, Status};
+pub use guest::{AdmitRefusal, DismissRefusal};
 pub use limits::{BadLimits, Limits, Sizes};
 pub use memory::HostMemory;
 pub use numbers::Numbers;

@@ -13,3 +13,4 @@ pub mod Changed
 pub mod Going
 pub mod Attaching
 pub mod Reserved
+pub mod Joining

@@ -8,3 +8,4 @@ pub mod Start
 pub mod SystemState
 pub mod MachineView
 pub mod Counts
+pub mod Guest

@@ -4,6 +4,7 @@
 mod access;
 mod exec_exit;
 mod fork;
+mod guest;
 mod kernel;
 mod shmat;
 mod shmctl;

@@ -5,7 +5,7 @@ ghost use Rattle.shm_slots.specs.View.{fresh, AreCountsOf};
 ghost use Rattle.shm_pager.specs.Pages.{pager_seen};
 ghost use Rattle.shm_fault.specs.Flushing.{IsFlushed};
 ghost use Rattle.shm_life.specs.MachineView.{KeepsOn, IsExactly};
-ghost use Rattle.shm_life.specs.SystemState.{IsStarted, IsOutOfMemory, Replied, most_calls};
+ghost use Rattle.shm_life.specs.SystemState.{IsStarted, IsOutOfMemory, Replied, most_calls, time_of};
 ghost use Rattle.shm_life.specs.Counts.{Counts};
 ghost use Rattle.shm_life.specs.Listed.{segment_at};
 
@@ -44,11 +44,15 @@ impl Model for Opening {
     ghost view = { λ o. record { limits = o.limits; areas = o.areas.items; processes = o.processes.items } };
 }
 
-/// A machine over swap areas. It is seen as how it opened, how many calls it answered, and the flat
-/// machine; before the first call that is as the opening says.
+/// A machine over swap areas. It is seen as how it opened, how many calls it answered, and the flat machine; before
+/// the first call that is as the opening says, unless its host changed it.
 pub struct System<P: Pager> {
     opening: Opening,
     calls: u64,
+    // The time that calls set, where the host gave one.
+    pub(crate) clock: Option<u64>,
+    // Whether nothing but calls and flushes changed the machine, and no time was given.
+    pub(crate) only_calls: bool,
     pub(crate) kernel: Kernel<P>,
 }
 
@@ -57,21 +61,23 @@ impl<P: Pager> Drop for System<P> {
         let System {
             opening: _,
             calls: _,
+            clock: _,
+            only_calls: _,
             kernel: _,
         } = self;
     }
 }
 
 impl<P: Pager> Model for System<P> {
-    ghost use Rattle.std.specs.Prelude.{◌≡◌};
+    ghost use Rattle.std.specs.Prelude.{◌≡◌, None, true};
     ghost use Rattle.shm_base.specs.State.{start_of};
     ghost use Rattle.shm_life.specs.SystemState.{SystemState};
 
     ghost Value = { SystemState };
 
-    ghost view = { λ s. record { opening = s.opening; calls = s.calls; machine = s.kernel.flat; memory = s.kernel.memory } };
+    ghost view = { λ s. record { opening = s.opening; calls = s.calls; clock = s.clock; only_calls = s.only_calls; machine = s.kernel.flat; memory = s.kernel.memory } };
 
-    ghost invariant = { λ s. s.calls ≡ 0 → s.kernel.flat ≡ start_of s.opening };
+    ghost invariant = { λ s. s.only_calls ≡ true → (s.clock ≡ None) × (s.calls ≡ 0 → s.kernel.flat ≡ start_of s.opening) };
 }
 
 // The slot counts of the areas.
@@ -134,6 +140,8 @@ impl<P: Pager> System<P> {
         Ok(System {
             opening,
             calls: 0,
+            clock: None,
+            only_calls: true,
             kernel,
         })
     }
@@ -159,7 +167,19 @@ impl<P: Pager> System<P> {
         &self.opening
     }
 
-    /// One call of a process, at the time that is its place among the calls. Where memory is out, nothing
+    // The time of the next call.
+    #[inline(always)]
+    fn time(&self) -> u64
+        requires room { self.now.calls < most_calls }
+        ensures { result ≡ time_of self.now }
+    {
+        match self.clock {
+            Some(time) => time,
+            None => self.calls + 1,
+        }
+    }
+
+    /// One call of a process, at the time that its host gave, else at its place among the calls. Where memory is out, nothing
     /// changes and the call is not counted; that comes only at a call that takes memory, and where the flat machine
     /// refuses nothing. Where a pager fails the reply says so in place of the flat machine's, and nothing else changes.
     pub fn call(&mut self, pid: u32, call: &Call) -> Result<Reply, HostMemory>
@@ -181,9 +201,9 @@ impl<P: Pager> System<P> {
         ensures ok { OnOk result (Replied self.old pid call.now reply.new self.new) }
         ensures err { OnErr result (IsOutOfMemory self.old pid call.now self.new) }
     {
-        let time = self.calls + 1;
+        let time = self.time();
         self.kernel.call(time, pid, call, reply)?;
-        self.calls = time;
+        self.calls += 1;
         Ok(())
     }
 

@@ -43,7 +43,7 @@ returns c =
       most = ch.most;
       sound = λ extra s.
           sound-changed extra es t c.replace.new.self i w v (inserted (bare p)) c.requires.there at refl c.insert.ensures.flat (ap (λ (s : SpaceView). s.most) c.insert.ensures.kept) s
-          (fit-inserted extra es t i (bare p) s c.requires.place c.requires.born)
+          (fit-inserted extra es t i (bare p) s c.requires.place c.requires.live)
           (λ all. rw (ap (λ (s : SpaceView). s.pieces) c.insert.ensures.kept) (tables-inserted t.slab p w.space.pieces c.requires.table all))
           (record {
             counts = λ id. omega (arith, c.replace.ensures.counts id, pieces_of-inserted id (bare p) (bare_all w.space.pieces), some_if-le id p.seg 0);

@@ -1,6 +1,6 @@
 use Rattle.shm_attach.proofs.Names.{LostView, ◌≡◌, ℕ, ◌+◌, ◌*◌, ◌<◌, ◌≤◌, ◌∙◌, ap, sym, subst, arith, List, length, common_steps, cut, bare, frame_of, Tables, some_if, runner_view, runners_view, SpacesView, Translation, AreTrue, IsCaller, pieces_at, life_at, AreTablesSound, no_reservations, AllTrue, translations_of, counted, HasTable, length-map, Piece, Runner, MOST_PIECES}
 use Rattle.shm_attach.proofs.Processes.{some_if-le, seg-met}
-use Rattle.shm_attach.proofs.Callers.{caller_within, caller_born, with_pieces-of}
+use Rattle.shm_attach.proofs.Callers.{caller_within, caller_lives, with_pieces-of}
 use Rattle.shm_attach.proofs.Keeping.{pieces_at-changed, life_at-changed, with_pieces_at-twice}
 use Rattle.shm_attach.proofs.HavingTables.{room_kept}
 use Rattle.shm_attach.proofs.Bases.{place-range}
@@ -72,8 +72,7 @@ put-requires g c =
     let place = place-range (bare (new g b.In_ok-key)) (pieces_at rs i) c.requires.pages.0 (omega (arith, c.requires.pages.1)) c.requires.range few in
     record {
       there = omega (arith, c.take.ensures.count, within);
-      born = λ none.
-          caller_born c.args.caller.now rs (live g b.After-self) (sym (life_at-changed rs i f lt) ∙ ap (λ xs. life_at xs i) (sym c.take.ensures.runners) ∙ none);
+      live = rw (c.take.ensures.runners, life_at-changed rs i f lt) (caller_lives c.args.caller.now rs (live g b.After-self));
       place = rw (c.take.ensures.runners, pieces_at-changed rs i f lt) place;
       room = rw (c.take.ensures.runners, pieces_at-changed rs i f lt, c.take.ensures.most i, c.self.invariant.1.each i within) (omega (arith, most));
       table = c.take.ensures.tables (new g b.In_ok-key) (knows g b.In_ok-key) (counts_reserved seg c.take.new.processes.entries c.take.new.tables sound);

@@ -1,4 +1,4 @@
-use Rattle.shm_attach.proofs.Names.{◌≡◌, ◌≢◌, ◌<◌, ◌∙◌, ap, sym, arith, List, length, get_or, set, common_steps, length-map, runner_view, runners_view, with_pieces_at, SpacesView, pieces_at, life_at, Unborn}
+use Rattle.shm_attach.proofs.Names.{is_live, ◌≡◌, ◌≢◌, ◌<◌, ◌∙◌, ap, sym, arith, List, length, get_or, set, common_steps, length-map, runner_view, runners_view, with_pieces_at, SpacesView, pieces_at, life_at, Unborn}
 use Rattle.shm_base.specs.State.{Piece, Runner, Live}
 use Rattle.shm_attach.proofs.Processes.{first_runner}
 use Rattle.shm_attach.proofs.Callers.{caller_within, caller_born, ChildAt, child_at}
@@ -28,16 +28,15 @@ copy_pieces-requires c =
     let ch = child b in
     let lt : j < length es = omega (arith, ch.within, length-map es runner_view) in
     let parent = caller_within c.args.caller.now es (rw (← c.self.view_is) at c.requires.live) in
-    let awake : l ≢ Unborn = λ same. cc same in
     let after = c.set_life_at.ensures.runners in
     record {
       parent = omega (arith, parent, c.set_life_at.ensures.count);
       child = omega (arith, lt, c.set_life_at.ensures.count);
       apart = apart b;
-      born = λ none. awake (sym (life_at-born rs 0 j l ch.within) ∙ ap (λ (xs : List Runner). life_at xs j) (sym after) ∙ none);
+      live = ap (λ (xs : List Runner). is_live (life_at xs j)) after ∙ ap is_live (life_at-born rs 0 j l ch.within);
       room = rw (c.set_life_at.ensures.most c.args.caller.now.index, c.set_life_at.ensures.most j, c.self.invariant.1.each c.args.caller.now.index parent, c.self.invariant.1.each j lt) (omega arith);
-      none = ap (λ (xs : List Runner). pieces_at xs j) after ∙ pieces_at-born rs 0 j l ch.within ∙ c.self.invariant.0.exact.unborn j ch.unborn;
-      sound = sound-life es c.set_life_at.new.processes.entries c.self.inside.tables j l lt awake c.self.invariant.0 after c.set_life_at.ensures.stored;
+      none = ap (λ (xs : List Runner). pieces_at xs j) after ∙ pieces_at-born rs 0 j l ch.within ∙ c.self.invariant.0.exact.idle j (ap is_live ch.unborn);
+      sound = sound-life es c.set_life_at.new.processes.entries c.self.inside.tables j l lt (λ none. absurd (cc none)) c.self.invariant.0 after c.set_life_at.ensures.stored;
     }
 
 pub invariant_of-self : goal.invariant_of-self

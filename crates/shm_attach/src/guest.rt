@@ -1,0 +1,115 @@
+//! Processes that join and leave between calls, and credentials that change.
+ghost use Rattle.std.specs.Prelude.{◌≡◌, ℕ, ◌≤◌, true, [], None, Some, IfSome, IfNone, IfOk, OnErr, IsOk, is_ok, is_some};
+ghost use Rattle.shm_base.specs.Guest.{standing, joins, joins_beside, leaves, becomes, left_by};
+ghost use Rattle.shm_base.specs.Segments.{attach_count};
+ghost use Rattle.shm_base.specs.declared.bounds.TheConstants.{MOST_PROCESSES};
+ghost use Rattle.shm_attach.specs.Guest.{found_as};
+
+use crate::changes::set_life_at;
+use crate::process::{Life, Runner};
+use crate::spaces::{Spaces, born};
+use shm_areas::Space;
+use shm_base::{AdmitRefusal, Cred, DismissRefusal, Errno, HostMemory, LAST_PID, Process};
+use std::alloc::Global;
+
+/// A process of any state: its place among the processes.
+#[derive(Clone, Copy)]
+pub(crate) struct Found {
+    pub(crate) index: usize,
+    pub(crate) life: Life,
+}
+
+impl Spaces {
+    // The process with a pid.
+    fn find(&self, pid: u32) -> Option<Found>
+        ensures some { IfSome result (λ f. standing pid self.now.runners ≡ Some (found_as pid f self.now.runners)) }
+        ensures none { IfNone result (standing pid self.now.runners ≡ None) }
+    {
+        let (index, _, runner) = self.processes.get_full(&pid)?;
+        Some(Found {
+            index,
+            life: runner.life,
+        })
+    }
+
+    /// A process joins, with no piece: the new one takes the place of an ended one that has its pid, and no memory
+    /// then; else it stands behind the others, of which there may be so many, and takes its room. Out of memory
+    /// changes nothing, and comes only where nothing is refused.
+    pub fn admit(
+        &mut self,
+        alloc: Global,
+        process: &Process,
+        most: u32,
+    ) -> Result<Result<(), AdmitRefusal>, HostMemory>
+        requires most { most ≤ MOST_PROCESSES }
+        ensures joins { IfOk result (λ r. joins most process.now self.old.runners ≡ left_by r self.new.runners) }
+        ensures refused { IfOk result (λ r. OnErr r (self.new ≡ self.old)) }
+        ensures err { OnErr result (self.new ≡ self.old) }
+        ensures memory { OnErr result (is_ok (joins most process.now self.old.runners) ≡ true) }
+        ensures no_memory { is_some (standing process.now.pid self.old.runners) ≡ true → IsOk result }
+        ensures rest { self.new ≡ record self.old { runners = self.new.runners } }
+        ensures counts { (id : ℕ) → attach_count self.new.runners id ≡ attach_count self.old.runners id }
+    {
+        if process.pid < 1 || process.pid > LAST_PID {
+            return Ok(Err(AdmitRefusal::BadPid));
+        }
+        if let Some(found) = self.find(process.pid) {
+            return Ok(self.admit_again(process, &found));
+        }
+        if self.processes.len() >= most as usize {
+            return Ok(Err(AdmitRefusal::TooManyProcesses));
+        }
+        let runner = Runner {
+            life: born(process),
+            space: Space::new(alloc, self.most)?,
+        };
+        self.processes.insert(process.pid, runner)?;
+        Ok(Ok(()))
+    }
+
+    // A process joins in the place of one that ended.
+    fn admit_again(&mut self, process: &Process, found: &Found) -> Result<(), AdmitRefusal>
+        requires { standing process.now.pid self.old.runners ≡ Some (found_as process.now.pid found.now self.old.runners) }
+        ensures joins { joins_beside 0 process.now self.old.runners (Some (found_as process.now.pid found.now self.old.runners)) ≡ left_by result self.new.runners }
+        ensures refused { OnErr result (self.new ≡ self.old) }
+        ensures rest { self.new ≡ record self.old { runners = self.new.runners } }
+        ensures counts { (id : ℕ) → attach_count self.new.runners id ≡ attach_count self.old.runners id }
+    {
+        let Life::Ended = found.life else {
+            return Err(AdmitRefusal::PidTaken);
+        };
+        set_life_at(&mut self.processes, found.index, born(process));
+        Ok(())
+    }
+
+    /// A process that ended leaves, or a child that is not born, and the last of all takes its place.
+    pub fn dismiss(&mut self, pid: u32) -> Result<(), DismissRefusal>
+        ensures leaves { leaves pid self.old.runners ≡ left_by result self.new.runners }
+        ensures refused { OnErr result (self.new ≡ self.old) }
+        ensures rest { self.new ≡ record self.old { runners = self.new.runners } }
+        ensures counts { (id : ℕ) → attach_count self.new.runners id ≡ attach_count self.old.runners id }
+    {
+        let Some(found) = self.find(pid) else {
+            return Err(DismissRefusal::NoProcess);
+        };
+        if let Life::Live(_) = found.life {
+            return Err(DismissRefusal::StillLive);
+        }
+        self.processes.swap_remove_index(found.index);
+        Ok(())
+    }
+
+    /// A live process has other credentials from now on. Its pieces stay.
+    pub fn set_cred(&mut self, pid: u32, cred: Cred) -> Result<(), Errno>
+        ensures becomes { becomes pid cred self.old.runners ≡ left_by result self.new.runners }
+        ensures refused { OnErr result (self.new ≡ self.old) }
+        ensures rest { self.new ≡ record self.old { runners = self.new.runners } }
+        ensures counts { (id : ℕ) → attach_count self.new.runners id ≡ attach_count self.old.runners id }
+    {
+        let Some(caller) = self.caller(pid) else {
+            return Err(Errno::Esrch);
+        };
+        set_life_at(&mut self.processes, caller.index, Life::Live(cred));
+        Ok(())
+    }
+}

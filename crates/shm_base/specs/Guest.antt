@@ -1,0 +1,93 @@
+-- What the host of a machine changes between calls: a process joins, leaves, or has other credentials. These are no
+-- part of the step.
+use Rattle.std.specs.Prelude.{ℕ, ◌+◌, ◌==◌, Bool, true, false, not, nat_le, if◌then◌else◌, List, [], ◌∷◌, ◌++◌, length, Option, Some, None, Result, Ok, Err, slice_set, swap_remove}
+use Rattle.shm_base.specs.Bounds.{within}
+use Rattle.shm_base.specs.State.{Life, Unborn, Live, Ended, Runner, Machine, runner_at_start}
+use Rattle.shm_base.specs.Step.{Caller, caller_from}
+use Rattle.shm_base.specs.declared.bounds.TheConstants.{LAST_PID}
+use Rattle.shm_base.specs.declared.call.Process.{Process}
+use Rattle.shm_base.specs.declared.owner.Cred.{Cred}
+use Rattle.shm_base.specs.declared.errno.Errno.{Errno}
+use Rattle.shm_base.specs.declared.errno.Errno.TheVariants.{Esrch}
+use Rattle.shm_base.specs.declared.guest.AdmitRefusal.{AdmitRefusal}
+use Rattle.shm_base.specs.declared.guest.AdmitRefusal.TheVariants.{BadPid, PidTaken, TooManyProcesses}
+use Rattle.shm_base.specs.declared.guest.DismissRefusal.{DismissRefusal}
+use Rattle.shm_base.specs.declared.guest.DismissRefusal.TheVariants.{NoProcess, StillLive}
+
+-- a process with its place among the processes
+pub record Standing : Type 0 where
+  pub index : ℕ
+  pub runner : Runner
+
+-- the process with a pid, whether it is live or not
+abbrev pub standing_from : ℕ → ℕ → List Runner → Option Standing
+standing_from i pid [] = None
+standing_from i pid (r ∷ rs) = if r.pid == pid then Some (record { index = i; runner = r }) else standing_from (i + 1) pid rs
+
+abbrev pub standing : ℕ → List Runner → Option Standing
+standing pid rs = standing_from 0 pid rs
+
+abbrev pub is_live : Life → Bool
+is_live Unborn = false
+is_live (Live cred) = true
+is_live Ended = false
+
+abbrev pub is_ended : Life → Bool
+is_ended Unborn = false
+is_ended (Live cred) = false
+is_ended Ended = true
+
+-- A PROCESS JOINS
+
+abbrev pub joins_beside : ℕ → Process → List Runner → Option Standing → Result (List Runner) AdmitRefusal
+joins_beside most p rs None = if nat_le most (length rs) then Err TooManyProcesses else Ok (rs ++ runner_at_start p ∷ [])
+joins_beside most p rs (Some x) = if not (is_ended x.runner.life) then Err PidTaken else Ok (slice_set rs x.index (runner_at_start p))
+
+-- a new process stands behind the others, of which there may be so many; where an ended one has its pid, in the place
+-- of that one. It has no piece, and is live with its credentials, or a child to be forked
+abbrev pub joins : ℕ → Process → List Runner → Result (List Runner) AdmitRefusal
+joins most p rs = if not (within 1 LAST_PID p.pid) then Err BadPid else joins_beside most p rs (standing p.pid rs)
+
+-- A PROCESS LEAVES
+
+abbrev pub leaves_found : List Runner → Option Standing → Result (List Runner) DismissRefusal
+leaves_found rs None = Err NoProcess
+leaves_found rs (Some x) = if is_live x.runner.life then Err StillLive else Ok (swap_remove rs x.index x.runner)
+
+-- a process that ended, or a child that was not born, leaves, and the last of all takes its place
+abbrev pub leaves : ℕ → List Runner → Result (List Runner) DismissRefusal
+leaves pid rs = leaves_found rs (standing pid rs)
+
+-- A PROCESS HAS OTHER CREDENTIALS
+
+-- the processes with other credentials for a caller, whose pieces stay
+abbrev pub with_cred : List Runner → Caller → Cred → List Runner
+with_cred rs c cred = slice_set rs c.index (record { pid = c.pid; life = Live cred; pieces = c.pieces })
+
+abbrev pub becomes_by : Cred → List Runner → Option Caller → Result (List Runner) Errno
+becomes_by cred rs None = Err Esrch
+becomes_by cred rs (Some c) = Ok (with_cred rs c cred)
+
+-- a live process has other credentials from now on
+abbrev pub becomes : ℕ → Cred → List Runner → Result (List Runner) Errno
+becomes pid cred rs = becomes_by cred rs (caller_from 0 pid rs)
+
+-- THE MACHINE
+
+-- what is left, or the refusal
+abbrev pub left_by : {T E X : Type 0} → Result T E → X → Result X E
+left_by (Ok t) x = Ok x
+left_by (Err e) x = Err e
+
+abbrev pub with_runners : {E : Type 0} → Machine → Result (List Runner) E → Result Machine E
+with_runners s (Ok rs) = Ok (record s { runners = rs })
+with_runners s (Err e) = Err e
+
+abbrev pub admits : Machine → Process → Result Machine AdmitRefusal
+admits s p = with_runners s (joins s.limits.most_processes p s.runners)
+
+abbrev pub dismisses : Machine → ℕ → Result Machine DismissRefusal
+dismisses s pid = with_runners s (leaves pid s.runners)
+
+abbrev pub recredits : Machine → ℕ → Cred → Result Machine Errno
+recredits s pid cred = with_runners s (becomes pid cred s.runners)

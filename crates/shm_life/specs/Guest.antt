@@ -1,0 +1,33 @@
+-- What a host does to a system between calls: processes that it admits and dismisses, credentials that it sets.
+use Rattle.std.specs.Prelude.{ℕ, ◌≡◌, Bool, true, false, Result, OnOk, OnErr, is_ok, is_some}
+use Rattle.shm_base.specs.declared.call.Process.{Process}
+use Rattle.shm_base.specs.declared.errno.Errno.{Errno}
+use Rattle.shm_base.specs.declared.guest.AdmitRefusal.{AdmitRefusal}
+use Rattle.shm_base.specs.declared.guest.DismissRefusal.{DismissRefusal}
+use Rattle.shm_base.specs.declared.owner.Cred.{Cred}
+use Rattle.shm_base.specs.State.{Machine}
+use Rattle.shm_base.specs.Guest.{admits, dismisses, recredits, standing, left_by}
+use Rattle.shm_life.specs.SystemState.{SystemState}
+
+-- the machine is what the change leaves, or all is as it was where that is refused. It is no call: the memory, the opening
+-- and the clock stay, and the system is no more one that only calls changed
+pub record IsChanged {T E : Type 0} (before : SystemState) (change : Result Machine E) (result : Result T E) (after : SystemState) : Type 0 where
+  pub outcome : change ≡ left_by result after.machine
+  pub rest : after ≡ record before { machine = after.machine; only_calls = after.only_calls }
+  pub changed : OnOk result (after.only_calls ≡ false)
+  pub refused : OnErr result (after ≡ before)
+
+abbrev pub Admitted : SystemState → Process → Result (Unit {0}) AdmitRefusal → SystemState → Type 0
+Admitted before process result after = IsChanged before (admits before.machine process) result after
+
+abbrev pub Dismissed : SystemState → ℕ → Result (Unit {0}) DismissRefusal → SystemState → Type 0
+Dismissed before pid result after = IsChanged before (dismisses before.machine pid) result after
+
+abbrev pub Recredited : SystemState → ℕ → Cred → Result (Unit {0}) Errno → SystemState → Type 0
+Recredited before pid cred result after = IsChanged before (recredits before.machine pid cred) result after
+
+-- memory was out where a process would have joined under a pid that no process has: nothing changed
+pub record IsNotAdmitted (before : SystemState) (process : Process) (after : SystemState) : Type 0 where
+  pub granted : is_ok (admits before.machine process) ≡ true
+  pub new : is_some (standing process.pid before.machine.runners) ≡ false
+  pub unchanged : after ≡ before

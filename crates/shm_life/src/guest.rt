@@ -1,0 +1,93 @@
+//! What a machine's host does between calls: it admits and dismisses processes, sets the credentials of a live one,
+//! and gives the time. None of it is a call, and none moves a page.
+ghost use Rattle.std.specs.Prelude.{◌≡◌, Option, true, false, IfOk, OnErr, IsOk, is_ok, is_some};
+ghost use Rattle.shm_base.specs.Guest.{admits, dismisses, recredits, standing, left_by};
+ghost use Rattle.shm_life.specs.Guest.{Admitted, Dismissed, Recredited, IsNotAdmitted};
+
+use crate::kernel::Kernel;
+use crate::system::System;
+use shm_base::{AdmitRefusal, Cred, DismissRefusal, Errno, HostMemory, Process};
+use shm_pager::Pager;
+use std::alloc::Global;
+
+impl<P: Pager> Kernel<P> {
+    fn admit(
+        &mut self,
+        alloc: Global,
+        process: &Process,
+    ) -> Result<Result<(), AdmitRefusal>, HostMemory>
+        ensures outcome { IfOk result (λ r. admits self.old.flat process.now ≡ left_by r self.new.flat) }
+        ensures refused { IfOk result (λ r. OnErr r (self.new ≡ self.old)) }
+        ensures err { OnErr result (self.new ≡ self.old) }
+        ensures granted { OnErr result (is_ok (admits self.old.flat process.now) ≡ true) }
+        ensures new { OnErr result (is_some (standing process.now.pid self.old.flat.runners) ≡ false) }
+        ensures memory { self.new.memory ≡ self.old.memory }
+    {
+        let most = self.limits.most_processes();
+        self.spaces.admit(alloc, process, most)
+    }
+
+    fn dismiss(&mut self, pid: u32) -> Result<(), DismissRefusal>
+        ensures outcome { dismisses self.old.flat pid ≡ left_by result self.new.flat }
+        ensures refused { OnErr result (self.new ≡ self.old) }
+        ensures memory { self.new.memory ≡ self.old.memory }
+    {
+        self.spaces.dismiss(pid)
+    }
+
+    fn set_cred(&mut self, pid: u32, cred: Cred) -> Result<(), Errno>
+        ensures outcome { recredits self.old.flat pid cred ≡ left_by result self.new.flat }
+        ensures refused { OnErr result (self.new ≡ self.old) }
+        ensures memory { self.new.memory ≡ self.old.memory }
+    {
+        self.spaces.set_cred(pid, cred)
+    }
+}
+
+impl<P: Pager> System<P> {
+    /// A process joins: live with its credentials, or a child to be forked (fork(2)). It is refused as
+    /// [`AdmitRefusal`] says. An ended process with its pid gives its place and its room to it; else the machine takes
+    /// room for all pieces that it may have, and out of memory changes nothing.
+    pub fn admit(
+        &mut self,
+        alloc: Global,
+        process: &Process,
+    ) -> Result<Result<(), AdmitRefusal>, HostMemory>
+        ensures ok { IfOk result (λ r. Admitted self.old process.now r self.new) }
+        ensures err { OnErr result (IsNotAdmitted self.old process.now self.new) }
+    {
+        if let Err(refusal) = self.kernel.admit(alloc, process)? {
+            return Ok(Err(refusal));
+        }
+        self.only_calls = false;
+        Ok(Ok(()))
+    }
+
+    /// A process that ended leaves, or a child that is not born: its pid may come back, and its room is free. The
+    /// last process takes its place.
+    pub fn dismiss(&mut self, pid: u32) -> Result<(), DismissRefusal>
+        ensures { Dismissed self.old pid result self.new }
+    {
+        self.kernel.dismiss(pid)?;
+        self.only_calls = false;
+        Ok(())
+    }
+
+    /// A live process has other credentials from now on (setuid(2), setgid(2), exec of a set-user-ID program). Its
+    /// pieces stay, and later tests use the new ones. Esrch where the process is not live.
+    pub fn set_cred(&mut self, pid: u32, cred: Cred) -> Result<(), Errno>
+        ensures { Recredited self.old pid cred result self.new }
+    {
+        self.kernel.set_cred(pid, cred)?;
+        self.only_calls = false;
+        Ok(())
+    }
+
+    /// The time that calls set from now on, until another is given. With none it is again the place of each call.
+    pub fn set_time(&mut self, time: Option<u64>)
+        ensures { self.new ≡ record self.old { clock = time; only_calls = false } }
+    {
+        self.clock = time;
+        self.only_calls = false;
+    }
+}
