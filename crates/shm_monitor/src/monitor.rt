@@ -2,7 +2,7 @@
 ghost use Rattle.std.specs.Prelude.{◌≡◌};
 
 use shm_base::{HostMemory, PROFILE_SLOTS};
-use shm_history::{Gauge, Keeper, ReaderSeat, System, World, gauge};
+use shm_history::{Gauge, GaugeRefused, Keeper, ReaderSeat, System, World, gauge};
 use shm_pager::SparsePager;
 use shm_text::{Script, read_script};
 use shm_threads::{OpenGate, RunError, run_threads, run_threads_gauged};
@@ -39,7 +39,15 @@ pub(crate) enum NoRun {
     #[error("out of memory")]
     HostMemory,
     #[error("{0}")]
+    Gauge(GaugeRefused),
+    #[error("{0}")]
     Run(RunError),
+}
+
+impl From<GaugeRefused> for NoRun {
+    fn from(refused: GaugeRefused) -> NoRun {
+        NoRun::Gauge(refused)
+    }
 }
 
 impl From<HostMemory> for NoRun {

@@ -2,9 +2,9 @@ ghost use Rattle.std.specs.Prelude.{◌≡◌};
 
 use bitflags::Flags;
 use shm_base::{
-    AccessLen, AtFlags, Call, Chunk, Cred, Errno, GetFlags, Limits, Process, Reply, Step, Tally,
+    AccessLen, AtFlags, Call, Chunk, Cred, Errno, GetFlags, Limits, Process, Reply, Sizes, Step, Tally,
 };
-use shm_history::{Gauge, Keeper, ReaderSeat, Reading, System, World, gauge};
+use shm_history::{Gauge, GaugeRefused, Keeper, ReaderSeat, Reading, System, World, gauge};
 use shm_pager::{FusePager, Pager, RamPager};
 use std::alloc::Global;
 use std::process::Abort;
@@ -389,4 +389,37 @@ fn shows_the_world<R: Abort + Wait>(
 #[test]
 fn a_new_gauge_shows_its_world(rt: HostRuntime) -> Result<(), Fail> {
     shows_the_world(&rt, rt.alloc(), &mut world(rt.alloc(), 65536)?)
+}
+
+// A world with these frames and this SHMALL.
+fn large(alloc: Global, frames: u64, shmall: u64) -> Result<World<RamPager>, Fail> {
+    let sizes = Sizes {
+        shmmax: 65536,
+        shmmni: 16,
+        shmall,
+        frames,
+        memlock: 1,
+        most_pieces: 8,
+        most_processes: 1,
+        most_slots: 64,
+    };
+    let limits = Limits::of(&sizes).ok().ok_or("the limits hold")?;
+    opened(alloc, limits, vec![in alloc; RamPager::new(alloc, 64)?]?)
+}
+
+fn has_gauge<R: Abort + Wait>(rt: &R, alloc: Global, frames: u64, shmall: u64) -> Result<bool, Fail> {
+    match gauge(rt, alloc, &large(alloc, frames, shmall)?) {
+        Ok(_) => Ok(true),
+        Err(GaugeRefused::Limits) => Ok(false),
+        Err(GaugeRefused::HostMemory) => Err("there is memory")?,
+    }
+}
+
+#[test]
+fn only_a_world_of_the_profile_has_a_gauge(rt: HostRuntime) -> Result<(), Fail> {
+    let alloc = rt.alloc();
+    assert!(rt; has_gauge(&rt, alloc, 4096, 65536)?);
+    assert!(rt; !has_gauge(&rt, alloc, 4097, 65536)?);
+    assert!(rt; !has_gauge(&rt, alloc, 4096, 65537)?);
+    Ok(())
 }
