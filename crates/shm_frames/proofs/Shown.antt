@@ -1,8 +1,8 @@
 -- A table with the bytes beside it, and the frames that it shows.
-use Rattle.std.proofs.Common.{◌≡◌, ℕ, zero, suc, ◌+◌, ◌-◌, ◌*◌, ◌<◌, ◌≤◌, Bool, true, false, cond, List, [], ◌∷◌, ◌++◌, length, get_or, set, replicate, Some, None, is_some, true≢false, length-set, refl, sym, ap, ◌∙◌, inl, inr, arith}
+use Rattle.std.proofs.Common.{◌≡◌, ℕ, zero, suc, ◌+◌, ◌-◌, ◌<◌, ◌≤◌, Bool, true, false, cond, List, [], ◌∷◌, length, get_or, set, replicate, Some, None, is_some, true≢false, length-set, refl, sym, ap, ◌∙◌, inl, inr, arith}
 use Rattle.std.proofs.lemmas.Grind.{common_steps}
 use Rattle.std.specs.Prelude.{count_by}
-use Rattle.std.specs.List.{position, position_or_len}
+use Rattle.std.specs.List.{position}
 use Rattle.std.proofs.lemmas.List.Sums.{sum_by-cons, sum_by-append}
 use Rattle.std.proofs.lemmas.List.Folds.{sum_by-replicate}
 use Rattle.std.proofs.lemmas.List.{get_or_read, get_or_past, get_or_default}
@@ -13,7 +13,7 @@ use Rattle.shm_pager.proofs.Padded.{length-padded, size-padded, fits-padded, get
 use Rattle.shm_frames.specs.declared.frames.FrameState.{FrameState}
 use Rattle.shm_frames.specs.declared.frames.Frames.TheInside.{Inside}
 use Rattle.shm_frames.specs.Frame.{Frame, frame_at, no_frame, is_free, is_owned, is_dirty, resident_of, dirty_of, FreeAreClear, OwnedBelow}
-use Rattle.shm_frames.specs.Table.{frame_shown, frames_of, all_frames, AreUsed, free_entry, state_at, has_owner, has_no_owner, has_changed, UsedBelow, IsFrameTable}
+use Rattle.shm_frames.specs.Table.{frame_shown, frames_of, all_frames, AreUsed, free_entry, state_at, has_owner, has_changed, UsedBelow}
 use Rattle.shm_frames.proofs.First.{position_is, position-none}
 
 pub record AreFramesShown (table : List FrameState) (pages : List (List ℕ)) (count : ℕ) (frames : List Frame) : Type 0 where

@@ -13,5 +13,5 @@ more-numbered : (area i k : ℕ) (owners : List (Option PageRef)) → numbered (
 more-numbered area i k [] = none-numbered area i k
 more-numbered area i k (o ∷ owners) = ap (λ t. slot_line area i o ++ t) (more-numbered area (i + 1) k owners)
 
-pub numbered-padded : (area n : ℕ) (owners all : List (Option PageRef)) → all ≡ padded owners n None → numbered (slot_line area) 0 all ≡ numbered (slot_line area) 0 owners
-numbered-padded area n owners all e = ap (numbered (slot_line area) 0) e ∙ more-numbered area 0 (n - length owners) owners
+pub numbered_padded : (area n : ℕ) (owners all : List (Option PageRef)) → all ≡ padded owners n None → numbered (slot_line area) 0 all ≡ numbered (slot_line area) 0 owners
+numbered_padded area n owners all e = ap (numbered (slot_line area) 0) e ∙ more-numbered area 0 (n - length owners) owners

@@ -74,6 +74,7 @@ fn push_slots(text: &mut String, area: u32, owners: &[Option<PageRef>]) -> Resul
     Ok(())
 }
 
+#[tactic(auto, using(crate::proofs::Numbered::numbered_padded))]
 fn push_area<P: Pager>(text: &mut String, swap: &Swap<P>, area: u32) -> Result<(), AllocError>
     requires { area < length swap.now.areas }
     ensures { OnOk result (string_bytes text.new ≡ string_bytes text.old ++ area_text area (area_at swap.now area)) }

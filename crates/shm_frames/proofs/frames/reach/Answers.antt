@@ -1,4 +1,4 @@
-use Rattle.std.proofs.Common.{◌≡◌, ◌≤◌, ◌+◌, length, sym, ap, ◌∙◌, inl, inr, arith}
+use Rattle.std.proofs.Common.{◌≤◌, ◌+◌, length, sym, ap, ◌∙◌, inl, inr, arith}
 use Rattle.shm_pager.specs.Pages.{zero_page}
 use Rattle.shm_pager.specs.Padded.{padded}
 use Rattle.shm_pager.proofs.Padded.{more-padded, padded-none}
@@ -8,8 +8,7 @@ use Rattle.shm_frames.proofs.frames.reach.Goals as goal
 pub loop-frame-preserved : goal.loop-frame-preserved
 loop-frame-preserved c =
     let k = c.loop-frame.invariant in
-    let few : length c.args.pages.now.items ≤ c.loop-frame._frame = omega (arith, c.requires.beside, k.2) in
-    (
+    let few : length c.args.pages.now.items ≤ c.loop-frame._frame = omega (arith, c.requires.beside, k.2) in (
       rw (c.push_blank.ensures.table, k.0) (more-padded c.args.table.now.items c.loop-frame._frame free_entry k.2),
       rw (c.push_blank.ensures.pages, k.1) (more-padded c.args.pages.now.items c.loop-frame._frame zero_page few),
       omega (arith, k.2),

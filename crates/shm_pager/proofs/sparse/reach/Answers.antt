@@ -1,4 +1,4 @@
-use Rattle.std.proofs.Common.{◌≡◌, ◌<◌, ◌≤◌, ◌+◌, length, None, sym, ap, ◌∙◌, inl, inr, arith}
+use Rattle.std.proofs.Common.{◌+◌, length, None, sym, ap, ◌∙◌, inl, inr, arith}
 use Rattle.shm_pager.specs.Padded.{padded}
 use Rattle.shm_pager.proofs.Padded.{padded-none}
 use Rattle.shm_pager.proofs.sparse.reach.Goals as goal

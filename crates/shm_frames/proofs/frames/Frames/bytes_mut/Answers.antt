@@ -1,9 +1,7 @@
-use Rattle.std.proofs.Common.{◌<◌, ◌+◌, refl, sym, ap, ◌∙◌, arith, length, length-set}
+use Rattle.std.proofs.Common.{◌<◌, ◌+◌, refl, sym, ◌∙◌, arith, length, length-set}
 use Rattle.std.proofs.lemmas.List.{get_or_read}
 use Rattle.shm_pager.specs.Pages.{zero_page}
-use Rattle.shm_pager.specs.Padded.{padded}
 use Rattle.shm_pager.proofs.Padded.{within-padded}
-use Rattle.shm_frames.specs.Table.{free_entry}
 use Rattle.shm_frames.proofs.Shown.{AreFramesShown, shown, length-shown, reach-shown, paste-shown, bytes-shown}
 use Rattle.shm_frames.proofs.Counts.{kept-reach}
 use Rattle.shm_frames.proofs.frames.Frames.bytes_mut.Goals as goal
@@ -37,8 +35,7 @@ pub returns : goal.returns
 returns c =
     let o = goal.at.returns c in
     let r = reached o.After-reach (there o.After-self) in
-    let stored : c.args.frame < length c.reach.new.pages.items = rw c.reach.ensures.pages (within-padded c.self.inside.pages.items (c.args.frame + 1) c.args.frame zero_page (omega arith)) in
-    (
+    let stored : c.args.frame < length c.reach.new.pages.items = rw c.reach.ensures.pages (within-padded c.self.inside.pages.items (c.args.frame + 1) c.args.frame zero_page (omega arith)) in (
       (refl, λ w. paste-shown r c.args.frame w stored),
       record {
         writes_back = tt;

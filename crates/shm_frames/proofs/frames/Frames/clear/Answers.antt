@@ -1,9 +1,9 @@
 use Rattle.std.proofs.Common.{◌≡◌, ◌<◌, ◌≤◌, ◌+◌, ◌∙◌, length, set, sym, ap, arith}
 use Rattle.std.proofs.lemmas.List.{get_or_past, set-get_or}
 use Rattle.shm_pager.specs.Pages.{zero_page}
-use Rattle.shm_frames.specs.Frame.{Frame, no_frame, frame_at}
+use Rattle.shm_frames.specs.Frame.{no_frame, frame_at}
 use Rattle.shm_frames.specs.Table.{all_frames}
-use Rattle.shm_frames.proofs.Shown.{AreFramesShown, shown, length-shown, reach-shown, paste-shown, bytes-shown}
+use Rattle.shm_frames.proofs.Shown.{shown, length-shown, reach-shown, paste-shown, bytes-shown}
 use Rattle.shm_frames.proofs.Counts.{kept-reach}
 use Rattle.shm_frames.proofs.frames.Frames.clear.Goals as goal
 use Rattle.shm_frames.proofs.frames.Frames.clear.Goals.{After-self}
@@ -20,8 +20,7 @@ reach-requires-clause-bytes c = let o = goal.at.reach-requires-clause-bytes c in
 pub invariant_of-self : goal.invariant_of-self
 invariant_of-self c =
     let o = goal.at.invariant_of-self c in
-    let s = shown c.self.inside c.self.invariant.0 c.self.view_is in
-    (
+    let s = shown c.self.inside c.self.invariant.0 c.self.view_is in (
       rw (c.reach.ensures.table, c.reach.ensures.pages) (reach-shown s c.args.frame (there o.After-self)).used,
       rw c.reach.ensures.entries c.self.invariant.1,
       rw c.reach.ensures.rooms c.self.invariant.2,

@@ -1,4 +1,3 @@
-use Rattle.std.proofs.Common.{sym, ◌∙◌}
 use Rattle.shm_frames.proofs.Shown.{shown, resident-shown, dirty-shown}
 use Rattle.shm_frames.proofs.Counts.{dirty-le-resident}
 use Rattle.shm_frames.proofs.frames.Frames.dirty.Goals as goal

@@ -1,4 +1,4 @@
-use Rattle.std.proofs.Common.{◌≡◌, ◌<◌, Option, Some, None, is_some, false, true≢false, length, set, refl, sym, ap, ◌∙◌, arith}
+use Rattle.std.proofs.Common.{◌≡◌, Option, Some, None, is_some, false, true≢false, set, refl, sym, ap, ◌∙◌}
 use Rattle.shm_base.specs.declared.paging.PageRef.{PageRef}
 use Rattle.std.proofs.lemmas.List.{set-get_or}
 use Rattle.shm_frames.specs.Frame.{no_frame, frame_at}

@@ -1,7 +1,6 @@
-use Rattle.std.proofs.Common.{◌≡◌, ◌<◌, ◌≤◌, ◌+◌, ℕ, List, length, None, Some, refl, sym, ap, ◌∙◌, arith, length-set}
-use Rattle.shm_pager.specs.Pages.{zero_page}
+use Rattle.std.proofs.Common.{◌≡◌, ◌<◌, ◌≤◌, ◌+◌, ℕ, List, length, None, Some, refl, ap, ◌∙◌, arith}
 use Rattle.shm_pager.specs.Padded.{padded}
-use Rattle.shm_pager.proofs.Padded.{within-padded, get_or-padded}
+use Rattle.shm_pager.proofs.Padded.{within-padded}
 use Rattle.shm_frames.specs.declared.frames.FrameState.{FrameState}
 use Rattle.shm_frames.specs.Table.{free_entry, state_at, IsFrameTable}
 use Rattle.shm_frames.proofs.Shown.{AreFramesShown, shown, length-shown, reach-shown, edit-shown, entry-is, free-entry, used-set}
@@ -57,8 +56,7 @@ invariant_of-self c =
     let e = o.After-index_mut-entry in
     let w = within o.After-self in
     let first = c.if-frame-self.true in
-    let bound : c.self.inside.first_free + 1 ≤ length c.reach.new.table.items = omega (arith, there e w, first) in
-    (
+    let bound : c.self.inside.first_free + 1 ≤ length c.reach.new.table.items = omega (arith, there e w, first) in (
       used-set (reached e w).used c.args.frame _,
       rw c.reach.ensures.entries c.self.invariant.1,
       rw c.reach.ensures.rooms c.self.invariant.2,
@@ -69,8 +67,7 @@ pub invariant_of-self-else-frame-self : goal.invariant_of-self-else-frame-self
 invariant_of-self-else-frame-self c =
     let o = goal.at.invariant_of-self-else-frame-self c in
     let e = o.After-index_mut-entry in
-    let w = within o.After-self in
-    (
+    let w = within o.After-self in (
       used-set (reached e w).used c.args.frame _,
       rw c.reach.ensures.entries c.self.invariant.1,
       rw c.reach.ensures.rooms c.self.invariant.2,

@@ -1,6 +1,5 @@
-use Rattle.std.proofs.Common.{◌≤◌, Some, None, sym, arith}
+use Rattle.std.proofs.Common.{Some, None, sym, arith}
 use Rattle.shm_frames.proofs.First.{least_is}
-use Rattle.shm_frames.proofs.Counts.{kept-later}
 use Rattle.shm_frames.proofs.Shown.{shown, first-shown, none-shown}
 use Rattle.shm_frames.proofs.frames.Frames.free_frame.Goals as goal
 

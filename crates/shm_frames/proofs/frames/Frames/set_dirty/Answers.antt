@@ -1,5 +1,4 @@
-use Rattle.std.proofs.Common.{◌≡◌, ◌<◌, ◌≤◌, ◌+◌, ◌-◌, length, refl, ap, ◌∙◌, arith, length-set}
-use Rattle.std.proofs.lemmas.Grind.{common_steps}
+use Rattle.std.proofs.Common.{◌≡◌, ◌<◌, ◌≤◌, ◌+◌, ◌-◌, length, refl, arith}
 use Rattle.std.specs.Int.{from_bool}
 use Rattle.shm_frames.specs.Table.{state_at}
 use Rattle.shm_frames.proofs.Shown.{shown, edit-shown, entry-is, owned-there, used-set, owned-entry}
@@ -38,14 +37,13 @@ invariant_of-self c =
     let s = shown c.self.inside c.self.invariant.0 c.self.view_is in
     let t = there o.After-self in
     let at = is_at o.After-index_mut-entry t in
-    let less = changed-there c.self.invariant.3 t at in
-    (
+    let less = changed-there c.self.invariant.3 t at in (
       used-set c.self.invariant.0 c.args.frame _,
       c.self.invariant.1,
       c.self.invariant.2,
       rw (c.from.ensures, c.from-2.ensures) (
-        kept-bits c.self.invariant.3 t at (record c.index_mut-entry.result.now { dirty = c.args.dirty }) (c.self.inside.dirty - from_bool c.index_mut-entry.result.now.dirty + from_bool c.args.dirty) (owned-entry s c.args.frame c.index_mut-entry.result.now at c.requires.owned) refl (omega (arith, less))
-      ),
+          kept-bits c.self.invariant.3 t at (record c.index_mut-entry.result.now { dirty = c.args.dirty }) (c.self.inside.dirty - from_bool c.index_mut-entry.result.now.dirty + from_bool c.args.dirty) (owned-entry s c.args.frame c.index_mut-entry.result.now at c.requires.owned) refl (omega (arith, less))
+          ),
     )
 
 pub returns : goal.returns

@@ -1,6 +1,4 @@
-use Rattle.std.proofs.Common.{◌≡◌, ◌<◌, length, refl, ap, ◌∙◌, arith, length-set}
-use Rattle.std.proofs.lemmas.Grind.{common_steps}
-use Rattle.shm_frames.specs.Table.{state_at, AreUsed}
+use Rattle.std.proofs.Common.{◌<◌, length, refl, arith}
 use Rattle.shm_frames.proofs.Shown.{shown, edit-shown, entry-is, owned-there, used-set, owned-entry}
 use Rattle.shm_frames.proofs.Counts.{kept-bits}
 use Rattle.shm_frames.proofs.frames.Frames.set_referenced.Goals as goal
@@ -17,8 +15,7 @@ invariant_of-self c =
     let o = goal.at.invariant_of-self c in
     let s = shown c.self.inside c.self.invariant.0 c.self.view_is in
     let t = there o.After-self in
-    let at = entry-is s c.args.frame c.index_mut-entry.result.now t c.index_mut-entry.ensures.value in
-    (
+    let at = entry-is s c.args.frame c.index_mut-entry.result.now t c.index_mut-entry.ensures.value in (
       used-set c.self.invariant.0 c.args.frame _,
       c.self.invariant.1,
       c.self.invariant.2,

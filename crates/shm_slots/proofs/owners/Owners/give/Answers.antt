@@ -6,14 +6,13 @@ use Rattle.shm_slots.proofs.owners.Owners.give.Goals as goal
 
 pub invariant_of-self : goal.invariant_of-self
 invariant_of-self c =
-    let owned : is_some (get_or (padded c.self.inside.slots.items c.self.inside.count None) c.args.slot None) ≡ true = rw (c.self.view_is, ← c.get.ensures, ← c.is_some.ensures) c.if-is_some.true in
-    (
+    let owned : is_some (get_or (padded c.self.inside.slots.items c.self.inside.count None) c.args.slot None) ≡ true = rw (c.self.view_is, ← c.get.ensures, ← c.is_some.ensures) c.if-is_some.true in (
       rw length-set c.self.invariant.0,
       c.self.invariant.1,
       c.self.invariant.2,
       rw (unset-padded c.self.inside.slots.items c.self.inside.count c.args.slot None) (
-        sound-give (padded c.self.inside.slots.items c.self.inside.count None) c.self.inside.numbers c.give.new.self c.self.inside.used c.args.slot c.self.invariant.3 (rw c.self.view_is c.requires) owned c.give.ensures.given c.give.ensures.room
-      ),
+          sound-give (padded c.self.inside.slots.items c.self.inside.count None) c.self.inside.numbers c.give.new.self c.self.inside.used c.args.slot c.self.invariant.3 (rw c.self.view_is c.requires) owned c.give.ensures.given c.give.ensures.room
+          ),
     )
 
 pub returns-then-is_some : goal.returns-then-is_some

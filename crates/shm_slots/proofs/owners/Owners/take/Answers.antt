@@ -12,8 +12,7 @@ there c = grind (arith, common_steps, length-padded)
 pub invariant_of-self : goal.invariant_of-self
 invariant_of-self c =
     let o = goal.at.invariant_of-self c in
-    let t = there o.After-self in
-    (
+    let t = there o.After-self in (
       c.put_owner.ensures.fit c.self.inside.count t c.self.invariant.0,
       rw c.put_owner.ensures.capacity c.self.invariant.1,
       c.self.invariant.2,

@@ -1,4 +1,4 @@
-use Rattle.std.proofs.Common.{◌≡◌, ◌≤◌, None, is_some, length, arith}
+use Rattle.std.proofs.Common.{◌≤◌, None, is_some, length, arith}
 use Rattle.std.proofs.lemmas.List.Sums.{count_by-le-length}
 use Rattle.shm_pager.specs.Padded.{padded}
 use Rattle.shm_pager.proofs.Padded.{length-padded}
