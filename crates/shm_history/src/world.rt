@@ -2,7 +2,7 @@
 //!
 //! The rule that the type keeps: the history is legal on the flat machine from the opening, and leads
 //! to the machine that the system shows. A call and its reply are recorded together or not at all.
-ghost use Rattle.std.specs.Prelude.{◌≡◌, ◌+◌, ◌-◌, ◌<◌, ◌≤◌, [], ◌++◌, length, drop, vec_len, vec_capacity, IfOk, OnOk, OnErr, IsOk, All, false};
+ghost use Rattle.std.specs.Prelude.{◌≡◌, ◌+◌, ◌-◌, ◌<◌, ◌≤◌, [], ◌++◌, length, drop, vec_len, vec_capacity, IfOk, OnOk, OnErr, IsOk, All, true, false};
 ghost use Rattle.shm_base.specs.History.{IsHistory, is_refusal};
 ghost use Rattle.shm_base.specs.Step.{step};
 ghost use mathlib.Core.List.{IsPrefix};
@@ -35,7 +35,7 @@ impl<P: Pager> Drop for World<P> {
 }
 
 impl<P: Pager> Model for World<P> {
-    ghost use Rattle.std.specs.Prelude.{◌≡◌, ◌-◌, length, vec_capacity, vec_len};
+    ghost use Rattle.std.specs.Prelude.{◌≡◌, ◌-◌, length, vec_capacity, vec_len, true, None};
     ghost use Rattle.shm_base.specs.History.{IsHistory};
     ghost use Rattle.shm_life.specs.Listed.{segment_at};
     ghost use Rattle.shm_history.specs.WorldState.{WorldState, AreCounted};
@@ -50,7 +50,7 @@ impl<P: Pager> Model for World<P> {
       room = vec_capacity w.history - vec_len w.history;
     } };
 
-    ghost invariant = { λ w. (w.system.calls ≡ length w.history.items) × IsHistory w.system.opening w.history.items w.system.machine × AreCounted w.history.items w.system.memory.swap };
+    ghost invariant = { λ w. (w.system.calls ≡ length w.history.items) × IsHistory w.system.opening w.history.items w.system.machine × AreCounted w.history.items w.system.memory.swap × (w.system.only_calls ≡ true) × (w.system.clock ≡ None) };
 }
 
 // Makes room for one more event, where there is none.
@@ -69,9 +69,11 @@ fn make_room(history: &mut Vec<Event>) -> Result<(), HostMemory>
 
 impl<P: Pager> World<P> {
     #[tactic(auto, using(crate::proofs::Counted::counted_none))]
-    /// A world with no history yet.
+    /// A world with no history yet, of a system that nothing has changed: its host admitted and dismissed no process, set no
+    /// credentials, and gave no time.
     pub fn new(alloc: Global, system: System<P>) -> World<P>
-        requires { system.calls ≡ 0 }
+        requires new { system.calls ≡ 0 }
+        requires only_calls { system.only_calls ≡ true }
         ensures opening { result.opening ≡ system.opening }
         ensures events { result.events ≡ [] }
         ensures machine { result.machine ≡ system.machine }

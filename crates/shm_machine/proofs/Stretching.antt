@@ -8,7 +8,7 @@ use Rattle.std.proofs.lemmas.Slice.{take-put_mid, drop-put_mid}
 use Rattle.shm_base.specs.declared.call.Call.{Call}
 use Rattle.shm_base.specs.declared.call.Reply.{Reply}
 use Rattle.shm_fault.proofs.Written.{length-put_mid}
-use Rattle.shm_life.specs.SystemState.{SystemState}
+use Rattle.shm_life.specs.SystemState.{SystemState, time_of}
 use Rattle.shm_life.specs.SystemState.{Replied}
 use Rattle.shm_fault.specs.Steps.{LockedPagesStay}
 use Rattle.shm_fault.specs.Store.{StoreView}
@@ -140,7 +140,7 @@ pub record ReadSo (before : SystemState) (pid addr : ℕ) (old : List ℕ) (done
   pub whole : AreWhole done (length old)
   pub size : length new ≡ length old
   pub rest : drop done new ≡ drop done old
-  pub bytes : 0 < done → (step before.machine (before.calls + 1) pid (Load addr done)).reply ≡ Bytes (take done new)
+  pub bytes : 0 < done → (step before.machine (time_of before) pid (Load addr done)).reply ≡ Bytes (take done new)
   pub reached : Reached before done now
   pub machine : now.machine ≡ before.machine
   pub locked : KeepsLocked before.memory now.memory
@@ -148,12 +148,12 @@ pub record ReadSo (before : SystemState) (pid addr : ℕ) (old : List ℕ) (done
 pub read_next : (before now after : SystemState) (pid addr : ℕ) (old new xs : List ℕ) (done len room : ℕ) → ReadSo before pid addr old done new now → done < length old → len ≡ min (length old - done) 64 → room ≡ len
     → Replied now pid (Load (addr + done) len) (Bytes xs) after → length xs ≡ len → ReadSo before pid addr old (done + len) (put_mid done room new xs) after
 read_next before now after pid addr old new xs done len room so lt len-is room-is moves size =
-    let l = loads now.machine after.machine (now.calls + 1) pid (addr + done) len xs moves.move in
+    let l = loads now.machine after.machine (time_of now) pid (addr + done) len xs moves.move in
     let within : done ≤ length new = omega (arith, so.size, lt) in
     let fits : done + room ≤ length new = omega (arith, so.size, lt, room-is, len-is) in
     let held : length xs ≡ room = size ∙ sym room-is in
     let front : take (done + len) (put_mid done room new xs) ≡ take done new ++ xs = take-put_mid done room new xs (done + len) (ap (λ n. done + n) (sym size)) within in
-    let next : (step before.machine (now.calls + 1) pid (Load (addr + done) len)).reply ≡ Bytes xs = ap (λ (m : Machine). (step m (now.calls + 1) pid (Load (addr + done) len)).reply) (sym so.machine) ∙ l.reply in
+    let next : (step before.machine (time_of now) pid (Load (addr + done) len)).reply ≡ Bytes xs = ap (λ (m : Machine). (step m (time_of now) pid (Load (addr + done) len)).reply) (sym so.machine) ∙ l.reply in
     record {
       whole = rw len-is (whole-next done (length old) so.whole lt);
       size = length-put_mid done room new xs fits held ∙ so.size;
@@ -167,15 +167,15 @@ read_next before now after pid addr old new xs done len room so lt len-is room-i
     drop_on : (done len : ℕ) (xs ys : List ℕ) → drop done xs ≡ drop done ys → drop (done + len) xs ≡ drop (done + len) ys
     drop_on done len xs ys same = grind (arith, drop-drop {A = ℕ} len done)
 
-    one : (done len : ℕ) → (0 < done → (step before.machine (before.calls + 1) pid (Load addr done)).reply ≡ Bytes (take done new)) → (step before.machine (now.calls + 1) pid (Load (addr + done) len)).reply ≡ Bytes xs
-        → take (done + len) (put_mid done room new xs) ≡ take done new ++ xs → (step before.machine (before.calls + 1) pid (Load addr (done + len))).reply ≡ Bytes (take (done + len) (put_mid done room new xs))
-    one zero len first next front = grind (arith, common_steps, load-any before.machine (now.calls + 1) (before.calls + 1) pid addr len xs)
-    one (suc d) len first next front = grind (arith, read_more before.machine (before.calls + 1) (now.calls + 1) pid addr (suc d) len (take (suc d) new) xs)
+    one : (done len : ℕ) → (0 < done → (step before.machine (time_of before) pid (Load addr done)).reply ≡ Bytes (take done new)) → (step before.machine (time_of now) pid (Load (addr + done) len)).reply ≡ Bytes xs
+        → take (done + len) (put_mid done room new xs) ≡ take done new ++ xs → (step before.machine (time_of before) pid (Load addr (done + len))).reply ≡ Bytes (take (done + len) (put_mid done room new xs))
+    one zero len first next front = grind (arith, common_steps, load-any before.machine (time_of now) (time_of before) pid addr len xs)
+    one (suc d) len first next front = grind (arith, read_more before.machine (time_of before) (time_of now) pid addr (suc d) len (take (suc d) new) xs)
 
 pub record WrittenSo (before : SystemState) (pid addr : ℕ) (bytes : List ℕ) (done : ℕ) (now : SystemState) : Type 0 where
   pub whole : AreWhole done (length bytes)
   pub none : done ≡ 0 → now.machine ≡ before.machine
-  pub stored : 0 < done → Stores before.machine (before.calls + 1) pid addr (take done bytes) now.machine
+  pub stored : 0 < done → Stores before.machine (time_of before) pid addr (take done bytes) now.machine
   pub reached : Reached before done now
   pub locked : KeepsLocked before.memory now.memory
 
@@ -186,16 +186,16 @@ write_next before now after pid addr bytes xs done len so lt len-is is moves =
     record {
       whole = rw len-is (whole-next done (length bytes) so.whole lt);
       none = λ zero-is. absurd (omega (arith, zero-is, some));
-      stored = λ more. rw (take-add done len bytes, ← is) (one done lt so.none so.stored (stores now.machine after.machine (now.calls + 1) pid (addr + done) xs moves.move));
+      stored = λ more. rw (take-add done len bytes, ← is) (one done lt so.none so.stored (stores now.machine after.machine (time_of now) pid (addr + done) xs moves.move));
       reached = reached-next before now after done len pid (Store (addr + done) xs) Done so.reached moves (so.whole.1 lt) some (omega (arith, len-is));
       locked = locked-trans before.memory now.memory after.memory so.locked (record { kept = moves.keeps.kept; locks = moves.locked refl });
     }
   where
-    one : (done : ℕ) → done < length bytes → (done ≡ 0 → now.machine ≡ before.machine) → (0 < done → Stores before.machine (before.calls + 1) pid addr (take done bytes) now.machine) → Stores now.machine (now.calls + 1) pid (addr + done) xs after.machine
-        → Stores before.machine (before.calls + 1) pid addr (take done bytes ++ xs) after.machine
+    one : (done : ℕ) → done < length bytes → (done ≡ 0 → now.machine ≡ before.machine) → (0 < done → Stores before.machine (time_of before) pid addr (take done bytes) now.machine) → Stores now.machine (time_of now) pid (addr + done) xs after.machine
+        → Stores before.machine (time_of before) pid addr (take done bytes ++ xs) after.machine
     one zero below none before-stored next =
         let at : addr + zero ≡ addr = omega arith in
-        let there : Stores now.machine (now.calls + 1) pid addr xs after.machine = rw at at next in
-        let first : Stores before.machine (now.calls + 1) pid addr xs after.machine = rw (none refl) at there in
-        store-any before.machine after.machine (now.calls + 1) (before.calls + 1) pid addr xs first
-    one (suc d) below none before-stored next = grind (arith, length-take-le (suc d) bytes, write_more before.machine now.machine after.machine (before.calls + 1) (now.calls + 1) pid addr (take (suc d) bytes) xs)
+        let there : Stores now.machine (time_of now) pid addr xs after.machine = rw at at next in
+        let first : Stores before.machine (time_of now) pid addr xs after.machine = rw (none refl) at there in
+        store-any before.machine after.machine (time_of now) (time_of before) pid addr xs first
+    one (suc d) below none before-stored next = grind (arith, length-take-le (suc d) bytes, write_more before.machine now.machine after.machine (time_of before) (time_of now) pid addr (take (suc d) bytes) xs)

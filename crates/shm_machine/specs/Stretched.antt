@@ -8,7 +8,7 @@ use Rattle.shm_base.specs.Step.{step}
 use Rattle.shm_slots.specs.Cause.{GoesOn}
 use Rattle.shm_fault.specs.Steps.{LockedPagesStay}
 use Rattle.shm_life.specs.MachineView.{LocksNothing}
-use Rattle.shm_life.specs.SystemState.{SystemState}
+use Rattle.shm_life.specs.SystemState.{SystemState, time_of}
 use Rattle.shm_machine.specs.declared.refusal.Refusal.{Refusal}
 use Rattle.shm_machine.specs.declared.refusal.Refusal.TheVariants.{Refused}
 use Rattle.shm_machine.specs.declared.stretch.Progress.{Progress}
@@ -26,6 +26,8 @@ next_len n = min n 64
 pub record Reached (before : SystemState) (bytes : ℕ) (stood : SystemState) : Type 0 where
   pub calls : stood.calls ≡ before.calls + calls_for bytes
   pub opening : stood.opening ≡ before.opening
+  pub clock : stood.clock ≡ before.clock
+  pub only_calls : stood.only_calls ≡ before.only_calls
   pub goes_on : GoesOn before.memory.swap stood.memory.swap
 
 -- a call at an address was not done; at one past 64 bits there is none to be asked, and no piece either
@@ -45,7 +47,7 @@ EndedAt stood pid addr size next p after =
 pub record ReadTo (before : SystemState) (pid addr : ℕ) (old : List ℕ) (p : Progress) (new : List ℕ) (after : SystemState) : Type 0 where
   pub within : p.done ≤ length old
   pub rest : drop p.done new ≡ drop p.done old
-  pub bytes : 0 < p.done → (step before.machine (before.calls + 1) pid (Load addr p.done)).reply ≡ Bytes (take p.done new)
+  pub bytes : 0 < p.done → (step before.machine (time_of before) pid (Load addr p.done)).reply ≡ Bytes (take p.done new)
   pub stood : SystemState
   pub reached : Reached before p.done stood
   pub machine : stood.machine ≡ before.machine
@@ -60,7 +62,7 @@ pub record WrittenTo (before : SystemState) (pid addr : ℕ) (bytes : List ℕ) 
   pub stood : SystemState
   pub reached : Reached before p.done stood
   pub none : p.done ≡ 0 → stood.machine ≡ before.machine
-  pub stored : 0 < p.done → step before.machine (before.calls + 1) pid (Store addr (take p.done bytes)) ≡ record { reply = Done; state = stood.machine }
+  pub stored : 0 < p.done → step before.machine (time_of before) pid (Store addr (take p.done bytes)) ≡ record { reply = Done; state = stood.machine }
   pub ended : EndedAt stood pid addr (length bytes) (λ n. Store (addr + p.done) (take n (drop p.done bytes))) p after
   pub kept : LockedPagesStay before.memory after.memory
   pub locks : LocksNothing before.memory after.memory

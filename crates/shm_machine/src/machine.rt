@@ -14,7 +14,8 @@ use shm_life::{StartError, System, first_area_error};
 use shm_pager::AreaPager;
 use std::alloc::Global;
 
-/// A machine over swap areas of the kinds that there are. What is counted and listed of it, and flushing, are its system's.
+/// A machine over swap areas of the kinds that there are. What is counted and listed of it, flushing, and what its host
+/// changes (processes, credentials, the time) are its system's.
 pub struct Machine {
     pub system: System<AreaPager>,
 }
