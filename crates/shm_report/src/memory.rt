@@ -74,7 +74,14 @@ fn push_slots(text: &mut String, area: u32, owners: &[Option<PageRef>]) -> Resul
     Ok(())
 }
 
-#[tactic(auto, using(crate::proofs::Numbered::numbered_padded))]
+// Puts the lines of an area's owned slots behind a text.
+fn push_owners<P: Pager>(text: &mut String, swap: &Swap<P>, area: u32) -> Result<(), AllocError>
+    ensures { let owners = (area_at swap.now area).owners in
+        OnOk result (string_bytes text.new ≡ string_bytes text.old ++ numbered (slot_line area) 0 owners) }
+{
+    push_slots(text, area, swap.owners(area))
+}
+
 fn push_area<P: Pager>(text: &mut String, swap: &Swap<P>, area: u32) -> Result<(), AllocError>
     requires { area < length swap.now.areas }
     ensures { OnOk result (string_bytes text.new ≡ string_bytes text.old ++ area_text area (area_at swap.now area)) }
@@ -83,7 +90,7 @@ fn push_area<P: Pager>(text: &mut String, swap: &Swap<P>, area: u32) -> Result<(
         Some(slots) => write!(text, "area {area} {slots}\n")?,
         None => write!(text, "area {area} gone\n")?,
     }
-    push_slots(text, area, swap.owners(area))
+    push_owners(text, swap, area)
 }
 
 // Puts the swap areas behind a text.
