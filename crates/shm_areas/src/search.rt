@@ -63,7 +63,7 @@ pub(crate) fn run_in(pieces: &[Piece], from: u64, to: u64) -> PieceRange
     PieceRange { first: count, last }
 }
 
-/// The least gap for so many pages at or above 0x40000000, walking up the pieces.
+/// The least gap for this many pages at or above 0x40000000, walking up the pieces.
 pub(crate) fn least_gap(pieces: &[Piece], pages: u32) -> Option<u64>
     requires pages { (1 ≤ pages) × (pages ≤ MOST_SHMALL) }
     requires arranged { Arranged flat.lowest_address (bare_all pieces.now) }

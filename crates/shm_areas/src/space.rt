@@ -106,7 +106,7 @@ impl Space {
         })
     }
 
-    /// The least page-aligned gap for so many pages at or above 0x40000000 (this profile; shmop(2)
+    /// The least page-aligned gap for this many pages at or above 0x40000000 (this profile; shmop(2)
     /// leaves the choice to the system).
     #[tactic(auto, using(crate::proofs::Gaps::free_below))]
     pub fn choose(&self, pages: u32) -> Option<u64>

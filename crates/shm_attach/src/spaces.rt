@@ -71,7 +71,7 @@ pub(crate) fn born(process: &Process) -> Life
 }
 
 impl Spaces {
-    /// The processes as they are declared, none with a piece. It takes their room, of so many pieces each.
+    /// The processes as they are declared, none with a piece. It takes the room of each, for its most pieces.
     pub fn new(alloc: Global, processes: &[Process], most: u32) -> Result<Spaces, HostMemory>
         requires most { most ≤ MOST_PIECES }
         requires few { length processes.now ≤ MOST_PROCESSES }
@@ -139,7 +139,7 @@ impl Spaces {
         self.tables.count(seg)
     }
 
-    /// The spans of an access of a process to so many addresses, each with the frame that is kept for its page.
+    /// The spans of an access of a process to this many addresses, each with the frame that is kept for its page.
     /// Segv where the process is not live, where an address has no piece, and for a write where one lies in a
     /// piece that is read-only.
     pub fn spans(&self, pid: u32, addr: u64, len: u64, write: bool) -> Result<Spans, Segv>

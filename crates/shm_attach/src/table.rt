@@ -54,7 +54,7 @@ impl Table {
         self.count
     }
 
-    /// Some pieces give way to so many others. It tells how many there are now.
+    /// Some pieces give way to `parts` others. It tells how many there are now.
     pub(crate) fn replace(&mut self, gone: u32, parts: u32) -> u32
         requires gone { gone ≤ self.old.count }
         requires fits { self.old.count + parts < 2 ^ 32 }
@@ -65,7 +65,7 @@ impl Table {
         self.count
     }
 
-    /// Goes on to so many pages, each further one as it is in the store.
+    /// Goes on to this many pages, each further one as it is in the store.
     pub(crate) fn extend<P: Pager>(
         &mut self,
         store: &PageStore<P>,

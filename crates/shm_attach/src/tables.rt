@@ -79,7 +79,7 @@ impl Tables {
         }
     }
 
-    // A table goes on to so many pages of its segment.
+    // A table goes on to this many pages of its segment.
     fn extend<P: Pager>(
         &mut self,
         store: &PageStore<P>,
@@ -102,7 +102,7 @@ impl Tables {
     }
 
     /// Reserves a segment's table for a piece that is to come: it counts as one, and the table, whose key is told,
-    /// has the first so many pages. The growths come first.
+    /// has the first `pages` pages. The growths come first.
     pub(crate) fn reserve<P: Pager>(
         &mut self,
         store: &PageStore<P>,
@@ -134,7 +134,7 @@ impl Tables {
         Ok(key)
     }
 
-    /// Some pieces of a segment, whose table lies under the key, give way to so many others. Where none is left
+    /// Some pieces of a segment, whose table lies under the key, give way to `parts` others. Where none is left
     /// the table goes. It takes no memory.
     pub(crate) fn replace(&mut self, seg: u32, key: usize, gone: u32, parts: u32)
         requires own { seg_in (get self.old.slab key) ≡ Some seg }

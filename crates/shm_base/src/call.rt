@@ -130,7 +130,7 @@ pub struct Event {
     pub reply: Reply,
 }
 
-/// One step of a run: a call of a process, or a flush round that writes at most so many pages.
+/// One step of a run: a call of a process, or a flush round that writes at most this many pages.
 #[derive(Clone, Copy, Debug, PartialEq, Eq)]
 pub enum Step {
     Call(u32, Call),

@@ -72,7 +72,7 @@ pub fn is_slot_count(slots: u64) -> bool
     1 <= slots && slots <= u64::from(PROFILE_SLOTS)
 }
 
-/// How many pages hold so many bytes.
+/// How many pages hold `size` bytes.
 pub fn pages_of(size: u64) -> u64
     ensures value { result ≡ flat.pages_of size }
     ensures small { result ≤ 2 ^ 52 }

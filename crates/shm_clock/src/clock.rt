@@ -11,7 +11,7 @@ ghost use Rattle.shm_clock.specs.Clock.{ring_at, may_go, candidates, victim_of, 
 use shm_base::{FrameNo, PageRef};
 use shm_frames::{Frames, Looks};
 
-// The frame so many steps on from the hand, round a ring of so many.
+// The frame some steps on from the hand, round the ring of the frames.
 fn frame_after(hand: FrameNo, step: u32, count: u32) -> FrameNo
     requires hand { hand < count }
     requires step { step < count }

@@ -65,7 +65,7 @@ impl PageRec {
     };
 }
 
-// So many pages that are nowhere.
+// Pages that are nowhere.
 fn blank_pages(alloc: Global, count: u32) -> Result<Vec<PageRec>, AllocError>
     ensures { IfOk result (λ pages. pages.items ≡ replicate count no_page) }
 {

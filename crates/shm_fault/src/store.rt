@@ -56,7 +56,7 @@ impl<P: Pager> Model for PageStore<P> {
 }
 
 impl<P: Pager> PageStore<P> {
-    /// A store that holds no segment, over so many frames and the swap, none of whose slots is owned. The
+    /// A store that holds no segment, over this number of frames and the swap, none of whose slots is owned. The
     /// memory of the frames is reserved here, and touched when a frame is first used.
     pub fn new(alloc: Global, frames: u32, swap: Swap<P>) -> Result<PageStore<P>, HostMemory>
         requires frames { (2 ≤ frames) × (frames ≤ MOST_FRAMES) }
@@ -83,7 +83,7 @@ impl<P: Pager> PageStore<P> {
         self.segs.page(PageRef { seg, page }).frame
     }
 
-    /// One more segment, of so many pages of zeros, which is not locked. All room that it will ever need is
+    /// One more segment, of this many pages of zeros, which is not locked. All room that it will ever need is
     /// taken here; out of memory is the one refusal, and changes nothing. All pages have to be at most the
     /// slots.
     pub fn add_segment(&mut self, seg: u32, pages: u32) -> Result<(), HostMemory>

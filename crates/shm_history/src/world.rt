@@ -130,7 +130,7 @@ impl<P: Pager> World<P> {
         self.history.capacity() - self.history.len()
     }
 
-    /// Makes room for so many calls.
+    /// Makes room for this many calls.
     pub fn reserve(&mut self, count: usize) -> Result<(), HostMemory>
         ensures ok { OnOk result (count ≤ self.new.room) }
         ensures grows { self.old.room ≤ self.new.room }

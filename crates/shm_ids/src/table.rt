@@ -218,7 +218,7 @@ fn take_row<T>(entries: &mut Vec<Entry<T>>, index: usize) -> Row<T>
     entry.row.take().unwrap()
 }
 
-// Gives an index back at which so many rows were destroyed, unless it is worn out.
+// Gives an index back at which this number of rows was destroyed, unless it is worn out.
 fn give_back(indexes: &mut Numbers, index: u32, destroyed: u32)
     requires { is_taken indexes.old index ≡ true }
     ensures given { TakenAs indexes.old indexes.new index (nat_lt destroyed 65536) }

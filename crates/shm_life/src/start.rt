@@ -41,7 +41,7 @@ impl StartError {
     }
 }
 
-// Whether an area may have so many slots.
+// Whether an area may have this many slots.
 fn is_area_size(limits: &Limits, slots: u32) -> bool
     ensures { result ≡ within 1 limits.now.most_slots slots }
 {

@@ -25,7 +25,7 @@ fn next_address(addr: u64, done: usize) -> Result<u64, Refusal>
 }
 
 impl Machine {
-    // One call of a read: so many bytes, behind those that were done.
+    // One call of a read: this many bytes, behind those that were done.
     fn read_on(&mut self, pid: u32, addr: u64, done: usize, len: usize) -> Result<Chunk, Refusal>
         requires { (1 ≤ len) × (len ≤ 64) }
         ensures { MatchResult result (λ b. Replied self.old.system pid (call.Load (addr + done) len) (reply.Bytes b) self.new.system × (length b ≡ len)) (λ e. StoppedAt self.old.system pid (addr + done) (call.Load (addr + done) len) e self.new.system) }

@@ -57,7 +57,7 @@ impl<P: Pager> FusePager<P> {
         FusePager::new_at(inner, bad_reads, bad_writes, 0)
     }
 
-    /// As [`FusePager::new`], for a pager that goes on counting where another stopped: it has counted so many failures
+    /// As [`FusePager::new`], for a pager that goes on counting where another stopped: it has counted this many failures
     /// already. At `u64::MAX` it can count no more, and whoever reads and writes by [`try_read`](crate::try_read) and
     /// [`try_write`](crate::try_write) asks it for nothing.
     pub fn new_at(

@@ -13,7 +13,7 @@ use std::process::Abort;
 
 /// What is done to the spaces of a family, or asked of them, with the answer that is wanted.
 enum Act {
-    /// Process 1 attaches a segment at an address: so many pages, to be written too or only read.
+    /// Process 1 attaches a segment at an address: this many pages, to be written too or only read.
     Attach(u32, u64, u32, bool),
     /// Process 1 has no room for one more piece.
     Full,
@@ -29,7 +29,7 @@ enum Act {
     User(u32, Option<u32>),
     /// How many pieces name a segment.
     Count(u32, u32),
-    /// The spans of an access of process 1 to so many addresses, which writes or reads; none if it is refused.
+    /// The spans of an access of process 1 to this many addresses, which writes or reads; none if it is refused.
     Spans(u64, u64, bool, &'static [Span]),
     /// The frames that a process has for its pages from an address on.
     Frames(u32, u64, &'static [Option<FrameNo>]),

@@ -7,7 +7,7 @@ use shm_print::push_event;
 use std::alloc::AllocError;
 
 /// What a step did: `Start` is the machine as it opens, `Call` a call with its reply, and `Flush` a flush round
-/// for at most so many pages, with its report.
+/// for at most this many pages, with its report.
 #[derive(Debug, Drop)]
 pub enum Action {
     Start,

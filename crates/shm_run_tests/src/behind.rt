@@ -15,7 +15,7 @@ const TURNS: u64 = 1_000_000;
 
 const SETTLED: u64 = 20_000;
 
-/// Waits until a count is so high, for so many turns. False if it was not.
+/// Waits until a count is this high, for this many turns. False if it was not.
 pub(crate) fn comes_to(count: &AtomicU64, least: u64) -> bool {
     for _ in 0..TURNS {
         if count.load(Ordering::SeqCst) >= least {
@@ -42,7 +42,7 @@ pub(crate) enum Rule {
     Below(u32),
     /// Ends one worker.
     Without(u32),
-    /// Lets so many of the flusher's rounds pass.
+    /// Lets this many of the flusher's rounds pass.
     Rounds(u64),
     /// Holds each of two processes until the other comes as far.
     Meet,
@@ -50,7 +50,7 @@ pub(crate) enum Rule {
     ChildFirst,
     /// Has process 2 make its call while process 1 is told of its own.
     WhileTold,
-    /// Holds the flusher's first round until process 1 has made so many calls.
+    /// Holds the flusher's first round until process 1 has made this many calls.
     Behind(u64),
     /// Holds process 1 before its first call so long that all children wait, and before its third until another process
     /// has made a call.
@@ -226,7 +226,7 @@ pub(crate) struct Noted {
 }
 
 impl Noted {
-    /// Whether there are so many transcripts, with so many calls each.
+    /// Whether there are this many transcripts, with this many calls each.
     pub(crate) fn has_calls(&self, calls: &[usize]) -> bool {
         self.transcripts == calls.len() && self.calls.starts_with(calls)
     }
@@ -294,7 +294,7 @@ pub(crate) fn run_script<R: Threads + Wait + Sync, G: Gate>(
     run_over(rt, alloc, script, 64, gate)
 }
 
-// What is seen behind a run over an area of so many slots.
+// What is seen behind a run over an area of this many slots.
 fn run_over<R: Threads + Wait + Sync, G: Gate>(
     rt: &R,
     alloc: Global,
@@ -337,7 +337,7 @@ pub(crate) fn seen_by<R: Threads + Wait + Sync>(
     Ok(run_behind(rt, alloc, text, &Ruled::by(rule))??)
 }
 
-/// What is seen behind a run by this rule over an area of so many slots.
+/// What is seen behind a run by this rule over an area of this many slots.
 pub(crate) fn seen_over<R: Threads + Wait + Sync>(
     rt: &R,
     alloc: Global,

@@ -211,7 +211,7 @@ impl Gate for UntilRead<'_> {
     }
 }
 
-// How a run ends whose rounds of so many pages are each read.
+// How a run ends whose rounds of this many pages are each read.
 fn read_after_each<R: Threads + Wait + Sync>(
     rt: &R,
     alloc: Global,

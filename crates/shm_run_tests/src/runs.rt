@@ -77,8 +77,8 @@ limits 65536 16 64 4 1\n\
 process 1 100 100\n\
 process 2 100 100\n";
 
-/// A head with lines that come so often behind it, the rule of the run, and what is seen behind it: so many events, and
-/// so many calls of each process.
+/// A head with lines that come this often behind it, the rule of the run, and what is seen behind it: this many events, and
+/// this many calls of each process.
 struct Whole {
     name: &'static str,
     head: &'static [u8],
@@ -254,7 +254,7 @@ fn push_rounds(script: &mut Script) -> Result<(), Fail> {
     Ok(())
 }
 
-// Whether the flusher makes so many rounds, and the run ends so.
+// Whether the flusher makes this many rounds, and the run ends so.
 fn makes_rounds<R: Threads + Wait + Sync>(
     rt: &R,
     alloc: Global,
@@ -293,7 +293,7 @@ process 1 100 100\n\
 1 store a+4094 01020304\n\
 1 load a+4093 6\n";
 
-/// Four calls that leave two pages dirty, and flush rounds of so many pages at most.
+/// Four calls that leave two pages dirty, and flush rounds of at most this many pages.
 pub(crate) fn late(alloc: Global, rounds: &[u64]) -> Result<Vec<u8>, Fail> {
     let mut text = Vec::from_slice(alloc, FOUR_CALLS)?;
     for pages in rounds {
@@ -332,7 +332,7 @@ const ROUNDS: &[(u64, Tally)] = &[
     ),
 ];
 
-// What is counted behind the calls and a round of so many pages.
+// What is counted behind the calls and a round of this many pages.
 fn counted_late<R: Threads + Wait + Sync>(
     rt: &R,
     alloc: Global,

@@ -29,7 +29,7 @@ usage events 4 segments 1 reserved 2 locked 0\n\
 usage frames 2/4 dirty 2 slots 0/64\n\
 usage in 0 out 0 failures 0\n";
 
-/// Gives so many bytes at each ask, and fails at one of them, from 1 on.
+/// Gives this many bytes at each ask, and fails at one of them, from 1 on.
 #[derive(Drop)]
 pub(crate) struct Source {
     rest: &'static [u8],
@@ -77,7 +77,7 @@ impl Read for Restless {
     }
 }
 
-/// Takes so many bytes at each write, and fails at one of them, from 1 on.
+/// Takes this many bytes at each write, and fails at one of them, from 1 on.
 #[derive(Drop)]
 pub(crate) struct Sink {
     pub(crate) taken: Vec<u8>,

@@ -109,7 +109,7 @@ fn at(alloc: Global, place: u64) -> Result<Vec<u64>, Fail> {
     Ok(places)
 }
 
-// An area of so many slots whose read and whose write at these places fail; 0 is none.
+// An area of this many slots whose read and whose write at these places fail; 0 is none.
 fn fuse(alloc: Global, slots: u32, read: u64, write: u64) -> Result<FusePager<RamPager>, Fail> {
     let ram = RamPager::new(alloc, slots)?;
     Ok(FusePager::new(ram, at(alloc, read)?, at(alloc, write)?))
@@ -357,7 +357,7 @@ fn each_call_fails<R: Threads + Wait + Sync>(
 
 type Mirror = MirrorPager<FusePager<RamPager>, FusePager<RamPager>>;
 
-// A mirror of so many slots whose left side fails at this write, and whose right side at this read.
+// A mirror of this many slots whose left side fails at this write, and whose right side at this read.
 fn mirror(alloc: Global, slots: u32, write: u64, read: u64) -> Result<Mirror, Fail> {
     let left = fuse(alloc, slots, 0, write)?;
     let right = fuse(alloc, slots, read, 0)?;

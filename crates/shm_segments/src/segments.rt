@@ -80,7 +80,7 @@ fn found_under(table: &IdTable<Head>, id: ShmId) -> Result<Found, LookRefused>
 }
 
 impl<P: Pager> Segments<P> {
-    /// No segment, over so many frames and the swap, none of whose slots is owned. The memory of the frames
+    /// No segment, over this number of frames and the swap, none of whose slots is owned. The memory of the frames
     /// is taken here.
     pub fn new(alloc: Global, frames: u32, swap: Swap<P>) -> Result<Segments<P>, HostMemory>
         requires frames { (2 ≤ frames) × (frames ≤ MOST_FRAMES) }

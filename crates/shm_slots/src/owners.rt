@@ -60,7 +60,7 @@ fn put_owner(slots: &mut Vec<Option<PageRef>>, slot: u32, owner: PageRef)
 }
 
 impl Owners {
-    /// So many free slots. Room for each owner is reserved, and none of it is touched.
+    /// This many free slots. Room for each owner is reserved, and none of it is touched.
     pub(crate) fn new(alloc: Global, count: u32) -> Result<Owners, AllocError>
         ensures { IfOk result (λ o. o ≡ replicate count None) }
     {

@@ -94,7 +94,7 @@ impl Counter {
         })
     }
 
-    /// A pager of so many slots that has counted so many failures.
+    /// A pager of this many slots that has counted this many failures.
     pub(crate) fn pager(&self, slots: u32, failures: u64) -> Result<CountingPager, AllocError> {
         Ok(CountingPager {
             inner: RamPager::new(self.alloc, slots)?,

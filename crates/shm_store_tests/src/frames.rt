@@ -3,7 +3,7 @@ use shm_frames::{Frames, Looks};
 use std::process::Abort;
 use std::test::Fail;
 
-// A page comes into the free frame of least number, and its bytes were there before it; whether it did, and so many
+// A page comes into the free frame of least number, and its bytes were there before it; whether it did, and this many
 // are resident.
 fn comes(frames: &mut Frames, seg: u32, resident: u64) -> bool {
     let Some(frame) = frames.free_frame() else {
@@ -51,7 +51,7 @@ fn empties(frames: &mut Frames, frame: u32) -> bool {
 /// What comes to pass in frames, or is asked of them.
 #[derive(Clone, Copy)]
 enum Act {
-    /// A page of a segment comes, and so many are resident.
+    /// A page of a segment comes, and this many are resident.
     Come(u32, u64),
     /// Both bits of a frame are set.
     Set(u32),

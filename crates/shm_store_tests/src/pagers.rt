@@ -63,7 +63,7 @@ fn answers<X: Pager>(rt: &impl Abort, pager: &mut X, access: Access) -> bool {
     }
 }
 
-// Makes these accesses in order. The pager has counted so many failures then.
+// Makes these accesses in order. The pager has counted this many failures then.
 fn accessed<X: Pager>(rt: &impl Abort, pager: &mut X, accesses: &[Access], failures: u64) {
     for (number, &access) in accesses.iter().enumerate() {
         assert!(rt; answers(rt, pager, access), "access {number}");
@@ -248,7 +248,7 @@ fn each_kind_runs(rt: HostRuntime) -> Result<(), Fail> {
     Ok(())
 }
 
-/// What pagers that count lie behind: a fuse, a box, or a mirror whose right side has so many slots and has counted so
+/// What pagers that count lie behind: a fuse, a box, or a mirror whose right side has this many slots and has counted so
 /// many failures.
 #[derive(Clone, Copy)]
 enum Behind {

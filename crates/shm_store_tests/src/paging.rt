@@ -131,7 +131,7 @@ enum Ask {
     Save(u64, u8, bool),
     /// Loads the byte at a place; none where a pager fails.
     Load(u64, Option<u8>),
-    /// Flushes so many pages, of which so many are written and so many fail, and so many stay dirty.
+    /// Flushes this many pages, of which this many are written and this many fail, and this many stay dirty.
     Flush(u64, u64, u64, u64),
     /// Takes an area away. It stays where a pager fails, or where it is gone.
     MoveOff(u32, bool),
@@ -139,7 +139,7 @@ enum Ask {
 
 use Ask::{Flush, Load, MoveOff, Save};
 
-// Whether a flush writes so many and leaves so many dirty.
+// Whether a flush writes this many and leaves this many dirty.
 fn flushes<P: Pager>(store: &mut PageStore<P>, pages: u64, report: FlushReport, dirty: u64) -> bool
     requires { HasThree store.old }
     ensures { HasThree store.new }

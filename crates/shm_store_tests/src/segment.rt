@@ -23,7 +23,7 @@ impl Model for Segment {
 }
 
 impl Segment {
-    /// So many pages of zeros, not locked.
+    /// This many pages of zeros, not locked.
     pub(crate) fn zeros(alloc: Global, id: u32, pages: u32) -> Result<Segment, HostMemory>
         requires { pages ≤ 4096 }
         ensures { IfOk result (λ s. s ≡ record { id = id; locked = false; bytes = replicate (4096 * pages) 0 }) }

@@ -78,7 +78,7 @@ impl PlainStore {
         }
     }
 
-    /// Adds a segment of so many pages of zeros that is not locked. The memory of all its pages is taken
+    /// Adds a segment of this many pages of zeros that is not locked. The memory of all its pages is taken
     /// here; where the host refuses it the store stays as it was.
     pub fn add_segment(&mut self, seg: u32, pages: u32) -> Result<(), HostMemory>
         requires new { is_held self.old seg ≡ false }

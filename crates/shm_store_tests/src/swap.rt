@@ -224,7 +224,7 @@ fn fuse(
     Ok(FusePager::new_at(ram, Vec::new(alloc), bad_writes, failures))
 }
 
-// Two areas of a slot, whose writes of these numbers fail, and that have counted so many failures.
+// Two areas of a slot, whose writes of these numbers fail, and that have counted this many failures.
 fn two_fuses(
     alloc: Global,
     first: (&[u64], u64),
@@ -270,7 +270,7 @@ fn a_pager_may_be_handed_in_spent(rt: HostRuntime) -> Result<(), Fail> {
     Ok(())
 }
 
-// Two pagers that tell these counters. The first has counted so many failures.
+// Two pagers that tell these counters. The first has counted this many failures.
 fn two_counted(
     alloc: Global,
     (first, other): (&Counter, &Counter),

@@ -10,7 +10,7 @@ pub enum Number {
     TooLarge,
 }
 
-/// So many digits of any base spell a number of 64 bits.
+/// This many digits of any base spell a number of 64 bits.
 const SHORT: usize = 15;
 
 /// The number that a few digits of a base spell.

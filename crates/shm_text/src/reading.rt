@@ -172,7 +172,7 @@ fn first_fault(bytes: &[u8]) -> Option<ScriptFault>
     }
 }
 
-// For how many lines room is made at once: for as many as so many bytes mostly have, so that few have to move, and as a
+// For how many lines room is made at once: for as many as this many bytes mostly have, so that few have to move, and as a
 // script may have.
 fn room_wanted(bytes: &[u8]) -> usize
     ensures { result ≡ min (length bytes.now / 8) 100000 }

@@ -176,7 +176,7 @@ impl Command {
     }
 }
 
-/// A line that asks for a flush round of so many pages at most, 1 to 4096.
+/// A line that asks for a flush round of at most this many pages, 1 to 4096.
 #[derive(Clone, Copy, Debug, PartialEq, Eq)]
 pub struct FlushLine {
     pages: u32,
@@ -195,7 +195,7 @@ impl Model for FlushLine {
 }
 
 impl FlushLine {
-    /// A round of so many pages, or none outside 1 to 4096.
+    /// A round of this many pages, or none outside 1 to 4096.
     pub fn new(pages: u64) -> Option<FlushLine>
         ensures which { IsSome result ↔ (1 ≤ pages) × (pages ≤ 4096) }
         ensures value { IfSome result (λ f. f ≡ pages) }

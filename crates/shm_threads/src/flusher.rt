@@ -18,7 +18,7 @@ pub(crate) trait Flusher {
         ensures asked { Adds (asked self.old) (May n result ∷ []) (asked self.new) }
         ensures cell { cell self.new ≡ cell self.old };
 
-    /// Makes a round of so many pages at most, and publishes what is then counted.
+    /// Makes a round of at most this many pages, and publishes what is then counted.
     fn round(&mut self, pages: u32)
         ensures asked { Adds (asked self.old) (Round pages ∷ []) (asked self.new) }
         ensures cell { cell self.new ≡ cell self.old };

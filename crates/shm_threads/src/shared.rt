@@ -61,7 +61,7 @@ impl<P: Pager> RunState<P> {
         }
     }
 
-    // A flush round of so many pages at most. Where there is a keeper, it publishes what is then counted.
+    // A flush round of at most this many pages. Where there is a keeper, it publishes what is then counted.
     fn flush<R: Wait>(&mut self, rt: &R, pages: u32, keeper: &mut Option<Keeper>) -> FlushReport
         ensures round { IsRound self.old.world pages result self.new.world }
         ensures cell { cell_of keeper.new ≡ cell_of keeper.old }
@@ -111,7 +111,7 @@ impl<P: Pager> Shared<P> {
         entry
     }
 
-    /// Makes one flush round of so many pages at most, under the lock, and has the keeper publish in it.
+    /// Makes one flush round of at most this many pages, under the lock, and has the keeper publish in it.
     pub(crate) fn flush<R: Wait>(&self, rt: &R, pages: u32, keeper: &mut Option<Keeper>)
         ensures { cell_of keeper.new ≡ cell_of keeper.old }
     {

@@ -13,13 +13,13 @@ use std::test::Fail;
 
 /// A call of process 1.
 pub(crate) enum Ask {
-    /// shmget of so many bytes, with no key.
+    /// shmget of this many bytes, with no key.
     Get(u64),
     /// shmat of an identifier, where the system chooses.
     At(i32),
     /// Bytes at an address are written.
     Store(u64, &'static [u8]),
-    /// So many bytes at an address are read.
+    /// This many bytes at an address are read.
     Load(u64, u64),
     Exit,
     /// An area is to be taken away.

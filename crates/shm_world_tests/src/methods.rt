@@ -33,7 +33,7 @@ fn chunk_of(bytes: &[u8]) -> Result<Chunk, Fail> {
     Ok(Chunk::new(bytes).ok_or("1 to 64 bytes")?)
 }
 
-// A segment of so many bytes, attached where the machine chooses.
+// A segment of this many bytes, attached where the machine chooses.
 fn attached(machine: &mut Machine, size: u64) -> Result<u64, Refusal> {
     let id = machine.get(1, 0, size, 0o600, GetFlags::from_bits_retain(0))?;
     machine.attach(1, id, 0, AtFlags::from_bits_retain(0))

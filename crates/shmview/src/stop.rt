@@ -10,7 +10,7 @@ use shm_program::RunFault;
 use std::alloc::{AllocError, AllocFailed};
 use std::{fmt, io};
 
-/// Why the program stops: wrong words on the command line; a run of so many steps, more than 2,000, of which none
+/// Why the program stops: wrong words on the command line; a run of this many steps, over 2,000, of which none
 /// were chosen; or a fault of the run.
 #[derive(Clone, Copy, Debug, PartialEq, Eq)]
 pub(crate) enum Stop {
