@@ -75,7 +75,8 @@ int pthread_create(pthread_t *thread, const pthread_attr_t *with, void *(*run)(v
     return next(thread, with, run, given);
 }
 
-static void write_log(void) {
+/* a program that returns from its start ends so */
+__attribute__((destructor)) static void write_log(void) {
     const char *to = getenv("REFUSE_LOG");
     FILE *file = to ? fopen(to, "w") : NULL;
     if (!file) return;
@@ -83,7 +84,7 @@ static void write_log(void) {
     fclose(file);
 }
 
-/* the program ends here, which runs no destructor */
+/* others end here, which runs no destructor */
 _Noreturn void _exit(int status) {
     void (*next_exit)(int) = NULL;
     write_log();
