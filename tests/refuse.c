@@ -1,12 +1,16 @@
-/* Counts what a program asks of the allocator, and refuses one request. It is preloaded into a program as it was built.
+/* Counts what a program asks of the allocator and how many threads it starts, and refuses one of either. It is preloaded into a
+   program as it was built.
 
    Requests of the program's own code are counted, those of the C library and of the loader are not.
-       REFUSE      which request is refused, from 1; none where it is 0 or missing
-       REFUSE_LOG  a file for three numbers at the end: the requests, the bytes they asked for, and whether one was refused */
+       REFUSE         which request is refused, from 1; none where it is 0 or missing
+       REFUSE_THREAD  which thread is refused, in the same way
+       REFUSE_LOG     a file for four numbers at the end: the requests, the bytes they asked for, whether one was refused, and
+                      how many threads were asked for */
 #define _GNU_SOURCE
 #include <dlfcn.h>
 #include <errno.h>
 #include <link.h>
+#include <pthread.h>
 #include <stdatomic.h>
 #include <stdint.h>
 #include <stdio.h>
@@ -15,8 +19,8 @@
 static void *(*next_malloc)(size_t size);
 static void *(*next_realloc)(void *block, size_t size);
 static uintptr_t code_from, code_to;
-static unsigned long refused_one;
-static atomic_ulong requests, bytes, refused;
+static unsigned long refused_one, refused_thread;
+static atomic_ulong requests, bytes, refused, threads;
 
 /* where the program's code lies: the loader lists the program first */
 static int find_code(struct dl_phdr_info *info, size_t size, void *unused) {
@@ -37,8 +41,9 @@ static void find_next(void) {
 }
 
 __attribute__((constructor)) static void start(void) {
-    const char *which = getenv("REFUSE");
+    const char *which = getenv("REFUSE"), *thread = getenv("REFUSE_THREAD");
     refused_one = which ? strtoul(which, NULL, 10) : 0;
+    refused_thread = thread ? strtoul(thread, NULL, 10) : 0;
     if (!next_malloc) find_next();
     dl_iterate_phdr(find_code, NULL);
 }
@@ -63,15 +68,23 @@ void *realloc(void *block, size_t size) {
     return is_refused(__builtin_return_address(0), size) ? NULL : next_realloc(block, size);
 }
 
-static void write_log(void) {
+int pthread_create(pthread_t *thread, const pthread_attr_t *with, void *(*run)(void *), void *given) {
+    int (*next)(pthread_t *, const pthread_attr_t *, void *(*)(void *), void *) = NULL;
+    if (atomic_fetch_add(&threads, 1) + 1 == refused_thread) return EAGAIN;
+    *(void **)&next = dlsym(RTLD_NEXT, "pthread_create");
+    return next(thread, with, run, given);
+}
+
+/* a program that returns from its start ends so */
+__attribute__((destructor)) static void write_log(void) {
     const char *to = getenv("REFUSE_LOG");
     FILE *file = to ? fopen(to, "w") : NULL;
     if (!file) return;
-    fprintf(file, "%lu %lu %lu\n", atomic_load(&requests), atomic_load(&bytes), atomic_load(&refused));
+    fprintf(file, "%lu %lu %lu %lu\n", atomic_load(&requests), atomic_load(&bytes), atomic_load(&refused), atomic_load(&threads));
     fclose(file);
 }
 
-/* the program ends here, which runs no destructor */
+/* others end here, which runs no destructor */
 _Noreturn void _exit(int status) {
     void (*next_exit)(int) = NULL;
     write_log();

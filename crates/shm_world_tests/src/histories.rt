@@ -2,7 +2,8 @@ ghost use Rattle.std.specs.Prelude.{◌≡◌};
 
 use bitflags::Flags;
 use shm_base::{
-    AccessLen, AtFlags, Call, Chunk, Cred, Errno, GetFlags, Limits, Process, Reply, Sizes, Step, Tally,
+    AccessLen, AtFlags, Call, Chunk, Cred, Errno, GetFlags, Limits, Process, Reply, Sizes, Step,
+    Tally,
 };
 use shm_history::{Gauge, GaugeRefused, Keeper, ReaderSeat, Reading, System, World, gauge};
 use shm_pager::{FusePager, Pager, RamPager};
@@ -407,7 +408,12 @@ fn large(alloc: Global, frames: u64, shmall: u64) -> Result<World<RamPager>, Fai
     opened(alloc, limits, vec![in alloc; RamPager::new(alloc, 64)?]?)
 }
 
-fn has_gauge<R: Abort + Wait>(rt: &R, alloc: Global, frames: u64, shmall: u64) -> Result<bool, Fail> {
+fn has_gauge<R: Abort + Wait>(
+    rt: &R,
+    alloc: Global,
+    frames: u64,
+    shmall: u64,
+) -> Result<bool, Fail> {
     match gauge(rt, alloc, &large(alloc, frames, shmall)?) {
         Ok(_) => Ok(true),
         Err(GaugeRefused::Limits) => Ok(false),
