@@ -1,5 +1,6 @@
-/* A small emulator: guest processes of a toy processor, whose shared memory is the library. Two guests, the second born
-   by a fork, add to one counter a thousand times each; the first waits for the second and writes the counter out.
+/* A small emulator: guest processes of a toy processor, whose shared memory is the library. A first guest forks others, 200
+   at once and 10,000 in its life, so that pids are used again; each adds to one counter in a segment of 64 MiB. Then a child
+   gives up its user, as behind setuid(2), and may not attach what it may still use. The emulator checks what it sees.
 
    A guest has eight registers and no other memory than what it attached. Each access goes to the library, by the guest's
    pid and address; one that is refused ends the guest, as a signal would. A refused system call answers the guest the
@@ -8,12 +9,14 @@
 #include <stdio.h>
 #include <nogcuvema.h>
 
-enum { GUESTS = 2, FIRST_PID = 1, PAGE = 4096, NINE_BITS = 0777 };
+enum { GUESTS = 201, FIRST_PID = 1, LIVES = 10000, AT_ONCE = GUESTS - 1, USER = 100, NOBODY = 65534, NINE_BITS = 0777 };
+enum { SIZE = 64 << 20, PAGE = 4096, TICKS_A_SECOND = 1000 };
+#define BOOTED UINT64_C(1700000000)
 
 /* ---- the guest ---- */
 
 /* A takes the answer of a system call; A, B and C its operands */
-enum { A, B, C, ID, AT, CHILD, LEFT, STEP, REGISTERS };
+enum { A, B, C, ID, AT, LEFT, ROUND, ONE, REGISTERS };
 
 enum operation {
     SET,     /* register, number */
@@ -25,19 +28,23 @@ enum operation {
     SYSTEM   /* register 0, system call */
 };
 struct instruction { enum operation operation; int to; int64_t from; };
-enum system_call { SHMGET, SHMAT, SHMDT, SHMRM, FORK, WAIT, WRITE, EXIT };
+enum system_call { SHMGET, SHMAT, SHMDT, SHMRM, FORK, PAUSE, RELEASE, WAIT, SETUID, WRITE, EXIT };
 
-enum { LOOP = 13, PARENT = 18 };
+enum { ROUNDS = 11, FORKS = 12, PARENT = 17, WAITS = 21, SHOWS = 35 };
 static const struct instruction program[] = {
-    {SET, A, NOG_PRIVATE}, {SET, B, PAGE}, {SET, C, 0600}, {SYSTEM, 0, SHMGET}, {COPY, ID, A},
+    {SET, A, NOG_PRIVATE}, {SET, B, SIZE}, {SET, C, 0600}, {SYSTEM, 0, SHMGET}, {COPY, ID, A},
     {SET, B, 0}, {SET, C, 0}, {SYSTEM, 0, SHMAT}, {COPY, AT, A},
-    {SYSTEM, 0, FORK}, {COPY, CHILD, A},
-    {SET, LEFT, 1000}, {SET, STEP, 1},
-    [LOOP] = {COUNT, STEP, AT}, {ADD, LEFT, -1}, {BRANCH, LEFT, LOOP},
-    {BRANCH, CHILD, PARENT},
-    {SYSTEM, 0, EXIT},
-    [PARENT] = {COPY, A, CHILD}, {SYSTEM, 0, WAIT},
-    {LOAD, A, AT}, {SYSTEM, 0, WRITE},
+    {SET, ROUND, LIVES / AT_ONCE}, {SET, ONE, 1},
+    [ROUNDS] = {SET, LEFT, AT_ONCE},
+    [FORKS] = {SYSTEM, 0, FORK}, {BRANCH, A, PARENT}, {SYSTEM, 0, PAUSE}, {COUNT, ONE, AT}, {SYSTEM, 0, EXIT},
+    [PARENT] = {ADD, LEFT, -1}, {BRANCH, LEFT, FORKS},
+    {SYSTEM, 0, RELEASE}, {SET, LEFT, AT_ONCE},
+    [WAITS] = {SYSTEM, 0, WAIT}, {ADD, LEFT, -1}, {BRANCH, LEFT, WAITS},
+    {ADD, ROUND, -1}, {BRANCH, ROUND, ROUNDS},
+    {SYSTEM, 0, FORK}, {BRANCH, A, SHOWS},
+    {SET, A, NOBODY}, {SYSTEM, 0, SETUID}, {COPY, A, ID}, {SYSTEM, 0, SHMAT}, {SYSTEM, 0, WRITE},
+    {COUNT, ONE, AT}, {SYSTEM, 0, EXIT}, /* what it had attached stays attached */
+    [SHOWS] = {SYSTEM, 0, WAIT}, {LOAD, A, AT}, {SYSTEM, 0, WRITE},
     {COPY, A, ID}, {SYSTEM, 0, SHMRM},
     {COPY, A, AT}, {SYSTEM, 0, SHMDT},
     {LOAD, A, AT}, /* nothing is attached there any more */
@@ -46,56 +53,80 @@ static const struct instruction program[] = {
 
 /* ---- the emulator ---- */
 
-enum life { UNBORN, RUNNING, ENDED };
-struct guest { uint32_t pid; enum life life; int64_t next; uint64_t registers[REGISTERS]; };
-struct emulator { nog_machine memory; struct guest guests[GUESTS]; };
+enum life { NONE, RUNNING, PAUSED, ENDED };
+struct guest { enum life life; int64_t next; uint64_t registers[REGISTERS]; };
+/* the guest with pid n is at place n - FIRST_PID */
+struct emulator { nog_machine memory; struct guest guests[GUESTS]; uint64_t ticks, lives, most; int is_wrong; };
 
 static const char *text_of(uint32_t code, uint8_t text[64]) {
     size_t len;
     return nog_text(code, text, 64, &len) == NOG_DONE ? (const char *)text : "?";
 }
 
+static uint32_t pid_of(const struct emulator *e, const struct guest *g) { return FIRST_PID + (uint32_t)(g - e->guests); }
+
 static void end_guest(struct emulator *e, struct guest *g) {
     g->life = ENDED;
-    (void)nog_exit(&e->memory, g->pid);
+    (void)nog_exit(&e->memory, pid_of(e, g));
 }
 
 /* what an access was answered: a refused one ends the guest */
 static void settle_access(struct emulator *e, struct guest *g, uint32_t code) {
     uint8_t text[64];
     if (code == NOG_DONE) return;
-    printf("guest %" PRIu32 " ends: %s\n", g->pid, text_of(code, text));
+    printf("guest %" PRIu32 " ends: %s\n", pid_of(e, g), text_of(code, text));
     end_guest(e, g);
 }
 
 static void load(struct emulator *e, struct guest *g, uint64_t *to, uint64_t addr) {
     uint8_t bytes[8] = {0};
-    settle_access(e, g, nog_load(&e->memory, g->pid, addr, bytes, sizeof bytes));
+    settle_access(e, g, nog_load(&e->memory, pid_of(e, g), addr, bytes, sizeof bytes));
     *to = 0;
     for (int i = 8; i-- > 0;) *to = *to << 8 | bytes[i];
 }
 
-/* the child goes on behind the fork, as its parent does */
+/* a child joins under the least pid that is free, and is forked at once; it goes on behind the fork, as its parent does */
 static uint32_t fork_guest(struct emulator *e, const struct guest *g, uint64_t *answer) {
-    for (int i = 0; i < GUESTS; i++) {
-        struct guest *child = &e->guests[i];
-        uint32_t pid = child->pid;
-        if (child->life != UNBORN) continue;
-        uint32_t code = nog_fork(&e->memory, g->pid, pid);
-        if (code != NOG_DONE) return code;
-        *child = *g;
-        child->pid = pid;
-        child->registers[A] = 0;
-        *answer = pid;
-        return NOG_DONE;
-    }
-    return NOG_EAGAIN;
+    uint64_t live = 1;
+    struct guest *child = e->guests;
+    for (int i = 0; i < GUESTS; i++) live += e->guests[i].life == RUNNING || e->guests[i].life == PAUSED;
+    while (child < e->guests + GUESTS && child->life != NONE) child++;
+    if (child == e->guests + GUESTS) return NOG_EAGAIN;
+    nog_process process = {.pid = pid_of(e, child)};
+    uint32_t code = nog_admit(&e->memory, &process);
+    if (code == NOG_DONE) code = nog_fork(&e->memory, pid_of(e, g), process.pid);
+    if (code != NOG_DONE) return code;
+    *child = *g;
+    child->registers[A] = 0;
+    *answer = process.pid;
+    e->lives++;
+    if (live > e->most) e->most = live;
+    return NOG_DONE;
 }
 
-/* a guest that waits makes its call again */
-static void wait_for(const struct emulator *e, struct guest *g, uint64_t pid) {
+/* a child that ended is forgotten, and its pid is free; a guest whose children all run makes its call again */
+static uint32_t wait_for_child(struct emulator *e, struct guest *g, uint64_t *answer) {
+    for (struct guest *child = e->guests + 1; child < e->guests + GUESTS; child++) {
+        if (child->life != ENDED) continue;
+        child->life = NONE;
+        *answer = pid_of(e, child);
+        return nog_dismiss(&e->memory, pid_of(e, child));
+    }
+    g->next--;
+    return NOG_DONE;
+}
+
+static void release(struct emulator *e) {
     for (int i = 0; i < GUESTS; i++)
-        if (e->guests[i].pid == pid && e->guests[i].life != ENDED) g->next--;
+        if (e->guests[i].life == PAUSED) e->guests[i].life = RUNNING;
+}
+
+/* what the segment shows before it goes: all children have detached, and its times are the guests' seconds */
+static void look(struct emulator *e) {
+    nog_segment s = {0};
+    uint64_t now = BOOTED + e->ticks / TICKS_A_SECOND;
+    e->is_wrong |= nog_segment_at(&e->memory, 0, &s) != NOG_DONE || s.size != SIZE || s.uid != USER || s.nattch != 1;
+    e->is_wrong |= s.ctime != BOOTED || s.dtime > now || s.dtime + 1 < now;
 }
 
 static uint32_t shared_memory_call(nog_machine *memory, uint32_t pid, const uint64_t *r, int64_t call, uint64_t *answer) {
@@ -115,13 +146,17 @@ static uint32_t shared_memory_call(nog_machine *memory, uint32_t pid, const uint
 
 static void system_call(struct emulator *e, struct guest *g, int64_t call) {
     uint64_t *r = g->registers, answer = 0;
-    uint32_t code = NOG_DONE;
+    uint32_t code = NOG_DONE, pid = pid_of(e, g);
     switch (call) {
+    case SHMRM: look(e); code = shared_memory_call(&e->memory, pid, r, call, &answer); break;
     case FORK: code = fork_guest(e, g, &answer); break;
-    case WAIT: wait_for(e, g, r[A]); answer = r[A]; break;
-    case WRITE: printf("guest %" PRIu32 " writes %" PRIu64 "\n", g->pid, r[A]); break;
+    case PAUSE: g->life = PAUSED; break;
+    case RELEASE: release(e); break;
+    case WAIT: code = wait_for_child(e, g, &answer); break;
+    case SETUID: code = nog_set_user(&e->memory, pid, (uint32_t)r[A], (uint32_t)r[A]); break;
+    case WRITE: printf("guest %" PRIu32 " writes %" PRId64 "\n", pid, (int64_t)r[A]); answer = r[A]; break;
     case EXIT: end_guest(e, g); break;
-    default: code = shared_memory_call(&e->memory, g->pid, r, call, &answer);
+    default: code = shared_memory_call(&e->memory, pid, r, call, &answer);
     }
     r[A] = code == NOG_DONE ? answer : (uint64_t)-(int64_t)code;
 }
@@ -134,49 +169,49 @@ static void run_instruction(struct emulator *e, struct guest *g) {
     case COPY: r[now.to] = r[now.from]; break;
     case ADD: r[now.to] += (uint64_t)now.from; break;
     case LOAD: load(e, g, &r[now.to], r[now.from]); break;
-    case COUNT: settle_access(e, g, nog_add(&e->memory, g->pid, r[now.from], r[now.to], &before)); break;
+    case COUNT: settle_access(e, g, nog_add(&e->memory, pid_of(e, g), r[now.from], r[now.to], &before)); break;
     case BRANCH: g->next = r[now.to] ? now.from : g->next; break;
     case SYSTEM: system_call(e, g, now.from); break;
     }
 }
 
-/* the guests take turns, an instruction each, until all have ended */
-static void run(struct emulator *e) {
-    int running = 1;
-    while (running) {
-        running = 0;
-        for (int i = 0; i < GUESTS; i++) {
-            if (e->guests[i].life != RUNNING) continue;
-            run_instruction(e, &e->guests[i]);
-            running = 1;
-        }
+/* the guests take turns, an instruction each, until the first has ended; the guests' clock tells the library seconds */
+static uint32_t run(struct emulator *e) {
+    while (e->guests[0].life == RUNNING) {
+        for (struct guest *g = e->guests; g < e->guests + GUESTS; g++)
+            if (g->life == RUNNING) run_instruction(e, g);
+        uint32_t code = nog_set_time(&e->memory, BOOTED + ++e->ticks / TICKS_A_SECOND);
+        if (code != NOG_DONE) return code;
     }
+    return NOG_DONE;
 }
 
-/* the first guest is born with the machine, each other one may be born by a fork */
+/* a machine for one guest, with room for many */
 static uint32_t start(struct emulator *e) {
-    const nog_limits limits = {.shmmax = 1 << 20, .shmmni = 16, .shmall = 256, .frames = 16, .memlock = 4};
-    const nog_area swap = {NOG_SPARSE, 256};
+    const nog_limits limits = {.shmmax = SIZE, .shmmni = 4096, .shmall = 1 << 20, .frames = 1 << 16, .memlock = 1 << 15,
+                               .most_pieces = 1024, .most_processes = GUESTS, .most_slots = 1 << 20};
+    const nog_area swap = {NOG_SPARSE, 1 << 20};
     const nog_failure none = {.call = 1};
-    nog_process processes[GUESTS];
-    for (uint32_t i = 0; i < GUESTS; i++) {
-        e->guests[i] = (struct guest){.pid = FIRST_PID + i, .life = i == 0 ? RUNNING : UNBORN};
-        processes[i] = (nog_process){.pid = FIRST_PID + i, .is_born = i == 0, .uid = 100, .gid = 100};
-    }
-    return nog_open(&e->memory, &limits, &swap, 1, &none, 0, processes, GUESTS);
+    const nog_process first = {.pid = FIRST_PID, .is_born = 1, .uid = USER, .gid = USER};
+    e->guests[0].life = RUNNING;
+    uint32_t code = nog_open(&e->memory, &limits, &swap, 1, &none, 0, &first, 1);
+    return code == NOG_DONE ? nog_set_time(&e->memory, BOOTED) : code;
 }
 
 int main(void) {
-    struct emulator e = {.memory = NOG_MACHINE_INITIALIZER};
-    nog_tally tally;
+    static struct emulator e = {.memory = NOG_MACHINE_INITIALIZER};
+    nog_tally tally = {0};
     uint8_t text[64];
     uint32_t code = start(&e);
-    if (code == NOG_DONE) {
-        run(&e);
-        code = nog_tally_of(&e.memory, &tally);
+    if (code == NOG_DONE) code = run(&e);
+    if (code == NOG_DONE) code = nog_tally_of(&e.memory, &tally);
+    if (code != NOG_DONE) {
+        fprintf(stderr, "emulator: %s\n", text_of(code, text));
+        nog_close(&e.memory);
+        return 1;
     }
-    if (code == NOG_DONE) printf("%" PRIu64 " calls, %" PRIu64 " segments are left\n", tally.events, tally.segments);
-    else fprintf(stderr, "emulator: %s\n", text_of(code, text));
+    printf("%" PRIu64 " lives, %" PRIu64 " at once, %" PRIu64 " segments are left\n", e.lives, e.most, tally.segments);
+    e.is_wrong |= e.lives != LIVES + 1 || e.most != GUESTS || tally.segments != 0;
     nog_close(&e.memory);
-    return code == NOG_DONE ? 0 : 1;
+    return e.is_wrong;
 }
