@@ -138,7 +138,7 @@ pub each-inserted : (es : List (ℕ × Runner)) (k : ℕ) (r : Runner) → r.spa
 each-inserted [] k r none zero = inr none
 each-inserted [] k r none (suc j) = inr refl
 each-inserted (e ∷ es) k r none zero =
-    elim (cases_Bool (nat_eq k e.0)) [ | inl same ↦ rw same (inr none) | inr other ↦ rw other (inl (0, refl)) ]
+    elim (cases_Bool (nat_eq k e.0)) [ inl same ↦ rw same (inr none) | inr other ↦ rw other (inl (0, refl)) ]
 each-inserted (e ∷ es) k r none (suc j) =
     elim (cases_Bool (nat_eq k e.0)) [
       | inl same ↦ rw same (inl (suc j, refl))
