@@ -4,6 +4,8 @@
 #[cfg(test)]
 mod boxes;
 #[cfg(test)]
+mod guests;
+#[cfg(test)]
 mod histories;
 #[cfg(test)]
 mod long;
