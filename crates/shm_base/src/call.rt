@@ -94,7 +94,7 @@ pub enum Call {
 }
 
 /// What `stat` shows of a segment (shmctl(2), IPC_STAT). A time is the place of a call in the history,
-/// counted from 1; 0 means never.
+/// counted from 1, or what the machine's host gave; 0 means never.
 #[derive(Clone, Copy, Debug, PartialEq, Eq)]
 pub struct ShmidDs {
     pub key: u32,
