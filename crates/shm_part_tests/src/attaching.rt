@@ -112,14 +112,20 @@ fn fork(spaces: &mut Spaces, child: u32) -> bool {
 
 fn execs(spaces: &mut Spaces, pid: u32, lost: &[u32]) -> bool {
     match spaces.caller(pid) {
-        Some(caller) => spaces.exec(&caller).as_slice() == lost,
+        Some(caller) => {
+            spaces.exec(&caller);
+            spaces.lost() == lost
+        }
         None => false,
     }
 }
 
 fn exits(spaces: &mut Spaces, pid: u32, lost: &[u32]) -> bool {
     match spaces.caller(pid) {
-        Some(caller) => spaces.exit(&caller).as_slice() == lost,
+        Some(caller) => {
+            spaces.exit(&caller);
+            spaces.lost() == lost
+        }
         None => false,
     }
 }

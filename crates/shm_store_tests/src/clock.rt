@@ -7,6 +7,7 @@ use shm_clock::victim;
 use shm_frames::{Frames, Looks};
 use std::alloc::Global;
 use std::process::Abort;
+use std::sync::atomic::{AtomicU64, Ordering};
 use std::test::Fail;
 
 fn may_go(frames: &Frames, frame: FrameNo, locked: u32, pinned: Option<FrameNo>) -> bool
@@ -37,13 +38,15 @@ fn some_unlocked(frames: &Frames, hand: FrameNo, locked: u32, pinned: Option<Fra
     false
 }
 
-// The victim among the frames whose segment is not the locked one, or none where there is none.
+// The victim among the frames whose segment is not the locked one, or none where there is none. Each page that is asked about
+// is counted.
 fn unlocked_victim(
     frames: &mut Frames,
     hand: &mut FrameNo,
     locked: u32,
     pinned: Option<FrameNo>,
     looks: &mut Looks,
+    asked: &AtomicU64,
 ) -> Option<FrameNo>
     requires hand { hand.old < length frames.old }
     requires countable { looks.old + length frames.old < 2 ^ 64 }
@@ -52,7 +55,10 @@ fn unlocked_victim(
     if !some_unlocked(frames, *hand, locked, pinned) {
         return None;
     }
-    let unlocked = move |page: PageRef| page.seg != locked;
+    let unlocked = move |page: PageRef| {
+        asked.fetch_add(1, Ordering::SeqCst);
+        page.seg != locked
+    };
     Some(victim(frames, hand, &unlocked, pinned, looks))
 }
 
@@ -81,6 +87,8 @@ struct Turn {
     bits: &'static [bool],
     stands: FrameNo,
     looks: u64,
+    /// The frames that the hand comes to: each page is asked about once at most.
+    asked: u64,
 }
 
 const TURNS: &[Turn] = &[
@@ -92,6 +100,7 @@ const TURNS: &[Turn] = &[
         bits: &[false, false],
         stands: 1,
         looks: 1,
+        asked: 1,
     },
     Turn {
         pages: &[(1, true), (2, false), (3, true)],
@@ -101,6 +110,7 @@ const TURNS: &[Turn] = &[
         bits: &[false, false, true],
         stands: 2,
         looks: 2,
+        asked: 2,
     },
     Turn {
         pages: &[(1, true), (2, true), (3, false), (4, true)],
@@ -110,6 +120,7 @@ const TURNS: &[Turn] = &[
         bits: &[false, false, false, false],
         stands: 3,
         looks: 4,
+        asked: 4,
     },
     Turn {
         pages: &[(1, true), (2, true), (3, true)],
@@ -119,6 +130,7 @@ const TURNS: &[Turn] = &[
         bits: &[false, false, false],
         stands: 0,
         looks: 3,
+        asked: 3,
     },
     Turn {
         pages: &[(9, true), (1, true), (2, true), (3, true)],
@@ -128,6 +140,7 @@ const TURNS: &[Turn] = &[
         bits: &[true, false, false, true],
         stands: 2,
         looks: 2,
+        asked: 4,
     },
     Turn {
         pages: &[(9, false), (1, false)],
@@ -137,6 +150,7 @@ const TURNS: &[Turn] = &[
         bits: &[false, false],
         stands: 0,
         looks: 0,
+        asked: 0,
     },
 ];
 
@@ -159,9 +173,10 @@ fn ends_so(frames: &mut Frames, turn: &Turn) -> bool {
     if hand >= frames.count() || frames.count() > 8 {
         return false;
     }
-    let mut looks = Looks::new();
-    let victim = unlocked_victim(frames, &mut hand, 9, turn.pinned, &mut looks);
+    let (mut looks, asked) = (Looks::new(), AtomicU64::new(0));
+    let victim = unlocked_victim(frames, &mut hand, 9, turn.pinned, &mut looks, &asked);
     victim == turn.victim
+        && asked.load(Ordering::SeqCst) <= turn.asked
         && hand == turn.stands
         && looks.count() == turn.looks
         && has_bits(frames, turn.bits)
