@@ -216,8 +216,11 @@ fn texts_of_refused_starts(rt: HostRuntime) -> Result<(), Fail> {
     let alloc = rt.alloc();
     for (error, text) in [
         (StartError::Areas, "not 1 to 8 swap areas"),
-        (StartError::AreaSize, "a swap area without 1 to 65536 slots"),
-        (StartError::Processes, "more than 64 processes"),
+        (
+            StartError::AreaSize,
+            "a swap area without slots, or with too many",
+        ),
+        (StartError::Processes, "too many processes"),
         (StartError::Pid, "a pid out of range, or twice"),
         (StartError::HostMemory, "out of memory"),
     ] {
