@@ -50,7 +50,7 @@ class Failure:
 
 @dataclass(frozen=True)
 class Area:
-    """A swap area of 1 to 65536 slots: make it by `ram`, `sparse` or `mirror`."""
+    """A swap area: make it by `ram`, `sparse` or `mirror`. It has 1 to as many slots as the limits allow, 65536 in the profile."""
     kind: int
     slots: int
     failures: Sequence[Failure] = ()
