@@ -17,7 +17,8 @@ class Machine(Structure):
 
 
 class Limits(Structure):
-    _fields_ = [(name, c_uint64) for name in ("shmmax", "shmmni", "shmall", "frames", "memlock")]
+    _fields_ = [(name, c_uint64) for name in ("shmmax", "shmmni", "shmall", "frames", "memlock",
+                                              "most_pieces", "most_processes", "most_slots")]
 
 
 class Area(Structure):

@@ -86,7 +86,7 @@ static void test_limits(nog_machine *m) {
         {{1, 1, 0, 0, 9, 0, 0, 0}, NOG_BAD_SHMALL}, {{1, 1, 65537, 2, 0, 0, 0, 0}, NOG_BAD_SHMALL},
         {{1, 1, 1, 1, 9, 0, 0, 0}, NOG_BAD_FRAMES}, {{1, 1, 1, 4097, 0, 0, 0, 0}, NOG_BAD_FRAMES},
         {{1, 1, 1, 2, 1, 0, 0, 0}, NOG_BAD_MEMLOCK}, {{1, 1, 1, 4096, UINT64_MAX, 0, 0, 0}, NOG_BAD_MEMLOCK},
-        {{1, 1, 1, 2, 0, 1, 3, 1}, NOG_DONE}, {{0, 0, 0, 0, 9, 0, 0, 1}, NOG_BAD_SHMMAX},
+        {{1, 1, 1, 2, 0, 1, 3, 64}, NOG_DONE}, {{0, 0, 0, 0, 9, 0, 0, 1}, NOG_BAD_SHMMAX},
         {{1, 0, 0, 0, 9, 0, 0, 1}, NOG_BAD_SHMMNI}, {{1, 1, 0, 0, 9, 0, 0, 1}, NOG_BAD_SHMALL},
         {{1, 1, 1, 1, 9, 0, 0, 1}, NOG_BAD_FRAMES}, {{1, 1, 1, 2, 1, 0, 0, 1}, NOG_BAD_MEMLOCK},
         {{1, 1, 1, 2, 0, 0, 0, 1}, NOG_BAD_MOST_PIECES}, {{1, 1, 1, 2, 0, 1, 0, 0}, NOG_BAD_MOST_PROCESSES},
@@ -431,8 +431,8 @@ static void test_table(nog_machine *m) {
 
 static void test_texts(void) {
     static const uint32_t codes[] = {0, 1, 2, 3, 5, 11, 12, 13, 17, 22, 24, 28, 43, 1007, 1011, 2001, 2002, 2003, 2004,
-        2011, 2012, 2013, 2014, 2015, 2021, 2022, 2023, 2024};
-    static const uint32_t no_codes[] = {4, 44, 1008, 2000, 2005, 2010, 2016, 2020, 2025, UINT32_MAX};
+        2011, 2012, 2013, 2014, 2015, 2016, 2017, 2018, 2021, 2022, 2023, 2024, 2031, 2032, 2033, 2041, 2042};
+    static const uint32_t no_codes[] = {4, 44, 1008, 2000, 2005, 2010, 2019, 2020, 2025, 2030, 2034, 2040, 2043, UINT32_MAX};
     uint8_t text[64], cut[3];
     size_t len, again;
     for (size_t i = 0; i < sizeof codes / sizeof *codes; i++) {
