@@ -33,7 +33,7 @@ impl Spaces {
     }
 
     /// A process joins, with no piece: the new one takes the place of an ended one that has its pid, and no memory
-    /// then; else it stands behind the others, of which there may be so many, and takes its room. Out of memory
+    /// then; else it comes behind the others, of which there may be `most`, and takes its room. Out of memory
     /// changes nothing, and comes only where nothing is refused.
     pub fn admit(
         &mut self,

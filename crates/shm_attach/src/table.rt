@@ -65,7 +65,7 @@ impl Table {
         self.count
     }
 
-    /// Goes on to this many pages, each further one as it is in the store.
+    /// Has this many pages then, each further one as it is in the store.
     pub(crate) fn extend<P: Pager>(
         &mut self,
         store: &PageStore<P>,

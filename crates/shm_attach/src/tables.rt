@@ -79,7 +79,7 @@ impl Tables {
         }
     }
 
-    // A table goes on to this many pages of its segment.
+    // A table has this many pages of its segment then.
     fn extend<P: Pager>(
         &mut self,
         store: &PageStore<P>,

@@ -154,7 +154,7 @@ impl Frames {
     ghost use Rattle.shm_frames.specs.Lends.{lends_bytes};
     ghost use Rattle.shm_base.specs.declared.paging.TheConstants.{PAGE_BYTES};
 
-    /// So many free frames. Memory for all of them is reserved here, once and for all, and none of it is touched.
+    /// This many free frames. Memory for all of them is reserved here, once and for all, and none of it is touched.
     pub fn new(alloc: Global, count: u32) -> Result<Frames, HostMemory>
         ensures size { IfOk result (λ frames. length frames ≡ count) }
         ensures free { IfOk result (λ frames. (i : ℕ) → IsFrameBlank frames i) }
