@@ -192,9 +192,9 @@ enum nog_key { NOG_PRIVATE = 0 };
 /* ---- a machine ---- */
 
 /* Opens a machine: with 1 to 8 swap areas, numbered from 0 in their order, the calls of them that fail, and as many
-   processes as the limits allow, children included. What is not used yet takes no memory of the host but for the room that
-   is kept for it. A handle that is open is opened anew: its machine before is closed where the new one
-   stands, and stays where it does not. The first of these that holds is answered:
+   processes as the limits allow, children included. Room for frames and pieces, and for slots of NOG_SPARSE, is reserved and
+   not touched. A handle that is open is opened anew: its machine before is closed where the new one stands, and stays where
+   it does not. The first of these that holds is answered:
    NOG_BAD_SHMMAX to NOG_BAD_MOST_SLOTS: the first limit that is out of its range.
    NOG_OUT_OF_RANGE: a kind is none; a failure's area or side is not there, or its call is 0.
    NOG_BAD_AREAS, NOG_BAD_AREA_SIZE, NOG_BAD_PROCESSES, NOG_BAD_PID: the first of these.
