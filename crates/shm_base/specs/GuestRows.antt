@@ -1,11 +1,11 @@
 -- Worked rows: what a host changes between calls, and what the calls answer then.
-use Rattle.std.specs.Prelude.{◌≡◌, ℕ, List, [], ◌∷◌, Option, Some, None, Result, Ok, Err}
+use Rattle.std.specs.Prelude.{ℤ, pos, ◌≡◌, ℕ, ◌*◌, ◌+◌, ◌-◌, ◌^◌, Bool, true, false, List, [], ◌∷◌, Option, Some, None, Result, Ok, Err}
 use Rattle.shm_base.specs.declared.owner.Cred.{Cred}
 use Rattle.shm_base.specs.declared.errno.Errno.{Errno}
-use Rattle.shm_base.specs.declared.errno.Errno.TheVariants.{Esrch, Eacces, Eagain, Sigsegv}
+use Rattle.shm_base.specs.declared.errno.Errno.TheVariants.{Esrch, Eacces, Eagain, Einval, Enomem, Eidrm, Sigsegv}
 use Rattle.shm_base.specs.declared.call.Event.{Event}
 use Rattle.shm_base.specs.declared.call.Process.{Process}
-use Rattle.shm_base.specs.declared.call.Call.TheVariants.{Shmdt, Fork, Exit, Load}
+use Rattle.shm_base.specs.declared.call.Call.TheVariants.{Shmdt, Rmid, Fork, Exit, Load, Store}
 use Rattle.shm_base.specs.declared.call.Reply.TheVariants.{Addr, Bytes, Done, Refused}
 use Rattle.shm_base.specs.declared.guest.AdmitRefusal.{AdmitRefusal}
 use Rattle.shm_base.specs.declared.guest.AdmitRefusal.TheVariants.{BadPid, PidTaken, TooManyProcesses}
@@ -15,7 +15,8 @@ use Rattle.shm_base.specs.Bounds.{profile}
 use Rattle.shm_base.specs.State.{Machine, start_of}
 use Rattle.shm_base.specs.Step.{step}
 use Rattle.shm_base.specs.Guest.{admits, dismisses, recredits}
-use Rattle.shm_base.specs.Rows.{does, id, mode, shmget, shmat, stat, shows, process, child, of_processes}
+use Rattle.shm_base.specs.Mapping.{unmaps, protects}
+use Rattle.shm_base.specs.Rows.{does, id, mode, rdonly, shmget, shmat, stat, shows, process, child, of_processes}
 
 -- a call at a time, or a change by the host, with its reply or its refusal
 pub data Deed : Type 0 where
@@ -23,6 +24,8 @@ pub data Deed : Type 0 where
   Admits : (process : Process) → (refusal : Option AdmitRefusal) → Deed
   Dismisses : (pid : ℕ) → (refusal : Option DismissRefusal) → Deed
   Becomes : (pid : ℕ) → (cred : Cred) → (refusal : Option Errno) → Deed
+  Unmaps : (n : ℕ) → (pid : ℕ) → (addr : ℕ) → (len : ℕ) → (refusal : Option Errno) → Deed
+  Protects : (pid : ℕ) → (addr : ℕ) → (len : ℕ) → (w : Bool) → (refusal : Option Errno) → Deed
 
 abbrev pub refusal_of : {E : Type 0} → Result Machine E → Option E
 refusal_of (Ok s) = None
@@ -38,12 +41,16 @@ answered s (At n e) = At n (record e { reply = (step s n e.pid e.call).reply })
 answered s (Admits p refusal) = Admits p (refusal_of (admits s p))
 answered s (Dismisses pid refusal) = Dismisses pid (refusal_of (dismisses s pid))
 answered s (Becomes pid cred refusal) = Becomes pid cred (refusal_of (recredits s pid cred))
+answered s (Unmaps n pid addr len refusal) = Unmaps n pid addr len (refusal_of (unmaps s n pid addr len))
+answered s (Protects pid addr len w refusal) = Protects pid addr len w (protects s pid addr len w).refusal
 
 abbrev pub after : Machine → Deed → Machine
 after s (At n e) = (step s n e.pid e.call).state
 after s (Admits p refusal) = state_of s (admits s p)
 after s (Dismisses pid refusal) = state_of s (dismisses s pid)
 after s (Becomes pid cred refusal) = state_of s (recredits s pid cred)
+after s (Unmaps n pid addr len refusal) = state_of s (unmaps s n pid addr len)
+after s (Protects pid addr len w refusal) = (protects s pid addr len w).state
 
 abbrev pub all_answered : Machine → List Deed → List Deed
 all_answered s [] = []
@@ -137,4 +144,102 @@ TimeRow =
     ∷ At 1700000000 (does 1 (stat 0) (shows 0 4096 1 1 1700000000 0))
     ∷ At 1600000000 (does 1 (Shmdt 0x40000000) Done)
     ∷ At 1600000001 (does 1 (stat 0) (shows 0 4096 1 0 1700000000 1600000000))
+    ∷ [])
+
+-- PARTS OF AN ATTACH
+
+-- how many pages those are in bytes
+abbrev pub bytes_in : ℕ → ℕ
+bytes_in pages = 4096 * pages
+
+-- eight pages are attached, by a process that may have this many pieces
+abbrev pub eight_pages : ℕ → Machine
+eight_pages most =
+    after
+    (after (record (of_processes (process 1 100 100 ∷ [])) { limits = record (profile 65536 16 64 4 1) { most_pieces = most } })
+    (At 1 (does 1 (shmget 0 32768 (mode 6 0 0) 0) (id 0))))
+    (At 2 (does 1 (shmat 0 0x50000000 0) (Addr 0x50000000)))
+
+-- Parts with another protection are pieces of their own. A border moves where a part joins its neighbour, and whole pieces
+-- do not
+abbrev pub ProtectRow : Type 0
+ProtectRow =
+    Go (eight_pages 256)
+    (Protects 1 0x50001000 (bytes_in 2) false None
+    ∷ At 3 (does 1 (stat 0) (shows 0 32768 1 3 2 0))
+    ∷ At 4 (does 1 (Store 0x50001000 (7 ∷ [])) (Refused Sigsegv))
+    ∷ At 5 (does 1 (Load 0x50001000 1) (Bytes (0 ∷ [])))
+    ∷ Protects 1 0x50001000 (bytes_in 1) true None
+    ∷ At 6 (does 1 (stat 0) (shows 0 32768 1 3 2 0))
+    ∷ At 7 (does 1 (Store 0x50001FFF (7 ∷ [])) Done)
+    ∷ At 8 (does 1 (Store 0x50002000 (7 ∷ [])) (Refused Sigsegv))
+    ∷ Protects 1 0x50001000 (bytes_in 2) true None
+    ∷ At 9 (does 1 (stat 0) (shows 0 32768 1 3 2 0))
+    ∷ At 10 (does 1 (Store 0x50002000 (7 ∷ [])) Done)
+    ∷ Protects 1 0x50000000 (bytes_in 8) false None
+    ∷ At 11 (does 1 (stat 0) (shows 0 32768 1 3 2 0))
+    ∷ Protects 1 0x50006000 1 true None
+    ∷ At 12 (does 1 (stat 0) (shows 0 32768 1 5 2 0))
+    ∷ Protects 1 0x50005000 (bytes_in 1) true None
+    ∷ At 13 (does 1 (stat 0) (shows 0 32768 1 5 2 0))
+    ∷ Protects 1 0x50007000 (bytes_in 1) false None
+    ∷ At 14 (does 1 (Shmdt 0x50000000) Done)
+    ∷ At 15 (does 1 (stat 0) (shows 0 32768 1 0 2 14))
+    ∷ [])
+
+-- what is below a hole, or below a piece that may not be written, was changed by then
+abbrev pub StoppedRow : Type 0
+StoppedRow =
+    Go (eight_pages 256)
+    (Protects 1 0x50000800 0 false (Some Einval)
+    ∷ Protects 1 0x50000000 0 false None
+    ∷ Protects 1 0x60000000 1 false (Some Enomem)
+    ∷ Protects 1 0x50000000 (2 ^ 64 - 1) false (Some Enomem)
+    ∷ Protects 2 0x50000000 1 false (Some Esrch)
+    ∷ At 3 (does 1 (stat 0) (shows 0 32768 1 1 2 0))
+    ∷ Protects 1 0x50000000 (bytes_in 9) false (Some Enomem)
+    ∷ At 4 (does 1 (Store 0x50007000 (7 ∷ [])) (Refused Sigsegv))
+    ∷ Protects 1 0x50000000 (bytes_in 8) true None
+    ∷ Protects 1 0x50004000 (bytes_in 4) false None
+    ∷ At 5 (does 1 (shmat 0 0x50008000 rdonly) (Addr 0x50008000))
+    ∷ At 6 (does 1 (stat 0) (shows 0 32768 1 3 5 0))
+    ∷ Protects 1 0x50006000 (bytes_in 4) true (Some Eacces)
+    ∷ At 7 (does 1 (stat 0) (shows 0 32768 1 4 5 0))
+    ∷ At 8 (does 1 (Store 0x50005FFF (7 ∷ [])) (Refused Sigsegv))
+    ∷ At 9 (does 1 (Store 0x50006000 (7 ∷ [])) Done)
+    ∷ At 10 (does 1 (Store 0x50008000 (7 ∷ [])) (Refused Sigsegv))
+    ∷ [])
+
+-- a range is unmapped, and a marked segment goes with its last piece
+abbrev pub UnmapRow : Type 0
+UnmapRow =
+    Go (eight_pages 256)
+    (Unmaps 3 1 0x50000800 4096 (Some Einval)
+    ∷ Unmaps 4 1 0x50000000 0 (Some Einval)
+    ∷ Unmaps 5 1 0x7FFFFFFFE000 8192 (Some Einval)
+    ∷ Unmaps 6 2 0x50000000 4096 (Some Esrch)
+    ∷ Unmaps 7 1 0x60000000 4096 None
+    ∷ At 8 (does 1 (stat 0) (shows 0 32768 1 1 2 0))
+    ∷ Unmaps 9 1 0x50001000 1 None
+    ∷ At 10 (does 1 (stat 0) (shows 0 32768 1 2 2 9))
+    ∷ At 11 (does 1 (Load 0x50001000 1) (Refused Sigsegv))
+    ∷ At 12 (does 1 (Load 0x50002000 1) (Bytes (0 ∷ [])))
+    ∷ At 13 (does 1 (Rmid (pos 0)) Done)
+    ∷ Unmaps 14 1 0x4FFFF000 (bytes_in 2) None
+    ∷ At 15 (does 1 (stat 0) (shows 512 32768 1 1 2 14))
+    ∷ Unmaps 16 1 0x50001001 4096 (Some Einval)
+    ∷ Unmaps 16 1 0x50001000 (bytes_in 7) None
+    ∷ At 17 (does 1 (stat 0) (Refused Eidrm))
+    ∷ [])
+
+-- with two pieces at most the middle of one is neither unmapped nor protected
+abbrev pub FewPiecesRow : Type 0
+FewPiecesRow =
+    Go (eight_pages 2)
+    (Protects 1 0x50001000 (bytes_in 1) false (Some Enomem)
+    ∷ At 3 (does 1 (stat 0) (shows 0 32768 1 1 2 0))
+    ∷ At 4 (does 1 (Store 0x50001000 (7 ∷ [])) Done)
+    ∷ Unmaps 5 1 0x50001000 (bytes_in 1) None
+    ∷ Unmaps 6 1 0x50003000 (bytes_in 1) (Some Enomem)
+    ∷ At 7 (does 1 (stat 0) (shows 0 32768 1 2 2 5))
     ∷ [])
