@@ -20,8 +20,8 @@
    function names the codes that come beside these three: first NOG_OUT_OF_RANGE, which comes before any other code, then
    those of errno(3), of which the first that holds comes, last NOG_NO_MEMORY, which comes in place of 0.
 
-   POINTERS are never null, also where a count or a length beside them is 0, and point to as much as the types and counts
-   say. No two of a call overlap. Nothing that is handed in is kept: arrays, buffers and outputs are the caller's.
+   POINTERS point to as much as the types and the counts or lengths beside them say. A pointer may be null where its count
+   or length is 0, and nowhere else. No two of a call overlap. Nothing that is handed in is kept: arrays, buffers and outputs are the caller's.
 
    THREADS. One thread at a time calls for a machine; two machines may be used by two threads at once. */
 #ifndef NOGCUVEMA_H

@@ -80,12 +80,35 @@ static void test_kinds(nog_machine *m) {
     TEST(NOG_RAM == 1 && NOG_SPARSE == 2 && NOG_MIRROR == 3);
 }
 
+/* a null pointer beside a count or a length of 0 is as any other */
+static void test_nulls(nog_machine *m) {
+    uint64_t done = 7, at = 0;
+    size_t len = 0;
+    int32_t id = -1;
+    ANSWER(nog_open(m, &limits, NULL, 0, NULL, 0, NULL, 0), NOG_BAD_AREAS);
+    ANSWER(nog_open(m, &limits, &ram, 1, NULL, 0, NULL, 0), NOG_DONE);
+    ANSWER(nog_get(m, ROOT, NOG_PRIVATE, PAGE, 0600, 0, &id), NOG_ESRCH);
+    ANSWER(nog_open(m, &limits, &ram, 1, NULL, 0, processes, 3), NOG_DONE);
+    ANSWER(nog_get(m, ROOT, NOG_PRIVATE, PAGE, 0600, 0, &id), NOG_DONE);
+    ANSWER(nog_attach(m, ROOT, id, 0, 0, &at), NOG_DONE);
+    ANSWER(nog_load(m, ROOT, at, NULL, 0), NOG_OUT_OF_RANGE);
+    ANSWER(nog_store(m, ROOT, at, NULL, 0), NOG_OUT_OF_RANGE);
+    ANSWER(nog_read(m, ROOT, at, NULL, 0, &done), NOG_DONE);
+    TEST(done == 0);
+    done = 7;
+    ANSWER(nog_write(m, ROOT, at, NULL, 0, &done), NOG_DONE);
+    TEST(done == 0);
+    ANSWER(nog_text(NOG_EINVAL, NULL, 0, &len), NOG_DONE);
+    TEST(len == 6);
+}
+
 int main(void) {
     nog_machine machine = NOG_MACHINE_INITIALIZER;
     test_texts();
     test_same();
     test_flags(&machine);
     test_kinds(&machine);
+    test_nulls(&machine);
     ANSWER(nog_close(&machine), NOG_DONE);
     return finish("numbers");
 }

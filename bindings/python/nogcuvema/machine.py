@@ -157,13 +157,12 @@ class Machine:
         self._machine = low.MachineStruct()
         limits, areas, processes = limits or Limits(), list(areas), list(processes)
         failures = [(place, failure) for place, area in enumerate(areas) for failure in area.failures]
-        # no pointer is null: an empty list has room for one
-        their_areas = (low.AreaStruct * max(1, len(areas)))(
+        their_areas = (low.AreaStruct * len(areas))(
             *((_number(it.kind, U32, "kind"), _number(it.slots, U32, "slots")) for it in areas))
-        their_failures = (low.FailureStruct * max(1, len(failures)))(
+        their_failures = (low.FailureStruct * len(failures))(
             *((place, _number(it.side, U32, "side"), int(it.is_write), 0, _number(it.call, U64, "call"))
               for place, it in failures))
-        their_processes = (low.ProcessStruct * max(1, len(processes)))(
+        their_processes = (low.ProcessStruct * len(processes))(
             *((_number(it.pid, U32, "pid"), int(it.is_born), _number(it.uid, U32, "uid"), _number(it.gid, U32, "gid"))
               for it in processes))
         their_limits = low.LimitsStruct(*(_number(getattr(limits, name), U64, name) for name, _ in low.LimitsStruct._fields_))

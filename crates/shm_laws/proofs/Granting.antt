@@ -16,7 +16,7 @@ use Rattle.shm_base.specs.declared.call.Reply.TheVariants as replies
 -- PARTS
 
 part_refl : (p : Piece) → IsPart p p
-part_refl p = record { seg = refl; writable = refl; pages = refl; from = omega arith; to = omega arith }
+part_refl p = record { seg = refl; writable = refl; may_write = refl; pages = refl; from = omega arith; to = omega arith }
 
 module _ (from to : ℕ) (page_from : from % 4096 ≡ 0) (page_to : to % 4096 ≡ 0) where
   below-parts : (p : Piece) → IsAligned p → meets from to p ≡ true → All (λ q. IsPart q p) (part_below from p)
@@ -89,7 +89,7 @@ module _ (s : Machine) (pid : ℕ) (c : Caller) (is : caller_of s pid ≡ Some c
     given-attaches : Attaches s c call o → AllGiven s e o.state.runners
     given-attaches k = rw k.runners (given-set c.index (record { pid = c.pid; life = Live c.cred; pieces = pieces_with c k.seg k.segment k.flags k.base }) own)
       where
-        new : IsPieceGiven s e pid (record { base = k.base; seg = k.seg; first_page = 0; pages = pages_in k.segment; writable = not (is_rdonly k.flags) })
+        new : IsPieceGiven s e pid (new_piece k.seg k.base (pages_in k.segment) (not (is_rdonly k.flags)))
         new =
             inr (inr (record {
               own = refl;
@@ -98,6 +98,7 @@ module _ (s : Machine) (pid : ℕ) (c : Caller) (is : caller_of s pid ≡ Some c
               call = k.asked;
               reply = k.answer;
               asked = refl;
+              may_write = refl;
               caller = c;
               live = is;
               segment = k.segment;

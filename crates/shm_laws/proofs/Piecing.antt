@@ -53,7 +53,7 @@ module _ (s : Machine) (c : Caller) (mine : (id : ℕ) → attach_count s.runner
     where
       own : (j : ℕ) → attach_count s.runners j ≡ 0 → (pieces_of j (pieces_with c k.seg k.segment k.flags k.base) ≡ 0) ⊎ ((y : Segment) × Stands s j y)
       own j none =
-          let piece : Piece = record { base = k.base; seg = k.seg; first_page = 0; pages = pages_in k.segment; writable = not (is_rdonly k.flags) } in
+          let piece : Piece = new_piece k.seg k.base (pages_in k.segment) (not (is_rdonly k.flags)) in
           let left = cut-none j k.base (k.base + 4096 * pages_in k.segment) c.pieces (mine j none) in
           let more = pieces_of-inserted j piece (cut k.base (k.base + 4096 * pages_in k.segment) c.pieces) in
           elim (cases_eq k.seg j) [

@@ -43,7 +43,7 @@ abbrev upto : ℕ → Piece → Piece
 upto from p = record p { pages = (from - p.base) / 4096 }
 
 abbrev beyond : ℕ → Piece → Piece
-beyond to p = record { base = to; seg = p.seg; first_page = p.first_page + (to - p.base) / 4096; pages = (end_of p - to) / 4096; writable = p.writable }
+beyond to p = record { base = to; seg = p.seg; first_page = p.first_page + (to - p.base) / 4096; pages = (end_of p - to) / 4096; writable = p.writable; may_write = p.may_write }
 
 set-upto : (from : ℕ) (p : Piece) → IsSet p → from % 4096 ≡ 0 → p.base < from → from ≤ end_of p → IsSet (upto from p)
 set-upto from p set e lt le = grind (arith, common_steps, whole)
@@ -129,7 +129,7 @@ module _ (s : Machine) (pid : ℕ) (c : Caller) (is : caller_of s pid ≡ Some c
 
   module _ (call : Call) (o : Outcome) (k : Attaches s c call o) where
     abbrev new : Piece
-    new = record { base = k.base; seg = k.seg; first_page = 0; pages = pages_in k.segment; writable = not (is_rdonly k.flags) }
+    new = new_piece k.seg k.base (pages_in k.segment) (not (is_rdonly k.flags))
 
     abbrev left : List Piece
     left = cut k.base (k.base + 4096 * pages_in k.segment) c.pieces

@@ -20,10 +20,11 @@ use Rattle.shm_base.specs.History.{is_refusal, IsHistory}
 use Rattle.shm_laws.specs.Standing.{Stands, HasPiece, EachPiece, EachMove, Always}
 use Rattle.shm_base.specs.declared.paging.TheConstants.{PAGE_SIZE}
 
--- p is a part of q: it has at each of its addresses the page that q has there, and is as writable
+-- p is a part of q: it has at each of its addresses the page that q has there, and is as writable, now and ever
 pub record IsPart (p q : Piece) : Type 0 where
   pub seg : p.seg ≡ q.seg
   pub writable : p.writable ≡ q.writable
+  pub may_write : p.may_write ≡ q.may_write
   pub pages : p.base + PAGE_SIZE * q.first_page ≡ q.base + PAGE_SIZE * p.first_page
   pub from : q.base ≤ p.base
   pub to : end_of p ≤ end_of q
@@ -37,6 +38,7 @@ pub record IsGranted (s : Machine) (e : Event) (pid : ℕ) (p : Piece) : Type 0 
   pub call : e.call ≡ Shmat (pos p.seg) addr flags
   pub reply : e.reply ≡ Addr p.base
   pub asked : p.writable ≡ not (is_rdonly flags)
+  pub may_write : p.may_write ≡ p.writable
   pub caller : Caller
   pub live : caller_of s pid ≡ Some caller
   pub segment : Segment

@@ -121,7 +121,7 @@ abbrev pub pieces_now : Opening → List Event → ℕ → ℕ → Option (List 
 pieces_now o events n k = option_map (λ (r : Runner). r.pieces) (slice_get (after o events n).runners k)
 
 abbrev pub read_only : Piece
-read_only = record { base = 0x40000000; seg = 0; first_page = 0; pages = 1; writable = false }
+read_only = new_piece 0 0x40000000 1 false
 
 -- it is legal; nobody has a piece before the shmat that was granted; the child has the piece of its parent, as read-only
 -- as that, and to the end
@@ -235,7 +235,7 @@ one_remaps =
     ∷ []
 
 abbrev pub page_of : ℕ → ℕ → Piece
-page_of segment base = record { base = base; seg = segment; first_page = 0; pages = 1; writable = true }
+page_of segment base = new_piece segment base 1 true
 
 -- it is legal, and the process has the first page of segment 0, and after it the one of segment 1
 abbrev pub SpacesWorked : Type 0

@@ -6,6 +6,7 @@ mod exec_exit;
 mod fork;
 mod guest;
 mod kernel;
+mod listing;
 mod shmat;
 mod shmctl;
 mod shmdt;
@@ -16,5 +17,6 @@ mod swapoff;
 mod sweep;
 mod system;
 
+pub use listing::ShmInfo;
 pub use start::{StartError, first_area_error};
 pub use system::{Opening, System};

@@ -1,0 +1,67 @@
+//! What ipcs(1) asks of a system: the highest index that a segment holds, sums over all segments, and the segment at an
+//! index as a process may see it. None of it changes anything.
+ghost use Rattle.std.specs.Prelude.{◌≡◌, ℕ};
+ghost use Rattle.shm_life.specs.Listed.{IsHighest, Sums, stat_at};
+
+use crate::system::System;
+use shm_base::{Errno, ShmId, ShmidDs, Want, grants};
+use shm_pager::Pager;
+
+/// Sums over all segments (SHM_INFO of shmctl(2)). Pages have 4,096 bytes each.
+#[derive(Clone, Copy, Debug, PartialEq, Eq)]
+pub struct ShmInfo {
+    /// How many segments exist, those marked for removal among them.
+    pub used_ids: u64,
+    /// The pages of all segments (shm_tot).
+    pub pages: u64,
+    /// Those that are in frames (shm_rss).
+    pub resident: u64,
+    /// Those that are in slots alone (shm_swp).
+    pub swapped: u64,
+}
+
+impl<P: Pager> System<P> {
+    /// The highest index that a segment holds, 0 where there is none: what shmctl(2) returns for IPC_INFO and SHM_INFO.
+    pub fn highest_index(&self) -> u32
+        ensures { IsHighest self.now.machine.table result }
+    {
+        let mut index = self.indexes();
+        while index > 0 {
+            index -= 1;
+            if self.kernel.segments.at(index).is_some() {
+                return index;
+            }
+        }
+        0
+    }
+
+    /// Sums over all segments (SHM_INFO). The limits that IPC_INFO shows are [`System::limits`].
+    pub fn info(&self) -> ShmInfo
+        ensures { Sums self.now.machine self.now.memory result }
+    {
+        let pages = self.store().tally();
+        ShmInfo {
+            used_ids: self.kernel.segments.count(),
+            pages: self.kernel.segments.reserved(),
+            resident: pages.resident,
+            swapped: self.store().swapped(),
+        }
+    }
+
+    /// The segment at an index as a process may see it (SHM_STAT). Esrch where the process is not live; Einval where no
+    /// segment holds the index; Eacces without read permission. Without that test it is [`System::segment`] (SHM_STAT_ANY).
+    pub fn stat_at(&self, pid: u32, index: u32) -> Result<(ShmId, ShmidDs), Errno>
+        ensures { result ≡ stat_at self.now.machine pid index }
+    {
+        let caller = self.kernel.spaces.caller(pid).ok_or(Errno::Esrch)?;
+        let found = self.kernel.segments.at(index).ok_or(Errno::Einval)?;
+        let want = Want {
+            read: true,
+            write: false,
+        };
+        if !grants(&caller.cred, &found.head.perm, want) {
+            return Err(Errno::Eacces);
+        }
+        Ok((found.id, self.kernel.shown(&found)))
+    }
+}
