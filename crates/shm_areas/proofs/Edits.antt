@@ -71,7 +71,7 @@ abbrev pub upto : ℕ → flat.Piece → flat.Piece
 upto from p = record p { pages = (from - p.base) / 4096 }
 
 abbrev pub beyond : ℕ → flat.Piece → flat.Piece
-beyond to p = record { base = to; seg = p.seg; first_page = p.first_page + (to - p.base) / 4096; pages = (end_of p - to) / 4096; writable = p.writable }
+beyond to p = record p { base = to; first_page = p.first_page + (to - p.base) / 4096; pages = (end_of p - to) / 4096 }
 
 pub fit_upto : (from : ℕ) (p : flat.Piece) → IsFit p → from % 4096 ≡ 0 → p.base < from → from ≤ end_of p → IsFit (upto from p)
 fit_upto from p fit e lt le = grind (arith, common_steps, whole)

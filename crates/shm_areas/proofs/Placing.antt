@@ -5,7 +5,7 @@ use Rattle.shm_base.specs.State as flat
 
 -- what a list answers past its end
 abbrev pub nothing : Piece
-nothing = record { base = 0; seg = 0; first_page = 0; pages = 0; writable = false; key = 0 }
+nothing = record { base = 0; seg = 0; first_page = 0; pages = 0; writable = false; may_write = false; key = 0 }
 
 pub low_bound : (low : ℕ) (ps : List Piece) (j : ℕ) (d : Piece) → Arranged low (bare_all ps) → j < length ps → low ≤ (get_or ps j d).base
 low_bound low [] j d ar lt = absurd (omega arith)

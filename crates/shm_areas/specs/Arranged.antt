@@ -1,7 +1,7 @@
 -- What the stored pieces of a process show, and how they lie.
-use Rattle.std.specs.Prelude.{◌≡◌, ℕ, ◌+◌, ◌%◌, ◌≤◌, ◌<◌, List, [], ◌∷◌, length, map, find, Option, ⊤}
+use Rattle.std.specs.Prelude.{◌≡◌, ℕ, ◌+◌, ◌%◌, ◌≤◌, ◌<◌, List, [], ◌∷◌, length, map, ⊤}
 use Rattle.shm_base.specs.State as flat
-use Rattle.shm_base.specs.Access.{end_of, covers}
+use Rattle.shm_base.specs.Access.{end_of}
 use Rattle.shm_base.specs.Space.{lowest_address, end_address}
 use Rattle.shm_areas.specs.declared.piece.Piece.{Piece}
 use Rattle.shm_base.specs.declared.bounds.TheConstants.{MOST_PIECES, MOST_SHMALL}
@@ -9,7 +9,15 @@ use Rattle.shm_base.specs.declared.paging.TheConstants.{PAGE_SIZE}
 
 -- a piece without its key
 abbrev pub bare : Piece → flat.Piece
-bare p = record { base = p.base; seg = p.seg; first_page = p.first_page; pages = p.pages; writable = p.writable }
+bare p =
+    record {
+      base = p.base;
+      seg = p.seg;
+      first_page = p.first_page;
+      pages = p.pages;
+      writable = p.writable;
+      may_write = p.may_write;
+    }
 
 abbrev pub bare_all : List Piece → List flat.Piece
 bare_all ps = map bare ps
@@ -36,10 +44,6 @@ pub record IsSpace (s : SpaceView) : Type 0 where
   pub arranged : Arranged lowest_address (bare_all s.pieces)
   pub few : length s.pieces ≤ s.most
   pub bound : s.most ≤ MOST_PIECES
-
--- the piece that an address lies in
-abbrev pub covering : ℕ → List flat.Piece → Option flat.Piece
-covering a ps = find (λ p. covers p a) ps
 
 pub record IsCovering (a : ℕ) (p : Piece) : Type 0 where
   pub fit : IsFit (bare p)

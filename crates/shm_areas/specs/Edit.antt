@@ -22,13 +22,10 @@ abbrev pub stored_above : ℕ → Piece → List Piece
 stored_above to p =
     if nat_lt to (end_of (bare p))
     then
-    record {
+    record p {
       base = to;
-      seg = p.seg;
       first_page = p.first_page + (to - p.base) / PAGE_SIZE;
       pages = (end_of (bare p) - to) / PAGE_SIZE;
-      writable = p.writable;
-      key = p.key;
     } ∷ []
     else []
 

@@ -9,6 +9,8 @@ pub struct Piece {
     pub first_page: u32,
     pub pages: u32,
     pub writable: bool,
+    /// Whether its attach may write, so that it can become writable.
+    pub may_write: bool,
     pub key: usize,
 }
 

@@ -2,7 +2,7 @@
 ghost use Rattle.std.specs.Prelude.{◌≡◌, ℕ, ◌+◌, ◌*◌, ◌%◌, ◌<◌, ◌≤◌, Bool, true, false, All, nat_lt, IfOk, length, IfSome, Some, option_map, find};
 ghost use Rattle.shm_base.specs.Access as access;
 ghost use Rattle.shm_base.specs.Space as flat;
-ghost use Rattle.shm_areas.specs.Arranged.{bare, bare_all, Arranged, IsFit, IsCovering, covering};
+ghost use Rattle.shm_areas.specs.Arranged.{bare, bare_all, Arranged, IsFit, IsCovering};
 ghost use Rattle.shm_areas.specs.Edit.{stored_inserted, stored_cut, stored_without};
 ghost use Rattle.shm_areas.specs.Fixed.{fixed};
 ghost use Rattle.shm_areas.specs.Gap.{HasNoGap, IsLeastGap};
@@ -74,9 +74,9 @@ impl Space {
     /// The piece that an address lies in, as it is stored. Every address of it lies in it alone.
     #[inline(always)]
     pub fn piece_at(&self, addr: u64) -> Option<Piece>
-        ensures value { option_map bare result ≡ covering addr (bare_all self.now.pieces) }
+        ensures value { option_map bare result ≡ flat.covering addr (bare_all self.now.pieces) }
         ensures within { IfSome result (λ p. IsCovering addr p) }
-        ensures whole { IfSome result (λ p. (b : ℕ) → p.base ≤ b → b < access.end_of (bare p) → covering b (bare_all self.now.pieces) ≡ Some (bare p)) }
+        ensures whole { IfSome result (λ p. (b : ℕ) → p.base ≤ b → b < access.end_of (bare p) → flat.covering b (bare_all self.now.pieces) ≡ Some (bare p)) }
         ensures among { (test : Stored → Bool) → All (λ (p : Stored). test p ≡ true) self.now.pieces → IfSome result (λ p. test p ≡ true) }
     {
         let count = count_to(&self.pieces, addr);

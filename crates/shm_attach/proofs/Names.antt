@@ -16,14 +16,14 @@ pub use Rattle.indexmap.specs.IndexMap.{insert_entry, set_value_at}
 pub use Rattle.indexmap.specs.Layout.{length-set_value_at}
 pub use Rattle.shm_areas.proofs.Edits.{arranged_cut, arranged_filter, arranged_inserted, bare_filter, lower}
 pub use Rattle.shm_areas.proofs.Placing.{fit_at, nothing, place_covering}
-pub use Rattle.shm_areas.specs.Arranged.{Arranged, IsCovering, IsFit, SpaceView, bare, bare_all, covering}
+pub use Rattle.shm_areas.specs.Arranged.{Arranged, IsCovering, IsFit, SpaceView, bare, bare_all}
 pub use Rattle.shm_areas.specs.Edit.{stored_cut, stored_inserted, stored_named, stored_parts, stored_without}
 pub use Rattle.shm_areas.specs.Met.{met}
 pub use Rattle.shm_base.specs.Processes.{pieces_of_caller}
 pub use Rattle.shm_base.specs.Guest.{is_live}
 pub use Rattle.shm_base.specs.Access.{Place, all_writable, byte_at, covers, end_of, joined, loaded, only_writable, places, stored, with_byte, writable_places}
 pub use Rattle.shm_base.specs.Segments.{after_detach, attach_count}
-pub use Rattle.shm_base.specs.Space.{cut, cut_segments, inserted, end_address, lowest_address, meets, occupied, origin_of, part_above, part_below, parts, pieces_of, without_named}
+pub use Rattle.shm_base.specs.Space.{covering, cut, cut_segments, inserted, end_address, lowest_address, meets, occupied, origin_of, part_above, part_below, parts, pieces_of, without_named}
 pub use Rattle.shm_base.specs.Spans.{page_of, run}
 pub use Rattle.shm_base.specs.State.{Machine, runner_at_start, Unborn}
 pub use Rattle.shm_base.specs.Step.{caller_by, caller_from, gives, is_unborn, load, shmdt, store, unborn_from, with_end, with_pieces, Caller as FlatCaller}

@@ -1,9 +1,9 @@
 //! Attaching pages of a segment.
 ghost use Rattle.std.specs.Prelude.{◌≡◌, ◌+◌, ◌*◌, ◌≤◌, length, OnOk, OnErr};
-ghost use Rattle.shm_base.specs.Space.{inserted, cut, cut_segments};
+ghost use Rattle.shm_base.specs.Space.{new_piece, inserted, cut, cut_segments};
 ghost use Rattle.shm_base.specs.Step.{with_pieces};
 ghost use Rattle.shm_attach.specs.Spaces.{pieces_at, caller_seen, IsCaller, AreTrue};
-ghost use Rattle.shm_attach.specs.Place.{IsRange, new_piece};
+ghost use Rattle.shm_attach.specs.Place.{IsRange};
 ghost use Rattle.shm_base.specs.declared.bounds.TheConstants.{MOST_SHMALL};
 ghost use Rattle.shm_base.specs.declared.paging.TheConstants.{PAGE_SIZE};
 
@@ -58,6 +58,7 @@ impl Spaces {
             first_page: 0,
             pages,
             writable,
+            may_write: writable,
             key,
         };
         put(&mut self.processes, &mut self.tables, caller.index, piece);

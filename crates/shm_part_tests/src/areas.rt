@@ -47,6 +47,7 @@ fn put(space: &mut Space, base: u64, seg: u32, pages: u32) -> bool {
         first_page: 0,
         pages,
         writable: true,
+        may_write: true,
         key: 0,
     });
     true
@@ -109,6 +110,7 @@ const ONE_PAGE: Piece = Piece {
     first_page: 0,
     pages: 1,
     writable: true,
+    may_write: true,
     key: 0,
 };
 
@@ -190,6 +192,7 @@ const BELOW: Piece = Piece {
     first_page: 0,
     pages: 1,
     writable: true,
+    may_write: true,
     key: 0,
 };
 
@@ -199,6 +202,7 @@ const ABOVE: Piece = Piece {
     first_page: 2,
     pages: 1,
     writable: true,
+    may_write: true,
     key: 0,
 };
 

@@ -51,7 +51,7 @@ counts_reserved : (seg : ℕ) (es : List (ℕ × Runner)) (t : Tables) → AreTa
 counts_reserved seg es t sound = grind (arith, common_steps)
 
 abbrev new : (g : Over) (c : In_ok-key g) → Piece
-new g c = record { base = c.args.base; seg = c.args.seg; first_page = 0; pages = c.args.pages; writable = c.args.writable; key = c.in_ok-key.key }
+new g c = record { base = c.args.base; seg = c.args.seg; first_page = 0; pages = c.args.pages; writable = c.args.writable; may_write = c.args.writable; key = c.in_ok-key.key }
 
 knows : (g : Over) (c : In_ok-key g) → HasTable c.reserve.new.self.slab (new g c)
 knows g c = record { seg = c.in_ok-key.ensures.seg; pages = omega (arith, c.in_ok-key.ensures.pages) }

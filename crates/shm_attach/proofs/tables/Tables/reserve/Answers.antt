@@ -7,7 +7,7 @@ use Rattle.shm_attach.proofs.tables.Tables.reserve.Goals as goal
 
 -- a piece of all pages would have the table
 abbrev whole : (g : Over) (c : After-replace g) → Piece
-whole g c = record { base = 0; seg = c.args.seg; first_page = 0; pages = c.args.pages; writable = false; key = c.in-Some.key }
+whole g c = record { base = 0; seg = c.args.seg; first_page = 0; pages = c.args.pages; writable = false; may_write = false; key = c.in-Some.key }
 
 there : (g : Over) (c : After-replace g) → HasTable c.replace.new.self.slab (whole g c)
 there g c =
