@@ -30,3 +30,4 @@ pub mod Places
 pub mod Moves
 pub mod Forgets
 pub mod Dirtied
+mod Copies

@@ -79,7 +79,7 @@ held-pasted s t sound apart shape r off new has fits here others =
     ∙ pasted-list (bytes_at s) (bytes_at t) s.segs r off new sound.apart (λ q there. (sound.tied.pages q there).whole) has fits here others
     ∙ ap (map (pasted r.seg (4096 * r.page + off) new)) (sym (held-is s sound.apart))
 
--- no segment has 2^32 pages
+-- no segment has 2^32 pages, and all together do not
 sum-slots : (areas : List AreaView) → ((i : ℕ) → IsArea (get_or areas i no_area)) → sum_by slots_in (map size_of areas) ≤ MOST_SLOTS * length areas
 sum-slots [] each = omega arith
 sum-slots (a ∷ areas) each = grind (arith, nat_tests, sum-slots areas (λ i. each (suc i)), (each 0).small, sum_by-cons slots_in (size_of a) (map size_of areas))
@@ -88,5 +88,8 @@ count-le-sum : (gs : List SegRec) (id : ℕ) → count_by_id gs id ≤ sum_by pa
 count-le-sum [] id = omega arith
 count-le-sum (g ∷ gs) id = grind (arith, nat_tests, count-le-sum gs id, sum_by-cons page_count g gs)
 
+pub few_in_all : (s : StoreView) → IsStoreSound s → sum_by page_count s.segs ≤ most_swap_slots
+few_in_all s sound = omega (arith, sum-slots s.swap.areas sound.swap.each, sound.capacity, sound.swap.few)
+
 pub few_pages : (s : StoreView) → IsStoreSound s → (id : ℕ) → count_by_id s.segs id ≤ most_swap_slots
-few_pages s sound id = grind (arith, nat_tests, common_steps, count-le-sum, s.segs, sum-slots, s.swap.areas, sound.swap.each, sound.capacity, sound.swap.few)
+few_pages s sound id = omega (arith, count-le-sum s.segs id, few_in_all s sound)

@@ -1,5 +1,5 @@
 -- What the stored segments show.
-use Rattle.std.specs.Prelude.{ℕ, List, map, Option, slice_get, option_map}
+use Rattle.std.specs.Prelude.{ℕ, ◌≡◌, List, map, Option, slice_get, option_map}
 use Rattle.shm_fault.specs.declared.page_tables.PageTable.{PageTable}
 use Rattle.shm_fault.specs.Segs.{SegRec}
 
@@ -8,6 +8,10 @@ seg_view e = record { id = e.0; locked = e.1.locked; pages = e.1.pages.items }
 
 abbrev pub segs_view : List (ℕ × PageTable) → List SegRec
 segs_view es = map seg_view es
+
+-- one page table shows what another does
+abbrev pub IsCopy : PageTable → PageTable → Type 0
+IsCopy t copy = (copy.locked ≡ t.locked) × (copy.pages.items ≡ t.pages.items)
 
 -- the identifier at a place
 abbrev pub seg_at : List (ℕ × PageTable) → ℕ → Option ℕ

@@ -93,6 +93,13 @@ used s = sum_by (λ (g : SegRec). count_by has_slot g.pages) s.segs
 abbrev pub is_swapped : PageRec → Bool
 is_swapped p = not (is_some p.frame) && is_some p.slot
 
+-- how many pages are in a slot and in no frame, of a segment and of all
+abbrev pub swapped_pages : SegRec → ℕ
+swapped_pages g = count_by is_swapped g.pages
+
+abbrev pub swapped : StoreView → ℕ
+swapped s = sum_by swapped_pages s.segs
+
 abbrev pub is_page : PageRef → ℕ → ℕ → Bool
 is_page r seg page = (r.seg == seg) && (r.page == page)
 

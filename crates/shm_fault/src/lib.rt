@@ -7,6 +7,7 @@
 #![tactic(auto)]
 
 mod access;
+mod copying;
 mod dropping;
 mod flushing;
 mod moving;

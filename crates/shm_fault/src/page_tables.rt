@@ -1,7 +1,8 @@
 //! The page tables of the segments that the store holds: where each of their pages is.
-ghost use Rattle.std.specs.Prelude.{◌≡◌, ◌<◌, [], ◌∷◌, ◌++◌, length, set, map, filter, not, ◌==◌, None, Some, IfSome, IfNone, IfOk, OnOk, OnErr, replicate};
-ghost use Rattle.shm_fault.specs.Segs.{SegRec, find_seg, rec_at, rec_by, count_by_id, locked_by, HasPage, IsAt, with_rec, with_seg_lock, no_page, new_seg};
-ghost use Rattle.shm_fault.specs.Entries.{segs_view, seg_at};
+ghost use Rattle.std.specs.Prelude.{◌≡◌, ◌<◌, ◌^◌, [], ◌∷◌, ◌++◌, length, sum_by, count_by, set, map, filter, not, ◌==◌, None, Some, IfSome, IfNone, IfOk, OnOk, OnErr, replicate};
+ghost use Rattle.shm_fault.specs.Segs.{SegRec, find_seg, rec_at, rec_by, count_by_id, locked_by, page_count, HasPage, IsAt, with_rec, with_seg_lock, no_page, new_seg};
+ghost use Rattle.shm_fault.specs.Entries.{segs_view, seg_at, IsCopy};
+ghost use Rattle.shm_fault.specs.Store.{is_swapped, swapped_pages};
 
 use indexmap::IndexMap;
 use shm_base::{FrameNo, HostMemory, PageRef, Slot};
@@ -28,6 +29,17 @@ impl Drop for PageTable {
             locked: _,
             pages: _,
         } = self;
+    }
+}
+
+impl Clone for PageTable {
+    ghost is_clone = { IsCopy };
+
+    fn clone(&self) -> Result<PageTable, AllocError> {
+        Ok(PageTable {
+            locked: self.locked,
+            pages: Vec::from_slice(*self.pages.allocator(), &self.pages)?,
+        })
     }
 }
 
@@ -76,6 +88,20 @@ fn blank_pages(alloc: Global, count: u32) -> Result<Vec<PageRec>, AllocError>
     Ok(pages)
 }
 
+// How many of these pages are in a slot and in no frame.
+fn swapped_in(pages: &Vec<PageRec>) -> u32
+    requires { length pages.now.items < 2 ^ 32 }
+    ensures { result ≡ count_by is_swapped pages.now.items }
+{
+    let mut count = 0;
+    for page in pages {
+        if page.frame.is_none() && page.slot.is_some() {
+            count += 1;
+        }
+    }
+    count
+}
+
 // Where a page of a segment is.
 fn page_at(pages: &Vec<PageRec>, page: u32) -> PageRec
     ensures { result ≡ rec_at pages.now.items page }
@@ -112,6 +138,28 @@ impl PageTables {
             alloc,
             by_id: IndexMap::new(alloc),
         }
+    }
+
+    /// The same page tables once more.
+    pub(crate) fn try_clone(&self) -> Result<PageTables, AllocError>
+        ensures { IfOk result (λ copy. copy ≡ self.now) }
+    {
+        Ok(PageTables {
+            alloc: self.alloc,
+            by_id: self.by_id.clone()?,
+        })
+    }
+
+    /// How many pages are in a slot and in no frame. Walks all pages.
+    pub(crate) fn swapped(&self) -> u32
+        requires { sum_by page_count self.now < 2 ^ 32 }
+        ensures { result ≡ sum_by swapped_pages self.now }
+    {
+        let mut count = 0;
+        for table in self.by_id.values().as_slice() {
+            count += swapped_in(&table.pages);
+        }
+        count
     }
 
     /// One more segment, not locked, whose pages are nowhere.

@@ -5,7 +5,7 @@ ghost use Rattle.shm_slots.specs.View.{swap_slots, owner_of, AreCountsOf};
 ghost use Rattle.shm_slots.specs.Cause.{total};
 ghost use Rattle.shm_frames.specs.Frame.{IsFrameBlank};
 ghost use Rattle.shm_fault.specs.Segs.{with_seg_lock, new_seg};
-ghost use Rattle.shm_fault.specs.Store.{fresh_store, held, frame_of, Still, resident, dirty, used};
+ghost use Rattle.shm_fault.specs.Store.{fresh_store, held, frame_of, Still, resident, swapped, dirty, used};
 ghost use Rattle.shm_base.specs.declared.bounds.TheConstants.{MOST_FRAMES};
 ghost use Rattle.shm_fault.specs.Sound.{IsStoreSound};
 ghost use Rattle.shm_fault.specs.Placing.{places, IsTallyOf};
@@ -111,6 +111,21 @@ impl<P: Pager> PageStore<P> {
         ensures sound { IsStoreSound self.new }
     {
         self.segs.set_locked(seg, locked);
+    }
+
+    /// How many pages are in frames.
+    pub fn resident(&self) -> u32
+        ensures count { result ≡ resident self.now }
+        ensures few { result ≤ length self.now.frames }
+    {
+        self.frames.resident() as u32
+    }
+
+    /// How many pages are in a slot and in no frame. A page that is in both is not counted. Walks all pages.
+    pub fn swapped(&self) -> u32
+        ensures { result ≡ swapped self.now }
+    {
+        self.segs.swapped()
     }
 
     /// The counts of the pages as they are, of the slots, and of what the pagers did.

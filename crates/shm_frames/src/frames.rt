@@ -13,7 +13,7 @@ ghost use Rattle.shm_pager.specs.Pages.{zero_page};
 use crate::looks::Looks;
 use shm_base::{FrameNo, HostMemory, PAGE_BYTES, PageRef};
 use shm_pager::zeros;
-use std::alloc::Global;
+use std::alloc::{AllocError, Global};
 use std::marker::Model;
 
 /// What the table has of a frame.
@@ -149,6 +149,16 @@ fn least_free(table: &Vec<FrameState>, first: FrameNo, resident: u32) -> FrameNo
     used as FrameNo
 }
 
+// The items once more, with room for `room` of them.
+fn copied<T: Copy>(items: &Vec<T>, room: u32) -> Result<Vec<T>, AllocError>
+    ensures items { IfOk result (λ copy. copy.items ≡ items.now.items) }
+    ensures room { IfOk result (λ copy. room ≤ vec_capacity copy) }
+{
+    let mut copy = Vec::with_capacity(*items.allocator(), room as usize)?;
+    copy.extend_from_slice(items)?;
+    Ok(copy)
+}
+
 impl Frames {
     ghost use Rattle.shm_frames.specs.Frame.{frame_at, no_frame, is_free, resident_of, dirty_of, FreeAreClear, OwnedBelow, IsLeastFree, IsFrameBlank};
     ghost use Rattle.shm_frames.specs.Lends.{lends_bytes};
@@ -166,6 +176,21 @@ impl Frames {
             first_free: 0,
             resident: 0,
             dirty: 0,
+        })
+    }
+
+    /// The same frames once more. Memory for all of them is reserved, as [`Frames::new`] does, and that of frames
+    /// that were never used is not touched.
+    pub fn try_clone(&self) -> Result<Frames, HostMemory>
+        ensures { IfOk result (λ copy. copy ≡ self.now) }
+    {
+        Ok(Frames {
+            table: copied(&self.table, self.count)?,
+            pages: copied(&self.pages, self.count)?,
+            count: self.count,
+            first_free: self.first_free,
+            resident: self.resident,
+            dirty: self.dirty,
         })
     }
 

@@ -2,6 +2,7 @@
 //! gives each row an identifier that was never given before.
 #![tactic(auto)]
 
+mod copying;
 mod rows;
 mod table;
 

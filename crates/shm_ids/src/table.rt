@@ -53,13 +53,13 @@ impl<T: Drop> Drop for Entry<T> {
 
 /// Rows under identifiers. It is seen as the list of its entries.
 pub struct IdTable<T> {
-    entries: Vec<Entry<T>>,
+    pub(crate) entries: Vec<Entry<T>>,
     // The indexes that a row holds or that are worn out are taken.
-    indexes: Numbers,
+    pub(crate) indexes: Numbers,
     // How many entries have a row.
-    rows: usize,
+    pub(crate) rows: usize,
     // The index of each live key but 0.
-    keys: IndexMap<u32, u32>,
+    pub(crate) keys: IndexMap<u32, u32>,
 }
 
 impl<T: Drop> Drop for IdTable<T> {

@@ -5,7 +5,7 @@ ghost use Rattle.shm_pager.specs.Areas.{area_pages, failed_in, FailsWhere, IsOfK
 
 use crate::fuse::FusePager;
 use crate::mirror::MirrorPager;
-use crate::pager::{Pager, PagerFault};
+use crate::pager::{ClonePager, Pager, PagerFault};
 use crate::ram::RamPager;
 use crate::sparse::SparsePager;
 use shm_base::{HostMemory, PAGE_BYTES};
@@ -134,6 +134,16 @@ impl Pager for AreaPager {
             AreaPager::Ram(pager) => pager.wipe(),
             AreaPager::Sparse(pager) => pager.wipe(),
             AreaPager::Mirror(pager) => pager.wipe(),
+        }
+    }
+}
+
+impl ClonePager for AreaPager {
+    fn try_clone(&self) -> Result<AreaPager, HostMemory> {
+        match self {
+            AreaPager::Ram(pager) => Ok(AreaPager::Ram(pager.try_clone()?)),
+            AreaPager::Sparse(pager) => Ok(AreaPager::Sparse(pager.try_clone()?)),
+            AreaPager::Mirror(pager) => Ok(AreaPager::Mirror(pager.try_clone()?)),
         }
     }
 }

@@ -3,8 +3,8 @@ ghost use Rattle.std.specs.Prelude.{◌≡◌, ◌<◌, [], length, set, get_or,
 ghost use Rattle.shm_pager.specs.Pages.{zero_page, last_count, next_count, pager_seen, served, SlotUnknown, CountsErr, TriesWrite, TriesRead};
 ghost use Rattle.shm_pager.specs.Fuse.{new_fuse, is_listed, read_is_bad, write_is_bad, scorched_page};
 
-use crate::pager::{Pager, PagerFault, read_if, try_write};
-use shm_base::PAGE_BYTES;
+use crate::pager::{ClonePager, Pager, PagerFault, read_if, try_write};
+use shm_base::{HostMemory, PAGE_BYTES};
 use std::marker::Model;
 
 // What a failing write leaves in the slot.
@@ -162,6 +162,19 @@ impl<P: Pager> Pager for FusePager<P> {
         } }
     {
         self.inner.wipe();
+    }
+}
+
+impl<P: ClonePager> ClonePager for FusePager<P> {
+    fn try_clone(&self) -> Result<FusePager<P>, HostMemory> {
+        Ok(FusePager {
+            inner: self.inner.try_clone()?,
+            bad_reads: self.bad_reads.clone()?,
+            bad_writes: self.bad_writes.clone()?,
+            reads: self.reads,
+            writes: self.writes,
+            failed: self.failed,
+        })
     }
 }
 

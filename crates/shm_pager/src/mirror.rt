@@ -3,8 +3,8 @@ ghost use Rattle.std.specs.Prelude.{◌≡◌, ◌≢◌, ◌<◌, ◌==◌, [],
 ghost use Rattle.shm_pager.specs.Pages.{zero_page, last_count, pager_seen, served, SlotUnknown, CountsErr, TriesWrite, TriesRead};
 ghost use Rattle.shm_pager.specs.Mirror.{MirrorView, mirror_of, left_alone, both_sides, no_side, pages_shown, left_asked, left_serves, right_asked, right_serves};
 
-use crate::pager::{Pager, PagerFault, read_if, try_write};
-use shm_base::PAGE_BYTES;
+use crate::pager::{ClonePager, Pager, PagerFault, read_if, try_write};
+use shm_base::{HostMemory, PAGE_BYTES};
 use std::alloc::{AllocError, Global};
 use std::marker::Model;
 use thiserror::Error;
@@ -221,6 +221,18 @@ impl<L: Pager, R: Pager> Pager for MirrorPager<L, R> {
         self.left.wipe();
         self.right.wipe();
         mark_both(&mut self.good);
+    }
+}
+
+impl<L: ClonePager, R: ClonePager> ClonePager for MirrorPager<L, R> {
+    fn try_clone(&self) -> Result<MirrorPager<L, R>, HostMemory> {
+        let alloc = *self.good.allocator();
+        Ok(MirrorPager {
+            left: self.left.try_clone()?,
+            right: self.right.try_clone()?,
+            good: Vec::from_slice(alloc, &self.good)?,
+            failed: self.failed,
+        })
     }
 }
 

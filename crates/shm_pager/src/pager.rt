@@ -3,7 +3,7 @@
 ghost use Rattle.std.specs.Prelude.{◌≡◌, ℕ, ◌<◌, ◌&&◌, true, false, List, [], length, set, get_or, replicate, is_ok, IfOk};
 ghost use Rattle.shm_pager.specs.Pages.{zero_page, last_count, pager_seen, served, SlotUnknown, CountsErr, TriesWrite, TriesRead};
 
-use shm_base::PAGE_BYTES;
+use shm_base::{HostMemory, PAGE_BYTES};
 use thiserror::Error;
 
 /// A read or a write was not done.
@@ -54,6 +54,14 @@ pub trait Pager: Drop {
     fn wipe(&mut self)
         ensures content { content self.new ≡ replicate (length (content self.old)) zero_page }
         ensures failed { failed self.new ≡ failed self.old };
+}
+
+/// A pager of which a copy can be made. The copy and the pager go on apart.
+pub trait ClonePager: Pager {
+    /// A second pager in the same state: the same page in each slot, the same counts, and the same reads and
+    /// writes will fail. Takes memory for the pages that have memory in this one.
+    fn try_clone(&self) -> Result<Self, HostMemory>
+        ensures { IfOk result (λ copy. copy ≡ self.now) };
 }
 
 /// A page of zeros.

@@ -2,8 +2,8 @@
 ghost use Rattle.std.specs.Prelude.{◌≡◌, ◌<◌, [], length, set, get_or, replicate, IsOk, IfOk};
 ghost use Rattle.shm_pager.specs.Pages.{zero_page};
 
-use crate::pager::{Pager, PagerFault, zeros};
-use shm_base::PAGE_BYTES;
+use crate::pager::{ClonePager, Pager, PagerFault, zeros};
+use shm_base::{HostMemory, PAGE_BYTES};
 use std::alloc::{AllocError, Global};
 use std::marker::Model;
 
@@ -87,6 +87,15 @@ impl Pager for RamPager {
         for page in self.pages.iter_mut() {
             *page = blank;
         }
+    }
+}
+
+impl ClonePager for RamPager {
+    fn try_clone(&self) -> Result<RamPager, HostMemory> {
+        let alloc = *self.pages.allocator();
+        Ok(RamPager {
+            pages: Vec::from_slice(alloc, &self.pages)?,
+        })
     }
 }
 

@@ -1,10 +1,10 @@
 //! Pages in memory, but no room for zeros. A slot that was never written costs no memory at all.
-ghost use Rattle.std.specs.Prelude.{◌≡◌, ◌≢◌, ◌+◌, ◌<◌, ◌↔◌, [], length, set, get_or, replicate, vec_capacity, None, Some, IsTrue, IsOk, IfOk, MatchOption, OnErr};
+ghost use Rattle.std.specs.Prelude.{◌≡◌, ◌≢◌, ◌+◌, ◌<◌, ◌≤◌, ◌↔◌, [], length, set, get_or, replicate, vec_capacity, None, Some, IsTrue, IsOk, IfOk, MatchOption, OnErr};
 ghost use Rattle.shm_pager.specs.Pages.{zero_page, last_count};
 ghost use Rattle.shm_pager.specs.Padded.{padded};
 
-use crate::pager::{Pager, PagerFault, zeros};
-use shm_base::PAGE_BYTES;
+use crate::pager::{ClonePager, Pager, PagerFault, zeros};
+use shm_base::{HostMemory, PAGE_BYTES};
 use std::alloc::{AllocError, Global};
 use std::marker::Model;
 
@@ -109,6 +109,33 @@ fn clear(pages: &mut Vec<Option<Room>>, slot: u32)
     }
 }
 
+// The memory of a page once more, none where there is none.
+fn copied_room(alloc: Global, place: &Option<Room>) -> Result<Option<Room>, AllocError>
+    ensures { IfOk result (λ copy. copy ≡ place.now) }
+{
+    match place {
+        Some(room) => Ok(Some(Room::new(alloc, &room.page)?)),
+        None => Ok(None),
+    }
+}
+
+// The rooms once more, in a table with a place for each slot.
+fn copied_rooms(
+    alloc: Global,
+    pages: &Vec<Option<Room>>,
+    slots: u32,
+) -> Result<Vec<Option<Room>>, AllocError>
+    requires { length pages.now.items ≤ slots }
+    ensures items { IfOk result (λ copy. copy.items ≡ pages.now.items) }
+    ensures room { IfOk result (λ copy. slots ≤ vec_capacity copy) }
+{
+    let mut copy = Vec::with_capacity(alloc, slots as usize)?;
+    for place in pages {
+        copy.push_reserved(copied_room(alloc, place)?);
+    }
+    Ok(copy)
+}
+
 #[tactic(auto, using(crate::proofs::Rooms::rooms))]
 impl SparsePager {
     /// A pager with zeros in each slot. It reserves a place for each, and touches none.
@@ -210,6 +237,18 @@ impl Pager for SparsePager {
         for place in self.pages.iter_mut() {
             *place = None;
         }
+    }
+}
+
+impl ClonePager for SparsePager {
+    /// Reserves a place for each slot, as [`SparsePager::new`] does, and walks those up to the last that was written.
+    fn try_clone(&self) -> Result<SparsePager, HostMemory> {
+        Ok(SparsePager {
+            alloc: self.alloc,
+            pages: copied_rooms(self.alloc, &self.pages, self.slots)?,
+            slots: self.slots,
+            failed: self.failed,
+        })
     }
 }
 

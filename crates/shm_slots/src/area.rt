@@ -4,8 +4,8 @@ ghost use Rattle.shm_pager.specs.Pages.{pager_seen, SlotUnknown};
 ghost use Rattle.shm_slots.specs.Owners.{IsLeastFree};
 
 use crate::owners::Owners;
-use shm_base::{PAGE_BYTES, PageRef};
-use shm_pager::{Pager, PagerFault, try_read, try_write};
+use shm_base::{HostMemory, PAGE_BYTES, PageRef};
+use shm_pager::{ClonePager, Pager, PagerFault, try_read, try_write};
 use std::alloc::{AllocError, Global};
 use std::marker::Model;
 
@@ -179,5 +179,29 @@ impl<P: Pager> Area<P> {
         self.last = self.count();
         self.pager = None;
         self.owners.clear();
+    }
+}
+
+// The pager once more, none where there is none.
+fn copied_pager<P: ClonePager>(pager: &Option<P>) -> Result<Option<P>, HostMemory>
+    ensures { IfOk result (λ copy. copy ≡ pager.now) }
+{
+    match pager {
+        Some(pager) => Ok(Some(pager.try_clone()?)),
+        None => Ok(None),
+    }
+}
+
+impl<P: ClonePager> Area<P> {
+    /// The same area once more, with a pager of its own.
+    pub(crate) fn try_clone(&self) -> Result<Area<P>, HostMemory>
+        ensures { IfOk result (λ copy. copy ≡ self.now) }
+    {
+        Ok(Area {
+            pager: copied_pager(&self.pager)?,
+            owners: self.owners.try_clone()?,
+            start: self.start,
+            last: self.last,
+        })
     }
 }

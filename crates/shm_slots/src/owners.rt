@@ -1,6 +1,7 @@
 //! Who owns each slot of an area, and which slot is the least that is free.
-ghost use Rattle.std.specs.Prelude.{◌≡◌, ◌<◌, ◌≤◌, ℕ, [], length, set, get_or, replicate, vec_capacity, Some, None, IfOk};
+ghost use Rattle.std.specs.Prelude.{◌≡◌, ◌<◌, ◌≤◌, ◌^◌, ℕ, [], length, nat_lt, is_some, set, get_or, replicate, vec_capacity, Some, None, IfOk};
 ghost use Rattle.shm_pager.specs.Padded.{padded};
+ghost use Rattle.shm_base.specs.Numbers.{is_taken};
 ghost use Rattle.shm_slots.specs.Owners.{IsLeastFree, FoundLeast, used_count};
 
 use shm_base::{Numbers, PageRef};
@@ -59,6 +60,34 @@ fn put_owner(slots: &mut Vec<Option<PageRef>>, slot: u32, owner: PageRef)
     }
 }
 
+// Numbers of which those below `used` are taken. There is room for those below `room`.
+fn taken_below(alloc: Global, used: u32, room: u32) -> Result<Numbers, AllocError>
+    requires { used ≤ room }
+    ensures taken { IfOk result (λ numbers. (i : ℕ) → is_taken numbers i ≡ nat_lt i used) }
+    ensures room { IfOk result (λ numbers. room ≤ numbers.room) }
+{
+    let mut numbers = Numbers::new(alloc);
+    numbers.reserve(room)?;
+    for _number in 0..used {
+        numbers.take();
+    }
+    Ok(numbers)
+}
+
+// Gives back the numbers of the slots that are free.
+fn give_free(numbers: &mut Numbers, slots: &Vec<Option<PageRef>>)
+    requires few { length slots.now.items < 2 ^ 32 }
+    requires taken { (i : ℕ) → is_taken numbers.old i ≡ nat_lt i (length slots.now.items) }
+    ensures taken { (i : ℕ) → is_taken numbers.new i ≡ is_some (get_or slots.now.items i None) }
+    ensures room { numbers.new.room ≡ numbers.old.room }
+{
+    for slot in 0..slots.len() {
+        if slots[slot].is_none() {
+            numbers.give(slot as u32);
+        }
+    }
+}
+
 impl Owners {
     /// This many free slots. Room for each owner is reserved, and none of it is touched.
     pub(crate) fn new(alloc: Global, count: u32) -> Result<Owners, AllocError>
@@ -71,6 +100,23 @@ impl Owners {
             count,
             numbers,
             used: 0,
+        })
+    }
+
+    /// The same owners once more. Room for each is reserved; only the slots that were ever owned are walked.
+    pub(crate) fn try_clone(&self) -> Result<Owners, AllocError>
+        ensures { IfOk result (λ copy. copy ≡ self.now) }
+    {
+        let alloc = *self.slots.allocator();
+        let mut slots = Vec::with_capacity(alloc, self.count as usize)?;
+        slots.extend_from_slice(&self.slots)?;
+        let mut numbers = taken_below(alloc, slots.len() as u32, self.count)?;
+        give_free(&mut numbers, &slots);
+        Ok(Owners {
+            slots,
+            count: self.count,
+            numbers,
+            used: self.used,
         })
     }
 

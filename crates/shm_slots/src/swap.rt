@@ -6,7 +6,7 @@ ghost use Rattle.shm_slots.specs.View.{is_spent};
 
 use crate::area::Area;
 use shm_base::{HostMemory, PAGE_BYTES, PageRef, Slot};
-use shm_pager::{Pager, PagerFault};
+use shm_pager::{ClonePager, Pager, PagerFault};
 use std::alloc::Global;
 use std::marker::Model;
 
@@ -265,5 +265,21 @@ impl<P: Pager> Swap<P> {
         ensures sound { IsSwap self.new }
     {
         self.areas[area as usize].turn_off();
+    }
+}
+
+impl<P: ClonePager> Swap<P> {
+    /// The same areas once more, each with a pager of its own. What was never used of them is not walked.
+    pub fn try_clone(&self) -> Result<Swap<P>, HostMemory>
+        ensures { IfOk result (λ copy. copy ≡ self.now) }
+    {
+        let mut areas = Vec::with_capacity(*self.areas.allocator(), self.areas.len())?;
+        for area in &self.areas {
+            areas.push(area.try_clone()?)?;
+        }
+        Ok(Swap {
+            areas,
+            never_spent: self.never_spent,
+        })
     }
 }
