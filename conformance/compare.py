@@ -2,7 +2,7 @@
 
 from dataclasses import dataclass, field
 
-from rules import Machine, classify
+from rules import STOPS, Machine, classify
 from script import has_form, is_expected, without_clock
 
 # calls that change nothing though they are answered with more than a refusal
@@ -77,11 +77,16 @@ def against_peer(case, events, others, has_clock=False, has_system_limits=False)
     return result
 
 
+def changes_nothing(event):
+    """Whether the call was refused; a protect changes what lies below the page that it is refused for."""
+    return event.is_refused and not (event.word == "protect" and event.reply in STOPS)
+
+
 def compare_one(result, machine, command, event, other):
     """Counts one command; whether program and peer are in like states behind it."""
     if other.is_skipped:
         result.skip(other.reply[len("skipped: "):])
-        return event.is_refused or event.word in READS
+        return changes_nothing(event) or event.word in READS
     ours = event.reply if machine.has_clock else without_clock(event.reply)
     if event.call == other.call and ours == other.reply:
         result.agree += 1
@@ -89,6 +94,6 @@ def compare_one(result, machine, command, event, other):
     known = classify(machine, event, other, command) if event.call == other.call and has_form(other) else None
     if known is None:
         result.different.append(Difference(command, event.call, event.reply, other.reply))
-        return event.is_refused and other.is_refused
+        return changes_nothing(event) and changes_nothing(other)
     result.name(known[0])
     return known[1]

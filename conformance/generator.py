@@ -11,10 +11,12 @@ LETTERS = "abc"
 
 
 class Generator:
-    """Knows which processes live, and which segments were asked for; what the calls answer it does not know."""
+    """Knows which processes live, and which segments were asked for; what the calls answer it does not know. With mappings it
+    makes the words unmap and protect too."""
 
-    def __init__(self, seed):
+    def __init__(self, seed, has_mappings=False):
         self.random = random.Random(seed)
+        self.has_mappings = has_mappings
         count = self.random.randint(2, 5)
         self.live = list(range(1, count + 1))
         self.unborn = list(range(11, 11 + self.random.randint(0, 4)))
@@ -100,6 +102,20 @@ class Generator:
     def make_xadd(self, _pid):
         return f"x = xadd {self.place()} {self.pick(1, 255, 2 ** 64 - 1)}"
 
+    def range(self):
+        """Mostly whole pages near the bases; seldom an end that is none of a page, or one beyond all addresses."""
+        if self.one_in(40):
+            return f"{self.address()} {self.pick(0, 1, 2 ** 47, 2 ** 64 - 4096, 2 ** 64 - 1, 2 ** 63)}"
+        length = 4096 * self.pick(1, 1, 1, 2, 2, 3, 4, 6) - (self.pick(1, 4095) if self.one_in(8) else 0)
+        letter = self.one_in(12)
+        return f"{self.random.choice(LETTERS) + self.pick('', '+4096', '+8192') if letter else self.address()} {length}"
+
+    def make_unmap(self, _pid):
+        return f"unmap {self.range()}"
+
+    def make_protect(self, _pid):
+        return f"protect {self.range()} {self.pick('r', 'rw')}"
+
     def make_process_event(self, pid):
         if self.unborn and not self.one_in(3):
             child = self.unborn.pop(0)
@@ -115,6 +131,7 @@ class Generator:
         makes = ((self.make_shmget, 12), (self.make_shmat, 20), (self.make_shmdt, 12), (self.make_stat, 16),
                  (self.make_set, 5), (self.make_rmid, 5), (self.make_lock, 5), (self.make_load, 10),
                  (self.make_store, 10), (self.make_xadd, 3), (self.make_process_event, 2))
+        makes += ((self.make_unmap, 5), (self.make_protect, 14)) if self.has_mappings else ()
         make = self.random.choices([m for m, _ in makes], [w for _, w in makes])[0]
         pid = self.random.choice(self.live)
         return f"{pid} {make(pid)}"
@@ -135,6 +152,6 @@ class Generator:
         return "\n".join(self.lines) + "\n"
 
 
-def make_script(seed, number):
+def make_script(seed, number, has_mappings=False):
     """The script with this number of this seed: the same at each run."""
-    return Generator(f"{seed}/{number}").script()
+    return Generator(f"{seed}/{number}", has_mappings).script()

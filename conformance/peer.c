@@ -31,21 +31,24 @@
 #include <sys/wait.h>
 #include <time.h>
 #include <unistd.h>
+#define HAS_MAPPINGS
 #include "script.h"
 
 enum { PAGE = 4096, PIECES = 1024, OWN_RANGES = 64 };
+#define END_OF_ADDRESSES UINT64_C(0x7ffffffff000)
 enum { RECORD_FD = 98, ALIVE_FD = 99, FIRST_FD = 100 };
 #define LOWEST_CHOSEN UINT64_C(0x40000000)
 _Static_assert(IPC_CREAT == CREAT && IPC_EXCL == EXCL && SHM_RDONLY == RDONLY && SHM_RND == RND && SHM_REMAP == REMAP,
     "a script's flags are the system's");
 
-enum task { GET, ATTACH, DETACH, CONTROL, LOAD, STORE, ADD, FORK, EXEC, EXIT, MAPPED };
+enum task { GET, ATTACH, DETACH, CONTROL, LOAD, STORE, ADD, FORK, EXEC, EXIT, MAPPED, UNMAPS, PROTECTS };
 
-/* what a worker is told: flags are shmctl's command too; at[] are the addresses of an access, byte by byte */
+/* what a worker is told: flags are shmctl's command and mprotect's rights too; at[] are the addresses of an access, byte by
+   byte; reach is how far a call of a range may come */
 struct request {
     int task, id, flags, child;
     unsigned key, uid, gid, mode, length, is_placed;
-    uint64_t size, address, number, at[64];
+    uint64_t size, address, number, reach, at[64];
     unsigned char bytes[64];
 };
 
@@ -101,6 +104,13 @@ static void attach(const struct request *q, struct answer *a) {
     settle(a, (int64_t)(intptr_t)shmat(q->id, q->is_placed ? (void *)(uintptr_t)q->address : NULL, q->flags));
 }
 
+static void change_range(const struct request *q, struct answer *a) {
+    void *address = (void *)(uintptr_t)q->address;
+    a->is_refused_here = q->reach > 0 && is_own(q->address, q->reach);
+    if (a->is_refused_here) return;
+    settle(a, q->task == UNMAPS ? munmap(address, (size_t)q->size) : mprotect(address, (size_t)q->size, q->flags));
+}
+
 static void control(const struct request *q, struct answer *a) {
     a->segment.shm_perm.uid = q->uid;
     a->segment.shm_perm.gid = q->gid;
@@ -142,6 +152,8 @@ static void perform(const struct request *q, struct answer *a) {
     case FORK: if ((a->value = fork()) == 0) serve(q->child); else settle(a, a->value); break;
     case EXEC: settle(a, execvp(exec_words[0], exec_words)); break;
     case EXIT: _exit(0);
+    case UNMAPS:
+    case PROTECTS: change_range(q, a); break;
     case MAPPED: a->value = mincore((void *)(uintptr_t)q->address, PAGE, &resident) == 0; break;
     default: access_memory(q, a);
     }
@@ -306,31 +318,48 @@ static void add_piece(struct process *p, struct piece piece) {
     if (piece.size) p->pieces[p->piece_count++] = piece;
 }
 
-/* a new attach takes the place of what stood in its range */
-static void replace_pieces(struct process *p, struct piece new) {
-    uint64_t end = new.base + new.size;
+/* takes a range away from the pieces */
+static void cut_pieces(struct process *p, uint64_t begin, uint64_t end) {
     for (int i = p->piece_count; i-- > 0;) {
         struct piece old = p->pieces[i];
-        if (old.base >= end || new.base >= old.base + old.size) continue;
+        if (old.base >= end || begin >= old.base + old.size) continue;
         p->pieces[i] = p->pieces[--p->piece_count];
-        if (old.base < new.base) add_piece(p, (struct piece){old.base, new.base - old.base, old.real, old.origin});
+        if (old.base < begin) add_piece(p, (struct piece){old.base, begin - old.base, old.real, old.origin});
         if (end < old.base + old.size)
             add_piece(p, (struct piece){end, old.base + old.size - end, old.real + (end - old.base), old.origin});
     }
+}
+
+/* a new attach takes the place of what stood in its range */
+static void replace_pieces(struct process *p, struct piece new) {
+    cut_pieces(p, new.base, new.base + new.size);
     add_piece(p, new);
+}
+
+/* how many bytes of a range a piece has */
+static uint64_t shared_bytes(const struct piece *q, uint64_t base, uint64_t size) {
+    uint64_t begin = base > q->base ? base : q->base, end = q->base + q->size;
+    if (end > base + size) end = base + size;
+    return begin < end ? end - begin : 0;
 }
 
 /* whether a range of the script is one range of the system, and holds no attach that the script has elsewhere */
 static int is_one_range(struct process *p, uint64_t base, uint64_t size) {
-    uint64_t real = real_address(p, base);
-    for (uint64_t at = 0; at < size; at += PAGE)
-        if (real_address(p, base + at) != real + at) return 0;
+    uint64_t real = real_address(p, base), held = 0;
     for (int i = 0; i < p->piece_count; i++) {
         struct piece *q = &p->pieces[i];
         int is_met = q->real < real + size && real < q->real + q->size;
-        if (is_met && q->real - real != q->base - base) return 0;
+        held += shared_bytes(q, base, size);
+        if ((is_met || shared_bytes(q, base, size)) && q->real - real != q->base - base) return 0;
     }
-    return 1;
+    return real == base || held == size;
+}
+
+/* from an address to the end of the first page without a piece */
+static uint64_t run_of_pieces(struct process *p, uint64_t base) {
+    uint64_t at = base;
+    for (struct piece *q = piece_at(p, at); q; q = piece_at(p, at)) at = q->base + q->size;
+    return at + PAGE - base;
 }
 
 /* ---- the director ---- */
@@ -447,6 +476,20 @@ static void run_detach(struct process *p, const uint64_t *v, char *reply) {
     }
 }
 
+/* an mprotect ends at the first page without a piece; a refused munmap comes nowhere */
+static void run_range(struct process *p, int call, const uint64_t *v, char *reply) {
+    uint64_t page = v[0] - v[0] % PAGE, size = v[1] + (PAGE - v[1] % PAGE) % PAGE, reach = size;
+    int is_none = page != v[0] || size == 0 || page + size < page;
+    struct request q = {.task = call == UNMAP ? UNMAPS : PROTECTS, .size = v[1]};
+    q.flags = v[2] ? PROT_READ | PROT_WRITE : PROT_READ;
+    if (call == PROTECT && reach > run_of_pieces(p, page)) reach = run_of_pieces(p, page);
+    q.reach = is_none || (call == UNMAP && page + size > END_OF_ADDRESSES) ? 0 : reach;
+    q.address = real_address(p, page) + v[0] % PAGE;
+    if (q.reach && !is_one_range(p, page, q.reach)) return skip(reply, "the range is not one range of the system");
+    struct answer a = ask(p, &q);
+    if (reply_plain(&a, reply) && call == UNMAP) cut_pieces(p, page, page + size);
+}
+
 static void run_stat(struct process *p, const uint64_t *v, char *reply, int place) {
     struct request q = {.task = CONTROL, .flags = IPC_STAT, .id = real_identifier(v[0])};
     struct answer a = ask(p, &q);
@@ -506,7 +549,9 @@ static void run_end(struct process *p, int call, char *reply) {
 }
 
 static void run(struct process *p, const struct command *c, const uint64_t *v, char *reply, uint64_t *result) {
-    int is_too_large = (c->call == SHMGET && (size_t)v[1] != v[1]) || (c->call == SHMAT && (uintptr_t)v[1] != v[1]);
+    int is_range = c->call == UNMAP || c->call == PROTECT, is_sized = c->call == SHMGET || is_range;
+    int is_too_large = (is_sized && (size_t)v[1] != v[1]) || (c->call == SHMAT && (uintptr_t)v[1] != v[1]) ||
+        (is_range && (uintptr_t)v[0] != v[0]);
     if (is_too_large) skip(reply, "this system has no such number");
     else if (p->has_no_user) skip(reply, "no right to be this user");
     else if (c->call == SHMSET && !is_root && !is_shared && (v[1] != p->uid || v[2] != p->gid))
@@ -516,6 +561,7 @@ static void run(struct process *p, const struct command *c, const uint64_t *v, c
     else if (c->call == SHMGET) run_get(p, v, reply, result);
     else if (c->call == SHMAT) run_attach(p, v, reply, result);
     else if (c->call == SHMDT) run_detach(p, v, reply);
+    else if (is_range) run_range(p, c->call, v, reply);
     else if (c->call <= XADD) run_access(p, c, v, reply, result);
     else if (c->call == SHMSTAT) run_stat(p, v, reply, (int)(c - script.commands) + 1);
     else if (c->call <= UNLOCK) run_control(p, c->call, v, reply);

@@ -6,7 +6,7 @@ own. The names stand in docs/CONFORMANCE.md, with what each side answers and why
 
 from __future__ import annotations
 
-from dataclasses import dataclass, field
+from dataclasses import dataclass, field, replace
 
 from script import stat_words, without_clock
 
@@ -17,9 +17,12 @@ NUMBERS = 2 ** 64
 PIECES = 256
 INVALID_USER = 4294967295
 
+# refusals of a protect, which comes to them after it changed what lies below
+STOPS = ("ENOMEM", "EACCES")
+
 RULES = ("removed identifier", "locked pages", "lowest address", "end of addresses", "execute bits", "whole access",
-         "reserved swap", "largest user", "time of fork", "time of remap", "number of pieces", "failing pager",
-         "limits of the system")
+         "reserved swap", "largest user", "time of fork", "time of remap", "rest is attached", "number of pieces",
+         "failing pager", "limits of the system")
 
 
 @dataclass
@@ -46,6 +49,7 @@ class Piece:
     segment: int
     first_page: int
     is_writable: bool
+    may_write: bool
 
     @property
     def end(self):
@@ -89,6 +93,8 @@ class Machine:
         act = getattr(self, "follow_" + event.word, None)
         if event.word in ("store", "xadd"):
             self.follow_write(event, other)
+        elif event.word == "protect" and event.reply in STOPS:
+            self.follow_protect(event, *event.operands)
         elif act and not event.is_refused:
             act(event, *event.operands)
         self.sweep()
@@ -124,15 +130,33 @@ class Machine:
     def follow_shmat(self, event, name, _address, flags):
         base, name = number_of(event.reply), int(name)
         segment = self.segments[name]
-        new = Piece(base, segment.pages, name, 0, "rdonly" not in flags)
-        self.pieces[event.pid], lost = cut(self.pieces.get(event.pid, []), base, new.end)
-        for segment_cut, is_split in lost:
-            self.words.pop((segment_cut, "lpid"), None)
-            if is_split:
-                self.words[segment_cut, "atime"] = ("time of remap", self.time(event.place))
+        is_writable = "rdonly" not in flags
+        new = Piece(base, segment.pages, name, 0, is_writable, is_writable)
+        self.cut(event, base, new.end, "time of remap")
         self.words.pop((name, "atime"), None)
         self.words.pop((name, "lpid"), None)
         self.pieces[event.pid].append(new)
+
+    def cut(self, event, begin, end, rule):
+        """Takes a range away from the caller's pieces; Linux attaches anew what is left of a piece."""
+        self.pieces[event.pid], lost = cut(self.pieces.get(event.pid, []), begin, end)
+        for name, is_split in lost:
+            self.words.pop((name, "lpid"), None)
+            if is_split:
+                self.words[name, "atime"] = (rule, self.time(event.place))
+
+    def follow_unmap(self, event, address, length):
+        begin = number_of(address)
+        self.cut(event, begin, begin + whole_pages(length), "rest is attached")
+
+    def follow_protect(self, event, address, length, rights):
+        """Linux attaches anew each part of a piece that comes to be a piece."""
+        begin, size = number_of(address), whole_pages(length)
+        if begin + size >= NUMBERS:
+            return
+        for name in protect(self.pieces.setdefault(event.pid, []), begin, begin + size, rights == "rw"):
+            self.words[name, "atime"] = ("rest is attached", self.time(event.place))
+            self.words[name, "lpid"] = ("rest is attached", str(event.pid))
 
     def follow_shmdt(self, event, address):
         address = number_of(address)
@@ -226,7 +250,46 @@ def part_of(piece, begin, end):
     if begin >= end:
         return None
     first = piece.first_page + (begin - piece.base) // PAGE
-    return Piece(begin, (end - begin) // PAGE, piece.segment, first, piece.is_writable)
+    return Piece(begin, (end - begin) // PAGE, piece.segment, first, piece.is_writable, piece.may_write)
+
+
+def whole_pages(length):
+    """As many bytes as its pages have; the rounding of a number of 64 bits may pass its end."""
+    return -(-int(length) // PAGE) * PAGE % NUMBERS
+
+
+def protect(pieces, begin, end, is_writable):
+    """Changes a range from below, to the first page that has no piece or may not be written. The segments of which new pieces
+    came are returned."""
+    split = []
+    for piece in sorted(pieces, key=lambda it: it.base):
+        if piece.end <= begin:
+            continue
+        if piece.base > begin or begin >= end or is_writable and not piece.may_write:
+            break
+        if piece.is_writable != is_writable and protect_part(pieces, piece, begin, min(end, piece.end)):
+            split.append(piece.segment)
+        begin = piece.end
+    return split
+
+
+def protect_part(pieces, piece, begin, end):
+    """Turns a part of a piece, or the whole. Returns whether pieces came: none does where the part goes to a neighbour of the
+    same attach that has what the part gets."""
+    pieces.remove(piece)
+    turned = replace(piece, is_writable=not piece.is_writable)
+    if (begin, end) == (piece.base, piece.end):
+        pieces.append(turned)
+        return False
+    near = [it for it in pieces if (it.segment, it.origin) == (piece.segment, piece.origin) and
+            it.is_writable == turned.is_writable and (it.end == begin == piece.base or it.base == end == piece.end)]
+    low, part, high = part_of(piece, piece.base, begin), part_of(turned, begin, end), part_of(piece, end, piece.end)
+    for it in near:
+        pieces.remove(it)
+        part = replace(part, base=min(part.base, it.base), first_page=min(part.first_page, it.first_page),
+                       pages=part.pages + it.pages)
+    pieces += [it for it in (low, part, high) if it]
+    return not near
 
 
 def number_of(word):
@@ -242,7 +305,7 @@ def classify(machine, event, other, command):
     if ours == "SIGBUS" and machine.may_fail and event.word in ("load", "store", "xadd") and not other.is_refused:
         return "failing pager", True
     by_word = {"shmget": of_creation, "shmat": of_attach, "stat": of_stat, "set": of_set, "lock": of_lock,
-               "load": of_load, "xadd": of_add}.get(event.word)
+               "load": of_load, "xadd": of_add, "unmap": of_range, "protect": of_range}.get(event.word)
     return by_word(machine, event, other, command) if by_word else None
 
 
@@ -306,6 +369,19 @@ def is_invalid_there(machine, event, base, segment):
     end = base + segment.size
     is_met = any(piece.base < end and base < piece.end for piece in machine.pieces.get(event.pid, []))
     return "remap" not in event.operands[2] and (end >= NUMBERS or is_met)
+
+
+def of_range(machine, event, other, _command):
+    """The range's ends would split pieces into more than a process may have."""
+    if event.reply not in ("EMFILE", "ENOMEM") or other.reply != "ok":
+        return None
+    pieces = list(machine.pieces.get(event.pid, []))
+    begin, size = number_of(event.operands[0]), whole_pages(event.operands[1])
+    if event.word == "unmap":
+        pieces, _lost = cut(pieces, begin, begin + size)
+    else:
+        protect(pieces, begin, begin + size, event.operands[2] == "rw")
+    return ("number of pieces", False) if len(pieces) > PIECES else None
 
 
 def of_stat(machine, event, other, _command):

@@ -14,7 +14,7 @@ from script import BadInput, read_event, read_events
 
 HERE = os.path.dirname(os.path.abspath(__file__))
 TOP = os.path.dirname(HERE)
-PEER_SOURCE = os.path.join(HERE, "peer.c")
+PEER_SOURCE, LIBRARY_SOURCE = os.path.join(HERE, "peer.c"), os.path.join(HERE, "library.c")
 FLAGS = ["-std=gnu11", "-O1", "-Wall", "-Wextra", "-Werror"]
 
 
@@ -57,15 +57,29 @@ def run_program(words, case, limit):
 
 def build_peer(folder, is_static=False):
     """The peer's path, built by the machine's C compiler."""
+    return compile_program(os.path.join(folder, "peer"), ["-static"] * is_static + [PEER_SOURCE], "the peer")
+
+
+def compile_program(path, words, whose):
     compiler = shutil.which("cc")
     if compiler is None:
         raise Stopped("no C compiler (cc) is here")
-    path = os.path.join(folder, "peer")
-    static = ["-static"] if is_static else []
-    done = subprocess.run([compiler] + FLAGS + static + ["-o", path, PEER_SOURCE], capture_output=True, check=False)
+    done = subprocess.run([compiler] + FLAGS + ["-o", path] + words, capture_output=True, check=False)
     if done.returncode != 0:
-        raise Stopped("the peer was not built: " + done.stderr.decode(errors="replace").strip()[:300])
+        raise Stopped(f"{whose} was not built: " + done.stderr.decode(errors="replace").strip()[:300])
     return path
+
+
+def build_library(folder, library):
+    """The program over the C library whose archive and header are in a folder, and whether it has unmap and protect."""
+    archive, header = (os.path.join(library, name) for name in ("libnogcuvema.a", "nogcuvema.h"))
+    missing = next((path for path in (archive, header) if not os.path.isfile(path)), None)
+    if missing:
+        raise Stopped(f"the library was not built: there is no {missing}; ./lib makes it, and --library=FOLDER names another folder")
+    with open(header, encoding="utf-8") as file:
+        has_mappings = "nog_unmap(" in file.read()
+    words = ["-I", library] + ["-DNOG_HAS_UNMAP"] * has_mappings
+    return compile_program(os.path.join(folder, "library"), [*words, LIBRARY_SOURCE, archive], "the library's program"), has_mappings
 
 
 def open_folder():

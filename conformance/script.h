@@ -1,5 +1,6 @@
 /* A script of docs/SCRIPT.md, read and printed by programs in C that make its calls. The file that includes this one
-   defines `fail`, which says what is wrong and ends the program. Not each fault of the language is found. */
+   defines `fail`, which says what is wrong and ends the program. Not each fault of the language is found. `unmap` and
+   `protect` are words of the kit alone: a file that reads them too defines HAS_MAPPINGS above. */
 #ifndef SCRIPT_H
 #define SCRIPT_H
 #include <errno.h>
@@ -14,13 +15,21 @@ enum { PROCESSES = 64, COMMANDS = 100000, WORDS = 8, OPERANDS = 4, BYTES = 64 };
 __attribute__((noreturn, format(printf, 2, 3))) static void fail(int status, const char *format, ...);
 
 enum call { SHMGET, SHMAT, SHMDT, ACCESS_LOAD, ACCESS_STORE, XADD, SHMSTAT, SHMSET, RMID, LOCK, UNLOCK,
-    FORKS, EXECS, EXITS, SWAPOFF, CALLS };
+    FORKS, EXECS, EXITS, SWAPOFF,
+#ifdef HAS_MAPPINGS
+    UNMAP, PROTECT,
+#endif
+    CALLS };
 
-/* each letter is an operand: key, number, get flags, identifier, address, attach flags, bytes, mode, child */
+/* each letter is an operand: key, number, get flags, identifier, address, attach flags, bytes, mode, child, rights */
 static const struct { const char *name, *operands; } calls[CALLS] = {
     {"shmget", "kng"}, {"shmat", "iaf"}, {"shmdt", "a"}, {"load", "an"}, {"store", "ab"}, {"xadd", "an"},
     {"stat", "i"}, {"set", "innm"}, {"rmid", "i"}, {"lock", "i"}, {"unlock", "i"}, {"fork", "c"}, {"exec", ""},
-    {"exit", ""}, {"swapoff", "n"} };
+    {"exit", ""}, {"swapoff", "n"},
+#ifdef HAS_MAPPINGS
+    {"unmap", "an"}, {"protect", "anr"},
+#endif
+};
 
 /* as Linux numbers them */
 enum { CREAT = 01000, EXCL = 02000, RDONLY = 010000, RND = 020000, REMAP = 040000, FLAGS = 5, GET_FLAGS = 2 };
@@ -74,6 +83,13 @@ static uint64_t flags_of(const char *word, int has_mode) {
     return flags;
 }
 
+/* whether bytes may be written too */
+static uint64_t rights_of(const char *word) {
+    int is_writable = strcmp(word, "rw") == 0;
+    if (!is_writable && strcmp(word, "r") != 0) fail(1, "bad rights: %s", word);
+    return (uint64_t)is_writable;
+}
+
 static void read_bytes(struct command *c, const char *word) {
     unsigned byte;
     for (c->length = 0; c->length < BYTES && sscanf(word, "%2x", &byte) == 1 && word[1]; word += 2)
@@ -93,6 +109,7 @@ static void read_operand(const struct script *s, struct command *c, int i, char 
     else if (letter == 'f') c->operands[i].number = flags_of(word, 0);
     else if (letter == 'm') c->operands[i].number = strtoul(word, NULL, 8);
     else if (letter == 'b') read_bytes(c, word);
+    else if (letter == 'r') c->operands[i].number = rights_of(word);
     else c->operands[i] = operand_of(word);
     if (letter == 'c') process_by_pid(s, c->operands[i].number);
 }
@@ -164,6 +181,7 @@ static void print_operand(const struct command *c, char letter, uint64_t value) 
     else if (letter == 'a') printf(value ? "0x%jx" : "null%.0jx", (uintmax_t)value);
     else if (letter == 'm') printf("%03" PRIo64, value);
     else if (letter == 'g' || letter == 'f') print_flags(value, letter == 'g');
+    else if (letter == 'r') printf("%s", value ? "rw" : "r");
     else if (letter == 'b') for (unsigned i = 0; i < c->length; i++) printf("%02x", c->bytes[i]);
     else if (letter == 'i' && value > INT32_MAX) printf("-1");
     else printf("%" PRIu64, value);

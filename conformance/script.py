@@ -2,10 +2,13 @@
 
 A case is a script in which each command has a comment above it, with the rule and its source, and behind it a line
 `#= REPLY`: the reply that the rule gives, of `stat` any of its words. A line `#swap WORDS` names other swap areas.
+
+The kit has two words that the language of docs/SCRIPT.md has not: `unmap ADDRESS LENGTH` and `protect ADDRESS LENGTH r|rw`.
 """
 
 from __future__ import annotations
 
+import contextlib
 import os
 import re
 import sys
@@ -14,7 +17,8 @@ from dataclasses import dataclass, field
 sys.path.append(os.path.join(os.path.dirname(os.path.dirname(os.path.abspath(__file__))), "bindings", "python"))
 
 from nogcuvema.explain import nearest  # noqa: E402
-from nogcuvema.script import ScriptFault, number_of, read_script  # noqa: E402
+from nogcuvema.script import (ADDRESS, CALLS, SIZE, NoForm, OperandKind, ScriptFault, number_of, read_script,  # noqa: E402
+                              words_of)
 
 ERRORS = ("EPERM ENOENT ESRCH EIO EAGAIN ENOMEM EACCES EEXIST EINVAL EMFILE ENOSPC EIDRM SIGBUS SIGSEGV "
           "ENFILE ENOSYS EFAULT EOVERFLOW").split()
@@ -30,6 +34,18 @@ STAT = re.compile(r"key=0x[0-9a-f]{8} uid=\d+ gid=\d+ cuid=\d+ cgid=\d+ mode=[0-
                   r"size=\d+ cpid=\d+ lpid=\d+ nattch=\d+ atime=\w+ dtime=\w+ ctime=\w+")
 REPLY = {"shmget": re.compile(r"\d{1,10}"), "shmat": re.compile(r"null|0x[0-9a-f]{1,16}"), "load": re.compile("([0-9a-f]{2}){1,64}"),
          "xadd": re.compile(r"\d{1,20}"), "stat": STAT}
+
+
+def rights_of(text):
+    """Whether bytes may be written too."""
+    if text not in ("r", "rw"):
+        raise NoForm
+    return text == "rw"
+
+
+RIGHTS = OperandKind("r, or rw", rights_of, 0, 1, lambda value: "rw" if value else "r")
+RANGE = (("address", ADDRESS), ("length", SIZE))
+MAPPINGS = {"unmap": RANGE, "protect": RANGE + (("rights", RIGHTS),)}
 
 
 class BadInput(Exception):
@@ -110,10 +126,12 @@ def read_events(text, whose):
     return events
 
 
-def read_case(path, text, is_strict=True):
-    """A case; a strict one has a rule and a reply for each command."""
+def read_case(path, text, is_strict=True, has_mappings=False):
+    """A case; a strict one has a rule and a reply for each command. Without mappings it has none of the kit's own words."""
     case = Case(os.path.splitext(os.path.basename(path))[0], text)
-    require_language(path, text)
+    if not has_mappings:
+        require_no_mappings(path, text)
+    require_language(path, text, has_mappings)
     comment = []
     for number, line in enumerate(text.split("\n"), 1):
         words = line.split()
@@ -133,15 +151,34 @@ def read_case(path, text, is_strict=True):
     return case
 
 
-def require_language(path, text):
+@contextlib.contextmanager
+def language_of_the_kit():
+    """The reader of scripts knows the kit's own words too."""
+    CALLS.update(MAPPINGS)
+    try:
+        yield
+    finally:
+        for word in MAPPINGS:
+            del CALLS[word]
+
+
+def require_language(path, text, has_mappings):
     """The case is a script; the fault of one that is none is told as ./shmsim --explain tells it."""
     try:
-        read_script(text)
+        with language_of_the_kit() if has_mappings else contextlib.nullcontext():
+            read_script(text)
     except ScriptFault as fault:
         lines = text.split("\n")
         near = nearest(fault, lines[fault.line - 1]) if 0 < fault.line <= len(lines) else ""
         cause = fault.kind + f", allowed here: {fault.allowed}" * bool(fault.allowed) + f"; nearest form: {near}" * bool(near)
         raise BadCase(path, fault.line, fault.word, cause) from None
+
+
+def require_no_mappings(path, text):
+    for number, line in enumerate(text.split("\n"), 1):
+        word = next((word.text for word in words_of(line)[1:2] if word.text in MAPPINGS), "")
+        if word and not line.lstrip().startswith("#"):
+            raise BadCase(path, number, word, "a call of the library alone, which ./shmsim has not: run the case with --library")
 
 
 def take_reply(path, case, number, line):
