@@ -7,6 +7,7 @@ use Rattle.shm_base.specs.Step.{Caller as FlatCaller}
 use Rattle.shm_attach.specs.declared.process.Caller.{Caller}
 use Rattle.shm_segments.specs.declared.head.Found.{Found}
 use Rattle.shm_segments.specs.Table as table
+use Rattle.shm_life.specs.Sound.{AreProcesses}
 use Rattle.shm_life.proofs.Leaving.{orphans-among}
 use Rattle.shm_life.proofs.Pieces.{fit-set, fit-same}
 use Rattle.shm_life.proofs.Settled.{caller-fits}
@@ -35,7 +36,7 @@ kept-relocked : (limits : Bounds) (t : List Entry) (rs : List Runner) (seg : ℕ
 kept-relocked limits t rs seg b k few =
     let same : SamePages t (change t seg (relocked b)) = change-pages (relocked b) (λ s. refl) t seg in
     kept-by limits t (change t seg (relocked b)) rs rs k (omega (arith, same.size)) (omega (arith, same.reserved)) few (fit-same t (change t seg (relocked b)) rs same k.pieces)
-    (λ i h. absurd (true≢false (sym (k.orphans i (sym (change-left (relocked b) (λ s. refl) t seg rs i) ∙ h)))))
+    (λ i h. absurd (true≢false (sym (k.orphans i (sym (change-left (relocked b) (λ s. refl) t seg rs i) ∙ h))))) k.processes
 
 -- a segment locked or unlocked
 pub relocked-well : (limits : Bounds) (t : List Entry) (rs : List Runner) (ts : List Translation) (m n : StoreView) (seg : ℕ) (b : Bool) → IsWell limits t rs ts m → locked (change t seg (relocked b)) ≤ limits.memlock
@@ -88,5 +89,5 @@ either-same (Err e) t u w written same alike = rw same (same-refl t)
 pub born-fits : (t : List Entry) (rs : List Runner) (k : FlatCaller) (child : Child) → PiecesFit t rs → All (PieceFits t) k.pieces → PiecesFit t (born_child rs k child)
 born-fits t rs k child fit own = fit-set t rs child.index (record { pid = child.pid; life = Live k.cred; pieces = k.pieces }) fit own
 
-pub forked-kept : (limits : Bounds) (t : List Entry) (rs after : List Runner) → IsTableSound limits t rs → PiecesFit t after → ((id : ℕ) → attach_count rs id ≤ attach_count after id) → IsTableSound limits t after
-forked-kept limits t rs after k fit more = kept-by limits t t rs after k (omega arith) (omega arith) k.locked fit (orphans-among [] rs after t k.orphans (λ id _. more id))
+pub forked-kept : (limits : Bounds) (t : List Entry) (rs after : List Runner) → IsTableSound limits t rs → PiecesFit t after → ((id : ℕ) → attach_count rs id ≤ attach_count after id) → AreProcesses limits.most_processes after → IsTableSound limits t after
+forked-kept limits t rs after k fit more processes = kept-by limits t t rs after k (omega arith) (omega arith) k.locked fit (orphans-among [] rs after t k.orphans (λ id _. more id)) processes

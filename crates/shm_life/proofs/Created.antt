@@ -148,6 +148,7 @@ created-kept limits t u rs key h id k is room dest loose = by (free_index t) ref
           locked = omega (arith, a.locks, locks, k.locked);
           memlock = k.memlock;
           pieces = fit-table t v rs (λ n d j e lt li fit. fits-added t v i s a free (get_or (get_or rs n d).pieces j e) fit) k.pieces;
+          processes = k.processes;
           orphans = orphans-added t v i s a free dest rs k.orphans;
         }
 

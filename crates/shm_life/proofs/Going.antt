@@ -3,7 +3,9 @@
 use Rattle.shm_life.proofs.Names.{common_steps, ◌≡◌, ◌≤◌, ℕ, ◌+◌, ◌*◌, ◌%◌, false, List, [], ◌∷◌, zero, suc, Some, None, refl, sym, ap, ◌∙◌, arith, All-nil, All, set_in, Bounds, Piece, Life, Live, Entry, Runner, cut, pieces_of, origin_of, without_named, change, with_entry, attached, detached, detach_all, segments_of, AtFlags, StoreView, Translation, AreTrue, IsCaller, caller_seen, pieces_at, IsLive, SameTable, change-same, Placed, piece_for, pieces_after, lost_to, PieceFits, is_among, IsTableSound, IsTableSoundBut, IsWell, IsWellBut}
 use Rattle.std.proofs.Common.{slice_get, slice_set, Option, option_map}
 use Rattle.shm_attach.specs.declared.process.Caller.{Caller}
+use Rattle.shm_life.specs.Sound.{AreProcesses}
 use Rattle.shm_life.proofs.Leaving.{keeps-set, keeps-all, keeps-without, keeps-cut}
+use Rattle.shm_life.proofs.Peopled.{set-apart}
 use Rattle.shm_life.proofs.Pieces.{pass-cut, pass-inserted, pass-without, piece-same}
 use Rattle.shm_life.proofs.Settled.{settled-table, caller-runner, caller-fits, lives-map, lives-cut, lives-origin}
 
@@ -25,9 +27,13 @@ module _ (limits : Bounds) (t : List Entry) (rs : List Runner) (c : Caller) (k :
   own : All (PieceFits t) (pieces_at rs c.index)
   own = caller-fits t c rs is k.pieces
 
+  same-processes : (life : Life) (ps : List Piece) → AreProcesses limits.most_processes (replaced rs c life ps)
+  same-processes life ps =
+      set-apart limits.most_processes rs c.index (record { pid = c.pid; life = life; pieces = ps }) (record { pid = c.pid; life = Live c.cred; pieces = pieces_at rs c.index }) (caller-runner c rs is) refl k.processes
+
   going : (life : Life) (ps : List Piece) (lost : List ℕ) → All (PieceFits t) ps → ((id : ℕ) → is_among lost id ≡ false → pieces_of id (pieces_at rs c.index) ≤ pieces_of id ps)
       → IsTableSoundBut lost limits t (replaced rs c life ps)
-  going life ps lost fits le = grind (arith, common_steps, keeps-set, caller-runner)
+  going life ps lost fits le = grind (arith, common_steps, keeps-set, caller-runner, same-processes)
 
   -- shmdt
   pub named-go : (addr seg : ℕ) → option_map (λ (p : Piece). p.seg) (origin_of addr (pieces_at rs c.index)) ≡ Some seg

@@ -14,3 +14,4 @@ pub mod Going
 pub mod Attaching
 pub mod Reserved
 pub mod Joining
+pub mod Peopled

@@ -4,6 +4,7 @@ use Rattle.std.proofs.Common.{map, Option, true≢false}
 use Rattle.shm_base.specs.Bounds.{Bounds}
 use Rattle.shm_base.specs.declared.bounds.TheConstants.{MOST_FRAMES, MOST_PROCESSES, MOST_SHMALL, MOST_SLOTS}
 use Rattle.shm_life.proofs.Pieces.{all-cons}
+use Rattle.shm_life.proofs.Peopled.{fresh-apart}
 
 both : (a b : Bool) → a && b ≡ true → (a ≡ true) × (b ≡ true)
 both a b e = grind arith
@@ -32,14 +33,15 @@ pids-apart (p ∷ ps) is =
     AllPairs-cons (λ (x y : Process). x.pid ≢ y.pid) p ps (not_there p.pid ps parts.0) (pids-apart ps parts.1)
 
 -- what a start without an error gives
-pub record IsOpen {X : Type 0} (size : X → ℕ) (pagers : List X) (ps : List Process) : Type 0 where
+pub record IsOpen {X : Type 0} (most : ℕ) (size : X → ℕ) (pagers : List X) (ps : List Process) : Type 0 where
   pub areas : (1 ≤ length pagers) × (length pagers ≤ 8)
   pub sizes : All (λ p. IsAreaSize (size p)) pagers
   pub few : length ps ≤ MOST_PROCESSES
+  pub declared : length ps ≤ most
   pub apart : AllPairs (λ (p q : Process). p.pid ≢ q.pid) ps
 
 pub is_open : {X : Type 0} (limits : Bounds) (size : X → ℕ) (pagers : List X) (ps : List Process) → limits.most_processes ≤ MOST_PROCESSES → limits.most_slots ≤ MOST_SLOTS
-    → start_error limits (map size pagers) ps ≡ None → IsOpen size pagers ps
+    → start_error limits (map size pagers) ps ≡ None → IsOpen limits.most_processes size pagers ps
 is_open limits size pagers ps processes slots is = grind (arith, common_steps, pids-apart, all-sizes)
 
 -- the areas as they are handed in have the pagers' sizes
@@ -62,8 +64,8 @@ owners-new content failed (p ∷ ps) zero slot = none-owned (length (content p))
 owners-new content failed (p ∷ ps) (suc area) slot = owners-new content failed ps area slot
 
 -- without segments and pieces nothing is owed
-pub fresh-kept : (limits : Bounds) (ps : List Process) → limits.shmall ≤ MOST_SHMALL → limits.memlock ≤ MOST_FRAMES → IsTableSound limits [] (map runner_at_start ps)
-fresh-kept limits ps shmall memlock =
+pub fresh-kept : (limits : Bounds) (ps : List Process) → limits.shmall ≤ MOST_SHMALL → limits.memlock ≤ MOST_FRAMES → length ps ≤ limits.most_processes → AllPairs (λ (p q : Process). p.pid ≢ q.pid) ps → IsTableSound limits [] (map runner_at_start ps)
+fresh-kept limits ps shmall memlock few apart =
     record {
       few = omega arith;
       reserved = omega arith;
@@ -72,4 +74,5 @@ fresh-kept limits ps shmall memlock =
       memlock = memlock;
       pieces = All-map (λ (r : Runner). All (PieceFits []) r.pieces) runner_at_start ps (λ k d lt. All-nil (PieceFits []));
       orphans = λ i h. absurd (true≢false (sym h));
+      processes = fresh-apart limits.most_processes ps few apart;
     }

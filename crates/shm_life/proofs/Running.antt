@@ -10,6 +10,7 @@ use Rattle.shm_base.specs.History.{is_refusal}
 use Rattle.shm_base.specs.declared.call.Reply.{Reply}
 use Rattle.shm_base.specs.declared.call.Reply.TheVariants.{Refused}
 use Rattle.shm_base.specs.declared.errno.Errno.{Errno}
+use Rattle.shm_life.specs.Sound.{AreProcesses}
 use Rattle.shm_life.specs.MachineView.{MachineView, Answered, IsFailed, LocksNothing, names_failure}
 use Rattle.std.specs.Prelude.{Result, Ok, Err}
 
@@ -73,9 +74,9 @@ pub sweeps-none : (rs : List Runner) (a : List Entry) → Sweeps rs a a
 sweeps-none rs a = record { swept = refl; size = refl; reserved = omega arith; locked = omega arith; pieces = λ fit. fit }
 
 -- another table and other processes, where nothing grows past its bound
-pub kept-by : {lost more : List ℕ} (limits : Bounds) (t u : List Entry) (rs after : List Runner) → IsTableSoundBut lost limits t rs → length u ≤ length t → reserved u ≤ reserved t → locked u ≤ limits.memlock → PiecesFit u after → OrphansAmong more after u
+pub kept-by : {lost more : List ℕ} (limits : Bounds) (t u : List Entry) (rs after : List Runner) → IsTableSoundBut lost limits t rs → length u ≤ length t → reserved u ≤ reserved t → locked u ≤ limits.memlock → PiecesFit u after → OrphansAmong more after u → AreProcesses limits.most_processes after
     → IsTableSoundBut more limits u after
-kept-by limits t u rs after k few_entries few_pages few_locked pieces orphans = grind arith
+kept-by limits t u rs after k few_entries few_pages few_locked pieces orphans processes = grind arith
 
 -- once no orphan is left, all is as it was
 pub swept-well : {lost : List ℕ} (limits : Bounds) (rs : List Runner) (ts : List Translation) (t u : List Entry) (m n : StoreView) → SweptTo rs ts t u m n → OrphansAmong [] rs u

@@ -12,7 +12,7 @@ orphans-same ids rs t u left own among = λ i h. ap (is_among ids) (own i) ∙ a
 -- where no piece goes
 pub settled-table : {lost : List ℕ} (limits : Bounds) (t u : List Entry) (rs : List Runner) → IsTableSoundBut lost limits t rs → SameTable t u → IsTableSoundBut lost limits u rs
 settled-table {lost} limits t u rs k same =
-    kept-by limits t u rs rs k (omega (arith, same.same.size)) (omega (arith, same.same.reserved)) (omega (arith, k.locked, same.locked)) (fit-same t u rs same.same k.pieces) (orphans-same lost rs t u same.left same.same.ids k.orphans)
+    kept-by limits t u rs rs k (omega (arith, same.same.size)) (omega (arith, same.same.reserved)) (omega (arith, k.locked, same.locked)) (fit-same t u rs same.same k.pieces) (orphans-same lost rs t u same.left same.same.ids k.orphans) k.processes
 
 -- nor the memory loses a frame
 pub still-well : {lost : List ℕ} (limits : Bounds) (t u : List Entry) (rs : List Runner) (ts us : List Translation) (m n : StoreView) → IsWellBut lost limits t rs ts m → SameTable t u

@@ -19,6 +19,7 @@ use Rattle.shm_fault.specs.Sound.{IsStoreSound}
 use Rattle.shm_attach.specs.Spaces.{caller_seen}
 use Rattle.shm_attach.specs.declared.process.Caller.{Caller}
 use Rattle.shm_segments.specs.View.{ShowsTable}
+use Rattle.shm_life.specs.Sound.{AreProcesses}
 use Rattle.shm_base.specs.declared.bounds.TheConstants.{MOST_SHMALL}
 
 pub record MachineView : Type 0 where
@@ -87,7 +88,8 @@ pub record IsWithoutMemory (o : Outcome) (s t : MachineView) : Type 0 where
   pub instead : is_refusal o.reply ≡ false
 
 -- The memory shows the flat machine and is sound, and no count is out of its bound: the slots that are used are
--- no more than the pages of all segments, these no more than the slots that are there, nor than the limit
+-- no more than the pages of all segments, these no more than the slots that are there, nor than the limit. There are as many
+-- processes as there may be, no two with one pid
 pub record IsExactly (m : Machine) (memory : StoreView) : Type 0 where
   pub sound : IsStoreSound memory
   pub shows : ShowsTable m.table memory
@@ -98,3 +100,4 @@ pub record IsExactly (m : Machine) (memory : StoreView) : Type 0 where
   pub reserved : flat.reserved m.table ≤ m.limits.shmall
   pub shmall : m.limits.shmall ≤ MOST_SHMALL
   pub locked : flat.locked m.table ≤ m.limits.memlock
+  pub processes : AreProcesses m.limits.most_processes m.runners

@@ -6,10 +6,9 @@ use Rattle.shm_base.specs.declared.flags.AtFlags.{AtFlags}
 use Rattle.shm_base.specs.State.{Piece, Machine, pages_in}
 use Rattle.shm_base.specs.Identifier.{Look, Invalid, Removed, Found, look, identifier, destroyed_at}
 use Rattle.shm_base.specs.Permission.{grants}
-use Rattle.shm_base.specs.Space.{choose, cut}
+use Rattle.shm_base.specs.Space.{choose, cut, new_piece}
 use Rattle.shm_base.specs.Step.{Caller, is_rdonly, at_wish}
 use Rattle.shm_areas.specs.Fixed.{fixed}
-use Rattle.shm_attach.specs.Place.{new_piece}
 use Rattle.shm_life.specs.Address.{misplaced}
 use Rattle.shm_life.specs.declared.shmat.Placed.{Placed}
 use Rattle.shm_base.specs.declared.paging.TheConstants.{PAGE_SIZE}

@@ -1,6 +1,6 @@
 -- What always holds between a machine's limits, its segments and its pieces. Within a call the segments among `lost`
 -- may be marked and without pieces.
-use Rattle.std.specs.Prelude.{ℕ, ◌≡◌, ◌≤◌, ◌+◌, List, [], length}
+use Rattle.std.specs.Prelude.{ℕ, ◌≡◌, ◌≢◌, ◌≤◌, ◌+◌, List, [], length, AllPairs}
 use Rattle.shm_base.specs.Bounds.{Bounds}
 use Rattle.shm_base.specs.State.{Entry, Runner}
 use Rattle.shm_base.specs.Segments.{reserved, locked}
@@ -10,6 +10,11 @@ use Rattle.shm_life.specs.Tied.{PiecesFit}
 use Rattle.shm_life.specs.Orphans.{OrphansAmong}
 use Rattle.shm_base.specs.declared.bounds.TheConstants.{INDEXES, MOST_FRAMES, MOST_SHMALL}
 
+-- as many processes as there may be, no two with one pid
+pub record AreProcesses (most : ℕ) (rs : List Runner) : Type 0 where
+  pub few : length rs ≤ most
+  pub apart : AllPairs (λ (p q : Runner). p.pid ≢ q.pid) rs
+
 pub record IsTableSoundBut (lost : List ℕ) (limits : Bounds) (table : List Entry) (rs : List Runner) : Type 0 where
   pub few : length table ≤ INDEXES
   pub reserved : reserved table ≤ limits.shmall
@@ -18,6 +23,7 @@ pub record IsTableSoundBut (lost : List ℕ) (limits : Bounds) (table : List Ent
   pub memlock : limits.memlock ≤ MOST_FRAMES
   pub pieces : PiecesFit table rs
   pub orphans : OrphansAmong lost rs table
+  pub processes : AreProcesses limits.most_processes rs
 
 -- so it is, there are as many frames as the limits say, two more than may be locked, and each page of each
 -- piece is where its translation says

@@ -44,7 +44,7 @@ impl<P: Pager> System<P> {
             used_ids: self.kernel.segments.count(),
             pages: self.kernel.segments.reserved(),
             resident: pages.resident,
-            swapped: self.store().swapped(),
+            swapped: self.store().swapped() as u64,
         }
     }
 

@@ -3,6 +3,7 @@ use Rattle.std.specs.Prelude.{List}
 use Rattle.shm_attach.specs.Spaces.{SpacesView, Translation}
 use Rattle.shm_life.proofs.Changed.{forked-kept}
 use Rattle.shm_life.proofs.Joining.{fit-dismissed}
+use Rattle.shm_life.proofs.Peopled.{dismissed-apart}
 use Rattle.shm_life.proofs.kernel.Kernel.dismiss.Goals as goal
 
 pub invariant_of-self : goal.invariant_of-self
@@ -14,7 +15,7 @@ invariant_of-self g c =
     let e = c.dismiss.ensures in
     let fits = fit-dismissed t c.args.pid a b c.dismiss.result e.leaves e.refused w.kept.pieces in (
       record {
-        kept = forked-kept c.self.inside.limits t a.runners b.runners w.kept fits (λ id. omega (arith, e.counts id));
+        kept = forked-kept c.self.inside.limits t a.runners b.runners w.kept fits (λ id. omega (arith, e.counts id)) (dismissed-apart c.self.inside.limits.most_processes c.args.pid a b c.dismiss.result e.leaves e.refused w.kept.processes);
         frames = w.frames;
         room = w.room;
         translated = subst (λ (ts : List Translation). AreTrue ts c.self.inside.segments.memory) (sym (ap (λ (v : SpacesView). v.translations) e.rest)) w.translated;

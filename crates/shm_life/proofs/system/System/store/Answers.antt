@@ -19,4 +19,5 @@ returns-clause-exact g c =
       reserved = k.reserved;
       shmall = k.shmall;
       locked = k.locked;
+      processes = k.processes;
     }
