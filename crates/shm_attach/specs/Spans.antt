@@ -39,3 +39,7 @@ pub record AreSpans (write : Bool) (ps : List Piece) (addr len : ℕ) (s : List 
   pub within : All InPage s
   pub sum : sum_by (λ (p : Span). p.len) s ≡ len
   pub pages : (test : ℕ → ℕ → Bool) → PassPages test ps → All (λ (p : Span). test p.seg (page_of p) ≡ true) s
+
+-- a piece whose segment passes one test, and each of whose pages another
+abbrev pub HasPages : (ℕ → Bool) → (ℕ → ℕ → Bool) → Piece → Type 0
+HasPages seg page p = (seg p.seg ≡ true) × ((j : ℕ) → j < p.pages → page p.seg (p.first_page + j) ≡ true)
