@@ -145,6 +145,11 @@ pub with_pieces-of : (c : Caller) (rs shown : List flat.Runner) (f : List flat.P
     → with_pieces_at rs c.index f ≡ with_pieces shown (caller_seen c shown) (f (pieces_at shown c.index))
 with_pieces-of c rs shown f same is = ap (λ (xs : List flat.Runner). with_pieces_at xs c.index f) same ∙ sym (with_pieces-at c shown f is)
 
+-- it has these pieces now
+pub with_pieces_now : (c : Caller) (rs shown : List flat.Runner) (ps : List flat.Piece) → rs ≡ shown → IsCaller c shown
+    → with_pieces_at rs c.index (λ (_ : List flat.Piece). ps) ≡ with_pieces shown (caller_seen c shown) ps
+with_pieces_now c rs shown ps same is = with_pieces-of c rs shown (λ (_ : List flat.Piece). ps) same is
+
 pub not_live : (i pid : ℕ) (ps : List flat.Piece) (l : Life) → ((cred : Cred) → l ≡ Live cred → ⊥) → caller_by i pid ps (life_view l) ≡ None
 not_live i pid ps l never = grind arith
 
