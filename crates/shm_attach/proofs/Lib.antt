@@ -12,3 +12,4 @@ pub mod Translations
 pub mod Starts
 pub mod FlatSteps
 pub mod Joining
+pub mod Protecting
