@@ -1,12 +1,13 @@
 -- A part of an attach takes another protection: where it begins and ends, and why it may stand there.
-use Rattle.shm_attach.proofs.Names.{most_at, ◌≡◌, ℕ, ◌+◌, ◌-◌, ◌*◌, ◌/◌, ◌%◌, ◌<◌, ◌≤◌, Bool, true, false, not, ◌&&◌, nat_lt, lt-ltb, le-ltb, List, [], ◌∷◌, length, Option, Some, None, refl, ap, sym, ◌∙◌, arith, common_steps, none-some, All, All-nil, All-cons, All-head, All-tail, length-map, Slab, get, is_live, end_of, covering, cut, inserted, lowest_address, end_address, bare, bare_all, IsFit, Arranged, Tables, runner_view, runners_view, pieces_at, life_at, size_in, HasTable, OneTableEach, AreTablesSound, no_reservations, Piece, Runner, MOST_PIECES, MOST_SHMALL}
+use Rattle.shm_attach.proofs.Names.{most_at, ◌≡◌, ◌≢◌, ◌==◌, ◌^◌, eq-eqb, ne_eqb, nat_le, ℕ, ◌+◌, ◌-◌, ◌*◌, ◌/◌, ◌%◌, ◌<◌, ◌≤◌, zero, suc, Bool, true, false, not, ◌&&◌, nat_lt, lt-ltb, le-ltb, lt-leb, le-leb, List, [], ◌∷◌, length, Option, Some, None, refl, ap, ◌∙◌, arith, common_steps, none-some, All, All-nil, All-cons, All-head, All-tail, length-map, get, is_live, end_of, covering, cut, inserted, lowest_address, end_address, bare, bare_all, IsFit, Arranged, Tables, runner_view, runners_view, with_pieces_at, pieces_at, life_at, size_in, HasTable, OneTableEach, AreTablesSound, no_reservations, Piece, Runner, MOST_PIECES, MOST_SHMALL}
 use Rattle.shm_base.specs.State as flat
-use Rattle.shm_base.specs.Mapping.{goes_on, has_protection, joined_below, joined_above, low_end, high_end, part_between, turned, replaced, Protected, stopped, protects_piece}
+use Rattle.shm_base.specs.State.{pages_of}
+use Rattle.shm_base.specs.Mapping.{has_protection, low_end, high_end, part_between, turned, replaced, Protected, stopped, protects_piece, protects_from, protects_pieces, rounded}
 use Rattle.shm_base.specs.declared.errno.Errno.TheVariants.{Enomem}
-use Rattle.shm_attach.specs.Mapping.{IsStretch, CanReplace, AreNow}
+use Rattle.shm_attach.specs.Mapping.{IsStretch, CanReplace, AreNow, protected_between}
 use Rattle.shm_attach.proofs.Accesses.{covering-passes}
 use Rattle.shm_attach.proofs.Processes.{length-inserted}
-use Rattle.shm_attach.proofs.Keeping.{pieces_at-changed, with_pieces_at-same, with_pieces_at-twice}
+use Rattle.shm_attach.proofs.Keeping.{life_at-changed, pieces_at-changed, with_pieces_at-same, with_pieces_at-twice}
 
 -- WHAT A PROCESS HAS NOW
 
@@ -78,6 +79,7 @@ high_is w at to p ps size ar found page lt sized = by (covering (end_of p) ps) r
   where
     Sized : flat.Piece → Type 0
     Sized q = q.seg ≡ p.seg → q.first_page + q.pages ≤ size
+
     by : (o : Option flat.Piece) → covering (end_of p) ps ≡ o → IsHigh p size at (high_end w at to p ps)
     by None is =
         let here = covering_there at lowest_address ps p ar found in
@@ -151,3 +153,45 @@ replaced_by p q w size at low high ps is l h =
     let ends : end_of q ≡ high = ap end_of is ∙ part_ends p size at low high w l h in
     let begins : q.base ≡ low = ap (λ (x : flat.Piece). x.base) is in
     rw (ends, begins, is) refl
+
+-- PIECE BY PIECE
+
+-- one change after another
+pub now-then : (es fs gs : List (ℕ × Runner)) (t u v : Tables) (i : ℕ) (ps qs : List flat.Piece) → i < length es → AreNow es fs t u i ps → AreNow fs gs u v i qs → AreNow es gs t v i qs
+now-then es fs gs t u v i ps qs lt first then =
+    record {
+      runners =
+          then.runners
+          ∙ ap (λ rs. with_pieces_at rs i (λ (_ : List flat.Piece). qs)) first.runners
+          ∙ with_pieces_at-twice (runners_view es) i (λ (_ : List flat.Piece). ps) (λ (_ : List flat.Piece). qs) (omega (arith, lt, length-map es runner_view));
+      count = then.count ∙ first.count;
+      most = λ j. then.most j ∙ first.most j;
+      sound = then.sound;
+      translated = λ at all. then.translated at (first.translated at all);
+    }
+
+pub lives-now : (es fs : List (ℕ × Runner)) (t u : Tables) (i : ℕ) (ps : List flat.Piece) → i < length es → AreNow es fs t u i ps → is_live (life_at (runners_view es) i) ≡ true → is_live (life_at (runners_view fs) i) ≡ true
+lives-now es fs t u i ps lt now live =
+    let same = life_at-changed (runners_view es) i (λ (_ : List flat.Piece). ps) (omega (arith, lt, length-map es runner_view)) in
+    ap (λ rs. is_live (life_at rs i)) now.runners ∙ ap is_live same ∙ live
+
+-- pages that are left come to the piece of the first of them
+pub protects-next : (left most : ℕ) (w : Bool) (to at : ℕ) (ps : List flat.Piece) → at < to → to ≤ at + 4096 * left
+    → protects_from left most w to at ps ≡ protects_piece most w at to ps (protects_from (left - 1) most w to) (covering at ps)
+protects-next zero most w to at ps lt enough = absurd (omega (arith, lt, enough))
+protects-next (suc left) most w to at ps lt enough = let less : suc left - 1 ≡ left = omega arith in rw (lt-leb to at lt, less) refl
+
+-- no page is left
+pub protects-done : (left most : ℕ) (w : Bool) (to at : ℕ) (ps : List flat.Piece) → to ≤ at → protects_from left most w to at ps ≡ record { pieces = ps; refusal = None }
+protects-done zero most w to at ps le = refl
+protects-done (suc left) most w to at ps le = rw (le-leb to at le) refl
+
+-- all pages of a range of bytes
+pub protected-whole : (most : ℕ) (w : Bool) (addr len to : ℕ) (ps : List flat.Piece) → addr % 4096 ≡ 0 → len ≢ 0 → to ≡ addr + rounded len → addr + rounded len < 2 ^ 64
+    → protected_between most w addr to ps ≡ protects_pieces most w addr len ps
+protected-whole most w addr len to ps page some ends fits =
+    let count : (to - addr) / 4096 ≡ pages_of len = omega (arith, ends) in
+    let first : (addr % 4096 == 0) ≡ true = eq-eqb (addr % 4096) 0 page in
+    let bytes : (len == 0) ≡ false = ne_eqb len 0 some in
+    let below : nat_le (2 ^ 64) (addr + rounded len) ≡ false = lt-leb (2 ^ 64) (addr + rounded len) fits in
+    rw (first, bytes, below, count, ends) refl

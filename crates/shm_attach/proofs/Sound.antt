@@ -1,5 +1,5 @@
 -- The counts stay exact, and each piece has its segment's table, where one process changes.
-use Rattle.shm_attach.proofs.Names.{is_live, true, false, true≢false, most_at, length-set_value_at, values_of, ◌≡◌, ◌≢◌, ℕ, ◌+◌, ◌<◌, ◌≤◌, List, [], length, Some, slice_get, sym, subst, arith, common_steps, All, length-map, set_value_at, lowest_address, inserted, cut, without_named, pieces_of, bare_all, Arranged, arranged_cut, arranged_inserted, Tables, runner_view, runners_view, with_pieces_at, with_life_at, pieces_at, life_at, counted, stored_at, HasTable, OneTableEach, AllHaveTables, IsPlaceFor, IsCuttable, AreCountsExact, AreTablesSound, HasReservations, no_reservations, one_reserved, Unborn, Piece, Runner, MOST_PIECES, most_of_segment}
+use Rattle.shm_attach.proofs.Names.{is_live, true, false, true≢false, most_at, length-set_value_at, values_of, ◌≡◌, ◌≢◌, ℕ, ◌+◌, ◌<◌, ◌≤◌, List, [], length, Some, slice_get, sym, subst, arith, common_steps, All, length-map, set_value_at, lowest_address, inserted, cut, without_named, pieces_of, bare_all, Arranged, arranged_cut, arranged_inserted, Tables, runner_view, runners_view, with_pieces_at, with_life_at, pieces_at, life_at, counted, stored_at, HasTable, OneTableEach, AllHaveTables, IsPlaceFor, IsCuttable, AreCountsExact, AreTablesSound, HasReservations, no_reservations, one_reserved, Piece, Runner, MOST_PIECES, most_of_segment}
 use Rattle.shm_base.specs.State as flat
 use Rattle.shm_attach.proofs.Processes.{some_if-le, runners_set, length-inserted, shorter_filter}
 use Rattle.shm_attach.proofs.Keeping.{IsExact-changed, IsExact-life, arranged-without, small_counts, own_counted}

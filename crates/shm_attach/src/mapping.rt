@@ -90,12 +90,7 @@ fn part_between(piece: &Piece, low: u64, high: u64, writable: bool) -> Piece
 }
 
 /// Puts a part of an attach in place of what is in its range.
-fn renew(
-    processes: &mut IndexMap<u32, Runner>,
-    tables: &mut Tables,
-    index: usize,
-    part: Piece,
-)
+fn renew(processes: &mut IndexMap<u32, Runner>, tables: &mut Tables, index: usize, part: Piece)
     requires can { CanReplace processes.old.entries tables.old index part }
     requires sound { AreTablesSound no_reservations processes.old.entries tables.old }
     ensures { AreNow processes.old.entries processes.new.entries tables.old tables.new index (inserted (bare part) (cut part.base (access.end_of (bare part)) (pieces_at (runners_view processes.old.entries) index))) }

@@ -1,4 +1,4 @@
-use Rattle.shm_attach.proofs.Names.{◌≡◌, ℕ, ◌+◌, ◌*◌, ◌<◌, ◌≤◌, ◌∙◌, ap, arith, List, length, common_steps, cut, end_of, inserted, bare, Tables, some_if, runner_view, runners_view, with_pieces_at, pieces_at, most_at, AreTablesSound, HasReservations, no_reservations, one_reserved, AllTrue, counted, HasTable, length-map, Piece, Runner, MOST_PIECES}
+use Rattle.shm_attach.proofs.Names.{◌≡◌, ◌+◌, ◌*◌, ◌<◌, ◌≤◌, ◌∙◌, ap, arith, List, length, common_steps, cut, end_of, inserted, bare, runner_view, runners_view, with_pieces_at, pieces_at, AreTablesSound, no_reservations, one_reserved, HasTable, length-map, MOST_PIECES}
 use Rattle.shm_base.specs.State as flat
 use Rattle.shm_attach.proofs.Processes.{some_if-le}
 use Rattle.shm_attach.proofs.Keeping.{pieces_at-changed, with_pieces_at-const, with_pieces_at-twice}

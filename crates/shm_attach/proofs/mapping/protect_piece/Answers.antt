@@ -1,6 +1,6 @@
-use Rattle.shm_attach.proofs.Names.{true≢false, most_at, ◌≡◌, ◌∙◌, ℕ, ◌+◌, ◌<◌, ◌≤◌, true, false, List, length, Some, get_or, ap, sym, subst, arith, common_steps, All, get, end_of, covering, inserted, cut, bare, bare_all, runners_view, pieces_at, stored_at, size_in, HasTable}
+use Rattle.shm_attach.proofs.Names.{true≢false, most_at, ◌≡◌, ◌∙◌, ◌<◌, true, false, List, length, Some, get_or, ap, sym, subst, arith, common_steps, All, get, covering, cut, bare, runners_view, pieces_at, stored_at, size_in, HasTable}
 use Rattle.shm_base.specs.State.{Piece}
-use Rattle.shm_base.specs.Mapping.{has_protection, Protected, low_end, high_end, turned, replaced, protects_piece}
+use Rattle.shm_base.specs.Mapping.{has_protection, low_end, high_end, turned, replaced}
 use Rattle.shm_attach.specs.Mapping.{AreNow}
 use Rattle.shm_attach.proofs.HavingTables.{pieces_at-bare, has_table, tables-passes, tables-passed}
 use Rattle.shm_attach.proofs.Protecting.{replaced_by, IsTurnable, protects-refused, protects-turned, IsLow, IsHigh, now-same, pieces-now, low_is, high_is, sized_by, stretch_of, part_replaces}

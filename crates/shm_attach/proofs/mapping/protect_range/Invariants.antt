@@ -1,4 +1,4 @@
-use Rattle.shm_attach.proofs.Names.{◌≡◌, ℕ, ◌+◌, ◌-◌, ◌*◌, ◌/◌, ◌%◌, ◌≤◌, runners_view, pieces_at, most_at}
+use Rattle.shm_attach.proofs.Names.{◌≡◌, ℕ, ◌+◌, ◌-◌, ◌*◌, ◌%◌, ◌≤◌, runners_view, pieces_at, most_at}
 use Rattle.shm_base.specs.Mapping.{protects_from}
 use Rattle.shm_attach.specs.Mapping.{protected_between, AreNow}
 use Rattle.shm_attach.proofs.mapping.protect_range.Given as goal

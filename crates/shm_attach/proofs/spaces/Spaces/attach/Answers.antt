@@ -1,5 +1,5 @@
-use Rattle.shm_attach.proofs.Names.{LostView, ◌≡◌, ℕ, ◌+◌, ◌*◌, ◌<◌, ◌≤◌, ◌∙◌, ap, sym, subst, arith, List, length, common_steps, cut, inserted, bare, frame_of, runner_view, runners_view, SpacesView, Translation, AreTrue, IsCaller, pieces_at, AreTablesSound, no_reservations, one_reserved, AllTrue, translations_of, length-map, Piece, MOST_PIECES}
-use Rattle.shm_attach.proofs.Processes.{some_if-le, seg-met}
+use Rattle.shm_attach.proofs.Names.{LostView, ◌≡◌, ◌+◌, ◌*◌, ◌<◌, ◌≤◌, ◌∙◌, ap, sym, subst, arith, List, length, common_steps, cut, frame_of, runners_view, SpacesView, Translation, AreTrue, IsCaller, pieces_at, AreTablesSound, one_reserved, AllTrue, translations_of}
+use Rattle.shm_attach.proofs.Processes.{seg-met}
 use Rattle.shm_attach.proofs.Callers.{caller_within, caller_lives, with_pieces_now}
 use Rattle.shm_attach.proofs.HavingTables.{room_kept}
 use Rattle.shm_attach.proofs.Sound.{none_reserved, sound-reserved, counts-small}

@@ -1,4 +1,4 @@
-use Rattle.shm_attach.proofs.Names.{LostView, ◌∙◌, ◌≡◌, ◌<◌, ◌≤◌, ap, arith, length, common_steps, cut, runners_view, SpacesView, pieces_at, no_reservations}
+use Rattle.shm_attach.proofs.Names.{LostView, ◌∙◌, ◌<◌, ap, arith, length, common_steps, SpacesView, no_reservations}
 use Rattle.shm_attach.proofs.Processes.{seg-met}
 use Rattle.shm_attach.proofs.Callers.{caller_within, with_pieces-of}
 use Rattle.shm_attach.proofs.Translations.{keeps}
