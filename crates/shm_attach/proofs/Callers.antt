@@ -3,7 +3,7 @@ use Rattle.shm_attach.proofs.Names.{is_live, true, keys_of, ◌≡◌, ◌≢◌
 use Rattle.shm_base.specs.State as flat
 use Rattle.shm_attach.specs.declared.process.Caller.{Caller}
 use Rattle.shm_attach.specs.declared.process.Life.TheVariants.{Unborn}
-use Rattle.shm_attach.proofs.Keeping.{life_at-get_or}
+use Rattle.shm_attach.proofs.Keeping.{life_at-get_or, with_pieces_at-same}
 pub use Rattle.shm_attach.proofs.Processes.{first_runner}
 
 -- what a list of entries answers past its end
@@ -144,6 +144,16 @@ with_pieces-at c rs f is = sym (ap (with_own rs c.index f) (caller_there c rs is
 pub with_pieces-of : (c : Caller) (rs shown : List flat.Runner) (f : List flat.Piece → List flat.Piece) → rs ≡ shown → IsCaller c shown
     → with_pieces_at rs c.index f ≡ with_pieces shown (caller_seen c shown) (f (pieces_at shown c.index))
 with_pieces-of c rs shown f same is = ap (λ (xs : List flat.Runner). with_pieces_at xs c.index f) same ∙ sym (with_pieces-at c shown f is)
+
+-- it has these pieces now
+pub with_pieces_now : (c : Caller) (rs shown : List flat.Runner) (ps : List flat.Piece) → rs ≡ shown → IsCaller c shown
+    → with_pieces_at rs c.index (λ (_ : List flat.Piece). ps) ≡ with_pieces shown (caller_seen c shown) ps
+with_pieces_now c rs shown ps same is = with_pieces-of c rs shown (λ (_ : List flat.Piece). ps) same is
+
+-- it has the pieces that it had
+pub with_pieces_own : (c : Caller) (rs : List flat.Runner) → IsCaller c rs → rs ≡ with_pieces rs (caller_seen c rs) (pieces_at rs c.index)
+with_pieces_own c rs is =
+    with_pieces_at-same rs c.index (λ ps. ps) (slice_get_within rs c.index _ (caller_there c rs is)) refl ∙ sym (with_pieces-at c rs (λ ps. ps) is)
 
 pub not_live : (i pid : ℕ) (ps : List flat.Piece) (l : Life) → ((cred : Cred) → l ≡ Live cred → ⊥) → caller_by i pid ps (life_view l) ≡ None
 not_live i pid ps l never = grind arith

@@ -1,5 +1,5 @@
 -- The counts stay exact, and no process gets too many pieces.
-use Rattle.shm_attach.proofs.Names.{is_live, ◌≡◌, ◌≢◌, ℕ, zero, suc, ◌+◌, ◌*◌, ◌<◌, ◌≤◌, false, ◌==◌, List, [], ◌∷◌, ◌++◌, length, get_or, set, take, refl, ap, sym, ◌∙◌, arith, length-take, common_steps, cases_eq, slice_get-get_or, gets, set-set, get_or-map, set-get_or, sum_by-cons, sum_by-set, count_by-le-length, end_of, lowest_address, end_address, without_named, inserted, occupied, cut, parts, part_below, part_above, pieces_of, attach_count, bare, bare_all, IsFit, Arranged, lower, Tables, counted, with_own, with_pieces_at, with_other_life, with_life_at, pieces_at, life_at, AreCountsExact, IsPlaceFor, Unborn, Stored, MOST_PIECES, most_of_segment}
+use Rattle.shm_attach.proofs.Names.{is_live, ◌≡◌, ◌≢◌, ℕ, zero, suc, ◌+◌, ◌*◌, ◌<◌, ◌≤◌, false, ◌==◌, List, [], ◌∷◌, ◌++◌, length, get_or, set, take, refl, ap, sym, ◌∙◌, arith, length-take, common_steps, cases_eq, slice_get-get_or, gets, set-set, get_or-map, set-get_or, sum_by-cons, sum_by-set, count_by-le-length, end_of, lowest_address, end_address, without_named, inserted, occupied, cut, parts, part_below, part_above, pieces_of, attach_count, bare, bare_all, IsFit, Arranged, lower, Tables, counted, with_own, with_pieces_at, with_other_life, with_life_at, pieces_at, life_at, AreCountsExact, IsPlaceFor, Stored, MOST_PIECES, most_of_segment}
 use Rattle.shm_base.specs.State.{Piece, Life, Runner}
 use Rattle.shm_attach.proofs.Processes.{first_runner, attach_count-changed, one_more}
 
@@ -28,6 +28,11 @@ life_at-changed rs i f lt = grind (arith, common_steps, gets)
 pub with_pieces_at-twice : (rs : List Runner) (i : ℕ) (f g : List Piece → List Piece) → i < length rs
     → with_pieces_at (with_pieces_at rs i f) i g ≡ with_pieces_at rs i (λ ps. g (f ps))
 with_pieces_at-twice rs i f g lt = let there = slice_get-get_or rs i first_runner lt in grind (arith, common_steps, gets, set-set)
+
+-- the pieces that come of a change, in place of the change
+pub with_pieces_at-const : (rs : List Runner) (i : ℕ) (f : List Piece → List Piece) → i < length rs
+    → with_pieces_at rs i f ≡ with_pieces_at rs i (λ (_ : List Piece). f (pieces_at rs i))
+with_pieces_at-const rs i f lt = let there = slice_get-get_or rs i first_runner lt in grind (arith, common_steps, gets)
 
 -- a child is born with the pieces of another process
 module _ (rs : List Runner) (i j : ℕ) (l : Life) (lt : j < length rs) where

@@ -13,3 +13,4 @@ pub mod Starts
 pub mod FlatSteps
 pub mod Joining
 pub mod Renewed
+pub mod Protecting

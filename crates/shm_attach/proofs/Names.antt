@@ -1,6 +1,6 @@
 -- The names that the proofs cite, from below and from the words of this crate.
 pub use Rattle.std.proofs.Common.{Bool, List, None, Option, Some, [], add-one, ap, append-nil, arith, cond, drop, drop-cons, eq-eqb, false, filter, get_or, if◌then◌else◌, inl, inr, length, length-set, length-take, map, nat_eq, nat_lt, ne_eqb, not, option_map, refl, set, slice_get, subst, suc, sym, take, true, zero, ℕ, ◌%◌, ◌&&◌, ◌*◌, ◌++◌, ◌+◌, ◌-◌, ◌/◌, ◌<◌, ◌==◌, ◌∙◌, ◌∷◌, ◌≡◌, ◌≢◌, ◌≤◌, ◌⊎◌}
-pub use Rattle.std.proofs.lemmas.Bool.{cases_Bool, cases_eq, cases_lt, eqb-false, eqb-true, lt-ltb, true≢false}
+pub use Rattle.std.proofs.lemmas.Bool.{cases_Bool, cases_eq, cases_lt, eqb-false, eqb-true, le-leb, le-ltb, lt-leb, lt-ltb, true≢false}
 pub use Rattle.std.proofs.lemmas.Grind.{common_steps}
 pub use Rattle.std.proofs.lemmas.List.{map-set, get_or-map, get_or-take, length-map, map-append, set-get_or, set-set, take_all, take_more}
 pub use Rattle.std.proofs.lemmas.List.Elements.{All-append, All-cons, All-filter, All-head, All-nil, All-tail, filter_passes}
@@ -11,7 +11,7 @@ pub use Rattle.std.proofs.lemmas.Result.{IfOk-weaker}
 pub use Rattle.std.proofs.lemmas.Simd.{map-map}
 pub use Rattle.std.specs.List.{flat_map, position_or_len}
 pub use Rattle.std.specs.Map.{keys_of, values_of}
-pub use Rattle.std.specs.Prelude.{All, position, vec_capacity, ⊤}
+pub use Rattle.std.specs.Prelude.{◌^◌, nat_le, All, position, vec_capacity, ⊤}
 pub use Rattle.indexmap.specs.IndexMap.{insert_entry, set_value_at}
 pub use Rattle.indexmap.specs.Layout.{length-set_value_at}
 pub use Rattle.shm_areas.proofs.Edits.{arranged_cut, arranged_filter, arranged_inserted, bare_filter, lower}
@@ -39,7 +39,7 @@ pub use Rattle.shm_fault.specs.declared.touched.PageMove.{PageMove}
 pub use Rattle.shm_fault.specs.declared.touched.PageMove.TheVariants.{Gone}
 pub use Rattle.slab.specs.Slab.{Slab, Updates, get, with_value}
 pub use Rattle.shm_attach.specs.Table.{AllTrue, TrueTable, TrueSlot, count_in, frame_in, seg_in, size_in, translations_from, translations_in, translations_of, with_frame, TableView}
-pub use Rattle.shm_attach.specs.Exact.{AreCountsExact, AreTablesSound, HasReservations, most_of_segment, no_reservations}
+pub use Rattle.shm_attach.specs.Exact.{AreCountsExact, AreTablesSound, HasReservations, most_of_segment, no_reservations, one_reserved}
 pub use Rattle.shm_attach.specs.Lost.{LostView}
 pub use Rattle.shm_attach.specs.Part.{IsCuttable, LeavesRoom}
 pub use Rattle.shm_attach.specs.Place.{IsPlaceFor, IsRange}

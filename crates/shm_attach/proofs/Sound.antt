@@ -1,7 +1,7 @@
 -- The counts stay exact, and each piece has its segment's table, where one process changes.
-use Rattle.shm_attach.proofs.Names.{is_live, true, false, true≢false, most_at, length-set_value_at, values_of, ◌≡◌, ◌≢◌, ℕ, ◌+◌, ◌<◌, ◌≤◌, List, [], length, Some, slice_get, sym, subst, arith, common_steps, All, length-map, set_value_at, lowest_address, inserted, cut, without_named, pieces_of, bare_all, Arranged, arranged_cut, arranged_inserted, Tables, runner_view, runners_view, with_pieces_at, with_life_at, pieces_at, life_at, counted, stored_at, HasTable, OneTableEach, AllHaveTables, IsPlaceFor, IsCuttable, AreCountsExact, AreTablesSound, HasReservations, no_reservations, Unborn, Piece, Runner, MOST_PIECES, most_of_segment}
+use Rattle.shm_attach.proofs.Names.{is_live, true, false, true≢false, most_at, length-set_value_at, values_of, ◌≡◌, ◌≢◌, ℕ, ◌+◌, ◌<◌, ◌≤◌, List, [], length, Some, slice_get, sym, subst, arith, common_steps, All, length-map, set_value_at, lowest_address, inserted, cut, without_named, pieces_of, bare_all, Arranged, arranged_cut, arranged_inserted, Tables, runner_view, runners_view, with_pieces_at, with_life_at, pieces_at, life_at, counted, stored_at, HasTable, OneTableEach, AllHaveTables, IsPlaceFor, IsCuttable, AreCountsExact, AreTablesSound, HasReservations, no_reservations, one_reserved, Piece, Runner, MOST_PIECES, most_of_segment}
 use Rattle.shm_base.specs.State as flat
-use Rattle.shm_attach.proofs.Processes.{runners_set, length-inserted, shorter_filter}
+use Rattle.shm_attach.proofs.Processes.{some_if-le, runners_set, length-inserted, shorter_filter}
 use Rattle.shm_attach.proofs.Keeping.{IsExact-changed, IsExact-life, arranged-without, small_counts, own_counted}
 use Rattle.shm_attach.proofs.HavingTables.{most_at-set, stored_at-value, pieces_at-stored, stored_at-set, stored_at-other, tables-changed, tables-all}
 
@@ -89,6 +89,13 @@ sound-reserved e f es t u sound counts tied step =
 
 pub none_reserved : (es : List (ℕ × Runner)) (t : Tables) → AreTablesSound no_reservations es t → HasReservations es t
 none_reserved es t sound = record { extra = no_reservations; few = λ id. omega arith; sound = sound }
+
+pub one_more_reserved : (seg : ℕ) (es : List (ℕ × Runner)) (t : Tables) → AreTablesSound (one_reserved seg) es t → HasReservations es t
+one_more_reserved seg es t sound = record { extra = one_reserved seg; few = λ id. some_if-le id seg 1; sound = sound }
+
+-- a segment whose table is reserved is counted
+pub counts_reserved : (seg : ℕ) (es : List (ℕ × Runner)) (t : Tables) → AreTablesSound (one_reserved seg) es t → 1 ≤ counted t seg
+counts_reserved seg es t sound = grind (arith, common_steps)
 
 -- THE COUNTS
 

@@ -7,7 +7,7 @@ use Rattle.shm_base.specs.Segments.{attach_count}
 use Rattle.shm_areas.specs.Arranged.{Arranged}
 use Rattle.shm_attach.specs.declared.process.Runner.{Runner}
 use Rattle.shm_attach.specs.declared.tables.Tables.{Tables}
-use Rattle.shm_attach.specs.Views.{runners_view}
+use Rattle.shm_attach.specs.Views.{runners_view, some_if}
 use Rattle.shm_attach.specs.Tables.{counted, OneTableEach, AllHaveTables}
 use Rattle.shm_attach.specs.Spaces.{pieces_at, life_at}
 use Rattle.shm_base.specs.declared.bounds.TheConstants.{MOST_PIECES, MOST_PROCESSES}
@@ -34,6 +34,10 @@ pub record AreTablesSound (extra : ℕ → ℕ) (es : List (ℕ × Runner)) (t :
 -- no table is reserved
 abbrev pub no_reservations : ℕ → ℕ
 no_reservations id = 0
+
+-- one table is reserved, that of a segment
+abbrev pub one_reserved : ℕ → ℕ → ℕ
+one_reserved seg id = some_if id seg 1
 
 -- at most one attach under way has reserved each segment's table
 pub record HasReservations (es : List (ℕ × Runner)) (t : Tables) : Type 0 where

@@ -9,3 +9,4 @@ pub mod Spans
 pub mod Fork
 pub mod Lost
 pub mod Guest
+pub mod Mapping

@@ -7,7 +7,7 @@ ghost use Rattle.shm_attach.specs.Place.{IsRange};
 ghost use Rattle.shm_base.specs.declared.bounds.TheConstants.{MOST_SHMALL};
 ghost use Rattle.shm_base.specs.declared.paging.TheConstants.{PAGE_SIZE};
 
-use crate::changes::{Part, put, space_at, take};
+use crate::changes::{exchange, space_at};
 use crate::process::Caller;
 use crate::spaces::Spaces;
 use shm_areas::Piece;
@@ -43,15 +43,6 @@ impl Spaces {
         let key = self.tables.reserve(store, seg, pages)?;
         self.lost
             .note(space_at(&self.processes, caller.index).met(base, end));
-        take(
-            &mut self.processes,
-            &mut self.tables,
-            caller.index,
-            Part::Range {
-                from: base,
-                to: end,
-            },
-        );
         let piece = Piece {
             base,
             seg,
@@ -61,8 +52,7 @@ impl Spaces {
             may_write: writable,
             key,
         };
-        put(&mut self.processes, &mut self.tables, caller.index, piece);
-        self.tables.replace(seg, key, 1, 0);
+        exchange(&mut self.processes, &mut self.tables, caller.index, piece);
         Ok(())
     }
 }

@@ -5,6 +5,7 @@
 ghost use Rattle.std.specs.Prelude.{◌≡◌, ◌≢◌, ℕ, Option, ◌<◌, ◌≤◌, ◌+◌, length, true, All};
 ghost use Rattle.shm_base.specs.Guest.{is_live};
 ghost use Rattle.shm_base.specs.Space.{lowest_address, inserted, cut, meets, pieces_of};
+ghost use Rattle.shm_base.specs.Access.{end_of};
 ghost use Rattle.shm_areas.specs.declared.piece.Piece.{Piece as Stored};
 ghost use Rattle.shm_base.specs.declared.bounds.TheConstants.{MOST_PIECES};
 ghost use Rattle.shm_attach.specs.Exact.{most_of_segment};
@@ -15,7 +16,8 @@ ghost use Rattle.shm_attach.specs.Table.{AllTrue};
 ghost use Rattle.shm_attach.specs.Tables.{counted, stored_at, HasTable, OneTableEach};
 ghost use Rattle.shm_attach.specs.Place.{IsPlaceFor};
 ghost use Rattle.shm_attach.specs.Part.{left, CanGo, LeavesRoom};
-ghost use Rattle.shm_attach.specs.Exact.{AreTablesSound, HasReservations};
+ghost use Rattle.shm_attach.specs.Exact.{AreTablesSound, HasReservations, one_reserved};
+ghost use Rattle.shm_attach.specs.Mapping.{AreNow, CanReplace};
 
 use crate::process::{Life, Runner};
 use crate::tables::Tables;
@@ -118,6 +120,27 @@ pub(crate) fn take(
             tables.release(seg, gone as u32);
         }
     }
+}
+
+/// A piece takes the place of what is in its range: pieces there go, and those that reach beyond are cut. Its segment's
+/// table was reserved before, since the pieces that go may be the last that have it.
+pub(crate) fn exchange(
+    processes: &mut IndexMap<u32, Runner>,
+    tables: &mut Tables,
+    index: usize,
+    piece: Piece,
+)
+    requires can { CanReplace processes.old.entries tables.old index piece }
+    requires reserved { AreTablesSound (one_reserved piece.seg) processes.old.entries tables.old }
+    ensures { AreNow processes.old.entries processes.new.entries tables.old tables.new index (inserted (bare piece) (cut piece.base (end_of (bare piece)) (pieces_at (runners_view processes.old.entries) index))) }
+{
+    let range = Part::Range {
+        from: piece.base,
+        to: piece.end(),
+    };
+    take(processes, tables, index, range);
+    put(processes, tables, index, piece);
+    tables.replace(piece.seg, piece.key, 1, 0);
 }
 
 /// Another state for the process at a place.

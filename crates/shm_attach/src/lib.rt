@@ -8,6 +8,7 @@ mod detach;
 mod fork;
 mod guest;
 mod lost;
+mod mapping;
 mod process;
 mod spaces;
 mod spans;

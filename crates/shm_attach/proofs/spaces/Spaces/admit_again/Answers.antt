@@ -1,5 +1,4 @@
-use Rattle.shm_attach.proofs.Names.{◌≡◌, ◌<◌, ◌∙◌, ap, sym, arith, common_steps, [], length, length-map, slice_get, Some, slice_get_within, is_live, false, life_view, runner_view, runners_view, pieces_at, life_at, Unborn, refl}
-use Rattle.shm_base.specs.State.{Runner, Ended, life_at_start}
+use Rattle.shm_attach.proofs.Names.{◌≡◌, ◌<◌, ◌∙◌, ap, arith, common_steps, [], length, length-map, slice_get, Some, slice_get_within, is_live, false, life_view, runner_view, runners_view, pieces_at, life_at, refl}
 use Rattle.shm_attach.proofs.Joining.{standing-there, attach_count-life, started-again}
 use Rattle.shm_attach.proofs.HavingTables.{room_kept}
 use Rattle.shm_attach.proofs.Sound.{sound-life}

@@ -1,4 +1,4 @@
-use Rattle.shm_attach.proofs.Names.{is_live, ◌≡◌, ◌≢◌, ◌<◌, ◌∙◌, ap, sym, arith, List, length, get_or, set, common_steps, length-map, runner_view, runners_view, with_pieces_at, SpacesView, pieces_at, life_at, Unborn}
+use Rattle.shm_attach.proofs.Names.{is_live, ◌≡◌, ◌≢◌, ◌<◌, ◌∙◌, ap, arith, List, length, get_or, set, common_steps, length-map, runner_view, runners_view, with_pieces_at, SpacesView, pieces_at, life_at}
 use Rattle.shm_base.specs.State.{Piece, Runner, Live}
 use Rattle.shm_attach.proofs.Processes.{first_runner}
 use Rattle.shm_attach.proofs.Callers.{caller_within, caller_born, ChildAt, child_at}

@@ -1,4 +1,4 @@
-use Rattle.shm_attach.proofs.Names.{◌≡◌, ◌<◌, ◌∙◌, ap, sym, refl, arith, common_steps, length, length-map, runner_view, runners_view, IsCaller, Live}
+use Rattle.shm_attach.proofs.Names.{◌<◌, arith, common_steps, length, length-map, runner_view, runners_view, IsCaller}
 use Rattle.shm_base.specs.State.{Live as Living}
 use Rattle.shm_attach.proofs.Callers.{caller_within}
 use Rattle.shm_attach.proofs.Joining.{attach_count-life, recredited}

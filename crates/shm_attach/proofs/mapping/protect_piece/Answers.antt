@@ -1,0 +1,123 @@
+use Rattle.shm_attach.proofs.Names.{true≢false, most_at, ◌≡◌, ◌∙◌, ◌<◌, true, false, List, length, Some, get_or, ap, sym, subst, arith, common_steps, All, get, covering, cut, bare, runners_view, pieces_at, stored_at, size_in, HasTable}
+use Rattle.shm_base.specs.State.{Piece}
+use Rattle.shm_base.specs.Mapping.{has_protection, low_end, high_end, turned, replaced}
+use Rattle.shm_attach.specs.Mapping.{AreNow}
+use Rattle.shm_attach.proofs.HavingTables.{pieces_at-bare, has_table, tables-passes, tables-passed}
+use Rattle.shm_attach.proofs.Protecting.{replaced_by, IsTurnable, protects-refused, protects-turned, IsLow, IsHigh, now-same, pieces-now, low_is, high_is, sized_by, stretch_of, part_replaces}
+use Rattle.shm_attach.proofs.mapping.protect_piece.Goals.{Start, After-high_end-high, else-writable-via-then-writable+else-not-piece, else-writable-via-else-writable}
+use Rattle.shm_attach.proofs.mapping.protect_piece.Goals as goal
+
+-- WHERE NOTHING CHANGES
+
+same : (c : Start) → AreNow c.args.processes.now.entries c.args.processes.now.entries c.args.tables.now c.args.tables.now c.args.index (pieces_at (runners_view c.args.processes.now.entries) c.args.index)
+same c = now-same c.args.processes.now.entries c.args.tables.now c.args.index c.requires.there c.requires.sound
+
+pub returns-in_default-clause-now : goal.returns-in_default-clause-now
+returns-in_default-clause-now c = same (goal.at.returns-in_default-clause-now c).Start
+
+pub returns-then-not-piece-clause-now : goal.returns-then-not-piece-clause-now
+returns-then-not-piece-clause-now c = same (goal.at.returns-then-not-piece-clause-now c).Start
+
+pub returns-then-piece-writable-clause-now : goal.returns-then-piece-writable-clause-now
+returns-then-piece-writable-clause-now c = same (goal.at.returns-then-piece-writable-clause-now c).Start
+
+pub returns-then-count_outside-most-clause-now : goal.returns-then-count_outside-most-clause-now
+returns-then-count_outside-most-clause-now c = same (goal.at.returns-then-count_outside-most-clause-now c).Start
+
+-- WHERE A PART CHANGES
+
+found : (c : After-high_end-high) → covering c.args.at (pieces_at (runners_view c.args.processes.now.entries) c.args.index) ≡ Some (bare c.in-Some.piece)
+found c = grind (arith, common_steps)
+
+table : (c : After-high_end-high) → HasTable c.args.tables.now.slab c.in-Some.piece
+table c =
+    let t = c.args.tables.now.slab in
+    let ps = c.space_at-space.result.now.pieces in
+    let own : All (HasTable t) ps = rw c.space_at-space.ensures.stored (c.requires.sound.tables c.args.index) in
+    tables-passed t c.in-Some.piece (c.in-Some.ensures.among (has_table t) (λ k d lt. tables-passes t (get_or ps k d) (own k d lt)))
+
+low : (c : After-high_end-high) → IsLow (bare c.in-Some.piece) c.args.at c.low_end-low.result
+low c =
+    let ps = pieces_at (runners_view c.args.processes.now.entries) c.args.index in
+    rw (c.low_end-low.ensures, c.space_at-space.ensures.flat)
+    (low_is c.args.writable c.args.at c.args.to (bare c.in-Some.piece) ps (c.requires.sound.exact.arranged c.args.index) (found c) c.requires.range.from_page)
+
+high : (c : After-high_end-high) → IsHigh (bare c.in-Some.piece) (size_in (get c.args.tables.now.slab c.in-Some.piece.key)) c.args.at c.high_end-high.result
+high c =
+    let t = c.args.tables.now in
+    let p = c.in-Some.piece in
+    let ps = pieces_at (runners_view c.args.processes.now.entries) c.args.index in
+    let sized = rw (← pieces_at-bare c.args.processes.now.entries c.args.index) at (sized_by t p (stored_at c.args.processes.now.entries c.args.index) c.requires.sound.tied (table c) (c.requires.sound.tables c.args.index)) in
+    rw (c.high_end-high.ensures, c.space_at-space.ensures.flat)
+    (high_is c.args.writable c.args.at c.args.to (bare p) ps (size_in (get t.slab p.key)) (c.requires.sound.exact.arranged c.args.index) (found c) c.requires.range.to_page c.requires.range.order sized)
+
+pub part_between-part-requires-clause-stretch : goal.part_between-part-requires-clause-stretch
+part_between-part-requires-clause-stretch c =
+    let b = (goal.at.part_between-part-requires-clause-stretch c).After-high_end-high in
+    stretch_of (bare c.in-Some.piece) (size_in (get c.args.tables.now.slab c.in-Some.piece.key)) c.args.at c.low_end-low.result c.high_end-high.result (low b) (high b)
+
+pub renew-requires-clause-can : goal.renew-requires-clause-can
+renew-requires-clause-can c =
+    let es = c.args.processes.now.entries in
+    let i = c.args.index in
+    let b = (goal.at.renew-requires-clause-can c).After-high_end-high in
+    let room : length (cut c.low_end-low.result c.high_end-high.result (pieces_at (runners_view es) i)) < most_at es i = grind (arith, common_steps) in
+    part_replaces es c.args.tables.now i c.in-Some.piece c.part_between-part.result c.args.writable c.args.at c.low_end-low.result c.high_end-high.result
+    c.requires.there c.requires.live c.requires.most (table b) (low b) (high b) c.part_between-part.ensures.flat c.part_between-part.ensures.key room
+
+-- it lacks the protection, and may have it
+turnable : (c : After-high_end-high) → IsTurnable c.args.writable c.args.at (bare c.in-Some.piece) (pieces_at (runners_view c.args.processes.now.entries) c.args.index)
+turnable c =
+    let may : c.args.writable ≡ true → c.in-Some.piece.may_write ≡ true =
+    elim c.else-writable.branch [
+      | else-writable-via-then-writable+else-not-piece w ↦ λ _. grind (arith, common_steps)
+      | else-writable-via-else-writable w ↦ λ writes. absurd (true≢false (sym writes ∙ w.if-writable.false))
+    ] in
+    let lacks : has_protection c.args.writable (bare c.in-Some.piece) ≡ false = grind (arith, common_steps) in
+    record { found = found c; may = may; lacks = lacks }
+
+low-value : (c : After-high_end-high) → c.low_end-low.result ≡ low_end c.args.writable c.args.at c.args.to (bare c.in-Some.piece) (pieces_at (runners_view c.args.processes.now.entries) c.args.index)
+low-value c = c.low_end-low.ensures ∙ ap (low_end c.args.writable c.args.at c.args.to (bare c.in-Some.piece)) c.space_at-space.ensures.flat
+
+high-value : (c : After-high_end-high) → c.high_end-high.result ≡ high_end c.args.writable c.args.at c.args.to (bare c.in-Some.piece) (pieces_at (runners_view c.args.processes.now.entries) c.args.index)
+high-value c = c.high_end-high.ensures ∙ ap (high_end c.args.writable c.args.at c.args.to (bare c.in-Some.piece)) c.space_at-space.ensures.flat
+
+pub returns-then-count_outside-most-clause-protects : goal.returns-then-count_outside-most-clause-protects
+returns-then-count_outside-most-clause-protects c = λ next.
+    let es = c.args.processes.now.entries in
+    let i = c.args.index in
+    let b = (goal.at.returns-then-count_outside-most-clause-protects c).After-high_end-high in
+    let count = rw (low-value b, high-value b, c.space_at-space.ensures.flat) at c.count_outside.ensures in
+    let most : c.most.result ≡ most_at es i = c.most.ensures ∙ c.space_at-space.ensures.most in
+    protects-refused (most_at es i) c.args.writable c.args.at c.args.to (bare c.in-Some.piece) (pieces_at (runners_view es) i) next (turnable b)
+    (omega (arith, count, most, c.if-count_outside-most.true))
+
+pub returns-clause-now : goal.returns-clause-now
+returns-clause-now c =
+    let es = c.args.processes.now.entries in
+    let fs = c.renew.new.processes.entries in
+    let i = c.args.index in
+    subst (λ (ps : List Piece). AreNow es fs c.args.tables.now c.renew.new.tables i ps) (sym (pieces-now es fs c.args.tables.now c.renew.new.tables i _ c.requires.there c.renew.ensures)) c.renew.ensures
+
+pub returns-clause-protects : goal.returns-clause-protects
+returns-clause-protects c = λ next.
+    let es = c.args.processes.now.entries in
+    let fs = c.renew.new.processes.entries in
+    let t = c.args.tables.now in
+    let i = c.args.index in
+    let ps = pieces_at (runners_view es) i in
+    let w = c.args.writable in
+    let p = bare c.in-Some.piece in
+    let at = c.low_end-low.result in
+    let end = c.high_end-high.result in
+    let b = (goal.at.returns-clause-protects c).After-high_end-high in
+    let count = rw (low-value b, high-value b, c.space_at-space.ensures.flat) at c.count_outside.ensures in
+    let most : c.most.result ≡ most_at es i = c.most.ensures ∙ c.space_at-space.ensures.most in
+    let left : pieces_at (runners_view fs) i ≡ turned w c.args.at c.args.to p ps =
+    pieces-now es fs t c.renew.new.tables i _ c.requires.there c.renew.ensures
+    ∙ replaced_by p (bare c.part_between-part.result) w (size_in (get t.slab c.in-Some.piece.key)) c.args.at at end ps c.part_between-part.ensures.flat (low b) (high b)
+    ∙ ap (λ n. replaced w n end p ps) (low-value b)
+    ∙ ap (λ n. replaced w (low_end w c.args.at c.args.to p ps) n p ps) (high-value b) in
+    protects-turned (most_at es i) w c.args.at c.args.to p ps next (turnable b) (omega (arith, count, most, c.if-count_outside-most.false))
+    ∙ ap (λ n. next n (turned w c.args.at c.args.to p ps)) (sym c.end-2.ensures)
+    ∙ ap (λ qs. next c.end-2.result qs) (sym left)

@@ -1,0 +1,82 @@
+-- What an unmap and a protection answer, and what they leave of the pieces of one process.
+use Rattle.std.specs.Prelude.{◌≡◌, ℕ, ◌+◌, ◌*◌, ◌/◌, ◌-◌, ◌%◌, ◌<◌, ◌≤◌, Bool, nat_lt, if◌then◌else◌, List, length, Option, Some, None, Result, Ok, Err, true}
+use Rattle.shm_base.specs.State.{Piece}
+use Rattle.shm_base.specs.Access.{end_of}
+use Rattle.shm_base.specs.Space.{lowest_address, end_address, covering, cut}
+use Rattle.shm_base.specs.Guest.{is_live}
+use Rattle.shm_base.specs.Mapping.{Protected, stopped, protects_piece, protects_from, protects_pieces}
+use Rattle.shm_base.specs.declared.bounds.TheConstants.{MOST_PIECES, MOST_SHMALL}
+use Rattle.shm_base.specs.declared.errno.Errno.{Errno}
+use Rattle.shm_base.specs.declared.errno.Errno.TheVariants.{Enomem}
+use Rattle.shm_base.specs.declared.paging.TheConstants.{PAGE_SIZE}
+use Rattle.shm_areas.specs.Arranged.{bare}
+use Rattle.shm_areas.specs.declared.piece.Piece.{Piece as Stored}
+use Rattle.shm_attach.specs.Exact.{AreTablesSound, no_reservations}
+use Rattle.shm_attach.specs.Place.{IsRange}
+use Rattle.shm_attach.specs.Spaces.{SpacesView, pieces_at, life_at}
+use Rattle.shm_attach.specs.Table.{AllTrue}
+use Rattle.shm_attach.specs.Tables.{HasTable}
+use Rattle.shm_attach.specs.Views.{runners_view, with_pieces_at, most_at}
+use Rattle.shm_attach.specs.declared.process.Caller.{Caller}
+use Rattle.shm_attach.specs.declared.process.Runner.{Runner}
+use Rattle.shm_attach.specs.declared.tables.Tables.{Tables}
+
+-- why a change was not done to its end, if it was not
+abbrev pub refusal_in : {T : Type 0} → Result T Errno → Option Errno
+refusal_in (Ok done) = None
+refusal_in (Err e) = Some e
+
+-- some whole pages
+pub record IsPageRange (from to : ℕ) : Type 0 where
+  pub from_page : from % PAGE_SIZE ≡ 0
+  pub to_page : to % PAGE_SIZE ≡ 0
+  pub order : from < to
+
+-- an unmap is refused just where its rest would be too many pieces
+abbrev pub unmap_refusal : ℕ → ℕ → ℕ → List Piece → Option Errno
+unmap_refusal most from to ps = if nat_lt most (length (cut from to ps)) then Some Enomem else None
+
+-- what a protection makes of the pieces of a caller
+abbrev pub protected_by : SpacesView → Caller → Bool → ℕ → ℕ → Protected
+protected_by s c w addr len = protects_pieces s.most w addr len (pieces_at s.runners c.index)
+
+-- the same, for whole pages
+abbrev pub protected_between : ℕ → Bool → ℕ → ℕ → List Piece → Protected
+protected_between most w from to ps = protects_from ((to - from) / PAGE_SIZE) most w to from ps
+
+-- how a protection goes on behind a piece, or where it stopped
+abbrev pub continued : Result ℕ Errno → (ℕ → List Piece → Protected) → List Piece → Protected
+continued (Ok at) next ps = next at ps
+continued (Err e) next ps = stopped ps e
+
+-- the pieces `after` are what a protection makes of those before, at the piece that an address lies in
+abbrev pub IsProtectedAt : ℕ → Bool → ℕ → ℕ → List Piece → List Piece → Result ℕ Errno → Type 0
+IsProtectedAt most w at to before after r =
+    (next : ℕ → List Piece → Protected) → protects_piece most w at to before next (covering at before) ≡ continued r next after
+
+-- a range of the attach of a piece: whole pages of the addresses, and of the segment
+pub record IsStretch (p : Piece) (low high : ℕ) : Type 0 where
+  pub pages : IsPageRange low high
+  pub lowest : lowest_address ≤ low
+  pub within : high ≤ end_address
+  pub begins : p.base ≤ PAGE_SIZE * p.first_page + low
+  pub few : PAGE_SIZE * p.first_page + high ≤ p.base + PAGE_SIZE * MOST_SHMALL
+
+-- a piece may stand in place of what is in its range
+pub record CanReplace (es : List (ℕ × Runner)) (t : Tables) (i : ℕ) (p : Stored) : Type 0 where
+  pub there : i < length es
+  pub live : is_live (life_at (runners_view es) i) ≡ true
+  pub range : IsRange p.pages p.base
+  pub some : 1 ≤ p.pages
+  pub few : p.first_page + p.pages ≤ MOST_SHMALL
+  pub most : most_at es i ≤ MOST_PIECES
+  pub room : length (cut p.base (end_of (bare p)) (pieces_at (runners_view es) i)) < most_at es i
+  pub table : HasTable t.slab p
+
+-- a process has these pieces now, and all else is as it was
+pub record AreNow (es fs : List (ℕ × Runner)) (t u : Tables) (i : ℕ) (ps : List Piece) : Type 0 where
+  pub runners : runners_view fs ≡ with_pieces_at (runners_view es) i (λ _. ps)
+  pub count : length fs ≡ length es
+  pub most : (j : ℕ) → most_at fs j ≡ most_at es j
+  pub sound : AreTablesSound no_reservations fs u
+  pub translated : (at : ℕ → ℕ → Option ℕ) → AllTrue at t.slab → AllTrue at u.slab

@@ -1,0 +1,228 @@
+//! What a process does to its attached memory beside the calls: it unmaps a range (munmap(2)), or protects one
+//! (mprotect(2)). Neither takes memory.
+ghost use Rattle.std.specs.Prelude.{◌≡◌, ◌+◌, ◌%◌, ◌^◌, ◌<◌, ◌≤◌, Some, true, length, SomeIff, IfOk, OnOk, OnErr};
+ghost use Rattle.shm_base.specs.Access as access;
+ghost use Rattle.shm_base.specs.Guest.{is_live};
+ghost use Rattle.shm_base.specs.Mapping as flat;
+ghost use Rattle.shm_base.specs.Space.{lowest_address, covering, inserted, cut, cut_segments};
+ghost use Rattle.shm_base.specs.Step.{with_pieces};
+ghost use Rattle.shm_base.specs.declared.bounds.TheConstants.{MOST_PIECES};
+ghost use Rattle.shm_areas.specs.Arranged.{bare, bare_all, Arranged, IsFit, IsCovering};
+ghost use Rattle.shm_fault.specs.Store.{StoreView};
+ghost use Rattle.shm_attach.specs.Exact.{AreTablesSound, no_reservations};
+ghost use Rattle.shm_attach.specs.Mapping.{refusal_in, IsPageRange, unmap_refusal, protected_by, protected_between, IsProtectedAt, IsStretch, CanReplace, AreNow};
+ghost use Rattle.shm_attach.specs.Place.{IsRange};
+ghost use Rattle.shm_attach.specs.Spaces.{pieces_at, life_at, caller_seen, IsCaller, AreTrue};
+ghost use Rattle.shm_attach.specs.Views.{runners_view, most_at};
+
+use crate::changes::{Part, exchange, space_at, take};
+use crate::process::{Caller, Runner};
+use crate::spaces::Spaces;
+use crate::tables::Tables;
+use indexmap::IndexMap;
+use shm_areas::{Piece, Space};
+use shm_base::{Errno, PAGE_SIZE};
+
+/// Where a range of this many bytes ends, which are rounded up to whole pages.
+fn range_end(addr: u64, len: u64) -> Option<u64>
+    ensures { SomeIff result (addr + flat.rounded len < 2 ^ 64) (addr + flat.rounded len) }
+{
+    addr.checked_add(len.checked_next_multiple_of(PAGE_SIZE)?)
+}
+
+/// Whether a piece goes on where another ends, as two parts of one attach do.
+fn goes_on(piece: &Piece, next: &Piece) -> bool
+    requires piece { IsFit (bare piece.now) }
+    requires next { IsFit (bare next.now) }
+    ensures { result ≡ flat.goes_on (bare piece.now) (bare next.now) }
+{
+    piece.end() == next.base
+        && piece.seg == next.seg
+        && piece.base + PAGE_SIZE * next.first_page as u64
+            == next.base + PAGE_SIZE * piece.first_page as u64
+}
+
+/// Where a part from an address on begins, once it has joined the part below.
+fn low_end(space: &Space, piece: &Piece, at: u64, to: u64, writable: bool) -> u64
+    requires arranged { Arranged lowest_address (bare_all space.now.pieces) }
+    requires piece { covering at (bare_all space.now.pieces) ≡ Some (bare piece.now) }
+    requires within { IsCovering at piece.now }
+    ensures { result ≡ flat.low_end writable at to (bare piece.now) (bare_all space.now.pieces) }
+{
+    if at != piece.base || to >= piece.end() {
+        return at;
+    }
+    match space.piece_at(at - 1) {
+        Some(below) if goes_on(&below, piece) && below.writable == writable => below.base,
+        _ => piece.base,
+    }
+}
+
+/// Where a part from an address on ends, once it has joined the part above.
+fn high_end(space: &Space, piece: &Piece, at: u64, to: u64, writable: bool) -> u64
+    requires within { IsCovering at piece.now }
+    ensures { result ≡ flat.high_end writable at to (bare piece.now) (bare_all space.now.pieces) }
+{
+    let end = piece.end();
+    if at == piece.base || to < end {
+        return to.min(end);
+    }
+    match space.piece_at(end) {
+        Some(above) if goes_on(piece, &above) && above.writable == writable => above.end(),
+        _ => end,
+    }
+}
+
+/// The part of a piece's attach between two addresses.
+fn part_between(piece: &Piece, low: u64, high: u64, writable: bool) -> Piece
+    requires fit { IsFit (bare piece.now) }
+    requires stretch { IsStretch (bare piece.now) low high }
+    ensures flat { bare result ≡ flat.part_between writable low high (bare piece.now) }
+    ensures key { result.key ≡ piece.now.key }
+{
+    Piece {
+        base: low,
+        first_page: ((PAGE_SIZE * piece.first_page as u64 + low - piece.base) / PAGE_SIZE) as u32,
+        pages: ((high - low) / PAGE_SIZE) as u32,
+        writable,
+        ..*piece
+    }
+}
+
+/// Puts a part of an attach in place of what is in its range.
+fn renew(processes: &mut IndexMap<u32, Runner>, tables: &mut Tables, index: usize, part: Piece)
+    requires can { CanReplace processes.old.entries tables.old index part }
+    requires sound { AreTablesSound no_reservations processes.old.entries tables.old }
+    ensures { AreNow processes.old.entries processes.new.entries tables.old tables.new index (inserted (bare part) (cut part.base (access.end_of (bare part)) (pieces_at (runners_view processes.old.entries) index))) }
+{
+    tables.replace(part.seg, part.key, 0, 1);
+    exchange(processes, tables, index, part);
+}
+
+/// Protects the piece that an address lies in, from the address on as far as the range reaches into it, and tells
+/// where the piece ends.
+fn protect_piece(
+    processes: &mut IndexMap<u32, Runner>,
+    tables: &mut Tables,
+    index: usize,
+    at: u64,
+    to: u64,
+    writable: bool,
+) -> Result<u64, Errno>
+    requires there { index < length processes.old.entries }
+    requires live { is_live (life_at (runners_view processes.old.entries) index) ≡ true }
+    requires most { most_at processes.old.entries index ≤ MOST_PIECES }
+    requires range { IsPageRange at to }
+    requires sound { AreTablesSound no_reservations processes.old.entries tables.old }
+    ensures protects { IsProtectedAt (most_at processes.old.entries index) writable at to (pieces_at (runners_view processes.old.entries) index) (pieces_at (runners_view processes.new.entries) index) result }
+    ensures now { AreNow processes.old.entries processes.new.entries tables.old tables.new index (pieces_at (runners_view processes.new.entries) index) }
+    ensures further { IfOk result (λ end. (at + 4096 ≤ end) × (end % 4096 ≡ 0)) }
+{
+    let space = space_at(processes, index);
+    let Some(piece) = space.piece_at(at) else {
+        return Err(Errno::Enomem);
+    };
+    if writable && !piece.may_write {
+        return Err(Errno::Eacces);
+    }
+    if piece.writable == writable {
+        return Ok(piece.end());
+    }
+    let low = low_end(space, &piece, at, to, writable);
+    let high = high_end(space, &piece, at, to, writable);
+    if space.count_outside(low, high) >= space.most() as usize {
+        return Err(Errno::Enomem);
+    }
+    let part = part_between(&piece, low, high, writable);
+    renew(processes, tables, index, part);
+    Ok(piece.end())
+}
+
+/// Protects whole pages, piece by piece.
+fn protect_range(
+    processes: &mut IndexMap<u32, Runner>,
+    tables: &mut Tables,
+    index: usize,
+    from: u64,
+    to: u64,
+    writable: bool,
+) -> Result<(), Errno>
+    requires there { index < length processes.old.entries }
+    requires live { is_live (life_at (runners_view processes.old.entries) index) ≡ true }
+    requires most { most_at processes.old.entries index ≤ MOST_PIECES }
+    requires range { IsPageRange from to }
+    requires sound { AreTablesSound no_reservations processes.old.entries tables.old }
+    ensures refusal { refusal_in result ≡ (protected_between (most_at processes.old.entries index) writable from to (pieces_at (runners_view processes.old.entries) index)).refusal }
+    ensures now { AreNow processes.old.entries processes.new.entries tables.old tables.new index (protected_between (most_at processes.old.entries index) writable from to (pieces_at (runners_view processes.old.entries) index)).pieces }
+{
+    let mut at = from;
+    while at < to {
+        at = protect_piece(processes, tables, index, at, to, writable)?;
+    }
+    Ok(())
+}
+
+impl Spaces {
+    /// Takes a range of whole pages out of the pieces of a process: pieces there go, and those that reach beyond are
+    /// cut. The segments that lost pages so are noted. Enomem where what is left would be more pieces than a process
+    /// may have.
+    pub fn unmap(&mut self, caller: &Caller, from: u64, to: u64) -> Result<(), Errno>
+        requires live { IsCaller caller.now self.old.runners }
+        requires range { IsPageRange from to }
+        ensures refusal { refusal_in result ≡ unmap_refusal self.old.most from to (pieces_at self.old.runners caller.now.index) }
+        ensures err { OnErr result (self.new ≡ self.old) }
+        ensures lost { OnOk result (self.new.lost ≡ cut_segments from to (pieces_at self.old.runners caller.now.index)) }
+        ensures runners { OnOk result (self.new.runners ≡ with_pieces self.old.runners (caller_seen caller.now self.old.runners) (cut from to (pieces_at self.old.runners caller.now.index))) }
+        ensures most { self.new.most ≡ self.old.most }
+        ensures translated { (m : StoreView) → AreTrue self.old.translations m → AreTrue self.new.translations m }
+    {
+        let space = space_at(&self.processes, caller.index);
+        if space.count_outside(from, to) > self.most as usize {
+            return Err(Errno::Enomem);
+        }
+        self.lost.note(space.met(from, to));
+        take(
+            &mut self.processes,
+            &mut self.tables,
+            caller.index,
+            Part::Range { from, to },
+        );
+        Ok(())
+    }
+
+    /// A range of a process becomes writable, or read-only, up to the first refusal: Einval where it does not begin
+    /// with a page, Enomem at an address without a piece, Eacces at a piece that may not become writable, Enomem
+    /// where there would be too many pieces.
+    pub fn protect(
+        &mut self,
+        caller: &Caller,
+        addr: u64,
+        len: u64,
+        writable: bool,
+    ) -> Result<(), Errno>
+        requires live { IsCaller caller.now self.old.runners }
+        ensures refusal { refusal_in result ≡ (protected_by self.old caller.now writable addr len).refusal }
+        ensures runners { self.new.runners ≡ with_pieces self.old.runners (caller_seen caller.now self.old.runners) (protected_by self.old caller.now writable addr len).pieces }
+        ensures most { self.new.most ≡ self.old.most }
+        ensures lost { self.new.lost ≡ self.old.lost }
+        ensures translated { (m : StoreView) → AreTrue self.old.translations m → AreTrue self.new.translations m }
+    {
+        if addr % PAGE_SIZE != 0 {
+            return Err(Errno::Einval);
+        }
+        if len == 0 {
+            return Ok(());
+        }
+        let Some(to) = range_end(addr, len) else {
+            return Err(Errno::Enomem);
+        };
+        protect_range(
+            &mut self.processes,
+            &mut self.tables,
+            caller.index,
+            addr,
+            to,
+            writable,
+        )
+    }
+}
