@@ -71,11 +71,12 @@ impl<T: Copy> IdTable<T> {
         let entries = copied_entries(&self.entries)?;
         let mut indexes = taken_below(*self.entries.allocator(), entries.len() as u32)?;
         give_open(&mut indexes, &entries);
+        let keys = self.keys.clone()?;
         Ok(IdTable {
             entries,
             indexes,
             rows: self.rows,
-            keys: self.keys.clone()?,
+            keys,
         })
     }
 }

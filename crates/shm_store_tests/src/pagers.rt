@@ -1,9 +1,10 @@
 //! Worked rows on the kinds of pagers, with their expected outcomes; and that each drop runs once, and
 //! wipes.
 use crate::counting::{Counter, CountingPager};
+use shm_base::HostMemory;
 use shm_pager::{
-    AnyPager, FusePager, MirrorCause, MirrorPager, Pager, RamPager, SparsePager, try_read,
-    try_write, zeros,
+    AnyPager, AreaKind, AreaPager, ClonePager, Failing, FusePager, MirrorCause, MirrorPager, Pager,
+    RamPager, SparsePager, try_read, try_write, zeros,
 };
 use std::alloc::{AllocError, Global};
 use std::process::Abort;
@@ -367,6 +368,104 @@ fn a_discard_reaches_the_pagers_behind(rt: HostRuntime) -> Result<(), Fail> {
         let counter = Counter::new(rt.alloc())?;
         discard_behind(&rt, rt.alloc(), &counter, behind, slot)?;
         assert!(rt; counter.discards() == discards, "{name}");
+    }
+    Ok(())
+}
+
+/// The reads and writes of a side that fail.
+type Calls = (&'static [u64], &'static [u64]);
+
+/// An area of two slots, the accesses to it before a copy of it is made, and to each of the two then, after which each
+/// has counted this many failures.
+struct Copied {
+    kind: AreaKind,
+    left: Calls,
+    right: Calls,
+    before: &'static [Access],
+    area: &'static [Access],
+    copy: &'static [Access],
+    failures: u64,
+}
+
+// What fails next in the area fails in the copy. The last side of the mirror that is good for a slot stays the last.
+const COPIES: &[Copied] = &[
+    Copied {
+        kind: AreaKind::Ram,
+        left: (&[2], &[2]),
+        right: (&[], &[]),
+        before: &[Write(0, 0x50, true), Read(0, Some(0x50))],
+        area: &[Read(0, None), Write(0, 0x51, false), Read(0, Some(0xa5))],
+        copy: &[
+            Write(1, 0x52, false),
+            Read(0, None),
+            Read(0, Some(0x50)),
+            Read(1, Some(0xa5)),
+        ],
+        failures: 2,
+    },
+    Copied {
+        kind: AreaKind::Sparse,
+        left: (&[], &[]),
+        right: (&[], &[]),
+        before: &[Write(1, 0x50, true)],
+        area: &[Write(1, 0x51, true), Wipe, Read(1, Some(0))],
+        copy: &[
+            Read(0, Some(0)),
+            Read(1, Some(0x50)),
+            Write(0, 0x52, true),
+            Read(0, Some(0x52)),
+        ],
+        failures: 0,
+    },
+    Copied {
+        kind: AreaKind::Mirror,
+        left: (&[], &[1]),
+        right: (&[2], &[]),
+        before: &[Write(0, 0x50, true)],
+        area: &[Read(0, Some(0x50)), Read(0, None)],
+        copy: &[Read(0, Some(0x50)), Discard(0), Read(0, None)],
+        failures: 1,
+    },
+];
+
+fn failing(alloc: Global, (reads, writes): Calls) -> Result<Failing, AllocError> {
+    Ok(Failing {
+        reads: places(alloc, reads)?,
+        writes: places(alloc, writes)?,
+    })
+}
+
+fn area_of(alloc: Global, case: &Copied) -> Result<AreaPager, HostMemory> {
+    let left = failing(alloc, case.left)?;
+    let right = failing(alloc, case.right)?;
+    AreaPager::new(alloc, case.kind, 2, left, right)
+}
+
+// A copy of a pager. Where memory was out the pager is as before, and is copied once more.
+fn copy_of<X: ClonePager>(pager: &X) -> Result<X, HostMemory> {
+    match pager.try_clone() {
+        Ok(copy) => Ok(copy),
+        Err(_) => pager.try_clone(),
+    }
+}
+
+fn go_on_apart<X: ClonePager>(
+    rt: &impl Abort,
+    pager: &mut X,
+    case: &Copied,
+) -> Result<(), HostMemory> {
+    accessed(rt, pager, case.before, 0);
+    let copy = copy_of(pager)?;
+    accessed(rt, pager, case.area, case.failures);
+    accessed_once(rt, copy, case.copy, case.failures);
+    Ok(())
+}
+
+#[test]
+fn an_area_of_each_kind_and_its_copy_go_on_apart(rt: HostRuntime) -> Result<(), Fail> {
+    for case in COPIES {
+        let mut area = area_of(rt.alloc(), case)?;
+        go_on_apart(&rt, &mut area, case)?;
     }
     Ok(())
 }

@@ -8,7 +8,7 @@ ghost use Rattle.shm_store_tests.specs.Trial.{HasThree};
 use crate::pagers::fuse;
 use shm_base::{FlushReport, HostMemory, Span};
 use shm_fault::{PageStore, PageTally};
-use shm_pager::{FusePager, Pager, RamPager};
+use shm_pager::{ClonePager, FusePager, Pager, RamPager};
 use shm_slots::Swap;
 use std::alloc::{AllocError, Global};
 use std::process::Abort;
@@ -135,9 +135,11 @@ enum Ask {
     Flush(u64, u64, u64, u64),
     /// Takes an area away. It stays where a pager fails, or where it is gone.
     MoveOff(u32, bool),
+    /// How many pages are in frames, and how many in slots alone.
+    Where(u32, u32),
 }
 
-use Ask::{Flush, Load, MoveOff, Save};
+use Ask::{Flush, Load, MoveOff, Save, Where};
 
 // Whether a flush writes this many and leaves this many dirty.
 fn flushes<P: Pager>(store: &mut PageStore<P>, pages: u64, report: FlushReport, dirty: u64) -> bool
@@ -158,11 +160,13 @@ fn answers<P: Pager>(rt: &impl Abort, store: &mut PageStore<P>, ask: Ask) -> boo
             flushes(store, pages, FlushReport { written, failed }, dirty)
         }
         MoveOff(area, goes) => move_off(rt, store, area) == goes,
+        Where(resident, swapped) => store.resident() == resident && store.swapped() == swapped,
     }
 }
 
 fn ask_all<P: Pager>(rt: &impl Abort, store: &mut PageStore<P>, name: &str, asks: &[Ask])
     requires { HasThree store.old }
+    ensures { HasThree store.new }
 {
     for (number, &one) in asks.iter().enumerate() {
         assert!(rt; answers(rt, store, one), "{name}, ask {number}");
@@ -229,6 +233,24 @@ const IN_AND_OUT: &[OneArea] = &[
                 Load(4096, Some(0)),
                 Load(8192, Some(0)),
                 Load(0, Some(0x2a)),
+            ],
+            tally: FULL,
+        },
+    ),
+    (
+        &[],
+        &[],
+        Trial {
+            name: "pages are counted where they are",
+            asks: &[
+                Where(0, 0),
+                Save(0, 0x2a, true),
+                Where(1, 0),
+                Load(4096, Some(0)),
+                Load(8192, Some(0)),
+                Where(2, 1),
+                Load(0, Some(0x2a)),
+                Where(2, 0),
             ],
             tally: FULL,
         },
@@ -302,6 +324,112 @@ fn pages_go_out_and_come_in(rt: HostRuntime) -> Result<(), Fail> {
         let areas = one_area(rt.alloc(), reads, writes)?;
         tried(&rt, rt.alloc(), areas, trial)?;
     }
+    Ok(())
+}
+
+/// What a store is asked before a copy of it is made, what each of the two is asked then, and what the copy counts.
+#[derive(Clone, Copy)]
+struct Copied<'a> {
+    name: &'a str,
+    before: &'a [Ask],
+    store: &'a [Ask],
+    copy: &'a [Ask],
+    tally: PageTally,
+}
+
+// A copy of a store. Where memory was out the store is as before, and is copied once more.
+fn copy_of<P: ClonePager>(store: &PageStore<P>) -> Result<PageStore<P>, HostMemory>
+    ensures { IfOk result (λ copy. copy ≡ store.now) }
+{
+    match store.try_clone() {
+        Ok(copy) => Ok(copy),
+        Err(_) => store.try_clone(),
+    }
+}
+
+// Asks the store and then its copy.
+fn ask_both<P: ClonePager>(
+    rt: &impl Abort,
+    store: &mut PageStore<P>,
+    case: &Copied<'_>,
+) -> Result<(), HostMemory>
+    requires { HasThree store.old }
+{
+    match copy_of(store) {
+        Ok(mut copy) => {
+            ask_all(rt, store, case.name, case.store);
+            ask_all(rt, &mut copy, case.name, case.copy);
+            assert!(rt; tally_of(&copy) == case.tally, "{}", case.name);
+            Ok(())
+        }
+        Err(error) => Err(error),
+    }
+}
+
+// Asks a store over these areas, and a copy of it.
+fn tried_with_copy<P: ClonePager>(
+    rt: &impl Abort,
+    alloc: Global,
+    pagers: Vec<P>,
+    case: &Copied<'_>,
+) -> Result<(), HostMemory> {
+    match store_over(rt, alloc, pagers) {
+        Ok(mut store) => {
+            ask_all(rt, &mut store, case.name, case.before);
+            ask_both(rt, &mut store, case)
+        }
+        Err(error) => Err(error),
+    }
+}
+
+// Whatever was done before, and whatever will fail.
+#[test]
+fn a_copy_goes_on_as_its_store(rt: HostRuntime) -> Result<(), Fail> {
+    for (reads, writes, trial) in IN_AND_OUT {
+        for done in 0..trial.asks.len() {
+            let (before, rest) = trial.asks.split_at(done);
+            let areas = one_area(rt.alloc(), reads, writes)?;
+            let case = Copied {
+                name: trial.name,
+                before,
+                store: rest,
+                copy: rest,
+                tally: trial.tally,
+            };
+            tried_with_copy(&rt, rt.alloc(), areas, &case)?;
+        }
+    }
+    Ok(())
+}
+
+// Two dirty pages and one that is nowhere; then one of the dirty ones is stored, and the third one has the other go.
+const APART: Copied<'_> = Copied {
+    name: "a copy and its store go on apart",
+    before: &[Save(0, 0x2a, true), Save(4096, 0x2b, true)],
+    store: &[
+        Save(0, 0x3a, true),
+        Load(8192, Some(0)),
+        Load(4096, Some(0x2b)),
+        Load(0, Some(0x3a)),
+    ],
+    copy: &[
+        Where(2, 0),
+        Load(0, Some(0x2a)),
+        Load(4096, Some(0x2b)),
+        Flush(2, 2, 0, 0),
+    ],
+    tally: PageTally {
+        used: 2,
+        ins: 0,
+        outs: 2,
+        ..FULL
+    },
+};
+
+#[test]
+fn a_copy_and_its_store_go_on_apart(rt: HostRuntime) -> Result<(), Fail> {
+    let areas = one_area(rt.alloc(), &[], &[])?;
+    tried_with_copy(&rt, rt.alloc(), areas, &APART)?;
     Ok(())
 }
 
