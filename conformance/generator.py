@@ -25,6 +25,7 @@ class Generator:
             self.lines.append("process %d %d %d" % (pid, *self.random.choice(USERS)))
         self.lines += [f"child {pid}" for pid in self.unborn]
         self.created = 0
+        self.protected = {}
         self.holds = {pid: set() for pid in self.live}
 
     def limits(self):
@@ -113,8 +114,16 @@ class Generator:
     def make_unmap(self, _pid):
         return f"unmap {self.range()}"
 
-    def make_protect(self, _pid):
-        return f"protect {self.range()} {self.pick('r', 'rw')}"
+    def make_protect(self, pid):
+        """Often side by side with the last one, and with the same rights: there borders move."""
+        if pid not in self.protected or self.one_in(3):
+            self.protected[pid] = self.random.choice(BASES), self.pick(1, 1, 2, 3), self.pick("r", "r", "rw")
+            return f"protect {self.range()} {self.pick('r', 'rw')}"
+        base, pages, rights = self.protected[pid]
+        count = self.pick(1, 1, 2)
+        base = base + 4096 * pages if self.one_in(2) else base - 4096 * count
+        self.protected[pid] = base, count, rights
+        return f"protect {base:#x} {4096 * count} {rights}"
 
     def make_process_event(self, pid):
         if self.unborn and not self.one_in(3):
@@ -148,7 +157,11 @@ class Generator:
 
     def script(self):
         self.opening()
-        self.lines += [self.command() for _ in range(self.random.randint(40, 120))]
+        for _ in range(self.random.randint(40, 120)):
+            self.lines.append(self.command())
+            pid, word, *_rest = self.lines[-1].split()
+            if word in ("unmap", "protect") and self.one_in(2):
+                self.lines.append(f"{pid} stat {self.identifier(int(pid))}")
         return "\n".join(self.lines) + "\n"
 
 

@@ -38,7 +38,9 @@ def scripts():
             text = file.read()
         yield name, text, read_case(name, text).swap
     for number in range(RANDOM):
-        yield f"random script {number}", make_script("library", number), SHORT if number % 2 else ["sparse:65536"]
+        lines = make_script("library", number).splitlines(keepends=True)
+        flushed = [line + "0 flush 3\n" * (at % 9 == 8 and " " in line and line[0] in "12345") for at, line in enumerate(lines)]
+        yield f"random script {number}", "".join(flushed), SHORT if number % 2 else ["sparse:65536"]
 
 
 def check_output(count, program):
