@@ -30,6 +30,8 @@ class Generator:
 
     def limits(self):
         pick = self.random.choice
+        if self.has_mappings:
+            return f"limits 65536 16 64 16 {pick((0, 4, 14))}"
         return f"limits {pick((8192, 16384, 65536))} {pick((3, 6, 16))} {pick((8, 16, 64))} 16 {pick((0, 2, 4, 14))}"
 
     def one_in(self, number):
@@ -140,13 +142,16 @@ class Generator:
         makes = ((self.make_shmget, 12), (self.make_shmat, 20), (self.make_shmdt, 12), (self.make_stat, 16),
                  (self.make_set, 5), (self.make_rmid, 5), (self.make_lock, 5), (self.make_load, 10),
                  (self.make_store, 10), (self.make_xadd, 3), (self.make_process_event, 2))
-        makes += ((self.make_unmap, 5), (self.make_protect, 14)) if self.has_mappings else ()
+        makes += ((self.make_unmap, 5), (self.make_protect, 40)) if self.has_mappings else ()
         make = self.random.choices([m for m, _ in makes], [w for _, w in makes])[0]
         pid = self.random.choice(self.live)
         return f"{pid} {make(pid)}"
 
     def opening(self):
-        """A few segments, and attaches of them side by side."""
+        """A few segments, and attaches of them side by side; with mappings also one that is long enough to be split."""
+        if self.has_mappings:
+            self.lines.append(f"{self.live[0]} shmget private 24576 666")
+            self.lines += [f"{pid} shmat 0 {self.random.choice(BASES[:7]):#x} -" for pid in self.live]
         for _ in range(self.random.randint(2, 4)):
             pid = self.random.choice(self.live)
             size = self.random.choice(SIZES)
