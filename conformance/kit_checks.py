@@ -65,6 +65,7 @@ MAPPED = (
     (True, "1 unmapp 0 1", "; nearest form: unmap"),
     (False, "1 unmap 0x50000000 8192", "c.shm: line 4: 'unmap': " + ALONE),
     (False, "1\tprotect null 4096 r", "c.shm: line 4: 'protect': " + ALONE),
+    (False, "# unmap is no call. profile\n1 exit", ""),
     (False, "1 unmapp 0 1", "allowed here: a call: shmget, shmat, shmdt, load, store, xadd, stat, set, rmid, lock, unlock, fork, exec, exit, "
      "swapoff"),
 )
