@@ -25,10 +25,13 @@ class Generator:
             self.lines.append("process %d %d %d" % (pid, *self.random.choice(USERS)))
         self.lines += [f"child {pid}" for pid in self.unborn]
         self.created = 0
+        self.protected = {}
         self.holds = {pid: set() for pid in self.live}
 
     def limits(self):
         pick = self.random.choice
+        if self.has_mappings:
+            return f"limits 65536 16 64 16 {pick((0, 4, 14))}"
         return f"limits {pick((8192, 16384, 65536))} {pick((3, 6, 16))} {pick((8, 16, 64))} 16 {pick((0, 2, 4, 14))}"
 
     def one_in(self, number):
@@ -113,8 +116,16 @@ class Generator:
     def make_unmap(self, _pid):
         return f"unmap {self.range()}"
 
-    def make_protect(self, _pid):
-        return f"protect {self.range()} {self.pick('r', 'rw')}"
+    def make_protect(self, pid):
+        """Often side by side with the last one, and with the same rights: there borders move."""
+        if pid not in self.protected or self.one_in(3):
+            self.protected[pid] = self.random.choice(BASES), self.pick(1, 1, 2, 3), self.pick("r", "r", "rw")
+            return f"protect {self.range()} {self.pick('r', 'rw')}"
+        base, pages, rights = self.protected[pid]
+        count = self.pick(1, 1, 2)
+        base = base + 4096 * pages if self.one_in(2) else base - 4096 * count
+        self.protected[pid] = base, count, rights
+        return f"protect {base:#x} {4096 * count} {rights}"
 
     def make_process_event(self, pid):
         if self.unborn and not self.one_in(3):
@@ -131,13 +142,16 @@ class Generator:
         makes = ((self.make_shmget, 12), (self.make_shmat, 20), (self.make_shmdt, 12), (self.make_stat, 16),
                  (self.make_set, 5), (self.make_rmid, 5), (self.make_lock, 5), (self.make_load, 10),
                  (self.make_store, 10), (self.make_xadd, 3), (self.make_process_event, 2))
-        makes += ((self.make_unmap, 5), (self.make_protect, 14)) if self.has_mappings else ()
+        makes += ((self.make_unmap, 5), (self.make_protect, 40)) if self.has_mappings else ()
         make = self.random.choices([m for m, _ in makes], [w for _, w in makes])[0]
         pid = self.random.choice(self.live)
         return f"{pid} {make(pid)}"
 
     def opening(self):
-        """A few segments, and attaches of them side by side."""
+        """A few segments, and attaches of them side by side; with mappings also one that is long enough to be split."""
+        if self.has_mappings:
+            self.lines.append(f"{self.live[0]} shmget private 24576 666")
+            self.lines += [f"{pid} shmat 0 {self.random.choice(BASES[:7]):#x} -" for pid in self.live]
         for _ in range(self.random.randint(2, 4)):
             pid = self.random.choice(self.live)
             size = self.random.choice(SIZES)
@@ -148,7 +162,11 @@ class Generator:
 
     def script(self):
         self.opening()
-        self.lines += [self.command() for _ in range(self.random.randint(40, 120))]
+        for _ in range(self.random.randint(40, 120)):
+            self.lines.append(self.command())
+            pid, word, *_rest = self.lines[-1].split()
+            if word in ("unmap", "protect") and self.one_in(2):
+                self.lines.append(f"{pid} stat {self.identifier(int(pid))}")
         return "\n".join(self.lines) + "\n"
 
 

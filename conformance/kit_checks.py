@@ -5,13 +5,14 @@ import contextlib
 import io
 import os
 import re
+import subprocess
 import xml.etree.ElementTree as xml
 from dataclasses import replace
 
 import near_misses
 import running
 from results import Outcome, Results, junit_of
-from running import HERE
+from running import HERE, TOP
 from script import BadInput, read_case
 
 HEAD = "limits 4096 1 1 2 0\nprocess 1 1 1\n"
@@ -21,6 +22,7 @@ EVENT = "1 1 shmget 0x00000000 1 600 = 0"
 AREAS = "no swap area: ram:N, sparse:N, mirror:N, fuse:N:rK or fuse:N:wK, N from 1 to 65536"
 SWAP = "the line is #swap and 1 to 8 areas, as #swap ram:64 sparse:65536"
 NO_RULE = ("no comment above it names the rule and its source, as POSIX shmat(), POSIX.1-2017, page 1384, shmop(2) or profile")
+ALONE = "a call of the library alone, which ./shmsim has not: run the case with --library"
 # what is wrong with a case, and all that is said of it
 MALFORMED = (
     ("limits 4096 x 1 2 0\n", "c.shm: line 1: 'x': bad line, allowed here: a number"),
@@ -46,6 +48,26 @@ MALFORMED = (
     ("#swap\n" + RIGHT, "c.shm: line 1: '#swap': " + SWAP),
     ("#swap" + 9 * " ram:1" + "\n" + RIGHT, "c.shm: line 1: '#swap': " + SWAP),
     ("#swaps ram:1\n" + RIGHT, "c.shm: line 1: '#swaps': " + SWAP),
+)
+# the kit's own words: where the language has them, and where it has not
+MAPPED = (
+    (True, "1 unmap 0x50000000 8192", ""),
+    (True, "1 protect a+4096 0x1000 rw", ""),
+    (True, "1 protect null 18446744073709551615 r", ""),
+    (True, "1 unmap 0x50000000", "c.shm: line 4: '0x50000000': bad line, allowed here: unmap ADDRESS LENGTH: 2 operands, and 1 are there"),
+    (True, "1 protect 0x50000000 4096", "allowed here: protect ADDRESS LENGTH RIGHTS: 3 operands, and 2 are there"),
+    (True, "1 protect 0x50000000 4096 w", "c.shm: line 4: 'w': bad line, allowed here: r, or rw"),
+    (True, "1 protect 0x50000000 4k r", "c.shm: line 4: '4k': bad line, allowed here: a number"),
+    (True, "1 unmap here 4096", "c.shm: line 4: 'here': bad line, allowed here: an address: null, "),
+    (True, "1 unmap 0 18446744073709551616", "c.shm: line 4: '18446744073709551616': bad number"),
+    (True, "x = unmap 0 1", "c.shm: line 4: 'x': bad line"),
+    (True, "1 x = unmap 0 1", "c.shm: line 4: 'unmap': bad line, allowed here: shmget, shmat or xadd"),
+    (True, "1 unmapp 0 1", "; nearest form: unmap"),
+    (False, "1 unmap 0x50000000 8192", "c.shm: line 4: 'unmap': " + ALONE),
+    (False, "1\tprotect null 4096 r", "c.shm: line 4: 'protect': " + ALONE),
+    (False, "# unmap is no call. profile\n1 exit", ""),
+    (False, "1 unmapp 0 1", "allowed here: a call: shmget, shmat, shmdt, load, store, xadd, stat, set, rmid, lock, unlock, fork, exec, exit, "
+     "swapoff"),
 )
 CITED = ("POSIX.1-2017, page 1384", "POSIX.1-2017 page 1384", "POSIX shmget()", "POSIX.1-2017, shmget()", "POSIX <sys/shm.h>",
          "shmop(2), ERRORS", "profile")
@@ -79,9 +101,9 @@ def write_file(folder, name, text, mode=0o644):
     return path
 
 
-def said_of(text):
+def said_of(text, has_mappings=False):
     try:
-        read_case("c.shm", text)
+        read_case("c.shm", text, has_mappings=has_mappings)
     except BadInput as error:
         return str(error)
     return ""
@@ -91,6 +113,10 @@ def check_malformed(count):
     for text, wanted in MALFORMED:
         said = said_of(text)
         count.take(wanted in said, f"a malformed case: {text[-60:]!r}: {said!r} where {wanted!r} is wanted")
+    for has_mappings, line, wanted in MAPPED:
+        said = said_of(HEAD + RULE + line + "\n#= ok\n", has_mappings)
+        is_right = said == wanted == "" or wanted != "" and wanted in said and ("swapoff" not in wanted or said.endswith(wanted))
+        count.take(is_right, f"the words of the kit: {line!r}: {said!r} where {wanted!r} is wanted")
     for source in CITED:
         said = said_of(RIGHT.replace("profile", source))
         count.take(said == "", f"the source {source!r} is not taken: {said}")
@@ -196,8 +222,37 @@ def check_kit(count, folder, conform):
     check_results(count, folder, conform)
     check_said_once(count, folder, conform)
     check_list(count, folder, conform)
+    check_mappings(count, folder, conform)
     check_odd_text(count, folder, conform)
     check_own_program(count, folder)
+
+
+def check_mappings(count, folder, conform):
+    """A case with the kit's own words is run with --library alone; a library without these calls skips it."""
+    case = write_file(folder, "mapped.shm", HEAD + RULE + "1 unmap null 4096\n#= ok\n")
+    status, said = conform("--program", os.path.join(folder, "one_reply"), case)
+    is_right = status == 2 and said.startswith(f"mapped: MALFORMED: {case}: line 4: 'unmap': {ALONE}\n")
+    count.take(is_right, f"a case with unmap, without --library: status {status}, {said!r}")
+    status, said = conform("--program", os.path.join(folder, "one_reply"), "mappings/unmap_cuts")
+    count.take(status == 2 and ALONE in said, f"a case of mappings, without --library: status {status}, {said!r}")
+    write_file(folder, "nogcuvema.h", "#define NOG_HEADER\n")
+    write_file(folder, "libnogcuvema.a", "")
+    status, said = conform("--library=" + folder, "--no-peer", case)
+    count.take(status == 3 and "the library's program was not built: " in said, f"a library that is none: status {status}, {said!r}")
+    for reply, wanted, line in (("ok", 0, "mapped: as told (1 commands)"), ("EINVAL", 1, "mapped: FAILS: "),
+                                ("skipped: no", 0, "mapped: skipped: this library has no munmap and no mprotect")):
+        status, said = over_library(folder, case, f"1 1 unmap null 4096 = {reply}")
+        count.take(status == wanted and said.startswith(line), f"a library that answers {reply}: status {status}, {said!r}")
+
+
+def over_library(folder, case, event):
+    """What ./conform says of a case over a library whose program prints one line."""
+    program = write_file(folder, "library.sh", f"#!/bin/sh\necho '{event}'\n", 0o755)
+    compiler = write_file(folder, "cc", f"#!/bin/sh\nwhile [ \"$1\" != -o ]; do shift; done\ncp {program} \"$2\"\n", 0o755)
+    words = [os.path.join(TOP, "conform"), "--library=" + folder, "--no-peer", case]
+    environment = {**os.environ, "PATH": os.path.dirname(compiler) + os.pathsep + os.environ["PATH"]}
+    done = subprocess.run(words, capture_output=True, env=environment, check=False)
+    return done.returncode, (done.stdout + done.stderr).decode(errors="replace")
 
 
 def check_said_once(count, folder, conform):
@@ -209,6 +264,8 @@ def check_said_once(count, folder, conform):
             ("folder", ["--replies", "/nosuch", *paths], 2, "--replies takes a folder, and there is none: /nosuch"),
             ("file", ["--junit", "/nosuch/x.xml", *paths], 2, "--junit: /nosuch/x.xml can't be written: No such file or directory"),
             ("case", [*words, *paths, "nosuch"], 2, "no such case: nosuch"),
+            ("library", ["--library=/nosuch", "--no-peer", *paths], 3, "the library was not built: there is no /nosuch/libnogcuvema.a; "
+             "./lib makes it, and --library=FOLDER names another folder"),
             ("peer, as TAP", ["--tap", *words[:2], *paths, "--peer", "/nosuch/peer"], 3, None),
             ("case, in a list", ["--list", "nosuch"], 2, "no such case: nosuch")):
         status, said = conform(*given)
@@ -223,9 +280,12 @@ def check_list(count, folder, conform):
     status, said = conform("--list", paths[1], paths[0])
     wanted = f"right: 1 commands: A segment. profile\nconform: {paths[1]}: line 3: '1 exit': {NO_RULE}\n"
     count.take(status == 2 and said == wanted, f"--list: status {status}, {said!r}")
-    status, said = conform("--list")
-    names = sorted(name[:-4] for name in os.listdir(os.path.join(HERE, "cases")) if name.endswith(".shm"))
-    count.take(status == 0 and re.findall(r"^(\w+): \d+ commands: \S", said, re.M) == names, f"--list: status {status}, {said[:500]}")
+    names = []
+    for given, folder in (["--list"], "cases"), (["--list", "--library"], os.path.join("cases", "mappings")):
+        status, said = conform(*given)
+        names += sorted(name[:-4] for name in os.listdir(os.path.join(HERE, folder)) if name.endswith(".shm"))
+        listed = re.findall(r"^(\w+): \d+ commands: \S", said, re.M)
+        count.take(status == 0 and listed == names, f"{given}: status {status}, {said[:500]}")
 
 
 def check_odd_replies(count):

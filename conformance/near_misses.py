@@ -107,9 +107,10 @@ def said_of(table, history, line):
 
 
 def wanted_of(line):
-    """The word that is wanted. A DIFFER ends the comparison, except where both sides refused."""
+    """The word that is wanted. A DIFFER ends the comparison, except where both sides refused and had changed nothing before."""
     refused = [re.fullmatch("E[A-Z]+|SIG[A-Z]+", reply) for reply in (line.ours, line.theirs)]
-    return line.word + ", ends" * (line.word == "DIFFER" and not all(refused))
+    may_change = " protect " in line.call and {line.ours, line.theirs} & {"ENOMEM", "EACCES"}
+    return line.word + ", ends" * (line.word == "DIFFER" and bool(may_change or not all(refused)))
 
 
 def judged():

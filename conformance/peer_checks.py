@@ -7,9 +7,14 @@ import signal
 import subprocess
 import tempfile
 
-from running import FLAGS, HERE, PEER_SOURCE
+from running import FLAGS, HERE, PEER_SOURCE, Peer
+from script import is_expected, read_case
 
 SEGMENTS = "/proc/sysvipc/shm"
+MAPPINGS = os.path.join(HERE, "cases", "mappings")
+# what this project answers to a command of those cases, by a rule of its own: removed identifier, whole access, rest is attached
+BY_RULE = {("unmap_of_marked", "EIDRM"), ("protect_middle", "0003"),
+           ("splits_are_no_attaches", "atime=set dtime=set lpid=2 nattch=3")}
 HEAD = "limits 65536 16 64 16 4\nprocess 1 {0} {1}\nchild 2\n".format(os.geteuid(), os.getegid())
 # more than a pipe takes: the peer waits till somebody reads it
 MANY = "1 stat 0\n" * 1000
@@ -139,6 +144,43 @@ def check_own_memory(count, peer):
     said, _ = process.communicate(text.encode(), timeout=60)
     wanted = ["0", *(reply for _, reply in calls)]
     count.take(replies_of(said) == wanted, f"the peer's own memory: {replies_of(said)} where {wanted} is wanted")
+
+
+def check_own_ranges(count, peer):
+    """Where the peer's own memory is nothing is unmapped or protected, but a call that comes nowhere is made."""
+    skip, end = "skipped: the peer's own memory is there", 0x7ffffffff000
+    all_of_it = end - 0x10000
+    calls = ((f"unmap 0x10000 {all_of_it}", skip), (f"unmap 0x10000 {all_of_it + 1}", "EINVAL"), ("unmap 0x10001 4096", "EINVAL"),
+             ("unmap 0x50000000 268435456", "ok"), ("shmat 0 0x50000000 -", "0x50000000"),
+             # it ends at the first page without an attach, which is none of the peer's
+             (f"protect 0x50000000 {end - 0x50000000} r", "ENOMEM"), ("store 0x50000000 00", "SIGSEGV"),
+             (f"protect 0x10000 {all_of_it} rw", "ENOMEM"), (f"protect 0x10000 {2 ** 64 - 1} rw", "ENOMEM"),
+             # the second lies elsewhere than the script has it: the two are no one range
+             ("shmat 0 0x3fffe000 -", "0x3fffe000"), ("shmat 0 null -", "0x40000000"),
+             ("unmap 0x3ffff000 8192", "skipped: the range is not one range of the system"),
+             ("protect 0x40000000 12288 r", "skipped: the range is not one range of the system"),
+             ("unmap 0x40000000 8192", "ok"), ("unmap 0x3ffff000 8192", "ok"), ("load 0x3fffe000 1", "00"))
+    text = HEAD + "1 shmget private 8192 600\n" + "".join(f"1 {call}\n" for call, _ in calls)
+    done = subprocess.run([peer], input=text.encode(), capture_output=True, check=False)
+    wanted = ["0", *(reply for _, reply in calls)]
+    count.take(replies_of(done.stdout) == wanted, f"the peer's own ranges: {replies_of(done.stdout)} where {wanted} is wanted")
+
+
+def check_mappings(count, peer):
+    """The cases of munmap and mprotect, which need no library: the replies that they tell, but for those of this project's rules."""
+    found = set()
+    for name in sorted(os.listdir(MAPPINGS)):
+        with open(os.path.join(MAPPINGS, name), encoding="ascii") as file:
+            case = read_case(name, file.read(), has_mappings=True)
+        events = Peer([peer]).run(case.text, len(case.commands))
+        for command, event in zip(case.commands, events):
+            told = re.sub("time=[1-9][0-9]*", "time=set", command.expected)
+            if not event.is_skipped and not is_expected(told, event.reply):
+                found.add((case.name, told, event.reply.split(" lpid=")[0]))
+            is_made = not event.is_skipped or command.expected == "ESRCH" or os.geteuid() != 0
+            count.take(is_made, f"the peer and {name}: {event.call}: {event.reply}")
+    others = {(name, told) for name, told, _reply in found}
+    count.take(others == BY_RULE, f"the peer answers otherwise than the cases of mappings tell: {sorted(found)}")
 
 
 def check_bus_error(count, peer):

@@ -373,7 +373,7 @@ def is_invalid_there(machine, event, base, segment):
 
 def of_range(machine, event, other, _command):
     """The range's ends would split pieces into more than a process may have."""
-    if event.reply not in ("EMFILE", "ENOMEM") or other.reply != "ok":
+    if event.reply != "ENOMEM" or other.reply != "ok":
         return None
     pieces = list(machine.pieces.get(event.pid, []))
     begin, size = number_of(event.operands[0]), whole_pages(event.operands[1])

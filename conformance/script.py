@@ -164,14 +164,14 @@ def language_of_the_kit():
 
 def require_language(path, text, has_mappings):
     """The case is a script; the fault of one that is none is told as ./shmsim --explain tells it."""
-    try:
-        with language_of_the_kit() if has_mappings else contextlib.nullcontext():
+    with language_of_the_kit() if has_mappings else contextlib.nullcontext():
+        try:
             read_script(text)
-    except ScriptFault as fault:
-        lines = text.split("\n")
-        near = nearest(fault, lines[fault.line - 1]) if 0 < fault.line <= len(lines) else ""
-        cause = fault.kind + f", allowed here: {fault.allowed}" * bool(fault.allowed) + f"; nearest form: {near}" * bool(near)
-        raise BadCase(path, fault.line, fault.word, cause) from None
+        except ScriptFault as fault:
+            lines = text.split("\n")
+            near = nearest(fault, lines[fault.line - 1]) if 0 < fault.line <= len(lines) else ""
+            cause = fault.kind + f", allowed here: {fault.allowed}" * bool(fault.allowed) + f"; nearest form: {near}" * bool(near)
+            raise BadCase(path, fault.line, fault.word, cause) from None
 
 
 def require_no_mappings(path, text):

@@ -256,7 +256,7 @@ def compare_case(case, small, full):
 def groups_of_cases():
     """The cases by their limits and by whether their user is 0."""
     groups = {}
-    for name in sorted(os.listdir(os.path.join(HERE, "cases"))):
+    for name in sorted(it for it in os.listdir(os.path.join(HERE, "cases")) if it.endswith(".shm")):
         path = os.path.join(HERE, "cases", name)
         with open(path, encoding="ascii") as file:
             case = read_case(path, file.read())

@@ -1,0 +1,100 @@
+"""What conformance/check asks of the program over the C library: what ./shmsim prints, byte for byte, and the kit's own words."""
+
+import os
+import re
+import subprocess
+
+from generator import make_script
+from running import TOP, Stopped, build_library, why_no_peer
+from script import read_case
+
+CASES = os.path.join(TOP, "conformance", "cases")
+SHMSIM = os.path.join(TOP, "shmsim")
+RANDOM = 300
+# few slots, and areas that fail
+SHORT = ["fuse:24:r9", "mirror:16", "fuse:8:w5", "sparse:24"]
+SKIPPED = "this library has no munmap and no mprotect"
+HEAD = b"limits 4096 1 1 2 0\nprocess 1 1 1\n"
+FAULTS = ((["serial"], HEAD, 2, b"usage: library serial|pieces SWAP..."), (["nosuch", "ram:1"], HEAD, 2, b"usage: "),
+          (["serial", "disk:1"], HEAD, 2, b"no swap area: disk:1"), (["serial", "ram:0"], HEAD, 3, b"nog_open was answered 2022"),
+          (["serial", "ram:1"], HEAD + b"1 nosuch\n", 1, b"line 3: bad line"),
+          (["serial", "ram:1"], HEAD + b"1 protect null 1 w\n", 1, b"line 3: bad rights: w"),
+          (["serial", "ram:1"], HEAD + b"1 unmap null\n", 1, b"line 3: bad line"))
+
+
+def ran(words, given):
+    done = subprocess.run(words, input=given, capture_output=True, check=False)
+    return done.returncode, done.stdout, done.stderr
+
+
+def names_of(folder):
+    return sorted(name[:-4] for name in os.listdir(folder) if name.endswith(".shm"))
+
+
+def scripts():
+    """Each case and some random scripts, with a name and the swap areas."""
+    for name in names_of(CASES):
+        with open(os.path.join(CASES, name + ".shm"), encoding="ascii") as file:
+            text = file.read()
+        yield name, text, read_case(name, text).swap
+    for number in range(RANDOM):
+        lines = make_script("library", number).splitlines(keepends=True)
+        flushed = [line + "0 flush 3\n" * (at % 9 == 8 and " " in line and line[0] in "12345") for at, line in enumerate(lines)]
+        yield f"random script {number}", "".join(flushed), SHORT if number % 2 else ["sparse:65536"]
+
+
+def check_output(count, program):
+    """The whole output: the event lines, the listing and the usage."""
+    ran([SHMSIM, "serial", "ram:1"], b"limits 1 1 1 2 0\n")   # the first run may build it
+    for name, text, swap in scripts():
+        wanted = ran([SHMSIM, "serial", *swap], text.encode())
+        for word in ("serial", "pieces"):
+            found = ran([program, word, *swap], text.encode())
+            count.take(found == wanted and wanted[0] == 0, f"the library, {word}: {name}: {first_other(found, wanted)}")
+
+
+def first_other(found, wanted):
+    """Where two outputs part."""
+    lines = zip(found[1].splitlines(), wanted[1].splitlines())
+    other = next(((ours, theirs) for ours, theirs in lines if ours != theirs), "")
+    return f"status {found[0]} and {wanted[0]}, {found[2][:300]!r} and {wanted[2][:300]!r}, {other}"
+
+
+def check_words(count, program):
+    for words, given, wanted, said in FAULTS:
+        status, _printed, told = ran([program, *words], given)
+        count.take(status == wanted and b"library: " in told and said in told, f"library {words}: status {status}, {told!r}")
+
+
+def check_conform(count, library, has_mappings, conform):
+    """./conform over the library: the replies that the rules give, and where there is a peer what this system answers."""
+    words = ["--library=" + library]
+    mappings = names_of(os.path.join(CASES, "mappings"))
+    for peer in (["--no-peer"], []):
+        if not peer and why_no_peer():
+            count.skip(1, f"the library and this system: {why_no_peer()}")
+            continue
+        status, said = conform(*words, *peer)
+        found = dict(re.findall(r"^([a-z0-9_]+): (.*)$", said, re.M))
+        good = ("as told",) if peer else ("agree", "profile", "skipped")
+        for name in names_of(CASES) + mappings:
+            is_left_out = name in mappings and not has_mappings and found.get(name) == "skipped: " + SKIPPED
+            is_right = is_left_out or name not in mappings and found.get(name, "").startswith(good)
+            is_right = is_right or has_mappings and found.get(name, "").startswith(good[:2])
+            count.take(is_right, f"the library {peer}: {name}: {found.get(name, 'no line was printed')}")
+        count.take(status == 0, f"./conform --library {peer}: status {status}, {said[-2000:]}")
+    if not why_no_peer():
+        status, said = conform(*words, "random", "60", "2")
+        count.take(status == 0 and "scripts: " in said, f"random scripts over the library: status {status}, {said[:4000]}")
+
+
+def check_library(count, library, folder, conform):
+    """All of it, over the archive and the header in a folder; skipped where they are not there."""
+    try:
+        program, has_mappings = build_library(folder, library)
+    except Stopped as error:
+        count.skip(1, f"the library: {error}")
+        return
+    check_words(count, program)
+    check_output(count, program)
+    check_conform(count, library, has_mappings, conform)
