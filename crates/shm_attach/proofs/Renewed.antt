@@ -7,6 +7,7 @@ use Rattle.shm_base.specs.State.{Piece}
 use Rattle.shm_base.specs.Mapping.{goes_on, has_protection, joined_below, joined_above, low_end, high_end, part_between}
 use Rattle.shm_areas.proofs.Placing.{covering_whole}
 use Rattle.shm_attach.specs.Spans.{HasPages}
+use Rattle.shm_attach.specs.Mapping.{KeepsOwn}
 use Rattle.shm_attach.proofs.Accesses.{covering-passes}
 use Rattle.std.proofs.lemmas.List.Concat.{flat_map-cons}
 use Rattle.shm_attach.proofs.Processes.{one_more, pieces_of-inserted, pieces_of-cut_met}
@@ -253,3 +254,11 @@ pub turned-named : (w : Bool) (at to : ℕ) (p : Piece) (ps : List Piece) → Ar
     → 0 < pieces_of id (inserted (part_between w (low_end w at to p ps) (high_end w at to p ps) p) (cut (low_end w at to p ps) (high_end w at to p ps) ps))
 turned-named w at to p ps ar found order =
     still-named (low_end w at to p ps) (high_end w at to p ps) (part_between w (low_end w at to p ps) (high_end w at to p ps) p) ps (own w at to p ps ar found order)
+
+-- WHAT IS KEPT, STEP BY STEP
+
+pub own-same : (ps : List Piece) → KeepsOwn ps ps
+own-same ps = record { named = λ id some. some; pages = λ seg page all. all }
+
+pub own-then : (ps qs rs : List Piece) → KeepsOwn ps qs → KeepsOwn qs rs → KeepsOwn ps rs
+own-then ps qs rs a b = record { named = λ id some. b.named id (a.named id some); pages = λ seg page all. b.pages seg page (a.pages seg page all) }

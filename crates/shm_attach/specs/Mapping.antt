@@ -1,8 +1,9 @@
 -- What an unmap and a protection answer, and what they leave of the pieces of one process.
-use Rattle.std.specs.Prelude.{◌≡◌, ℕ, ◌+◌, ◌*◌, ◌/◌, ◌-◌, ◌%◌, ◌<◌, ◌≤◌, Bool, nat_lt, if◌then◌else◌, List, length, Option, Some, None, Result, Ok, Err, true}
+use Rattle.std.specs.Prelude.{◌≡◌, ℕ, ◌+◌, ◌*◌, ◌/◌, ◌-◌, ◌%◌, ◌<◌, ◌≤◌, Bool, nat_lt, if◌then◌else◌, List, length, Option, Some, None, Result, Ok, Err, true, All}
 use Rattle.shm_base.specs.State.{Piece}
 use Rattle.shm_base.specs.Access.{end_of}
-use Rattle.shm_base.specs.Space.{lowest_address, end_address, covering, cut}
+use Rattle.shm_base.specs.Space.{lowest_address, end_address, covering, cut, pieces_of}
+use Rattle.shm_attach.specs.Spans.{HasPages}
 use Rattle.shm_base.specs.Guest.{is_live}
 use Rattle.shm_base.specs.Mapping.{Protected, stopped, protects_piece, protects_from, protects_pieces}
 use Rattle.shm_base.specs.declared.bounds.TheConstants.{MOST_PIECES, MOST_SHMALL}
@@ -25,6 +26,11 @@ use Rattle.shm_attach.specs.declared.tables.Tables.{Tables}
 abbrev pub refusal_in : {T : Type 0} → Result T Errno → Option Errno
 refusal_in (Ok done) = None
 refusal_in (Err e) = Some e
+
+-- a process keeps a piece of each segment that it had a piece of, and no page comes that it did not have
+pub record KeepsOwn (before after : List Piece) : Type 0 where
+  pub named : (id : ℕ) → 0 < pieces_of id before → 0 < pieces_of id after
+  pub pages : (seg : ℕ → Bool) (page : ℕ → ℕ → Bool) → All (HasPages seg page) before → All (HasPages seg page) after
 
 -- some whole pages
 pub record IsPageRange (from to : ℕ) : Type 0 where

@@ -10,7 +10,7 @@ ghost use Rattle.shm_base.specs.declared.bounds.TheConstants.{MOST_PIECES};
 ghost use Rattle.shm_areas.specs.Arranged.{bare, bare_all, Arranged, IsFit, IsCovering};
 ghost use Rattle.shm_fault.specs.Store.{StoreView};
 ghost use Rattle.shm_attach.specs.Exact.{AreTablesSound, no_reservations};
-ghost use Rattle.shm_attach.specs.Mapping.{refusal_in, IsPageRange, unmap_refusal, protected_by, protected_between, IsProtectedAt, IsStretch, CanReplace, AreNow};
+ghost use Rattle.shm_attach.specs.Mapping.{refusal_in, IsPageRange, unmap_refusal, protected_by, protected_between, IsProtectedAt, IsStretch, KeepsOwn, CanReplace, AreNow};
 ghost use Rattle.shm_attach.specs.Place.{IsRange};
 ghost use Rattle.shm_attach.specs.Spaces.{pieces_at, life_at, caller_seen, IsCaller, AreTrue};
 ghost use Rattle.shm_attach.specs.Views.{runners_view, most_at};
@@ -116,6 +116,7 @@ fn protect_piece(
     requires sound { AreTablesSound no_reservations processes.old.entries tables.old }
     ensures protects { IsProtectedAt (most_at processes.old.entries index) writable at to (pieces_at (runners_view processes.old.entries) index) (pieces_at (runners_view processes.new.entries) index) result }
     ensures now { AreNow processes.old.entries processes.new.entries tables.old tables.new index (pieces_at (runners_view processes.new.entries) index) }
+    ensures own { KeepsOwn (pieces_at (runners_view processes.old.entries) index) (pieces_at (runners_view processes.new.entries) index) }
     ensures further { IfOk result (λ end. (at + 4096 ≤ end) × (end % 4096 ≡ 0)) }
 {
     let space = space_at(processes, index);
@@ -154,6 +155,7 @@ fn protect_range(
     requires sound { AreTablesSound no_reservations processes.old.entries tables.old }
     ensures refusal { refusal_in result ≡ (protected_between (most_at processes.old.entries index) writable from to (pieces_at (runners_view processes.old.entries) index)).refusal }
     ensures now { AreNow processes.old.entries processes.new.entries tables.old tables.new index (protected_between (most_at processes.old.entries index) writable from to (pieces_at (runners_view processes.old.entries) index)).pieces }
+    ensures own { KeepsOwn (pieces_at (runners_view processes.old.entries) index) (protected_between (most_at processes.old.entries index) writable from to (pieces_at (runners_view processes.old.entries) index)).pieces }
 {
     let mut at = from;
     while at < to {
@@ -203,6 +205,7 @@ impl Spaces {
         requires live { IsCaller caller.now self.old.runners }
         ensures refusal { refusal_in result ≡ (protected_by self.old caller.now writable addr len).refusal }
         ensures runners { self.new.runners ≡ with_pieces self.old.runners (caller_seen caller.now self.old.runners) (protected_by self.old caller.now writable addr len).pieces }
+        ensures own { KeepsOwn (pieces_at self.old.runners caller.now.index) (protected_by self.old caller.now writable addr len).pieces }
         ensures most { self.new.most ≡ self.old.most }
         ensures lost { self.new.lost ≡ self.old.lost }
         ensures translated { (m : StoreView) → AreTrue self.old.translations m → AreTrue self.new.translations m }

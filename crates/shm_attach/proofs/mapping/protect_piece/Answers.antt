@@ -1,9 +1,13 @@
 use Rattle.shm_attach.proofs.Names.{true≢false, most_at, ◌≡◌, ◌∙◌, ◌<◌, true, false, List, length, Some, get_or, ap, sym, subst, arith, common_steps, All, get, covering, cut, bare, runners_view, pieces_at, stored_at, size_in, HasTable}
 use Rattle.shm_base.specs.State.{Piece}
-use Rattle.shm_base.specs.Mapping.{has_protection, low_end, high_end, turned, replaced}
-use Rattle.shm_attach.specs.Mapping.{AreNow}
+use Rattle.shm_base.specs.Access.{end_of}
+use Rattle.shm_base.specs.Space.{inserted}
+use Rattle.shm_base.specs.Mapping.{has_protection, low_end, high_end, part_between, turned, replaced}
+use Rattle.shm_areas.specs.declared.piece.Piece.{Piece as Stored}
+use Rattle.shm_attach.specs.Mapping.{AreNow, KeepsOwn}
 use Rattle.shm_attach.proofs.HavingTables.{pieces_at-bare, has_table, tables-passes, tables-passed}
 use Rattle.shm_attach.proofs.Protecting.{replaced_by, IsTurnable, protects-refused, protects-turned, IsLow, IsHigh, now-same, pieces-now, low_is, high_is, sized_by, stretch_of, part_replaces}
+use Rattle.shm_attach.proofs.Renewed.{own-same, turned-named, turned-has}
 use Rattle.shm_attach.proofs.mapping.protect_piece.Goals.{Start, After-high_end-high, else-writable-via-then-writable+else-not-piece, else-writable-via-else-writable}
 use Rattle.shm_attach.proofs.mapping.protect_piece.Goals as goal
 
@@ -23,6 +27,18 @@ returns-then-piece-writable-clause-now c = same (goal.at.returns-then-piece-writ
 
 pub returns-then-count_outside-most-clause-now : goal.returns-then-count_outside-most-clause-now
 returns-then-count_outside-most-clause-now c = same (goal.at.returns-then-count_outside-most-clause-now c).Start
+
+pub returns-in_default-clause-own : goal.returns-in_default-clause-own
+returns-in_default-clause-own c = own-same (pieces_at (runners_view c.args.processes.now.entries) c.args.index)
+
+pub returns-then-not-piece-clause-own : goal.returns-then-not-piece-clause-own
+returns-then-not-piece-clause-own c = own-same (pieces_at (runners_view c.args.processes.now.entries) c.args.index)
+
+pub returns-then-piece-writable-clause-own : goal.returns-then-piece-writable-clause-own
+returns-then-piece-writable-clause-own c = own-same (pieces_at (runners_view c.args.processes.now.entries) c.args.index)
+
+pub returns-then-count_outside-most-clause-own : goal.returns-then-count_outside-most-clause-own
+returns-then-count_outside-most-clause-own c = own-same (pieces_at (runners_view c.args.processes.now.entries) c.args.index)
 
 -- WHERE A PART CHANGES
 
@@ -99,6 +115,33 @@ returns-clause-now c =
     let i = c.args.index in
     subst (λ (ps : List Piece). AreNow es fs c.args.tables.now c.renew.new.tables i ps) (sym (pieces-now es fs c.args.tables.now c.renew.new.tables i _ c.requires.there c.renew.ensures)) c.renew.ensures
 
+-- the pieces that a part leaves
+left : (c : After-high_end-high) (q : Stored) → bare q ≡ part_between c.args.writable c.low_end-low.result c.high_end-high.result (bare c.in-Some.piece)
+    → inserted (bare q) (cut q.base (end_of (bare q)) (pieces_at (runners_view c.args.processes.now.entries) c.args.index))
+    ≡ turned c.args.writable c.args.at c.args.to (bare c.in-Some.piece) (pieces_at (runners_view c.args.processes.now.entries) c.args.index)
+left c q flat =
+    let t = c.args.tables.now in
+    let ps = pieces_at (runners_view c.args.processes.now.entries) c.args.index in
+    let w = c.args.writable in
+    let p = bare c.in-Some.piece in
+    let end = c.high_end-high.result in
+    replaced_by p (bare q) w (size_in (get t.slab c.in-Some.piece.key)) c.args.at c.low_end-low.result end ps flat (low c) (high c)
+    ∙ ap (λ n. replaced w n end p ps) (low-value c)
+    ∙ ap (λ n. replaced w (low_end w c.args.at c.args.to p ps) n p ps) (high-value c)
+
+pub returns-clause-own : goal.returns-clause-own
+returns-clause-own c =
+    let ps = pieces_at (runners_view c.args.processes.now.entries) c.args.index in
+    let p = bare c.in-Some.piece in
+    let b = (goal.at.returns-clause-own c).After-high_end-high in
+    let arranged = c.requires.sound.exact.arranged c.args.index in
+    let now = pieces-now c.args.processes.now.entries c.renew.new.processes.entries c.args.tables.now c.renew.new.tables c.args.index _ c.requires.there c.renew.ensures in
+    subst (KeepsOwn ps) (sym (now ∙ left b c.part_between-part.result c.part_between-part.ensures.flat))
+    record {
+      named = turned-named c.args.writable c.args.at c.args.to p ps arranged (found b) c.requires.range.order;
+      pages = λ seg page all. turned-has seg page c.args.writable c.args.at c.args.to p ps arranged (found b) c.requires.range.order c.requires.range.from_page c.requires.range.to_page all;
+    }
+
 pub returns-clause-protects : goal.returns-clause-protects
 returns-clause-protects c = λ next.
     let es = c.args.processes.now.entries in
@@ -113,11 +156,7 @@ returns-clause-protects c = λ next.
     let b = (goal.at.returns-clause-protects c).After-high_end-high in
     let count = rw (low-value b, high-value b, c.space_at-space.ensures.flat) at c.count_outside.ensures in
     let most : c.most.result ≡ most_at es i = c.most.ensures ∙ c.space_at-space.ensures.most in
-    let left : pieces_at (runners_view fs) i ≡ turned w c.args.at c.args.to p ps =
-    pieces-now es fs t c.renew.new.tables i _ c.requires.there c.renew.ensures
-    ∙ replaced_by p (bare c.part_between-part.result) w (size_in (get t.slab c.in-Some.piece.key)) c.args.at at end ps c.part_between-part.ensures.flat (low b) (high b)
-    ∙ ap (λ n. replaced w n end p ps) (low-value b)
-    ∙ ap (λ n. replaced w (low_end w c.args.at c.args.to p ps) n p ps) (high-value b) in
+    let now = pieces-now es fs t c.renew.new.tables i _ c.requires.there c.renew.ensures in
     protects-turned (most_at es i) w c.args.at c.args.to p ps next (turnable b) (omega (arith, count, most, c.if-count_outside-most.false))
     ∙ ap (λ n. next n (turned w c.args.at c.args.to p ps)) (sym c.end-2.ensures)
-    ∙ ap (λ qs. next c.end-2.result qs) (sym left)
+    ∙ ap (λ qs. next c.end-2.result qs) (sym (now ∙ left b c.part_between-part.result c.part_between-part.ensures.flat))

@@ -2,7 +2,8 @@ use Rattle.shm_attach.proofs.Names.{◌≡◌, ◌∙◌, ◌-◌, ◌/◌, List
 use Rattle.std.proofs.lemmas.Result.{err_from_is_err_and}
 use Rattle.shm_base.specs.State.{Piece}
 use Rattle.shm_base.specs.Mapping.{Protected, protects_from}
-use Rattle.shm_attach.specs.Mapping.{AreNow, protected_between, continued, refusal_in}
+use Rattle.shm_attach.specs.Mapping.{AreNow, KeepsOwn, protected_between, continued, refusal_in}
+use Rattle.shm_attach.proofs.Renewed.{own-same, own-then}
 use Rattle.shm_attach.proofs.Protecting.{now-same, now-then, lives-now, protects-next, protects-done}
 use Rattle.shm_attach.proofs.mapping.protect_range.Goals.{Start, After-protect_piece}
 use Rattle.shm_attach.proofs.mapping.protect_range.Goals as goal
@@ -14,6 +15,7 @@ loop-at-init c =
       enough = omega (arith, c.requires.range.from_page, c.requires.range.to_page, c.requires.range.order);
       page = c.requires.range.from_page;
       whole = refl;
+      own = own-same (pieces_at (runners_view c.args.processes.now.entries) c.args.index);
       now = now-same c.args.processes.now.entries c.args.tables.now c.args.index c.requires.there c.requires.sound;
     }
 
@@ -62,6 +64,7 @@ loop-at-preserved c =
       enough = omega (arith, kept.enough, (c.in_ok-at.ensures.further).0);
       page = (c.in_ok-at.ensures.further).1;
       whole = sym (rw c.in_ok-at.was at (whole b));
+      own = own-then _ _ _ kept.own c.protect_piece.ensures.own;
       now = now b;
     }
 
@@ -71,3 +74,15 @@ returns-clause-refusal c =
     let kept = c.loop-at.invariant in
     let done = protects-done kept.left (most_at c.args.processes.now.entries i) c.args.writable c.args.to c.loop-at.at (pieces_at (runners_view c.loop-at.processes.entries) i) c.loop-at-test.false in
     ap (λ (x : Protected). x.refusal) (sym done ∙ kept.whole)
+
+pub returns-in_err-at-clause-own : goal.returns-in_err-at-clause-own
+returns-in_err-at-clause-own c =
+    let stop = rw c.in_err-at.was at (whole (goal.at.returns-in_err-at-clause-own c).After-protect_piece) in
+    subst (KeepsOwn (pieces_at (runners_view c.args.processes.now.entries) c.args.index)) (ap (λ (x : Protected). x.pieces) (sym stop)) (own-then _ _ _ c.loop-at.invariant.own c.protect_piece.ensures.own)
+
+pub returns-clause-own : goal.returns-clause-own
+returns-clause-own c =
+    let i = c.args.index in
+    let kept = c.loop-at.invariant in
+    let done = protects-done kept.left (most_at c.args.processes.now.entries i) c.args.writable c.args.to c.loop-at.at (pieces_at (runners_view c.loop-at.processes.entries) i) c.loop-at-test.false in
+    subst (KeepsOwn (pieces_at (runners_view c.args.processes.now.entries) i)) (ap (λ (x : Protected). x.pieces) (sym done ∙ kept.whole)) kept.own

@@ -1,6 +1,6 @@
-use Rattle.shm_attach.proofs.Names.{◌∙◌, ◌≡◌, ◌<◌, refl, ap, arith, length, common_steps, runners_view, SpacesView, pieces_at, most_at, IsCaller}
+use Rattle.shm_attach.proofs.Names.{subst, ◌∙◌, ◌≡◌, ◌<◌, refl, ap, arith, length, common_steps, runners_view, SpacesView, pieces_at, most_at, IsCaller}
 use Rattle.shm_base.specs.Mapping.{Protected}
-use Rattle.shm_attach.specs.Mapping.{protected_by, protected_between}
+use Rattle.shm_attach.specs.Mapping.{protected_by, protected_between, KeepsOwn}
 use Rattle.shm_attach.proofs.Callers.{caller_within, caller_lives, with_pieces_now, with_pieces_own}
 use Rattle.shm_attach.proofs.Protecting.{protected-whole}
 use Rattle.shm_attach.proofs.Translations.{keeps}
@@ -62,3 +62,10 @@ returns-clause-runners c =
 pub returns-clause-translated : goal.returns-clause-translated
 returns-clause-translated c =
     keeps c.args.self.now.translations c.self.inside.tables.slab c.protect_range.new.tables.slab (ap (λ (v : SpacesView). v.translations) c.self.view_is) c.protect_range.ensures.now.translated
+
+pub returns-clause-own : goal.returns-clause-own
+returns-clause-own c =
+    let i = c.args.caller.now.index in
+    let b = (goal.at.returns-clause-own c).After-self in
+    subst (λ ps. KeepsOwn ps (protected_by c.args.self.now c.args.caller.now c.args.writable c.args.addr c.args.len).pieces) (ap (λ (v : SpacesView). pieces_at v.runners i) c.self.view_is)
+    (subst (KeepsOwn (pieces_at (runners_view c.self.inside.processes.entries) i)) (ap (λ (x : Protected). x.pieces) (whole b)) c.protect_range.ensures.own)
