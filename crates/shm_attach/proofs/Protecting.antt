@@ -4,7 +4,7 @@ use Rattle.shm_base.specs.State as flat
 use Rattle.shm_base.specs.State.{pages_of}
 use Rattle.shm_base.specs.Mapping.{has_protection, low_end, high_end, part_between, turned, replaced, Protected, stopped, protects_piece, protects_from, protects_pieces, rounded}
 use Rattle.shm_base.specs.declared.errno.Errno.TheVariants.{Enomem}
-use Rattle.shm_attach.specs.Mapping.{IsStretch, CanReplace, AreNow, protected_between}
+use Rattle.shm_attach.specs.Mapping.{IsStretch, CanReplace, AreNow}
 use Rattle.shm_attach.proofs.Accesses.{covering-passes}
 use Rattle.shm_attach.proofs.Processes.{length-inserted}
 use Rattle.shm_attach.proofs.Keeping.{life_at-changed, pieces_at-changed, with_pieces_at-same, with_pieces_at-twice}
@@ -188,7 +188,7 @@ protects-done (suc left) most w to at ps le = rw (le-leb to at le) refl
 
 -- all pages of a range of bytes
 pub protected-whole : (most : ℕ) (w : Bool) (addr len to : ℕ) (ps : List flat.Piece) → addr % 4096 ≡ 0 → len ≢ 0 → to ≡ addr + rounded len → addr + rounded len < 2 ^ 64
-    → protected_between most w addr to ps ≡ protects_pieces most w addr len ps
+    → protects_from ((to - addr) / 4096) most w to addr ps ≡ protects_pieces most w addr len ps
 protected-whole most w addr len to ps page some ends fits =
     let count : (to - addr) / 4096 ≡ pages_of len = omega (arith, ends) in
     let first : (addr % 4096 == 0) ≡ true = eq-eqb (addr % 4096) 0 page in

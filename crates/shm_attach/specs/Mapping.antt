@@ -1,8 +1,10 @@
 -- What an unmap and a protection answer, and what they leave of the pieces of one process.
 use Rattle.std.specs.Prelude.{◌≡◌, ℕ, ◌+◌, ◌*◌, ◌/◌, ◌-◌, ◌%◌, ◌<◌, ◌≤◌, Bool, nat_lt, if◌then◌else◌, List, length, Option, Some, None, Result, Ok, Err, true, All}
+use Rattle.shm_base.specs.State as flat
 use Rattle.shm_base.specs.State.{Piece}
+use Rattle.shm_base.specs.Step.{with_pieces}
 use Rattle.shm_base.specs.Access.{end_of}
-use Rattle.shm_base.specs.Space.{lowest_address, end_address, covering, cut, pieces_of}
+use Rattle.shm_base.specs.Space.{lowest_address, end_address, covering, inserted, cut, pieces_of}
 use Rattle.shm_attach.specs.Spans.{HasPages}
 use Rattle.shm_base.specs.Guest.{is_live}
 use Rattle.shm_base.specs.Mapping.{Protected, stopped, protects_piece, protects_from, protects_pieces}
@@ -14,7 +16,7 @@ use Rattle.shm_areas.specs.Arranged.{bare}
 use Rattle.shm_areas.specs.declared.piece.Piece.{Piece as Stored}
 use Rattle.shm_attach.specs.Exact.{AreTablesSound, no_reservations}
 use Rattle.shm_attach.specs.Place.{IsRange}
-use Rattle.shm_attach.specs.Spaces.{SpacesView, pieces_at, life_at}
+use Rattle.shm_attach.specs.Spaces.{SpacesView, pieces_at, life_at, caller_seen}
 use Rattle.shm_attach.specs.Table.{AllTrue}
 use Rattle.shm_attach.specs.Tables.{HasTable}
 use Rattle.shm_attach.specs.Views.{runners_view, with_pieces_at, most_at}
@@ -38,27 +40,45 @@ pub record IsPageRange (from to : ℕ) : Type 0 where
   pub to_page : to % PAGE_SIZE ≡ 0
   pub order : from < to
 
--- an unmap is refused just where its rest would be too many pieces
-abbrev pub unmap_refusal : ℕ → ℕ → ℕ → List Piece → Option Errno
-unmap_refusal most from to ps = if nat_lt most (length (cut from to ps)) then Some Enomem else None
+-- the pieces of a caller, and the processes with others for it
+abbrev pub own_pieces : SpacesView → Caller → List Piece
+own_pieces s c = pieces_at s.runners c.index
 
--- what a protection makes of the pieces of a caller
+abbrev pub with_own_pieces : SpacesView → Caller → List Piece → List flat.Runner
+with_own_pieces s c ps = with_pieces s.runners (caller_seen c s.runners) ps
+
+-- an unmap leaves these processes, and is refused just where its rest would be too many pieces
+abbrev pub unmapped : SpacesView → Caller → ℕ → ℕ → List flat.Runner
+unmapped s c from to = with_own_pieces s c (cut from to (own_pieces s c))
+
+abbrev pub unmap_refusal : SpacesView → Caller → ℕ → ℕ → Option Errno
+unmap_refusal s c from to = if nat_lt s.most (length (cut from to (own_pieces s c))) then Some Enomem else None
+
+-- what a protection makes of the pieces of a caller, and the processes that it leaves
 abbrev pub protected_by : SpacesView → Caller → Bool → ℕ → ℕ → Protected
-protected_by s c w addr len = protects_pieces s.most w addr len (pieces_at s.runners c.index)
+protected_by s c w addr len = protects_pieces s.most w addr len (own_pieces s c)
 
--- the same, for whole pages
-abbrev pub protected_between : ℕ → Bool → ℕ → ℕ → List Piece → Protected
-protected_between most w from to ps = protects_from ((to - from) / PAGE_SIZE) most w to from ps
+abbrev pub protected : SpacesView → Caller → Bool → ℕ → ℕ → List flat.Runner
+protected s c w addr len = with_own_pieces s c (protected_by s c w addr len).pieces
+
+-- the pieces of the process at a place
+abbrev pub held : List (ℕ × Runner) → ℕ → List Piece
+held es i = pieces_at (runners_view es) i
+
+-- what a protection of whole pages makes of the pieces of the process at a place
+abbrev pub protected_between : List (ℕ × Runner) → ℕ → Bool → ℕ → ℕ → Protected
+protected_between es i w from to = protects_from ((to - from) / PAGE_SIZE) (most_at es i) w to from (held es i)
 
 -- how a protection goes on behind a piece, or where it stopped
 abbrev pub continued : Result ℕ Errno → (ℕ → List Piece → Protected) → List Piece → Protected
 continued (Ok at) next ps = next at ps
 continued (Err e) next ps = stopped ps e
 
--- the pieces `after` are what a protection makes of those before, at the piece that an address lies in
-abbrev pub IsProtectedAt : ℕ → Bool → ℕ → ℕ → List Piece → List Piece → Result ℕ Errno → Type 0
-IsProtectedAt most w at to before after r =
-    (next : ℕ → List Piece → Protected) → protects_piece most w at to before next (covering at before) ≡ continued r next after
+-- a process has what a protection makes of its pieces at the one that an address lies in
+abbrev pub IsProtectedAt : List (ℕ × Runner) → List (ℕ × Runner) → ℕ → Bool → ℕ → ℕ → Result ℕ Errno → Type 0
+IsProtectedAt es fs i w at to r =
+    (next : ℕ → List Piece → Protected)
+    → protects_piece (most_at es i) w at to (held es i) next (covering at (held es i)) ≡ continued r next (held fs i)
 
 -- a range of the attach of a piece: whole pages of the addresses, and of the segment
 pub record IsStretch (p : Piece) (low high : ℕ) : Type 0 where
@@ -68,6 +88,10 @@ pub record IsStretch (p : Piece) (low high : ℕ) : Type 0 where
   pub begins : p.base ≤ PAGE_SIZE * p.first_page + low
   pub few : PAGE_SIZE * p.first_page + high ≤ p.base + PAGE_SIZE * MOST_SHMALL
 
+-- what a piece makes of others, of which it takes the place in its range
+abbrev pub exchanged : Stored → List Piece → List Piece
+exchanged p ps = inserted (bare p) (cut p.base (end_of (bare p)) ps)
+
 -- a piece may stand in place of what is in its range
 pub record CanReplace (es : List (ℕ × Runner)) (t : Tables) (i : ℕ) (p : Stored) : Type 0 where
   pub there : i < length es
@@ -76,7 +100,7 @@ pub record CanReplace (es : List (ℕ × Runner)) (t : Tables) (i : ℕ) (p : St
   pub some : 1 ≤ p.pages
   pub few : p.first_page + p.pages ≤ MOST_SHMALL
   pub most : most_at es i ≤ MOST_PIECES
-  pub room : length (cut p.base (end_of (bare p)) (pieces_at (runners_view es) i)) < most_at es i
+  pub room : length (cut p.base (end_of (bare p)) (held es i)) < most_at es i
   pub table : HasTable t.slab p
 
 -- a process has these pieces now, and all else is as it was

@@ -5,7 +5,6 @@
 ghost use Rattle.std.specs.Prelude.{◌≡◌, ◌≢◌, ℕ, Option, ◌<◌, ◌≤◌, ◌+◌, length, true, All};
 ghost use Rattle.shm_base.specs.Guest.{is_live};
 ghost use Rattle.shm_base.specs.Space.{lowest_address, inserted, cut, meets, pieces_of};
-ghost use Rattle.shm_base.specs.Access.{end_of};
 ghost use Rattle.shm_areas.specs.declared.piece.Piece.{Piece as Stored};
 ghost use Rattle.shm_base.specs.declared.bounds.TheConstants.{MOST_PIECES};
 ghost use Rattle.shm_attach.specs.Exact.{most_of_segment};
@@ -17,7 +16,7 @@ ghost use Rattle.shm_attach.specs.Tables.{counted, stored_at, HasTable, OneTable
 ghost use Rattle.shm_attach.specs.Place.{IsPlaceFor};
 ghost use Rattle.shm_attach.specs.Part.{left, CanGo, LeavesRoom};
 ghost use Rattle.shm_attach.specs.Exact.{AreTablesSound, HasReservations, one_reserved};
-ghost use Rattle.shm_attach.specs.Mapping.{AreNow, CanReplace};
+ghost use Rattle.shm_attach.specs.Mapping.{held, exchanged, AreNow, CanReplace};
 
 use crate::process::{Life, Runner};
 use crate::tables::Tables;
@@ -132,7 +131,7 @@ pub(crate) fn exchange(
 )
     requires can { CanReplace processes.old.entries tables.old index piece }
     requires reserved { AreTablesSound (one_reserved piece.seg) processes.old.entries tables.old }
-    ensures { AreNow processes.old.entries processes.new.entries tables.old tables.new index (inserted (bare piece) (cut piece.base (end_of (bare piece)) (pieces_at (runners_view processes.old.entries) index))) }
+    ensures { AreNow processes.old.entries processes.new.entries tables.old tables.new index (exchanged piece (held processes.old.entries index)) }
 {
     let range = Part::Range {
         from: piece.base,

@@ -10,7 +10,8 @@ ghost use Rattle.shm_base.specs.declared.bounds.TheConstants.{MOST_PIECES};
 ghost use Rattle.shm_areas.specs.Arranged.{bare, bare_all, Arranged, IsFit, IsCovering};
 ghost use Rattle.shm_fault.specs.Store.{StoreView};
 ghost use Rattle.shm_attach.specs.Exact.{AreTablesSound, no_reservations};
-ghost use Rattle.shm_attach.specs.Mapping.{refusal_in, IsPageRange, unmap_refusal, protected_by, protected_between, IsProtectedAt, IsStretch, KeepsOwn, CanReplace, AreNow};
+ghost use Rattle.shm_attach.specs.Mapping.{refusal_in, IsPageRange, held, own_pieces, unmapped, unmap_refusal, protected, protected_by};
+ghost use Rattle.shm_attach.specs.Mapping.{protected_between, IsProtectedAt, IsStretch, KeepsOwn, exchanged, CanReplace, AreNow};
 ghost use Rattle.shm_attach.specs.Place.{IsRange};
 ghost use Rattle.shm_attach.specs.Spaces.{pieces_at, life_at, caller_seen, IsCaller, AreTrue};
 ghost use Rattle.shm_attach.specs.Views.{runners_view, most_at};
@@ -93,7 +94,7 @@ fn part_between(piece: &Piece, low: u64, high: u64, writable: bool) -> Piece
 fn renew(processes: &mut IndexMap<u32, Runner>, tables: &mut Tables, index: usize, part: Piece)
     requires can { CanReplace processes.old.entries tables.old index part }
     requires sound { AreTablesSound no_reservations processes.old.entries tables.old }
-    ensures { AreNow processes.old.entries processes.new.entries tables.old tables.new index (inserted (bare part) (cut part.base (access.end_of (bare part)) (pieces_at (runners_view processes.old.entries) index))) }
+    ensures { AreNow processes.old.entries processes.new.entries tables.old tables.new index (exchanged part (held processes.old.entries index)) }
 {
     tables.replace(part.seg, part.key, 0, 1);
     exchange(processes, tables, index, part);
@@ -114,9 +115,9 @@ fn protect_piece(
     requires most { most_at processes.old.entries index ≤ MOST_PIECES }
     requires range { IsPageRange at to }
     requires sound { AreTablesSound no_reservations processes.old.entries tables.old }
-    ensures protects { IsProtectedAt (most_at processes.old.entries index) writable at to (pieces_at (runners_view processes.old.entries) index) (pieces_at (runners_view processes.new.entries) index) result }
-    ensures now { AreNow processes.old.entries processes.new.entries tables.old tables.new index (pieces_at (runners_view processes.new.entries) index) }
-    ensures own { KeepsOwn (pieces_at (runners_view processes.old.entries) index) (pieces_at (runners_view processes.new.entries) index) }
+    ensures protects { IsProtectedAt processes.old.entries processes.new.entries index writable at to result }
+    ensures now { AreNow processes.old.entries processes.new.entries tables.old tables.new index (held processes.new.entries index) }
+    ensures own { KeepsOwn (held processes.old.entries index) (held processes.new.entries index) }
     ensures further { IfOk result (λ end. (at + 4096 ≤ end) × (end % 4096 ≡ 0)) }
 {
     let space = space_at(processes, index);
@@ -153,9 +154,9 @@ fn protect_range(
     requires most { most_at processes.old.entries index ≤ MOST_PIECES }
     requires range { IsPageRange from to }
     requires sound { AreTablesSound no_reservations processes.old.entries tables.old }
-    ensures refusal { refusal_in result ≡ (protected_between (most_at processes.old.entries index) writable from to (pieces_at (runners_view processes.old.entries) index)).refusal }
-    ensures now { AreNow processes.old.entries processes.new.entries tables.old tables.new index (protected_between (most_at processes.old.entries index) writable from to (pieces_at (runners_view processes.old.entries) index)).pieces }
-    ensures own { KeepsOwn (pieces_at (runners_view processes.old.entries) index) (protected_between (most_at processes.old.entries index) writable from to (pieces_at (runners_view processes.old.entries) index)).pieces }
+    ensures refusal { refusal_in result ≡ (protected_between processes.old.entries index writable from to).refusal }
+    ensures now { AreNow processes.old.entries processes.new.entries tables.old tables.new index (protected_between processes.old.entries index writable from to).pieces }
+    ensures own { KeepsOwn (held processes.old.entries index) (protected_between processes.old.entries index writable from to).pieces }
 {
     let mut at = from;
     while at < to {
@@ -171,10 +172,10 @@ impl Spaces {
     pub fn unmap(&mut self, caller: &Caller, from: u64, to: u64) -> Result<(), Errno>
         requires live { IsCaller caller.now self.old.runners }
         requires range { IsPageRange from to }
-        ensures refusal { refusal_in result ≡ unmap_refusal self.old.most from to (pieces_at self.old.runners caller.now.index) }
+        ensures refusal { refusal_in result ≡ unmap_refusal self.old caller.now from to }
         ensures err { OnErr result (self.new ≡ self.old) }
-        ensures lost { OnOk result (self.new.lost ≡ cut_segments from to (pieces_at self.old.runners caller.now.index)) }
-        ensures runners { OnOk result (self.new.runners ≡ with_pieces self.old.runners (caller_seen caller.now self.old.runners) (cut from to (pieces_at self.old.runners caller.now.index))) }
+        ensures lost { OnOk result (self.new.lost ≡ cut_segments from to (own_pieces self.old caller.now)) }
+        ensures runners { OnOk result (self.new.runners ≡ unmapped self.old caller.now from to) }
         ensures most { self.new.most ≡ self.old.most }
         ensures translated { (m : StoreView) → AreTrue self.old.translations m → AreTrue self.new.translations m }
     {
@@ -204,8 +205,8 @@ impl Spaces {
     ) -> Result<(), Errno>
         requires live { IsCaller caller.now self.old.runners }
         ensures refusal { refusal_in result ≡ (protected_by self.old caller.now writable addr len).refusal }
-        ensures runners { self.new.runners ≡ with_pieces self.old.runners (caller_seen caller.now self.old.runners) (protected_by self.old caller.now writable addr len).pieces }
-        ensures own { KeepsOwn (pieces_at self.old.runners caller.now.index) (protected_by self.old caller.now writable addr len).pieces }
+        ensures runners { self.new.runners ≡ protected self.old caller.now writable addr len }
+        ensures own { KeepsOwn (own_pieces self.old caller.now) (protected_by self.old caller.now writable addr len).pieces }
         ensures most { self.new.most ≡ self.old.most }
         ensures lost { self.new.lost ≡ self.old.lost }
         ensures translated { (m : StoreView) → AreTrue self.old.translations m → AreTrue self.new.translations m }

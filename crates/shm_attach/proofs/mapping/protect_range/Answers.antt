@@ -25,7 +25,7 @@ protect_piece-requires-clause-live c =
 
 -- what the whole comes to, by the piece that was looked at
 whole : (c : After-protect_piece)
-    → protected_between (most_at c.args.processes.now.entries c.args.index) c.args.writable c.args.from c.args.to (pieces_at (runners_view c.args.processes.now.entries) c.args.index)
+    → protected_between c.args.processes.now.entries c.args.index c.args.writable c.args.from c.args.to
     ≡ continued c.protect_piece.result (protects_from (c.loop-at.invariant.left - 1) (most_at c.args.processes.now.entries c.args.index) c.args.writable c.args.to) (pieces_at (runners_view c.protect_piece.new.processes.entries) c.args.index)
 whole c =
     let i = c.args.index in

@@ -11,7 +11,7 @@ invariant-loop-at l =
       enough : l.to ≤ l.at + 4096 * left;
       page : l.at % 4096 ≡ 0;
       whole : protects_from left (most_at l.initial.processes.entries l.index) l.writable l.to l.at (pieces_at (runners_view l.processes.entries) l.index)
-          ≡ protected_between (most_at l.initial.processes.entries l.index) l.writable l.from l.to (pieces_at (runners_view l.initial.processes.entries) l.index);
+          ≡ protected_between l.initial.processes.entries l.index l.writable l.from l.to;
       own : KeepsOwn (pieces_at (runners_view l.initial.processes.entries) l.index) (pieces_at (runners_view l.processes.entries) l.index);
       now : AreNow l.initial.processes.entries l.processes.entries l.initial.tables l.tables l.index (pieces_at (runners_view l.processes.entries) l.index);
     }

@@ -38,7 +38,7 @@ protect_range-requires-clause-most c =
     omega (arith, most, c.self.invariant.1.bound)
 
 -- what the pages come to is what the bytes come to
-whole : (c : After-self) → protected_between (most_at c.self.inside.processes.entries c.args.caller.now.index) c.args.writable c.args.addr c.in-Some.to (pieces_at (runners_view c.self.inside.processes.entries) c.args.caller.now.index)
+whole : (c : After-self) → protected_between c.self.inside.processes.entries c.args.caller.now.index c.args.writable c.args.addr c.in-Some.to
     ≡ protected_by c.args.self.now c.args.caller.now c.args.writable c.args.addr c.args.len
 whole c =
     let i = c.args.caller.now.index in
