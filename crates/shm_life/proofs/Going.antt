@@ -4,9 +4,16 @@ use Rattle.shm_life.proofs.Names.{common_steps, ◌≡◌, ◌≤◌, ℕ, ◌+�
 use Rattle.std.proofs.Common.{slice_get, slice_set, Option, option_map}
 use Rattle.shm_attach.specs.declared.process.Caller.{Caller}
 use Rattle.shm_life.specs.Sound.{AreProcesses}
-use Rattle.shm_life.proofs.Leaving.{keeps-set, keeps-all, keeps-without, keeps-cut}
+use Rattle.shm_base.specs.Space.{cut_segments}
+use Rattle.shm_base.specs.Segments.{attach_count}
+use Rattle.std.specs.Prelude.{◌<◌}
+use Rattle.shm_life.proofs.Running.{kept-by}
+use Rattle.shm_life.proofs.Leaving.{keeps-set, keeps-all, keeps-without, keeps-cut, keeps-rest, orphans-named, count-named}
+use Rattle.shm_attach.specs.Mapping.{KeepsOwn}
+use Rattle.shm_segments.specs.Table.{live, page_there}
+use Rattle.std.specs.Prelude.{is_some}
 use Rattle.shm_life.proofs.Peopled.{set-apart}
-use Rattle.shm_life.proofs.Pieces.{pass-cut, pass-inserted, pass-without, piece-same}
+use Rattle.shm_life.proofs.Pieces.{pass-cut, pass-inserted, pass-without, piece-same, fit-set}
 use Rattle.shm_life.proofs.Settled.{settled-table, caller-runner, caller-fits, lives-map, lives-cut, lives-origin}
 
 -- the processes with the caller's place taken
@@ -44,6 +51,22 @@ module _ (limits : Bounds) (t : List Entry) (rs : List Runner) (c : Caller) (k :
         live = lives-origin t addr seg ps own named;
         kept = going (Live c.cred) (without_named addr seg ps) (seg ∷ []) (pass-without t addr seg ps own) (keeps-without addr seg ps);
       }
+
+  -- unmap
+  pub range-goes : (from to : ℕ) → Goes limits t (replaced rs c (Live c.cred) (cut from to (pieces_at rs c.index))) (cut_segments from to (pieces_at rs c.index))
+  range-goes from to =
+      let ps = pieces_at rs c.index in
+      record {
+        live = lives-cut t from to ps own;
+        kept = going (Live c.cred) (cut from to ps) (cut_segments from to ps) (pass-cut t from to ps own) (keeps-rest from to ps);
+      }
+
+  -- protect
+  pub renewed-kept : (qs : List Piece) → KeepsOwn (pieces_at rs c.index) qs → IsTableSound limits t (replaced rs c (Live c.cred) qs)
+  renewed-kept qs keeps =
+      let r : Runner = record { pid = c.pid; life = Live c.cred; pieces = qs } in
+      kept-by limits t t rs (replaced rs c (Live c.cred) qs) k (omega arith) (omega arith) k.locked (fit-set t rs c.index r k.pieces (keeps.pages (λ id. is_some (live t id)) (page_there t) own))
+      (orphans-named rs (replaced rs c (Live c.cred) qs) t k.orphans (count-named rs c.index r (record { pid = c.pid; life = Live c.cred; pieces = pieces_at rs c.index }) (caller-runner c rs is) keeps.named)) (same-processes (Live c.cred) qs)
 
   -- shmat
   pub place-goes : (flags : AtFlags) (p : Placed) → PieceFits t (piece_for flags p)

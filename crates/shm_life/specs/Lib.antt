@@ -9,3 +9,4 @@ pub mod SystemState
 pub mod MachineView
 pub mod Counts
 pub mod Guest
+pub mod Mapped

@@ -7,6 +7,7 @@ mod fork;
 mod guest;
 mod kernel;
 mod listing;
+mod mapping;
 mod shmat;
 mod shmctl;
 mod shmdt;

@@ -169,7 +169,7 @@ impl<P: Pager> System<P> {
 
     // The time of the next call.
     #[inline(always)]
-    fn time(&self) -> u64
+    pub(crate) fn time(&self) -> u64
         requires room { self.now.calls < most_calls }
         ensures { result ≡ time_of self.now }
     {
