@@ -4,6 +4,7 @@
 //! That heads lie under identifiers, and bytes in a store, is this crate's own matter.
 #![tactic(auto)]
 
+mod copying;
 mod head;
 mod memory;
 mod segments;
