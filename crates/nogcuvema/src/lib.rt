@@ -7,6 +7,7 @@ mod code;
 mod handle;
 mod hosting;
 mod inspect;
+mod mapping;
 mod open;
 mod owned;
 mod parts;
@@ -20,6 +21,7 @@ pub use access::{nog_add, nog_load};
 pub use handle::Handle;
 pub use hosting::{nog_admit, nog_dismiss, nog_set_time, nog_set_user};
 pub use inspect::{nog_calls, nog_flush, nog_indexes, nog_segment_at, nog_tally_of};
+pub use mapping::{nog_protect, nog_unmap};
 pub use open::{nog_close, nog_open};
 pub use owned::Kept;
 pub use perform::{

@@ -1,0 +1,70 @@
+//! Unmapping and protecting ranges of attached memory.
+ghost use Rattle.std.specs.Prelude.{◌≡◌, Bool, false, not, ◌==◌};
+ghost use Rattle.nogcuvema.specs.Hosting.{HostedThrough};
+ghost use Rattle.nogcuvema.specs.Mapped.{UnmapsBy, ProtectsBy};
+
+use crate::code::{CLOSED, DONE, SPENT};
+use crate::handle::Handle;
+use shm_machine::Machine;
+use std::alloc::Global;
+
+fn unmapped(machine: &mut Machine, pid: u32, addr: u64, len: u64) -> u32
+    ensures { UnmapsBy pid addr len machine.old result machine.new }
+{
+    if machine.system.calls() == u64::MAX {
+        return SPENT;
+    }
+    match machine.system.unmap(pid, addr, len) {
+        Ok(()) => DONE,
+        Err(errno) => errno.code(),
+    }
+}
+
+fn protected(machine: &mut Machine, pid: u32, addr: u64, len: u64, writable: bool) -> u32
+    ensures { ProtectsBy pid addr len writable machine.old result machine.new }
+{
+    match machine.system.protect(pid, addr, len, writable) {
+        Ok(()) => DONE,
+        Err(errno) => errno.code(),
+    }
+}
+
+/// munmap(2) of a range of a live process: pieces in it go, and those that reach beyond are cut. It is no call.
+#[unsafe(no_mangle)]
+pub extern "C" fn nog_unmap(
+    alloc: Global,
+    handle: &mut Handle,
+    pid: u32,
+    addr: u64,
+    len: u64,
+) -> u32
+    ensures { HostedThrough (UnmapsBy pid addr len) handle.old.kept.value result handle.new.kept.value }
+{
+    let Some(mut machine) = handle.take(alloc) else {
+        return CLOSED;
+    };
+    let code = unmapped(&mut machine, pid, addr, len);
+    handle.put(machine);
+    code
+}
+
+/// mprotect(2) of a range of a live process, which becomes writable, or read-only where `is_writable` is 0. It is no
+/// call.
+#[unsafe(no_mangle)]
+pub extern "C" fn nog_protect(
+    alloc: Global,
+    handle: &mut Handle,
+    pid: u32,
+    addr: u64,
+    len: u64,
+    is_writable: u32,
+) -> u32
+    ensures { HostedThrough (ProtectsBy pid addr len (not (is_writable == 0))) handle.old.kept.value result handle.new.kept.value }
+{
+    let Some(mut machine) = handle.take(alloc) else {
+        return CLOSED;
+    };
+    let code = protected(&mut machine, pid, addr, len, is_writable != 0);
+    handle.put(machine);
+    code
+}
