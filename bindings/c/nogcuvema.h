@@ -179,6 +179,26 @@ typedef struct nog_flushed {
     uint64_t failed;   /* pages whose write failed: they stay in their frames */
 } nog_flushed;
 
+/* Sums over all segments, as shmctl(2) with SHM_INFO has them. The limits that IPC_INFO shows are those of nog_limits. */
+typedef struct nog_usage {
+    uint64_t used_ids;  /* segments, those marked for removal among them */
+    uint64_t pages;     /* pages of all segments; one that was never touched is in no frame and in no slot */
+    uint64_t resident;  /* pages in frames */
+    uint64_t swapped;   /* pages in slots alone */
+    uint64_t highest;   /* the highest index that a segment holds, 0 where there is none */
+} nog_usage;
+
+/* A piece of a process, as a line of /proc/PID/maps shows a mapping. */
+typedef struct nog_piece {
+    uint64_t base;         /* its address */
+    uint32_t segment;      /* the identifier of its segment */
+    uint32_t first_page;   /* the page of the segment that lies at the address */
+    uint32_t pages;
+    uint32_t is_writable;  /* 1 or 0 */
+    uint32_t may_write;    /* 0: it was attached with NOG_RDONLY, and nog_protect can't make it writable */
+    uint32_t unused;       /* 0 */
+} nog_piece;
+
 /* Flags, by Linux's numbers; other bits of the 16 count for nothing. */
 enum nog_flag {
     NOG_CREAT = 512,     /* nog_get: IPC_CREAT */
@@ -282,7 +302,7 @@ uint32_t nog_swapoff(nog_machine *machine, uint32_t pid, uint32_t area);
 
 /* ---- what happens to a process besides ---- */
 
-/* None of these is a call of a process: none is counted, and none moves a page. */
+/* None of these is a call of a process: none is counted, and none moves a page, but that nog_unmap may destroy a segment. */
 
 /* A process joins that was not declared when the machine was opened: live with its user and group, or a child that a fork
    may begin. An ended process that has its pid gives its place to it; else room for its pieces is taken.
@@ -301,6 +321,22 @@ uint32_t nog_set_user(nog_machine *machine, uint32_t pid, uint32_t uid, uint32_t
 /* The times that calls set (nog_segment) are this number from now on, until it is set again. Before the first
    nog_set_time they are the places of the calls. */
 uint32_t nog_set_time(nog_machine *machine, uint64_t time);
+
+/* munmap(2): unmaps `len` bytes from `addr` on, rounded up to whole pages, of a live process. Pieces in the range go, and those
+   that reach beyond it are cut. Each segment that lost pages gets a detach time, which is that of the next call, and the
+   process as its last one; a marked segment goes with its last piece. Where nothing is attached, nothing changes.
+   NOG_SPENT: as for calls. NOG_ESRCH: there is no such live process. NOG_EINVAL: the address is no multiple of 4096, the
+   length is 0, or the range reaches beyond 0x7ffffffff000. NOG_ENOMEM: the process would have more pieces than the limits allow. */
+uint32_t nog_unmap(nog_machine *machine, uint32_t pid, uint64_t addr, uint64_t len);
+
+/* mprotect(2): makes a range of a live process, rounded up to whole pages, writable, or read-only where `is_writable` is 0.
+   A part of a piece becomes a piece of its own, which counts in nattch, unless it joins a neighbour of the same attach that
+   has the protection already. A whole piece stays one of its own, and one that has the protection stays as it is. No time
+   changes. From below, the first of these stops it, and what lies below has been changed by then:
+   NOG_ENOMEM: a page is not attached, or the process would have more pieces than the limits allow. NOG_EACCES: a piece is to
+   become writable that was attached with NOG_RDONLY. And before anything changes: NOG_ESRCH, there is no such live process;
+   NOG_EINVAL, the address is no multiple of 4096; NOG_ENOMEM, the range passes 2^64. A length of 0 changes nothing. */
+uint32_t nog_protect(nog_machine *machine, uint32_t pid, uint64_t addr, uint64_t len, uint32_t is_writable);
 
 /* ---- accesses of any length ---- */
 
@@ -331,6 +367,17 @@ uint32_t nog_indexes(nog_machine *machine, uint32_t *indexes);
    NOG_OUT_OF_RANGE: no segment of the open machine has the index. */
 uint32_t nog_segment_at(nog_machine *machine, uint32_t index, nog_segment *segment);
 
+/* The segment at an index of the table as a process may see it, as shmctl(2) with SHM_STAT; nog_segment_at is SHM_STAT_ANY.
+   NOG_ESRCH: there is no such live process. NOG_EINVAL: no segment has the index. NOG_EACCES: it may not be read. */
+uint32_t nog_stat_at(nog_machine *machine, uint32_t pid, uint32_t index, nog_segment *segment);
+
+/* Sums over all segments, and the highest index. It looks at each page that was touched. */
+uint32_t nog_info(nog_machine *machine, nog_usage *usage);
+
+/* A piece of a live process, by its place among the process's pieces, from 0 on by rising address.
+   NOG_ESRCH: there is no such live process. NOG_OUT_OF_RANGE: it has not so many pieces. */
+uint32_t nog_piece_at(nog_machine *machine, uint32_t pid, uint32_t index, nog_piece *piece);
+
 /* How many calls of processes were answered; one that was refused counts, and none that found no memory. */
 uint32_t nog_calls(nog_machine *machine, uint64_t *calls);
 
@@ -345,8 +392,8 @@ uint32_t nog_text(uint32_t code, uint8_t *text, size_t size, size_t *len);
 uint32_t nog_version(void);
 
 /* How the library sees its structs, to compare a binding with. `which` is 0 nog_machine, 1 nog_limits, 2 nog_area, 3
-   nog_failure, 4 nog_process, 5 nog_segment, 6 nog_tally, 7 nog_flushed; `field` 0 asks for the size of the struct, a
-   number from 1 on for the offset of that field, in bytes. NOG_OUT_OF_RANGE: there is no such struct or field. */
+   nog_failure, 4 nog_process, 5 nog_segment, 6 nog_tally, 7 nog_flushed, 8 nog_usage, 9 nog_piece; `field` 0 asks for the
+   size of the struct, a number from 1 on for the offset of that field, in bytes. NOG_OUT_OF_RANGE: there is no such struct or field. */
 uint32_t nog_layout(uint32_t which, uint32_t field, size_t *value);
 
 #ifdef __cplusplus

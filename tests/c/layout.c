@@ -29,7 +29,12 @@ static const struct place places[] = {
     FIELD(6, 6, nog_tally, resident), FIELD(6, 7, nog_tally, dirty), FIELD(6, 8, nog_tally, slots),
     FIELD(6, 9, nog_tally, used), FIELD(6, 10, nog_tally, ins), FIELD(6, 11, nog_tally, outs),
     FIELD(6, 12, nog_tally, failures),
-    SIZE(7, nog_flushed), FIELD(7, 1, nog_flushed, written), FIELD(7, 2, nog_flushed, failed) };
+    SIZE(7, nog_flushed), FIELD(7, 1, nog_flushed, written), FIELD(7, 2, nog_flushed, failed),
+    SIZE(8, nog_usage), FIELD(8, 1, nog_usage, used_ids), FIELD(8, 2, nog_usage, pages), FIELD(8, 3, nog_usage, resident),
+    FIELD(8, 4, nog_usage, swapped), FIELD(8, 5, nog_usage, highest),
+    SIZE(9, nog_piece), FIELD(9, 1, nog_piece, base), FIELD(9, 2, nog_piece, segment), FIELD(9, 3, nog_piece, first_page),
+    FIELD(9, 4, nog_piece, pages), FIELD(9, 5, nog_piece, is_writable), FIELD(9, 6, nog_piece, may_write),
+    FIELD(9, 7, nog_piece, unused) };
 enum { PLACES = sizeof places / sizeof *places };
 
 static int is_as_said(const struct place *place) {

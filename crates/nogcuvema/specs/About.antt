@@ -83,4 +83,6 @@ layout_by which =
     if which == 5 then struct_of 4 12 else
     if which == 6 then struct_of 12 0 else
     if which == 7 then struct_of 2 0 else
+    if which == 8 then struct_of 5 0 else
+    if which == 9 then struct_of 1 6 else
     []

@@ -1,10 +1,15 @@
 -- What the structs that C reads say.
+use Rattle.std.specs.Prelude.{◌==◌, not}
+use Rattle.shm_base.specs.State.{Piece}
 use Rattle.shm_base.specs.declared.call.ShmidDs.{ShmidDs}
 use Rattle.shm_base.specs.declared.paging.Tally.{Tally}
 use Rattle.shm_base.specs.declared.paging.FlushReport.{FlushReport}
 use Rattle.nogcuvema.specs.declared.structs.NogSegment.{NogSegment}
 use Rattle.nogcuvema.specs.declared.structs.NogTally.{NogTally}
+use Rattle.shm_life.specs.declared.listing.ShmInfo.{ShmInfo}
 use Rattle.nogcuvema.specs.declared.structs.NogFlushed.{NogFlushed}
+use Rattle.nogcuvema.specs.declared.structs.NogUsage.{NogUsage}
+use Rattle.nogcuvema.specs.declared.structs.NogPiece.{NogPiece}
 
 abbrev pub shown_by : NogSegment → ShmidDs
 shown_by s =
@@ -40,3 +45,17 @@ tally_by t =
 
 abbrev pub report_by : NogFlushed → FlushReport
 report_by f = record { written = f.written; failed = f.failed }
+
+abbrev pub sums_by : NogUsage → ShmInfo
+sums_by u = record { used_ids = u.used_ids; pages = u.pages; resident = u.resident; swapped = u.swapped }
+
+abbrev pub piece_by : NogPiece → Piece
+piece_by p =
+    record {
+      base = p.base;
+      seg = p.segment;
+      first_page = p.first_page;
+      pages = p.pages;
+      writable = not (p.is_writable == 0);
+      may_write = not (p.may_write == 0);
+    }

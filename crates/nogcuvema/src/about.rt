@@ -5,7 +5,7 @@ ghost use Rattle.nogcuvema.specs.About.{text_by, with_text, layout_by, TextTold,
 use crate::code::{DONE, OUT_OF_RANGE};
 use crate::handle::Handle;
 use crate::structs::{
-    NogArea, NogFailure, NogFlushed, NogLimits, NogProcess, NogSegment, NogTally,
+    NogArea, NogFailure, NogFlushed, NogLimits, NogPiece, NogProcess, NogSegment, NogTally, NogUsage,
 };
 
 fn text_of(code: u32) -> Option<&'static str>
@@ -134,6 +134,10 @@ const TALLY: [usize; 13] = [
 
 const FLUSHED: [usize; 3] = [size_of::<NogFlushed>(), 0, 8];
 
+const USAGE: [usize; 6] = [size_of::<NogUsage>(), 0, 8, 16, 24, 32];
+
+const PIECE: [usize; 8] = [size_of::<NogPiece>(), 0, 8, 12, 16, 20, 24, 28];
+
 fn layout_of(which: u32, field: usize) -> Option<usize>
     ensures { result ≡ slice_get (layout_by which) field }
 {
@@ -146,13 +150,15 @@ fn layout_of(which: u32, field: usize) -> Option<usize>
         5 => &SEGMENT,
         6 => &TALLY,
         7 => &FLUSHED,
+        8 => &USAGE,
+        9 => &PIECE,
         _ => &[],
     };
     layout.get(field).copied()
 }
 
 /// What the library has for its structs: `which` 0 is the machine, 1 limits, 2 area, 3 failure, 4 process, 5 segment, 6
-/// tally, 7 flushed; field 0 the size in bytes, field n the offset of the n-th field. Out of range for others.
+/// tally, 7 flushed, 8 usage, 9 piece; field 0 the size in bytes, field n the offset of the n-th field. Out of range for others.
 #[unsafe(no_mangle)]
 pub extern "C" fn nog_layout(which: u32, field: u32, value: &mut usize) -> u32
     ensures { ValueTold (slice_get (layout_by which) field) value.old result value.new }

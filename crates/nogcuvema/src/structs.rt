@@ -1,9 +1,12 @@
 //! What C and the library hand each other.
 ghost use Rattle.std.specs.Prelude.{◌≡◌};
-ghost use Rattle.nogcuvema.specs.Shown.{shown_by, tally_by, report_by};
+ghost use Rattle.shm_areas.specs.Arranged.{bare};
+ghost use Rattle.nogcuvema.specs.Shown.{shown_by, tally_by, report_by, sums_by, piece_by};
 
 use bitflags::Flags;
+use shm_areas::Piece;
 use shm_base::{FlushReport, ShmidDs, Tally};
+use shm_life::ShmInfo;
 
 /// The limits of a machine. Where the last three are 0 they are the profile's (256 pieces, 64 processes, 65536 slots),
 /// and the first five have the profile's ranges; else all eight have the ranges of [`Limits::of`](shm_base::Limits::of).
@@ -155,6 +158,63 @@ impl NogFlushed {
         NogFlushed {
             written: report.written,
             failed: report.failed,
+        }
+    }
+}
+
+/// Sums over all segments, and the highest index that one holds (shmctl(2), SHM_INFO).
+#[repr(C)]
+#[derive(Clone, Copy)]
+pub struct NogUsage {
+    pub used_ids: u64,
+    pub pages: u64,
+    pub resident: u64,
+    pub swapped: u64,
+    pub highest: u64,
+}
+
+impl NogUsage {
+    pub(crate) fn of(info: &ShmInfo, highest: u32) -> NogUsage
+        ensures sums { sums_by result ≡ info.now }
+        ensures highest { result.highest ≡ highest }
+    {
+        NogUsage {
+            used_ids: info.used_ids,
+            pages: info.pages,
+            resident: info.resident,
+            swapped: info.swapped,
+            highest: u64::from(highest),
+        }
+    }
+}
+
+/// A piece of a process: pages of a segment from `first_page` on, at `base`. Where `may_write` is 0 it can't become
+/// writable.
+#[repr(C)]
+#[derive(Clone, Copy)]
+pub struct NogPiece {
+    pub base: u64,
+    pub segment: u32,
+    pub first_page: u32,
+    pub pages: u32,
+    pub is_writable: u32,
+    pub may_write: u32,
+    pub unused: u32,
+}
+
+impl NogPiece {
+    pub(crate) fn of(piece: &Piece) -> NogPiece
+        ensures { piece_by result ≡ bare piece.now }
+        ensures unused { result.unused ≡ 0 }
+    {
+        NogPiece {
+            base: piece.base,
+            segment: piece.seg,
+            first_page: piece.first_page,
+            pages: piece.pages,
+            is_writable: u32::from(piece.writable),
+            may_write: u32::from(piece.may_write),
+            unused: 0,
         }
     }
 }

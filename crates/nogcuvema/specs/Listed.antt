@@ -1,0 +1,46 @@
+-- What ipcs(1) and /proc show, through a handle.
+use Rattle.std.specs.Prelude.{ℕ, ℤ, ◌≡◌, Option, Some, None, Result, Ok, Err, slice_get}
+use Rattle.shm_base.specs.Codes.{code_of}
+use Rattle.shm_base.specs.State.{Piece, Machine as Flat}
+use Rattle.shm_base.specs.Step.{Caller, caller_of}
+use Rattle.shm_base.specs.declared.call.ShmidDs.{ShmidDs}
+use Rattle.shm_base.specs.declared.errno.Errno.{Errno}
+use Rattle.shm_base.specs.declared.errno.Errno.TheVariants.{Esrch}
+use Rattle.shm_life.specs.Listed.{IsHighest, Sums, stat_at}
+use Rattle.shm_life.specs.SystemState.{SystemState}
+use Rattle.shm_machine.specs.declared.machine.Machine.{Machine}
+use Rattle.nogcuvema.specs.declared.structs.NogSegment.{NogSegment}
+use Rattle.nogcuvema.specs.declared.structs.NogUsage.{NogUsage}
+use Rattle.nogcuvema.specs.Shown.{shown_by, sums_by}
+use Rattle.nogcuvema.specs.Answers.{closed, out_of_range, Unchanged}
+
+-- the sums of all segments, and the highest index
+pub record Uses (s : SystemState) (usage : NogUsage) : Type 0 where
+  pub sums : Sums s.machine s.memory (sums_by usage)
+  pub highest : IsHighest s.machine.table usage.highest
+
+-- the segment at an index, or the errno
+abbrev pub StatOf : ℕ → NogSegment → ℕ → Result (ℤ × ShmidDs) Errno → Type 0
+StatOf index segment code (Ok found) = (code ≡ 0) × (segment.index ≡ index) × (segment.id ≡ found.0) × (shown_by segment ≡ found.1)
+StatOf index segment code (Err errno) = code ≡ code_of errno
+
+abbrev pub AnswersStat : Option Machine → ℕ → ℕ → NogSegment → ℕ → Option Machine → Type 0
+AnswersStat None pid index segment code after = Unchanged closed None code after
+AnswersStat (Some m) pid index segment code after = StatOf index segment code (stat_at m.system.machine pid index) × (after ≡ Some m)
+
+-- a piece at a place, or there is none
+abbrev pub PieceFound : Piece → ℕ → Option Piece → Type 0
+PieceFound piece code None = code ≡ out_of_range
+PieceFound piece code (Some found) = (code ≡ 0) × (piece ≡ found)
+
+-- a piece of a process, by its place among the pieces
+abbrev pub PieceBy : ℕ → Piece → ℕ → Option Caller → Type 0
+PieceBy index piece code None = code ≡ code_of Esrch
+PieceBy index piece code (Some c) = PieceFound piece code (slice_get c.pieces index)
+
+abbrev pub PieceOf : ℕ → Piece → ℕ → ℕ → Flat → Type 0
+PieceOf index piece code pid s = PieceBy index piece code (caller_of s pid)
+
+abbrev pub AnswersPiece : Option Machine → ℕ → ℕ → Piece → ℕ → Option Machine → Type 0
+AnswersPiece None pid index piece code after = Unchanged closed None code after
+AnswersPiece (Some m) pid index piece code after = PieceOf index piece code pid m.system.machine × (after ≡ Some m)
