@@ -15,7 +15,7 @@ use crate::piece::{Piece, Place};
 use crate::search::{count_below, count_to, least_gap, run_in};
 use bitflags::Flags;
 use shm_base::{AtFlags, END_ADDRESS, Errno, HostMemory, LOWEST_ADDRESS, PAGE_SIZE};
-use std::alloc::Global;
+use std::alloc::{AllocError, Global};
 use std::marker::Model;
 
 /// The pieces of a process by rising base. There is room from the beginning for the most that the process may
@@ -40,6 +40,20 @@ impl Model for Space {
     ghost view = { λ s. record { pieces = s.pieces.items; most = s.most } };
 
     ghost invariant = { λ s. IsSpace (record { pieces = s.pieces.items; most = s.most }) × (s.most ≤ vec_capacity s.pieces) };
+}
+
+impl Clone for Space {
+    ghost is_clone = { λ s copy. copy ≡ s };
+
+    /// The same pieces once more. It takes the room for the most that there may be.
+    fn clone(&self) -> Result<Space, AllocError> {
+        let mut pieces = Vec::with_capacity(*self.pieces.allocator(), self.most as usize)?;
+        pieces.extend_from_slice(&self.pieces)?;
+        Ok(Space {
+            pieces,
+            most: self.most,
+        })
+    }
 }
 
 impl Space {

@@ -14,3 +14,4 @@ pub mod FlatSteps
 pub mod Joining
 pub mod Renewed
 pub mod Protecting
+pub mod Copies

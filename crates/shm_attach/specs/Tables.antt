@@ -19,6 +19,11 @@ key_of t id = hash.get nat_eq t.keys id
 abbrev pub counted : Tables → ℕ → ℕ
 counted t id = counted_under t.slab (key_of t id)
 
+-- the same tables under the same keys
+pub record AreSameTables (t copy : Tables) : Type 0 where
+  pub keyed : (id : ℕ) → key_of copy id ≡ key_of t id
+  pub slots : copy.slab.slots ≡ t.slab.slots
+
 -- a segment has a table just where it has pieces, and just one
 pub record OneTableEach (t : Tables) : Type 0 where
   pub keyed : (id key : ℕ) → key_of t id ≡ Some key → seg_in (get t.slab key) ≡ Some id

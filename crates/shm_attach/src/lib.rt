@@ -4,6 +4,7 @@
 
 mod attach;
 mod changes;
+mod copying;
 mod detach;
 mod fork;
 mod guest;

@@ -4,7 +4,7 @@ ghost use Rattle.shm_areas.specs.declared.piece.Piece.{Piece as Stored};
 
 use shm_areas::Piece;
 use shm_base::HostMemory;
-use std::alloc::Global;
+use std::alloc::{AllocError, Global};
 use std::marker::Model;
 
 /// The segments that lost pieces in a call, by rising base: a segment is here once for each piece that went or
@@ -41,6 +41,18 @@ impl Lost {
     {
         let segments = Vec::with_capacity(alloc, most as usize)?;
         Ok(Lost { segments, most })
+    }
+
+    /// The same segments once more, with the room for the most that there may be.
+    pub(crate) fn try_clone(&self) -> Result<Lost, AllocError>
+        ensures { IfOk result (λ copy. copy ≡ self.now) }
+    {
+        let mut segments = Vec::with_capacity(*self.segments.allocator(), self.most as usize)?;
+        segments.extend_from_slice(&self.segments)?;
+        Ok(Lost {
+            segments,
+            most: self.most,
+        })
     }
 
     /// Notes the segments of these pieces in place of those of an earlier call.

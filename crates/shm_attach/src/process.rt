@@ -1,6 +1,9 @@
 //! A process with its address space.
+ghost use Rattle.std.specs.Prelude.{◌≡◌};
+
 use shm_areas::Space;
 use shm_base::Cred;
+use std::alloc::AllocError;
 
 /// A process is declared, born with its credentials or later as a child, and ends once.
 #[derive(Clone, Copy)]
@@ -18,6 +21,17 @@ pub(crate) struct Runner {
 impl Drop for Runner {
     fn drop(self) {
         let Runner { life: _, space: _ } = self;
+    }
+}
+
+impl Clone for Runner {
+    ghost is_clone = { λ runner copy. copy ≡ runner };
+
+    fn clone(&self) -> Result<Runner, AllocError> {
+        Ok(Runner {
+            life: self.life,
+            space: self.space.clone()?,
+        })
     }
 }
 

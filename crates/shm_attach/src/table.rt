@@ -6,7 +6,7 @@ ghost use Rattle.shm_attach.specs.Table.{frame_in, TrueTable, with_frame};
 use shm_base::{FrameNo, HostMemory, PageRef};
 use shm_fault::PageStore;
 use shm_pager::Pager;
-use std::alloc::Global;
+use std::alloc::{AllocError, Global};
 use std::marker::Model;
 
 /// How many pieces a segment has, and the frames of its first pages: where each is resident, and none where it
@@ -33,6 +33,18 @@ impl Model for Table {
     ghost Value = { TableView };
 
     ghost view = { λ t. record { seg = t.seg; count = t.count; frames = t.frames.items } };
+}
+
+impl Clone for Table {
+    ghost is_clone = { λ table copy. copy ≡ table };
+
+    fn clone(&self) -> Result<Table, AllocError> {
+        Ok(Table {
+            seg: self.seg,
+            count: self.count,
+            frames: Vec::from_slice(*self.frames.allocator(), &self.frames)?,
+        })
+    }
 }
 
 impl Table {

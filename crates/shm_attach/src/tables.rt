@@ -7,14 +7,14 @@ ghost use Rattle.shm_fault.specs.Steps.{moved};
 ghost use Rattle.shm_fault.specs.Store.{frame_of};
 ghost use Rattle.shm_attach.specs.Views.{some_if};
 ghost use Rattle.shm_attach.specs.Table.{frame_in, seg_in, size_in, AllTrue, with_frame};
-ghost use Rattle.shm_attach.specs.Tables.{counted, key_of, HasTable, OneTableEach};
+ghost use Rattle.shm_attach.specs.Tables.{counted, key_of, AreSameTables, HasTable, OneTableEach};
 
 use crate::table::Table;
 use shm_base::{FrameNo, HostMemory, PageRef};
 use shm_fault::{PageMove, PageStore};
 use shm_pager::Pager;
 use slab::Slab;
-use std::alloc::Global;
+use std::alloc::{AllocError, Global};
 use std::collections::HashMap;
 
 /// The tables of the attached segments, and the key of each segment's.
@@ -46,6 +46,17 @@ impl Tables {
             keys: HashMap::new(alloc),
             slab: Slab::new(alloc),
         }
+    }
+
+    /// The same tables once more, each under its key.
+    pub(crate) fn try_clone(&self) -> Result<Tables, AllocError>
+        ensures { IfOk result (λ copy. AreSameTables self.now copy) }
+    {
+        Ok(Tables {
+            alloc: self.alloc,
+            keys: self.keys.clone()?,
+            slab: self.slab.clone()?,
+        })
     }
 
     /// The key of a segment's table.
