@@ -112,8 +112,11 @@ fn push_blank(table: &mut Vec<FrameState>, pages: &mut Vec<[u8; PAGE_BYTES]>)
     pages.push_reserved(zeros());
 }
 
-// Has the frames up to this one in the table.
-fn reach(table: &mut Vec<FrameState>, pages: &mut Vec<[u8; PAGE_BYTES]>, frame: FrameNo)
+// Puts the frames up to this one into the table. Kept out of line, so that a frame that is there costs one
+// comparison.
+#[inline(never)]
+fn extend(table: &mut Vec<FrameState>, pages: &mut Vec<[u8; PAGE_BYTES]>, frame: FrameNo)
+    requires new { length table.old.items ≤ frame }
     requires beside { length pages.old.items ≡ length table.old.items }
     requires entries { frame < vec_capacity table.old }
     requires bytes { frame < vec_capacity pages.old }
@@ -124,6 +127,22 @@ fn reach(table: &mut Vec<FrameState>, pages: &mut Vec<[u8; PAGE_BYTES]>, frame: 
 {
     for _frame in table.len()..frame as usize + 1 {
         push_blank(table, pages);
+    }
+}
+
+// Has the frames up to this one in the table.
+#[inline(always)]
+fn reach(table: &mut Vec<FrameState>, pages: &mut Vec<[u8; PAGE_BYTES]>, frame: FrameNo)
+    requires beside { length pages.old.items ≡ length table.old.items }
+    requires entries { frame < vec_capacity table.old }
+    requires bytes { frame < vec_capacity pages.old }
+    ensures table { table.new.items ≡ padded table.old.items (frame + 1) free_entry }
+    ensures pages { pages.new.items ≡ padded pages.old.items (frame + 1) zero_page }
+    ensures entries { vec_capacity table.new ≡ vec_capacity table.old }
+    ensures rooms { vec_capacity pages.new ≡ vec_capacity pages.old }
+{
+    if frame as usize >= table.len() {
+        extend(table, pages, frame);
     }
 }
 

@@ -1,8 +1,8 @@
-use Rattle.std.proofs.Common.{◌≡◌, ◌≤◌, ◌+◌, ◌⊎◌, length, vec_capacity}
+use Rattle.std.proofs.Common.{◌≡◌, ◌≤◌, ◌+◌, length, vec_capacity}
 use Rattle.shm_pager.specs.Pages.{zero_page}
 use Rattle.shm_pager.specs.Padded.{padded}
 use Rattle.shm_frames.specs.Table.{free_entry}
-use Rattle.shm_frames.proofs.frames.reach.Given as goal
+use Rattle.shm_frames.proofs.frames.extend.Given as goal
 
 abbrev pub invariant-loop-frame : goal.invariant-loop-frame
 invariant-loop-frame l = (l.table.items ≡ padded l.initial.table.items l._frame free_entry)
@@ -10,4 +10,4 @@ invariant-loop-frame l = (l.table.items ≡ padded l.initial.table.items l._fram
     × (length l.initial.table.items ≤ l._frame)
     × (vec_capacity l.table ≡ vec_capacity l.initial.table)
     × (vec_capacity l.pages ≡ vec_capacity l.initial.pages)
-    × ((l._frame ≤ l.frame + 1) ⊎ (l._frame ≡ length l.initial.table.items))
+    × (l._frame ≤ l.frame + 1)
