@@ -22,6 +22,18 @@ FAULTS = ((["serial"], HEAD, 2, b"usage: library serial|pieces SWAP..."), (["nos
           (["serial", "ram:1"], HEAD + b"1 unmap null\n", 1, b"line 3: bad line"))
 
 
+def is_old(library):
+    """Whether a source of the crates, or the header, is newer than the archive that is there."""
+    archive = os.path.join(library, "libnogcuvema.a")
+    if not os.path.exists(archive):
+        return False
+    sources = [os.path.join(TOP, "bindings", "c", "nogcuvema.h")]
+    for at, folders, names in os.walk(os.path.join(TOP, "crates")):
+        folders[:] = [it for it in folders if it != "out"]
+        sources += [os.path.join(at, name) for name in names if name.endswith((".rt", ".antt"))]
+    return max(map(os.path.getmtime, sources)) > os.path.getmtime(archive)
+
+
 def ran(words, given):
     done = subprocess.run(words, input=given, capture_output=True, check=False)
     return done.returncode, done.stdout, done.stderr
