@@ -82,18 +82,15 @@ def check_conform(count, library, has_mappings, conform):
     """./conform over the library: the replies that the rules give, and where there is a peer what this system answers."""
     words = ["--library=" + library]
     mappings = names_of(os.path.join(CASES, "mappings"))
-    for peer in (["--no-peer"], []):
+    for peer, good in (["--no-peer"], ("as told",)), ([], ("agree", "profile", "skipped")):
         if not peer and why_no_peer():
             count.skip(1, f"the library and this system: {why_no_peer()}")
             continue
         status, said = conform(*words, *peer)
         found = dict(re.findall(r"^([a-z0-9_]+): (.*)$", said, re.M))
-        good = ("as told",) if peer else ("agree", "profile", "skipped")
         for name in names_of(CASES) + mappings:
-            is_left_out = name in mappings and not has_mappings and found.get(name) == "skipped: " + SKIPPED
-            is_right = is_left_out or name not in mappings and found.get(name, "").startswith(good)
-            is_right = is_right or has_mappings and found.get(name, "").startswith(good[:2])
-            count.take(is_right, f"the library {peer}: {name}: {found.get(name, 'no line was printed')}")
+            wanted = good if has_mappings or name not in mappings else ("skipped: " + SKIPPED,)
+            count.take(found.get(name, "").startswith(wanted), f"the library {peer}: {name}: {found.get(name, 'no line was printed')}")
         count.take(status == 0, f"./conform --library {peer}: status {status}, {said[-2000:]}")
     if not why_no_peer():
         status, said = conform(*words, "random", "60", "2")
