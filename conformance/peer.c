@@ -104,9 +104,15 @@ static void attach(const struct request *q, struct answer *a) {
     settle(a, (int64_t)(intptr_t)shmat(q->id, q->is_placed ? (void *)(uintptr_t)q->address : NULL, q->flags));
 }
 
+/* an munmap that reaches beyond all addresses is refused whole; on some machines there are addresses beyond this end */
+static int is_beyond(const struct request *q) {
+    int has_end = q->task == UNMAPS && q->address + q->reach > END_OF_ADDRESSES;
+    return has_end && munmap((void *)(uintptr_t)END_OF_ADDRESSES, PAGE) == -1;
+}
+
 static void change_range(const struct request *q, struct answer *a) {
     void *address = (void *)(uintptr_t)q->address;
-    a->is_refused_here = q->reach > 0 && is_own(q->address, q->reach);
+    a->is_refused_here = q->reach > 0 && is_own(q->address, q->reach) && !is_beyond(q);
     if (a->is_refused_here) return;
     settle(a, q->task == UNMAPS ? munmap(address, (size_t)q->size) : mprotect(address, (size_t)q->size, q->flags));
 }
@@ -476,14 +482,14 @@ static void run_detach(struct process *p, const uint64_t *v, char *reply) {
     }
 }
 
-/* an mprotect ends at the first page without a piece; a refused munmap comes nowhere */
+/* an mprotect ends at the first page without a piece */
 static void run_range(struct process *p, int call, const uint64_t *v, char *reply) {
     uint64_t page = v[0] - v[0] % PAGE, size = v[1] + (PAGE - v[1] % PAGE) % PAGE, reach = size;
     int is_none = page != v[0] || size == 0 || page + size < page;
     struct request q = {.task = call == UNMAP ? UNMAPS : PROTECTS, .size = v[1]};
     q.flags = v[2] ? PROT_READ | PROT_WRITE : PROT_READ;
     if (call == PROTECT && reach > run_of_pieces(p, page)) reach = run_of_pieces(p, page);
-    q.reach = is_none || (call == UNMAP && page + size > END_OF_ADDRESSES) ? 0 : reach;
+    q.reach = is_none ? 0 : reach;
     q.address = real_address(p, page) + v[0] % PAGE;
     if (q.reach && !is_one_range(p, page, q.reach)) return skip(reply, "the range is not one range of the system");
     struct answer a = ask(p, &q);
