@@ -2,6 +2,7 @@
 #![tactic(auto)]
 
 mod access;
+mod copying;
 mod exec_exit;
 mod fork;
 mod guest;

@@ -47,8 +47,8 @@ impl Model for Opening {
 /// A machine over swap areas. It is seen as how it opened, how many calls it answered, and the flat machine; before
 /// the first call that is as the opening says, unless its host changed it.
 pub struct System<P: Pager> {
-    opening: Opening,
-    calls: u64,
+    pub(crate) opening: Opening,
+    pub(crate) calls: u64,
     // The time that calls set, where the host gave one.
     pub(crate) clock: Option<u64>,
     // Whether nothing but calls and flushes changed the machine, and no time was given.

@@ -1,0 +1,48 @@
+//! A snapshot: a machine once more, as it is at this moment.
+ghost use Rattle.std.specs.Prelude.{◌≡◌, IfOk};
+
+use crate::kernel::Kernel;
+use crate::system::{Opening, System};
+use shm_base::HostMemory;
+use shm_pager::ClonePager;
+
+impl Opening {
+    fn try_clone(&self) -> Result<Opening, HostMemory>
+        ensures { IfOk result (λ copy. copy ≡ self.now) }
+    {
+        Ok(Opening {
+            limits: self.limits,
+            areas: Vec::from_slice(*self.areas.allocator(), &self.areas)?,
+            processes: Vec::from_slice(*self.processes.allocator(), &self.processes)?,
+        })
+    }
+}
+
+impl<P: ClonePager> Kernel<P> {
+    fn try_clone(&self) -> Result<Kernel<P>, HostMemory>
+        ensures { IfOk result (λ copy. copy ≡ self.now) }
+    {
+        Ok(Kernel {
+            limits: self.limits,
+            segments: self.segments.try_clone()?,
+            spaces: self.spaces.try_clone()?,
+        })
+    }
+}
+
+impl<P: ClonePager> System<P> {
+    /// A snapshot: another system with the same state, frames, slots and counts, whose swap areas have the same pages and the
+    /// same reads and writes still to fail. Each goes on without the other. The copy reserves the memory that this
+    /// one has reserved, so that the same calls take none. Out of memory leaves nothing behind.
+    pub fn try_clone(&self) -> Result<System<P>, HostMemory>
+        ensures { IfOk result (λ copy. copy ≡ self.now) }
+    {
+        Ok(System {
+            opening: self.opening.try_clone()?,
+            calls: self.calls,
+            clock: self.clock,
+            only_calls: self.only_calls,
+            kernel: self.kernel.try_clone()?,
+        })
+    }
+}
