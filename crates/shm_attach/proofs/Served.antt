@@ -1,5 +1,5 @@
 -- An access fails first where it fails behind what one piece serves.
-use Rattle.shm_attach.proofs.Names.{◌≡◌, ℕ, zero, suc, ◌+◌, ◌<◌, ◌≤◌, Bool, true, false, List, Some, None, refl, arith, covering, places, place_covering}
+use Rattle.shm_attach.proofs.Names.{◌≡◌, ℕ, zero, suc, ◌+◌, ◌<◌, ◌≤◌, Bool, true, false, List, Some, None, refl, arith, covering, place_covering}
 use Rattle.shm_base.specs.State.{Piece}
 use Rattle.shm_base.specs.Access.{place}
 use Rattle.shm_attach.specs.Failing.{is_allowed, first_failed}

@@ -1,4 +1,4 @@
-use Rattle.shm_attach.proofs.Names.{◌≡◌, ◌∙◌, ◌+◌, ◌-◌, true, true≢false, None, refl, sym, arith, covering, bare, bare_all, IsCovering}
+use Rattle.shm_attach.proofs.Names.{◌≡◌, ◌∙◌, ◌+◌, ◌-◌, true, true≢false, refl, sym, arith, bare, bare_all, IsCovering}
 use Rattle.shm_attach.proofs.Served.{failed-served, failed-none, failed-readonly}
 use Rattle.shm_attach.proofs.failing.failed_in.Goals.{else-write-via-then-write+else-not-piece, else-write-via-else-write}
 use Rattle.shm_attach.proofs.failing.failed_in.Goals as goal
