@@ -15,3 +15,4 @@ pub mod Joining
 pub mod Renewed
 pub mod Protecting
 pub mod Copies
+pub mod Served

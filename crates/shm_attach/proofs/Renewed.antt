@@ -1,10 +1,10 @@
 -- A part of an attach that takes another protection takes the place of pieces of its own attach alone: each segment that has
 -- a piece keeps one, and no page comes that was not there.
 use Rattle.std.proofs.lemmas.List.Elements.{All-weaker}
-use Rattle.shm_attach.proofs.Names.{◌≡◌, ℕ, ◌+◌, ◌-◌, ◌*◌, ◌/◌, ◌%◌, ◌<◌, ◌≤◌, Bool, true, false, List, [], ◌∷◌, length, filter, cases_eq, cases_Bool, cases_lt, eq-eqb, Option, Some, None, refl, ap, sym, subst, ◌∙◌, inl, inr, arith, common_steps, none-some, All, All-nil, All-cons, All-head, All-tail, All-append, nat_lt, if◌then◌else◌, ◌++◌, end_of, covers, meets, parts, part_below, part_above, covering, cut, inserted, pieces_of, lowest_address, IsFit, Arranged}
+use Rattle.shm_attach.proofs.Names.{◌≡◌, ℕ, ◌+◌, ◌-◌, ◌*◌, ◌/◌, ◌%◌, ◌<◌, ◌≤◌, Bool, true, false, List, [], ◌∷◌, filter, cases_eq, cases_Bool, cases_lt, Option, Some, None, refl, ap, sym, subst, ◌∙◌, inl, inr, arith, common_steps, none-some, All, All-nil, All-cons, All-head, All-tail, All-append, nat_lt, if◌then◌else◌, ◌++◌, end_of, covers, meets, parts, part_below, part_above, covering, cut, inserted, pieces_of, lowest_address, IsFit, Arranged}
 use Rattle.std.specs.Prelude.{max, ◌≢◌, ◌⊎◌}
 use Rattle.shm_base.specs.State.{Piece}
-use Rattle.shm_base.specs.Mapping.{goes_on, has_protection, joined_below, joined_above, low_end, high_end, part_between}
+use Rattle.shm_base.specs.Mapping.{low_end, high_end, part_between}
 use Rattle.shm_areas.proofs.Placing.{covering_whole}
 use Rattle.shm_attach.specs.Spans.{HasPages}
 use Rattle.shm_attach.specs.Mapping.{KeepsOwn}

@@ -10,3 +10,4 @@ pub mod Fork
 pub mod Lost
 pub mod Guest
 pub mod Mapping
+pub mod Failing

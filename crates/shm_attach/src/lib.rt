@@ -6,8 +6,10 @@ mod attach;
 mod changes;
 mod copying;
 mod detach;
+mod failing;
 mod fork;
 mod guest;
+mod listing;
 mod lost;
 mod mapping;
 mod process;
@@ -16,6 +18,6 @@ mod spans;
 mod table;
 mod tables;
 
-pub use process::{Caller, Child};
+pub use process::{Caller, Child, Life, Listed};
 pub use spaces::Spaces;
 pub use spans::{Segv, Spans};

@@ -6,8 +6,8 @@ use shm_base::Cred;
 use std::alloc::AllocError;
 
 /// A process is declared, born with its credentials or later as a child, and ends once.
-#[derive(Clone, Copy)]
-pub(crate) enum Life {
+#[derive(Clone, Copy, Debug, PartialEq, Eq)]
+pub enum Life {
     Unborn,
     Live(Cred),
     Ended,
@@ -33,6 +33,13 @@ impl Clone for Runner {
             space: self.space.clone()?,
         })
     }
+}
+
+/// A process as a list shows it.
+#[derive(Clone, Copy, Debug, PartialEq, Eq)]
+pub struct Listed {
+    pub pid: u32,
+    pub life: Life,
 }
 
 /// A child that was declared and is not born yet: its place among the processes.
