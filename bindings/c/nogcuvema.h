@@ -338,6 +338,11 @@ uint32_t nog_unmap(nog_machine *machine, uint32_t pid, uint64_t addr, uint64_t l
    NOG_EINVAL, the address is no multiple of 4096; NOG_ENOMEM, the range passes 2^64. A length of 0 changes nothing. */
 uint32_t nog_protect(nog_machine *machine, uint32_t pid, uint64_t addr, uint64_t len, uint32_t is_writable);
 
+/* A snapshot: puts a machine into `copy` with the same state and memory, whose swap areas have the same pages and the same
+   calls still to fail. Each goes on without the other. A machine that is in `copy` is closed; `copy` is another handle than
+   `machine`. NOG_NO_MEMORY: the heap gave none, and neither handle changed. */
+uint32_t nog_snapshot(nog_machine *machine, nog_machine *copy);
+
 /* ---- accesses of any length ---- */
 
 /* Reads `len` bytes by loads of 64 bytes from `addr` on, the last one of what is left: each is a call of its own and is

@@ -14,6 +14,7 @@ mod owned;
 mod parts;
 mod perform;
 mod segments;
+mod snapshot;
 mod stretch;
 mod structs;
 
@@ -31,5 +32,6 @@ pub use perform::{
     nog_swapoff, nog_unlock,
 };
 pub use segments::{nog_attach, nog_get, nog_stat};
+pub use snapshot::nog_snapshot;
 pub use stretch::{nog_read, nog_write};
 pub use structs::{NogArea, NogFailure, NogFlushed, NogLimits, NogPiece, NogProcess, NogSegment, NogTally, NogUsage};

@@ -204,7 +204,7 @@ pub struct NogPiece {
 
 impl NogPiece {
     pub(crate) fn of(piece: &Piece) -> NogPiece
-        ensures { piece_by result ≡ bare piece.now }
+        ensures piece { piece_by result ≡ bare piece.now }
         ensures unused { result.unused ≡ 0 }
     {
         NogPiece {

@@ -63,6 +63,16 @@ impl Machine {
         }
     }
 
+    /// A snapshot: another machine with the same state and memory, whose areas fail at the same calls. Each goes on without
+    /// the other.
+    pub fn try_clone(&self) -> Result<Machine, HostMemory>
+        ensures { IfOk result (λ copy. copy.system ≡ self.now.system) }
+    {
+        Ok(Machine {
+            system: self.system.try_clone()?,
+        })
+    }
+
     // A call, with the refusals told apart from the other replies.
     pub(crate) fn answer(&mut self, pid: u32, call: &Call) -> Result<Reply, Refusal>
         ensures answered { Answered self.old.system pid call.now result self.new.system }

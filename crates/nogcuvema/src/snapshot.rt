@@ -1,0 +1,29 @@
+//! Snapshots.
+ghost use Rattle.std.specs.Prelude.{◌≡◌};
+ghost use Rattle.nogcuvema.specs.Copied.{CopiesTo};
+
+use crate::code::{CLOSED, DONE, NO_MEMORY};
+use crate::handle::Handle;
+use std::alloc::Global;
+
+/// Puts a machine with the same state and memory into another handle, and lets go of the one that was there. Each goes on
+/// without the other. Out of memory changes neither handle. It is no call.
+#[unsafe(no_mangle)]
+pub extern "C" fn nog_snapshot(alloc: Global, handle: &mut Handle, copy: &mut Handle) -> u32
+    ensures { CopiesTo handle.old.kept.value copy.old.kept.value result handle.new.kept.value copy.new.kept.value }
+{
+    let Some(machine) = handle.take(alloc) else {
+        return CLOSED;
+    };
+    let made = machine.try_clone();
+    handle.put(machine);
+    let Ok(made) = made else {
+        return NO_MEMORY;
+    };
+    let Ok(block) = Box::new(alloc, made) else {
+        return NO_MEMORY;
+    };
+    let _before = copy.take(alloc);
+    copy.put(block);
+    DONE
+}
