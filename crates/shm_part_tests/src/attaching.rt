@@ -3,7 +3,7 @@ ghost use Rattle.shm_attach.specs.Place.{IsRange};
 
 use shm_attach::Spaces;
 use shm_base::{
-    Cred, END_ADDRESS, FrameNo, HostMemory, LOWEST_ADDRESS, PAGE_SIZE, PageRef, Process, Span,
+    Cred, END_ADDRESS, Errno, FrameNo, HostMemory, LOWEST_ADDRESS, PAGE_SIZE, PageRef, Process, Span,
 };
 use shm_fault::{PageMove, PageStore};
 use shm_pager::RamPager;
@@ -12,7 +12,7 @@ use std::alloc::Global;
 use std::process::Abort;
 
 /// What is done to the spaces of a family, or asked of them, with the answer that is wanted.
-enum Act {
+pub(crate) enum Act {
     /// Process 1 attaches a segment at an address: this many pages, to be written too or only read.
     Attach(u32, u64, u32, bool),
     /// Process 1 has no room for one more piece.
@@ -35,21 +35,31 @@ enum Act {
     Frames(u32, u64, &'static [Option<FrameNo>]),
     /// Pages move.
     Note(&'static [PageMove]),
+    /// Process 1 unmaps from one address up to another, or may not.
+    Unmap(u64, u64, Option<Errno>),
+    /// A range of process 1 becomes writable or read-only, or not all of it.
+    Protect(u64, u64, bool, Option<Errno>),
+    /// The first address at which an access of a process fails, which writes or reads.
+    Fails(u32, u64, u64, bool, Option<u64>),
+    /// The segments that lost pieces last.
+    Lost(&'static [u32]),
 }
 
-/// Process 1 of user 100, and child 2.
-fn family(alloc: Global) -> Result<Spaces, HostMemory> {
+/// Process 1 of user 100, and child 2, each with this many pieces at most.
+pub(crate) fn family(alloc: Global, most: u32) -> Result<Spaces, HostMemory>
+    requires { most ≤ 256 }
+{
     let cred = Cred { uid: 100, gid: 100 };
     let parent = Process {
         pid: 1,
         born: Some(cred),
     };
     let child = Process { pid: 2, born: None };
-    Spaces::new(alloc, &[parent, child], 256)
+    Spaces::new(alloc, &[parent, child], most)
 }
 
 /// A store that holds no segment, over one area of one slot: no page is resident.
-fn bare_store(alloc: Global) -> Result<PageStore<RamPager>, HostMemory> {
+pub(crate) fn bare_store(alloc: Global) -> Result<PageStore<RamPager>, HostMemory> {
     let mut pagers = Vec::with_capacity(alloc, 1)?;
     pagers.push(RamPager::new(alloc, 1)?)?;
     let swap = Swap::new(alloc, pagers)?;
@@ -159,6 +169,23 @@ fn has_spans(spaces: &Spaces, addr: u64, len: u64, write: bool, wanted: &[Span])
     }
 }
 
+fn unmap(spaces: &mut Spaces, from: u64, to: u64) -> Option<Errno> {
+    if from % PAGE_SIZE != 0 || to % PAGE_SIZE != 0 || from >= to {
+        return Some(Errno::Einval);
+    }
+    let Some(caller) = spaces.caller(1) else {
+        return Some(Errno::Esrch);
+    };
+    spaces.unmap(&caller, from, to).err()
+}
+
+fn protect(spaces: &mut Spaces, addr: u64, len: u64, writable: bool) -> Option<Errno> {
+    let Some(caller) = spaces.caller(1) else {
+        return Some(Errno::Esrch);
+    };
+    spaces.protect(&caller, addr, len, writable).err()
+}
+
 /// Does an act; whether its answer is the wanted one.
 fn answers(spaces: &mut Spaces, store: &PageStore<RamPager>, act: &Act) -> bool {
     match *act {
@@ -178,20 +205,28 @@ fn answers(spaces: &mut Spaces, store: &PageStore<RamPager>, act: &Act) -> bool 
             spaces.note(moves);
             true
         }
+        Act::Unmap(from, to, refusal) => unmap(spaces, from, to) == refusal,
+        Act::Protect(addr, len, writable, refusal) => {
+            protect(spaces, addr, len, writable) == refusal
+        }
+        Act::Fails(pid, addr, len, write, first) => {
+            spaces.failed_at(pid, addr, len, write) == first
+        }
+        Act::Lost(lost) => spaces.lost() == lost,
     }
 }
 
 /// Each act has its answer, one after another. A message counts the rows from 0.
-fn answers_all(rt: &impl Abort, spaces: &mut Spaces, store: &PageStore<RamPager>, acts: &[Act]) {
+pub(crate) fn answers_all(rt: &impl Abort, spaces: &mut Spaces, store: &PageStore<RamPager>, acts: &[Act]) {
     for (row, act) in acts.iter().enumerate() {
         assert!(rt; answers(spaces, store, act), "at row {row}");
     }
 }
 
 /// As `answers_all`, in a family that begins with no piece.
-fn in_a_family(rt: &impl Abort, alloc: Global, acts: &[Act]) -> Result<(), HostMemory> {
+pub(crate) fn in_a_family(rt: &impl Abort, alloc: Global, acts: &[Act]) -> Result<(), HostMemory> {
     let store = bare_store(alloc)?;
-    let mut spaces = family(alloc)?;
+    let mut spaces = family(alloc, 256)?;
     answers_all(rt, &mut spaces, &store, acts);
     Ok(())
 }
@@ -240,7 +275,7 @@ fn fills(rt: &impl Abort, spaces: &mut Spaces, store: &PageStore<RamPager>) {
 #[test]
 fn a_process_has_room_for_256_pieces(rt: HostRuntime) -> Result<(), HostMemory> {
     let store = bare_store(rt.alloc())?;
-    let mut spaces = family(rt.alloc())?;
+    let mut spaces = family(rt.alloc(), 256)?;
     fills(&rt, &mut spaces, &store);
     Ok(())
 }

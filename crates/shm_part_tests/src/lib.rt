@@ -9,6 +9,8 @@ mod attaching;
 #[cfg(test)]
 mod identifiers;
 #[cfg(test)]
+mod mapping;
+#[cfg(test)]
 mod printing;
 #[cfg(test)]
 mod reading;
