@@ -383,6 +383,16 @@ uint32_t nog_info(nog_machine *machine, nog_usage *usage);
    NOG_ESRCH: there is no such live process. NOG_OUT_OF_RANGE: it has not so many pieces. */
 uint32_t nog_piece_at(nog_machine *machine, uint32_t pid, uint32_t index, nog_piece *piece);
 
+/* A process, by its place among the processes from 0 on; one that is dismissed gives its place to the last. `is_born` is 1
+   for a live one, 0 for a child that is not born, and 2 for one that has ended; user and group are 0 but of a live one.
+   NOG_OUT_OF_RANGE: there are not so many. */
+uint32_t nog_process_at(nog_machine *machine, uint32_t index, nog_process *process);
+
+/* Where an access of `len` bytes from `addr` on is NOG_SIGSEGV: the address of its first byte that is not attached, or, where
+   `is_write` is not 0, not for writing. Of a process that is not live no byte is attached.
+   NOG_OUT_OF_RANGE: each byte is attached as the access asks, or there is none. */
+uint32_t nog_failed_at(nog_machine *machine, uint32_t pid, uint64_t addr, uint64_t len, uint32_t is_write, uint64_t *at);
+
 /* How many calls of processes were answered; one that was refused counts, and none that found no memory. */
 uint32_t nog_calls(nog_machine *machine, uint64_t *calls);
 

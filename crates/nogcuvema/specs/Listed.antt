@@ -1,7 +1,9 @@
 -- What ipcs(1) and /proc show, through a handle.
-use Rattle.std.specs.Prelude.{ℕ, ℤ, ◌≡◌, Option, Some, None, Result, Ok, Err, slice_get}
+use Rattle.std.specs.Prelude.{ℕ, ℤ, ◌≡◌, Bool, Option, Some, None, Result, Ok, Err, slice_get}
 use Rattle.shm_base.specs.Codes.{code_of}
-use Rattle.shm_base.specs.State.{Piece, Machine as Flat}
+use Rattle.shm_base.specs.State.{Piece, Runner, Machine as Flat}
+use Rattle.shm_attach.specs.Failing.{first_failed}
+use Rattle.shm_attach.specs.Spans.{pieces_by}
 use Rattle.shm_base.specs.Step.{Caller, caller_of}
 use Rattle.shm_base.specs.declared.call.ShmidDs.{ShmidDs}
 use Rattle.shm_base.specs.declared.errno.Errno.{Errno}
@@ -11,7 +13,8 @@ use Rattle.shm_life.specs.SystemState.{SystemState}
 use Rattle.shm_machine.specs.declared.machine.Machine.{Machine}
 use Rattle.nogcuvema.specs.declared.structs.NogSegment.{NogSegment}
 use Rattle.nogcuvema.specs.declared.structs.NogUsage.{NogUsage}
-use Rattle.nogcuvema.specs.Shown.{shown_by, sums_by}
+use Rattle.nogcuvema.specs.declared.structs.NogProcess.{NogProcess}
+use Rattle.nogcuvema.specs.Shown.{shown_by, sums_by, process_shown}
 use Rattle.nogcuvema.specs.Answers.{closed, out_of_range, Unchanged}
 
 -- the sums of all segments, and the highest index
@@ -44,3 +47,21 @@ PieceOf index piece code pid s = PieceBy index piece code (caller_of s pid)
 abbrev pub AnswersPiece : Option Machine → ℕ → ℕ → Piece → ℕ → Option Machine → Type 0
 AnswersPiece None pid index piece code after = Unchanged closed None code after
 AnswersPiece (Some m) pid index piece code after = PieceOf index piece code pid m.system.machine × (after ≡ Some m)
+
+-- a process at a place, or there is none
+abbrev pub ProcessOf : NogProcess → ℕ → Option Runner → Type 0
+ProcessOf process code None = code ≡ out_of_range
+ProcessOf process code (Some r) = (code ≡ 0) × (process ≡ process_shown r.pid r.life)
+
+abbrev pub AnswersProcess : Option Machine → ℕ → NogProcess → ℕ → Option Machine → Type 0
+AnswersProcess None index process code after = Unchanged closed None code after
+AnswersProcess (Some m) index process code after = ProcessOf process code (slice_get m.system.machine.runners index) × (after ≡ Some m)
+
+-- where an access fails, or it does not
+abbrev pub FailedBy : ℕ → ℕ → Option ℕ → Type 0
+FailedBy at code None = code ≡ out_of_range
+FailedBy at code (Some a) = (code ≡ 0) × (at ≡ a)
+
+abbrev pub AnswersFailed : Option Machine → ℕ → ℕ → ℕ → Bool → ℕ → ℕ → Option Machine → Type 0
+AnswersFailed None pid addr len write at code after = Unchanged closed None code after
+AnswersFailed (Some m) pid addr len write at code after = FailedBy at code (first_failed write (pieces_by pid m.system.machine.runners) addr len) × (after ≡ Some m)

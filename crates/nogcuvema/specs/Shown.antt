@@ -1,6 +1,6 @@
 -- What the structs that C reads say.
-use Rattle.std.specs.Prelude.{◌==◌, not}
-use Rattle.shm_base.specs.State.{Piece}
+use Rattle.std.specs.Prelude.{ℕ, ◌==◌, not}
+use Rattle.shm_base.specs.State.{Piece, Life, Unborn, Live, Ended}
 use Rattle.shm_base.specs.declared.call.ShmidDs.{ShmidDs}
 use Rattle.shm_base.specs.declared.paging.Tally.{Tally}
 use Rattle.shm_base.specs.declared.paging.FlushReport.{FlushReport}
@@ -10,6 +10,7 @@ use Rattle.shm_life.specs.declared.listing.ShmInfo.{ShmInfo}
 use Rattle.nogcuvema.specs.declared.structs.NogFlushed.{NogFlushed}
 use Rattle.nogcuvema.specs.declared.structs.NogUsage.{NogUsage}
 use Rattle.nogcuvema.specs.declared.structs.NogPiece.{NogPiece}
+use Rattle.nogcuvema.specs.declared.structs.NogProcess.{NogProcess}
 
 abbrev pub shown_by : NogSegment → ShmidDs
 shown_by s =
@@ -59,3 +60,9 @@ piece_by p =
       writable = not (p.is_writable == 0);
       may_write = not (p.may_write == 0);
     }
+
+-- a process as a list shows it: 0, a child that is not born, 1, live, 2, ended
+abbrev pub process_shown : ℕ → Life → NogProcess
+process_shown pid Unborn = record { pid = pid; is_born = 0; uid = 0; gid = 0 }
+process_shown pid (Live cred) = record { pid = pid; is_born = 1; uid = cred.uid; gid = cred.gid }
+process_shown pid Ended = record { pid = pid; is_born = 2; uid = 0; gid = 0 }

@@ -23,7 +23,7 @@ pub use access::{nog_add, nog_load};
 pub use handle::Handle;
 pub use hosting::{nog_admit, nog_dismiss, nog_set_time, nog_set_user};
 pub use inspect::{nog_calls, nog_flush, nog_indexes, nog_segment_at, nog_tally_of};
-pub use listing::{nog_info, nog_piece_at, nog_stat_at};
+pub use listing::{nog_failed_at, nog_info, nog_piece_at, nog_process_at, nog_stat_at};
 pub use mapping::{nog_protect, nog_unmap};
 pub use open::{nog_close, nog_open};
 pub use owned::Kept;

@@ -1,13 +1,13 @@
 //! What ipcs(1) and /proc show of a machine. None of it is a call, and nothing changes.
-ghost use Rattle.std.specs.Prelude.{◌≡◌, ◌≢◌};
+ghost use Rattle.std.specs.Prelude.{◌≡◌, ◌≢◌, ◌==◌, not, slice_get};
 ghost use Rattle.shm_life.specs.Listed.{stat_at};
 ghost use Rattle.nogcuvema.specs.Shown.{piece_by};
-ghost use Rattle.nogcuvema.specs.Listed.{Uses, AnswersStat, StatOf, AnswersPiece, PieceOf};
+ghost use Rattle.nogcuvema.specs.Listed.{Uses, AnswersStat, StatOf, AnswersPiece, PieceOf, AnswersProcess, ProcessOf, AnswersFailed};
 ghost use Rattle.nogcuvema.specs.Reads.{Reads};
 
 use crate::code::{CLOSED, DONE, OUT_OF_RANGE};
 use crate::handle::Handle;
-use crate::structs::{NogPiece, NogSegment, NogUsage};
+use crate::structs::{NogPiece, NogProcess, NogSegment, NogUsage};
 use shm_base::Errno;
 use shm_machine::Machine;
 use std::alloc::Global;
@@ -94,4 +94,66 @@ pub extern "C" fn nog_piece_at(
     let code = piece_at(&machine, pid, index, piece);
     handle.put(machine);
     code
+}
+
+fn process_at(machine: &Machine, index: u32, process: &mut NogProcess) -> u32
+    ensures answers { ProcessOf process.new result (slice_get machine.now.system.machine.runners index) }
+    ensures process { result ≢ 0 → process.new ≡ process.old }
+{
+    match machine.system.spaces().process_at(index) {
+        Some(found) => {
+            *process = NogProcess::of(found.pid, &found.life);
+            DONE
+        }
+        None => OUT_OF_RANGE,
+    }
+}
+
+/// A process, by its place among the processes, live or not; out of range behind the last.
+#[unsafe(no_mangle)]
+pub extern "C" fn nog_process_at(
+    alloc: Global,
+    handle: &mut Handle,
+    index: u32,
+    process: &mut NogProcess,
+) -> u32
+    ensures machine { AnswersProcess handle.old.kept.value index process.new result handle.new.kept.value }
+    ensures process { result ≢ 0 → process.new ≡ process.old }
+{
+    let Some(machine) = handle.take(alloc) else {
+        return CLOSED;
+    };
+    let code = process_at(&machine, index, process);
+    handle.put(machine);
+    code
+}
+
+/// The first byte of an access that has no piece, or that lies in a piece which may not be written; out of range
+/// where there is none.
+#[unsafe(no_mangle)]
+pub extern "C" fn nog_failed_at(
+    alloc: Global,
+    handle: &mut Handle,
+    pid: u32,
+    addr: u64,
+    len: u64,
+    is_write: u32,
+    at: &mut u64,
+) -> u32
+    ensures machine { AnswersFailed handle.old.kept.value pid addr len (not (is_write == 0)) at.new result handle.new.kept.value }
+    ensures at { result ≢ 0 → at.new ≡ at.old }
+{
+    let Some(machine) = handle.take(alloc) else {
+        return CLOSED;
+    };
+    let spaces = machine.system.spaces();
+    let failed = spaces.failed_at(pid, addr, len, is_write != 0);
+    handle.put(machine);
+    match failed {
+        Some(found) => {
+            *at = found;
+            DONE
+        }
+        None => OUT_OF_RANGE,
+    }
 }

@@ -1,11 +1,13 @@
 //! What C and the library hand each other.
 ghost use Rattle.std.specs.Prelude.{◌≡◌};
 ghost use Rattle.shm_areas.specs.Arranged.{bare};
-ghost use Rattle.nogcuvema.specs.Shown.{shown_by, tally_by, report_by, sums_by, piece_by};
+ghost use Rattle.nogcuvema.specs.Shown.{shown_by, tally_by, report_by, sums_by, piece_by, process_shown};
+ghost use Rattle.shm_attach.specs.Views.{life_view};
 
 use bitflags::Flags;
 use shm_areas::Piece;
-use shm_base::{FlushReport, ShmidDs, Tally};
+use shm_attach::Life;
+use shm_base::{Cred, FlushReport, ShmidDs, Tally};
 use shm_life::ShmInfo;
 
 /// The limits of a machine. Where the last three are 0 they are the profile's (256 pieces, 64 processes, 65536 slots),
@@ -51,6 +53,24 @@ pub struct NogProcess {
     pub is_born: u32,
     pub uid: u32,
     pub gid: u32,
+}
+
+impl NogProcess {
+    pub(crate) fn of(pid: u32, life: &Life) -> NogProcess
+        ensures { result ≡ process_shown pid (life_view life.now) }
+    {
+        let (is_born, cred) = match life {
+            Life::Unborn => (0, Cred { uid: 0, gid: 0 }),
+            Life::Live(cred) => (1, *cred),
+            Life::Ended => (2, Cred { uid: 0, gid: 0 }),
+        };
+        NogProcess {
+            pid,
+            is_born,
+            uid: cred.uid,
+            gid: cred.gid,
+        }
+    }
 }
 
 /// What a segment shows (shmctl(2), IPC_STAT), with its identifier and its index in the table. A time is the place of a

@@ -20,7 +20,7 @@ pub use Rattle.shm_base.specs.Identifier.{Found, Invalid, Look, Removed, destroy
 pub use Rattle.shm_base.specs.Permission.{grants, owns, wish_of}
 pub use Rattle.shm_base.specs.Processes.{pieces_of_caller}
 pub use Rattle.shm_base.specs.Segments.{after_detach, attach_count, attached, change, detach_all, detached, locked, marked, pages_held, pages_locked, reserved, segment_count, slots, swept, swept_at, swept_from, with_entry}
-pub use Rattle.shm_base.specs.Space.{choose, cut, cut_segments, first_chosen, inserted, inside, is_gap, is_named, end_address, lowest_address, meets, occupied, origin_of, part_above, part_below, parts, pieces_of, without_named}
+pub use Rattle.shm_base.specs.Space.{choose, cut, cut_segments, first_chosen, inserted, inside, is_gap, is_named, new_piece, end_address, lowest_address, meets, occupied, origin_of, part_above, part_below, parts, pieces_of, without_named}
 pub use Rattle.shm_base.specs.State.{Ended, Entry, Life, Live, Machine, Opening, Piece, Runner, Segment, Unborn, pages_in, pages_of, runner_at_start, start_of}
 pub use Rattle.shm_base.specs.Step.{Caller, Outcome, acts, at_wish, attaches, attaches_chosen, attaches_fixed, attaches_found, caller_from, caller_of, controls, creates, creates_at, detaches, forks, gives, is_rdonly, is_remap, is_rnd, load, locks, new_segment, number_at, pieces_with, refuses, removes, segments_of, sets, shmat, shmget, stat, step, step_by, store, swapoff, takes_away, unborn_from, unlocks, wants_creation, wants_no_other, with_end, with_pieces, xadd}
 pub use Rattle.shm_base.specs.declared.owner.Cred.{Cred}

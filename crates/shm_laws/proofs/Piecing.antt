@@ -1,5 +1,5 @@
 -- What a piece names stands.
-use Rattle.shm_laws.proofs.Names.{◌≡◌, ◌⊎◌, ℕ, suc, zero, ◌+◌, ◌*◌, ◌≤◌, not, List, [], ◌∷◌, map, Some, slice_get, slice_set, refl, ap, subst, inl, inr, arith, common_steps, cases_eq, filter, sum_by-cons, Call, Event, Process, Segment, Piece, Live, Runner, Machine, Opening, start_of, runner_at_start, pages_in, cut, pieces_of, attach_count, Caller, Outcome, caller_of, acts, is_rdonly, pieces_with, IsMove, IsHistory, one_more, pieces_of-inserted, pieces_of-cut_cons, pieces_of-filter, sum-set, Stands, IsDue, PiecesNameWhatStands, GivesPieces, CountsPieces, PiecesAreOfSegments}
+use Rattle.shm_laws.proofs.Names.{new_piece, ◌≡◌, ◌⊎◌, ℕ, suc, zero, ◌+◌, ◌*◌, ◌≤◌, not, List, [], ◌∷◌, map, Some, slice_get, slice_set, refl, ap, subst, inl, inr, arith, common_steps, cases_eq, filter, sum_by-cons, Call, Event, Process, Segment, Piece, Live, Runner, Machine, Opening, start_of, runner_at_start, pages_in, cut, pieces_of, attach_count, Caller, Outcome, caller_of, acts, is_rdonly, pieces_with, IsMove, IsHistory, one_more, pieces_of-inserted, pieces_of-cut_cons, pieces_of-filter, sum-set, Stands, IsDue, PiecesNameWhatStands, GivesPieces, CountsPieces, PiecesAreOfSegments}
 use Rattle.shm_laws.proofs.Refusing.{by-move}
 use Rattle.shm_laws.proofs.Counting.{counts-move}
 use Rattle.shm_laws.proofs.Handing.{Attaches, Hands, caller-at, hands-acts}

@@ -1,5 +1,5 @@
 -- The pieces of a process lie apart, inside the addresses, and are few.
-use Rattle.shm_laws.proofs.Names.{◌≡◌, ◌⊎◌, ℕ, zero, suc, ◌+◌, ◌-◌, ◌*◌, ◌/◌, ◌%◌, ◌≤◌, ◌<◌, Bool, true, false, not, List, [], ◌∷◌, ◌++◌, length, Some, slice_get, slice_set, refl, ap, subst, inl, inr, arith, common_steps, All, All-contains, All-map, All-nil, All-weaker, filter, none-some, or_parts, both_ways, ⊤, Call, Event, Segment, Piece, Live, Runner, Machine, Opening, start_of, runner_at_start, pages_in, end_of, covers, meets, occupied, parts, cut, inserted, lowest_address, end_address, occupied-cut, shorter_filter, all-cons, all-slice_set, Caller, Outcome, caller_of, acts, is_rdonly, pieces_with, IsMove, IsHistory, FillsPages, LieApart, LiesInside, AreLaidOut, SpacesAreLaidOut, sym, ◌∙◌}
+use Rattle.shm_laws.proofs.Names.{new_piece, ◌≡◌, ◌⊎◌, ℕ, zero, suc, ◌+◌, ◌-◌, ◌*◌, ◌/◌, ◌%◌, ◌≤◌, ◌<◌, Bool, true, false, not, List, [], ◌∷◌, ◌++◌, length, Some, slice_get, slice_set, refl, ap, subst, inl, inr, arith, common_steps, All, All-contains, All-map, All-nil, All-weaker, filter, none-some, or_parts, both_ways, ⊤, Call, Event, Segment, Piece, Live, Runner, Machine, Opening, start_of, runner_at_start, pages_in, end_of, covers, meets, occupied, parts, cut, inserted, lowest_address, end_address, occupied-cut, shorter_filter, all-cons, all-slice_set, Caller, Outcome, caller_of, acts, is_rdonly, pieces_with, IsMove, IsHistory, FillsPages, LieApart, LiesInside, AreLaidOut, SpacesAreLaidOut, sym, ◌∙◌}
 use Rattle.shm_base.specs.Bounds.{Bounds}
 use Rattle.shm_laws.proofs.Limiting.{limits-stay}
 use Rattle.shm_laws.proofs.Inducting.{Keeps, held_always}

@@ -1,5 +1,6 @@
 -- Worked histories, in which the laws say something. They are computed.
 use Rattle.std.specs.Prelude.{◌≡◌, ℕ, ◌+◌, ◌*◌, ◌^◌, ◌==◌, pos, Bool, true, false, List, [], ◌∷◌, length, take, Option, None, Some, option_map, slice_get}
+use Rattle.shm_base.specs.Space.{new_piece}
 use Rattle.shm_base.specs.declared.errno.Errno.TheVariants.{Eperm, Enoent, Eacces, Einval, Eidrm, Sigbus, Sigsegv}
 use Rattle.shm_base.specs.declared.call.Call.TheVariants.{Shmdt, Set, Rmid, Load, Store, Xadd, Fork, Exec}
 use Rattle.shm_base.specs.declared.call.Reply.TheVariants.{Addr, Bytes, Number, Done, Refused}
