@@ -5,7 +5,8 @@ ghost use Rattle.nogcuvema.specs.About.{text_by, with_text, layout_by, TextTold,
 use crate::code::{DONE, OUT_OF_RANGE};
 use crate::handle::Handle;
 use crate::structs::{
-    NogArea, NogFailure, NogFlushed, NogLimits, NogPiece, NogProcess, NogSegment, NogTally, NogUsage,
+    NogArea, NogFailure, NogFlushed, NogLimits, NogPiece, NogProcess, NogSegment, NogTally,
+    NogUsage,
 };
 
 fn text_of(code: u32) -> Option<&'static str>

@@ -34,4 +34,7 @@ pub use perform::{
 pub use segments::{nog_attach, nog_get, nog_stat};
 pub use snapshot::nog_snapshot;
 pub use stretch::{nog_read, nog_write};
-pub use structs::{NogArea, NogFailure, NogFlushed, NogLimits, NogPiece, NogProcess, NogSegment, NogTally, NogUsage};
+pub use structs::{
+    NogArea, NogFailure, NogFlushed, NogLimits, NogPiece, NogProcess, NogSegment, NogTally,
+    NogUsage,
+};

@@ -35,7 +35,7 @@ count-named rs i r x there named id some =
     let a = sum-set (λ (y : Runner). pieces_of id y.pieces) rs i r x there in
     let b = named id in
     let had : pieces_of id x.pieces ≤ attach_count rs id =
-        rw (← get_or_from_slice_get rs i x x there) (get_or-le-sum_by (λ (y : Runner). pieces_of id y.pieces) rs i x (slice_get_within rs i x there)) in
+    rw (← get_or_from_slice_get rs i x x there) (get_or-le-sum_by (λ (y : Runner). pieces_of id y.pieces) rs i x (slice_get_within rs i x there)) in
     grind (arith, a, b, had, some)
 
 pub keeps-set : (lost : List ℕ) (rs : List Runner) (i : ℕ) (r x : Runner) → slice_get rs i ≡ Some x

@@ -67,9 +67,9 @@ named : (n pid : ℕ) (rs : List Runner) (x : Standing) → standing_from n pid 
 named n pid [] x is = absurd (cc is)
 named n pid (r ∷ rs) x is = elim (cases_eq r.pid pid) [
   | inl same ↦
-    let found : Some (record { index = n; runner = r }) ≡ Some x = rw (eq-eqb r.pid pid same) at is in
-    let it : record { index = n; runner = r } ≡ x = cc found in
-    ap (λ (y : Standing). y.runner.pid) (sym it) ∙ same
+      let found : Some (record { index = n; runner = r }) ≡ Some x = rw (eq-eqb r.pid pid same) at is in
+      let it : record { index = n; runner = r } ≡ x = cc found in
+      ap (λ (y : Standing). y.runner.pid) (sym it) ∙ same
   | inr other ↦ named (n + 1) pid rs x (rw (ne_eqb r.pid pid other) at is)
 ]
 
@@ -134,23 +134,23 @@ module _ (rs : List Runner) (i : ℕ) (x : Runner) (there : i < length rs) where
       let stays : get_or (swap_remove rs i x) a d ≡ get_or (set rs i end) a d = get_or-take n (set rs i end) a d lt in
       elim (cases_eq a i) [
         | inl is ↦
-          let set_there : get_or (set rs i end) a d ≡ end = get_or-set_at rs i a end d is there in
-          let any : end ≡ get_or rs n d = get_or_default rs n x d (omega (arith, there)) in
-          record { from = n; within = omega (arith, there); same = stays ∙ set_there ∙ any; own = λ other. absurd (other is); last = λ _. omega (arith, there) }
+            let set_there : get_or (set rs i end) a d ≡ end = get_or-set_at rs i a end d is there in
+            let any : end ≡ get_or rs n d = get_or_default rs n x d (omega (arith, there)) in
+            record { from = n; within = omega (arith, there); same = stays ∙ set_there ∙ any; own = λ other. absurd (other is); last = λ _. omega (arith, there) }
         | inr other ↦
-          record { from = a; within = omega (arith, lt); same = stays ∙ get_or-set_other rs i a end d other; own = λ _. refl; last = λ is. absurd (other is) }
+            record { from = a; within = omega (arith, lt); same = stays ∙ get_or-set_other rs i a end d other; own = λ _. refl; last = λ is. absurd (other is) }
       ]
 
   -- two places hold what stood at two places before
   two : (a b : ℕ) (d : Runner) → a < b → b < n → (p : IsFrom rs (swap_remove rs i x) i a d) → (q : IsFrom rs (swap_remove rs i x) i b d) → p.from ≢ q.from
   two a b d lt l p q e = elim (cases_eq a i) [
     | inl is ↦
-      let other : b ≢ i = λ h. absurd (omega (arith, lt, is, h)) in
-      absurd (omega (arith, p.last is, q.own other, e, l, lt))
+        let other : b ≢ i = λ h. absurd (omega (arith, lt, is, h)) in
+        absurd (omega (arith, p.last is, q.own other, e, l, lt))
     | inr own ↦ elim (cases_eq b i) [
-        | inl is ↦ absurd (omega (arith, p.own own, q.last is, e, l, lt))
-        | inr other ↦ absurd (omega (arith, p.own own, q.own other, e, lt))
-      ]
+      | inl is ↦ absurd (omega (arith, p.own own, q.last is, e, l, lt))
+      | inr other ↦ absurd (omega (arith, p.own own, q.own other, e, lt))
+    ]
   ]
 
   left-apart : (most : ℕ) → AreProcesses most rs → AreProcesses most (swap_remove rs i x)
@@ -198,11 +198,11 @@ caller-at : (n pid : ℕ) (rs : List Runner) (c : Caller) → caller_from n pid 
 caller-at n pid [] c is = absurd (cc is)
 caller-at n pid (r ∷ rs) c is = elim (cases_eq r.pid pid) [
   | inl same ↦
-    let it = by-life n pid r.pieces r.life c (rw (eq-eqb r.pid pid same) at is) in
-    record { runner = r; place = 0; index = omega (arith, it.0); there = refl; named = same ∙ sym it.1 }
+      let it = by-life n pid r.pieces r.life c (rw (eq-eqb r.pid pid same) at is) in
+      record { runner = r; place = 0; index = omega (arith, it.0); there = refl; named = same ∙ sym it.1 }
   | inr other ↦
-    let k = caller-at (n + 1) pid rs c (rw (ne_eqb r.pid pid other) at is) in
-    record { runner = k.runner; place = suc k.place; index = omega (arith, k.index); there = k.there; named = k.named }
+      let k = caller-at (n + 1) pid rs c (rw (ne_eqb r.pid pid other) at is) in
+      record { runner = k.runner; place = suc k.place; index = omega (arith, k.index); there = k.there; named = k.named }
 ]
 
 becomes-there : (most pid : ℕ) (cred : Cred) (rs after : List Runner) (o : Option Caller) → caller_from 0 pid rs ≡ o → becomes_by cred rs o ≡ Ok after → AreProcesses most rs → AreProcesses most after

@@ -75,13 +75,7 @@ impl<P: Pager> System<P> {
     /// stays whole. No time is set. Esrch where the process is not live; Einval for an address within a page; Enomem at the
     /// first page without a piece, for a range that passes 2^64, and where the process would have more pieces than it may;
     /// Eacces where a piece is to be written whose attach may not. What lies below the refusal has been changed.
-    pub fn protect(
-        &mut self,
-        pid: u32,
-        addr: u64,
-        len: u64,
-        writable: bool,
-    ) -> Result<(), Errno>
+    pub fn protect(&mut self, pid: u32, addr: u64, len: u64, writable: bool) -> Result<(), Errno>
         ensures { IsProtected self.old pid addr len writable result self.new }
     {
         self.only_calls = false;
