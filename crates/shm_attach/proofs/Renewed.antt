@@ -41,8 +41,8 @@ all-covered l low high (p ∷ ps) ar =
     All-cons (IsCovered low high (p ∷ ps)) p ps
     (λ m. here p ps (max low p.base) (omega arith) (grind (arith, common_steps, ar.1.0, m)))
     (λ k d lt m.
-        let q = all-above (end_of p) ps ar.1.1 k d lt in
-        not-here p ps _ (omega (arith, q)) ∙ all-covered (end_of p) low high ps ar.1.1 k d lt m)
+    let q = all-above (end_of p) ps ar.1.1 k d lt in
+    not-here p ps _ (omega (arith, q)) ∙ all-covered (end_of p) low high ps ar.1.1 k d lt m)
 
 -- THE PIECES THAT A PART TAKES THE PLACE OF
 
@@ -87,9 +87,9 @@ module _ (w : Bool) (at to : ℕ) (p : Piece) (ps : List Piece) (ar : Arranged l
   from-place q b le lt is = elim (cases_lt b p.base) [
     | inl under ↦ from-below q b le under is
     | inr over ↦ elim (cases_lt b (end_of p)) [
-        | inl within ↦ same-found b ps p q (covering_whole at b lowest_address ps p ar found (omega (arith, over)) within) is
-        | inr beyond ↦ from-above q b (omega (arith, beyond)) lt is
-      ]
+      | inl within ↦ same-found b ps p q (covering_whole at b lowest_address ps p ar found (omega (arith, over)) within) is
+      | inr beyond ↦ from-above q b (omega (arith, beyond)) lt is
+    ]
   ]
 
   -- those that the part meets are of its segment
@@ -116,10 +116,10 @@ pub still-named : (low high : ℕ) (x : Piece) (ps : List Piece) → All (λ (q 
 still-named low high x ps all id some = elim (cases_eq id x.seg) [
   | inl same ↦ let more = pieces_of-inserted id x (cut low high ps) in grind (arith, common_steps, more, same)
   | inr other ↦
-    let none = none-met (meets low high) x.seg id ps all other in
-    let left = pieces_of-cut_met id low high ps in
-    let more = pieces_of-inserted id x (cut low high ps) in
-    omega (arith, none, left, more, some)
+      let none = none-met (meets low high) x.seg id ps all other in
+      let left = pieces_of-cut_met id low high ps in
+      let more = pieces_of-inserted id x (cut low high ps) in
+      omega (arith, none, left, more, some)
 ]
 
 -- NO PAGE COMES
@@ -137,14 +137,15 @@ module _ (seg : ℕ → Bool) (page : ℕ → ℕ → Bool) where
       by : (b : Bool) → nat_lt to (end_of p) ≡ b → All (HasPages seg page) (if b then rest_above to p ∷ [] else [])
       by false e = All-nil (HasPages seg page)
       by true e =
-          All-cons (HasPages seg page) (rest_above to p) []
-          (h.0,
+          All-cons (HasPages seg page) (rest_above to p) [] (
+            h.0,
             λ j lt.
                 let before : p.base < to = grind (arith, common_steps, m) in
                 let within : to < end_of p = grind (arith, common_steps, e) in
                 let skipped = (to - p.base) / 4096 in
                 let more : p.first_page + skipped + j ≡ p.first_page + (skipped + j) = omega arith in
-                rw more (h.1 (skipped + j) (omega (arith, lt, within, before))))
+                rw more (h.1 (skipped + j) (omega (arith, lt, within, before))),
+          )
           (All-nil (HasPages seg page))
 
   parts-have : (from to : ℕ) (p : Piece) → HasPages seg page p → All (HasPages seg page) (parts from to p)
@@ -165,7 +166,7 @@ module _ (seg : ℕ → Bool) (page : ℕ → ℕ → Bool) where
   inserted-has p (q ∷ qs) h hs = grind (arith, All-cons (HasPages seg page), All-head (HasPages seg page) q qs hs, inserted-has p qs h (All-tail (HasPages seg page) q qs hs))
 
   module _ (w : Bool) (at to : ℕ) (p : Piece) (ps : List Piece) (ar : Arranged lowest_address ps) (found : covering at ps ≡ Some p) (order : at < to) (at-page : at % 4096 ≡ 0)
-    (to-page : to % 4096 ≡ 0) (all : All (HasPages seg page) ps) where
+      (to-page : to % 4096 ≡ 0) (all : All (HasPages seg page) ps) where
     abbrev from : ℕ
     from = low_end w at to p ps
 
@@ -237,13 +238,14 @@ module _ (seg : ℕ → Bool) (page : ℕ → ℕ → Bool) where
                   | inl h ↦ omega (arith, h, fit.aligned)
                   | inr h ↦ omega (arith, h.0, h.1, le, fit.aligned)
                 ]
+
         page-at : (j : ℕ) → j < (end - from) / 4096 → HasPage j
         page-at j lt = elim (cases_lt (from + 4096 * j) p.base) [
           | inl under ↦ page-below j under
           | inr over ↦ elim (cases_lt (from + 4096 * j) (end_of p)) [
-              | inl within ↦ page-within j over within (starts j over)
-              | inr beyond ↦ page-above j beyond (omega (arith, lt))
-            ]
+            | inl within ↦ page-within j over within (starts j over)
+            | inr beyond ↦ page-above j beyond (omega (arith, lt))
+          ]
         ]
 
     pub turned-has : All (HasPages seg page) (inserted (part_between w from end p) (cut from end ps))
