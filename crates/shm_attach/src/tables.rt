@@ -52,10 +52,12 @@ impl Tables {
     pub(crate) fn try_clone(&self) -> Result<Tables, AllocError>
         ensures { IfOk result (λ copy. AreSameTables self.now copy) }
     {
+        let keys = self.keys.clone()?;
+        let slab = self.slab.clone()?;
         Ok(Tables {
             alloc: self.alloc,
-            keys: self.keys.clone()?,
-            slab: self.slab.clone()?,
+            keys,
+            slab,
         })
     }
 

@@ -3,7 +3,8 @@ ghost use Rattle.shm_attach.specs.Place.{IsRange};
 
 use shm_attach::Spaces;
 use shm_base::{
-    Cred, END_ADDRESS, Errno, FrameNo, HostMemory, LOWEST_ADDRESS, PAGE_SIZE, PageRef, Process, Span,
+    Cred, END_ADDRESS, Errno, FrameNo, HostMemory, LOWEST_ADDRESS, PAGE_SIZE, PageRef, Process,
+    Span,
 };
 use shm_fault::{PageMove, PageStore};
 use shm_pager::RamPager;
@@ -217,7 +218,12 @@ fn answers(spaces: &mut Spaces, store: &PageStore<RamPager>, act: &Act) -> bool 
 }
 
 /// Each act has its answer, one after another. A message counts the rows from 0.
-pub(crate) fn answers_all(rt: &impl Abort, spaces: &mut Spaces, store: &PageStore<RamPager>, acts: &[Act]) {
+pub(crate) fn answers_all(
+    rt: &impl Abort,
+    spaces: &mut Spaces,
+    store: &PageStore<RamPager>,
+    acts: &[Act],
+) {
     for (row, act) in acts.iter().enumerate() {
         assert!(rt; answers(spaces, store, act), "at row {row}");
     }

@@ -5,8 +5,8 @@ use Rattle.shm_attach.proofs.tables.Tables.try_clone.Goals as goal
 
 pub returns : goal.returns
 returns c =
-    let keys : c.in_ok-clone.field-0.entries ≡ c.args.self.now.keys.entries = same_from_all_zip _ _ _ c.in_ok-clone.ensures.cases (λ x y both. search rules) in
+    let keys : c.in_ok-keys.keys.entries ≡ c.args.self.now.keys.entries = same_from_all_zip _ _ _ c.in_ok-keys.ensures.cases (λ x y both. search rules) in
     record {
       keyed = λ id. search (rules, keys);
-      slots = same_from_all_zip _ _ _ c.in_ok-clone-2.ensures.cases.slots same_slot;
+      slots = same_from_all_zip _ _ _ c.in_ok-slab.ensures.cases.slots same_slot;
     }
