@@ -170,6 +170,26 @@ static uint32_t remove_it(nog_machine *m) { return nog_remove(m, USER, 0); }
 static uint32_t swapoff(nog_machine *m) { return nog_swapoff(m, ROOT, 0); }
 static uint32_t end(nog_machine *m) { return nog_exit(m, CHILD); }
 
+static uint32_t unmap(nog_machine *m) { return nog_unmap(m, CHILD, LOWEST, PAGE); }
+static uint32_t protect(nog_machine *m) { return nog_protect(m, USER, LOWEST, PAGE, 0); }
+static uint32_t unprotect(nog_machine *m) { return nog_protect(m, USER, LOWEST, PAGE, 1); }
+
+static nog_machine copy = NOG_MACHINE_INITIALIZER;
+
+/* a snapshot that found no memory leaves both handles as they were; what is made shows what the machine shows */
+static uint32_t snapshot(nog_machine *m) {
+    uint32_t indexes, code = nog_snapshot(m, &copy);
+    left = NEVER;
+    if (code != NOG_DONE) {
+        ANSWER(nog_indexes(&copy, &indexes), NOG_CLOSED);
+        return code;
+    }
+    struct shown one = show(m), other = show(&copy);
+    TEST(memcmp(&one, &other, sizeof one) == 0);
+    ANSWER(nog_close(&copy), NOG_DONE);
+    return code;
+}
+
 /* three pages in two frames: the third needs one, whose page a sparse area has no memory to take */
 static void fail_write(nog_machine *m) {
     static const nog_limits two_frames = {65536, 1, 3, 2, 0, 0, 0, 0};
@@ -213,7 +233,8 @@ static void give_back(nog_machine *m) {
 
 int main(void) {
     static const struct { step make; int takes_memory; } steps[] = {
-        {get, 1}, {attach, 1}, {fork_child, 0}, {store, 0}, {add, 0}, {set, 0}, {flush, 0}, {detach, 0}, {exec, 0},
+        {get, 1}, {attach, 1}, {fork_child, 0}, {store, 0}, {add, 0}, {snapshot, 1}, {set, 0},
+        {flush, 0}, {protect, 0}, {unprotect, 0}, {unmap, 0}, {snapshot, 1}, {detach, 0}, {exec, 0},
         {remove_it, 0}, {get, 1}, {attach_next, 1}, {store, 0}, {detach, 0}, {remove_next, 0}, {swapoff, 0}, {end, 0} };
     nog_machine machine = NOG_MACHINE_INITIALIZER;
     fail_each_open(&machine, open_mirror);
