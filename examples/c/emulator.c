@@ -1,16 +1,19 @@
 /* A small emulator: guest processes of a toy processor, whose shared memory is the library. A first guest forks others, 200
    at once and 10,000 in its life, so that pids are used again; each adds to one counter in a segment of 64 MiB. Then a child
-   gives up its user, as behind setuid(2), and may not attach what it may still use. The emulator checks what it sees.
+   gives up its user, as behind setuid(2), and may not attach what it may still use. The first guest protects one page of the
+   segment and unmaps it. After 5,100 lives the emulator saves everything, the library's machine by a snapshot; when the guests
+   have ended it resumes what it saved, and they end again in the same way. The emulator checks what it sees.
 
    A guest has eight registers and no other memory than what it attached. Each access goes to the library, by the guest's
    pid and address; one that is refused ends the guest, as a signal would. A refused system call answers the guest the
    negative error number, as on Linux. */
 #include <inttypes.h>
 #include <stdio.h>
+#include <string.h>
 #include <nogcuvema.h>
 
 enum { GUESTS = 201, FIRST_PID = 1, LIVES = 10000, AT_ONCE = GUESTS - 1, USER = 100, NOBODY = 65534, NINE_BITS = 0777 };
-enum { SIZE = 64 << 20, PAGE = 4096, TICKS_A_SECOND = 1000 };
+enum { SIZE = 64 << 20, PAGE = 4096, TICKS_A_SECOND = 1000, SAVED_AFTER = 5100 };
 #define BOOTED UINT64_C(1700000000)
 
 /* ---- the guest ---- */
@@ -28,7 +31,8 @@ enum operation {
     SYSTEM   /* register 0, system call */
 };
 struct instruction { enum operation operation; int to; int64_t from; };
-enum system_call { SHMGET, SHMAT, SHMDT, SHMRM, FORK, PAUSE, RELEASE, WAIT, SETUID, WRITE, EXIT };
+enum system_call { SHMGET, SHMAT, SHMDT, SHMRM, FORK, PAUSE, RELEASE, WAIT, SETUID, MPROTECT, MUNMAP, WRITE, EXIT };
+enum { PROT_READ = 1, PROT_WRITE = 2 };
 
 enum { ROUNDS = 11, FORKS = 12, PARENT = 17, WAITS = 21, SHOWS = 35 };
 static const struct instruction program[] = {
@@ -45,8 +49,10 @@ static const struct instruction program[] = {
     {SET, A, NOBODY}, {SYSTEM, 0, SETUID}, {COPY, A, ID}, {SYSTEM, 0, SHMAT}, {SYSTEM, 0, WRITE},
     {COUNT, ONE, AT}, {SYSTEM, 0, EXIT}, /* what it had attached stays attached */
     [SHOWS] = {SYSTEM, 0, WAIT}, {LOAD, A, AT}, {SYSTEM, 0, WRITE},
+    {COPY, A, AT}, {ADD, A, PAGE}, {SET, B, PAGE}, {SET, C, PROT_READ}, {SYSTEM, 0, MPROTECT},
+    {COPY, A, AT}, {ADD, A, PAGE}, {SYSTEM, 0, MUNMAP},
     {COPY, A, ID}, {SYSTEM, 0, SHMRM},
-    {COPY, A, AT}, {SYSTEM, 0, SHMDT},
+    {COPY, A, AT}, {SYSTEM, 0, SHMDT}, /* what is left on both sides of the hole */
     {LOAD, A, AT}, /* nothing is attached there any more */
     {SYSTEM, 0, EXIT}
 };
@@ -70,19 +76,31 @@ static void end_guest(struct emulator *e, struct guest *g) {
     (void)nog_exit(&e->memory, pid_of(e, g));
 }
 
-/* what an access was answered: a refused one ends the guest */
-static void settle_access(struct emulator *e, struct guest *g, uint32_t code) {
+/* what an access to eight bytes was answered: a refused one ends the guest. A SIGSEGV has the address that failed. */
+static void settle_access(struct emulator *e, struct guest *g, uint32_t code, uint64_t addr, int is_write) {
     uint8_t text[64];
+    uint64_t at = addr;
     if (code == NOG_DONE) return;
-    printf("guest %" PRIu32 " ends: %s\n", pid_of(e, g), text_of(code, text));
+    if (code == NOG_SIGSEGV) (void)nog_failed_at(&e->memory, pid_of(e, g), addr, 8, is_write != 0, &at);
+    printf("guest %" PRIu32 " ends: %s at 0x%" PRIx64 "\n", pid_of(e, g), text_of(code, text), at);
     end_guest(e, g);
 }
 
-static void load(struct emulator *e, struct guest *g, uint64_t *to, uint64_t addr) {
+static uint32_t number_at(struct emulator *e, uint32_t pid, uint64_t addr, uint64_t *number) {
     uint8_t bytes[8] = {0};
-    settle_access(e, g, nog_load(&e->memory, pid_of(e, g), addr, bytes, sizeof bytes));
-    *to = 0;
-    for (int i = 8; i-- > 0;) *to = *to << 8 | bytes[i];
+    uint32_t code = nog_load(&e->memory, pid, addr, bytes, sizeof bytes);
+    *number = 0;
+    for (int i = 8; i-- > 0;) *number = *number << 8 | bytes[i];
+    return code;
+}
+
+static void load(struct emulator *e, struct guest *g, uint64_t *to, uint64_t addr) {
+    settle_access(e, g, number_at(e, pid_of(e, g), addr, to), addr, 0);
+}
+
+static void count(struct emulator *e, struct guest *g, uint64_t add, uint64_t addr) {
+    uint64_t before;
+    settle_access(e, g, nog_add(&e->memory, pid_of(e, g), addr, add, &before), addr, 1);
 }
 
 /* a child joins under the least pid that is free, and is forked at once; it goes on behind the fork, as its parent does */
@@ -121,11 +139,12 @@ static void release(struct emulator *e) {
         if (e->guests[i].life == PAUSED) e->guests[i].life = RUNNING;
 }
 
-/* what the segment shows before it goes: all children have detached, and its times are the guests' seconds */
+/* what the segment shows before it goes: all children have detached, the first guest has it on both sides of the page that it
+   unmapped, and its times are the guests' seconds */
 static void look(struct emulator *e) {
     nog_segment s = {0};
     uint64_t now = BOOTED + e->ticks / TICKS_A_SECOND;
-    e->is_wrong |= nog_segment_at(&e->memory, 0, &s) != NOG_DONE || s.size != SIZE || s.uid != USER || s.nattch != 1;
+    e->is_wrong |= nog_segment_at(&e->memory, 0, &s) != NOG_DONE || s.size != SIZE || s.uid != USER || s.nattch != 2;
     e->is_wrong |= s.ctime != BOOTED || s.dtime > now || s.dtime + 1 < now;
 }
 
@@ -144,6 +163,18 @@ static uint32_t shared_memory_call(nog_machine *memory, uint32_t pid, const uint
     }
 }
 
+/* mprotect(2) and munmap(2) change attachments too: a part of one that differs counts in nattch. An emulator whose guests have
+   other memory than what they attached changes that as well. */
+static uint32_t range_call(struct emulator *e, uint32_t pid, const uint64_t *r, int64_t call) {
+    nog_segment s = {0};
+    uint32_t code = NOG_EINVAL; /* the library has no page that may not be read */
+    if (call == MUNMAP) code = nog_unmap(&e->memory, pid, r[A], r[B]);
+    else if (r[C] & PROT_READ) code = nog_protect(&e->memory, pid, r[A], r[B], (r[C] & PROT_WRITE) != 0);
+    e->is_wrong |= nog_segment_at(&e->memory, 0, &s) != NOG_DONE;
+    printf("guest %" PRIu32 " %s a page: nattch is %" PRIu32 "\n", pid, call == MUNMAP ? "unmaps" : "protects", s.nattch);
+    return code;
+}
+
 static void system_call(struct emulator *e, struct guest *g, int64_t call) {
     uint64_t *r = g->registers, answer = 0;
     uint32_t code = NOG_DONE, pid = pid_of(e, g);
@@ -154,6 +185,8 @@ static void system_call(struct emulator *e, struct guest *g, int64_t call) {
     case RELEASE: release(e); break;
     case WAIT: code = wait_for_child(e, g, &answer); break;
     case SETUID: code = nog_set_user(&e->memory, pid, (uint32_t)r[A], (uint32_t)r[A]); break;
+    case MPROTECT:
+    case MUNMAP: code = range_call(e, pid, r, call); break;
     case WRITE: printf("guest %" PRIu32 " writes %" PRId64 "\n", pid, (int64_t)r[A]); answer = r[A]; break;
     case EXIT: end_guest(e, g); break;
     default: code = shared_memory_call(&e->memory, pid, r, call, &answer);
@@ -163,21 +196,22 @@ static void system_call(struct emulator *e, struct guest *g, int64_t call) {
 
 static void run_instruction(struct emulator *e, struct guest *g) {
     struct instruction now = program[g->next++];
-    uint64_t *r = g->registers, before;
+    uint64_t *r = g->registers;
     switch (now.operation) {
     case SET: r[now.to] = (uint64_t)now.from; break;
     case COPY: r[now.to] = r[now.from]; break;
     case ADD: r[now.to] += (uint64_t)now.from; break;
     case LOAD: load(e, g, &r[now.to], r[now.from]); break;
-    case COUNT: settle_access(e, g, nog_add(&e->memory, pid_of(e, g), r[now.from], r[now.to], &before)); break;
+    case COUNT: count(e, g, r[now.to], r[now.from]); break;
     case BRANCH: g->next = r[now.to] ? now.from : g->next; break;
     case SYSTEM: system_call(e, g, now.from); break;
     }
 }
 
-/* the guests take turns, an instruction each, until the first has ended; the guests' clock tells the library seconds */
-static uint32_t run(struct emulator *e) {
-    while (e->guests[0].life == RUNNING) {
+/* the guests take turns, an instruction each, until the first has ended or there were so many lives; the guests' clock tells
+   the library seconds */
+static uint32_t run(struct emulator *e, uint64_t lives) {
+    while (e->guests[0].life == RUNNING && e->lives < lives) {
         for (struct guest *g = e->guests; g < e->guests + GUESTS; g++)
             if (g->life == RUNNING) run_instruction(e, g);
         uint32_t code = nog_set_time(&e->memory, BOOTED + ++e->ticks / TICKS_A_SECOND);
@@ -198,20 +232,58 @@ static uint32_t start(struct emulator *e) {
     return code == NOG_DONE ? nog_set_time(&e->memory, BOOTED) : code;
 }
 
-int main(void) {
-    static struct emulator e = {.memory = NOG_MACHINE_INITIALIZER};
+/* ---- saving and resuming ---- */
+
+/* a moment of the guests, by which what was saved is compared */
+struct moment { uint64_t counter, attached, detached; uint32_t last_pid, nattch, live; };
+
+static uint32_t look_around(struct emulator *e, struct moment *m) {
+    nog_segment s = {0};
+    nog_process p = {0};
+    uint32_t code = nog_segment_at(&e->memory, 0, &s);
+    if (code == NOG_DONE) code = number_at(e, FIRST_PID, e->guests[0].registers[AT], &m->counter);
+    m->attached = s.atime, m->detached = s.dtime, m->last_pid = s.lpid, m->nattch = s.nattch, m->live = 0;
+    for (uint32_t i = 0; nog_process_at(&e->memory, i, &p) == NOG_DONE; i++) m->live += p.is_born == 1;
+    printf("the counter is %" PRIu64 ", nattch %" PRIu32 ", %" PRIu32 " processes live\n", m->counter, m->nattch, m->live);
+    return code;
+}
+
+/* the emulator's own state, and the library's: a handle is never copied, nog_snapshot opens another machine */
+static uint32_t save(struct emulator *e, struct emulator *to) {
+    memcpy(to->guests, e->guests, sizeof e->guests);
+    to->ticks = e->ticks, to->lives = e->lives, to->most = e->most;
+    return nog_snapshot(&e->memory, &to->memory);
+}
+
+static uint32_t run_to_the_end(struct emulator *e) {
     nog_tally tally = {0};
+    uint32_t code = run(e, UINT64_MAX);
+    if (code == NOG_DONE) code = nog_tally_of(&e->memory, &tally);
+    printf("%" PRIu64 " lives, %" PRIu64 " at once, %" PRIu64 " segments are left\n", e->lives, e->most, tally.segments);
+    e->is_wrong |= e->lives != LIVES + 1 || e->most != GUESTS || tally.segments != 0;
+    return code;
+}
+
+static uint32_t run_and_resume(struct emulator *e, struct emulator *saved) {
+    struct moment then = {0}, now = {0};
+    uint32_t code = start(e);
+    if (code == NOG_DONE) code = run(e, SAVED_AFTER);
+    if (code == NOG_DONE) code = look_around(e, &then);
+    if (code == NOG_DONE) code = save(e, saved);
+    if (code == NOG_DONE) code = run_to_the_end(e);
+    if (code == NOG_DONE) puts("resumed");
+    if (code == NOG_DONE) code = look_around(saved, &now);
+    saved->is_wrong |= now.counter != then.counter || now.attached != then.attached || now.detached != then.detached;
+    saved->is_wrong |= now.last_pid != then.last_pid || now.nattch != then.nattch || now.live != then.live;
+    return code == NOG_DONE ? run_to_the_end(saved) : code;
+}
+
+int main(void) {
+    static struct emulator e = {.memory = NOG_MACHINE_INITIALIZER}, saved = {.memory = NOG_MACHINE_INITIALIZER};
     uint8_t text[64];
-    uint32_t code = start(&e);
-    if (code == NOG_DONE) code = run(&e);
-    if (code == NOG_DONE) code = nog_tally_of(&e.memory, &tally);
-    if (code != NOG_DONE) {
-        fprintf(stderr, "emulator: %s\n", text_of(code, text));
-        nog_close(&e.memory);
-        return 1;
-    }
-    printf("%" PRIu64 " lives, %" PRIu64 " at once, %" PRIu64 " segments are left\n", e.lives, e.most, tally.segments);
-    e.is_wrong |= e.lives != LIVES + 1 || e.most != GUESTS || tally.segments != 0;
+    uint32_t code = run_and_resume(&e, &saved);
+    if (code != NOG_DONE) fprintf(stderr, "emulator: %s\n", text_of(code, text));
     nog_close(&e.memory);
-    return e.is_wrong;
+    nog_close(&saved.memory);
+    return code != NOG_DONE || e.is_wrong || saved.is_wrong;
 }

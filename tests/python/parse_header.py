@@ -7,7 +7,7 @@ parser, functions and structs. Ends with status 77 where there is no parser.
 import re
 import sys
 
-NAMES = ("machine", "limits", "area", "failure", "process", "segment", "tally", "flushed")
+NAMES = ("machine", "limits", "area", "failure", "process", "segment", "tally", "flushed", "usage", "piece")
 TYPES = "typedef unsigned char uint8_t; typedef unsigned int uint32_t; typedef int int32_t;" \
     "typedef unsigned long uint64_t; typedef unsigned long size_t;"
 

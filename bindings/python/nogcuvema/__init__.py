@@ -15,10 +15,11 @@ from ._library import LibraryMissing, library_version
 from ._version import VERSION as __version__
 from .errors import (BadOpening, BusError, ClosedMachine, Fault, Incomplete, MachineError, NoMemory, NotAdmitted, NotDismissed, OutOfRange,
                      Refused, SegmentationFault, Spent)
-from .machine import (PRIVATE, Area, Failure, Flag, Flushed, Limits, Machine, Process, Segment, Tally, child)
+from .machine import (PRIVATE, Area, Failure, Flag, Flushed, Limits, Machine, Piece, Process, ProcessEntry, Segment, State, Tally,
+                      Usage, child)
 from .script import Script, ScriptFault, areas_of, read_script
 
 __all__ = ["PRIVATE", "Area", "BadOpening", "BusError", "ClosedMachine", "Failure", "Fault", "Flag", "Flushed", "Incomplete",
-           "LibraryMissing", "Limits", "Machine", "MachineError", "NoMemory", "NotAdmitted", "NotDismissed", "OutOfRange", "Process", "Refused",
-           "Script", "ScriptFault", "SegmentationFault", "Segment", "Spent", "Tally", "__version__", "areas_of", "child",
-           "library_version", "read_script"]
+           "LibraryMissing", "Limits", "Machine", "MachineError", "NoMemory", "NotAdmitted", "NotDismissed", "OutOfRange", "Piece",
+           "Process", "ProcessEntry", "Refused", "Script", "ScriptFault", "SegmentationFault", "Segment", "Spent", "State", "Tally", "Usage",
+           "__version__", "areas_of", "child", "library_version", "read_script"]

@@ -1,31 +1,33 @@
 """A prompt for a machine: python3 -m nogcuvema [SWAP...] reads lines of the script language and answers each at once.
 
-Beside the lines of docs/SCRIPT.md there are: help [CALL], show, save FILE and quit."""
+Beside the lines of docs/SCRIPT.md there are: help [CALL], show, undo, snapshot NAME, restore NAME, save FILE and quit."""
 import os
 import shutil
 import subprocess
 import sys
 import textwrap
-from typing import List, Sequence
+from typing import Dict, List, Optional, Sequence
 
 from ._library import LibraryMissing
 from .calls import RULES
-from .errors import MachineError
+from .errors import MachineError, NoMemory
 from .explain import explain_fault, warnings
+from .moments import MOST_MOMENTS, MOST_PAGES, Moment, most_moments
 from .script import CALLS, Command, FlushLine, Run, Script, ScriptFault, areas_of, form_of, listing, usage
 
 USAGE = "usage: python3 -m nogcuvema [SWAP...]: SWAP is ram:N, sparse:N, mirror:N, fuse:N:rK or fuse:N:wK; ram:64 where none is named"
 # what holds where the first line is no limits line
 HEAD = ("limits 65536 16 64 4 1", "process 1 100 100", "child 2", "child 3")
-OWN_WORDS = ("help", "show", "save", "quit")
+OWN_WORDS = ("help", "show", "undo", "snapshot", "restore", "save", "quit")
 HELP = """A line is a call of a process: its pid, the call and its operands. A variable takes the answer.
     1 s = shmget private 8192 600
     1 a = shmat s null -
     1 store a+4094 01020304
     1 load a+4093 6
 Calls: {calls}
-help CALL says more of one. 0 flush N writes out dirty pages. show shows the machine, save FILE writes a script of all lines
-that were taken, quit ends. Limits and processes come first: limits SHMMAX SHMMNI SHMALL FRAMES MEMLOCK,
+help CALL says more of one. 0 flush N writes out dirty pages. show shows the machine, undo takes the last line back,
+snapshot NAME keeps the machine as it is, restore NAME goes back to it, save FILE writes a script of all lines that were
+taken, quit ends. Limits and processes come first: limits SHMMAX SHMMNI SHMALL FRAMES MEMLOCK,
 process PID UID GID, child PID. Where you begin with a call, these hold: {head}"""
 
 
@@ -39,15 +41,16 @@ def help_of(call: str) -> str:
 
 
 class Prompt:
-    """The lines that were taken, and the machine that they made."""
+    """The lines that were taken, the machine that they made, and the moments that can be gone back to."""
 
     def __init__(self, swap: Sequence[str]) -> None:
         self.swap = list(swap) or ["ram:64"]
         self.areas = areas_of(self.swap)
         self.script = Script()
         self.taken: List[str] = []
-        self.run = Run.__new__(Run)
-        self.is_open = False
+        self.run: Optional[Run] = None
+        self.undoable: List[Moment] = []
+        self.snapshots: Dict[str, Moment] = {}
 
     def answer(self, line: str) -> List[str]:
         """What a line is answered with."""
@@ -58,8 +61,12 @@ class Prompt:
             return self.help(words[1:])
         if words == ["show"]:
             return self.show()
-        if words[0] == "save":
-            return self.save(words[1:])
+        if words == ["undo"]:
+            return self.undo()
+        if words[0] in ("snapshot", "restore", "save"):
+            if len(words) != 2:
+                return [f"{words[0]} takes the name of a {'file' if words[0] == 'save' else 'snapshot'}"]
+            return {"snapshot": self.snapshot, "restore": self.restore, "save": self.save}[words[0]](words[1])
         return self.take(line)
 
     def help(self, words: List[str]) -> List[str]:
@@ -72,6 +79,7 @@ class Prompt:
     def take(self, line: str) -> List[str]:
         """A line of the script language; one with a fault, or for which there is no memory, is not taken."""
         told: List[str] = []
+        before = self.moment_before(line)
         if self.script.limits is None and line.split()[0] != "limits":
             for head in HEAD:
                 self.script.read_line(len(self.taken) + 1, head)
@@ -87,24 +95,79 @@ class Prompt:
                 self.script.lines.pop()
                 return [str(error)]
         self.taken.append(line)
+        self.keep(before)
         return [f"warning: {it}" for it in warnings(self.script) if it.startswith(f"line {len(self.taken)}:")] + told
 
     def make(self, line: object) -> str:
-        if not self.is_open:
+        if self.run is None:
             self.run = Run.open(self.script, self.areas)
-            self.is_open = True
         if isinstance(line, FlushLine):
             flushed = self.run.machine.flush(line.pages)
             return f"flush: {flushed.written} written, {flushed.failed} failed"
         assert isinstance(line, Command)
         return self.run.step(line)
 
+    def moment_before(self, line: str) -> Optional[Moment]:
+        """The moment to which `undo` of the line goes back; None where none is kept."""
+        if self.script.limits is not None and not most_moments(self.script.limits, self.areas):
+            return None
+        try:
+            return Moment.of(self.script, self.taken, self.run, line)
+        except NoMemory:
+            return None
+
+    def keep(self, before: Optional[Moment]) -> None:
+        """The last moments can be undone. Where there is none of the last line, no line before it can be undone either."""
+        most = most_moments(self.script.limits, self.areas) if self.script.limits else MOST_MOMENTS
+        self.undoable = (self.undoable + [before])[-most:] if before and most else []
+
+    def go_back(self, moment: Moment) -> None:
+        script = moment.script()
+        run = moment.run(script)
+        self.close()
+        self.script, self.run, self.taken = script, run, moment.taken[:moment.taken_count]
+
+    def undo(self) -> List[str]:
+        if not self.undoable:
+            is_large = self.script.limits and not most_moments(self.script.limits, self.areas)
+            return ["nothing to undo" + (f": a machine of more than {MOST_PAGES} pages is not copied" if is_large else "")]
+        try:
+            self.go_back(self.undoable[-1])
+        except NoMemory as error:
+            return [str(error)]
+        moment = self.undoable.pop()
+        moment.close()
+        return [f"undone: {moment.line}"]
+
+    def snapshot(self, name: str) -> List[str]:
+        try:
+            self.snapshots[name] = Moment.of(self.script, self.taken, self.run, "")
+        except NoMemory as error:
+            return [str(error)]
+        return [f"snapshot {name}: {len(self.taken)} lines"]
+
+    def restore(self, name: str) -> List[str]:
+        if name not in self.snapshots:
+            named = ", ".join(self.snapshots)
+            return [f"no snapshot {name}: " + (f"there are {named}" if named else "there is none")]
+        before = self.moment_before(f"restore {name}")
+        try:
+            self.go_back(self.snapshots[name])
+        except NoMemory as error:
+            return [str(error)]
+        self.keep(before)
+        return [f"restored {name}: {len(self.taken)} lines"]
+
+    def close(self) -> None:
+        if self.run is not None:
+            self.run.machine.close()
+
     def text(self) -> str:
         return "".join(line + "\n" for line in self.taken)
 
     def show(self) -> List[str]:
         """The viewer's text of the last step, where there is a viewer; else the segments and the counts."""
-        if not self.is_open:
+        if self.run is None:
             return ["nothing was called yet"]
         viewer = viewer_program()
         if viewer:
@@ -115,18 +178,16 @@ class Prompt:
         without = "" if viewer else "processes, frames and slots are shown where the program shmview is built or installed"
         return [(listing(self.run.machine) + usage(self.run.machine)).strip()] + [without] * bool(without)
 
-    def save(self, words: List[str]) -> List[str]:
-        if len(words) != 1:
-            return ["save takes the name of a file"]
+    def save(self, name: str) -> List[str]:
         try:
             # a file that is there stays, and nothing half written is left
-            with open(words[0], "x", encoding="ascii") as file:
+            with open(name, "x", encoding="ascii") as file:
                 file.write(self.text())
         except FileExistsError:
-            return [f"there is a file {words[0]} already: nothing was saved"]
+            return [f"there is a file {name} already: nothing was saved"]
         except OSError as error:
             return [f"nothing was saved: {error}"]
-        return [f"saved {len(self.taken)} lines; run them by: shmsim serial {' '.join(self.swap)} < {words[0]}"]
+        return [f"saved {len(self.taken)} lines; run them by: shmsim serial {' '.join(self.swap)} < {name}"]
 
 
 def viewer_program() -> str:

@@ -49,8 +49,18 @@ class FlushedStruct(Structure):
     _fields_ = [("written", c_uint64), ("failed", c_uint64)]
 
 
+class UsageStruct(Structure):
+    _fields_ = [(name, c_uint64) for name in ("used_ids", "pages", "resident", "swapped", "highest")]
+
+
+class PieceStruct(Structure):
+    _fields_ = [("base", c_uint64)] + [
+        (name, c_uint32) for name in ("segment", "first_page", "pages", "is_writable", "may_write", "unused")]
+
+
 # the structs in the order in which nog_layout numbers them
-STRUCTS = (MachineStruct, LimitsStruct, AreaStruct, FailureStruct, ProcessStruct, SegmentStruct, TallyStruct, FlushedStruct)
+STRUCTS = (MachineStruct, LimitsStruct, AreaStruct, FailureStruct, ProcessStruct, SegmentStruct, TallyStruct, FlushedStruct,
+           UsageStruct, PieceStruct)
 BYTES = POINTER(c_uint8)
 # the parameters of each function behind the machine
 FUNCTIONS: Dict[str, List[type]] = {
@@ -76,12 +86,20 @@ FUNCTIONS: Dict[str, List[type]] = {
     "nog_dismiss": [c_uint32],
     "nog_set_user": [c_uint32, c_uint32, c_uint32],
     "nog_set_time": [c_uint64],
+    "nog_unmap": [c_uint32, c_uint64, c_uint64],
+    "nog_protect": [c_uint32, c_uint64, c_uint64, c_uint32],
+    "nog_snapshot": [POINTER(MachineStruct)],
     "nog_read": [c_uint32, c_uint64, BYTES, c_size_t, POINTER(c_uint64)],
     "nog_write": [c_uint32, c_uint64, BYTES, c_size_t, POINTER(c_uint64)],
     "nog_flush": [c_uint64, POINTER(FlushedStruct)],
     "nog_tally_of": [POINTER(TallyStruct)],
     "nog_indexes": [POINTER(c_uint32)],
     "nog_segment_at": [c_uint32, POINTER(SegmentStruct)],
+    "nog_stat_at": [c_uint32, c_uint32, POINTER(SegmentStruct)],
+    "nog_info": [POINTER(UsageStruct)],
+    "nog_piece_at": [c_uint32, c_uint32, POINTER(PieceStruct)],
+    "nog_process_at": [c_uint32, POINTER(ProcessStruct)],
+    "nog_failed_at": [c_uint32, c_uint64, c_uint64, c_uint32, POINTER(c_uint64)],
     "nog_calls": [POINTER(c_uint64)],
 }
 # those that take no machine

@@ -4,7 +4,7 @@ import operator
 from ctypes import byref, c_int32, c_uint8, c_uint32, c_uint64
 from dataclasses import dataclass
 from types import TracebackType
-from typing import Any, Iterable, List, Optional, Sequence, Type, Union
+from typing import Any, Dict, Iterable, List, Optional, Sequence, Type, Union
 
 from . import _library as low
 from .errors import Incomplete, OUT_OF_RANGE, OutOfRange
@@ -87,7 +87,7 @@ def child(pid: int) -> Process:
 
 @dataclass(frozen=True)
 class Segment:
-    """A segment as IPC_STAT shows it. A time is the place of a call among all calls, from 1; 0 is never."""
+    """A segment as IPC_STAT shows it. A time is the place of a call among all calls, from 1, or what `set_time` gave; 0 is never."""
     id: int
     key: int       # 0: it is private, or marked for removal
     size: int      # in bytes, as it was asked for
@@ -129,6 +129,43 @@ class Flushed:
     """What a flush round did: pages that were written out, and pages whose write failed."""
     written: int
     failed: int
+
+
+@dataclass(frozen=True)
+class Usage:
+    """Sums over all segments, as SHM_INFO shows them."""
+    used_ids: int  # segments, those marked for removal among them
+    pages: int     # pages of all segments; one that was never touched is in no frame and in no slot
+    resident: int  # pages in frames
+    swapped: int   # pages in slots alone
+    highest: int   # the highest index that a segment holds, 0 where there is none
+
+
+@dataclass(frozen=True)
+class Piece:
+    """A range of addresses of a process with pages of a segment, as a line of /proc/PID/maps shows a mapping."""
+    base: int          # its address
+    segment: int       # the identifier of its segment
+    first_page: int    # the page of the segment that lies at the address
+    pages: int
+    is_writable: bool
+    may_write: bool    # False: it was attached with Flag.RDONLY, and `protect` can't make it writable
+
+
+class State(enum.IntEnum):
+    """What a process is, by the header's numbers."""
+    UNBORN = 0  # a child that a fork may begin
+    LIVE = 1
+    ENDED = 2
+
+
+@dataclass(frozen=True)
+class ProcessEntry:
+    """A process of the machine. Its user and group are 0 unless it is live."""
+    pid: int
+    state: State
+    uid: int
+    gid: int
 
 
 def _number(value: Any, most: int, what: str, least: int = 0) -> int:
@@ -275,7 +312,7 @@ class Machine:
         self._call("nog_exec", _number(pid, U32, "pid"))
 
     def exit(self, pid: int) -> None:
-        """exit: the process ends; its pid does not come back."""
+        """exit: the process ends. Its pid may be admitted again."""
         self._call("nog_exit", _number(pid, U32, "pid"))
 
     def swapoff(self, pid: int, area: int) -> None:
@@ -301,6 +338,29 @@ class Machine:
     def set_time(self, time: int) -> None:
         """The times that calls set are this number from now on. Before the first time they are the places of calls."""
         self._call("nog_set_time", _number(time, U64, "time"))
+
+    def unmap(self, pid: int, addr: int, length: int) -> None:
+        """munmap: unmaps a range of a process, rounded up to whole pages. Pieces that reach beyond it are cut."""
+        self._call("nog_unmap", _number(pid, U32, "pid"), _number(addr, U64, "addr"), _number(length, U64, "length"))
+
+    def protect(self, pid: int, addr: int, length: int, is_writable: bool) -> None:
+        """mprotect: makes a range of a process, rounded up to whole pages, writable or read-only. Where it is refused with
+        ENOMEM or EACCES, pages below the one that it names may have changed, as on Linux."""
+        self._call("nog_protect", _number(pid, U32, "pid"), _number(addr, U64, "addr"), _number(length, U64, "length"),
+                   int(bool(is_writable)))
+
+    def snapshot(self) -> "Machine":
+        """Another machine with the same state, memory and swap areas. Each goes on without the other."""
+        copy = Machine.__new__(Machine)
+        copy._library, copy._machine = self._library, low.MachineStruct()
+        self._call("nog_snapshot", byref(copy._machine))
+        return copy
+
+    def __copy__(self) -> "Machine":
+        return self.snapshot()
+
+    def __deepcopy__(self, memo: Dict[int, Any]) -> "Machine":
+        return self.snapshot()
 
     # ---- accesses of any length ----
 
@@ -352,12 +412,51 @@ class Machine:
         self._call("nog_indexes", byref(indexes))
         for index in range(indexes.value):
             struct = low.SegmentStruct()
-            try:
-                self._call("nog_segment_at", index, byref(struct))
-            except OutOfRange:
-                continue
-            found.append(_segment(struct))
+            if self._has("nog_segment_at", index, byref(struct)):
+                found.append(_segment(struct))
         return found
+
+    def stat_at(self, pid: int, index: int) -> Segment:
+        """shmctl, SHM_STAT: the segment at an index of the table, where the process may read it."""
+        struct = low.SegmentStruct()
+        self._call("nog_stat_at", _number(pid, U32, "pid"), _number(index, U32, "index"), byref(struct))
+        return _segment(struct)
+
+    def info(self) -> Usage:
+        """shmctl, SHM_INFO: sums over all segments. It looks at each page that was touched."""
+        struct = low.UsageStruct()
+        self._call("nog_info", byref(struct))
+        return Usage(**{name: getattr(struct, name) for name, _ in struct._fields_})
+
+    def pieces(self, pid: int) -> List[Piece]:
+        """The pieces of a live process by rising address, as /proc/PID/maps lists mappings."""
+        pid, found, struct = _number(pid, U32, "pid"), [], low.PieceStruct()
+        while self._has("nog_piece_at", pid, len(found), byref(struct)):
+            found.append(Piece(struct.base, struct.segment, struct.first_page, struct.pages, bool(struct.is_writable),
+                               bool(struct.may_write)))
+        return found
+
+    def processes(self) -> List[ProcessEntry]:
+        """All processes: live ones, children that are not born, and those that have ended and were not dismissed."""
+        found, struct = [], low.ProcessStruct()
+        while self._has("nog_process_at", len(found), byref(struct)):
+            found.append(ProcessEntry(struct.pid, State(struct.is_born), struct.uid, struct.gid))
+        return found
+
+    def failed_at(self, pid: int, addr: int, length: int, is_write: bool = False) -> Optional[int]:
+        """Where an access of these bytes is a SIGSEGV: the address of its first byte that is not attached, or not for
+        writing. None where each byte is attached as the access asks."""
+        at = c_uint64()
+        operands = (_number(pid, U32, "pid"), _number(addr, U64, "addr"), _number(length, U64, "length"), int(bool(is_write)))
+        return at.value if self._has("nog_failed_at", *operands, byref(at)) else None
+
+    def _has(self, name: str, *operands: Any) -> bool:
+        """Whether there is what a reader asks for."""
+        try:
+            self._call(name, *operands)
+        except OutOfRange:
+            return False
+        return True
 
     def calls(self) -> int:
         """How many calls of processes were answered."""

@@ -1,4 +1,5 @@
 """Calls of a machine. Each wanted value is that of a rule of docs/MACHINE.md."""
+import copy
 import ctypes
 import errno
 import gc
@@ -9,7 +10,7 @@ import unittest
 
 import nogcuvema
 from nogcuvema import (PRIVATE, Area, BadOpening, BusError, ClosedMachine, Failure, Flag, Flushed, Incomplete, Limits, Machine,
-                       NotAdmitted, NotDismissed, OutOfRange, Process, Refused, SegmentationFault, child)
+                       NotAdmitted, NotDismissed, OutOfRange, Piece, Process, ProcessEntry, Refused, SegmentationFault, State, Usage, child)
 from nogcuvema import _library as low
 
 FIRST = 0x40000000
@@ -237,6 +238,130 @@ class Guests(unittest.TestCase):
             self.assertEqual((found.ctime, found.atime), (1, 1700000000))
 
 
+class Mappings(unittest.TestCase):
+    """Ranges that are unmapped and protected, and what reads the machine."""
+
+    def setUp(self):
+        self.machine = machine()
+        self.addCleanup(self.machine.close)
+        self.segment = self.machine.get(1, PRIVATE, 8 * PAGE)
+        self.at = self.machine.attach(1, self.segment)
+
+    def pieces(self, pid=1):
+        return [(it.base - self.at, it.first_page, it.pages, it.is_writable) for it in self.machine.pieces(pid)]
+
+    def assert_refused(self, code, call, *operands):
+        with self.assertRaises(Refused) as caught:
+            call(*operands)
+        self.assertEqual(caught.exception.errno, code)
+
+    def test_unmap_cuts_a_piece(self):
+        self.machine.set_time(500)
+        self.machine.unmap(1, self.at + 2 * PAGE, PAGE + 1)
+        self.assertEqual(self.pieces(), [(0, 0, 2, True), (4 * PAGE, 4, 4, True)])
+        it = self.machine.stat(1, self.segment)
+        self.assertEqual((it.nattch, it.dtime, it.lpid), (2, 500, 1))
+        self.assertRaises(SegmentationFault, self.machine.load, 1, self.at + 2 * PAGE, 1)
+        self.assert_refused(errno.EINVAL, self.machine.unmap, 1, self.at + 1, PAGE)
+        self.assert_refused(errno.EINVAL, self.machine.unmap, 1, self.at, 0)
+        self.assert_refused(errno.ESRCH, self.machine.unmap, 3, self.at, PAGE)
+        self.machine.remove(1, self.segment)
+        self.machine.unmap(1, self.at, 8 * PAGE)
+        self.assertEqual(self.machine.segments(), [])
+
+    def test_protect_makes_a_range_read_only(self):
+        self.machine.protect(1, self.at + PAGE, 2 * PAGE, False)
+        self.assertEqual(self.pieces(), [(0, 0, 1, True), (PAGE, 1, 2, False), (3 * PAGE, 3, 5, True)])
+        self.assertEqual(self.machine.stat(1, self.segment).nattch, 3)
+        self.assertRaises(SegmentationFault, self.machine.store, 1, self.at + PAGE, b"x")
+        self.machine.protect(1, self.at + PAGE, PAGE, True)
+        self.machine.store(1, self.at + PAGE, b"x")
+        self.assert_refused(errno.ENOMEM, self.machine.protect, 1, self.at, 9 * PAGE, False)
+        self.assertEqual({it[3] for it in self.pieces()}, {False})
+        other = self.machine.attach(1, self.segment, flags=Flag.RDONLY)
+        self.assert_refused(errno.EACCES, self.machine.protect, 1, other, PAGE, True)
+        self.assert_refused(errno.EINVAL, self.machine.protect, 1, other + 1, PAGE, True)
+        self.assert_refused(errno.ESRCH, self.machine.protect, 9, other, PAGE, True)
+        self.machine.protect(1, other, 0, True)
+
+    def test_pieces_are_those_of_proc_maps(self):
+        other = self.machine.attach(1, self.segment, 0x20000, Flag.RDONLY)
+        self.machine.protect(1, self.at, PAGE, False)
+        self.assertEqual(self.machine.pieces(1), [Piece(other, self.segment, 0, 8, False, False), Piece(self.at, self.segment, 0, 1, False, True),
+                                                  Piece(self.at + PAGE, self.segment, 1, 7, True, True)])
+        self.assertEqual(self.machine.pieces(2), [])
+        self.assert_refused(errno.ESRCH, self.machine.pieces, 3)
+
+    def test_processes(self):
+        self.machine.fork(1, 3)
+        self.machine.exit(2)
+        self.machine.admit(child(7))
+        live, ended, unborn = State.LIVE, State.ENDED, State.UNBORN
+        self.assertEqual(self.machine.processes(), [ProcessEntry(1, live, 100, 100), ProcessEntry(2, ended, 0, 0), ProcessEntry(3, live, 100, 100),
+                                                    ProcessEntry(4, live, 0, 0), ProcessEntry(7, unborn, 0, 0)])
+
+    def test_sums_and_what_a_process_may_see(self):
+        other = self.machine.get(2, PRIVATE, 1)
+        for page in range(3):
+            self.machine.store(1, self.at + page * PAGE, b"x")
+        self.assertEqual(self.machine.info(), Usage(2, 9, 3, 0, 1))
+        self.assertEqual(self.machine.stat_at(1, 0), self.machine.stat(1, self.segment))
+        self.assertEqual(self.machine.stat_at(4, 1).id, other)
+        self.assert_refused(errno.EACCES, self.machine.stat_at, 1, 1)
+        self.assert_refused(errno.EINVAL, self.machine.stat_at, 1, 2)
+        self.assert_refused(errno.ESRCH, self.machine.stat_at, 3, 0)
+        calls = self.machine.calls()
+        self.machine.info(), self.machine.stat_at(1, 0)
+        self.assertEqual(self.machine.calls(), calls)
+
+    def test_where_an_access_fails(self):
+        self.machine.protect(1, self.at + PAGE, PAGE, False)
+        self.assertIsNone(self.machine.failed_at(1, self.at, 8 * PAGE))
+        self.assertEqual(self.machine.failed_at(1, self.at + PAGE - 4, 8, is_write=True), self.at + PAGE)
+        self.assertEqual(self.machine.failed_at(1, self.at, 9 * PAGE), self.at + 8 * PAGE)
+        self.assertEqual(self.machine.failed_at(3, 12, 1), 12)
+        self.assertIsNone(self.machine.failed_at(1, 0, 0))
+
+    def test_numbers_that_nothing_carries(self):
+        for call, operands in ((self.machine.unmap, (1, -1, 1)), (self.machine.unmap, (1, 0, 2 ** 64)), (self.machine.protect, (2 ** 32, 0, 1, True)),
+                               (self.machine.stat_at, (1, 2 ** 32)), (self.machine.pieces, (-1,)), (self.machine.failed_at, (1, 2 ** 64, 1))):
+            self.assertRaises(OutOfRange, call, *operands)
+
+
+class Snapshots(unittest.TestCase):
+    def test_each_goes_on_without_the_other(self):
+        with machine(areas=[Area.ram(64, [Failure(1, is_write=True)])]) as it:
+            segment = it.get(1, PRIVATE, 2 * PAGE)
+            at = it.attach(1, segment)
+            it.store(1, at, b"before")
+            with it.snapshot() as other:
+                self.assertEqual((other.tally(), other.segments(), other.processes(), other.calls()),
+                                 (it.tally(), it.segments(), it.processes(), it.calls()))
+                it.store(1, at, b"behind")
+                it.exit(1)
+                self.assertEqual(it.flush(9), Flushed(0, 1))
+                self.assertEqual((it.stat(4, segment).nattch, other.stat(4, segment).nattch), (0, 1))
+                it.close()
+                self.assertEqual(other.load(1, at, 6), b"before")
+                self.assertEqual(other.flush(9), Flushed(0, 1))
+                self.assertEqual(other.flush(9), Flushed(1, 0))
+
+    def test_copy_is_a_snapshot(self):
+        with machine() as it:
+            for make in (copy.copy, copy.deepcopy):
+                with make(it) as other:
+                    other.get(1, PRIVATE, 1)
+                    self.assertEqual((len(other.segments()), it.segments()), (1, []))
+
+    def test_a_closed_machine_has_none(self):
+        it = machine()
+        it.close()
+        self.assertRaises(ClosedMachine, it.snapshot)
+        for call, operands in ((it.unmap, (1, 0, 1)), (it.protect, (1, 0, 1, True)), (it.info, ()), (it.pieces, (1,)), (it.processes, ()),
+                               (it.stat_at, (1, 0)), (it.failed_at, (1, 0, 1))):
+            self.assertRaises(ClosedMachine, call, *operands)
+
+
 class Opening(unittest.TestCase):
     def test_a_closed_machine(self):
         with machine() as it:
@@ -315,7 +440,7 @@ class Binding(unittest.TestCase):
     def test_parameters_are_those_of_the_header(self):
         kinds = {"uint32_t": ctypes.c_uint32, "int32_t": ctypes.c_int32, "uint64_t": ctypes.c_uint64, "size_t": ctypes.c_size_t,
                  "uint8_t": ctypes.c_uint8, **{f"nog_{n}": s for n, s in zip(
-                     ("machine", "limits", "area", "failure", "process", "segment", "tally", "flushed"), low.STRUCTS)}}
+                     ("machine", "limits", "area", "failure", "process", "segment", "tally", "flushed", "usage", "piece"), low.STRUCTS)}}
         for name, text in re.findall(r"^uint32_t (nog_\w+)\((.*?)\);", self.header, re.S | re.M):
             wanted = []
             for word in text.split(","):

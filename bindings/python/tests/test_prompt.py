@@ -32,7 +32,7 @@ LINES = (
 class Prompts(unittest.TestCase):
     def setUp(self):
         self.prompt = Prompt(["ram:64"])
-        self.addCleanup(lambda: self.prompt.is_open and self.prompt.run.machine.close())
+        self.addCleanup(lambda: self.prompt.close())
 
     def say_all(self):
         for line, wanted in LINES:
@@ -82,6 +82,79 @@ class Prompts(unittest.TestCase):
         self.assertEqual(len(read_script(text).lines), 8)
         answers = [answer for _, told in LINES for answer in told if " = " in answer]
         self.assertEqual(transcript(text).splitlines()[:7], answers)
+
+    def test_undo_takes_each_line_back(self):
+        told = [self.prompt.text()]
+        for line, _ in LINES:
+            self.prompt.answer(line)
+            told.append(self.prompt.text())
+        lines = [line for line, _ in LINES]
+        self.assertEqual(self.prompt.answer("1 laod a 1")[-1], "    nearest form: load")
+        for line, before in zip(reversed(lines), reversed(told[:-1])):
+            if not line.startswith("#"):
+                self.assertEqual(self.prompt.answer("undo"), [f"undone: {line}"])
+                self.assertEqual(self.prompt.text(), before)
+        self.assertEqual(self.prompt.answer("undo"), ["nothing to undo"])
+        self.assertEqual(self.prompt.answer("show"), ["nothing was called yet"])
+        self.say_all()
+
+    def test_undo_brings_back_bytes_segments_processes_and_variables(self):
+        self.say_all()
+        for line, wanted in (("1 store a+4094 09", "8 1 store 0x40000ffe 09 = ok"), ("1 s = shmget private 1 600", "9 1 shmget 0x00000000 1 600 = 1"),
+                             ("2 exit", "10 2 exit = ok"), ("1 rmid s", "11 1 rmid 1 = ok")):
+            self.assertEqual(self.prompt.answer(line), [wanted])
+        for _ in range(4):
+            self.prompt.answer("undo")
+        self.assertEqual(self.prompt.answer("2 load 0x40000ffe 1"), ["8 2 load 0x40000ffe 1 = 01"])
+        self.assertIn("uid=100", self.prompt.answer("1 stat s")[0])
+        self.assertEqual(self.prompt.answer("undo"), ["undone: 1 stat s"])
+
+    def test_the_last_hundred_lines_can_be_undone(self):
+        for number in range(120):
+            self.prompt.answer(f"1 stat {number + 1000}")
+        for number in range(100):
+            self.assertEqual(self.prompt.answer("undo"), [f"undone: 1 stat {1119 - number}"])
+        self.assertEqual(self.prompt.answer("undo"), ["nothing to undo"])
+        self.assertEqual(self.prompt.answer("1 exec"), ["21 1 exec = ok"])
+
+    def test_a_failure_that_was_undone_comes_again(self):
+        prompt = Prompt(["fuse:64:w1"])
+        self.addCleanup(prompt.close)
+        for line in ("1 s = shmget private 4096 600", "1 a = shmat s null -", "1 store a 01"):
+            prompt.answer(line)
+        for _ in range(2):
+            self.assertEqual(prompt.answer("0 flush 1"), ["flush: 0 written, 1 failed"])
+            self.assertEqual(prompt.answer("undo"), ["undone: 0 flush 1"])
+
+    def test_few_copies_are_kept_of_a_large_machine(self):
+        few, none = Prompt(["ram:32000"]), Prompt(["ram:65536"])
+        for prompt, undone in ((few, ["undone: 1 exec", "undone: 2 exec", "nothing to undo"]),
+                               (none, ["nothing to undo: a machine of more than 65536 pages is not copied"])):
+            self.addCleanup(prompt.close)
+            for line in ("3 exec", "2 exec", "1 exec"):
+                prompt.answer(line)
+            self.assertEqual([prompt.answer("undo")[0] for _ in undone], undone)
+
+    def test_snapshots_have_names(self):
+        self.assertEqual(self.prompt.answer("restore a"), ["no snapshot a: there is none"])
+        self.assertEqual(self.prompt.answer("snapshot empty"), ["snapshot empty: 0 lines"])
+        self.say_all()
+        self.assertEqual(self.prompt.answer("snapshot full"), ["snapshot full: 12 lines"])
+        text = self.prompt.text()
+        self.assertEqual(self.prompt.answer("restore empty"), ["restored empty: 0 lines"])
+        self.assertEqual(self.prompt.answer("1 exec"), ["1 1 exec = ok"])
+        for _ in range(2):
+            self.assertEqual(self.prompt.answer("restore full"), ["restored full: 12 lines"])
+            self.assertEqual(self.prompt.text(), text)
+            self.assertEqual(self.prompt.answer("2 load a+4095 1")[-1], "8 2 load 0xfff 1 = SIGSEGV")
+            self.assertEqual(self.prompt.answer("2 load 0x40000fff 1"), ["9 2 load 0x40000fff 1 = 02"])
+        self.assertEqual([self.prompt.answer("undo")[0] for _ in range(6)],
+                         ["undone: 2 load 0x40000fff 1", "undone: 2 load a+4095 1", "undone: restore full", "undone: 2 load 0x40000fff 1",
+                          "undone: 2 load a+4095 1", "undone: restore full"])
+        self.assertEqual(self.prompt.taken, [*HEAD, "1 exec"])
+        self.assertEqual(self.prompt.answer("restore nosuch"), ["no snapshot nosuch: there are empty, full"])
+        for word in ("snapshot", "restore", "snapshot a b"):
+            self.assertEqual(self.prompt.answer(word), [f"{word.split()[0]} takes the name of a snapshot"])
 
     def test_help(self):
         self.assertIn("Calls: shmget, shmat", self.prompt.answer("help")[0])

@@ -19,7 +19,7 @@ use std::fmt;
 use std::marker::PhantomData;
 use std::ptr::null_mut;
 
-pub use raw::{Flushed, Segment, Tally};
+pub use raw::{Flushed, Segment, Tally, Usage};
 
 /// `IPC_PRIVATE`: [`Machine::get`] always makes a segment.
 pub const PRIVATE: u32 = 0;
@@ -256,6 +256,39 @@ impl Process {
             gid,
         }
     }
+}
+
+/// What a process of a machine is.
+#[derive(Clone, Copy, Debug, PartialEq, Eq)]
+pub enum State {
+    /// A child that a fork may begin.
+    Unborn,
+    /// A live process, with its effective user and group.
+    Live {
+        /// The effective user.
+        uid: u32,
+        /// The effective group.
+        gid: u32,
+    },
+    /// It has ended, and was not dismissed.
+    Ended,
+}
+
+/// A range of addresses of a process with pages of a segment, as a line of `/proc/PID/maps` shows a mapping.
+#[derive(Clone, Copy, Debug, PartialEq, Eq)]
+pub struct Piece {
+    /// Its address.
+    pub base: u64,
+    /// The identifier of its segment.
+    pub segment: i32,
+    /// The page of the segment that lies at the address.
+    pub first_page: u32,
+    /// How many pages it has.
+    pub pages: u32,
+    /// Whether it may be written now.
+    pub is_writable: bool,
+    /// Whether [`Machine::protect`] can make it writable: it was not attached with [`RDONLY`].
+    pub may_write: bool,
 }
 
 /// An access that was ended midway: why, and how many bytes were read or written before.
@@ -519,6 +552,38 @@ impl Machine {
         unsafe { raw::nog_set_time(&mut self.handle, time) };
     }
 
+    /// munmap(2): unmaps a range, rounded up to whole pages. Pieces that reach beyond it are cut. It is no call.
+    ///
+    /// # Errors
+    /// ESRCH, EINVAL, ENOMEM, and SPENT.
+    pub fn unmap(&mut self, pid: u32, addr: u64, len: u64) -> Answer<()> {
+        done(unsafe { raw::nog_unmap(&mut self.handle, pid, addr, len) })
+    }
+
+    /// mprotect(2): makes a range, rounded up to whole pages, writable or read-only. It is no call.
+    ///
+    /// # Errors
+    /// ESRCH, EINVAL, and ENOMEM or EACCES for a page; those below that page have changed then, as on Linux.
+    pub fn protect(&mut self, pid: u32, addr: u64, len: u64, is_writable: bool) -> Answer<()> {
+        done(unsafe { raw::nog_protect(&mut self.handle, pid, addr, len, u32::from(is_writable)) })
+    }
+
+    /// Another machine with the same state, memory and swap areas. Each goes on without the other.
+    ///
+    /// # Errors
+    /// NO_MEMORY.
+    pub fn snapshot(&mut self) -> Answer<Machine> {
+        let mut handle = raw::Handle {
+            is_open: 0,
+            kept: null_mut(),
+        };
+        done(unsafe { raw::nog_snapshot(&mut self.handle, &mut handle) })?;
+        Ok(Machine {
+            handle,
+            owns: PhantomData,
+        })
+    }
+
     /// Reads bytes of any length, by loads of 64 bytes.
     ///
     /// # Errors
@@ -566,6 +631,78 @@ impl Machine {
         let mut segment = Segment::default();
         let code = unsafe { raw::nog_segment_at(&mut self.handle, index, &mut segment) };
         (code == 0).then_some(segment)
+    }
+
+    /// shmctl(2), SHM_STAT: the segment at an index of the table, where the process may read it. It is no call.
+    ///
+    /// # Errors
+    /// ESRCH, EINVAL where no segment has the index, EACCES.
+    pub fn stat_at(&mut self, pid: u32, index: u32) -> Answer<Segment> {
+        let mut segment = Segment::default();
+        done(unsafe { raw::nog_stat_at(&mut self.handle, pid, index, &mut segment) })?;
+        Ok(segment)
+    }
+
+    /// shmctl(2), SHM_INFO: sums over all segments. It looks at each page that was touched.
+    pub fn info(&mut self) -> Usage {
+        let mut usage = Usage::default();
+        // An open machine answers 0.
+        unsafe { raw::nog_info(&mut self.handle, &mut usage) };
+        usage
+    }
+
+    /// The pieces of a live process by rising address, as `/proc/PID/maps` lists mappings.
+    ///
+    /// # Errors
+    /// ESRCH.
+    pub fn pieces(&mut self, pid: u32) -> Answer<Vec<Piece>> {
+        let mut pieces = Vec::new();
+        for index in 0.. {
+            let mut piece = raw::Piece::default();
+            match done(unsafe { raw::nog_piece_at(&mut self.handle, pid, index, &mut piece) }) {
+                Err(Errno::OUT_OF_RANGE) => break,
+                other => other?,
+            }
+            pieces.push(Piece {
+                base: piece.base,
+                // an identifier is at most 2^31 - 1
+                segment: piece.segment as i32,
+                first_page: piece.first_page,
+                pages: piece.pages,
+                is_writable: piece.is_writable != 0,
+                may_write: piece.may_write != 0,
+            });
+        }
+        Ok(pieces)
+    }
+
+    /// All processes by their pids: live ones, children that are not born, and those that have ended and were not dismissed.
+    pub fn processes(&mut self) -> Vec<(u32, State)> {
+        let mut it = raw::Process::default();
+        let mut processes = Vec::new();
+        for index in 0.. {
+            if unsafe { raw::nog_process_at(&mut self.handle, index, &mut it) } != 0 {
+                break;
+            }
+            let state = match it.is_born {
+                0 => State::Unborn,
+                1 => State::Live {
+                    uid: it.uid,
+                    gid: it.gid,
+                },
+                _ => State::Ended,
+            };
+            processes.push((it.pid, state));
+        }
+        processes
+    }
+
+    /// Where an access is a SIGSEGV: the address of its first byte that is not attached, or, for a write, not attached for
+    /// writing. None where each byte is attached as the access asks.
+    pub fn failed_at(&mut self, pid: u32, addr: u64, len: u64, is_write: bool) -> Option<u64> {
+        let mut at = 0;
+        let code = unsafe { raw::nog_failed_at(&mut self.handle, pid, addr, len, u32::from(is_write), &mut at) };
+        (code == 0).then_some(at)
     }
 
     /// How many calls were answered.

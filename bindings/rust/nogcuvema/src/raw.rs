@@ -39,7 +39,7 @@ pub struct Failure {
 }
 
 #[repr(C)]
-#[derive(Clone, Copy)]
+#[derive(Clone, Copy, Default)]
 pub struct Process {
     pub pid: u32,
     pub is_born: u32,
@@ -92,6 +92,28 @@ pub struct Flushed {
     pub failed: u64,
 }
 
+#[repr(C)]
+#[derive(Clone, Copy, Debug, Default, PartialEq, Eq)]
+pub struct Usage {
+    pub used_ids: u64,
+    pub pages: u64,
+    pub resident: u64,
+    pub swapped: u64,
+    pub highest: u64,
+}
+
+#[repr(C)]
+#[derive(Clone, Copy, Default)]
+pub struct Piece {
+    pub base: u64,
+    pub segment: u32,
+    pub first_page: u32,
+    pub pages: u32,
+    pub is_writable: u32,
+    pub may_write: u32,
+    pub unused: u32,
+}
+
 extern "C" {
     pub fn nog_open(
         machine: *mut Handle,
@@ -123,12 +145,20 @@ extern "C" {
     pub fn nog_dismiss(machine: *mut Handle, pid: u32) -> u32;
     pub fn nog_set_user(machine: *mut Handle, pid: u32, uid: u32, gid: u32) -> u32;
     pub fn nog_set_time(machine: *mut Handle, time: u64) -> u32;
+    pub fn nog_unmap(machine: *mut Handle, pid: u32, addr: u64, len: u64) -> u32;
+    pub fn nog_protect(machine: *mut Handle, pid: u32, addr: u64, len: u64, is_writable: u32) -> u32;
+    pub fn nog_snapshot(machine: *mut Handle, copy: *mut Handle) -> u32;
     pub fn nog_read(machine: *mut Handle, pid: u32, addr: u64, bytes: *mut u8, len: usize, done: *mut u64) -> u32;
     pub fn nog_write(machine: *mut Handle, pid: u32, addr: u64, bytes: *const u8, len: usize, done: *mut u64) -> u32;
     pub fn nog_flush(machine: *mut Handle, pages: u64, flushed: *mut Flushed) -> u32;
     pub fn nog_tally_of(machine: *mut Handle, tally: *mut Tally) -> u32;
     pub fn nog_indexes(machine: *mut Handle, indexes: *mut u32) -> u32;
     pub fn nog_segment_at(machine: *mut Handle, index: u32, segment: *mut Segment) -> u32;
+    pub fn nog_stat_at(machine: *mut Handle, pid: u32, index: u32, segment: *mut Segment) -> u32;
+    pub fn nog_info(machine: *mut Handle, usage: *mut Usage) -> u32;
+    pub fn nog_piece_at(machine: *mut Handle, pid: u32, index: u32, piece: *mut Piece) -> u32;
+    pub fn nog_process_at(machine: *mut Handle, index: u32, process: *mut Process) -> u32;
+    pub fn nog_failed_at(machine: *mut Handle, pid: u32, addr: u64, len: u64, is_write: u32, at: *mut u64) -> u32;
     pub fn nog_calls(machine: *mut Handle, calls: *mut u64) -> u32;
     pub fn nog_text(code: u32, text: *mut u8, size: usize, len: *mut usize) -> u32;
     pub fn nog_version() -> u32;

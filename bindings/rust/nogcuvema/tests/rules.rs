@@ -1,5 +1,6 @@
 //! What the cover hands on, by the rules; and that its structs are the library's.
-use nogcuvema::{raw, Area, Errno, Failure, Limits, Machine, Process, Segment, CREAT, EXCL, LOCKED, PRIVATE, RDONLY};
+use nogcuvema::{raw, Area, Errno, Failure, Limits, Machine, Piece, Process, Segment, State, Usage};
+use nogcuvema::{CREAT, EXCL, LOCKED, PRIVATE, RDONLY};
 use std::mem::size_of;
 
 fn machine() -> Machine {
@@ -43,6 +44,9 @@ fn the_structs_are_the_librarys() {
     same!(5, raw::Segment, size atime dtime ctime id key uid gid cuid cgid mode status cpid lpid nattch index);
     same!(6, raw::Tally, events segments reserved locked frames resident dirty slots used ins outs failures);
     same!(7, raw::Flushed, written failed);
+    same!(8, raw::Usage, used_ids pages resident swapped highest);
+    same!(9, raw::Piece, base segment first_page pages is_writable may_write unused);
+    assert_eq!(layout(10, 0), None, "one more struct");
 }
 
 #[test]
@@ -206,4 +210,101 @@ fn processes_come_and_go() {
     assert_eq!(machine.exit(4), Ok(()));
     assert_eq!(machine.dismiss(4), Ok(()));
     assert_eq!(machine.calls(), 5);
+}
+
+const PAGE: u64 = 4096;
+
+/// A machine in which process 1 has eight pages of a segment attached.
+fn attached() -> (Machine, i32, u64) {
+    let mut machine = machine();
+    let id = machine.get(1, PRIVATE, 8 * PAGE, 0o600, 0).unwrap();
+    let at = machine.attach(1, id, 0, 0).unwrap();
+    (machine, id, at)
+}
+
+#[test]
+fn a_range_is_unmapped() {
+    let (mut machine, id, at) = attached();
+    machine.set_time(500);
+    assert_eq!(machine.unmap(1, at + PAGE, PAGE + 1), Ok(()));
+    let is = machine.stat(1, id).unwrap();
+    assert_eq!((is.nattch, is.dtime, is.lpid), (2, 500, 1));
+    assert_eq!(machine.load(1, at + 2 * PAGE, &mut [0]), Err(Errno::SIGSEGV));
+    assert_eq!(machine.load(1, at + 3 * PAGE, &mut [0]), Ok(()));
+    assert_eq!(machine.unmap(1, at + 1, PAGE), Err(Errno::EINVAL));
+    assert_eq!(machine.unmap(1, at, 0), Err(Errno::EINVAL));
+    assert_eq!(machine.unmap(3, at, PAGE), Err(Errno::ESRCH));
+    assert_eq!(machine.remove(1, id), Ok(()));
+    assert_eq!(machine.unmap(1, at, 8 * PAGE), Ok(()));
+    assert_eq!(machine.segments(), []);
+}
+
+#[test]
+fn a_range_is_protected() {
+    let (mut machine, id, at) = attached();
+    assert_eq!(machine.protect(1, at + PAGE, PAGE, false), Ok(()));
+    assert_eq!(machine.stat(1, id).unwrap().nattch, 3);
+    assert_eq!(machine.store(1, at + PAGE, &[1]), Err(Errno::SIGSEGV));
+    assert_eq!(machine.failed_at(1, at + PAGE - 4, 8, true), Some(at + PAGE));
+    assert_eq!(machine.failed_at(1, at + PAGE - 4, 8, false), None);
+    assert_eq!(machine.failed_at(1, at, 9 * PAGE, false), Some(at + 8 * PAGE));
+    assert_eq!(machine.protect(1, at + PAGE, PAGE, true), Ok(()));
+    assert_eq!(machine.store(1, at + PAGE, &[1]), Ok(()));
+    let other = machine.attach(1, id, 0, RDONLY).unwrap();
+    assert_eq!(machine.protect(1, other, PAGE, true), Err(Errno::EACCES));
+    assert_eq!(machine.protect(1, other + 8 * PAGE, PAGE, false), Err(Errno::ENOMEM));
+    assert_eq!(machine.protect(1, other + 1, PAGE, false), Err(Errno::EINVAL));
+    assert_eq!(machine.protect(3, other, PAGE, false), Err(Errno::ESRCH));
+}
+
+#[test]
+fn pieces_and_processes_are_listed() {
+    let (mut machine, id, at) = attached();
+    machine.attach(1, id, 0x20000, RDONLY).unwrap();
+    machine.protect(1, at, PAGE, false).unwrap();
+    let piece = |base, first_page, pages, is_writable, may_write| Piece {
+        base,
+        segment: id,
+        first_page,
+        pages,
+        is_writable,
+        may_write,
+    };
+    let all = [piece(0x20000, 0, 8, false, false), piece(at, 0, 1, false, true), piece(at + PAGE, 1, 7, true, true)];
+    assert_eq!(machine.pieces(1).unwrap(), all);
+    assert_eq!(machine.pieces(2), Ok(vec![]));
+    assert_eq!(machine.pieces(3), Err(Errno::ESRCH));
+    machine.exit(2).unwrap();
+    assert_eq!(machine.processes(), [(1, State::Live { uid: 100, gid: 200 }), (2, State::Ended), (3, State::Unborn)]);
+}
+
+#[test]
+fn sums_and_what_a_process_may_see() {
+    let (mut machine, id, at) = attached();
+    let other = machine.get(2, PRIVATE, 1, 0o600, 0).unwrap();
+    machine.write(1, at, &[1; 2 * PAGE as usize]).unwrap();
+    let calls = machine.calls();
+    let sums = Usage { used_ids: 2, pages: 9, resident: 2, swapped: 0, highest: 1 };
+    assert_eq!(machine.info(), sums);
+    assert_eq!(machine.stat_at(1, 0).unwrap().id, id);
+    assert_eq!(machine.stat_at(1, 1), Err(Errno::EACCES));
+    assert_eq!(machine.stat_at(2, 1).unwrap().id, other);
+    assert_eq!(machine.stat_at(1, 2), Err(Errno::EINVAL));
+    assert_eq!(machine.stat_at(3, 0), Err(Errno::ESRCH));
+    assert_eq!(machine.calls(), calls);
+}
+
+#[test]
+fn a_snapshot_goes_on_alone() {
+    let (mut machine, id, at) = attached();
+    machine.store(1, at, b"before").unwrap();
+    let mut saved = machine.snapshot().unwrap();
+    assert_eq!((saved.tally(), saved.segments(), saved.calls()), (machine.tally(), machine.segments(), machine.calls()));
+    machine.store(1, at, b"behind").unwrap();
+    machine.exit(1).unwrap();
+    assert_eq!((machine.stat(2, id).unwrap().nattch, saved.stat(2, id).unwrap().nattch), (0, 1));
+    drop(machine);
+    let mut bytes = [0; 6];
+    saved.load(1, at, &mut bytes).unwrap();
+    assert_eq!(&bytes, b"before");
 }

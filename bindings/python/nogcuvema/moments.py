@@ -1,0 +1,56 @@
+"""What the prompt goes back to: moments of a run, each with a snapshot of its machine."""
+from dataclasses import dataclass
+from typing import Dict, List, Optional, Sequence, Union
+
+from .machine import Area, Limits, Machine, Process
+from .script import Command, FlushLine, Run, Script
+
+MOST_MOMENTS = 100
+# what all moments that can be undone take together at most: 256 MiB
+MOST_PAGES = 65536
+RAM, MIRROR = 1, 3
+
+
+def most_moments(limits: Limits, areas: Sequence[Area]) -> int:
+    """How many moments are kept to be undone: at most 100, and fewer for a machine of many pages."""
+    sides = {RAM: 1, MIRROR: 2}
+    pages = limits.frames + sum(min(it.slots, limits.shmall) if it.kind not in sides else it.slots * sides[it.kind] for it in areas)
+    return min(MOST_MOMENTS, MOST_PAGES // pages)
+
+
+@dataclass
+class Moment:
+    """A run at one moment. The lists of lines only grow, so a moment shares them and keeps how many it had."""
+    limits: Optional[Limits]
+    processes: List[Process]
+    lines: List[Union[Command, FlushLine]]
+    line_count: int
+    taken: List[str]
+    taken_count: int
+    machine: Optional[Machine]                # none where no call was made yet
+    variables: Dict[int, Dict[str, int]]
+    line: str                                 # the line that came next; nothing for a moment with a name
+
+    @classmethod
+    def of(cls, script: Script, taken: List[str], run: Optional[Run], line: str) -> "Moment":
+        """The moment that is now. `NoMemory` where there is none for the snapshot."""
+        variables = {pid: dict(letters) for pid, letters in run.variables.items()} if run else {}
+        return cls(script.limits, list(script.processes), script.lines, len(script.lines), taken, len(taken),
+                   run.machine.snapshot() if run else None, variables, line)
+
+    def script(self) -> Script:
+        script = Script()
+        script.limits, script.processes, script.lines = self.limits, list(self.processes), self.lines[:self.line_count]
+        return script
+
+    def run(self, script: Script) -> Optional[Run]:
+        """A run that goes on from the moment, over another snapshot: the moment stays."""
+        if self.machine is None:
+            return None
+        run = Run(self.machine.snapshot(), script)
+        run.variables = {pid: dict(letters) for pid, letters in self.variables.items()}
+        return run
+
+    def close(self) -> None:
+        if self.machine is not None:
+            self.machine.close()
