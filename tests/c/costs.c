@@ -56,6 +56,14 @@ static void fill_pieces(uint64_t size) {
     at = attach(usual, UINT64_C(0x700000000000));
 }
 
+/* the same, and room for a child that gets them all */
+static void fill_lives(uint64_t size) {
+    start(65530, 2);
+    int32_t other = make(1);
+    for (uint64_t i = 1; i < size; i++) attach(other, FIRST + i * PAGE);
+    at = attach(usual, UINT64_C(0x700000000000));
+}
+
 static void fill_processes(uint64_t size) {
     start(8, 32768);
     for (uint32_t pid = 2; pid < size; pid++) {
@@ -83,6 +91,15 @@ static void load_one(void) {
     took(nog_load(&machine, PID, at + 8, bytes, sizeof bytes));
 }
 
+/* one page of two becomes read-only, and writable again: a piece comes, and its border moves back */
+static void protect_and_back(void) {
+    took(nog_protect(&machine, PID, at, PAGE, 0));
+    took(nog_protect(&machine, PID, at, PAGE, 1));
+}
+
+/* a page is unmapped where nothing is attached */
+static void unmap_nothing(void) { took(nog_unmap(&machine, PID, UINT64_C(0x600000000000), PAGE)); }
+
 /* a child lives and leaves */
 static void live(void) {
     const nog_process child = {.pid = 2147483647};
@@ -96,6 +113,8 @@ static const struct { const char *name; void (*fill)(uint64_t size); void (*call
     {"segments-get", fill_segments, get_and_remove}, {"segments-stat", fill_segments, stat_one},
     {"segments-attach", fill_segments, attach_and_detach}, {"pieces-attach", fill_pieces, attach_and_detach},
     {"pieces-chosen", fill_pieces, attach_chosen}, {"pieces-load", fill_pieces, load_one},
+    {"pieces-protect", fill_pieces, protect_and_back}, {"pieces-unmap", fill_pieces, unmap_nothing},
+    {"pieces-live", fill_lives, live},
     {"processes-load", fill_processes, load_one}, {"processes-attach", fill_processes, attach_and_detach},
     {"processes-live", fill_processes, live} };
 
