@@ -85,7 +85,7 @@ def access_of(block):
     if words[0] != "call" or words[3] not in ("load", "store", "xadd"):
         return "", []
     count = int(words[5]) if words[3] == "load" else len(words[5]) // 2 if words[3] == "store" else 8
-    first = int(words[4], 16)
+    first = 0 if words[4] == "null" else int(words[4], 16)
     return words[2], sorted({at - at % 4096 for at in range(first, first + count)})
 
 

@@ -41,13 +41,11 @@ def range_of(steps):
     return int(first), int(last) if last else None
 
 
-def page(text, script="", asked=""):
-    """The record has no character that HTML reads as its own; all else is JSON, in which `<` is written as an escape."""
-    with open(os.path.join(HERE, "page.html"), encoding="utf-8") as file:
-        template = file.read()
+def told_of(text, script="", asked=""):
+    """Returns what a page shows beside the record of a run."""
     first, last = range_of(asked)
     steps, lines = read_record(text), lines_of(script) if script else []
-    told = {
+    return {
         "title": title_of(lines),
         "script": lines,
         "first": first,
@@ -55,9 +53,20 @@ def page(text, script="", asked=""):
         "said": dict(all_sentences(steps, first)),
         "reached": {step.number: reached(step) for step in steps},
     }
+
+
+def filled(text, told):
+    """The page of a record. The record has no character that HTML reads as its own; all else is JSON, in which `<` is written as
+    an escape."""
+    with open(os.path.join(HERE, "page.html"), encoding="utf-8") as file:
+        template = file.read()
     head, rest = template.split("@RECORD@")
     middle, tail = rest.split("@TOLD@")
     return head + text + middle + json.dumps(told).replace("<", "\\u003c") + tail
+
+
+def page(text, script="", asked=""):
+    return filled(text, told_of(text, script, asked))
 
 
 def terminal(text, _script="", asked=""):
