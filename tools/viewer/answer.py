@@ -16,7 +16,7 @@ import sys
 sys.dont_write_bytecode = True
 sys.path.insert(0, os.path.dirname(os.path.abspath(__file__)))
 
-from show import told_of  # noqa: E402
+from show import shortened, told_of  # noqa: E402
 
 
 def read_fault(text, packages):
@@ -50,7 +50,7 @@ def answer(program, packages, swaps, text):
     if done.returncode:
         return {"line": 0, "column": 0, "length": 0, "words": [done.stderr.decode(errors="replace").strip() or "the run was ended"]}
     record = done.stdout.decode("latin-1")
-    return {"record": record, "told": told_of(record, text), "words": words}
+    return {"record": shortened(record), "told": told_of(record, text), "words": words}
 
 
 if __name__ == "__main__":
