@@ -26,7 +26,7 @@ EXPLAINED = """line 9, column 3: bad line
     allowed here: a call: shmget, shmat, shmdt, load, store, xadd, stat, set, rmid, lock, unlock, fork, exec, exit, swapoff
     nearest form: load"""
 LESSONS = ["1. Three pages in two frames", "2. A read of swap that fails", "3. A swap area is taken away",
-           "4. An attach in the middle of another", "5. A removed segment lives on"]
+           "4. An attach in the middle of another", "5. A removed segment lives on", "6. A child and its parent", "7. Who may do what", "8. Pages that must stay"]
 # what is asked of the page after each edit: the text to find, what it becomes, and what is then seen
 EDITS = (
     ("1 load a 1", "1 load a 2", "step 6 of 9", "process 1: load 0x40000000 2 = 0100 call 6 of the history", 2),
