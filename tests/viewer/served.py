@@ -68,11 +68,23 @@ def edit(session, old, new):
     return wait_for(session, f"document.body.dataset.runs !== {json.dumps(runs)}") and old in text
 
 
-def choose(session, name):
-    """Chooses an example, and waits for its run."""
+def choose(session, name, kind="example"):
+    """Chooses an example or a lesson, and waits for its run."""
     runs = session.value("document.body.dataset.runs")
-    session.value(f"byId('choose').value = 'example {name}'; byId('choose').dispatchEvent(new Event('change'))")
+    session.value(f"byId('choose').value = '{kind} {name}'; byId('choose').dispatchEvent(new Event('change'))")
     wait_for(session, f"document.body.dataset.runs !== {json.dumps(runs)}")
+
+
+def check_lesson(count, session):
+    """A lesson has its script, its text, its question, and the answer folded; an example has none of these."""
+    choose(session, LESSONS[7], "lesson")
+    seen = session.value("[byId('lesson').hidden, byId('where').textContent, byId('lesson').querySelector('h2').textContent, "
+                         "byId('lesson').querySelectorAll('li').length, [...byId('lesson').querySelectorAll('details')].map((it) => [it.open, "
+                         "it.textContent.slice(0, 53)]), byId('lesson').innerText.includes('Question: MEMLOCK, the last number')]")
+    answer = "AnswerIf all frames could be locked, no frame could b"
+    count.take(seen == [False, "step 0 of 16", LESSONS[7], 5, [[False, answer]], True], f"served, a lesson: {seen}")
+    choose(session, "memory_short")
+    count.take(session.value("byId('lesson').hidden") is True, "served: an example has the text of a lesson")
 
 
 def check_editing(count, session):
@@ -148,6 +160,7 @@ def check_in_browser(count, session):
         names = session.value("[...byId('choose').querySelectorAll('optgroup')].map((it) => [...it.children].map((name) => name.textContent))")
         examples = sorted(os.path.basename(path)[:-4] for path in glob.glob(f"{TOP}/examples/*.shm"))
         count.take(names == [LESSONS, examples], f"served: {names} are there to choose from")
+        check_lesson(count, session)
         check_editing(count, session)
         check_fault(count, session)
         check_swap_and_link(count, session, found[0])
