@@ -246,7 +246,7 @@ def check_limits(count):
             "turns": f"mkdir {folder}/turn 2> /dev/null || echo together >> {folder}/log\nsleep .05\nrmdir {folder}/turn",
             "long": "while :; do :; done",
             "idle": "sleep 60",
-            "large": "exec python3 -c 'b\"x\" * (2 << 30)'",
+            "large": "exec python3 -S -c 'import mmap; mmap.mmap(-1, 2 << 30)'",
             "wordy": "exec python3 -c 'import sys; sys.stdout.write(\"x\" * (200 << 20))'",
         }
         runners = {}
