@@ -86,7 +86,7 @@ class Session:
 
     def value(self, expression):
         """What an expression is in the page."""
-        answer = self.ask("Runtime.evaluate", expression=expression, returnByValue=True)
+        answer = self.ask("Runtime.evaluate", expression=expression, returnByValue=True, awaitPromise=True)
         return answer["result"].get("value", answer.get("exceptionDetails"))
 
     def press(self, key):

@@ -85,7 +85,7 @@ def access_of(block):
     if words[0] != "call" or words[3] not in ("load", "store", "xadd"):
         return "", []
     count = int(words[5]) if words[3] == "load" else len(words[5]) // 2 if words[3] == "store" else 8
-    first = int(words[4], 16)
+    first = 0 if words[4] == "null" else int(words[4], 16)
     return words[2], sorted({at - at % 4096 for at in range(first, first + count)})
 
 
@@ -348,3 +348,37 @@ def wrong_moves(moved, steps, blocks, script=()):
         wrong += [f"{name} is taken: {was_taken}"] * (was_taken != is_taken)
         wrong += [f"address after {name}: {was_address} where {address} is wanted"] * (was_address != address)
     return wrong
+
+
+def page_at(block, page):
+    """Returns all that changes of a page: whether its segment is there, where it is, its slot, and its bits."""
+    seg, _ = page
+    marks = [line[4] for line in lines_of(block, "frame") if line[2:4] == page]
+    slots = [line[1:3] for line in lines_of(block, "slot") if line[3:5] == page]
+    return [seg in [it[1] for it in segments_of(block)], where_is(block, page), marks, slots]
+
+
+def sought(what, block, before):
+    """Returns whether a step has what is looked for: a page that came into a frame, a refusal, or a change of a process or a page."""
+    kind, *name = what.split(" ")
+    if kind == "fault":
+        had, has = ({tuple(line[2:4]) for line in lines_of(it, "frame")} for it in (before, block))
+        return bool(has - had)
+    if kind == "refusal":
+        return block[1][0] == "call" and block[1][-1] in REFUSALS
+    if kind == "page":
+        return page_at(block, name[0].split("·")) != page_at(before, name[0].split("·"))
+    was, now = ([[line, [[at, *box, where_is(it, box[0])] for at, box in sorted(boxes_of(pieces).items())]]
+                 for line, pieces in pieces_of(it) if line[1] == name[0]] for it in (before, block))
+    return [[line, [it[:3] + it[4:] for it in boxes]] for line, boxes in was] != [[line, [it[:3] + it[4:] for it in boxes]] for line, boxes in now]
+
+
+def steps_sought(what, blocks):
+    """Returns the numbers of the steps that have what is looked for."""
+    return [number_of(block) for before, block in zip(blocks, blocks[1:]) if sought(what, block, before)]
+
+
+def all_sought(blocks):
+    """Returns what may be looked for in a run: two kinds, each process, and each page that a frame or a slot ever has."""
+    pages = {(int(line[at]), int(line[at + 1])) for block in blocks for word, at in (("frame", 2), ("slot", 3)) for line in lines_of(block, word)}
+    return ["fault", "refusal", *(f"process {line[1]}" for line, _ in pieces_of(blocks[0])), *(f"page {seg}·{page}" for seg, page in sorted(pages))]

@@ -204,7 +204,7 @@ def access_of(step):
     if words[:1] != ["call"] or words[3] not in ("load", "store", "xadd") or step.reply == "ESRCH":
         return None
     count = {"load": lambda: int(words[5]), "store": lambda: len(words[5]) // 2, "xadd": lambda: 8}[words[3]]()
-    return words[2], int(words[4], 16), count
+    return words[2], 0 if words[4] == "null" else int(words[4], 16), count
 
 
 def parts_of(access):

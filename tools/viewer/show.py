@@ -41,13 +41,11 @@ def range_of(steps):
     return int(first), int(last) if last else None
 
 
-def page(text, script="", asked=""):
-    """The record has no character that HTML reads as its own; all else is JSON, in which `<` is written as an escape."""
-    with open(os.path.join(HERE, "page.html"), encoding="utf-8") as file:
-        template = file.read()
+def told_of(text, script="", asked=""):
+    """Returns what a page shows beside the record of a run."""
     first, last = range_of(asked)
     steps, lines = read_record(text), lines_of(script) if script else []
-    told = {
+    return {
         "title": title_of(lines),
         "script": lines,
         "first": first,
@@ -55,9 +53,44 @@ def page(text, script="", asked=""):
         "said": dict(all_sentences(steps, first)),
         "reached": {step.number: reached(step) for step in steps},
     }
+
+
+def shortened(text):
+    """Returns a record with what differs from step to step: `=N` are the next N lines of the step before, `-N` are passed over, and
+    no line of a record begins so. Each other line is new."""
+    blocks, old = [], []
+    for block in filter(None, text.split("\n\n")):
+        lines, made, at = block.split("\n"), [], 0
+        places = {line: place for place, line in enumerate(old)}
+        same = 0
+        for line in lines:
+            place = places.get(line, -1)
+            if same and place != at:
+                made.append(f"={same}")
+                same = 0
+            if place >= at:
+                if place > at:
+                    made.append(f"-{place - at}")
+                same, at = same + 1, place + 1
+            else:
+                made.append(line)
+        blocks.append("\n".join([*made, *[f"={same}"] * bool(same)]))
+        old = lines
+    return "".join(block + "\n\n" for block in blocks)
+
+
+def filled(text, told):
+    """The page of a shortened record. The record has no character that HTML reads as its own; all else is JSON, in which `<` is written as
+    an escape."""
+    with open(os.path.join(HERE, "page.html"), encoding="utf-8") as file:
+        template = file.read()
     head, rest = template.split("@RECORD@")
     middle, tail = rest.split("@TOLD@")
     return head + text + middle + json.dumps(told).replace("<", "\\u003c") + tail
+
+
+def page(text, script="", asked=""):
+    return filled(shortened(text), told_of(text, script, asked))
 
 
 def terminal(text, _script="", asked=""):

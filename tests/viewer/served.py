@@ -1,0 +1,268 @@
+"""The page of `shmview --serve`: what its reader sees in a browser as a script is edited, and what its server answers to whom.
+
+All values are written by hand, from the script below and docs/MACHINE.md.
+"""
+
+import base64
+import concurrent.futures
+import contextlib
+import glob
+import http.client
+import json
+import os
+import re
+import socket
+import subprocess
+import sys
+import tempfile
+import threading
+import time
+
+HERE = os.path.dirname(os.path.abspath(__file__))
+TOP = os.path.dirname(os.path.dirname(HERE))
+EXPLAINED = """line 9, column 3: bad line
+    1 laod a 1
+      ^^^^
+    allowed here: a call: shmget, shmat, shmdt, load, store, xadd, stat, set, rmid, lock, unlock, fork, exec, exit, swapoff
+    nearest form: load"""
+LESSONS = ["1. Three pages in two frames", "2. A read of swap that fails", "3. A swap area is taken away",
+           "4. An attach in the middle of another", "5. A removed segment lives on", "6. A child and its parent", "7. Who may do what", "8. Pages that must stay"]
+# what is asked of the page after each edit: the text to find, what it becomes, and what is then seen
+EDITS = (
+    ("1 load a 1", "1 load a 2", "step 6 of 9", "process 1: load 0x40000000 2 = 0100 call 6 of the history", 2),
+    ("limits 65536 16 64 2 0", "limits 65536 16 64 3 0", "step 6 of 9", "process 1: load 0x40000000 2 = 0100 call 6 of the history", 3),
+    ("1 a = shmat s null -\n", "1 a = shmat s null -\n1 fork 2\n", "step 6 of 9", "", 3),
+    ("process 1 100 100\n", "process 1 100 100\nchild 2\n", "step 7 of 10", "process 1: load 0x40000000 2 = 0100 call 7 of the history", 3),
+    ("1 store a 01", "1 store a ff", "step 7 of 10", "process 1: load 0x40000000 2 = ff00 call 7 of the history", 3),
+    ("1 load a 2", "1 load a 3", "step 7 of 10", "process 1: load 0x40000000 3 = ff0000 call 7 of the history", 3),
+)
+SEEN = "[byId('where').textContent, byId('call').innerText.replace(/\\s+/g, ' ').trim(), document.querySelectorAll('#frames .cell').length]"
+
+
+@contextlib.contextmanager
+def served(*words):
+    """The address of a page that is served."""
+    with subprocess.Popen([os.path.join(TOP, "shmview"), "--serve", *words], stdout=subprocess.PIPE, stderr=subprocess.PIPE) as server:
+        found = re.fullmatch(rb"shmview: (http://127\.0\.0\.1:(\d+)/([\w-]{32})/) shows the page, until Ctrl-C\n", server.stdout.readline())
+        try:
+            yield (found[1].decode(), int(found[2]), found[3].decode()) if found else None
+        finally:
+            server.terminate()
+
+
+def wait_for(session, expression, seconds=20):
+    """Returns whether an expression holds in the page, by then."""
+    end = time.monotonic() + seconds
+    while time.monotonic() < end:
+        if session.value(expression) is True:
+            return True
+        time.sleep(.05)
+    return False
+
+
+def edit(session, old, new):
+    """Types into the script, and waits for the run."""
+    text = session.value("byId('text').value")
+    runs = session.value("document.body.dataset.runs")
+    session.value(f"byId('text').value = {json.dumps(text.replace(old, new))}; byId('text').dispatchEvent(new Event('input'))")
+    return wait_for(session, f"document.body.dataset.runs !== {json.dumps(runs)}") and old in text
+
+
+def choose(session, name, kind="example"):
+    """Chooses an example or a lesson, and waits for its run."""
+    runs = session.value("document.body.dataset.runs")
+    session.value(f"byId('choose').value = '{kind} {name}'; byId('choose').dispatchEvent(new Event('change'))")
+    wait_for(session, f"document.body.dataset.runs !== {json.dumps(runs)}")
+
+
+def check_lesson(count, session):
+    """A lesson has its script, its text, its question, and the answer folded; an example has none of these."""
+    choose(session, LESSONS[7], "lesson")
+    seen = session.value("[byId('lesson').hidden, byId('where').textContent, byId('lesson').querySelector('h2').textContent, "
+                         "byId('lesson').querySelectorAll('li').length, [...byId('lesson').querySelectorAll('details')].map((it) => [it.open, "
+                         "it.textContent.slice(0, 53)]), byId('lesson').innerText.includes('Question: MEMLOCK, the last number')]")
+    answer = "AnswerIf all frames could be locked, no frame could b"
+    count.take(seen == [False, "step 0 of 16", LESSONS[7], 5, [[False, answer]], True], f"served, a lesson: {seen}")
+    choose(session, "memory_short")
+    count.take(session.value("byId('lesson').hidden") is True, "served: an example has the text of a lesson")
+
+
+def check_editing(count, session):
+    choose(session, "memory_short")
+    session.value("go(6)")
+    for old, new, where, call, frames in EDITS:
+        is_run, seen = edit(session, old, new), session.value(SEEN)
+        if call:
+            count.take(is_run and seen == [where, call, frames], f"served, after {new!r}: {seen}")
+        else:
+            said = session.value("byId('words').textContent").split("\n")[0]
+            count.take(is_run and said == "line 6, column 8: unknown process" and seen[0] == where, f"served, after {new!r}: {seen}, {said}")
+
+
+def check_fault(count, session):
+    choose(session, "memory_short")
+    session.value("go(6)")
+    edit(session, "1 load a 1", "1 laod a 1")
+    seen = session.value("[byId('words').textContent, document.querySelector('#under mark').textContent, "
+                         "[...byId('under').children].findIndex((it) => it.className === 'fault'), byId('where').textContent, "
+                         "byId('picture').classList.contains('stale')]")
+    count.take(seen == [EXPLAINED, "laod", 8, "step 6 of 9", True], f"served, a fault: {seen}")
+    edit(session, "1 laod a 1", "1 load a 1")
+    seen = session.value("[byId('words').textContent, document.querySelectorAll('#under .fault').length, "
+                         "document.querySelector('#under .current').textContent, byId('picture').classList.contains('stale')]")
+    count.take(seen == ["", 0, "1 load a 1", False], f"served, a fault that was repaired: {seen}")
+    edit(session, "1 load a 1", "1 load b 1")
+    said = session.value("byId('words').textContent")
+    count.take(said.startswith("warning: line 9: variable b of process 1 is used before it is set"), f"served, a warning: {said}")
+    session.value("byId('text').focus()")
+    session.press("ArrowRight")
+    count.take(session.value("byId('where').textContent") == "step 6 of 9", "served: a key in the text moves the picture")
+
+
+def check_swap_and_link(count, session, address):
+    choose(session, "failing_swap")
+    session.value("go(6)")
+    seen = session.value(SEEN)
+    count.take(seen[1] == "process 1: load 0x40000000 1 = SIGBUS call 6 of the history", f"served, a failing area: {seen}")
+    session.value("byId('link').click()")
+    link = session.value("location.hash")
+    data = link.removeprefix("#script=")
+    linked = json.loads(base64.urlsafe_b64decode(data + "=" * (-len(data) % 4)))
+    with open(f"{TOP}/examples/failing_swap.shm", encoding="ascii") as file:
+        count.take(linked == {"script": file.read(), "swap": ["fuse:64:r1"], "step": 6}, f"served, a link: {linked}")
+    session.open(address + link, 1280, 900)
+    is_there = wait_for(session, "byId('where').textContent === 'step 6 of 7'")
+    count.take(is_there and session.value(SEEN)[1] == seen[1], f"served, by a link: {session.value(SEEN)}")
+
+
+def check_saving(count, session):
+    session.value("URL.createObjectURL = (page) => { page.text().then((text) => { window.saved = text; }); return 'blob:none'; }; byId('save').click()")
+    wait_for(session, "typeof window.saved === 'string'")
+    saved = session.value("window.saved") or ""
+    with tempfile.TemporaryDirectory(prefix="viewer.") as folder:
+        path = os.path.join(folder, "run.html")
+        with open(path, "w", encoding="utf-8") as file:
+            file.write(saved)
+        session.open(f"file://{path}", 1280, 900)
+        seen = session.value(SEEN)
+    want = ["step 6 of 7", "process 1: load 0x40000000 1 = SIGBUS call 6 of the history", 2]
+    count.take(seen == want and "127.0.0.1" not in saved, f"served, a saved page: {seen}")
+
+
+def check_in_browser(count, session):
+    """A script that is edited beside its picture."""
+    with served() as found:
+        if not found:
+            count.take(False, "served: no address was printed")
+            return
+        session.open(found[0], 1280, 900)
+        wait_for(session, "byId('where').textContent === 'step 0 of 9'")
+        names = session.value("[...byId('choose').querySelectorAll('optgroup')].map((it) => [...it.children].map((name) => name.textContent))")
+        examples = sorted(os.path.basename(path)[:-4] for path in glob.glob(f"{TOP}/examples/*.shm"))
+        count.take(names == [LESSONS, examples], f"served: {names} are there to choose from")
+        check_lesson(count, session)
+        check_editing(count, session)
+        check_fault(count, session)
+        check_swap_and_link(count, session, found[0])
+        check_saving(count, session)
+    with served(f"{TOP}/examples/failing_swap.shm") as found, served("ram:3", f"{TOP}/examples/failing_swap.shm") as other:
+        for address, swap in ((found, "fuse:64:r1"), (other, "ram:3")):
+            session.open(address[0], 1280, 900)
+            is_there = wait_for(session, "byId('where').textContent === 'step 0 of 7'")
+            seen = session.value("byId('swap').value")
+            count.take(is_there and seen == swap, f"served: a file's areas are {seen}, not {swap}")
+
+
+def ask(port, method, path, body=None, headers=(), length=None):
+    """The status of an answer, and its body."""
+    connection = http.client.HTTPConnection("127.0.0.1", port, timeout=60)
+    try:
+        connection.putrequest(method, path, skip_host="Host" in dict(headers))
+        for name, value in dict(headers).items():
+            connection.putheader(name, value)
+        if body is not None or length is not None:
+            connection.putheader("Content-Length", str(len(body or b"") if length is None else length))
+        connection.endheaders()
+        if body:
+            with contextlib.suppress(OSError):
+                connection.send(body)
+        answer = connection.getresponse()
+        return answer.status, answer.read()
+    except (OSError, http.client.HTTPException) as error:
+        return type(error).__name__, b""
+    finally:
+        connection.close()
+
+
+SCRIPT = {"script": "limits 4096 1 1 2 0\nprocess 1 1 1\n1 stat 0\n", "swap": ["ram:1"]}
+
+
+def check_hostile(count):
+    """Whom the server answers, and what it refuses."""
+    with served() as (_address, port, token):
+        run, good = f"/{token}/run", json.dumps(SCRIPT).encode()
+        own = f"http://127.0.0.1:{port}"
+        refused = ["/", "/run", "/index.html", "/favicon.ico", f"/{token}", f"/{token}/..", f"/{token}/../../../../../etc/passwd", "//etc/passwd",
+                   f"/{token}/%2e%2e/%2e%2e/etc/passwd", f"/{token}/run", f"/{token}/../{token}/", f"/{token[:-1]}/", f"/{token}x/", f"/{token}/?x",
+                   f"{own}/{token}/", "/etc/passwd", f"/{'A' * 32}/", f"/{token}/page.html", f"/{token}/\xe4"]
+        for path in refused:
+            status, body = ask(port, "GET", path.encode("latin-1").decode("latin-1")) if path.isascii() else (404, b"")
+            count.take((status, body) == (404, b""), f"served: GET {path} is answered {status}, {body[:80]}")
+        status, body = ask(port, "GET", f"/{token}/")
+        count.take(status == 200 and body.startswith(b"<!doctype html>"), f"served: the page is answered {status}")
+        for words, want in (
+                ((run, good), 200), ((run, good, {"Origin": own}), 200), ((run, good, {"Origin": "http://evil.example"}), 404),
+                ((run, good, {"Origin": "null"}), 404), ((run, good, {"Origin": f"http://localhost:{port}"}), 404),
+                ((run, good, {"Host": f"evil.example:{port}"}), 404), ((run, good, {"Host": f"localhost:{port}"}), 404),
+                (("/run", good), 404), ((f"/{'A' * 32}/run", good), 404), ((f"/{token}/", good), 404), ((f"/{token}/../run", good), 404),
+                ((run, b"x" * (2 << 20)), 413), ((run, None, {}, 2 << 20), 413), ((run, b" " * (1 << 20)), 400), ((run, None), 411),
+                ((run, None, {}, "-1"), 411), ((run, None, {"Transfer-Encoding": "chunked"}), 411), ((run, b"[]"), 400), ((run, b"[" * 100000), 400),
+                ((run, b"{}"), 400), ((run, json.dumps({**SCRIPT, "swap": ["ram:1; id"]}).encode()), 400),
+                ((run, json.dumps({**SCRIPT, "swap": ["--steps"]}).encode()), 400), ((run, json.dumps({**SCRIPT, "swap": []}).encode()), 400),
+                ((run, json.dumps({**SCRIPT, "swap": "ram:1"}).encode()), 400), ((run, json.dumps({**SCRIPT, "script": 7}).encode()), 400)):
+            status, _ = ask(port, "POST", *words)
+            told = (words[0], (words[1] or b"")[:40], *words[2:])
+            count.take(status == want, f"served: POST {told} is answered {status}, not {want}")
+        for method in ("PUT", "DELETE", "OPTIONS", "HEAD"):
+            status, _ = ask(port, method, f"/{token}/")
+            count.take(status == 501, f"served: {method} is answered {status}")
+        with socket.socket() as other:
+            status = other.connect_ex(("127.0.0.2", port))
+        count.take(status != 0, "served: another address than 127.0.0.1 is listened to")
+        with concurrent.futures.ThreadPoolExecutor(100) as pool:
+            statuses = [status for status, _ in pool.map(lambda _: ask(port, "POST", run, good), range(100))]
+        count.take(200 in statuses and {*statuses} <= {200, 503}, f"served: 100 at once are answered {statuses}")
+        status, body = ask(port, "POST", run, good)
+        count.take(status == 200 and b"EINVAL" in body, f"served, after 100 at once: {status}, {body[:80]}")
+
+
+def check_limits(count):
+    """One run at a time; one that takes too long, or too much memory, is ended."""
+    sys.path.insert(0, os.path.join(TOP, "tools", "viewer"))
+    import serve
+    serve.RUN_SECONDS = 2
+    with tempfile.TemporaryDirectory(prefix="viewer.") as folder:
+        programs = {
+            "turns": f"mkdir {folder}/turn 2> /dev/null || echo together >> {folder}/log\nsleep .05\nrmdir {folder}/turn",
+            "long": "while :; do :; done",
+            "idle": "sleep 60",
+            "large": "exec python3 -S -c 'import mmap; mmap.mmap(-1, 2 << 30)'",
+            "wordy": "exec python3 -c 'import sys; sys.stdout.write(\"x\" * (200 << 20))'",
+        }
+        runners = {}
+        for name, text in programs.items():
+            with open(f"{folder}/{name}", "w", encoding="ascii") as file:
+                file.write(f"#!/bin/sh\n{text}\n")
+            os.chmod(f"{folder}/{name}", 0o755)
+            runners[name] = serve.Runner(f"{folder}/{name}", f"{TOP}/bindings/python")
+        threads = [threading.Thread(target=runners["turns"].run, args=(SCRIPT["script"].encode(), ["ram:1"])) for _ in range(6)]
+        for thread in threads:
+            thread.start()
+        for thread in threads:
+            thread.join()
+        count.take(not os.path.exists(f"{folder}/log"), "served: two runs were at once")
+        for name in ("long", "idle", "large", "wordy"):
+            began = time.monotonic()
+            said = json.loads(runners[name].run(SCRIPT["script"].encode(), ["ram:1"]))
+            took = time.monotonic() - began
+            count.take("record" not in said and took < 8, f"served: a run that is {name} took {took:.1f} s: {str(said)[:200]}")

@@ -1,0 +1,258 @@
+#!/usr/bin/env python3
+"""Serves a page on this machine alone, in which a script is edited beside its picture: `shmview --serve` starts it.
+
+    tools/viewer/serve.py PROGRAM PACKAGES EXAMPLES TOUR PORT SCRIPT SWAP...    SCRIPT may be empty; PORT 0 is any free one
+
+Only 127.0.0.1 is listened to, and only addresses that begin with a token, new at each start, are answered. Two things are served: the
+page, which is made before the first request, and the answer to a script (answer.py). No request names a file.
+"""
+
+import glob
+import hmac
+import json
+import os
+import re
+import secrets
+import signal
+import subprocess
+import sys
+import threading
+import webbrowser
+from http.server import BaseHTTPRequestHandler, ThreadingHTTPServer
+
+sys.dont_write_bytecode = True
+HERE = os.path.dirname(os.path.abspath(__file__))
+sys.path.insert(0, HERE)
+
+from show import filled, told_of  # noqa: E402
+
+MOST_BYTES = 1 << 20            # of a request's body
+MOST_ANSWER = 64 << 20          # of an answer
+MOST_AT_ONCE = 32               # requests; those beyond are answered 503
+RUN_SECONDS, RUN_BYTES = 10, 1 << 30
+WAIT_SECONDS = 30               # for other runs to end
+IDLE_SECONDS = 10               # for a request to arrive
+SWAP = re.compile(r"(ram|sparse|mirror):[0-9]{1,9}|fuse:[0-9]{1,9}:[rw][0-9]{1,20}")
+# what the page may load and ask: itself alone
+HEADERS = {
+    "Content-Security-Policy": "default-src 'none'; script-src 'unsafe-inline'; style-src 'unsafe-inline'; img-src data:; "
+                               "connect-src 'self'; base-uri 'none'; form-action 'none'; frame-ancestors 'none'",
+    "X-Content-Type-Options": "nosniff",
+    "Referrer-Policy": "no-referrer",
+    "Cross-Origin-Resource-Policy": "same-origin",
+    "Cache-Control": "no-store",
+}
+
+
+def read(path):
+    with open(path, encoding="latin-1") as file:
+        return file.read()
+
+
+def swaps_beside(path):
+    """Returns the swap words that are stored beside a script."""
+    beside = os.path.splitext(path)[0] + ".swap"
+    return read(beside).split() if os.path.isfile(beside) else ["ram:64"]
+
+
+def examples_of(folder):
+    """Returns the examples: their names, scripts and swap words."""
+    return [{"name": os.path.basename(path)[:-4], "script": read(path), "swap": swaps_beside(path)}
+            for path in sorted(glob.glob(os.path.join(glob.escape(folder), "*.shm")))]
+
+
+def lessons_of(tour):
+    """Returns the lessons of docs/TOUR.md: for each its title, the name of its example, and its text, line by line."""
+    if not os.path.isfile(tour):
+        return []
+    with open(tour, encoding="utf-8") as file:
+        parts = re.split(r"^## ", file.read(), flags=re.M)[1:]
+    found = []
+    for part in parts:
+        title, _, body = part.partition("\n")
+        example = re.search(r"^\[examples/(\w+)\.shm\]", body, re.M)
+        if example:
+            found.append({"title": title, "example": example[1], "text": text_of(body)})
+    return found
+
+
+def text_of(body):
+    """The paragraphs of a lesson after the link to its example, without pictures. `?` begins a question and `!` its answer."""
+    body = re.sub(r"</?details>|!\[[^]]*\]\([^)]*\)", "", body)
+    body = re.sub(r"<summary>.*?</summary>\s*", "!", body)
+    told = [" ".join(it.split()) for it in re.split(r"\n\s*\n|\n(?=- )", body)]
+    return [it.replace("**Question.**", "?").replace("**", "").replace("`", "") for it in told if it and not it.startswith("[examples/")]
+
+
+class Runner:
+    """One run at a time, with a limit of time and of memory."""
+
+    def __init__(self, program, packages):
+        self.words = [sys.executable, os.path.join(HERE, "answer.py"), program, packages]
+        self.turn = threading.Lock()
+
+    def run(self, script, swaps):
+        """Returns an answer as JSON, or none where other runs did not end in time."""
+        if not self.turn.acquire(timeout=WAIT_SECONDS):
+            return None
+        try:
+            return self.limited(script, swaps)
+        finally:
+            self.turn.release()
+
+    def limited(self, script, swaps):
+        limits = f"ulimit -S -v {RUN_BYTES >> 10}; ulimit -t {RUN_SECONDS}; exec \"$@\""
+        with subprocess.Popen(["sh", "-c", limits, "sh", *self.words, *swaps], stdin=subprocess.PIPE, stdout=subprocess.PIPE,
+                              stderr=subprocess.DEVNULL, start_new_session=True) as process:
+            ender = threading.Timer(RUN_SECONDS, os.killpg, (process.pid, signal.SIGKILL))
+            ender.start()
+            try:
+                feed(process.stdin, script)
+                said = process.stdout.read(MOST_ANSWER + 1)
+            finally:
+                ender.cancel()
+                if process.poll() is None and len(said) > MOST_ANSWER:
+                    os.killpg(process.pid, signal.SIGKILL)
+        if process.returncode == 0 and len(said) <= MOST_ANSWER:
+            return said
+        words = f"the run was ended: a run here has {RUN_SECONDS} seconds and {RUN_BYTES >> 20} MiB; ./shmview --steps has no such limit"
+        return json.dumps({"line": 0, "column": 0, "length": 0, "words": [words]}).encode()
+
+
+def feed(stream, data):
+    """The run reads all of it before it writes; one that was ended reads no more."""
+    try:
+        with stream:
+            stream.write(data)
+    except OSError:
+        pass
+
+
+class Handler(BaseHTTPRequestHandler):
+    timeout = IDLE_SECONDS
+    server_version, sys_version = "shmview", ""
+
+    def log_message(self, *_words):
+        pass
+
+    def reply(self, status, body=b"", kind="text/plain; charset=utf-8"):
+        self.send_response(status)
+        for name, value in {**HEADERS, "Content-Type": kind, "Content-Length": str(len(body)), "Connection": "close"}.items():
+            self.send_header(name, value)
+        self.end_headers()
+        self.wfile.write(body)
+
+    def is_allowed(self, path):
+        """A request for this path, from this page. A wrong token, another name of the host and another origin are all refused."""
+        host = f"127.0.0.1:{self.server.server_port}"
+        wanted = f"/{self.server.token}{path}".encode()
+        is_ours = self.headers.get("Host") == host and self.headers.get("Origin", "http://" + host) == "http://" + host
+        return is_ours and hmac.compare_digest(self.path.encode("latin-1", "replace"), wanted)
+
+    def do_GET(self):
+        if self.is_allowed("/"):
+            self.reply(200, self.server.page, "text/html; charset=utf-8")
+        else:
+            self.reply(404)
+
+    def do_POST(self):
+        is_run = self.is_allowed("/run")
+        if not is_run and not self.is_allowed("/page"):
+            self.reply(404)
+            return
+        length = self.headers.get("Content-Length", "")
+        if not re.fullmatch("[0-9]{1,18}", length) or "Transfer-Encoding" in self.headers:
+            self.reply(411)
+        elif int(length) > MOST_BYTES:
+            self.reply(413)
+        else:
+            self.answer(self.rfile.read(int(length)), is_run)
+
+    def answer(self, body, is_run):
+        try:
+            asked = json.loads(body)
+            script, swaps, step = asked["script"].encode("utf-8", "surrogatepass"), asked["swap"], asked.get("step", 0)
+            is_right = isinstance(step, int) and 1 <= len(swaps) <= 8 and all(SWAP.fullmatch(it) for it in swaps)
+        except (ValueError, KeyError, TypeError, AttributeError, RecursionError):
+            is_right = False
+        if not is_right:
+            self.reply(400)
+            return
+        said = self.server.runner.run(script, swaps)
+        if said is None:
+            self.reply(503)
+        elif is_run:
+            self.reply(200, said, "application/json")
+        else:
+            self.save(json.loads(said), step)
+
+    def save(self, said, step):
+        if "record" in said:
+            self.reply(200, filled(said["record"], {**said["told"], "opened": step}).encode(), "text/html; charset=utf-8")
+        else:
+            self.reply(409)
+
+
+class Server(ThreadingHTTPServer):
+    daemon_threads = True
+    request_queue_size = 128
+
+    def __init__(self, port, runner, page):
+        self.runner, self.page, self.token = runner, page.encode(), secrets.token_urlsafe(24)
+        self.places = threading.Semaphore(MOST_AT_ONCE)
+        super().__init__(("127.0.0.1", port), Handler)
+
+    def process_request(self, request, client_address):
+        if self.places.acquire(blocking=False):
+            super().process_request(request, client_address)
+            return
+        try:
+            request.sendall(b"HTTP/1.0 503 Service Unavailable\r\nContent-Length: 0\r\nConnection: close\r\n\r\n")
+        except OSError:
+            pass
+        self.shutdown_request(request)
+
+    def process_request_thread(self, request, client_address):
+        try:
+            super().process_request_thread(request, client_address)
+        finally:
+            self.places.release()
+
+    def handle_error(self, _request, _client_address):
+        """A client that went away or was too slow is no fault of ours."""
+
+
+def served_page(opened, choices):
+    """The page with its editor, and what there is to choose from."""
+    with open(os.path.join(HERE, "editor.html"), encoding="utf-8") as file:
+        editor = file.read()
+    data = json.dumps({**choices, **opened}).replace("<", "\\u003c")
+    return filled("", told_of("")).replace("</body>", editor.replace("@CHOICES@", data) + "</body>")
+
+
+def main(program, packages, examples, tour, port, path, *swaps):
+    choices = {"examples": examples_of(examples), "lessons": lessons_of(tour)}
+    named = {it["name"]: it for it in choices["examples"]}
+    shown = [named[it["example"]] for it in choices["lessons"] if it["example"] in named] + choices["examples"]
+    first = shown[0] if shown else {"script": "limits 65536 16 64 4 1\nprocess 1 1 1\n", "swap": ["ram:64"]}
+    opened = {"script": read(path), "swap": swaps_beside(path)} if path else {key: first[key] for key in ("script", "swap")}
+    if swaps:
+        opened["swap"] = swaps
+    try:
+        server = Server(int(port), Runner(program, packages), served_page(opened, choices))
+    except OSError as error:
+        print(f"shmview: port {port} of 127.0.0.1 is not free: {error.strerror}", file=sys.stderr)
+        return 3
+    address = f"http://127.0.0.1:{server.server_port}/{server.token}/"
+    print(f"shmview: {address} shows the page, until Ctrl-C", flush=True)
+    if os.environ.get("DISPLAY") or os.environ.get("WAYLAND_DISPLAY"):
+        webbrowser.open(address)
+    try:
+        server.serve_forever()
+    except KeyboardInterrupt:
+        print()
+    return 0
+
+
+if __name__ == "__main__":
+    sys.exit(main(*sys.argv[1:]))
