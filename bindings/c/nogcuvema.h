@@ -380,12 +380,12 @@ uint32_t nog_stat_at(nog_machine *machine, uint32_t pid, uint32_t index, nog_seg
 uint32_t nog_info(nog_machine *machine, nog_usage *usage);
 
 /* A piece of a live process, by its place among the process's pieces, from 0 on by rising address.
-   NOG_ESRCH: there is no such live process. NOG_OUT_OF_RANGE: it has not so many pieces. */
+   NOG_ESRCH: there is no such live process. NOG_OUT_OF_RANGE: it has fewer pieces. */
 uint32_t nog_piece_at(nog_machine *machine, uint32_t pid, uint32_t index, nog_piece *piece);
 
 /* A process, by its place among the processes from 0 on; one that is dismissed gives its place to the last. `is_born` is 1
    for a live one, 0 for a child that is not born, and 2 for one that has ended; user and group are 0 but of a live one.
-   NOG_OUT_OF_RANGE: there are not so many. */
+   NOG_OUT_OF_RANGE: there are fewer processes. */
 uint32_t nog_process_at(nog_machine *machine, uint32_t index, nog_process *process);
 
 /* Where an access of `len` bytes from `addr` on is NOG_SIGSEGV: the address of its first byte that is not attached, or, where
