@@ -9,8 +9,8 @@
 
    ANSWERS. Each function but nog_version answers 0 or a code. Outputs are written where the answer is 0, and else they
    are left as they were; nog_read and nog_write say below what they leave. A call that is refused by an error of errno(3)
-   other than NOG_EIO, or by NOG_SIGSEGV, changed nothing but the count of calls. NOG_SIGBUS and NOG_EIO name a swap area's
-   failure: no byte of a segment changed, nor a process, a segment or an attach, but pages may have come into frames or left
+   other than NOG_EIO, or by NOG_SIGSEGV, changed nothing but the count of calls; nog_protect says what it has
+   changed by then. NOG_SIGBUS and NOG_EIO name a swap area's failure: no byte of a segment changed, nor a process, a segment or an attach, but pages may have come into frames or left
    them, and the counts of the memory may have risen. At a code from 2001 on the call changed nothing at all, but for what
    nog_read and nog_write had done before NOG_SPENT.
 
@@ -380,7 +380,7 @@ uint32_t nog_stat_at(nog_machine *machine, uint32_t pid, uint32_t index, nog_seg
 uint32_t nog_info(nog_machine *machine, nog_usage *usage);
 
 /* A piece of a live process, by its place among the process's pieces, from 0 on by rising address.
-   NOG_ESRCH: there is no such live process. NOG_OUT_OF_RANGE: it has fewer pieces. */
+   The first of these: NOG_ESRCH, there is no such live process; NOG_OUT_OF_RANGE, it has fewer pieces. */
 uint32_t nog_piece_at(nog_machine *machine, uint32_t pid, uint32_t index, nog_piece *piece);
 
 /* A process, by its place among the processes from 0 on; one that is dismissed gives its place to the last. `is_born` is 1
